@@ -1,0 +1,95 @@
+-- Laws of parts, patches and big-endian numbers.
+use mathlib.Core.Path.{_≡_, refl, sym, ap, _∙_}
+use mathlib.Core.List.{List, [], _∷_, _++_, append-assoc}
+use Prim.Native.Nat.{ℕ, zero, suc, _+_, _-_, _*_, _/_, _%_, _≤_, _<_}
+use native.Mathlib.Nat.{add-assoc}
+use native.Mathlib.Numerals.{add-one, add-two, add-three}
+use native.Mathlib.Omega.{arith}
+use lib.ListN.{length, take, drop, getD, set, length-append, length-take, length-drop}
+use lib.Seq.{paste, paste-suc, take-length, take-at, drop-at, sets-eq, drop-drop, length-take-le, getD-take, getD-drop}
+use Rattle.octets.specs.Octets.{part, patch, be, word, wordAt, words, bytes}
+
+-- ---- parts
+
+pub length-part : (at n : ℕ) (xs : List ℕ) → at + n ≤ length xs → length (part at n xs) ≡ n
+unfolding part
+length-part at n xs h = simp (length-take, length-drop) (omega arith)
+
+pub getD-part : (at n : ℕ) (xs : List ℕ) (i : ℕ) → i < n → getD (part at n xs) i 0 ≡ getD xs (at + i) 0
+unfolding part
+getD-part at n xs i h = rw (getD-take, getD-drop)
+
+-- ---- patches
+
+pub length-patch : (at : ℕ) (ws xs : List ℕ) → at + length ws ≤ length xs → length (patch at ws xs) ≡ length xs
+unfolding patch
+length-patch at ws xs h = simp (length-append, length-take, length-drop) (omega arith)
+
+pub take-patch : (at : ℕ) (ws xs : List ℕ) → at ≤ length xs → take (at + length ws) (patch at ws xs) ≡ take at xs ++ ws
+unfolding patch
+take-patch at ws xs h =
+    ap (take (at + length ws)) (sym (append-assoc (take at xs) ws (drop (at + length ws) xs)))
+    ∙ take-at (take at xs ++ ws) (drop (at + length ws) xs) (at + length ws) (simp (length-append, length-take) (omega arith))
+
+pub drop-patch : (at : ℕ) (ws xs : List ℕ) → at ≤ length xs → drop (at + length ws) (patch at ws xs) ≡ drop (at + length ws) xs
+unfolding patch
+drop-patch at ws xs h =
+    ap (drop (at + length ws)) (sym (append-assoc (take at xs) ws (drop (at + length ws) xs)))
+    ∙ drop-at (take at xs ++ ws) (drop (at + length ws) xs) (at + length ws) (simp (length-append, length-take) (omega arith))
+
+-- two writes in a row are one
+pub patch-patch : (at : ℕ) (us vs xs : List ℕ) → at ≤ length xs → patch (at + length us) vs (patch at us xs) ≡ patch at (us ++ vs) xs
+unfolding patch
+patch-patch at us vs xs h =
+    let t = take-patch at us xs h in
+    let d : drop (at + length us + length vs) (patch at us xs) ≡ drop (at + length us + length vs) xs =
+        sym (drop-drop (length vs) (at + length us) (patch at us xs)) ∙ ap (drop (length vs)) (drop-patch at us xs h)
+        ∙ drop-drop (length vs) (at + length us) xs in
+    rw (t, d, length-append, ← add-assoc, append-assoc, append-assoc)
+
+-- one turn of a copying loop
+pub paste-turn : (at : ℕ) (ws xs out : List ℕ) (i : ℕ) → out ≡ paste xs at ws i → at + i < length xs → i < length ws
+    → set out (at + i) (getD ws i 0) ≡ paste xs at ws (i + 1)
+paste-turn at ws xs out i e h k = rw (e, add-one) (paste-suc xs at ws i 0 h k)
+
+-- a copy of the whole of ws is a patch
+pub patch-paste : (at : ℕ) (ws xs : List ℕ) → paste xs at ws (length ws) ≡ patch at ws xs
+unfolding patch
+patch-paste at ws xs = rw (take-length, append-assoc)
+
+-- ---- big-endian bytes
+
+pub length-be : (w n : ℕ) → length (be w n) ≡ w
+unfolding be
+length-be zero n = refl
+length-be (suc w) n = simp (length-append, length-be w (n / 256)) (omega arith)
+
+-- the four bytes of a word, as code computes them
+pub be-four : (x : ℕ) → be 4 x ≡ x / 16777216 % 256 ∷ x / 65536 % 256 ∷ x / 256 % 256 ∷ x % 256 ∷ []
+unfolding be
+be-four x =
+    let p : x / 256 / 256 ≡ x / 65536 = omega arith in
+    let q : x / 256 / 256 / 256 ≡ x / 16777216 = omega arith in
+    rw (q, p)
+
+-- four stores of the bytes of a word
+pub stores-four : (at x : ℕ) (xs : List ℕ) → at + 4 ≤ length xs
+    → set (set (set (set xs at (x / 16777216 % 256)) (at + 1) (x / 65536 % 256)) (at + 2) (x / 256 % 256)) (at + 3) (x % 256)
+    ≡ patch at (be 4 x) xs
+unfolding patch
+stores-four at x xs h =
+    rw (be-four, add-one, add-two, add-three)
+    (sets-eq (x / 16777216 % 256 ∷ x / 65536 % 256 ∷ x / 256 % 256 ∷ x % 256 ∷ []) xs at h
+    ∙ append-assoc (take at xs) (x / 16777216 % 256 ∷ x / 65536 % 256 ∷ x / 256 % 256 ∷ x % 256 ∷ []) (drop (at + 4) xs))
+
+-- ---- words
+
+pub length-words : (t : ℕ) (xs : List ℕ) → length (words t xs) ≡ t
+unfolding words
+length-words zero xs = refl
+length-words (suc t) xs = simp (length-append, length-words t xs) (omega arith)
+
+pub length-bytes : (ws : List ℕ) → length (bytes ws) ≡ 4 * length ws
+unfolding bytes
+length-bytes [] = refl
+length-bytes (w ∷ ws) = simp (length-append, length-be, length-bytes ws) (omega arith)
