@@ -1,0 +1,11 @@
+use Rattle.sha256.proofs.constants.initial_value.Statement.{statement}
+use Rattle.sha256.proofs.constants.initial_value.Tie as tie
+use Rattle.sha256.proofs.constants.initial_value.Reads as reads
+use Rattle.sha256.proofs.constants.initial_value.Lts as lts
+
+-- src/constants.rt:24:1
+returns : tie.Need-returns
+returns c = ?
+
+pub initial-value-spec : {M : Type 1} → statement M
+initial-value-spec = tie.close (tie.spec returns)

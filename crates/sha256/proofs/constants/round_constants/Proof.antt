@@ -1,0 +1,11 @@
+use Rattle.sha256.proofs.constants.round_constants.Statement.{statement}
+use Rattle.sha256.proofs.constants.round_constants.Tie as tie
+use Rattle.sha256.proofs.constants.round_constants.Reads as reads
+use Rattle.sha256.proofs.constants.round_constants.Lts as lts
+
+-- src/constants.rt:17:1
+returns : tie.Need-returns
+returns c = ?
+
+pub round-constants-spec : {M : Type 1} → statement M
+round-constants-spec = tie.close (tie.spec returns)

@@ -1,0 +1,101 @@
+-- SHA-256 as FIPS 180-4 defines it, over numbers and lists. A word is a number below 2 to the 32, a byte one below 256.
+use Prim.Native.Nat.{ℕ, zero, suc, _+_, _-_, _*_, _/_, _%_, _^_}
+use mathlib.Core.List.{List, [], _∷_, _++_}
+use lib.Bits.{bitAnd, bitOr, bitXor}
+use lib.ListN.{length, getD, replicate}
+use Rattle.octets.specs.Octets.{be, words, bytes, part}
+use Rattle.sha256.specs.Constants.{constants, initial}
+
+-- ---- operations on words (sections 2.2.2, 3.2). Document 01: "Words in SHA-256 are 32 bits and their sums wrap."
+
+unfoldable pub add : ℕ → ℕ → ℕ
+add x y = (x + y) % 2 ^ 32
+
+unfoldable pub complement : ℕ → ℕ
+complement x = 2 ^ 32 - 1 - x
+
+unfoldable pub shr : ℕ → ℕ → ℕ
+shr n x = x / 2 ^ n
+
+unfoldable pub rotr : ℕ → ℕ → ℕ
+rotr n x = bitOr (x / 2 ^ n) (x * 2 ^ (32 - n) % 2 ^ 32)
+
+-- ---- the six functions (section 4.1.2)
+
+unfoldable pub ch : ℕ → ℕ → ℕ → ℕ
+ch x y z = bitXor (bitAnd x y) (bitAnd (complement x) z)
+
+unfoldable pub maj : ℕ → ℕ → ℕ → ℕ
+maj x y z = bitXor (bitXor (bitAnd x y) (bitAnd x z)) (bitAnd y z)
+
+unfoldable pub bigSigma0 : ℕ → ℕ
+bigSigma0 x = bitXor (bitXor (rotr 2 x) (rotr 13 x)) (rotr 22 x)
+
+unfoldable pub bigSigma1 : ℕ → ℕ
+bigSigma1 x = bitXor (bitXor (rotr 6 x) (rotr 11 x)) (rotr 25 x)
+
+unfoldable pub smallSigma0 : ℕ → ℕ
+smallSigma0 x = bitXor (bitXor (rotr 7 x) (rotr 18 x)) (shr 3 x)
+
+unfoldable pub smallSigma1 : ℕ → ℕ
+smallSigma1 x = bitXor (bitXor (rotr 17 x) (rotr 19 x)) (shr 10 x)
+
+-- ---- the message schedule (section 6.2.2, step 1)
+
+-- W[t] from the words before it, for t from 16 on
+unfoldable pub scheduled : List ℕ → ℕ → ℕ
+scheduled w t =
+    add (add (add (smallSigma1 (getD w (t - 2) 0)) (getD w (t - 7) 0)) (smallSigma0 (getD w (t - 15) 0))) (getD w (t - 16) 0)
+
+-- the sixteen words of a block, and t words after them
+unfoldable pub schedule : List ℕ → ℕ → List ℕ
+schedule m zero = m
+schedule m (suc t) = schedule m t ++ (scheduled (schedule m t) (16 + t) ∷ [])
+
+-- ---- the rounds (section 6.2.2, steps 2 and 3); the working variables a to h are a list of eight words
+
+unfoldable pub temp1 : ℕ → ℕ → List ℕ → ℕ
+temp1 k w s =
+    add (add (add (add (getD s 7 0) (bigSigma1 (getD s 4 0))) (ch (getD s 4 0) (getD s 5 0) (getD s 6 0))) k) w
+
+unfoldable pub temp2 : List ℕ → ℕ
+temp2 s = add (bigSigma0 (getD s 0 0)) (maj (getD s 0 0) (getD s 1 0) (getD s 2 0))
+
+unfoldable pub round : ℕ → ℕ → List ℕ → List ℕ
+round k w s =
+    add (temp1 k w s) (temp2 s) ∷ getD s 0 0 ∷ getD s 1 0 ∷ getD s 2 0
+    ∷ add (getD s 3 0) (temp1 k w s) ∷ getD s 4 0 ∷ getD s 5 0 ∷ getD s 6 0 ∷ []
+
+-- the working variables after t rounds over the schedule w
+unfoldable pub rounds : List ℕ → List ℕ → ℕ → List ℕ
+rounds w s zero = s
+rounds w s (suc t) = round (getD constants t 0) (getD w t 0) (rounds w s t)
+
+-- ---- compression (section 6.2.2): the hash value h after one block, given as its sixteen words
+
+-- step 4: the sum, word by word
+unfoldable pub sums : List ℕ → List ℕ → List ℕ
+sums h s =
+    add (getD h 0 0) (getD s 0 0) ∷ add (getD h 1 0) (getD s 1 0) ∷ add (getD h 2 0) (getD s 2 0) ∷ add (getD h 3 0) (getD s 3 0)
+    ∷ add (getD h 4 0) (getD s 4 0) ∷ add (getD h 5 0) (getD s 5 0) ∷ add (getD h 6 0) (getD s 6 0) ∷ add (getD h 7 0) (getD s 7 0) ∷ []
+
+unfoldable pub compress : List ℕ → List ℕ → List ℕ
+compress h m = sums h (rounds (schedule m 48) h 64)
+
+-- ---- padding (section 5.1.1): the bit 1, zeros up to 56 bytes modulo 64, and the length in bits as eight bytes
+
+unfoldable pub zeros : ℕ → ℕ
+zeros n = (119 - n % 64) % 64
+
+unfoldable pub pad : List ℕ → List ℕ
+pad m = m ++ (128 ∷ replicate (zeros (length m)) 0 ++ be 8 (8 * length m))
+
+-- ---- the digest (section 6.2)
+
+-- the hash value after the first t blocks of a padded message
+unfoldable pub hashed : List ℕ → List ℕ → ℕ → List ℕ
+hashed h m zero = h
+hashed h m (suc t) = compress (hashed h m t) (words 16 (part (64 * t) 64 m))
+
+unfoldable pub sha256 : List ℕ → List ℕ
+sha256 m = bytes (hashed initial (pad m) (length (pad m) / 64))

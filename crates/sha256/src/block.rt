@@ -1,0 +1,95 @@
+// The compression of one block (FIPS 180-4, section 6.2.2).
+ghost use mathlib.Core.Path.{_≡_};
+ghost use Prim.Native.Nat.{_+_, _<_, _≤_};
+ghost use lib.ListN.{length, getD};
+ghost use Rattle.sha256.specs.Constants.{constants};
+ghost use Rattle.sha256.specs.Fips as Fips;
+
+use crate::functions::{add, big_sigma0, big_sigma1, ch, maj, small_sigma0, small_sigma1};
+
+// W[t] from the words before it.
+fn scheduled(w: &[u32; 64], t: usize) -> u32
+    requires { ⌜ (16 ≤ t) × (t < 64) × (length (now w) ≡ 64) ⌝ }
+    ensures { λ r. ⌜ r ≡ Fips.scheduled (now (w .entry)) t ⌝ }
+{
+    add(add(add(small_sigma1(w[t - 2]), w[t - 7]), small_sigma0(w[t - 15])), w[t - 16])
+}
+
+// The schedule of a block, whose words are m.
+fn schedule(m: [u32; 16]) -> [u32; 64]
+    ensures { λ r. ⌜ r ≡ Fips.schedule m 48 ⌝ }
+{
+    let mut w = [0u32; 64];
+    let mut i = 0;
+    while i < 16 {
+        w[i] = m[i];
+        i += 1;
+    }
+    let mut t = 16;
+    while t < 64 {
+        let x = scheduled(&w, t);
+        w[t] = x;
+        t += 1;
+    }
+    w
+}
+
+fn temp1(k: u32, w: u32, s: [u32; 8]) -> u32
+    ensures { λ r. ⌜ r ≡ Fips.temp1 k w s ⌝ }
+{
+    add(add(add(add(s[7], big_sigma1(s[4])), ch(s[4], s[5], s[6])), k), w)
+}
+
+fn temp2(s: [u32; 8]) -> u32
+    ensures { λ r. ⌜ r ≡ Fips.temp2 s ⌝ }
+{
+    add(big_sigma0(s[0]), maj(s[0], s[1], s[2]))
+}
+
+fn round(k: u32, w: u32, s: [u32; 8]) -> [u32; 8]
+    ensures { λ r. ⌜ r ≡ Fips.round k w s ⌝ }
+{
+    let t1 = temp1(k, w, s);
+    let t2 = temp2(s);
+    [add(t1, t2), s[0], s[1], s[2], add(s[3], t1), s[4], s[5], s[6]]
+}
+
+fn sums(h: [u32; 8], s: [u32; 8]) -> [u32; 8]
+    ensures { λ r. ⌜ r ≡ Fips.sums h s ⌝ }
+{
+    [
+        add(h[0], s[0]),
+        add(h[1], s[1]),
+        add(h[2], s[2]),
+        add(h[3], s[3]),
+        add(h[4], s[4]),
+        add(h[5], s[5]),
+        add(h[6], s[6]),
+        add(h[7], s[7]),
+    ]
+}
+
+// The working variables after the 64 rounds.
+fn rounds(k: &[u32; 64], w: &[u32; 64], h: [u32; 8]) -> [u32; 8]
+    requires { ⌜ (now k ≡ constants) × (length (now w) ≡ 64) ⌝ }
+    ensures { λ r. ⌜ r ≡ Fips.rounds (now (w .entry)) h 64 ⌝ }
+{
+    let mut s = h;
+    let mut t = 0;
+    while t < 64 {
+        let n = round(k[t], w[t], s);
+        s = n;
+        t += 1;
+    }
+    s
+}
+
+// The hash value h after one more block, whose words are m.
+pub fn compress(k: &[u32; 64], h: [u32; 8], m: [u32; 16]) -> [u32; 8]
+    requires { ⌜ now k ≡ constants ⌝ }
+    ensures { λ r. ⌜ r ≡ Fips.compress h m ⌝ }
+{
+    let w = schedule(m);
+    let s = rounds(k, &w, h);
+    sums(h, s)
+}
