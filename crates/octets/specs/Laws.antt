@@ -1,5 +1,5 @@
 -- Laws of parts, patches and big-endian numbers.
-use mathlib.Core.Path.{_≡_, refl, sym, ap, _∙_}
+use mathlib.Core.Path.{_≡_, refl, sym, ap, subst, _∙_}
 use mathlib.Core.List.{List, [], _∷_, _++_, append-assoc}
 use Prim.Native.Nat.{ℕ, zero, suc, _+_, _-_, _*_, _/_, _%_, _≤_, _<_}
 use native.Mathlib.Nat.{add-assoc}
@@ -9,6 +9,12 @@ use lib.Dec.{lit<}
 use lib.ListN.{length, take, drop, getD, set, length-append, length-take, length-drop}
 use lib.Seq.{paste, paste-suc, take-length, take-at, drop-at, sets-eq, drop-drop, length-take-le, getD-take, getD-drop}
 use Rattle.octets.specs.Octets.{part, patch, be, word, wordAt, words, bytes}
+
+-- ---- loops that fill a list from the front
+
+-- the first n elements agree once i, which counts them, has come to n
+pub take-whole : (i n : ℕ) (w m : List ℕ) → i ≡ n → length m ≡ n → take i w ≡ take i m → take n w ≡ m
+take-whole i n w m e l h = subst (λ (k : ℕ). take k w ≡ take k m) e h ∙ subst (λ (k : ℕ). take k m ≡ m) l (take-length m)
 
 -- ---- parts
 

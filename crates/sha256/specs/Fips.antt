@@ -54,17 +54,17 @@ schedule m (suc t) = schedule m t ++ (scheduled (schedule m t) (16 + t) ∷ [])
 
 -- ---- the rounds (section 6.2.2, steps 2 and 3); the working variables a to h are a list of eight words
 
-unfoldable pub temp1 : ℕ → ℕ → List ℕ → ℕ
-temp1 k w s =
-    add (add (add (add (getD s 7 0) (bigSigma1 (getD s 4 0))) (ch (getD s 4 0) (getD s 5 0) (getD s 6 0))) k) w
+unfoldable pub temp1 : ℕ → ℕ → ℕ → ℕ → ℕ → ℕ → ℕ
+temp1 k w e f g h = add (add (add (add h (bigSigma1 e)) (ch e f g)) k) w
 
-unfoldable pub temp2 : List ℕ → ℕ
-temp2 s = add (bigSigma0 (getD s 0 0)) (maj (getD s 0 0) (getD s 1 0) (getD s 2 0))
+unfoldable pub temp2 : ℕ → ℕ → ℕ → ℕ
+temp2 a b c = add (bigSigma0 a) (maj a b c)
 
 unfoldable pub round : ℕ → ℕ → List ℕ → List ℕ
 round k w s =
-    add (temp1 k w s) (temp2 s) ∷ getD s 0 0 ∷ getD s 1 0 ∷ getD s 2 0
-    ∷ add (getD s 3 0) (temp1 k w s) ∷ getD s 4 0 ∷ getD s 5 0 ∷ getD s 6 0 ∷ []
+    let t1 : ℕ = temp1 k w (getD s 4 0) (getD s 5 0) (getD s 6 0) (getD s 7 0) in
+    let t2 : ℕ = temp2 (getD s 0 0) (getD s 1 0) (getD s 2 0) in
+    add t1 t2 ∷ getD s 0 0 ∷ getD s 1 0 ∷ getD s 2 0 ∷ add (getD s 3 0) t1 ∷ getD s 4 0 ∷ getD s 5 0 ∷ getD s 6 0 ∷ []
 
 -- the working variables after t rounds over the schedule w
 unfoldable pub rounds : List ℕ → List ℕ → ℕ → List ℕ

@@ -1,7 +1,7 @@
 // The compression of one block (FIPS 180-4, section 6.2.2).
 ghost use mathlib.Core.Path.{_≡_};
 ghost use Prim.Native.Nat.{_+_, _<_, _≤_};
-ghost use lib.ListN.{length, getD};
+ghost use lib.ListN.{length, take};
 ghost use Rattle.sha256.specs.Constants.{constants};
 ghost use Rattle.sha256.specs.Fips as Fips;
 
@@ -15,9 +15,9 @@ fn scheduled(w: &[u32; 64], t: usize) -> u32
     add(add(add(small_sigma1(w[t - 2]), w[t - 7]), small_sigma0(w[t - 15])), w[t - 16])
 }
 
-// The schedule of a block, whose words are m.
-fn schedule(m: [u32; 16]) -> [u32; 64]
-    ensures { λ r. ⌜ r ≡ Fips.schedule m 48 ⌝ }
+// The words of a block at the start of a schedule.
+fn first_words(m: [u32; 16]) -> [u32; 64]
+    ensures { λ r. ⌜ take 16 r ≡ m ⌝ }
 {
     let mut w = [0u32; 64];
     let mut i = 0;
@@ -25,32 +25,40 @@ fn schedule(m: [u32; 16]) -> [u32; 64]
         w[i] = m[i];
         i += 1;
     }
-    let mut t = 16;
-    while t < 64 {
-        let x = scheduled(&w, t);
-        w[t] = x;
+    w
+}
+
+// The schedule of a block, whose words are m.
+fn schedule(m: [u32; 16]) -> [u32; 64]
+    ensures { λ r. ⌜ r ≡ Fips.schedule m 48 ⌝ }
+{
+    let mut w = first_words(m);
+    let mut t = 0;
+    while t < 48 {
+        let x = scheduled(&w, 16 + t);
+        w[16 + t] = x;
         t += 1;
     }
     w
 }
 
-fn temp1(k: u32, w: u32, s: [u32; 8]) -> u32
-    ensures { λ r. ⌜ r ≡ Fips.temp1 k w s ⌝ }
+fn temp1(k: u32, w: u32, e: u32, f: u32, g: u32, h: u32) -> u32
+    ensures { λ r. ⌜ r ≡ Fips.temp1 k w e f g h ⌝ }
 {
-    add(add(add(add(s[7], big_sigma1(s[4])), ch(s[4], s[5], s[6])), k), w)
+    add(add(add(add(h, big_sigma1(e)), ch(e, f, g)), k), w)
 }
 
-fn temp2(s: [u32; 8]) -> u32
-    ensures { λ r. ⌜ r ≡ Fips.temp2 s ⌝ }
+fn temp2(a: u32, b: u32, c: u32) -> u32
+    ensures { λ r. ⌜ r ≡ Fips.temp2 a b c ⌝ }
 {
-    add(big_sigma0(s[0]), maj(s[0], s[1], s[2]))
+    add(big_sigma0(a), maj(a, b, c))
 }
 
 fn round(k: u32, w: u32, s: [u32; 8]) -> [u32; 8]
     ensures { λ r. ⌜ r ≡ Fips.round k w s ⌝ }
 {
-    let t1 = temp1(k, w, s);
-    let t2 = temp2(s);
+    let t1 = temp1(k, w, s[4], s[5], s[6], s[7]);
+    let t2 = temp2(s[0], s[1], s[2]);
     [add(t1, t2), s[0], s[1], s[2], add(s[3], t1), s[4], s[5], s[6]]
 }
 

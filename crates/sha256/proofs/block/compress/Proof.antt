@@ -1,4 +1,5 @@
 use borrow.Author.Needs.{needs}
+use Rattle.sha256.specs.Fips.{compress}
 use Rattle.sha256.proofs.block.compress.Statement.{statement}
 use Rattle.sha256.proofs.block.compress.Tie as tie
 use Rattle.sha256.proofs.block.compress.Reads as reads
@@ -21,7 +22,8 @@ sums-requires c κs = search needs
 
 -- src/block.rt:88:1
 returns : tie.Need-returns
-returns c = ?
+unfolding compress
+returns c = cc
 
 pub compress-spec : {M : Type 1} → statement M
 compress-spec = tie.close (tie.spec schedule-requires rounds-requires sums-requires returns)

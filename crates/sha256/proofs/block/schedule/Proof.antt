@@ -1,84 +1,77 @@
+use mathlib.Core.Path.{_≡_, refl, ap, _∙_}
+use mathlib.Core.List.{List}
+use Prim.Native.Nat.{ℕ, _+_, _-_, _≤_}
+use native.Mathlib.Omega.{arith}
+use borrow.Author.Needs.{needs}
+use lib.ListN.{length, take, length-set}
+use Rattle.sha256.specs.Fips.{schedule}
+use Rattle.sha256.specs.Laws.{schedule-turn, schedule-done}
 use Rattle.sha256.proofs.block.schedule.Statement.{statement}
 use Rattle.sha256.proofs.block.schedule.Tie as tie
 use Rattle.sha256.proofs.block.schedule.Reads as reads
 use Rattle.sha256.proofs.block.schedule.Lts as lts
+use Rattle.sha256.proofs.block.first_words.Reads as first-words-reads
 use Rattle.sha256.proofs.block.scheduled.Reads as scheduled-reads
 
 abbrev Inv-loop : tie.InvT-loop
-Inv-loop m w₀ i₀ w i = ?
+Inv-loop w₀ t₀ w t = (t ≤ 48) × (length w ≡ 64) × (take (16 + t) w ≡ schedule (take 16 w₀) t)
 
 abbrev μ-loop : tie.MeasureT-loop
-μ-loop m w₀ i₀ w i = ?
+μ-loop w₀ t₀ w t = 48 - t
 
-abbrev Inv-loop2 : tie.InvT-loop2
-Inv-loop2 w₀ i t₀ w t = ?
+-- src/block.rt:35:17
+first-words-requires : tie.Need-first-words-requires Inv-loop μ-loop
+first-words-requires c κs = omega arith
 
-abbrev μ-loop2 : tie.MeasureT-loop2
-μ-loop2 w₀ i t₀ w t = ?
+-- src/block.rt:37:5
+loop-holds : tie.Need-loop-holds Inv-loop μ-loop
+unfolding schedule
+loop-holds c = (omega arith, search needs, refl)
 
--- src/block.rt:24:5
-loop-holds : tie.Need-loop-holds Inv-loop μ-loop Inv-loop2 μ-loop2
-loop-holds c = ?
+-- src/block.rt:38:31
+add-scheduled : tie.Need-add-scheduled Inv-loop μ-loop
+add-scheduled c = omega arith
 
--- src/block.rt:25:16
-mul-w : tie.Need-mul-w Inv-loop μ-loop Inv-loop2 μ-loop2
-mul-w c = ?
+-- src/block.rt:38:13
+scheduled-requires : tie.Need-scheduled-requires Inv-loop μ-loop
+scheduled-requires c κs = omega arith
 
--- src/block.rt:25:16
-array-read-w : tie.Need-array-read-w Inv-loop μ-loop Inv-loop2 μ-loop2
-array-read-w c = ?
+-- src/block.rt:39:11
+add-w : tie.Need-add-w Inv-loop μ-loop
+add-w c = omega arith
 
--- src/block.rt:25:9
-mul-w-2 : tie.Need-mul-w-2 Inv-loop μ-loop Inv-loop2 μ-loop2
-mul-w-2 c = ?
+-- src/block.rt:39:9
+mul-w : tie.Need-mul-w Inv-loop μ-loop
+mul-w c = omega arith
 
--- src/block.rt:25:9
-array-write-w : tie.Need-array-write-w Inv-loop μ-loop Inv-loop2 μ-loop2
-array-write-w c = ?
+-- src/block.rt:39:9
+array-write-w : tie.Need-array-write-w Inv-loop μ-loop
+array-write-w c = omega arith
 
--- src/block.rt:26:9
-add-i : tie.Need-add-i Inv-loop μ-loop Inv-loop2 μ-loop2
-add-i c = ?
+-- src/block.rt:40:9
+add-t : tie.Need-add-t Inv-loop μ-loop
+add-t c = omega arith
 
--- src/block.rt:24:5
-loop-less : tie.Need-loop-less Inv-loop μ-loop Inv-loop2 μ-loop2
-loop-less c = ?
+-- src/block.rt:37:5
+loop-less : tie.Need-loop-less Inv-loop μ-loop
+loop-less c = omega arith
 
--- src/block.rt:24:5
-loop-again : tie.Need-loop-again Inv-loop μ-loop Inv-loop2 μ-loop2
-loop-again c = ?
+-- src/block.rt:37:5
+loop-again : tie.Need-loop-again Inv-loop μ-loop
+loop-again c =
+    let at-loop = c .before .before .before in
+    let w = at-loop .loop .w in
+    let t = at-loop .loop .t in
+    let m = take 16 (at-loop .before .first-words .result) in
+    (omega arith, simp length-set (omega arith), schedule-turn m w t (c .scheduled .result) (at-loop .loop .inv .2) (omega arith) (c .scheduled .ensures))
 
--- src/block.rt:29:5
-loop2-holds : tie.Need-loop2-holds Inv-loop μ-loop Inv-loop2 μ-loop2
-loop2-holds c = ?
-
--- src/block.rt:30:13
-scheduled-requires : tie.Need-scheduled-requires Inv-loop μ-loop Inv-loop2 μ-loop2
-scheduled-requires c κs = ?
-
--- src/block.rt:31:9
-mul-w-3 : tie.Need-mul-w-3 Inv-loop μ-loop Inv-loop2 μ-loop2
-mul-w-3 c = ?
-
--- src/block.rt:31:9
-array-write-w-2 : tie.Need-array-write-w-2 Inv-loop μ-loop Inv-loop2 μ-loop2
-array-write-w-2 c = ?
-
--- src/block.rt:32:9
-add-t : tie.Need-add-t Inv-loop μ-loop Inv-loop2 μ-loop2
-add-t c = ?
-
--- src/block.rt:29:5
-loop2-less : tie.Need-loop2-less Inv-loop μ-loop Inv-loop2 μ-loop2
-loop2-less c = ?
-
--- src/block.rt:29:5
-loop2-again : tie.Need-loop2-again Inv-loop μ-loop Inv-loop2 μ-loop2
-loop2-again c = ?
-
--- src/block.rt:19:1
-returns : tie.Need-returns Inv-loop μ-loop Inv-loop2 μ-loop2
-returns c = ?
+-- src/block.rt:32:1
+returns : tie.Need-returns Inv-loop μ-loop
+returns c =
+    let at-loop = c .before in
+    let w = at-loop .loop .w in
+    let m = take 16 (at-loop .before .first-words .result) in
+    schedule-done m w (at-loop .loop .t) (at-loop .loop .inv .2) (omega arith) (omega arith) ∙ ap (λ (l : List ℕ). schedule l 48) (at-loop .before .first-words .ensures)
 
 pub schedule-spec : {M : Type 1} → statement M
 schedule-spec =
@@ -86,21 +79,14 @@ schedule-spec =
     (tie.spec
     Inv-loop
     μ-loop
-    Inv-loop2
-    μ-loop2
+    first-words-requires
     loop-holds
+    add-scheduled
+    scheduled-requires
+    add-w
     mul-w
-    array-read-w
-    mul-w-2
     array-write-w
-    add-i
+    add-t
     loop-less
     loop-again
-    loop2-holds
-    scheduled-requires
-    mul-w-3
-    array-write-w-2
-    add-t
-    loop2-less
-    loop2-again
     returns)

@@ -1,3 +1,4 @@
+use Rattle.sha256.specs.Fips.{scheduled}
 use borrow.Author.Needs.{needs}
 use Rattle.sha256.proofs.block.scheduled.Statement.{statement}
 use Rattle.sha256.proofs.block.scheduled.Tie as tie
@@ -77,7 +78,8 @@ add-requires-3 c κs = search needs
 
 -- src/block.rt:11:1
 returns : tie.Need-returns
-returns c = ?
+unfolding scheduled
+returns c = cc
 
 pub scheduled-spec : {M : Type 1} → statement M
 scheduled-spec =

@@ -1,3 +1,4 @@
+use Rattle.sha256.specs.Fips.{sums}
 use borrow.Author.Needs.{needs}
 use Rattle.sha256.proofs.block.sums.Statement.{statement}
 use Rattle.sha256.proofs.block.sums.Tie as tie
@@ -103,7 +104,9 @@ add-requires-8 c κs = search needs
 
 -- src/block.rt:57:1
 returns : tie.Need-returns
-returns c = ?
+unfolding sums
+returns c =
+    rw (c .before .before .before .before .before .before .before .add .ensures, c .before .before .before .before .before .before .add2 .ensures, c .before .before .before .before .before .add3 .ensures, c .before .before .before .before .add4 .ensures, c .before .before .before .add5 .ensures, c .before .before .add6 .ensures, c .before .add7 .ensures, c .add8 .ensures)
 
 pub sums-spec : {M : Type 1} → statement M
 sums-spec =

@@ -1,3 +1,5 @@
+use mathlib.Core.Path.{refl}
+use Rattle.sha256.specs.Constants.{initial}
 use Rattle.sha256.proofs.constants.initial_value.Statement.{statement}
 use Rattle.sha256.proofs.constants.initial_value.Tie as tie
 use Rattle.sha256.proofs.constants.initial_value.Reads as reads
@@ -5,7 +7,8 @@ use Rattle.sha256.proofs.constants.initial_value.Lts as lts
 
 -- src/constants.rt:24:1
 returns : tie.Need-returns
-returns c = ?
+unfolding initial
+returns c = refl
 
 pub initial-value-spec : {M : Type 1} → statement M
 initial-value-spec = tie.close (tie.spec returns)

@@ -1,3 +1,5 @@
+use mathlib.Core.Path.{refl}
+use Rattle.sha256.specs.Constants.{constants}
 use Rattle.sha256.proofs.constants.round_constants.Statement.{statement}
 use Rattle.sha256.proofs.constants.round_constants.Tie as tie
 use Rattle.sha256.proofs.constants.round_constants.Reads as reads
@@ -5,7 +7,8 @@ use Rattle.sha256.proofs.constants.round_constants.Lts as lts
 
 -- src/constants.rt:17:1
 returns : tie.Need-returns
-returns c = ?
+unfolding constants
+returns c = refl
 
 pub round-constants-spec : {M : Type 1} → statement M
 round-constants-spec = tie.close (tie.spec returns)

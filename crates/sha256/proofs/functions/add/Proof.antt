@@ -1,3 +1,4 @@
+use Rattle.sha256.specs.Fips.{add}
 use borrow.Author.Needs.{needs}
 use Rattle.sha256.proofs.functions.add.Statement.{statement}
 use Rattle.sha256.proofs.functions.add.Tie as tie
@@ -11,7 +12,8 @@ wrapping-add-u32-requires c κs = search needs
 
 -- src/functions.rt:8:1
 returns : tie.Need-returns
-returns c = ?
+unfolding add
+returns c = c .wrapping-add-u32 .ensures
 
 pub add-spec : {M : Type 1} → statement M
 add-spec = tie.close (tie.spec wrapping-add-u32-requires returns)

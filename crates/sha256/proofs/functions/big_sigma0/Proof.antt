@@ -1,3 +1,4 @@
+use Rattle.sha256.specs.Fips.{bigSigma0}
 use borrow.Author.Needs.{needs}
 use Rattle.sha256.proofs.functions.big_sigma0.Statement.{statement}
 use Rattle.sha256.proofs.functions.big_sigma0.Tie as tie
@@ -19,7 +20,8 @@ rotr-requires-3 c κs = search needs
 
 -- src/functions.rt:33:1
 returns : tie.Need-returns
-returns c = ?
+unfolding bigSigma0
+returns c = cc
 
 pub big-sigma0-spec : {M : Type 1} → statement M
 big-sigma0-spec = tie.close (tie.spec rotr-requires rotr-requires-2 rotr-requires-3 returns)

@@ -1,3 +1,4 @@
+use Rattle.sha256.specs.Fips.{bigSigma1}
 use borrow.Author.Needs.{needs}
 use Rattle.sha256.proofs.functions.big_sigma1.Statement.{statement}
 use Rattle.sha256.proofs.functions.big_sigma1.Tie as tie
@@ -19,7 +20,8 @@ rotr-requires-3 c κs = search needs
 
 -- src/functions.rt:39:1
 returns : tie.Need-returns
-returns c = ?
+unfolding bigSigma1
+returns c = cc
 
 pub big-sigma1-spec : {M : Type 1} → statement M
 big-sigma1-spec = tie.close (tie.spec rotr-requires rotr-requires-2 rotr-requires-3 returns)

@@ -1,3 +1,5 @@
+use mathlib.Core.Path.{refl}
+use Rattle.sha256.specs.Fips.{rotr}
 use borrow.Author.Needs.{needs}
 use Rattle.sha256.proofs.functions.rotr.Statement.{statement}
 use Rattle.sha256.proofs.functions.rotr.Tie as tie
@@ -18,7 +20,8 @@ shl-result c = search needs
 
 -- src/functions.rt:14:1
 returns : tie.Need-returns
-returns c = ?
+unfolding rotr
+returns c = refl
 
 pub rotr-spec : {M : Type 1} → statement M
 rotr-spec = tie.close (tie.spec shr-result sub-result shl-result returns)

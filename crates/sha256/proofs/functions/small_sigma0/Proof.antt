@@ -1,3 +1,4 @@
+use Rattle.sha256.specs.Fips.{smallSigma0, shr}
 use borrow.Author.Needs.{needs}
 use Rattle.sha256.proofs.functions.small_sigma0.Statement.{statement}
 use Rattle.sha256.proofs.functions.small_sigma0.Tie as tie
@@ -15,7 +16,8 @@ rotr-requires-2 c κs = search needs
 
 -- src/functions.rt:45:1
 returns : tie.Need-returns
-returns c = ?
+unfolding smallSigma0 shr
+returns c = cc
 
 pub small-sigma0-spec : {M : Type 1} → statement M
 small-sigma0-spec = tie.close (tie.spec rotr-requires rotr-requires-2 returns)

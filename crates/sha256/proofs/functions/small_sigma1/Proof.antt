@@ -1,3 +1,4 @@
+use Rattle.sha256.specs.Fips.{smallSigma1, shr}
 use borrow.Author.Needs.{needs}
 use Rattle.sha256.proofs.functions.small_sigma1.Statement.{statement}
 use Rattle.sha256.proofs.functions.small_sigma1.Tie as tie
@@ -15,7 +16,8 @@ rotr-requires-2 c κs = search needs
 
 -- src/functions.rt:51:1
 returns : tie.Need-returns
-returns c = ?
+unfolding smallSigma1 shr
+returns c = cc
 
 pub small-sigma1-spec : {M : Type 1} → statement M
 small-sigma1-spec = tie.close (tie.spec rotr-requires rotr-requires-2 returns)
