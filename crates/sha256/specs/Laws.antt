@@ -38,10 +38,10 @@ schedule-done m w t e h l =
 
 -- ---- the rounds, as a loop runs them
 
-pub rounds-turn : (w h k s r : List ℕ) (t : ℕ) → k ≡ constants → s ≡ rounds w h t → r ≡ round (getD k t 0) (getD w t 0) s
-    → r ≡ rounds w h (t + 1)
+pub rounds-turn : (w h k s r : List ℕ) (t u : ℕ) → u ≡ t + 1 → k ≡ constants → s ≡ rounds w h t
+    → r ≡ round (getD k t 0) (getD w t 0) s → r ≡ rounds w h u
 unfolding rounds
-rounds-turn w h k s r t p e q = rw (add-one, ← p, ← e) q
+rounds-turn w h k s r t u n p e q = rw (n, add-one, ← p, ← e) q
 
 -- ---- lengths and ranges
 

@@ -1,6 +1,7 @@
 // The compression of one block (FIPS 180-4, section 6.2.2).
 ghost use mathlib.Core.Path.{_≡_};
-ghost use Prim.Native.Nat.{_+_, _<_, _≤_};
+ghost use mathlib.Core.List.{List};
+ghost use Prim.Native.Nat.{ℕ, _+_, _<_, _≤_};
 ghost use lib.ListN.{length, take};
 ghost use Rattle.sha256.specs.Constants.{constants};
 ghost use Rattle.sha256.specs.Fips as Fips;
@@ -77,6 +78,21 @@ fn sums(h: [u32; 8], s: [u32; 8]) -> [u32; 8]
     ]
 }
 
+// Eight rounds, from round t on: after eight, each working variable is in its place again.
+fn eight(k: &[u32; 64], w: &[u32; 64], t: usize, s: [u32; 8]) -> [u32; 8]
+    requires { ⌜ (now k ≡ constants) × (length (now w) ≡ 64) × (t + 8 ≤ 64) ⌝ }
+    ensures { λ r. ⌜ ((h : List ℕ) → s ≡ Fips.rounds (now (w .entry)) h t → r ≡ Fips.rounds (now (w .entry)) h (t + 8)) ⌝ }
+{
+    let a = round(k[t], w[t], s);
+    let b = round(k[t + 1], w[t + 1], a);
+    let c = round(k[t + 2], w[t + 2], b);
+    let d = round(k[t + 3], w[t + 3], c);
+    let e = round(k[t + 4], w[t + 4], d);
+    let f = round(k[t + 5], w[t + 5], e);
+    let g = round(k[t + 6], w[t + 6], f);
+    round(k[t + 7], w[t + 7], g)
+}
+
 // The working variables after the 64 rounds.
 fn rounds(k: &[u32; 64], w: &[u32; 64], h: [u32; 8]) -> [u32; 8]
     requires { ⌜ (now k ≡ constants) × (length (now w) ≡ 64) ⌝ }
@@ -85,9 +101,9 @@ fn rounds(k: &[u32; 64], w: &[u32; 64], h: [u32; 8]) -> [u32; 8]
     let mut s = h;
     let mut t = 0;
     while t < 64 {
-        let n = round(k[t], w[t], s);
+        let n = eight(k, w, t, s);
         s = n;
-        t += 1;
+        t += 8;
     }
     s
 }

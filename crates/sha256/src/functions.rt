@@ -18,16 +18,17 @@ pub fn rotr(x: u32, n: u32) -> u32
     (x >> n) | (x << (32 - n))
 }
 
+// The standard's value with fewer operations, and so is `maj`; in a run of rounds `x ^ y` is the next round's `y ^ z`.
 pub fn ch(x: u32, y: u32, z: u32) -> u32
     ensures { λ r. ⌜ r ≡ Fips.ch x y z ⌝ }
 {
-    (x & y) ^ (!x & z)
+    z ^ (x & (y ^ z))
 }
 
 pub fn maj(x: u32, y: u32, z: u32) -> u32
     ensures { λ r. ⌜ r ≡ Fips.maj x y z ⌝ }
 {
-    (x & y) ^ (x & z) ^ (y & z)
+    y ^ ((x ^ y) & (y ^ z))
 }
 
 pub fn big_sigma0(x: u32) -> u32

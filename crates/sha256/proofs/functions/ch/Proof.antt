@@ -1,5 +1,5 @@
-use mathlib.Core.Path.{refl}
-use Rattle.sha256.specs.Fips.{ch, complement}
+use borrow.Author.Needs.{needs}
+use Rattle.sha256.specs.Forms.{ch-word}
 use Rattle.sha256.proofs.functions.ch.Statement.{statement}
 use Rattle.sha256.proofs.functions.ch.Tie as tie
 use Rattle.sha256.proofs.functions.ch.Reads as reads
@@ -7,8 +7,7 @@ use Rattle.sha256.proofs.functions.ch.Lts as lts
 
 -- src/functions.rt:21:1
 returns : tie.Need-returns
-unfolding ch complement
-returns c = refl
+returns c = ch-word (c .args .x) (c .args .y) (c .args .z) (search needs) (search needs) (search needs)
 
 pub ch-spec : {M : Type 1} → statement M
 ch-spec = tie.close (tie.spec returns)

@@ -1,5 +1,5 @@
-use mathlib.Core.Path.{refl}
-use Rattle.sha256.specs.Fips.{maj}
+use borrow.Author.Needs.{needs}
+use Rattle.sha256.specs.Forms.{maj-word}
 use Rattle.sha256.proofs.functions.maj.Statement.{statement}
 use Rattle.sha256.proofs.functions.maj.Tie as tie
 use Rattle.sha256.proofs.functions.maj.Reads as reads
@@ -7,8 +7,7 @@ use Rattle.sha256.proofs.functions.maj.Lts as lts
 
 -- src/functions.rt:27:1
 returns : tie.Need-returns
-unfolding maj
-returns c = refl
+returns c = maj-word (c .args .x) (c .args .y) (c .args .z) (search needs) (search needs) (search needs)
 
 pub maj-spec : {M : Type 1} → statement M
 maj-spec = tie.close (tie.spec returns)
