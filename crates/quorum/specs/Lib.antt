@@ -1,0 +1,3 @@
+pub mod Quorum
+pub mod Laws
+pub mod Marked

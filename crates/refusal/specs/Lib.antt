@@ -1,0 +1,2 @@
+-- Refusals by number.
+pub mod Refusal
