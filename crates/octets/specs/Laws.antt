@@ -1,22 +1,42 @@
 -- Laws of parts, patches and big-endian numbers.
 use mathlib.Core.Path.{_≡_, refl, sym, ap, subst, _∙_}
-use mathlib.Core.List.{List, [], _∷_, _++_, append-assoc}
+use mathlib.Core.List.{List, [], _∷_, _++_, append-assoc, append-nil}
 use Prim.Native.Nat.{ℕ, zero, suc, _+_, _-_, _*_, _/_, _%_, _≤_, _<_}
-use native.Mathlib.Nat.{add-assoc}
+use native.Mathlib.Nat.{add-assoc, sub-zero, zero-sub, suc-sub-suc, not-suc-le-zero, le-of-suc-le-suc}
 use native.Mathlib.Numerals.{add-one, add-two, add-three}
 use native.Mathlib.Omega.{arith}
 use lib.Dec.{lit<}
-use lib.ListN.{length, take, drop, getD, set, length-append, length-take, length-drop}
-use lib.Seq.{paste, paste-suc, take-length, take-at, drop-at, sets-eq, drop-drop, length-take-le, getD-take, getD-drop}
+use lib.ListN.{replicate, length, take, drop, getD, set, length-append, length-take, length-drop}
+use lib.Seq.{take-all, take-suc, take-suc-set, paste, paste-suc, take-length, take-at, drop-at, sets-eq, drop-drop, length-take-le, getD-take, getD-drop}
 use Rattle.octets.specs.Octets.{part, patch, be, word, wordAt, words, bytes}
 
 -- ---- loops that fill a list from the front
 
--- the first n elements agree once i, which counts them, has come to n
+-- a loop's count i has come to n: what holds of the first i elements holds of the first n
 pub take-whole : (i n : ℕ) (w m : List ℕ) → i ≡ n → length m ≡ n → take i w ≡ take i m → take n w ≡ m
 take-whole i n w m e l h = subst (λ (k : ℕ). take k w ≡ take k m) e h ∙ subst (λ (k : ℕ). take k m ≡ m) l (take-length m)
 
+-- and where w has no more than those, of the whole of w
+pub filled : (w : List ℕ) (f : ℕ → List ℕ) (i n : ℕ) → i ≡ n → length w ≡ n → take i w ≡ f i → w ≡ f n
+filled w f i n e l h = sym (subst (λ (k : ℕ). take k w ≡ w) l (take-length w)) ∙ subst (λ (k : ℕ). take k w ≡ f k) e h
+
+-- ---- a run of one byte
+
+pub drop-replicate : (i n a : ℕ) → drop i (replicate n a) ≡ replicate (n - i) a
+drop-replicate zero n a = ap (λ (j : ℕ). replicate j a) (sym (sub-zero n))
+drop-replicate (suc i) zero a = ap (λ (j : ℕ). replicate j a) (sym (zero-sub (suc i)))
+drop-replicate (suc i) (suc n) a = drop-replicate i n a ∙ ap (λ (j : ℕ). replicate j a) (sym (suc-sub-suc n i))
+
+pub take-replicate : (i n a : ℕ) → i ≤ n → take i (replicate n a) ≡ replicate i a
+take-replicate zero n a h = refl
+take-replicate (suc i) zero a h = absurd (not-suc-le-zero h)
+take-replicate (suc i) (suc n) a h = ap {B = List ℕ} (λ r. a ∷ r) (take-replicate i n a (le-of-suc-le-suc h))
+
 -- ---- parts
+
+-- the part `xs[at..]`
+pub take-rest : (at : ℕ) (xs : List ℕ) → take (length xs - at) (drop at xs) ≡ drop at xs
+take-rest at xs = take-all (length xs - at) (drop at xs) (simp length-drop (omega arith))
 
 pub length-part : (at n : ℕ) (xs : List ℕ) → at + n ≤ length xs → length (part at n xs) ≡ n
 unfolding part
@@ -50,8 +70,8 @@ unfolding patch
 patch-patch at us vs xs h =
     let t = take-patch at us xs h in
     let d : drop (at + length us + length vs) (patch at us xs) ≡ drop (at + length us + length vs) xs =
-        sym (drop-drop (length vs) (at + length us) (patch at us xs)) ∙ ap (drop (length vs)) (drop-patch at us xs h)
-        ∙ drop-drop (length vs) (at + length us) xs in
+    sym (drop-drop (length vs) (at + length us) (patch at us xs)) ∙ ap (drop (length vs)) (drop-patch at us xs h)
+    ∙ drop-drop (length vs) (at + length us) xs in
     rw (t, d, length-append, ← add-assoc, append-assoc, append-assoc)
 
 -- one turn of a copying loop
@@ -100,6 +120,37 @@ pub length-bytes : (ws : List ℕ) → length (bytes ws) ≡ 4 * length ws
 unfolding bytes
 length-bytes [] = refl
 length-bytes (w ∷ ws) = simp (length-append, length-be, length-bytes ws) (omega arith)
+
+pub bytes-append : (us vs : List ℕ) → bytes (us ++ vs) ≡ bytes us ++ bytes vs
+unfolding bytes
+bytes-append [] vs = refl
+bytes-append (u ∷ us) vs = ap (λ (l : List ℕ). be 4 u ++ l) (bytes-append us vs) ∙ sym (append-assoc (be 4 u) (bytes us) (bytes vs))
+
+pub wordAt-part : (at n i : ℕ) (xs : List ℕ) → i + 4 ≤ n → wordAt (part at n xs) i ≡ wordAt xs (at + i)
+wordAt-part at n i xs h =
+    rw (getD-part at n xs i (omega arith), getD-part at n xs (i + 1) (omega arith), getD-part at n xs (i + 2) (omega arith), getD-part at n xs (i + 3) (omega arith), ← add-assoc at i 1, ← add-assoc at i 2, ← add-assoc at i 3)
+
+-- one turn of a loop that reads words into w
+pub words-turn : (w xs : List ℕ) (t x : ℕ) → take t w ≡ words t xs → t < length w → x ≡ wordAt xs (4 * t)
+    → take (t + 1) (set w t x) ≡ words (t + 1) xs
+unfolding words
+words-turn w xs t x e h p = rw (add-one, p, take-suc-set w t, e)
+
+-- one turn of a loop that writes the words ws to out
+pub bytes-turn : (out ws : List ℕ) (i : ℕ) → take (4 * i) out ≡ bytes (take i ws) → i < length ws → 4 * i + 4 ≤ length out
+    → take (4 * (i + 1)) (patch (4 * i) (be 4 (getD ws i 0)) out) ≡ bytes (take (i + 1) ws)
+unfolding bytes
+bytes-turn out ws i e h k =
+    let n : 4 * (i + 1) ≡ 4 * i + length (be 4 (getD ws i 0)) = rw length-be (omega arith) in
+    let last : bytes (getD ws i 0 ∷ []) ≡ be 4 (getD ws i 0) = append-nil (be 4 (getD ws i 0)) in
+    rw n (take-patch (4 * i) (be 4 (getD ws i 0)) out (omega arith)
+    ∙ rw (e, add-one, take-suc ws i 0) (ap (λ (l : List ℕ). bytes (take i ws) ++ l) (sym last) ∙ sym (bytes-append (take i ws) (getD ws i 0 ∷ []))))
+
+-- and its end
+pub bytes-done : (out ws : List ℕ) (i : ℕ) → i ≡ length ws → length out ≡ 4 * length ws → take (4 * i) out ≡ bytes (take i ws) → out ≡ bytes ws
+bytes-done out ws i e l h =
+    let all : length out ≡ 4 * i = omega arith in
+    sym (take-length out) ∙ ap (λ (n : ℕ). take n out) all ∙ h ∙ ap bytes (ap (λ (n : ℕ). take n ws) e ∙ take-length ws)
 
 -- ---- every byte of a number and of a word is one
 

@@ -1,18 +1,33 @@
 // The numbers of document 01's table, "What is turned back".
 
 pub const SIZE: u32 = 1;
+
 pub const SEAT: u32 = 2;
+
 pub const ROUND: u32 = 3;
+
 pub const RECORD: u32 = 4;
+
 pub const KEYS: u32 = 5;
+
 pub const STORE: u32 = 6;
+
 pub const OUT: u32 = 7;
+
 pub const SAID: u32 = 8;
+
 pub const GARBLED: u32 = 9;
+
 pub const OTHER_ROUND: u32 = 10;
+
 pub const STRANGER: u32 = 11;
+
 pub const DISORDER: u32 = 12;
+
 pub const EARLY: u32 = 13;
+
 pub const SIGNATURE: u32 = 14;
+
 pub const NO_CONFLICT: u32 = 15;
+
 pub const KEY_MATERIAL: u32 = 16;

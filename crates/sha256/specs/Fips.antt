@@ -82,20 +82,25 @@ sums h s =
 unfoldable pub compress : List ℕ → List ℕ → List ℕ
 compress h m = sums h (rounds (schedule m 48) h 64)
 
--- ---- padding (section 5.1.1): the bit 1, zeros up to 56 bytes modulo 64, and the length in bits as eight bytes
+-- ---- padding (section 5.1.1)
 
-unfoldable pub zeros : ℕ → ℕ
-zeros n = (119 - n % 64) % 64
+-- after n bytes: the bit 1, the fewest zeros that come to 56 bytes modulo 64, and the length in bits as eight bytes
+unfoldable pub padding : ℕ → List ℕ
+padding n = 128 ∷ replicate ((119 - n % 64) % 64) 0 ++ be 8 (8 * n)
 
 unfoldable pub pad : List ℕ → List ℕ
-pad m = m ++ (128 ∷ replicate (zeros (length m)) 0 ++ be 8 (8 * length m))
+pad m = m ++ padding (length m)
 
 -- ---- the digest (section 6.2)
 
--- the hash value after the first t blocks of a padded message
+-- the hash value after the first t blocks of m
 unfoldable pub hashed : List ℕ → List ℕ → ℕ → List ℕ
 hashed h m zero = h
 hashed h m (suc t) = compress (hashed h m t) (words 16 (part (64 * t) 64 m))
 
+-- the hash value after all whole blocks of m
+unfoldable pub absorbed : List ℕ → List ℕ → List ℕ
+absorbed h m = hashed h m (length m / 64)
+
 unfoldable pub sha256 : List ℕ → List ℕ
-sha256 m = bytes (hashed initial (pad m) (length (pad m) / 64))
+sha256 m = bytes (absorbed initial (pad m))

@@ -5,15 +5,26 @@ ghost use Prim.Native.Nat.{ℕ, _+_, _<_, _≤_};
 ghost use lib.ListN.{length, take};
 ghost use Rattle.sha256.specs.Constants.{constants};
 ghost use Rattle.sha256.specs.Fips as Fips;
-
-use crate::functions::{add, big_sigma0, big_sigma1, ch, maj, small_sigma0, small_sigma1};
+use crate::functions::add;
+use crate::functions::big_sigma0;
+use crate::functions::big_sigma1;
+use crate::functions::ch;
+use crate::functions::maj;
+use crate::functions::small_sigma0;
+use crate::functions::small_sigma1;
 
 // W[t] from the words before it.
 fn scheduled(w: &[u32; 64], t: usize) -> u32
     requires { ⌜ (16 ≤ t) × (t < 64) × (length (now w) ≡ 64) ⌝ }
     ensures { λ r. ⌜ r ≡ Fips.scheduled (now (w .entry)) t ⌝ }
 {
-    add(add(add(small_sigma1(w[t - 2]), w[t - 7]), small_sigma0(w[t - 15])), w[t - 16])
+    add(
+        add(
+            add(small_sigma1(w[t - 2]), w[t - 7]),
+            small_sigma0(w[t - 15]),
+        ),
+        w[t - 16],
+    )
 }
 
 // The words of a block at the start of a schedule.
@@ -60,7 +71,16 @@ fn round(k: u32, w: u32, s: [u32; 8]) -> [u32; 8]
 {
     let t1 = temp1(k, w, s[4], s[5], s[6], s[7]);
     let t2 = temp2(s[0], s[1], s[2]);
-    [add(t1, t2), s[0], s[1], s[2], add(s[3], t1), s[4], s[5], s[6]]
+    [
+        add(t1, t2),
+        s[0],
+        s[1],
+        s[2],
+        add(s[3], t1),
+        s[4],
+        s[5],
+        s[6],
+    ]
 }
 
 fn sums(h: [u32; 8], s: [u32; 8]) -> [u32; 8]

@@ -2,7 +2,6 @@
 ghost use mathlib.Core.Path.{_≡_};
 ghost use Prim.Native.Nat.{_<_};
 ghost use Rattle.sha256.specs.Fips as Fips;
-
 use std::num::wrapping_add_u32;
 
 pub fn add(x: u32, y: u32) -> u32

@@ -3,3 +3,4 @@
 pub mod block;
 pub mod constants;
 pub mod functions;
+pub mod hash;

@@ -36,13 +36,13 @@ loop-less c = omega arith
 
 -- src/block.rt:103:5
 loop-again : tie.Need-loop-again Inv-loop μ-loop
-loop-again c = 
+loop-again c =
     let at-loop = c .before .before in
     (omega arith, omega arith, search needs, c .eight .ensures (at-loop .before .args .h) (at-loop .loop .inv .3))
 
 -- src/block.rt:97:1
 returns : tie.Need-returns Inv-loop μ-loop
-returns c = 
+returns c =
     let at-loop = c .before in
     let args = at-loop .before .args in
     let all : at-loop .loop .t ≡ 64 = omega arith in
