@@ -1,9 +1,9 @@
 -- RFC 8554 over SHA-256 (n = m = 32): LM-OTS of widths 4 and 8, LMS trees of heights 5 and 10.
 --
 -- `Ots` has section 4 and Appendix A, `Tree` section 5.3 with the signer and the tree's buffer, `Verify` section 5.4.2,
--- `Calls` the calls of document 01 with what they turn back (`Refusal`), `Same` the comparison of byte strings.
+-- `Calls` the calls of document 01 with what they turn back (`Refusal`); `Strings` joins and compares byte strings.
 pub mod Refusal
-pub mod Same
+pub mod Strings
 pub mod Ots
 pub mod Tree
 pub mod Verify

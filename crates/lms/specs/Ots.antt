@@ -2,12 +2,13 @@
 -- key identifier, q the leaf number, w the width, C the randomizer.
 use Prim.Native.Nat.{ℕ, zero, suc, _+_, _-_, _*_, _/_, _%_, _^_}
 use mathlib.Core.Bool.{Bool, not, cond, _||_}
-use mathlib.Core.List.{List, [], _++_}
+use mathlib.Core.List.{List, _++_}
 use lib.Bits.{bitAnd}
 use lib.Dec.{eqb, ltb}
 use lib.ListN.{length, getD}
 use Rattle.octets.specs.Octets.{part, be, number}
 use Rattle.sha256.specs.Fips.{sha256}
+use Rattle.lms.specs.Strings.{joined}
 
 -- ---- notation (section 3)
 
@@ -83,14 +84,13 @@ start I q seed i = H (chainInput I q i 0xff seed)
 unfoldable pub keyInput : List ℕ → ℕ → List ℕ → List ℕ
 keyInput I q ends = I ++ u32str q ++ u16str dPblc ++ ends
 
--- the ends of the first n chains: from x[i], 2^w - 1 steps
-unfoldable pub ends : List ℕ → ℕ → ℕ → List ℕ → ℕ → List ℕ
-ends I q w seed zero = []
-ends I q w seed (suc n) = ends I q w seed n ++ chain I q n 0 (2 ^ w - 1) (start I q seed n)
+-- y[i], the end of chain i: from x[i], 2^w - 1 steps
+unfoldable pub chainEnd : List ℕ → ℕ → ℕ → List ℕ → ℕ → List ℕ
+chainEnd I q w seed i = chain I q i 0 (2 ^ w - 1) (start I q seed i)
 
 -- K
 unfoldable pub otsKey : List ℕ → ℕ → ℕ → List ℕ → List ℕ
-otsKey I q w seed = H (keyInput I q (ends I q w seed (chains w)))
+otsKey I q w seed = H (keyInput I q (joined (chainEnd I q w seed) (chains w)))
 
 -- ---- checksum (section 4.4, Algorithm 2)
 
@@ -117,14 +117,15 @@ messageInput I q C message = I ++ u32str q ++ u16str dMesg ++ C ++ message
 unfoldable pub digested : List ℕ → ℕ → ℕ → List ℕ → List ℕ → List ℕ
 digested I q w C message = withChecksum w (H (messageInput I q C message))
 
--- y[0] to y[n - 1] for the digits of S: from x[i], as many steps as the digit says
+-- y[i] for the digits of S: from x[i], as many steps as digit i says
 unfoldable pub signed : List ℕ → ℕ → ℕ → List ℕ → List ℕ → ℕ → List ℕ
-signed I q w seed S zero = []
-signed I q w seed S (suc n) = signed I q w seed S n ++ chain I q n 0 (coef w S n) (start I q seed n)
+signed I q w seed S i = chain I q i 0 (coef w S i) (start I q seed i)
 
 unfoldable pub otsSignature : ℕ → List ℕ → ℕ → List ℕ → List ℕ → List ℕ → List ℕ
 otsSignature type I q seed C message =
-    u32str type ++ C ++ signed I q (width type) seed (digested I q (width type) C message) (chains (width type))
+    u32str type
+    ++ C
+    ++ joined (signed I q (width type) seed (digested I q (width type) C message)) (chains (width type))
 
 -- ---- candidate key (section 4.6, Algorithm 4b)
 
@@ -135,14 +136,12 @@ otsInvalid type signature =
     || not (eqb (u32At 0 signature) type)
     || not (eqb (length signature) (otsLength (width type)))
 
--- z[0] to z[n - 1] for the digits of S: from y[i] at the digit's place, the steps that are left
+-- z[i] for the digits of S: from y[i], at the place that digit i says, the steps that are left
 unfoldable pub completed : List ℕ → ℕ → ℕ → List ℕ → List ℕ → ℕ → List ℕ
-completed I q w S signature zero = []
-completed I q w S signature (suc n) =
-    completed I q w S signature n
-    ++ chain I q n (coef w S n) (2 ^ w - 1 - coef w S n) (part (36 + 32 * n) 32 signature)
+completed I q w S signature i =
+    chain I q i (coef w S i) (2 ^ w - 1 - coef w S i) (part (36 + 32 * i) 32 signature)
 
 -- Kc
 unfoldable pub candidate : List ℕ → ℕ → ℕ → List ℕ → List ℕ → List ℕ
 candidate I q w message signature =
-    H (keyInput I q (completed I q w (digested I q w (part 4 32 signature) message) signature (chains w)))
+    H (keyInput I q (joined (completed I q w (digested I q w (part 4 32 signature) message) signature) (chains w)))

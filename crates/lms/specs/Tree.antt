@@ -2,9 +2,10 @@
 -- the root; the children of r are 2 r and 2 r + 1; leaf q of a tree of height h is 2^h + q.
 use Prim.Native.Nat.{ℕ, zero, suc, _+_, _-_, _*_, _/_, _%_, _^_}
 use mathlib.Core.Bool.{Bool, cond, _||_}
-use mathlib.Core.List.{List, [], _++_}
+use mathlib.Core.List.{List, _++_}
 use lib.Dec.{eqb, leb}
 use Rattle.octets.specs.Octets.{part, patch}
+use Rattle.lms.specs.Strings.{joined}
 use Rattle.lms.specs.Ots.{H, u16str, u32str, width, otsKey, otsSignature}
 
 -- ---- parameters (section 5.1, Table 2): type 5 has h = 5, type 6 has h = 10
@@ -39,7 +40,7 @@ node h w I seed (suc d) r =
     cond (leb (2 ^ h) r) (H (leafInput I r (otsKey I (r - 2 ^ h) w seed)))
     (H (innerInput I r (node h w I seed d (2 * r)) (node h w I seed d (2 * r + 1))))
 
--- T[r] of the tree of height h, for r from 1: a leaf where r ≥ 2^h (`T-leaf` of `Laws`), else inner (`T-inner`)
+-- T[r] of the tree of height h, for r from 1: a leaf where r ≥ 2^h (`T-leaf` of `TreeLaws`), else inner (`T-inner`)
 unfoldable pub T : ℕ → ℕ → List ℕ → List ℕ → ℕ → List ℕ
 T h w I seed r = node h w I seed h r
 
@@ -48,10 +49,9 @@ publicKey lmsType otsType I seed = u32str lmsType ++ u32str otsType ++ I ++ T (h
 
 -- ---- the tree's buffer (document 01): "node r at byte 32 × r; bytes 0 to 31 keep what they held"
 
--- n nodes, one after the other, from the node r on
+-- T[r] || .. || T[r + n - 1]
 unfoldable pub nodes : ℕ → ℕ → List ℕ → List ℕ → ℕ → ℕ → List ℕ
-nodes h w I seed r zero = []
-nodes h w I seed r (suc n) = nodes h w I seed r n ++ T h w I seed (r + n)
+nodes h w I seed r n = joined (λ i. T h w I seed (r + i)) n
 
 -- the buffer of 65,536 bytes once the key maker has filled it, for types 6 and 4
 unfoldable pub treeFilled : List ℕ → List ℕ → List ℕ → List ℕ
@@ -63,14 +63,13 @@ treeFilled I seed before = patch 32 (nodes 10 8 I seed 1 2047) before
 unfoldable pub sibling : ℕ → ℕ
 sibling r = cond (eqb (r % 2) 0) (r + 1) (r - 1)
 
--- path[0] to path[n - 1] from the leaf r up: path[i] is the node beside r / 2^i
+-- path[i] from the leaf r up: the node beside r / 2^i
 unfoldable pub path : List ℕ → ℕ → ℕ → List ℕ
-path tree r zero = []
-path tree r (suc n) = path tree r n ++ part (32 * sibling (r / 2 ^ n)) 32 tree
+path tree r i = part (32 * sibling (r / 2 ^ i)) 32 tree
 
 unfoldable pub signature : ℕ → ℕ → List ℕ → ℕ → List ℕ → List ℕ → List ℕ → List ℕ → List ℕ
 signature lmsType otsType I q seed C message tree =
     u32str q
     ++ otsSignature otsType I q seed C message
     ++ u32str lmsType
-    ++ path tree (2 ^ height lmsType + q) (height lmsType)
+    ++ joined (path tree (2 ^ height lmsType + q)) (height lmsType)
