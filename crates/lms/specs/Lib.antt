@@ -8,3 +8,6 @@ pub mod Ots
 pub mod Tree
 pub mod Verify
 pub mod Calls
+pub mod Laws
+pub mod OtsLaws
+pub mod TreeLaws
