@@ -34,6 +34,10 @@ pub part-all : (xs : List ℕ) (n : ℕ) → length xs ≡ n → part 0 n xs ≡
 unfolding part
 part-all xs n e = take-all n xs (omega arith)
 
+-- the string that stands first
+pub part-front : (xs rest : List ℕ) (n : ℕ) → length xs ≡ n → part 0 n (xs ++ rest) ≡ xs
+part-front xs rest n e = part-left xs rest 0 n (omega arith) ∙ part-all xs n e
+
 -- the string that stands after a front
 pub part-end : (front xs : List ℕ) (at n : ℕ) → length front ≡ at → length xs ≡ n → part at n (front ++ xs) ≡ xs
 part-end front xs at n e k =

@@ -11,3 +11,7 @@ pub mod Calls
 pub mod Laws
 pub mod OtsLaws
 pub mod TreeLaws
+pub mod VerifyLaws
+pub mod CallLaws
+pub mod Claim
+pub mod Marked

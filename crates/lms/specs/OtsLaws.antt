@@ -11,7 +11,7 @@ use Rattle.octets.specs.Laws.{length-be, length-part}
 use Rattle.sha256.specs.Laws.{length-sha256}
 use Rattle.lms.specs.Strings.{joined}
 use Rattle.lms.specs.Ots.{H, u32str, coef, width, digits, chains, leftShift, otsLength, chainInput, chain, start, keyInput, chainEnd, otsKey, sum, checksum, withChecksum, messageInput, digested, signed, otsSignature, otsInvalid, completed, candidate}
-use Rattle.lms.specs.Laws.{part-skip, part-left, part-all, part-end, part-between, length-joined, part-joined, joined-same, number-be}
+use Rattle.lms.specs.Laws.{part-skip, part-left, part-front, part-between, length-joined, part-joined, joined-same, number-be}
 
 -- ---- digits
 
@@ -112,6 +112,10 @@ pub length-digested : (I : List ℕ) (q w : ℕ) (C message : List ℕ) → leng
 unfolding digested
 length-digested I q w C message = length-withChecksum w _ (length-sha256 _)
 
+pub four-le-otsLength : (w : ℕ) → 4 ≤ otsLength w
+unfolding otsLength
+four-le-otsLength w = omega arith
+
 -- ---- a signature's fields, and the key that Algorithm 4b finds in it
 
 -- from y[i] of Algorithm 3, z[i] of Algorithm 4b is y[i] of Algorithm 1
@@ -133,8 +137,7 @@ module _ (type : ℕ) (I : List ℕ) (q : ℕ) (seed C message : List ℕ) (e : 
   unfolding otsSignature
   type-otsSignature =
       part-left (u32str type ++ C) _ 0 4 (rw length-front (omega arith))
-      ∙ part-left (u32str type) C 0 4 (rw length-be (omega arith))
-      ∙ part-all (u32str type) 4 (length-be 4 type)
+      ∙ part-front (u32str type) C 4 (length-be 4 type)
 
   pub randomizer-otsSignature : part 4 32 (otsSignature type I q seed C message) ≡ C
   unfolding otsSignature
