@@ -1,22 +1,21 @@
--- What follows from the definitions of the calls: what an accepted signature is like, and what a call does that turns
--- nothing back.
-use mathlib.Core.Path.{_≡_, refl, sym, ap, _∙_}
-use mathlib.Core.Bool.{Bool, true, false, not, _&&_, _||_, and-eq-true-iff, and-false, or-true, or-false}
+-- What follows from the definitions of the calls: what an accepted signature is like, and what a call leaves, refused
+-- or not.
+use mathlib.Core.Path.{_≡_, refl, _∙_}
+use mathlib.Core.Bool.{Bool, true, false, not, _&&_, _||_, and-false, or-true, or-false}
 use mathlib.Core.List.{List, []}
-use Prim.Native.Nat.{ℕ, suc, _+_, _*_, _^_, _≤_, _<_}
+use Prim.Native.Nat.{ℕ, suc, _+_, _^_, _≤_, _<_}
 use native.Mathlib.Omega.{arith}
 use lib.Dec.{eqb, ltb}
 use lib.ListN.{length, length-append}
 use borrow.Author.Tests.{le-ltb, eq-eqb, eqb-true, not-false}
-use Rattle.octets.specs.Octets.{part}
-use Rattle.octets.specs.Laws.{length-be}
+use Rattle.octets.specs.Laws.{length-be, length-part}
 use Rattle.lms.specs.Refusal.{lowest, unrefused}
 use Rattle.lms.specs.Ots.{chains, otsLength, knownOts, width}
-use Rattle.lms.specs.Tree.{knownLms, height, publicKey, treeFilled, signature}
+use Rattle.lms.specs.Tree.{knownLms, height, publicKey, treeFilled, path, lmsSignature}
 use Rattle.lms.specs.Verify.{lmsTypeOf, otsTypeOf, leafOf, signatureLength, keyInvalid, valid}
-use Rattle.lms.specs.Calls.{signatureBytes, treeBytes, messageLimit, lengthIsnt, keyRefused, checkSignature, Made, makeKeyRefusal, makeKey, Signed, signRefusal, sign, signedBytes, seatKey, checks}
+use Rattle.lms.specs.Calls.{signatureBytes, treeBytes, messageLimit, keyRefused, checkSignature, makeKeyRefusal, makeKey, signRefusal, sign, signedBytes, seatKey, checks}
 use Rattle.lms.specs.Laws.{lowest-zero}
-use Rattle.lms.specs.VerifyLaws.{valid-fits}
+use Rattle.lms.specs.VerifyLaws.{sibling-within, ancestor-within, length-lmsSignature, valid-fits}
 
 -- ---- the check
 
@@ -64,7 +63,32 @@ pub length-signedBytes : (round seat : ℕ) (value : List ℕ) → length value 
 unfolding signedBytes
 length-signedBytes round seat value e = simp (length-append, length-be) (omega arith)
 
--- ---- the key maker and the signer, where nothing is turned back
+-- ---- the signer writes 1,452 bytes, whatever the tree's buffer holds
+
+module _ (I : List ℕ) (leaf : ℕ) (seed C message tree : List ℕ) (l : leaf ≤ 1023) (c : length C ≡ 32) (t : length tree ≡ 65536) where
+  length-path : (i : ℕ) → i < height 6 → length (path tree (2 ^ height 6 + leaf) i) ≡ 32
+  unfolding height path
+  length-path i k =
+      let within = ancestor-within 10 (1024 + leaf) i (omega arith) (omega arith) k in
+      let beside = sibling-within 1024 _ (within .0) (within .1) in
+      length-part _ 32 tree (omega (arith, beside .1))
+
+  pub length-lmsSignature-six-four : length (lmsSignature 6 4 I leaf seed C message tree) ≡ signatureBytes
+  length-lmsSignature-six-four = length-lmsSignature 6 4 I leaf seed C message tree c length-path ∙ length-six-four
+
+-- ---- the key maker and the signer: a refusal writes nothing, and keeps the tree
+
+pub makeKey-refused : (seed I tree out : List ℕ) (n : ℕ) → makeKeyRefusal seed I tree out ≡ suc n
+    → makeKey seed I tree out ≡ record { refusal = suc n; written = []; tree = tree }
+unfolding makeKey unrefused
+makeKey-refused seed I tree out n e = rw e
+
+pub sign-refused : (leaf : ℕ) (message seed I C tree out : List ℕ) (n : ℕ) → signRefusal leaf message seed I C tree out ≡ suc n
+    → sign leaf message seed I C tree out ≡ record { refusal = suc n; written = [] }
+unfolding sign unrefused
+sign-refused leaf message seed I C tree out n e = rw e
+
+-- where nothing is turned back, the key and the tree, or the signature
 
 module _ (seed I tree out : List ℕ) (s : length seed ≡ 32) (i : length I ≡ 16) (t : length tree ≡ 65536) where
   makeKeyRefusal-zero : 56 ≤ length out → makeKeyRefusal seed I tree out ≡ 0
@@ -82,6 +106,6 @@ module _ (seed I tree out : List ℕ) (s : length seed ≡ 32) (i : length I ≡
     signRefusal-zero o = rw (le-ltb 1023 leaf l, le-ltb (length out) 1452 o, le-ltb 65535 (length message) m, s, i, c, t)
 
     pub sign-unrefused : 1452 ≤ length out
-        → sign leaf message seed I C tree out ≡ record { refusal = 0; written = signature 6 4 I leaf seed C message tree }
+        → sign leaf message seed I C tree out ≡ record { refusal = 0; written = lmsSignature 6 4 I leaf seed C message tree }
     unfolding sign unrefused
     sign-unrefused o = rw (signRefusal-zero o)

@@ -8,7 +8,7 @@ use lib.ListN.{length}
 use Rattle.octets.specs.Octets.{part}
 use Rattle.lms.specs.Refusal.{lowest, unrefused}
 use Rattle.lms.specs.Ots.{u8str, u16str, knownOts}
-use Rattle.lms.specs.Tree.{knownLms, publicKey, treeFilled, signature}
+use Rattle.lms.specs.Tree.{knownLms, publicKey, treeFilled, lmsSignature}
 use Rattle.lms.specs.Verify.{lmsTypeOf, otsTypeOf, leafOf, valid}
 
 -- ---- lengths
@@ -72,7 +72,7 @@ signRefusal leaf message seed I C tree out =
 unfoldable pub sign : ℕ → List ℕ → List ℕ → List ℕ → List ℕ → List ℕ → List ℕ → Signed
 sign leaf message seed I C tree out =
     let n = signRefusal leaf message seed I C tree out in
-    record { refusal = n; written = unrefused n (signature 6 4 I leaf seed C message tree) [] }
+    record { refusal = n; written = unrefused n (lmsSignature 6 4 I leaf seed C message tree) [] }
 
 -- ---- a seat's signature in a round
 

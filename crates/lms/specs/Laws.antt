@@ -1,19 +1,18 @@
 -- Laws of byte strings that hold for any bytes: parts, patches, numbers, joined and compared strings, refusals.
 use mathlib.Core.Path.{_≡_, refl, sym, ap, ap₂, _∙_}
-use mathlib.Core.Bool.{Bool, true, false, _&&_, _||_, and-eq-true-iff, false≢true}
+use mathlib.Core.Bool.{Bool, true, false, and-eq-true-iff, false≢true}
 use mathlib.Core.Logic.{⊎-elim}
 use mathlib.Core.List.{List, [], _∷_, _++_, append-assoc, append-nil}
-use Prim.Native.Nat.{ℕ, zero, suc, _+_, _-_, _*_, _/_, _%_, _^_, _≤_, _<_}
-use native.Mathlib.Nat.{add-assoc, add-zero, add-suc, zero-add, pow-suc, eq-or-lt-of-le, le-of-suc-le-suc, suc-inj, mul-le-mul-left, div-lt-iff-lt-mul}
+use Prim.Native.Nat.{ℕ, zero, suc, _+_, _*_, _/_, _%_, _^_, _≤_, _<_}
+use native.Mathlib.Nat.{add-assoc, add-zero, add-suc, pow-suc, eq-or-lt-of-le, le-of-suc-le-suc, suc-inj, mul-le-mul-left, div-lt-iff-lt-mul}
 use native.Mathlib.Numerals.{add-one, add-two, add-three}
 use native.Mathlib.Omega.{arith}
 use lib.Dec.{lit<, eqb}
 use lib.ListN.{length, take, drop, getD, length-append, length-take, length-drop}
-use lib.Seq.{take-at, drop-at, take-take, drop-drop, take-append-le, drop-append-le, drop-append-add, take-append-add, drop-cons, take-all, length-take-le}
+use lib.Seq.{drop-at, take-take, drop-drop, take-append-le, drop-append-le, drop-append-add, drop-cons, take-all, length-take-le}
 use borrow.Author.Tests.{eqb-true, eq-eqb}
-use Rattle.octets.specs.Octets.{part, patch, be, numberFrom, number, word, wordAt}
-use Rattle.octets.specs.Laws.{length-part}
-use Rattle.lms.specs.Refusal.{lowest, unrefused}
+use Rattle.octets.specs.Octets.{part, patch, be, numberFrom, number, wordAt}
+use Rattle.lms.specs.Refusal.{lowest}
 use Rattle.lms.specs.Strings.{joined, same}
 
 -- ---- parts
@@ -85,7 +84,21 @@ patch-before at us vs xs h =
     (length-take-le (at + length us) xs h) in
     rw (front, rest, length-append, ← add-assoc, append-assoc)
 
+-- nothing written leaves the buffer as it was
+pub patch-nothing : (xs : List ℕ) → patch 0 [] xs ≡ xs
+unfolding patch
+patch-nothing xs = refl
+
 -- ---- numbers
+
+pub be-one : (x : ℕ) → be 1 x ≡ x % 256 ∷ []
+unfolding be
+be-one x = refl
+
+-- the two bytes of a number, as code computes them
+pub be-two : (x : ℕ) → be 2 x ≡ x / 256 % 256 ∷ x % 256 ∷ []
+unfolding be
+be-two x = refl
 
 numberFrom-append : (n : ℕ) (xs ys : List ℕ) → numberFrom n (xs ++ ys) ≡ numberFrom (numberFrom n xs) ys
 unfolding numberFrom
@@ -168,6 +181,15 @@ same-true (x ∷ xs) (y ∷ ys) e =
     let k = and-eq-true-iff (eqb x y) (same xs ys) .0 e in
     ap₂ _∷_ (eqb-true x y (k .0)) (same-true xs ys (k .1))
 
+-- a comparison in code that answers true just where the strings are equal
+pub same-by : (r : Bool) (xs ys : List ℕ) → (r ≡ true → xs ≡ ys) → (xs ≡ ys → r ≡ true) → r ≡ same xs ys
+same-by true xs ys f g = rw (f refl) (sym (same-refl ys))
+same-by false xs ys f g = go (same xs ys) refl
+  where
+    go : (b : Bool) → same xs ys ≡ b → false ≡ same xs ys
+    go true e = absurd (false≢true (g (same-true xs ys e)))
+    go false e = sym e
+
 -- ---- refusals
 
 -- a test that holds, with none before it, gives its number
@@ -185,12 +207,3 @@ pub lowest-zero : (n : ℕ) (t : Bool) (rest : List (ℕ × Bool)) → lowest ((
 unfolding lowest
 lowest-zero n true rest e = absurd (omega arith)
 lowest-zero n false rest e = (refl, e)
-
-pub unrefused-zero {ℓ} : {A : Type ℓ} (n : ℕ) (new old : A) → n ≡ 0 → unrefused n new old ≡ new
-unfolding unrefused
-unrefused-zero n new old e = rw e
-
-pub unrefused-suc {ℓ} : {A : Type ℓ} (n : ℕ) (new old : A) → 0 < n → unrefused n new old ≡ old
-unfolding unrefused
-unrefused-suc zero new old h = absurd (omega arith)
-unrefused-suc (suc n) new old h = refl

@@ -1,17 +1,16 @@
 -- What follows from the definitions of LM-OTS: lengths, digits, checksum, and chains that go on where others stop.
-use mathlib.Core.Path.{_≡_, refl, sym, ap, _∙_}
-use mathlib.Core.List.{List, [], _∷_, _++_}
+use mathlib.Core.Path.{_≡_, sym, ap, _∙_}
+use mathlib.Core.List.{List, _++_}
 use Prim.Native.Nat.{ℕ, zero, suc, _+_, _-_, _*_, _/_, _%_, _^_, _≤_, _<_}
-use native.Mathlib.Nat.{add-zero, add-suc, add-assoc, zero-add, add-sub-of-le, mod-eq-of-lt}
+use native.Mathlib.Nat.{add-zero, add-suc, add-assoc, zero-add, add-sub-of-le}
 use native.Mathlib.Omega.{arith}
-use lib.Bits.{bitAnd, and-comm, and-mask, and-le-l}
+use lib.Bits.{and-comm, and-mask, and-le-l}
 use lib.ListN.{length, getD, length-append}
-use Rattle.octets.specs.Octets.{part, be}
+use Rattle.octets.specs.Octets.{part}
 use Rattle.octets.specs.Laws.{length-be, length-part}
 use Rattle.sha256.specs.Laws.{length-sha256}
-use Rattle.lms.specs.Strings.{joined}
-use Rattle.lms.specs.Ots.{H, u32str, coef, width, digits, chains, leftShift, otsLength, chainInput, chain, start, keyInput, chainEnd, otsKey, sum, checksum, withChecksum, messageInput, digested, signed, otsSignature, otsInvalid, completed, candidate}
-use Rattle.lms.specs.Laws.{part-skip, part-left, part-front, part-between, length-joined, part-joined, joined-same, number-be}
+use Rattle.lms.specs.Ots.{H, u32str, coef, width, chains, otsLength, chainInput, chain, start, keyInput, chainEnd, otsKey, sum, withChecksum, messageInput, digested, signed, otsSignature, completed, candidate}
+use Rattle.lms.specs.Laws.{part-skip, part-left, part-front, part-between, length-joined, part-joined, joined-same}
 
 -- ---- digits
 

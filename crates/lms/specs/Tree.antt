@@ -67,8 +67,8 @@ sibling r = cond (eqb (r % 2) 0) (r + 1) (r - 1)
 unfoldable pub path : List ℕ → ℕ → ℕ → List ℕ
 path tree r i = part (32 * sibling (r / 2 ^ i)) 32 tree
 
-unfoldable pub signature : ℕ → ℕ → List ℕ → ℕ → List ℕ → List ℕ → List ℕ → List ℕ → List ℕ
-signature lmsType otsType I q seed C message tree =
+unfoldable pub lmsSignature : ℕ → ℕ → List ℕ → ℕ → List ℕ → List ℕ → List ℕ → List ℕ → List ℕ
+lmsSignature lmsType otsType I q seed C message tree =
     u32str q
     ++ otsSignature otsType I q seed C message
     ++ u32str lmsType

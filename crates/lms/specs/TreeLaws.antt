@@ -1,21 +1,21 @@
 -- What follows from the definitions of the LMS tree: T[r] by the RFC's two equations, lengths, and the tree's buffer.
-use mathlib.Core.Path.{_≡_, refl, sym, ap, ap₂, _∙_}
+use mathlib.Core.Path.{_≡_, refl, ap, _∙_}
 use mathlib.Core.Bool.{Bool, true, false, cond}
 use mathlib.Core.List.{List, _++_}
-use Prim.Native.Nat.{ℕ, zero, suc, _+_, _-_, _*_, _/_, _%_, _^_, _≤_, _<_}
-use native.Mathlib.Nat.{add-zero, add-suc, suc-add, add-assoc, pow-suc, mul-le-mul-right, add-sub-of-le}
+use Prim.Native.Nat.{ℕ, zero, suc, _+_, _-_, _*_, _^_, _≤_, _<_}
+use native.Mathlib.Nat.{add-zero, add-assoc, pow-suc, mul-le-mul-right, add-sub-of-le}
 use native.Mathlib.Numerals.{one-add, add-one}
 use native.Mathlib.Omega.{arith}
 use lib.Dec.{leb}
 use lib.ListN.{length, length-append}
 use borrow.Author.Tests.{le-leb, lt-leb}
 use Rattle.octets.specs.Octets.{part, patch}
-use Rattle.octets.specs.Laws.{length-be, length-part, length-patch}
+use Rattle.octets.specs.Laws.{length-be, length-patch}
 use Rattle.sha256.specs.Laws.{length-sha256}
 use Rattle.lms.specs.Strings.{joined}
-use Rattle.lms.specs.Ots.{H, u32str, width, otsKey}
-use Rattle.lms.specs.Tree.{leafInput, innerInput, node, T, nodes, treeFilled, sibling}
-use Rattle.lms.specs.Laws.{part-patch, length-joined, part-joined, joined-same, joined-add}
+use Rattle.lms.specs.Ots.{H, otsKey}
+use Rattle.lms.specs.Tree.{leafInput, innerInput, node, T, nodes, treeFilled}
+use Rattle.lms.specs.Laws.{part-patch, length-joined, part-joined, joined-add}
 
 -- ---- T[r] (section 5.3)
 

@@ -1,23 +1,21 @@
 -- What follows from the definitions of verification: the fields of keys and signatures, and that Algorithm 6 takes what
 -- the key maker and the signer of section 5 make.
-use mathlib.Core.Path.{_≡_, refl, sym, ap, ap₂, _∙_}
+use mathlib.Core.Path.{_≡_, refl, sym, ap, _∙_}
 use mathlib.Core.Bool.{Bool, true, false, not, cond, _&&_, _||_, or-true, false≢true}
-use mathlib.Core.List.{List, [], _++_, append-assoc}
+use mathlib.Core.List.{List, _++_}
 use mathlib.Core.Logic.{_⊎_, inl, inr, ⊎-elim}
 use Prim.Native.Nat.{ℕ, zero, suc, _+_, _-_, _*_, _/_, _%_, _^_, _≤_, _<_}
-use native.Mathlib.Nat.{add-zero, add-suc, suc-add, add-assoc, pow-suc, mul-le-mul-right, add-sub-of-le, add-sub-cancel-left, one-mul, le-refl, div-one, le-div-iff-mul-le}
-use native.Mathlib.Numerals.{one-add, add-one}
+use native.Mathlib.Nat.{add-sub-cancel-left, one-mul, le-refl, div-one, le-div-iff-mul-le}
+use native.Mathlib.Numerals.{add-one}
 use native.Mathlib.Omega.{arith}
-use lib.Dec.{leb, ltb, eqb, lit<}
+use lib.Dec.{leb, eqb, lit<}
 use lib.ListN.{length, length-append}
 use lib.Pow.{pow-mono, pow-pos, shr-shr, shr-le, high}
-use borrow.Author.Tests.{le-leb, lt-leb, le-ltb, eq-eqb, eqb-true, ltb-false, leb-false}
+use borrow.Author.Tests.{lt-leb, le-ltb, eq-eqb, eqb-true, leb-false}
 use Rattle.octets.specs.Octets.{part, number}
 use Rattle.octets.specs.Laws.{length-be, length-part}
-use Rattle.sha256.specs.Laws.{length-sha256}
-use Rattle.lms.specs.Strings.{joined, same}
-use Rattle.lms.specs.Ots.{H, u32str, u32At, knownOts, width, otsLength, otsKey, otsSignature, otsInvalid, candidate}
-use Rattle.lms.specs.Tree.{knownLms, height, leafInput, innerInput, T, publicKey, sibling, path, signature}
+use Rattle.lms.specs.Ots.{H, u32str, u32At, knownOts, width, otsLength, otsKey, otsSignature, otsInvalid}
+use Rattle.lms.specs.Tree.{knownLms, height, leafInput, innerInput, T, publicKey, sibling, path, lmsSignature}
 use Rattle.lms.specs.Verify.{lmsTypeOf, otsTypeOf, identifierOf, rootOf, leafOf, otsPart, sigTypeOf, pathAt, signatureLength, signatureInvalid, turn, climbed, rootCandidate, keyInvalid, valid}
 use Rattle.lms.specs.Laws.{part-skip, part-left, part-front, part-end, part-between, part-part, number-be, length-joined, part-joined, same-refl}
 use Rattle.lms.specs.OtsLaws.{four-le-otsLength, length-otsSignature, type-otsSignature, candidate-otsSignature}
@@ -115,40 +113,40 @@ module _ (lmsType otsType : ℕ) (I : List ℕ) (q : ℕ) (seed C message tree :
   length-before-path : length (u32str q ++ otsSignature otsType I q seed C message ++ u32str lmsType) ≡ 8 + otsLength (width otsType)
   length-before-path = rw (length-append, length-leaf-ots, length-be) (omega arith)
 
-  pub leaf-signature : q < 256 ^ 4 → leafOf (signature lmsType otsType I q seed C message tree) ≡ q
-  unfolding signature
-  leaf-signature h =
+  pub leaf-lmsSignature : q < 256 ^ 4 → leafOf (lmsSignature lmsType otsType I q seed C message tree) ≡ q
+  unfolding lmsSignature
+  leaf-lmsSignature h =
       ap number
       (part-left (u32str q ++ otsSignature otsType I q seed C message ++ u32str lmsType) _ 0 4 (rw length-before-path (omega arith))
       ∙ part-left (u32str q ++ otsSignature otsType I q seed C message) (u32str lmsType) 0 4 (rw length-leaf-ots (omega arith))
       ∙ part-front (u32str q) _ 4 (length-be 4 q))
       ∙ number-be 4 q h
 
-  pub ots-signature : otsPart (width otsType) (signature lmsType otsType I q seed C message tree) ≡ otsSignature otsType I q seed C message
-  unfolding signature
-  ots-signature =
+  pub ots-lmsSignature : otsPart (width otsType) (lmsSignature lmsType otsType I q seed C message tree) ≡ otsSignature otsType I q seed C message
+  unfolding lmsSignature
+  ots-lmsSignature =
       part-left (u32str q ++ otsSignature otsType I q seed C message ++ u32str lmsType) _ 4 (otsLength (width otsType))
       (rw length-before-path (omega arith))
       ∙ part-between (u32str q) (otsSignature otsType I q seed C message) (u32str lmsType) 4 (otsLength (width otsType))
       (length-be 4 q) (length-otsSignature otsType I q seed C message e)
 
-  pub sigType-signature : lmsType < 256 ^ 4 → sigTypeOf (width otsType) (signature lmsType otsType I q seed C message tree) ≡ lmsType
-  unfolding signature
-  sigType-signature h =
+  pub sigType-lmsSignature : lmsType < 256 ^ 4 → sigTypeOf (width otsType) (lmsSignature lmsType otsType I q seed C message tree) ≡ lmsType
+  unfolding lmsSignature
+  sigType-lmsSignature h =
       ap number
       (part-between (u32str q ++ otsSignature otsType I q seed C message) (u32str lmsType) _ (4 + otsLength (width otsType)) 4
       length-leaf-ots (length-be 4 lmsType))
       ∙ number-be 4 lmsType h
 
   module _ (each : (i : ℕ) → i < height lmsType → length (path tree (2 ^ height lmsType + q) i) ≡ 32) where
-    pub length-signature : length (signature lmsType otsType I q seed C message tree) ≡ signatureLength (height lmsType) (width otsType)
-    unfolding signature signatureLength
-    length-signature = rw (length-append, length-before-path, length-joined 32 _ _ each)
+    pub length-lmsSignature : length (lmsSignature lmsType otsType I q seed C message tree) ≡ signatureLength (height lmsType) (width otsType)
+    unfolding lmsSignature signatureLength
+    length-lmsSignature = rw (length-append, length-before-path, length-joined 32 _ _ each)
 
-    pub path-signature : (i : ℕ) → i < height lmsType
-        → pathAt (width otsType) (signature lmsType otsType I q seed C message tree) i ≡ path tree (2 ^ height lmsType + q) i
-    unfolding signature
-    path-signature i h =
+    pub path-lmsSignature : (i : ℕ) → i < height lmsType
+        → pathAt (width otsType) (lmsSignature lmsType otsType I q seed C message tree) i ≡ path tree (2 ^ height lmsType + q) i
+    unfolding lmsSignature
+    path-lmsSignature i h =
         part-skip (u32str q ++ otsSignature otsType I q seed C message ++ u32str lmsType) _ (8 + otsLength (width otsType)) (32 * i) 32
         length-before-path
         ∙ part-joined 32 _ _ each i h
@@ -158,14 +156,16 @@ module _ (lmsType otsType : ℕ) (I : List ℕ) (q : ℕ) (seed C message tree :
 signatureInvalid-fits : (lmsType otsType : ℕ) (signature : List ℕ) → signatureInvalid lmsType otsType signature ≡ false
     → (length signature ≡ signatureLength (height lmsType) (width otsType)) × (leafOf signature < 2 ^ height lmsType)
 unfolding signatureInvalid
-signatureInvalid-fits lmsType otsType signature e =
-    (size (eqb (length signature) (signatureLength (height lmsType) (width otsType))) refl,
-    leaf (leb (2 ^ height lmsType) (leafOf signature)) refl)
+signatureInvalid-fits lmsType otsType signature e = (
+  size (eqb (length signature) (signatureLength (height lmsType) (width otsType))) refl,
+  leaf (leb (2 ^ height lmsType) (leafOf signature)) refl,
+)
   where
     size : (b : Bool) → eqb (length signature) (signatureLength (height lmsType) (width otsType)) ≡ b
         → length signature ≡ signatureLength (height lmsType) (width otsType)
     size true p = eqb-true _ _ p
     size false p = absurd (false≢true (sym (rw (p, or-true) at e)))
+
     leaf : (b : Bool) → leb (2 ^ height lmsType) (leafOf signature) ≡ b → leafOf signature < 2 ^ height lmsType
     leaf true p = absurd (false≢true (sym (rw (p, or-true) at e)))
     leaf false p = leb-false _ _ p
@@ -192,12 +192,17 @@ pub otsInvalid-inside : (h otsType : ℕ) (signature : List ℕ)
 unfolding otsInvalid signatureLength
 otsInvalid-inside h otsType signature e k =
     let size : length (otsPart (width otsType) signature) ≡ otsLength (width otsType) =
-        length-part 4 (otsLength (width otsType)) signature (omega arith) in
+    length-part 4 (otsLength (width otsType)) signature (omega arith) in
     let room : 4 ≤ otsLength (width otsType) = four-le-otsLength (width otsType) in
     let type : u32At 0 (otsPart (width otsType) signature) ≡ otsType =
-        ap number (part-part 0 4 4 (otsLength (width otsType)) signature (omega arith)) ∙ e in
-    rw (size, le-ltb (otsLength (width otsType)) 4 room, type, eq-eqb otsType otsType refl,
-    eq-eqb (otsLength (width otsType)) (otsLength (width otsType)) refl)
+    ap number (part-part 0 4 4 (otsLength (width otsType)) signature (omega arith)) ∙ e in
+    rw (
+      size,
+      le-ltb (otsLength (width otsType)) 4 room,
+      type,
+      eq-eqb otsType otsType refl,
+      eq-eqb (otsLength (width otsType)) (otsLength (width otsType)) refl,
+    )
 
 known-below : (t a b bound : ℕ) → (eqb t a || eqb t b) ≡ true → a < bound → b < bound → t < bound
 known-below t a b bound e k l = go (eqb t a) refl
@@ -218,9 +223,13 @@ module _ (lmsType otsType : ℕ) (I seed : List ℕ) (knownL : knownLms lmsType 
   pub keyInvalid-publicKey : keyInvalid (publicKey lmsType otsType I seed) ≡ false
   unfolding keyInvalid
   keyInvalid-publicKey =
-      rw
-      (length-publicKey lmsType otsType I seed e, lmsType-publicKey lmsType otsType I seed e lms-below,
-      otsType-publicKey lmsType otsType I seed e ots-below, knownL, knownO)
+      rw (
+        length-publicKey lmsType otsType I seed e,
+        lmsType-publicKey lmsType otsType I seed e lms-below,
+        otsType-publicKey lmsType otsType I seed e ots-below,
+        knownL,
+        knownO,
+      )
 
   -- a signature whose path comes from a buffer that holds the tree
   module _ (q : ℕ) (C message tree : List ℕ) (c : length C ≡ 32) (below : q < 2 ^ height lmsType)
@@ -244,49 +253,62 @@ module _ (lmsType otsType : ℕ) (I seed : List ℕ) (knownL : knownLms lmsType 
     length-path : (i : ℕ) → i < height lmsType → length (path tree (2 ^ height lmsType + q) i) ≡ 32
     length-path i h = rw (path-T i h) (length-T (height lmsType) (width otsType) I seed _)
 
-    signatureInvalid-signature : signatureInvalid lmsType otsType (signature lmsType otsType I q seed C message tree) ≡ false
+    signatureInvalid-lmsSignature : signatureInvalid lmsType otsType (lmsSignature lmsType otsType I q seed C message tree) ≡ false
     unfolding signatureInvalid signatureLength
-    signatureInvalid-signature =
-        let s = signature lmsType otsType I q seed C message tree in
+    signatureInvalid-lmsSignature =
+        let s = lmsSignature lmsType otsType I q seed C message tree in
         let room : 4 ≤ otsLength (width otsType) = four-le-otsLength (width otsType) in
         let size : length s ≡ 8 + otsLength (width otsType) + 32 * height lmsType =
-            length-signature lmsType otsType I q seed C message tree c length-path in
+        length-lmsSignature lmsType otsType I q seed C message tree c length-path in
         let type : u32At 4 s ≡ otsType =
-            ap number
-            (sym (part-part 0 4 4 (otsLength (width otsType)) s room)
-            ∙ ap (part 0 4) (ots-signature lmsType otsType I q seed C message tree c)
-            ∙ type-otsSignature otsType I q seed C message c)
-            ∙ number-be 4 otsType ots-below in
-        rw
-        (le-ltb (length s) 8 (omega arith), type, eq-eqb otsType otsType refl,
-        le-ltb (length s) (8 + otsLength (width otsType)) (omega arith),
-        sigType-signature lmsType otsType I q seed C message tree c lms-below, eq-eqb lmsType lmsType refl,
-        leaf-signature lmsType otsType I q seed C message tree c q-below, lt-leb (2 ^ height lmsType) q below,
-        eq-eqb (length s) (signatureLength (height lmsType) (width otsType)) size,
-        otsInvalid-inside (height lmsType) otsType s type size)
+        ap number
+        (sym (part-part 0 4 4 (otsLength (width otsType)) s room)
+        ∙ ap (part 0 4) (ots-lmsSignature lmsType otsType I q seed C message tree c)
+        ∙ type-otsSignature otsType I q seed C message c)
+        ∙ number-be 4 otsType ots-below in
+        rw (
+          le-ltb (length s) 8 (omega arith),
+          type,
+          eq-eqb otsType otsType refl,
+          le-ltb (length s) (8 + otsLength (width otsType)) (omega arith),
+          sigType-lmsSignature lmsType otsType I q seed C message tree c lms-below,
+          eq-eqb lmsType lmsType refl,
+          leaf-lmsSignature lmsType otsType I q seed C message tree c q-below,
+          lt-leb (2 ^ height lmsType) q below,
+          eq-eqb (length s) (signatureLength (height lmsType) (width otsType)) size,
+          otsInvalid-inside (height lmsType) otsType s type size,
+        )
 
-    rootCandidate-signature : rootCandidate (height lmsType) (width otsType) I message (signature lmsType otsType I q seed C message tree)
+    rootCandidate-lmsSignature : rootCandidate (height lmsType) (width otsType) I message (lmsSignature lmsType otsType I q seed C message tree)
         ≡ T (height lmsType) (width otsType) I seed 1
     unfolding rootCandidate
-    rootCandidate-signature =
+    rootCandidate-lmsSignature =
         let r = 2 ^ height lmsType + q in
         let leaf : T (height lmsType) (width otsType) I seed r ≡ H (leafInput I r (otsKey I q (width otsType) seed)) =
-            rw add-sub-cancel-left at (T-leaf (height lmsType) (width otsType) I seed r (omega arith)) in
+        rw add-sub-cancel-left at (T-leaf (height lmsType) (width otsType) I seed r (omega arith)) in
         let root : r / 2 ^ height lmsType ≡ 1 = rw one-mul at (high 1 (height lmsType) below) in
-        rw
-        (leaf-signature lmsType otsType I q seed C message tree c q-below,
-        ots-signature lmsType otsType I q seed C message tree c, candidate-otsSignature otsType I q seed C message c, ← leaf)
-        (climbed-T (height lmsType) (width otsType) I seed r (signature lmsType otsType I q seed C message tree)
+        rw (
+          leaf-lmsSignature lmsType otsType I q seed C message tree c q-below,
+          ots-lmsSignature lmsType otsType I q seed C message tree c,
+          candidate-otsSignature otsType I q seed C message c,
+          ← leaf,
+        )
+        (climbed-T (height lmsType) (width otsType) I seed r (lmsSignature lmsType otsType I q seed C message tree)
         (omega arith) (omega arith)
-        (λ i h. path-signature lmsType otsType I q seed C message tree c length-path i h ∙ path-T i h)
+        (λ i h. path-lmsSignature lmsType otsType I q seed C message tree c length-path i h ∙ path-T i h)
         (height lmsType) (le-refl _)
         ∙ ap (T (height lmsType) (width otsType) I seed) root)
 
-    pub valid-signature : valid (publicKey lmsType otsType I seed) message (signature lmsType otsType I q seed C message tree) ≡ true
+    pub valid-lmsSignature : valid (publicKey lmsType otsType I seed) message (lmsSignature lmsType otsType I q seed C message tree) ≡ true
     unfolding valid
-    valid-signature =
-        rw
-        (keyInvalid-publicKey, lmsType-publicKey lmsType otsType I seed e lms-below,
-        otsType-publicKey lmsType otsType I seed e ots-below, identifier-publicKey lmsType otsType I seed e,
-        root-publicKey lmsType otsType I seed e, signatureInvalid-signature, rootCandidate-signature)
+    valid-lmsSignature =
+        rw (
+          keyInvalid-publicKey,
+          lmsType-publicKey lmsType otsType I seed e lms-below,
+          otsType-publicKey lmsType otsType I seed e ots-below,
+          identifier-publicKey lmsType otsType I seed e,
+          root-publicKey lmsType otsType I seed e,
+          signatureInvalid-lmsSignature,
+          rootCandidate-lmsSignature,
+        )
         (same-refl _)
