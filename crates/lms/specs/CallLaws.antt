@@ -1,0 +1,111 @@
+-- What follows from the definitions of the calls: what an accepted signature is like, and what a call leaves, refused
+-- or not.
+use mathlib.Core.Path.{_≡_, refl, _∙_}
+use mathlib.Core.Bool.{Bool, true, false, not, _&&_, _||_, and-false, or-true, or-false}
+use mathlib.Core.List.{List, []}
+use Prim.Native.Nat.{ℕ, suc, _+_, _^_, _≤_, _<_}
+use native.Mathlib.Omega.{arith}
+use lib.Dec.{eqb, ltb}
+use lib.ListN.{length, length-append}
+use borrow.Author.Tests.{le-ltb, eq-eqb, eqb-true, not-false}
+use Rattle.octets.specs.Laws.{length-be, length-part}
+use Rattle.lms.specs.Refusal.{lowest, unrefused}
+use Rattle.lms.specs.Ots.{chains, otsLength, knownOts, width}
+use Rattle.lms.specs.Tree.{knownLms, height, publicKey, treeFilled, path, lmsSignature}
+use Rattle.lms.specs.Verify.{lmsTypeOf, otsTypeOf, leafOf, signatureLength, keyInvalid, valid}
+use Rattle.lms.specs.Calls.{signatureBytes, treeBytes, messageLimit, keyRefused, checkSignature, makeKeyRefusal, makeKey, signRefusal, sign, signedBytes, seatKey, checks}
+use Rattle.lms.specs.Laws.{lowest-zero}
+use Rattle.lms.specs.VerifyLaws.{sibling-within, ancestor-within, length-lmsSignature, valid-fits}
+
+-- ---- the check
+
+-- number 5 is what Algorithm 6 rejects of a key
+pub keyInvalid-keyRefused : (key : List ℕ) → keyInvalid key ≡ keyRefused key
+unfolding keyInvalid keyRefused
+keyInvalid-keyRefused key = go (eqb (length key) 56) refl
+  where
+    go : (b : Bool) → eqb (length key) 56 ≡ b
+        → (ltb (length key) 8 || not (knownLms (lmsTypeOf key)) || not (knownOts (otsTypeOf key)) || not (eqb (length key) 56))
+        ≡ (not (eqb (length key) 56) || not (knownLms (lmsTypeOf key)) || not (knownOts (otsTypeOf key)))
+    go true e = rw (e, eqb-true (length key) 56 e, or-false)
+    go false e = rw (e, or-true)
+
+-- an accepted signature has exactly the length of its types, and its leaf stands in the tree
+pub accepted-fits : (key message signature : List ℕ) → checkSignature key message signature ≡ 0
+    → (length signature ≡ signatureLength (height (lmsTypeOf key)) (width (otsTypeOf key)))
+    × (leafOf signature < 2 ^ height (lmsTypeOf key))
+unfolding checkSignature
+accepted-fits key message signature e =
+    let late = lowest-zero 8 _ _ (lowest-zero 4 _ _ e .1) .1 in
+    valid-fits key message signature (not-false _ (lowest-zero 13 _ [] late .0))
+
+pub length-six-four : signatureLength (height 6) (width 4) ≡ signatureBytes
+unfolding signatureLength otsLength chains height width signatureBytes
+length-six-four = refl
+
+-- under a key of types 6 and 4 the length need not be asked for
+pub checks-types : (keys : List ℕ) (round seat : ℕ) (value signature : List ℕ)
+    → lmsTypeOf (seatKey keys seat) ≡ 6 → otsTypeOf (seatKey keys seat) ≡ 4
+    → checks keys round seat value signature
+    ≡ (eqb (leafOf signature) round && valid (seatKey keys seat) (signedBytes round seat value) signature)
+unfolding checks
+checks-types keys round seat value signature k l = go (valid (seatKey keys seat) (signedBytes round seat value) signature) refl
+  where
+    go : (b : Bool) → valid (seatKey keys seat) (signedBytes round seat value) signature ≡ b
+        → (eqb (length signature) signatureBytes && eqb (leafOf signature) round && valid (seatKey keys seat) (signedBytes round seat value) signature)
+        ≡ (eqb (leafOf signature) round && valid (seatKey keys seat) (signedBytes round seat value) signature)
+    go true e =
+        let size : length signature ≡ signatureBytes = rw (k, l, length-six-four) at (valid-fits _ _ signature e .0) in
+        rw (eq-eqb (length signature) signatureBytes size)
+    go false e = simp (e, and-false)
+
+pub length-signedBytes : (round seat : ℕ) (value : List ℕ) → length value ≡ 32 → length (signedBytes round seat value) ≡ 36
+unfolding signedBytes
+length-signedBytes round seat value e = simp (length-append, length-be) (omega arith)
+
+-- ---- the signer writes 1,452 bytes, whatever the tree's buffer holds
+
+module _ (I : List ℕ) (leaf : ℕ) (seed C message tree : List ℕ) (l : leaf ≤ 1023) (c : length C ≡ 32) (t : length tree ≡ 65536) where
+  length-path : (i : ℕ) → i < height 6 → length (path tree (2 ^ height 6 + leaf) i) ≡ 32
+  unfolding height path
+  length-path i k =
+      let within = ancestor-within 10 (1024 + leaf) i (omega arith) (omega arith) k in
+      let beside = sibling-within 1024 _ (within .0) (within .1) in
+      length-part _ 32 tree (omega (arith, beside .1))
+
+  pub length-lmsSignature-six-four : length (lmsSignature 6 4 I leaf seed C message tree) ≡ signatureBytes
+  length-lmsSignature-six-four = length-lmsSignature 6 4 I leaf seed C message tree c length-path ∙ length-six-four
+
+-- ---- the key maker and the signer: a refusal writes nothing, and keeps the tree
+
+pub makeKey-refused : (seed I tree out : List ℕ) (n : ℕ) → makeKeyRefusal seed I tree out ≡ suc n
+    → makeKey seed I tree out ≡ record { refusal = suc n; written = []; tree = tree }
+unfolding makeKey unrefused
+makeKey-refused seed I tree out n e = rw e
+
+pub sign-refused : (leaf : ℕ) (message seed I C tree out : List ℕ) (n : ℕ) → signRefusal leaf message seed I C tree out ≡ suc n
+    → sign leaf message seed I C tree out ≡ record { refusal = suc n; written = [] }
+unfolding sign unrefused
+sign-refused leaf message seed I C tree out n e = rw e
+
+-- where nothing is turned back, the key and the tree, or the signature
+
+module _ (seed I tree out : List ℕ) (s : length seed ≡ 32) (i : length I ≡ 16) (t : length tree ≡ 65536) where
+  makeKeyRefusal-zero : 56 ≤ length out → makeKeyRefusal seed I tree out ≡ 0
+  unfolding makeKeyRefusal lowest treeBytes
+  makeKeyRefusal-zero o = rw (le-ltb (length out) 56 o, s, i, t)
+
+  pub makeKey-unrefused : 56 ≤ length out
+      → makeKey seed I tree out ≡ record { refusal = 0; written = publicKey 6 4 I seed; tree = treeFilled I seed tree }
+  unfolding makeKey unrefused
+  makeKey-unrefused o = rw (makeKeyRefusal-zero o)
+
+  module _ (leaf : ℕ) (message C : List ℕ) (l : leaf ≤ 1023) (m : length message ≤ 65535) (c : length C ≡ 32) where
+    signRefusal-zero : 1452 ≤ length out → signRefusal leaf message seed I C tree out ≡ 0
+    unfolding signRefusal lowest treeBytes messageLimit signatureBytes
+    signRefusal-zero o = rw (le-ltb 1023 leaf l, le-ltb (length out) 1452 o, le-ltb 65535 (length message) m, s, i, c, t)
+
+    pub sign-unrefused : 1452 ≤ length out
+        → sign leaf message seed I C tree out ≡ record { refusal = 0; written = lmsSignature 6 4 I leaf seed C message tree }
+    unfolding sign unrefused
+    sign-unrefused o = rw (signRefusal-zero o)

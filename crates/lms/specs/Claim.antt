@@ -1,0 +1,70 @@
+-- What the signer makes, the check takes: for every seed, identifier, randomizer, leaf and message, and whatever the
+-- tree's buffer held before.
+use mathlib.Core.Path.{_≡_, refl, sym, _∙_}
+use mathlib.Core.Bool.{true, false}
+use mathlib.Core.List.{List}
+use Prim.Native.Nat.{ℕ, _≤_}
+use native.Mathlib.Omega.{arith}
+use lib.Dec.{lit<}
+use lib.ListN.{length}
+use borrow.Author.Tests.{le-ltb, eq-eqb}
+use Rattle.lms.specs.Refusal.{lowest}
+use Rattle.lms.specs.Ots.{knownOts, width}
+use Rattle.lms.specs.Tree.{knownLms, height, publicKey, treeFilled, lmsSignature}
+use Rattle.lms.specs.Verify.{valid}
+use Rattle.lms.specs.Calls.{messageLimit, keyRefused, checkSignature, makeKey, sign, signedBytes, seatKey, checks}
+use Rattle.lms.specs.TreeLaws.{length-treeFilled, part-treeFilled}
+use Rattle.lms.specs.VerifyLaws.{lmsType-publicKey, otsType-publicKey, leaf-lmsSignature, keyInvalid-publicKey, valid-lmsSignature}
+use Rattle.lms.specs.CallLaws.{keyInvalid-keyRefused, checks-types, length-signedBytes, makeKey-unrefused, sign-unrefused}
+
+module _
+    (seed I C : List ℕ) (seed-length : length seed ≡ 32) (I-length : length I ≡ 16) (C-length : length C ≡ 32)
+    (tree keyOut out : List ℕ) (tree-length : length tree ≡ 65536) (key-room : 56 ≤ length keyOut) (room : 1452 ≤ length out)
+    (leaf : ℕ) (leaf-in : leaf ≤ 1023)
+  where
+    made-key : makeKey seed I tree keyOut ≡ record { refusal = 0; written = publicKey 6 4 I seed; tree = treeFilled I seed tree }
+    made-key = makeKey-unrefused seed I tree keyOut seed-length I-length tree-length key-room
+
+    made-signature : (message : List ℕ) → length message ≤ 65535
+        → sign leaf message seed I C (treeFilled I seed tree) out
+        ≡ record { refusal = 0; written = lmsSignature 6 4 I leaf seed C message (treeFilled I seed tree) }
+    made-signature message short =
+        sign-unrefused seed I (treeFilled I seed tree) out seed-length I-length (length-treeFilled I seed tree tree-length) leaf message C
+        leaf-in short C-length room
+
+    made-valid : (message : List ℕ)
+        → valid (publicKey 6 4 I seed) message (lmsSignature 6 4 I leaf seed C message (treeFilled I seed tree)) ≡ true
+    unfolding knownLms knownOts height width
+    made-valid message =
+        valid-lmsSignature 6 4 I seed refl refl I-length leaf C message (treeFilled I seed tree) C-length (omega arith)
+        (λ r low high. part-treeFilled I seed tree tree-length r (omega arith) high)
+
+    made-key-allowed : keyRefused (publicKey 6 4 I seed) ≡ false
+    unfolding knownLms knownOts
+    made-key-allowed = sym (keyInvalid-keyRefused (publicKey 6 4 I seed)) ∙ keyInvalid-publicKey 6 4 I seed refl refl I-length
+
+    pub made-signature-accepted : (message : List ℕ) → length message ≤ 65535
+        → checkSignature ((makeKey seed I tree keyOut) .written) message
+        ((sign leaf message seed I C ((makeKey seed I tree keyOut) .tree) out) .written)
+        ≡ 0
+    unfolding checkSignature lowest messageLimit
+    made-signature-accepted message short =
+        rw
+        (made-key, made-signature message short, made-key-allowed, le-ltb 65535 (length message) short, made-valid message)
+
+    -- the engine's form: a seat's signature of its round, under a table in which the seat has that key
+    pub made-signature-checks : (keys : List ℕ) (seat : ℕ) (value : List ℕ) → length value ≡ 32
+        → seatKey keys seat ≡ (makeKey seed I tree keyOut) .written
+        → checks keys leaf seat value
+        ((sign leaf (signedBytes leaf seat value) seed I C ((makeKey seed I tree keyOut) .tree) out) .written)
+        ≡ true
+    made-signature-checks keys seat value k e =
+        let message = signedBytes leaf seat value in
+        let short : length message ≤ 65535 = rw (length-signedBytes leaf seat value k) (omega arith) in
+        let key : seatKey keys seat ≡ publicKey 6 4 I seed = rw made-key at e in
+        rw (made-key, made-signature message short)
+        (checks-types keys leaf seat value _
+        (rw key (lmsType-publicKey 6 4 I seed I-length (lit< tt))) (rw key (otsType-publicKey 6 4 I seed I-length (lit< tt)))
+        ∙ rw
+        (key, leaf-lmsSignature 6 4 I leaf seed C message (treeFilled I seed tree) C-length (omega arith), eq-eqb leaf leaf refl)
+        (made-valid message))
