@@ -9,12 +9,12 @@ use lib.Dec.{eqb, ltb}
 use lib.ListN.{length, length-append}
 use borrow.Author.Tests.{le-ltb, eq-eqb, eqb-true, not-false}
 use Rattle.octets.specs.Laws.{length-be, length-part}
-use Rattle.lms.specs.Refusal.{lowest, unrefused}
+use Rattle.refusal.specs.Refusal.{lowest, unrefused}
 use Rattle.lms.specs.Ots.{chains, otsLength, knownOts, width}
 use Rattle.lms.specs.Tree.{knownLms, height, publicKey, treeFilled, path, lmsSignature}
 use Rattle.lms.specs.Verify.{lmsTypeOf, otsTypeOf, leafOf, signatureLength, keyInvalid, valid}
-use Rattle.lms.specs.Calls.{signatureBytes, treeBytes, messageLimit, keyRefused, checkSignature, makeKeyRefusal, makeKey, signRefusal, sign, signedBytes, seatKey, checks}
-use Rattle.lms.specs.Laws.{lowest-zero}
+use Rattle.lms.specs.Calls.{signatureBytes, treeBytes, messageLimit, keyRefused, checkSignature, makeKeyRefusal, makeKey, signRefusal, sign, signedBytes}
+use Rattle.refusal.specs.Laws.{lowest-zero}
 use Rattle.lms.specs.VerifyLaws.{sibling-within, ancestor-within, length-lmsSignature, valid-fits}
 
 -- ---- the check
@@ -42,22 +42,6 @@ accepted-fits key message signature e =
 pub length-six-four : signatureLength (height 6) (width 4) ≡ signatureBytes
 unfolding signatureLength otsLength chains height width signatureBytes
 length-six-four = refl
-
--- under a key of types 6 and 4 the length need not be asked for
-pub checks-types : (keys : List ℕ) (round seat : ℕ) (value signature : List ℕ)
-    → lmsTypeOf (seatKey keys seat) ≡ 6 → otsTypeOf (seatKey keys seat) ≡ 4
-    → checks keys round seat value signature
-    ≡ (eqb (leafOf signature) round && valid (seatKey keys seat) (signedBytes round seat value) signature)
-unfolding checks
-checks-types keys round seat value signature k l = go (valid (seatKey keys seat) (signedBytes round seat value) signature) refl
-  where
-    go : (b : Bool) → valid (seatKey keys seat) (signedBytes round seat value) signature ≡ b
-        → (eqb (length signature) signatureBytes && eqb (leafOf signature) round && valid (seatKey keys seat) (signedBytes round seat value) signature)
-        ≡ (eqb (leafOf signature) round && valid (seatKey keys seat) (signedBytes round seat value) signature)
-    go true e =
-        let size : length signature ≡ signatureBytes = rw (k, l, length-six-four) at (valid-fits _ _ signature e .0) in
-        rw (eq-eqb (length signature) signatureBytes size)
-    go false e = simp (e, and-false)
 
 pub length-signedBytes : (round seat : ℕ) (value : List ℕ) → length value ≡ 32 → length (signedBytes round seat value) ≡ 36
 unfolding signedBytes

@@ -6,7 +6,7 @@ use mathlib.Core.List.{List, [], _∷_, _++_}
 use lib.Dec.{eqb, ltb}
 use lib.ListN.{length}
 use Rattle.octets.specs.Octets.{part}
-use Rattle.lms.specs.Refusal.{lowest, unrefused}
+use Rattle.refusal.specs.Refusal.{lowest, unrefused}
 use Rattle.lms.specs.Ots.{u8str, u16str, knownOts}
 use Rattle.lms.specs.Tree.{knownLms, publicKey, treeFilled, lmsSignature}
 use Rattle.lms.specs.Verify.{lmsTypeOf, otsTypeOf, leafOf, valid}
@@ -85,9 +85,7 @@ unfoldable pub seatKey : List ℕ → ℕ → List ℕ
 seatKey keys seat = part (56 * seat) 56 keys
 
 -- "RFC 8554 accepts it under that seat's key for the 36 bytes of the round, that seat and that layout, and its leaf is
--- the round"; the length is that of the key's types, 6 and 4
+-- the round"
 unfoldable pub checks : List ℕ → ℕ → ℕ → List ℕ → List ℕ → Bool
 checks keys round seat value signature =
-    eqb (length signature) signatureBytes
-    && eqb (leafOf signature) round
-    && valid (seatKey keys seat) (signedBytes round seat value) signature
+    valid (seatKey keys seat) (signedBytes round seat value) signature && eqb (leafOf signature) round

@@ -8,14 +8,14 @@ use native.Mathlib.Omega.{arith}
 use lib.Dec.{lit<}
 use lib.ListN.{length}
 use borrow.Author.Tests.{le-ltb, eq-eqb}
-use Rattle.lms.specs.Refusal.{lowest}
+use Rattle.refusal.specs.Refusal.{lowest}
 use Rattle.lms.specs.Ots.{knownOts, width}
 use Rattle.lms.specs.Tree.{knownLms, height, publicKey, treeFilled, lmsSignature}
 use Rattle.lms.specs.Verify.{valid}
 use Rattle.lms.specs.Calls.{messageLimit, keyRefused, checkSignature, makeKey, sign, signedBytes, seatKey, checks}
 use Rattle.lms.specs.TreeLaws.{length-treeFilled, part-treeFilled}
 use Rattle.lms.specs.VerifyLaws.{lmsType-publicKey, otsType-publicKey, leaf-lmsSignature, keyInvalid-publicKey, valid-lmsSignature}
-use Rattle.lms.specs.CallLaws.{keyInvalid-keyRefused, checks-types, length-signedBytes, makeKey-unrefused, sign-unrefused}
+use Rattle.lms.specs.CallLaws.{keyInvalid-keyRefused, length-signedBytes, makeKey-unrefused, sign-unrefused}
 
 module _
     (seed I C : List ℕ) (seed-length : length seed ≡ 32) (I-length : length I ≡ 16) (C-length : length C ≡ 32)
@@ -58,13 +58,16 @@ module _
         → checks keys leaf seat value
         ((sign leaf (signedBytes leaf seat value) seed I C ((makeKey seed I tree keyOut) .tree) out) .written)
         ≡ true
+    unfolding checks
     made-signature-checks keys seat value k e =
         let message = signedBytes leaf seat value in
         let short : length message ≤ 65535 = rw (length-signedBytes leaf seat value k) (omega arith) in
         let key : seatKey keys seat ≡ publicKey 6 4 I seed = rw made-key at e in
-        rw (made-key, made-signature message short)
-        (checks-types keys leaf seat value _
-        (rw key (lmsType-publicKey 6 4 I seed I-length (lit< tt))) (rw key (otsType-publicKey 6 4 I seed I-length (lit< tt)))
-        ∙ rw
-        (key, leaf-lmsSignature 6 4 I leaf seed C message (treeFilled I seed tree) C-length (omega arith), eq-eqb leaf leaf refl)
-        (made-valid message))
+        rw (
+          made-key,
+          made-signature message short,
+          key,
+          made-valid message,
+          leaf-lmsSignature 6 4 I leaf seed C message (treeFilled I seed tree) C-length (omega arith),
+        )
+        (eq-eqb leaf leaf refl)

@@ -8,7 +8,7 @@ use lib.Dec.{eqb, ltb}
 use lib.ListN.{length, getD}
 use Rattle.octets.specs.Octets.{part, be, number}
 use Rattle.sha256.specs.Fips.{sha256}
-use Rattle.lms.specs.Strings.{joined}
+use Rattle.octets.specs.Strings.{joined}
 
 -- ---- notation (section 3)
 

@@ -12,10 +12,10 @@ use borrow.Author.Tests.{le-leb, lt-leb}
 use Rattle.octets.specs.Octets.{part, patch}
 use Rattle.octets.specs.Laws.{length-be, length-patch}
 use Rattle.sha256.specs.Laws.{length-sha256}
-use Rattle.lms.specs.Strings.{joined}
+use Rattle.octets.specs.Strings.{joined}
 use Rattle.lms.specs.Ots.{H, otsKey}
 use Rattle.lms.specs.Tree.{leafInput, innerInput, node, T, nodes, treeFilled}
-use Rattle.lms.specs.Laws.{part-patch, length-joined, part-joined, joined-add}
+use Rattle.octets.specs.StringLaws.{part-patch, length-joined, part-joined, joined-add}
 
 -- ---- T[r] (section 5.3)
 

@@ -5,7 +5,7 @@ use mathlib.Core.List.{List}
 use lib.Dec.{eqb, leb, ltb}
 use lib.ListN.{length}
 use Rattle.octets.specs.Octets.{part}
-use Rattle.lms.specs.Strings.{same}
+use Rattle.octets.specs.Strings.{same}
 use Rattle.lms.specs.Ots.{H, u32At, knownOts, width, otsLength, otsInvalid, candidate}
 use Rattle.lms.specs.Tree.{knownLms, height, leafInput, innerInput}
 

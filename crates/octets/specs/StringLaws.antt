@@ -1,4 +1,4 @@
--- Laws of byte strings that hold for any bytes: parts, patches, numbers, joined and compared strings, refusals.
+-- Laws of byte strings: parts, patches and numbers read back, joined and compared strings.
 use mathlib.Core.Path.{_≡_, refl, sym, ap, ap₂, _∙_}
 use mathlib.Core.Bool.{Bool, true, false, and-eq-true-iff, false≢true}
 use mathlib.Core.Logic.{⊎-elim}
@@ -11,9 +11,8 @@ use lib.Dec.{lit<, eqb}
 use lib.ListN.{length, take, drop, getD, length-append, length-take, length-drop}
 use lib.Seq.{drop-at, take-take, drop-drop, take-append-le, drop-append-le, drop-append-add, drop-cons, take-all, length-take-le}
 use borrow.Author.Tests.{eqb-true, eq-eqb}
 use Rattle.octets.specs.Octets.{part, patch, be, numberFrom, number, wordAt}
-use Rattle.lms.specs.Refusal.{lowest}
-use Rattle.lms.specs.Strings.{joined, same}
+use Rattle.octets.specs.Strings.{joined, same}
 
 -- ---- parts
 
@@ -189,21 +188,3 @@ same-by false xs ys f g = go (same xs ys) refl
     go : (b : Bool) → same xs ys ≡ b → false ≡ same xs ys
     go true e = absurd (false≢true (g (same-true xs ys e)))
     go false e = sym e
-
--- ---- refusals
-
--- a test that holds, with none before it, gives its number
-pub lowest-refused : (n : ℕ) (t : Bool) (rest : List (ℕ × Bool)) → t ≡ true → lowest ((n, t) ∷ rest) ≡ n
-unfolding lowest
-lowest-refused n t rest e = rw e
-
--- a test that doesn't hold is passed over
-pub lowest-passed : (n : ℕ) (t : Bool) (rest : List (ℕ × Bool)) → t ≡ false → lowest ((n, t) ∷ rest) ≡ lowest rest
-unfolding lowest
-lowest-passed n t rest e = rw e
-
--- what isn't refused passes every test
-pub lowest-zero : (n : ℕ) (t : Bool) (rest : List (ℕ × Bool)) → lowest ((suc n, t) ∷ rest) ≡ 0 → (t ≡ false) × (lowest rest ≡ 0)
-unfolding lowest
-lowest-zero n true rest e = absurd (omega arith)
-lowest-zero n false rest e = (refl, e)
