@@ -6,7 +6,7 @@ use mathlib.Core.List.{List, _++_}
 use lib.Dec.{eqb, leb}
 use Rattle.octets.specs.Octets.{part, patch}
 use Rattle.octets.specs.Strings.{joined}
-use Rattle.lms.specs.Ots.{H, u16str, u32str, width, otsKey, otsSignature}
+use Rattle.rfc8554.specs.Ots.{H, u16str, u32str, width, otsKey, otsSignature}
 
 -- ---- parameters (section 5.1, Table 2): type 5 has h = 5, type 6 has h = 10
 

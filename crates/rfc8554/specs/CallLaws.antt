@@ -10,12 +10,12 @@ use lib.ListN.{length, length-append}
 use borrow.Author.Tests.{le-ltb, eq-eqb, eqb-true, not-false}
 use Rattle.octets.specs.Laws.{length-be, length-part}
 use Rattle.refusal.specs.Refusal.{lowest, unrefused}
-use Rattle.lms.specs.Ots.{chains, otsLength, knownOts, width}
-use Rattle.lms.specs.Tree.{knownLms, height, publicKey, treeFilled, path, lmsSignature}
-use Rattle.lms.specs.Verify.{lmsTypeOf, otsTypeOf, leafOf, signatureLength, keyInvalid, valid}
-use Rattle.lms.specs.Calls.{signatureBytes, treeBytes, messageLimit, keyRefused, checkSignature, makeKeyRefusal, makeKey, signRefusal, sign, signedBytes}
+use Rattle.rfc8554.specs.Ots.{chains, otsLength, knownOts, width}
+use Rattle.rfc8554.specs.Tree.{knownLms, height, publicKey, treeFilled, path, lmsSignature}
+use Rattle.rfc8554.specs.Verify.{lmsTypeOf, otsTypeOf, leafOf, signatureLength, keyInvalid, valid}
+use Rattle.rfc8554.specs.Calls.{signatureBytes, treeBytes, messageLimit, keyRefused, checkSignature, makeKeyRefusal, makeKey, signRefusal, sign, signedBytes}
 use Rattle.refusal.specs.Laws.{lowest-zero}
-use Rattle.lms.specs.VerifyLaws.{sibling-within, ancestor-within, length-lmsSignature, valid-fits}
+use Rattle.rfc8554.specs.VerifyLaws.{sibling-within, ancestor-within, length-lmsSignature, valid-fits}
 
 -- ---- the check
 

@@ -13,8 +13,8 @@ use Rattle.octets.specs.Octets.{part, patch}
 use Rattle.octets.specs.Laws.{length-be, length-patch}
 use Rattle.sha256.specs.Laws.{length-sha256}
 use Rattle.octets.specs.Strings.{joined}
-use Rattle.lms.specs.Ots.{H, otsKey}
-use Rattle.lms.specs.Tree.{leafInput, innerInput, node, T, nodes, treeFilled}
+use Rattle.rfc8554.specs.Ots.{H, otsKey}
+use Rattle.rfc8554.specs.Tree.{leafInput, innerInput, node, T, nodes, treeFilled}
 use Rattle.octets.specs.StringLaws.{part-patch, length-joined, part-joined, joined-add}
 
 -- ---- T[r] (section 5.3)

@@ -6,8 +6,8 @@ use lib.Dec.{eqb, leb, ltb}
 use lib.ListN.{length}
 use Rattle.octets.specs.Octets.{part}
 use Rattle.octets.specs.Strings.{same}
-use Rattle.lms.specs.Ots.{H, u32At, knownOts, width, otsLength, otsInvalid, candidate}
-use Rattle.lms.specs.Tree.{knownLms, height, leafInput, innerInput}
+use Rattle.rfc8554.specs.Ots.{H, u32At, knownOts, width, otsLength, otsInvalid, candidate}
+use Rattle.rfc8554.specs.Tree.{knownLms, height, leafInput, innerInput}
 
 -- ---- the fields of a public key
 

@@ -5,7 +5,7 @@ use mathlib.Core.List.{List, [], _∷_, map}
 use Prim.Native.Nat.{ℕ}
 use lib.ListN.{replicate}
 use Rattle.octets.specs.Octets.{be}
-use Rattle.lms.specs.Ots.{coef, digits, leftShift, sum, checksum, withChecksum}
+use Rattle.rfc8554.specs.Ots.{coef, digits, leftShift, sum, checksum, withChecksum}
 
 -- of a digest of 32 equal bytes: the byte, c, and the two digits of c
 pub record Case : Type 0 where
