@@ -8,3 +8,5 @@ pub mod Fips
 pub mod Forms
 pub mod Laws
 pub mod Pieces
+pub mod Rule
+pub mod Worked

@@ -12,7 +12,7 @@ use crate::block::compress;
 use crate::constants::initial_value;
 
 // The sixteen words of the block at index `at`.
-fn block_words(m: &[u8], at: usize) -> [u32; 16]
+pub fn block_words(m: &[u8], at: usize) -> [u32; 16]
     requires { ⌜ at + 64 ≤ length (now m) ⌝ }
     ensures { λ r. ⌜ r ≡ words 16 (part at 64 (now (m .entry))) ⌝ }
 {

@@ -1,0 +1,35 @@
+-- The layers below the library's calls, for measurement and comparison: thresholds, digests, compressions.
+use Prim.Native.Nat.{ℕ, zero, suc}
+use mathlib.Core.Bool.{Bool, not, cond, _&&_, _||_}
+use mathlib.Core.List.{List, [], _∷_}
+use lib.Dec.{eqb, leb, ltb}
+use lib.ListN.{length}
+use Rattle.octets.specs.Octets.{words, bytes}
+use Rattle.quorum.specs.Quorum.{mostSeats}
+use Rattle.refusal.specs.Refusal.{lowest, unrefused}
+use Rattle.sha256.specs.Fips.{compress, sha256}
+
+-- a threshold of n, and 0 where no fleet has n seats
+unfoldable pub ofFleet : (ℕ → ℕ) → ℕ → ℕ
+ofFleet f n = cond (leb 1 n && leb n mostSeats) (f n) 0
+
+-- an out buffer of less than a digest's length is refused as 7
+unfoldable pub digestRefusal : List ℕ → ℕ
+digestRefusal out = lowest ((7, ltb (length out) 32) ∷ [])
+
+unfoldable pub digestWritten : List ℕ → List ℕ → List ℕ
+digestWritten message out = unrefused (digestRefusal out) (sha256 message) []
+
+-- and a state of other than 32 bytes, or a block of other than 64, as 9
+unfoldable pub compressRefusal : List ℕ → List ℕ → List ℕ → ℕ
+compressRefusal state block out =
+    lowest ((7, ltb (length out) 32) ∷ (9, not (eqb (length state) 32) || not (eqb (length block) 64)) ∷ [])
+
+-- the hash value h after the same block, count times
+unfoldable pub repeated : List ℕ → List ℕ → ℕ → List ℕ
+repeated h m zero = h
+repeated h m (suc t) = compress (repeated h m t) m
+
+unfoldable pub compressWritten : ℕ → List ℕ → List ℕ → List ℕ → List ℕ
+compressWritten count state block out =
+    unrefused (compressRefusal state block out) (bytes (repeated (words 8 state) (words 16 block) count)) []
