@@ -57,7 +57,6 @@ certificateOf value entries =
 
 -- the certificate in a message; no other command has one
 unfoldable pub certificateIn : Message → Certificate
-unfolding certificateOf
 certificateIn (Submit round seat value signature) = certificateOf [] []
 certificateIn (Notice round seat value) = certificateOf [] []
 certificateIn (Full round sender value entries) = certificateOf value entries

@@ -108,17 +108,17 @@ readPairs (suc t) bytes = readPairs t bytes ++ readPair (evidenceEntryAt t) byte
 
 -- the bytes are those of a command: its code, length, count and entry commands are right. A byte past the end counts
 -- as 0, which is no command and no count.
-unfoldable pub isSubmit : List ℕ → Bool
-isSubmit bytes = eqb (length bytes) submitLength && eqb (byteAt bytes 0) 0x01
+unfoldable pub fitsSubmit : List ℕ → Bool
+fitsSubmit bytes = eqb (length bytes) submitLength && eqb (byteAt bytes 0) 0x01
 
-unfoldable pub isNotice : List ℕ → Bool
-isNotice bytes = eqb (length bytes) noticeLength && eqb (byteAt bytes 0) 0x02
+unfoldable pub fitsNotice : List ℕ → Bool
+fitsNotice bytes = eqb (length bytes) noticeLength && eqb (byteAt bytes 0) 0x02
 
-unfoldable pub isFull : ℕ → List ℕ → Bool
-isFull n bytes = eqb (length bytes) (fullLength n) && eqb (byteAt bytes 0) 0x03 && eqb (byteAt bytes 36) (k n) && entryCommands (k n) bytes
+unfoldable pub fitsFull : ℕ → List ℕ → Bool
+fitsFull n bytes = eqb (length bytes) (fullLength n) && eqb (byteAt bytes 0) 0x03 && eqb (byteAt bytes 36) (k n) && entryCommands (k n) bytes
 
-unfoldable pub isEvidence : ℕ → List ℕ → Bool
-isEvidence n bytes =
+unfoldable pub fitsEvidence : ℕ → List ℕ → Bool
+fitsEvidence n bytes =
     eqb (byteAt bytes 0) 0x05
     && leb 1 (byteAt bytes 67)
     && leb (byteAt bytes 67) n
@@ -140,10 +140,10 @@ readEvidence bytes = Evidence (readRound bytes) (readValue 3 bytes) (readValue 3
 -- what the bytes of a message say in a fleet of n seats
 unfoldable pub read : ℕ → List ℕ → Message
 read n bytes =
-    cond (isSubmit bytes) (readSubmit bytes)
-    (cond (isNotice bytes) (readNotice bytes)
-    (cond (isFull n bytes) (readFull n bytes)
-    (cond (isEvidence n bytes) (readEvidence bytes)
+    cond (fitsSubmit bytes) (readSubmit bytes)
+    (cond (fitsNotice bytes) (readNotice bytes)
+    (cond (fitsFull n bytes) (readFull n bytes)
+    (cond (fitsEvidence n bytes) (readEvidence bytes)
     Garbled)))
 
 -- ---- the operands of a message, whatever its command

@@ -46,7 +46,6 @@ fresh n seat round = record {
 
 -- "a refused opening gives a record of zeros"
 unfoldable pub zeros : Record
-unfolding fresh
 zeros = fresh 0 0 0
 
 -- ---- one part set anew

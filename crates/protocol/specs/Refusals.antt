@@ -1,5 +1,5 @@
--- What is turned back (document 01): the conditions of the table, and for each call its numbers with their conditions.
--- "The lowest number whose condition holds is returned".
+-- What is turned back (document 01): the conditions of the table, and for each call its numbers with their conditions, in the
+-- order in which the lowest is sought.
 -- Assumes nothing.
 use Prim.Native.Nat.{ℕ, zero, suc, _+_, _*_}
 use mathlib.Core.Bool.{Bool, true, false, not, _&&_, _||_}
@@ -7,10 +7,9 @@ use mathlib.Core.List.{List, [], _∷_, _++_}
 use lib.Dec.{leb, ltb, eqb}
 use lib.ListN.{length}
 use Rattle.octets.specs.Octets.{wordAt}
-use Rattle.refusal.specs.Refusal.{lowest}
 use Rattle.protocol.specs.Layout.{valueLength, signatureLength, keyLength, keyAt, storeLength, outLength, evidenceOutLength}
 use Rattle.protocol.specs.Values.{same, isLower}
-use Rattle.protocol.specs.Message.{Message, Submit, Notice, Full, Evidence, Garbled, Signed, read, roundOf, entrySeats, seatsOf, signed}
+use Rattle.protocol.specs.Message.{Message, Submit, Notice, Full, Evidence, Garbled, Signed, roundOf, entrySeats, seatsOf, signed}
 use Rattle.protocol.specs.Certificate.{certificateIn}
 use Rattle.protocol.specs.Record.{wrongSize, wrongSeat, wrongRound, impossible}
 use Rattle.protocol.specs.declared.Record.{Record}
@@ -58,19 +57,19 @@ isForStep (Full round sender value entries) = true
 isForStep (Evidence round lower higher entries) = false
 isForStep Garbled = false
 
-unfoldable pub isCertificate : Message → Bool
-isCertificate (Submit round seat value signature) = false
-isCertificate (Notice round seat value) = false
-isCertificate (Full round sender value entries) = true
-isCertificate (Evidence round lower higher entries) = false
-isCertificate Garbled = false
+unfoldable pub isFull : Message → Bool
+isFull (Submit round seat value signature) = false
+isFull (Notice round seat value) = false
+isFull (Full round sender value entries) = true
+isFull (Evidence round lower higher entries) = false
+isFull Garbled = false
 
-unfoldable pub isPack : Message → Bool
-isPack (Submit round seat value signature) = false
-isPack (Notice round seat value) = false
-isPack (Full round sender value entries) = false
-isPack (Evidence round lower higher entries) = true
-isPack Garbled = false
+unfoldable pub isEvidence : Message → Bool
+isEvidence (Submit round seat value signature) = false
+isEvidence (Notice round seat value) = false
+isEvidence (Full round sender value entries) = false
+isEvidence (Evidence round lower higher entries) = true
+isEvidence Garbled = false
 
 unfoldable pub wrongLengths : List ℕ → List ℕ → Bool
 wrongLengths value signature = not (eqb (length value) valueLength) || not (eqb (length signature) signatureLength)
@@ -101,8 +100,8 @@ early r (Evidence round lower higher entries) = false
 early r Garbled = false
 
 -- 14: "one doesn't check, or its leaf isn't the round"; every signature that the call is given is checked
-unfoldable pub unchecked : Checks → Message → Bool
-unchecked checks m = not (every (λ (s : Signed). checks (s .seat) (s .value) (s .signature)) (signed m))
+unfoldable pub badSignature : Checks → Message → Bool
+badSignature checks m = not (every (λ (s : Signed). checks (s .seat) (s .value) (s .signature)) (signed m))
 
 -- 15: "evidence whose values are equal or not lower first; two certificates with equal values"
 unfoldable pub notLowerFirst : Message → Bool
@@ -126,7 +125,7 @@ formConditions n round taken m = (9, not taken) ∷ (10, otherRound round m) ∷
 
 -- the last that is looked at in a message
 unfoldable pub signatureConditions : Checks → Message → List Condition
-signatureConditions checks m = (14, unchecked checks m) ∷ []
+signatureConditions checks m = (14, badSignature checks m) ∷ []
 
 -- what a call is given outside a record: n, round and key table
 unfoldable pub outsideConditions : ℕ → ℕ → List ℕ → List Condition
@@ -138,53 +137,46 @@ recordConditions keys r store out =
     (4, impossible r) ∷ (5, wrongKeys (r .n) keys) ∷ (6, shortStore (r .n) store) ∷ (7, shortOut (outLength (r .n)) out) ∷ []
 
 -- "Opening takes n, seat, round and key table": 1, 2, 3, 5
-unfoldable pub openingRefusal : ℕ → ℕ → ℕ → List ℕ → ℕ
-openingRefusal n seat round keys =
-    lowest ((1, wrongSize n) ∷ (2, wrongSeat n seat) ∷ (3, wrongRound round) ∷ (5, wrongKeys n keys) ∷ [])
+unfoldable pub openingConditions : ℕ → ℕ → ℕ → List ℕ → List Condition
+openingConditions n seat round keys = (1, wrongSize n) ∷ (2, wrongSeat n seat) ∷ (3, wrongRound round) ∷ (5, wrongKeys n keys) ∷ []
 
 -- submit: 4, 5, 6, 7, 8, 9, 14
-unfoldable pub submitRefusal : Checks → List ℕ → Record → List ℕ → List ℕ → List ℕ → List ℕ → ℕ
-submitRefusal checks keys r store value signature out =
-    lowest (
+unfoldable pub submitConditions : Checks → List ℕ → Record → List ℕ → List ℕ → List ℕ → List ℕ → List Condition
+submitConditions checks keys r store value signature out =
     recordConditions keys r store out
     ++ (8, said r) ∷ (9, wrongLengths value signature) ∷ []
     ++ signatureConditions checks (Submit (r .round) (r .seat) value signature)
-    )
 
 -- a step: 4, 5, 6, 7, 9, 10, 11, 12, 13, 14
-unfoldable pub stepRefusal : Checks → List ℕ → Record → List ℕ → Message → List ℕ → ℕ
-stepRefusal checks keys r store m out =
-    lowest (
+unfoldable pub stepConditions : Checks → List ℕ → Record → List ℕ → Message → List ℕ → List Condition
+stepConditions checks keys r store m out =
     recordConditions keys r store out
     ++ formConditions (r .n) (r .round) (isForStep m) m
     ++ (13, early r m) ∷ []
     ++ signatureConditions checks m
-    )
 
 -- the evidence check: 1, 3, 5, 9, 10, 11, 12, 14, 15
-unfoldable pub evidenceRefusal : Checks → ℕ → ℕ → List ℕ → Message → ℕ
-evidenceRefusal checks n round keys m =
-    lowest (
+unfoldable pub evidenceConditions : Checks → ℕ → ℕ → List ℕ → Message → List Condition
+evidenceConditions checks n round keys m =
     outsideConditions n round keys
-    ++ formConditions n round (isPack m) m
+    ++ formConditions n round (isEvidence m) m
     ++ signatureConditions checks m
     ++ (15, notLowerFirst m) ∷ []
-    )
 
 -- "over two certificates, the first one's 9 to 14 come before the second's"; then 15
 unfoldable pub twoConditions : Checks → ℕ → ℕ → Message → Message → List Condition
 twoConditions checks n round a b =
-    formConditions n round (isCertificate a) a
+    formConditions n round (isFull a) a
     ++ signatureConditions checks a
-    ++ formConditions n round (isCertificate b) b
+    ++ formConditions n round (isFull b) b
     ++ signatureConditions checks b
     ++ (15, equalValues a b) ∷ []
 
 -- evidence from two certificates: 1, 3, 5, 7, then those of the two
-unfoldable pub makingRefusal : Checks → ℕ → ℕ → List ℕ → Message → Message → List ℕ → ℕ
-makingRefusal checks n round keys a b out =
-    lowest (outsideConditions n round keys ++ (7, shortOut (evidenceOutLength n) out) ∷ [] ++ twoConditions checks n round a b)
+unfoldable pub makingConditions : Checks → ℕ → ℕ → List ℕ → Message → Message → List ℕ → List Condition
+makingConditions checks n round keys a b out =
+    outsideConditions n round keys ++ (7, shortOut (evidenceOutLength n) out) ∷ [] ++ twoConditions checks n round a b
 
 -- the lower certificate has no out buffer: 1, 3, 5, then those of the two
-unfoldable pub lowerRefusal : Checks → ℕ → ℕ → List ℕ → Message → Message → ℕ
-lowerRefusal checks n round keys a b = lowest (outsideConditions n round keys ++ twoConditions checks n round a b)
+unfoldable pub lowerConditions : Checks → ℕ → ℕ → List ℕ → Message → Message → List Condition
+lowerConditions checks n round keys a b = outsideConditions n round keys ++ twoConditions checks n round a b
