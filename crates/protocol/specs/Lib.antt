@@ -11,3 +11,4 @@ pub mod Record
 pub mod Refusals
 pub mod Step
 pub mod Calls
+pub mod Runs
