@@ -11,4 +11,6 @@ pub mod Record
 pub mod Refusals
 pub mod Step
 pub mod Calls
+pub mod Laws
+pub mod StepLaws
 pub mod Runs

@@ -63,6 +63,10 @@ unfoldable pub renderAll : List Message → List ℕ
 renderAll [] = []
 renderAll (m ∷ ms) = render m ++ renderAll ms
 
+-- "A seat signs 36 bytes: 0x01, round (2), seat (1), value (32).": the bytes of SUBMIT before its signature
+unfoldable pub signedBytes : ℕ → ℕ → List ℕ → List ℕ
+signedBytes round seat value = 0x01 ∷ be 2 round ++ seat ∷ [] ++ value
+
 -- ---- what bytes say
 
 abbrev pub byteAt : List ℕ → ℕ → ℕ

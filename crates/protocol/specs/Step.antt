@@ -106,13 +106,13 @@ blame c s =
     (withUnit s (withGuilty (s .unit) (shared (s .unit .first .seats) (c .seats))))
 
 -- "One with another value, while guilty seats are empty"
-unfoldable pub isBlamed : Certificate → Record → Bool
-isBlamed c r = not (same (c .value) (r .first .value)) && eqb (r .guilty) 0
+unfoldable pub blames : Certificate → Record → Bool
+blames c r = not (same (c .value) (r .first .value)) && eqb (r .guilty) 0
 
 -- "The first is held. One with another value, while guilty seats are empty, makes the shared seats guilty and EVIDENCE is
 -- written. Otherwise nothing more changes."
 unfoldable pub holdOrBlame : Certificate → State → State
-holdOrBlame c s = cond (holds (s .unit)) (cond (isBlamed c (s .unit)) (blame c s) s) (hold c s)
+holdOrBlame c s = cond (holds (s .unit)) (cond (blames c (s .unit)) (blame c s) s) (hold c s)
 
 -- "FULL heard: it counts as a notice for its value", and it is held or blamed. The reply comes in between, since
 -- messages go to `out` "in the order SUBMIT, NOTICE, FULL, EVIDENCE": it looks at nothing that holding or blaming changes.

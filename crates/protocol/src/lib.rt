@@ -10,7 +10,8 @@ pub struct Own {
     pub collected: Mask,
 }
 
-// The notices heard: 0 for none, 1 for one value, 2 for two different ones. The first value is kept.
+// The notices heard: 0 for none, 1 for one value, 2 for two different ones. The first value is kept. It is a number and no
+// enum, since an exported function takes no struct that holds an enum; a record with another number is impossible.
 #[repr(C)]
 pub struct Notices {
     pub heard: u32,
