@@ -1,22 +1,23 @@
 -- What follows from the definitions, for the crates above: values that compare, lists built from their end as loops build
 -- them, lengths, slots, and messages written one after another.
 -- Assumes nothing.
-use mathlib.Core.Path.{_≡_, refl, sym, ap, _∙_}
-use mathlib.Core.Bool.{Bool, true, false, cond, not, _&&_, _||_, and-assoc, and-true, false≢true}
-use mathlib.Core.List.{List, [], _∷_, _++_, map, append-assoc, append-nil}
-use Prim.Native.Nat.{ℕ, zero, suc, _+_, _*_, _-_, _≤_, _<_, max}
+use mathlib.Core.Path.{_≡_, refl, sym}
+use mathlib.Core.Bool.{Bool, true, false, not, _&&_, and-assoc, and-true, false≢true}
+use mathlib.Core.List.{List, [], _∷_, _++_, append-assoc, List·Memᴰ, List·Memᴰ·head, List·Memᴰ·tail, List·Memᴰ·not-nil, List·Memᴰ·cases-cons}
+use mathlib.Core.Logic.{_⊎_, inl, inr, ⊎-elim, _↔_}
+use Prim.Native.Nat.{ℕ, zero, suc, _+_, _*_, _^_, _≤_, _<_}
 use native.Mathlib.Omega.{arith}
-use native.Mathlib.Decide.{decLt}
+use native.Mathlib.Decide.{decLt, ℕ-discrete}
 use lib.Dec.{ltb, eqb}
 use lib.ListN.{length, length-append}
 use borrow.Author.Tests.{eqb-true, eq-eqb, ne-eqb, lt-ltb, le-ltb}
 use Rattle.octets.specs.Laws.{length-be}
-use Rattle.quorum.specs.Quorum.{with, union, one, bit}
-use Rattle.quorum.specs.Laws.{same-seats, bit-union}
+use Rattle.quorum.specs.Quorum.{In, bit, with, union, one, seats}
+use Rattle.quorum.specs.Laws.{bit-cases, bit-empty, bit-one-same, bit-one-other, bit-outside, bit-union, in-union, same-seats, mem-seats}
 use Rattle.protocol.specs.Layout.{signatureLength, valueLength, submitLength, noticeLength, fullEntryLength, fullEntryAt, evidenceEntryLength, evidenceEntryAt, storeLength, slotAt}
 use Rattle.protocol.specs.Values.{same, isLower}
-use Rattle.protocol.specs.Message.{Entry, Pair, Message, Submit, Notice, Full, Evidence, Garbled, renderEntry, renderEntries, renderPair, renderPairs, render, renderAll}
-use Rattle.protocol.specs.Certificate.{Certificate, keep, keepEach, setOf}
+use Rattle.protocol.specs.Message.{Entry, Pair, Message, Submit, Notice, Full, Evidence, renderEntry, renderEntries, renderPair, renderPairs, render, renderAll}
+use Rattle.protocol.specs.Certificate.{keep, keepEach, setOf}
 use Rattle.protocol.specs.Refusals.{every, rising}
 
 -- ---- values
@@ -88,6 +89,37 @@ unfolding setOf
 set-snoc [] s = refl
 set-snoc (x ∷ xs) s = rw (set-snoc xs s) (with-with x s (setOf xs))
 
+-- the set of a list of seats has the seats of the list, and a set is that of its own list
+in-one : (s t : ℕ) → In s (one t) → s ≡ t
+in-one s t h = go (ℕ-discrete s t)
+  where
+    go : Dec (s ≡ t) → s ≡ t
+    go (yes e) = e
+    go (no d) = absurd (omega (arith, bit-one-other s t d))
+
+pub in-set : (s : ℕ) (xs : List ℕ) → In s (setOf xs) ↔ List·Memᴰ s xs
+unfolding setOf with
+in-set s [] = (λ h. absurd (omega (arith, bit-empty s)), λ d. absurd (List·Memᴰ·not-nil d))
+in-set s (x ∷ xs) =
+    let rest = in-set s xs in
+    let both = in-union s (setOf xs) (one x) in (
+      λ h. ⊎-elim (λ i. List·Memᴰ·tail (rest .0 i)) (λ i. List·Memᴰ·head (in-one s x i)) (both .0 h),
+      λ d. both .1 (⊎-elim (λ e. inr (rw e (bit-one-same x))) (λ t. inl (rest .1 t)) (List·Memᴰ·cases-cons d)),
+    )
+
+pub set-seats : (n m : ℕ) → m < 2 ^ n → setOf (seats n m) ≡ m
+set-seats n m l = same-seats (setOf (seats n m)) m (λ s. go s (bit-cases s m) (bit-cases s (setOf (seats n m))))
+  where
+    below : (s : ℕ) → In s m → Dec (s < n) → s < n
+    below s i (yes h) = h
+    below s i (no h) = absurd (omega (arith, bit-outside s n m l (omega arith)))
+
+    go : (s : ℕ) → (bit s m ≡ 0) ⊎ In s m → (bit s (setOf (seats n m)) ≡ 0) ⊎ In s (setOf (seats n m)) → bit s (setOf (seats n m)) ≡ bit s m
+    go s (inl z) (inl y) = omega arith
+    go s (inl z) (inr i) = absurd (omega (arith, mem-seats n s m .0 (in-set s (seats n m) .0 i) .1))
+    go s (inr i) (inl y) = absurd (omega (arith, in-set s (seats n m) .1 (mem-seats n s m .1 (below s i (decLt s n), i))))
+    go s (inr i) (inr j) = omega arith
+
 pub keep-snoc : (n bank : ℕ) (f : ℕ → List ℕ) (xs : List ℕ) (s : ℕ) (store : List ℕ) → keepEach n bank f (xs ++ s ∷ []) store ≡ keep n bank s (f s) (keepEach n bank f xs store)
 unfolding keepEach
 keep-snoc n bank f [] s store = refl
@@ -127,6 +159,10 @@ pub length-notice : (round seat : ℕ) (value : List ℕ) → length value ≡ v
 unfolding render noticeLength
 length-notice round seat value v = simp (length-append, length-be) (omega arith)
 
+pub length-entry : (e : Entry) → length (e .signature) ≡ signatureLength → length (renderEntry e) ≡ fullEntryLength
+unfolding renderEntry fullEntryLength signatureLength
+length-entry e h = omega arith
+
 pub length-entries : (es : List Entry) → Sized es → length (renderEntries es) ≡ fullEntryLength * length es
 unfolding renderEntries renderEntry fullEntryLength signatureLength
 length-entries [] h = refl
@@ -135,6 +171,10 @@ length-entries (e ∷ es) h = simp length-append (omega (arith, length-entries e
 pub length-full : (round sender : ℕ) (value : List ℕ) (es : List Entry) → length value ≡ valueLength → Sized es → length (render (Full round sender value es)) ≡ fullEntryAt (length es)
 unfolding render fullEntryAt
 length-full round sender value es v h = simp (length-append, length-be) (omega (arith, length-entries es h))
+
+pub length-pair : (p : Pair) → length (p .lower) ≡ signatureLength → length (p .higher) ≡ signatureLength → length (renderPair p) ≡ evidenceEntryLength
+unfolding renderPair evidenceEntryLength signatureLength
+length-pair p l h = simp length-append (omega arith)
 
 pub length-pairs : (ps : List Pair) → SizedPairs ps → length (renderPairs ps) ≡ evidenceEntryLength * length ps
 unfolding renderPairs renderPair evidenceEntryLength signatureLength

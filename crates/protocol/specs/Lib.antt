@@ -13,4 +13,5 @@ pub mod Step
 pub mod Calls
 pub mod Laws
 pub mod StepLaws
+pub mod ReadLaws
 pub mod Runs

@@ -2,7 +2,6 @@
 -- Assumes nothing.
 use Prim.Native.Nat.{ℕ}
 use mathlib.Core.Bool.{Bool, true, false, not, _&&_, _||_}
-use mathlib.Core.List.{List}
 use lib.Dec.{leb, ltb, eqb}
 use Rattle.quorum.specs.Quorum.{mostSeats, k, has, size, shared, outside}
 use Rattle.protocol.specs.Values.{unset, same}
@@ -85,9 +84,13 @@ holds r = not (eqb (r .first .seats) 0)
 
 -- ---- impossible records: "A record is impossible if:"
 
--- "n, seat or round is out of range"; so is a number of values heard that is none of the three
+-- "n, seat or round is out of range"
 unfoldable pub outOfRange : Record → Bool
-outOfRange r = wrongSize (r .n) || wrongSeat (r .n) (r .seat) || wrongRound (r .round) || ltb 2 (r .notices .heard)
+outOfRange r = wrongSize (r .n) || wrongSeat (r .n) (r .seat) || wrongRound (r .round)
+
+-- the notices heard are none of the three: such a number stands for no record
+unfoldable pub wrongHeard : Record → Bool
+wrongHeard r = ltb 2 (r .notices .heard)
 
 -- "a mask names a seat at or above n"
 unfoldable pub namesStranger : Record → Bool
@@ -127,4 +130,4 @@ wrongUnset r =
     || not (holds r) && not (same (r .first .value) unset)
 
 unfoldable pub impossible : Record → Bool
-impossible r = outOfRange r || namesStranger r || wrongCollected r || wrongFirst r || lacksFirst r || wrongGuilty r || wrongSent r || wrongUnset r
+impossible r = outOfRange r || wrongHeard r || namesStranger r || wrongCollected r || wrongFirst r || lacksFirst r || wrongGuilty r || wrongSent r || wrongUnset r

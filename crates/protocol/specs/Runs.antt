@@ -1,27 +1,26 @@
 -- Small runs of whole calls, computed.
 -- Assumes nothing.
-use Prim.Native.Nat.{ℕ, zero, suc, _+_, _*_}
-use mathlib.Core.Bool.{Bool, true, false, not, cond, _&&_}
+use Prim.Native.Nat.{ℕ, zero, suc, _*_}
+use mathlib.Core.Bool.{Bool, true, not, _&&_}
 use mathlib.Core.List.{List, [], _∷_, _++_}
 use lib.Count.{ones}
-use lib.Dec.{T, leb, ltb, eqb}
+use lib.Dec.{T, eqb}
 use lib.ListN.{length, replicate}
 use Rattle.octets.specs.Octets.{part, patch, be}
 use Rattle.quorum.specs.Quorum.{t0, k, bit, has, union, shared, with, outside, seats}
 use Rattle.refusal.specs.Refusal.{lowest, unrefused}
-use Rattle.protocol.specs.Layout.{signatureLength, submitLength, noticeLength, fullEntryLength, fullEntryAt, fullLength, evidenceEntryLength, evidenceEntryAt, evidenceLength, storeLength, slotAt, outLength, evidenceOutLength, collectedBank, firstBank}
+use Rattle.protocol.specs.Layout.{signatureLength, submitLength, noticeLength, fullEntryLength, fullEntryAt, fullLength, evidenceEntryLength, evidenceEntryAt, evidenceLength, storeLength, slotAt, outLength, evidenceOutLength}
 use Rattle.protocol.specs.Values.{unset, same, isLower}
-use Rattle.protocol.specs.Message.{Entry, Pair, Message, Submit, Notice, Full, Evidence, Garbled, renderEntry, renderEntries, renderPair, renderPairs, render, renderAll, byteAt, readRound, readValue, readSignature, entryCommands, readEntry, readEntries, pairCommands, readPair, readPairs, fitsSubmit, fitsNotice, fitsFull, fitsEvidence, readSubmit, readNotice, readFull, readEvidence, read, roundOf, entrySeats, seatsOf, signedEntries, signedPairs, signed}
-use Rattle.protocol.specs.Certificate.{Certificate, slot, keep, keepEach, ownCertificate, firstCertificate, setOf, signatureOf, certificateOf, certificateIn, entriesOf, fullOf, pairsOf, orderedEvidence, evidenceOf}
-use Rattle.protocol.specs.Record.{wrongSize, wrongSeat, wrongRound, fresh, zeros, noneHeard, oneHeard, holds, outOfRange, namesStranger, wrongCollected, wrongFirst, lacksFirst, wrongGuilty, wrongSent, wrongUnset, impossible}
+use Rattle.protocol.specs.Message.{Entry, Pair, Message, Submit, Notice, Full, Evidence, renderEntry, renderEntries, renderPair, renderPairs, render, renderAll, byteAt, readRound, readValue, readSignature, entryCommands, readEntry, readEntries, pairCommands, readPair, readPairs, fitsSubmit, fitsNotice, fitsFull, fitsEvidence, readSubmit, readNotice, readFull, readEvidence, read, roundOf, entrySeats, seatsOf, signedEntries, signedPairs, signed}
+use Rattle.protocol.specs.Certificate.{slot, keep, keepEach, ownCertificate, firstCertificate, setOf, signatureOf, certificateOf, certificateIn, entriesOf, fullOf, pairsOf, orderedEvidence, evidenceOf}
+use Rattle.protocol.specs.Record.{wrongSize, wrongSeat, wrongRound, fresh, zeros, noneHeard, oneHeard, holds, outOfRange, wrongHeard, namesStranger, wrongCollected, wrongFirst, lacksFirst, wrongGuilty, wrongSent, wrongUnset, impossible}
 use Rattle.protocol.specs.Refusals.{every, keyAllowed, keysAllowed, wrongKeys, shortStore, shortOut, said, isForStep, isFull, isEvidence, wrongLengths, otherRound, stranger, rising, disorder, early, badSignature, notLowerFirst, equalValues, formConditions, signatureConditions, outsideConditions, recordConditions, openingConditions, submitConditions, stepConditions, evidenceConditions, twoConditions, makingConditions, lowerConditions}
-use Rattle.protocol.specs.Step.{State, write, collect, keepValue, submitOwn, isWanted, hearSubmit, noticesWith, hear, otherHeard, owesFull, sendFull, reply, hold, blame, blames, holdOrBlame, hearCertificate, isComplete, confirm, hearOwn, confirmIfComplete, submitted, stepped}
-use Rattle.protocol.specs.Calls.{outAfter, openedBy, opening, Result, resultBy, start, submit, step, answer, Making, makingBy, making, made, checkedBy, evidenceCheck, lowerOf, lowerCertificate}
-use Rattle.protocol.specs.declared.Record.{Record}
+use Rattle.protocol.specs.Step.{write, collect, keepValue, submitOwn, isWanted, hearSubmit, noticesWith, hear, otherHeard, owesFull, sendFull, reply, hold, blame, blames, holdOrBlame, hearCertificate, isComplete, confirm, hearOwn, confirmIfComplete, submitted, stepped}
+use Rattle.protocol.specs.Calls.{outAfter, openedBy, opening, Result, resultBy, submit, step, answer, makingBy, making, made, checkedBy, evidenceCheck, lowerOf, lowerCertificate}
 
 -- every definition of the crate, open
 unfolded : Bool
-unfolding ones part patch be t0 k bit has union shared with outside seats lowest unrefused signatureLength submitLength noticeLength fullEntryLength fullEntryAt fullLength evidenceEntryLength evidenceEntryAt evidenceLength storeLength slotAt outLength evidenceOutLength unset same isLower renderEntry renderEntries renderPair renderPairs render renderAll readRound readValue readSignature entryCommands readEntry readEntries pairCommands readPair readPairs fitsSubmit fitsNotice fitsFull fitsEvidence readSubmit readNotice readFull readEvidence read roundOf entrySeats seatsOf signedEntries signedPairs signed slot keep keepEach ownCertificate firstCertificate setOf signatureOf certificateOf certificateIn entriesOf fullOf pairsOf orderedEvidence evidenceOf wrongSize wrongSeat wrongRound fresh zeros noneHeard oneHeard holds outOfRange namesStranger wrongCollected wrongFirst lacksFirst wrongGuilty wrongSent wrongUnset impossible every keyAllowed keysAllowed wrongKeys shortStore shortOut said isForStep isFull isEvidence wrongLengths otherRound stranger rising disorder early badSignature notLowerFirst equalValues formConditions signatureConditions outsideConditions recordConditions openingConditions submitConditions stepConditions evidenceConditions twoConditions makingConditions lowerConditions write collect keepValue submitOwn isWanted hearSubmit noticesWith hear otherHeard owesFull sendFull reply hold blame blames holdOrBlame hearCertificate isComplete confirm hearOwn confirmIfComplete submitted stepped outAfter openedBy opening resultBy submit step answer makingBy making made checkedBy evidenceCheck lowerOf lowerCertificate
+unfolding ones part patch be t0 k bit has union shared with outside seats lowest unrefused signatureLength submitLength noticeLength fullEntryLength fullEntryAt fullLength evidenceEntryLength evidenceEntryAt evidenceLength storeLength slotAt outLength evidenceOutLength unset same isLower renderEntry renderEntries renderPair renderPairs render renderAll readRound readValue readSignature entryCommands readEntry readEntries pairCommands readPair readPairs fitsSubmit fitsNotice fitsFull fitsEvidence readSubmit readNotice readFull readEvidence read roundOf entrySeats seatsOf signedEntries signedPairs signed slot keep keepEach ownCertificate firstCertificate setOf signatureOf certificateOf certificateIn entriesOf fullOf pairsOf orderedEvidence evidenceOf wrongSize wrongSeat wrongRound fresh zeros noneHeard oneHeard holds outOfRange wrongHeard namesStranger wrongCollected wrongFirst lacksFirst wrongGuilty wrongSent wrongUnset impossible every keyAllowed keysAllowed wrongKeys shortStore shortOut said isForStep isFull isEvidence wrongLengths otherRound stranger rising disorder early badSignature notLowerFirst equalValues formConditions signatureConditions outsideConditions recordConditions openingConditions submitConditions stepConditions evidenceConditions twoConditions makingConditions lowerConditions write collect keepValue submitOwn isWanted hearSubmit noticesWith hear otherHeard owesFull sendFull reply hold blame blames holdOrBlame hearCertificate isComplete confirm hearOwn confirmIfComplete submitted stepped outAfter openedBy opening resultBy submit step answer makingBy making made checkedBy evidenceCheck lowerOf lowerCertificate
 unfolded = true
 
 -- ---- what the runs are given

@@ -1,14 +1,14 @@
 -- The parts of a step only add to the messages written: what a part does to record and store, and what it writes, is the same
 -- whatever was written before it.
 -- Assumes nothing.
-use mathlib.Core.Path.{_≡_, refl, sym, ap, _∙_}
+use mathlib.Core.Path.{_≡_, refl}
 use mathlib.Core.Bool.{Bool, true, false, cond}
-use mathlib.Core.List.{List, [], _∷_, _++_, append-assoc}
+use mathlib.Core.List.{List, _++_, append-assoc}
 use Prim.Native.Nat.{ℕ}
-use Rattle.protocol.specs.Message.{Message, Submit, Notice, Full, Evidence, Garbled}
-use Rattle.protocol.specs.Certificate.{Certificate, ownCertificate, certificateIn}
+use Rattle.protocol.specs.Message.{Message}
+use Rattle.protocol.specs.Certificate.{Certificate, ownCertificate}
 use Rattle.protocol.specs.Record.{holds}
-use Rattle.protocol.specs.Step.{State, write, collect, keepValue, submitOwn, isWanted, hearSubmit, hear, owesFull, sendFull, reply, hold, blame, blames, holdOrBlame, hearCertificate, isComplete, confirm, hearOwn, confirmIfComplete, submitted, stepped}
+use Rattle.protocol.specs.Step.{State, write, collect, keepValue, submitOwn, isWanted, hearSubmit, hear, owesFull, sendFull, reply, hold, blame, blames, holdOrBlame, hearCertificate, isComplete, confirm, hearOwn, confirmIfComplete}
 
 -- a state with messages written before its own
 abbrev pub after : List Message → State → State
