@@ -1,7 +1,7 @@
 -- Small runs of whole calls, computed.
 -- Assumes nothing.
 use Prim.Native.Nat.{ℕ, zero, suc, _*_}
-use mathlib.Core.Bool.{Bool, true, not, _&&_}
+use mathlib.Core.Bool.{Bool, true, false, not, _&&_}
 use mathlib.Core.List.{List, [], _∷_, _++_}
 use lib.Count.{ones}
 use lib.Dec.{T, eqb}
@@ -13,7 +13,8 @@ use Rattle.protocol.specs.Layout.{signatureLength, submitLength, noticeL
 use Rattle.protocol.specs.Values.{unset, same, isLower}
 use Rattle.protocol.specs.Message.{Entry, Pair, Message, Submit, Notice, Full, Evidence, renderEntry, renderEntries, renderPair, renderPairs, render, renderAll, byteAt, readRound, readValue, readSignature, entryCommands, readEntry, readEntries, pairCommands, readPair, readPairs, fitsSubmit, fitsNotice, fitsFull, fitsEvidence, readSubmit, readNotice, readFull, readEvidence, read, roundOf, entrySeats, seatsOf, signedEntries, signedPairs, signed}
 use Rattle.protocol.specs.Certificate.{slot, keep, keepEach, ownCertificate, firstCertificate, setOf, signatureOf, certificateOf, certificateIn, entriesOf, fullOf, pairsOf, orderedEvidence, evidenceOf}
-use Rattle.protocol.specs.Record.{wrongSize, wrongSeat, wrongRound, fresh, zeros, noneHeard, oneHeard, holds, outOfRange, wrongHeard, namesStranger, wrongCollected, wrongFirst, lacksFirst, wrongGuilty, wrongSent, wrongUnset, impossible}
+use Rattle.protocol.specs.declared.Record.{Record}
+use Rattle.protocol.specs.Record.{withOwn, withNotices, withFirst, withSent, withGuilty, wrongSize, wrongSeat, wrongRound, fresh, zeros, noneHeard, oneHeard, holds, outOfRange, wrongHeard, namesStranger, wrongCollected, wrongFirst, lacksFirst, wrongGuilty, wrongSent, wrongUnset, impossible}
 use Rattle.protocol.specs.Refusals.{every, keyAllowed, keysAllowed, wrongKeys, shortStore, shortOut, said, isForStep, isFull, isEvidence, wrongLengths, otherRound, stranger, rising, disorder, early, badSignature, notLowerFirst, equalValues, formConditions, signatureConditions, outsideConditions, recordConditions, openingConditions, submitConditions, stepConditions, evidenceConditions, twoConditions, makingConditions, lowerConditions}
 use Rattle.protocol.specs.Step.{write, collect, keepValue, submitOwn, isWanted, hearSubmit, noticesWith, hear, otherHeard, owesFull, sendFull, reply, hold, blame, blames, holdOrBlame, hearCertificate, isComplete, confirm, hearOwn, confirmIfComplete, submitted, stepped}
 use Rattle.protocol.specs.Calls.{outAfter, openedBy, opening, Result, resultBy, submit, step, answer, makingBy, making, made, checkedBy, evidenceCheck, lowerOf, lowerCertificate}
@@ -167,6 +168,31 @@ conflict-runs : T conflict
 unfolding conflict
 conflict-runs = tt
 
+-- a certificate heard after confirming is answered by FULL and EVIDENCE, whichever value is lower; one of the held value,
+-- by other seats, by nothing; two before the own submit, by EVIDENCE alone
+heardConflicts : Bool
+unfolding unfolded
+heardConflicts =
+    let a = hears (hears (submits (opened 4) 7) (submitBy 1 7)) (submitBy 2 7) in
+    let higher = hears a (fullBy 9 1 2 3) in
+    let lower = hears a (fullBy 3 1 2 3) in
+    let held = hears a (fullBy 7 1 2 3) in
+    let silent = hears (hears (opened 4) (fullBy 7 0 1 2)) (fullBy 9 1 2 3) in
+    let pair : ℕ → Pair = λ seat. record { seat = seat; lower = sign seat 3; higher = sign seat 7 } in
+    writes higher (fullBy 7 0 1 2 ∷ evidenceBoth ∷ [])
+    && eqb (higher .unit .guilty) 6
+    && writes lower (fullBy 7 0 1 2 ∷ Evidence 5 (layout 3) (layout 7) (pair 1 ∷ pair 2 ∷ []) ∷ [])
+    && writes held []
+    && same (held .store) (a .store)
+    && eqb (held .unit .first .seats) 7
+    && writes silent (evidenceBoth ∷ [])
+    && eqb (silent .unit .guilty) 6
+    && not (silent .unit .sent)
+
+heardConflicts-run : T heardConflicts
+unfolding heardConflicts
+heardConflicts-run = tt
+
 -- the same from two certificates in hand, in either order; the check names the two seats; the lower certificate
 evidenceCalls : Bool
 unfolding unfolded
@@ -189,6 +215,74 @@ evidenceCalls =
 evidenceCalls-run : T evidenceCalls
 unfolding evidenceCalls
 evidenceCalls-run = tt
+
+-- ---- impossible records
+
+-- a record of four seats that has confirmed the layout 7 and sent FULL, with two guilty seats: a part of it is set anew
+abbrev full4 : Record
+full4 = record {
+  n = 4;
+  seat = 0;
+  round = 5;
+  own = record { submitted = true; value = layout 7; collected = 7 };
+  confirmed = true;
+  notices = record { heard = 2; value = layout 9 };
+  first = record { value = layout 9; seats = 14 };
+  sent = true;
+  guilty = 6;
+}
+
+abbrev ownWith : Bool → List ℕ → ℕ → Record
+ownWith submitted value collected = withOwn (fresh 4 0 5) (record { submitted = submitted; value = value; collected = collected })
+
+abbrev heardWith : ℕ → List ℕ → Record
+heardWith heard value = withNotices (fresh 4 0 5) (record { heard = heard; value = value })
+
+abbrev firstWith : List ℕ → ℕ → Record
+firstWith value seats = withFirst (fresh 4 0 5) (record { value = value; seats = seats })
+
+possibles : Bool
+unfolding unfolded
+possibles =
+    not (impossible full4)
+    && not (impossible (fresh 4 3 1023))
+    && not (impossible (fresh 32 31 0))
+    && not (impossible (ownWith true (layout 0) 3))
+    && not (impossible (heardWith 1 (layout 0)))
+    && not (impossible (firstWith (layout 0) 14))
+
+possibles-run : T possibles
+unfolding possibles
+possibles-run = tt
+
+impossibles : Bool
+unfolding unfolded
+impossibles =
+    impossible (fresh 0 0 5)
+    && impossible (fresh 33 0 5)
+    && impossible (fresh 4 4 5)
+    && impossible (fresh 4 0 1024)
+    && impossible (heardWith 3 (layout 9))
+    && impossible (ownWith true (layout 7) 17)
+    && impossible (firstWith (layout 9) 22)
+    && impossible (withGuilty full4 22)
+    && impossible (ownWith false (layout 0) 1)
+    && impossible (ownWith true (layout 7) 2)
+    && impossible (ownWith true (layout 7) 15)
+    && impossible (ownWith true (layout 7) 7)
+    && impossible (withOwn full4 (record { submitted = true; value = layout 7; collected = 3 }))
+    && impossible (firstWith (layout 9) 6)
+    && impossible (withGuilty (withFirst full4 (record { value = layout 0; seats = 0 })) 0)
+    && impossible (withGuilty (fresh 4 0 5) 6)
+    && impossible (withGuilty full4 1)
+    && impossible (withSent (fresh 4 0 5))
+    && impossible (ownWith false (layout 7) 0)
+    && impossible (heardWith 0 (layout 9))
+    && impossible (firstWith (layout 9) 0)
+
+impossibles-run : T impossibles
+unfolding impossibles
+impossibles-run = tt
 
 -- ---- refusals
 
