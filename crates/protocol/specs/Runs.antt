@@ -89,17 +89,17 @@ alone =
     && not (r .unit .sent)
     && same (r .store) (sign 0 7 ++ sign 0 7)
 
-alone-runs : T alone
+alone-run : T alone
 unfolding alone
-alone-runs = tt
+alone-run = tt
 
--- three of four confirm; a seat that is known, a SUBMIT of another value and one that comes late change nothing
+-- three of four confirm; another signature of a known seat, a SUBMIT of another value and one that comes late change nothing
 threeConfirm : Bool
 unfolding unfolded
 threeConfirm =
     let a = submits (opened 4) 7 in
     let b = hears a (submitBy 2 7) in
-    let c = hears b (submitBy 2 7) in
+    let c = hears b (Submit 5 2 (layout 7) (2 ∷ 7 ∷ replicate 1450 3)) in
     let d = hears c (submitBy 1 9) in
     let e = hears d (submitBy 3 7) in
     let f = hears e (submitBy 1 7) in
@@ -116,9 +116,9 @@ threeConfirm =
     && eqb (f .unit .first .seats) 13
     && same (f .store) (sign 0 7 ++ replicate 1452 1 ++ sign 2 7 ++ sign 3 7 ++ sign 0 7 ++ replicate 1452 1 ++ sign 2 7 ++ sign 3 7)
 
-threeConfirm-runs : T threeConfirm
+threeConfirm-run : T threeConfirm
 unfolding threeConfirm
-threeConfirm-runs = tt
+threeConfirm-run = tt
 
 -- "Forgetting notices heard before the own submit, so that FULL is never sent." It is sent on confirming, and once.
 noticeFirst : Bool
@@ -134,9 +134,9 @@ noticeFirst =
     && same (b .unit .notices .value) (layout 9)
     && writes c []
 
-noticeFirst-runs : T noticeFirst
+noticeFirst-run : T noticeFirst
 unfolding noticeFirst
-noticeFirst-runs = tt
+noticeFirst-run = tt
 
 -- ---- two certificates of four seats: NOTICE, FULL and EVIDENCE in one call
 
@@ -164,9 +164,9 @@ conflict =
     && writes d []
     && eqb (d .unit .guilty) 6
 
-conflict-runs : T conflict
+conflict-run : T conflict
 unfolding conflict
-conflict-runs = tt
+conflict-run = tt
 
 -- a certificate heard after confirming is answered by FULL and EVIDENCE, whichever value is lower; one of the held value,
 -- by other seats, by nothing; two before the own submit, by EVIDENCE alone
@@ -218,19 +218,23 @@ evidenceCalls-run = tt
 
 -- ---- impossible records
 
--- a record of four seats that has confirmed the layout 7 and sent FULL, with two guilty seats: a part of it is set anew
-abbrev full4 : Record
-full4 = record {
+-- records of four seats, one that has confirmed the layout 7, with two guilty seats, and others with one part set
+
+abbrev confirmedWith : Bool → ℕ → List ℕ → Record
+confirmedWith sent heard value = record {
   n = 4;
   seat = 0;
   round = 5;
   own = record { submitted = true; value = layout 7; collected = 7 };
   confirmed = true;
-  notices = record { heard = 2; value = layout 9 };
+  notices = record { heard = heard; value = value };
   first = record { value = layout 9; seats = 14 };
-  sent = true;
+  sent = sent;
   guilty = 6;
 }
+
+abbrev full4 : Record
+full4 = confirmedWith true 2 (layout 9)
 
 abbrev ownWith : Bool → List ℕ → ℕ → Record
 ownWith submitted value collected = withOwn (fresh 4 0 5) (record { submitted = submitted; value = value; collected = collected })
@@ -284,6 +288,21 @@ impossibles-run : T impossibles
 unfolding impossibles
 impossibles-run = tt
 
+-- possible, though no list of calls comes to it: FULL is owed from an earlier call, and sent in this one; with nothing heard
+-- none is owed
+owed : Bool
+unfolding unfolded
+owed =
+    let at : Record → Result = λ r. record { refusal = 0; unit = r; store = replicate 11616 1; written = [] } in
+    let entry : ℕ → Entry = λ seat. record { seat = seat; signature = replicate 1452 1 } in
+    writes (hears (at (confirmedWith false 2 (layout 9))) (submitBy 3 7)) (Full 5 0 (layout 7) (entry 0 ∷ entry 1 ∷ entry 2 ∷ []) ∷ [])
+    && writes (hears (at (confirmedWith false 0 (layout 0))) (submitBy 3 7)) []
+    && writes (hears (at (confirmedWith false 1 (layout 7))) (submitBy 3 7)) []
+
+owed-run : T owed
+unfolding owed
+owed-run = tt
+
 -- ---- refusals
 
 openings : Bool
@@ -303,9 +322,9 @@ openings-run : T openings
 unfolding openings
 openings-run = tt
 
-submits-refused : Bool
+submitsRefused : Bool
 unfolding unfolded
-submits-refused =
+submitsRefused =
     let fresh4 = opened 4 .unit in
     let store = opened 4 .store in
     let out = room 14709 in
@@ -318,13 +337,13 @@ submits-refused =
     && refuses (submit toy (keys 4) fresh4 store (layout 7) (0 ∷ sign 0 7) out) 9
     && refuses (submit toy (keys 4) fresh4 store (layout 7) (sign 1 7) out) 14
 
-submits-refused-run : T submits-refused
-unfolding submits-refused
-submits-refused-run = tt
+submitsRefused-run : T submitsRefused
+unfolding submitsRefused
+submitsRefused-run = tt
 
-steps-refused : Bool
+stepsRefused : Bool
 unfolding unfolded
-steps-refused =
+stepsRefused =
     let r = submits (opened 4) 7 in
     refuses (given r []) 9
     && refuses (given r (0x01 ∷ [])) 9
@@ -344,13 +363,13 @@ steps-refused =
     && refuses (hears r (Submit 5 1 (layout 9) (sign 1 7))) 14
     && refuses (hears r (Full 5 1 (layout 9) (entryBy 9 1 ∷ entryBy 9 2 ∷ entryBy 7 3 ∷ []))) 14
 
-steps-refused-run : T steps-refused
-unfolding steps-refused
-steps-refused-run = tt
+stepsRefused-run : T stepsRefused
+unfolding stepsRefused
+stepsRefused-run = tt
 
-evidence-refused : Bool
+evidenceRefused : Bool
 unfolding unfolded
-evidence-refused =
+evidenceRefused =
     let check : Message → ℕ = λ m. evidenceCheck toy 4 5 (keys 4) (render m) .refusal in
     let seven = render (fullBy 7 0 1 2) in
     let nine = render (fullBy 9 1 2 3) in
@@ -375,6 +394,6 @@ evidence-refused =
     && eqb (made seven bad) 14
     && eqb (made seven seven) 15
 
-evidence-refused-run : T evidence-refused
-unfolding evidence-refused
-evidence-refused-run = tt
+evidenceRefused-run : T evidenceRefused
+unfolding evidenceRefused
+evidenceRefused-run = tt
