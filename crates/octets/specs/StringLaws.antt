@@ -180,6 +180,13 @@ same-true (x ∷ xs) (y ∷ ys) e =
     let k = and-eq-true-iff (eqb x y) (same xs ys) .0 e in
     ap₂ _∷_ (eqb-true x y (k .0)) (same-true xs ys (k .1))
 
+pub same-false : (xs ys : List ℕ) → (xs ≡ ys → ⊥) → same xs ys ≡ false
+same-false xs ys h = go (same xs ys) refl
+  where
+    go : (b : Bool) → same xs ys ≡ b → b ≡ false
+    go true e = absurd (h (same-true xs ys e))
+    go false e = refl
+
 -- a comparison in code that answers true just where the strings are equal
 pub same-by : (r : Bool) (xs ys : List ℕ) → (r ≡ true → xs ≡ ys) → (xs ≡ ys → r ≡ true) → r ≡ same xs ys
 same-by true xs ys f g = rw (f refl) (sym (same-refl ys))

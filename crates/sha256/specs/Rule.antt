@@ -89,7 +89,7 @@ test-says e t x h =
       whole = root e p 7;
       below = leb→le (y ^ e) (p * (2 ^ 32) ^ e) (both-left first second low);
       above = ltb→lt (p * (2 ^ 32) ^ e) ((y + 1) ^ e) (both-right first second low);
-      bits = ltb→lt x (2 ^ 32) (both-right (first && second) third h)
+      bits = ltb→lt x (2 ^ 32) (both-right (first && second) third h);
     }
 
 pub constants-rule : (t : ℕ) → t < length constants → FirstBits 3 (getD primes t 0) (getD constants t 0)

@@ -38,7 +38,7 @@ loop-less c = omega arith
 -- src/lib.rt:88:5
 loop-again : tie.Need-loop-again Inv-loop μ-loop
 unfolding repeated
-loop-again c = 
+loop-again c =
     let at-loop = c .before .before in
     let args = at-loop .before .args in
     let one-more : repeated (args .h) (args .m) (at-loop .loop .t + 1) ≡ compress (repeated (args .h) (args .m) (at-loop .loop .t)) (args .m) = rw add-one in
@@ -46,7 +46,7 @@ loop-again c =
 
 -- src/lib.rt:82:1
 returns : tie.Need-returns Inv-loop μ-loop
-returns c = 
+returns c =
     let at-loop = c .before in
     let args = at-loop .before .args in
     let all : at-loop .loop .t ≡ args .count = omega arith in

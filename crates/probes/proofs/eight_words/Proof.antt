@@ -48,7 +48,7 @@ loop-less c = omega arith
 
 -- src/lib.rt:58:5
 loop-again : tie.Need-loop-again Inv-loop μ-loop
-loop-again c = 
+loop-again c =
     let at-loop = c .before .before in
     let t = at-loop .loop .t in
     let s = now (at-loop .before .before .args .s) in
@@ -56,7 +56,7 @@ loop-again c =
 
 -- src/lib.rt:52:1
 returns : tie.Need-returns Inv-loop μ-loop
-returns c = 
+returns c =
     let at-loop = c .before in
     let s = now (at-loop .before .before .args .s) in
     filled (at-loop .loop .w) (λ t. words t s) (at-loop .loop .t) 8 (omega arith) (at-loop .loop .inv .1) (at-loop .loop .inv .2)

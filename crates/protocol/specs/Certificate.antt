@@ -1,0 +1,84 @@
+-- Certificates: a value with the signatures of k seats over it. The unit's own, the first that it holds and a FULL heard
+-- are one kind of thing, so that "heard", "held", "shared" and "evidence" are each written once.
+-- Assumes nothing.
+use Prim.Native.Nat.{ℕ}
+use mathlib.Core.Bool.{cond}
+use mathlib.Core.List.{List, [], _∷_, map}
+use lib.Dec.{eqb}
+use Rattle.octets.specs.Octets.{part, patch}
+use Rattle.quorum.specs.Quorum.{shared, with, seats}
+use Rattle.protocol.specs.Layout.{signatureLength, collectedBank, firstBank, slotAt}
+use Rattle.protocol.specs.Values.{isLower}
+use Rattle.protocol.specs.Message.{Entry, Pair, Message, Submit, Notice, Full, Evidence, Garbled}
+use Rattle.protocol.specs.declared.Record.{Record}
+
+pub record Certificate : Type 0 where
+  pub value : List ℕ
+  pub seats : ℕ
+  pub signature : ℕ → List ℕ
+
+-- ---- the store
+
+-- the signature in the slot of a seat
+unfoldable pub slot : ℕ → ℕ → List ℕ → ℕ → List ℕ
+slot n bank store seat = part (slotAt n bank seat) signatureLength store
+
+-- "A signature is copied into its seat's slot, and only that slot is written."
+unfoldable pub keep : ℕ → ℕ → ℕ → List ℕ → List ℕ → List ℕ
+keep n bank seat signature store = patch (slotAt n bank seat) signature store
+
+-- the signatures of several seats, one after another
+unfoldable pub keepEach : ℕ → ℕ → (ℕ → List ℕ) → List ℕ → List ℕ → List ℕ
+keepEach n bank signature [] store = store
+keepEach n bank signature (seat ∷ rest) store = keepEach n bank signature rest (keep n bank seat (signature seat) store)
+
+-- ---- makers
+
+-- the unit's own: its value and the signatures collected
+unfoldable pub ownCertificate : Record → List ℕ → Certificate
+ownCertificate r store = record { value = r .own .value; seats = r .own .collected; signature = slot (r .n) collectedBank store }
+
+-- "the first certificate held"
+unfoldable pub firstCertificate : Record → List ℕ → Certificate
+firstCertificate r store = record { value = r .first .value; seats = r .first .seats; signature = slot (r .n) firstBank store }
+
+-- a FULL: the set of its entries' seats, and the signature of a seat's entry
+unfoldable pub setOf : List ℕ → ℕ
+setOf [] = 0
+setOf (seat ∷ rest) = with seat (setOf rest)
+
+unfoldable pub signatureOf : List Entry → ℕ → List ℕ
+signatureOf [] seat = []
+signatureOf (e ∷ es) seat = cond (eqb (e .seat) seat) (e .signature) (signatureOf es seat)
+
+unfoldable pub certificateOf : List ℕ → List Entry → Certificate
+certificateOf value entries =
+    record { value = value; seats = setOf (map (λ (e : Entry). e .seat) entries); signature = signatureOf entries }
+
+-- the certificate in a message; no other command has one
+unfoldable pub certificateIn : Message → Certificate
+certificateIn (Submit round seat value signature) = certificateOf [] []
+certificateIn (Notice round seat value) = certificateOf [] []
+certificateIn (Full round sender value entries) = certificateOf value entries
+certificateIn (Evidence round lower higher entries) = certificateOf [] []
+certificateIn Garbled = certificateOf [] []
+
+-- ---- messages from certificates: "Entry seats rise."
+
+unfoldable pub entriesOf : ℕ → Certificate → List Entry
+entriesOf n c = map (λ (seat : ℕ). record { seat = seat; signature = c .signature seat }) (seats n (c .seats))
+
+unfoldable pub fullOf : ℕ → ℕ → ℕ → Certificate → Message
+fullOf n round sender c = Full round sender (c .value) (entriesOf n c)
+
+-- the seats that two certificates share, each with its two signatures
+unfoldable pub pairsOf : ℕ → Certificate → Certificate → List Pair
+pairsOf n low high =
+    map (λ (seat : ℕ). record { seat = seat; lower = low .signature seat; higher = high .signature seat }) (seats n (shared (low .seats) (high .seats)))
+
+unfoldable pub orderedEvidence : ℕ → ℕ → Certificate → Certificate → Message
+orderedEvidence n round low high = Evidence round (low .value) (high .value) (pairsOf n low high)
+
+-- two certificates of different values, in either order
+unfoldable pub evidenceOf : ℕ → ℕ → Certificate → Certificate → Message
+evidenceOf n round c d = cond (isLower (c .value) (d .value)) (orderedEvidence n round c d) (orderedEvidence n round d c)

@@ -1,0 +1,400 @@
+-- Small runs of whole calls, computed.
+-- Assumes nothing.
+use Prim.Native.Nat.{ℕ, zero, suc, _*_}
+use mathlib.Core.Bool.{Bool, true, false, not, _&&_}
+use mathlib.Core.List.{List, [], _∷_, _++_}
+use lib.Count.{ones}
+use lib.Dec.{T, eqb}
+use lib.ListN.{length, replicate}
+use Rattle.octets.specs.Octets.{part, patch, be}
+use Rattle.quorum.specs.Quorum.{t0, k, bit, has, union, shared, with, outside, seats}
+use Rattle.refusal.specs.Refusal.{lowest, unrefused}
+use Rattle.protocol.specs.Layout.{signatureLength, submitLength, noticeLength, fullEntryLength, fullEntryAt, fullLength, evidenceEntryLength, evidenceEntryAt, evidenceLength, storeLength, slotAt, outLength, evidenceOutLength}
+use Rattle.protocol.specs.Values.{unset, isLower}
+use Rattle.octets.specs.Strings.{same}
+use Rattle.protocol.specs.Message.{Entry, Pair, Message, Submit, Notice, Full, Evidence, renderEntry, renderEntries, renderPair, renderPairs, render, renderAll, byteAt, readRound, readValue, readSignature, entryCommands, readEntry, readEntries, pairCommands, readPair, readPairs, fitsSubmit, fitsNotice, fitsFull, fitsEvidence, readSubmit, readNotice, readFull, readEvidence, read, roundOf, entrySeats, seatsOf, signedEntries, signedPairs, signed}
+use Rattle.protocol.specs.Certificate.{slot, keep, keepEach, ownCertificate, firstCertificate, setOf, signatureOf, certificateOf, certificateIn, entriesOf, fullOf, pairsOf, orderedEvidence, evidenceOf}
+use Rattle.protocol.specs.declared.Record.{Record}
+use Rattle.protocol.specs.Record.{withOwn, withNotices, withFirst, withSent, withGuilty, wrongSize, wrongSeat, wrongRound, fresh, zeros, noneHeard, oneHeard, holds, outOfRange, wrongHeard, namesStranger, wrongCollected, wrongFirst, lacksFirst, wrongGuilty, wrongSent, wrongUnset, impossible}
+use Rattle.protocol.specs.Refusals.{every, keyAllowed, keysAllowed, wrongKeys, shortStore, shortOut, said, isForStep, isFull, isEvidence, wrongLengths, otherRound, stranger, rising, disorder, early, badSignature, notLowerFirst, equalValues, formConditions, signatureConditions, outsideConditions, recordConditions, openingConditions, submitConditions, stepConditions, evidenceConditions, twoConditions, makingConditions, lowerConditions}
+use Rattle.protocol.specs.Step.{write, collect, keepValue, submitOwn, isWanted, hearSubmit, noticesWith, hear, otherHeard, owesFull, sendFull, reply, hold, blame, blames, holdOrBlame, hearCertificate, isComplete, confirm, hearOwn, confirmIfComplete, submitted, stepped}
+use Rattle.protocol.specs.Calls.{outAfter, openedBy, opening, Result, resultBy, submit, step, answer, makingBy, making, made, checkedBy, evidenceCheck, lowerOf, lowerCertificate}
+
+-- every definition of the crate, open
+unfolded : Bool
+unfolding ones part patch be t0 k bit has union shared with outside seats lowest unrefused signatureLength submitLength noticeLength fullEntryLength fullEntryAt fullLength evidenceEntryLength evidenceEntryAt evidenceLength storeLength slotAt outLength evidenceOutLength unset same isLower renderEntry renderEntries renderPair renderPairs render renderAll readRound readValue readSignature entryCommands readEntry readEntries pairCommands readPair readPairs fitsSubmit fitsNotice fitsFull fitsEvidence readSubmit readNotice readFull readEvidence read roundOf entrySeats seatsOf signedEntries signedPairs signed slot keep keepEach ownCertificate firstCertificate setOf signatureOf certificateOf certificateIn entriesOf fullOf pairsOf orderedEvidence evidenceOf wrongSize wrongSeat wrongRound fresh zeros noneHeard oneHeard holds outOfRange wrongHeard namesStranger wrongCollected wrongFirst lacksFirst wrongGuilty wrongSent wrongUnset impossible every keyAllowed keysAllowed wrongKeys shortStore shortOut said isForStep isFull isEvidence wrongLengths otherRound stranger rising disorder early badSignature notLowerFirst equalValues formConditions signatureConditions outsideConditions recordConditions openingConditions submitConditions stepConditions evidenceConditions twoConditions makingConditions lowerConditions write collect keepValue submitOwn isWanted hearSubmit noticesWith hear otherHeard owesFull sendFull reply hold blame blames holdOrBlame hearCertificate isComplete confirm hearOwn confirmIfComplete submitted stepped outAfter openedBy opening resultBy submit step answer makingBy making made checkedBy evidenceCheck lowerOf lowerCertificate
+unfolded = true
+
+-- ---- what the runs are given
+
+-- a toy for the signature check: a signature's first byte is its seat, and the second is the first of its value
+abbrev toy : ℕ → List ℕ → List ℕ → Bool
+toy seat value signature = eqb (byteAt signature 0) seat && eqb (byteAt signature 1) (byteAt value 0)
+
+abbrev layout : ℕ → List ℕ
+layout b = replicate 32 b
+
+abbrev sign : ℕ → ℕ → List ℕ
+sign seat b = seat ∷ b ∷ replicate 1450 0
+
+abbrev keys : ℕ → List ℕ
+keys zero = []
+keys (suc n) = keys n ++ 0 ∷ 0 ∷ 0 ∷ 6 ∷ 0 ∷ 0 ∷ 0 ∷ 4 ∷ replicate 48 0
+
+-- a SUBMIT of a seat for the layout of a byte, and a certificate of it by three seats
+abbrev submitBy : ℕ → ℕ → Message
+submitBy seat b = Submit 5 seat (layout b) (sign seat b)
+
+abbrev entryBy : ℕ → ℕ → Entry
+entryBy b seat = record { seat = seat; signature = sign seat b }
+
+abbrev fullBy : ℕ → ℕ → ℕ → ℕ → Message
+fullBy b s t u = Full 5 s (layout b) (entryBy b s ∷ entryBy b t ∷ entryBy b u ∷ [])
+
+-- the unit of seat 0 among n in round 5, after an opening and before its first call
+abbrev opened : ℕ → Result
+opened n = record { refusal = 0; unit = fresh n 0 5; store = replicate (2904 * n) 1; written = [] }
+
+abbrev room : ℕ → List ℕ
+room length = replicate length 0
+
+abbrev submits : Result → ℕ → Result
+submits r b = submit toy (keys (r .unit .n)) (r .unit) (r .store) (layout b) (sign 0 b) (room 14709)
+
+abbrev given : Result → List ℕ → Result
+given r bytes = step toy (keys (r .unit .n)) (r .unit) (r .store) bytes (room 14709)
+
+abbrev hears : Result → Message → Result
+hears r m = given r (render m)
+
+-- ---- what they come to
+
+-- not refused, with these messages written
+abbrev writes : Result → List Message → Bool
+writes r ms = eqb (r .refusal) 0 && same (r .written) (renderAll ms)
+
+-- refused by this number, with nothing written
+abbrev refuses : Result → ℕ → Bool
+refuses r number = eqb (r .refusal) number && eqb (length (r .written)) 0
+
+-- "With n = 1, submit confirms in the same call", and the own certificate is held
+alone : Bool
+unfolding unfolded
+alone =
+    let r = submits (opened 1) 7 in
+    writes r (submitBy 0 7 ∷ Notice 5 0 (layout 7) ∷ [])
+    && r .unit .confirmed
+    && eqb (r .unit .own .collected) 1
+    && eqb (r .unit .first .seats) 1
+    && eqb (r .unit .notices .heard) 1
+    && not (r .unit .sent)
+    && same (r .store) (sign 0 7 ++ sign 0 7)
+
+alone-run : T alone
+unfolding alone
+alone-run = tt
+
+-- three of four confirm; another signature of a known seat, a SUBMIT of another value and one that comes late change nothing
+threeConfirm : Bool
+unfolding unfolded
+threeConfirm =
+    let a = submits (opened 4) 7 in
+    let b = hears a (submitBy 2 7) in
+    let c = hears b (Submit 5 2 (layout 7) (2 ∷ 7 ∷ replicate 1450 3)) in
+    let d = hears c (submitBy 1 9) in
+    let e = hears d (submitBy 3 7) in
+    let f = hears e (submitBy 1 7) in
+    writes a (submitBy 0 7 ∷ [])
+    && writes b []
+    && writes c []
+    && writes d []
+    && eqb (d .unit .own .collected) 5
+    && writes e (Notice 5 0 (layout 7) ∷ [])
+    && writes f []
+    && f .unit .confirmed
+    && not (f .unit .sent)
+    && eqb (f .unit .own .collected) 13
+    && eqb (f .unit .first .seats) 13
+    && same (f .store) (sign 0 7 ++ replicate 1452 1 ++ sign 2 7 ++ sign 3 7 ++ sign 0 7 ++ replicate 1452 1 ++ sign 2 7 ++ sign 3 7)
+
+threeConfirm-run : T threeConfirm
+unfolding threeConfirm
+threeConfirm-run = tt
+
+-- "Forgetting notices heard before the own submit, so that FULL is never sent." It is sent on confirming, and once.
+noticeFirst : Bool
+unfolding unfolded
+noticeFirst =
+    let a = hears (opened 4) (Notice 5 3 (layout 9)) in
+    let b = hears (hears (submits a 7) (submitBy 1 7)) (submitBy 2 7) in
+    let c = hears b (Notice 5 3 (layout 9)) in
+    writes a []
+    && eqb (a .unit .notices .heard) 1
+    && writes b (Notice 5 0 (layout 7) ∷ fullBy 7 0 1 2 ∷ [])
+    && eqb (b .unit .notices .heard) 2
+    && same (b .unit .notices .value) (layout 9)
+    && writes c []
+
+noticeFirst-run : T noticeFirst
+unfolding noticeFirst
+noticeFirst-run = tt
+
+-- ---- two certificates of four seats: NOTICE, FULL and EVIDENCE in one call
+
+abbrev pairBy : ℕ → Pair
+pairBy seat = record { seat = seat; lower = sign seat 7; higher = sign seat 9 }
+
+abbrev evidenceBoth : Message
+evidenceBoth = Evidence 5 (layout 7) (layout 9) (pairBy 1 ∷ pairBy 2 ∷ [])
+
+-- the unit holds a certificate of the layout 9 and confirms the layout 7; a third certificate is answered by nothing
+conflict : Bool
+unfolding unfolded
+conflict =
+    let a = hears (opened 4) (fullBy 9 1 2 3) in
+    let b = hears (submits a 7) (submitBy 1 7) in
+    let c = hears b (submitBy 2 7) in
+    let d = hears c (fullBy 8 1 2 3) in
+    writes a []
+    && eqb (a .unit .first .seats) 14
+    && writes b []
+    && writes c (Notice 5 0 (layout 7) ∷ fullBy 7 0 1 2 ∷ evidenceBoth ∷ [])
+    && eqb (c .unit .guilty) 6
+    && c .unit .sent
+    && same (c .store) (sign 0 7 ++ sign 1 7 ++ sign 2 7 ++ replicate 1452 1 ++ replicate 1452 1 ++ sign 1 9 ++ sign 2 9 ++ sign 3 9)
+    && writes d []
+    && eqb (d .unit .guilty) 6
+
+conflict-run : T conflict
+unfolding conflict
+conflict-run = tt
+
+-- a certificate heard after confirming is answered by FULL and EVIDENCE, whichever value is lower; one of the held value,
+-- by other seats, by nothing; two before the own submit, by EVIDENCE alone
+heardConflicts : Bool
+unfolding unfolded
+heardConflicts =
+    let a = hears (hears (submits (opened 4) 7) (submitBy 1 7)) (submitBy 2 7) in
+    let higher = hears a (fullBy 9 1 2 3) in
+    let lower = hears a (fullBy 3 1 2 3) in
+    let held = hears a (fullBy 7 1 2 3) in
+    let silent = hears (hears (opened 4) (fullBy 7 0 1 2)) (fullBy 9 1 2 3) in
+    let pair : ℕ → Pair = λ seat. record { seat = seat; lower = sign seat 3; higher = sign seat 7 } in
+    writes higher (fullBy 7 0 1 2 ∷ evidenceBoth ∷ [])
+    && eqb (higher .unit .guilty) 6
+    && writes lower (fullBy 7 0 1 2 ∷ Evidence 5 (layout 3) (layout 7) (pair 1 ∷ pair 2 ∷ []) ∷ [])
+    && writes held []
+    && same (held .store) (a .store)
+    && eqb (held .unit .first .seats) 7
+    && writes silent (evidenceBoth ∷ [])
+    && eqb (silent .unit .guilty) 6
+    && not (silent .unit .sent)
+
+heardConflicts-run : T heardConflicts
+unfolding heardConflicts
+heardConflicts-run = tt
+
+-- the same from two certificates in hand, in either order; the check names the two seats; the lower certificate
+evidenceCalls : Bool
+unfolding unfolded
+evidenceCalls =
+    let seven = render (fullBy 7 0 1 2) in
+    let nine = render (fullBy 9 1 2 3) in
+    let made1 = making toy 4 5 (keys 4) seven nine (room 8786) in
+    let made2 = making toy 4 5 (keys 4) nine seven (room 8786) in
+    let check = evidenceCheck toy 4 5 (keys 4) (render evidenceBoth) in
+    eqb (made1 .refusal) 0
+    && same (made1 .written) (render evidenceBoth)
+    && eqb (made2 .refusal) 0
+    && same (made2 .written) (render evidenceBoth)
+    && eqb (check .number) 0
+    && eqb (check .mask) 6
+    && same (lowerCertificate toy 4 5 (keys 4) seven nine) seven
+    && same (lowerCertificate toy 4 5 (keys 4) nine seven) seven
+    && same (lowerCertificate toy 4 5 (keys 4) nine nine) []
+
+evidenceCalls-run : T evidenceCalls
+unfolding evidenceCalls
+evidenceCalls-run = tt
+
+-- ---- impossible records
+
+-- records of four seats, one that has confirmed the layout 7, with two guilty seats, and others with one part set
+
+abbrev confirmedWith : Bool → ℕ → List ℕ → Record
+confirmedWith sent heard value = record {
+  n = 4;
+  seat = 0;
+  round = 5;
+  own = record { submitted = true; value = layout 7; collected = 7 };
+  confirmed = true;
+  notices = record { heard = heard; value = value };
+  first = record { value = layout 9; seats = 14 };
+  sent = sent;
+  guilty = 6;
+}
+
+abbrev full4 : Record
+full4 = confirmedWith true 2 (layout 9)
+
+abbrev ownWith : Bool → List ℕ → ℕ → Record
+ownWith submitted value collected = withOwn (fresh 4 0 5) (record { submitted = submitted; value = value; collected = collected })
+
+abbrev heardWith : ℕ → List ℕ → Record
+heardWith heard value = withNotices (fresh 4 0 5) (record { heard = heard; value = value })
+
+abbrev firstWith : List ℕ → ℕ → Record
+firstWith value seats = withFirst (fresh 4 0 5) (record { value = value; seats = seats })
+
+possibles : Bool
+unfolding unfolded
+possibles =
+    not (impossible full4)
+    && not (impossible (fresh 4 3 1023))
+    && not (impossible (fresh 32 31 0))
+    && not (impossible (ownWith true (layout 0) 3))
+    && not (impossible (heardWith 1 (layout 0)))
+    && not (impossible (firstWith (layout 0) 14))
+
+possibles-run : T possibles
+unfolding possibles
+possibles-run = tt
+
+impossibles : Bool
+unfolding unfolded
+impossibles =
+    impossible (fresh 0 0 5)
+    && impossible (fresh 33 0 5)
+    && impossible (fresh 4 4 5)
+    && impossible (fresh 4 0 1024)
+    && impossible (heardWith 3 (layout 9))
+    && impossible (ownWith true (layout 7) 17)
+    && impossible (firstWith (layout 9) 22)
+    && impossible (withGuilty full4 22)
+    && impossible (ownWith false (layout 0) 1)
+    && impossible (ownWith true (layout 7) 2)
+    && impossible (ownWith true (layout 7) 15)
+    && impossible (ownWith true (layout 7) 7)
+    && impossible (withOwn full4 (record { submitted = true; value = layout 7; collected = 3 }))
+    && impossible (firstWith (layout 9) 6)
+    && impossible (withGuilty (withFirst full4 (record { value = layout 0; seats = 0 })) 0)
+    && impossible (withGuilty (fresh 4 0 5) 6)
+    && impossible (withGuilty full4 1)
+    && impossible (withSent (fresh 4 0 5))
+    && impossible (ownWith false (layout 7) 0)
+    && impossible (heardWith 0 (layout 9))
+    && impossible (firstWith (layout 9) 0)
+
+impossibles-run : T impossibles
+unfolding impossibles
+impossibles-run = tt
+
+-- possible, though no list of calls comes to it: FULL is owed from an earlier call, and sent in this one; with nothing heard
+-- none is owed
+owed : Bool
+unfolding unfolded
+owed =
+    let at : Record → Result = λ r. record { refusal = 0; unit = r; store = replicate 11616 1; written = [] } in
+    let entry : ℕ → Entry = λ seat. record { seat = seat; signature = replicate 1452 1 } in
+    writes (hears (at (confirmedWith false 2 (layout 9))) (submitBy 3 7)) (Full 5 0 (layout 7) (entry 0 ∷ entry 1 ∷ entry 2 ∷ []) ∷ [])
+    && writes (hears (at (confirmedWith false 0 (layout 0))) (submitBy 3 7)) []
+    && writes (hears (at (confirmedWith false 1 (layout 7))) (submitBy 3 7)) []
+
+owed-run : T owed
+unfolding owed
+owed-run = tt
+
+-- ---- refusals
+
+openings : Bool
+unfolding unfolded
+openings =
+    let refusal : ℕ → ℕ → ℕ → ℕ = λ n seat round. opening n seat round (keys 4) .number in
+    eqb (refusal 0 0 5) 1
+    && eqb (refusal 33 40 5) 1
+    && eqb (refusal 4 4 1024) 2
+    && eqb (refusal 4 3 1024) 3
+    && eqb (refusal 3 0 5) 5
+    && eqb (refusal 4 3 1023) 0
+    && eqb (opening 4 0 5 (room 224) .number) 5
+    && eqb (opening 4 4 5 (keys 4) .unit .n) 0
+
+openings-run : T openings
+unfolding openings
+openings-run = tt
+
+submitsRefused : Bool
+unfolding unfolded
+submitsRefused =
+    let fresh4 = opened 4 .unit in
+    let store = opened 4 .store in
+    let out = room 14709 in
+    refuses (submit toy (keys 4) zeros store (layout 7) (sign 0 7) out) 4
+    && refuses (submit toy (keys 3) fresh4 (room 11615) (layout 7) (sign 0 7) out) 5
+    && refuses (submit toy (keys 4) fresh4 (room 11615) (layout 7) (sign 0 7) (room 14708)) 6
+    && refuses (submit toy (keys 4) fresh4 store (layout 7) (sign 0 7) (room 14708)) 7
+    && refuses (submit toy (keys 4) (submits (opened 4) 7 .unit) store [] [] out) 8
+    && refuses (submit toy (keys 4) fresh4 store (replicate 31 7) (sign 0 7) out) 9
+    && refuses (submit toy (keys 4) fresh4 store (layout 7) (0 ∷ sign 0 7) out) 9
+    && refuses (submit toy (keys 4) fresh4 store (layout 7) (sign 1 7) out) 14
+
+submitsRefused-run : T submitsRefused
+unfolding submitsRefused
+submitsRefused-run = tt
+
+stepsRefused : Bool
+unfolding unfolded
+stepsRefused =
+    let r = submits (opened 4) 7 in
+    refuses (given r []) 9
+    && refuses (given r (0x01 ∷ [])) 9
+    && refuses (given r (0 ∷ render (Notice 5 3 (layout 9)))) 9
+    && refuses (given r (0x04 ∷ replicate 35 0)) 9
+    && refuses (hears r evidenceBoth) 9
+    && refuses (hears r (Full 5 1 (layout 9) (entryBy 9 1 ∷ entryBy 9 2 ∷ []))) 9
+    && refuses (given r (0x03 ∷ 0 ∷ 5 ∷ 1 ∷ layout 9 ++ 3 ∷ replicate 4362 0)) 9
+    && refuses (hears r (Notice 6 4 (layout 9))) 10
+    && refuses (hears r (Notice 5 4 (layout 9))) 11
+    && refuses (hears r (Full 5 4 (layout 9) (entryBy 9 1 ∷ entryBy 9 2 ∷ entryBy 9 3 ∷ []))) 11
+    && refuses (hears r (fullBy 9 3 2 4)) 11
+    && refuses (hears r (fullBy 9 1 3 2)) 12
+    && refuses (hears r (fullBy 9 1 2 2)) 12
+    && refuses (hears (opened 4) (Submit 5 1 (layout 7) (sign 2 7))) 13
+    && refuses (hears (opened 4) (submitBy 4 7)) 11
+    && refuses (hears r (Submit 5 1 (layout 9) (sign 1 7))) 14
+    && refuses (hears r (Full 5 1 (layout 9) (entryBy 9 1 ∷ entryBy 9 2 ∷ entryBy 7 3 ∷ []))) 14
+
+stepsRefused-run : T stepsRefused
+unfolding stepsRefused
+stepsRefused-run = tt
+
+evidenceRefused : Bool
+unfolding unfolded
+evidenceRefused =
+    let check : Message → ℕ = λ m. evidenceCheck toy 4 5 (keys 4) (render m) .number in
+    let seven = render (fullBy 7 0 1 2) in
+    let nine = render (fullBy 9 1 2 3) in
+    let bad = render (Full 5 1 (layout 9) (entryBy 9 1 ∷ entryBy 9 2 ∷ entryBy 7 3 ∷ [])) in
+    let twice : Pair → Message = λ p. Evidence 5 (layout 7) (layout 9) (p ∷ p ∷ []) in
+    let made : List ℕ → List ℕ → ℕ = λ a b. making toy 4 5 (keys 4) a b (room 8786) .refusal in
+    eqb (evidenceCheck toy 33 1024 [] [] .number) 1
+    && eqb (evidenceCheck toy 4 1024 [] [] .number) 3
+    && eqb (evidenceCheck toy 4 5 (keys 3) [] .number) 5
+    && eqb (evidenceCheck toy 4 5 (keys 4) [] .number) 9
+    && eqb (check (Evidence 5 (layout 7) (layout 9) [])) 9
+    && eqb (check (fullBy 7 0 1 2)) 9
+    && eqb (check (Evidence 6 (layout 7) (layout 9) (pairBy 1 ∷ []))) 10
+    && eqb (check (Evidence 5 (layout 7) (layout 9) (pairBy 4 ∷ []))) 11
+    && eqb (check (twice (pairBy 1))) 12
+    && eqb (check (Evidence 5 (layout 9) (layout 7) (pairBy 1 ∷ []))) 14
+    && eqb (check (Evidence 5 (layout 9) (layout 7) (record { seat = 1; lower = sign 1 9; higher = sign 1 7 } ∷ []))) 15
+    && eqb (check (Evidence 5 (layout 7) (layout 7) (record { seat = 1; lower = sign 1 7; higher = sign 1 7 } ∷ []))) 15
+    && eqb (making toy 4 5 (keys 4) [] [] (room 8785) .refusal) 7
+    && eqb (made bad []) 14
+    && eqb (made seven []) 9
+    && eqb (made seven bad) 14
+    && eqb (made seven seven) 15
+
+evidenceRefused-run : T evidenceRefused
+unfolding evidenceRefused
+evidenceRefused-run = tt

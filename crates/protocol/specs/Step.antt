@@ -1,0 +1,150 @@
+-- What a submit and a step do once nothing is refused (document 01, "Steps").
+-- Assumes nothing.
+use Prim.Native.Nat.{ℕ}
+use mathlib.Core.Bool.{Bool, true, false, cond, not, _&&_}
+use mathlib.Core.List.{List, [], _∷_, _++_}
+use lib.Dec.{eqb}
+use Rattle.quorum.specs.Quorum.{k, has, size, shared, with, seats}
+use Rattle.protocol.specs.Layout.{collectedBank, firstBank}
+use Rattle.octets.specs.Strings.{same}
+use Rattle.protocol.specs.Message.{Message, Submit, Notice, Full, Evidence, Garbled}
+use Rattle.protocol.specs.Certificate.{Certificate, keep, keepEach, ownCertificate, firstCertificate, certificateIn, fullOf, evidenceOf}
+use Rattle.protocol.specs.Record.{withOwn, withConfirmed, withNotices, withFirst, withSent, withGuilty, noneHeard, oneHeard, holds}
+use Rattle.protocol.specs.declared.Notices.{Notices}
+use Rattle.protocol.specs.declared.Record.{Record}
+
+-- what a call has come to: the record, the store, and the messages written so far
+pub record State : Type 0 where
+  pub unit : Record
+  pub store : List ℕ
+  pub written : List Message
+
+abbrev pub withUnit : State → Record → State
+withUnit s r = record { unit = r; store = s .store; written = s .written }
+
+-- "Messages go to `out` one after another"
+unfoldable pub write : Message → State → State
+write m s = record { unit = s .unit; store = s .store; written = s .written ++ m ∷ [] }
+
+-- ---- collect
+
+-- a seat's signature over the own value is collected
+unfoldable pub collect : ℕ → List ℕ → State → State
+collect seat signature s = record {
+  unit = withOwn (s .unit) (record {
+    submitted = s .unit .own .submitted;
+    value = s .unit .own .value;
+    collected = with seat (s .unit .own .collected);
+  });
+  store = keep (s .unit .n) collectedBank seat signature (s .store);
+  written = s .written;
+}
+
+-- "the value kept"
+unfoldable pub keepValue : List ℕ → State → State
+keepValue value s = withUnit s (withOwn (s .unit) (record { submitted = true; value = value; collected = s .unit .own .collected }))
+
+-- "Submit: the own signature is checked like any other, the value kept, the signature collected, SUBMIT written."
+unfoldable pub submitOwn : List ℕ → List ℕ → State → State
+submitOwn value signature s =
+    write (Submit (s .unit .round) (s .unit .seat) value signature) (collect (s .unit .seat) signature (keepValue value s))
+
+-- "SUBMIT heard: if not confirmed, the value is the own one and the seat is new, its signature is collected. Otherwise
+-- nothing changes."
+unfoldable pub isWanted : ℕ → List ℕ → Record → Bool
+isWanted seat value r = not (r .confirmed) && same value (r .own .value) && not (has seat (r .own .collected))
+
+unfoldable pub hearSubmit : ℕ → List ℕ → List ℕ → State → State
+hearSubmit seat value signature s = cond (isWanted seat value (s .unit)) (collect seat signature s) s
+
+-- ---- hear
+
+-- "notices heard (none, one value, or two different, the first kept)", and now this value
+unfoldable pub noticesWith : List ℕ → Record → Notices
+noticesWith value r =
+    cond (noneHeard r) (record { heard = 1; value = value })
+    (cond (oneHeard r && not (same value (r .notices .value))) (record { heard = 2; value = r .notices .value })
+    (r .notices))
+
+-- "NOTICE heard: it updates notices heard."
+unfoldable pub hear : List ℕ → State → State
+hear value s = withUnit s (withNotices (s .unit) (noticesWith value (s .unit)))
+
+-- ---- reply
+
+-- "a value heard that isn't its own"
+unfoldable pub otherHeard : Record → Bool
+otherHeard r = cond (noneHeard r) false (cond (oneHeard r) (not (same (r .notices .value) (r .own .value))) true)
+
+-- "Confirmed, FULL not sent, and a value heard that isn't its own"
+unfoldable pub owesFull : Record → Bool
+owesFull r = r .confirmed && not (r .sent) && otherHeard r
+
+-- "FULL is written from its own collected signatures."
+unfoldable pub sendFull : State → State
+sendFull s =
+    write (fullOf (s .unit .n) (s .unit .round) (s .unit .seat) (ownCertificate (s .unit) (s .store))) (withUnit s (withSent (s .unit)))
+
+-- looked at in every submit and step
+unfoldable pub reply : State → State
+reply s = cond (owesFull (s .unit)) (sendFull s) s
+
+-- ---- hold or blame
+
+-- "The first is held."
+unfoldable pub hold : Certificate → State → State
+hold c s = record {
+  unit = withFirst (s .unit) (record { value = c .value; seats = c .seats });
+  store = keepEach (s .unit .n) firstBank (c .signature) (seats (s .unit .n) (c .seats)) (s .store);
+  written = s .written;
+}
+
+-- "makes the shared seats guilty and EVIDENCE is written"
+unfoldable pub blame : Certificate → State → State
+blame c s =
+    write (evidenceOf (s .unit .n) (s .unit .round) (firstCertificate (s .unit) (s .store)) c)
+    (withUnit s (withGuilty (s .unit) (shared (s .unit .first .seats) (c .seats))))
+
+-- "One with another value, while guilty seats are empty"
+unfoldable pub blames : Certificate → Record → Bool
+blames c r = not (same (c .value) (r .first .value)) && eqb (r .guilty) 0
+
+-- "The first is held. One with another value, while guilty seats are empty, makes the shared seats guilty and EVIDENCE is
+-- written. Otherwise nothing more changes."
+unfoldable pub holdOrBlame : Certificate → State → State
+holdOrBlame c s = cond (holds (s .unit)) (cond (blames c (s .unit)) (blame c s) s) (hold c s)
+
+-- "FULL heard: it counts as a notice for its value", and it is held or blamed. The reply comes in between, since
+-- messages go to `out` "in the order SUBMIT, NOTICE, FULL, EVIDENCE": it looks at nothing that holding or blaming changes.
+unfoldable pub hearCertificate : Certificate → State → State
+hearCertificate c s = holdOrBlame c (reply (hear (c .value) s))
+
+-- ---- confirm
+
+-- "k seats collected", and not yet confirmed
+unfoldable pub isComplete : Record → Bool
+isComplete r = not (r .confirmed) && eqb (size (r .own .collected)) (k (r .n))
+
+-- "the unit confirms, writes NOTICE"
+unfoldable pub confirm : State → State
+confirm s = write (Notice (s .unit .round) (s .unit .seat) (s .unit .own .value)) (withUnit s (withConfirmed (s .unit)))
+
+-- "and treats its own certificate like one heard"
+unfoldable pub hearOwn : State → State
+hearOwn s = hearCertificate (ownCertificate (s .unit) (s .store)) s
+
+-- "k seats collected: the unit confirms, writes NOTICE, and treats its own certificate like one heard."
+unfoldable pub confirmIfComplete : State → State
+confirmIfComplete s = cond (isComplete (s .unit)) (hearOwn (confirm s)) (reply s)
+
+-- ---- the two calls
+
+unfoldable pub submitted : List ℕ → List ℕ → State → State
+submitted value signature s = confirmIfComplete (submitOwn value signature s)
+
+unfoldable pub stepped : Message → State → State
+stepped (Submit round seat value signature) s = confirmIfComplete (hearSubmit seat value signature s)
+stepped (Notice round seat value) s = reply (hear value s)
+stepped (Full round sender value entries) s = hearCertificate (certificateIn (Full round sender value entries)) s
+stepped (Evidence round lower higher entries) s = s
+stepped Garbled s = s
