@@ -1,2 +1,3 @@
--- What the probes answer.
+-- What the probes answer, and the laws of their returns.
 pub mod Probes
+pub mod Laws

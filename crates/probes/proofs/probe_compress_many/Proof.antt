@@ -1,3 +1,5 @@
+use denote.Ref.{now}
+use Rattle.probes.specs.Laws.{compress-short, state-garbled, block-garbled, compress-fits}
 use borrow.Author.Needs.{needs}
 use Rattle.probes.proofs.probe_compress_many.Statement.{statement}
 use Rattle.probes.proofs.probe_compress_many.Tie as tie
@@ -12,15 +14,21 @@ use Rattle.sha256.proofs.hash.digest.Reads as digest-reads
 
 -- src/lib.rt:88:9
 returns : tie.Need-returns
-returns c = ?
+returns c =
+    let args = c .before .before .before .before .args in
+    compress-short (args .count) (now (args .state)) (now (args .block)) (now (args .out)) (c .if1 .taken)
 
 -- src/lib.rt:91:9
 returns-2 : tie.Need-returns-2
-returns-2 c = ?
+returns-2 c =
+    let args = c .before .before .before .before .before .args in
+    state-garbled (args .count) (now (args .state)) (now (args .block)) (now (args .out)) (c .before .if1 .left) (c .if2 .taken)
 
 -- src/lib.rt:94:9
 returns-3 : tie.Need-returns-3
-returns-3 c = ?
+returns-3 c =
+    let args = c .before .before .before .before .before .before .args in
+    block-garbled (args .count) (now (args .state)) (now (args .block)) (now (args .out)) (c .before .before .if1 .left) (c .before .if2 .left) (c .if3 .taken)
 
 -- src/lib.rt:96:13
 round-constants-requires : tie.Need-round-constants-requires
@@ -56,7 +64,15 @@ same-length c = search needs
 
 -- src/lib.rt:82:1
 returns-4 : tie.Need-returns-4
-returns-4 c = ?
+returns-4 c =
+    let digesting = c .before .before .before .before .before in
+    let turning = digesting .before in
+    let blocks = turning .before .before in
+    let tests = blocks .before .before .before in
+    let args = tests .before .before .before .before .before .before .args in
+    compress-fits (args .count) (now (args .state)) (now (args .block)) (now (args .out)) (blocks .before .eight-words .result) (blocks .block-words .result)
+    (turning .compress-times .result) (digesting .digest .result) (c .before .before .copy .last .0) (tests .before .before .if1 .left) (tests .before .if2 .left) (tests .if3 .left)
+    (blocks .before .eight-words .ensures) (blocks .block-words .ensures) (turning .compress-times .ensures) (digesting .digest .ensures) (c .before .before .copy .ensures)
 
 pub probe-compress-many-spec : {M : Type 1} → statement M
 probe-compress-many-spec =

@@ -1,3 +1,5 @@
+use denote.Ref.{now}
+use Rattle.probes.specs.Laws.{digest-short, digest-fits}
 use borrow.Author.Needs.{needs}
 use Rattle.probes.proofs.probe_sha256.Statement.{statement}
 use Rattle.probes.proofs.probe_sha256.Tie as tie
@@ -9,7 +11,9 @@ use Rattle.sha256.proofs.hash.sha256.Reads as sha256-reads
 
 -- src/lib.rt:43:9
 returns : tie.Need-returns
-returns c = ?
+returns c =
+    let args = c .before .before .before .args in
+    digest-short (now (args .message)) (now (args .out)) (c .if1 .taken)
 
 -- src/lib.rt:45:13
 round-constants-requires : tie.Need-round-constants-requires
@@ -33,7 +37,11 @@ same-length c = search needs
 
 -- src/lib.rt:37:1
 returns-2 : tie.Need-returns-2
-returns-2 c = ?
+returns-2 c =
+    let digesting = c .before .before .before .before .before in
+    let tested = digesting .before .before .before in
+    let args = tested .before .before .before .args in
+    digest-fits (now (args .message)) (now (args .out)) (digesting .sha256 .result) (c .before .before .copy .last .0) (tested .if1 .left) (digesting .sha256 .ensures) (c .before .before .copy .ensures)
 
 pub probe-sha256-spec : {M : Type 1} → statement M
 probe-sha256-spec =
