@@ -2,6 +2,8 @@
 
 pub mod digests;
 pub mod hex;
+pub mod keys;
 pub mod parallel;
 pub mod reference;
 pub mod rng;
+pub mod vectors;
