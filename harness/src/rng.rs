@@ -1,18 +1,21 @@
 //! A deterministic generator (splitmix64), so that a run can be repeated from its printed seed.
 
-#[derive(Clone)]
+use std::sync::OnceLock;
+use std::time::{SystemTime, UNIX_EPOCH};
+
 pub struct Rng(u64);
 
 /// The run's seed: ZOLBINE_SEED as a number, a fresh one where it is `clock`, else always the same.
 pub fn seed() -> u64 {
-    match std::env::var("ZOLBINE_SEED").as_deref() {
+    static SEED: OnceLock<u64> = OnceLock::new();
+    *SEED.get_or_init(|| match std::env::var("ZOLBINE_SEED").as_deref() {
         Err(_) => 1,
         Ok("clock") => {
-            let now = std::time::SystemTime::now().duration_since(std::time::UNIX_EPOCH);
+            let now = SystemTime::now().duration_since(UNIX_EPOCH);
             now.expect("the clock stands after 1970").as_nanos() as u64
         }
         Ok(number) => number.parse().expect("ZOLBINE_SEED is a decimal number or `clock`"),
-    }
+    })
 }
 
 impl Rng {
