@@ -15,8 +15,11 @@ fn plain_c(source: &Path, out: &Path) {
     println!("cargo:rerun-if-changed={}", source.display());
     println!("cargo:rerun-if-env-changed=CC");
     let compiler = env::var_os("CC").unwrap_or_else(|| "gcc".into());
+    let version = Command::new(&compiler).arg("--version").output().expect("a C compiler: gcc, or CC names another");
+    let version = String::from_utf8_lossy(&version.stdout).lines().next().unwrap_or_default().to_string();
+    println!("cargo:rustc-env=PLAIN_C={version} -O3");
     let object = out.join("plain.o");
-    let mut compile = Command::new(compiler);
+    let mut compile = Command::new(&compiler);
     compile.args(["-std=c11", "-O3", "-fPIE", "-Wall", "-Wextra", "-c"]).arg(source.join("plain.c"));
     run(compile.arg("-o").arg(&object));
     run(Command::new("ar").arg("crs").arg(out.join("libplain.a")).arg(&object));
@@ -43,6 +46,7 @@ fn archive(here: &Path) {
     let file = folder.join(format!("lib{name}.a"));
     assert!(file.exists(), "{} is missing; `rt staticlib {name}` makes it", file.display());
     println!("cargo:rerun-if-changed={}", file.display());
+    println!("cargo:rustc-env=ARCHIVE={}", file.display());
     println!("cargo:rustc-link-search=native={}", folder.display());
     println!("cargo:rustc-link-lib=static={name}");
 }

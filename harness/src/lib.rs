@@ -1,6 +1,8 @@
 //! Tests and measurements of the library from outside: a second implementation, foreign vectors, plain C.
 
 pub mod compare;
+pub mod contest;
+pub mod cpu_time;
 pub mod digests;
 pub mod guarded;
 pub mod hex;

@@ -34,3 +34,19 @@ mod probes {
 
 #[cfg(any(feature = "zolbine", feature = "probes"))]
 pub use calls::Library;
+
+/// The proved calls where an archive is linked.
+pub fn calls() -> Option<&'static dyn crate::subject::Calls> {
+    #[cfg(any(feature = "zolbine", feature = "probes"))]
+    return Some(&Library);
+    #[cfg(not(any(feature = "zolbine", feature = "probes")))]
+    None
+}
+
+/// The proved layers below where the archive with the probes is linked.
+pub fn hashes() -> Option<&'static dyn crate::subject::Hashes> {
+    #[cfg(feature = "probes")]
+    return Some(&Library);
+    #[cfg(not(feature = "probes"))]
+    None
+}
