@@ -3,12 +3,12 @@
 use crate::cpu_time::nanoseconds;
 
 /// Work that a subject of kind `S` does.
-pub struct Contest<'a, S: ?Sized> {
+pub struct Contest<S: ?Sized> {
     pub name: String,
     /// Operations in one go of the work.
     pub operations: usize,
     pub repetitions: usize,
-    pub work: Box<dyn Fn(&S) + 'a>,
+    pub work: Box<dyn Fn(&S)>,
 }
 
 /// Medians over the repetitions, in nanoseconds for one operation.
@@ -23,7 +23,7 @@ pub struct Proved {
     pub ratio: [f64; 3],
 }
 
-impl<S: ?Sized> Contest<'_, S> {
+impl<S: ?Sized> Contest<S> {
     fn time(&self, subject: &S) -> f64 {
         let start = nanoseconds();
         (self.work)(subject);

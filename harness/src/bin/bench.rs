@@ -33,16 +33,16 @@ fn hold<S: ?Sized>(word: &str, contest: &Contest<S>, proved: Option<&S>, plain: 
     println!("{:<32} {ratio:>7} {quartiles:>14} {nanoseconds:>15} {:>15.1}", contest.name, times.plain);
 }
 
-fn contest<'a, S: ?Sized>(
+fn contest<S: ?Sized>(
     name: impl Into<String>,
     operations: usize,
     repetitions: usize,
-    work: impl Fn(&S) + 'a,
-) -> Contest<'a, S> {
+    work: impl Fn(&S) + 'static,
+) -> Contest<S> {
     Contest { name: name.into(), operations, repetitions, work: Box::new(work) }
 }
 
-fn hash_contests() -> Vec<Contest<'static, dyn Hashes>> {
+fn hash_contests() -> Vec<Contest<dyn Hashes>> {
     let mut rng = Rng::new(seed(), "bench hashes");
     let (state, block) = (rng.bytes(32), rng.bytes(64));
     let mut contests = vec![contest::<dyn Hashes>("compression", 10_000, 301, move |subject| {
@@ -59,7 +59,7 @@ fn hash_contests() -> Vec<Contest<'static, dyn Hashes>> {
     contests
 }
 
-fn call_contests() -> Vec<Contest<'static, dyn Calls>> {
+fn call_contests() -> Vec<Contest<dyn Calls>> {
     let mut rng = Rng::new(seed(), "bench calls");
     let mut contests = Vec::new();
     for types in Types::all() {

@@ -68,7 +68,7 @@ pub fn keys() -> &'static [Key] {
 /// Message lengths around every edge of the padding (54 bytes go before the message), and the longest.
 fn message_lengths(rng: &mut Rng) -> Vec<usize> {
     let mut lengths: Vec<usize> = (0..=140).collect();
-    for blocks in [4, 16, 17, 100, 1023] {
+    for blocks in [4, 16, 17, 100, 1024] {
         lengths.extend(64 * blocks - 54 - 10..=64 * blocks - 54 + 1);
     }
     lengths.extend((0..10).map(|_| rng.below(65_536)));
