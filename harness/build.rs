@@ -1,0 +1,52 @@
+//! Compiles plain C with the system's compiler and finds the archive of the proved code that a feature asks for.
+
+use std::env;
+use std::path::{Path, PathBuf};
+use std::process::Command;
+
+fn main() {
+    let here = PathBuf::from(env::var_os("CARGO_MANIFEST_DIR").expect("set by cargo"));
+    let out = PathBuf::from(env::var_os("OUT_DIR").expect("set by cargo"));
+    plain_c(&here.join("c"), &out);
+    archive(&here);
+}
+
+fn plain_c(source: &Path, out: &Path) {
+    println!("cargo:rerun-if-changed={}", source.display());
+    println!("cargo:rerun-if-env-changed=CC");
+    let compiler = env::var_os("CC").unwrap_or_else(|| "gcc".into());
+    let version = Command::new(&compiler).arg("--version").output().expect("a C compiler: gcc, or CC names another");
+    let version = String::from_utf8_lossy(&version.stdout).lines().next().unwrap_or_default().to_string();
+    println!("cargo:rustc-env=PLAIN_C={version} -O3");
+    let object = out.join("plain.o");
+    let mut compile = Command::new(&compiler);
+    compile.args(["-std=c11", "-O3", "-fPIE", "-Wall", "-Wextra", "-c"]).arg(source.join("plain.c"));
+    run(compile.arg("-o").arg(&object));
+    run(Command::new("ar").arg("crs").arg(out.join("libplain.a")).arg(&object));
+    println!("cargo:rustc-link-search=native={}", out.display());
+    println!("cargo:rustc-link-lib=static=plain");
+}
+
+fn run(command: &mut Command) {
+    let status = command.status().unwrap_or_else(|error| panic!("{command:?}: {error}"));
+    assert!(status.success(), "{command:?}: {status}");
+}
+
+/// The archives share functions, so that only one of them can be linked. ZOLBINE_ARCHIVES names another folder.
+fn archive(here: &Path) {
+    println!("cargo:rerun-if-env-changed=ZOLBINE_ARCHIVES");
+    let asked = |feature: &str| env::var_os(format!("CARGO_FEATURE_{feature}")).is_some();
+    let name = match (asked("ZOLBINE"), asked("PROBES")) {
+        (false, false) => return,
+        (true, false) => "zolbine",
+        (false, true) => "probes",
+        (true, true) => panic!("the features zolbine and probes exclude each other"),
+    };
+    let folder = env::var_os("ZOLBINE_ARCHIVES").map_or(here.join("../target/staticlib"), PathBuf::from);
+    let file = folder.join(format!("lib{name}.a"));
+    assert!(file.exists(), "{} is missing; `rt staticlib {name}` makes it", file.display());
+    println!("cargo:rerun-if-changed={}", file.display());
+    println!("cargo:rustc-env=ARCHIVE={}", file.display());
+    println!("cargo:rustc-link-search=native={}", folder.display());
+    println!("cargo:rustc-link-lib=static={name}");
+}

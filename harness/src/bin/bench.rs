@@ -1,0 +1,89 @@
+//! The proved code beside plain C. The verdict is the ratio; nanoseconds are told for information.
+//! `bench WORD` runs only the contests whose names contain the word.
+
+use harness::contest::Contest;
+use harness::library;
+use harness::plain::Plain;
+use harness::reference::calls::{Written, SIGNATURE, TREE};
+use harness::reference::lms::{Types, IDENTIFIER, N, PUBLIC_KEY};
+use harness::rng::{seed, Rng};
+use harness::subject::{Calls, Hashes};
+use harness::vectors;
+
+fn main() {
+    let word = std::env::args().nth(1).unwrap_or_default();
+    println!("plain C: {}", env!("PLAIN_C"));
+    println!("{:<32} {:>7} {:>14} {:>15} {:>15}", "proved : plain", "ratio", "quartiles", "proved, ns", "plain, ns");
+    hash_contests().iter().for_each(|contest| hold(&word, contest, library::hashes(), &Plain));
+    call_contests().iter().for_each(|contest| hold(&word, contest, library::calls(), &Plain));
+}
+
+fn hold<S: ?Sized>(word: &str, contest: &Contest<S>, proved: Option<&S>, plain: &S) {
+    if !contest.name.contains(word) {
+        return;
+    }
+    let times = contest.run(proved, plain);
+    let [ratio, quartiles, nanoseconds] = match times.proved {
+        Some(proved) => {
+            let [lower, median, upper] = proved.ratio;
+            [format!("{median:.2}"), format!("{lower:.2} to {upper:.2}"), format!("{:.1}", proved.time)]
+        }
+        None => ["-", "-", "not linked"].map(str::to_string),
+    };
+    println!("{:<32} {ratio:>7} {quartiles:>14} {nanoseconds:>15} {:>15.1}", contest.name, times.plain);
+}
+
+fn contest<S: ?Sized>(
+    name: impl Into<String>,
+    operations: usize,
+    repetitions: usize,
+    work: impl Fn(&S) + 'static,
+) -> Contest<S> {
+    Contest { name: name.into(), operations, repetitions, work: Box::new(work) }
+}
+
+fn hash_contests() -> Vec<Contest<dyn Hashes>> {
+    let mut rng = Rng::new(seed(), "bench hashes");
+    let (state, block) = (rng.bytes(32), rng.bytes(64));
+    let mut contests = vec![contest::<dyn Hashes>("compression", 10_000, 301, move |subject| {
+        assert_eq!(subject.compress_many(10_000, &state, &block, &mut [0; 32]), 0);
+    })];
+    for (length, calls) in [(55, 2000), (1024, 200), (65_535, 4)] {
+        let message = rng.bytes(length);
+        contests.push(contest::<dyn Hashes>(format!("sha256 of {length} bytes"), calls, 301, move |subject| {
+            for _ in 0..calls {
+                assert_eq!(subject.sha256(&message, &mut [0; 32]), 0);
+            }
+        }));
+    }
+    contests
+}
+
+fn call_contests() -> Vec<Contest<dyn Calls>> {
+    let mut rng = Rng::new(seed(), "bench calls");
+    let mut contests = Vec::new();
+    for types in Types::all() {
+        let of_types = |record: &vectors::Record| record.made.as_ref().is_some_and(|made| made.types == types);
+        let records: Vec<_> = vectors::lines("bc-vectors.txt").into_iter().filter(of_types).collect();
+        let name = format!("check, types {} and {}", types.lms, types.ots);
+        contests.push(contest::<dyn Calls>(name, records.len(), 301, move |subject| {
+            for record in &records {
+                assert_eq!(subject.check_signature(&record.key, &record.message, &record.signature), 0);
+            }
+        }));
+    }
+    let (seed, identifier, randomizer, tree) = (rng.bytes(N), rng.bytes(IDENTIFIER), rng.bytes(N), rng.bytes(TREE));
+    let messages: Vec<Vec<u8>> = (0..8).map(|_| rng.bytes(36)).collect();
+    let (key_seed, key_identifier) = (seed.clone(), identifier.clone());
+    contests.push(contest::<dyn Calls>("sign", messages.len(), 301, move |subject| {
+        for (leaf, message) in (0..).zip(&messages) {
+            let answer = subject.sign(leaf, &seed, &identifier, &randomizer, &tree, message, &mut [0; SIGNATURE]);
+            assert_eq!(answer, Written { number: 0, written: SIGNATURE as u32 });
+        }
+    }));
+    contests.push(contest::<dyn Calls>("make_key", 1, 7, move |subject| {
+        let answer = subject.make_key(&key_seed, &key_identifier, &mut vec![0; TREE], &mut [0; PUBLIC_KEY]);
+        assert_eq!(answer, Written { number: 0, written: PUBLIC_KEY as u32 });
+    }));
+    contests
+}

@@ -1,0 +1,94 @@
+//! The key maker: whole trees and public keys byte by byte, and each refusal alone and with others.
+
+use super::refusals::{spoiled, Spoiler};
+use super::{equal, progress, run};
+use crate::guarded::Guarded;
+use crate::reference::calls::{self, TREE};
+use crate::reference::lms::{IDENTIFIER, N, PUBLIC_KEY};
+use crate::rng::{seed, Rng};
+use crate::subject::Calls;
+
+struct Case {
+    what: String,
+    seed: Vec<u8>,
+    identifier: Vec<u8>,
+    tree: Vec<u8>,
+    out: Vec<u8>,
+    expected: u32,
+}
+
+fn compare(subject: &dyn Calls, case: &Case, rng: &mut Rng) -> Result<(), String> {
+    let mut reference_tree = case.tree.clone();
+    let mut reference_out = case.out.clone();
+    let reference = calls::make_key(&case.seed, &case.identifier, &mut reference_tree, &mut reference_out);
+    let seed = Guarded::new(&case.seed, rng);
+    let identifier = Guarded::new(&case.identifier, rng);
+    let mut tree = Guarded::new(&case.tree, rng);
+    let mut out = Guarded::new(&case.out, rng);
+    let answer = subject.make_key(seed.lent(), identifier.lent(), tree.lent_mut(), out.lent_mut());
+    let told = || {
+        equal("the reference's refusal", reference.number, case.expected)?;
+        equal("the answer", answer, reference)?;
+        seed.expect("seed", &case.seed)?;
+        identifier.expect("identifier", &case.identifier)?;
+        tree.expect("tree", &reference_tree)?;
+        out.expect("out", &reference_out)
+    };
+    told().map_err(|difference| format!("{}: {difference}", case.what))
+}
+
+pub fn battery(subject: &dyn Calls) {
+    let mut rng = Rng::new(seed(), "make_key");
+    let mut cases = vec![
+        right("a random key", &mut rng),
+        Case { out: rng.bytes(PUBLIC_KEY + 100), ..right("a random key, 100 bytes to spare", &mut rng) },
+        Case {
+            seed: vec![0xff; N],
+            identifier: vec![0xff; IDENTIFIER],
+            tree: vec![0xff; TREE],
+            out: vec![0xff; PUBLIC_KEY + 1],
+            ..right("all bytes 255", &mut rng)
+        },
+    ];
+    progress("make_key: 3 whole keys");
+    cases.extend(refusals(&mut rng));
+    run("make_key", &cases, |case, rng| compare(subject, case, rng));
+}
+
+fn right(what: &str, rng: &mut Rng) -> Case {
+    Case {
+        what: what.to_string(),
+        seed: rng.bytes(N),
+        identifier: rng.bytes(IDENTIFIER),
+        tree: rng.bytes(TREE),
+        out: rng.bytes(PUBLIC_KEY),
+        expected: 0,
+    }
+}
+
+fn spoilers() -> Vec<Spoiler<Case>> {
+    let mut spoilers: Vec<Spoiler<Case>> = Vec::new();
+    for length in [0, 1, 31, 32, PUBLIC_KEY - 1] {
+        spoilers.push((7, Box::new(move |case, rng| case.out = rng.bytes(length))));
+    }
+    for length in [0, 1, N - 1, N + 1, 2 * N] {
+        spoilers.push((16, Box::new(move |case, rng| case.seed = rng.bytes(length))));
+    }
+    for length in [0, 1, IDENTIFIER - 1, IDENTIFIER + 1, 2 * IDENTIFIER] {
+        spoilers.push((16, Box::new(move |case, rng| case.identifier = rng.bytes(length))));
+    }
+    for length in [0, N, TREE / 2, TREE - N, TREE - 1, TREE + 1, TREE + N, 2 * TREE] {
+        spoilers.push((16, Box::new(move |case, rng| case.tree = rng.bytes(length))));
+    }
+    spoilers
+}
+
+fn refusals(rng: &mut Rng) -> Vec<Case> {
+    let spoiled = spoiled(&spoilers(), 200, rng, |rng| right("", rng));
+    let named = spoiled.into_iter().map(|(case, numbers)| Case {
+        what: format!("operands of refusals {numbers:?}"),
+        expected: numbers.into_iter().min().unwrap(),
+        ..case
+    });
+    named.collect()
+}

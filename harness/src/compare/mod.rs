@@ -1,0 +1,93 @@
+//! Batteries of cases: each one is given to a subject and to the reference, and every byte that comes out is compared.
+
+pub mod check_signature;
+pub mod hashes;
+pub mod make_key;
+mod refusals;
+pub mod sign;
+
+use std::io::Write;
+use std::sync::OnceLock;
+
+use crate::keys::Key;
+use crate::parallel;
+use crate::reference::lms::Types;
+use crate::rng::{seed, Rng};
+
+/// A line on standard error, also where the test's own output is kept back.
+pub fn progress(line: &str) {
+    writeln!(std::io::stderr(), "{line}").expect("standard error");
+}
+
+/// Runs all cases in parallel and fails with the first differences and the seed.
+fn run<C: Sync>(title: &str, cases: &[C], compare: impl Fn(&C, &mut Rng) -> Result<(), String> + Sync) {
+    let numbered: Vec<(usize, &C)> = cases.iter().enumerate().collect();
+    let results =
+        parallel::map(&numbered, |(number, case)| compare(case, &mut Rng::new(seed(), &format!("{title} {number}"))));
+    let failures: Vec<String> = results.into_iter().filter_map(Result::err).collect();
+    progress(&format!(
+        "{title}: {} of {} cases agree (ZOLBINE_SEED={})",
+        cases.len() - failures.len(),
+        cases.len(),
+        seed()
+    ));
+    let first: Vec<&str> = failures.iter().take(5).map(String::as_str).collect();
+    assert!(
+        failures.is_empty(),
+        "{title}: {} differ with ZOLBINE_SEED={}:\n{}",
+        failures.len(),
+        seed(),
+        first.join("\n")
+    );
+}
+
+fn equal<T: PartialEq + std::fmt::Debug>(name: &str, is: T, expected: T) -> Result<(), String> {
+    if is == expected {
+        Ok(())
+    } else {
+        Err(format!("{name}: {is:?} where {expected:?} is right"))
+    }
+}
+
+/// Keys of every pairing, made once a run.
+pub fn keys() -> &'static [Key] {
+    static KEYS: OnceLock<Vec<Key>> = OnceLock::new();
+    KEYS.get_or_init(|| {
+        let mut rng = Rng::new(seed(), "keys");
+        let mut keys = Vec::new();
+        for types in Types::all() {
+            for _ in 0..if types.h == 5 { 3 } else { 2 } {
+                keys.push(Key::random(types, &mut rng));
+                progress(&format!("the reference made a key of types {} and {}", types.lms, types.ots));
+            }
+        }
+        keys
+    })
+}
+
+/// Message lengths around every edge of the padding (54 bytes go before the message), and the longest.
+fn message_lengths(rng: &mut Rng) -> Vec<usize> {
+    let mut lengths: Vec<usize> = (0..=140).collect();
+    for blocks in [4, 16, 17, 100, 1024] {
+        lengths.extend(64 * blocks - 54 - 10..=64 * blocks - 54 + 1);
+    }
+    lengths.extend((0..10).map(|_| rng.below(65_536)));
+    lengths.extend([65_534, 65_535]);
+    lengths
+}
+
+fn flip_bit(bytes: &mut [u8], rng: &mut Rng) {
+    let at = rng.below(bytes.len());
+    bytes[at] ^= 1 << rng.below(8);
+}
+
+fn change_byte(bytes: &mut [u8], rng: &mut Rng) {
+    let at = rng.below(bytes.len());
+    bytes[at] ^= 1 + rng.below(255) as u8;
+}
+
+/// The bytes cut off or lengthened with random ones.
+fn resized(bytes: &[u8], length: usize, rng: &mut Rng) -> Vec<u8> {
+    let kept = &bytes[..length.min(bytes.len())];
+    [kept, &rng.bytes(length - kept.len())].concat()
+}

@@ -1,0 +1,176 @@
+//! The signer: whole signatures byte by byte, any tree lent, and each refusal alone and with others.
+
+use std::sync::Arc;
+
+use super::refusals::{spoiled, Spoiler};
+use super::{equal, keys, message_lengths, run};
+use crate::guarded::Guarded;
+use crate::keys::Key;
+use crate::reference::calls::{self, engine_types, MAX_LEAF, MAX_MESSAGE, SIGNATURE, TREE};
+use crate::reference::lms::{self, IDENTIFIER, N};
+use crate::rng::{seed, Rng};
+use crate::subject::Calls;
+
+struct Case {
+    what: String,
+    leaf: u32,
+    seed: Vec<u8>,
+    identifier: Vec<u8>,
+    randomizer: Vec<u8>,
+    tree: Arc<Vec<u8>>,
+    message: Vec<u8>,
+    out: Vec<u8>,
+    expected: u32,
+    /// The public key that must accept the signature.
+    public: Option<Vec<u8>>,
+}
+
+fn compare(subject: &dyn Calls, case: &Case, rng: &mut Rng) -> Result<(), String> {
+    let mut reference_out = case.out.clone();
+    let reference = calls::sign(
+        case.leaf,
+        &case.seed,
+        &case.identifier,
+        &case.randomizer,
+        &case.tree,
+        &case.message,
+        &mut reference_out,
+    );
+    let seed = Guarded::new(&case.seed, rng);
+    let identifier = Guarded::new(&case.identifier, rng);
+    let randomizer = Guarded::new(&case.randomizer, rng);
+    let tree = Guarded::new(&case.tree, rng);
+    let message = Guarded::new(&case.message, rng);
+    let mut out = Guarded::new(&case.out, rng);
+    let answer = subject.sign(
+        case.leaf,
+        seed.lent(),
+        identifier.lent(),
+        randomizer.lent(),
+        tree.lent(),
+        message.lent(),
+        out.lent_mut(),
+    );
+    let told = || {
+        equal("the reference's refusal", reference.number, case.expected)?;
+        equal("the answer", answer, reference)?;
+        seed.expect("seed", &case.seed)?;
+        identifier.expect("identifier", &case.identifier)?;
+        randomizer.expect("randomizer", &case.randomizer)?;
+        tree.expect("tree", &case.tree)?;
+        message.expect("message", &case.message)?;
+        out.expect("out", &reference_out)?;
+        match &case.public {
+            Some(key) => equal("accepted", lms::verify(key, &case.message, &out.lent()[..SIGNATURE]), true),
+            None => Ok(()),
+        }
+    };
+    told().map_err(|difference| format!("{}: {difference}", case.what))
+}
+
+pub fn battery(subject: &dyn Calls) {
+    let mut rng = Rng::new(seed(), "sign");
+    let keys: Vec<&Key> = keys().iter().filter(|key| key.types == engine_types()).collect();
+    let mut cases = honest(&keys, &mut rng);
+    cases.extend(any_tree(&mut rng));
+    cases.extend(refusals(&mut rng));
+    run("sign", &cases, |case, rng| compare(subject, case, rng));
+}
+
+/// What a key and its tree sign is accepted.
+fn honest(keys: &[&Key], rng: &mut Rng) -> Vec<Case> {
+    let trees: Vec<Arc<Vec<u8>>> = keys.iter().map(|key| Arc::new(key.lent_tree(&rng.bytes(N)))).collect();
+    let mut cases = Vec::new();
+    for (number, length) in message_lengths(rng).into_iter().enumerate() {
+        let which = number % keys.len();
+        let leaf = match number % 10 {
+            place @ 0..=4 => [0, 1, 511, 512, 1023][place],
+            _ => rng.below(1024) as u32,
+        };
+        let spare = *rng.pick(&[0, 0, 1, 100]);
+        cases.push(Case {
+            what: format!("leaf {leaf}, message of {length} bytes, {spare} bytes to spare"),
+            leaf,
+            seed: keys[which].seed.clone(),
+            identifier: keys[which].identifier.clone(),
+            randomizer: rng.bytes(N),
+            tree: trees[which].clone(),
+            message: rng.bytes(length),
+            out: rng.bytes(SIGNATURE + spare),
+            expected: 0,
+            public: Some(keys[which].public.clone()),
+        });
+    }
+    cases
+}
+
+fn any_operands(what: impl Into<String>, tree: &Arc<Vec<u8>>, rng: &mut Rng) -> Case {
+    let length = rng.below(200);
+    Case {
+        what: what.into(),
+        leaf: rng.below(1024) as u32,
+        seed: rng.bytes(N),
+        identifier: rng.bytes(IDENTIFIER),
+        randomizer: rng.bytes(N),
+        tree: tree.clone(),
+        message: rng.bytes(length),
+        out: rng.bytes(SIGNATURE),
+        expected: 0,
+        public: None,
+    }
+}
+
+/// The tree is read and never compared with the seed.
+fn any_tree(rng: &mut Rng) -> Vec<Case> {
+    let mut cases = Vec::new();
+    for number in 0..20 {
+        let tree = Arc::new(rng.bytes(TREE));
+        cases.extend((0..5).map(|_| any_operands(format!("random tree {number}"), &tree, rng)));
+    }
+    for byte in [0x00, 0xff] {
+        let tree = Arc::new(vec![byte; TREE]);
+        cases.push(Case {
+            seed: vec![byte; N],
+            identifier: vec![byte; IDENTIFIER],
+            randomizer: vec![byte; N],
+            message: vec![byte; 36],
+            ..any_operands(format!("all bytes {byte}"), &tree, rng)
+        });
+    }
+    cases
+}
+
+fn spoilers() -> Vec<Spoiler<Case>> {
+    let mut spoilers: Vec<Spoiler<Case>> = Vec::new();
+    for leaf in [MAX_LEAF + 1, 1025, 2047, 2048, 65_535, 65_536, 65_541, 1 << 31, u32::MAX - 1023, u32::MAX] {
+        spoilers.push((3, Box::new(move |case, _| case.leaf = leaf)));
+    }
+    for length in [0, 1, 31, 56, 1292, SIGNATURE - 1] {
+        spoilers.push((7, Box::new(move |case, rng| case.out = rng.bytes(length))));
+    }
+    for length in [MAX_MESSAGE + 1, MAX_MESSAGE + 2, 100_000] {
+        spoilers.push((9, Box::new(move |case, rng| case.message = rng.bytes(length))));
+    }
+    for length in [0, 1, N - 1, N + 1, 2 * N] {
+        spoilers.push((16, Box::new(move |case, rng| case.seed = rng.bytes(length))));
+        spoilers.push((16, Box::new(move |case, rng| case.randomizer = rng.bytes(length))));
+    }
+    for length in [0, 1, IDENTIFIER - 1, IDENTIFIER + 1, 2 * IDENTIFIER] {
+        spoilers.push((16, Box::new(move |case, rng| case.identifier = rng.bytes(length))));
+    }
+    for length in [0, N, TREE / 2, TREE - N, TREE - 1, TREE + 1, TREE + N, 2 * TREE] {
+        spoilers.push((16, Box::new(move |case, rng| case.tree = Arc::new(rng.bytes(length)))));
+    }
+    spoilers
+}
+
+fn refusals(rng: &mut Rng) -> Vec<Case> {
+    let tree = Arc::new(rng.bytes(TREE));
+    let spoiled = spoiled(&spoilers(), 400, rng, |rng| any_operands("", &tree, rng));
+    let named = spoiled.into_iter().map(|(case, numbers)| Case {
+        what: format!("operands of refusals {numbers:?}"),
+        expected: numbers.into_iter().min().unwrap(),
+        ..case
+    });
+    named.collect()
+}

@@ -1,0 +1,16 @@
+//! Tests and measurements of the library from outside: a second implementation, foreign vectors, plain C.
+
+pub mod compare;
+pub mod contest;
+pub mod cpu_time;
+pub mod digests;
+pub mod guarded;
+pub mod hex;
+pub mod keys;
+pub mod library;
+pub mod parallel;
+pub mod plain;
+pub mod reference;
+pub mod rng;
+pub mod subject;
+pub mod vectors;

@@ -1,0 +1,87 @@
+//! The library's calls over the reference, with the refusals of document 01.
+
+use super::lms::{self, Types, IDENTIFIER, N, PUBLIC_KEY};
+
+pub const MAX_MESSAGE: usize = 65_535;
+pub const MAX_LEAF: u32 = 1023;
+pub const TREE: usize = 65_536;
+pub const SIGNATURE: usize = 1452;
+
+/// What a call that writes hands back: 0 or the refusal's number, and the bytes written.
+#[derive(Clone, Copy, Debug, PartialEq, Eq)]
+#[repr(C)]
+pub struct Written {
+    pub number: u32,
+    pub written: u32,
+}
+
+/// The engine's pairing: height 10 and width 8.
+pub fn engine_types() -> Types {
+    Types::of(6, 4).unwrap()
+}
+
+/// The lowest number whose condition holds, 0 where none does.
+fn lowest(conditions: &[(u32, bool)]) -> u32 {
+    conditions.iter().filter(|(_, holds)| *holds).map(|(number, _)| *number).min().unwrap_or(0)
+}
+
+fn allowed_key(key: &[u8]) -> bool {
+    key.len() == PUBLIC_KEY
+        && [[0, 0, 0, 5], [0, 0, 0, 6]].contains(&[key[0], key[1], key[2], key[3]])
+        && [[0, 0, 0, 3], [0, 0, 0, 4]].contains(&[key[4], key[5], key[6], key[7]])
+}
+
+pub fn check_signature(key: &[u8], message: &[u8], signature: &[u8]) -> u32 {
+    let refusal = lowest(&[(5, !allowed_key(key)), (9, message.len() > MAX_MESSAGE)]);
+    if refusal != 0 {
+        refusal
+    } else if lms::verify(key, message, signature) {
+        0
+    } else {
+        14
+    }
+}
+
+/// Refuses, or copies the bytes that a call writes to the start of `out`.
+fn answer(number: u32, out: &mut [u8], bytes: impl FnOnce() -> Vec<u8>) -> Written {
+    if number != 0 {
+        return Written { number, written: 0 };
+    }
+    let bytes = bytes();
+    out[..bytes.len()].copy_from_slice(&bytes);
+    Written { number: 0, written: bytes.len() as u32 }
+}
+
+pub fn make_key(seed: &[u8], identifier: &[u8], tree: &mut [u8], out: &mut [u8]) -> Written {
+    let wrong_material = seed.len() != N || identifier.len() != IDENTIFIER || tree.len() != TREE;
+    let refusal = lowest(&[(7, out.len() < PUBLIC_KEY), (16, wrong_material)]);
+    answer(refusal, out, || {
+        let nodes = lms::tree(engine_types(), identifier, seed);
+        tree[N..].copy_from_slice(&nodes.concat());
+        lms::public_key(engine_types(), identifier, &nodes[1])
+    })
+}
+
+/// Reads the path from the lent tree, whatever stands there.
+pub fn sign(
+    leaf: u32,
+    seed: &[u8],
+    identifier: &[u8],
+    randomizer: &[u8],
+    tree: &[u8],
+    message: &[u8],
+    out: &mut [u8],
+) -> Written {
+    let wrong_material =
+        seed.len() != N || identifier.len() != IDENTIFIER || randomizer.len() != N || tree.len() != TREE;
+    let refusal = lowest(&[
+        (3, leaf > MAX_LEAF),
+        (7, out.len() < SIGNATURE),
+        (9, message.len() > MAX_MESSAGE),
+        (16, wrong_material),
+    ]);
+    answer(refusal, out, || {
+        let nodes: Vec<Vec<u8>> = tree.chunks(N).map(|node| node.to_vec()).collect();
+        lms::sign(engine_types(), &nodes, leaf, seed, identifier, randomizer, message)
+    })
+}
