@@ -1,4 +1,4 @@
-//! Compiles plain C with the system's compiler and finds the archive of the proved code that a feature asks for.
+//! Compiles plain C with the system's compiler and finds the archives of the proved code that the features ask for.
 
 use std::env;
 use std::path::{Path, PathBuf};
@@ -8,7 +8,7 @@ fn main() {
     let here = PathBuf::from(env::var_os("CARGO_MANIFEST_DIR").expect("set by cargo"));
     let out = PathBuf::from(env::var_os("OUT_DIR").expect("set by cargo"));
     plain_c(&here.join("c"), &out);
-    archive(&here);
+    archives(&here);
 }
 
 fn plain_c(source: &Path, out: &Path) {
@@ -32,21 +32,19 @@ fn run(command: &mut Command) {
     assert!(status.success(), "{command:?}: {status}");
 }
 
-/// The archives share functions, so that only one of them can be linked. ZOLBINE_ARCHIVES names another folder.
-fn archive(here: &Path) {
+/// The archives that the features ask for, from ../target/staticlib; ZOLBINE_ARCHIVES names another folder.
+fn archives(here: &Path) {
     println!("cargo:rerun-if-env-changed=ZOLBINE_ARCHIVES");
-    let asked = |feature: &str| env::var_os(format!("CARGO_FEATURE_{feature}")).is_some();
-    let name = match (asked("ZOLBINE"), asked("PROBES")) {
-        (false, false) => return,
-        (true, false) => "zolbine",
-        (false, true) => "probes",
-        (true, true) => panic!("the features zolbine and probes exclude each other"),
-    };
     let folder = env::var_os("ZOLBINE_ARCHIVES").map_or(here.join("../target/staticlib"), PathBuf::from);
-    let file = folder.join(format!("lib{name}.a"));
-    assert!(file.exists(), "{} is missing; `rt staticlib {name}` makes it", file.display());
-    println!("cargo:rerun-if-changed={}", file.display());
-    println!("cargo:rustc-env=ARCHIVE={}", file.display());
     println!("cargo:rustc-link-search=native={}", folder.display());
-    println!("cargo:rustc-link-lib=static={name}");
+    for name in ["zolbine", "probes"] {
+        if env::var_os(format!("CARGO_FEATURE_{}", name.to_uppercase())).is_none() {
+            continue;
+        }
+        let file = folder.join(format!("lib{name}.a"));
+        assert!(file.exists(), "{} is missing; `rt staticlib {name}` makes it", file.display());
+        println!("cargo:rerun-if-changed={}", file.display());
+        println!("cargo:rustc-env={}_ARCHIVE={}", name.to_uppercase(), file.display());
+        println!("cargo:rustc-link-lib=static={name}");
+    }
 }

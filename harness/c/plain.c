@@ -408,13 +408,6 @@ uint32_t plain_sha256(const uint8_t *message, size_t message_len, uint8_t *out, 
     return 0;
 }
 
-uint32_t plain_compress(const uint8_t *state, size_t state_len,
-                        const uint8_t *block, size_t block_len,
-                        uint8_t *out, size_t out_len)
-{
-    return plain_compress_many(1, state, state_len, block, block_len, out, out_len);
-}
-
 uint32_t plain_compress_many(uint32_t count,
                              const uint8_t *state, size_t state_len,
                              const uint8_t *block, size_t block_len,

@@ -32,10 +32,6 @@ struct plain_written plain_sign(uint32_t leaf,
    A state is eight big-endian words in 32 bytes, a block 64 bytes. */
 uint32_t plain_sha256(const uint8_t *message, size_t message_len, uint8_t *out, size_t out_len);
 
-uint32_t plain_compress(const uint8_t *state, size_t state_len,
-                        const uint8_t *block, size_t block_len,
-                        uint8_t *out, size_t out_len);
-
 /* The same block taken in `count` times, each time into the state that came out before. */
 uint32_t plain_compress_many(uint32_t count,
                              const uint8_t *state, size_t state_len,

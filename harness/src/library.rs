@@ -1,10 +1,11 @@
 //! The proved code: libzolbine.a under the feature `zolbine`, libprobes.a under the feature `probes`.
 
-#[cfg(any(feature = "zolbine", feature = "probes"))]
-mod calls {
-    use crate::subject::c_calls;
+pub struct Library;
 
-    pub struct Library;
+#[cfg(feature = "zolbine")]
+mod calls {
+    use super::Library;
+    use crate::subject::c_calls;
 
     c_calls!(Library: zolbine_check_signature, zolbine_make_key, zolbine_sign);
 }
@@ -14,7 +15,7 @@ mod probes {
     use super::Library;
     use crate::subject::c_hashes;
 
-    c_hashes!(Library: probe_sha256, probe_compress, probe_compress_many);
+    c_hashes!(Library: probe_sha256, probe_compress_many);
 
     extern "C" {
         fn probe_t0(n: u32) -> u32;
@@ -32,14 +33,11 @@ mod probes {
     }
 }
 
-#[cfg(any(feature = "zolbine", feature = "probes"))]
-pub use calls::Library;
-
 /// The proved calls where an archive is linked.
 pub fn calls() -> Option<&'static dyn crate::subject::Calls> {
-    #[cfg(any(feature = "zolbine", feature = "probes"))]
+    #[cfg(feature = "zolbine")]
     return Some(&Library);
-    #[cfg(not(any(feature = "zolbine", feature = "probes")))]
+    #[cfg(not(feature = "zolbine"))]
     None
 }
 

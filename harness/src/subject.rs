@@ -25,8 +25,6 @@ pub trait Calls: Sync {
 pub trait Hashes: Sync {
     fn sha256(&self, message: &[u8], out: &mut [u8]) -> u32;
 
-    fn compress(&self, state: &[u8], block: &[u8], out: &mut [u8]) -> u32;
-
     /// The block taken in `count` times in a row.
     fn compress_many(&self, count: u32, state: &[u8], block: &[u8], out: &mut [u8]) -> u32;
 }
@@ -141,18 +139,9 @@ macro_rules! c_calls {
 
 /// The same for [`Hashes`].
 macro_rules! c_hashes {
-    ($subject:ident: $sha256:ident, $compress:ident, $compress_many:ident) => {
+    ($subject:ident: $sha256:ident, $compress_many:ident) => {
         extern "C" {
             fn $sha256(message: *const u8, message_len: usize, out: *mut u8, out_len: usize) -> u32;
-
-            fn $compress(
-                state: *const u8,
-                state_len: usize,
-                block: *const u8,
-                block_len: usize,
-                out: *mut u8,
-                out_len: usize,
-            ) -> u32;
 
             fn $compress_many(
                 count: u32,
@@ -168,13 +157,6 @@ macro_rules! c_hashes {
         impl $crate::subject::Hashes for $subject {
             fn sha256(&self, message: &[u8], out: &mut [u8]) -> u32 {
                 unsafe { $sha256(message.as_ptr(), message.len(), out.as_mut_ptr(), out.len()) }
-            }
-
-            fn compress(&self, state: &[u8], block: &[u8], out: &mut [u8]) -> u32 {
-                assert_eq!((state.len(), block.len()), (32, 64));
-                unsafe {
-                    $compress(state.as_ptr(), state.len(), block.as_ptr(), block.len(), out.as_mut_ptr(), out.len())
-                }
             }
 
             fn compress_many(&self, count: u32, state: &[u8], block: &[u8], out: &mut [u8]) -> u32 {

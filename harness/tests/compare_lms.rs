@@ -1,5 +1,5 @@
 //! The library's calls against the reference and the vectors.
-#![cfg(any(feature = "zolbine", feature = "probes"))]
+#![cfg(feature = "zolbine")]
 
 use harness::compare::{check_signature, make_key, sign};
 use harness::library::Library;

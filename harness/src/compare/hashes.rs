@@ -75,9 +75,6 @@ pub fn compressions(subject: &dyn Hashes) {
         let expected = sha256::bytes_of(words);
         let lent = [("state", &state, state_bytes.as_slice()), ("block", &block, block_bytes.as_slice())];
         let many = |out: &mut [u8]| subject.compress_many(*count, state.lent(), block.lent(), out);
-        let once = |out: &mut [u8]| subject.compress(state.lent(), block.lent(), out);
-        let told = written(&expected, &lent, rng, many);
-        let told = told.and_then(|()| if *count == 1 { written(&expected, &lent, rng, once) } else { Ok(()) });
-        told.map_err(|difference| format!("{count} times: {difference}"))
+        written(&expected, &lent, rng, many).map_err(|difference| format!("{count} times: {difference}"))
     });
 }
