@@ -7,8 +7,8 @@ use native.Mathlib.Numerals.{add-one, add-two, add-three}
 use native.Mathlib.Omega.{arith}
 use lib.Dec.{lit<}
 use lib.ListN.{replicate, length, take, drop, getD, set, length-append, length-take, length-drop}
-use lib.Seq.{take-all, take-suc, take-suc-set, paste, paste-suc, take-length, take-at, drop-at, sets-eq, drop-drop, length-take-le, getD-take, getD-drop}
-use Rattle.octets.specs.Octets.{part, patch, be, word, wordAt, words, bytes}
+use lib.Seq.{take-all, take-suc, take-suc-set, paste, paste-suc, take-length, take-at, drop-at, sets-eq, drop-drop, getD-take, getD-drop}
+use Rattle.octets.specs.Octets.{part, patch, be, wordAt, words, bytes}
 
 -- ---- loops that fill a list from the front
 

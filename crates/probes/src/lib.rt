@@ -1,6 +1,6 @@
 // The layers below the library's calls, exported for measurement and comparison. It is no part of what ships.
 ghost use mathlib.Core.Path.{_≡_};
-ghost use Prim.Native.Nat.{_+_, _≤_};
+ghost use Prim.Native.Nat.{_≤_};
 ghost use lib.ListN.{length};
 ghost use Rattle.octets.specs.Octets.{patch, words};
 ghost use Rattle.quorum.specs.Quorum as Quorum;

@@ -13,7 +13,6 @@ use borrow.Author.Tests.{leb-true, leb-false, le-leb, lt-leb, eqb-true, eqb-fals
 use lib.Arith.{bin-ind}
 use lib.Bits.{and-step, or-step, or-lt, and-lt}
 use lib.Count.{ones, ones-step, ones-cat, ones-le, ones-ones}
-use lib.Dec.{lit≤}
 use lib.ListN.{length, getD, length-append, List·getD-append}
 use lib.Seq.{getD-at}
 use lib.Pow.{pow-mono, pow-pos, pow-lt, shr-shr, mod-pow-add}
@@ -357,10 +356,11 @@ pub quorums-share : (n a b : ℕ) → 1 ≤ n → a < 2 ^ n → b < 2 ^ n → k 
 unfolding k
 quorums-share n a b h la lb qa qb = omega (arith, t0-is-third n h, size-union-shared a b, size-le n (union a b) (union-lt n a b la lb))
 
--- of just k, and of 22 of 32
-pub k-of-n-share : (n a b : ℕ) → 1 ≤ n → a < 2 ^ n → b < 2 ^ n → size a ≡ k n → size b ≡ k n → t0 n + 1 ≤ size (shared a b)
-k-of-n-share n a b h la lb ea eb = quorums-share n a b h la lb (omega arith) (omega arith)
+-- of just k, in masks of any width w that holds n; and in masks of 32 bits
+pub k-of-n-share : (w n a b : ℕ) → 1 ≤ n → n ≤ w → a < 2 ^ w → b < 2 ^ w → outside n a ≡ false → outside n b ≡ false
+    → size a ≡ k n → size b ≡ k n → t0 n + 1 ≤ size (shared a b)
+k-of-n-share w n a b h _ _ _ oa ob ea eb = quorums-share n a b h (outside-false n a .0 oa) (outside-false n b .0 ob) (omega arith) (omega arith)
 
-pub k-of-32-share : (a b : ℕ) → a < 2 ^ 32 → b < 2 ^ 32 → size a ≡ 22 → size b ≡ 22 → 11 ≤ size (shared a b)
-unfolding t0 k
-k-of-32-share a b = k-of-n-share 32 a b (lit≤ tt)
+pub k-of-n-share-32 : (n a b : ℕ) → 1 ≤ n → n ≤ 32 → a < 2 ^ 32 → b < 2 ^ 32 → outside n a ≡ false → outside n b ≡ false
+    → size a ≡ k n → size b ≡ k n → t0 n + 1 ≤ size (shared a b)
+k-of-n-share-32 = k-of-n-share 32

@@ -1,18 +1,18 @@
 -- What follows from the definitions of the calls: what an accepted signature is like, and what a call leaves, refused
 -- or not.
 use mathlib.Core.Path.{_≡_, refl, _∙_}
-use mathlib.Core.Bool.{Bool, true, false, not, _&&_, _||_, and-false, or-true, or-false}
+use mathlib.Core.Bool.{Bool, true, false, not, _||_, or-true, or-false}
 use mathlib.Core.List.{List, []}
 use Prim.Native.Nat.{ℕ, suc, _+_, _^_, _≤_, _<_}
 use native.Mathlib.Omega.{arith}
 use lib.Dec.{eqb, ltb}
 use lib.ListN.{length, length-append}
-use borrow.Author.Tests.{le-ltb, eq-eqb, eqb-true, not-false}
+use borrow.Author.Tests.{le-ltb, eqb-true, not-false}
 use Rattle.octets.specs.Laws.{length-be, length-part}
 use Rattle.refusal.specs.Refusal.{lowest, unrefused}
 use Rattle.rfc8554.specs.Ots.{chains, otsLength, knownOts, width}
 use Rattle.rfc8554.specs.Tree.{knownLms, height, publicKey, treeFilled, path, lmsSignature}
-use Rattle.rfc8554.specs.Verify.{lmsTypeOf, otsTypeOf, leafOf, signatureLength, keyInvalid, valid}
+use Rattle.rfc8554.specs.Verify.{lmsTypeOf, otsTypeOf, leafOf, signatureLength, keyInvalid}
 use Rattle.rfc8554.specs.Calls.{signatureBytes, treeBytes, messageLimit, keyRefused, checkSignature, makeKeyRefusal, makeKey, signRefusal, sign, signedBytes}
 use Rattle.refusal.specs.Laws.{lowest-zero}
 use Rattle.rfc8554.specs.VerifyLaws.{sibling-within, ancestor-within, length-lmsSignature, valid-fits}

@@ -5,7 +5,6 @@ use mathlib.Core.Bool.{true, false}
 use mathlib.Core.List.{List}
 use Prim.Native.Nat.{ℕ, _≤_}
 use native.Mathlib.Omega.{arith}
-use lib.Dec.{lit<}
 use lib.ListN.{length}
 use borrow.Author.Tests.{le-ltb, eq-eqb}
 use Rattle.refusal.specs.Refusal.{lowest}
@@ -14,7 +13,7 @@ use Rattle.rfc8554.specs.Tree.{knownLms, height, publicKey, treeFilled, 
 use Rattle.rfc8554.specs.Verify.{valid}
 use Rattle.rfc8554.specs.Calls.{messageLimit, keyRefused, checkSignature, makeKey, sign, signedBytes, seatKey, checks}
 use Rattle.rfc8554.specs.TreeLaws.{length-treeFilled, part-treeFilled}
-use Rattle.rfc8554.specs.VerifyLaws.{lmsType-publicKey, otsType-publicKey, leaf-lmsSignature, keyInvalid-publicKey, valid-lmsSignature}
+use Rattle.rfc8554.specs.VerifyLaws.{leaf-lmsSignature, keyInvalid-publicKey, valid-lmsSignature}
 use Rattle.rfc8554.specs.CallLaws.{keyInvalid-keyRefused, length-signedBytes, makeKey-unrefused, sign-unrefused}
 
 module _

@@ -1,7 +1,6 @@
 -- The digest of "abc", by computation from the definitions (FIPS 180-4's own example).
 use mathlib.Core.Path.{_≡_, refl}
-use mathlib.Core.List.{List, [], _∷_}
-use Prim.Native.Nat.{ℕ}
+use mathlib.Core.List.{[], _∷_}
 use Rattle.octets.specs.Octets.{be, part, words, bytes}
 use Rattle.sha256.specs.Constants.{constants, initial}
 use Rattle.sha256.specs.Fips.{add, complement, shr, rotr, ch, maj, bigSigma0, bigSigma1, smallSigma0, smallSigma1, scheduled, schedule, temp1, temp2, round, rounds, sums, compress, padding, pad, hashed, absorbed, sha256}

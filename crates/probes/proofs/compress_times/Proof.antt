@@ -1,3 +1,4 @@
+-- `probes::compress_times` meets its contract.
 use mathlib.Core.Path.{_≡_, refl, ap, _∙_}
 use Prim.Native.Nat.{_+_, _-_, _≤_}
 use native.Mathlib.Numerals.{add-one}
@@ -8,9 +9,6 @@ use Rattle.sha256.specs.Fips.{compress}
 use Rattle.probes.specs.Probes.{repeated}
 use Rattle.probes.proofs.compress_times.Statement.{statement}
 use Rattle.probes.proofs.compress_times.Tie as tie
-use Rattle.probes.proofs.compress_times.Reads as reads
-use Rattle.probes.proofs.compress_times.Lts as lts
-use Rattle.sha256.proofs.block.compress.Reads as compress-reads
 
 abbrev Inv-loop : tie.InvT-loop
 Inv-loop k m count s₀ t₀ s t = (t ≤ count) × (length s ≡ 8) × (s ≡ repeated s₀ m t)
@@ -18,24 +16,19 @@ Inv-loop k m count s₀ t₀ s t = (t ≤ count) × (length s ≡ 8) × (s ≡ r
 abbrev μ-loop : tie.MeasureT-loop
 μ-loop k m count s₀ t₀ s t = count - t
 
--- src/lib.rt:88:5
 loop-holds : tie.Need-loop-holds Inv-loop μ-loop
 unfolding repeated
 loop-holds c = (omega arith, search needs, refl)
 
--- src/lib.rt:89:13
 compress-requires : tie.Need-compress-requires Inv-loop μ-loop
 compress-requires c κs = c .before .before .pre
 
--- src/lib.rt:91:9
 add-t : tie.Need-add-t Inv-loop μ-loop
 add-t c = omega arith
 
--- src/lib.rt:88:5
 loop-less : tie.Need-loop-less Inv-loop μ-loop
 loop-less c = omega arith
 
--- src/lib.rt:88:5
 loop-again : tie.Need-loop-again Inv-loop μ-loop
 unfolding repeated
 loop-again c =
@@ -44,7 +37,6 @@ loop-again c =
     let one-more : repeated (args .h) (args .m) (at-loop .loop .t + 1) ≡ compress (repeated (args .h) (args .m) (at-loop .loop .t)) (args .m) = rw add-one in
     (omega arith, search needs, c .compress .ensures ∙ rw (one-more, at-loop .loop .inv .2))
 
--- src/lib.rt:82:1
 returns : tie.Need-returns Inv-loop μ-loop
 returns c =
     let at-loop = c .before in

@@ -1,3 +1,4 @@
+-- `probes::eight_words` meets its contract.
 use mathlib.Core.Path.{_≡_, refl}
 use Prim.Native.Nat.{_-_, _≤_}
 use native.Mathlib.Omega.{arith}
@@ -7,9 +8,6 @@ use Rattle.octets.specs.Octets.{words}
 use Rattle.octets.specs.Laws.{filled, words-turn}
 use Rattle.probes.proofs.eight_words.Statement.{statement}
 use Rattle.probes.proofs.eight_words.Tie as tie
-use Rattle.probes.proofs.eight_words.Reads as reads
-use Rattle.probes.proofs.eight_words.Lts as lts
-use Rattle.octets.proofs.word_at.Reads as word-at-reads
 
 abbrev Inv-loop : tie.InvT-loop
 Inv-loop s w₀ t₀ w t = (t ≤ 8) × (length w ≡ 8) × (take t w ≡ words t s)
@@ -17,36 +15,28 @@ Inv-loop s w₀ t₀ w t = (t ≤ 8) × (length w ≡ 8) × (take t w ≡ words 
 abbrev μ-loop : tie.MeasureT-loop
 μ-loop s w₀ t₀ w t = 8 - t
 
--- src/lib.rt:58:5
 loop-holds : tie.Need-loop-holds Inv-loop μ-loop
 unfolding words
 loop-holds c = (omega arith, refl, refl)
 
--- src/lib.rt:59:36
 mul-word-at : tie.Need-mul-word-at Inv-loop μ-loop
 mul-word-at c = omega arith
 
--- src/lib.rt:59:13
 word-at-requires : tie.Need-word-at-requires Inv-loop μ-loop
 word-at-requires c κs = omega arith
 
--- src/lib.rt:60:9
 mul-w : tie.Need-mul-w Inv-loop μ-loop
 mul-w c = omega arith
 
--- src/lib.rt:60:9
 array-write-w : tie.Need-array-write-w Inv-loop μ-loop
 array-write-w c = omega arith
 
--- src/lib.rt:61:9
 add-t : tie.Need-add-t Inv-loop μ-loop
 add-t c = omega arith
 
--- src/lib.rt:58:5
 loop-less : tie.Need-loop-less Inv-loop μ-loop
 loop-less c = omega arith
 
--- src/lib.rt:58:5
 loop-again : tie.Need-loop-again Inv-loop μ-loop
 loop-again c =
     let at-loop = c .before .before in
@@ -54,7 +44,6 @@ loop-again c =
     let s = now (at-loop .before .before .args .s) in
     (omega arith, simp length-set (at-loop .loop .inv .1), words-turn (at-loop .loop .w) s t (c .word-at .result) (at-loop .loop .inv .2) (omega arith) (c .word-at .ensures))
 
--- src/lib.rt:52:1
 returns : tie.Need-returns Inv-loop μ-loop
 returns c =
     let at-loop = c .before in

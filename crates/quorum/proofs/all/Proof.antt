@@ -1,7 +1,6 @@
 -- `quorum::all` meets its contract: by a shift below the mask's width, and by the mask of ones at it.
 -- Assumes nothing.
 use mathlib.Core.Path.{_≡_}
-use borrow.Author.Needs.{needs}
 use native.Mathlib.Omega.{arith}
 use lib.Pow.{pow-pos}
 use Rattle.quorum.specs.Quorum.{mostSeats, all}

@@ -1,12 +1,8 @@
+-- `sha256_answers::line` meets its contract.
 use Prim.Native.Nat.{_-_, _≤_}
 use borrow.Author.Needs.{needs}
 use Rattle.sha256_answers.proofs.line.Statement.{statement}
 use Rattle.sha256_answers.proofs.line.Tie as tie
-use Rattle.sha256_answers.proofs.line.Reads as reads
-use Rattle.sha256_answers.proofs.line.Lts as lts
-use Rattle.io.proofs.print_decimal.Reads as print-decimal-reads
-use Rattle.io.proofs.print_hex.Reads as print-hex-reads
-use Rattle.io.proofs.write_all.Reads as write-all-reads
 
 abbrev Inv-loop : tie.InvT-loop
 Inv-loop n how digest i₀ t6 i = i ≤ 32
@@ -14,51 +10,39 @@ Inv-loop n how digest i₀ t6 i = i ≤ 32
 abbrev μ-loop : tie.MeasureT-loop
 μ-loop n how digest i₀ t6 i = 32 - i
 
--- src/main.rt:22:5
 print-decimal-requires : tie.Need-print-decimal-requires Inv-loop μ-loop
 print-decimal-requires c κs = search needs
 
--- src/main.rt:23:5
 write-all-requires : tie.Need-write-all-requires Inv-loop μ-loop
 write-all-requires c κs = search needs
 
--- src/main.rt:25:5
 loop-holds : tie.Need-loop-holds Inv-loop μ-loop
 loop-holds c = search needs
 
--- src/main.rt:26:38
 array-read-print-hex : tie.Need-array-read-print-hex Inv-loop μ-loop
 array-read-print-hex c = search needs
 
--- src/main.rt:26:38
 cast-print-hex : tie.Need-cast-print-hex Inv-loop μ-loop
 cast-print-hex c = search needs
 
--- src/main.rt:26:9
 print-hex-requires : tie.Need-print-hex-requires Inv-loop μ-loop
 print-hex-requires c κs = search needs
 
--- src/main.rt:27:9
 add-i : tie.Need-add-i Inv-loop μ-loop
 add-i c = search needs
 
--- src/main.rt:25:5
 loop-less : tie.Need-loop-less Inv-loop μ-loop
 loop-less c = search needs
 
--- src/main.rt:25:5
 loop-again : tie.Need-loop-again Inv-loop μ-loop
 loop-again c = search needs
 
--- src/main.rt:29:34
 slice-aggregate-write-all : tie.Need-slice-aggregate-write-all Inv-loop μ-loop
 slice-aggregate-write-all c = search needs
 
--- src/main.rt:29:5
 write-all-requires-2 : tie.Need-write-all-requires-2 Inv-loop μ-loop
 write-all-requires-2 c κs = search needs
 
--- src/main.rt:21:1
 returns : tie.Need-returns Inv-loop μ-loop
 returns c = search needs
 

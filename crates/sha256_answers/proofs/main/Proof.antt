@@ -1,3 +1,4 @@
+-- `sha256_answers::main` meets its contract.
 use mathlib.Core.Path.{_≡_}
 use Prim.Native.Nat.{_-_, _≤_}
 use native.Mathlib.Omega.{arith}
@@ -6,13 +7,6 @@ use lib.ListN.{length}
 use Rattle.sha256.specs.Constants.{constants}
 use Rattle.sha256_answers.proofs.main.Statement.{statement}
 use Rattle.sha256_answers.proofs.main.Tie as tie
-use Rattle.sha256_answers.proofs.main.Reads as reads
-use Rattle.sha256_answers.proofs.main.Lts as lts
-use Rattle.io.proofs.large_buffer.Reads as large-buffer-reads
-use Rattle.io.proofs.write_all.Reads as write-all-reads
-use Rattle.sha256.proofs.constants.round_constants.Reads as round-constants-reads
-use Rattle.sha256_answers.proofs.block.Reads as block-reads
-use Rattle.sha256_answers.proofs.whole_and_two.Reads as whole-and-two-reads
 
 abbrev Inv-loop : tie.InvT-loop
 Inv-loop k space₀ n₀ space n = (k ≡ constants) × (length space ≡ 65536) × (n ≤ 260)
@@ -20,79 +14,60 @@ Inv-loop k space₀ n₀ space n = (k ≡ constants) × (length space ≡ 65536)
 abbrev μ-loop : tie.MeasureT-loop
 μ-loop k space₀ n₀ space n = 260 - n
 
--- src/main.rt:69:9
 slice-aggregate-write-all : tie.Need-slice-aggregate-write-all Inv-loop μ-loop
 slice-aggregate-write-all c = search needs
 
--- src/main.rt:67:5
 write-all-requires : tie.Need-write-all-requires Inv-loop μ-loop
 write-all-requires c κs = search needs
 
--- src/main.rt:71:13
 round-constants-requires : tie.Need-round-constants-requires Inv-loop μ-loop
 round-constants-requires c κs = search needs
 
--- src/main.rt:72:21
 large-buffer-requires : tie.Need-large-buffer-requires Inv-loop μ-loop
 large-buffer-requires c κs = search needs
 
--- src/main.rt:74:5
 loop-holds : tie.Need-loop-holds Inv-loop μ-loop
 loop-holds c = (c .before .round-constants .ensures, omega arith, omega arith)
 
--- src/main.rt:75:27
 slice-aggregate-whole-and-two : tie.Need-slice-aggregate-whole-and-two Inv-loop μ-loop
 slice-aggregate-whole-and-two c = search needs
 
--- src/main.rt:75:9
 whole-and-two-requires : tie.Need-whole-and-two-requires Inv-loop μ-loop
 whole-and-two-requires c κs = search needs
 
--- src/main.rt:76:9
 add-n : tie.Need-add-n Inv-loop μ-loop
 add-n c = search needs
 
--- src/main.rt:74:5
 loop-less : tie.Need-loop-less Inv-loop μ-loop
 loop-less c = search needs
 
--- src/main.rt:74:5
 loop-again : tie.Need-loop-again Inv-loop μ-loop
 loop-again c = search needs
 
--- src/main.rt:78:23
 slice-aggregate-whole-and-two-2 : tie.Need-slice-aggregate-whole-and-two-2 Inv-loop μ-loop
 slice-aggregate-whole-and-two-2 c = search needs
 
--- src/main.rt:78:5
 whole-and-two-requires-2 : tie.Need-whole-and-two-requires-2 Inv-loop μ-loop
 whole-and-two-requires-2 c κs = search needs
 
--- src/main.rt:79:23
 slice-aggregate-whole-and-two-3 : tie.Need-slice-aggregate-whole-and-two-3 Inv-loop μ-loop
 slice-aggregate-whole-and-two-3 c = search needs
 
--- src/main.rt:79:5
 whole-and-two-requires-3 : tie.Need-whole-and-two-requires-3 Inv-loop μ-loop
 whole-and-two-requires-3 c κs = search needs
 
--- src/main.rt:80:23
 slice-aggregate-whole-and-two-4 : tie.Need-slice-aggregate-whole-and-two-4 Inv-loop μ-loop
 slice-aggregate-whole-and-two-4 c = search needs
 
--- src/main.rt:80:5
 whole-and-two-requires-4 : tie.Need-whole-and-two-requires-4 Inv-loop μ-loop
 whole-and-two-requires-4 c κs = search needs
 
--- src/main.rt:81:5
 block-requires : tie.Need-block-requires Inv-loop μ-loop
 block-requires c κs = search needs
 
--- src/main.rt:82:5
 block-requires-2 : tie.Need-block-requires-2 Inv-loop μ-loop
 block-requires-2 c κs = search needs
 
--- src/main.rt:66:1
 returns : tie.Need-returns Inv-loop μ-loop
 returns c = search needs
 

@@ -1,3 +1,4 @@
+-- `sha256_answers::padded` meets its contract.
 use mathlib.Core.Path.{_≡_, refl}
 use Prim.Native.Nat.{_-_, _≤_}
 use native.Mathlib.Omega.{arith}
@@ -5,8 +6,6 @@ use borrow.Author.Needs.{needs}
 use lib.ListN.{length, length-set}
 use Rattle.sha256_answers.proofs.padded.Statement.{statement}
 use Rattle.sha256_answers.proofs.padded.Tie as tie
-use Rattle.sha256_answers.proofs.padded.Reads as reads
-use Rattle.sha256_answers.proofs.padded.Lts as lts
 
 abbrev Inv-loop : tie.InvT-loop
 Inv-loop n b₀ i₀ b i = (i ≤ n) × (length b ≡ 64)
@@ -14,67 +13,51 @@ Inv-loop n b₀ i₀ b i = (i ≤ n) × (length b ≡ 64)
 abbrev μ-loop : tie.MeasureT-loop
 μ-loop n b₀ i₀ b i = n - i
 
--- src/main.rt:49:5
 loop-holds : tie.Need-loop-holds Inv-loop μ-loop
 loop-holds c = (omega arith, refl)
 
--- src/main.rt:50:18
 mul-b : tie.Need-mul-b Inv-loop μ-loop
 mul-b c = omega arith
 
--- src/main.rt:50:18
 add-b : tie.Need-add-b Inv-loop μ-loop
 add-b c = omega arith
 
--- src/main.rt:50:16
 cast-b : tie.Need-cast-b Inv-loop μ-loop
 cast-b c = omega arith
 
--- src/main.rt:50:9
 array-write-b : tie.Need-array-write-b Inv-loop μ-loop
 array-write-b c = omega arith
 
--- src/main.rt:51:9
 add-i : tie.Need-add-i Inv-loop μ-loop
 add-i c = omega arith
 
--- src/main.rt:49:5
 loop-less : tie.Need-loop-less Inv-loop μ-loop
 loop-less c = omega arith
 
--- src/main.rt:49:5
 loop-again : tie.Need-loop-again Inv-loop μ-loop
 loop-again c = (omega arith, simp length-set (omega arith))
 
--- src/main.rt:53:5
 array-write-b-2 : tie.Need-array-write-b-2 Inv-loop μ-loop
 array-write-b-2 c = omega arith
 
--- src/main.rt:54:14
 mul-b-2 : tie.Need-mul-b-2 Inv-loop μ-loop
 mul-b-2 c = omega arith
 
--- src/main.rt:54:13
 cast-b-2 : tie.Need-cast-b-2 Inv-loop μ-loop
 cast-b-2 c = omega arith
 
--- src/main.rt:54:5
 array-write-b-3 : tie.Need-array-write-b-3 Inv-loop μ-loop
 array-write-b-3 c = omega arith
 
--- src/main.rt:55:14
 mul-b-3 : tie.Need-mul-b-3 Inv-loop μ-loop
 mul-b-3 c = omega arith
 
--- src/main.rt:55:13
 cast-b-3 : tie.Need-cast-b-3 Inv-loop μ-loop
 cast-b-3 c = omega arith
 
--- src/main.rt:55:5
 array-write-b-4 : tie.Need-array-write-b-4 Inv-loop μ-loop
 array-write-b-4 c = omega arith
 
--- src/main.rt:44:1
 returns : tie.Need-returns Inv-loop μ-loop
 returns c = search needs
 

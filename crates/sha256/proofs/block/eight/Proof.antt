@@ -1,3 +1,4 @@
+-- `sha256::block::eight` meets its contract.
 use Prim.Native.Nat.{_+_}
 use native.Mathlib.Omega.{arith}
 use denote.Ref.{now}
@@ -5,227 +6,169 @@ use Rattle.sha256.specs.Laws.{rounds-turn}
 use borrow.Author.Needs.{needs}
 use Rattle.sha256.proofs.block.eight.Statement.{statement}
 use Rattle.sha256.proofs.block.eight.Tie as tie
-use Rattle.sha256.proofs.block.eight.Reads as reads
-use Rattle.sha256.proofs.block.eight.Lts as lts
-use Rattle.sha256.proofs.block.round.Reads as round-reads
 
--- src/block.rt:86:19
 mul-round : tie.Need-mul-round
 mul-round c = search needs
 
--- src/block.rt:86:19
 element-copy-out-round : tie.Need-element-copy-out-round
 element-copy-out-round c = search needs
 
--- src/block.rt:86:25
 mul-round-2 : tie.Need-mul-round-2
 mul-round-2 c = search needs
 
--- src/block.rt:86:25
 element-copy-out-round-2 : tie.Need-element-copy-out-round-2
 element-copy-out-round-2 c = search needs
 
--- src/block.rt:86:9
 round-requires : tie.Need-round-requires
 round-requires c κs = search needs
 
--- src/block.rt:87:21
 add-round : tie.Need-add-round
 add-round c = search needs
 
--- src/block.rt:87:19
 mul-round-3 : tie.Need-mul-round-3
 mul-round-3 c = search needs
 
--- src/block.rt:87:19
 element-copy-out-round-3 : tie.Need-element-copy-out-round-3
 element-copy-out-round-3 c = search needs
 
--- src/block.rt:87:31
 add-round-2 : tie.Need-add-round-2
 add-round-2 c = search needs
 
--- src/block.rt:87:29
 mul-round-4 : tie.Need-mul-round-4
 mul-round-4 c = search needs
 
--- src/block.rt:87:29
 element-copy-out-round-4 : tie.Need-element-copy-out-round-4
 element-copy-out-round-4 c = search needs
 
--- src/block.rt:87:9
 round-requires-2 : tie.Need-round-requires-2
 round-requires-2 c κs = search needs
 
--- src/block.rt:88:21
 add-round-3 : tie.Need-add-round-3
 add-round-3 c = search needs
 
--- src/block.rt:88:19
 mul-round-5 : tie.Need-mul-round-5
 mul-round-5 c = search needs
 
--- src/block.rt:88:19
 element-copy-out-round-5 : tie.Need-element-copy-out-round-5
 element-copy-out-round-5 c = search needs
 
--- src/block.rt:88:31
 add-round-4 : tie.Need-add-round-4
 add-round-4 c = search needs
 
--- src/block.rt:88:29
 mul-round-6 : tie.Need-mul-round-6
 mul-round-6 c = search needs
 
--- src/block.rt:88:29
 element-copy-out-round-6 : tie.Need-element-copy-out-round-6
 element-copy-out-round-6 c = search needs
 
--- src/block.rt:88:9
 round-requires-3 : tie.Need-round-requires-3
 round-requires-3 c κs = search needs
 
--- src/block.rt:89:21
 add-round-5 : tie.Need-add-round-5
 add-round-5 c = search needs
 
--- src/block.rt:89:19
 mul-round-7 : tie.Need-mul-round-7
 mul-round-7 c = search needs
 
--- src/block.rt:89:19
 element-copy-out-round-7 : tie.Need-element-copy-out-round-7
 element-copy-out-round-7 c = search needs
 
--- src/block.rt:89:31
 add-round-6 : tie.Need-add-round-6
 add-round-6 c = search needs
 
--- src/block.rt:89:29
 mul-round-8 : tie.Need-mul-round-8
 mul-round-8 c = search needs
 
--- src/block.rt:89:29
 element-copy-out-round-8 : tie.Need-element-copy-out-round-8
 element-copy-out-round-8 c = search needs
 
--- src/block.rt:89:9
 round-requires-4 : tie.Need-round-requires-4
 round-requires-4 c κs = search needs
 
--- src/block.rt:90:21
 add-round-7 : tie.Need-add-round-7
 add-round-7 c = search needs
 
--- src/block.rt:90:19
 mul-round-9 : tie.Need-mul-round-9
 mul-round-9 c = search needs
 
--- src/block.rt:90:19
 element-copy-out-round-9 : tie.Need-element-copy-out-round-9
 element-copy-out-round-9 c = search needs
 
--- src/block.rt:90:31
 add-round-8 : tie.Need-add-round-8
 add-round-8 c = search needs
 
--- src/block.rt:90:29
 mul-round-10 : tie.Need-mul-round-10
 mul-round-10 c = search needs
 
--- src/block.rt:90:29
 element-copy-out-round-10 : tie.Need-element-copy-out-round-10
 element-copy-out-round-10 c = search needs
 
--- src/block.rt:90:9
 round-requires-5 : tie.Need-round-requires-5
 round-requires-5 c κs = search needs
 
--- src/block.rt:91:21
 add-round-9 : tie.Need-add-round-9
 add-round-9 c = search needs
 
--- src/block.rt:91:19
 mul-round-11 : tie.Need-mul-round-11
 mul-round-11 c = search needs
 
--- src/block.rt:91:19
 element-copy-out-round-11 : tie.Need-element-copy-out-round-11
 element-copy-out-round-11 c = search needs
 
--- src/block.rt:91:31
 add-round-10 : tie.Need-add-round-10
 add-round-10 c = search needs
 
--- src/block.rt:91:29
 mul-round-12 : tie.Need-mul-round-12
 mul-round-12 c = search needs
 
--- src/block.rt:91:29
 element-copy-out-round-12 : tie.Need-element-copy-out-round-12
 element-copy-out-round-12 c = search needs
 
--- src/block.rt:91:9
 round-requires-6 : tie.Need-round-requires-6
 round-requires-6 c κs = search needs
 
--- src/block.rt:92:21
 add-round-11 : tie.Need-add-round-11
 add-round-11 c = search needs
 
--- src/block.rt:92:19
 mul-round-13 : tie.Need-mul-round-13
 mul-round-13 c = search needs
 
--- src/block.rt:92:19
 element-copy-out-round-13 : tie.Need-element-copy-out-round-13
 element-copy-out-round-13 c = search needs
 
--- src/block.rt:92:31
 add-round-12 : tie.Need-add-round-12
 add-round-12 c = search needs
 
--- src/block.rt:92:29
 mul-round-14 : tie.Need-mul-round-14
 mul-round-14 c = search needs
 
--- src/block.rt:92:29
 element-copy-out-round-14 : tie.Need-element-copy-out-round-14
 element-copy-out-round-14 c = search needs
 
--- src/block.rt:92:9
 round-requires-7 : tie.Need-round-requires-7
 round-requires-7 c κs = search needs
 
--- src/block.rt:93:13
 add-round-13 : tie.Need-add-round-13
 add-round-13 c = search needs
 
--- src/block.rt:93:11
 mul-round-15 : tie.Need-mul-round-15
 mul-round-15 c = search needs
 
--- src/block.rt:93:11
 element-copy-out-round-15 : tie.Need-element-copy-out-round-15
 element-copy-out-round-15 c = search needs
 
--- src/block.rt:93:23
 add-round-14 : tie.Need-add-round-14
 add-round-14 c = search needs
 
--- src/block.rt:93:21
 mul-round-16 : tie.Need-mul-round-16
 mul-round-16 c = search needs
 
--- src/block.rt:93:21
 element-copy-out-round-16 : tie.Need-element-copy-out-round-16
 element-copy-out-round-16 c = search needs
 
--- src/block.rt:93:5
 round-requires-8 : tie.Need-round-requires-8
 round-requires-8 c κs = search needs
 
--- src/block.rt:82:1
 returns : tie.Need-returns
 returns c h e =
     let seventh = c .before .before .before in

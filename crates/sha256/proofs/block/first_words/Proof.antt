@@ -1,5 +1,6 @@
-use mathlib.Core.Path.{_≡_, refl, ap, _∙_}
-use Prim.Native.Nat.{_+_, _-_, _≤_, _<_}
+-- `sha256::block::first_words` meets its contract.
+use mathlib.Core.Path.{_≡_, refl}
+use Prim.Native.Nat.{_-_, _≤_, _<_}
 use native.Mathlib.Omega.{arith}
 use lib.ListN.{length, take, length-set}
 use lib.Seq.{take-suc, take-suc-set}
@@ -8,8 +9,6 @@ use native.Mathlib.Numerals.{add-one}
 use borrow.Author.Needs.{needs}
 use Rattle.sha256.proofs.block.first_words.Statement.{statement}
 use Rattle.sha256.proofs.block.first_words.Tie as tie
-use Rattle.sha256.proofs.block.first_words.Reads as reads
-use Rattle.sha256.proofs.block.first_words.Lts as lts
 
 abbrev Inv-loop : tie.InvT-loop
 Inv-loop m w₀ i₀ w i = (i ≤ 16) × (length w ≡ 64) × (take i w ≡ take i m)
@@ -17,35 +16,27 @@ Inv-loop m w₀ i₀ w i = (i ≤ 16) × (length w ≡ 64) × (take i w ≡ take
 abbrev μ-loop : tie.MeasureT-loop
 μ-loop m w₀ i₀ w i = 16 - i
 
--- src/block.rt:24:5
 loop-holds : tie.Need-loop-holds Inv-loop μ-loop
 loop-holds c = (omega arith, refl, refl)
 
--- src/block.rt:25:16
 mul-w : tie.Need-mul-w Inv-loop μ-loop
 mul-w c = omega arith
 
--- src/block.rt:25:16
 array-read-w : tie.Need-array-read-w Inv-loop μ-loop
 array-read-w c = omega arith
 
--- src/block.rt:25:9
 mul-w-2 : tie.Need-mul-w-2 Inv-loop μ-loop
 mul-w-2 c = omega arith
 
--- src/block.rt:25:9
 array-write-w : tie.Need-array-write-w Inv-loop μ-loop
 array-write-w c = omega arith
 
--- src/block.rt:26:9
 add-i : tie.Need-add-i Inv-loop μ-loop
 add-i c = omega arith
 
--- src/block.rt:24:5
 loop-less : tie.Need-loop-less Inv-loop μ-loop
 loop-less c = omega arith
 
--- src/block.rt:24:5
 loop-again : tie.Need-loop-again Inv-loop μ-loop
 loop-again c =
     let at-loop = c .before in
@@ -58,7 +49,6 @@ loop-again c =
     let same : take i w ≡ take i m = at-loop .loop .inv .2 in
     (omega arith, simp length-set (at-loop .loop .inv .1), rw (add-one, take-suc-set w i, take-suc m i 0, same))
 
--- src/block.rt:19:1
 returns : tie.Need-returns Inv-loop μ-loop
 returns c =
     let at-loop = c .before in

@@ -1,3 +1,4 @@
+-- `sha256::block::rounds` meets its contract.
 use mathlib.Core.Path.{_≡_, refl, subst}
 use Prim.Native.Nat.{ℕ, _-_, _%_, _≤_}
 use native.Mathlib.Omega.{arith}
@@ -7,9 +8,6 @@ use denote.Ref.{now}
 use Rattle.sha256.specs.Fips.{rounds}
 use Rattle.sha256.proofs.block.rounds.Statement.{statement}
 use Rattle.sha256.proofs.block.rounds.Tie as tie
-use Rattle.sha256.proofs.block.rounds.Reads as reads
-use Rattle.sha256.proofs.block.rounds.Lts as lts
-use Rattle.sha256.proofs.block.eight.Reads as eight-reads
 
 abbrev Inv-loop : tie.InvT-loop
 Inv-loop k w s₀ t₀ s t = (t ≤ 64) × (t % 8 ≡ 0) × (length s ≡ 8) × (s ≡ rounds w s₀ t)
@@ -17,30 +15,24 @@ Inv-loop k w s₀ t₀ s t = (t ≤ 64) × (t % 8 ≡ 0) × (length s ≡ 8) × 
 abbrev μ-loop : tie.MeasureT-loop
 μ-loop k w s₀ t₀ s t = 64 - t
 
--- src/block.rt:103:5
 loop-holds : tie.Need-loop-holds Inv-loop μ-loop
 unfolding rounds
 loop-holds c = (omega arith, omega arith, search needs, refl)
 
--- src/block.rt:104:13
 eight-requires : tie.Need-eight-requires Inv-loop μ-loop
 eight-requires c κs = (c .before .before .pre .0, c .before .before .pre .1, omega arith)
 
--- src/block.rt:106:9
 add-t : tie.Need-add-t Inv-loop μ-loop
 add-t c = omega arith
 
--- src/block.rt:103:5
 loop-less : tie.Need-loop-less Inv-loop μ-loop
 loop-less c = omega arith
 
--- src/block.rt:103:5
 loop-again : tie.Need-loop-again Inv-loop μ-loop
 loop-again c =
     let at-loop = c .before .before in
     (omega arith, omega arith, search needs, c .eight .ensures (at-loop .before .args .h) (at-loop .loop .inv .3))
 
--- src/block.rt:97:1
 returns : tie.Need-returns Inv-loop μ-loop
 returns c =
     let at-loop = c .before in

@@ -1,3 +1,4 @@
+-- `sha256::block::schedule` meets its contract.
 use mathlib.Core.Path.{_≡_, refl, ap, _∙_}
 use mathlib.Core.List.{List}
 use Prim.Native.Nat.{ℕ, _+_, _-_, _≤_}
@@ -8,10 +9,6 @@ use Rattle.sha256.specs.Fips.{schedule}
 use Rattle.sha256.specs.Laws.{schedule-turn, schedule-done}
 use Rattle.sha256.proofs.block.schedule.Statement.{statement}
 use Rattle.sha256.proofs.block.schedule.Tie as tie
-use Rattle.sha256.proofs.block.schedule.Reads as reads
-use Rattle.sha256.proofs.block.schedule.Lts as lts
-use Rattle.sha256.proofs.block.first_words.Reads as first-words-reads
-use Rattle.sha256.proofs.block.scheduled.Reads as scheduled-reads
 
 abbrev Inv-loop : tie.InvT-loop
 Inv-loop w₀ t₀ w t = (t ≤ 48) × (length w ≡ 64) × (take (16 + t) w ≡ schedule (take 16 w₀) t)
@@ -19,44 +16,34 @@ Inv-loop w₀ t₀ w t = (t ≤ 48) × (length w ≡ 64) × (take (16 + t) w ≡
 abbrev μ-loop : tie.MeasureT-loop
 μ-loop w₀ t₀ w t = 48 - t
 
--- src/block.rt:35:17
 first-words-requires : tie.Need-first-words-requires Inv-loop μ-loop
 first-words-requires c κs = omega arith
 
--- src/block.rt:37:5
 loop-holds : tie.Need-loop-holds Inv-loop μ-loop
 unfolding schedule
 loop-holds c = (omega arith, search needs, refl)
 
--- src/block.rt:38:31
 add-scheduled : tie.Need-add-scheduled Inv-loop μ-loop
 add-scheduled c = omega arith
 
--- src/block.rt:38:13
 scheduled-requires : tie.Need-scheduled-requires Inv-loop μ-loop
 scheduled-requires c κs = omega arith
 
--- src/block.rt:39:11
 add-w : tie.Need-add-w Inv-loop μ-loop
 add-w c = omega arith
 
--- src/block.rt:39:9
 mul-w : tie.Need-mul-w Inv-loop μ-loop
 mul-w c = omega arith
 
--- src/block.rt:39:9
 array-write-w : tie.Need-array-write-w Inv-loop μ-loop
 array-write-w c = omega arith
 
--- src/block.rt:40:9
 add-t : tie.Need-add-t Inv-loop μ-loop
 add-t c = omega arith
 
--- src/block.rt:37:5
 loop-less : tie.Need-loop-less Inv-loop μ-loop
 loop-less c = omega arith
 
--- src/block.rt:37:5
 loop-again : tie.Need-loop-again Inv-loop μ-loop
 loop-again c =
     let at-loop = c .before .before .before in
@@ -65,7 +52,6 @@ loop-again c =
     let m = take 16 (at-loop .before .first-words .result) in
     (omega arith, simp length-set (omega arith), schedule-turn m w t (c .scheduled .result) (at-loop .loop .inv .2) (omega arith) (c .scheduled .ensures))
 
--- src/block.rt:32:1
 returns : tie.Need-returns Inv-loop μ-loop
 returns c =
     let at-loop = c .before in

@@ -1,108 +1,81 @@
+-- `sha256::block::sums` meets its contract.
 use Rattle.sha256.specs.Fips.{sums}
 use borrow.Author.Needs.{needs}
 use Rattle.sha256.proofs.block.sums.Statement.{statement}
 use Rattle.sha256.proofs.block.sums.Tie as tie
-use Rattle.sha256.proofs.block.sums.Reads as reads
-use Rattle.sha256.proofs.block.sums.Lts as lts
-use Rattle.sha256.proofs.functions.add.Reads as add-reads
 
--- src/block.rt:61:13
 array-read-add : tie.Need-array-read-add
 array-read-add c = search needs
 
--- src/block.rt:61:19
 array-read-add-2 : tie.Need-array-read-add-2
 array-read-add-2 c = search needs
 
--- src/block.rt:61:9
 add-requires : tie.Need-add-requires
 add-requires c κs = search needs
 
--- src/block.rt:62:13
 array-read-add-3 : tie.Need-array-read-add-3
 array-read-add-3 c = search needs
 
--- src/block.rt:62:19
 array-read-add-4 : tie.Need-array-read-add-4
 array-read-add-4 c = search needs
 
--- src/block.rt:62:9
 add-requires-2 : tie.Need-add-requires-2
 add-requires-2 c κs = search needs
 
--- src/block.rt:63:13
 array-read-add-5 : tie.Need-array-read-add-5
 array-read-add-5 c = search needs
 
--- src/block.rt:63:19
 array-read-add-6 : tie.Need-array-read-add-6
 array-read-add-6 c = search needs
 
--- src/block.rt:63:9
 add-requires-3 : tie.Need-add-requires-3
 add-requires-3 c κs = search needs
 
--- src/block.rt:64:13
 array-read-add-7 : tie.Need-array-read-add-7
 array-read-add-7 c = search needs
 
--- src/block.rt:64:19
 array-read-add-8 : tie.Need-array-read-add-8
 array-read-add-8 c = search needs
 
--- src/block.rt:64:9
 add-requires-4 : tie.Need-add-requires-4
 add-requires-4 c κs = search needs
 
--- src/block.rt:65:13
 array-read-add-9 : tie.Need-array-read-add-9
 array-read-add-9 c = search needs
 
--- src/block.rt:65:19
 array-read-add-10 : tie.Need-array-read-add-10
 array-read-add-10 c = search needs
 
--- src/block.rt:65:9
 add-requires-5 : tie.Need-add-requires-5
 add-requires-5 c κs = search needs
 
--- src/block.rt:66:13
 array-read-add-11 : tie.Need-array-read-add-11
 array-read-add-11 c = search needs
 
--- src/block.rt:66:19
 array-read-add-12 : tie.Need-array-read-add-12
 array-read-add-12 c = search needs
 
--- src/block.rt:66:9
 add-requires-6 : tie.Need-add-requires-6
 add-requires-6 c κs = search needs
 
--- src/block.rt:67:13
 array-read-add-13 : tie.Need-array-read-add-13
 array-read-add-13 c = search needs
 
--- src/block.rt:67:19
 array-read-add-14 : tie.Need-array-read-add-14
 array-read-add-14 c = search needs
 
--- src/block.rt:67:9
 add-requires-7 : tie.Need-add-requires-7
 add-requires-7 c κs = search needs
 
--- src/block.rt:68:13
 array-read-add-15 : tie.Need-array-read-add-15
 array-read-add-15 c = search needs
 
--- src/block.rt:68:19
 array-read-add-16 : tie.Need-array-read-add-16
 array-read-add-16 c = search needs
 
--- src/block.rt:68:9
 add-requires-8 : tie.Need-add-requires-8
 add-requires-8 c κs = search needs
 
--- src/block.rt:57:1
 returns : tie.Need-returns
 unfolding sums
 returns c =

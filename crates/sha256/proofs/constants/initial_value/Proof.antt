@@ -1,11 +1,9 @@
+-- `sha256::constants::initial_value` meets its contract.
 use mathlib.Core.Path.{refl}
 use Rattle.sha256.specs.Constants.{initial}
 use Rattle.sha256.proofs.constants.initial_value.Statement.{statement}
 use Rattle.sha256.proofs.constants.initial_value.Tie as tie
-use Rattle.sha256.proofs.constants.initial_value.Reads as reads
-use Rattle.sha256.proofs.constants.initial_value.Lts as lts
 
--- src/constants.rt:24:1
 returns : tie.Need-returns
 unfolding initial
 returns c = refl

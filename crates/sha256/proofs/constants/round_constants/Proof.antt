@@ -1,11 +1,9 @@
+-- `sha256::constants::round_constants` meets its contract.
 use mathlib.Core.Path.{refl}
 use Rattle.sha256.specs.Constants.{constants}
 use Rattle.sha256.proofs.constants.round_constants.Statement.{statement}
 use Rattle.sha256.proofs.constants.round_constants.Tie as tie
-use Rattle.sha256.proofs.constants.round_constants.Reads as reads
-use Rattle.sha256.proofs.constants.round_constants.Lts as lts
 
--- src/constants.rt:17:1
 returns : tie.Need-returns
 unfolding constants
 returns c = refl

@@ -1,24 +1,18 @@
+-- `sha256::functions::big_sigma0` meets its contract.
 use Rattle.sha256.specs.Fips.{bigSigma0}
 use borrow.Author.Needs.{needs}
 use Rattle.sha256.proofs.functions.big_sigma0.Statement.{statement}
 use Rattle.sha256.proofs.functions.big_sigma0.Tie as tie
-use Rattle.sha256.proofs.functions.big_sigma0.Reads as reads
-use Rattle.sha256.proofs.functions.big_sigma0.Lts as lts
-use Rattle.sha256.proofs.functions.rotr.Reads as rotr-reads
 
--- src/functions.rt:36:5
 rotr-requires : tie.Need-rotr-requires
 rotr-requires c κs = search needs
 
--- src/functions.rt:36:18
 rotr-requires-2 : tie.Need-rotr-requires-2
 rotr-requires-2 c κs = search needs
 
--- src/functions.rt:36:32
 rotr-requires-3 : tie.Need-rotr-requires-3
 rotr-requires-3 c κs = search needs
 
--- src/functions.rt:33:1
 returns : tie.Need-returns
 unfolding bigSigma0
 returns c = cc

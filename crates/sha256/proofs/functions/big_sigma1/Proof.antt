@@ -1,24 +1,18 @@
+-- `sha256::functions::big_sigma1` meets its contract.
 use Rattle.sha256.specs.Fips.{bigSigma1}
 use borrow.Author.Needs.{needs}
 use Rattle.sha256.proofs.functions.big_sigma1.Statement.{statement}
 use Rattle.sha256.proofs.functions.big_sigma1.Tie as tie
-use Rattle.sha256.proofs.functions.big_sigma1.Reads as reads
-use Rattle.sha256.proofs.functions.big_sigma1.Lts as lts
-use Rattle.sha256.proofs.functions.rotr.Reads as rotr-reads
 
--- src/functions.rt:42:5
 rotr-requires : tie.Need-rotr-requires
 rotr-requires c κs = search needs
 
--- src/functions.rt:42:18
 rotr-requires-2 : tie.Need-rotr-requires-2
 rotr-requires-2 c κs = search needs
 
--- src/functions.rt:42:32
 rotr-requires-3 : tie.Need-rotr-requires-3
 rotr-requires-3 c κs = search needs
 
--- src/functions.rt:39:1
 returns : tie.Need-returns
 unfolding bigSigma1
 returns c = cc

@@ -1,11 +1,9 @@
+-- `sha256::functions::ch` meets its contract.
 use borrow.Author.Needs.{needs}
 use Rattle.sha256.specs.Forms.{ch-word}
 use Rattle.sha256.proofs.functions.ch.Statement.{statement}
 use Rattle.sha256.proofs.functions.ch.Tie as tie
-use Rattle.sha256.proofs.functions.ch.Reads as reads
-use Rattle.sha256.proofs.functions.ch.Lts as lts
 
--- src/functions.rt:21:1
 returns : tie.Need-returns
 returns c = ch-word (c .args .x) (c .args .y) (c .args .z) (search needs) (search needs) (search needs)
 

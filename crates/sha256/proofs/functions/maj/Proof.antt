@@ -1,11 +1,9 @@
+-- `sha256::functions::maj` meets its contract.
 use borrow.Author.Needs.{needs}
 use Rattle.sha256.specs.Forms.{maj-word}
 use Rattle.sha256.proofs.functions.maj.Statement.{statement}
 use Rattle.sha256.proofs.functions.maj.Tie as tie
-use Rattle.sha256.proofs.functions.maj.Reads as reads
-use Rattle.sha256.proofs.functions.maj.Lts as lts
 
--- src/functions.rt:27:1
 returns : tie.Need-returns
 returns c = maj-word (c .args .x) (c .args .y) (c .args .z) (search needs) (search needs) (search needs)
 

@@ -1,5 +1,6 @@
+-- `sha256::hash::absorb` meets its contract.
 use mathlib.Core.Path.{_≡_, refl, ap, _∙_}
-use Prim.Native.Nat.{_+_, _-_, _*_, _/_, _≤_}
+use Prim.Native.Nat.{_-_, _/_, _≤_}
 use native.Mathlib.Omega.{arith}
 use borrow.Author.Needs.{needs}
 use lib.ListN.{length}
@@ -8,10 +9,6 @@ use Rattle.sha256.specs.Fips.{hashed, absorbed}
 use Rattle.sha256.specs.Laws.{hashed-turn}
 use Rattle.sha256.proofs.hash.absorb.Statement.{statement}
 use Rattle.sha256.proofs.hash.absorb.Tie as tie
-use Rattle.sha256.proofs.hash.absorb.Reads as reads
-use Rattle.sha256.proofs.hash.absorb.Lts as lts
-use Rattle.sha256.proofs.block.compress.Reads as compress-reads
-use Rattle.sha256.proofs.hash.block_words.Reads as block-words-reads
 
 abbrev Inv-loop : tie.InvT-loop
 Inv-loop k m count s₀ t₀ s t = (t ≤ count) × (count ≡ length m / 64) × (length s ≡ 8) × (s ≡ hashed s₀ m t)
@@ -19,39 +16,31 @@ Inv-loop k m count s₀ t₀ s t = (t ≤ count) × (count ≡ length m / 64) ×
 abbrev μ-loop : tie.MeasureT-loop
 μ-loop k m count s₀ t₀ s t = count - t
 
--- src/hash.rt:38:5
 loop-holds : tie.Need-loop-holds Inv-loop μ-loop
 unfolding hashed
 loop-holds c = (omega arith, refl, search needs, refl)
 
--- src/hash.rt:39:32
 mul-block-words : tie.Need-mul-block-words Inv-loop μ-loop
 mul-block-words c = omega arith
 
--- src/hash.rt:39:13
 block-words-requires : tie.Need-block-words-requires Inv-loop μ-loop
 block-words-requires c κs = omega arith
 
--- src/hash.rt:40:13
 compress-requires : tie.Need-compress-requires Inv-loop μ-loop
 compress-requires c κs = c .before .before .before .before .pre
 
--- src/hash.rt:42:9
 add-t : tie.Need-add-t Inv-loop μ-loop
 add-t c = omega arith
 
--- src/hash.rt:38:5
 loop-less : tie.Need-loop-less Inv-loop μ-loop
 loop-less c = omega arith
 
--- src/hash.rt:38:5
 loop-again : tie.Need-loop-again Inv-loop μ-loop
 loop-again c =
     let at-loop = c .before .before .before in
     let args = at-loop .before .before .args in
     (omega arith, refl, search needs, hashed-turn (args .h) (now (args .m)) (at-loop .loop .s) (c .before .block-words .result) (c .compress .result) (at-loop .loop .t) (at-loop .loop .inv .3) (c .before .block-words .ensures) (c .compress .ensures))
 
--- src/hash.rt:31:1
 returns : tie.Need-returns Inv-loop μ-loop
 unfolding absorbed
 returns c =

@@ -1,5 +1,6 @@
+-- `sha256::hash::block_words` meets its contract.
 use mathlib.Core.Path.{_≡_, refl, sym, _∙_}
-use Prim.Native.Nat.{_+_, _-_, _*_, _≤_}
+use Prim.Native.Nat.{_-_, _*_, _≤_}
 use native.Mathlib.Omega.{arith}
 use lib.ListN.{length, take, length-set}
 use denote.Ref.{now}
@@ -7,9 +8,6 @@ use Rattle.octets.specs.Octets.{part, words}
 use Rattle.octets.specs.Laws.{filled, wordAt-part, words-turn}
 use Rattle.sha256.proofs.hash.block_words.Statement.{statement}
 use Rattle.sha256.proofs.hash.block_words.Tie as tie
-use Rattle.sha256.proofs.hash.block_words.Reads as reads
-use Rattle.sha256.proofs.hash.block_words.Lts as lts
-use Rattle.octets.proofs.word_at.Reads as word-at-reads
 
 abbrev Inv-loop : tie.InvT-loop
 Inv-loop m at w₀ t₀ w t = (t ≤ 16) × (length w ≡ 16) × (take t w ≡ words t (part at 64 m))
@@ -17,40 +15,31 @@ Inv-loop m at w₀ t₀ w t = (t ≤ 16) × (length w ≡ 16) × (take t w ≡ w
 abbrev μ-loop : tie.MeasureT-loop
 μ-loop m at w₀ t₀ w t = 16 - t
 
--- src/hash.rt:22:5
 loop-holds : tie.Need-loop-holds Inv-loop μ-loop
 unfolding words
 loop-holds c = (omega arith, refl, refl)
 
--- src/hash.rt:23:41
 mul-word-at : tie.Need-mul-word-at Inv-loop μ-loop
 mul-word-at c = omega arith
 
--- src/hash.rt:23:36
 add-word-at : tie.Need-add-word-at Inv-loop μ-loop
 add-word-at c = omega arith
 
--- src/hash.rt:23:13
 word-at-requires : tie.Need-word-at-requires Inv-loop μ-loop
 word-at-requires c κs = omega arith
 
--- src/hash.rt:24:9
 mul-w : tie.Need-mul-w Inv-loop μ-loop
 mul-w c = omega arith
 
--- src/hash.rt:24:9
 array-write-w : tie.Need-array-write-w Inv-loop μ-loop
 array-write-w c = omega arith
 
--- src/hash.rt:25:9
 add-t : tie.Need-add-t Inv-loop μ-loop
 add-t c = omega arith
 
--- src/hash.rt:22:5
 loop-less : tie.Need-loop-less Inv-loop μ-loop
 loop-less c = omega arith
 
--- src/hash.rt:22:5
 loop-again : tie.Need-loop-again Inv-loop μ-loop
 loop-again c =
     let at-loop = c .before .before in
@@ -59,7 +48,6 @@ loop-again c =
     let m = now (args .m) in
     (omega arith, simp length-set (at-loop .loop .inv .1), words-turn (at-loop .loop .w) (part (args .at) 64 m) t (c .word-at .result) (at-loop .loop .inv .2) (omega arith) (c .word-at .ensures ∙ sym (wordAt-part (args .at) 64 (4 * t) m (omega arith))))
 
--- src/hash.rt:16:1
 returns : tie.Need-returns Inv-loop μ-loop
 returns c =
     let at-loop = c .before in

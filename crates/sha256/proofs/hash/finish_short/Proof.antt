@@ -1,37 +1,28 @@
+-- `sha256::hash::finish_short` meets its contract.
 use mathlib.Core.List.{append-assoc}
 use native.Mathlib.Omega.{arith}
 use borrow.Author.Needs.{needs}
 use lib.ListN.{length-take}
 use Rattle.sha256.proofs.hash.finish_short.Statement.{statement}
 use Rattle.sha256.proofs.hash.finish_short.Tie as tie
-use Rattle.sha256.proofs.hash.finish_short.Reads as reads
-use Rattle.sha256.proofs.hash.finish_short.Lts as lts
-use Rattle.sha256.proofs.hash.finish.Reads as finish-reads
-use Rattle.sha256.proofs.hash.joint.Reads as joint-reads
 
--- src/hash.rt:122:17
 joint-requires : tie.Need-joint-requires
 joint-requires c κs = search needs
 
--- src/hash.rt:123:13
 add-n : tie.Need-add-n
 add-n c = search needs
 
--- src/hash.rt:124:18
 array-share-prefix-block : tie.Need-array-share-prefix-block
 array-share-prefix-block c = search needs
 
--- src/hash.rt:124:18
 slice-aggregate-finish : tie.Need-slice-aggregate-finish
 slice-aggregate-finish c = simp length-take (omega arith)
 
--- src/hash.rt:124:5
 finish-requires : tie.Need-finish-requires
 finish-requires c κs =
     let start = c .before .before .before .before in
     (start .pre .0, simp length-take (omega arith))
 
--- src/hash.rt:118:1
 returns : tie.Need-returns
 returns c =
     let start = c .before .before .before .before .before in

@@ -1,3 +1,4 @@
+-- `sha256::hash::joint` meets its contract.
 use mathlib.Core.Path.{_≡_}
 use borrow.Author.Needs.{needs}
 use lib.ListN.{length, replicate}
@@ -6,27 +7,19 @@ use Rattle.octets.specs.Octets.{patch}
 use Rattle.sha256.specs.Laws.{joined-pieces}
 use Rattle.sha256.proofs.hash.joint.Statement.{statement}
 use Rattle.sha256.proofs.hash.joint.Tie as tie
-use Rattle.sha256.proofs.hash.joint.Reads as reads
-use Rattle.sha256.proofs.hash.joint.Lts as lts
-use Rattle.octets.proofs.copy.Reads as copy-reads
 
--- src/hash.rt:112:18
 slice-aggregate-copy : tie.Need-slice-aggregate-copy
 slice-aggregate-copy c = search needs
 
--- src/hash.rt:112:5
 copy-requires : tie.Need-copy-requires
 copy-requires c κs = search needs
 
--- src/hash.rt:113:18
 slice-aggregate-copy-2 : tie.Need-slice-aggregate-copy-2
 slice-aggregate-copy-2 c = search needs
 
--- src/hash.rt:113:5
 copy-requires-2 : tie.Need-copy-requires-2
 copy-requires-2 c κs = search needs
 
--- src/hash.rt:107:1
 returns : tie.Need-returns
 returns c =
     let start = c .before .before .before .before .before .before .before .before in

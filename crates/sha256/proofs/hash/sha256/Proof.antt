@@ -1,3 +1,4 @@
+-- `sha256::hash::sha256` meets its contract.
 use borrow.Author.Needs.{needs}
 use Prim.Native.Nat.{_*_, _/_}
 use lib.ListN.{length}
@@ -7,41 +8,28 @@ use Rattle.sha256.specs.Pieces.{leftover}
 use Rattle.sha256.specs.Laws.{sha256-ends}
 use Rattle.sha256.proofs.hash.sha256.Statement.{statement}
 use Rattle.sha256.proofs.hash.sha256.Tie as tie
-use Rattle.sha256.proofs.hash.sha256.Reads as reads
-use Rattle.sha256.proofs.hash.sha256.Lts as lts
-use Rattle.sha256.proofs.constants.initial_value.Reads as initial-value-reads
-use Rattle.sha256.proofs.hash.absorb.Reads as absorb-reads
-use Rattle.sha256.proofs.hash.finish.Reads as finish-reads
 
--- src/hash.rt:100:9
 initial-value-requires : tie.Need-initial-value-requires
 initial-value-requires c κs = search needs
 
--- src/hash.rt:101:9
 absorb-requires : tie.Need-absorb-requires
 absorb-requires c κs = search needs
 
--- src/hash.rt:102:14
 mul-at : tie.Need-mul-at
 mul-at c = search needs
 
--- src/hash.rt:103:18
 sub-finish : tie.Need-sub-finish
 sub-finish c = search needs
 
--- src/hash.rt:103:18
 part-finish-start : tie.Need-part-finish-start
 part-finish-start c = search needs
 
--- src/hash.rt:103:18
 part-finish-end : tie.Need-part-finish-end
 part-finish-end c = search needs
 
--- src/hash.rt:103:5
 finish-requires : tie.Need-finish-requires
 finish-requires c κs = search needs
 
--- src/hash.rt:96:1
 returns : tie.Need-returns
 unfolding leftover
 returns c =
