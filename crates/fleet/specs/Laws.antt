@@ -1,0 +1,84 @@
+-- The key table: a loop over its keys, and what a table that isn't refused says of each key.
+use mathlib.Core.Path.{_≡_, refl, sym, _∙_}
+use mathlib.Core.Bool.{Bool, true, false, not, _&&_, _||_, and-false, false≢true}
+use mathlib.Core.List.{List}
+use mathlib.Core.Logic.{⊎-elim}
+use Prim.Native.Nat.{ℕ, zero, suc, _+_, _*_, _<_}
+use native.Mathlib.Nat.{eq-or-lt-of-le, suc-inj, le-of-suc-le-suc}
+use native.Mathlib.Numerals.{add-one}
+use native.Mathlib.Omega.{arith}
+use lib.Dec.{eqb}
+use lib.ListN.{length}
+use borrow.Author.Tests.{eq-eqb, ne-eqb, eqb-true}
+use Rattle.octets.specs.Octets.{wordAt}
+use Rattle.protocol.specs.Refusals.{keyAllowed, keysAllowed, wrongKeys}
+
+-- ---- the loop
+
+-- a table of another length
+pub keys-length : (n : ℕ) (keys : List ℕ) → (length keys ≡ 56 * n → ⊥) → true ≡ wrongKeys n keys
+unfolding wrongKeys
+keys-length n keys h = rw (ne-eqb (length keys) (56 * n) h)
+
+-- one more key is allowed
+pub keys-turn : (seat : ℕ) (keys : List ℕ) → keysAllowed seat keys ≡ true → wordAt keys (56 * seat) ≡ 6
+    → wordAt keys (56 * seat + 4) ≡ 4 → keysAllowed (seat + 1) keys ≡ true
+unfolding keysAllowed keyAllowed
+keys-turn seat keys e p q = rw (add-one, e, eq-eqb (wordAt keys (56 * seat)) 6 p, eq-eqb (wordAt keys (56 * seat + 4)) 4 q)
+
+-- a key that isn't allowed: the table isn't
+not-allowed-later : (seat n : ℕ) (keys : List ℕ) → seat < n → keyAllowed seat keys ≡ false → keysAllowed n keys ≡ false
+unfolding keysAllowed
+not-allowed-later seat zero keys h e = absurd (omega arith)
+not-allowed-later seat (suc n) keys h e =
+    ⊎-elim
+    (λ (s : suc seat ≡ suc n). rw (← suc-inj s, e) (and-false (keysAllowed seat keys)))
+    (λ (l : suc seat < suc n). rw (not-allowed-later seat n keys (le-of-suc-le-suc l) e))
+    (eq-or-lt-of-le h)
+
+pub keys-not : (seat n : ℕ) (keys : List ℕ) → length keys ≡ 56 * n → seat < n → keyAllowed seat keys ≡ false → true ≡ wrongKeys n keys
+unfolding wrongKeys
+keys-not seat n keys l h e = rw (eq-eqb (length keys) (56 * n) l, not-allowed-later seat n keys h e)
+
+-- its LMS type, its LM-OTS type
+pub lms-not : (seat : ℕ) (keys : List ℕ) → (wordAt keys (56 * seat) ≡ 6 → ⊥) → keyAllowed seat keys ≡ false
+unfolding keyAllowed
+lms-not seat keys h = rw (ne-eqb (wordAt keys (56 * seat)) 6 h)
+
+pub ots-not : (seat : ℕ) (keys : List ℕ) → (wordAt keys (56 * seat + 4) ≡ 4 → ⊥) → keyAllowed seat keys ≡ false
+unfolding keyAllowed
+ots-not seat keys h = rw (ne-eqb (wordAt keys (56 * seat + 4)) 4 h) (and-false (eqb (wordAt keys (56 * seat)) 6))
+
+-- every key is allowed
+pub keys-right : (n : ℕ) (keys : List ℕ) → length keys ≡ 56 * n → keysAllowed n keys ≡ true → false ≡ wrongKeys n keys
+unfolding wrongKeys
+keys-right n keys l e = rw (eq-eqb (length keys) (56 * n) l, e)
+
+-- ---- a table that isn't refused
+
+allowed-at : (seat n : ℕ) (keys : List ℕ) → seat < n → keysAllowed n keys ≡ true → keyAllowed seat keys ≡ true
+allowed-at seat n keys h e = go (keyAllowed seat keys) refl
+  where
+    go : (b : Bool) → keyAllowed seat keys ≡ b → keyAllowed seat keys ≡ true
+    go true p = p
+    go false p = absurd (false≢true (sym (not-allowed-later seat n keys h p) ∙ e))
+
+both : (a b : Bool) → (a && b) ≡ true → (a ≡ true) × (b ≡ true)
+both true b e = (refl, e)
+both false b e = absurd (false≢true e)
+
+neither : (a b : Bool) → (not a || not b) ≡ false → (a ≡ true) × (b ≡ true)
+neither true true e = (refl, refl)
+neither true false e = absurd (false≢true (sym e))
+neither false b e = absurd (false≢true (sym e))
+
+pub keys-say : (n : ℕ) (keys : List ℕ) → wrongKeys n keys ≡ false → (length keys ≡ 56 * n)
+    × ((seat : ℕ) → seat < n → (wordAt keys (56 * seat) ≡ 6) × (wordAt keys (56 * seat + 4) ≡ 4))
+unfolding wrongKeys keyAllowed
+keys-say n keys e =
+    let p = neither (eqb (length keys) (56 * n)) (keysAllowed n keys) e in (
+      eqb-true (length keys) (56 * n) (p .0),
+      λ seat h.
+          let q = both (eqb (wordAt keys (56 * seat)) 6) (eqb (wordAt keys (56 * seat + 4)) 4) (allowed-at seat n keys h (p .1)) in
+          (eqb-true (wordAt keys (56 * seat)) 6 (q .0), eqb-true (wordAt keys (56 * seat + 4)) 4 (q .1)),
+    )

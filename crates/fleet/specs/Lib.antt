@@ -1,0 +1,2 @@
+-- Laws of the key table.
+pub mod Laws

@@ -1,0 +1,2 @@
+-- What reading an operand finds.
+pub mod Field

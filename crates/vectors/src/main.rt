@@ -1,0 +1,171 @@
+// The signature vectors, run: the RFC's test cases level by level, and Bouncy Castle's, accepted and damaged; then the key maker
+// and the signer from the seeds of types 6 and 4. Standard input has the records as scripts/make_vectors.py writes them from the
+// files of vectors/, and the file `stdout` what those files say of each.
+ghost use Prim.Native.Nat.{_≤_};
+ghost use lib.ListN.{length};
+ghost use Rattle.vectors.specs.Field.{Within};
+use libc::STDIN_FILENO;
+use libc::STDOUT_FILENO;
+
+// What reading an operand finds: its length, or the end of the input.
+pub enum Field {
+    Of(usize),
+    End,
+}
+
+// An operand's length, in two bytes.
+fn length() -> Field {
+    let mut two = [0u8; 2];
+    if io::read_full(STDIN_FILENO, &mut two) < 2 {
+        return Field::End;
+    }
+    Field::Of((two[0] as usize) * 256 + (two[1] as usize))
+}
+
+// An operand, its length before it, to the start of `space`.
+fn operand(space: &mut [u8]) -> Field
+    ensures { λ r. ⌜ Within r (length (now (space .entry))) ⌝ }
+{
+    let Field::Of(n) = length() else {
+        return Field::End;
+    };
+    if space.len() < n {
+        return Field::End;
+    }
+    if io::read_full(STDIN_FILENO, &mut space[..n]) < n {
+        return Field::End;
+    }
+    Field::Of(n)
+}
+
+fn print(text: &[u8]) {
+    io::write_all(STDOUT_FILENO, text);
+}
+
+fn print_bytes(bytes: &[u8]) {
+    let mut i = 0;
+    while i < bytes.len() {
+        io::print_hex(STDOUT_FILENO, bytes[i] as u64, 2);
+        i += 1;
+    }
+    print(b"\n");
+}
+
+// A record to check: key, message, signature. Answers whether the input went on.
+fn check() -> bool {
+    let mut key = [0u8; 256];
+    let mut message = [0u8; 1024];
+    let mut signature = [0u8; 4096];
+    let Field::Of(k) = operand(&mut key) else {
+        return false;
+    };
+    let Field::Of(m) = operand(&mut message) else {
+        return false;
+    };
+    let Field::Of(s) = operand(&mut signature) else {
+        return false;
+    };
+    let number = lms::check_signature(&key[..k], &message[..m], &signature[..s]);
+    if number == 0 {
+        print(b" accept\n");
+    } else {
+        print(b" reject\n");
+    }
+    true
+}
+
+// A record to sign, under the seed and identifier given: leaf, randomizer, message.
+fn sign(seed: &[u8], identifier: &[u8], tree: &[u8]) -> bool {
+    let mut leaf = [0u8; 4];
+    let mut randomizer = [0u8; 32];
+    let mut message = [0u8; 1024];
+    let Field::Of(l) = operand(&mut leaf) else {
+        return false;
+    };
+    let Field::Of(r) = operand(&mut randomizer) else {
+        return false;
+    };
+    let Field::Of(m) = operand(&mut message) else {
+        return false;
+    };
+    let mut out = [0u8; 1452];
+    let q = octets::word_at(&leaf, 0);
+    lms::sign(
+        q,
+        seed,
+        identifier,
+        &randomizer[..r],
+        tree,
+        &message[..m],
+        &mut out,
+    );
+    print(b" ");
+    print_bytes(&out);
+    0 < l
+}
+
+// A key to make, and then records to sign with it, as many as a byte says.
+fn make_and_sign() -> bool {
+    let mut seed = [0u8; 32];
+    let mut identifier = [0u8; 16];
+    let Field::Of(s) = operand(&mut seed) else {
+        return false;
+    };
+    let Field::Of(i) = operand(&mut identifier) else {
+        return false;
+    };
+    let mut tree = [0u8; 65536];
+    let mut key = [0u8; 56];
+    lms::make_key(&seed[..s], &identifier[..i], &mut tree, &mut key);
+    print(b" ");
+    print_bytes(&key);
+    let mut count = [0u8; 1];
+    if io::read_full(STDIN_FILENO, &mut count) < 1 {
+        return false;
+    }
+    let mut left = count[0];
+    while 0 < left {
+        if !named() {
+            return false;
+        }
+        if !sign(&seed[..s], &identifier[..i], &tree) {
+            return false;
+        }
+        left -= 1;
+    }
+    true
+}
+
+// The name that starts each record is printed.
+fn named() -> bool {
+    let mut name = [0u8; 256];
+    let Field::Of(n) = operand(&mut name) else {
+        return false;
+    };
+    print(&name[..n]);
+    true
+}
+
+fn record() -> bool {
+    let mut kind = [0u8; 1];
+    if io::read_full(STDIN_FILENO, &mut kind) < 1 {
+        return false;
+    }
+    if !named() {
+        return false;
+    }
+    if kind[0] == b'C' {
+        return check();
+    }
+    make_and_sign()
+}
+
+fn main() {
+    let mut left = 1000;
+    while 0 < left {
+        if !record() {
+            return;
+        }
+        left -= 1;
+    }
+}

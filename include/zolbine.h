@@ -1,0 +1,91 @@
+/* Zolbine: the accountable confirmer of a fleet link. The C interface of libzolbine.a.
+ *
+ * Every call takes numbers and lent bytes, a pointer and a length, keeps nothing between calls, and allocates nothing. A pointer
+ * is never NULL, also where the length is 0, and a buffer that is written overlaps no other. A call answers a refusal's number,
+ * 0 where nothing is refused; a refusal changes no byte of any buffer.
+ */
+#ifndef ZOLBINE_H
+#define ZOLBINE_H
+
+#include <stddef.h>
+#include <stdint.h>
+
+#ifdef __cplusplus
+extern "C" {
+#endif
+
+/* What is turned back. The lowest number whose condition holds is answered. */
+enum {
+    ZOLBINE_SIZE = 1,          /* n outside 1 to 32 */
+    ZOLBINE_SEAT = 2,          /* own seat at or above n (opening) */
+    ZOLBINE_ROUND = 3,         /* a round or leaf above 1,023 */
+    ZOLBINE_RECORD = 4,        /* impossible record */
+    ZOLBINE_KEYS = 5,          /* key table not 56 x n bytes, or a type not allowed */
+    ZOLBINE_STORE = 6,         /* store too short */
+    ZOLBINE_OUT = 7,           /* out shorter than the length stated for the call */
+    ZOLBINE_SAID = 8,          /* submit a second time */
+    ZOLBINE_GARBLED = 9,       /* wrong command, length, count or entry command; a message too long to check or sign */
+    ZOLBINE_OTHER_ROUND = 10,  /* the message's round is not the caller's */
+    ZOLBINE_STRANGER = 11,     /* a seat in a message at or above n */
+    ZOLBINE_DISORDER = 12,     /* entry seats don't rise */
+    ZOLBINE_EARLY = 13,        /* SUBMIT heard before the own submit */
+    ZOLBINE_SIGNATURE = 14,    /* a signature doesn't check, or its leaf isn't the round */
+    ZOLBINE_NO_CONFLICT = 15,  /* values equal or not lower first */
+    ZOLBINE_KEY_MATERIAL = 16  /* seed, identifier, randomizer or tree of another length */
+};
+
+/* Lengths in bytes. */
+enum {
+    ZOLBINE_SEED_LEN = 32,
+    ZOLBINE_IDENTIFIER_LEN = 16,
+    ZOLBINE_RANDOMIZER_LEN = 32,
+    ZOLBINE_KEY_LEN = 56,
+    ZOLBINE_TREE_LEN = 65536,
+    ZOLBINE_SIGNATURE_LEN = 1452,
+    ZOLBINE_MESSAGE_MAX = 65535,
+    ZOLBINE_LAST_LEAF = 1023
+};
+
+struct zolbine_written {
+    uint32_t number;  /* the refusal's number, or 0 */
+    uint32_t written; /* bytes written from the start of out; the bytes beyond them keep what they held */
+};
+
+/* The check of one signature by RFC 8554: a public key of 56 bytes (LMS_SHA256_M32_H5 or H10, types 5 and 6, with
+ * LMOTS_SHA256_N32_W4 or W8, types 3 and 4, in any pairing), a message of up to 65,535 bytes, and the signature.
+ * Answers 0 where the standard accepts it, else ZOLBINE_KEYS, ZOLBINE_GARBLED (message too long) or ZOLBINE_SIGNATURE.
+ */
+uint32_t zolbine_check_signature(const uint8_t *key, size_t key_len,
+                                 const uint8_t *message, size_t message_len,
+                                 const uint8_t *signature, size_t signature_len);
+
+/* The key maker: from a seed of 32 secret bytes and an identifier of 16 it fills the tree, 65,536 bytes, node r at byte 32 * r
+ * (bytes 0 to 31 keep what they held), and writes the public key of 56 bytes (types 6 and 4) to out, of 56 bytes or more.
+ * It takes some nine million hashes. Refusals: ZOLBINE_OUT, ZOLBINE_KEY_MATERIAL.
+ */
+struct zolbine_written zolbine_make_key(const uint8_t *seed, size_t seed_len,
+                                        const uint8_t *identifier, size_t identifier_len,
+                                        uint8_t *tree, size_t tree_len,
+                                        uint8_t *out, size_t out_len);
+
+/* The signer: writes the signature of 1,452 bytes over the message to out, of 1,452 bytes or more, with the leaf of that seed and
+ * identifier, a randomizer of 32 fresh random bytes, and the tree that zolbine_make_key filled. It reads the tree and doesn't
+ * compare it with the seed. Refusals: ZOLBINE_ROUND (leaf), ZOLBINE_OUT, ZOLBINE_GARBLED (message too long),
+ * ZOLBINE_KEY_MATERIAL.
+ *
+ * WARNING: a leaf is never to be signed twice with different messages. Two signatures under one leaf let anyone forge
+ * others under it, and in a round they make the seat a double signer. Keep the leaf as used BEFORE the signature leaves.
+ */
+struct zolbine_written zolbine_sign(uint32_t leaf,
+                                    const uint8_t *seed, size_t seed_len,
+                                    const uint8_t *identifier, size_t identifier_len,
+                                    const uint8_t *randomizer, size_t randomizer_len,
+                                    const uint8_t *tree, size_t tree_len,
+                                    const uint8_t *message, size_t message_len,
+                                    uint8_t *out, size_t out_len);
+
+#ifdef __cplusplus
+}
+#endif
+
+#endif
