@@ -1,0 +1,3 @@
+-- Laws of the confirmer's code.
+pub mod Openings
+pub mod Records

@@ -1,0 +1,3 @@
+// The accountable confirmer: opening, submit and step.
+pub mod opening;
+pub mod record;
