@@ -1,0 +1,15 @@
+use Rattle.lmots.proofs.digits.most.Statement.{statement}
+use Rattle.lmots.proofs.digits.most.Tie as tie
+use Rattle.lmots.proofs.digits.most.Reads as reads
+use Rattle.lmots.proofs.digits.most.Lts as lts
+
+-- src/digits.rt:14:1
+returns : tie.Need-returns
+returns c = ?
+
+-- src/digits.rt:14:1
+returns-2 : tie.Need-returns-2
+returns-2 c = ?
+
+pub most-spec : {M : Type 1} → statement M
+most-spec = tie.close (tie.spec returns returns-2)
