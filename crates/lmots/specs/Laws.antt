@@ -388,7 +388,7 @@ ends-signed I seed S q n e =
 -- ---- what is hashed to a key
 
 pub front-taken : (n : ℕ) (ws zs a : List ℕ) → length ws ≡ n → a ≡ patch 0 ws zs → take n a ≡ ws
-front-taken n ws zs a l e = rw (e, ← l) (take-patch 0 ws zs (omega arith))
+front-taken n ws zs a l e = let k : n ≡ 0 + length ws = omega arith in rw (e, k) (take-patch 0 ws zs (omega arith))
 
 pub key-by : (I ends a b r : List ℕ) (q n : ℕ) → 22 ≤ length a → take 22 a ≡ front I q dPblc → n ≡ 22 + length ends → b ≡ patch 22 ends a
     → r ≡ sha256 (take n b) → r ≡ sha256 (keyInput I q ends)

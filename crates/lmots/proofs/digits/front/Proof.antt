@@ -1,3 +1,7 @@
+use mathlib.Core.Path.{refl}
+use borrow.Author.Needs.{needs}
+use lib.ListN.{replicate}
+use Rattle.lmots.specs.Laws.{fronted}
 use borrow.Author.Needs.{needs}
 use Rattle.lmots.proofs.digits.front.Statement.{statement}
 use Rattle.lmots.proofs.digits.front.Tie as tie
@@ -79,7 +83,16 @@ array-write-out-2 c = search needs
 
 -- src/digits.rt:71:1
 returns : tie.Need-returns
-returns c = ?
+returns c = 
+    let fifth = c .before in
+    let fourth = fifth .before .before .before in
+    let third = fourth .before .before .before in
+    let second = third .before .before .before in
+    let first = second .before .before .before in
+    let start = first .before .before in
+    fronted (start .args .t1) (replicate 22 0) (first .put-word .last .0) (second .put-word2 .last .0) (third .put-word3 .last .0)
+    (fourth .put-word4 .last .0) (fifth .put-word5 .last .0) (start .args .q) (start .args .d) (search needs) refl
+    (first .put-word .ensures) (second .put-word2 .ensures) (third .put-word3 .ensures) (fourth .put-word4 .ensures) (fifth .put-word5 .ensures)
 
 pub front-spec : {M : Type 1} → statement M
 front-spec =

@@ -1,3 +1,10 @@
+use mathlib.Core.Path.{ap, _∙_}
+use mathlib.Core.List.{List, _++_}
+use Prim.Native.Nat.{ℕ}
+use native.Mathlib.Omega.{arith}
+use denote.Ref.{now}
+use lib.ListN.{replicate}
+use Rattle.lmots.specs.Laws.{pieces}
 use borrow.Author.Needs.{needs}
 use Rattle.lmots.proofs.digits.prefix.Statement.{statement}
 use Rattle.lmots.proofs.digits.prefix.Tie as tie
@@ -32,7 +39,12 @@ copy-requires-2 c κs = search needs
 
 -- src/digits.rt:86:1
 returns : tie.Need-returns
-returns c = ?
+returns c = 
+    let start = c .before .before .before .before .before .before .before .before .before in
+    let front = c .before .before .before .before .before .before .before .front .result in
+    let s = now (start .args .c) in
+    pieces 22 front s (replicate 54 0) (c .before .before .before .before .copy .last .0) (c .before .copy2 .last .0) (c .before .before .before .before .copy .ensures) ? ? (c .before .copy2 .ensures)
+    ∙ ap (λ (l : List ℕ). l ++ s) (c .before .before .before .before .before .before .before .front .ensures)
 
 pub prefix-spec : {M : Type 1} → statement M
 prefix-spec =

@@ -1,3 +1,7 @@
+use mathlib.Core.Path.{refl}
+use borrow.Author.Needs.{needs}
+use lib.ListN.{replicate}
+use Rattle.lmots.specs.Laws.{checksummed}
 use borrow.Author.Needs.{needs}
 use Rattle.lmots.proofs.digits.with_checksum.Statement.{statement}
 use Rattle.lmots.proofs.digits.with_checksum.Tie as tie
@@ -44,7 +48,10 @@ array-write-out-2 c = search needs
 
 -- src/digits.rt:58:1
 returns : tie.Need-returns
-returns c = ?
+returns c = 
+    let start = c .before .before .before .before .before .before in
+    checksummed (start .args .w) (c .before .before .before .before .checksum .result) (start .args .t2) (replicate 34 0) (c .before .copy .last .0)
+    (search needs) refl (c .before .copy .ensures) (c .before .before .before .before .checksum .ensures)
 
 pub with-checksum-spec : {M : Type 1} → statement M
 with-checksum-spec =

@@ -1,3 +1,8 @@
+use mathlib.Core.Path.{refl}
+use borrow.Author.Needs.{needs}
+use mathlib.Core.Path.{_∙_}
+use lib.ListN.{replicate}
+use Rattle.lmots.specs.Laws.{front-taken}
 use borrow.Author.Needs.{needs}
 use Rattle.lmots.proofs.key.key_buffer.Statement.{statement}
 use Rattle.lmots.proofs.key.key_buffer.Tie as tie
@@ -24,7 +29,8 @@ copy-requires c κs = search needs
 
 -- src/key.rt:106:1
 returns : tie.Need-returns
-returns c = ?
+returns c = 
+    front-taken 22 (c .before .before .before .before .front .result) (replicate 2166 0) (c .before .copy .last .0) (search needs) (c .before .copy .ensures) ∙ c .before .before .before .before .front .ensures
 
 pub key-buffer-spec : {M : Type 1} → statement M
 key-buffer-spec =
