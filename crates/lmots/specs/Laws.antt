@@ -16,8 +16,8 @@ use Rattle.sha256.specs.Constants.{initial}
 use Rattle.sha256.specs.Fips.{compress, pad, sha256}
 use Rattle.sha256.specs.Pieces.{oneBlock}
 use Rattle.sha256.specs.Laws.{one-block, pad-55}
-use Rattle.rfc8554.specs.Ots.{coef, digits, chains, leftShift, dMesg, dPblc, chainInput, chain, start, keyInput, chainEnd, sum, checksum, withChecksum, messageInput, digested, signed, completed}
-use Rattle.rfc8554.specs.OtsLaws.{length-chainInput, coef-eight, coef-four-high, coef-four-low}
+use Rattle.rfc8554.specs.Ots.{coef, digits, chains, leftShift, otsLength, otsKey, candidate, dMesg, dPblc, chainInput, chain, start, keyInput, chainEnd, sum, checksum, withChecksum, messageInput, digested, signed, completed}
+use Rattle.rfc8554.specs.OtsLaws.{length-chainInput, coef-eight, coef-four-high, coef-four-low, length-chainEnd, length-completed}
 use Rattle.lmots.specs.Pieces.{across, front}
 
 -- ---- words of bytes
@@ -395,3 +395,32 @@ pub key-by : (I ends a b r : List ℕ) (q n : ℕ) → 22 ≤ length a → take 
 unfolding keyInput front
 key-by I ends a b r q n h e l p k =
     k ∙ ap sha256 (rw (l, p) (take-patch 22 ends a h ∙ ap (λ (x : List ℕ). x ++ ends) e))
+
+-- ---- keys
+
+pub chains-le : (w : ℕ) → (w ≡ 4) ⊎ (w ≡ 8) → chains w ≤ 67
+unfolding chains
+chains-le w h = ⊎-elim (λ e. rw e (omega arith)) (λ e. rw e (omega arith)) h
+
+-- a signature of width w has room for the value of chain i
+pub value-place : (w i n : ℕ) → n ≡ otsLength w → i < chains w → 36 + 32 * i + 32 ≤ n
+unfolding otsLength
+value-place w i n e h = omega arith
+
+pub length-ends : (I S sig : List ℕ) (q w n : ℕ) → length sig ≡ otsLength w → n ≤ chains w → length (joined (completed I q w S sig) n) ≡ 32 * n
+length-ends I S sig q w n l h = length-joined 32 _ n (λ i k. length-completed I q w S sig i (omega (arith, value-place w i (length sig) l (omega arith))))
+
+pub key-signed : (I seed S a b r : List ℕ) (q : ℕ) → ((i : ℕ) → i < 34 → getD S i 0 ≡ 255) → 22 ≤ length a → take 22 a ≡ front I q dPblc
+    → b ≡ patch 22 (joined (signed I q 8 seed S) 34) a → r ≡ sha256 (take 1110 b) → r ≡ otsKey I q 8 seed
+unfolding otsKey chains
+key-signed I seed S a b r q e h f p k =
+    let l : length (joined (chainEnd I q 8 seed) 34) ≡ 1088 = length-joined 32 _ 34 (λ i _. length-chainEnd I q 8 seed i) in
+    key-by I (joined (chainEnd I q 8 seed) 34) a b r q 1110 h f (omega arith) (p ∙ rw (ends-signed I seed S q 34 e)) k
+
+pub key-completed : (I message sig S a b r : List ℕ) (q w m : ℕ) → length sig ≡ otsLength w → S ≡ digested I q w (part 4 32 sig) message → 22 ≤ length a
+    → take 22 a ≡ front I q dPblc → m ≡ chains w → b ≡ patch 22 (joined (completed I q w S sig) (chains w)) a
+    → r ≡ sha256 (take (22 + 32 * m) b) → r ≡ candidate I q w message sig
+unfolding candidate
+key-completed I message sig S a b r q w m l s h f n p k =
+    let long : length (joined (completed I q w S sig) (chains w)) ≡ 32 * chains w = length-ends I S sig q w (chains w) l (omega arith) in
+    key-by I (joined (completed I q w S sig) (chains w)) a b r q (22 + 32 * m) h f (omega arith) p k ∙ rw s

@@ -108,7 +108,7 @@ add-t59 c = search needs
 
 -- src/chain.rt:21:1
 returns : tie.Need-returns
-returns c = 
+returns c =
     let sixth = c .before in
     let fifth = sixth .before in
     let fourth = fifth .before in

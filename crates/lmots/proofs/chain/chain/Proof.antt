@@ -39,14 +39,14 @@ loop-less c = omega arith
 
 -- src/chain.rt:78:5
 loop-again : tie.Need-loop-again Inv-loop μ-loop
-loop-again c = 
+loop-again c =
     let at-loop = c .before .before in
     let args = at-loop .before .args in
     (omega arith, chain-turn (bytes (args .id)) (bytes (args .tmp)) (at-loop .loop .h) (c .step .result) (args .q) (args .i) (args .from) (at-loop .loop .t) (at-loop .loop .inv .1) (c .step .ensures))
 
 -- src/chain.rt:64:1
 returns : tie.Need-returns Inv-loop μ-loop
-returns c = 
+returns c =
     let at-loop = c .before in
     let args = at-loop .before .args in
     let all : at-loop .loop .t ≡ args .count = omega arith in

@@ -27,7 +27,7 @@ compress-requires c κs = search needs
 
 -- src/chain.rt:54:1
 returns : tie.Need-returns
-returns c = 
+returns c =
     let start = c .before .before .before in
     let m = c .before .before .block .result in
     compressed m (c .before .initial-value .result) (c .compress .result)

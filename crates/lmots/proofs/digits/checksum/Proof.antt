@@ -34,7 +34,7 @@ loop-holds c = (omega arith, omega arith, refl)
 
 -- src/digits.rt:51:22
 coef-requires : tie.Need-coef-requires Inv-loop μ-loop
-coef-requires c κs = 
+coef-requires c κs =
     let start = c .before .before .before .before .before in
     (start .pre .0, rw (start .pre .1) (digest-place (start .args .w) (c .before .loop .i) (start .pre .0) (omega arith)))
 
@@ -56,7 +56,7 @@ loop-less c = omega arith
 
 -- src/digits.rt:50:5
 loop-again : tie.Need-loop-again Inv-loop μ-loop
-loop-again c = 
+loop-again c =
     let at-loop = c .before .before in
     let start = at-loop .before .before .before .before in
     (omega arith, omega arith, sum-turn (start .args .w) (at-loop .before .most .result) (c .coef .result) (at-loop .loop .sum) (at-loop .loop .i) (now (start .args .digest)) (at-loop .loop .inv .2) (at-loop .before .most .ensures .0) (c .coef .ensures .0))
@@ -67,14 +67,14 @@ mul-result c = omega arith
 
 -- src/digits.rt:42:1
 returns : tie.Need-returns Inv-loop μ-loop
-returns c = 
+returns c =
     let at-loop = c .before .before in
     let start = at-loop .before .before .before .before in
     checksum-eight (start .args .w) (at-loop .loop .sum) (at-loop .loop .i) (now (start .args .digest)) (c .if1 .taken) (omega arith) (at-loop .loop .inv .2)
 
 -- src/digits.rt:42:1
 returns-2 : tie.Need-returns-2 Inv-loop μ-loop
-returns-2 c = 
+returns-2 c =
     let at-loop = c .before .before in
     let start = at-loop .before .before .before .before in
     checksum-four (start .args .w) (at-loop .loop .sum) (at-loop .loop .i) (now (start .args .digest)) (narrow _ (start .pre .0) (c .if1 .left)) (omega arith) (at-loop .loop .inv .2)

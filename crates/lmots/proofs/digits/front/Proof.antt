@@ -83,7 +83,7 @@ array-write-out-2 c = search needs
 
 -- src/digits.rt:71:1
 returns : tie.Need-returns
-returns c = 
+returns c =
     let fifth = c .before in
     let fourth = fifth .before .before .before in
     let third = fourth .before .before .before in

@@ -28,7 +28,7 @@ with-checksum-requires c κs = search needs
 
 -- src/digits.rt:98:1
 returns : tie.Need-returns
-returns c = 
+returns c =
     let start = c .before .before .before .before .before .before in
     digested-by (bytes (start .args .id)) (now (start .args .c)) (now (start .args .message)) (c .before .before .before .prefix .result) (c .before .sha256-two .result)
     (c .with-checksum .result) (start .args .q) (start .args .w) (c .before .before .before .prefix .ensures) (c .before .sha256-two .ensures) (c .with-checksum .ensures)

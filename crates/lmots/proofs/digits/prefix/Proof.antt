@@ -1,9 +1,9 @@
-use mathlib.Core.Path.{ap, _∙_}
+use mathlib.Core.Path.{_≡_, ap, _∙_}
 use mathlib.Core.List.{List, _++_}
 use Prim.Native.Nat.{ℕ}
 use native.Mathlib.Omega.{arith}
 use denote.Ref.{now}
-use lib.ListN.{replicate}
+use lib.ListN.{length, replicate}
 use Rattle.lmots.specs.Laws.{pieces}
 use borrow.Author.Needs.{needs}
 use Rattle.lmots.proofs.digits.prefix.Statement.{statement}
@@ -39,11 +39,12 @@ copy-requires-2 c κs = search needs
 
 -- src/digits.rt:86:1
 returns : tie.Need-returns
-returns c = 
+returns c =
     let start = c .before .before .before .before .before .before .before .before .before in
     let front = c .before .before .before .before .before .before .before .front .result in
     let s = now (start .args .c) in
-    pieces 22 front s (replicate 54 0) (c .before .before .before .before .copy .last .0) (c .before .copy2 .last .0) (c .before .before .before .before .copy .ensures) ? ? (c .before .copy2 .ensures)
+    let n : length front ≡ 22 = search needs in
+    pieces 22 front s (replicate 54 0) (c .before .before .before .before .copy .last .0) (c .before .copy2 .last .0) (c .before .before .before .before .copy .ensures) (omega arith) (omega arith) (c .before .copy2 .ensures)
     ∙ ap (λ (l : List ℕ). l ++ s) (c .before .before .before .before .before .before .before .front .ensures)
 
 pub prefix-spec : {M : Type 1} → statement M

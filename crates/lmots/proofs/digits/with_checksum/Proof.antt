@@ -48,7 +48,7 @@ array-write-out-2 c = search needs
 
 -- src/digits.rt:58:1
 returns : tie.Need-returns
-returns c = 
+returns c =
     let start = c .before .before .before .before .before .before in
     checksummed (start .args .w) (c .before .before .before .before .checksum .result) (start .args .t2) (replicate 34 0) (c .before .copy .last .0)
     (search needs) refl (c .before .copy .ensures) (c .before .before .before .before .checksum .ensures)

@@ -1,4 +1,11 @@
 use borrow.Author.Needs.{needs}
+use native.Mathlib.Omega.{arith}
+use Rattle.octets.specs.Octets.{part, bytes}
+use denote.Ref.{now}
+use Rattle.rfc8554.specs.Ots.{otsLength}
+use lib.ListN.{length-take}
+use Rattle.lmots.specs.Laws.{chains-le, key-completed}
+use borrow.Author.Needs.{needs}
 use Rattle.lmots.proofs.key.candidate.Statement.{statement}
 use Rattle.lmots.proofs.key.candidate.Tie as tie
 use Rattle.lmots.proofs.key.candidate.Reads as reads
@@ -19,7 +26,8 @@ part-message-digits-start c = search needs
 
 -- src/key.rt:137:46
 part-message-digits-end : tie.Need-part-message-digits-end
-part-message-digits-end c = ?
+unfolding otsLength
+part-message-digits-end c = omega arith
 
 -- src/key.rt:137:18
 message-digits-requires : tie.Need-message-digits-requires
@@ -39,7 +47,10 @@ slice-aggregate-write-completed-2 c = search needs
 
 -- src/key.rt:139:5
 write-completed-requires : tie.Need-write-completed-requires
-write-completed-requires c κs = ?
+write-completed-requires c κs =
+    let start = c .before .before .before .before .before .before .before in
+    let room = chains-le (start .args .w) (start .pre .1) in
+    (start .pre .0, start .pre .1, search needs, start .pre .2, omega arith)
 
 -- src/key.rt:140:25
 count-requires : tie.Need-count-requires
@@ -59,7 +70,7 @@ array-share-prefix-all c = search needs
 
 -- src/key.rt:141:29
 slice-aggregate-sha256 : tie.Need-slice-aggregate-sha256
-slice-aggregate-sha256 c = ?
+slice-aggregate-sha256 c = simp length-take (omega arith)
 
 -- src/key.rt:141:5
 sha256-requires : tie.Need-sha256-requires
@@ -67,7 +78,11 @@ sha256-requires c κs = search needs
 
 -- src/key.rt:126:1
 returns : tie.Need-returns
-returns c = ?
+unfolding part
+returns c =
+    let args = c .before .before .before .before .before .before .before .before .before .before .before .before .args in
+    key-completed (bytes (args .id)) (now (args .message)) (now (args .sig)) (c .before .before .before .before .before .before .before .before .message-digits .result) (c .before .before .before .before .before .before .before .key-buffer .result) (c .before .before .before .before .write-completed .last .1 .1 .1 .1 .1 .1 .0) (c .sha256 .result)
+    (args .q) (args .w) (c .before .before .count .result) (c .before .before .before .before .before .before .before .before .before .before .before .before .pre .2) (c .before .before .before .before .before .before .before .before .message-digits .ensures) (omega arith) (c .before .before .before .before .before .before .before .key-buffer .ensures) (c .before .before .count .ensures .0) (c .before .before .before .before .write-completed .ensures) (c .sha256 .ensures)
 
 pub candidate-spec : {M : Type 1} → statement M
 candidate-spec =

@@ -29,7 +29,7 @@ copy-requires c κs = search needs
 
 -- src/key.rt:106:1
 returns : tie.Need-returns
-returns c = 
+returns c =
     front-taken 22 (c .before .before .before .before .front .result) (replicate 2166 0) (c .before .copy .last .0) (search needs) (c .before .copy .ensures) ∙ c .before .before .before .before .front .ensures
 
 pub key-buffer-spec : {M : Type 1} → statement M

@@ -1,4 +1,9 @@
 use borrow.Author.Needs.{needs}
+use native.Mathlib.Omega.{arith}
+use Rattle.octets.specs.Octets.{bytes}
+use lib.ListN.{replicate, getD-replicate, length-take}
+use Rattle.lmots.specs.Laws.{key-signed}
+use borrow.Author.Needs.{needs}
 use Rattle.lmots.proofs.key.ots_key.Statement.{statement}
 use Rattle.lmots.proofs.key.ots_key.Tie as tie
 use Rattle.lmots.proofs.key.ots_key.Reads as reads
@@ -29,7 +34,7 @@ array-share-prefix-all c = search needs
 
 -- src/key.rt:122:29
 slice-aggregate-sha256 : tie.Need-slice-aggregate-sha256
-slice-aggregate-sha256 c = ?
+slice-aggregate-sha256 c = simp length-take (omega arith)
 
 -- src/key.rt:122:5
 sha256-requires : tie.Need-sha256-requires
@@ -37,7 +42,10 @@ sha256-requires c κs = search needs
 
 -- src/key.rt:116:1
 returns : tie.Need-returns
-returns c = ?
+returns c =
+    let args = c .before .before .before .before .before .before .before .args in
+    key-signed (bytes (args .id)) (bytes (args .seed)) (replicate 34 255) (c .before .before .before .before .before .before .key-buffer .result) (c .before .before .before .write-signed .last .1 .1 .1 .1 .1 .0) (c .sha256 .result) (args .q)
+    (λ i h. getD-replicate 34 i 255 0 h) (omega arith) (c .before .before .before .before .before .before .key-buffer .ensures) (c .before .before .before .write-signed .ensures) (c .sha256 .ensures)
 
 pub ots-key-spec : {M : Type 1} → statement M
 ots-key-spec =

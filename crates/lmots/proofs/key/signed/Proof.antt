@@ -1,3 +1,9 @@
+use native.Mathlib.Omega.{arith}
+use denote.Ref.{now}
+use Rattle.octets.specs.Octets.{bytes}
+use mathlib.Core.Path.{refl}
+use mathlib.Core.Logic.{inr}
+use Rattle.lmots.specs.Laws.{signed-by}
 use borrow.Author.Needs.{needs}
 use Rattle.lmots.proofs.key.signed.Statement.{statement}
 use Rattle.lmots.proofs.key.signed.Tie as tie
@@ -13,7 +19,7 @@ cast-n c = search needs
 
 -- src/key.rt:36:9
 coef-requires : tie.Need-coef-requires
-coef-requires c κs = ?
+coef-requires c κs = (inr refl, omega arith)
 
 -- src/key.rt:37:9
 start-requires : tie.Need-start-requires
@@ -25,7 +31,11 @@ chain-requires c κs = search needs
 
 -- src/key.rt:31:1
 returns : tie.Need-returns
-returns c = ?
+returns c =
+    let start = c .before .before .before .before in
+    let args = start .args in
+    signed-by (bytes (args .id)) (bytes (args .seed)) (now (args .digits)) (c .before .start .result) (c .chain .result) (args .q) (args .i) (c .before .before .coef .result)
+    (c .before .before .coef .ensures .0) (c .before .start .ensures) (c .chain .ensures)
 
 pub signed-spec : {M : Type 1} → statement M
 signed-spec = tie.close (tie.spec cast-n coef-requires start-requires chain-requires returns)

@@ -53,7 +53,7 @@ array-read-t30 c = search needs
 
 -- src/words.rt:21:1
 returns : tie.Need-returns
-returns c = 
+returns c =
     let start = c .before .before .before in
     eight-words (start .args .at) (now (start .args .s)) (c .before .four .result) (c .four2 .result) (search needs) (search needs)
     (c .before .four .ensures) (c .four2 .ensures)

@@ -38,7 +38,7 @@ word-at-requires-4 c κs = search needs
 
 -- src/words.rt:8:1
 returns : tie.Need-returns
-returns c = 
+returns c =
     let third = c .before in
     let second = third .before in
     let first = second .before in

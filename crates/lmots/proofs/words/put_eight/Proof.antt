@@ -55,7 +55,7 @@ loop-less c = omega arith
 
 -- src/words.rt:36:5
 loop-again : tie.Need-loop-again Inv-loop μ-loop
-loop-again c = 
+loop-again c =
     let at-loop = c .before .before .before .before .before in
     let args = at-loop .before .before .args in
     let h = args .t3 in
@@ -67,7 +67,7 @@ same-length c = omega arith
 
 -- src/words.rt:31:1
 returns : tie.Need-returns Inv-loop μ-loop
-returns c = 
+returns c =
     let at-loop = c .before in
     let args = at-loop .before .before .args in
     let h = args .t3 in
