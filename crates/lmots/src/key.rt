@@ -1,6 +1,5 @@
 // Public key, signature and candidate key (RFC 8554, sections 4.3, 4.5 and 4.6).
 ghost use mathlib.Core.Path.{_≡_};
-ghost use mathlib.Core.List.{_++_};
 ghost use mathlib.Core.Logic.{_⊎_};
 ghost use Prim.Native.Nat.{_+_, _*_, _<_, _≤_};
 ghost use lib.ListN.{length, take};

@@ -1,4 +1,4 @@
-use Rattle.lmots.specs.Laws.{prepared}
+use Rattle.lmots.specs.ChainLaws.{prepared}
 use borrow.Author.Needs.{needs}
 use Rattle.lmots.proofs.chain.block.Statement.{statement}
 use Rattle.lmots.proofs.chain.block.Tie as tie

@@ -3,7 +3,7 @@ use Prim.Native.Nat.{ℕ, _-_, _≤_}
 use native.Mathlib.Omega.{arith}
 use Rattle.octets.specs.Octets.{bytes}
 use Rattle.rfc8554.specs.Ots.{chain}
-use Rattle.lmots.specs.Laws.{chain-turn}
+use Rattle.lmots.specs.ChainLaws.{chain-turn}
 use Rattle.lmots.proofs.chain.chain.Statement.{statement}
 use Rattle.lmots.proofs.chain.chain.Tie as tie
 use Rattle.lmots.proofs.chain.chain.Reads as reads

@@ -3,7 +3,7 @@ use mir.Syntax.{w32}
 use mir.Val.{Fits}
 use Rattle.octets.specs.Octets.{bytes}
 use Rattle.rfc8554.specs.Ots.{chainInput}
-use Rattle.lmots.specs.Laws.{compressed}
+use Rattle.lmots.specs.ChainLaws.{compressed}
 use borrow.Author.Needs.{needs}
 use Rattle.lmots.proofs.chain.step.Statement.{statement}
 use Rattle.lmots.proofs.chain.step.Tie as tie

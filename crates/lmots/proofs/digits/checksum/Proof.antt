@@ -4,7 +4,7 @@ use native.Mathlib.Omega.{arith}
 use denote.Ref.{now}
 use Rattle.rfc8554.specs.Ots.{sum}
 use Rattle.rfc8554.specs.Ots as Ots
-use Rattle.lmots.specs.Laws.{narrow, digest-place, sum-turn, checksum-eight, checksum-four}
+use Rattle.lmots.specs.DigitLaws.{narrow, digest-place, sum-turn, checksum-eight, checksum-four}
 use Rattle.lmots.proofs.digits.checksum.Statement.{statement}
 use Rattle.lmots.proofs.digits.checksum.Tie as tie
 use Rattle.lmots.proofs.digits.checksum.Reads as reads

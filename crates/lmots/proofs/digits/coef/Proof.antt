@@ -1,7 +1,7 @@
 use native.Mathlib.Omega.{arith}
 use denote.Ref.{now}
 use lib.ListN.{length}
-use Rattle.lmots.specs.Laws.{narrow, place-eight, place-four, digit-eight, digit-high, digit-low}
+use Rattle.lmots.specs.DigitLaws.{narrow, place-eight, place-four, digit-eight, digit-high, digit-low}
 use borrow.Author.Needs.{needs}
 use Rattle.lmots.proofs.digits.coef.Statement.{statement}
 use Rattle.lmots.proofs.digits.coef.Tie as tie

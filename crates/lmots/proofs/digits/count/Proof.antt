@@ -1,6 +1,6 @@
 use native.Mathlib.Omega.{arith}
 use Rattle.rfc8554.specs.Ots.{digits}
-use Rattle.lmots.specs.Laws.{narrow}
+use Rattle.lmots.specs.DigitLaws.{narrow}
 use Rattle.lmots.proofs.digits.count.Statement.{statement}
 use Rattle.lmots.proofs.digits.count.Tie as tie
 use Rattle.lmots.proofs.digits.count.Reads as reads

@@ -1,8 +1,7 @@
 use mathlib.Core.Path.{refl}
 use borrow.Author.Needs.{needs}
 use lib.ListN.{replicate}
-use Rattle.lmots.specs.Laws.{fronted}
-use borrow.Author.Needs.{needs}
+use Rattle.lmots.specs.WriteLaws.{fronted}
 use Rattle.lmots.proofs.digits.front.Statement.{statement}
 use Rattle.lmots.proofs.digits.front.Tie as tie
 use Rattle.lmots.proofs.digits.front.Reads as reads

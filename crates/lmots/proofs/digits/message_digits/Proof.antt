@@ -1,6 +1,6 @@
 use Rattle.octets.specs.Octets.{bytes}
 use denote.Ref.{now}
-use Rattle.lmots.specs.Laws.{digested-by}
+use Rattle.lmots.specs.DigitLaws.{digested-by}
 use borrow.Author.Needs.{needs}
 use Rattle.lmots.proofs.digits.message_digits.Statement.{statement}
 use Rattle.lmots.proofs.digits.message_digits.Tie as tie

@@ -1,5 +1,5 @@
 use native.Mathlib.Omega.{arith}
-use Rattle.lmots.specs.Laws.{narrow}
+use Rattle.lmots.specs.DigitLaws.{narrow}
 use Rattle.lmots.proofs.digits.most.Statement.{statement}
 use Rattle.lmots.proofs.digits.most.Tie as tie
 use Rattle.lmots.proofs.digits.most.Reads as reads

@@ -1,8 +1,7 @@
 use mathlib.Core.Path.{refl}
 use borrow.Author.Needs.{needs}
 use lib.ListN.{replicate}
-use Rattle.lmots.specs.Laws.{checksummed}
-use borrow.Author.Needs.{needs}
+use Rattle.lmots.specs.DigitLaws.{checksummed}
 use Rattle.lmots.proofs.digits.with_checksum.Statement.{statement}
 use Rattle.lmots.proofs.digits.with_checksum.Tie as tie
 use Rattle.lmots.proofs.digits.with_checksum.Reads as reads

@@ -4,8 +4,7 @@ use Rattle.octets.specs.Octets.{part, bytes}
 use denote.Ref.{now}
 use Rattle.rfc8554.specs.Ots.{otsLength}
 use lib.ListN.{length-take}
-use Rattle.lmots.specs.Laws.{chains-le, key-completed}
-use borrow.Author.Needs.{needs}
+use Rattle.lmots.specs.KeyLaws.{chains-le, key-completed}
 use Rattle.lmots.proofs.key.candidate.Statement.{statement}
 use Rattle.lmots.proofs.key.candidate.Tie as tie
 use Rattle.lmots.proofs.key.candidate.Reads as reads

@@ -2,7 +2,8 @@ use native.Mathlib.Omega.{arith}
 use denote.Ref.{now}
 use Rattle.octets.specs.Octets.{bytes}
 use lib.ListN.{length}
-use Rattle.lmots.specs.Laws.{chains-le, value-place, chain-place, completed-by}
+use Rattle.lmots.specs.DigitLaws.{chain-place}
+use Rattle.lmots.specs.KeyLaws.{chains-le, value-place, completed-by}
 use borrow.Author.Needs.{needs}
 use Rattle.lmots.proofs.key.completed.Statement.{statement}
 use Rattle.lmots.proofs.key.completed.Tie as tie

@@ -1,6 +1,6 @@
 use native.Mathlib.Omega.{arith}
 use Rattle.rfc8554.specs.Ots.{chains}
-use Rattle.lmots.specs.Laws.{narrow}
+use Rattle.lmots.specs.DigitLaws.{narrow}
 use Rattle.lmots.proofs.key.count.Statement.{statement}
 use Rattle.lmots.proofs.key.count.Tie as tie
 use Rattle.lmots.proofs.key.count.Reads as reads

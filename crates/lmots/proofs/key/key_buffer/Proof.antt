@@ -1,9 +1,7 @@
-use mathlib.Core.Path.{refl}
 use borrow.Author.Needs.{needs}
 use mathlib.Core.Path.{_∙_}
 use lib.ListN.{replicate}
-use Rattle.lmots.specs.Laws.{front-taken}
-use borrow.Author.Needs.{needs}
+use Rattle.lmots.specs.KeyLaws.{front-taken}
 use Rattle.lmots.proofs.key.key_buffer.Statement.{statement}
 use Rattle.lmots.proofs.key.key_buffer.Tie as tie
 use Rattle.lmots.proofs.key.key_buffer.Reads as reads

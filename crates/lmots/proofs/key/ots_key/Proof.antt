@@ -2,8 +2,7 @@ use borrow.Author.Needs.{needs}
 use native.Mathlib.Omega.{arith}
 use Rattle.octets.specs.Octets.{bytes}
 use lib.ListN.{replicate, getD-replicate, length-take}
-use Rattle.lmots.specs.Laws.{key-signed}
-use borrow.Author.Needs.{needs}
+use Rattle.lmots.specs.KeyLaws.{key-signed}
 use Rattle.lmots.proofs.key.ots_key.Statement.{statement}
 use Rattle.lmots.proofs.key.ots_key.Tie as tie
 use Rattle.lmots.proofs.key.ots_key.Reads as reads

@@ -3,7 +3,7 @@ use denote.Ref.{now}
 use Rattle.octets.specs.Octets.{bytes}
 use mathlib.Core.Path.{refl}
 use mathlib.Core.Logic.{inr}
-use Rattle.lmots.specs.Laws.{signed-by}
+use Rattle.lmots.specs.KeyLaws.{signed-by}
 use borrow.Author.Needs.{needs}
 use Rattle.lmots.proofs.key.signed.Statement.{statement}
 use Rattle.lmots.proofs.key.signed.Tie as tie

@@ -1,5 +1,4 @@
 use mathlib.Core.Path.{_≡_, refl, ap, _∙_}
-use mathlib.Core.List.{List}
 use Prim.Native.Nat.{ℕ, _-_, _≤_}
 use native.Mathlib.Omega.{arith}
 use borrow.Author.Needs.{needs}
@@ -8,8 +7,8 @@ use denote.Ref.{now}
 use Rattle.octets.specs.Octets.{patch, bytes}
 use Rattle.octets.specs.Strings.{joined}
 use Rattle.rfc8554.specs.Ots.{chains, completed}
-use Rattle.rfc8554.specs.OtsLaws.{length-completed}
-use Rattle.lmots.specs.Laws.{patch-none, joined-written, value-place}
+use Rattle.lmots.specs.WriteLaws.{patch-none, joined-written}
+use Rattle.lmots.specs.KeyLaws.{length-ends}
 use Rattle.lmots.proofs.key.write_completed.Statement.{statement}
 use Rattle.lmots.proofs.key.write_completed.Tie as tie
 use Rattle.lmots.proofs.key.write_completed.Reads as reads
@@ -68,7 +67,7 @@ loop-again c =
       omega arith,
       search needs,
       joined-written f (args .at) (at-loop .loop .i) (now (args .out)) (at-loop .loop .out) (bytes (c .before .before .before .before .completed .result)) (c .before .before .put-eight .last .0)
-          (λ j h. length-completed _ _ _ _ sig j (omega (arith, value-place (args .w) j (length sig) (start .pre .3) (omega arith)))) (omega arith)
+          (length-ends (bytes (args .id)) (now (args .digits)) sig (args .q) (args .w) (at-loop .loop .i) (start .pre .3) (omega arith)) (omega arith)
           (at-loop .loop .inv .2) (c .before .before .before .before .completed .ensures) (c .before .before .put-eight .ensures),
     )
 

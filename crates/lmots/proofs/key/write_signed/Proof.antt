@@ -1,5 +1,4 @@
 use mathlib.Core.Path.{_≡_, refl, ap, _∙_}
-use mathlib.Core.List.{List}
 use Prim.Native.Nat.{ℕ, _-_, _≤_}
 use native.Mathlib.Omega.{arith}
 use borrow.Author.Needs.{needs}
@@ -7,9 +6,10 @@ use lib.ListN.{length}
 use denote.Ref.{now}
 use Rattle.octets.specs.Octets.{patch, bytes}
 use Rattle.octets.specs.Strings.{joined}
+use Rattle.octets.specs.StringLaws.{length-joined}
 use Rattle.rfc8554.specs.Ots.{signed}
 use Rattle.rfc8554.specs.OtsLaws.{length-signed}
-use Rattle.lmots.specs.Laws.{patch-none, joined-written}
+use Rattle.lmots.specs.WriteLaws.{patch-none, joined-written}
 use Rattle.lmots.proofs.key.write_signed.Statement.{statement}
 use Rattle.lmots.proofs.key.write_signed.Tie as tie
 use Rattle.lmots.proofs.key.write_signed.Reads as reads
@@ -61,7 +61,7 @@ loop-again c =
       omega arith,
       search needs,
       joined-written f (args .at) (at-loop .loop .i) (now (args .out)) (at-loop .loop .out) (bytes (c .before .before .before .before .signed .result)) (c .before .before .put-eight .last .0)
-          (λ j _. length-signed _ _ 8 _ _ j) (omega arith) (at-loop .loop .inv .2) (c .before .before .before .before .signed .ensures) (c .before .before .put-eight .ensures),
+          (length-joined 32 f (at-loop .loop .i) (λ j _. length-signed _ _ 8 _ _ j)) (omega arith) (at-loop .loop .inv .2) (c .before .before .before .before .signed .ensures) (c .before .before .put-eight .ensures),
     )
 
 -- src/key.rt:42:1

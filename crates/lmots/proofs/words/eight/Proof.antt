@@ -1,5 +1,5 @@
 use denote.Ref.{now}
-use Rattle.lmots.specs.Laws.{eight-words}
+use Rattle.lmots.specs.WordLaws.{eight-words}
 use borrow.Author.Needs.{needs}
 use Rattle.lmots.proofs.words.eight.Statement.{statement}
 use Rattle.lmots.proofs.words.eight.Tie as tie

@@ -1,6 +1,6 @@
 use native.Mathlib.Omega.{arith}
 use denote.Ref.{now}
-use Rattle.lmots.specs.Laws.{four-words}
+use Rattle.lmots.specs.WordLaws.{four-words}
 use borrow.Author.Needs.{needs}
 use Rattle.lmots.proofs.words.four.Statement.{statement}
 use Rattle.lmots.proofs.words.four.Tie as tie
