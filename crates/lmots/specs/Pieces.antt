@@ -7,6 +7,6 @@ use Rattle.octets.specs.Octets.{be}
 unfoldable pub across : ℕ → ℕ → ℕ
 across a b = a % 16777216 * 256 + b / 16777216 % 256
 
--- what the hashes of messages and keys begin with: identifier, leaf number, and the separator d
+-- what the hashes of messages, keys and nodes begin with: identifier, leaf or node number, and the separator d
 unfoldable pub front : List ℕ → ℕ → ℕ → List ℕ
 front I q d = I ++ be 4 q ++ be 2 d

@@ -31,6 +31,12 @@ pub patch-next : (from at : ℕ) (us vs xs ys zs : List ℕ) → ys ≡ patch fr
     → zs ≡ patch at vs ys → zs ≡ patch from (us ++ vs) xs
 patch-next from at us vs xs ys zs e f h p = p ∙ rw (e, f) (patch-patch from us vs xs h)
 
+-- two writes that fill a buffer
+pub pieces : (at : ℕ) (us vs zs a b : List ℕ) → a ≡ patch 0 us zs → at ≡ length us → length us + length vs ≡ length zs
+    → b ≡ patch at vs a → b ≡ us ++ vs
+pieces at us vs zs a b e f l p =
+    patch-next 0 at us vs zs a b e (omega arith) (omega arith) p ∙ patch-whole (us ++ vs) zs (rw length-append l)
+
 -- two stores of the bytes of a number
 pub stores-two : (at x : ℕ) (xs : List ℕ) → at + 2 ≤ length xs
     → set (set xs at (x / 256 % 256)) (at + 1) (x % 256) ≡ patch at (be 2 x) xs
@@ -58,7 +64,7 @@ unfolding joined
 joined-written f at i xs out y r n l e k p =
     patch-next at (at + 32 * i) (joined f i) (f i) xs out r e (omega arith) l (p ∙ rw k) ∙ rw add-one
 
--- ---- what the hashes of messages and keys begin with
+-- ---- what the hashes begin with
 
 pub fronted : (id zs a b c d e : List ℕ) (q s : ℕ) → length id ≡ 4 → length zs ≡ 22
     → a ≡ patch 0 (be 4 (getD id 0 0)) zs
@@ -83,9 +89,3 @@ fronted id zs a b c d e q s li lz pa pb pc pd pe =
     ∙ patch-next 0 20 us (be 2 s) zs e _ ee (omega arith) (omega arith) refl
     ∙ patch-whole (us ++ be 2 s) zs (simp (length-append, length-be) (sym lz))
     ∙ ap (λ (l : List ℕ). l ++ be 4 q ++ be 2 s) id-bytes
-
--- two writes that fill a buffer
-pub pieces : (at : ℕ) (us vs zs a b : List ℕ) → a ≡ patch 0 us zs → at ≡ length us → length us + length vs ≡ length zs
-    → b ≡ patch at vs a → b ≡ us ++ vs
-pieces at us vs zs a b e f l p =
-    patch-next 0 at us vs zs a b e (omega arith) (omega arith) p ∙ patch-whole (us ++ vs) zs (rw length-append l)

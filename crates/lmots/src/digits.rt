@@ -67,7 +67,7 @@ fn with_checksum(w: u32, digest: [u8; 32]) -> [u8; 34]
     out
 }
 
-// What a hash over a key's digits begins with: identifier, leaf number, and the separator d.
+// What the hashes of messages, keys and nodes begin with: identifier, leaf or node number, and the separator d.
 pub fn front(id: [u32; 4], q: u32, d: u32) -> [u8; 22]
     ensures { λ r. ⌜ r ≡ Pieces.front (bytes id) q d ⌝ }
 {
