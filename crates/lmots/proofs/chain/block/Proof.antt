@@ -1,112 +1,84 @@
+-- `lmots::chain::block` meets its contract.
 use Rattle.lmots.specs.ChainLaws.{prepared}
 use borrow.Author.Needs.{needs}
 use Rattle.lmots.proofs.chain.block.Statement.{statement}
 use Rattle.lmots.proofs.chain.block.Tie as tie
-use Rattle.lmots.proofs.chain.block.Reads as reads
-use Rattle.lmots.proofs.chain.block.Lts as lts
-use Rattle.lmots.proofs.chain.across.Reads as across-reads
 
--- src/chain.rt:25:13
 array-read-a : tie.Need-array-read-a
 array-read-a c = search needs
 
--- src/chain.rt:26:13
 array-read-b : tie.Need-array-read-b
 array-read-b c = search needs
 
--- src/chain.rt:27:13
 array-read-c : tie.Need-array-read-c
 array-read-c c = search needs
 
--- src/chain.rt:28:13
 array-read-d : tie.Need-array-read-d
 array-read-d c = search needs
 
--- src/chain.rt:29:13
 array-read-e : tie.Need-array-read-e
 array-read-e c = search needs
 
--- src/chain.rt:30:13
 array-read-f : tie.Need-array-read-f
 array-read-f c = search needs
 
--- src/chain.rt:31:13
 array-read-g : tie.Need-array-read-g
 array-read-g c = search needs
 
--- src/chain.rt:32:13
 array-read-h : tie.Need-array-read-h
 array-read-h c = search needs
 
--- src/chain.rt:34:9
 array-read-t18 : tie.Need-array-read-t18
 array-read-t18 c = search needs
 
--- src/chain.rt:35:9
 array-read-t37 : tie.Need-array-read-t37
 array-read-t37 c = search needs
 
--- src/chain.rt:36:9
 array-read-t40 : tie.Need-array-read-t40
 array-read-t40 c = search needs
 
--- src/chain.rt:37:9
 array-read-t43 : tie.Need-array-read-t43
 array-read-t43 c = search needs
 
--- src/chain.rt:39:9
 mul-t44 : tie.Need-mul-t44
 mul-t44 c = search needs
 
--- src/chain.rt:39:21
 mul-t45 : tie.Need-mul-t45
 mul-t45 c = search needs
 
--- src/chain.rt:39:9
 add-t46 : tie.Need-add-t46
 add-t46 c = search needs
 
--- src/chain.rt:39:9
 add-t49 : tie.Need-add-t49
 add-t49 c = search needs
 
--- src/chain.rt:40:9
 across-requires : tie.Need-across-requires
 across-requires c κs = search needs
 
--- src/chain.rt:41:9
 across-requires-2 : tie.Need-across-requires-2
 across-requires-2 c κs = search needs
 
--- src/chain.rt:42:9
 across-requires-3 : tie.Need-across-requires-3
 across-requires-3 c κs = search needs
 
--- src/chain.rt:43:9
 across-requires-4 : tie.Need-across-requires-4
 across-requires-4 c κs = search needs
 
--- src/chain.rt:44:9
 across-requires-5 : tie.Need-across-requires-5
 across-requires-5 c κs = search needs
 
--- src/chain.rt:45:9
 across-requires-6 : tie.Need-across-requires-6
 across-requires-6 c κs = search needs
 
--- src/chain.rt:46:9
 across-requires-7 : tie.Need-across-requires-7
 across-requires-7 c κs = search needs
 
--- src/chain.rt:47:9
 mul-t58 : tie.Need-mul-t58
 mul-t58 c = search needs
 
--- src/chain.rt:47:9
 add-t59 : tie.Need-add-t59
 add-t59 c = search needs
 
--- src/chain.rt:21:1
 returns : tie.Need-returns
 returns c =
     let sixth = c .before in

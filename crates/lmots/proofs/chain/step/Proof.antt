@@ -1,3 +1,4 @@
+-- `lmots::chain::step` meets its contract.
 use lib.ListN.{getD}
 use mir.Syntax.{w32}
 use mir.Val.{Fits}
@@ -7,25 +8,16 @@ use Rattle.lmots.specs.ChainLaws.{compressed}
 use borrow.Author.Needs.{needs}
 use Rattle.lmots.proofs.chain.step.Statement.{statement}
 use Rattle.lmots.proofs.chain.step.Tie as tie
-use Rattle.lmots.proofs.chain.step.Reads as reads
-use Rattle.lmots.proofs.chain.step.Lts as lts
-use Rattle.lmots.proofs.chain.block.Reads as block-reads
-use Rattle.sha256.proofs.block.compress.Reads as compress-reads
-use Rattle.sha256.proofs.constants.initial_value.Reads as initial-value-reads
 
--- src/chain.rt:58:9
 block-requires : tie.Need-block-requires
 block-requires c κs = search needs
 
--- src/chain.rt:59:9
 initial-value-requires : tie.Need-initial-value-requires
 initial-value-requires c κs = search needs
 
--- src/chain.rt:60:5
 compress-requires : tie.Need-compress-requires
 compress-requires c κs = search needs
 
--- src/chain.rt:54:1
 returns : tie.Need-returns
 returns c =
     let start = c .before .before .before in

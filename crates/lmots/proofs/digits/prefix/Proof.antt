@@ -1,3 +1,4 @@
+-- `lmots::digits::prefix` meets its contract.
 use mathlib.Core.Path.{_≡_, ap, _∙_}
 use mathlib.Core.List.{List, _++_}
 use Prim.Native.Nat.{ℕ}
@@ -8,36 +9,25 @@ use Rattle.lmots.specs.WriteLaws.{pieces}
 use borrow.Author.Needs.{needs}
 use Rattle.lmots.proofs.digits.prefix.Statement.{statement}
 use Rattle.lmots.proofs.digits.prefix.Tie as tie
-use Rattle.lmots.proofs.digits.prefix.Reads as reads
-use Rattle.lmots.proofs.digits.prefix.Lts as lts
-use Rattle.lmots.proofs.digits.front.Reads as front-reads
-use Rattle.octets.proofs.copy.Reads as copy-reads
 
--- src/digits.rt:90:17
 front-requires : tie.Need-front-requires
 front-requires c κs = search needs
 
--- src/digits.rt:92:18
 slice-aggregate-copy : tie.Need-slice-aggregate-copy
 slice-aggregate-copy c = search needs
 
--- src/digits.rt:92:31
 slice-aggregate-copy-2 : tie.Need-slice-aggregate-copy-2
 slice-aggregate-copy-2 c = search needs
 
--- src/digits.rt:92:5
 copy-requires : tie.Need-copy-requires
 copy-requires c κs = search needs
 
--- src/digits.rt:93:18
 slice-aggregate-copy-3 : tie.Need-slice-aggregate-copy-3
 slice-aggregate-copy-3 c = search needs
 
--- src/digits.rt:93:5
 copy-requires-2 : tie.Need-copy-requires-2
 copy-requires-2 c κs = search needs
 
--- src/digits.rt:86:1
 returns : tie.Need-returns
 returns c =
     let start = c .before .before .before .before .before .before .before .before .before in

@@ -1,3 +1,4 @@
+-- `lmots::key::candidate` meets its contract.
 use borrow.Author.Needs.{needs}
 use native.Mathlib.Omega.{arith}
 use Rattle.octets.specs.Octets.{part, bytes}
@@ -7,75 +8,53 @@ use lib.ListN.{length-take}
 use Rattle.lmots.specs.KeyLaws.{chains-le, key-completed}
 use Rattle.lmots.proofs.key.candidate.Statement.{statement}
 use Rattle.lmots.proofs.key.candidate.Tie as tie
-use Rattle.lmots.proofs.key.candidate.Reads as reads
-use Rattle.lmots.proofs.key.candidate.Lts as lts
-use Rattle.lmots.proofs.digits.message_digits.Reads as message-digits-reads
-use Rattle.lmots.proofs.key.count.Reads as count-reads
-use Rattle.lmots.proofs.key.key_buffer.Reads as key-buffer-reads
-use Rattle.lmots.proofs.key.write_completed.Reads as write-completed-reads
-use Rattle.sha256.proofs.hash.sha256.Reads as sha256-reads
 
--- src/key.rt:137:46
 sub-message-digits : tie.Need-sub-message-digits
 sub-message-digits c = search needs
 
--- src/key.rt:137:46
 part-message-digits-start : tie.Need-part-message-digits-start
 part-message-digits-start c = search needs
 
--- src/key.rt:137:46
 part-message-digits-end : tie.Need-part-message-digits-end
 unfolding otsLength
 part-message-digits-end c = omega arith
 
--- src/key.rt:137:18
 message-digits-requires : tie.Need-message-digits-requires
 message-digits-requires c κs = search needs
 
--- src/key.rt:138:19
 key-buffer-requires : tie.Need-key-buffer-requires
 key-buffer-requires c κs = search needs
 
--- src/key.rt:139:34
 slice-aggregate-write-completed : tie.Need-slice-aggregate-write-completed
 slice-aggregate-write-completed c = search needs
 
--- src/key.rt:139:48
 slice-aggregate-write-completed-2 : tie.Need-slice-aggregate-write-completed-2
 slice-aggregate-write-completed-2 c = search needs
 
--- src/key.rt:139:5
 write-completed-requires : tie.Need-write-completed-requires
 write-completed-requires c κs =
     let start = c .before .before .before .before .before .before .before in
     let room = chains-le (start .args .w) (start .pre .1) in
     (start .pre .0, start .pre .1, search needs, start .pre .2, omega arith)
 
--- src/key.rt:140:25
 count-requires : tie.Need-count-requires
 count-requires c κs = search needs
 
--- src/key.rt:140:20
 mul-end : tie.Need-mul-end
 mul-end c = search needs
 
--- src/key.rt:140:15
 add-end : tie.Need-add-end
 add-end c = search needs
 
--- src/key.rt:141:29
 array-share-prefix-all : tie.Need-array-share-prefix-all
 array-share-prefix-all c = search needs
 
--- src/key.rt:141:29
 slice-aggregate-sha256 : tie.Need-slice-aggregate-sha256
 slice-aggregate-sha256 c = simp length-take (omega arith)
 
--- src/key.rt:141:5
 sha256-requires : tie.Need-sha256-requires
 sha256-requires c κs = search needs
 
--- src/key.rt:126:1
 returns : tie.Need-returns
 unfolding part
 returns c =

@@ -1,3 +1,4 @@
+-- `lmots::key::write_completed` meets its contract.
 use mathlib.Core.Path.{_≡_, refl, ap, _∙_}
 use Prim.Native.Nat.{ℕ, _-_, _≤_}
 use native.Mathlib.Omega.{arith}
@@ -11,11 +12,6 @@ use Rattle.lmots.specs.WriteLaws.{patch-none, joined-written}
 use Rattle.lmots.specs.KeyLaws.{length-ends}
 use Rattle.lmots.proofs.key.write_completed.Statement.{statement}
 use Rattle.lmots.proofs.key.write_completed.Tie as tie
-use Rattle.lmots.proofs.key.write_completed.Reads as reads
-use Rattle.lmots.proofs.key.write_completed.Lts as lts
-use Rattle.lmots.proofs.key.completed.Reads as completed-reads
-use Rattle.lmots.proofs.key.count.Reads as count-reads
-use Rattle.lmots.proofs.words.put_eight.Reads as put-eight-reads
 
 abbrev Inv-loop : tie.InvT-loop
 Inv-loop k id q w digits sig out₀ at n i₀ out i = (i ≤ n) × (length out ≡ length out₀) × (out ≡ patch at (joined (completed (bytes id) q w digits sig) i) out₀)
@@ -23,40 +19,31 @@ Inv-loop k id q w digits sig out₀ at n i₀ out i = (i ≤ n) × (length out �
 abbrev μ-loop : tie.MeasureT-loop
 μ-loop k id q w digits sig out₀ at n i₀ out i = n - i
 
--- src/key.rt:96:9
 count-requires : tie.Need-count-requires Inv-loop μ-loop
 count-requires c κs = c .before .before .before .pre .1
 
--- src/key.rt:98:5
 loop-holds : tie.Need-loop-holds Inv-loop μ-loop
 unfolding joined
 loop-holds c = (omega arith, refl, patch-none (c .before .before .before .before .args .at) (now (c .before .before .before .before .args .out)))
 
--- src/key.rt:99:13
 completed-requires : tie.Need-completed-requires Inv-loop μ-loop
 completed-requires c κs = (c .before .before .before .before .before .before .pre .0, c .before .before .before .before .before .before .pre .1, c .before .before .before .before .before .before .pre .2, c .before .before .before .before .before .before .pre .3, omega arith)
 
--- src/key.rt:100:29
 mul-put-eight : tie.Need-mul-put-eight Inv-loop μ-loop
 mul-put-eight c = omega arith
 
--- src/key.rt:100:24
 add-put-eight : tie.Need-add-put-eight Inv-loop μ-loop
 add-put-eight c = omega arith
 
--- src/key.rt:100:9
 put-eight-requires : tie.Need-put-eight-requires Inv-loop μ-loop
 put-eight-requires c κs = omega arith
 
--- src/key.rt:101:9
 add-i : tie.Need-add-i Inv-loop μ-loop
 add-i c = omega arith
 
--- src/key.rt:98:5
 loop-less : tie.Need-loop-less Inv-loop μ-loop
 loop-less c = omega arith
 
--- src/key.rt:98:5
 loop-again : tie.Need-loop-again Inv-loop μ-loop
 loop-again c =
     let at-loop = c .before .before .before .before .before .before in
@@ -71,11 +58,9 @@ loop-again c =
           (at-loop .loop .inv .2) (c .before .before .before .before .completed .ensures) (c .before .before .put-eight .ensures),
     )
 
--- src/key.rt:83:1
 same-length : tie.Need-same-length Inv-loop μ-loop
 same-length c = omega arith
 
--- src/key.rt:83:1
 returns : tie.Need-returns Inv-loop μ-loop
 returns c =
     let at-loop = c .before in
