@@ -4,7 +4,6 @@ ghost use Rattle.refusal.specs.Refusal.{lowest};
 ghost use Rattle.protocol.specs.Refusals.{openingConditions};
 ghost use Rattle.protocol.specs.Record as Records;
 ghost use Rattle.protocol.specs.Calls.{opening};
-
 use protocol::First;
 use protocol::Notices;
 use protocol::Opened;

@@ -5,7 +5,6 @@ ghost use Rattle.octets.specs.Strings.{same};
 ghost use Rattle.protocol.specs.Record.{outOfRange, wrongHeard, namesStranger, wrongCollected, wrongFirst, lacksFirst, wrongGuilty, wrongSent, wrongUnset, impossible};
 ghost use Rattle.protocol.specs.Values.{unset};
 ghost use Rattle.confirmer.specs.Records.{InRange};
-
 use protocol::Record;
 
 // Whether a value is 32 zero bytes.
@@ -135,7 +134,10 @@ fn wrong_parts(r: Record) -> bool
     let collected = wrong_collected(r);
     let first = wrong_first(r);
     let lacks = lacks_first(r);
-    either(either(either(either(heard, stranger), collected), first), lacks)
+    either(
+        either(either(either(heard, stranger), collected), first),
+        lacks,
+    )
 }
 
 // Whether a record is impossible.

@@ -65,7 +65,7 @@ fn check() -> bool {
     let Field::Of(s) = operand(&mut signature) else {
         return false;
     };
-    let number = lms::check_signature(&key[..k], &message[..m], &signature[..s]);
+    let number = lms::calls::check_signature(&key[..k], &message[..m], &signature[..s]);
     if number == 0 {
         print(b" accept\n");
     } else {
@@ -90,7 +90,7 @@ fn sign(seed: &[u8], identifier: &[u8], tree: &[u8]) -> bool {
     };
     let mut out = [0u8; 1452];
     let q = octets::word_at(&leaf, 0);
-    lms::sign(
+    lms::calls::sign(
         q,
         seed,
         identifier,
@@ -116,7 +116,7 @@ fn make_and_sign() -> bool {
     };
     let mut tree = [0u8; 65536];
     let mut key = [0u8; 56];
-    lms::make_key(&seed[..s], &identifier[..i], &mut tree, &mut key);
+    lms::calls::make_key(&seed[..s], &identifier[..i], &mut tree, &mut key);
     print(b" ");
     print_bytes(&key);
     let mut count = [0u8; 1];

@@ -56,7 +56,7 @@ returns-3 c =
 
 -- src/opening.rt:55:8
 wrong-keys-requires : tie.Need-wrong-keys-requires
-wrong-keys-requires c κs = 
+wrong-keys-requires c κs =
     let sized = c .before .before .before .before in
     let right : wrongSize (sized .before .before .before .args .n) ≡ false = sym (sized .before .wrong-size .ensures) ∙ sized .if1 .left in
     size-most (sized .before .before .before .args .n) right
