@@ -1,0 +1,3 @@
+// LMS of one tree (RFC 8554 over SHA-256): the key maker, the signer, and the check.
+mod node;
+mod verify;
