@@ -5,7 +5,7 @@ use Prim.Native.Nat.{ℕ, zero, suc, _+_, _-_, _*_, _/_, _%_, _^_, _≤_, _<_}
 use native.Mathlib.Nat.{add-assoc, add-zero, add-sub-cancel-left}
 use native.Mathlib.Numerals.{add-one}
 use native.Mathlib.Omega.{arith}
-use lib.ListN.{length, take, drop, getD, set, length-append, length-take, length-drop, drop-of-length-le}
+use lib.ListN.{length, take, drop, getD, set, length-append, length-take, length-drop, take-append-drop, drop-of-length-le}
 use lib.Seq.{sets-eq, take-all}
 use lib.Pow.{shr-shr}
 use Rattle.octets.specs.Octets.{part, patch, be}
@@ -28,6 +28,11 @@ part-lent at n xs = rw add-sub-cancel-left
 pub patch-next : (at next : ℕ) (us vs xs : List ℕ) → next ≡ at + length us → at ≤ length xs
     → patch next vs (patch at us xs) ≡ patch at (us ++ vs) xs
 patch-next at next us vs xs e h = rw e (patch-patch at us vs xs h)
+
+-- nothing written anywhere
+pub patch-none : (at : ℕ) (xs : List ℕ) → xs ≡ patch at [] xs
+unfolding patch
+patch-none at xs = rw add-zero (sym (take-append-drop at xs))
 
 -- a write over the whole buffer
 pub patch-whole : (ws xs : List ℕ) → length ws ≡ length xs → patch 0 ws xs ≡ ws
