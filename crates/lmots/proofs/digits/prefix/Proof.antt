@@ -1,0 +1,60 @@
+use mathlib.Core.Path.{_≡_, ap, _∙_}
+use mathlib.Core.List.{List, _++_}
+use Prim.Native.Nat.{ℕ}
+use native.Mathlib.Omega.{arith}
+use denote.Ref.{now}
+use lib.ListN.{length, replicate}
+use Rattle.lmots.specs.WriteLaws.{pieces}
+use borrow.Author.Needs.{needs}
+use Rattle.lmots.proofs.digits.prefix.Statement.{statement}
+use Rattle.lmots.proofs.digits.prefix.Tie as tie
+use Rattle.lmots.proofs.digits.prefix.Reads as reads
+use Rattle.lmots.proofs.digits.prefix.Lts as lts
+use Rattle.lmots.proofs.digits.front.Reads as front-reads
+use Rattle.octets.proofs.copy.Reads as copy-reads
+
+-- src/digits.rt:90:17
+front-requires : tie.Need-front-requires
+front-requires c κs = search needs
+
+-- src/digits.rt:92:18
+slice-aggregate-copy : tie.Need-slice-aggregate-copy
+slice-aggregate-copy c = search needs
+
+-- src/digits.rt:92:31
+slice-aggregate-copy-2 : tie.Need-slice-aggregate-copy-2
+slice-aggregate-copy-2 c = search needs
+
+-- src/digits.rt:92:5
+copy-requires : tie.Need-copy-requires
+copy-requires c κs = search needs
+
+-- src/digits.rt:93:18
+slice-aggregate-copy-3 : tie.Need-slice-aggregate-copy-3
+slice-aggregate-copy-3 c = search needs
+
+-- src/digits.rt:93:5
+copy-requires-2 : tie.Need-copy-requires-2
+copy-requires-2 c κs = search needs
+
+-- src/digits.rt:86:1
+returns : tie.Need-returns
+returns c =
+    let start = c .before .before .before .before .before .before .before .before .before in
+    let front = c .before .before .before .before .before .before .before .front .result in
+    let s = now (start .args .c) in
+    let n : length front ≡ 22 = search needs in
+    pieces 22 front s (replicate 54 0) (c .before .before .before .before .copy .last .0) (c .before .copy2 .last .0) (c .before .before .before .before .copy .ensures) (omega arith) (omega arith) (c .before .copy2 .ensures)
+    ∙ ap (λ (l : List ℕ). l ++ s) (c .before .before .before .before .before .before .before .front .ensures)
+
+pub prefix-spec : {M : Type 1} → statement M
+prefix-spec =
+    tie.close
+    (tie.spec
+    front-requires
+    slice-aggregate-copy
+    slice-aggregate-copy-2
+    copy-requires
+    slice-aggregate-copy-3
+    copy-requires-2
+    returns)

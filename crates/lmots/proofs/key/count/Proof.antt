@@ -1,0 +1,20 @@
+use native.Mathlib.Omega.{arith}
+use Rattle.rfc8554.specs.Ots.{chains}
+use Rattle.lmots.specs.DigitLaws.{narrow}
+use Rattle.lmots.proofs.key.count.Statement.{statement}
+use Rattle.lmots.proofs.key.count.Tie as tie
+use Rattle.lmots.proofs.key.count.Reads as reads
+use Rattle.lmots.proofs.key.count.Lts as lts
+
+-- src/key.rt:23:1
+returns : tie.Need-returns
+unfolding chains
+returns c = (rw (c .if1 .taken), omega arith)
+
+-- src/key.rt:23:1
+returns-2 : tie.Need-returns-2
+unfolding chains
+returns-2 c = (rw (narrow _ (c .before .pre) (c .if1 .left)), omega arith)
+
+pub count-spec : {M : Type 1} → statement M
+count-spec = tie.close (tie.spec returns returns-2)

@@ -1,0 +1,62 @@
+use native.Mathlib.Omega.{arith}
+use denote.Ref.{now}
+use Rattle.lmots.specs.WordLaws.{four-words}
+use borrow.Author.Needs.{needs}
+use Rattle.lmots.proofs.words.four.Statement.{statement}
+use Rattle.lmots.proofs.words.four.Tie as tie
+use Rattle.lmots.proofs.words.four.Reads as reads
+use Rattle.lmots.proofs.words.four.Lts as lts
+use Rattle.octets.proofs.word_at.Reads as word-at-reads
+
+-- src/words.rt:13:9
+word-at-requires : tie.Need-word-at-requires
+word-at-requires c κs = search needs
+
+-- src/words.rt:14:28
+add-word-at : tie.Need-add-word-at
+add-word-at c = search needs
+
+-- src/words.rt:14:9
+word-at-requires-2 : tie.Need-word-at-requires-2
+word-at-requires-2 c κs = search needs
+
+-- src/words.rt:15:28
+add-word-at-2 : tie.Need-add-word-at-2
+add-word-at-2 c = search needs
+
+-- src/words.rt:15:9
+word-at-requires-3 : tie.Need-word-at-requires-3
+word-at-requires-3 c κs = search needs
+
+-- src/words.rt:16:28
+add-word-at-3 : tie.Need-add-word-at-3
+add-word-at-3 c = search needs
+
+-- src/words.rt:16:9
+word-at-requires-4 : tie.Need-word-at-requires-4
+word-at-requires-4 c κs = search needs
+
+-- src/words.rt:8:1
+returns : tie.Need-returns
+returns c =
+    let third = c .before in
+    let second = third .before in
+    let first = second .before in
+    let start = first .before .before in
+    let s = now (start .args .s) in
+    four-words s (λ i. omega (arith, first .before .shared-slice-known .given i)) (start .args .at)
+    (first .word-at .result) (second .word-at2 .result) (third .word-at3 .result) (c .word-at4 .result) (start .pre)
+    (first .word-at .ensures) (second .word-at2 .ensures) (third .word-at3 .ensures) (c .word-at4 .ensures)
+
+pub four-spec : {M : Type 1} → statement M
+four-spec =
+    tie.close
+    (tie.spec
+    word-at-requires
+    add-word-at
+    word-at-requires-2
+    add-word-at-2
+    word-at-requires-3
+    add-word-at-3
+    word-at-requires-4
+    returns)
