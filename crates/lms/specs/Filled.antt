@@ -2,19 +2,38 @@
 use mathlib.Core.Path.{_≡_, refl, sym, ap, ap₂, _∙_}
 use mathlib.Core.List.{List, _++_}
 use Prim.Native.Nat.{ℕ, zero, suc, _+_, _-_, _*_, _≤_, _<_}
+use native.Mathlib.Nat.{add-sub-cancel-left}
 use native.Mathlib.Numerals.{add-one}
 use native.Mathlib.Omega.{arith}
 use lib.ListN.{length, take, drop}
 use lib.Seq.{take-add, drop-drop}
 use Rattle.octets.specs.Octets.{part, patch}
 use Rattle.octets.specs.StringLaws.{patch-before}
-use Rattle.rfc8554.specs.Ots.{H}
-use Rattle.rfc8554.specs.Tree.{innerInput, T, nodes, treeFilled}
-use Rattle.rfc8554.specs.TreeLaws.{T-inner, length-T, length-nodes, nodes-suc, part-nodes}
+use Rattle.rfc8554.specs.Ots.{H, otsKey}
+use Rattle.rfc8554.specs.Tree.{leafInput, T, nodes, treeFilled}
+use Rattle.rfc8554.specs.TreeLaws.{T-leaf, T-inner, length-T, length-nodes, nodes-suc, part-nodes}
+use Rattle.lmots.specs.WriteLaws.{joined-written}
 use Rattle.lms.specs.Pieces.{overChildren, innerPut, innersPut}
 use Rattle.lms.specs.Laws.{over-two}
 
 -- ---- as the code writes them
+
+module _ (I seed : List ℕ) where
+  pub leaf-put : (tree key n new : List ℕ) (q : ℕ) → key ≡ otsKey I q 8 seed → n ≡ H (leafInput I (1024 + q) key)
+      → new ≡ patch (32 * (1024 + q)) n tree → new ≡ patch (32 * (1024 + q)) (T 10 8 I seed (1024 + q)) tree
+  leaf-put tree key n new q e f g =
+      let leaf : T 10 8 I seed (1024 + q) ≡ H (leafInput I (1024 + q) (otsKey I q 8 seed)) =
+      rw add-sub-cancel-left at (T-leaf 10 8 I seed (1024 + q) (omega arith)) in
+      g ∙ rw (leaf, ← e, ← f)
+
+  pub leaves-turn : (before tree new : List ℕ) (q : ℕ) → 32 * 1024 ≤ length before
+      → tree ≡ patch (32 * 1024) (nodes 10 8 I seed 1024 q) before
+      → new ≡ patch (32 * (1024 + q)) (T 10 8 I seed (1024 + q)) tree
+      → new ≡ patch (32 * 1024) (nodes 10 8 I seed 1024 (q + 1)) before
+  unfolding nodes
+  leaves-turn before tree new q h e f =
+      let next : 32 * (1024 + q) ≡ 32 * 1024 + 32 * q = omega arith in
+      joined-written (λ i. T 10 8 I seed (1024 + i)) (32 * 1024) q before tree _ new (length-nodes 10 8 I seed 1024 q) h e refl (rw next at f)
 
 pub inner-put : (I tree children n new : List ℕ) (r : ℕ) → children ≡ part (64 * r) 64 tree → n ≡ H (overChildren I r children)
     → new ≡ patch (32 * r) n tree → new ≡ innerPut I r tree

@@ -7,14 +7,16 @@ use native.Mathlib.Omega.{arith}
 use lib.Dec.{leb, eqb}
 use lib.ListN.{length}
 use borrow.Author.Tests.{le-ltb, eq-eqb, ne-eqb, eqb-true, leb-false}
-use Rattle.octets.specs.Octets.{wordAt}
+use Rattle.octets.specs.Octets.{part, wordAt}
+use Rattle.octets.specs.Strings.{same}
 use Rattle.octets.specs.StringLaws.{number-part-four}
 use Rattle.rfc8554.specs.Ots.{u32At, knownOts, width, otsLength}
 use Rattle.rfc8554.specs.OtsLaws.{four-le-otsLength}
 use Rattle.rfc8554.specs.Tree.{knownLms, height}
-use Rattle.rfc8554.specs.Verify.{lmsTypeOf, otsTypeOf, leafOf, sigTypeOf, signatureLength, signatureInvalid}
+use Rattle.rfc8554.specs.Verify.{lmsTypeOf, otsTypeOf, leafOf, sigTypeOf, rootCandidate, signatureLength, signatureInvalid, valid}
 use Rattle.rfc8554.specs.VerifyLaws.{otsInvalid-inside}
 use Rattle.rfc8554.specs.Calls.{keyRefused}
+use Rattle.rfc8554.specs.CallLaws.{keyInvalid-keyRefused}
 
 -- ---- a key
 
@@ -97,3 +99,32 @@ module _ (lms ots : ℕ) (s : List ℕ) where
       leaf : (b : Bool) → leb (2 ^ height lms) (leafOf s) ≡ b → leafOf s < 2 ^ height lms
       leaf true p = absurd (false≢true (sym (rw (p, or-true) at e)))
       leaf false p = leb-false _ _ p
+
+-- ---- the whole check
+
+module _ (key message s : List ℕ) (known : keyRefused key ≡ false) where
+  pub key-fits : length key ≡ 56
+  unfolding keyRefused
+  key-fits = go (eqb (length key) 56) refl
+    where
+      go : (b : Bool) → eqb (length key) 56 ≡ b → length key ≡ 56
+      go true p = eqb-true _ _ p
+      go false p = absurd (false≢true (sym (rw p at known)))
+
+  module _ (x y : ℕ) (e : x ≡ wordAt key 0) (f : y ≡ wordAt key 4) where
+    key-field : lmsTypeOf key ≡ x
+    key-field = number-part-four 0 key (omega (arith, key-fits)) ∙ sym e
+
+    key-field-ots : otsTypeOf key ≡ y
+    key-field-ots = number-part-four 4 key (omega (arith, key-fits)) ∙ sym f
+
+    pub signature-turned-back : (b : Bool) → b ≡ signatureInvalid x y s → b ≡ true → false ≡ valid key message s
+    unfolding valid
+    signature-turned-back b g t = rw (keyInvalid-keyRefused key, known, key-field, key-field-ots, ← g, t)
+
+    pub signature-compared : (b : Bool) → b ≡ signatureInvalid x y s → b ≡ false
+        → (I root last : List ℕ) (r : Bool) → I ≡ part 8 16 key → root ≡ rootCandidate (height x) (width y) I message s
+        → last ≡ part 24 32 key → r ≡ same root last → r ≡ valid key message s
+    unfolding valid
+    signature-compared b g t I root last r i j k l =
+        l ∙ rw (keyInvalid-keyRefused key, known, key-field, key-field-ots, ← g, t, j, i, k)

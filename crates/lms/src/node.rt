@@ -3,7 +3,7 @@ ghost use mathlib.Core.Path.{_≡_};
 ghost use mathlib.Core.List.{_++_};
 ghost use Prim.Native.Nat.{_+_, _≤_};
 ghost use lib.ListN.{length};
-ghost use Rattle.octets.specs.Octets.{be, part};
+ghost use Rattle.octets.specs.Octets.{bytes, part};
 ghost use Rattle.sha256.specs.Constants.{constants};
 ghost use Rattle.sha256.specs.Fips as Fips;
 ghost use Rattle.rfc8554.specs.Tree.{leafInput, innerInput};
@@ -23,34 +23,21 @@ pub fn bytes_at(s: &[u8], at: usize, n: usize) -> &[u8]
     &s[at..end]
 }
 
-// What stands first in the hashes of the node r: the identifier, r and the separator.
-fn prefix(id: &[u8], r: u32, separator: u32) -> [u8; 22]
-    requires { ⌜ length (now id) ≡ 16 ⌝ }
-    ensures { λ p. ⌜ p ≡ now (id .entry) ++ be 4 r ++ be 2 separator ⌝ }
-{
-    let mut p = [0u8; 22];
-    octets::copy(&mut p, 0, id);
-    octets::put_word(&mut p, 16, r);
-    p[20] = (separator / 256 % 256) as u8;
-    p[21] = (separator % 256) as u8;
-    p
-}
-
 // The leaf r, over its LM-OTS key.
-pub fn leaf(k: &[u32; 64], id: &[u8], r: u32, key: &[u8]) -> [u8; 32]
-    requires { ⌜ (now k ≡ constants) × (length (now id) ≡ 16) ⌝ }
-    ensures { λ n. ⌜ n ≡ Fips.sha256 (leafInput (now (id .entry)) r (now (key .entry))) ⌝ }
+pub fn leaf(k: &[u32; 64], id: [u32; 4], r: u32, key: &[u8]) -> [u8; 32]
+    requires { ⌜ now k ≡ constants ⌝ }
+    ensures { λ n. ⌜ n ≡ Fips.sha256 (leafInput (bytes id) r (now (key .entry))) ⌝ }
 {
-    let p = prefix(id, r, LEAF);
+    let p = lmots::digits::front(id, r, LEAF);
     sha256::hash::sha256_two(k, &p, key)
 }
 
 // The inner node r, over its children, which stand one after the other.
-pub fn inner(k: &[u32; 64], id: &[u8], r: u32, children: &[u8]) -> [u8; 32]
-    requires { ⌜ (now k ≡ constants) × (length (now id) ≡ 16) ⌝ }
-    ensures { λ n. ⌜ n ≡ Fips.sha256 (overChildren (now (id .entry)) r (now (children .entry))) ⌝ }
+pub fn inner(k: &[u32; 64], id: [u32; 4], r: u32, children: &[u8]) -> [u8; 32]
+    requires { ⌜ now k ≡ constants ⌝ }
+    ensures { λ n. ⌜ n ≡ Fips.sha256 (overChildren (bytes id) r (now (children .entry))) ⌝ }
 {
-    let p = prefix(id, r, INNER);
+    let p = lmots::digits::front(id, r, INNER);
     sha256::hash::sha256_two(k, &p, children)
 }
 
@@ -66,9 +53,9 @@ fn pair(left: &[u8], right: &[u8]) -> [u8; 64]
 }
 
 // The inner node r, over its left and its right child.
-pub fn parent(k: &[u32; 64], id: &[u8], r: u32, left: &[u8], right: &[u8]) -> [u8; 32]
-    requires { ⌜ (now k ≡ constants) × (length (now id) ≡ 16) × (length (now left) ≡ 32) × (length (now right) ≡ 32) ⌝ }
-    ensures { λ n. ⌜ n ≡ Fips.sha256 (innerInput (now (id .entry)) r (now (left .entry)) (now (right .entry))) ⌝ }
+pub fn parent(k: &[u32; 64], id: [u32; 4], r: u32, left: &[u8], right: &[u8]) -> [u8; 32]
+    requires { ⌜ (now k ≡ constants) × (length (now left) ≡ 32) × (length (now right) ≡ 32) ⌝ }
+    ensures { λ n. ⌜ n ≡ Fips.sha256 (innerInput (bytes id) r (now (left .entry)) (now (right .entry))) ⌝ }
 {
     let c = pair(left, right);
     inner(k, id, r, &c)

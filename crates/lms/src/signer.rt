@@ -3,10 +3,12 @@ ghost use mathlib.Core.Path.{_≡_};
 ghost use mathlib.Core.List.{_++_};
 ghost use Prim.Native.Nat.{_+_, _≤_, _<_};
 ghost use lib.ListN.{length};
-ghost use Rattle.octets.specs.Octets.{be, patch};
+ghost use Rattle.octets.specs.Octets.{be, bytes, patch};
 ghost use Rattle.octets.specs.Strings.{joined};
+ghost use Rattle.sha256.specs.Constants.{constants};
+ghost use Rattle.rfc8554.specs.Ots.{digested, signed};
 ghost use Rattle.rfc8554.specs.Tree as Tree;
-ghost use Rattle.rfc8554.specs.Tree.{path};
+ghost use Rattle.rfc8554.specs.Tree.{path, lmsSignature};
 ghost use Rattle.rfc8554.specs.Calls.{treeBytes};
 use crate::node;
 
@@ -67,4 +69,26 @@ fn write_tail(tree: &[u8], leaf: u32, out: &mut [u8])
 {
     octets::put_word(out, 1128, LMS_TYPE);
     write_path(tree, 1024 + leaf, out, 1132);
+}
+
+// The values of the chains for a message.
+fn write_values(k: &[u32; 64], id: [u32; 4], seed: [u32; 8], leaf: u32, randomizer: &[u8], message: &[u8], out: &mut [u8])
+    requires { ⌜ (now k ≡ constants) × (length (now randomizer) ≡ 32) × (1128 ≤ length (now out)) ⌝ }
+    ensures { λ _. ⌜ now (out .exit) ≡ patch 40 (joined (signed (bytes id) leaf 8 (bytes seed) (digested (bytes id) leaf 8 (now (randomizer .entry)) (now (message .entry)))) 34) (now (out .entry)) ⌝ }
+{
+    let digits = lmots::digits::message_digits(k, id, leaf, 8, randomizer, message);
+    lmots::key::write_signed(k, id, leaf, seed, &digits, out, 40);
+}
+
+// A whole signature.
+pub fn write_signature(leaf: u32, seed: &[u8], id: &[u8], randomizer: &[u8], tree: &[u8], message: &[u8], out: &mut [u8])
+    requires { ⌜ (leaf < 1024) × (length (now seed) ≡ 32) × (length (now id) ≡ 16) × (length (now randomizer) ≡ 32) × (length (now tree) ≡ treeBytes) × (1452 ≤ length (now out)) ⌝ }
+    ensures { λ _. ⌜ now (out .exit) ≡ patch 0 (lmsSignature 6 4 (now (id .entry)) leaf (now (seed .entry)) (now (randomizer .entry)) (now (message .entry)) (now (tree .entry))) (now (out .entry)) ⌝ }
+{
+    let k = sha256::constants::round_constants();
+    let id_words = lmots::words::four(id, 0);
+    let seed_words = lmots::words::eight(seed, 0);
+    write_head(leaf, randomizer, out);
+    write_values(&k, id_words, seed_words, leaf, randomizer, message, out);
+    write_tail(tree, leaf, out);
 }

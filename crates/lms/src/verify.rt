@@ -1,14 +1,18 @@
 // The check of a signature (RFC 8554, section 5.4.2).
 ghost use mathlib.Core.Path.{_≡_};
+ghost use mathlib.Core.Bool.{false};
+ghost use mathlib.Core.Logic.{_⊎_};
 ghost use Prim.Native.Nat.{_+_, _*_, _^_, _≤_, _<_};
 ghost use lib.ListN.{length};
+ghost use Rattle.octets.specs.Octets.{bytes};
 ghost use Rattle.octets.specs.Strings.{same};
 ghost use Rattle.sha256.specs.Constants.{constants};
+ghost use Rattle.sha256.specs.Fips as Fips;
 ghost use Rattle.rfc8554.specs.Ots as Ots;
-ghost use Rattle.rfc8554.specs.Ots.{knownOts, otsLength};
+ghost use Rattle.rfc8554.specs.Ots.{knownOts, otsLength, candidate};
 ghost use Rattle.rfc8554.specs.Tree as Tree;
-ghost use Rattle.rfc8554.specs.Tree.{knownLms};
-ghost use Rattle.rfc8554.specs.Verify.{turn, climbed, signatureLength, signatureInvalid};
+ghost use Rattle.rfc8554.specs.Tree.{knownLms, leafInput};
+ghost use Rattle.rfc8554.specs.Verify.{leafOf, otsPart, turn, climbed, rootCandidate, signatureLength, signatureInvalid, valid};
 ghost use Rattle.rfc8554.specs.Calls.{keyRefused};
 use crate::node;
 
@@ -16,7 +20,7 @@ use crate::node;
 
 // The width of an LM-OTS type.
 pub fn width(ots: u32) -> u32
-    ensures { λ w. ⌜ (w ≡ Ots.width ots) × (4 ≤ w) × (w ≤ 8) ⌝ }
+    ensures { λ w. ⌜ (w ≡ Ots.width ots) × ((w ≡ 4) ⊎ (w ≡ 8)) ⌝ }
 {
     if ots == 3 { 4 } else { 8 }
 }
@@ -97,9 +101,9 @@ pub fn signature_refused(lms: u32, ots: u32, signature: &[u8]) -> bool
 // ---- the climb
 
 // One turn up from the node r, with the node beside it.
-fn turned(k: &[u32; 64], id: &[u8], r: u32, beside: &[u8], tmp: &[u8]) -> [u8; 32]
-    requires { ⌜ (now k ≡ constants) × (length (now id) ≡ 16) × (length (now beside) ≡ 32) × (length (now tmp) ≡ 32) ⌝ }
-    ensures { λ n. ⌜ n ≡ turn (now (id .entry)) r (now (beside .entry)) (now (tmp .entry)) ⌝ }
+fn turned(k: &[u32; 64], id: [u32; 4], r: u32, beside: &[u8], tmp: &[u8]) -> [u8; 32]
+    requires { ⌜ (now k ≡ constants) × (length (now beside) ≡ 32) × (length (now tmp) ≡ 32) ⌝ }
+    ensures { λ n. ⌜ n ≡ turn (bytes id) r (now (beside .entry)) (now (tmp .entry)) ⌝ }
 {
     if r % 2 == 1 {
         return node::parent(k, id, r / 2, beside, tmp);
@@ -110,15 +114,15 @@ fn turned(k: &[u32; 64], id: &[u8], r: u32, beside: &[u8], tmp: &[u8]) -> [u8; 3
 // From the leaf r, whose value is `start`, h turns up, with the path that the signature holds.
 fn climb(
     k: &[u32; 64],
-    id: &[u8],
+    id: [u32; 4],
     h: usize,
     w: u32,
     r: u32,
     signature: &[u8],
     start: [u8; 32],
 ) -> [u8; 32]
-    requires { ⌜ (now k ≡ constants) × (length (now id) ≡ 16) × (length (now signature) ≡ signatureLength h w) ⌝ }
-    ensures { λ n. ⌜ n ≡ climbed (now (id .entry)) w r (now (signature .entry)) start h ⌝ }
+    requires { ⌜ (now k ≡ constants) × (length (now signature) ≡ signatureLength h w) ⌝ }
+    ensures { λ n. ⌜ n ≡ climbed (bytes id) w r (now (signature .entry)) start h ⌝ }
 {
     let at = 8 + ots_length(w);
     let mut tmp = start;
@@ -132,6 +136,31 @@ fn climb(
         i += 1;
     }
     tmp
+}
+
+// ---- the root
+
+// The leaf r, over the LM-OTS key that the signature of leaf q leads to.
+fn leaf_candidate(k: &[u32; 64], id: [u32; 4], w: u32, q: u32, r: u32, message: &[u8], signature: &[u8]) -> [u8; 32]
+    requires { ⌜ (now k ≡ constants) × ((w ≡ 4) ⊎ (w ≡ 8)) × (4 + otsLength w ≤ length (now signature)) ⌝ }
+    ensures { λ n. ⌜ n ≡ Fips.sha256 (leafInput (bytes id) r (candidate (bytes id) q w (now (message .entry)) (otsPart w (now (signature .entry))))) ⌝ }
+{
+    let sig = node::bytes_at(signature, 4, ots_length(w));
+    let key = lmots::key::candidate(k, id, q, w, message, sig);
+    node::leaf(k, id, r, &key)
+}
+
+// The root that a signature leads to, for a key of these types.
+fn root_candidate(k: &[u32; 64], id: [u32; 4], lms: u32, ots: u32, message: &[u8], signature: &[u8]) -> [u8; 32]
+    requires { ⌜ (now k ≡ constants) × (length (now signature) ≡ signatureLength (Tree.height lms) (Ots.width ots)) × (leafOf (now signature) < 2 ^ Tree.height lms) ⌝ }
+    ensures { λ n. ⌜ n ≡ rootCandidate (Tree.height lms) (Ots.width ots) (bytes id) (now (message .entry)) (now (signature .entry)) ⌝ }
+{
+    let w = width(ots);
+    let h = height(lms);
+    let q = octets::word_at(signature, 0);
+    let r = leaves(lms) + q;
+    let start = leaf_candidate(k, id, w, q, r, message, signature);
+    climb(k, id, h, w, r, signature, start)
 }
 
 // ---- comparison
@@ -151,4 +180,19 @@ fn equal(a: &[u8], b: &[u8]) -> bool
         i += 1;
     }
     true
+}
+
+// Whether RFC 8554 accepts the signature of the message under a key of known types.
+pub fn verified(k: &[u32; 64], key: &[u8], message: &[u8], signature: &[u8]) -> bool
+    requires { ⌜ (now k ≡ constants) × (keyRefused (now key) ≡ false) ⌝ }
+    ensures { λ r. ⌜ r ≡ valid (now (key .entry)) (now (message .entry)) (now (signature .entry)) ⌝ }
+{
+    let lms = octets::word_at(key, 0);
+    let ots = octets::word_at(key, 4);
+    if signature_refused(lms, ots, signature) {
+        return false;
+    }
+    let id = lmots::words::four(key, 8);
+    let root = root_candidate(k, id, lms, ots, message, signature);
+    equal(&root, node::bytes_at(key, 24, 32))
 }

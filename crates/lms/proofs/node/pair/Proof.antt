@@ -1,6 +1,6 @@
 use native.Mathlib.Omega.{arith}
 use denote.Ref.{now}
-use Rattle.lms.specs.Laws.{pair-filled}
+use Rattle.lmots.specs.WriteLaws.{pieces}
 use borrow.Author.Needs.{needs}
 use Rattle.lms.proofs.node.pair.Statement.{statement}
 use Rattle.lms.proofs.node.pair.Tie as tie
@@ -26,7 +26,10 @@ copy-requires-2 c κs = search needs
 
 -- src/node.rt:58:1
 returns : tie.Need-returns
-returns c = let start = c .before .before .before .before .before .before .before .before in let args = start .args in pair-filled (now (args .left)) (now (args .right)) _ _ (c .before .copy2 .last .0) 32 (c .before .before .before .before .copy .ensures) (c .before .copy2 .ensures) (start .pre .0) (omega arith)
+returns c =
+    let start = c .before .before .before .before .before .before .before .before in
+    let args = start .args in
+    pieces 32 (now (args .left)) (now (args .right)) _ _ (c .before .copy2 .last .0) (c .before .before .before .before .copy .ensures) (omega arith) (omega arith) (c .before .copy2 .ensures)
 
 pub pair-spec : {M : Type 1} → statement M
 pair-spec =

@@ -31,7 +31,11 @@ same-length c = search needs
 -- src/signer.rt:30:1
 returns : tie.Need-returns
 unfolding be
-returns c = let first = c .before .before .before .before .before .before .before .before .before .before in let start = first .before .before .before .before in let args = start .args in three-writes 0 (be 4 (args .leaf)) (be 4 4) (now (args .out)) (first .put-word .last .0) (c .before .before .before .before .before .before .put-word2 .last .0) 4 (first .put-word .ensures) (c .before .before .before .before .before .before .put-word2 .ensures) refl (omega arith) (now (args .randomizer)) (c .before .before .copy .last .0) 8 (c .before .before .copy .ensures) refl
+returns c =
+    let first = c .before .before .before .before .before .before .before .before .before .before  in
+    let args = first .before .before .before .before  .args in
+    three-writes 0 (be 4 (args .leaf)) (be 4 4) (now (args .randomizer)) (now (args .out)) (first .put-word .last .0) (c .before .before .before .before .before .before  .put-word2 .last .0) (c .before .before  .copy .last .0) 4 8 (omega arith)
+    (first .put-word .ensures) (c .before .before .before .before .before .before  .put-word2 .ensures) (c .before .before  .copy .ensures) refl refl
 
 pub write-head-spec : {M : Type 1} → statement M
 write-head-spec =

@@ -1,5 +1,6 @@
 use Rattle.lms.specs.Written.{way-within, beside-within, path-turn}
-use Rattle.lms.specs.Laws.{patch-none, half-turn}
+use Rattle.lms.specs.Laws.{half-turn}
+use Rattle.lmots.specs.WriteLaws.{patch-none}
 use Rattle.rfc8554.specs.Calls.{treeBytes}
 use Rattle.rfc8554.specs.Tree.{path}
 use Rattle.octets.specs.Laws.{length-part}

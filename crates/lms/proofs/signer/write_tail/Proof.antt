@@ -1,4 +1,4 @@
-use Rattle.lms.specs.Written.{two-writes}
+use Rattle.lmots.specs.WriteLaws.{patch-next}
 use Rattle.octets.specs.Octets.{be}
 use native.Mathlib.Omega.{arith}
 use mathlib.Core.Path.{refl}
@@ -30,7 +30,9 @@ same-length c = search needs
 -- src/signer.rt:64:1
 returns : tie.Need-returns
 unfolding be
-returns c = let args = c .before .before .before .before .before .before .before .before .before .before .args in two-writes 1128 (be 4 6) _ (now (args .out)) (c .before .before .before .before .before .before .put-word .last .0) (c .before .before .write-path .last .1 .1 .0) 1132 (c .before .before .before .before .before .before .put-word .ensures) (c .before .before .write-path .ensures) refl (omega arith)
+returns c =
+    let args = c .before .before .before .before .before .before .before .before .before .before  .args in
+    patch-next 1128 1132 (be 4 6) _ (now (args .out)) (c .before .before .before .before .before .before  .put-word .last .0) (c .before .before  .write-path .last .1 .1 .0) (c .before .before .before .before .before .before  .put-word .ensures) refl (omega arith) (c .before .before  .write-path .ensures)
 
 pub write-tail-spec : {M : Type 1} → statement M
 write-tail-spec =

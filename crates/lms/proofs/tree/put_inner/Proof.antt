@@ -1,3 +1,4 @@
+use Rattle.octets.specs.Octets.{bytes}
 use Rattle.lms.specs.Filled.{inner-put}
 use Rattle.rfc8554.specs.Calls.{treeBytes}
 use native.Mathlib.Omega.{arith}
@@ -43,7 +44,7 @@ same-length c = search needs
 
 -- src/tree.rt:11:1
 returns : tie.Need-returns
-returns c = let args = c .before .before .before .before .before .before .before .before .before .before .args in inner-put (now (args .id)) (now (args .tree)) (now (c .before .before .before .before .before .before .bytes-at .result)) (c .before .before .before .before .before .inner .result) (c .before .before .copy .last .0) (args .r) (c .before .before .before .before .before .before .bytes-at .ensures) (c .before .before .before .before .before .inner .ensures) (c .before .before .copy .ensures)
+returns c = let args = c .before .before .before .before .before .before .before .before .before .args in inner-put (bytes (args .id)) (now (args .tree)) (now (c .before .before .before .before .before .before .bytes-at .result)) (c .before .before .before .before .before .inner .result) (c .before .before .copy .last .0) (args .r) (c .before .before .before .before .before .before .bytes-at .ensures) (c .before .before .before .before .before .inner .ensures) (c .before .before .copy .ensures)
 
 pub put-inner-spec : {M : Type 1} → statement M
 put-inner-spec =

@@ -4,6 +4,7 @@ use Rattle.lms.specs.Laws.{half-turn, climbed-turn}
 use Rattle.rfc8554.specs.Verify.{climbed, signatureLength}
 use denote.Ref.{now}
 use lib.ListN.{length}
+use Rattle.octets.specs.Octets.{bytes}
 use borrow.Author.Needs.{needs}
 use native.Mathlib.Omega.{arith}
 use Prim.Native.Nat.{_+_, _-_, _*_, _/_, _^_, _≤_}
@@ -17,7 +18,7 @@ use Rattle.lms.proofs.verify.ots_length.Reads as ots-length-reads
 use Rattle.lms.proofs.verify.turned.Reads as turned-reads
 
 abbrev Inv-loop : tie.InvT-loop
-Inv-loop k id h w r signature at tmp₀ x₀ i₀ tmp x i = (i ≤ h) × (length tmp ≡ 32) × (x ≡ r / 2 ^ i) × (tmp ≡ climbed id w r signature tmp₀ i)
+Inv-loop k id h w r signature at tmp₀ x₀ i₀ tmp x i = (i ≤ h) × (length tmp ≡ 32) × (x ≡ r / 2 ^ i) × (tmp ≡ climbed (bytes id) w r signature tmp₀ i)
 
 abbrev μ-loop : tie.MeasureT-loop
 μ-loop k id h w r signature at tmp₀ x₀ i₀ tmp x i = h - i
@@ -59,10 +60,10 @@ turned-requires : tie.Need-turned-requires Inv-loop μ-loop
 unfolding signatureLength
 turned-requires c κs =
     let at-loop = c .before .before .before in
-    let start = at-loop .before .before .before .before in
+    let start = at-loop .before .before .before in
     let n = at-loop .before .ots-length .result in
     let i = at-loop .loop .i in
-    (start .pre .0, start .pre .1, rw (c .before .bytes-at .ensures) (length-part (8 + n + 32 * i) 32 (now (start .args .signature)) (omega arith)), at-loop .loop .inv .1)
+    (start .pre .0, rw (c .before .bytes-at .ensures) (length-part (8 + n + 32 * i) 32 (now (start .args .signature)) (omega arith)), at-loop .loop .inv .1)
 
 -- src/verify.rt:124:9
 add-i : tie.Need-add-i Inv-loop μ-loop
@@ -76,14 +77,14 @@ loop-less c = omega arith
 loop-again : tie.Need-loop-again Inv-loop μ-loop
 loop-again c =
     let at-loop = c .before .before .before .before in
-    let start = at-loop .before .before .before .before in
+    let start = at-loop .before .before .before in
     let args = start .args in
     let x = at-loop .loop .x in
     let i = at-loop .loop .i in (
       omega arith,
       search needs,
       half-turn x (args .r) i (at-loop .loop .inv .2),
-      climbed-turn (now (args .id)) (now (args .signature)) (args .start) (at-loop .loop .tmp) (now (c .before .before .bytes-at .result)) (c .turned .result)
+      climbed-turn (bytes (args .id)) (now (args .signature)) (args .start) (at-loop .loop .tmp) (now (c .before .before .bytes-at .result)) (c .turned .result)
           (args .w) (at-loop .before .ots-length .result) (args .r) x i (at-loop .before .ots-length .ensures .0) (at-loop .loop .inv .2) (at-loop .loop .inv .3)
           (c .before .before .bytes-at .ensures) (c .turned .ensures),
     )
@@ -92,9 +93,9 @@ loop-again c =
 returns : tie.Need-returns Inv-loop μ-loop
 returns c =
     let at-loop = c .before in
-    let args = at-loop .before .before .before .before .args in
+    let args = at-loop .before .before .before .args in
     let all : at-loop .loop .i ≡ args .h = omega arith in
-    at-loop .loop .inv .3 ∙ ap (climbed (now (args .id)) (args .w) (args .r) (now (args .signature)) (args .start)) all
+    at-loop .loop .inv .3 ∙ ap (climbed (bytes (args .id)) (args .w) (args .r) (now (args .signature)) (args .start)) all
 
 pub climb-spec : {M : Type 1} → statement M
 climb-spec =
