@@ -64,8 +64,7 @@ module _ (leaf : ℕ) (message seed I C tree out : List ℕ) (n : ℕ) (e : n �
       let third = lowest-zero 8 _ _ (second .1) in
       let four = neither _ _ (lowest-zero 15 _ [] (third .1) .0) in
       let three = neither _ _ (four .0) in
-      let two = neither _ _ (three .0) in
-      (
+      let two = neither _ _ (three .0) in (
         ltb-false _ _ (first .0),
         ltb-false _ _ (second .0),
         ltb-false _ _ (third .0),

@@ -10,7 +10,8 @@ use Rattle.octets.specs.Strings.{joined}
 use Rattle.octets.specs.StringLaws.{part-all, length-joined, be-one, be-two}
 use Rattle.rfc8554.specs.Ots.{width, chains, digested, signed, otsSignature}
 use Rattle.rfc8554.specs.OtsLaws.{length-signed}
-use Rattle.rfc8554.specs.Tree.{height, sibling, path, lmsSignature}
+use Rattle.rfc8554.specs.Tree.{height, T, publicKey, treeFilled, sibling, path, lmsSignature}
+use Rattle.rfc8554.specs.TreeLaws.{part-treeFilled}
 use Rattle.rfc8554.specs.VerifyLaws.{sibling-within, ancestor-within}
 use Rattle.rfc8554.specs.Calls.{treeBytes, signedBytes}
 use Rattle.lmots.specs.WriteLaws.{patch-next, pieces, joined-written}
@@ -71,11 +72,21 @@ seat-signed value zs p q round seat h k u v l =
     let x = 16777216 + round * 256 + seat in
     pieces 4 (be 4 x) value zs p q u (sym (length-be 4 x)) (rw length-be (sym l)) v ∙ ap (λ (b : List ℕ). b ++ value) (head-word round seat h k)
 
--- ---- a whole signature
+-- ---- a whole key, and a whole signature
 
 -- the words of a string are the string
 pub whole-string : (xs ws : List ℕ) (n : ℕ) → length xs ≡ n → ws ≡ part 0 n xs → ws ≡ xs
 whole-string xs ws n e f = f ∙ part-all xs n e
+
+-- what the key maker leaves: the tree, and the key with the root that is read from it
+pub key-written : (I I′ seed seed′ before tree root out new : List ℕ) → length before ≡ treeBytes → I′ ≡ I → seed′ ≡ seed
+    → tree ≡ treeFilled I′ seed′ before → root ≡ part 32 32 tree → new ≡ patch 0 (be 4 6 ++ be 4 4 ++ I ++ root) out
+    → (tree ≡ treeFilled I seed before) × (new ≡ patch 0 (publicKey 6 4 I seed) out)
+unfolding publicKey height width treeBytes
+key-written I I′ seed seed′ before tree root out new t d e u v w =
+    let filled : tree ≡ treeFilled I seed before = rw (d, e) at u in
+    let top : root ≡ T 10 8 I seed 1 = v ∙ rw filled (part-treeFilled I seed before t 1 (omega arith) (omega arith)) in
+    (filled, w ∙ rw top)
 
 regrouped : (q t C ys l p : List ℕ) → q ++ t ++ C ++ ys ++ (l ++ p) ≡ q ++ (t ++ C ++ ys) ++ l ++ p
 regrouped q t C ys l p = simp append-assoc

@@ -9,7 +9,7 @@ ghost use Rattle.rfc8554.specs.Calls as Calls;
 ghost use Rattle.rfc8554.specs.Calls.{makeKeyRefusal, makeKey, signRefusal, signatureBytes, signedBytes, seatKey, checks, checkSignature};
 use crate::node;
 use crate::signer;
-use crate::tree::fill;
+use crate::tree::make;
 use crate::verify;
 
 // What a call answers: its refusal's number, or 0, and how many bytes it wrote.
@@ -47,14 +47,16 @@ pub fn make_key(seed: &[u8], identifier: &[u8], tree: &mut [u8], out: &mut [u8])
 {
     let n = make_key_refusal(seed, identifier, tree, out);
     if n != 0 {
-        return Written { number: n, written: 0 };
+        return Written {
+            number: n,
+            written: 0,
+        };
     }
-    let k = sha256::constants::round_constants();
-    let id_words = lmots::words::four(identifier, 0);
-    let seed_words = lmots::words::eight(seed, 0);
-    fill(&k, id_words, seed_words, tree);
-    signer::write_key(identifier, node::bytes_at(tree, 32, 32), out);
-    Written { number: 0, written: 56 }
+    make(seed, identifier, tree, out);
+    Written {
+        number: 0,
+        written: 56,
+    }
 }
 
 // What the signer turns back.
@@ -94,17 +96,31 @@ fn sign_refusal(
 }
 
 // Signs a message with a leaf of a key of types 6 and 4.
-pub fn sign(leaf: u32, seed: &[u8], identifier: &[u8], randomizer: &[u8], tree: &[u8], message: &[u8], out: &mut [u8]) -> Written
+pub fn sign(
+    leaf: u32,
+    seed: &[u8],
+    identifier: &[u8],
+    randomizer: &[u8],
+    tree: &[u8],
+    message: &[u8],
+    out: &mut [u8],
+) -> Written
     ensures number { λ r. ⌜ r .number ≡ Calls.sign leaf (now (message .entry)) (now (seed .entry)) (now (identifier .entry)) (now (randomizer .entry)) (now (tree .entry)) (now (out .entry)) .refusal ⌝ }
     ensures written { λ r. ⌜ r .written ≡ length (Calls.sign leaf (now (message .entry)) (now (seed .entry)) (now (identifier .entry)) (now (randomizer .entry)) (now (tree .entry)) (now (out .entry)) .written) ⌝ }
     ensures out { λ _. ⌜ now (out .exit) ≡ patch 0 (Calls.sign leaf (now (message .entry)) (now (seed .entry)) (now (identifier .entry)) (now (randomizer .entry)) (now (tree .entry)) (now (out .entry)) .written) (now (out .entry)) ⌝ }
 {
     let n = sign_refusal(leaf, seed, identifier, randomizer, tree, message, out);
     if n != 0 {
-        return Written { number: n, written: 0 };
+        return Written {
+            number: n,
+            written: 0,
+        };
     }
     signer::write_signature(leaf, seed, identifier, randomizer, tree, message, out);
-    Written { number: 0, written: 1452 }
+    Written {
+        number: 0,
+        written: 1452,
+    }
 }
 
 // Checks a signature of a message: 0, or what is turned back.
@@ -136,7 +152,14 @@ fn signed_bytes(round: u32, seat: u32, value: &[u8]) -> [u8; 36]
 }
 
 // Whether the seat's signature over the value in the round checks: its leaf is the round, and RFC 8554 accepts it.
-pub fn seat_checks(k: &[u32; 64], keys: &[u8], round: u32, seat: u32, value: &[u8], signature: &[u8]) -> bool
+pub fn seat_checks(
+    k: &[u32; 64],
+    keys: &[u8],
+    round: u32,
+    seat: u32,
+    value: &[u8],
+    signature: &[u8],
+) -> bool
     requires { ⌜ (now k ≡ constants) × (length (now value) ≡ 32) × (length (now signature) ≡ signatureBytes) × (round ≤ 65535) × (seat < 256) ⌝ }
     requires { ⌜ (56 * (seat + 1) ≤ length (now keys)) × (lmsTypeOf (seatKey (now keys) seat) ≡ 6) × (otsTypeOf (seatKey (now keys) seat) ≡ 4) ⌝ }
     ensures { λ r. ⌜ r ≡ checks (now (keys .entry)) round seat (now (value .entry)) (now (signature .entry)) ⌝ }

@@ -72,7 +72,15 @@ fn write_tail(tree: &[u8], leaf: u32, out: &mut [u8])
 }
 
 // The values of the chains for a message.
-fn write_values(k: &[u32; 64], id: [u32; 4], seed: [u32; 8], leaf: u32, randomizer: &[u8], message: &[u8], out: &mut [u8])
+fn write_values(
+    k: &[u32; 64],
+    id: [u32; 4],
+    seed: [u32; 8],
+    leaf: u32,
+    randomizer: &[u8],
+    message: &[u8],
+    out: &mut [u8],
+)
     requires { ⌜ (now k ≡ constants) × (length (now randomizer) ≡ 32) × (1128 ≤ length (now out)) ⌝ }
     ensures { λ _. ⌜ now (out .exit) ≡ patch 40 (joined (signed (bytes id) leaf 8 (bytes seed) (digested (bytes id) leaf 8 (now (randomizer .entry)) (now (message .entry)))) 34) (now (out .entry)) ⌝ }
 {
@@ -81,7 +89,15 @@ fn write_values(k: &[u32; 64], id: [u32; 4], seed: [u32; 8], leaf: u32, randomiz
 }
 
 // A whole signature.
-pub fn write_signature(leaf: u32, seed: &[u8], id: &[u8], randomizer: &[u8], tree: &[u8], message: &[u8], out: &mut [u8])
+pub fn write_signature(
+    leaf: u32,
+    seed: &[u8],
+    id: &[u8],
+    randomizer: &[u8],
+    tree: &[u8],
+    message: &[u8],
+    out: &mut [u8],
+)
     requires { ⌜ (leaf < 1024) × (length (now seed) ≡ 32) × (length (now id) ≡ 16) × (length (now randomizer) ≡ 32) × (length (now tree) ≡ treeBytes) × (1452 ≤ length (now out)) ⌝ }
     ensures { λ _. ⌜ now (out .exit) ≡ patch 0 (lmsSignature 6 4 (now (id .entry)) leaf (now (seed .entry)) (now (randomizer .entry)) (now (message .entry)) (now (tree .entry))) (now (out .entry)) ⌝ }
 {

@@ -1,13 +1,14 @@
 // The tree's buffer, as the key maker fills it: node r at byte 32 × r.
 ghost use mathlib.Core.Path.{_≡_};
-ghost use Prim.Native.Nat.{_+_, _*_, _<_};
+ghost use Prim.Native.Nat.{_+_, _*_, _≤_, _<_};
 ghost use lib.ListN.{length};
 ghost use Rattle.octets.specs.Octets.{bytes, patch};
 ghost use Rattle.sha256.specs.Constants.{constants};
-ghost use Rattle.rfc8554.specs.Tree.{T, nodes, treeFilled};
+ghost use Rattle.rfc8554.specs.Tree.{T, nodes, publicKey, treeFilled};
 ghost use Rattle.rfc8554.specs.Calls.{treeBytes};
 ghost use Rattle.lms.specs.Pieces.{innerPut, innersPut};
 use crate::node;
+use crate::signer::write_key;
 
 // Writes the leaf of number q.
 fn put_leaf(k: &[u32; 64], id: [u32; 4], seed: [u32; 8], q: u32, tree: &mut [u8])
@@ -56,10 +57,22 @@ fn put_inners(k: &[u32; 64], id: [u32; 4], tree: &mut [u8])
 }
 
 // Writes all nodes: the leaves, then the inner nodes.
-pub fn fill(k: &[u32; 64], id: [u32; 4], seed: [u32; 8], tree: &mut [u8])
+fn fill(k: &[u32; 64], id: [u32; 4], seed: [u32; 8], tree: &mut [u8])
     requires { ⌜ (now k ≡ constants) × (length (now tree) ≡ treeBytes) ⌝ }
     ensures { λ _. ⌜ now (tree .exit) ≡ treeFilled (bytes id) (bytes seed) (now (tree .entry)) ⌝ }
 {
     put_leaves(k, id, seed, tree);
     put_inners(k, id, tree);
+}
+
+// Makes a key: all nodes, and the public key.
+pub fn make(seed: &[u8], id: &[u8], tree: &mut [u8], out: &mut [u8])
+    requires { ⌜ (length (now seed) ≡ 32) × (length (now id) ≡ 16) × (length (now tree) ≡ treeBytes) × (56 ≤ length (now out)) ⌝ }
+    ensures { λ _. ⌜ (now (tree .exit) ≡ treeFilled (now (id .entry)) (now (seed .entry)) (now (tree .entry))) × (now (out .exit) ≡ patch 0 (publicKey 6 4 (now (id .entry)) (now (seed .entry))) (now (out .entry))) ⌝ }
+{
+    let k = sha256::constants::round_constants();
+    let id_words = lmots::words::four(id, 0);
+    let seed_words = lmots::words::eight(seed, 0);
+    fill(&k, id_words, seed_words, tree);
+    write_key(id, node::bytes_at(tree, 32, 32), out);
 }

@@ -141,7 +141,15 @@ fn climb(
 // ---- the root
 
 // The leaf r, over the LM-OTS key that the signature of leaf q leads to.
-fn leaf_candidate(k: &[u32; 64], id: [u32; 4], w: u32, q: u32, r: u32, message: &[u8], signature: &[u8]) -> [u8; 32]
+fn leaf_candidate(
+    k: &[u32; 64],
+    id: [u32; 4],
+    w: u32,
+    q: u32,
+    r: u32,
+    message: &[u8],
+    signature: &[u8],
+) -> [u8; 32]
     requires { ⌜ (now k ≡ constants) × ((w ≡ 4) ⊎ (w ≡ 8)) × (4 + otsLength w ≤ length (now signature)) ⌝ }
     ensures { λ n. ⌜ n ≡ Fips.sha256 (leafInput (bytes id) r (candidate (bytes id) q w (now (message .entry)) (otsPart w (now (signature .entry))))) ⌝ }
 {
@@ -151,7 +159,14 @@ fn leaf_candidate(k: &[u32; 64], id: [u32; 4], w: u32, q: u32, r: u32, message: 
 }
 
 // The root that a signature leads to, for a key of these types.
-fn root_candidate(k: &[u32; 64], id: [u32; 4], lms: u32, ots: u32, message: &[u8], signature: &[u8]) -> [u8; 32]
+fn root_candidate(
+    k: &[u32; 64],
+    id: [u32; 4],
+    lms: u32,
+    ots: u32,
+    message: &[u8],
+    signature: &[u8],
+) -> [u8; 32]
     requires { ⌜ (now k ≡ constants) × (length (now signature) ≡ signatureLength (Tree.height lms) (Ots.width ots)) × (leafOf (now signature) < 2 ^ Tree.height lms) ⌝ }
     ensures { λ n. ⌜ n ≡ rootCandidate (Tree.height lms) (Ots.width ots) (bytes id) (now (message .entry)) (now (signature .entry)) ⌝ }
 {

@@ -25,7 +25,7 @@ sha256-two-requires c κs = search needs
 -- src/node.rt:27:1
 returns : tie.Need-returns
 unfolding leafInput front
-returns c = let args = c .before .before .before .before  .args in prefixed (c .before .before .front .result) _ (now (args .key)) (c .sha256-two .result) (c .before .before .front .ensures) (c .sha256-two .ensures)
+returns c = let args = c .before .before .before .before .args in prefixed (c .before .before .front .result) _ (now (args .key)) (c .sha256-two .result) (c .before .before .front .ensures) (c .sha256-two .ensures)
 
 pub leaf-spec : {M : Type 1} → statement M
 leaf-spec =

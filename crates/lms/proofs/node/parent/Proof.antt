@@ -23,7 +23,7 @@ inner-requires c κs = search needs
 
 -- src/node.rt:56:1
 returns : tie.Need-returns
-returns c = let args = c .before .before .before .before .before  .args in over-two (bytes (args .id)) (c .before .before .pair .result) (now (args .left)) (now (args .right)) (c .inner .result) (args .r) (c .before .before .pair .ensures) (c .inner .ensures)
+returns c = let args = c .before .before .before .before .before .args in over-two (bytes (args .id)) (c .before .before .pair .result) (now (args .left)) (now (args .right)) (c .inner .result) (args .r) (c .before .before .pair .ensures) (c .inner .ensures)
 
 pub parent-spec : {M : Type 1} → statement M
 parent-spec = tie.close (tie.spec pair-requires slice-aggregate-inner inner-requires returns)

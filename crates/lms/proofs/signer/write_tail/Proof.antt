@@ -31,8 +31,8 @@ same-length c = search needs
 returns : tie.Need-returns
 unfolding be
 returns c =
-    let args = c .before .before .before .before .before .before .before .before .before .before  .args in
-    patch-next 1128 1132 (be 4 6) _ (now (args .out)) (c .before .before .before .before .before .before  .put-word .last .0) (c .before .before  .write-path .last .1 .1 .0) (c .before .before .before .before .before .before  .put-word .ensures) refl (omega arith) (c .before .before  .write-path .ensures)
+    let args = c .before .before .before .before .before .before .before .before .before .before .args in
+    patch-next 1128 1132 (be 4 6) _ (now (args .out)) (c .before .before .before .before .before .before .put-word .last .0) (c .before .before .write-path .last .1 .1 .0) (c .before .before .before .before .before .before .put-word .ensures) refl (omega arith) (c .before .before .write-path .ensures)
 
 pub write-tail-spec : {M : Type 1} → statement M
 write-tail-spec =

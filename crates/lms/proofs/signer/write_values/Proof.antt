@@ -1,3 +1,4 @@
+use Rattle.rfc8554.specs.Ots.{digested}
 use Rattle.lms.specs.Written.{values-for}
 use mathlib.Core.Logic.{inr}
 use mathlib.Core.Path.{refl}
@@ -29,7 +30,7 @@ same-length c = search needs
 
 -- src/signer.rt:75:1
 returns : tie.Need-returns
-returns c = let args = c .before .before .before .before .before .before .before .before .before .args in values-for (bytes (args .id)) (bytes (args .seed)) (c .before .before .before .before .before .message-digits .result) _ (now (args .out)) (c .before .before .write-signed .last .1 .1 .1 .1 .1 .0) (args .leaf) (c .before .before .before .before .before .message-digits .ensures) (c .before .before .write-signed .ensures)
+returns c = let args = c .before .before .before .before .before .before .before .before .before .args in values-for (bytes (args .id)) (bytes (args .seed)) (c .before .before .before .before .before .message-digits .result) (digested (bytes (args .id)) (args .leaf) 8 (now (args .randomizer)) (now (args .message))) (now (args .out)) (c .before .before .write-signed .last .1 .1 .1 .1 .1 .0) (args .leaf) (c .before .before .before .before .before .message-digits .ensures) (c .before .before .write-signed .ensures)
 
 pub write-values-spec : {M : Type 1} → statement M
 write-values-spec =

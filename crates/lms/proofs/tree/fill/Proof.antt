@@ -1,3 +1,7 @@
+use Rattle.lms.specs.Filled.{tree-filled}
+use Rattle.rfc8554.specs.Calls.{treeBytes}
+use Rattle.octets.specs.Octets.{bytes}
+use denote.Ref.{now}
 use borrow.Author.Needs.{needs}
 use Rattle.lms.proofs.tree.fill.Statement.{statement}
 use Rattle.lms.proofs.tree.fill.Tie as tie
@@ -20,7 +24,8 @@ same-length c = search needs
 
 -- src/tree.rt:59:1
 returns : tie.Need-returns
-returns c = ?
+unfolding treeBytes
+returns c = let start = c .before .before .before .before .before .before .before .before .before in let args = start .args in tree-filled (bytes (args .id)) (bytes (args .seed)) (now (args .tree)) (start .pre .1) (c .before .before .before .before .before .before .put-leaves .last .1 .1 .1 .0) (c .before .before .put-inners .last .1 .1 .0) (c .before .before .before .before .before .before .put-leaves .ensures) (c .before .before .put-inners .ensures)
 
 pub fill-spec : {M : Type 1} → statement M
 fill-spec = tie.close (tie.spec put-leaves-requires put-inners-requires same-length returns)
