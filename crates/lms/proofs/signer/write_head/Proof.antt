@@ -1,0 +1,42 @@
+use Rattle.lms.specs.Written.{three-writes}
+use Rattle.octets.specs.Octets.{be}
+use native.Mathlib.Omega.{arith}
+use Rattle.octets.specs.Laws.{length-be}
+use mathlib.Core.Path.{refl, sym}
+use denote.Ref.{now}
+use borrow.Author.Needs.{needs}
+use Rattle.lms.proofs.signer.write_head.Statement.{statement}
+use Rattle.lms.proofs.signer.write_head.Tie as tie
+use Rattle.lms.proofs.signer.write_head.Reads as reads
+use Rattle.lms.proofs.signer.write_head.Lts as lts
+use Rattle.octets.proofs.copy.Reads as copy-reads
+use Rattle.octets.proofs.put_word.Reads as put-word-reads
+
+-- src/signer.rt:34:5
+put-word-requires : tie.Need-put-word-requires
+put-word-requires c κs = search needs
+
+-- src/signer.rt:35:5
+put-word-requires-2 : tie.Need-put-word-requires-2
+put-word-requires-2 c κs = search needs
+
+-- src/signer.rt:36:5
+copy-requires : tie.Need-copy-requires
+copy-requires c κs = search needs
+
+-- src/signer.rt:30:1
+same-length : tie.Need-same-length
+same-length c = search needs
+
+-- src/signer.rt:30:1
+returns : tie.Need-returns
+unfolding be
+returns c =
+    let first = c .before .before .before .before .before .before .before .before .before .before in
+    let args = first .before .before .before .before .args in
+    three-writes 0 (be 4 (args .leaf)) (be 4 4) (now (args .randomizer)) (now (args .out)) (first .put-word .last .0) (c .before .before .before .before .before .before .put-word2 .last .0) (c .before .before .copy .last .0) 4 8 (omega arith)
+    (first .put-word .ensures) (c .before .before .before .before .before .before .put-word2 .ensures) (c .before .before .copy .ensures) refl refl
+
+pub write-head-spec : {M : Type 1} → statement M
+write-head-spec =
+    tie.close (tie.spec put-word-requires put-word-requires-2 copy-requires same-length returns)

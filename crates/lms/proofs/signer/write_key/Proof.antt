@@ -1,0 +1,53 @@
+use Rattle.lms.specs.Written.{four-writes}
+use Rattle.octets.specs.Octets.{be}
+use native.Mathlib.Omega.{arith}
+use Rattle.octets.specs.Laws.{length-be}
+use mathlib.Core.Path.{refl, sym}
+use denote.Ref.{now}
+use borrow.Author.Needs.{needs}
+use Rattle.lms.proofs.signer.write_key.Statement.{statement}
+use Rattle.lms.proofs.signer.write_key.Tie as tie
+use Rattle.lms.proofs.signer.write_key.Reads as reads
+use Rattle.lms.proofs.signer.write_key.Lts as lts
+use Rattle.octets.proofs.copy.Reads as copy-reads
+use Rattle.octets.proofs.put_word.Reads as put-word-reads
+
+-- src/signer.rt:23:5
+put-word-requires : tie.Need-put-word-requires
+put-word-requires c κs = search needs
+
+-- src/signer.rt:24:5
+put-word-requires-2 : tie.Need-put-word-requires-2
+put-word-requires-2 c κs = search needs
+
+-- src/signer.rt:25:5
+copy-requires : tie.Need-copy-requires
+copy-requires c κs = search needs
+
+-- src/signer.rt:26:5
+copy-requires-2 : tie.Need-copy-requires-2
+copy-requires-2 c κs = search needs
+
+-- src/signer.rt:19:1
+same-length : tie.Need-same-length
+same-length c = search needs
+
+-- src/signer.rt:19:1
+returns : tie.Need-returns
+unfolding be
+returns c =
+    let first = c .before .before .before .before .before .before .before .before .before .before .before .before .before .before in
+    let args = first .before .before .before .before .before .args in
+    four-writes 0 (be 4 6) (be 4 4) (now (args .id)) (now (args .out)) (first .put-word .last .0) (c .before .before .before .before .before .before .before .before .before .before .put-word2 .last .0) (c .before .before .before .before .before .before .copy .last .0) 4 8 (omega arith)
+    (first .put-word .ensures) (c .before .before .before .before .before .before .before .before .before .before .put-word2 .ensures) (c .before .before .before .before .before .before .copy .ensures) refl refl (now (args .root)) (c .before .before .copy2 .last .0) 24 (c .before .before .copy2 .ensures) (omega arith)
+
+pub write-key-spec : {M : Type 1} → statement M
+write-key-spec =
+    tie.close
+    (tie.spec
+    put-word-requires
+    put-word-requires-2
+    copy-requires
+    copy-requires-2
+    same-length
+    returns)

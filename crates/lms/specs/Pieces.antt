@@ -1,0 +1,19 @@
+-- What the code's pieces compute on the way.
+use Prim.Native.Nat.{ℕ, zero, suc, _-_, _*_}
+use mathlib.Core.List.{List, _++_}
+use Rattle.octets.specs.Octets.{part, patch}
+use Rattle.rfc8554.specs.Ots.{H, u16str, u32str}
+use Rattle.rfc8554.specs.Tree.{dIntr}
+
+-- what is hashed at the inner node r, over its children in one string
+unfoldable pub overChildren : List ℕ → ℕ → List ℕ → List ℕ
+overChildren I r children = I ++ u32str r ++ u16str dIntr ++ children
+
+-- the tree's buffer once the inner node r is written over its children there
+unfoldable pub innerPut : List ℕ → ℕ → List ℕ → List ℕ
+innerPut I r tree = patch (32 * r) (H (overChildren I r (part (64 * r) 64 tree))) tree
+
+-- and once t of them are, from node 1,023 up
+unfoldable pub innersPut : List ℕ → ℕ → List ℕ → List ℕ
+innersPut I zero tree = tree
+innersPut I (suc t) tree = innerPut I (1023 - t) (innersPut I t tree)
