@@ -1,0 +1,6 @@
+-- The claims over whole lists of calls (demands 1 and 3), over the definitions of crate `protocol`.
+--
+-- `Round` has document 01's "A round as a whole" as definitions.
+pub mod Round
+pub mod Lists
+pub mod Slots
