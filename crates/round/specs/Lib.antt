@@ -4,3 +4,5 @@
 pub mod Round
 pub mod Lists
 pub mod Slots
+pub mod Sound
+pub mod Certificates

@@ -11,7 +11,7 @@ use lib.ListN.{length, getD}
 use borrow.Author.Tests.{ltb-true, lt-ltb}
 use Rattle.quorum.specs.Quorum.{Rises}
 use Rattle.protocol.specs.Refusals.{every, rising}
-use Rattle.round.specs.Round.{Each}
+use Rattle.round.specs.Round.{Each, worth, count}
 
 -- ---- tests
 
@@ -34,11 +34,6 @@ and-false-either false b e = inl refl
 pub or-false-both : (a b : Bool) → (a || b) ≡ false → (a ≡ false) × (b ≡ false)
 or-false-both true b e = absurd (true≢false e)
 or-false-both false b e = (refl, e)
-
--- 1 where the test holds
-unfoldable pub worth : Bool → ℕ
-worth true = 1
-worth false = 0
 
 pub worth-le-one : (b : Bool) → worth b ≤ 1
 unfolding worth
@@ -89,10 +84,6 @@ each-every test [] p = refl
 each-every test (x ∷ xs) p = rw (p x (List·Memᴰ·head refl)) (each-every test xs (λ y d. p y (List·Memᴰ·tail d)))
 
 -- ---- how many of a list pass a test
-
-unfoldable pub count {ℓ} : {A : Type ℓ} → (A → Bool) → List A → ℕ
-count test [] = 0
-count test (x ∷ xs) = worth (test x) + count test xs
 
 pub count-append {ℓ} : {A : Type ℓ} (test : A → Bool) (xs ys : List A) → count test (xs ++ ys) ≡ count test xs + count test ys
 unfolding count

@@ -1,15 +1,15 @@
 -- "A round as a whole" (document 01): the lists of calls, and each of its words beside its sentence.
 -- Assumes nothing.
-use Prim.Native.Nat.{ℕ, _≤_}
+use Prim.Native.Nat.{ℕ, _+_, _≤_}
 use mathlib.Core.Path.{_≡_}
-use mathlib.Core.Bool.{true, false}
+use mathlib.Core.Bool.{Bool, true, false}
 use mathlib.Core.List.{List, [], _∷_, _++_, List·Memᴰ}
 use mathlib.Core.Logic.{_⊎_}
 use lib.ListN.{length, take}
 use Rattle.protocol.specs.Layout.{storeLength, outLength}
-use Rattle.protocol.specs.Message.{Message, Notice, Full, Signed, Entry, render, renderAll, read, signed, entrySeats}
+use Rattle.protocol.specs.Message.{Message, Submit, Notice, Full, Evidence, Garbled, Signed, Entry, render, renderAll, read, signed, entrySeats}
 use Rattle.protocol.specs.ReadLaws.{WellFormed}
-use Rattle.protocol.specs.Refusals.{Checks, isEvidence}
+use Rattle.protocol.specs.Refusals.{Checks, isFull, isEvidence}
 use Rattle.protocol.specs.Calls.{Result, outAfter, opening, submit, step, answer, making, made, evidenceCheck}
 use Rattle.protocol.specs.declared.Record.{Record}
 
@@ -24,6 +24,39 @@ Relation = ℕ → List ℕ → List ℕ → Type 0
 -- every signature of a message, with its seat and value
 abbrev pub EachSigned : Relation → Message → Type 0
 EachSigned R m = Each (λ (s : Signed). R (s .seat) (s .value) (s .signature)) (signed m)
+
+-- how many of a list pass a test
+unfoldable pub worth : Bool → ℕ
+worth true = 1
+worth false = 0
+
+unfoldable pub count {ℓ} : {A : Type ℓ} → (A → Bool) → List A → ℕ
+count test [] = 0
+count test (x ∷ xs) = worth (test x) + count test xs
+
+-- what a unit sends: "at most one submission, one notice and one full certificate", and one evidence
+pub data Kind : Type 0 where
+  Submission OneNotice FullCertificate SomeEvidence : Kind
+
+unfoldable pub isSubmit : Message → Bool
+isSubmit (Submit ρ seat value signature) = true
+isSubmit (Notice ρ seat value) = false
+isSubmit (Full ρ sender value entries) = false
+isSubmit (Evidence ρ lower higher entries) = false
+isSubmit Garbled = false
+
+unfoldable pub isNotice : Message → Bool
+isNotice (Submit ρ seat value signature) = false
+isNotice (Notice ρ seat value) = true
+isNotice (Full ρ sender value entries) = false
+isNotice (Evidence ρ lower higher entries) = false
+isNotice Garbled = false
+
+abbrev pub isOf : Kind → Message → Bool
+isOf Submission m = isSubmit m
+isOf OneNotice m = isNotice m
+isOf FullCertificate m = isFull m
+isOf SomeEvidence m = isEvidence m
 
 -- ---- the lists
 
