@@ -6,3 +6,4 @@ pub mod Lists
 pub mod Slots
 pub mod Sound
 pub mod Certificates
+pub mod Parts

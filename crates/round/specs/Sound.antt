@@ -66,6 +66,14 @@ pub record Settled (r : Record) : Type 0 where
   pub holds : r .confirmed ≡ true → Held (r .own .value) r
   pub owes : owesFull r ≡ false
 
+-- a message of the unit's own: its round, seat and value
+pub record Said (r : Record) (ρ seat : ℕ) (value : List ℕ) : Type 0 where
+  pub ofRound : ρ ≡ r .round
+  pub ofSeat : seat ≡ r .seat
+  pub ofValue : value ≡ r .own .value
+  pub submitted : r .own .submitted ≡ true
+  pub sized : length value ≡ valueLength
+
 module _ (checks : Checks) (W : Relation) where
   -- ---- signatures
 
@@ -136,14 +144,6 @@ module _ (checks : Checks) (W : Relation) where
     pub confirmed : r .sent ≡ true → r .confirmed ≡ true
 
   -- ---- messages
-
-  -- a message of the unit's own: its round, seat and value
-  pub record Said (r : Record) (ρ seat : ℕ) (value : List ℕ) : Type 0 where
-    pub ofRound : ρ ≡ r .round
-    pub ofSeat : seat ≡ r .seat
-    pub ofValue : value ≡ r .own .value
-    pub submitted : r .own .submitted ≡ true
-    pub sized : length value ≡ valueLength
 
   -- what holds of a message that the unit has written
   abbrev pub Good : Record → Message → Type 0
