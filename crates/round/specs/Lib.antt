@@ -7,3 +7,4 @@ pub mod Slots
 pub mod Sound
 pub mod Certificates
 pub mod Parts
+pub mod Whole

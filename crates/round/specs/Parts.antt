@@ -359,7 +359,7 @@ module _ (checks : Checks) (W : Relation) where
         flags unsent FullCertificate = rw unsent
         flags unsent SomeEvidence = omega arith
 
-    leads-refl : Leads checks W s s
+    pub leads-refl : Leads checks W s s
     leads-refl = leads-quiet s s z (grows-refl (s .unit)) refl (λ κ. refl)
 
     pub reply-leads : Leads checks W s (reply s)
