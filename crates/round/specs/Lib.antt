@@ -8,3 +8,4 @@ pub mod Sound
 pub mod Certificates
 pub mod Parts
 pub mod Whole
+pub mod Reading
