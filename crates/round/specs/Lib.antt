@@ -9,3 +9,4 @@ pub mod Certificates
 pub mod Parts
 pub mod Whole
 pub mod Reading
+pub mod Unrefused

@@ -35,6 +35,10 @@ pub or-false-both : (a b : Bool) → (a || b) ≡ false → (a ≡ false) × (b 
 or-false-both true b e = absurd (true≢false e)
 or-false-both false b e = (refl, e)
 
+pub or-true-either : (a b : Bool) → (a || b) ≡ true → (a ≡ true) ⊎ (b ≡ true)
+or-true-either true b e = inl refl
+or-true-either false b e = inr e
+
 pub worth-le-one : (b : Bool) → worth b ≤ 1
 unfolding worth
 worth-le-one true = omega arith

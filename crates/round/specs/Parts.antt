@@ -30,7 +30,7 @@ use Rattle.protocol.specs.declared.Record.{Record}
 use Rattle.round.specs.Round.{Each, Relation, Kind, Submission, OneNotice, FullCertificate, SomeEvidence, isOf, isSubmit, isNotice, worth, count}
 use Rattle.round.specs.Lists.{cond-elim, test-cases, and-true-both, and-false-either, worth-true, worth-false, each-nil, each-one, each-append, count-append, count-nil, count-one}
 use Rattle.round.specs.Slots.{keep-length, slot-keep-same, slot-keep-other, keepEach-length, slot-keepEach-other, slot-keepEach-same}
-use Rattle.round.specs.Sound.{Heard, Held, Grows, flagOf, InRange, Settled, Kept, Certifies, Pairs, Collection, Holding, Sound, Said, Good, Leads}
+use Rattle.round.specs.Sound.{Heard, Held, Grows, flagOf, InRange, Room, Settled, Kept, Certifies, Pairs, Collection, Holding, Sound, Said, Good, Leads}
 use Rattle.round.specs.Certificates.{entries-of, evidence-elim}
 
 -- ---- records that go on
@@ -119,26 +119,33 @@ module _ (checks : Checks) (W : Relation) where
   pub leads-trans : (s s′ s″ : State) → Leads checks W s s′ → Leads checks W s′ s″ → Leads checks W s s″
   leads-trans s s′ s″ a b = record {
     sound = b .sound;
+    stored = b .stored ∙ a .stored;
     grows = grows-trans (s .unit) (s′ .unit) (s″ .unit) (a .grows) (b .grows);
     counts = λ κ. let x = a .counts κ in let y = b .counts κ in omega arith;
     good = λ h. b .good (a .good h);
   }
 
+  -- a later state has room where the first has
+  pub room-leads : (s s′ : State) → Leads checks W s s′ → Room s → Room s′
+  room-leads s s′ a room = rw (a .stored, a .grows .n) room
+
   -- a part that writes nothing and sets no flag
-  pub leads-quiet : (s s′ : State) → Sound checks W (s′ .unit) (s′ .store) → Grows (s .unit) (s′ .unit) → s′ .written ≡ s .written
+  pub leads-quiet : (s s′ : State) → Sound checks W (s′ .unit) (s′ .store) → length (s′ .store) ≡ length (s .store) → Grows (s .unit) (s′ .unit) → s′ .written ≡ s .written
     → ((κ : Kind) → flagOf κ (s′ .unit) ≡ flagOf κ (s .unit)) → Leads checks W s s′
-  leads-quiet s s′ sound grows e flags = record {
+  leads-quiet s s′ sound stored grows e flags = record {
     sound = sound;
+    stored = stored;
     grows = grows;
     counts = λ κ. rw (e, flags κ);
     good = λ h. rw e (λ m d. good-grows (s .unit) (s′ .unit) grows m (h m d));
   }
 
   -- a part that writes one message
-  pub leads-writing : (s s′ : State) (m : Message) → Sound checks W (s′ .unit) (s′ .store) → Grows (s .unit) (s′ .unit) → s′ .written ≡ s .written ++ m ∷ []
+  pub leads-writing : (s s′ : State) (m : Message) → Sound checks W (s′ .unit) (s′ .store) → length (s′ .store) ≡ length (s .store) → Grows (s .unit) (s′ .unit) → s′ .written ≡ s .written ++ m ∷ []
     → Good checks W (s′ .unit) m → ((κ : Kind) → worth (isOf κ m) + worth (flagOf κ (s .unit)) ≡ worth (flagOf κ (s′ .unit))) → Leads checks W s s′
-  leads-writing s s′ m sound grows e good flags = record {
+  leads-writing s s′ m sound stored grows e good flags = record {
     sound = sound;
+    stored = stored;
     grows = grows;
     counts = λ κ. rw e (omega (arith, count-append (isOf κ) (s .written) (m ∷ []), count-one (isOf κ) m, flags κ));
     good = λ h. rw e (each-append (Good checks W (s′ .unit)) (s .written) (m ∷ []) (λ x d. good-grows (s .unit) (s′ .unit) grows x (h x d)) (each-one (Good checks W (s′ .unit)) m good));
@@ -176,7 +183,7 @@ module _ (checks : Checks) (W : Relation) where
     unheld = z .unheld;
   }
 
-  module _ (seat : ℕ) (value signature : List ℕ) (s : State) (z : Sound checks W (s .unit) (s .store)) where
+  module _ (seat : ℕ) (value signature : List ℕ) (s : State) (z : Sound checks W (s .unit) (s .store)) (room : Room s) where
     -- "the value is the own one and the seat is new, its signature is collected"
     pub collect-leads : isWanted seat value (s .unit) ≡ true → s .unit .own .submitted ≡ true → (size (s .unit .own .collected) ≡ k (s .unit .n) → s .unit .confirmed ≡ true)
       → seat < s .unit .n → Kept checks W seat value signature → Leads checks W s (collect seat signature s)
@@ -194,16 +201,16 @@ module _ (checks : Checks) (W : Relation) where
         leads-quiet s (collect seat signature s)
         (record {
           range = z .range;
-          room = rw (keep-length (r .n) collectedBank seat signature (s .store) (omega arith) inside (z .room) (g .sized)) (z .room);
-          own = collection-with (r .n) seat (r .own) signature (s .store) inside (z .room) new (omega arith) kept (z .own);
+          own = collection-with (r .n) seat (r .own) signature (s .store) inside room new (omega arith) kept (z .own);
           unsaid = λ e. absurd (true≢false (sym submitted ∙ e));
           said = λ e. go (ℕ-discrete (r .seat) seat);
           heard = z .heard;
           unheard = z .unheard;
-          first = holding-beside (r .n) seat (r .guilty) r signature (s .store) inside (z .room) (g .sized) (z .first);
+          first = holding-beside (r .n) seat (r .guilty) r signature (s .store) inside room (g .sized) (z .first);
           full = λ e. absurd (true≢false (sym e ∙ unconfirmed));
           confirmed = z .confirmed;
         })
+        (keep-length (r .n) collectedBank seat signature (s .store) (omega arith) inside room (g .sized))
         (record { n = refl; seat = refl; round = refl; said = λ e. (e, refl); heard = λ v h. h; held = λ v h. h })
         refl
         (same-flags r (collect seat signature s .unit) refl refl refl refl)
@@ -214,7 +221,7 @@ module _ (checks : Checks) (W : Relation) where
 
   -- ---- submit
 
-  module _ (value signature : List ℕ) (s : State) (z : Sound checks W (s .unit) (s .store)) where
+  module _ (value signature : List ℕ) (s : State) (z : Sound checks W (s .unit) (s .store)) (room : Room s) where
     pub submitOwn-leads : s .unit .own .submitted ≡ false → length value ≡ valueLength → Kept checks W (s .unit .seat) value signature → Leads checks W s (submitOwn value signature s)
     unfolding submitOwn write collect keepValue isSubmit isNotice isFull isEvidence worth
     submitOwn-leads unsaid sized g =
@@ -233,16 +240,16 @@ module _ (checks : Checks) (W : Relation) where
         leads-writing s (submitOwn value signature s) (Submit (r .round) (r .seat) value signature)
         (record {
           range = z .range;
-          room = rw (keep-length (r .n) collectedBank (r .seat) signature (s .store) (omega arith) (z .range .inside) (z .room) (g .sized)) (z .room);
-          own = collection-with (r .n) (r .seat) own signature (s .store) (z .range .inside) (z .room) new (omega arith) g clean;
+          own = collection-with (r .n) (r .seat) own signature (s .store) (z .range .inside) room new (omega arith) g clean;
           unsaid = λ e. absurd (true≢false e);
           said = λ e. bit-with-same (r .seat) (r .own .collected);
           heard = z .heard;
           unheard = z .unheard;
-          first = holding-beside (r .n) (r .seat) (r .guilty) r signature (s .store) (z .range .inside) (z .room) (g .sized) (z .first);
+          first = holding-beside (r .n) (r .seat) (r .guilty) r signature (s .store) (z .range .inside) room (g .sized) (z .first);
           full = λ e. absurd (let f = z .full e in omega arith);
           confirmed = z .confirmed;
         })
+        (keep-length (r .n) collectedBank (r .seat) signature (s .store) (omega arith) (z .range .inside) room (g .sized))
         (record { n = refl; seat = refl; round = refl; said = λ e. absurd (true≢false (sym e ∙ unsaid)); heard = λ v h. h; held = λ v h. h })
         refl
         (record { ofRound = refl; ofSeat = refl; ofValue = refl; submitted = refl; sized = sized }, g)
@@ -269,7 +276,6 @@ module _ (checks : Checks) (W : Relation) where
         leads-quiet s (hear value s)
         (record {
           range = z .range;
-          room = z .room;
           own = z .own;
           unsaid = z .unsaid;
           said = z .said;
@@ -279,6 +285,7 @@ module _ (checks : Checks) (W : Relation) where
           full = z .full;
           confirmed = z .confirmed;
         })
+        refl
         (record {
           n = refl;
           seat = refl;
@@ -338,7 +345,6 @@ module _ (checks : Checks) (W : Relation) where
         leads-writing s (sendFull s) (fullOf (r .n) (r .round) (r .seat) (ownCertificate r (s .store)))
         (record {
           range = z .range;
-          room = z .room;
           own = z .own;
           unsaid = z .unsaid;
           said = z .said;
@@ -348,6 +354,7 @@ module _ (checks : Checks) (W : Relation) where
           full = z .full;
           confirmed = λ e. parts .0;
         })
+        refl
         (record { n = refl; seat = refl; round = refl; said = λ e. (e, refl); heard = λ v h. h; held = λ v h. h })
         refl
         (record { ofRound = refl; ofSeat = refl; ofValue = refl; submitted = confirmed-submitted r (s .store) z (parts .0); sized = z .own .sized }, entries-of checks W (r .n) (ownCertificate r (s .store)) own)
@@ -360,7 +367,7 @@ module _ (checks : Checks) (W : Relation) where
         flags unsent SomeEvidence = omega arith
 
     pub leads-refl : Leads checks W s s
-    leads-refl = leads-quiet s s z (grows-refl (s .unit)) refl (λ κ. refl)
+    leads-refl = leads-quiet s s z refl (grows-refl (s .unit)) refl (λ κ. refl)
 
     pub reply-leads : Leads checks W s (reply s)
     unfolding reply
@@ -368,7 +375,7 @@ module _ (checks : Checks) (W : Relation) where
 
   -- ---- hold or blame
 
-  module _ (c : Certificate) (s : State) (z : Sound checks W (s .unit) (s .store)) (y : Certifies checks W (s .unit .n) c) where
+  module _ (c : Certificate) (s : State) (z : Sound checks W (s .unit) (s .store)) (room : Room s) (y : Certifies checks W (s .unit .n) c) where
     certificate-some : c .seats ≢ 0
     certificate-some e = let none = ap size e ∙ size-empty in let p = k-pos (s .unit .n) (z .range .some) in let q = y .enough in omega arith
 
@@ -384,12 +391,11 @@ module _ (checks : Checks) (W : Relation) where
         leads-quiet s (hold c s)
         (record {
           range = z .range;
-          room = rw (keepEach-length (r .n) firstBank (c .signature) (omega arith) (seats (r .n) (c .seats)) (s .store) certificate-fit (z .room)) (z .room);
           own = record {
             sized = z .own .sized;
             below = z .own .below;
             few = z .own .few;
-            kept = λ t i. rw (slot-keepEach-other (r .n) firstBank (c .signature) (omega arith) (seats (r .n) (c .seats)) (s .store) collectedBank t certificate-fit (z .room) (λ u d q. let l = in-below (r .n) t (r .own .collected) (z .own .below) i in omega arith)) (z .own .kept t i);
+            kept = λ t i. rw (slot-keepEach-other (r .n) firstBank (c .signature) (omega arith) (seats (r .n) (c .seats)) (s .store) collectedBank t certificate-fit room (λ u d q. let l = in-below (r .n) t (r .own .collected) (z .own .below) i in omega arith)) (z .own .kept t i);
           };
           unsaid = z .unsaid;
           said = z .said;
@@ -399,7 +405,7 @@ module _ (checks : Checks) (W : Relation) where
             sized = y .sized;
             below = y .below;
             enough = inr (y .enough);
-            kept = λ t i. rw (slot-keepEach-same (r .n) firstBank (c .signature) (omega arith) (seats (r .n) (c .seats)) (s .store) t certificate-fit (z .room) (mem-seats (r .n) t (c .seats) .1 (in-below (r .n) t (c .seats) (y .below) i, i))) (y .kept t i);
+            kept = λ t i. rw (slot-keepEach-same (r .n) firstBank (c .signature) (omega arith) (seats (r .n) (c .seats)) (s .store) t certificate-fit room (mem-seats (r .n) t (c .seats) .1 (in-below (r .n) t (c .seats) (y .below) i, i))) (y .kept t i);
             guiltyBelow = z .first .guiltyBelow;
             guiltyWithin = rw innocent (shared-none (c .seats));
             unheld = λ e. absurd (certificate-some e);
@@ -407,6 +413,7 @@ module _ (checks : Checks) (W : Relation) where
           full = z .full;
           confirmed = z .confirmed;
         })
+        (keepEach-length (r .n) firstBank (c .signature) (omega arith) (seats (r .n) (c .seats)) (s .store) certificate-fit room)
         (record { n = refl; seat = refl; round = refl; said = λ e. (e, refl); heard = λ v h. h; held = λ v h. absurd (h .0 empty) })
         refl
         (same-flags r (hold c s .unit) refl refl refl refl)
@@ -430,7 +437,6 @@ module _ (checks : Checks) (W : Relation) where
         leads-writing s (blame c s) (evidenceOf (r .n) (r .round) first c)
         (record {
           range = z .range;
-          room = z .room;
           own = z .own;
           unsaid = z .unsaid;
           said = z .said;
@@ -448,6 +454,7 @@ module _ (checks : Checks) (W : Relation) where
           full = z .full;
           confirmed = z .confirmed;
         })
+        refl
         (record { n = refl; seat = refl; round = refl; said = λ e. (e, refl); heard = λ v h. h; held = λ v h. (held, ⊎-elim inl (λ g. absurd (g innocent)) (h .1)) })
         refl
         (evidence-elim checks W (Good checks W (blame c s .unit)) (r .n) (r .round) first c (z .range .some) f y other (λ lower higher ps p. (refl, p)))

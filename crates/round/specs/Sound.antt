@@ -59,6 +59,10 @@ pub record InRange (n seat round : ℕ) : Type 0 where
   pub inside : seat < n
   pub early : round ≤ lastRound
 
+-- the store has the stated length or more
+abbrev pub Room : State → Type 0
+Room s = storeLength (s .unit .n) ≤ length (s .store)
+
 -- ---- what stands at the end of a call
 
 pub record Settled (r : Record) : Type 0 where
@@ -133,7 +137,6 @@ module _ (checks : Checks) (W : Relation) where
   -- after every part of a call
   pub record Sound (r : Record) (store : List ℕ) : Type 0 where
     pub range : InRange (r .n) (r .seat) (r .round)
-    pub room : storeLength (r .n) ≤ length store
     pub own : Collection (r .n) (r .own) store
     pub unsaid : r .own .submitted ≡ false → (r .own .collected ≡ 0) × (r .own .value ≡ unset)
     pub said : r .own .submitted ≡ true → In (r .seat) (r .own .collected)
@@ -157,6 +160,7 @@ module _ (checks : Checks) (W : Relation) where
 
   pub record Leads (s s′ : State) : Type 0 where
     pub sound : Sound (s′ .unit) (s′ .store)
+    pub stored : length (s′ .store) ≡ length (s .store)
     pub grows : Grows (s .unit) (s′ .unit)
     pub counts : (κ : Kind) → count (isOf κ) (s′ .written) + worth (flagOf κ (s .unit)) ≡ count (isOf κ) (s .written) + worth (flagOf κ (s′ .unit))
     pub good : Each (Good (s .unit)) (s .written) → Each (Good (s′ .unit)) (s′ .written)

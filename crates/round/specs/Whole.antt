@@ -21,9 +21,9 @@ use Rattle.protocol.specs.Step.{State, withUnit, write, collect, keepValue, sub
 use Rattle.protocol.specs.declared.Record.{Record}
 use Rattle.round.specs.Round.{Relation, Kind, Submission, OneNotice, FullCertificate, SomeEvidence, isOf, isSubmit, isNotice, worth}
 use Rattle.round.specs.Lists.{cond-elim, and-true-both, and-false-either}
-use Rattle.round.specs.Sound.{Heard, Held, Grows, flagOf, Settled, Kept, Certifies, Entries, Sound, Said, Leads}
+use Rattle.round.specs.Sound.{Heard, Held, Grows, flagOf, Room, Settled, Kept, Certifies, Entries, Sound, Said, Leads}
 use Rattle.round.specs.Certificates.{certifies-of}
-use Rattle.round.specs.Parts.{k-pos, leads-trans, leads-writing, leads-refl, collect-leads, submitOwn-leads, hear-leads, hear-heard, reply-leads, holdOrBlame-leads, holdOrBlame-held, own-certifies, collected-submitted, confirmed-submitted}
+use Rattle.round.specs.Parts.{k-pos, room-leads, leads-trans, leads-writing, leads-refl, collect-leads, submitOwn-leads, hear-leads, hear-heard, reply-leads, holdOrBlame-leads, holdOrBlame-held, own-certifies, collected-submitted, confirmed-submitted}
 
 -- ---- what hearing leaves alone
 
@@ -86,7 +86,7 @@ collect-held seat signature s held e = held e
 module _ (checks : Checks) (W : Relation) where
   -- ---- a certificate heard
 
-  module _ (c : Certificate) (s : State) (z : Sound checks W (s .unit) (s .store)) (y : Certifies checks W (s .unit .n) c) where
+  module _ (c : Certificate) (s : State) (z : Sound checks W (s .unit) (s .store)) (room : Room s) (y : Certifies checks W (s .unit .n) c) where
     heard-leads : Leads checks W s (reply (hear (c .value) s))
     heard-leads =
         let a = hear-leads checks W (c .value) s z in
@@ -95,14 +95,17 @@ module _ (checks : Checks) (W : Relation) where
     heard-certifies : Certifies checks W (reply (hear (c .value) s) .unit .n) c
     heard-certifies = rw (heard-leads .grows .n) y
 
+    heard-room : Room (reply (hear (c .value) s))
+    heard-room = room-leads checks W s (reply (hear (c .value) s)) heard-leads room
+
     pub hearing-leads : Leads checks W s (hearCertificate c s)
     unfolding hearCertificate
     hearing-leads =
-        leads-trans checks W s (reply (hear (c .value) s)) (hearCertificate c s) heard-leads (holdOrBlame-leads checks W c (reply (hear (c .value) s)) (heard-leads .sound) heard-certifies)
+        leads-trans checks W s (reply (hear (c .value) s)) (hearCertificate c s) heard-leads (holdOrBlame-leads checks W c (reply (hear (c .value) s)) (heard-leads .sound) heard-room heard-certifies)
 
     pub hearing-held : Held (c .value) (hearCertificate c s .unit)
     unfolding hearCertificate
-    hearing-held = holdOrBlame-held checks W c (reply (hear (c .value) s)) (heard-leads .sound) heard-certifies
+    hearing-held = holdOrBlame-held checks W c (reply (hear (c .value) s)) (heard-leads .sound) heard-room heard-certifies
 
   -- ---- at the end of a call
 
@@ -118,7 +121,7 @@ module _ (checks : Checks) (W : Relation) where
     owes = owes;
   }
 
-  module _ (s : State) (z : Sound checks W (s .unit) (s .store)) where
+  module _ (s : State) (z : Sound checks W (s .unit) (s .store)) (room : Room s) where
     confirm-leads : isComplete (s .unit) ≡ true → Leads checks W s (confirm s)
     unfolding confirm write isComplete isSubmit isNotice isFull isEvidence worth
     confirm-leads e =
@@ -129,7 +132,6 @@ module _ (checks : Checks) (W : Relation) where
         leads-writing checks W s (confirm s) (Notice (r .round) (r .seat) (r .own .value))
         (record {
           range = z .range;
-          room = z .room;
           own = z .own;
           unsaid = z .unsaid;
           said = z .said;
@@ -139,6 +141,7 @@ module _ (checks : Checks) (W : Relation) where
           full = λ q. full;
           confirmed = λ q. refl;
         })
+        refl
         (record { n = refl; seat = refl; round = refl; said = λ q. (q, refl); heard = λ v h. h; held = λ v h. h })
         refl
         (record { ofRound = refl; ofSeat = refl; ofValue = refl; submitted = collected-submitted checks W r (s .store) z (omega arith); sized = z .own .sized })
@@ -170,11 +173,12 @@ module _ (checks : Checks) (W : Relation) where
         let c = ownCertificate (t .unit) (t .store) in
         let a = confirm-leads e in
         let y : Certifies checks W (t .unit .n) c = own-certifies checks W (t .unit) (t .store) (a .sound) (confirm-size e) in
-        let b = hearing-leads c t (a .sound) y in
+        let roomy = room-leads checks W s t a room in
+        let b = hearing-leads c t (a .sound) roomy y in
         let stays = hearing-stays c t in
         record {
           leads = leads-trans checks W s t (hearOwn t) a b;
-          settled = record { complete = λ q. stays .confirmed ∙ confirm-confirmed; holds = λ q. rw (stays .own) (hearing-held c t (a .sound) y); owes = hearing-owes c t };
+          settled = record { complete = λ q. stays .confirmed ∙ confirm-confirmed; holds = λ q. rw (stays .own) (hearing-held c t (a .sound) roomy y); owes = hearing-owes c t };
         }
 
     unconfirmed-done : isComplete (s .unit) ≡ false → (s .unit .confirmed ≡ true → Held (s .unit .own .value) (s .unit)) → Done s (reply s)
@@ -193,13 +197,13 @@ module _ (checks : Checks) (W : Relation) where
 
   -- ---- submit and step
 
-  pub submitted-done : (value signature : List ℕ) (s : State) → Sound checks W (s .unit) (s .store) → s .unit .own .submitted ≡ false → length value ≡ valueLength
+  pub submitted-done : (value signature : List ℕ) (s : State) → Sound checks W (s .unit) (s .store) → Room s → s .unit .own .submitted ≡ false → length value ≡ valueLength
     → Kept checks W (s .unit .seat) value signature → Done s (submitted value signature s)
   unfolding submitted
-  submitted-done value signature s z unsaid sized g =
+  submitted-done value signature s z room unsaid sized g =
       let t = submitOwn value signature s in
-      let a = submitOwn-leads checks W value signature s z unsaid sized g in
-      let b = confirmIfComplete-done t (a .sound) (λ q. absurd (true≢false (sym (confirmed-submitted checks W (s .unit) (s .store) z (sym (submitOwn-confirmed value signature s) ∙ q)) ∙ unsaid))) in
+      let a = submitOwn-leads checks W value signature s z room unsaid sized g in
+      let b = confirmIfComplete-done t (a .sound) (room-leads checks W s t a room) (λ q. absurd (true≢false (sym (confirmed-submitted checks W (s .unit) (s .store) z (sym (submitOwn-confirmed value signature s) ∙ q)) ∙ unsaid))) in
       record { leads = leads-trans checks W s t (confirmIfComplete t) a (b .leads); settled = b .settled }
 
   -- what a message brings that a step doesn't refuse
@@ -210,16 +214,16 @@ module _ (checks : Checks) (W : Relation) where
   Brings r (Evidence ρ lower higher entries) = Unit {0}
   Brings r Garbled = Unit {0}
 
-  module _ (s : State) (z : Sound checks W (s .unit) (s .store)) (e : Settled (s .unit)) where
+  module _ (s : State) (z : Sound checks W (s .unit) (s .store)) (room : Room s) (e : Settled (s .unit)) where
     hearSubmit-done : (seat : ℕ) (value signature : List ℕ) → s .unit .own .submitted ≡ true → seat < s .unit .n → Kept checks W seat value signature → Done s (confirmIfComplete (hearSubmit seat value signature s))
     unfolding hearSubmit
     hearSubmit-done seat value signature submitted inside g =
         cond-elim (λ x. Done s (confirmIfComplete x)) (isWanted seat value (s .unit)) (collect seat signature s) s
         (λ w.
-        let a = collect-leads checks W seat value signature s z w submitted (e .complete) inside g in
-        let b = confirmIfComplete-done (collect seat signature s) (a .sound) (collect-held seat signature s (e .holds)) in
+        let a = collect-leads checks W seat value signature s z room w submitted (e .complete) inside g in
+        let b = confirmIfComplete-done (collect seat signature s) (a .sound) (room-leads checks W s (collect seat signature s) a room) (collect-held seat signature s (e .holds)) in
         record { leads = leads-trans checks W s (collect seat signature s) (confirmIfComplete (collect seat signature s)) a (b .leads); settled = b .settled })
-        (λ w. confirmIfComplete-done s z (e .holds))
+        (λ w. confirmIfComplete-done s z room (e .holds))
 
     pub stepped-done : (m : Message) → Brings (s .unit) m → Done s (stepped m s)
     unfolding stepped certificateIn
@@ -235,7 +239,7 @@ module _ (checks : Checks) (W : Relation) where
         }
     stepped-done (Full ρ sender value entries) w =
         let c = certificateIn (Full ρ sender value entries) in
-        let a = hearing-leads c s z (certifies-of checks W (s .unit .n) value entries w) in
+        let a = hearing-leads c s z room (certifies-of checks W (s .unit .n) value entries w) in
         record { leads = a; settled = settled-stays (s .unit) (hearCertificate c s .unit) (a .grows) (hearing-stays c s) (hearing-owes c s) (e .complete) (e .holds) }
     stepped-done (Evidence ρ lower higher entries) w = record { leads = leads-refl checks W s z; settled = e }
     stepped-done Garbled w = record { leads = leads-refl checks W s z; settled = e }
