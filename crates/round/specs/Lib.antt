@@ -10,3 +10,4 @@ pub mod Parts
 pub mod Whole
 pub mod Reading
 pub mod Unrefused
+pub mod Journey

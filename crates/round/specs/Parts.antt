@@ -65,14 +65,14 @@ said-grows r r′ ρ seat value g s =
     }
 
 -- a seat of a set of n seats is one of the n
-in-below : (n s m : ℕ) → m < 2 ^ n → In s m → s < n
+pub in-below : (n s m : ℕ) → m < 2 ^ n → In s m → s < n
 in-below n s m l i = go (decLt s n)
   where
     go : Dec (s < n) → s < n
     go (yes h) = h
     go (no h) = absurd (omega (arith, bit-outside s n m l (omega arith)))
 
-shared-none : (m : ℕ) → shared 0 m ≡ 0
+pub shared-none : (m : ℕ) → shared 0 m ≡ 0
 unfolding shared
 shared-none m = and-zero-l m
 
