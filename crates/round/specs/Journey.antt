@@ -23,9 +23,9 @@ use Rattle.protocol.specs.Refusals.{Checks, wrongKeys, openingConditions, submi
 use Rattle.protocol.specs.Step.{State, owesFull, submitted, stepped}
 use Rattle.protocol.specs.Calls.{Result, resultBy, start, outAfter, openedBy, opening, submit, step, answer}
 use Rattle.protocol.specs.declared.Record.{Record}
-use Rattle.round.specs.Round.{Each, Relation, EachSigned, Kind, isOf, worth, count, Call, BySubmit, ByStep, ByThinEntry, Honest, Turn, called, left, turns, counted, writtenIn, outOf, turnsOf}
+use Rattle.round.specs.Round.{Each, Relation, EachSigned, Kind, isOf, flagOf, worth, count, Call, BySubmit, ByStep, ByThinEntry, Honest, Turn, called, left, turns, counted, writtenIn, outOf, turnsOf}
 use Rattle.round.specs.Lists.{count-append, count-nil, each-nil, each-cons}
-use Rattle.round.specs.Sound.{Heard, Held, Grows, flagOf, Counts, InRange, Settled, Kept, Sound, Good, Leads}
+use Rattle.round.specs.Sound.{Heard, Held, Grows, Counts, InRange, Settled, Kept, Sound, Good, Leads}
 use Rattle.round.specs.Parts.{shared-none, grows-refl, grows-trans, good-grows, k-pos}
 use Rattle.round.specs.Whole.{Done, submitted-done, stepped-done}
 use Rattle.round.specs.Reading.{read-laid}
@@ -141,7 +141,8 @@ module _ (checks : Checks) (W : Relation) (keys : List ℕ) where
   -- ---- what holds of a list
 
   -- at a turn of it
-  pub record At (t : Turn) (end : Record) : Type 0 where
+  pub record At (r : Record) (t : Turn) (end : Record) : Type 0 where
+    pub since : Grows r (t .unit)
     pub sound : Sound checks W (t .unit) (t .store)
     pub settled : Settled (t .unit)
     pub after : Passed (t .unit) (t .store) (left checks keys t .unit) (left checks keys t .store) (messages checks keys t)
@@ -149,14 +150,14 @@ module _ (checks : Checks) (W : Relation) (keys : List ℕ) where
 
   pub record Journey (r : Record) (end : Record) (ts : List Turn) : Type 0 where
     pub grows : Grows r end
-    pub at : Each (λ t. At t end) ts
+    pub at : Each (λ t. At r t end) ts
     pub counts : Counts r (allMessages checks keys ts) end
     pub settled : Settled end
 
   pub journey : (r : Record) (store : List ℕ) (cs : List Call) → Sound checks W r store → Settled r → Each Worthy (turns checks keys r store cs)
     → Journey r (lastOf checks keys r store cs) (turns checks keys r store cs)
   unfolding turns lastOf allMessages
-  journey r store [] z e w = record { grows = grows-refl r; at = each-nil (λ t. At t r); counts = λ κ. let y = count-nil (isOf κ) in omega arith; settled = e }
+  journey r store [] z e w = record { grows = grows-refl r; at = each-nil (λ t. At r t r); counts = λ κ. let y = count-nil (isOf κ) in omega arith; settled = e }
   journey r store (c ∷ cs) z e w =
       let t : Turn = record { given = c; unit = r; store = store } in
       let after = called checks keys c r store in
@@ -166,7 +167,9 @@ module _ (checks : Checks) (W : Relation) (keys : List ℕ) where
       let rest = journey (after .unit) (after .store) cs (a .sound) (a .settled) (λ x d. w x (List·Memᴰ·tail d)) in
       record {
         grows = grows-trans r (after .unit) end (a .grows) (rest .grows);
-        at = each-cons (λ x. At x end) t ts (record { sound = z; settled = e; after = a; before = rest .grows }) (rest .at);
+        at = each-cons (λ x. At r x end) t ts (record { since = grows-refl r; sound = z; settled = e; after = a; before = rest .grows })
+        (λ x d. let y = rest .at x d in
+        record { since = grows-trans r (after .unit) (x .unit) (a .grows) (y .since); sound = y .sound; settled = y .settled; after = y .after; before = y .before });
         counts = λ κ. let x = a .counts κ in let y = rest .counts κ in omega (arith, count-append (isOf κ) (messages checks keys t) (allMessages checks keys ts));
         settled = rest .settled;
       }

@@ -11,3 +11,5 @@ pub mod Whole
 pub mod Reading
 pub mod Unrefused
 pub mod Journey
+pub mod Units
+pub mod Once

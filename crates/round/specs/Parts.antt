@@ -27,10 +27,10 @@ use Rattle.protocol.specs.Step.{State, withUnit, write, collect, keepValue, sub
 use Rattle.protocol.specs.declared.Own.{Own}
 use Rattle.protocol.specs.declared.Notices.{Notices}
 use Rattle.protocol.specs.declared.Record.{Record}
-use Rattle.round.specs.Round.{Each, Relation, Kind, Submission, OneNotice, FullCertificate, SomeEvidence, isOf, isSubmit, isNotice, worth, count}
+use Rattle.round.specs.Round.{Each, Relation, Kind, Submission, OneNotice, FullCertificate, SomeEvidence, isOf, flagOf, isSubmit, isNotice, worth, count}
 use Rattle.round.specs.Lists.{cond-elim, test-cases, and-true-both, and-false-either, worth-true, worth-false, each-nil, each-one, each-append, count-append, count-nil, count-one}
 use Rattle.round.specs.Slots.{keep-length, slot-keep-same, slot-keep-other, keepEach-length, slot-keepEach-other, slot-keepEach-same}
-use Rattle.round.specs.Sound.{Heard, Held, Grows, flagOf, InRange, Room, Settled, Kept, Certifies, Pairs, Collection, Holding, Sound, Said, Good, Leads}
+use Rattle.round.specs.Sound.{Heard, Held, Grows, InRange, Room, Settled, Kept, Certifies, Pairs, Collection, Holding, Sound, Said, Good, Leads}
 use Rattle.round.specs.Certificates.{entries-of, evidence-elim}
 
 -- ---- records that go on

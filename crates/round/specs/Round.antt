@@ -2,9 +2,10 @@
 -- Assumes nothing.
 use Prim.Native.Nat.{ℕ, _+_, _≤_}
 use mathlib.Core.Path.{_≡_}
-use mathlib.Core.Bool.{Bool, true, false}
+use mathlib.Core.Bool.{Bool, true, false, not}
 use mathlib.Core.List.{List, [], _∷_, _++_, List·Memᴰ}
 use mathlib.Core.Logic.{_⊎_}
+use lib.Dec.{eqb}
 use lib.ListN.{length, take}
 use Rattle.protocol.specs.Layout.{storeLength, outLength}
 use Rattle.protocol.specs.Message.{Message, Submit, Notice, Full, Evidence, Garbled, Signed, Entry, render, renderAll, read, signed, entrySeats}
@@ -57,6 +58,13 @@ isOf Submission m = isSubmit m
 isOf OneNotice m = isNotice m
 isOf FullCertificate m = isFull m
 isOf SomeEvidence m = isEvidence m
+
+-- the part of a record that says a unit has sent one
+abbrev pub flagOf : Kind → Record → Bool
+flagOf Submission r = r .own .submitted
+flagOf OneNotice r = r .confirmed
+flagOf FullCertificate r = r .sent
+flagOf SomeEvidence r = not (eqb (r .guilty) 0)
 
 -- ---- the lists
 
@@ -120,6 +128,11 @@ counted count written out = take count (outAfter written out)
 -- "Written is what stands in the bytes that a call's answer counts."
 abbrev pub writtenIn : Checks → List ℕ → Turn → List ℕ
 writtenIn checks keys t = counted (answer (left checks keys t) .written) (left checks keys t .written) (outOf (t .given))
+
+-- everything that a list of calls writes, one call after another
+unfoldable pub writtenOver : Checks → List ℕ → List Turn → List ℕ
+writtenOver checks keys [] = []
+writtenOver checks keys (t ∷ ts) = writtenIn checks keys t ++ writtenOver checks keys ts
 
 -- bytes are these messages one after another, each of them as document 01 lays it out
 abbrev pub Are : ℕ → List ℕ → List Message → Type 0

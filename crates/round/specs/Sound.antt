@@ -19,7 +19,7 @@ use Rattle.protocol.specs.Step.{State, owesFull}
 use Rattle.protocol.specs.declared.Own.{Own}
 use Rattle.protocol.specs.declared.First.{First}
 use Rattle.protocol.specs.declared.Record.{Record}
-use Rattle.round.specs.Round.{Each, Relation, Kind, Submission, OneNotice, FullCertificate, SomeEvidence, isOf, worth, count}
+use Rattle.round.specs.Round.{Each, Relation, Kind, Submission, OneNotice, FullCertificate, SomeEvidence, isOf, flagOf, worth, count}
 
 -- ---- how a record goes on
 
@@ -39,13 +39,6 @@ pub record Grows (r r′ : Record) : Type 0 where
   pub said : r .own .submitted ≡ true → (r′ .own .submitted ≡ true) × (r′ .own .value ≡ r .own .value)
   pub heard : (value : List ℕ) → Heard value r → Heard value r′
   pub held : (value : List ℕ) → Held value r → Held value r′
-
--- the flag that goes with each kind of message
-abbrev pub flagOf : Kind → Record → Bool
-flagOf Submission r = r .own .submitted
-flagOf OneNotice r = r .confirmed
-flagOf FullCertificate r = r .sent
-flagOf SomeEvidence r = not (eqb (r .guilty) 0)
 
 -- messages written, and the flag set: a message is written just where its flag comes to be set
 abbrev pub Counts : Record → List Message → Record → Type 0

@@ -1,0 +1,162 @@
+-- An honest unit's list: it starts from the record with nothing set, and what its calls write are messages one after another.
+-- Assumes nothing.
+use mathlib.Core.Path.{_≡_, refl, sym, ap, subst, _∙_}
+use mathlib.Core.Bool.{Bool, true, false}
+use mathlib.Core.List.{List, [], _∷_, _++_, List·Memᴰ, List·Memᴰ·head, List·Memᴰ·tail}
+use mathlib.Core.Logic.{_⊎_, inl, inr, ⊎-elim, _≢_}
+use Prim.Native.Nat.{ℕ, zero, suc, _+_, _≤_, _<_}
+use native.Mathlib.Omega.{arith}
+use lib.ListN.{length}
+use Rattle.quorum.specs.Quorum.{t0, k}
+use Rattle.refusal.specs.Refusal.{lowest, unrefused}
+use Rattle.protocol.specs.Layout.{valueLength}
+use Rattle.protocol.specs.Message.{Entry, Pair, Message, Submit, Notice, Full, Evidence, Garbled, render, renderAll, read}
+use Rattle.protocol.specs.Laws.{all-append}
+use Rattle.protocol.specs.ReadLaws.{WellFormed}
+use Rattle.protocol.specs.Record.{fresh}
+use Rattle.protocol.specs.Refusals.{Checks, wrongKeys, openingConditions}
+use Rattle.protocol.specs.Calls.{openedBy, opening}
+use Rattle.protocol.specs.declared.Record.{Record}
+use Rattle.round.specs.Round.{Each, Relation, EachSigned, Kind, Submission, OneNotice, FullCertificate, SomeEvidence, isOf, flagOf, worth, count, Call, BySubmit, ByStep, ByThinEntry, Honest, Turn, left, turns, writtenIn, writtenOver, Are, StandsIn, turnsOf}
+use Rattle.round.specs.Lists.{each-nil, each-append}
+use Rattle.round.specs.Sound.{Grows, InRange, Settled, Sound, Good}
+use Rattle.round.specs.Certificates.{sized-entries, sized-pairs}
+use Rattle.round.specs.Parts.{grows-trans, good-grows}
+use Rattle.round.specs.Reading.{are-unique}
+use Rattle.round.specs.Unrefused.{opening-range}
+use Rattle.round.specs.Journey.{messages, allMessages, lastOf, written-is, WorthyGiven, Worthy, At, Journey, journey, fresh-sound, fresh-settled}
+
+-- ---- messages that a unit writes are laid out as document 01 says
+
+k-le : (n : ℕ) → k n ≤ n
+unfolding k
+k-le n = omega arith
+
+pub good-formed : (checks : Checks) (W : Relation) (r : Record) (m : Message) → InRange (r .n) (r .seat) (r .round) → Good checks W r m → WellFormed (r .n) m
+good-formed checks W r (Submit ρ seat value signature) range g = (rw (g .0 .ofRound) (let e = range .early in omega arith), g .0 .sized, g .1 .sized)
+good-formed checks W r (Notice ρ seat value) range g = (rw (g .ofRound) (let e = range .early in omega arith), g .sized)
+good-formed checks W r (Full ρ sender value es) range g =
+    (rw (g .0 .ofRound) (let e = range .early in omega arith), g .0 .sized, g .1 .many, sized-entries es (λ e d. g .1 .kept e d .sized))
+good-formed checks W r (Evidence ρ lower higher ps) range g = (
+  rw (g .0) (let e = range .early in omega arith),
+  g .1 .sizedLower,
+  g .1 .sizedHigher,
+  g .1 .some,
+  (let f = g .1 .few in let h = k-le (r .n) in omega arith),
+  sized-pairs ps (λ p d. g .1 .lows p d .sized) (λ p d. g .1 .highs p d .sized),
+)
+good-formed checks W r Garbled range g = absurd g
+
+-- every signature is worth something
+abbrev pub Any : Relation
+Any seat value signature = Unit {0}
+
+any-given : (checks : Checks) (keys : List ℕ) (c : Call) (r : Record) → WorthyGiven checks Any keys c r
+any-given checks keys (BySubmit value signature out) r = tt
+any-given checks keys (ByStep bytes out) r = λ s d. tt
+any-given checks keys (ByThinEntry bytes out) r = λ s d. tt
+
+pub any-worthy : (checks : Checks) (keys : List ℕ) (ts : List Turn) → Each (Worthy checks Any keys) ts
+any-worthy checks keys ts t d q = any-given checks keys (t .given) (t .unit)
+
+fresh-flag : (n seat round : ℕ) (κ : Kind) → worth (flagOf κ (fresh n seat round)) ≡ 0
+unfolding fresh worth
+fresh-flag n seat round Submission = refl
+fresh-flag n seat round OneNotice = refl
+fresh-flag n seat round FullCertificate = refl
+fresh-flag n seat round SomeEvidence = refl
+
+-- ---- the unit
+
+module _ (checks : Checks) (n round : ℕ) (keys : List ℕ) (u : Honest) (opened : opening n (u .seat) round keys .number ≡ 0) where
+  abbrev pub startOf : Record
+  startOf = opening n (u .seat) round keys .unit
+
+  abbrev pub endOf : Record
+  endOf = lastOf checks keys startOf (u .store) (u .calls)
+
+  abbrev ts : List Turn
+  ts = turnsOf checks n round keys u
+
+  pub opened-range : InRange n (u .seat) round
+  unfolding opening openedBy
+  opened-range = opening-range n (u .seat) round keys opened .0
+
+  pub opened-keys : wrongKeys n keys ≡ false
+  unfolding opening openedBy
+  opened-keys = opening-range n (u .seat) round keys opened .1
+
+  opened-fresh : startOf ≡ fresh n (u .seat) round
+  unfolding opening openedBy unrefused
+  opened-fresh = rw opened
+
+  pub start-n : startOf .n ≡ n
+  unfolding fresh
+  start-n = ap (λ (r : Record). r .n) opened-fresh
+
+  pub start-seat : startOf .seat ≡ u .seat
+  unfolding fresh
+  start-seat = ap (λ (r : Record). r .seat) opened-fresh
+
+  pub start-round : startOf .round ≡ round
+  unfolding fresh
+  start-round = ap (λ (r : Record). r .round) opened-fresh
+
+  -- nothing is set
+  pub start-flag : (κ : Kind) → worth (flagOf κ startOf) ≡ 0
+  start-flag κ = rw opened-fresh (fresh-flag n (u .seat) round κ)
+
+  module _ (W : Relation) (w : Each (Worthy checks W keys) ts) where
+    pub trip : Journey checks W keys startOf endOf ts
+    trip =
+        journey checks W keys startOf (u .store) (u .calls) (subst (λ r. Sound checks W r (u .store)) (sym opened-fresh) (fresh-sound checks W n (u .seat) round (u .store) opened-range))
+        (subst Settled (sym opened-fresh) (fresh-settled n (u .seat) round (opened-range .some))) w
+
+    module _ (t : Turn) (d : List·Memᴰ t ts) where
+      pub stop : At checks W keys startOf t endOf
+      stop = trip .at t d
+
+      pub left-grows : Grows startOf (left checks keys t .unit)
+      left-grows = grows-trans startOf (t .unit) (left checks keys t .unit) (stop .since) (stop .after .grows)
+
+      -- the bytes that the call writes are its messages
+      pub messages-formed : Each (WellFormed n) (messages checks keys t)
+      messages-formed m e =
+          subst (λ i. WellFormed i m) (left-grows .n ∙ start-n) (good-formed checks W (left checks keys t .unit) m (stop .after .sound .range) (stop .after .good m e))
+
+      pub written-are : Are n (writtenIn checks keys t) (messages checks keys t)
+      written-are = (messages-formed, written-is checks keys t)
+
+      -- a message that stands in them is one of those
+      pub stands-message : (m : Message) → StandsIn n m (writtenIn checks keys t) → List·Memᴰ m (messages checks keys t)
+      stands-message m s =
+          subst (λ ms. List·Memᴰ m ms) (are-unique n (writtenIn checks keys t) (s .0) (messages checks keys t) (s .1) written-are) (s .2)
+
+      -- and good at the end of the list too
+      pub stands-good : (m : Message) → StandsIn n m (writtenIn checks keys t) → Good checks W endOf m
+      stands-good m s =
+          good-grows checks W (left checks keys t .unit) endOf (stop .before) m (stop .after .good m (stands-message m s))
+
+    pub end-n : endOf .n ≡ n
+    end-n = trip .grows .n ∙ start-n
+
+    pub end-seat : endOf .seat ≡ u .seat
+    end-seat = trip .grows .seat ∙ start-seat
+
+    pub end-round : endOf .round ≡ round
+    end-round = trip .grows .round ∙ start-round
+
+  -- all that the list writes
+  over-are : (xs : List Turn) → Each (λ t. Are n (writtenIn checks keys t) (messages checks keys t)) xs → Are n (writtenOver checks keys xs) (allMessages checks keys xs)
+  unfolding writtenOver allMessages renderAll
+  over-are [] h = (each-nil (WellFormed n), refl)
+  over-are (t ∷ xs) h =
+      let a = h t (List·Memᴰ·head refl) in
+      let b = over-are xs (λ x d. h x (List·Memᴰ·tail d)) in
+      (
+        each-append (WellFormed n) (messages checks keys t) (allMessages checks keys xs) (a .0) (b .0),
+        rw (a .1, b .1) (sym (all-append (messages checks keys t) (allMessages checks keys xs))),
+      )
+
+  pub all-are : Are n (writtenOver checks keys ts) (allMessages checks keys ts)
+  all-are = over-are ts (λ t d. written-are Any (any-worthy checks keys ts) t d)
