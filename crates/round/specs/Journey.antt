@@ -27,7 +27,7 @@ use Rattle.round.specs.Round.{Each, Relation, EachSigned, Kind, isOf, fl
 use Rattle.round.specs.Lists.{count-append, count-nil, each-nil, each-cons}
 use Rattle.round.specs.Sound.{Heard, Held, Grows, Counts, InRange, Settled, Kept, Sound, Good, Leads}
 use Rattle.round.specs.Parts.{shared-none, grows-refl, grows-trans, good-grows, k-pos}
-use Rattle.round.specs.Whole.{Done, submitted-done, stepped-done}
+use Rattle.round.specs.Whole.{Done, submitted-done, submitted-value, stepped-done}
 use Rattle.round.specs.Reading.{read-laid}
 use Rattle.round.specs.Unrefused.{opening-range, submit-taken, step-taken, brings}
 
@@ -49,6 +49,15 @@ unfolding called refusalOf cameTo submit step
 called-is checks keys (BySubmit value signature out) r store = refl
 called-is checks keys (ByStep bytes out) r store = refl
 called-is checks keys (ByThinEntry bytes out) r store = refl
+
+-- a call that isn't refused leaves what it comes to
+pub unrefused-left : (checks : Checks) (keys : List ℕ) (t : Turn) → left checks keys t .refusal ≡ 0
+    → (refusalOf checks keys (t .given) (t .unit) (t .store) ≡ 0) × (left checks keys t .unit ≡ cameTo (t .given) (t .unit) (t .store) .unit)
+unfolding resultBy unrefused
+unrefused-left checks keys t q =
+    let is = called-is checks keys (t .given) (t .unit) (t .store) in
+    let e : refusalOf checks keys (t .given) (t .unit) (t .store) ≡ 0 = sym (ap (λ (x : Result). x .refusal) is) ∙ q in
+    (e, ap (λ (x : Result). x .unit) is ∙ rw e)
 
 -- the messages that it writes
 abbrev pub messages : Checks → List ℕ → Turn → List Message
@@ -105,6 +114,14 @@ module _ (checks : Checks) (W : Relation) (keys : List ℕ) where
       let m = read (r .n) bytes in
       let t = step-taken checks keys r store m out q in
       stepped-done checks W (start r store) z (t .0) e m (brings checks W r m (t .2) (t .3) (read-laid (r .n) bytes) w)
+
+  -- a submit that isn't refused keeps its value
+  pub submit-value : (value signature out : List ℕ) (r : Record) (store : List ℕ) → Sound checks W r store → refusalOf checks keys (BySubmit value signature out) r store ≡ 0 → W (r .seat) value signature
+    → (cameTo (BySubmit value signature out) r store .unit .own .submitted ≡ true) × (cameTo (BySubmit value signature out) r store .unit .own .value ≡ value)
+  unfolding refusalOf cameTo
+  submit-value value signature out r store z q w =
+      let t = submit-taken checks keys r store value signature out q in
+      submitted-value checks W value signature (start r store) z (t .room) (t .unsaid) (t .sizedValue) (record { checked = t .checked; sized = t .sized; worthy = w })
 
   -- from the record and store that it gets to those that it leaves
   pub record Passed (r : Record) (store : List ℕ) (r′ : Record) (store′ : List ℕ) (ms : List Message) : Type 0 where

@@ -18,8 +18,9 @@ use Rattle.refusal.specs.Laws.{lowest-zero}
 use Rattle.protocol.specs.Layout.{valueLength, signatureLength, storeLength, outLength}
 use Rattle.protocol.specs.Values.{unset, isLower}
 use Rattle.protocol.specs.Message.{Entry, Pair, Message, Submit, Notice, Full, Evidence, Garbled, Signed, signedEntries, signedPairs, signed, roundOf, entrySeats, seatsOf}
+use Rattle.protocol.specs.Certificate.{certificateIn}
 use Rattle.protocol.specs.Record.{wrongSize, wrongSeat, wrongRound, fresh, noneHeard, holds, outOfRange, wrongHeard, namesStranger, wrongCollected, wrongFirst, lacksFirst, wrongGuilty, wrongSent, wrongUnset, impossible}
-use Rattle.protocol.specs.Refusals.{Checks, every, wrongKeys, shortStore, shortOut, said, isForStep, isFull, isEvidence, wrongLengths, otherRound, stranger, rising, disorder, early, badSignature, notLowerFirst, formConditions, signatureConditions, outsideConditions, recordConditions, openingConditions, submitConditions, stepConditions, evidenceConditions}
+use Rattle.protocol.specs.Refusals.{Checks, every, wrongKeys, shortStore, shortOut, said, isForStep, isFull, isEvidence, wrongLengths, otherRound, stranger, rising, disorder, early, badSignature, notLowerFirst, formConditions, signatureConditions, outsideConditions, recordConditions, openingConditions, submitConditions, stepConditions, evidenceConditions, equalValues, twoConditions, makingConditions}
 use Rattle.protocol.specs.declared.Record.{Record}
 use Rattle.round.specs.Round.{Each, Relation, EachSigned}
 use Rattle.round.specs.Lists.{test-cases, and-true-both, and-false-either, or-false-both, or-true-either, each-nil, each-cons, each-map, every-each, each-every}
@@ -241,6 +242,59 @@ unfolding evidenceConditions outsideConditions formConditions signatureCondition
 evidence-unrefused checks n round keys m range b f t low =
     let h = of-taken checks n round m t in
     rw (size-right n (range .some) (range .most), round-right round (range .early), b, f, h .0, h .1, h .2, h .3, low)
+
+-- the evidence check's
+pub evidence-checked : (checks : Checks) (n round : ℕ) (keys : List ℕ) (m : Message) → lowest (evidenceConditions checks n round keys m) ≡ 0
+    → (isEvidence m ≡ true) × Taken checks n round m × (notLowerFirst m ≡ false)
+unfolding evidenceConditions outsideConditions formConditions signatureConditions
+evidence-checked checks n round keys m e =
+    let a = lowest-zero 0 _ _ e in
+    let b = lowest-zero 2 _ _ (a .1) in
+    let c = lowest-zero 4 _ _ (b .1) in
+    let f = lowest-zero 8 _ _ (c .1) in
+    let g = lowest-zero 9 _ _ (f .1) in
+    let h = lowest-zero 10 _ _ (g .1) in
+    let i = lowest-zero 11 _ _ (h .1) in
+    let l = lowest-zero 13 _ _ (i .1) in
+    let o = lowest-zero 14 _ _ (l .1) in
+    (not-false (isEvidence m) (f .0), taken-of checks n round m (g .0) (h .0) (i .0) (l .0), o .0)
+
+-- a making's: two certificates of different values
+pub record MakingTaken (checks : Checks) (n round : ℕ) (a b : Message) : Type 0 where
+  pub some : 1 ≤ n
+  pub fullA : isFull a ≡ true
+  pub takenA : Taken checks n round a
+  pub fullB : isFull b ≡ true
+  pub takenB : Taken checks n round b
+  pub different : certificateIn a .value ≢ certificateIn b .value
+
+pub making-taken : (checks : Checks) (n round : ℕ) (keys : List ℕ) (a b : Message) (out : List ℕ) → lowest (makingConditions checks n round keys a b out) ≡ 0 → MakingTaken checks n round a b
+unfolding makingConditions twoConditions outsideConditions formConditions signatureConditions equalValues wrongSize
+making-taken checks n round keys a b out e =
+    let p = lowest-zero 0 _ _ e in
+    let q = lowest-zero 2 _ _ (p .1) in
+    let r = lowest-zero 4 _ _ (q .1) in
+    let s = lowest-zero 6 _ _ (r .1) in
+    let f = lowest-zero 8 _ _ (s .1) in
+    let g = lowest-zero 9 _ _ (f .1) in
+    let h = lowest-zero 10 _ _ (g .1) in
+    let i = lowest-zero 11 _ _ (h .1) in
+    let l = lowest-zero 13 _ _ (i .1) in
+    let f′ = lowest-zero 8 _ _ (l .1) in
+    let g′ = lowest-zero 9 _ _ (f′ .1) in
+    let h′ = lowest-zero 10 _ _ (g′ .1) in
+    let i′ = lowest-zero 11 _ _ (h′ .1) in
+    let l′ = lowest-zero 13 _ _ (i′ .1) in
+    let o = lowest-zero 14 _ _ (l′ .1) in
+    let nonzero = eqb-false n 0 (or-false-both (eqb n 0) (ltb mostSeats n) (p .0) .0) in
+    record {
+      some = omega arith;
+      fullA = not-false (isFull a) (f .0);
+      takenA = taken-of checks n round a (g .0) (h .0) (i .0) (l .0);
+      fullB = not-false (isFull b) (f′ .0);
+      takenB = taken-of checks n round b (g′ .0) (h′ .0) (i′ .0) (l′ .0);
+      different = λ d. true≢false (sym (same-refl (certificateIn b .value)) ∙ subst (λ (v : List ℕ). same v (certificateIn b .value) ≡ false) d (o .0));
+    }
 
 -- ---- what it brings
 

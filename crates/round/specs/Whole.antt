@@ -197,14 +197,25 @@ module _ (checks : Checks) (W : Relation) where
 
   -- ---- submit and step
 
-  pub submitted-done : (value signature : List ℕ) (s : State) → Sound checks W (s .unit) (s .store) → Room s → s .unit .own .submitted ≡ false → length value ≡ valueLength
-    → Kept checks W (s .unit .seat) value signature → Done s (submitted value signature s)
-  unfolding submitted
-  submitted-done value signature s z room unsaid sized g =
-      let t = submitOwn value signature s in
-      let a = submitOwn-leads checks W value signature s z room unsaid sized g in
-      let b = confirmIfComplete-done t (a .sound) (room-leads checks W s t a room) (λ q. absurd (true≢false (sym (confirmed-submitted checks W (s .unit) (s .store) z (sym (submitOwn-confirmed value signature s) ∙ q)) ∙ unsaid))) in
-      record { leads = leads-trans checks W s t (confirmIfComplete t) a (b .leads); settled = b .settled }
+  module _ (value signature : List ℕ) (s : State) (z : Sound checks W (s .unit) (s .store)) (room : Room s) (unsaid : s .unit .own .submitted ≡ false) (sized : length value ≡ valueLength) (g : Kept checks W (s .unit .seat) value signature) where
+    own-leads : Leads checks W s (submitOwn value signature s)
+    own-leads = submitOwn-leads checks W value signature s z room unsaid sized g
+
+    unconfirmed : submitOwn value signature s .unit .confirmed ≡ true → ⊥
+    unconfirmed q = true≢false (sym (confirmed-submitted checks W (s .unit) (s .store) z (sym (submitOwn-confirmed value signature s) ∙ q)) ∙ unsaid)
+
+    own-done : Done (submitOwn value signature s) (submitted value signature s)
+    unfolding submitted
+    own-done = confirmIfComplete-done (submitOwn value signature s) (own-leads .sound) (room-leads checks W s (submitOwn value signature s) own-leads room) (λ q. absurd (unconfirmed q))
+
+    pub submitted-done : Done s (submitted value signature s)
+    submitted-done =
+        record { leads = leads-trans checks W s (submitOwn value signature s) (submitted value signature s) own-leads (own-done .leads); settled = own-done .settled }
+
+    -- "the value kept"
+    pub submitted-value : (submitted value signature s .unit .own .submitted ≡ true) × (submitted value signature s .unit .own .value ≡ value)
+    unfolding submitOwn write collect keepValue
+    submitted-value = own-done .leads .grows .said refl
 
   -- what a message brings that a step doesn't refuse
   abbrev pub Brings : Record → Message → Type 0
