@@ -13,3 +13,4 @@ pub mod Unrefused
 pub mod Journey
 pub mod Units
 pub mod Once
+pub mod Safe

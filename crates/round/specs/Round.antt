@@ -4,9 +4,10 @@ use Prim.Native.Nat.{ℕ, _+_, _≤_}
 use mathlib.Core.Path.{_≡_}
 use mathlib.Core.Bool.{Bool, true, false, not}
 use mathlib.Core.List.{List, [], _∷_, _++_, List·Memᴰ}
-use mathlib.Core.Logic.{_⊎_}
+use mathlib.Core.Logic.{_⊎_, _≢_}
 use lib.Dec.{eqb}
 use lib.ListN.{length, take}
+use Rattle.quorum.specs.Quorum.{t0, size}
 use Rattle.protocol.specs.Layout.{storeLength, outLength}
 use Rattle.protocol.specs.Message.{Message, Submit, Notice, Full, Evidence, Garbled, Signed, Entry, render, renderAll, read, signed, entrySeats}
 use Rattle.protocol.specs.ReadLaws.{WellFormed}
@@ -200,6 +201,12 @@ module _ (checks : Checks) (n round : ℕ) (keys : List ℕ) where
   abbrev pub AcceptedFrom : Relation → List ℕ → Type 0
   AcceptedFrom Delivered evidence = Accepted evidence × EachSigned Delivered (read n evidence)
 
+  -- "each honest unit has written evidence that names at least t0 + 1 seats and that every unit accepts": the check, which is
+  -- the same at every unit, answers the mask of the seats named
+  abbrev pub Blames : Honest → Type 0
+  Blames u =
+      (evidence : List ℕ) × WritesEvidence u evidence × Accepted evidence × (t0 n + 1 ≤ size (evidenceCheck checks n round keys evidence .mask))
+
   -- ---- some units honest: any family of them
 
   module _ {I : Type 0} (unit : I → Honest) where
@@ -234,3 +241,13 @@ module _ (checks : Checks) (n round : ℕ) (keys : List ℕ) where
     NoneForged R =
         (i : I) (value signature : List ℕ) → R (unit i .seat) value signature → (Submits (unit i) value → ⊥)
         → checks (unit i .seat) value signature ≡ false
+
+    -- "no honest seat stands in any evidence written, or accepted from delivered signatures"
+    pub record NoneBlamed (R : Relation) : Type 0 where
+      pub written : (i j : I) (evidence : List ℕ) → WritesEvidence (unit j) evidence → Names evidence (unit i .seat) → ⊥
+      pub made : (i j : I) (evidence : List ℕ) → MakesEvidence (unit j) evidence → Names evidence (unit i .seat) → ⊥
+      pub accepted : (i : I) (evidence : List ℕ) → AcceptedFrom R evidence → Names evidence (unit i .seat) → ⊥
+
+    -- "the notice and full certificate of each have reached every other honest unit"
+    abbrev pub ReachedOthers : I → Type 0
+    ReachedOthers i = (l : I) → l ≢ i → HaveReached (unit i) (unit l)

@@ -13,13 +13,13 @@ use Rattle.protocol.specs.Layout.{valueLength}
 use Rattle.protocol.specs.Message.{Entry, Pair, Message, Submit, Notice, Full, Evidence, Garbled, render, renderAll, read}
 use Rattle.protocol.specs.Laws.{all-append}
 use Rattle.protocol.specs.ReadLaws.{WellFormed}
-use Rattle.protocol.specs.Record.{fresh}
+use Rattle.protocol.specs.Record.{fresh, lastRound}
 use Rattle.protocol.specs.Refusals.{Checks, wrongKeys, openingConditions}
 use Rattle.protocol.specs.Calls.{openedBy, opening}
 use Rattle.protocol.specs.declared.Record.{Record}
 use Rattle.round.specs.Round.{Each, Relation, EachSigned, Kind, Submission, OneNotice, FullCertificate, SomeEvidence, isOf, flagOf, worth, count, Call, BySubmit, ByStep, ByThinEntry, Honest, Turn, left, turns, writtenIn, writtenOver, Are, StandsIn, turnsOf}
 use Rattle.round.specs.Lists.{each-nil, each-append}
-use Rattle.round.specs.Sound.{Grows, InRange, Settled, Sound, Good}
+use Rattle.round.specs.Sound.{Grows, InRange, Settled, Pairs, Sound, Good}
 use Rattle.round.specs.Certificates.{sized-entries, sized-pairs}
 use Rattle.round.specs.Parts.{grows-trans, good-grows}
 use Rattle.round.specs.Reading.{are-unique}
@@ -32,19 +32,22 @@ k-le : (n : ℕ) → k n ≤ n
 unfolding k
 k-le n = omega arith
 
+pub pairs-formed : (checks : Checks) (W : Relation) (n round : ℕ) (lower higher : List ℕ) (ps : List Pair) → round ≤ lastRound → Pairs checks W n lower higher ps → WellFormed n (Evidence round lower higher ps)
+pairs-formed checks W n round lower higher ps early z = (
+  omega arith,
+  z .sizedLower,
+  z .sizedHigher,
+  z .some,
+  (let f = z .few in let h = k-le n in omega arith),
+  sized-pairs ps (λ p d. z .lows p d .sized) (λ p d. z .highs p d .sized),
+)
+
 pub good-formed : (checks : Checks) (W : Relation) (r : Record) (m : Message) → InRange (r .n) (r .seat) (r .round) → Good checks W r m → WellFormed (r .n) m
 good-formed checks W r (Submit ρ seat value signature) range g = (rw (g .0 .ofRound) (let e = range .early in omega arith), g .0 .sized, g .1 .sized)
 good-formed checks W r (Notice ρ seat value) range g = (rw (g .ofRound) (let e = range .early in omega arith), g .sized)
 good-formed checks W r (Full ρ sender value es) range g =
     (rw (g .0 .ofRound) (let e = range .early in omega arith), g .0 .sized, g .1 .many, sized-entries es (λ e d. g .1 .kept e d .sized))
-good-formed checks W r (Evidence ρ lower higher ps) range g = (
-  rw (g .0) (let e = range .early in omega arith),
-  g .1 .sizedLower,
-  g .1 .sizedHigher,
-  g .1 .some,
-  (let f = g .1 .few in let h = k-le (r .n) in omega arith),
-  sized-pairs ps (λ p d. g .1 .lows p d .sized) (λ p d. g .1 .highs p d .sized),
-)
+good-formed checks W r (Evidence ρ lower higher ps) range g = pairs-formed checks W (r .n) ρ lower higher ps (rw (g .0) (range .early)) (g .1)
 good-formed checks W r Garbled range g = absurd g
 
 -- every signature is worth something

@@ -19,7 +19,7 @@ use Rattle.protocol.specs.Layout.{valueLength, signatureLength, storeLength, ou
 use Rattle.protocol.specs.Values.{unset, isLower}
 use Rattle.protocol.specs.Message.{Entry, Pair, Message, Submit, Notice, Full, Evidence, Garbled, Signed, signedEntries, signedPairs, signed, roundOf, entrySeats, seatsOf}
 use Rattle.protocol.specs.Certificate.{certificateIn}
-use Rattle.protocol.specs.Record.{wrongSize, wrongSeat, wrongRound, fresh, noneHeard, holds, outOfRange, wrongHeard, namesStranger, wrongCollected, wrongFirst, lacksFirst, wrongGuilty, wrongSent, wrongUnset, impossible}
+use Rattle.protocol.specs.Record.{lastRound, wrongSize, wrongSeat, wrongRound, fresh, noneHeard, holds, outOfRange, wrongHeard, namesStranger, wrongCollected, wrongFirst, lacksFirst, wrongGuilty, wrongSent, wrongUnset, impossible}
 use Rattle.protocol.specs.Refusals.{Checks, every, wrongKeys, shortStore, shortOut, said, isForStep, isFull, isEvidence, wrongLengths, otherRound, stranger, rising, disorder, early, badSignature, notLowerFirst, formConditions, signatureConditions, outsideConditions, recordConditions, openingConditions, submitConditions, stepConditions, evidenceConditions, equalValues, twoConditions, makingConditions}
 use Rattle.protocol.specs.declared.Record.{Record}
 use Rattle.round.specs.Round.{Each, Relation, EachSigned}
@@ -34,9 +34,9 @@ pub size-right : (n : ℕ) → 1 ≤ n → n ≤ mostSeats → wrongSize n ≡ f
 unfolding wrongSize
 size-right n some most = rw (ne-eqb n 0 (λ e. omega arith), le-ltb mostSeats n most)
 
-pub round-right : (round : ℕ) → round ≤ 1023 → wrongRound round ≡ false
+pub round-right : (round : ℕ) → round ≤ lastRound → wrongRound round ≡ false
 unfolding wrongRound
-round-right round h = le-ltb 1023 round h
+round-right round h = le-ltb lastRound round h
 
 -- ---- no record that keeps the invariant is impossible
 
@@ -114,7 +114,7 @@ opening-range n seat round keys e =
     let s = or-false-both (eqb n 0) (ltb mostSeats n) (a .0) in
     let nonzero = eqb-false n 0 (s .0) in
     (
-      record { some = omega arith; most = ltb-false mostSeats n (s .1); inside = leb-false n seat (b .0); early = ltb-false 1023 round (c .0) },
+      record { some = omega arith; most = ltb-false mostSeats n (s .1); inside = leb-false n seat (b .0); early = ltb-false lastRound round (c .0) },
       d .0,
     )
 
@@ -262,6 +262,7 @@ evidence-checked checks n round keys m e =
 -- a making's: two certificates of different values
 pub record MakingTaken (checks : Checks) (n round : ℕ) (a b : Message) : Type 0 where
   pub some : 1 ≤ n
+  pub early : round ≤ lastRound
   pub fullA : isFull a ≡ true
   pub takenA : Taken checks n round a
   pub fullB : isFull b ≡ true
@@ -269,7 +270,7 @@ pub record MakingTaken (checks : Checks) (n round : ℕ) (a b : Message) : Type 
   pub different : certificateIn a .value ≢ certificateIn b .value
 
 pub making-taken : (checks : Checks) (n round : ℕ) (keys : List ℕ) (a b : Message) (out : List ℕ) → lowest (makingConditions checks n round keys a b out) ≡ 0 → MakingTaken checks n round a b
-unfolding makingConditions twoConditions outsideConditions formConditions signatureConditions equalValues wrongSize
+unfolding makingConditions twoConditions outsideConditions formConditions signatureConditions equalValues wrongSize wrongRound
 making-taken checks n round keys a b out e =
     let p = lowest-zero 0 _ _ e in
     let q = lowest-zero 2 _ _ (p .1) in
@@ -289,6 +290,7 @@ making-taken checks n round keys a b out e =
     let nonzero = eqb-false n 0 (or-false-both (eqb n 0) (ltb mostSeats n) (p .0) .0) in
     record {
       some = omega arith;
+      early = ltb-false lastRound round (q .0);
       fullA = not-false (isFull a) (f .0);
       takenA = taken-of checks n round a (g .0) (h .0) (i .0) (l .0);
       fullB = not-false (isFull b) (f′ .0);
