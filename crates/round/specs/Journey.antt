@@ -23,7 +23,7 @@ use Rattle.protocol.specs.Refusals.{Checks, wrongKeys, openingConditions, submi
 use Rattle.protocol.specs.Step.{State, owesFull, submitted, stepped}
 use Rattle.protocol.specs.Calls.{Result, resultBy, start, outAfter, openedBy, opening, submit, step, answer}
 use Rattle.protocol.specs.declared.Record.{Record}
-use Rattle.round.specs.Round.{Each, Relation, EachSigned, Kind, isOf, flagOf, worth, count, Call, BySubmit, ByStep, ByThinEntry, Honest, Turn, called, left, turns, counted, writtenIn, outOf, turnsOf}
+use Rattle.round.specs.Round.{Each, Relation, EachSigned, Kind, isOf, flagOf, worth, count, Call, BySubmit, ByStep, ByThinEntry, IsStep, Honest, Turn, called, left, turns, counted, writtenIn, outOf, turnsOf}
 use Rattle.round.specs.Lists.{count-append, count-nil, each-nil, each-cons}
 use Rattle.round.specs.Sound.{Heard, Held, Grows, Counts, InRange, Settled, Kept, Sound, Good, Leads}
 use Rattle.round.specs.Parts.{shared-none, grows-refl, grows-trans, good-grows, k-pos}
@@ -50,14 +50,24 @@ called-is checks keys (BySubmit value signature out) r store = refl
 called-is checks keys (ByStep bytes out) r store = refl
 called-is checks keys (ByThinEntry bytes out) r store = refl
 
+-- by value or through the thin entry
+pub step-is : (checks : Checks) (keys : List ℕ) (c : Call) (bytes out : List ℕ) (r : Record) (store : List ℕ) → IsStep c bytes out
+    → (refusalOf checks keys c r store ≡ lowest (stepConditions checks keys r store (read (r .n) bytes) out)) × (cameTo c r store ≡ stepped (read (r .n) bytes) (start r store))
+unfolding refusalOf cameTo
+step-is checks keys c bytes out r store (inl e) = (ap (λ x. refusalOf checks keys x r store) e, ap (λ x. cameTo x r store) e)
+step-is checks keys c bytes out r store (inr e) = (ap (λ x. refusalOf checks keys x r store) e, ap (λ x. cameTo x r store) e)
+
 -- a call that isn't refused leaves what it comes to
+pub left-came : (checks : Checks) (keys : List ℕ) (t : Turn) → refusalOf checks keys (t .given) (t .unit) (t .store) ≡ 0 → left checks keys t .unit ≡ cameTo (t .given) (t .unit) (t .store) .unit
+unfolding resultBy unrefused
+left-came checks keys t e = ap (λ (x : Result). x .unit) (called-is checks keys (t .given) (t .unit) (t .store)) ∙ rw e
+
 pub unrefused-left : (checks : Checks) (keys : List ℕ) (t : Turn) → left checks keys t .refusal ≡ 0
     → (refusalOf checks keys (t .given) (t .unit) (t .store) ≡ 0) × (left checks keys t .unit ≡ cameTo (t .given) (t .unit) (t .store) .unit)
-unfolding resultBy unrefused
+unfolding resultBy
 unrefused-left checks keys t q =
-    let is = called-is checks keys (t .given) (t .unit) (t .store) in
-    let e : refusalOf checks keys (t .given) (t .unit) (t .store) ≡ 0 = sym (ap (λ (x : Result). x .refusal) is) ∙ q in
-    (e, ap (λ (x : Result). x .unit) is ∙ rw e)
+    let e : refusalOf checks keys (t .given) (t .unit) (t .store) ≡ 0 = sym (ap (λ (x : Result). x .refusal) (called-is checks keys (t .given) (t .unit) (t .store))) ∙ q in
+    (e, left-came checks keys t e)
 
 -- the messages that it writes
 abbrev pub messages : Checks → List ℕ → Turn → List Message
@@ -67,6 +77,19 @@ messages checks keys t = unrefused (refusalOf checks keys (t .given) (t .unit) (
 unfoldable pub allMessages : Checks → List ℕ → List Turn → List Message
 allMessages checks keys [] = []
 allMessages checks keys (t ∷ ts) = messages checks keys t ++ allMessages checks keys ts
+
+-- a message of a list is one of a call in it, and the other way round
+pub all-member : (checks : Checks) (keys : List ℕ) (ts : List Turn) (t : Turn) (m : Message) → List·Memᴰ t ts → List·Memᴰ m (messages checks keys t) → List·Memᴰ m (allMessages checks keys ts)
+unfolding allMessages
+all-member checks keys [] t m d e = absurd (List·Memᴰ·not-nil d)
+all-member checks keys (x ∷ ts) t m d e =
+    ⊎-elim (λ q. Memᴰ·append-left (allMessages checks keys ts) (subst (λ y. List·Memᴰ m (messages checks keys y)) q e)) (λ q. Memᴰ·append-right (messages checks keys x) (all-member checks keys ts t m q e)) (List·Memᴰ·cases-cons d)
+
+pub member-all : (checks : Checks) (keys : List ℕ) (ts : List Turn) (m : Message) → List·Memᴰ m (allMessages checks keys ts) → (t : Turn) × List·Memᴰ t ts × List·Memᴰ m (messages checks keys t)
+unfolding allMessages
+member-all checks keys [] m d = absurd (List·Memᴰ·not-nil d)
+member-all checks keys (x ∷ ts) m d =
+    ⊎-elim (λ q. (x, List·Memᴰ·head refl, q)) (λ q. let r = member-all checks keys ts m q in (r .0, List·Memᴰ·tail (r .1), r .2)) (List·Memᴰ·append-cases (messages checks keys x) d)
 
 -- the record at the end of a list
 unfoldable pub lastOf : Checks → List ℕ → Record → List ℕ → List Call → Record

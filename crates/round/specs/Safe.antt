@@ -26,7 +26,7 @@ use Rattle.round.specs.Certificates.{certifies-of, evidence-elim, sized-
 use Rattle.round.specs.Reading.{Laid, read-laid, are-unique}
 use Rattle.round.specs.Unrefused.{Taken, signed-pairs, evidence-checked, MakingTaken, making-taken, entries-taken}
 use Rattle.round.specs.Journey.{refusalOf, cameTo, WorthyGiven, Worthy, At, counted-written, unrefused-left, submit-value}
-use Rattle.round.specs.Units.{Any, any-worthy, startOf, endOf, start-n, start-seat, stop, stands-good, pairs-formed}
+use Rattle.round.specs.Units.{Any, any-worthy, startOf, endOf, start-n, start-seat, stop, writes-good, pairs-formed}
 
 -- a value isn't lower than itself
 lower-self : (v : List ℕ) → isLower v v ≡ false
@@ -132,10 +132,9 @@ module _ (checks : Checks) (n round : ℕ) (keys : List ℕ) where
     unfolding entrySeats
     written-safe i j evidence w d =
         let m = w .0 in
-        let t = w .3 .0 in
         let stands = w .3 .2 in
         let end = endOf checks n round keys (unit j) (family .opened j) in
-        let good = stands-good checks n round keys (unit j) (family .opened j) (Backed j) (backed j) t (w .3 .1) m stands in
+        let good = writes-good checks n round keys (unit j) (family .opened j) (Backed j) (backed j) m (w .3) in
         evidence-cases (λ x. Good checks (Backed j) end x → List·Memᴰ (unit i .seat) (entrySeats x) → ⊥) m (w .1)
         (λ ρ lower higher ps g e. unnamed i j lower higher ps (g .1 .ordered) (kept-both j (Backed j) (end .n) lower higher ps (λ s v h b. b) (g .1)) e)
         good (named-in m evidence (unit i .seat) (stands .1 .0 m (stands .2)) (w .2) d)

@@ -17,14 +17,14 @@ use Rattle.protocol.specs.Record.{fresh, lastRound}
 use Rattle.protocol.specs.Refusals.{Checks, wrongKeys, openingConditions}
 use Rattle.protocol.specs.Calls.{openedBy, opening}
 use Rattle.protocol.specs.declared.Record.{Record}
-use Rattle.round.specs.Round.{Each, Relation, EachSigned, Kind, Submission, OneNotice, FullCertificate, SomeEvidence, isOf, flagOf, worth, count, Call, BySubmit, ByStep, ByThinEntry, Honest, Turn, left, turns, writtenIn, writtenOver, Are, StandsIn, turnsOf}
-use Rattle.round.specs.Lists.{each-nil, each-append}
+use Rattle.round.specs.Round.{Each, Relation, EachSigned, Kind, Submission, OneNotice, FullCertificate, SomeEvidence, isOf, flagOf, worth, count, Call, BySubmit, ByStep, ByThinEntry, Honest, Turn, left, turns, writtenIn, writtenOver, Are, StandsIn, turnsOf, Writes}
+use Rattle.round.specs.Lists.{worth-le-one, worth-true, true-of-worth, count-pos, count-member, each-nil, each-append}
 use Rattle.round.specs.Sound.{Grows, InRange, Settled, Pairs, Sound, Good}
 use Rattle.round.specs.Certificates.{sized-entries, sized-pairs}
 use Rattle.round.specs.Parts.{grows-trans, good-grows}
 use Rattle.round.specs.Reading.{are-unique}
 use Rattle.round.specs.Unrefused.{opening-range}
-use Rattle.round.specs.Journey.{messages, allMessages, lastOf, written-is, WorthyGiven, Worthy, At, Journey, journey, fresh-sound, fresh-settled}
+use Rattle.round.specs.Journey.{messages, allMessages, all-member, member-all, lastOf, written-is, WorthyGiven, Worthy, At, Journey, journey, fresh-sound, fresh-settled}
 
 -- ---- messages that a unit writes are laid out as document 01 says
 
@@ -148,6 +148,21 @@ module _ (checks : Checks) (n round : ℕ) (keys : List ℕ) (u : Honest) (opene
 
     pub end-round : endOf .round ≡ round
     end-round = trip .grows .round ∙ start-round
+
+    -- a message is written in the list just where its flag is set at the end
+    pub written-flag : (κ : Kind) (m : Message) → isOf κ m ≡ true → Writes checks n round keys u m → flagOf κ endOf ≡ true
+    written-flag κ m is h =
+        let d = all-member checks keys ts (h .0) m (h .1) (stands-message (h .0) (h .1) m (h .2)) in
+        true-of-worth (flagOf κ endOf) (omega (arith, count-pos (isOf κ) (allMessages checks keys ts) m d is, trip .counts κ, worth-le-one (flagOf κ endOf)))
+
+    pub flag-written : (κ : Kind) → flagOf κ endOf ≡ true → (m : Message) × (isOf κ m ≡ true) × Writes checks n round keys u m
+    flag-written κ e =
+        let c = count-member (isOf κ) (allMessages checks keys ts) (omega (arith, trip .counts κ, start-flag κ, worth-true (flagOf κ endOf) e)) in
+        let h = member-all checks keys ts (c .0) (c .1) in
+        (c .0, c .2, (h .0, h .1, (messages checks keys (h .0), written-are (h .0) (h .1), h .2)))
+
+    pub writes-good : (m : Message) → Writes checks n round keys u m → Good checks W endOf m
+    writes-good m h = stands-good (h .0) (h .1) m (h .2)
 
   -- all that the list writes
   over-are : (xs : List Turn) → Each (λ t. Are n (writtenIn checks keys t) (messages checks keys t)) xs → Are n (writtenOver checks keys xs) (allMessages checks keys xs)

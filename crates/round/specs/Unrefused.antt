@@ -236,10 +236,10 @@ step-unrefused checks keys r store m out a b c d f g t =
     let h = of-taken checks (r .n) (r .round) m t in
     rw (a, b, le-ltb (length store) (storeLength (r .n)) c, le-ltb (length out) (outLength (r .n)) d, f, h .0, h .1, h .2, g, h .3)
 
-pub evidence-unrefused : (checks : Checks) (n round : ℕ) (keys : List ℕ) (m : Message) → InRange n 0 round → wrongKeys n keys ≡ false → isEvidence m ≡ true
+pub evidence-unrefused : (checks : Checks) (n seat round : ℕ) (keys : List ℕ) (m : Message) → InRange n seat round → wrongKeys n keys ≡ false → isEvidence m ≡ true
     → Taken checks n round m → notLowerFirst m ≡ false → lowest (evidenceConditions checks n round keys m) ≡ 0
 unfolding evidenceConditions outsideConditions formConditions signatureConditions lowest
-evidence-unrefused checks n round keys m range b f t low =
+evidence-unrefused checks n seat round keys m range b f t low =
     let h = of-taken checks n round m t in
     rw (size-right n (range .some) (range .most), round-right round (range .early), b, f, h .0, h .1, h .2, h .3, low)
 

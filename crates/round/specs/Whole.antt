@@ -13,8 +13,8 @@ use Rattle.octets.specs.Strings.{same}
 use Rattle.quorum.specs.Quorum.{k, has, size}
 use Rattle.quorum.specs.Laws.{size-empty}
 use Rattle.protocol.specs.Layout.{valueLength}
-use Rattle.protocol.specs.Message.{Message, Submit, Notice, Full, Evidence, Garbled}
-use Rattle.protocol.specs.Certificate.{Certificate, ownCertificate, certificateIn}
+use Rattle.protocol.specs.Message.{Entry, Message, Submit, Notice, Full, Evidence, Garbled}
+use Rattle.protocol.specs.Certificate.{Certificate, ownCertificate, certificateOf, certificateIn}
 use Rattle.protocol.specs.Record.{withConfirmed, withSent, withNotices, noneHeard, oneHeard, holds}
 use Rattle.protocol.specs.Refusals.{Checks, isFull, isEvidence}
 use Rattle.protocol.specs.Step.{State, withUnit, write, collect, keepValue, submitOwn, isWanted, hearSubmit, hear, otherHeard, owesFull, sendFull, reply, hold, blame, blames, holdOrBlame, hearCertificate, isComplete, confirm, hearOwn, confirmIfComplete, submitted, stepped}
@@ -254,3 +254,13 @@ module _ (checks : Checks) (W : Relation) where
         record { leads = a; settled = settled-stays (s .unit) (hearCertificate c s .unit) (a .grows) (hearing-stays c s) (hearing-owes c s) (e .complete) (e .holds) }
     stepped-done (Evidence ρ lower higher entries) w = record { leads = leads-refl checks W s z; settled = e }
     stepped-done Garbled w = record { leads = leads-refl checks W s z; settled = e }
+
+    -- a NOTICE taken is heard, and a FULL taken is held or compared
+    pub notice-heard : (ρ seat : ℕ) (value : List ℕ) → Heard value (stepped (Notice ρ seat value) s .unit)
+    unfolding stepped
+    notice-heard ρ seat value =
+        reply-leads checks W (hear value s) (hear-leads checks W value s z .sound) .grows .heard value (hear-heard checks W value s)
+
+    pub full-held : (ρ sender : ℕ) (value : List ℕ) (es : List Entry) → Entries checks W (s .unit .n) value es → Held value (stepped (Full ρ sender value es) s .unit)
+    unfolding stepped certificateIn certificateOf
+    full-held ρ sender value es w = hearing-held (certificateOf value es) s z room (certifies-of checks W (s .unit .n) value es w)
