@@ -14,3 +14,4 @@ pub mod Journey
 pub mod Units
 pub mod Once
 pub mod Safe
+pub mod Blamed

@@ -38,7 +38,7 @@ lower-differs : (lower higher : List ℕ) → isLower lower higher ≡ true → 
 lower-differs lower higher l e = true≢false (sym l ∙ subst (λ v. isLower v higher ≡ false) (sym e) (lower-self higher))
 
 -- a message that is EVIDENCE
-evidence-cases : (P : Message → Type 0) (m : Message) → isEvidence m ≡ true → ((ρ : ℕ) (lower higher : List ℕ) (ps : List Pair) → P (Evidence ρ lower higher ps)) → P m
+pub evidence-cases : (P : Message → Type 0) (m : Message) → isEvidence m ≡ true → ((ρ : ℕ) (lower higher : List ℕ) (ps : List Pair) → P (Evidence ρ lower higher ps)) → P m
 unfolding isEvidence
 evidence-cases P (Submit ρ seat value signature) e f = absurd (false≢true e)
 evidence-cases P (Notice ρ seat value) e f = absurd (false≢true e)
