@@ -191,3 +191,53 @@ module _ (checks : Checks) (n round : ℕ) (keys : List ℕ) where
         let accept = evidence-accepted ρ lower higher ps (g .0 ∙ end-round checks n round keys u opened Any any) pairs in
         (render (Evidence ρ lower higher ps), (Evidence ρ lower higher ps, is, refl, w), accept .0, accept .1))
         (f .1) (f .2)
+
+  -- the mask that the check answers is the seats that the evidence names
+  pub mask-names : (evidence : List ℕ) (seat : ℕ) → Accepted checks n round keys evidence → In seat (evidenceCheck checks n round keys evidence .mask) ↔ Names checks n round keys evidence seat
+  unfolding evidenceCheck checkedBy unrefused
+  mask-names evidence seat a = rw a (in-set seat (entrySeats (read n evidence)))
+
+  -- ---- all of them
+
+  module _ {I : Type 0} (unit : I → Honest) (family : Family checks n round keys unit) where
+    abbrev endAt : I → Record
+    endAt i = end (unit i) (family .opened i)
+
+    settled : (i : I) → Settled (endAt i)
+    settled i = trip checks n round keys (unit i) (family .opened i) Any (any (unit i) (family .opened i)) .settled
+
+    confirmed : (i : I) (value : List ℕ) → Confirms checks n round keys (unit i) value
+      → (endAt i .confirmed ≡ true) × (endAt i .own .value ≡ value) × (length value ≡ valueLength) × Writes checks n round keys (unit i) (Notice round (unit i .seat) value)
+    confirmed i value c = confirms-end (unit i) (family .opened i) value c
+
+    inside : (i : I) → unit i .seat < n
+    inside i = opened-range checks n round keys (unit i) (family .opened i) .inside
+
+    -- of two units that confirmed different layouts, each has sent its FULL
+    each-sent : (i j : I) (a b : List ℕ) → a ≢ b → Confirms checks n round keys (unit i) a → Confirms checks n round keys (unit j) b → ReachedOthers checks n round keys unit j → endAt i .sent ≡ true
+    each-sent i j a b different ca cb reached =
+        let x = confirmed i a ca in
+        let y = confirmed j b cb in
+        let other : i ≢ j = λ e. different (sym (x .1) ∙ ap (λ l. endAt l .own .value) e ∙ y .1) in
+        let heard = reached-heard (unit i) (family .opened i) (unit j .seat) b (inside j) (y .2) (reached i other .notice round (unit j .seat) b (y .3)) in
+        sent-of (endAt i) (settled i .owes) (x .0) (other-heard b (endAt i) heard (λ e. different (sym (x .1) ∙ sym e)))
+
+    -- and every unit has held a certificate of its layout, or compared one
+    each-held : (i : I) (a : List ℕ) → Confirms checks n round keys (unit i) a → endAt i .sent ≡ true → ReachedOthers checks n round keys unit i → (l : I) → Held a (endAt l)
+    each-held i a ca sent reached l = go (ℕ-discrete (unit l .seat) (unit i .seat))
+      where
+        go : Dec (unit l .seat ≡ unit i .seat) → Held a (endAt l)
+        go (yes e) =
+            let x = confirmed i a ca in
+            subst (λ o. Held a (endAt o)) (sym (family .apart l i e)) (subst (λ v. Held v (endAt i)) (x .1) (settled i .holds (x .0)))
+        go (no d) =
+            let x = confirmed i a ca in
+            let f = subst (WroteFull (unit i) (family .opened i)) (x .1) (sent-full (unit i) (family .opened i) sent) in
+            reached-held (unit l) (family .opened l) (unit i .seat) a (f .0) (inside i) (f .1) (reached l (λ q. d (ap (λ o. unit o .seat) q)) .full round (unit i .seat) a (f .0) (f .2))
+
+    pub blamed : (i j : I) (a b : List ℕ) → a ≢ b → Confirms checks n round keys (unit i) a → Confirms checks n round keys (unit j) b
+      → ReachedOthers checks n round keys unit i → ReachedOthers checks n round keys unit j → (l : I) → Blames checks n round keys (unit l)
+    blamed i j a b different ca cb ri rj l =
+        let held-a = each-held i a ca (each-sent i j a b different ca cb rj) ri l in
+        let held-b = each-held j b cb (each-sent j i b a (λ e. different (sym e)) cb ca ri) rj l in
+        guilty-blames (unit l) (family .opened l) (both-held a b (endAt l) different held-a held-b)
