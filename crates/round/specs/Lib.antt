@@ -15,3 +15,5 @@ pub mod Units
 pub mod Once
 pub mod Safe
 pub mod Blamed
+pub mod Tests
+pub mod Guard
