@@ -1,9 +1,10 @@
 -- That the claims of demand 3 say something: small runs, computed.
 -- Assumes nothing.
 use Prim.Native.Nat.{ℕ, zero, suc, _*_}
-use mathlib.Core.Path.{_≡_, refl, ap}
+use mathlib.Core.Path.{_≡_, refl, sym, ap, subst}
 use mathlib.Core.Bool.{Bool, true, false, not, _&&_}
-use mathlib.Core.List.{List, [], _∷_, _++_}
+use mathlib.Core.List.{List, [], _∷_, _++_, List·Memᴰ, List·Memᴰ·not-nil}
+use mathlib.Core.Logic.{⊎-elim}
 use native.Mathlib.Omega.{arith}
 use lib.Count.{ones}
 use lib.Dec.{eqb}
@@ -21,15 +22,15 @@ use Rattle.protocol.specs.Record.{withOwn, withNotices, withFirst, withSent, wi
 use Rattle.protocol.specs.Refusals.{every, keyAllowed, keysAllowed, wrongKeys, shortStore, shortOut, said, isForStep, isFull, isEvidence, wrongLengths, otherRound, stranger, rising, disorder, early, badSignature, notLowerFirst, equalValues, formConditions, signatureConditions, outsideConditions, recordConditions, openingConditions, submitConditions, stepConditions, evidenceConditions, twoConditions, makingConditions, lowerConditions}
 use Rattle.protocol.specs.Step.{write, collect, keepValue, submitOwn, isWanted, hearSubmit, noticesWith, hear, otherHeard, owesFull, sendFull, reply, hold, blame, blames, holdOrBlame, hearCertificate, isComplete, confirm, hearOwn, confirmIfComplete, submitted, stepped}
 use Rattle.protocol.specs.Calls.{outAfter, openedBy, opening, Result, resultBy, submit, step, answer, makingBy, making, made, checkedBy, evidenceCheck, lowerOf, lowerCertificate}
-use Rattle.round.specs.Round.{Call, BySubmit, ByStep, ByThinEntry, Honest, Turn, called, turns, turnsOf, isSubmit, isNotice, Family, Delivered, NoneForged, Blames, ReachedOthers, WritesEvidence, Names}
+use Rattle.round.specs.Round.{Call, BySubmit, ByStep, ByThinEntry, InHand, Honest, Turn, called, turns, turnsOf, isSubmit, isNotice, Family, Delivered, NoneForged, NoneBlamed, Submits, Blames, ReachedOthers, WritesEvidence, Names}
 use Rattle.round.specs.Journey.{refusalOf, cameTo, allMessages}
-use Rattle.round.specs.Tests.{found, isNoticeOf, isEvidenceOn, isStepWith, confirms, blames as blamesSeat, reached, haveReached, confirms-says, haveReached-says, blames-says}
+use Rattle.round.specs.Tests.{found, isNoticeOf, isEvidenceOn, isStepWith, isSubmitOf, signsOnly, signsOnly-says, submits as submits′, submits-says, confirms, blames as blamesSeat, reached, haveReached, confirms-says, haveReached-says, blames-says}
 use Rattle.round.specs.Safe.{safe-delivered}
 use Rattle.round.specs.Blamed.{blamed}
 
 -- every definition, open
 unfolded : Bool
-unfolding ones part patch be t0 k bit has union shared with outside seats lowest unrefused signatureLength submitLength noticeLength fullEntryLength fullEntryAt fullLength evidenceEntryLength evidenceEntryAt evidenceLength storeLength slotAt outLength evidenceOutLength unset same isLower renderEntry renderEntries renderPair renderPairs render renderAll readRound readValue readSignature entryCommands readEntry readEntries pairCommands readPair readPairs fitsSubmit fitsNotice fitsFull fitsEvidence readSubmit readNotice readFull readEvidence read roundOf entrySeats seatsOf signedEntries signedPairs signed slot keep keepEach ownCertificate firstCertificate setOf signatureOf certificateOf certificateIn entriesOf fullOf pairsOf orderedEvidence evidenceOf wrongSize wrongSeat wrongRound fresh zeros noneHeard oneHeard holds outOfRange wrongHeard namesStranger wrongCollected wrongFirst lacksFirst wrongGuilty wrongSent wrongUnset impossible every keyAllowed keysAllowed wrongKeys shortStore shortOut said isForStep isFull isEvidence wrongLengths otherRound stranger rising disorder early badSignature notLowerFirst equalValues formConditions signatureConditions outsideConditions recordConditions openingConditions submitConditions stepConditions evidenceConditions twoConditions makingConditions lowerConditions write collect keepValue submitOwn isWanted hearSubmit noticesWith hear otherHeard owesFull sendFull reply hold blame blames holdOrBlame hearCertificate isComplete confirm hearOwn confirmIfComplete submitted stepped outAfter openedBy opening resultBy submit step answer makingBy making made checkedBy evidenceCheck lowerOf lowerCertificate called turns isSubmit isNotice refusalOf cameTo allMessages found isNoticeOf isEvidenceOn isStepWith confirms blamesSeat reached haveReached
+unfolding ones part patch be t0 k bit has union shared with outside seats lowest unrefused signatureLength submitLength noticeLength fullEntryLength fullEntryAt fullLength evidenceEntryLength evidenceEntryAt evidenceLength storeLength slotAt outLength evidenceOutLength unset same isLower renderEntry renderEntries renderPair renderPairs render renderAll readRound readValue readSignature entryCommands readEntry readEntries pairCommands readPair readPairs fitsSubmit fitsNotice fitsFull fitsEvidence readSubmit readNotice readFull readEvidence read roundOf entrySeats seatsOf signedEntries signedPairs signed slot keep keepEach ownCertificate firstCertificate setOf signatureOf certificateOf certificateIn entriesOf fullOf pairsOf orderedEvidence evidenceOf wrongSize wrongSeat wrongRound fresh zeros noneHeard oneHeard holds outOfRange wrongHeard namesStranger wrongCollected wrongFirst lacksFirst wrongGuilty wrongSent wrongUnset impossible every keyAllowed keysAllowed wrongKeys shortStore shortOut said isForStep isFull isEvidence wrongLengths otherRound stranger rising disorder early badSignature notLowerFirst equalValues formConditions signatureConditions outsideConditions recordConditions openingConditions submitConditions stepConditions evidenceConditions twoConditions makingConditions lowerConditions write collect keepValue submitOwn isWanted hearSubmit noticesWith hear otherHeard owesFull sendFull reply hold blame blames holdOrBlame hearCertificate isComplete confirm hearOwn confirmIfComplete submitted stepped outAfter openedBy opening resultBy submit step answer makingBy making made checkedBy evidenceCheck lowerOf lowerCertificate called turns isSubmit isNotice refusalOf cameTo allMessages found isNoticeOf isEvidenceOn isStepWith isSubmitOf signsOnly submits′ confirms blamesSeat reached haveReached
 unfolded = true
 
 -- ---- what the runs are given
@@ -137,6 +138,38 @@ both-blame =
     blamed toy 4 5 keys apartUnits apart-family false true (layout 7) (layout 9) (λ e. let h = ap (λ (l : List ℕ). byteAt l 0) e in omega arith)
     (confirms-says toy 4 5 keys (apartUnits false) (apart-family .opened false) (layout 7) zeroth-confirms)
     (confirms-says toy 4 5 keys (apartUnits true) (apart-family .opened true) (layout 9) first-confirms) (reached-others false) (reached-others true)
+
+-- no signature of the two is over a layout that it didn't submit: the premise of the safe half holds beside it
+abbrev layoutOf : Bool → List ℕ
+layoutOf false = layout 7
+layoutOf true = layout 9
+
+own-layouts : (i : Bool) → submits′ toy 4 5 keys (apartUnits i) (layoutOf i) ≡ true
+unfolding unfolded
+own-layouts false = refl
+own-layouts true = refl
+
+signed-once : (i j : Bool) → every (signsOnly 4 (apartUnits i .seat) (layoutOf i)) (apartUnits j .calls) ≡ true
+unfolding unfolded
+signed-once false false = refl
+signed-once false true = refl
+signed-once true false = refl
+signed-once true true = refl
+
+none-in-hand : (i : Bool) (h : InHand) → List·Memᴰ h (apartUnits i .inHand) → ⊥
+none-in-hand false h d = List·Memᴰ·not-nil d
+none-in-hand true h d = List·Memᴰ·not-nil d
+
+none-forged : NoneForged toy 4 5 keys apartUnits (Delivered toy 4 5 keys apartUnits)
+none-forged i value signature d never =
+    let j = d .0 in
+    ⊎-elim
+    (λ g. absurd (never (subst (Submits toy 4 5 keys (apartUnits i)) (sym (signsOnly-says toy 4 5 keys (apartUnits j) (apartUnits i .seat) (layoutOf i) (signed-once i j) (g .0) (d .1) (g .1) value signature (g .2) (g .3) (d .3))) (submits-says toy 4 5 keys (apartUnits i) (layoutOf i) (own-layouts i)))))
+    (λ h. absurd (none-in-hand j (h .0) (h .1)))
+    (d .2)
+
+none-blamed : NoneBlamed toy 4 5 keys apartUnits (Delivered toy 4 5 keys apartUnits)
+none-blamed = safe-delivered toy 4 5 keys apartUnits apart-family none-forged
 
 -- ---- a signature is forged, and an honest seat is blamed
 

@@ -2,20 +2,21 @@
 -- Assumes nothing.
 use mathlib.Core.Path.{_≡_, refl, sym, ap, subst, _∙_}
 use mathlib.Core.Bool.{Bool, true, false, not, _&&_, _||_, true≢false, false≢true}
-use mathlib.Core.List.{List, [], _∷_, List·Memᴰ, List·Memᴰ·head, List·Memᴰ·tail}
+use mathlib.Core.List.{List, [], _∷_, List·Memᴰ, List·Memᴰ·head, List·Memᴰ·tail, List·Memᴰ·not-nil, List·Memᴰ·cases-cons}
 use mathlib.Core.Logic.{_⊎_, inl, inr, ⊎-elim}
 use Prim.Native.Nat.{ℕ, _≤_}
 use lib.Dec.{eqb, leb}
 use lib.ListN.{length}
-use borrow.Author.Tests.{eqb-true, leb-true}
+use borrow.Author.Tests.{eqb-true, eq-eqb, leb-true, not-true}
 use Rattle.octets.specs.Strings.{same}
 use Rattle.octets.specs.StringLaws.{same-true}
 use Rattle.protocol.specs.Layout.{storeLength, outLength}
-use Rattle.protocol.specs.Message.{Entry, Message, Submit, Notice, Full, Evidence, Garbled, render, read, entrySeats}
+use Rattle.protocol.specs.Message.{Message, Submit, Notice, Full, Evidence, Garbled, Signed, render, read, signed, entrySeats}
 use Rattle.protocol.specs.ReadLaws.{read-render}
 use Rattle.protocol.specs.Refusals.{Checks, every, isFull, isEvidence}
 use Rattle.protocol.specs.Calls.{opening}
-use Rattle.round.specs.Round.{Each, Call, BySubmit, ByStep, ByThinEntry, IsStep, Honest, Turn, isNotice, turnsOf, Writes, Confirms, Reached, HaveReached, WritesEvidence, Names}
+use Rattle.protocol.specs.declared.Record.{Record}
+use Rattle.round.specs.Round.{Each, Call, BySubmit, ByStep, ByThinEntry, IsStep, Honest, Turn, called, left, turns, isNotice, turnsOf, Submits, Writes, Confirms, Reached, HaveReached, WritesEvidence, Names}
 use Rattle.round.specs.Lists.{and-true-both, or-true-either, every-each}
 use Rattle.round.specs.Journey.{messages, allMessages, all-member, member-all}
 use Rattle.round.specs.Units.{Any, any-worthy, written-are, stands-message}
@@ -68,6 +69,42 @@ step-with n bytes (ByThinEntry b out) e =
     let both = and-true-both (same b bytes) (leb (outLength n) (length out)) e in
     (out, inr (ap (λ x. ByThinEntry x out) (same-true b bytes (both .0))), leb-true (outLength n) (length out) (both .1))
 
+-- every signature of the seat in what the call is given stands over the layout
+unfoldable pub signsOnly : ℕ → ℕ → List ℕ → Call → Bool
+signsOnly n seat layout (BySubmit value signature out) = true
+signsOnly n seat layout (ByStep bytes out) = every (λ (s : Signed). not (eqb (s .seat) seat) || same (s .value) layout) (signed (read n bytes))
+signsOnly n seat layout (ByThinEntry bytes out) = every (λ (s : Signed). not (eqb (s .seat) seat) || same (s .value) layout) (signed (read n bytes))
+
+module _ (n seat : ℕ) (layout bytes value signature : List ℕ) (d : List·Memᴰ (record { seat = seat; value = value; signature = signature }) (signed (read n bytes))) where
+  over-layout : every (λ (s : Signed). not (eqb (s .seat) seat) || same (s .value) layout) (signed (read n bytes)) ≡ true → value ≡ layout
+  over-layout e =
+      let test : Signed → Bool = λ s. not (eqb (s .seat) seat) || same (s .value) layout in
+      let both = every-each test (signed (read n bytes)) e (record { seat = seat; value = value; signature = signature }) d in
+      ⊎-elim (λ q. absurd (true≢false (sym (eq-eqb seat seat refl) ∙ not-true (eqb seat seat) q))) (λ q. same-true value layout q) (or-true-either (not (eqb seat seat)) (same value layout) both)
+
+  signs-only : (c : Call) (out : List ℕ) → IsStep c bytes out → signsOnly n seat layout c ≡ true → value ≡ layout
+  unfolding signsOnly
+  signs-only c out (inl q) e = over-layout (subst (λ x. signsOnly n seat layout x ≡ true) q e)
+  signs-only c out (inr q) e = over-layout (subst (λ x. signsOnly n seat layout x ≡ true) q e)
+
+-- a turn's call is one of the list
+turn-given : (checks : Checks) (keys : List ℕ) (r : Record) (store : List ℕ) (cs : List Call) (t : Turn) → List·Memᴰ t (turns checks keys r store cs) → List·Memᴰ (t .given) cs
+unfolding turns
+turn-given checks keys r store [] t d = absurd (List·Memᴰ·not-nil d)
+turn-given checks keys r store (c ∷ cs) t d =
+    ⊎-elim (λ q. List·Memᴰ·head (ap (λ (x : Turn). x .given) q)) (λ q. List·Memᴰ·tail (turn-given checks keys (called checks keys c r store .unit) (called checks keys c r store .store) cs t q)) (List·Memᴰ·cases-cons d)
+
+unfoldable pub isSubmitOf : List ℕ → Call → Bool
+isSubmitOf layout (BySubmit value signature out) = same value layout
+isSubmitOf layout (ByStep bytes out) = false
+isSubmitOf layout (ByThinEntry bytes out) = false
+
+submit-of : (layout : List ℕ) (c : Call) → isSubmitOf layout c ≡ true → (signature : List ℕ) × (out : List ℕ) × (c ≡ BySubmit layout signature out)
+unfolding isSubmitOf
+submit-of layout (BySubmit value signature out) e = (signature, out, ap (λ v. BySubmit v signature out) (same-true value layout e))
+submit-of layout (ByStep bytes out) e = absurd (false≢true e)
+submit-of layout (ByThinEntry bytes out) e = absurd (false≢true e)
+
 -- ---- an honest unit
 
 module _ (checks : Checks) (n round : ℕ) (keys : List ℕ) where
@@ -85,6 +122,25 @@ module _ (checks : Checks) (n round : ℕ) (keys : List ℕ) where
 
   unfoldable pub haveReached : Honest → Honest → Bool
   haveReached u other = every (λ (m : Message). not (isNotice m || isFull m) || reached other (render m)) (all u)
+
+  unfoldable pub submits : Honest → List ℕ → Bool
+  submits u layout = found (λ (t : Turn). isSubmitOf layout (t .given) && eqb (left checks keys t .refusal) 0) (turnsOf checks n round keys u)
+
+  pub submits-says : (u : Honest) (layout : List ℕ) → submits u layout ≡ true → Submits checks n round keys u layout
+  unfolding submits
+  submits-says u layout e =
+      let f = found-one (λ (t : Turn). isSubmitOf layout (t .given) && eqb (left checks keys t .refusal) 0) (turnsOf checks n round keys u) e in
+      let t = f .0 in
+      let both = and-true-both (isSubmitOf layout (t .given)) (eqb (left checks keys t .refusal) 0) (f .2) in
+      let s = submit-of layout (t .given) (both .0) in
+      (t, s .0, s .1, f .1, s .2, eqb-true (left checks keys t .refusal) 0 (both .1))
+
+  -- what is given to a step in the unit's list and signed by the seat stands over the layout
+  pub signsOnly-says : (u : Honest) (seat : ℕ) (layout : List ℕ) → every (signsOnly n seat layout) (u .calls) ≡ true → (t : Turn) (bytes out value signature : List ℕ) → List·Memᴰ t (turnsOf checks n round keys u) → IsStep (t .given) bytes out
+    → List·Memᴰ (record { seat = seat; value = value; signature = signature }) (signed (read n bytes)) → value ≡ layout
+  signsOnly-says u seat layout e t bytes out value signature d is m =
+      signs-only n seat layout bytes value signature m (t .given) out is
+      (every-each (signsOnly n seat layout) (u .calls) e (t .given) (turn-given checks keys (opening n (u .seat) round keys .unit) (u .store) (u .calls) t d))
 
   pub reached-says : (u : Honest) (bytes : List ℕ) → reached u bytes ≡ true → Reached checks n round keys u bytes
   unfolding reached
