@@ -3,36 +3,33 @@
 -- names at least t0 + 1 seats and that every unit accepts."
 -- Assumes nothing.
 use mathlib.Core.Path.{_≡_, refl, sym, ap, subst, subst₂, _∙_}
-use mathlib.Core.Bool.{Bool, true, false, not, _&&_, true≢false, false≢true}
-use mathlib.Core.List.{List, [], _∷_, map, List·Memᴰ}
-use mathlib.Core.Logic.{_⊎_, inl, inr, ⊎-elim, _≢_, _↔_}
-use Prim.Native.Nat.{ℕ, zero, suc, _+_, _≤_, _<_}
+use mathlib.Core.Bool.{true, false, not, _&&_, true≢false, false≢true}
+use mathlib.Core.List.{List}
+use mathlib.Core.Logic.{⊎-elim, _≢_, _↔_}
+use Prim.Native.Nat.{ℕ, zero, _+_, _≤_, _<_}
 use native.Mathlib.Omega.{arith}
 use native.Mathlib.Decide.{ℕ-discrete}
-use lib.Dec.{eqb}
 use lib.ListN.{length}
 use borrow.Author.Tests.{ne-eqb, not-false}
-use Rattle.quorum.specs.Quorum.{t0, k, In, size}
+use Rattle.quorum.specs.Quorum.{t0, In, size}
 use Rattle.refusal.specs.Refusal.{lowest, unrefused}
 use Rattle.protocol.specs.Layout.{valueLength, storeLength, outLength}
-use Rattle.protocol.specs.Values.{isLower}
 use Rattle.protocol.specs.Message.{Entry, Pair, Message, Submit, Notice, Full, Evidence, Garbled, render, read, roundOf, entrySeats, seatsOf, signed}
-use Rattle.protocol.specs.Certificate.{setOf}
 use Rattle.protocol.specs.Laws.{in-set}
 use Rattle.protocol.specs.ReadLaws.{WellFormed, read-render}
-use Rattle.protocol.specs.Refusals.{Checks, wrongKeys, isForStep, isFull, isEvidence, rising, early, notLowerFirst, stepConditions, evidenceConditions}
+use Rattle.protocol.specs.Refusals.{Checks, wrongKeys, isForStep, isFull, isEvidence, rising, early, notLowerFirst, stepConditions}
 use Rattle.protocol.specs.Step.{State, otherHeard, owesFull, stepped}
 use Rattle.protocol.specs.Calls.{start, opening, checkedBy, evidenceCheck}
 use Rattle.protocol.specs.declared.Record.{Record}
-use Rattle.round.specs.Round.{Each, Relation, Kind, OneNotice, FullCertificate, SomeEvidence, isOf, isNotice, flagOf, IsStep, Honest, Turn, left, turnsOf, Writes, Confirms, Reached, HaveReached, WritesEvidence, Accepted, Names, Blames, Family, ReachedOthers}
+use Rattle.round.specs.Round.{Each, OneNotice, FullCertificate, SomeEvidence, isNotice, Honest, Turn, left, turnsOf, Writes, Confirms, Reached, Accepted, Names, Blames, Family, ReachedOthers}
 use Rattle.round.specs.Lists.{and-false-either, each-nil, each-one}
-use Rattle.round.specs.Sound.{Heard, Held, Grows, InRange, Settled, Entries, Pairs, Sound, Said, Good}
+use Rattle.round.specs.Sound.{Heard, Held, Grows, Settled, Entries, Pairs, Sound, Said}
 use Rattle.round.specs.Certificates.{sized-entries}
 use Rattle.round.specs.Parts.{other-heard}
 use Rattle.round.specs.Whole.{notice-heard, full-held}
 use Rattle.round.specs.Unrefused.{possible, Taken, step-unrefused, evidence-unrefused, full-taken, evidence-taken}
-use Rattle.round.specs.Journey.{Worthy, At, refusalOf, cameTo, step-is, left-came}
-use Rattle.round.specs.Units.{Any, any-worthy, startOf, endOf, opened-range, opened-keys, start-n, start-round, trip, stop, end-n, end-seat, end-round, good-formed, pairs-formed, written-flag, flag-written, writes-good}
+use Rattle.round.specs.Journey.{Worthy, At, step-is, left-came}
+use Rattle.round.specs.Units.{Any, any-worthy, startOf, endOf, opened-range, opened-keys, start-n, start-round, trip, stop, end-n, end-seat, end-round, pairs-formed, written-flag, flag-written, writes-good}
 use Rattle.round.specs.Safe.{evidence-cases}
 
 -- a message that is FULL
@@ -46,7 +43,7 @@ full-cases P Garbled e f = absurd (false≢true e)
 
 -- a certificate of each of two values has been held or compared: there are guilty seats
 both-held : (a b : List ℕ) (r : Record) → a ≢ b → Held a r → Held b r → r .guilty ≢ 0
-both-held a b r d (ha) (hb) g =
+both-held a b r d ha hb g =
     ⊎-elim (λ p. ⊎-elim (λ q. d (sym p ∙ q)) (λ q. q g) (hb .1)) (λ p. p g) (ha .1)
 
 -- nothing owed, confirmed and another value heard: FULL was sent
@@ -98,7 +95,7 @@ module _ (checks : Checks) (n round : ℕ) (keys : List ℕ) where
 
       -- what the step comes to, and what grows, holds at the end
       pub reached-end : (P : Record → Type 0) → ((r r′ : Record) → Grows r r′ → P r → P r′)
-        → ((r : Record) (store : List ℕ) → r .n ≡ n → Sound checks Any r store → storeLength (r .n) ≤ length store → Settled r → P (stepped m (start r store) .unit)) → P end
+          → ((r : Record) (store : List ℕ) → r .n ≡ n → Sound checks Any r store → storeLength (r .n) ≤ length store → Settled r → P (stepped m (start r store) .unit)) → P end
       reached-end P grows f =
           grows (left checks keys t .unit) end (at .before) (subst P (sym left-stepped) (f (t .unit) (t .store) size-is (at .sound) room (at .settled)))
 
@@ -128,7 +125,7 @@ module _ (checks : Checks) (n round : ℕ) (keys : List ℕ) where
 
     -- evidence of t0 + 1 pairs or more is accepted
     evidence-accepted : (ρ : ℕ) (lower higher : List ℕ) (ps : List Pair) → ρ ≡ round → Pairs checks Any n lower higher ps
-      → (evidenceCheck checks n round keys (render (Evidence ρ lower higher ps)) .number ≡ 0) × (t0 n + 1 ≤ size (evidenceCheck checks n round keys (render (Evidence ρ lower higher ps)) .mask))
+        → (evidenceCheck checks n round keys (render (Evidence ρ lower higher ps)) .number ≡ 0) × (t0 n + 1 ≤ size (evidenceCheck checks n round keys (render (Evidence ρ lower higher ps)) .mask))
     unfolding evidenceCheck checkedBy unrefused entrySeats isEvidence notLowerFirst
     evidence-accepted ρ lower higher ps e z =
         let m = Evidence ρ lower higher ps in
@@ -152,8 +149,7 @@ module _ (checks : Checks) (n round : ℕ) (keys : List ℕ) where
     confirms-end value c =
         let m = Notice (c .0) (c .1) value in
         let s = writes-good checks n round keys u opened Any any m (c .2) in
-        let own = own-said (c .0) (c .1) value s in
-        (
+        let own = own-said (c .0) (c .1) value s in (
           written-flag checks n round keys u opened Any any OneNotice m refl (c .2),
           sym (own .2),
           s .sized,
@@ -171,8 +167,7 @@ module _ (checks : Checks) (n round : ℕ) (keys : List ℕ) where
         (λ ρ sender value es w.
         let g = writes-good checks n round keys u opened Any any (Full ρ sender value es) w in
         let own = own-said ρ sender value (g .0) in
-        subst WroteFull (own .2)
-        (
+        subst WroteFull (own .2) (
           es,
           subst (λ i. Entries checks Any i value es) (end-n checks n round keys u opened Any any) (g .1),
           subst₂ (λ x y. Writes checks n round keys u (Full x y value es)) (own .0) (own .1) w,
@@ -207,7 +202,7 @@ module _ (checks : Checks) (n round : ℕ) (keys : List ℕ) where
     settled i = trip checks n round keys (unit i) (family .opened i) Any (any (unit i) (family .opened i)) .settled
 
     confirmed : (i : I) (value : List ℕ) → Confirms checks n round keys (unit i) value
-      → (endAt i .confirmed ≡ true) × (endAt i .own .value ≡ value) × (length value ≡ valueLength) × Writes checks n round keys (unit i) (Notice round (unit i .seat) value)
+        → (endAt i .confirmed ≡ true) × (endAt i .own .value ≡ value) × (length value ≡ valueLength) × Writes checks n round keys (unit i) (Notice round (unit i .seat) value)
     confirmed i value c = confirms-end (unit i) (family .opened i) value c
 
     inside : (i : I) → unit i .seat < n
@@ -235,9 +230,14 @@ module _ (checks : Checks) (n round : ℕ) (keys : List ℕ) where
             let f = subst (WroteFull (unit i) (family .opened i)) (x .1) (sent-full (unit i) (family .opened i) sent) in
             reached-held (unit l) (family .opened l) (unit i .seat) a (f .0) (inside i) (f .1) (reached l (λ q. d (ap (λ o. unit o .seat) q)) .full round (unit i .seat) a (f .0) (f .2))
 
-    pub blamed : (i j : I) (a b : List ℕ) → a ≢ b → Confirms checks n round keys (unit i) a → Confirms checks n round keys (unit j) b
-      → ReachedOthers checks n round keys unit i → ReachedOthers checks n round keys unit j → (l : I) → Blames checks n round keys (unit l)
-    blamed i j a b different ca cb ri rj l =
-        let held-a = each-held i a ca (each-sent i j a b different ca cb rj) ri l in
-        let held-b = each-held j b cb (each-sent j i b a (λ e. different (sym e)) cb ca ri) rj l in
-        guilty-blames (unit l) (family .opened l) (both-held a b (endAt l) different held-a held-b)
+-- ---- the claim
+
+pub blamed : (checks : Checks) (n round : ℕ) (keys : List ℕ) {I : Type 0} (unit : I → Honest) → Family checks n round keys unit
+    → (i j : I) (a b : List ℕ) → a ≢ b → Confirms checks n round keys (unit i) a → Confirms checks n round keys (unit j) b
+    → ReachedOthers checks n round keys unit i → ReachedOthers checks n round keys unit j → (l : I) → Blames checks n round keys (unit l)
+blamed checks n round keys unit family i j a b different ca cb ri rj l =
+    let sent-a = each-sent checks n round keys unit family i j a b different ca cb rj in
+    let sent-b = each-sent checks n round keys unit family j i b a (λ e. different (sym e)) cb ca ri in
+    let held-a = each-held checks n round keys unit family i a ca sent-a ri l in
+    let held-b = each-held checks n round keys unit family j b cb sent-b rj l in
+    guilty-blames checks n round keys (unit l) (family .opened l) (both-held a b (endAt checks n round keys unit family l) different held-a held-b)

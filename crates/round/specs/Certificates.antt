@@ -2,28 +2,28 @@
 -- certificates of different values are evidence that names t0 + 1 seats or more.
 -- Assumes nothing.
 use mathlib.Core.Path.{_≡_, refl, sym, ap, subst, _∙_}
-use mathlib.Core.Bool.{Bool, true, false, cond, not}
-use mathlib.Core.List.{List, [], _∷_, _++_, map, map-map, map-id, List·Memᴰ, List·Memᴰ·head, List·Memᴰ·tail, List·Memᴰ·not-nil, List·Memᴰ·cases-cons, Memᴰ·map}
-use mathlib.Core.Logic.{_⊎_, inl, inr, ⊎-elim, _≢_, _↔_}
-use Prim.Native.Nat.{ℕ, zero, suc, _+_, _*_, _/_, _%_, _^_, _≤_, _<_, min}
+use mathlib.Core.Bool.{true, not}
+use mathlib.Core.List.{List, [], _∷_, map, map-map, map-id, List·Memᴰ, List·Memᴰ·head, List·Memᴰ·tail, List·Memᴰ·not-nil, List·Memᴰ·cases-cons}
+use mathlib.Core.Logic.{⊎-elim, _≢_}
+use Prim.Native.Nat.{ℕ, _+_, _/_, _%_, _^_, _≤_, _<_, min}
 use native.Mathlib.Omega.{arith}
 use lib.Arith.{bin-ind}
 use lib.Bits.{and-step}
-use lib.Count.{ones, ones-step}
+use lib.Count.{ones-step}
 use lib.Dec.{eqb}
 use lib.ListN.{length, length-map}
 use lib.Pow.{pow-pos}
 use borrow.Author.Tests.{eqb-true, eqb-false}
-use Rattle.quorum.specs.Quorum.{t0, k, In, size, shared, with, seats}
+use Rattle.quorum.specs.Quorum.{t0, k, In, size, shared, seats}
 use Rattle.quorum.specs.Laws.{bit-cases, in-shared, shared-lt, with-lt, size-empty, size-with-new, length-seats, mem-seats, seats-rise, k-of-n-share}
 use Rattle.protocol.specs.Layout.{signatureLength}
 use Rattle.protocol.specs.Values.{isLower}
-use Rattle.protocol.specs.Message.{Entry, Pair, Message, Full, Evidence}
+use Rattle.protocol.specs.Message.{Entry, Pair, Message, Evidence}
 use Rattle.protocol.specs.Certificate.{Certificate, setOf, signatureOf, certificateOf, entriesOf, pairsOf, orderedEvidence, evidenceOf}
 use Rattle.protocol.specs.Laws.{lower-other, in-set, set-seats, Sized, SizedPairs}
 use Rattle.protocol.specs.Refusals.{Checks, rising}
 use Rattle.round.specs.Round.{Each, Relation}
-use Rattle.round.specs.Lists.{cond-elim, each-map, each-nil, rising-first, rising-of-rises}
+use Rattle.round.specs.Lists.{cond-elim, each-map, rising-first, rising-of-rises}
 use Rattle.round.specs.Sound.{Kept, Certifies, Entries, Pairs}
 
 -- ---- sets and lists of seats
@@ -120,7 +120,7 @@ module _ (checks : Checks) (W : Relation) where
 
   -- the evidence of two, the lower first
   pub pairs-of : (n : ℕ) (c d : Certificate) → 1 ≤ n → Certifies checks W n c → Certifies checks W n d → isLower (c .value) (d .value) ≡ true
-    → Pairs checks W n (c .value) (d .value) (pairsOf n c d)
+      → Pairs checks W n (c .value) (d .value) (pairsOf n c d)
   unfolding pairsOf
   pairs-of n c d some y z l =
       let both = shared (c .seats) (d .seats) in
@@ -145,7 +145,7 @@ module _ (checks : Checks) (W : Relation) where
 
   -- in either order
   pub evidence-elim : (P : Message → Type 0) (n round : ℕ) (c d : Certificate) → 1 ≤ n → Certifies checks W n c → Certifies checks W n d → c .value ≢ d .value
-    → ((lower higher : List ℕ) (ps : List Pair) → Pairs checks W n lower higher ps → P (Evidence round lower higher ps)) → P (evidenceOf n round c d)
+      → ((lower higher : List ℕ) (ps : List Pair) → Pairs checks W n lower higher ps → P (Evidence round lower higher ps)) → P (evidenceOf n round c d)
   unfolding evidenceOf orderedEvidence
   evidence-elim P n round c d some y z different f =
       cond-elim P (isLower (c .value) (d .value)) (orderedEvidence n round c d) (orderedEvidence n round d c)

@@ -1,28 +1,27 @@
 -- That the claims of demand 3 say something: small runs, computed.
 -- Assumes nothing.
-use Prim.Native.Nat.{ℕ, zero, suc, _*_}
+use Prim.Native.Nat.{ℕ}
 use mathlib.Core.Path.{_≡_, refl, sym, ap, subst}
-use mathlib.Core.Bool.{Bool, true, false, not, _&&_}
+use mathlib.Core.Bool.{Bool, true, false, _&&_}
 use mathlib.Core.List.{List, [], _∷_, _++_, List·Memᴰ, List·Memᴰ·not-nil}
 use mathlib.Core.Logic.{⊎-elim}
 use native.Mathlib.Omega.{arith}
 use lib.Count.{ones}
 use lib.Dec.{eqb}
-use lib.ListN.{length, replicate}
+use lib.ListN.{replicate}
 use Rattle.octets.specs.Octets.{part, patch, be}
 use Rattle.quorum.specs.Quorum.{t0, k, bit, has, union, shared, with, outside, seats}
 use Rattle.refusal.specs.Refusal.{lowest, unrefused}
 use Rattle.protocol.specs.Layout.{signatureLength, submitLength, noticeLength, fullEntryLength, fullEntryAt, fullLength, evidenceEntryLength, evidenceEntryAt, evidenceLength, storeLength, slotAt, outLength, evidenceOutLength}
 use Rattle.protocol.specs.Values.{unset, isLower}
 use Rattle.octets.specs.Strings.{same}
-use Rattle.protocol.specs.Message.{Entry, Pair, Message, Submit, Notice, Full, Evidence, renderEntry, renderEntries, renderPair, renderPairs, render, renderAll, byteAt, readRound, readValue, readSignature, entryCommands, readEntry, readEntries, pairCommands, readPair, readPairs, fitsSubmit, fitsNotice, fitsFull, fitsEvidence, readSubmit, readNotice, readFull, readEvidence, read, roundOf, entrySeats, seatsOf, signedEntries, signedPairs, signed}
+use Rattle.protocol.specs.Message.{Entry, Message, Submit, Notice, Full, renderEntry, renderEntries, renderPair, renderPairs, render, renderAll, byteAt, readRound, readValue, readSignature, entryCommands, readEntry, readEntries, pairCommands, readPair, readPairs, fitsSubmit, fitsNotice, fitsFull, fitsEvidence, readSubmit, readNotice, readFull, readEvidence, read, roundOf, entrySeats, seatsOf, signedEntries, signedPairs, signed}
 use Rattle.protocol.specs.Certificate.{slot, keep, keepEach, ownCertificate, firstCertificate, setOf, signatureOf, certificateOf, certificateIn, entriesOf, fullOf, pairsOf, orderedEvidence, evidenceOf}
-use Rattle.protocol.specs.declared.Record.{Record}
-use Rattle.protocol.specs.Record.{withOwn, withNotices, withFirst, withSent, withGuilty, wrongSize, wrongSeat, wrongRound, fresh, zeros, noneHeard, oneHeard, holds, outOfRange, wrongHeard, namesStranger, wrongCollected, wrongFirst, lacksFirst, wrongGuilty, wrongSent, wrongUnset, impossible}
+use Rattle.protocol.specs.Record.{wrongSize, wrongSeat, wrongRound, fresh, zeros, noneHeard, oneHeard, holds, outOfRange, wrongHeard, namesStranger, wrongCollected, wrongFirst, lacksFirst, wrongGuilty, wrongSent, wrongUnset, impossible}
 use Rattle.protocol.specs.Refusals.{every, keyAllowed, keysAllowed, wrongKeys, shortStore, shortOut, said, isForStep, isFull, isEvidence, wrongLengths, otherRound, stranger, rising, disorder, early, badSignature, notLowerFirst, equalValues, formConditions, signatureConditions, outsideConditions, recordConditions, openingConditions, submitConditions, stepConditions, evidenceConditions, twoConditions, makingConditions, lowerConditions}
 use Rattle.protocol.specs.Step.{write, collect, keepValue, submitOwn, isWanted, hearSubmit, noticesWith, hear, otherHeard, owesFull, sendFull, reply, hold, blame, blames, holdOrBlame, hearCertificate, isComplete, confirm, hearOwn, confirmIfComplete, submitted, stepped}
-use Rattle.protocol.specs.Calls.{outAfter, openedBy, opening, Result, resultBy, submit, step, answer, makingBy, making, made, checkedBy, evidenceCheck, lowerOf, lowerCertificate}
-use Rattle.round.specs.Round.{Call, BySubmit, ByStep, ByThinEntry, InHand, Honest, Turn, called, turns, turnsOf, isSubmit, isNotice, Family, Delivered, NoneForged, NoneBlamed, Submits, Blames, ReachedOthers, WritesEvidence, Names}
+use Rattle.protocol.specs.Calls.{outAfter, openedBy, opening, resultBy, submit, step, answer, makingBy, making, made, checkedBy, evidenceCheck, lowerOf, lowerCertificate}
+use Rattle.round.specs.Round.{Call, BySubmit, ByStep, ByThinEntry, InHand, Honest, called, turns, isSubmit, isNotice, Family, Delivered, NoneForged, NoneBlamed, Submits, Blames, ReachedOthers, WritesEvidence, Names}
 use Rattle.round.specs.Journey.{refusalOf, cameTo, allMessages}
 use Rattle.round.specs.Tests.{found, isNoticeOf, isEvidenceOn, isStepWith, isSubmitOf, signsOnly, signsOnly-says, submits as submits′, submits-says, confirms, blames as blamesSeat, reached, haveReached, confirms-says, haveReached-says, blames-says}
 use Rattle.round.specs.Safe.{safe-delivered}

@@ -1,35 +1,32 @@
 -- A list of calls from end to end: the invariant stands before and after each, what was said, heard and held only grows, and
 -- over the whole list a message is written just where its flag comes to be set.
 -- Assumes nothing.
-use mathlib.Core.Path.{_≡_, refl, sym, ap, ap₂, subst, _∙_}
-use mathlib.Core.Bool.{Bool, true, false, false≢true}
-use mathlib.Core.List.{List, [], _∷_, _++_, append-nil, List·Memᴰ, List·Memᴰ·head, List·Memᴰ·tail, List·Memᴰ·not-nil, List·Memᴰ·cases-cons, List·Memᴰ·append-cases, Memᴰ·append-left, Memᴰ·append-right}
-use mathlib.Core.Logic.{_⊎_, inl, inr, ⊎-elim, _≢_}
-use Prim.Native.Nat.{ℕ, zero, suc, _+_, _^_, _≤_, _<_}
+use mathlib.Core.Path.{_≡_, refl, sym, ap, subst, _∙_}
+use mathlib.Core.Bool.{true, false≢true}
+use mathlib.Core.List.{List, [], _∷_, _++_, List·Memᴰ, List·Memᴰ·head, List·Memᴰ·tail, List·Memᴰ·not-nil, List·Memᴰ·cases-cons, List·Memᴰ·append-cases, Memᴰ·append-left, Memᴰ·append-right}
+use mathlib.Core.Logic.{inl, inr, ⊎-elim}
+use Prim.Native.Nat.{ℕ, zero, suc, _+_, _≤_}
 use native.Mathlib.Omega.{arith}
-use lib.ListN.{length, take, drop, length-replicate}
+use lib.ListN.{length, drop}
 use lib.Pow.{pow-pos}
 use lib.Seq.{take-append-seam}
 use Rattle.octets.specs.Octets.{patch}
-use Rattle.quorum.specs.Quorum.{k, size}
 use Rattle.quorum.specs.Laws.{bit-empty, size-empty}
 use Rattle.refusal.specs.Refusal.{lowest, unrefused}
-use Rattle.protocol.specs.Layout.{valueLength, storeLength, outLength}
 use Rattle.protocol.specs.Values.{unset}
-use Rattle.protocol.specs.Message.{Message, Submit, Notice, Full, Evidence, Garbled, renderAll, read}
-use Rattle.protocol.specs.Laws.{all-append}
+use Rattle.protocol.specs.Message.{Message, renderAll, read}
 use Rattle.protocol.specs.Record.{fresh}
-use Rattle.protocol.specs.Refusals.{Checks, wrongKeys, openingConditions, submitConditions, stepConditions}
+use Rattle.protocol.specs.Refusals.{Checks, submitConditions, stepConditions}
 use Rattle.protocol.specs.Step.{State, owesFull, submitted, stepped}
-use Rattle.protocol.specs.Calls.{Result, resultBy, start, outAfter, openedBy, opening, submit, step, answer}
+use Rattle.protocol.specs.Calls.{Result, resultBy, start, outAfter, submit, step, answer}
 use Rattle.protocol.specs.declared.Record.{Record}
-use Rattle.round.specs.Round.{Each, Relation, EachSigned, Kind, isOf, flagOf, worth, count, Call, BySubmit, ByStep, ByThinEntry, IsStep, Honest, Turn, called, left, turns, counted, writtenIn, outOf, turnsOf}
+use Rattle.round.specs.Round.{Each, Relation, EachSigned, isOf, Call, BySubmit, ByStep, ByThinEntry, IsStep, Turn, called, left, turns, counted, writtenIn, outOf}
 use Rattle.round.specs.Lists.{count-append, count-nil, each-nil, each-cons}
-use Rattle.round.specs.Sound.{Heard, Held, Grows, Counts, InRange, Settled, Kept, Sound, Good, Leads}
-use Rattle.round.specs.Parts.{shared-none, grows-refl, grows-trans, good-grows, k-pos}
+use Rattle.round.specs.Sound.{Grows, Counts, InRange, Settled, Sound, Good}
+use Rattle.round.specs.Parts.{shared-none, grows-refl, grows-trans, k-pos}
 use Rattle.round.specs.Whole.{Done, submitted-done, submitted-value, stepped-done}
 use Rattle.round.specs.Reading.{read-laid}
-use Rattle.round.specs.Unrefused.{opening-range, submit-taken, step-taken, brings}
+use Rattle.round.specs.Unrefused.{submit-taken, step-taken, brings}
 
 -- ---- a call at its turn
 
@@ -140,7 +137,7 @@ module _ (checks : Checks) (W : Relation) (keys : List ℕ) where
 
   -- a submit that isn't refused keeps its value
   pub submit-value : (value signature out : List ℕ) (r : Record) (store : List ℕ) → Sound checks W r store → refusalOf checks keys (BySubmit value signature out) r store ≡ 0 → W (r .seat) value signature
-    → (cameTo (BySubmit value signature out) r store .unit .own .submitted ≡ true) × (cameTo (BySubmit value signature out) r store .unit .own .value ≡ value)
+      → (cameTo (BySubmit value signature out) r store .unit .own .submitted ≡ true) × (cameTo (BySubmit value signature out) r store .unit .own .value ≡ value)
   unfolding refusalOf cameTo
   submit-value value signature out r store z q w =
       let t = submit-taken checks keys r store value signature out q in
@@ -155,7 +152,7 @@ module _ (checks : Checks) (W : Relation) (keys : List ℕ) where
     pub good : Each (Good checks W r′) ms
 
   passed-by : (refusal : ℕ) (s : State) (r : Record) (store : List ℕ) → Sound checks W r store → Settled r → (refusal ≡ 0 → Done checks W (start r store) s)
-    → Passed r store (resultBy refusal s r store .unit) (resultBy refusal s r store .store) (unrefused refusal (s .written) [])
+      → Passed r store (resultBy refusal s r store .unit) (resultBy refusal s r store .store) (unrefused refusal (s .written) [])
   unfolding resultBy unrefused
   passed-by zero s r store z e d =
       let f = d refl in
@@ -170,7 +167,7 @@ module _ (checks : Checks) (W : Relation) (keys : List ℕ) where
       record { sound = z; settled = e; grows = grows-refl r; counts = λ κ. let y = count-nil (isOf κ) in omega arith; good = each-nil (Good checks W r) }
 
   pub passed : (t : Turn) → Sound checks W (t .unit) (t .store) → Settled (t .unit) → Worthy t
-    → Passed (t .unit) (t .store) (left checks keys t .unit) (left checks keys t .store) (messages checks keys t)
+      → Passed (t .unit) (t .store) (left checks keys t .unit) (left checks keys t .store) (messages checks keys t)
   unfolding resultBy
   passed t z e w =
       let is = called-is checks keys (t .given) (t .unit) (t .store) in
@@ -195,7 +192,7 @@ module _ (checks : Checks) (W : Relation) (keys : List ℕ) where
     pub settled : Settled end
 
   pub journey : (r : Record) (store : List ℕ) (cs : List Call) → Sound checks W r store → Settled r → Each Worthy (turns checks keys r store cs)
-    → Journey r (lastOf checks keys r store cs) (turns checks keys r store cs)
+      → Journey r (lastOf checks keys r store cs) (turns checks keys r store cs)
   unfolding turns lastOf allMessages
   journey r store [] z e w = record { grows = grows-refl r; at = each-nil (λ t. At r t r); counts = λ κ. let y = count-nil (isOf κ) in omega arith; settled = e }
   journey r store (c ∷ cs) z e w =
@@ -208,8 +205,8 @@ module _ (checks : Checks) (W : Relation) (keys : List ℕ) where
       record {
         grows = grows-trans r (after .unit) end (a .grows) (rest .grows);
         at = each-cons (λ x. At r x end) t ts (record { since = grows-refl r; sound = z; settled = e; after = a; before = rest .grows })
-        (λ x d. let y = rest .at x d in
-        record { since = grows-trans r (after .unit) (x .unit) (a .grows) (y .since); sound = y .sound; settled = y .settled; after = y .after; before = y .before });
+            (λ x d. let y = rest .at x d in
+            record { since = grows-trans r (after .unit) (x .unit) (a .grows) (y .since); sound = y .sound; settled = y .settled; after = y .after; before = y .before });
         counts = λ κ. let x = a .counts κ in let y = rest .counts κ in omega (arith, count-append (isOf κ) (messages checks keys t) (allMessages checks keys ts));
         settled = rest .settled;
       }

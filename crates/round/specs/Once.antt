@@ -1,16 +1,15 @@
 -- Demand 1 over a whole list: "in a round a unit on one unbroken record sends at most one submission, one notice and one full
 -- certificate." And so "two units can[not] reply to each other without end".
 -- Assumes nothing.
-use mathlib.Core.Path.{_≡_, refl, sym, ap, subst, _∙_}
-use mathlib.Core.Bool.{Bool, true, false, not, true≢false}
-use mathlib.Core.List.{List, [], _∷_, _++_, append-nil, List·Memᴰ, List·Memᴰ·head, List·Memᴰ·tail, List·Memᴰ·not-nil}
+use mathlib.Core.Path.{_≡_, refl, ap, subst, _∙_}
+use mathlib.Core.Bool.{true, false}
+use mathlib.Core.List.{List, [], _∷_, append-nil, List·Memᴰ, List·Memᴰ·head, List·Memᴰ·tail}
 use mathlib.Core.Logic.{_⊎_, inl, inr, ⊎-elim, _≢_}
-use Prim.Native.Nat.{ℕ, zero, suc, _+_, _*_, _≤_, _<_}
+use Prim.Native.Nat.{ℕ, zero, suc, _+_, _*_, _≤_}
 use native.Mathlib.Omega.{arith}
 use native.Mathlib.Decide.{ℕ-discrete}
-use lib.Dec.{eqb}
 use lib.ListN.{length, length-append}
-use borrow.Author.Tests.{eq-eqb, ne-eqb}
+use borrow.Author.Tests.{ne-eqb}
 use Rattle.quorum.specs.Quorum.{k}
 use Rattle.protocol.specs.Layout.{submitLength, noticeLength, fullEntryLength, fullEntryAt, evidenceEntryLength, evidenceEntryAt, outLength}
 use Rattle.protocol.specs.Message.{Message, Submit, Notice, Full, Evidence, Garbled, render, renderAll}
@@ -21,14 +20,14 @@ use Rattle.protocol.specs.Refusals.{Checks, isFull, isEvidence}
 use Rattle.protocol.specs.Calls.{opening}
 use Rattle.protocol.specs.declared.Record.{Record}
 use Rattle.round.specs.Round.{Each, Relation, Kind, Submission, OneNotice, FullCertificate, SomeEvidence, isOf, isSubmit, isNotice, flagOf, worth, count, Honest, Turn, left, writtenIn, writtenOver, Are, turnsOf}
-use Rattle.round.specs.Lists.{worth-le-one, worth-true, worth-false, true-of-worth, count-pos}
-use Rattle.round.specs.Sound.{Counts, InRange, Sound, Good}
+use Rattle.round.specs.Lists.{worth-le-one, worth-true, true-of-worth, count-pos}
+use Rattle.round.specs.Sound.{Good}
 use Rattle.round.specs.Certificates.{sized-entries, sized-pairs}
 use Rattle.round.specs.Parts.{confirmed-submitted}
 use Rattle.round.specs.Reading.{are-unique}
 use Rattle.round.specs.Unrefused.{possible}
 use Rattle.round.specs.Journey.{Worthy, messages, allMessages, Passed}
-use Rattle.round.specs.Units.{Any, any-worthy, startOf, endOf, start-flag, start-n, trip, stop, left-grows, written-are, all-are}
+use Rattle.round.specs.Units.{Any, any-worthy, endOf, start-n, trip, stop, left-grows, written-are, all-are}
 
 -- ---- messages by kind
 
@@ -69,7 +68,7 @@ evidence-alone (m ∷ m′ ∷ ms) e l = absurd (omega arith)
 -- the bytes that messages of each kind take
 module _ (checks : Checks) (W : Relation) (r : Record) where
   bytes-by-kind : (ms : List Message) → Each (Good checks W r) ms
-    → length (renderAll ms) ≤ count (isOf Submission) ms * submitLength + count (isOf OneNotice) ms * noticeLength + count (isOf FullCertificate) ms * fullEntryAt (k (r .n)) + count (isOf SomeEvidence) ms * evidenceEntryAt (k (r .n))
+      → length (renderAll ms) ≤ count (isOf Submission) ms * submitLength + count (isOf OneNotice) ms * noticeLength + count (isOf FullCertificate) ms * fullEntryAt (k (r .n)) + count (isOf SomeEvidence) ms * evidenceEntryAt (k (r .n))
   unfolding renderAll count worth isSubmit isNotice isFull isEvidence
   bytes-by-kind [] g = omega arith
   bytes-by-kind (Submit ρ seat value signature ∷ ms) g =
@@ -168,7 +167,7 @@ module _ (checks : Checks) (n round : ℕ) (keys : List ℕ) (u : Honest) (opene
 
     -- once FULL is sent, a call writes nothing, or one EVIDENCE; and that only while guilty seats are empty
     pub quiet-once-sent : t .unit .sent ≡ true
-      → (writtenIn checks keys t ≡ []) ⊎ ((m : Message) × (isEvidence m ≡ true) × (t .unit .guilty ≡ 0) × (writtenIn checks keys t ≡ render m))
+        → (writtenIn checks keys t ≡ []) ⊎ ((m : Message) × (isEvidence m ≡ true) × (t .unit .guilty ≡ 0) × (writtenIn checks keys t ≡ render m))
     unfolding kinds renderAll
     quiet-once-sent sent =
         let z = stop checks n round keys u opened Any any t d .sound in
@@ -181,3 +180,7 @@ module _ (checks : Checks) (n round : ℕ) (keys : List ℕ) (u : Honest) (opene
         (λ e. inl (are .1 ∙ ap renderAll e))
         (λ h. inr (h .0, h .1, innocent (h .0) (rw (h .2) (List·Memᴰ·head refl)) (h .1), are .1 ∙ ap renderAll (h .2) ∙ append-nil (render (h .0))))
         alone
+
+    -- so with both, nothing is ever written again
+    pub nothing-more : t .unit .sent ≡ true → t .unit .guilty ≢ 0 → writtenIn checks keys t ≡ []
+    nothing-more sent guilty = ⊎-elim (λ e. e) (λ h. absurd (guilty (h .2))) (quiet-once-sent sent)

@@ -2,35 +2,34 @@
 -- where its flag comes to be set.
 -- Assumes nothing.
 use mathlib.Core.Path.{_≡_, refl, sym, ap, subst, _∙_}
-use mathlib.Core.Bool.{Bool, true, false, cond, not, _&&_, true≢false, false≢true}
+use mathlib.Core.Bool.{Bool, true, false, cond, not, _&&_, true≢false}
 use mathlib.Core.List.{List, [], _∷_, _++_}
-use mathlib.Core.Logic.{_⊎_, inl, inr, ⊎-elim, _≢_, _↔_}
-use Prim.Native.Nat.{ℕ, zero, suc, _+_, _*_, _^_, _≤_, _<_}
+use mathlib.Core.Logic.{inl, inr, ⊎-elim, _≢_}
+use Prim.Native.Nat.{ℕ, _+_, _^_, _≤_, _<_}
 use native.Mathlib.Omega.{arith}
 use native.Mathlib.Decide.{ℕ-discrete, decLt}
 use lib.Bits.{and-zero-l}
 use lib.Dec.{eqb}
 use lib.ListN.{length}
-use lib.Pow.{pow-pos}
-use borrow.Author.Tests.{eqb-true, eqb-false, eq-eqb, ne-eqb, not-true, not-false}
+use borrow.Author.Tests.{eqb-true, eqb-false, ne-eqb, not-true, not-false}
 use Rattle.octets.specs.Strings.{same}
 use Rattle.octets.specs.StringLaws.{same-refl, same-true, same-false}
-use Rattle.quorum.specs.Quorum.{t0, k, bit, In, has, size, shared, with, seats}
-use Rattle.quorum.specs.Laws.{bit-cases, bit-empty, bit-with-other, bit-with-same, has-true, has-false, in-shared, bit-shared, same-seats, shared-lt, with-lt, size-empty, zero-of-size-zero, size-with-new, bit-outside, mem-seats, t0-is-third, k-of-n-share}
+use Rattle.quorum.specs.Quorum.{k, bit, In, has, size, shared, with, seats}
+use Rattle.quorum.specs.Laws.{bit-empty, bit-with-other, bit-with-same, has-false, bit-shared, same-seats, shared-lt, with-lt, size-empty, size-with-new, bit-outside, mem-seats, t0-is-third, k-of-n-share}
 use Rattle.protocol.specs.Layout.{valueLength, signatureLength, storeLength, collectedBank, firstBank}
 use Rattle.protocol.specs.Values.{unset}
 use Rattle.protocol.specs.Message.{Pair, Message, Submit, Notice, Full, Evidence, Garbled}
 use Rattle.protocol.specs.Certificate.{Certificate, slot, keep, keepEach, ownCertificate, firstCertificate, fullOf, evidenceOf}
-use Rattle.protocol.specs.Record.{withOwn, withConfirmed, withNotices, withFirst, withSent, withGuilty, noneHeard, oneHeard, holds}
+use Rattle.protocol.specs.Record.{noneHeard, oneHeard, holds}
 use Rattle.protocol.specs.Refusals.{Checks, isFull, isEvidence}
-use Rattle.protocol.specs.Step.{State, withUnit, write, collect, keepValue, submitOwn, isWanted, hearSubmit, noticesWith, hear, otherHeard, owesFull, sendFull, reply, hold, blame, blames, holdOrBlame, hearCertificate, isComplete, confirm, hearOwn, confirmIfComplete}
+use Rattle.protocol.specs.Step.{State, write, collect, keepValue, submitOwn, isWanted, noticesWith, hear, otherHeard, owesFull, sendFull, reply, hold, blame, blames, holdOrBlame}
 use Rattle.protocol.specs.declared.Own.{Own}
 use Rattle.protocol.specs.declared.Notices.{Notices}
 use Rattle.protocol.specs.declared.Record.{Record}
-use Rattle.round.specs.Round.{Each, Relation, Kind, Submission, OneNotice, FullCertificate, SomeEvidence, isOf, flagOf, isSubmit, isNotice, worth, count}
-use Rattle.round.specs.Lists.{cond-elim, test-cases, and-true-both, and-false-either, worth-true, worth-false, each-nil, each-one, each-append, count-append, count-nil, count-one}
+use Rattle.round.specs.Round.{Each, Relation, Kind, Submission, OneNotice, FullCertificate, SomeEvidence, isOf, flagOf, isSubmit, isNotice, worth}
+use Rattle.round.specs.Lists.{cond-elim, and-true-both, and-false-either, each-one, each-append, count-append, count-one}
 use Rattle.round.specs.Slots.{keep-length, slot-keep-same, slot-keep-other, keepEach-length, slot-keepEach-other, slot-keepEach-same}
-use Rattle.round.specs.Sound.{Heard, Held, Grows, InRange, Room, Settled, Kept, Certifies, Pairs, Collection, Holding, Sound, Said, Good, Leads}
+use Rattle.round.specs.Sound.{Heard, Held, Grows, Room, Kept, Certifies, Pairs, Collection, Holding, Sound, Said, Good, Leads}
 use Rattle.round.specs.Certificates.{entries-of, evidence-elim}
 
 -- ---- records that go on
@@ -131,7 +130,7 @@ module _ (checks : Checks) (W : Relation) where
 
   -- a part that writes nothing and sets no flag
   pub leads-quiet : (s s′ : State) → Sound checks W (s′ .unit) (s′ .store) → length (s′ .store) ≡ length (s .store) → Grows (s .unit) (s′ .unit) → s′ .written ≡ s .written
-    → ((κ : Kind) → flagOf κ (s′ .unit) ≡ flagOf κ (s .unit)) → Leads checks W s s′
+      → ((κ : Kind) → flagOf κ (s′ .unit) ≡ flagOf κ (s .unit)) → Leads checks W s s′
   leads-quiet s s′ sound stored grows e flags = record {
     sound = sound;
     stored = stored;
@@ -142,7 +141,7 @@ module _ (checks : Checks) (W : Relation) where
 
   -- a part that writes one message
   pub leads-writing : (s s′ : State) (m : Message) → Sound checks W (s′ .unit) (s′ .store) → length (s′ .store) ≡ length (s .store) → Grows (s .unit) (s′ .unit) → s′ .written ≡ s .written ++ m ∷ []
-    → Good checks W (s′ .unit) m → ((κ : Kind) → worth (isOf κ m) + worth (flagOf κ (s .unit)) ≡ worth (flagOf κ (s′ .unit))) → Leads checks W s s′
+      → Good checks W (s′ .unit) m → ((κ : Kind) → worth (isOf κ m) + worth (flagOf κ (s .unit)) ≡ worth (flagOf κ (s′ .unit))) → Leads checks W s s′
   leads-writing s s′ m sound stored grows e good flags = record {
     sound = sound;
     stored = stored;
@@ -155,8 +154,8 @@ module _ (checks : Checks) (W : Relation) where
 
   -- a new seat's signature over the value
   pub collection-with : (n seat : ℕ) (own : Own) (signature store : List ℕ) → seat < n → storeLength n ≤ length store → bit seat (own .collected) ≡ 0
-    → size (own .collected) < k n → Kept checks W seat (own .value) signature → Collection checks W n own store
-    → Collection checks W n (record { submitted = own .submitted; value = own .value; collected = with seat (own .collected) }) (keep n collectedBank seat signature store)
+      → size (own .collected) < k n → Kept checks W seat (own .value) signature → Collection checks W n own store
+      → Collection checks W n (record { submitted = own .submitted; value = own .value; collected = with seat (own .collected) }) (keep n collectedBank seat signature store)
   collection-with n seat own signature store inside room new few g z = record {
     sized = z .sized;
     below = with-lt n seat (own .collected) inside (z .below);
@@ -172,7 +171,7 @@ module _ (checks : Checks) (W : Relation) where
 
   -- the first certificate's bank is as it was
   pub holding-beside : (n seat guilty : ℕ) (r : Record) (signature store : List ℕ) → seat < n → storeLength n ≤ length store → length signature ≡ signatureLength
-    → Holding checks W n (r .first) guilty store → Holding checks W n (r .first) guilty (keep n collectedBank seat signature store)
+      → Holding checks W n (r .first) guilty store → Holding checks W n (r .first) guilty (keep n collectedBank seat signature store)
   holding-beside n seat guilty r signature store inside room sized z = record {
     sized = z .sized;
     below = z .below;
@@ -186,7 +185,7 @@ module _ (checks : Checks) (W : Relation) where
   module _ (seat : ℕ) (value signature : List ℕ) (s : State) (z : Sound checks W (s .unit) (s .store)) (room : Room s) where
     -- "the value is the own one and the seat is new, its signature is collected"
     pub collect-leads : isWanted seat value (s .unit) ≡ true → s .unit .own .submitted ≡ true → (size (s .unit .own .collected) ≡ k (s .unit .n) → s .unit .confirmed ≡ true)
-      → seat < s .unit .n → Kept checks W seat value signature → Leads checks W s (collect seat signature s)
+        → seat < s .unit .n → Kept checks W seat value signature → Leads checks W s (collect seat signature s)
     unfolding collect isWanted
     collect-leads wanted submitted complete inside g =
         let r = s .unit in
@@ -461,7 +460,7 @@ module _ (checks : Checks) (W : Relation) where
         (evidence-elim checks W (λ m. (κ : Kind) → worth (isOf κ m) + worth (flagOf κ r) ≡ worth (flagOf κ (blame c s .unit))) (r .n) (r .round) first c (z .range .some) f y other flags)
       where
         flags : (lower higher : List ℕ) (ps : List Pair) → Pairs checks W (s .unit .n) lower higher ps → (κ : Kind)
-          → worth (isOf κ (Evidence (s .unit .round) lower higher ps)) + worth (flagOf κ (s .unit)) ≡ worth (flagOf κ (blame c s .unit))
+            → worth (isOf κ (Evidence (s .unit .round) lower higher ps)) + worth (flagOf κ (s .unit)) ≡ worth (flagOf κ (blame c s .unit))
         flags lower higher ps p Submission = omega arith
         flags lower higher ps p OneNotice = omega arith
         flags lower higher ps p FullCertificate = omega arith

@@ -1,21 +1,20 @@
 -- Bytes and messages: what bytes are read as has the lengths of document 01, and bytes are messages one after another in one
 -- way only.
 -- Assumes nothing.
-use mathlib.Core.Path.{_≡_, refl, sym, ap, ap₂, subst, _∙_}
-use mathlib.Core.Bool.{Bool, true, false, cond, _&&_}
-use mathlib.Core.List.{List, [], _∷_, _++_, append-assoc, List·Memᴰ, List·Memᴰ·head, List·Memᴰ·tail}
-use mathlib.Core.Logic.{_≢_}
-use Prim.Native.Nat.{ℕ, zero, suc, _+_, _*_, _≤_, _<_}
+use mathlib.Core.Path.{_≡_, refl, sym, ap, ap₂, _∙_}
+use mathlib.Core.Bool.{true, cond, _&&_}
+use mathlib.Core.List.{List, [], _∷_, _++_, append-assoc, List·Memᴰ·head, List·Memᴰ·tail}
+use Prim.Native.Nat.{ℕ, zero, suc, _+_, _≤_}
 use native.Mathlib.Omega.{arith}
 use lib.Dec.{eqb, leb}
-use lib.ListN.{length, take, drop, getD, length-append, List·getD-append}
+use lib.ListN.{length, take, drop, getD, length-append}
 use lib.Seq.{take-at, drop-at, take-append-seam, getD-at}
-use borrow.Author.Tests.{eqb-true, leb-true, eq-eqb}
-use Rattle.octets.specs.Octets.{be, part}
+use borrow.Author.Tests.{eqb-true}
+use Rattle.octets.specs.Octets.{be}
 use Rattle.octets.specs.Laws.{length-be, length-part}
 use Rattle.quorum.specs.Quorum.{k}
 use Rattle.protocol.specs.Layout.{valueLength, signatureLength, submitLength, noticeLength, fullEntryLength, fullEntryAt, fullLength, evidenceEntryLength, evidenceEntryAt, evidenceLength}
-use Rattle.protocol.specs.Message.{Entry, Pair, Message, Submit, Notice, Full, Evidence, Garbled, render, renderPairs, renderAll, byteAt, readRound, readValue, readSignature, entryCommands, readEntry, readEntries, pairCommands, readPair, readPairs, fitsSubmit, fitsNotice, fitsFull, fitsEvidence, readSubmit, readNotice, readFull, readEvidence, read}
+use Rattle.protocol.specs.Message.{Entry, Pair, Message, Submit, Notice, Full, Evidence, Garbled, render, renderPairs, renderAll, byteAt, readValue, readSignature, entryCommands, readEntry, readEntries, pairCommands, readPair, readPairs, fitsSubmit, fitsNotice, fitsFull, fitsEvidence, readSubmit, readNotice, readFull, readEvidence, read}
 use Rattle.protocol.specs.Laws.{length-submit, length-notice, length-full, length-evidence}
 use Rattle.protocol.specs.ReadLaws.{WellFormed, read-render}
 use Rattle.round.specs.Round.{Each, Are}
@@ -42,8 +41,7 @@ unfolding readEntries readEntry readSignature fullEntryAt fullEntryLength signat
 entries-laid zero bytes h = (refl, each-nil SignedEntry)
 entries-laid (suc t) bytes h =
     let rest = entries-laid t bytes (omega arith) in
-    let last = readEntry (fullEntryAt t) bytes in
-    (
+    let last = readEntry (fullEntryAt t) bytes in (
       simp length-append (omega arith),
       each-append SignedEntry (readEntries t bytes) (last ∷ []) (rest .1) (each-one SignedEntry last (length-part (fullEntryAt t + 2) signatureLength bytes (omega arith))),
     )

@@ -232,9 +232,9 @@ module _ (checks : Checks) (n round : ℕ) (keys : List ℕ) where
     -- doesn't refuse. Whatever a refused call's bytes are read as doesn't matter.
     pub record Takes (R : Relation) : Type 0 where
       pub steps : (i : I) (t : Turn) (bytes out : List ℕ) → List·Memᴰ t (turnsOf (unit i)) → IsStep (t .given) bytes out
-        → left checks keys t .refusal ≡ 0 → EachSigned R (read n bytes)
+          → left checks keys t .refusal ≡ 0 → EachSigned R (read n bytes)
       pub makings : (i : I) (h : InHand) → List·Memᴰ h (unit i .inHand) → making checks n round keys (h .a) (h .b) (h .out) .refusal ≡ 0
-        → EachSigned R (read n (h .a)) × EachSigned R (read n (h .b))
+          → EachSigned R (read n (h .a)) × EachSigned R (read n (h .b))
 
     -- "no signature delivered for an honest seat over a layout that it didn't submit checks for that seat over that layout"
     abbrev pub NoneForged : Relation → Type 0

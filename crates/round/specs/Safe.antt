@@ -2,29 +2,26 @@
 -- seat over that layout, then no honest seat stands in any evidence written, or accepted from delivered signatures."
 -- Assumes nothing.
 use mathlib.Core.Path.{_≡_, refl, sym, ap, subst, _∙_}
-use mathlib.Core.Bool.{Bool, true, false, not, _&&_, _||_, true≢false, false≢true}
-use mathlib.Core.List.{List, [], _∷_, map, append-nil, List·Memᴰ, List·Memᴰ·head, List·Memᴰ·tail, List·Memᴰ·not-nil, List·Memᴰ·eq-of-singleton, Memᴰ·of-map}
-use mathlib.Core.Logic.{_⊎_, inl, inr, ⊎-elim, _≢_}
-use Prim.Native.Nat.{ℕ, zero, suc, _+_, _≤_, _<_}
+use mathlib.Core.Bool.{Bool, true, false, true≢false, false≢true}
+use mathlib.Core.List.{List, [], _∷_, map, append-nil, List·Memᴰ, List·Memᴰ·not-nil, List·Memᴰ·eq-of-singleton, Memᴰ·of-map}
+use mathlib.Core.Logic.{_⊎_, inl, inr, _≢_}
+use Prim.Native.Nat.{ℕ, zero, suc}
 use native.Mathlib.Omega.{arith}
-use lib.Dec.{ltb, eqb}
-use lib.ListN.{length}
 use borrow.Author.Tests.{le-ltb, eq-eqb, not-false}
-use Rattle.quorum.specs.Quorum.{k}
 use Rattle.refusal.specs.Refusal.{lowest, unrefused}
 use Rattle.protocol.specs.Values.{isLower}
-use Rattle.protocol.specs.Message.{Entry, Pair, Message, Submit, Notice, Full, Evidence, Garbled, Signed, render, renderAll, read, signed, entrySeats}
+use Rattle.protocol.specs.Message.{Pair, Message, Submit, Notice, Full, Evidence, Garbled, render, renderAll, read, signed, entrySeats}
 use Rattle.protocol.specs.ReadLaws.{WellFormed, read-render}
-use Rattle.protocol.specs.Certificate.{Certificate, certificateIn, evidenceOf}
-use Rattle.protocol.specs.Refusals.{Checks, isFull, isEvidence, notLowerFirst, makingConditions, evidenceConditions}
+use Rattle.protocol.specs.Certificate.{certificateIn, evidenceOf}
+use Rattle.protocol.specs.Refusals.{Checks, isFull, isEvidence, notLowerFirst, makingConditions}
 use Rattle.protocol.specs.Calls.{opening, makingBy, making, made, checkedBy, evidenceCheck}
 use Rattle.protocol.specs.declared.Record.{Record}
-use Rattle.round.specs.Round.{Each, Relation, EachSigned, Call, BySubmit, ByStep, ByThinEntry, InHand, Honest, IsStep, Turn, left, counted, Are, StandsIn, turnsOf, Writes, Submits, WritesEvidence, makingOf, MakesEvidence, Accepted, Names, AcceptedFrom, Family, Delivered, Takes, NoneForged, NoneBlamed}
+use Rattle.round.specs.Round.{Each, Relation, EachSigned, Call, BySubmit, ByStep, ByThinEntry, InHand, Honest, IsStep, Turn, left, StandsIn, turnsOf, Submits, WritesEvidence, makingOf, MakesEvidence, Names, AcceptedFrom, Family, Delivered, Takes, NoneForged, NoneBlamed}
 use Rattle.round.specs.Lists.{each-nil, each-one}
-use Rattle.round.specs.Sound.{Kept, Certifies, Entries, Pairs, Good}
-use Rattle.round.specs.Certificates.{certifies-of, evidence-elim, sized-pairs}
+use Rattle.round.specs.Sound.{Certifies, Pairs, Good}
+use Rattle.round.specs.Certificates.{certifies-of, evidence-elim}
 use Rattle.round.specs.Reading.{Laid, read-laid, are-unique}
-use Rattle.round.specs.Unrefused.{Taken, signed-pairs, evidence-checked, MakingTaken, making-taken, entries-taken}
+use Rattle.round.specs.Unrefused.{Taken, signed-pairs, evidence-checked, making-taken, entries-taken}
 use Rattle.round.specs.Journey.{refusalOf, cameTo, WorthyGiven, Worthy, At, counted-written, unrefused-left, submit-value}
 use Rattle.round.specs.Units.{Any, any-worthy, startOf, endOf, start-n, start-seat, stop, writes-good, pairs-formed}
 
@@ -192,16 +189,24 @@ module _ (checks : Checks) (n round : ℕ) (keys : List ℕ) where
         (λ p m. let c = signed-pairs (λ s v g. checks s v g ≡ true) lower higher ps (taken .checked) p m in let b = signed-pairs R lower higher ps r p m in (c .0, inl (b .0), c .1, inl (b .1))) e)
         (t .1) (t .2) (a .1) d
 
-    pub safe : NoneBlamed checks n round keys unit R
-    safe = record { written = written-safe; made = made-safe; accepted = accepted-safe }
+-- ---- the claim
 
-  -- and for the signatures that document 01 calls delivered
-  module _ {I : Type 0} (unit : I → Honest) (family : Family checks n round keys unit) where
-    delivered-takes : Takes checks n round keys unit (Delivered checks n round keys unit)
-    delivered-takes = record {
+-- for every relation that holds at least of the signatures that calls took
+pub safe : (checks : Checks) (n round : ℕ) (keys : List ℕ) {I : Type 0} (unit : I → Honest) → Family checks n round keys unit
+    → (R : Relation) → Takes checks n round keys unit R → NoneForged checks n round keys unit R → NoneBlamed checks n round keys unit R
+safe checks n round keys unit family R takes none = record {
+  written = written-safe checks n round keys unit family R takes none;
+  made = made-safe checks n round keys unit family R takes none;
+  accepted = accepted-safe checks n round keys unit family R takes none;
+}
+
+-- and for the signatures that document 01 calls delivered
+pub safe-delivered : (checks : Checks) (n round : ℕ) (keys : List ℕ) {I : Type 0} (unit : I → Honest) → Family checks n round keys unit
+    → NoneForged checks n round keys unit (Delivered checks n round keys unit) → NoneBlamed checks n round keys unit (Delivered checks n round keys unit)
+safe-delivered checks n round keys unit family none = safe checks n round keys unit family (Delivered checks n round keys unit) takes none
+  where
+    takes : Takes checks n round keys unit (Delivered checks n round keys unit)
+    takes = record {
       steps = λ i t bytes out d e q s m. (i, bytes, inl (t, out, d, e), m);
       makings = λ i h d q. ((λ s m. (i, h .a, inr (h, d, inl refl), m)), λ s m. (i, h .b, inr (h, d, inr refl), m));
     }
-
-    pub safe-delivered : NoneForged checks n round keys unit (Delivered checks n round keys unit) → NoneBlamed checks n round keys unit (Delivered checks n round keys unit)
-    safe-delivered none = safe unit family (Delivered checks n round keys unit) delivered-takes none

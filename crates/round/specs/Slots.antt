@@ -3,16 +3,16 @@
 use mathlib.Core.Path.{_≡_, refl, sym, ap, _∙_}
 use mathlib.Core.List.{List, [], _∷_, _++_, List·Memᴰ, List·Memᴰ·head, List·Memᴰ·tail, List·Memᴰ·not-nil, List·Memᴰ·cases-cons}
 use mathlib.Core.Logic.{⊎-elim, _≢_}
-use Prim.Native.Nat.{ℕ, zero, suc, _+_, _-_, _*_, _≤_, _<_}
+use Prim.Native.Nat.{ℕ, _+_, _-_, _*_, _≤_, _<_}
 use native.Mathlib.Nat.{add-zero}
 use native.Mathlib.Omega.{arith}
 use native.Mathlib.Decide.{decLt, ℕ-discrete}
-use lib.ListN.{length, take, drop, take-append-drop, length-take}
+use lib.ListN.{length, take, drop, take-append-drop}
 use lib.Seq.{length-take-le, drop-drop}
 use Rattle.octets.specs.Octets.{part, patch}
-use Rattle.octets.specs.Laws.{length-part, length-patch, drop-patch}
+use Rattle.octets.specs.Laws.{length-patch, drop-patch}
 use Rattle.octets.specs.StringLaws.{part-left, part-all, part-patch}
-use Rattle.protocol.specs.Layout.{signatureLength, storeLength, slotAt, collectedBank, firstBank}
+use Rattle.protocol.specs.Layout.{signatureLength, storeLength, slotAt}
 use Rattle.protocol.specs.Certificate.{slot, keep, keepEach}
 use Rattle.protocol.specs.Laws.{slot-fits}
 use Rattle.round.specs.Round.{Each}
@@ -82,7 +82,7 @@ module _ (n bank : ℕ) (f : ℕ → List ℕ) (b : bank < 2) where
 
   -- a slot that isn't among them
   pub slot-keepEach-other : (xs store : List ℕ) (bank′ seat′ : ℕ) → Fit xs → storeLength n ≤ length store → Each (λ s. n * bank + s ≢ n * bank′ + seat′) xs
-    → slot n bank′ (keepEach n bank f xs store) seat′ ≡ slot n bank′ store seat′
+      → slot n bank′ (keepEach n bank f xs store) seat′ ≡ slot n bank′ store seat′
   unfolding keepEach
   slot-keepEach-other [] store bank′ seat′ fit room other = refl
   slot-keepEach-other (x ∷ xs) store bank′ seat′ fit room other =

@@ -2,11 +2,10 @@
 -- record goes on from call to call.
 -- Assumes nothing.
 use mathlib.Core.Path.{_≡_}
-use mathlib.Core.Bool.{Bool, true, false, not}
-use mathlib.Core.List.{List, [], _∷_, _++_, map}
+use mathlib.Core.Bool.{true, false}
+use mathlib.Core.List.{List, map}
 use mathlib.Core.Logic.{_⊎_, _≢_}
 use Prim.Native.Nat.{ℕ, _+_, _^_, _≤_, _<_}
-use lib.Dec.{eqb}
 use lib.ListN.{length}
 use Rattle.quorum.specs.Quorum.{mostSeats, t0, k, In, size, shared}
 use Rattle.protocol.specs.Layout.{valueLength, signatureLength, storeLength, collectedBank, firstBank}
@@ -19,7 +18,7 @@ use Rattle.protocol.specs.Step.{State, owesFull}
 use Rattle.protocol.specs.declared.Own.{Own}
 use Rattle.protocol.specs.declared.First.{First}
 use Rattle.protocol.specs.declared.Record.{Record}
-use Rattle.round.specs.Round.{Each, Relation, Kind, Submission, OneNotice, FullCertificate, SomeEvidence, isOf, flagOf, worth, count}
+use Rattle.round.specs.Round.{Each, Relation, Kind, isOf, flagOf, worth, count}
 
 -- ---- how a record goes on
 

@@ -3,7 +3,7 @@
 use mathlib.Core.Path.{_≡_, refl, sym, ap, subst, _∙_}
 use mathlib.Core.Bool.{Bool, true, false, not, _&&_, _||_, true≢false, false≢true}
 use mathlib.Core.List.{List, [], _∷_, List·Memᴰ, List·Memᴰ·head, List·Memᴰ·tail, List·Memᴰ·not-nil, List·Memᴰ·cases-cons}
-use mathlib.Core.Logic.{_⊎_, inl, inr, ⊎-elim}
+use mathlib.Core.Logic.{inl, inr, ⊎-elim}
 use Prim.Native.Nat.{ℕ, _≤_}
 use lib.Dec.{eqb, leb}
 use lib.ListN.{length}
@@ -16,7 +16,7 @@ use Rattle.protocol.specs.ReadLaws.{read-render}
 use Rattle.protocol.specs.Refusals.{Checks, every, isFull, isEvidence}
 use Rattle.protocol.specs.Calls.{opening}
 use Rattle.protocol.specs.declared.Record.{Record}
-use Rattle.round.specs.Round.{Each, Call, BySubmit, ByStep, ByThinEntry, IsStep, Honest, Turn, called, left, turns, isNotice, turnsOf, Submits, Writes, Confirms, Reached, HaveReached, WritesEvidence, Names}
+use Rattle.round.specs.Round.{Call, BySubmit, ByStep, ByThinEntry, IsStep, Honest, Turn, called, left, turns, isNotice, turnsOf, Submits, Writes, Confirms, Reached, HaveReached, WritesEvidence, Names}
 use Rattle.round.specs.Lists.{and-true-both, or-true-either, every-each}
 use Rattle.round.specs.Journey.{messages, allMessages, all-member, member-all}
 use Rattle.round.specs.Units.{Any, any-worthy, written-are, stands-message}
@@ -137,7 +137,7 @@ module _ (checks : Checks) (n round : ℕ) (keys : List ℕ) where
 
   -- what is given to a step in the unit's list and signed by the seat stands over the layout
   pub signsOnly-says : (u : Honest) (seat : ℕ) (layout : List ℕ) → every (signsOnly n seat layout) (u .calls) ≡ true → (t : Turn) (bytes out value signature : List ℕ) → List·Memᴰ t (turnsOf checks n round keys u) → IsStep (t .given) bytes out
-    → List·Memᴰ (record { seat = seat; value = value; signature = signature }) (signed (read n bytes)) → value ≡ layout
+      → List·Memᴰ (record { seat = seat; value = value; signature = signature }) (signed (read n bytes)) → value ≡ layout
   signsOnly-says u seat layout e t bytes out value signature d is m =
       signs-only n seat layout bytes value signature m (t .given) out is
       (every-each (signsOnly n seat layout) (u .calls) e (t .given) (turn-given checks keys (opening n (u .seat) round keys .unit) (u .store) (u .calls) t d))

@@ -1,23 +1,20 @@
 -- An honest unit's list: it starts from the record with nothing set, and what its calls write are messages one after another.
 -- Assumes nothing.
 use mathlib.Core.Path.{_≡_, refl, sym, ap, subst, _∙_}
-use mathlib.Core.Bool.{Bool, true, false}
-use mathlib.Core.List.{List, [], _∷_, _++_, List·Memᴰ, List·Memᴰ·head, List·Memᴰ·tail}
-use mathlib.Core.Logic.{_⊎_, inl, inr, ⊎-elim, _≢_}
-use Prim.Native.Nat.{ℕ, zero, suc, _+_, _≤_, _<_}
+use mathlib.Core.Bool.{true, false}
+use mathlib.Core.List.{List, [], _∷_, List·Memᴰ, List·Memᴰ·head, List·Memᴰ·tail}
+use Prim.Native.Nat.{ℕ, _≤_}
 use native.Mathlib.Omega.{arith}
-use lib.ListN.{length}
-use Rattle.quorum.specs.Quorum.{t0, k}
-use Rattle.refusal.specs.Refusal.{lowest, unrefused}
-use Rattle.protocol.specs.Layout.{valueLength}
-use Rattle.protocol.specs.Message.{Entry, Pair, Message, Submit, Notice, Full, Evidence, Garbled, render, renderAll, read}
+use Rattle.quorum.specs.Quorum.{k}
+use Rattle.refusal.specs.Refusal.{unrefused}
+use Rattle.protocol.specs.Message.{Pair, Message, Submit, Notice, Full, Evidence, Garbled, renderAll}
 use Rattle.protocol.specs.Laws.{all-append}
 use Rattle.protocol.specs.ReadLaws.{WellFormed}
 use Rattle.protocol.specs.Record.{fresh, lastRound}
-use Rattle.protocol.specs.Refusals.{Checks, wrongKeys, openingConditions}
+use Rattle.protocol.specs.Refusals.{Checks, wrongKeys}
 use Rattle.protocol.specs.Calls.{openedBy, opening}
 use Rattle.protocol.specs.declared.Record.{Record}
-use Rattle.round.specs.Round.{Each, Relation, EachSigned, Kind, Submission, OneNotice, FullCertificate, SomeEvidence, isOf, flagOf, worth, count, Call, BySubmit, ByStep, ByThinEntry, Honest, Turn, left, turns, writtenIn, writtenOver, Are, StandsIn, turnsOf, Writes}
+use Rattle.round.specs.Round.{Each, Relation, Kind, Submission, OneNotice, FullCertificate, SomeEvidence, isOf, flagOf, worth, Call, BySubmit, ByStep, ByThinEntry, Honest, Turn, left, writtenIn, writtenOver, Are, StandsIn, turnsOf, Writes}
 use Rattle.round.specs.Lists.{worth-le-one, worth-true, true-of-worth, count-pos, count-member, each-nil, each-append}
 use Rattle.round.specs.Sound.{Grows, InRange, Settled, Pairs, Sound, Good}
 use Rattle.round.specs.Certificates.{sized-entries, sized-pairs}
@@ -170,8 +167,7 @@ module _ (checks : Checks) (n round : ℕ) (keys : List ℕ) (u : Honest) (opene
   over-are [] h = (each-nil (WellFormed n), refl)
   over-are (t ∷ xs) h =
       let a = h t (List·Memᴰ·head refl) in
-      let b = over-are xs (λ x d. h x (List·Memᴰ·tail d)) in
-      (
+      let b = over-are xs (λ x d. h x (List·Memᴰ·tail d)) in (
         each-append (WellFormed n) (messages checks keys t) (allMessages checks keys xs) (a .0) (b .0),
         rw (a .1, b .1) (sym (all-append (messages checks keys t) (allMessages checks keys xs))),
       )

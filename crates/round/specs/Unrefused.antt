@@ -1,30 +1,30 @@
 -- What it says that a call isn't refused, and when it isn't.
 -- Assumes nothing.
 use mathlib.Core.Path.{_≡_, refl, sym, ap, subst, _∙_}
-use mathlib.Core.Bool.{Bool, true, false, cond, not, _&&_, _||_, true≢false, false≢true}
-use mathlib.Core.List.{List, [], _∷_, _++_, map, List·Memᴰ, List·Memᴰ·head, List·Memᴰ·tail, Memᴰ·map}
-use mathlib.Core.Logic.{_⊎_, inl, inr, ⊎-elim, _≢_}
-use Prim.Native.Nat.{ℕ, zero, suc, _+_, _^_, _≤_, _<_}
+use mathlib.Core.Bool.{Bool, true, false, not, _&&_, _||_, true≢false}
+use mathlib.Core.List.{List, [], _∷_, map, List·Memᴰ·head, List·Memᴰ·tail, Memᴰ·map}
+use mathlib.Core.Logic.{⊎-elim, _≢_}
+use Prim.Native.Nat.{ℕ, _≤_, _<_}
 use native.Mathlib.Omega.{arith}
-use lib.Dec.{ltb, leb, eqb}
+use lib.Dec.{ltb, eqb}
 use lib.ListN.{length}
 use borrow.Author.Tests.{ltb-true, ltb-false, lt-ltb, le-ltb, lt-leb, leb-false, eqb-true, eqb-false, eq-eqb, ne-eqb, not-true, not-false}
 use Rattle.octets.specs.Strings.{same}
 use Rattle.octets.specs.StringLaws.{same-refl}
-use Rattle.quorum.specs.Quorum.{mostSeats, t0, k, In, has, size, shared, outside}
-use Rattle.quorum.specs.Laws.{has-true, outside-false, size-empty, zero-of-size-zero}
+use Rattle.quorum.specs.Quorum.{mostSeats, k, has, size, shared}
+use Rattle.quorum.specs.Laws.{has-true, outside-false, size-empty}
 use Rattle.refusal.specs.Refusal.{lowest}
 use Rattle.refusal.specs.Laws.{lowest-zero}
 use Rattle.protocol.specs.Layout.{valueLength, signatureLength, storeLength, outLength}
-use Rattle.protocol.specs.Values.{unset, isLower}
+use Rattle.protocol.specs.Values.{unset}
 use Rattle.protocol.specs.Message.{Entry, Pair, Message, Submit, Notice, Full, Evidence, Garbled, Signed, signedEntries, signedPairs, signed, roundOf, entrySeats, seatsOf}
 use Rattle.protocol.specs.Certificate.{certificateIn}
-use Rattle.protocol.specs.Record.{lastRound, wrongSize, wrongSeat, wrongRound, fresh, noneHeard, holds, outOfRange, wrongHeard, namesStranger, wrongCollected, wrongFirst, lacksFirst, wrongGuilty, wrongSent, wrongUnset, impossible}
+use Rattle.protocol.specs.Record.{lastRound, wrongSize, wrongSeat, wrongRound, noneHeard, holds, outOfRange, wrongHeard, namesStranger, wrongCollected, wrongFirst, lacksFirst, wrongGuilty, wrongSent, wrongUnset, impossible}
 use Rattle.protocol.specs.Refusals.{Checks, every, wrongKeys, shortStore, shortOut, said, isForStep, isFull, isEvidence, wrongLengths, otherRound, stranger, rising, disorder, early, badSignature, notLowerFirst, formConditions, signatureConditions, outsideConditions, recordConditions, openingConditions, submitConditions, stepConditions, evidenceConditions, equalValues, twoConditions, makingConditions}
 use Rattle.protocol.specs.declared.Record.{Record}
 use Rattle.round.specs.Round.{Each, Relation, EachSigned}
-use Rattle.round.specs.Lists.{test-cases, and-true-both, and-false-either, or-false-both, or-true-either, each-nil, each-cons, each-map, every-each, each-every}
-use Rattle.round.specs.Sound.{Held, InRange, Settled, Kept, Entries, Pairs, Collection, Holding, Sound}
+use Rattle.round.specs.Lists.{and-true-both, or-false-both, or-true-either, each-nil, each-cons, each-map, every-each, each-every}
+use Rattle.round.specs.Sound.{InRange, Settled, Kept, Entries, Pairs, Sound}
 use Rattle.round.specs.Whole.{Brings}
 use Rattle.round.specs.Reading.{Laid}
 
@@ -112,8 +112,7 @@ opening-range n seat round keys e =
     let c = lowest-zero 2 _ _ (b .1) in
     let d = lowest-zero 4 _ _ (c .1) in
     let s = or-false-both (eqb n 0) (ltb mostSeats n) (a .0) in
-    let nonzero = eqb-false n 0 (s .0) in
-    (
+    let nonzero = eqb-false n 0 (s .0) in (
       record { some = omega arith; most = ltb-false mostSeats n (s .1); inside = leb-false n seat (b .0); early = ltb-false lastRound round (c .0) },
       d .0,
     )
@@ -302,7 +301,7 @@ making-taken checks n round keys a b out e =
 
 module _ (checks : Checks) (W : Relation) where
   entries-kept : (value : List ℕ) (es : List Entry) → EachSigned (λ s v g. checks s v g ≡ true) (Full 0 0 value es) → EachSigned W (Full 0 0 value es) → Each (λ (e : Entry). length (e .signature) ≡ signatureLength) es
-    → Each (λ (e : Entry). Kept checks W (e .seat) value (e .signature)) es
+      → Each (λ (e : Entry). Kept checks W (e .seat) value (e .signature)) es
   unfolding signed
   entries-kept value es c w l e d = record {
     checked = signed-entries (λ s v g. checks s v g ≡ true) value es c e d;

@@ -1,27 +1,25 @@
 -- A whole submit and a whole step, from the laws of their parts.
 -- Assumes nothing.
-use mathlib.Core.Path.{_≡_, refl, sym, ap, subst, _∙_}
-use mathlib.Core.Bool.{Bool, true, false, cond, not, _&&_, and-false, true≢false, false≢true}
-use mathlib.Core.List.{List, [], _∷_, _++_}
-use mathlib.Core.Logic.{_⊎_, inl, inr, ⊎-elim, _≢_}
-use Prim.Native.Nat.{ℕ, zero, suc, _+_, _≤_, _<_}
+use mathlib.Core.Path.{_≡_, refl, sym, ap, _∙_}
+use mathlib.Core.Bool.{true, false, cond, not, and-false, true≢false}
+use mathlib.Core.List.{List}
+use mathlib.Core.Logic.{⊎-elim}
+use Prim.Native.Nat.{ℕ, _+_, _<_}
 use native.Mathlib.Omega.{arith}
 use lib.Dec.{eqb}
 use lib.ListN.{length}
-use borrow.Author.Tests.{eqb-true, eqb-false, eq-eqb, ne-eqb, not-true, not-false}
-use Rattle.octets.specs.Strings.{same}
-use Rattle.quorum.specs.Quorum.{k, has, size}
-use Rattle.quorum.specs.Laws.{size-empty}
+use borrow.Author.Tests.{eqb-true, eqb-false, not-true, not-false}
+use Rattle.quorum.specs.Quorum.{k, size}
 use Rattle.protocol.specs.Layout.{valueLength}
 use Rattle.protocol.specs.Message.{Entry, Message, Submit, Notice, Full, Evidence, Garbled}
 use Rattle.protocol.specs.Certificate.{Certificate, ownCertificate, certificateOf, certificateIn}
-use Rattle.protocol.specs.Record.{withConfirmed, withSent, withNotices, noneHeard, oneHeard, holds}
+use Rattle.protocol.specs.Record.{noneHeard, oneHeard, holds}
 use Rattle.protocol.specs.Refusals.{Checks, isFull, isEvidence}
-use Rattle.protocol.specs.Step.{State, withUnit, write, collect, keepValue, submitOwn, isWanted, hearSubmit, hear, otherHeard, owesFull, sendFull, reply, hold, blame, blames, holdOrBlame, hearCertificate, isComplete, confirm, hearOwn, confirmIfComplete, submitted, stepped}
+use Rattle.protocol.specs.Step.{State, write, collect, keepValue, submitOwn, isWanted, hearSubmit, hear, otherHeard, owesFull, sendFull, reply, hold, blame, blames, holdOrBlame, hearCertificate, isComplete, confirm, hearOwn, confirmIfComplete, submitted, stepped}
 use Rattle.protocol.specs.declared.Record.{Record}
 use Rattle.round.specs.Round.{Relation, Kind, Submission, OneNotice, FullCertificate, SomeEvidence, isOf, flagOf, isSubmit, isNotice, worth}
 use Rattle.round.specs.Lists.{cond-elim, and-true-both, and-false-either}
-use Rattle.round.specs.Sound.{Heard, Held, Grows, Room, Settled, Kept, Certifies, Entries, Sound, Said, Leads}
+use Rattle.round.specs.Sound.{Heard, Held, Grows, Room, Settled, Kept, Certifies, Entries, Sound, Leads}
 use Rattle.round.specs.Certificates.{certifies-of}
 use Rattle.round.specs.Parts.{k-pos, room-leads, leads-trans, leads-writing, leads-refl, collect-leads, submitOwn-leads, hear-leads, hear-heard, reply-leads, holdOrBlame-leads, holdOrBlame-held, own-certifies, collected-submitted, confirmed-submitted}
 
