@@ -21,7 +21,7 @@ use Rattle.protocol.specs.Refusals.{Checks, wrongKeys, isForStep, isFull, isEvi
 use Rattle.protocol.specs.Step.{State, otherHeard, owesFull, stepped}
 use Rattle.protocol.specs.Calls.{start, opening, checkedBy, evidenceCheck}
 use Rattle.protocol.specs.declared.Record.{Record}
-use Rattle.round.specs.Round.{Each, OneNotice, FullCertificate, SomeEvidence, isNotice, Honest, Turn, left, turnsOf, Writes, Confirms, Reached, Accepted, Names, Blames, Family, ReachedOthers}
+use Rattle.round.specs.Round.{Each, NOTICE, FULL, EVIDENCE, isNotice, Honest, Turn, left, turnsOf, Writes, Confirms, Reached, Accepted, Names, Blames, Family, ReachedOthers}
 use Rattle.round.specs.Lists.{and-false-either, each-nil, each-one}
 use Rattle.round.specs.Sound.{Heard, Held, Grows, Settled, Entries, Pairs, Sound, Said}
 use Rattle.round.specs.Certificates.{sized-entries}
@@ -150,7 +150,7 @@ module _ (checks : Checks) (n round : ℕ) (keys : List ℕ) where
         let m = Notice (c .0) (c .1) value in
         let s = writes-good checks n round keys u opened Any any m (c .2) in
         let own = own-said (c .0) (c .1) value s in (
-          written-flag checks n round keys u opened Any any OneNotice m refl (c .2),
+          written-flag checks n round keys u opened Any any NOTICE m refl (c .2),
           sym (own .2),
           s .sized,
           subst (λ ρ. Writes checks n round keys u (Notice ρ (u .seat) value)) (own .0) (subst (λ t. Writes checks n round keys u (Notice (c .0) t value)) (own .1) (c .2)),
@@ -162,7 +162,7 @@ module _ (checks : Checks) (n round : ℕ) (keys : List ℕ) where
 
     pub sent-full : end .sent ≡ true → WroteFull (end .own .value)
     sent-full e =
-        let f = flag-written checks n round keys u opened Any any FullCertificate e in
+        let f = flag-written checks n round keys u opened Any any FULL e in
         full-cases (λ m. Writes checks n round keys u m → WroteFull (end .own .value)) (f .0) (f .1)
         (λ ρ sender value es w.
         let g = writes-good checks n round keys u opened Any any (Full ρ sender value es) w in
@@ -178,7 +178,7 @@ module _ (checks : Checks) (n round : ℕ) (keys : List ℕ) where
 
     pub guilty-blames : end .guilty ≢ 0 → Blames checks n round keys u
     guilty-blames guilty =
-        let f = flag-written checks n round keys u opened Any any SomeEvidence (rw (ne-eqb (end .guilty) 0 guilty)) in
+        let f = flag-written checks n round keys u opened Any any EVIDENCE (rw (ne-eqb (end .guilty) 0 guilty)) in
         evidence-cases (λ m. isEvidence m ≡ true → Writes checks n round keys u m → Blames checks n round keys u) (f .0) (f .1)
         (λ ρ lower higher ps is w.
         let g = writes-good checks n round keys u opened Any any (Evidence ρ lower higher ps) w in

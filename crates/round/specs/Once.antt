@@ -19,7 +19,7 @@ use Rattle.protocol.specs.Record.{impossible}
 use Rattle.protocol.specs.Refusals.{Checks, isFull, isEvidence}
 use Rattle.protocol.specs.Calls.{opening}
 use Rattle.protocol.specs.declared.Record.{Record}
-use Rattle.round.specs.Round.{Each, Relation, Kind, Submission, OneNotice, FullCertificate, SomeEvidence, isOf, isSubmit, isNotice, flagOf, worth, count, Honest, Turn, left, writtenIn, writtenOver, Are, turnsOf}
+use Rattle.round.specs.Round.{Each, Relation, Kind, SUBMIT, NOTICE, FULL, EVIDENCE, isOf, isSubmit, isNotice, flagOf, worth, count, Honest, Turn, left, writtenIn, writtenOver, Are, turnsOf}
 use Rattle.round.specs.Lists.{worth-le-one, worth-true, true-of-worth, count-pos}
 use Rattle.round.specs.Sound.{Good}
 use Rattle.round.specs.Certificates.{sized-entries, sized-pairs}
@@ -33,7 +33,7 @@ use Rattle.round.specs.Units.{Any, any-worthy, endOf, start-n, trip, sto
 
 -- each message is of one kind
 kinds : List Message → ℕ
-kinds ms = count (isOf Submission) ms + count (isOf OneNotice) ms + count (isOf FullCertificate) ms + count (isOf SomeEvidence) ms
+kinds ms = count (isOf SUBMIT) ms + count (isOf NOTICE) ms + count (isOf FULL) ms + count (isOf EVIDENCE) ms
 
 kinds-all : (n : ℕ) (ms : List Message) → Each (WellFormed n) ms → kinds ms ≡ length ms
 unfolding kinds count worth isSubmit isNotice isFull isEvidence
@@ -59,7 +59,7 @@ unfolding submitLength noticeLength fullEntryAt fullEntryLength evidenceEntryAt 
 out-filled n = omega arith
 
 -- none but evidence, and one at most
-evidence-alone : (ms : List Message) → length ms ≡ count (isOf SomeEvidence) ms → count (isOf SomeEvidence) ms ≤ 1 → (ms ≡ []) ⊎ ((m : Message) × (isEvidence m ≡ true) × (ms ≡ m ∷ []))
+evidence-alone : (ms : List Message) → length ms ≡ count (isOf EVIDENCE) ms → count (isOf EVIDENCE) ms ≤ 1 → (ms ≡ []) ⊎ ((m : Message) × (isEvidence m ≡ true) × (ms ≡ m ∷ []))
 unfolding count
 evidence-alone [] e l = inl refl
 evidence-alone (m ∷ []) e l = inr (m, true-of-worth (isEvidence m) (omega arith), refl)
@@ -68,7 +68,7 @@ evidence-alone (m ∷ m′ ∷ ms) e l = absurd (omega arith)
 -- the bytes that messages of each kind take
 module _ (checks : Checks) (W : Relation) (r : Record) where
   bytes-by-kind : (ms : List Message) → Each (Good checks W r) ms
-      → length (renderAll ms) ≤ count (isOf Submission) ms * submitLength + count (isOf OneNotice) ms * noticeLength + count (isOf FullCertificate) ms * fullEntryAt (k (r .n)) + count (isOf SomeEvidence) ms * evidenceEntryAt (k (r .n))
+      → length (renderAll ms) ≤ count (isOf SUBMIT) ms * submitLength + count (isOf NOTICE) ms * noticeLength + count (isOf FULL) ms * fullEntryAt (k (r .n)) + count (isOf EVIDENCE) ms * evidenceEntryAt (k (r .n))
   unfolding renderAll count worth isSubmit isNotice isFull isEvidence
   bytes-by-kind [] g = omega arith
   bytes-by-kind (Submit ρ seat value signature ∷ ms) g =
@@ -117,7 +117,7 @@ module _ (checks : Checks) (n round : ℕ) (keys : List ℕ) (u : Honest) (opene
   unfolding kinds
   at-most-four ms a =
       let one = at-most-one ms a in
-      omega (arith, kinds-all n ms (a .0), one Submission, one OneNotice, one FullCertificate, one SomeEvidence)
+      omega (arith, kinds-all n ms (a .0), one SUBMIT, one NOTICE, one FULL, one EVIDENCE)
 
   -- ---- at each call
 
@@ -144,10 +144,10 @@ module _ (checks : Checks) (n round : ℕ) (keys : List ℕ) (u : Honest) (opene
           arith,
           bytes-by-kind checks Any (left checks keys t .unit) ms (here .good),
           out-filled size,
-          once-le (count (isOf Submission) ms) submitLength (counted-once Submission),
-          once-le (count (isOf OneNotice) ms) noticeLength (counted-once OneNotice),
-          once-le (count (isOf FullCertificate) ms) (fullEntryAt (k size)) (counted-once FullCertificate),
-          once-le (count (isOf SomeEvidence) ms) (evidenceEntryAt (k size)) (counted-once SomeEvidence),
+          once-le (count (isOf SUBMIT) ms) submitLength (counted-once SUBMIT),
+          once-le (count (isOf NOTICE) ms) noticeLength (counted-once NOTICE),
+          once-le (count (isOf FULL) ms) (fullEntryAt (k size)) (counted-once FULL),
+          once-le (count (isOf EVIDENCE) ms) (evidenceEntryAt (k size)) (counted-once EVIDENCE),
         )))
 
     -- what is set stays set
@@ -163,7 +163,7 @@ module _ (checks : Checks) (n round : ℕ) (keys : List ℕ) (u : Honest) (opene
       where
         go : Dec (t .unit .guilty ≡ 0) → t .unit .guilty ≡ 0
         go (yes q) = q
-        go (no q) = absurd (omega (arith, count-pos (isOf SomeEvidence) (messages checks keys t) m e is, none-of SomeEvidence (rw (ne-eqb (t .unit .guilty) 0 q))))
+        go (no q) = absurd (omega (arith, count-pos (isOf EVIDENCE) (messages checks keys t) m e is, none-of EVIDENCE (rw (ne-eqb (t .unit .guilty) 0 q))))
 
     -- once FULL is sent, a call writes nothing, or one EVIDENCE; and that only while guilty seats are empty
     pub quiet-once-sent : t .unit .sent ≡ true
@@ -175,7 +175,7 @@ module _ (checks : Checks) (n round : ℕ) (keys : List ℕ) (u : Honest) (opene
         let submitted = confirmed-submitted checks Any (t .unit) (t .store) z confirmed in
         let ms = messages checks keys t in
         let are = written-are checks n round keys u opened Any any t d in
-        let alone = evidence-alone ms (omega (arith, kinds-all n ms (are .0), none-of Submission submitted, none-of OneNotice confirmed, none-of FullCertificate sent)) (counted-once SomeEvidence) in
+        let alone = evidence-alone ms (omega (arith, kinds-all n ms (are .0), none-of SUBMIT submitted, none-of NOTICE confirmed, none-of FULL sent)) (counted-once EVIDENCE) in
         ⊎-elim
         (λ e. inl (are .1 ∙ ap renderAll e))
         (λ h. inr (h .0, h .1, innocent (h .0) (rw (h .2) (List·Memᴰ·head refl)) (h .1), are .1 ∙ ap renderAll (h .2) ∙ append-nil (render (h .0))))

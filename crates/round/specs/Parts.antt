@@ -26,7 +26,7 @@ use Rattle.protocol.specs.Step.{State, write, collect, keepValue, submitOwn, is
 use Rattle.protocol.specs.declared.Own.{Own}
 use Rattle.protocol.specs.declared.Notices.{Notices}
 use Rattle.protocol.specs.declared.Record.{Record}
-use Rattle.round.specs.Round.{Each, Relation, Kind, Submission, OneNotice, FullCertificate, SomeEvidence, isOf, flagOf, isSubmit, isNotice, worth}
+use Rattle.round.specs.Round.{Each, Relation, Kind, SUBMIT, NOTICE, FULL, EVIDENCE, isOf, flagOf, isSubmit, isNotice, worth}
 use Rattle.round.specs.Lists.{cond-elim, and-true-both, and-false-either, each-one, each-append, count-append, count-one}
 use Rattle.round.specs.Slots.{keep-length, slot-keep-same, slot-keep-other, keepEach-length, slot-keepEach-other, slot-keepEach-same}
 use Rattle.round.specs.Sound.{Heard, Held, Grows, Room, Kept, Certifies, Pairs, Collection, Holding, Sound, Said, Good, Leads}
@@ -77,10 +77,10 @@ shared-none m = and-zero-l m
 
 -- a part that leaves every flag as it was
 pub same-flags : (r r′ : Record) → r′ .own .submitted ≡ r .own .submitted → r′ .confirmed ≡ r .confirmed → r′ .sent ≡ r .sent → r′ .guilty ≡ r .guilty → (κ : Kind) → flagOf κ r′ ≡ flagOf κ r
-same-flags r r′ a b c d Submission = a
-same-flags r r′ a b c d OneNotice = b
-same-flags r r′ a b c d FullCertificate = c
-same-flags r r′ a b c d SomeEvidence = rw d
+same-flags r r′ a b c d SUBMIT = a
+same-flags r r′ a b c d NOTICE = b
+same-flags r r′ a b c d FULL = c
+same-flags r r′ a b c d EVIDENCE = rw d
 
 -- the notices with one more value: none heard, another one heard, or nothing new
 notices-elim : (P : Notices → Type 0) (value : List ℕ) (r : Record) → (r .notices .heard ≡ 0 → P (record { heard = 1; value = value }))
@@ -255,10 +255,10 @@ module _ (checks : Checks) (W : Relation) where
         flags
       where
         flags : (κ : Kind) → worth (isOf κ (Submit (s .unit .round) (s .unit .seat) value signature)) + worth (flagOf κ (s .unit)) ≡ worth (flagOf κ (submitOwn value signature s .unit))
-        flags Submission = rw unsaid
-        flags OneNotice = omega arith
-        flags FullCertificate = omega arith
-        flags SomeEvidence = omega arith
+        flags SUBMIT = rw unsaid
+        flags NOTICE = omega arith
+        flags FULL = omega arith
+        flags EVIDENCE = omega arith
 
   -- ---- hear
 
@@ -360,10 +360,10 @@ module _ (checks : Checks) (W : Relation) where
         (flags (parts .1))
       where
         flags : s .unit .sent ≡ false → (κ : Kind) → worth (isOf κ (fullOf (s .unit .n) (s .unit .round) (s .unit .seat) (ownCertificate (s .unit) (s .store)))) + worth (flagOf κ (s .unit)) ≡ worth (flagOf κ (sendFull s .unit))
-        flags unsent Submission = omega arith
-        flags unsent OneNotice = omega arith
-        flags unsent FullCertificate = rw unsent
-        flags unsent SomeEvidence = omega arith
+        flags unsent SUBMIT = omega arith
+        flags unsent NOTICE = omega arith
+        flags unsent FULL = rw unsent
+        flags unsent EVIDENCE = omega arith
 
     pub leads-refl : Leads checks W s s
     leads-refl = leads-quiet s s z refl (grows-refl (s .unit)) refl (λ κ. refl)
@@ -461,10 +461,10 @@ module _ (checks : Checks) (W : Relation) where
       where
         flags : (lower higher : List ℕ) (ps : List Pair) → Pairs checks W (s .unit .n) lower higher ps → (κ : Kind)
             → worth (isOf κ (Evidence (s .unit .round) lower higher ps)) + worth (flagOf κ (s .unit)) ≡ worth (flagOf κ (blame c s .unit))
-        flags lower higher ps p Submission = omega arith
-        flags lower higher ps p OneNotice = omega arith
-        flags lower higher ps p FullCertificate = omega arith
-        flags lower higher ps p SomeEvidence = rw (innocent, ne-eqb (shared (s .unit .first .seats) (c .seats)) 0 (shared-guilty held))
+        flags lower higher ps p SUBMIT = omega arith
+        flags lower higher ps p NOTICE = omega arith
+        flags lower higher ps p FULL = omega arith
+        flags lower higher ps p EVIDENCE = rw (innocent, ne-eqb (shared (s .unit .first .seats) (c .seats)) 0 (shared-guilty held))
 
     pub holdOrBlame-leads : Leads checks W s (holdOrBlame c s)
     unfolding holdOrBlame blames holds

@@ -38,7 +38,7 @@ count test (x ∷ xs) = worth (test x) + count test xs
 
 -- what a unit sends: "at most one submission, one notice and one full certificate", and one evidence
 pub data Kind : Type 0 where
-  Submission OneNotice FullCertificate SomeEvidence : Kind
+  SUBMIT NOTICE FULL EVIDENCE : Kind
 
 unfoldable pub isSubmit : Message → Bool
 isSubmit (Submit ρ seat value signature) = true
@@ -55,17 +55,17 @@ isNotice (Evidence ρ lower higher entries) = false
 isNotice Garbled = false
 
 abbrev pub isOf : Kind → Message → Bool
-isOf Submission m = isSubmit m
-isOf OneNotice m = isNotice m
-isOf FullCertificate m = isFull m
-isOf SomeEvidence m = isEvidence m
+isOf SUBMIT m = isSubmit m
+isOf NOTICE m = isNotice m
+isOf FULL m = isFull m
+isOf EVIDENCE m = isEvidence m
 
 -- the part of a record that says a unit has sent one
 abbrev pub flagOf : Kind → Record → Bool
-flagOf Submission r = r .own .submitted
-flagOf OneNotice r = r .confirmed
-flagOf FullCertificate r = r .sent
-flagOf SomeEvidence r = not (eqb (r .guilty) 0)
+flagOf SUBMIT r = r .own .submitted
+flagOf NOTICE r = r .confirmed
+flagOf FULL r = r .sent
+flagOf EVIDENCE r = not (eqb (r .guilty) 0)
 
 -- ---- the lists
 

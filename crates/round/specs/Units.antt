@@ -14,7 +14,7 @@ use Rattle.protocol.specs.Record.{fresh, lastRound}
 use Rattle.protocol.specs.Refusals.{Checks, wrongKeys}
 use Rattle.protocol.specs.Calls.{openedBy, opening}
 use Rattle.protocol.specs.declared.Record.{Record}
-use Rattle.round.specs.Round.{Each, Relation, Kind, Submission, OneNotice, FullCertificate, SomeEvidence, isOf, flagOf, worth, Call, BySubmit, ByStep, ByThinEntry, Honest, Turn, left, writtenIn, writtenOver, Are, StandsIn, turnsOf, Writes}
+use Rattle.round.specs.Round.{Each, Relation, Kind, SUBMIT, NOTICE, FULL, EVIDENCE, isOf, flagOf, worth, Call, BySubmit, ByStep, ByThinEntry, Honest, Turn, left, writtenIn, writtenOver, Are, StandsIn, turnsOf, Writes}
 use Rattle.round.specs.Lists.{worth-le-one, worth-true, true-of-worth, count-pos, count-member, each-nil, each-append}
 use Rattle.round.specs.Sound.{Grows, InRange, Settled, Pairs, Sound, Good}
 use Rattle.round.specs.Certificates.{sized-entries, sized-pairs}
@@ -61,10 +61,10 @@ any-worthy checks keys ts t d q = any-given checks keys (t .given) (t .unit)
 
 fresh-flag : (n seat round : ℕ) (κ : Kind) → worth (flagOf κ (fresh n seat round)) ≡ 0
 unfolding fresh worth
-fresh-flag n seat round Submission = refl
-fresh-flag n seat round OneNotice = refl
-fresh-flag n seat round FullCertificate = refl
-fresh-flag n seat round SomeEvidence = refl
+fresh-flag n seat round SUBMIT = refl
+fresh-flag n seat round NOTICE = refl
+fresh-flag n seat round FULL = refl
+fresh-flag n seat round EVIDENCE = refl
 
 -- ---- the unit
 

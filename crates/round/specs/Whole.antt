@@ -17,7 +17,7 @@ use Rattle.protocol.specs.Record.{noneHeard, oneHeard, holds}
 use Rattle.protocol.specs.Refusals.{Checks, isFull, isEvidence}
 use Rattle.protocol.specs.Step.{State, write, collect, keepValue, submitOwn, isWanted, hearSubmit, hear, otherHeard, owesFull, sendFull, reply, hold, blame, blames, holdOrBlame, hearCertificate, isComplete, confirm, hearOwn, confirmIfComplete, submitted, stepped}
 use Rattle.protocol.specs.declared.Record.{Record}
-use Rattle.round.specs.Round.{Relation, Kind, Submission, OneNotice, FullCertificate, SomeEvidence, isOf, flagOf, isSubmit, isNotice, worth}
+use Rattle.round.specs.Round.{Relation, Kind, SUBMIT, NOTICE, FULL, EVIDENCE, isOf, flagOf, isSubmit, isNotice, worth}
 use Rattle.round.specs.Lists.{cond-elim, and-true-both, and-false-either}
 use Rattle.round.specs.Sound.{Heard, Held, Grows, Room, Settled, Kept, Certifies, Entries, Sound, Leads}
 use Rattle.round.specs.Certificates.{certifies-of}
@@ -146,10 +146,10 @@ module _ (checks : Checks) (W : Relation) where
         (flags (not-true (r .confirmed) (both .0)))
       where
         flags : s .unit .confirmed ≡ false → (κ : Kind) → worth (isOf κ (Notice (s .unit .round) (s .unit .seat) (s .unit .own .value))) + worth (flagOf κ (s .unit)) ≡ worth (flagOf κ (confirm s .unit))
-        flags unconfirmed Submission = omega arith
-        flags unconfirmed OneNotice = rw unconfirmed
-        flags unconfirmed FullCertificate = omega arith
-        flags unconfirmed SomeEvidence = omega arith
+        flags unconfirmed SUBMIT = omega arith
+        flags unconfirmed NOTICE = rw unconfirmed
+        flags unconfirmed FULL = omega arith
+        flags unconfirmed EVIDENCE = omega arith
 
     complete-size : isComplete (s .unit) ≡ true → size (s .unit .own .collected) ≡ k (s .unit .n)
     unfolding isComplete
