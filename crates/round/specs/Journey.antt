@@ -218,11 +218,12 @@ pub fresh-sound : (checks : Checks) (W : Relation) (n seat round : ℕ) (store :
 unfolding fresh unset
 fresh-sound checks W n seat round store range = record {
   range = range;
-  own = record { sized = refl; below = pow-pos n; few = omega (arith, size-empty); kept = λ s i. absurd (omega (arith, bit-empty s)) };
-  unsaid = λ e. (refl, refl);
-  said = λ e. absurd (false≢true e);
-  heard = omega arith;
-  unheard = λ e. refl;
+  own = record {
+    collection = record { sized = refl; below = pow-pos n; few = omega (arith, size-empty); kept = λ s i. absurd (omega (arith, bit-empty s)) };
+    unsaid = λ e. (refl, refl);
+    said = λ e. absurd (false≢true e);
+  };
+  heard = record { few = omega arith; unheard = λ e. refl };
   first = record {
     sized = refl;
     below = pow-pos n;
@@ -232,8 +233,7 @@ fresh-sound checks W n seat round store range = record {
     guiltyWithin = shared-none 0;
     unheld = λ e. (refl, refl);
   };
-  full = λ e. absurd (false≢true e);
-  confirmed = λ e. absurd (false≢true e);
+  flags = record { full = λ e. absurd (false≢true e); confirmed = λ e. absurd (false≢true e) };
 }
 
 pub fresh-settled : (n seat round : ℕ) → 1 ≤ n → Settled (fresh n seat round)

@@ -171,7 +171,7 @@ module _ (checks : Checks) (n round : ℕ) (keys : List ℕ) (u : Honest) (opene
     unfolding kinds renderAll
     quiet-once-sent sent =
         let z = stop checks n round keys u opened Any any t d .sound in
-        let confirmed = z .confirmed sent in
+        let confirmed = z .flags .confirmed sent in
         let submitted = confirmed-submitted checks Any (t .unit) (t .store) z confirmed in
         let ms = messages checks keys t in
         let are = written-are checks n round keys u opened Any any t d in

@@ -196,18 +196,18 @@ module _ (checks : Checks) (W : Relation) where
         let new : bit seat (r .own .collected) ≡ 0 = has-false seat (r .own .collected) .0 (not-true (has seat (r .own .collected)) (both .1)) in
         let few : size (r .own .collected) ≢ k (r .n) = λ e. true≢false (sym (complete e) ∙ unconfirmed) in
         let kept : Kept checks W seat (r .own .value) signature = subst (λ (v : List ℕ). Kept checks W seat v signature) own g in
-        let at-most : size (r .own .collected) ≤ k (r .n) = z .own .few in
+        let at-most : size (r .own .collected) ≤ k (r .n) = z .own .collection .few in
         leads-quiet s (collect seat signature s)
         (record {
           range = z .range;
-          own = collection-with (r .n) seat (r .own) signature (s .store) inside room new (omega arith) kept (z .own);
-          unsaid = λ e. absurd (true≢false (sym submitted ∙ e));
-          said = λ e. go (ℕ-discrete (r .seat) seat);
+          own = record {
+            collection = collection-with (r .n) seat (r .own) signature (s .store) inside room new (omega arith) kept (z .own .collection);
+            unsaid = λ e. absurd (true≢false (sym submitted ∙ e));
+            said = λ e. go (ℕ-discrete (r .seat) seat);
+          };
           heard = z .heard;
-          unheard = z .unheard;
           first = holding-beside (r .n) seat (r .guilty) r signature (s .store) inside room (g .sized) (z .first);
-          full = λ e. absurd (true≢false (sym e ∙ unconfirmed));
-          confirmed = z .confirmed;
+          flags = record { full = λ e. absurd (true≢false (sym e ∙ unconfirmed)); confirmed = z .flags .confirmed };
         })
         (keep-length (r .n) collectedBank seat signature (s .store) (omega arith) inside room (g .sized))
         (record { n = refl; seat = refl; round = refl; said = λ e. (e, refl); heard = λ v h. h; held = λ v h. h })
@@ -216,7 +216,7 @@ module _ (checks : Checks) (W : Relation) where
       where
         go : Dec (s .unit .seat ≡ seat) → In (s .unit .seat) (with seat (s .unit .own .collected))
         go (yes e) = rw e (bit-with-same seat (s .unit .own .collected))
-        go (no d) = bit-with-other (s .unit .seat) seat (s .unit .own .collected) d ∙ z .said submitted
+        go (no d) = bit-with-other (s .unit .seat) seat (s .unit .own .collected) d ∙ z .own .said submitted
 
   -- ---- submit
 
@@ -225,28 +225,28 @@ module _ (checks : Checks) (W : Relation) where
     unfolding submitOwn write collect keepValue isSubmit isNotice isFull isEvidence worth
     submitOwn-leads unsaid sized g =
         let r = s .unit in
-        let empty : r .own .collected ≡ 0 = z .unsaid unsaid .0 in
+        let empty : r .own .collected ≡ 0 = z .own .unsaid unsaid .0 in
         let none : size (r .own .collected) ≡ 0 = ap size empty ∙ size-empty in
         let some : 1 ≤ k (r .n) = k-pos (r .n) (z .range .some) in
         let new : bit (r .seat) (r .own .collected) ≡ 0 = rw empty (bit-empty (r .seat)) in
         let own : Own = record { submitted = true; value = value; collected = r .own .collected } in
         let clean : Collection checks W (r .n) own (s .store) = record {
           sized = sized;
-          below = z .own .below;
-          few = z .own .few;
+          below = z .own .collection .below;
+          few = z .own .collection .few;
           kept = λ t i. absurd (let b : bit t (r .own .collected) ≡ 0 = rw empty (bit-empty t) in omega arith);
         } in
         leads-writing s (submitOwn value signature s) (Submit (r .round) (r .seat) value signature)
         (record {
           range = z .range;
-          own = collection-with (r .n) (r .seat) own signature (s .store) (z .range .inside) room new (omega arith) g clean;
-          unsaid = λ e. absurd (true≢false e);
-          said = λ e. bit-with-same (r .seat) (r .own .collected);
+          own = record {
+            collection = collection-with (r .n) (r .seat) own signature (s .store) (z .range .inside) room new (omega arith) g clean;
+            unsaid = λ e. absurd (true≢false e);
+            said = λ e. bit-with-same (r .seat) (r .own .collected);
+          };
           heard = z .heard;
-          unheard = z .unheard;
           first = holding-beside (r .n) (r .seat) (r .guilty) r signature (s .store) (z .range .inside) room (g .sized) (z .first);
-          full = λ e. absurd (let f = z .full e in omega arith);
-          confirmed = z .confirmed;
+          flags = record { full = λ e. absurd (let f = z .flags .full e in omega arith); confirmed = z .flags .confirmed };
         })
         (keep-length (r .n) collectedBank (r .seat) signature (s .store) (omega arith) (z .range .inside) room (g .sized))
         (record { n = refl; seat = refl; round = refl; said = λ e. absurd (true≢false (sym e ∙ unsaid)); heard = λ v h. h; held = λ v h. h })
@@ -271,18 +271,14 @@ module _ (checks : Checks) (W : Relation) where
         notices-elim (λ x. (x .heard ≤ 2) × (x .heard ≡ 0 → x .value ≡ unset)) value r
         (λ e. (omega arith, λ q. absurd (omega arith)))
         (λ e d. (omega arith, λ q. absurd (omega arith)))
-        (λ a b. (z .heard, z .unheard)) in
+        (λ a b. (z .heard .few, z .heard .unheard)) in
         leads-quiet s (hear value s)
         (record {
           range = z .range;
           own = z .own;
-          unsaid = z .unsaid;
-          said = z .said;
-          heard = sound .0;
-          unheard = sound .1;
+          heard = record { few = sound .0; unheard = sound .1 };
           first = z .first;
-          full = z .full;
-          confirmed = z .confirmed;
+          flags = z .flags;
         })
         refl
         (record {
@@ -310,11 +306,11 @@ module _ (checks : Checks) (W : Relation) where
     where
       go : (b : Bool) → r .own .submitted ≡ b → b ≡ true
       go true e = refl
-      go false e = absurd (let none = ap size (z .unsaid e .0) ∙ size-empty in omega arith)
+      go false e = absurd (let none = ap size (z .own .unsaid e .0) ∙ size-empty in omega arith)
 
   pub own-certifies : (r : Record) (store : List ℕ) → Sound checks W r store → size (r .own .collected) ≡ k (r .n) → Certifies checks W (r .n) (ownCertificate r store)
   unfolding ownCertificate
-  own-certifies r store z e = record { sized = z .own .sized; below = z .own .below; enough = e; kept = z .own .kept }
+  own-certifies r store z e = record { sized = z .own .collection .sized; below = z .own .collection .below; enough = e; kept = z .own .collection .kept }
 
   pub first-certifies : (r : Record) (store : List ℕ) → Sound checks W r store → r .first .seats ≢ 0 → Certifies checks W (r .n) (firstCertificate r store)
   unfolding firstCertificate
@@ -325,7 +321,7 @@ module _ (checks : Checks) (W : Relation) where
 
   -- confirmed, and so k seats collected, and so submitted
   pub confirmed-submitted : (r : Record) (store : List ℕ) → Sound checks W r store → r .confirmed ≡ true → r .own .submitted ≡ true
-  confirmed-submitted r store z e = collected-submitted r store z (let f = z .full e in let p = k-pos (r .n) (z .range .some) in omega arith)
+  confirmed-submitted r store z e = collected-submitted r store z (let f = z .flags .full e in let p = k-pos (r .n) (z .range .some) in omega arith)
 
   module _ (s : State) (z : Sound checks W (s .unit) (s .store)) where
     owes-parts : owesFull (s .unit) ≡ true → (s .unit .confirmed ≡ true) × (s .unit .sent ≡ false)
@@ -340,23 +336,19 @@ module _ (checks : Checks) (W : Relation) where
     sendFull-leads owes =
         let r = s .unit in
         let parts = owes-parts owes in
-        let own = own-certifies r (s .store) z (z .full (parts .0)) in
+        let own = own-certifies r (s .store) z (z .flags .full (parts .0)) in
         leads-writing s (sendFull s) (fullOf (r .n) (r .round) (r .seat) (ownCertificate r (s .store)))
         (record {
           range = z .range;
           own = z .own;
-          unsaid = z .unsaid;
-          said = z .said;
           heard = z .heard;
-          unheard = z .unheard;
           first = z .first;
-          full = z .full;
-          confirmed = λ e. parts .0;
+          flags = record { full = z .flags .full; confirmed = λ e. parts .0 };
         })
         refl
         (record { n = refl; seat = refl; round = refl; said = λ e. (e, refl); heard = λ v h. h; held = λ v h. h })
         refl
-        (record { ofRound = refl; ofSeat = refl; ofValue = refl; submitted = confirmed-submitted r (s .store) z (parts .0); sized = z .own .sized }, entries-of checks W (r .n) (ownCertificate r (s .store)) own)
+        (record { ofRound = refl; ofSeat = refl; ofValue = refl; submitted = confirmed-submitted r (s .store) z (parts .0); sized = z .own .collection .sized }, entries-of checks W (r .n) (ownCertificate r (s .store)) own)
         (flags (parts .1))
       where
         flags : s .unit .sent ≡ false → (κ : Kind) → worth (isOf κ (fullOf (s .unit .n) (s .unit .round) (s .unit .seat) (ownCertificate (s .unit) (s .store)))) + worth (flagOf κ (s .unit)) ≡ worth (flagOf κ (sendFull s .unit))
@@ -391,15 +383,16 @@ module _ (checks : Checks) (W : Relation) where
         (record {
           range = z .range;
           own = record {
-            sized = z .own .sized;
-            below = z .own .below;
-            few = z .own .few;
-            kept = λ t i. rw (slot-keepEach-other (r .n) firstBank (c .signature) (omega arith) (seats (r .n) (c .seats)) (s .store) collectedBank t certificate-fit room (λ u d q. let l = in-below (r .n) t (r .own .collected) (z .own .below) i in omega arith)) (z .own .kept t i);
+            collection = record {
+              sized = z .own .collection .sized;
+              below = z .own .collection .below;
+              few = z .own .collection .few;
+              kept = λ t i. rw (slot-keepEach-other (r .n) firstBank (c .signature) (omega arith) (seats (r .n) (c .seats)) (s .store) collectedBank t certificate-fit room (λ u d q. let l = in-below (r .n) t (r .own .collected) (z .own .collection .below) i in omega arith)) (z .own .collection .kept t i);
+            };
+            unsaid = z .own .unsaid;
+            said = z .own .said;
           };
-          unsaid = z .unsaid;
-          said = z .said;
           heard = z .heard;
-          unheard = z .unheard;
           first = record {
             sized = y .sized;
             below = y .below;
@@ -409,8 +402,7 @@ module _ (checks : Checks) (W : Relation) where
             guiltyWithin = rw innocent (shared-none (c .seats));
             unheld = λ e. absurd (certificate-some e);
           };
-          full = z .full;
-          confirmed = z .confirmed;
+          flags = z .flags;
         })
         (keepEach-length (r .n) firstBank (c .signature) (omega arith) (seats (r .n) (c .seats)) (s .store) certificate-fit room)
         (record { n = refl; seat = refl; round = refl; said = λ e. (e, refl); heard = λ v h. h; held = λ v h. absurd (h .0 empty) })
@@ -437,10 +429,7 @@ module _ (checks : Checks) (W : Relation) where
         (record {
           range = z .range;
           own = z .own;
-          unsaid = z .unsaid;
-          said = z .said;
           heard = z .heard;
-          unheard = z .unheard;
           first = record {
             sized = z .first .sized;
             below = z .first .below;
@@ -450,8 +439,7 @@ module _ (checks : Checks) (W : Relation) where
             guiltyWithin = same-seats (shared guilty (r .first .seats)) guilty (λ t. omega (arith, bit-shared t guilty (r .first .seats), bit-shared t (r .first .seats) (c .seats)));
             unheld = λ e. absurd (held e);
           };
-          full = z .full;
-          confirmed = z .confirmed;
+          flags = z .flags;
         })
         refl
         (record { n = refl; seat = refl; round = refl; said = λ e. (e, refl); heard = λ v h. h; held = λ v h. (held, ⊎-elim inl (λ g. absurd (g innocent)) (h .1)) })

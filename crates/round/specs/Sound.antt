@@ -2,7 +2,7 @@
 -- record goes on from call to call.
 -- Assumes nothing.
 use mathlib.Core.Path.{_≡_}
-use mathlib.Core.Bool.{true, false}
+use mathlib.Core.Bool.{Bool, true, false}
 use mathlib.Core.List.{List, map}
 use mathlib.Core.Logic.{_⊎_, _≢_}
 use Prim.Native.Nat.{ℕ, _+_, _^_, _≤_, _<_}
@@ -16,6 +16,7 @@ use Rattle.protocol.specs.Record.{lastRound}
 use Rattle.protocol.specs.Refusals.{Checks, rising}
 use Rattle.protocol.specs.Step.{State, owesFull}
 use Rattle.protocol.specs.declared.Own.{Own}
+use Rattle.protocol.specs.declared.Notices.{Notices}
 use Rattle.protocol.specs.declared.First.{First}
 use Rattle.protocol.specs.declared.Record.{Record}
 use Rattle.round.specs.Round.{Each, Relation, Kind, isOf, flagOf, worth, count}
@@ -54,6 +55,16 @@ pub record InRange (n seat round : ℕ) : Type 0 where
 -- the store has the stated length or more
 abbrev pub Room : State → Type 0
 Room s = storeLength (s .unit .n) ≤ length (s .store)
+
+-- ---- notices heard, and flags
+
+pub record Hearing (notices : Notices) : Type 0 where
+  pub few : notices .heard ≤ 2
+  pub unheard : notices .heard ≡ 0 → notices .value ≡ unset
+
+pub record Flags (n collected : ℕ) (isConfirmed isSent : Bool) : Type 0 where
+  pub full : isConfirmed ≡ true → size collected ≡ k n
+  pub confirmed : isSent ≡ true → isConfirmed ≡ true
 
 -- ---- what stands at the end of a call
 
@@ -126,17 +137,19 @@ module _ (checks : Checks) (W : Relation) where
     pub guiltyWithin : shared guilty (first .seats) ≡ guilty
     pub unheld : first .seats ≡ 0 → (first .value ≡ unset) × (guilty ≡ 0)
 
+  -- what the unit has submitted and collected
+  pub record Submitted (n seat : ℕ) (own : Own) (store : List ℕ) : Type 0 where
+    pub collection : Collection n own store
+    pub unsaid : own .submitted ≡ false → (own .collected ≡ 0) × (own .value ≡ unset)
+    pub said : own .submitted ≡ true → In seat (own .collected)
+
   -- after every part of a call
   pub record Sound (r : Record) (store : List ℕ) : Type 0 where
     pub range : InRange (r .n) (r .seat) (r .round)
-    pub own : Collection (r .n) (r .own) store
-    pub unsaid : r .own .submitted ≡ false → (r .own .collected ≡ 0) × (r .own .value ≡ unset)
-    pub said : r .own .submitted ≡ true → In (r .seat) (r .own .collected)
-    pub heard : r .notices .heard ≤ 2
-    pub unheard : r .notices .heard ≡ 0 → r .notices .value ≡ unset
+    pub own : Submitted (r .n) (r .seat) (r .own) store
+    pub heard : Hearing (r .notices)
     pub first : Holding (r .n) (r .first) (r .guilty) store
-    pub full : r .confirmed ≡ true → size (r .own .collected) ≡ k (r .n)
-    pub confirmed : r .sent ≡ true → r .confirmed ≡ true
+    pub flags : Flags (r .n) (r .own .collected) (r .confirmed) (r .sent)
 
   -- ---- messages
 

@@ -51,22 +51,22 @@ module _ (checks : Checks) (W : Relation) (r : Record) (store : List ℕ) (z : S
 
   heard-right : wrongHeard r ≡ false
   unfolding wrongHeard
-  heard-right = le-ltb 2 (r .notices .heard) (z .heard)
+  heard-right = le-ltb 2 (r .notices .heard) (z .heard .few)
 
   no-stranger : namesStranger r ≡ false
   unfolding namesStranger
   no-stranger =
-      rw (outside-false (r .n) (r .own .collected) .1 (z .own .below), outside-false (r .n) (r .first .seats) .1 (z .first .below), outside-false (r .n) (r .guilty) .1 (z .first .guiltyBelow))
+      rw (outside-false (r .n) (r .own .collected) .1 (z .own .collection .below), outside-false (r .n) (r .first .seats) .1 (z .first .below), outside-false (r .n) (r .guilty) .1 (z .first .guiltyBelow))
 
   collected-right : wrongCollected r ≡ false
   unfolding wrongCollected
   collected-right =
       let c = r .own .collected in
-      let none = implied (not (r .own .submitted)) (eqb c 0) (λ q. eq-eqb c 0 (z .unsaid (not-true (r .own .submitted) q) .0)) in
-      let own = implied (r .own .submitted) (has (r .seat) c) (λ q. has-true (r .seat) c .1 (z .said q)) in
+      let none = implied (not (r .own .submitted)) (eqb c 0) (λ q. eq-eqb c 0 (z .own .unsaid (not-true (r .own .submitted) q) .0)) in
+      let own = implied (r .own .submitted) (has (r .seat) c) (λ q. has-true (r .seat) c .1 (z .own .said q)) in
       let complete = implied (eqb (size c) (k (r .n))) (r .confirmed) (λ q. e .complete (eqb-true (size c) (k (r .n)) q)) in
-      let full = implied (r .confirmed) (eqb (size c) (k (r .n))) (λ q. eq-eqb (size c) (k (r .n)) (z .full q)) in
-      rw (none, own, le-ltb (k (r .n)) (size c) (z .own .few), complete, full)
+      let full = implied (r .confirmed) (eqb (size c) (k (r .n))) (λ q. eq-eqb (size c) (k (r .n)) (z .flags .full q)) in
+      rw (none, own, le-ltb (k (r .n)) (size c) (z .own .collection .few), complete, full)
 
   first-right : wrongFirst r ≡ false
   unfolding wrongFirst
@@ -88,13 +88,13 @@ module _ (checks : Checks) (W : Relation) (r : Record) (store : List ℕ) (z : S
 
   sent-right : wrongSent r ≡ false
   unfolding wrongSent
-  sent-right = implied (r .sent) (r .confirmed) (z .confirmed)
+  sent-right = implied (r .sent) (r .confirmed) (z .flags .confirmed)
 
   unset-right : wrongUnset r ≡ false
   unfolding wrongUnset noneHeard holds
   unset-right =
-      let own = implied (not (r .own .submitted)) (same (r .own .value) unset) (λ q. rw (z .unsaid (not-true (r .own .submitted) q) .1) (same-refl unset)) in
-      let heard = implied (eqb (r .notices .heard) 0) (same (r .notices .value) unset) (λ q. rw (z .unheard (eqb-true (r .notices .heard) 0 q)) (same-refl unset)) in
+      let own = implied (not (r .own .submitted)) (same (r .own .value) unset) (λ q. rw (z .own .unsaid (not-true (r .own .submitted) q) .1) (same-refl unset)) in
+      let heard = implied (eqb (r .notices .heard) 0) (same (r .notices .value) unset) (λ q. rw (z .heard .unheard (eqb-true (r .notices .heard) 0 q)) (same-refl unset)) in
       let first = implied (not (not (eqb (r .first .seats) 0))) (same (r .first .value) unset) (λ q. rw (z .first .unheld (eqb-true (r .first .seats) 0 (not-false (eqb (r .first .seats) 0) (not-true (not (eqb (r .first .seats) 0)) q))) .0) (same-refl unset)) in
       rw (own, heard, first)
 

@@ -131,18 +131,14 @@ module _ (checks : Checks) (W : Relation) where
         (record {
           range = z .range;
           own = z .own;
-          unsaid = z .unsaid;
-          said = z .said;
           heard = z .heard;
-          unheard = z .unheard;
           first = z .first;
-          full = λ q. full;
-          confirmed = λ q. refl;
+          flags = record { full = λ q. full; confirmed = λ q. refl };
         })
         refl
         (record { n = refl; seat = refl; round = refl; said = λ q. (q, refl); heard = λ v h. h; held = λ v h. h })
         refl
-        (record { ofRound = refl; ofSeat = refl; ofValue = refl; submitted = collected-submitted checks W r (s .store) z (omega arith); sized = z .own .sized })
+        (record { ofRound = refl; ofSeat = refl; ofValue = refl; submitted = collected-submitted checks W r (s .store) z (omega arith); sized = z .own .collection .sized })
         (flags (not-true (r .confirmed) (both .0)))
       where
         flags : s .unit .confirmed ≡ false → (κ : Kind) → worth (isOf κ (Notice (s .unit .round) (s .unit .seat) (s .unit .own .value))) + worth (flagOf κ (s .unit)) ≡ worth (flagOf κ (confirm s .unit))
