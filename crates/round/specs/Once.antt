@@ -27,7 +27,7 @@ use Rattle.round.specs.Parts.{confirmed-submitted}
 use Rattle.round.specs.Reading.{are-unique}
 use Rattle.round.specs.Unrefused.{possible}
 use Rattle.round.specs.Journey.{Worthy, messages, allMessages, Passed}
-use Rattle.round.specs.Units.{Any, any-worthy, endOf, start-n, trip, stop, left-grows, written-are, all-are}
+use Rattle.round.specs.Units.{Any, any-worthy, endOf, start-n, start-sound, start-settled, trip, stop, left-grows, written-are, all-are}
 
 -- ---- messages by kind
 
@@ -119,13 +119,18 @@ module _ (checks : Checks) (n round : ℕ) (keys : List ℕ) (u : Honest) (opene
       let one = at-most-one ms a in
       omega (arith, kinds-all n ms (a .0), one SUBMIT, one NOTICE, one FULL, one EVIDENCE)
 
+  -- the record that the opening gave isn't impossible
+  pub opened-possible : impossible (opening n (u .seat) round keys .unit) ≡ false
+  opened-possible =
+      possible checks Any (opening n (u .seat) round keys .unit) (u .store) (start-sound checks n round keys u opened Any) (start-settled checks n round keys u opened)
+
   -- ---- at each call
 
   module _ (t : Turn) (d : List·Memᴰ t ts) where
     abbrev here : Passed checks Any keys (t .unit) (t .store) (left checks keys t .unit) (left checks keys t .store) (messages checks keys t)
     here = stop checks n round keys u opened Any any t d .after
 
-    -- no record that comes out is impossible
+    -- and no record that comes out is
     pub none-impossible : impossible (left checks keys t .unit) ≡ false
     none-impossible = possible checks Any (left checks keys t .unit) (left checks keys t .store) (here .sound) (here .settled)
 

@@ -106,11 +106,15 @@ module _ (checks : Checks) (n round : ℕ) (keys : List ℕ) (u : Honest) (opene
   pub start-flag : (κ : Kind) → worth (flagOf κ startOf) ≡ 0
   start-flag κ = rw opened-fresh (fresh-flag n (u .seat) round κ)
 
+  pub start-sound : (W : Relation) → Sound checks W startOf (u .store)
+  start-sound W = subst (λ r. Sound checks W r (u .store)) (sym opened-fresh) (fresh-sound checks W n (u .seat) round (u .store) opened-range)
+
+  pub start-settled : Settled startOf
+  start-settled = subst Settled (sym opened-fresh) (fresh-settled n (u .seat) round (opened-range .some))
+
   module _ (W : Relation) (w : Each (Worthy checks W keys) ts) where
     pub trip : Journey checks W keys startOf endOf ts
-    trip =
-        journey checks W keys startOf (u .store) (u .calls) (subst (λ r. Sound checks W r (u .store)) (sym opened-fresh) (fresh-sound checks W n (u .seat) round (u .store) opened-range))
-        (subst Settled (sym opened-fresh) (fresh-settled n (u .seat) round (opened-range .some))) w
+    trip = journey checks W keys startOf (u .store) (u .calls) (start-sound W) start-settled w
 
     module _ (t : Turn) (d : List·Memᴰ t ts) where
       pub stop : At checks W keys startOf t endOf
