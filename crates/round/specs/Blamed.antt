@@ -218,17 +218,18 @@ module _ (checks : Checks) (n round : ℕ) (keys : List ℕ) where
         sent-of (endAt i) (settled i .owes) (x .0) (other-heard b (endAt i) heard (λ e. different (sym (x .1) ∙ sym e)))
 
     -- and every unit has held a certificate of its layout, or compared one
-    each-held : (i : I) (a : List ℕ) → Confirms checks n round keys (unit i) a → endAt i .sent ≡ true → ReachedOthers checks n round keys unit i → (l : I) → Held a (endAt l)
-    each-held i a ca sent reached l = go (ℕ-discrete (unit l .seat) (unit i .seat))
+    each-held : (i : I) (a : List ℕ) → Confirms checks n round keys (unit i) a → endAt i .sent ≡ true → ReachedOthers checks n round keys unit i → (l : I) → (Held a (endAt l) → ⊥) → ⊥
+    each-held i a ca sent reached l never = go (ℕ-discrete (unit l .seat) (unit i .seat))
       where
-        go : Dec (unit l .seat ≡ unit i .seat) → Held a (endAt l)
+        go : Dec (unit l .seat ≡ unit i .seat) → ⊥
         go (yes e) =
             let x = confirmed i a ca in
-            subst (λ o. Held a (endAt o)) (sym (family .apart l i e)) (subst (λ v. Held v (endAt i)) (x .1) (settled i .holds (x .0)))
+            let own : Held a (endAt i) = subst (λ v. Held v (endAt i)) (x .1) (settled i .holds (x .0)) in
+            family .apart l i (λ q. never (subst (λ o. Held a (endAt o)) (sym q) own)) e
         go (no d) =
             let x = confirmed i a ca in
             let f = subst (WroteFull (unit i) (family .opened i)) (x .1) (sent-full (unit i) (family .opened i) sent) in
-            reached-held (unit l) (family .opened l) (unit i .seat) a (f .0) (inside i) (f .1) (reached l (λ q. d (ap (λ o. unit o .seat) q)) .full round (unit i .seat) a (f .0) (f .2))
+            never (reached-held (unit l) (family .opened l) (unit i .seat) a (f .0) (inside i) (f .1) (reached l (λ q. d (ap (λ o. unit o .seat) q)) .full round (unit i .seat) a (f .0) (f .2)))
 
 -- ---- the claim
 
@@ -240,4 +241,4 @@ blamed checks n round keys unit family i j a b different ca cb ri rj l =
     let sent-b = each-sent checks n round keys unit family j i b a (λ e. different (sym e)) cb ca ri in
     let held-a = each-held checks n round keys unit family i a ca sent-a ri l in
     let held-b = each-held checks n round keys unit family j b cb sent-b rj l in
-    guilty-blames checks n round keys (unit l) (family .opened l) (both-held a b (endAt checks n round keys unit family l) different held-a held-b)
+    guilty-blames checks n round keys (unit l) (family .opened l) (λ g. held-a (λ x. held-b (λ y. both-held a b (endAt checks n round keys unit family l) different x y g)))

@@ -4,7 +4,7 @@ use Prim.Native.Nat.{ℕ}
 use mathlib.Core.Path.{_≡_, refl, sym, ap, subst}
 use mathlib.Core.Bool.{Bool, true, false, _&&_}
 use mathlib.Core.List.{List, [], _∷_, _++_, List·Memᴰ, List·Memᴰ·not-nil}
-use mathlib.Core.Logic.{⊎-elim}
+use mathlib.Core.Logic.{⊎-elim, _≢_}
 use native.Mathlib.Omega.{arith}
 use lib.Count.{ones}
 use lib.Dec.{eqb}
@@ -76,11 +76,11 @@ abbrev two : List Call → List Call → Bool → Honest
 two zeroth first false = unitWith 0 zeroth
 two zeroth first true = unitWith 1 first
 
-apart : (zeroth first : List Call) (i j : Bool) → two zeroth first i .seat ≡ two zeroth first j .seat → i ≡ j
-apart zeroth first false false e = refl
-apart zeroth first false true e = absurd (omega arith)
-apart zeroth first true false e = absurd (omega arith)
-apart zeroth first true true e = refl
+apart : (zeroth first : List Call) (i j : Bool) → i ≢ j → two zeroth first i .seat ≢ two zeroth first j .seat
+apart zeroth first false false d e = d refl
+apart zeroth first false true d e = omega arith
+apart zeroth first true false d e = omega arith
+apart zeroth first true true d e = d refl
 
 opened : (zeroth first : List Call) (i : Bool) → opening 4 (two zeroth first i .seat) 5 keys .number ≡ 0
 unfolding unfolded

@@ -213,7 +213,7 @@ module _ (checks : Checks) (n round : ℕ) (keys : List ℕ) where
     -- openings not refused, "and each its own seat"
     pub record Family : Type 0 where
       pub opened : (i : I) → opening n (unit i .seat) round keys .number ≡ 0
-      pub apart : (i j : I) → unit i .seat ≡ unit j .seat → i ≡ j
+      pub apart : (i j : I) → i ≢ j → unit i .seat ≢ unit j .seat
 
     -- "A signature is delivered for a seat over a layout when it stands, where a command puts that seat's over that layout, in
     -- what a step in a list is given or in what an honest unit makes or joins evidence from."

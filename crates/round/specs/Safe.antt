@@ -95,7 +95,7 @@ module _ (checks : Checks) (n round : ℕ) (keys : List ℕ) where
     -- it did submit what a kept signature of it stands over
     submitted-of : (i j : I) (value signature : List ℕ) → checks (unit i .seat) value signature ≡ true → Backed j (unit i .seat) value signature → (Submits checks n round keys (unit i) value → ⊥) → ⊥
     submitted-of i j value signature c (inl r) never = true≢false (sym c ∙ none i value signature r never)
-    submitted-of i j value signature c (inr s) never = never (subst (λ l. Submits checks n round keys (unit l) value) (sym (family .apart i j (s .0))) (s .1))
+    submitted-of i j value signature c (inr s) never = family .apart i j (λ e. never (subst (λ l. Submits checks n round keys (unit l) value) (sym e) (s .1))) (s .0)
 
     -- and it submitted one layout alone
     one-layout : (i : I) (lower higher : List ℕ) → isLower lower higher ≡ true → ((Submits checks n round keys (unit i) lower → ⊥) → ⊥) → ((Submits checks n round keys (unit i) higher → ⊥) → ⊥) → ⊥

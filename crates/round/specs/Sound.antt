@@ -31,7 +31,7 @@ Heard value r = (r .notices .heard ≢ 0) × (r .notices .heard ≡ 1 → r .not
 abbrev pub Held : List ℕ → Record → Type 0
 Held value r = (r .first .seats ≢ 0) × ((r .first .value ≡ value) ⊎ (r .guilty ≢ 0))
 
--- what was said, confirmed, heard and held stays
+-- what was said, heard and held stays
 pub record Grows (r r′ : Record) : Type 0 where
   pub n : r′ .n ≡ r .n
   pub seat : r′ .seat ≡ r .seat
