@@ -1,9 +1,6 @@
 // The signature vectors, run: the RFC's test cases level by level, and Bouncy Castle's, accepted and damaged; then the key maker
 // and the signer from the seeds of types 6 and 4. Standard input has the records as scripts/make_vectors.py writes them from the
 // files of vectors/, and the file `stdout` what those files say of each.
-ghost use Prim.Native.Nat.{_≤_};
-ghost use lib.ListN.{length};
-ghost use Rattle.vectors.specs.Field.{Within};
 use libc::STDIN_FILENO;
 use libc::STDOUT_FILENO;
 
@@ -19,13 +16,11 @@ fn length() -> Field {
     if io::read_full(STDIN_FILENO, &mut two) < 2 {
         return Field::End;
     }
-    Field::Of((two[0] as usize) * 256 + (two[1] as usize))
+    Field::Of((octets::wide(two[0]) * 256 + octets::wide(two[1])) as usize)
 }
 
 // An operand, its length before it, to the start of `space`.
-fn operand(space: &mut [u8]) -> Field
-    ensures { λ r. ⌜ Within r (length (now (space .entry))) ⌝ }
-{
+fn operand(space: &mut [u8]) -> Field {
     let Field::Of(n) = length() else {
         return Field::End;
     };
@@ -36,6 +31,14 @@ fn operand(space: &mut [u8]) -> Field
         return Field::End;
     }
     Field::Of(n)
+}
+
+// The first n bytes, or all where there are fewer.
+fn first(s: &[u8], n: usize) -> &[u8] {
+    if s.len() < n {
+        return s;
+    }
+    &s[..n]
 }
 
 fn print(text: &[u8]) {
@@ -65,7 +68,11 @@ fn check() -> bool {
     let Field::Of(s) = operand(&mut signature) else {
         return false;
     };
-    let number = lms::calls::check_signature(&key[..k], &message[..m], &signature[..s]);
+    let number = lms::calls::check_signature(
+        first(&key, k),
+        first(&message, m),
+        first(&signature, s),
+    );
     if number == 0 {
         print(b" accept\n");
     } else {
@@ -94,14 +101,29 @@ fn sign(seed: &[u8], identifier: &[u8], tree: &[u8]) -> bool {
         q,
         seed,
         identifier,
-        &randomizer[..r],
+        first(&randomizer, r),
         tree,
-        &message[..m],
+        first(&message, m),
         &mut out,
     );
     print(b" ");
     print_bytes(&out);
     0 < l
+}
+
+// As many records to sign as are left.
+fn sign_all(seed: &[u8], identifier: &[u8], tree: &[u8], count: u8) -> bool {
+    let mut left = count;
+    while 0 < left {
+        if !named() {
+            return false;
+        }
+        if !sign(seed, identifier, tree) {
+            return false;
+        }
+        left -= 1;
+    }
+    true
 }
 
 // A key to make, and then records to sign with it, as many as a byte says.
@@ -114,26 +136,16 @@ fn make_and_sign() -> bool {
     let Field::Of(i) = operand(&mut identifier) else {
         return false;
     };
-    let mut tree = [0u8; 65536];
+    let mut tree = io::large_buffer();
     let mut key = [0u8; 56];
-    lms::calls::make_key(&seed[..s], &identifier[..i], &mut tree, &mut key);
+    lms::calls::make_key(first(&seed, s), first(&identifier, i), &mut tree, &mut key);
     print(b" ");
     print_bytes(&key);
     let mut count = [0u8; 1];
     if io::read_full(STDIN_FILENO, &mut count) < 1 {
         return false;
     }
-    let mut left = count[0];
-    while 0 < left {
-        if !named() {
-            return false;
-        }
-        if !sign(&seed[..s], &identifier[..i], &tree) {
-            return false;
-        }
-        left -= 1;
-    }
-    true
+    sign_all(first(&seed, s), first(&identifier, i), &tree, count[0])
 }
 
 // The name that starts each record is printed.
@@ -142,7 +154,7 @@ fn named() -> bool {
     let Field::Of(n) = operand(&mut name) else {
         return false;
     };
-    print(&name[..n]);
+    print(first(&name, n));
     true
 }
 

@@ -1,0 +1,244 @@
+-- Demand 3, the accountable half: "Where two honest units have confirmed different layouts, and the notice and full certificate
+-- of each have reached every other honest unit in buffers of the stated lengths, each honest unit has written evidence that
+-- names at least t0 + 1 seats and that every unit accepts."
+-- Assumes nothing.
+use mathlib.Core.Path.{_≡_, refl, sym, ap, subst, subst₂, _∙_}
+use mathlib.Core.Bool.{true, false, not, _&&_, true≢false, false≢true}
+use mathlib.Core.List.{List}
+use mathlib.Core.Logic.{⊎-elim, _≢_, _↔_}
+use Prim.Native.Nat.{ℕ, zero, _+_, _≤_, _<_}
+use native.Mathlib.Omega.{arith}
+use native.Mathlib.Decide.{ℕ-discrete}
+use lib.ListN.{length}
+use borrow.Author.Tests.{ne-eqb, not-false}
+use Rattle.quorum.specs.Quorum.{t0, In, size}
+use Rattle.refusal.specs.Refusal.{lowest, unrefused}
+use Rattle.protocol.specs.Layout.{valueLength, storeLength, outLength}
+use Rattle.protocol.specs.Message.{Entry, Pair, Message, Submit, Notice, Full, Evidence, Garbled, render, read, roundOf, entrySeats, seatsOf, signed}
+use Rattle.protocol.specs.Laws.{in-set}
+use Rattle.protocol.specs.ReadLaws.{WellFormed, read-render}
+use Rattle.protocol.specs.Refusals.{Checks, wrongKeys, isForStep, isFull, isEvidence, rising, early, notLowerFirst, stepConditions}
+use Rattle.protocol.specs.Step.{State, otherHeard, owesFull, stepped}
+use Rattle.protocol.specs.Calls.{start, opening, checkedBy, evidenceCheck}
+use Rattle.protocol.specs.declared.Record.{Record}
+use Rattle.round.specs.Round.{Each, NOTICE, FULL, EVIDENCE, isNotice, Honest, Turn, left, turnsOf, Writes, Confirms, Reached, Accepted, Names, Blames, Family, ReachedOthers}
+use Rattle.round.specs.Lists.{and-false-either, each-nil, each-one}
+use Rattle.round.specs.Sound.{Heard, Held, Grows, Settled, Entries, Pairs, Sound, Said}
+use Rattle.round.specs.Certificates.{sized-entries}
+use Rattle.round.specs.Parts.{other-heard}
+use Rattle.round.specs.Whole.{notice-heard, full-held}
+use Rattle.round.specs.Unrefused.{possible, Taken, step-unrefused, evidence-unrefused, full-taken, evidence-taken}
+use Rattle.round.specs.Journey.{Worthy, At, step-is, left-came}
+use Rattle.round.specs.Units.{Any, any-worthy, startOf, endOf, opened-range, opened-keys, start-n, start-round, trip, stop, end-n, end-seat, end-round, pairs-formed, written-flag, flag-written, writes-good}
+use Rattle.round.specs.Safe.{evidence-cases}
+
+-- a message that is FULL
+full-cases : (P : Message → Type 0) (m : Message) → isFull m ≡ true → ((ρ sender : ℕ) (value : List ℕ) (es : List Entry) → P (Full ρ sender value es)) → P m
+unfolding isFull
+full-cases P (Submit ρ seat value signature) e f = absurd (false≢true e)
+full-cases P (Notice ρ seat value) e f = absurd (false≢true e)
+full-cases P (Full ρ sender value es) e f = f ρ sender value es
+full-cases P (Evidence ρ lower higher ps) e f = absurd (false≢true e)
+full-cases P Garbled e f = absurd (false≢true e)
+
+-- a certificate of each of two values has been held or compared: there are guilty seats
+both-held : (a b : List ℕ) (r : Record) → a ≢ b → Held a r → Held b r → r .guilty ≢ 0
+both-held a b r d ha hb g =
+    ⊎-elim (λ p. ⊎-elim (λ q. d (sym p ∙ q)) (λ q. q g) (hb .1)) (λ p. p g) (ha .1)
+
+-- nothing owed, confirmed and another value heard: FULL was sent
+sent-of : (r : Record) → owesFull r ≡ false → r .confirmed ≡ true → otherHeard r ≡ true → r .sent ≡ true
+unfolding owesFull
+sent-of r owes confirmed other =
+    ⊎-elim (λ e. ⊎-elim (λ c. absurd (true≢false (sym confirmed ∙ c))) (λ s. not-false (r .sent) s) (and-false-either (r .confirmed) (not (r .sent)) e)) (λ e. absurd (true≢false (sym other ∙ e)))
+    (and-false-either (r .confirmed && not (r .sent)) (otherHeard r) owes)
+
+module _ (checks : Checks) (n round : ℕ) (keys : List ℕ) where
+  -- ---- one unit
+
+  module _ (u : Honest) (opened : opening n (u .seat) round keys .number ≡ 0) where
+    abbrev any : Each (Worthy checks Any keys) (turnsOf checks n round keys u)
+    any = any-worthy checks keys (turnsOf checks n round keys u)
+
+    abbrev end : Record
+    end = endOf checks n round keys u opened
+
+    -- what reaches the unit, and isn't refused there for what it is, is taken
+    module _ (m : Message) (formed : WellFormed n m) (forStep : isForStep m ≡ true) (timely : (r : Record) → early r m ≡ false) (taken : Taken checks n round m) (h : Reached checks n round keys u (render m)) where
+      abbrev t : Turn
+      t = h .0
+
+      abbrev at : At checks Any keys (startOf checks n round keys u opened) t end
+      at = stop checks n round keys u opened Any any t (h .2)
+
+      size-is : t .unit .n ≡ n
+      size-is = at .since .n ∙ start-n checks n round keys u opened
+
+      round-is : t .unit .round ≡ round
+      round-is = at .since .round ∙ start-round checks n round keys u opened
+
+      room : storeLength (t .unit .n) ≤ length (t .store)
+      room = subst (λ i. storeLength i ≤ length (t .store)) (sym size-is) (h .4)
+
+      reads : read (t .unit .n) (render m) ≡ m
+      reads = rw size-is (read-render n m formed)
+
+      unrefused-here : lowest (stepConditions checks keys (t .unit) (t .store) m (h .1)) ≡ 0
+      unrefused-here =
+          step-unrefused checks keys (t .unit) (t .store) m (h .1) (possible checks Any (t .unit) (t .store) (at .sound) (at .settled)) (subst (λ i. wrongKeys i keys ≡ false) (sym size-is) (opened-keys checks n round keys u opened)) room (subst (λ i. outLength i ≤ length (h .1)) (sym size-is) (h .5)) forStep (timely (t .unit))
+          (subst₂ (λ i ρ. Taken checks i ρ m) (sym size-is) (sym round-is) taken)
+
+      left-stepped : left checks keys t .unit ≡ stepped m (start (t .unit) (t .store)) .unit
+      left-stepped =
+          let is = step-is checks keys (t .given) (render m) (h .1) (t .unit) (t .store) (h .3) in
+          left-came checks keys t (is .0 ∙ rw reads unrefused-here) ∙ ap (λ (s : State). s .unit) (is .1) ∙ ap (λ x. stepped x (start (t .unit) (t .store)) .unit) reads
+
+      -- what the step comes to, and what grows, holds at the end
+      pub reached-end : (P : Record → Type 0) → ((r r′ : Record) → Grows r r′ → P r → P r′)
+          → ((r : Record) (store : List ℕ) → r .n ≡ n → Sound checks Any r store → storeLength (r .n) ≤ length store → Settled r → P (stepped m (start r store) .unit)) → P end
+      reached-end P grows f =
+          grows (left checks keys t .unit) end (at .before) (subst P (sym left-stepped) (f (t .unit) (t .store) size-is (at .sound) room (at .settled)))
+
+    -- a NOTICE that reached the unit is heard at the end
+    pub reached-heard : (seat : ℕ) (value : List ℕ) → seat < n → length value ≡ valueLength → Reached checks n round keys u (render (Notice round seat value)) → Heard value end
+    unfolding isForStep early roundOf seatsOf entrySeats signed rising
+    reached-heard seat value inside sized h =
+        let range = opened-range checks n round keys u opened in
+        reached-end (Notice round seat value) (let e = range .early in omega arith, sized) refl (λ r. refl)
+        (record { inRound = refl; inside = each-one (λ s. s < n) seat inside; rises = refl; checked = each-nil (λ s. checks (s .seat) (s .value) (s .signature) ≡ true) })
+        h
+        (Heard value)
+        (λ r r′ g. g .heard value)
+        (λ r store e z room settled. notice-heard checks Any (start r store) z room settled round seat value)
+
+    -- a FULL that reached the unit is held at the end, or was compared with the one held
+    pub reached-held : (sender : ℕ) (value : List ℕ) (es : List Entry) → sender < n → Entries checks Any n value es → Reached checks n round keys u (render (Full round sender value es)) → Held value end
+    unfolding isForStep early
+    reached-held sender value es inside entries h =
+        let range = opened-range checks n round keys u opened in
+        reached-end (Full round sender value es) (let e = range .early in omega arith, entries .sized, entries .many, sized-entries es (λ e d. entries .kept e d .sized)) refl (λ r. refl)
+        (full-taken checks Any n round sender value es inside entries)
+        h
+        (Held value)
+        (λ r r′ g. g .held value)
+        (λ r store e z room settled. full-held checks Any (start r store) z room settled round sender value es (subst (λ i. Entries checks Any i value es) (sym e) entries))
+
+    -- evidence of t0 + 1 pairs or more is accepted
+    evidence-accepted : (ρ : ℕ) (lower higher : List ℕ) (ps : List Pair) → ρ ≡ round → Pairs checks Any n lower higher ps
+        → (evidenceCheck checks n round keys (render (Evidence ρ lower higher ps)) .number ≡ 0) × (t0 n + 1 ≤ size (evidenceCheck checks n round keys (render (Evidence ρ lower higher ps)) .mask))
+    unfolding evidenceCheck checkedBy unrefused entrySeats isEvidence notLowerFirst
+    evidence-accepted ρ lower higher ps e z =
+        let m = Evidence ρ lower higher ps in
+        let range = opened-range checks n round keys u opened in
+        let formed = pairs-formed checks Any n ρ lower higher ps (rw e (range .early)) z in
+        let taken = subst (λ r. Taken checks n r m) e (evidence-taken checks Any n ρ lower higher ps z) in
+        let zero = evidence-unrefused checks n (u .seat) round keys m range (opened-keys checks n round keys u opened) refl taken (rw (z .ordered)) in
+        rw (read-render n m formed, zero) (refl, z .named)
+
+    -- ---- what the unit confirmed and sent
+
+    abbrev Own : ℕ → ℕ → List ℕ → Type 0
+    Own ρ seat value = (ρ ≡ round) × (seat ≡ u .seat) × (value ≡ end .own .value)
+
+    own-said : (ρ seat : ℕ) (value : List ℕ) → Said end ρ seat value → Own ρ seat value
+    own-said ρ seat value s =
+        (s .ofRound ∙ end-round checks n round keys u opened Any any, s .ofSeat ∙ end-seat checks n round keys u opened Any any, s .ofValue)
+
+    pub confirms-end : (value : List ℕ) → Confirms checks n round keys u value → (end .confirmed ≡ true) × (end .own .value ≡ value) × (length value ≡ valueLength) × Writes checks n round keys u (Notice round (u .seat) value)
+    unfolding isNotice
+    confirms-end value c =
+        let m = Notice (c .0) (c .1) value in
+        let s = writes-good checks n round keys u opened Any any m (c .2) in
+        let own = own-said (c .0) (c .1) value s in (
+          written-flag checks n round keys u opened Any any NOTICE m refl (c .2),
+          sym (own .2),
+          s .sized,
+          subst (λ ρ. Writes checks n round keys u (Notice ρ (u .seat) value)) (own .0) (subst (λ t. Writes checks n round keys u (Notice (c .0) t value)) (own .1) (c .2)),
+        )
+
+    -- a FULL that it wrote is of its own value
+    abbrev WroteFull : List ℕ → Type 0
+    WroteFull value = (es : List Entry) × Entries checks Any n value es × Writes checks n round keys u (Full round (u .seat) value es)
+
+    pub sent-full : end .sent ≡ true → WroteFull (end .own .value)
+    sent-full e =
+        let f = flag-written checks n round keys u opened Any any FULL e in
+        full-cases (λ m. Writes checks n round keys u m → WroteFull (end .own .value)) (f .0) (f .1)
+        (λ ρ sender value es w.
+        let g = writes-good checks n round keys u opened Any any (Full ρ sender value es) w in
+        let own = own-said ρ sender value (g .0) in
+        subst WroteFull (own .2) (
+          es,
+          subst (λ i. Entries checks Any i value es) (end-n checks n round keys u opened Any any) (g .1),
+          subst₂ (λ x y. Writes checks n round keys u (Full x y value es)) (own .0) (own .1) w,
+        ))
+        (f .2)
+
+    -- ---- evidence that it wrote
+
+    pub guilty-blames : end .guilty ≢ 0 → Blames checks n round keys u
+    guilty-blames guilty =
+        let f = flag-written checks n round keys u opened Any any EVIDENCE (rw (ne-eqb (end .guilty) 0 guilty)) in
+        evidence-cases (λ m. isEvidence m ≡ true → Writes checks n round keys u m → Blames checks n round keys u) (f .0) (f .1)
+        (λ ρ lower higher ps is w.
+        let g = writes-good checks n round keys u opened Any any (Evidence ρ lower higher ps) w in
+        let pairs = subst (λ i. Pairs checks Any i lower higher ps) (end-n checks n round keys u opened Any any) (g .1) in
+        let accept = evidence-accepted ρ lower higher ps (g .0 ∙ end-round checks n round keys u opened Any any) pairs in
+        (render (Evidence ρ lower higher ps), (Evidence ρ lower higher ps, is, refl, w), accept .0, accept .1))
+        (f .1) (f .2)
+
+  -- the mask that the check answers is the seats that the evidence names
+  pub mask-names : (evidence : List ℕ) (seat : ℕ) → Accepted checks n round keys evidence → In seat (evidenceCheck checks n round keys evidence .mask) ↔ Names checks n round keys evidence seat
+  unfolding evidenceCheck checkedBy unrefused
+  mask-names evidence seat a = rw a (in-set seat (entrySeats (read n evidence)))
+
+  -- ---- all of them
+
+  module _ {I : Type 0} (unit : I → Honest) (family : Family checks n round keys unit) where
+    abbrev endAt : I → Record
+    endAt i = end (unit i) (family .opened i)
+
+    settled : (i : I) → Settled (endAt i)
+    settled i = trip checks n round keys (unit i) (family .opened i) Any (any (unit i) (family .opened i)) .settled
+
+    confirmed : (i : I) (value : List ℕ) → Confirms checks n round keys (unit i) value
+        → (endAt i .confirmed ≡ true) × (endAt i .own .value ≡ value) × (length value ≡ valueLength) × Writes checks n round keys (unit i) (Notice round (unit i .seat) value)
+    confirmed i value c = confirms-end (unit i) (family .opened i) value c
+
+    inside : (i : I) → unit i .seat < n
+    inside i = opened-range checks n round keys (unit i) (family .opened i) .inside
+
+    -- of two units that confirmed different layouts, each has sent its FULL
+    each-sent : (i j : I) (a b : List ℕ) → a ≢ b → Confirms checks n round keys (unit i) a → Confirms checks n round keys (unit j) b → ReachedOthers checks n round keys unit j → endAt i .sent ≡ true
+    each-sent i j a b different ca cb reached =
+        let x = confirmed i a ca in
+        let y = confirmed j b cb in
+        let other : i ≢ j = λ e. different (sym (x .1) ∙ ap (λ l. endAt l .own .value) e ∙ y .1) in
+        let heard = reached-heard (unit i) (family .opened i) (unit j .seat) b (inside j) (y .2) (reached i other .notice round (unit j .seat) b (y .3)) in
+        sent-of (endAt i) (settled i .owes) (x .0) (other-heard b (endAt i) heard (λ e. different (sym (x .1) ∙ sym e)))
+
+    -- and every unit has held a certificate of its layout, or compared one
+    each-held : (i : I) (a : List ℕ) → Confirms checks n round keys (unit i) a → endAt i .sent ≡ true → ReachedOthers checks n round keys unit i → (l : I) → (Held a (endAt l) → ⊥) → ⊥
+    each-held i a ca sent reached l never = go (ℕ-discrete (unit l .seat) (unit i .seat))
+      where
+        go : Dec (unit l .seat ≡ unit i .seat) → ⊥
+        go (yes e) =
+            let x = confirmed i a ca in
+            let own : Held a (endAt i) = subst (λ v. Held v (endAt i)) (x .1) (settled i .holds (x .0)) in
+            family .apart l i (λ q. never (subst (λ o. Held a (endAt o)) (sym q) own)) e
+        go (no d) =
+            let x = confirmed i a ca in
+            let f = subst (WroteFull (unit i) (family .opened i)) (x .1) (sent-full (unit i) (family .opened i) sent) in
+            never (reached-held (unit l) (family .opened l) (unit i .seat) a (f .0) (inside i) (f .1) (reached l (λ q. d (ap (λ o. unit o .seat) q)) .full round (unit i .seat) a (f .0) (f .2)))
+
+-- ---- the claim
+
+pub blamed : (checks : Checks) (n round : ℕ) (keys : List ℕ) {I : Type 0} (unit : I → Honest) → Family checks n round keys unit
+    → (i j : I) (a b : List ℕ) → a ≢ b → Confirms checks n round keys (unit i) a → Confirms checks n round keys (unit j) b
+    → ReachedOthers checks n round keys unit i → ReachedOthers checks n round keys unit j → (l : I) → Blames checks n round keys (unit l)
+blamed checks n round keys unit family i j a b different ca cb ri rj l =
+    let sent-a = each-sent checks n round keys unit family i j a b different ca cb rj in
+    let sent-b = each-sent checks n round keys unit family j i b a (λ e. different (sym e)) cb ca ri in
+    let held-a = each-held checks n round keys unit family i a ca sent-a ri l in
+    let held-b = each-held checks n round keys unit family j b cb sent-b rj l in
+    guilty-blames checks n round keys (unit l) (family .opened l) (λ g. held-a (λ x. held-b (λ y. both-held a b (endAt checks n round keys unit family l) different x y g)))

@@ -1,0 +1,153 @@
+-- Certificates and what is made from them: a FULL's entries are a certificate, and a certificate's are a FULL's; two
+-- certificates of different values are evidence that names t0 + 1 seats or more.
+-- Assumes nothing.
+use mathlib.Core.Path.{_≡_, refl, sym, ap, subst, _∙_}
+use mathlib.Core.Bool.{true, not}
+use mathlib.Core.List.{List, [], _∷_, map, map-map, map-id, List·Memᴰ, List·Memᴰ·head, List·Memᴰ·tail, List·Memᴰ·not-nil, List·Memᴰ·cases-cons}
+use mathlib.Core.Logic.{⊎-elim, _≢_}
+use Prim.Native.Nat.{ℕ, _+_, _/_, _%_, _^_, _≤_, _<_, min}
+use native.Mathlib.Omega.{arith}
+use lib.Arith.{bin-ind}
+use lib.Bits.{and-step}
+use lib.Count.{ones-step}
+use lib.Dec.{eqb}
+use lib.ListN.{length, length-map}
+use lib.Pow.{pow-pos}
+use borrow.Author.Tests.{eqb-true, eqb-false}
+use Rattle.quorum.specs.Quorum.{t0, k, In, size, shared, seats}
+use Rattle.quorum.specs.Laws.{bit-cases, in-shared, shared-lt, with-lt, size-empty, size-with-new, length-seats, mem-seats, seats-rise, k-of-n-share}
+use Rattle.protocol.specs.Layout.{signatureLength}
+use Rattle.protocol.specs.Values.{isLower}
+use Rattle.protocol.specs.Message.{Entry, Pair, Message, Evidence}
+use Rattle.protocol.specs.Certificate.{Certificate, setOf, signatureOf, certificateOf, entriesOf, pairsOf, orderedEvidence, evidenceOf}
+use Rattle.protocol.specs.Laws.{lower-other, in-set, set-seats, Sized, SizedPairs}
+use Rattle.protocol.specs.Refusals.{Checks, rising}
+use Rattle.round.specs.Round.{Each, Relation}
+use Rattle.round.specs.Lists.{cond-elim, each-map, rising-first, rising-of-rises}
+use Rattle.round.specs.Sound.{Kept, Certifies, Entries, Pairs}
+
+-- ---- sets and lists of seats
+
+pub size-shared-le : (a b : ℕ) → size (shared a b) ≤ size a
+unfolding shared
+size-shared-le =
+    bin-ind (λ (a : ℕ). (b : ℕ) → size (shared a b) ≤ size a) (λ b. go b) step
+  where
+    go : (b : ℕ) → size (shared 0 b) ≤ size 0
+    go b = omega arith
+
+    step : (a : ℕ) → ((b : ℕ) → size (shared (a / 2) b) ≤ size (a / 2)) → (b : ℕ) → size (shared a b) ≤ size a
+    step a half b =
+        let low : shared a b % 2 ≡ min (a % 2) (b % 2) = omega (arith, and-step a b) in
+        let rest : shared a b / 2 ≡ shared (a / 2) (b / 2) = omega (arith, and-step a b) in
+        omega (arith, ones-step (shared a b), ones-step a, ap size rest, half (b / 2))
+
+pub set-size : (xs : List ℕ) → rising xs ≡ true → size (setOf xs) ≡ length xs
+unfolding setOf
+set-size [] e = size-empty
+set-size (x ∷ xs) e =
+    let first = rising-first x xs e in
+    let new = ⊎-elim (λ z. z) (λ i. absurd (let h = first .1 x (in-set x xs .0 i) in omega arith)) (bit-cases x (setOf xs)) in
+    size-with-new x (setOf xs) new ∙ omega (arith, set-size xs (first .0))
+
+pub set-below : (n : ℕ) (xs : List ℕ) → Each (λ s. s < n) xs → setOf xs < 2 ^ n
+unfolding setOf
+set-below n [] h = pow-pos n
+set-below n (x ∷ xs) h = with-lt n x (setOf xs) (h x (List·Memᴰ·head refl)) (set-below n xs (λ s d. h s (List·Memᴰ·tail d)))
+
+module _ (n m : ℕ) where
+  pub seats-rising : rising (seats n m) ≡ true
+  seats-rising = rising-of-rises (seats n m) (seats-rise n m)
+
+  pub seats-below : Each (λ s. s < n) (seats n m)
+  seats-below s d = mem-seats n s m .0 d .0
+
+  pub seats-in-set : Each (λ s. In s m) (seats n m)
+  seats-in-set s d = mem-seats n s m .0 d .1
+
+-- ---- signatures of the right length
+
+pub sized-entries : (es : List Entry) → Each (λ (e : Entry). length (e .signature) ≡ signatureLength) es → Sized es
+sized-entries [] h = tt
+sized-entries (e ∷ es) h = (h e (List·Memᴰ·head refl), sized-entries es (λ x d. h x (List·Memᴰ·tail d)))
+
+pub sized-pairs : (ps : List Pair) → Each (λ (p : Pair). length (p .lower) ≡ signatureLength) ps → Each (λ (p : Pair). length (p .higher) ≡ signatureLength) ps → SizedPairs ps
+sized-pairs [] l h = tt
+sized-pairs (p ∷ ps) l h =
+    (l p (List·Memᴰ·head refl), h p (List·Memᴰ·head refl), sized-pairs ps (λ x d. l x (List·Memᴰ·tail d)) (λ x d. h x (List·Memᴰ·tail d)))
+
+-- ---- certificates
+
+pub entry-seats : (n : ℕ) (c : Certificate) → map (λ (e : Entry). e .seat) (entriesOf n c) ≡ seats n (c .seats)
+unfolding entriesOf
+entry-seats n c = map-map (λ (e : Entry). e .seat) (λ (seat : ℕ). record { seat = seat; signature = c .signature seat }) (seats n (c .seats)) ∙ map-id (seats n (c .seats))
+
+pub pair-seats : (n : ℕ) (c d : Certificate) → map (λ (p : Pair). p .seat) (pairsOf n c d) ≡ seats n (shared (c .seats) (d .seats))
+unfolding pairsOf
+pair-seats n c d =
+    map-map (λ (p : Pair). p .seat) (λ (seat : ℕ). record { seat = seat; lower = c .signature seat; higher = d .signature seat }) (seats n (shared (c .seats) (d .seats)))
+    ∙ map-id (seats n (shared (c .seats) (d .seats)))
+
+module _ (checks : Checks) (W : Relation) where
+  -- a certificate's FULL
+  pub entries-of : (n : ℕ) (c : Certificate) → Certifies checks W n c → Entries checks W n (c .value) (entriesOf n c)
+  unfolding entriesOf
+  entries-of n c z = record {
+    sized = z .sized;
+    many = length-map (seats n (c .seats)) (λ (seat : ℕ). record { seat = seat; signature = c .signature seat }) ∙ length-seats n (c .seats) (z .below) ∙ z .enough;
+    rise = ap rising (entry-seats n c) ∙ seats-rising n (c .seats);
+    below = each-map (λ (e : Entry). e .seat < n) (λ (seat : ℕ). record { seat = seat; signature = c .signature seat }) (seats n (c .seats)) (seats-below n (c .seats));
+    kept = each-map (λ (e : Entry). Kept checks W (e .seat) (c .value) (e .signature)) (λ (seat : ℕ). record { seat = seat; signature = c .signature seat }) (seats n (c .seats)) (λ s d. z .kept s (seats-in-set n (c .seats) s d));
+  }
+
+  -- a FULL's certificate
+  signature-kept : (value : List ℕ) (es : List Entry) (s : ℕ) → Each (λ (e : Entry). Kept checks W (e .seat) value (e .signature)) es → List·Memᴰ s (map (λ (e : Entry). e .seat) es) → Kept checks W s value (signatureOf es s)
+  unfolding signatureOf
+  signature-kept value [] s h d = absurd (List·Memᴰ·not-nil d)
+  signature-kept value (e ∷ es) s h d =
+      cond-elim (λ g. Kept checks W s value g) (eqb (e .seat) s) (e .signature) (signatureOf es s)
+      (λ q. subst (λ t. Kept checks W t value (e .signature)) (eqb-true (e .seat) s q) (h e (List·Memᴰ·head refl)))
+      (λ q. ⊎-elim (λ p. absurd (eqb-false (e .seat) s q (sym p))) (λ t. signature-kept value es s (λ x m. h x (List·Memᴰ·tail m)) t) (List·Memᴰ·cases-cons d))
+
+  pub certifies-of : (n : ℕ) (value : List ℕ) (es : List Entry) → Entries checks W n value es → Certifies checks W n (certificateOf value es)
+  unfolding certificateOf
+  certifies-of n value es z = record {
+    sized = z .sized;
+    below = set-below n (map (λ (e : Entry). e .seat) es) (each-map (λ s. s < n) (λ (e : Entry). e .seat) es (z .below));
+    enough = set-size (map (λ (e : Entry). e .seat) es) (z .rise) ∙ length-map es (λ (e : Entry). e .seat) ∙ z .many;
+    kept = λ s i. signature-kept value es s (z .kept) (in-set s (map (λ (e : Entry). e .seat) es) .0 i);
+  }
+
+  -- the evidence of two, the lower first
+  pub pairs-of : (n : ℕ) (c d : Certificate) → 1 ≤ n → Certifies checks W n c → Certifies checks W n d → isLower (c .value) (d .value) ≡ true
+      → Pairs checks W n (c .value) (d .value) (pairsOf n c d)
+  unfolding pairsOf
+  pairs-of n c d some y z l =
+      let both = shared (c .seats) (d .seats) in
+      let pair : ℕ → Pair = λ seat. record { seat = seat; lower = c .signature seat; higher = d .signature seat } in
+      let below : both < 2 ^ n = shared-lt n (c .seats) (d .seats) (y .below) (z .below) in
+      let sized : length (pairsOf n c d) ≡ size both = length-map (seats n both) pair ∙ length-seats n both below in
+      let enough : t0 n + 1 ≤ size both = k-of-n-share n (c .seats) (d .seats) some (y .below) (z .below) (y .enough) (z .enough) in
+      let few : size both ≤ size (c .seats) = size-shared-le (c .seats) (d .seats) in
+      let exact : k n ≡ size (c .seats) = sym (y .enough) in
+      record {
+        sizedLower = y .sized;
+        sizedHigher = z .sized;
+        ordered = l;
+        named = rw (pair-seats n c d, set-seats n both below) enough;
+        some = omega arith;
+        few = omega arith;
+        rise = ap rising (pair-seats n c d) ∙ seats-rising n both;
+        below = each-map (λ (p : Pair). p .seat < n) pair (seats n both) (seats-below n both);
+        lows = each-map (λ (p : Pair). Kept checks W (p .seat) (c .value) (p .lower)) pair (seats n both) (λ s m. y .kept s (in-shared s (c .seats) (d .seats) .0 (seats-in-set n both s m) .0));
+        highs = each-map (λ (p : Pair). Kept checks W (p .seat) (d .value) (p .higher)) pair (seats n both) (λ s m. z .kept s (in-shared s (c .seats) (d .seats) .0 (seats-in-set n both s m) .1));
+      }
+
+  -- in either order
+  pub evidence-elim : (P : Message → Type 0) (n round : ℕ) (c d : Certificate) → 1 ≤ n → Certifies checks W n c → Certifies checks W n d → c .value ≢ d .value
+      → ((lower higher : List ℕ) (ps : List Pair) → Pairs checks W n lower higher ps → P (Evidence round lower higher ps)) → P (evidenceOf n round c d)
+  unfolding evidenceOf orderedEvidence
+  evidence-elim P n round c d some y z different f =
+      cond-elim P (isLower (c .value) (d .value)) (orderedEvidence n round c d) (orderedEvidence n round d c)
+      (λ l. f (c .value) (d .value) (pairsOf n c d) (pairs-of n c d some y z l))
+      (λ l. f (d .value) (c .value) (pairsOf n d c) (pairs-of n d c some z y (lower-other (c .value) (d .value) (y .sized ∙ sym (z .sized)) different ∙ ap not l)))

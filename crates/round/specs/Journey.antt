@@ -1,0 +1,245 @@
+-- A list of calls from end to end: the invariant stands before and after each, what was said, heard and held only grows, and
+-- over the whole list a message is written just where its flag comes to be set.
+-- Assumes nothing.
+use mathlib.Core.Path.{_≡_, refl, sym, ap, subst, _∙_}
+use mathlib.Core.Bool.{true, false≢true}
+use mathlib.Core.List.{List, [], _∷_, _++_, List·Memᴰ, List·Memᴰ·head, List·Memᴰ·tail, List·Memᴰ·not-nil, List·Memᴰ·cases-cons, List·Memᴰ·append-cases, Memᴰ·append-left, Memᴰ·append-right}
+use mathlib.Core.Logic.{inl, inr, ⊎-elim}
+use Prim.Native.Nat.{ℕ, zero, suc, _+_, _≤_}
+use native.Mathlib.Omega.{arith}
+use lib.ListN.{length, drop}
+use lib.Pow.{pow-pos}
+use lib.Seq.{take-append-seam}
+use Rattle.octets.specs.Octets.{patch}
+use Rattle.quorum.specs.Laws.{bit-empty, size-empty}
+use Rattle.refusal.specs.Refusal.{lowest, unrefused}
+use Rattle.protocol.specs.Values.{unset}
+use Rattle.protocol.specs.Message.{Message, renderAll, read}
+use Rattle.protocol.specs.Record.{fresh}
+use Rattle.protocol.specs.Refusals.{Checks, submitConditions, stepConditions}
+use Rattle.protocol.specs.Step.{State, owesFull, submitted, stepped}
+use Rattle.protocol.specs.Calls.{Result, resultBy, start, outAfter, submit, step, answer}
+use Rattle.protocol.specs.declared.Record.{Record}
+use Rattle.round.specs.Round.{Each, Relation, EachSigned, isOf, Call, BySubmit, ByStep, ByThinEntry, IsStep, Turn, called, left, turns, counted, writtenIn, outOf}
+use Rattle.round.specs.Lists.{count-append, count-nil, each-nil, each-cons}
+use Rattle.round.specs.Sound.{Grows, Counts, InRange, Settled, Sound, Good}
+use Rattle.round.specs.Parts.{shared-none, grows-refl, grows-trans, k-pos}
+use Rattle.round.specs.Whole.{Done, submitted-done, submitted-value, stepped-done}
+use Rattle.round.specs.Reading.{read-laid}
+use Rattle.round.specs.Unrefused.{submit-taken, step-taken, brings}
+
+-- ---- a call at its turn
+
+-- its refusal number, and what it comes to where nothing is refused
+unfoldable pub refusalOf : Checks → List ℕ → Call → Record → List ℕ → ℕ
+refusalOf checks keys (BySubmit value signature out) r store = lowest (submitConditions checks keys r store value signature out)
+refusalOf checks keys (ByStep bytes out) r store = lowest (stepConditions checks keys r store (read (r .n) bytes) out)
+refusalOf checks keys (ByThinEntry bytes out) r store = lowest (stepConditions checks keys r store (read (r .n) bytes) out)
+
+unfoldable pub cameTo : Call → Record → List ℕ → State
+cameTo (BySubmit value signature out) r store = submitted value signature (start r store)
+cameTo (ByStep bytes out) r store = stepped (read (r .n) bytes) (start r store)
+cameTo (ByThinEntry bytes out) r store = stepped (read (r .n) bytes) (start r store)
+
+pub called-is : (checks : Checks) (keys : List ℕ) (c : Call) (r : Record) (store : List ℕ) → called checks keys c r store ≡ resultBy (refusalOf checks keys c r store) (cameTo c r store) r store
+unfolding called refusalOf cameTo submit step
+called-is checks keys (BySubmit value signature out) r store = refl
+called-is checks keys (ByStep bytes out) r store = refl
+called-is checks keys (ByThinEntry bytes out) r store = refl
+
+-- by value or through the thin entry
+pub step-is : (checks : Checks) (keys : List ℕ) (c : Call) (bytes out : List ℕ) (r : Record) (store : List ℕ) → IsStep c bytes out
+    → (refusalOf checks keys c r store ≡ lowest (stepConditions checks keys r store (read (r .n) bytes) out)) × (cameTo c r store ≡ stepped (read (r .n) bytes) (start r store))
+unfolding refusalOf cameTo
+step-is checks keys c bytes out r store (inl e) = (ap (λ x. refusalOf checks keys x r store) e, ap (λ x. cameTo x r store) e)
+step-is checks keys c bytes out r store (inr e) = (ap (λ x. refusalOf checks keys x r store) e, ap (λ x. cameTo x r store) e)
+
+-- a call that isn't refused leaves what it comes to
+pub left-came : (checks : Checks) (keys : List ℕ) (t : Turn) → refusalOf checks keys (t .given) (t .unit) (t .store) ≡ 0 → left checks keys t .unit ≡ cameTo (t .given) (t .unit) (t .store) .unit
+unfolding resultBy unrefused
+left-came checks keys t e = ap (λ (x : Result). x .unit) (called-is checks keys (t .given) (t .unit) (t .store)) ∙ rw e
+
+pub unrefused-left : (checks : Checks) (keys : List ℕ) (t : Turn) → left checks keys t .refusal ≡ 0
+    → (refusalOf checks keys (t .given) (t .unit) (t .store) ≡ 0) × (left checks keys t .unit ≡ cameTo (t .given) (t .unit) (t .store) .unit)
+unfolding resultBy
+unrefused-left checks keys t q =
+    let e : refusalOf checks keys (t .given) (t .unit) (t .store) ≡ 0 = sym (ap (λ (x : Result). x .refusal) (called-is checks keys (t .given) (t .unit) (t .store))) ∙ q in
+    (e, left-came checks keys t e)
+
+-- the messages that it writes
+abbrev pub messages : Checks → List ℕ → Turn → List Message
+messages checks keys t = unrefused (refusalOf checks keys (t .given) (t .unit) (t .store)) (cameTo (t .given) (t .unit) (t .store) .written) []
+
+-- and those of a list
+unfoldable pub allMessages : Checks → List ℕ → List Turn → List Message
+allMessages checks keys [] = []
+allMessages checks keys (t ∷ ts) = messages checks keys t ++ allMessages checks keys ts
+
+-- a message of a list is one of a call in it, and the other way round
+pub all-member : (checks : Checks) (keys : List ℕ) (ts : List Turn) (t : Turn) (m : Message) → List·Memᴰ t ts → List·Memᴰ m (messages checks keys t) → List·Memᴰ m (allMessages checks keys ts)
+unfolding allMessages
+all-member checks keys [] t m d e = absurd (List·Memᴰ·not-nil d)
+all-member checks keys (x ∷ ts) t m d e =
+    ⊎-elim (λ q. Memᴰ·append-left (allMessages checks keys ts) (subst (λ y. List·Memᴰ m (messages checks keys y)) q e)) (λ q. Memᴰ·append-right (messages checks keys x) (all-member checks keys ts t m q e)) (List·Memᴰ·cases-cons d)
+
+pub member-all : (checks : Checks) (keys : List ℕ) (ts : List Turn) (m : Message) → List·Memᴰ m (allMessages checks keys ts) → (t : Turn) × List·Memᴰ t ts × List·Memᴰ m (messages checks keys t)
+unfolding allMessages
+member-all checks keys [] m d = absurd (List·Memᴰ·not-nil d)
+member-all checks keys (x ∷ ts) m d =
+    ⊎-elim (λ q. (x, List·Memᴰ·head refl, q)) (λ q. let r = member-all checks keys ts m q in (r .0, List·Memᴰ·tail (r .1), r .2)) (List·Memᴰ·append-cases (messages checks keys x) d)
+
+-- the record at the end of a list
+unfoldable pub lastOf : Checks → List ℕ → Record → List ℕ → List Call → Record
+lastOf checks keys r store [] = r
+lastOf checks keys r store (c ∷ cs) = lastOf checks keys (called checks keys c r store .unit) (called checks keys c r store .store) cs
+
+-- the bytes that an answer counts are those written
+pub counted-written : (written out : List ℕ) → counted (length written) written out ≡ written
+unfolding outAfter patch
+counted-written written out = take-append-seam written (drop (0 + length written) out)
+
+unrefused-render : (refusal : ℕ) (ms : List Message) → unrefused refusal (renderAll ms) [] ≡ renderAll (unrefused refusal ms [])
+unfolding unrefused renderAll
+unrefused-render zero ms = refl
+unrefused-render (suc refusal) ms = refl
+
+pub written-is : (checks : Checks) (keys : List ℕ) (t : Turn) → writtenIn checks keys t ≡ renderAll (messages checks keys t)
+unfolding answer resultBy
+written-is checks keys t =
+    counted-written (left checks keys t .written) (outOf (t .given)) ∙ ap (λ (x : Result). x .written) (called-is checks keys (t .given) (t .unit) (t .store))
+    ∙ unrefused-render (refusalOf checks keys (t .given) (t .unit) (t .store)) (cameTo (t .given) (t .unit) (t .store) .written)
+
+-- ---- what holds of a call
+
+module _ (checks : Checks) (W : Relation) (keys : List ℕ) where
+  -- what the signatures are worth that a call takes
+  abbrev pub WorthyGiven : Call → Record → Type 0
+  WorthyGiven (BySubmit value signature out) r = W (r .seat) value signature
+  WorthyGiven (ByStep bytes out) r = EachSigned W (read (r .n) bytes)
+  WorthyGiven (ByThinEntry bytes out) r = EachSigned W (read (r .n) bytes)
+
+  abbrev pub Worthy : Turn → Type 0
+  Worthy t = left checks keys t .refusal ≡ 0 → WorthyGiven (t .given) (t .unit)
+
+  done : (c : Call) (r : Record) (store : List ℕ) → Sound checks W r store → Settled r → refusalOf checks keys c r store ≡ 0 → WorthyGiven c r → Done checks W (start r store) (cameTo c r store)
+  unfolding refusalOf cameTo
+  done (BySubmit value signature out) r store z e q w =
+      let t = submit-taken checks keys r store value signature out q in
+      submitted-done checks W value signature (start r store) z (t .room) (t .unsaid) (t .sizedValue) (record { checked = t .checked; sized = t .sized; worthy = w })
+  done (ByStep bytes out) r store z e q w =
+      let m = read (r .n) bytes in
+      let t = step-taken checks keys r store m out q in
+      stepped-done checks W (start r store) z (t .0) e m (brings checks W r m (t .2) (t .3) (read-laid (r .n) bytes) w)
+  done (ByThinEntry bytes out) r store z e q w =
+      let m = read (r .n) bytes in
+      let t = step-taken checks keys r store m out q in
+      stepped-done checks W (start r store) z (t .0) e m (brings checks W r m (t .2) (t .3) (read-laid (r .n) bytes) w)
+
+  -- a submit that isn't refused keeps its value
+  pub submit-value : (value signature out : List ℕ) (r : Record) (store : List ℕ) → Sound checks W r store → refusalOf checks keys (BySubmit value signature out) r store ≡ 0 → W (r .seat) value signature
+      → (cameTo (BySubmit value signature out) r store .unit .own .submitted ≡ true) × (cameTo (BySubmit value signature out) r store .unit .own .value ≡ value)
+  unfolding refusalOf cameTo
+  submit-value value signature out r store z q w =
+      let t = submit-taken checks keys r store value signature out q in
+      submitted-value checks W value signature (start r store) z (t .room) (t .unsaid) (t .sizedValue) (record { checked = t .checked; sized = t .sized; worthy = w })
+
+  -- from the record and store that it gets to those that it leaves
+  pub record Passed (r : Record) (store : List ℕ) (r′ : Record) (store′ : List ℕ) (ms : List Message) : Type 0 where
+    pub sound : Sound checks W r′ store′
+    pub settled : Settled r′
+    pub grows : Grows r r′
+    pub counts : Counts r ms r′
+    pub good : Each (Good checks W r′) ms
+
+  passed-by : (refusal : ℕ) (s : State) (r : Record) (store : List ℕ) → Sound checks W r store → Settled r → (refusal ≡ 0 → Done checks W (start r store) s)
+      → Passed r store (resultBy refusal s r store .unit) (resultBy refusal s r store .store) (unrefused refusal (s .written) [])
+  unfolding resultBy unrefused
+  passed-by zero s r store z e d =
+      let f = d refl in
+      record {
+        sound = f .leads .sound;
+        settled = f .settled;
+        grows = f .leads .grows;
+        counts = λ κ. let x = f .leads .counts κ in let y = count-nil (isOf κ) in omega arith;
+        good = f .leads .good (each-nil (Good checks W r));
+      }
+  passed-by (suc refusal) s r store z e d =
+      record { sound = z; settled = e; grows = grows-refl r; counts = λ κ. let y = count-nil (isOf κ) in omega arith; good = each-nil (Good checks W r) }
+
+  pub passed : (t : Turn) → Sound checks W (t .unit) (t .store) → Settled (t .unit) → Worthy t
+      → Passed (t .unit) (t .store) (left checks keys t .unit) (left checks keys t .store) (messages checks keys t)
+  unfolding resultBy
+  passed t z e w =
+      let is = called-is checks keys (t .given) (t .unit) (t .store) in
+      rw is
+      (passed-by (refusalOf checks keys (t .given) (t .unit) (t .store)) (cameTo (t .given) (t .unit) (t .store)) (t .unit) (t .store) z e
+      (λ q. done (t .given) (t .unit) (t .store) z e q (w (ap (λ (x : Result). x .refusal) is ∙ q))))
+
+  -- ---- what holds of a list
+
+  -- at a turn of it
+  pub record At (r : Record) (t : Turn) (end : Record) : Type 0 where
+    pub since : Grows r (t .unit)
+    pub sound : Sound checks W (t .unit) (t .store)
+    pub settled : Settled (t .unit)
+    pub after : Passed (t .unit) (t .store) (left checks keys t .unit) (left checks keys t .store) (messages checks keys t)
+    pub before : Grows (left checks keys t .unit) end
+
+  pub record Journey (r : Record) (end : Record) (ts : List Turn) : Type 0 where
+    pub grows : Grows r end
+    pub at : Each (λ t. At r t end) ts
+    pub counts : Counts r (allMessages checks keys ts) end
+    pub settled : Settled end
+
+  pub journey : (r : Record) (store : List ℕ) (cs : List Call) → Sound checks W r store → Settled r → Each Worthy (turns checks keys r store cs)
+      → Journey r (lastOf checks keys r store cs) (turns checks keys r store cs)
+  unfolding turns lastOf allMessages
+  journey r store [] z e w = record { grows = grows-refl r; at = each-nil (λ t. At r t r); counts = λ κ. let y = count-nil (isOf κ) in omega arith; settled = e }
+  journey r store (c ∷ cs) z e w =
+      let t : Turn = record { given = c; unit = r; store = store } in
+      let after = called checks keys c r store in
+      let end = lastOf checks keys (after .unit) (after .store) cs in
+      let ts = turns checks keys (after .unit) (after .store) cs in
+      let a = passed t z e (w t (List·Memᴰ·head refl)) in
+      let rest = journey (after .unit) (after .store) cs (a .sound) (a .settled) (λ x d. w x (List·Memᴰ·tail d)) in
+      record {
+        grows = grows-trans r (after .unit) end (a .grows) (rest .grows);
+        at = each-cons (λ x. At r x end) t ts (record { since = grows-refl r; sound = z; settled = e; after = a; before = rest .grows })
+            (λ x d. let y = rest .at x d in
+            record { since = grows-trans r (after .unit) (x .unit) (a .grows) (y .since); sound = y .sound; settled = y .settled; after = y .after; before = y .before });
+        counts = λ κ. let x = a .counts κ in let y = rest .counts κ in omega (arith, count-append (isOf κ) (messages checks keys t) (allMessages checks keys ts));
+        settled = rest .settled;
+      }
+
+-- ---- an honest unit's list
+
+-- the record with nothing set, with any store
+pub fresh-sound : (checks : Checks) (W : Relation) (n seat round : ℕ) (store : List ℕ) → InRange n seat round → Sound checks W (fresh n seat round) store
+unfolding fresh unset
+fresh-sound checks W n seat round store range = record {
+  range = range;
+  own = record {
+    collection = record { sized = refl; below = pow-pos n; few = omega (arith, size-empty); kept = λ s i. absurd (omega (arith, bit-empty s)) };
+    unsaid = λ e. (refl, refl);
+    said = λ e. absurd (false≢true e);
+  };
+  heard = record { few = omega arith; unheard = λ e. refl };
+  first = record {
+    sized = refl;
+    below = pow-pos n;
+    enough = inl refl;
+    kept = λ s i. absurd (omega (arith, bit-empty s));
+    guiltyBelow = pow-pos n;
+    guiltyWithin = shared-none 0;
+    unheld = λ e. (refl, refl);
+  };
+  flags = record { full = λ e. absurd (false≢true e); confirmed = λ e. absurd (false≢true e) };
+}
+
+pub fresh-settled : (n seat round : ℕ) → 1 ≤ n → Settled (fresh n seat round)
+unfolding fresh owesFull
+fresh-settled n seat round some = record {
+  complete = λ e. absurd (omega (arith, size-empty, k-pos n some));
+  holds = λ e. absurd (false≢true e);
+  owes = refl;
+}

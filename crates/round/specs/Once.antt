@@ -1,0 +1,191 @@
+-- Demand 1 over a whole list: "in a round a unit on one unbroken record sends at most one submission, one notice and one full
+-- certificate." And so "two units can[not] reply to each other without end".
+-- Assumes nothing.
+use mathlib.Core.Path.{_≡_, refl, ap, subst, _∙_}
+use mathlib.Core.Bool.{true, false}
+use mathlib.Core.List.{List, [], _∷_, append-nil, List·Memᴰ, List·Memᴰ·head, List·Memᴰ·tail}
+use mathlib.Core.Logic.{_⊎_, inl, inr, ⊎-elim, _≢_}
+use Prim.Native.Nat.{ℕ, zero, suc, _+_, _*_, _≤_}
+use native.Mathlib.Omega.{arith}
+use native.Mathlib.Decide.{ℕ-discrete}
+use lib.ListN.{length, length-append}
+use borrow.Author.Tests.{ne-eqb}
+use Rattle.quorum.specs.Quorum.{k}
+use Rattle.protocol.specs.Layout.{submitLength, noticeLength, fullEntryLength, fullEntryAt, evidenceEntryLength, evidenceEntryAt, outLength}
+use Rattle.protocol.specs.Message.{Message, Submit, Notice, Full, Evidence, Garbled, render, renderAll}
+use Rattle.protocol.specs.Laws.{length-submit, length-notice, length-full, length-evidence}
+use Rattle.protocol.specs.ReadLaws.{WellFormed}
+use Rattle.protocol.specs.Record.{impossible}
+use Rattle.protocol.specs.Refusals.{Checks, isFull, isEvidence}
+use Rattle.protocol.specs.Calls.{opening}
+use Rattle.protocol.specs.declared.Record.{Record}
+use Rattle.round.specs.Round.{Each, Relation, Kind, SUBMIT, NOTICE, FULL, EVIDENCE, isOf, isSubmit, isNotice, flagOf, worth, count, Honest, Turn, left, writtenIn, writtenOver, Are, turnsOf}
+use Rattle.round.specs.Lists.{worth-le-one, worth-true, true-of-worth, count-pos}
+use Rattle.round.specs.Sound.{Good}
+use Rattle.round.specs.Certificates.{sized-entries, sized-pairs}
+use Rattle.round.specs.Parts.{confirmed-submitted}
+use Rattle.round.specs.Reading.{are-unique}
+use Rattle.round.specs.Unrefused.{possible}
+use Rattle.round.specs.Journey.{Worthy, messages, allMessages, Passed}
+use Rattle.round.specs.Units.{Any, any-worthy, endOf, start-n, start-sound, start-settled, trip, stop, left-grows, written-are, all-are}
+
+-- ---- messages by kind
+
+-- each message is of one kind
+kinds : List Message → ℕ
+kinds ms = count (isOf SUBMIT) ms + count (isOf NOTICE) ms + count (isOf FULL) ms + count (isOf EVIDENCE) ms
+
+kinds-all : (n : ℕ) (ms : List Message) → Each (WellFormed n) ms → kinds ms ≡ length ms
+unfolding kinds count worth isSubmit isNotice isFull isEvidence
+kinds-all n [] w = refl
+kinds-all n (Submit ρ seat value signature ∷ ms) w = omega (arith, kinds-all n ms (λ m d. w m (List·Memᴰ·tail d)))
+kinds-all n (Notice ρ seat value ∷ ms) w = omega (arith, kinds-all n ms (λ m d. w m (List·Memᴰ·tail d)))
+kinds-all n (Full ρ sender value es ∷ ms) w = omega (arith, kinds-all n ms (λ m d. w m (List·Memᴰ·tail d)))
+kinds-all n (Evidence ρ lower higher ps ∷ ms) w = omega (arith, kinds-all n ms (λ m d. w m (List·Memᴰ·tail d)))
+kinds-all n (Garbled ∷ ms) w = absurd (w Garbled (List·Memᴰ·head refl))
+
+evidence-room : (a b : ℕ) → a ≤ b → evidenceEntryAt a ≤ evidenceEntryAt b
+unfolding evidenceEntryAt evidenceEntryLength
+evidence-room a b h = omega arith
+
+once-le : (c l : ℕ) → c ≤ 1 → c * l ≤ l
+once-le zero l h = omega arith
+once-le (suc zero) l h = omega arith
+once-le (suc (suc c)) l h = absurd (omega arith)
+
+-- one of each kind fills out
+out-filled : (n : ℕ) → submitLength + noticeLength + fullEntryAt (k n) + evidenceEntryAt (k n) ≡ outLength n
+unfolding submitLength noticeLength fullEntryAt fullEntryLength evidenceEntryAt evidenceEntryLength outLength
+out-filled n = omega arith
+
+-- none but evidence, and one at most
+evidence-alone : (ms : List Message) → length ms ≡ count (isOf EVIDENCE) ms → count (isOf EVIDENCE) ms ≤ 1 → (ms ≡ []) ⊎ ((m : Message) × (isEvidence m ≡ true) × (ms ≡ m ∷ []))
+unfolding count
+evidence-alone [] e l = inl refl
+evidence-alone (m ∷ []) e l = inr (m, true-of-worth (isEvidence m) (omega arith), refl)
+evidence-alone (m ∷ m′ ∷ ms) e l = absurd (omega arith)
+
+-- the bytes that messages of each kind take
+module _ (checks : Checks) (W : Relation) (r : Record) where
+  bytes-by-kind : (ms : List Message) → Each (Good checks W r) ms
+      → length (renderAll ms) ≤ count (isOf SUBMIT) ms * submitLength + count (isOf NOTICE) ms * noticeLength + count (isOf FULL) ms * fullEntryAt (k (r .n)) + count (isOf EVIDENCE) ms * evidenceEntryAt (k (r .n))
+  unfolding renderAll count worth isSubmit isNotice isFull isEvidence
+  bytes-by-kind [] g = omega arith
+  bytes-by-kind (Submit ρ seat value signature ∷ ms) g =
+      let h = g (Submit ρ seat value signature) (List·Memᴰ·head refl) in
+      let l = length-submit ρ seat value signature (h .0 .sized) (h .1 .sized) in
+      omega (arith, length-append (render (Submit ρ seat value signature)) (renderAll ms), bytes-by-kind ms (λ m d. g m (List·Memᴰ·tail d)))
+  bytes-by-kind (Notice ρ seat value ∷ ms) g =
+      let h = g (Notice ρ seat value) (List·Memᴰ·head refl) in
+      let l = length-notice ρ seat value (h .sized) in
+      omega (arith, length-append (render (Notice ρ seat value)) (renderAll ms), bytes-by-kind ms (λ m d. g m (List·Memᴰ·tail d)))
+  bytes-by-kind (Full ρ sender value es ∷ ms) g =
+      let h = g (Full ρ sender value es) (List·Memᴰ·head refl) in
+      let l : length (render (Full ρ sender value es)) ≡ fullEntryAt (k (r .n)) =
+      length-full ρ sender value es (h .0 .sized) (sized-entries es (λ e d. h .1 .kept e d .sized)) ∙ ap fullEntryAt (h .1 .many) in
+      omega (arith, length-append (render (Full ρ sender value es)) (renderAll ms), bytes-by-kind ms (λ m d. g m (List·Memᴰ·tail d)))
+  bytes-by-kind (Evidence ρ lower higher ps ∷ ms) g =
+      let h = g (Evidence ρ lower higher ps) (List·Memᴰ·head refl) in
+      let l = length-evidence ρ lower higher ps (h .1 .sizedLower) (h .1 .sizedHigher) (sized-pairs ps (λ p d. h .1 .lows p d .sized) (λ p d. h .1 .highs p d .sized)) in
+      let f = evidence-room (length ps) (k (r .n)) (h .1 .few) in
+      omega (arith, length-append (render (Evidence ρ lower higher ps)) (renderAll ms), bytes-by-kind ms (λ m d. g m (List·Memᴰ·tail d)))
+  bytes-by-kind (Garbled ∷ ms) g = absurd (g Garbled (List·Memᴰ·head refl))
+
+-- ---- an honest unit's list
+
+module _ (checks : Checks) (n round : ℕ) (keys : List ℕ) (u : Honest) (opened : opening n (u .seat) round keys .number ≡ 0) where
+  abbrev ts : List Turn
+  ts = turnsOf checks n round keys u
+
+  abbrev any : Each (Worthy checks Any keys) ts
+  any = any-worthy checks keys ts
+
+  -- the bytes written over the whole list are messages one after another
+  pub written-messages : (ms : List Message) × Are n (writtenOver checks keys ts) ms
+  written-messages = (allMessages checks keys ts, all-are checks n round keys u opened)
+
+  -- and at most one of each kind: SUBMIT, NOTICE, FULL and EVIDENCE
+  pub at-most-one : (ms : List Message) → Are n (writtenOver checks keys ts) ms → (κ : Kind) → count (isOf κ) ms ≤ 1
+  at-most-one ms a κ =
+      let e = are-unique n (writtenOver checks keys ts) ms (allMessages checks keys ts) a (all-are checks n round keys u opened) in
+      let c = trip checks n round keys u opened Any any .counts κ in
+      let l = worth-le-one (flagOf κ (endOf checks n round keys u opened)) in
+      rw e (omega arith)
+
+  -- four messages in all, however long the list: no two units reply to each other without end
+  pub at-most-four : (ms : List Message) → Are n (writtenOver checks keys ts) ms → length ms ≤ 4
+  unfolding kinds
+  at-most-four ms a =
+      let one = at-most-one ms a in
+      omega (arith, kinds-all n ms (a .0), one SUBMIT, one NOTICE, one FULL, one EVIDENCE)
+
+  -- the record that the opening gave isn't impossible
+  pub opened-possible : impossible (opening n (u .seat) round keys .unit) ≡ false
+  opened-possible =
+      possible checks Any (opening n (u .seat) round keys .unit) (u .store) (start-sound checks n round keys u opened Any) (start-settled checks n round keys u opened)
+
+  -- ---- at each call
+
+  module _ (t : Turn) (d : List·Memᴰ t ts) where
+    abbrev here : Passed checks Any keys (t .unit) (t .store) (left checks keys t .unit) (left checks keys t .store) (messages checks keys t)
+    here = stop checks n round keys u opened Any any t d .after
+
+    -- and no record that comes out is
+    pub none-impossible : impossible (left checks keys t .unit) ≡ false
+    none-impossible = possible checks Any (left checks keys t .unit) (left checks keys t .store) (here .sound) (here .settled)
+
+    counted-once : (κ : Kind) → count (isOf κ) (messages checks keys t) ≤ 1
+    counted-once κ = let c = here .counts κ in let l = worth-le-one (flagOf κ (left checks keys t .unit)) in omega arith
+
+    -- what is written fits the stated out
+    pub written-fits : length (writtenIn checks keys t) ≤ outLength n
+    written-fits =
+        let ms = messages checks keys t in
+        let size = left checks keys t .unit .n in
+        let exact : size ≡ n = left-grows checks n round keys u opened Any any t d .n ∙ start-n checks n round keys u opened in
+        rw (written-are checks n round keys u opened Any any t d .1)
+        (subst (λ i. length (renderAll ms) ≤ outLength i) exact
+        (omega (
+          arith,
+          bytes-by-kind checks Any (left checks keys t .unit) ms (here .good),
+          out-filled size,
+          once-le (count (isOf SUBMIT) ms) submitLength (counted-once SUBMIT),
+          once-le (count (isOf NOTICE) ms) noticeLength (counted-once NOTICE),
+          once-le (count (isOf FULL) ms) (fullEntryAt (k size)) (counted-once FULL),
+          once-le (count (isOf EVIDENCE) ms) (evidenceEntryAt (k size)) (counted-once EVIDENCE),
+        )))
+
+    -- what is set stays set
+    pub flag-stays : (κ : Kind) → flagOf κ (t .unit) ≡ true → flagOf κ (left checks keys t .unit) ≡ true
+    flag-stays κ e =
+        true-of-worth (flagOf κ (left checks keys t .unit)) (omega (arith, here .counts κ, worth-true (flagOf κ (t .unit)) e, worth-le-one (flagOf κ (left checks keys t .unit))))
+
+    none-of : (κ : Kind) → flagOf κ (t .unit) ≡ true → count (isOf κ) (messages checks keys t) ≡ 0
+    none-of κ e = omega (arith, here .counts κ, worth-true (flagOf κ (t .unit)) e, worth-le-one (flagOf κ (left checks keys t .unit)))
+
+    innocent : (m : Message) → List·Memᴰ m (messages checks keys t) → isEvidence m ≡ true → t .unit .guilty ≡ 0
+    innocent m e is = go (ℕ-discrete (t .unit .guilty) 0)
+      where
+        go : Dec (t .unit .guilty ≡ 0) → t .unit .guilty ≡ 0
+        go (yes q) = q
+        go (no q) = absurd (omega (arith, count-pos (isOf EVIDENCE) (messages checks keys t) m e is, none-of EVIDENCE (rw (ne-eqb (t .unit .guilty) 0 q))))
+
+    -- once FULL is sent, a call writes nothing, or one EVIDENCE; and that only while guilty seats are empty
+    pub quiet-once-sent : t .unit .sent ≡ true
+        → (writtenIn checks keys t ≡ []) ⊎ ((m : Message) × (isEvidence m ≡ true) × (t .unit .guilty ≡ 0) × (writtenIn checks keys t ≡ render m))
+    unfolding kinds renderAll
+    quiet-once-sent sent =
+        let z = stop checks n round keys u opened Any any t d .sound in
+        let confirmed = z .flags .confirmed sent in
+        let submitted = confirmed-submitted checks Any (t .unit) (t .store) z confirmed in
+        let ms = messages checks keys t in
+        let are = written-are checks n round keys u opened Any any t d in
+        let alone = evidence-alone ms (omega (arith, kinds-all n ms (are .0), none-of SUBMIT submitted, none-of NOTICE confirmed, none-of FULL sent)) (counted-once EVIDENCE) in
+        ⊎-elim
+        (λ e. inl (are .1 ∙ ap renderAll e))
+        (λ h. inr (h .0, h .1, innocent (h .0) (rw (h .2) (List·Memᴰ·head refl)) (h .1), are .1 ∙ ap renderAll (h .2) ∙ append-nil (render (h .0))))
+        alone
+
+    -- so with both, nothing is ever written again
+    pub nothing-more : t .unit .sent ≡ true → t .unit .guilty ≢ 0 → writtenIn checks keys t ≡ []
+    nothing-more sent guilty = ⊎-elim (λ e. e) (λ h. absurd (guilty (h .2))) (quiet-once-sent sent)

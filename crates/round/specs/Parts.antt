@@ -1,0 +1,480 @@
+-- The parts of a submit and a step: each keeps record and store sound, only adds to what stood, and writes a message just
+-- where its flag comes to be set.
+-- Assumes nothing.
+use mathlib.Core.Path.{_≡_, refl, sym, ap, subst, _∙_}
+use mathlib.Core.Bool.{Bool, true, false, cond, not, _&&_, true≢false}
+use mathlib.Core.List.{List, [], _∷_, _++_}
+use mathlib.Core.Logic.{inl, inr, ⊎-elim, _≢_}
+use Prim.Native.Nat.{ℕ, _+_, _^_, _≤_, _<_}
+use native.Mathlib.Omega.{arith}
+use native.Mathlib.Decide.{ℕ-discrete, decLt}
+use lib.Bits.{and-zero-l}
+use lib.Dec.{eqb}
+use lib.ListN.{length}
+use borrow.Author.Tests.{eqb-true, eqb-false, ne-eqb, not-true, not-false}
+use Rattle.octets.specs.Strings.{same}
+use Rattle.octets.specs.StringLaws.{same-refl, same-true, same-false}
+use Rattle.quorum.specs.Quorum.{k, bit, In, has, size, shared, with, seats}
+use Rattle.quorum.specs.Laws.{bit-empty, bit-with-other, bit-with-same, has-false, bit-shared, same-seats, shared-lt, with-lt, size-empty, size-with-new, bit-outside, mem-seats, t0-is-third, k-of-n-share}
+use Rattle.protocol.specs.Layout.{valueLength, signatureLength, storeLength, collectedBank, firstBank}
+use Rattle.protocol.specs.Values.{unset}
+use Rattle.protocol.specs.Message.{Pair, Message, Submit, Notice, Full, Evidence, Garbled}
+use Rattle.protocol.specs.Certificate.{Certificate, slot, keep, keepEach, ownCertificate, firstCertificate, fullOf, evidenceOf}
+use Rattle.protocol.specs.Record.{noneHeard, oneHeard, holds}
+use Rattle.protocol.specs.Refusals.{Checks, isFull, isEvidence}
+use Rattle.protocol.specs.Step.{State, write, collect, keepValue, submitOwn, isWanted, noticesWith, hear, otherHeard, owesFull, sendFull, reply, hold, blame, blames, holdOrBlame}
+use Rattle.protocol.specs.declared.Own.{Own}
+use Rattle.protocol.specs.declared.Notices.{Notices}
+use Rattle.protocol.specs.declared.Record.{Record}
+use Rattle.round.specs.Round.{Each, Relation, Kind, SUBMIT, NOTICE, FULL, EVIDENCE, isOf, flagOf, isSubmit, isNotice, worth}
+use Rattle.round.specs.Lists.{cond-elim, and-true-both, and-false-either, each-one, each-append, count-append, count-one}
+use Rattle.round.specs.Slots.{keep-length, slot-keep-same, slot-keep-other, keepEach-length, slot-keepEach-other, slot-keepEach-same}
+use Rattle.round.specs.Sound.{Heard, Held, Grows, Room, Kept, Certifies, Pairs, Collection, Holding, Sound, Said, Good, Leads}
+use Rattle.round.specs.Certificates.{entries-of, evidence-elim}
+
+-- ---- records that go on
+
+pub grows-refl : (r : Record) → Grows r r
+grows-refl r = record { n = refl; seat = refl; round = refl; said = λ e. (e, refl); heard = λ v h. h; held = λ v h. h }
+
+pub grows-trans : (r r′ r″ : Record) → Grows r r′ → Grows r′ r″ → Grows r r″
+grows-trans r r′ r″ a b = record {
+  n = b .n ∙ a .n;
+  seat = b .seat ∙ a .seat;
+  round = b .round ∙ a .round;
+  said = λ e. let x = a .said e in let y = b .said (x .0) in (y .0, y .1 ∙ x .1);
+  heard = λ v h. b .heard v (a .heard v h);
+  held = λ v h. b .held v (a .held v h);
+}
+
+-- a fleet of one seat or more has a threshold of one or more
+pub k-pos : (n : ℕ) → 1 ≤ n → 1 ≤ k n
+unfolding k
+k-pos n h = omega (arith, t0-is-third n h)
+
+said-grows : (r r′ : Record) (ρ seat : ℕ) (value : List ℕ) → Grows r r′ → Said r ρ seat value → Said r′ ρ seat value
+said-grows r r′ ρ seat value g s =
+    let kept = g .said (s .submitted) in
+    record {
+      ofRound = s .ofRound ∙ sym (g .round);
+      ofSeat = s .ofSeat ∙ sym (g .seat);
+      ofValue = s .ofValue ∙ sym (kept .1);
+      submitted = kept .0;
+      sized = s .sized;
+    }
+
+-- a seat of a set of n seats is one of the n
+pub in-below : (n s m : ℕ) → m < 2 ^ n → In s m → s < n
+in-below n s m l i = go (decLt s n)
+  where
+    go : Dec (s < n) → s < n
+    go (yes h) = h
+    go (no h) = absurd (omega (arith, bit-outside s n m l (omega arith)))
+
+pub shared-none : (m : ℕ) → shared 0 m ≡ 0
+unfolding shared
+shared-none m = and-zero-l m
+
+-- a part that leaves every flag as it was
+pub same-flags : (r r′ : Record) → r′ .own .submitted ≡ r .own .submitted → r′ .confirmed ≡ r .confirmed → r′ .sent ≡ r .sent → r′ .guilty ≡ r .guilty → (κ : Kind) → flagOf κ r′ ≡ flagOf κ r
+same-flags r r′ a b c d SUBMIT = a
+same-flags r r′ a b c d NOTICE = b
+same-flags r r′ a b c d FULL = c
+same-flags r r′ a b c d EVIDENCE = rw d
+
+-- the notices with one more value: none heard, another one heard, or nothing new
+notices-elim : (P : Notices → Type 0) (value : List ℕ) (r : Record) → (r .notices .heard ≡ 0 → P (record { heard = 1; value = value }))
+    → (r .notices .heard ≡ 1 → value ≢ r .notices .value → P (record { heard = 2; value = r .notices .value }))
+    → (r .notices .heard ≢ 0 → (r .notices .heard ≡ 1 → value ≡ r .notices .value) → P (r .notices)) → P (noticesWith value r)
+unfolding noticesWith noneHeard oneHeard
+notices-elim P value r none other known =
+    let h = r .notices .heard in
+    let v = r .notices .value in
+    cond-elim P (eqb h 0) (record { heard = 1; value = value }) (cond (eqb h 1 && not (same value v)) (record { heard = 2; value = v }) (r .notices)) (λ e. none (eqb-true h 0 e))
+    (λ z. cond-elim P (eqb h 1 && not (same value v)) (record { heard = 2; value = v }) (r .notices)
+    (λ e. let both = and-true-both (eqb h 1) (not (same value v)) e in
+    other (eqb-true h 1 (both .0)) (λ q. true≢false (sym (same-refl v) ∙ subst (λ (u : List ℕ). same u v ≡ false) q (not-true (same value v) (both .1)))))
+    (λ e. known (eqb-false h 0 z)
+    (λ one. ⊎-elim (λ q. absurd (eqb-false h 1 q one)) (λ q. same-true value v (not-false (same value v) q)) (and-false-either (eqb h 1) (not (same value v)) e))))
+
+-- a value that isn't the own one, among those heard: FULL is owed until it is sent
+pub other-heard : (value : List ℕ) (r : Record) → Heard value r → value ≢ r .own .value → otherHeard r ≡ true
+unfolding otherHeard noneHeard oneHeard
+other-heard value r h d =
+    let e = r .notices .heard in
+    rw (ne-eqb e 0 (h .0))
+    (cond-elim (λ b. b ≡ true) (eqb e 1) (not (same (r .notices .value) (r .own .value))) true
+    (λ q. rw (same-false (r .notices .value) (r .own .value) (λ p. d (sym (h .1 (eqb-true e 1 q)) ∙ p)))) (λ q. refl))
+
+module _ (checks : Checks) (W : Relation) where
+  -- a message that the unit has written stays what it was
+  pub good-grows : (r r′ : Record) → Grows r r′ → (m : Message) → Good checks W r m → Good checks W r′ m
+  good-grows r r′ g (Submit ρ seat value signature) h = (said-grows r r′ ρ seat value g (h .0), h .1)
+  good-grows r r′ g (Notice ρ seat value) h = said-grows r r′ ρ seat value g h
+  good-grows r r′ g (Full ρ sender value entries) h = (said-grows r r′ ρ sender value g (h .0), rw (g .n) (h .1))
+  good-grows r r′ g (Evidence ρ lower higher entries) h = (h .0 ∙ sym (g .round), rw (g .n) (h .1))
+  good-grows r r′ g Garbled h = h
+
+  pub leads-trans : (s s′ s″ : State) → Leads checks W s s′ → Leads checks W s′ s″ → Leads checks W s s″
+  leads-trans s s′ s″ a b = record {
+    sound = b .sound;
+    stored = b .stored ∙ a .stored;
+    grows = grows-trans (s .unit) (s′ .unit) (s″ .unit) (a .grows) (b .grows);
+    counts = λ κ. let x = a .counts κ in let y = b .counts κ in omega arith;
+    good = λ h. b .good (a .good h);
+  }
+
+  -- a later state has room where the first has
+  pub room-leads : (s s′ : State) → Leads checks W s s′ → Room s → Room s′
+  room-leads s s′ a room = rw (a .stored, a .grows .n) room
+
+  -- a part that writes nothing and sets no flag
+  pub leads-quiet : (s s′ : State) → Sound checks W (s′ .unit) (s′ .store) → length (s′ .store) ≡ length (s .store) → Grows (s .unit) (s′ .unit) → s′ .written ≡ s .written
+      → ((κ : Kind) → flagOf κ (s′ .unit) ≡ flagOf κ (s .unit)) → Leads checks W s s′
+  leads-quiet s s′ sound stored grows e flags = record {
+    sound = sound;
+    stored = stored;
+    grows = grows;
+    counts = λ κ. rw (e, flags κ);
+    good = λ h. rw e (λ m d. good-grows (s .unit) (s′ .unit) grows m (h m d));
+  }
+
+  -- a part that writes one message
+  pub leads-writing : (s s′ : State) (m : Message) → Sound checks W (s′ .unit) (s′ .store) → length (s′ .store) ≡ length (s .store) → Grows (s .unit) (s′ .unit) → s′ .written ≡ s .written ++ m ∷ []
+      → Good checks W (s′ .unit) m → ((κ : Kind) → worth (isOf κ m) + worth (flagOf κ (s .unit)) ≡ worth (flagOf κ (s′ .unit))) → Leads checks W s s′
+  leads-writing s s′ m sound stored grows e good flags = record {
+    sound = sound;
+    stored = stored;
+    grows = grows;
+    counts = λ κ. rw e (omega (arith, count-append (isOf κ) (s .written) (m ∷ []), count-one (isOf κ) m, flags κ));
+    good = λ h. rw e (each-append (Good checks W (s′ .unit)) (s .written) (m ∷ []) (λ x d. good-grows (s .unit) (s′ .unit) grows x (h x d)) (each-one (Good checks W (s′ .unit)) m good));
+  }
+
+  -- ---- collect
+
+  -- a new seat's signature over the value
+  pub collection-with : (n seat : ℕ) (own : Own) (signature store : List ℕ) → seat < n → storeLength n ≤ length store → bit seat (own .collected) ≡ 0
+      → size (own .collected) < k n → Kept checks W seat (own .value) signature → Collection checks W n own store
+      → Collection checks W n (record { submitted = own .submitted; value = own .value; collected = with seat (own .collected) }) (keep n collectedBank seat signature store)
+  collection-with n seat own signature store inside room new few g z = record {
+    sized = z .sized;
+    below = with-lt n seat (own .collected) inside (z .below);
+    few = let more = size-with-new seat (own .collected) new in omega arith;
+    kept = λ s i. go s i (ℕ-discrete s seat);
+  }
+    where
+      go : (s : ℕ) → In s (with seat (own .collected)) → Dec (s ≡ seat) → Kept checks W s (own .value) (slot n collectedBank (keep n collectedBank seat signature store) s)
+      go s i (yes e) = rw (e, slot-keep-same n collectedBank seat signature store (omega arith) inside room (g .sized)) g
+      go s i (no d) =
+          rw (slot-keep-other n collectedBank seat signature store (omega arith) inside room (g .sized) collectedBank s (λ q. d (omega arith)))
+          (z .kept s (sym (bit-with-other s seat (own .collected) d) ∙ i))
+
+  -- the first certificate's bank is as it was
+  pub holding-beside : (n seat guilty : ℕ) (r : Record) (signature store : List ℕ) → seat < n → storeLength n ≤ length store → length signature ≡ signatureLength
+      → Holding checks W n (r .first) guilty store → Holding checks W n (r .first) guilty (keep n collectedBank seat signature store)
+  holding-beside n seat guilty r signature store inside room sized z = record {
+    sized = z .sized;
+    below = z .below;
+    enough = z .enough;
+    kept = λ s i. rw (slot-keep-other n collectedBank seat signature store (omega arith) inside room sized firstBank s (λ q. omega arith)) (z .kept s i);
+    guiltyBelow = z .guiltyBelow;
+    guiltyWithin = z .guiltyWithin;
+    unheld = z .unheld;
+  }
+
+  module _ (seat : ℕ) (value signature : List ℕ) (s : State) (z : Sound checks W (s .unit) (s .store)) (room : Room s) where
+    -- "the value is the own one and the seat is new, its signature is collected"
+    pub collect-leads : isWanted seat value (s .unit) ≡ true → s .unit .own .submitted ≡ true → (size (s .unit .own .collected) ≡ k (s .unit .n) → s .unit .confirmed ≡ true)
+        → seat < s .unit .n → Kept checks W seat value signature → Leads checks W s (collect seat signature s)
+    unfolding collect isWanted
+    collect-leads wanted submitted complete inside g =
+        let r = s .unit in
+        let both = and-true-both (not (r .confirmed) && same value (r .own .value)) (not (has seat (r .own .collected))) wanted in
+        let front = and-true-both (not (r .confirmed)) (same value (r .own .value)) (both .0) in
+        let unconfirmed : r .confirmed ≡ false = not-true (r .confirmed) (front .0) in
+        let own : value ≡ r .own .value = same-true value (r .own .value) (front .1) in
+        let new : bit seat (r .own .collected) ≡ 0 = has-false seat (r .own .collected) .0 (not-true (has seat (r .own .collected)) (both .1)) in
+        let few : size (r .own .collected) ≢ k (r .n) = λ e. true≢false (sym (complete e) ∙ unconfirmed) in
+        let kept : Kept checks W seat (r .own .value) signature = subst (λ (v : List ℕ). Kept checks W seat v signature) own g in
+        let at-most : size (r .own .collected) ≤ k (r .n) = z .own .collection .few in
+        leads-quiet s (collect seat signature s)
+        (record {
+          range = z .range;
+          own = record {
+            collection = collection-with (r .n) seat (r .own) signature (s .store) inside room new (omega arith) kept (z .own .collection);
+            unsaid = λ e. absurd (true≢false (sym submitted ∙ e));
+            said = λ e. go (ℕ-discrete (r .seat) seat);
+          };
+          heard = z .heard;
+          first = holding-beside (r .n) seat (r .guilty) r signature (s .store) inside room (g .sized) (z .first);
+          flags = record { full = λ e. absurd (true≢false (sym e ∙ unconfirmed)); confirmed = z .flags .confirmed };
+        })
+        (keep-length (r .n) collectedBank seat signature (s .store) (omega arith) inside room (g .sized))
+        (record { n = refl; seat = refl; round = refl; said = λ e. (e, refl); heard = λ v h. h; held = λ v h. h })
+        refl
+        (same-flags r (collect seat signature s .unit) refl refl refl refl)
+      where
+        go : Dec (s .unit .seat ≡ seat) → In (s .unit .seat) (with seat (s .unit .own .collected))
+        go (yes e) = rw e (bit-with-same seat (s .unit .own .collected))
+        go (no d) = bit-with-other (s .unit .seat) seat (s .unit .own .collected) d ∙ z .own .said submitted
+
+  -- ---- submit
+
+  module _ (value signature : List ℕ) (s : State) (z : Sound checks W (s .unit) (s .store)) (room : Room s) where
+    pub submitOwn-leads : s .unit .own .submitted ≡ false → length value ≡ valueLength → Kept checks W (s .unit .seat) value signature → Leads checks W s (submitOwn value signature s)
+    unfolding submitOwn write collect keepValue isSubmit isNotice isFull isEvidence worth
+    submitOwn-leads unsaid sized g =
+        let r = s .unit in
+        let empty : r .own .collected ≡ 0 = z .own .unsaid unsaid .0 in
+        let none : size (r .own .collected) ≡ 0 = ap size empty ∙ size-empty in
+        let some : 1 ≤ k (r .n) = k-pos (r .n) (z .range .some) in
+        let new : bit (r .seat) (r .own .collected) ≡ 0 = rw empty (bit-empty (r .seat)) in
+        let own : Own = record { submitted = true; value = value; collected = r .own .collected } in
+        let clean : Collection checks W (r .n) own (s .store) = record {
+          sized = sized;
+          below = z .own .collection .below;
+          few = z .own .collection .few;
+          kept = λ t i. absurd (let b : bit t (r .own .collected) ≡ 0 = rw empty (bit-empty t) in omega arith);
+        } in
+        leads-writing s (submitOwn value signature s) (Submit (r .round) (r .seat) value signature)
+        (record {
+          range = z .range;
+          own = record {
+            collection = collection-with (r .n) (r .seat) own signature (s .store) (z .range .inside) room new (omega arith) g clean;
+            unsaid = λ e. absurd (true≢false e);
+            said = λ e. bit-with-same (r .seat) (r .own .collected);
+          };
+          heard = z .heard;
+          first = holding-beside (r .n) (r .seat) (r .guilty) r signature (s .store) (z .range .inside) room (g .sized) (z .first);
+          flags = record { full = λ e. absurd (let f = z .flags .full e in omega arith); confirmed = z .flags .confirmed };
+        })
+        (keep-length (r .n) collectedBank (r .seat) signature (s .store) (omega arith) (z .range .inside) room (g .sized))
+        (record { n = refl; seat = refl; round = refl; said = λ e. absurd (true≢false (sym e ∙ unsaid)); heard = λ v h. h; held = λ v h. h })
+        refl
+        (record { ofRound = refl; ofSeat = refl; ofValue = refl; submitted = refl; sized = sized }, g)
+        flags
+      where
+        flags : (κ : Kind) → worth (isOf κ (Submit (s .unit .round) (s .unit .seat) value signature)) + worth (flagOf κ (s .unit)) ≡ worth (flagOf κ (submitOwn value signature s .unit))
+        flags SUBMIT = rw unsaid
+        flags NOTICE = omega arith
+        flags FULL = omega arith
+        flags EVIDENCE = omega arith
+
+  -- ---- hear
+
+  module _ (value : List ℕ) (s : State) where
+    pub hear-leads : Sound checks W (s .unit) (s .store) → Leads checks W s (hear value s)
+    unfolding hear
+    hear-leads z =
+        let r = s .unit in
+        let sound : (noticesWith value r .heard ≤ 2) × (noticesWith value r .heard ≡ 0 → noticesWith value r .value ≡ unset) =
+        notices-elim (λ x. (x .heard ≤ 2) × (x .heard ≡ 0 → x .value ≡ unset)) value r
+        (λ e. (omega arith, λ q. absurd (omega arith)))
+        (λ e d. (omega arith, λ q. absurd (omega arith)))
+        (λ a b. (z .heard .few, z .heard .unheard)) in
+        leads-quiet s (hear value s)
+        (record {
+          range = z .range;
+          own = z .own;
+          heard = record { few = sound .0; unheard = sound .1 };
+          first = z .first;
+          flags = z .flags;
+        })
+        refl
+        (record {
+          n = refl;
+          seat = refl;
+          round = refl;
+          said = λ e. (e, refl);
+          heard = λ v h. notices-elim (λ x. (x .heard ≢ 0) × (x .heard ≡ 1 → x .value ≡ v)) value r (λ e. absurd (h .0 e)) (λ e d. ((λ q. omega arith), λ q. absurd (omega arith))) (λ a b. h);
+          held = λ v h. h;
+        })
+        refl
+        (same-flags r (hear value s .unit) refl refl refl refl)
+
+    pub hear-heard : Heard value (hear value s .unit)
+    unfolding hear
+    hear-heard =
+        notices-elim (λ x. (x .heard ≢ 0) × (x .heard ≡ 1 → x .value ≡ value)) value (s .unit) (λ e. ((λ q. omega arith), λ q. refl)) (λ e d. ((λ q. omega arith), λ q. absurd (omega arith)))
+        (λ a b. (a, λ e. sym (b e)))
+
+  -- ---- certificates of the unit's own
+
+  -- a unit that has collected a seat has submitted
+  pub collected-submitted : (r : Record) (store : List ℕ) → Sound checks W r store → 1 ≤ size (r .own .collected) → r .own .submitted ≡ true
+  collected-submitted r store z h = go (r .own .submitted) refl
+    where
+      go : (b : Bool) → r .own .submitted ≡ b → b ≡ true
+      go true e = refl
+      go false e = absurd (let none = ap size (z .own .unsaid e .0) ∙ size-empty in omega arith)
+
+  pub own-certifies : (r : Record) (store : List ℕ) → Sound checks W r store → size (r .own .collected) ≡ k (r .n) → Certifies checks W (r .n) (ownCertificate r store)
+  unfolding ownCertificate
+  own-certifies r store z e = record { sized = z .own .collection .sized; below = z .own .collection .below; enough = e; kept = z .own .collection .kept }
+
+  pub first-certifies : (r : Record) (store : List ℕ) → Sound checks W r store → r .first .seats ≢ 0 → Certifies checks W (r .n) (firstCertificate r store)
+  unfolding firstCertificate
+  first-certifies r store z held =
+      record { sized = z .first .sized; below = z .first .below; enough = ⊎-elim (λ e. absurd (held e)) (λ e. e) (z .first .enough); kept = z .first .kept }
+
+  -- ---- reply
+
+  -- confirmed, and so k seats collected, and so submitted
+  pub confirmed-submitted : (r : Record) (store : List ℕ) → Sound checks W r store → r .confirmed ≡ true → r .own .submitted ≡ true
+  confirmed-submitted r store z e = collected-submitted r store z (let f = z .flags .full e in let p = k-pos (r .n) (z .range .some) in omega arith)
+
+  module _ (s : State) (z : Sound checks W (s .unit) (s .store)) where
+    owes-parts : owesFull (s .unit) ≡ true → (s .unit .confirmed ≡ true) × (s .unit .sent ≡ false)
+    unfolding owesFull
+    owes-parts e =
+        let r = s .unit in
+        let front = and-true-both (r .confirmed) (not (r .sent)) (and-true-both (r .confirmed && not (r .sent)) (otherHeard r) e .0) in
+        (front .0, not-true (r .sent) (front .1))
+
+    sendFull-leads : owesFull (s .unit) ≡ true → Leads checks W s (sendFull s)
+    unfolding sendFull write fullOf ownCertificate isSubmit isNotice isFull isEvidence worth
+    sendFull-leads owes =
+        let r = s .unit in
+        let parts = owes-parts owes in
+        let own = own-certifies r (s .store) z (z .flags .full (parts .0)) in
+        leads-writing s (sendFull s) (fullOf (r .n) (r .round) (r .seat) (ownCertificate r (s .store)))
+        (record {
+          range = z .range;
+          own = z .own;
+          heard = z .heard;
+          first = z .first;
+          flags = record { full = z .flags .full; confirmed = λ e. parts .0 };
+        })
+        refl
+        (record { n = refl; seat = refl; round = refl; said = λ e. (e, refl); heard = λ v h. h; held = λ v h. h })
+        refl
+        (record { ofRound = refl; ofSeat = refl; ofValue = refl; submitted = confirmed-submitted r (s .store) z (parts .0); sized = z .own .collection .sized }, entries-of checks W (r .n) (ownCertificate r (s .store)) own)
+        (flags (parts .1))
+      where
+        flags : s .unit .sent ≡ false → (κ : Kind) → worth (isOf κ (fullOf (s .unit .n) (s .unit .round) (s .unit .seat) (ownCertificate (s .unit) (s .store)))) + worth (flagOf κ (s .unit)) ≡ worth (flagOf κ (sendFull s .unit))
+        flags unsent SUBMIT = omega arith
+        flags unsent NOTICE = omega arith
+        flags unsent FULL = rw unsent
+        flags unsent EVIDENCE = omega arith
+
+    pub leads-refl : Leads checks W s s
+    leads-refl = leads-quiet s s z refl (grows-refl (s .unit)) refl (λ κ. refl)
+
+    pub reply-leads : Leads checks W s (reply s)
+    unfolding reply
+    reply-leads = cond-elim (λ x. Leads checks W s x) (owesFull (s .unit)) (sendFull s) s sendFull-leads (λ e. leads-refl)
+
+  -- ---- hold or blame
+
+  module _ (c : Certificate) (s : State) (z : Sound checks W (s .unit) (s .store)) (room : Room s) (y : Certifies checks W (s .unit .n) c) where
+    certificate-some : c .seats ≢ 0
+    certificate-some e = let none = ap size e ∙ size-empty in let p = k-pos (s .unit .n) (z .range .some) in let q = y .enough in omega arith
+
+    certificate-fit : Each (λ t. (t < s .unit .n) × (length (c .signature t) ≡ signatureLength)) (seats (s .unit .n) (c .seats))
+    certificate-fit t d = let m = mem-seats (s .unit .n) t (c .seats) .0 d in (m .0, y .kept t (m .1) .sized)
+
+    hold-leads : s .unit .first .seats ≡ 0 → Leads checks W s (hold c s)
+    unfolding hold
+    hold-leads empty =
+        let r = s .unit in
+        let innocent : r .guilty ≡ 0 = z .first .unheld empty .1 in
+        let store = keepEach (r .n) firstBank (c .signature) (seats (r .n) (c .seats)) (s .store) in
+        leads-quiet s (hold c s)
+        (record {
+          range = z .range;
+          own = record {
+            collection = record {
+              sized = z .own .collection .sized;
+              below = z .own .collection .below;
+              few = z .own .collection .few;
+              kept = λ t i. rw (slot-keepEach-other (r .n) firstBank (c .signature) (omega arith) (seats (r .n) (c .seats)) (s .store) collectedBank t certificate-fit room (λ u d q. let l = in-below (r .n) t (r .own .collected) (z .own .collection .below) i in omega arith)) (z .own .collection .kept t i);
+            };
+            unsaid = z .own .unsaid;
+            said = z .own .said;
+          };
+          heard = z .heard;
+          first = record {
+            sized = y .sized;
+            below = y .below;
+            enough = inr (y .enough);
+            kept = λ t i. rw (slot-keepEach-same (r .n) firstBank (c .signature) (omega arith) (seats (r .n) (c .seats)) (s .store) t certificate-fit room (mem-seats (r .n) t (c .seats) .1 (in-below (r .n) t (c .seats) (y .below) i, i))) (y .kept t i);
+            guiltyBelow = z .first .guiltyBelow;
+            guiltyWithin = rw innocent (shared-none (c .seats));
+            unheld = λ e. absurd (certificate-some e);
+          };
+          flags = z .flags;
+        })
+        (keepEach-length (r .n) firstBank (c .signature) (omega arith) (seats (r .n) (c .seats)) (s .store) certificate-fit room)
+        (record { n = refl; seat = refl; round = refl; said = λ e. (e, refl); heard = λ v h. h; held = λ v h. absurd (h .0 empty) })
+        refl
+        (same-flags r (hold c s .unit) refl refl refl refl)
+
+    -- "makes the shared seats guilty and EVIDENCE is written"
+    shared-guilty : s .unit .first .seats ≢ 0 → shared (s .unit .first .seats) (c .seats) ≢ 0
+    shared-guilty held e =
+        let r = s .unit in
+        let enough : size (r .first .seats) ≡ k (r .n) = ⊎-elim (λ q. absurd (held q)) (λ q. q) (z .first .enough) in
+        let many = k-of-n-share (r .n) (r .first .seats) (c .seats) (z .range .some) (z .first .below) (y .below) enough (y .enough) in
+        let none = ap size e ∙ size-empty in
+        omega arith
+
+    blame-leads : s .unit .first .seats ≢ 0 → s .unit .first .value ≢ c .value → s .unit .guilty ≡ 0 → Leads checks W s (blame c s)
+    unfolding blame write firstCertificate isSubmit isNotice isFull isEvidence worth
+    blame-leads held other innocent =
+        let r = s .unit in
+        let first = firstCertificate r (s .store) in
+        let guilty = shared (r .first .seats) (c .seats) in
+        let f = first-certifies r (s .store) z held in
+        leads-writing s (blame c s) (evidenceOf (r .n) (r .round) first c)
+        (record {
+          range = z .range;
+          own = z .own;
+          heard = z .heard;
+          first = record {
+            sized = z .first .sized;
+            below = z .first .below;
+            enough = z .first .enough;
+            kept = z .first .kept;
+            guiltyBelow = shared-lt (r .n) (r .first .seats) (c .seats) (z .first .below) (y .below);
+            guiltyWithin = same-seats (shared guilty (r .first .seats)) guilty (λ t. omega (arith, bit-shared t guilty (r .first .seats), bit-shared t (r .first .seats) (c .seats)));
+            unheld = λ e. absurd (held e);
+          };
+          flags = z .flags;
+        })
+        refl
+        (record { n = refl; seat = refl; round = refl; said = λ e. (e, refl); heard = λ v h. h; held = λ v h. (held, ⊎-elim inl (λ g. absurd (g innocent)) (h .1)) })
+        refl
+        (evidence-elim checks W (Good checks W (blame c s .unit)) (r .n) (r .round) first c (z .range .some) f y other (λ lower higher ps p. (refl, p)))
+        (evidence-elim checks W (λ m. (κ : Kind) → worth (isOf κ m) + worth (flagOf κ r) ≡ worth (flagOf κ (blame c s .unit))) (r .n) (r .round) first c (z .range .some) f y other flags)
+      where
+        flags : (lower higher : List ℕ) (ps : List Pair) → Pairs checks W (s .unit .n) lower higher ps → (κ : Kind)
+            → worth (isOf κ (Evidence (s .unit .round) lower higher ps)) + worth (flagOf κ (s .unit)) ≡ worth (flagOf κ (blame c s .unit))
+        flags lower higher ps p SUBMIT = omega arith
+        flags lower higher ps p NOTICE = omega arith
+        flags lower higher ps p FULL = omega arith
+        flags lower higher ps p EVIDENCE = rw (innocent, ne-eqb (shared (s .unit .first .seats) (c .seats)) 0 (shared-guilty held))
+
+    pub holdOrBlame-leads : Leads checks W s (holdOrBlame c s)
+    unfolding holdOrBlame blames holds
+    holdOrBlame-leads =
+        let r = s .unit in
+        let same-value = same (c .value) (r .first .value) in
+        cond-elim (λ x. Leads checks W s x) (not (eqb (r .first .seats) 0)) (cond (not same-value && eqb (r .guilty) 0) (blame c s) s) (hold c s)
+        (λ held. cond-elim (λ x. Leads checks W s x) (not same-value && eqb (r .guilty) 0) (blame c s) s
+        (λ e. let both = and-true-both (not same-value) (eqb (r .guilty) 0) e in
+        blame-leads (eqb-false (r .first .seats) 0 (not-true (eqb (r .first .seats) 0) held)) (λ q. true≢false (sym (same-refl (c .value)) ∙ subst (λ (v : List ℕ). same (c .value) v ≡ false) q (not-true same-value (both .0)))) (eqb-true (r .guilty) 0 (both .1)))
+        (λ e. leads-refl s z))
+        (λ empty. hold-leads (eqb-true (r .first .seats) 0 (not-false (eqb (r .first .seats) 0) empty)))
+
+    -- the certificate has been held, or compared with the one held
+    pub holdOrBlame-held : Held (c .value) (holdOrBlame c s .unit)
+    unfolding holdOrBlame blames holds hold blame write
+    holdOrBlame-held =
+        let r = s .unit in
+        let same-value = same (c .value) (r .first .value) in
+        cond-elim (λ x. Held (c .value) (x .unit)) (not (eqb (r .first .seats) 0)) (cond (not same-value && eqb (r .guilty) 0) (blame c s) s) (hold c s)
+        (λ h. let held = eqb-false (r .first .seats) 0 (not-true (eqb (r .first .seats) 0) h) in
+        cond-elim (λ x. Held (c .value) (x .unit)) (not same-value && eqb (r .guilty) 0) (blame c s) s
+        (λ e. (held, inr (shared-guilty held)))
+        (λ e. (held, ⊎-elim (λ q. inl (sym (same-true (c .value) (r .first .value) (not-false same-value q)))) (λ q. inr (eqb-false (r .guilty) 0 q)) (and-false-either (not same-value) (eqb (r .guilty) 0) e))))
+        (λ empty. (certificate-some, inl refl))

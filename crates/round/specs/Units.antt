@@ -1,0 +1,180 @@
+-- An honest unit's list: it starts from the record with nothing set, and what its calls write are messages one after another.
+-- Assumes nothing.
+use mathlib.Core.Path.{_≡_, refl, sym, ap, subst, _∙_}
+use mathlib.Core.Bool.{true, false}
+use mathlib.Core.List.{List, [], _∷_, List·Memᴰ, List·Memᴰ·head, List·Memᴰ·tail}
+use Prim.Native.Nat.{ℕ, _≤_}
+use native.Mathlib.Omega.{arith}
+use Rattle.quorum.specs.Quorum.{k}
+use Rattle.refusal.specs.Refusal.{unrefused}
+use Rattle.protocol.specs.Message.{Pair, Message, Submit, Notice, Full, Evidence, Garbled, renderAll}
+use Rattle.protocol.specs.Laws.{all-append}
+use Rattle.protocol.specs.ReadLaws.{WellFormed}
+use Rattle.protocol.specs.Record.{fresh, lastRound}
+use Rattle.protocol.specs.Refusals.{Checks, wrongKeys}
+use Rattle.protocol.specs.Calls.{openedBy, opening}
+use Rattle.protocol.specs.declared.Record.{Record}
+use Rattle.round.specs.Round.{Each, Relation, Kind, SUBMIT, NOTICE, FULL, EVIDENCE, isOf, flagOf, worth, Call, BySubmit, ByStep, ByThinEntry, Honest, Turn, left, writtenIn, writtenOver, Are, StandsIn, turnsOf, Writes}
+use Rattle.round.specs.Lists.{worth-le-one, worth-true, true-of-worth, count-pos, count-member, each-nil, each-append}
+use Rattle.round.specs.Sound.{Grows, InRange, Settled, Pairs, Sound, Good}
+use Rattle.round.specs.Certificates.{sized-entries, sized-pairs}
+use Rattle.round.specs.Parts.{grows-trans, good-grows}
+use Rattle.round.specs.Reading.{are-unique}
+use Rattle.round.specs.Unrefused.{opening-range}
+use Rattle.round.specs.Journey.{messages, allMessages, all-member, member-all, lastOf, written-is, WorthyGiven, Worthy, At, Journey, journey, fresh-sound, fresh-settled}
+
+-- ---- messages that a unit writes are laid out as document 01 says
+
+k-le : (n : ℕ) → k n ≤ n
+unfolding k
+k-le n = omega arith
+
+pub pairs-formed : (checks : Checks) (W : Relation) (n round : ℕ) (lower higher : List ℕ) (ps : List Pair) → round ≤ lastRound → Pairs checks W n lower higher ps → WellFormed n (Evidence round lower higher ps)
+pairs-formed checks W n round lower higher ps early z = (
+  omega arith,
+  z .sizedLower,
+  z .sizedHigher,
+  z .some,
+  (let f = z .few in let h = k-le n in omega arith),
+  sized-pairs ps (λ p d. z .lows p d .sized) (λ p d. z .highs p d .sized),
+)
+
+pub good-formed : (checks : Checks) (W : Relation) (r : Record) (m : Message) → InRange (r .n) (r .seat) (r .round) → Good checks W r m → WellFormed (r .n) m
+good-formed checks W r (Submit ρ seat value signature) range g = (rw (g .0 .ofRound) (let e = range .early in omega arith), g .0 .sized, g .1 .sized)
+good-formed checks W r (Notice ρ seat value) range g = (rw (g .ofRound) (let e = range .early in omega arith), g .sized)
+good-formed checks W r (Full ρ sender value es) range g =
+    (rw (g .0 .ofRound) (let e = range .early in omega arith), g .0 .sized, g .1 .many, sized-entries es (λ e d. g .1 .kept e d .sized))
+good-formed checks W r (Evidence ρ lower higher ps) range g = pairs-formed checks W (r .n) ρ lower higher ps (rw (g .0) (range .early)) (g .1)
+good-formed checks W r Garbled range g = absurd g
+
+-- every signature is worth something
+abbrev pub Any : Relation
+Any seat value signature = Unit {0}
+
+any-given : (checks : Checks) (keys : List ℕ) (c : Call) (r : Record) → WorthyGiven checks Any keys c r
+any-given checks keys (BySubmit value signature out) r = tt
+any-given checks keys (ByStep bytes out) r = λ s d. tt
+any-given checks keys (ByThinEntry bytes out) r = λ s d. tt
+
+pub any-worthy : (checks : Checks) (keys : List ℕ) (ts : List Turn) → Each (Worthy checks Any keys) ts
+any-worthy checks keys ts t d q = any-given checks keys (t .given) (t .unit)
+
+fresh-flag : (n seat round : ℕ) (κ : Kind) → worth (flagOf κ (fresh n seat round)) ≡ 0
+unfolding fresh worth
+fresh-flag n seat round SUBMIT = refl
+fresh-flag n seat round NOTICE = refl
+fresh-flag n seat round FULL = refl
+fresh-flag n seat round EVIDENCE = refl
+
+-- ---- the unit
+
+module _ (checks : Checks) (n round : ℕ) (keys : List ℕ) (u : Honest) (opened : opening n (u .seat) round keys .number ≡ 0) where
+  abbrev pub startOf : Record
+  startOf = opening n (u .seat) round keys .unit
+
+  abbrev pub endOf : Record
+  endOf = lastOf checks keys startOf (u .store) (u .calls)
+
+  abbrev ts : List Turn
+  ts = turnsOf checks n round keys u
+
+  pub opened-range : InRange n (u .seat) round
+  unfolding opening openedBy
+  opened-range = opening-range n (u .seat) round keys opened .0
+
+  pub opened-keys : wrongKeys n keys ≡ false
+  unfolding opening openedBy
+  opened-keys = opening-range n (u .seat) round keys opened .1
+
+  opened-fresh : startOf ≡ fresh n (u .seat) round
+  unfolding opening openedBy unrefused
+  opened-fresh = rw opened
+
+  pub start-n : startOf .n ≡ n
+  unfolding fresh
+  start-n = ap (λ (r : Record). r .n) opened-fresh
+
+  pub start-seat : startOf .seat ≡ u .seat
+  unfolding fresh
+  start-seat = ap (λ (r : Record). r .seat) opened-fresh
+
+  pub start-round : startOf .round ≡ round
+  unfolding fresh
+  start-round = ap (λ (r : Record). r .round) opened-fresh
+
+  -- nothing is set
+  pub start-flag : (κ : Kind) → worth (flagOf κ startOf) ≡ 0
+  start-flag κ = rw opened-fresh (fresh-flag n (u .seat) round κ)
+
+  pub start-sound : (W : Relation) → Sound checks W startOf (u .store)
+  start-sound W = subst (λ r. Sound checks W r (u .store)) (sym opened-fresh) (fresh-sound checks W n (u .seat) round (u .store) opened-range)
+
+  pub start-settled : Settled startOf
+  start-settled = subst Settled (sym opened-fresh) (fresh-settled n (u .seat) round (opened-range .some))
+
+  module _ (W : Relation) (w : Each (Worthy checks W keys) ts) where
+    pub trip : Journey checks W keys startOf endOf ts
+    trip = journey checks W keys startOf (u .store) (u .calls) (start-sound W) start-settled w
+
+    module _ (t : Turn) (d : List·Memᴰ t ts) where
+      pub stop : At checks W keys startOf t endOf
+      stop = trip .at t d
+
+      pub left-grows : Grows startOf (left checks keys t .unit)
+      left-grows = grows-trans startOf (t .unit) (left checks keys t .unit) (stop .since) (stop .after .grows)
+
+      -- the bytes that the call writes are its messages
+      pub messages-formed : Each (WellFormed n) (messages checks keys t)
+      messages-formed m e =
+          subst (λ i. WellFormed i m) (left-grows .n ∙ start-n) (good-formed checks W (left checks keys t .unit) m (stop .after .sound .range) (stop .after .good m e))
+
+      pub written-are : Are n (writtenIn checks keys t) (messages checks keys t)
+      written-are = (messages-formed, written-is checks keys t)
+
+      -- a message that stands in them is one of those
+      pub stands-message : (m : Message) → StandsIn n m (writtenIn checks keys t) → List·Memᴰ m (messages checks keys t)
+      stands-message m s =
+          subst (λ ms. List·Memᴰ m ms) (are-unique n (writtenIn checks keys t) (s .0) (messages checks keys t) (s .1) written-are) (s .2)
+
+      -- and good at the end of the list too
+      pub stands-good : (m : Message) → StandsIn n m (writtenIn checks keys t) → Good checks W endOf m
+      stands-good m s =
+          good-grows checks W (left checks keys t .unit) endOf (stop .before) m (stop .after .good m (stands-message m s))
+
+    pub end-n : endOf .n ≡ n
+    end-n = trip .grows .n ∙ start-n
+
+    pub end-seat : endOf .seat ≡ u .seat
+    end-seat = trip .grows .seat ∙ start-seat
+
+    pub end-round : endOf .round ≡ round
+    end-round = trip .grows .round ∙ start-round
+
+    -- a message is written in the list just where its flag is set at the end
+    pub written-flag : (κ : Kind) (m : Message) → isOf κ m ≡ true → Writes checks n round keys u m → flagOf κ endOf ≡ true
+    written-flag κ m is h =
+        let d = all-member checks keys ts (h .0) m (h .1) (stands-message (h .0) (h .1) m (h .2)) in
+        true-of-worth (flagOf κ endOf) (omega (arith, count-pos (isOf κ) (allMessages checks keys ts) m d is, trip .counts κ, worth-le-one (flagOf κ endOf)))
+
+    pub flag-written : (κ : Kind) → flagOf κ endOf ≡ true → (m : Message) × (isOf κ m ≡ true) × Writes checks n round keys u m
+    flag-written κ e =
+        let c = count-member (isOf κ) (allMessages checks keys ts) (omega (arith, trip .counts κ, start-flag κ, worth-true (flagOf κ endOf) e)) in
+        let h = member-all checks keys ts (c .0) (c .1) in
+        (c .0, c .2, (h .0, h .1, (messages checks keys (h .0), written-are (h .0) (h .1), h .2)))
+
+    pub writes-good : (m : Message) → Writes checks n round keys u m → Good checks W endOf m
+    writes-good m h = stands-good (h .0) (h .1) m (h .2)
+
+  -- all that the list writes
+  over-are : (xs : List Turn) → Each (λ t. Are n (writtenIn checks keys t) (messages checks keys t)) xs → Are n (writtenOver checks keys xs) (allMessages checks keys xs)
+  unfolding writtenOver allMessages renderAll
+  over-are [] h = (each-nil (WellFormed n), refl)
+  over-are (t ∷ xs) h =
+      let a = h t (List·Memᴰ·head refl) in
+      let b = over-are xs (λ x d. h x (List·Memᴰ·tail d)) in (
+        each-append (WellFormed n) (messages checks keys t) (allMessages checks keys xs) (a .0) (b .0),
+        rw (a .1, b .1) (sym (all-append (messages checks keys t) (allMessages checks keys xs))),
+      )
+
+  pub all-are : Are n (writtenOver checks keys ts) (allMessages checks keys ts)
+  all-are = over-are ts (λ t d. written-are Any (any-worthy checks keys ts) t d)

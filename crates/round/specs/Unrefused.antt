@@ -1,0 +1,352 @@
+-- What it says that a call isn't refused, and when it isn't.
+-- Assumes nothing.
+use mathlib.Core.Path.{_≡_, refl, sym, ap, subst, _∙_}
+use mathlib.Core.Bool.{Bool, true, false, not, _&&_, _||_, true≢false}
+use mathlib.Core.List.{List, [], _∷_, map, List·Memᴰ·head, List·Memᴰ·tail, Memᴰ·map}
+use mathlib.Core.Logic.{⊎-elim, _≢_}
+use Prim.Native.Nat.{ℕ, _≤_, _<_}
+use native.Mathlib.Omega.{arith}
+use lib.Dec.{ltb, eqb}
+use lib.ListN.{length}
+use borrow.Author.Tests.{ltb-true, ltb-false, lt-ltb, le-ltb, lt-leb, leb-false, eqb-true, eqb-false, eq-eqb, ne-eqb, not-true, not-false}
+use Rattle.octets.specs.Strings.{same}
+use Rattle.octets.specs.StringLaws.{same-refl}
+use Rattle.quorum.specs.Quorum.{mostSeats, k, has, size, shared}
+use Rattle.quorum.specs.Laws.{has-true, outside-false, size-empty}
+use Rattle.refusal.specs.Refusal.{lowest}
+use Rattle.refusal.specs.Laws.{lowest-zero}
+use Rattle.protocol.specs.Layout.{valueLength, signatureLength, storeLength, outLength}
+use Rattle.protocol.specs.Values.{unset}
+use Rattle.protocol.specs.Message.{Entry, Pair, Message, Submit, Notice, Full, Evidence, Garbled, Signed, signedEntries, signedPairs, signed, roundOf, entrySeats, seatsOf}
+use Rattle.protocol.specs.Certificate.{certificateIn}
+use Rattle.protocol.specs.Record.{lastRound, wrongSize, wrongSeat, wrongRound, noneHeard, holds, outOfRange, wrongHeard, namesStranger, wrongCollected, wrongFirst, lacksFirst, wrongGuilty, wrongSent, wrongUnset, impossible}
+use Rattle.protocol.specs.Refusals.{Checks, every, wrongKeys, shortStore, shortOut, said, isForStep, isFull, isEvidence, wrongLengths, otherRound, stranger, rising, disorder, early, badSignature, notLowerFirst, formConditions, signatureConditions, outsideConditions, recordConditions, openingConditions, submitConditions, stepConditions, evidenceConditions, equalValues, twoConditions, makingConditions}
+use Rattle.protocol.specs.declared.Record.{Record}
+use Rattle.round.specs.Round.{Each, Relation, EachSigned}
+use Rattle.round.specs.Lists.{and-true-both, or-false-both, or-true-either, each-nil, each-cons, each-map, every-each, each-every}
+use Rattle.round.specs.Sound.{InRange, Settled, Kept, Entries, Pairs, Sound}
+use Rattle.round.specs.Whole.{Brings}
+use Rattle.round.specs.Reading.{Laid}
+
+-- ---- ranges
+
+pub size-right : (n : ℕ) → 1 ≤ n → n ≤ mostSeats → wrongSize n ≡ false
+unfolding wrongSize
+size-right n some most = rw (ne-eqb n 0 (λ e. omega arith), le-ltb mostSeats n most)
+
+pub round-right : (round : ℕ) → round ≤ lastRound → wrongRound round ≡ false
+unfolding wrongRound
+round-right round h = le-ltb lastRound round h
+
+-- ---- no record that keeps the invariant is impossible
+
+implied : (a b : Bool) → (a ≡ true → b ≡ true) → (a && not b) ≡ false
+implied true b h = rw (h refl)
+implied false b h = refl
+
+module _ (checks : Checks) (W : Relation) (r : Record) (store : List ℕ) (z : Sound checks W r store) (e : Settled r) where
+  in-range : outOfRange r ≡ false
+  unfolding outOfRange wrongSeat
+  in-range = rw (size-right (r .n) (z .range .some) (z .range .most), lt-leb (r .n) (r .seat) (z .range .inside), round-right (r .round) (z .range .early))
+
+  heard-right : wrongHeard r ≡ false
+  unfolding wrongHeard
+  heard-right = le-ltb 2 (r .notices .heard) (z .heard .few)
+
+  no-stranger : namesStranger r ≡ false
+  unfolding namesStranger
+  no-stranger =
+      rw (outside-false (r .n) (r .own .collected) .1 (z .own .collection .below), outside-false (r .n) (r .first .seats) .1 (z .first .below), outside-false (r .n) (r .guilty) .1 (z .first .guiltyBelow))
+
+  collected-right : wrongCollected r ≡ false
+  unfolding wrongCollected
+  collected-right =
+      let c = r .own .collected in
+      let none = implied (not (r .own .submitted)) (eqb c 0) (λ q. eq-eqb c 0 (z .own .unsaid (not-true (r .own .submitted) q) .0)) in
+      let own = implied (r .own .submitted) (has (r .seat) c) (λ q. has-true (r .seat) c .1 (z .own .said q)) in
+      let complete = implied (eqb (size c) (k (r .n))) (r .confirmed) (λ q. e .complete (eqb-true (size c) (k (r .n)) q)) in
+      let full = implied (r .confirmed) (eqb (size c) (k (r .n))) (λ q. eq-eqb (size c) (k (r .n)) (z .flags .full q)) in
+      rw (none, own, le-ltb (k (r .n)) (size c) (z .own .collection .few), complete, full)
+
+  first-right : wrongFirst r ≡ false
+  unfolding wrongFirst
+  first-right =
+      let f = r .first .seats in
+      implied (not (eqb (size f) 0)) (eqb (size f) (k (r .n)))
+      (λ q. ⊎-elim (λ p. absurd (eqb-false (size f) 0 (not-true (eqb (size f) 0) q) (ap size p ∙ size-empty))) (λ p. eq-eqb (size f) (k (r .n)) p) (z .first .enough))
+
+  first-there : lacksFirst r ≡ false
+  unfolding lacksFirst holds
+  first-there =
+      let f = r .first .seats in
+      implied (r .confirmed || not (eqb (r .guilty) 0)) (not (eqb f 0))
+      (λ q. rw (ne-eqb f 0 (λ p. ⊎-elim (λ c. e .holds c .0 p) (λ g. eqb-false (r .guilty) 0 (not-true (eqb (r .guilty) 0) g) (z .first .unheld p .1)) (or-true-either (r .confirmed) (not (eqb (r .guilty) 0)) q))))
+
+  guilty-right : wrongGuilty r ≡ false
+  unfolding wrongGuilty
+  guilty-right = rw (eq-eqb (shared (r .guilty) (r .first .seats)) (r .guilty) (z .first .guiltyWithin))
+
+  sent-right : wrongSent r ≡ false
+  unfolding wrongSent
+  sent-right = implied (r .sent) (r .confirmed) (z .flags .confirmed)
+
+  unset-right : wrongUnset r ≡ false
+  unfolding wrongUnset noneHeard holds
+  unset-right =
+      let own = implied (not (r .own .submitted)) (same (r .own .value) unset) (λ q. rw (z .own .unsaid (not-true (r .own .submitted) q) .1) (same-refl unset)) in
+      let heard = implied (eqb (r .notices .heard) 0) (same (r .notices .value) unset) (λ q. rw (z .heard .unheard (eqb-true (r .notices .heard) 0 q)) (same-refl unset)) in
+      let first = implied (not (not (eqb (r .first .seats) 0))) (same (r .first .value) unset) (λ q. rw (z .first .unheld (eqb-true (r .first .seats) 0 (not-false (eqb (r .first .seats) 0) (not-true (not (eqb (r .first .seats) 0)) q))) .0) (same-refl unset)) in
+      rw (own, heard, first)
+
+  pub possible : impossible r ≡ false
+  unfolding impossible
+  possible = rw (in-range, heard-right, no-stranger, collected-right, first-right, first-there, guilty-right, sent-right, unset-right)
+
+-- ---- an opening that isn't refused
+
+pub opening-range : (n seat round : ℕ) (keys : List ℕ) → lowest (openingConditions n seat round keys) ≡ 0 → InRange n seat round × (wrongKeys n keys ≡ false)
+unfolding openingConditions wrongSize wrongSeat wrongRound
+opening-range n seat round keys e =
+    let a = lowest-zero 0 _ _ e in
+    let b = lowest-zero 1 _ _ (a .1) in
+    let c = lowest-zero 2 _ _ (b .1) in
+    let d = lowest-zero 4 _ _ (c .1) in
+    let s = or-false-both (eqb n 0) (ltb mostSeats n) (a .0) in
+    let nonzero = eqb-false n 0 (s .0) in (
+      record { some = omega arith; most = ltb-false mostSeats n (s .1); inside = leb-false n seat (b .0); early = ltb-false lastRound round (c .0) },
+      d .0,
+    )
+
+-- ---- a submit that isn't refused
+
+pub record SubmitTaken (checks : Checks) (r : Record) (store value signature : List ℕ) : Type 0 where
+  pub room : storeLength (r .n) ≤ length store
+  pub unsaid : r .own .submitted ≡ false
+  pub sizedValue : length value ≡ valueLength
+  pub sized : length signature ≡ signatureLength
+  pub checked : checks (r .seat) value signature ≡ true
+
+pub submit-taken : (checks : Checks) (keys : List ℕ) (r : Record) (store value signature out : List ℕ) → lowest (submitConditions checks keys r store value signature out) ≡ 0 → SubmitTaken checks r store value signature
+unfolding submitConditions recordConditions signatureConditions shortStore said wrongLengths badSignature signed every
+submit-taken checks keys r store value signature out e =
+    let a = lowest-zero 3 _ _ e in
+    let b = lowest-zero 4 _ _ (a .1) in
+    let c = lowest-zero 5 _ _ (b .1) in
+    let d = lowest-zero 6 _ _ (c .1) in
+    let f = lowest-zero 7 _ _ (d .1) in
+    let g = lowest-zero 8 _ _ (f .1) in
+    let h = lowest-zero 13 _ _ (g .1) in
+    let lengths = or-false-both (not (eqb (length value) valueLength)) (not (eqb (length signature) signatureLength)) (g .0) in
+    record {
+      room = ltb-false (length store) (storeLength (r .n)) (c .0);
+      unsaid = f .0;
+      sizedValue = eqb-true (length value) valueLength (not-false (eqb (length value) valueLength) (lengths .0));
+      sized = eqb-true (length signature) signatureLength (not-false (eqb (length signature) signatureLength) (lengths .1));
+      checked = and-true-both (checks (r .seat) value signature) true (not-false (checks (r .seat) value signature && true) (h .0)) .0;
+    }
+
+-- ---- the signatures of a message, entry by entry
+
+module _ (P : Relation) where
+  abbrev ForSigned : Signed → Type 0
+  ForSigned s = P (s .seat) (s .value) (s .signature)
+
+  pub signed-entries : (value : List ℕ) (es : List Entry) → Each ForSigned (signedEntries value es) → Each (λ (e : Entry). P (e .seat) value (e .signature)) es
+  unfolding signedEntries
+  signed-entries value [] h = each-nil (λ (e : Entry). P (e .seat) value (e .signature))
+  signed-entries value (e ∷ es) h =
+      each-cons (λ (x : Entry). P (x .seat) value (x .signature)) e es (h _ (List·Memᴰ·head refl)) (signed-entries value es (λ s d. h s (List·Memᴰ·tail d)))
+
+  pub entries-signed : (value : List ℕ) (es : List Entry) → Each (λ (e : Entry). P (e .seat) value (e .signature)) es → Each ForSigned (signedEntries value es)
+  unfolding signedEntries
+  entries-signed value [] h = each-nil ForSigned
+  entries-signed value (e ∷ es) h =
+      each-cons ForSigned (record { seat = e .seat; value = value; signature = e .signature }) (signedEntries value es) (h e (List·Memᴰ·head refl))
+      (entries-signed value es (λ x d. h x (List·Memᴰ·tail d)))
+
+  abbrev pub ForPair : List ℕ → List ℕ → Pair → Type 0
+  ForPair lower higher p = P (p .seat) lower (p .lower) × P (p .seat) higher (p .higher)
+
+  pub signed-pairs : (lower higher : List ℕ) (ps : List Pair) → Each ForSigned (signedPairs lower higher ps) → Each (ForPair lower higher) ps
+  unfolding signedPairs
+  signed-pairs lower higher [] h = each-nil (ForPair lower higher)
+  signed-pairs lower higher (p ∷ ps) h =
+      each-cons (ForPair lower higher) p ps (h _ (List·Memᴰ·head refl), h _ (List·Memᴰ·tail (List·Memᴰ·head refl)))
+      (signed-pairs lower higher ps (λ s d. h s (List·Memᴰ·tail (List·Memᴰ·tail d))))
+
+  pub pairs-signed : (lower higher : List ℕ) (ps : List Pair) → Each (ForPair lower higher) ps → Each ForSigned (signedPairs lower higher ps)
+  unfolding signedPairs
+  pairs-signed lower higher [] h = each-nil ForSigned
+  pairs-signed lower higher (p ∷ ps) h =
+      let both = h p (List·Memᴰ·head refl) in
+      let high : Signed = record { seat = p .seat; value = higher; signature = p .higher } in
+      each-cons ForSigned (record { seat = p .seat; value = lower; signature = p .lower }) (high ∷ signedPairs lower higher ps) (both .0)
+      (each-cons ForSigned high (signedPairs lower higher ps) (both .1) (pairs-signed lower higher ps (λ x d. h x (List·Memᴰ·tail d))))
+
+-- ---- a message that isn't refused
+
+-- form and signatures, in any call
+pub record Taken (checks : Checks) (n round : ℕ) (m : Message) : Type 0 where
+  pub inRound : roundOf m ≡ round
+  pub inside : Each (λ s. s < n) (seatsOf m)
+  pub rises : rising (entrySeats m) ≡ true
+  pub checked : EachSigned (λ s v g. checks s v g ≡ true) m
+
+taken-of : (checks : Checks) (n round : ℕ) (m : Message) → otherRound round m ≡ false → stranger n m ≡ false → disorder m ≡ false → badSignature checks m ≡ false → Taken checks n round m
+unfolding otherRound stranger disorder badSignature
+taken-of checks n round m a b c d = record {
+  inRound = eqb-true (roundOf m) round (not-false (eqb (roundOf m) round) a);
+  inside = λ s e. ltb-true s n (every-each (λ (seat : ℕ). ltb seat n) (seatsOf m) (not-false (every (λ (seat : ℕ). ltb seat n) (seatsOf m)) b) s e);
+  rises = not-false (rising (entrySeats m)) c;
+  checked = every-each (λ (s : Signed). checks (s .seat) (s .value) (s .signature)) (signed m) (not-false (every (λ (s : Signed). checks (s .seat) (s .value) (s .signature)) (signed m)) d);
+}
+
+of-taken : (checks : Checks) (n round : ℕ) (m : Message) → Taken checks n round m → (otherRound round m ≡ false) × (stranger n m ≡ false) × (disorder m ≡ false) × (badSignature checks m ≡ false)
+unfolding otherRound stranger disorder badSignature
+of-taken checks n round m t = (
+  rw (eq-eqb (roundOf m) round (t .inRound)),
+  rw (each-every (λ (seat : ℕ). ltb seat n) (seatsOf m) (λ s d. lt-ltb s n (t .inside s d))),
+  rw (t .rises),
+  rw (each-every (λ (s : Signed). checks (s .seat) (s .value) (s .signature)) (signed m) (t .checked)),
+)
+
+-- a step's
+pub step-taken : (checks : Checks) (keys : List ℕ) (r : Record) (store : List ℕ) (m : Message) (out : List ℕ) → lowest (stepConditions checks keys r store m out) ≡ 0
+    → (storeLength (r .n) ≤ length store) × (isForStep m ≡ true) × Taken checks (r .n) (r .round) m × (early r m ≡ false)
+unfolding stepConditions recordConditions formConditions signatureConditions shortStore
+step-taken checks keys r store m out e =
+    let a = lowest-zero 3 _ _ e in
+    let b = lowest-zero 4 _ _ (a .1) in
+    let c = lowest-zero 5 _ _ (b .1) in
+    let d = lowest-zero 6 _ _ (c .1) in
+    let f = lowest-zero 8 _ _ (d .1) in
+    let g = lowest-zero 9 _ _ (f .1) in
+    let h = lowest-zero 10 _ _ (g .1) in
+    let i = lowest-zero 11 _ _ (h .1) in
+    let j = lowest-zero 12 _ _ (i .1) in
+    let l = lowest-zero 13 _ _ (j .1) in
+    (ltb-false (length store) (storeLength (r .n)) (c .0), not-false (isForStep m) (f .0), taken-of checks (r .n) (r .round) m (g .0) (h .0) (i .0) (l .0), j .0)
+
+pub step-unrefused : (checks : Checks) (keys : List ℕ) (r : Record) (store : List ℕ) (m : Message) (out : List ℕ) → impossible r ≡ false → wrongKeys (r .n) keys ≡ false
+    → storeLength (r .n) ≤ length store → outLength (r .n) ≤ length out → isForStep m ≡ true → early r m ≡ false → Taken checks (r .n) (r .round) m
+    → lowest (stepConditions checks keys r store m out) ≡ 0
+unfolding stepConditions recordConditions formConditions signatureConditions shortStore shortOut lowest
+step-unrefused checks keys r store m out a b c d f g t =
+    let h = of-taken checks (r .n) (r .round) m t in
+    rw (a, b, le-ltb (length store) (storeLength (r .n)) c, le-ltb (length out) (outLength (r .n)) d, f, h .0, h .1, h .2, g, h .3)
+
+pub evidence-unrefused : (checks : Checks) (n seat round : ℕ) (keys : List ℕ) (m : Message) → InRange n seat round → wrongKeys n keys ≡ false → isEvidence m ≡ true
+    → Taken checks n round m → notLowerFirst m ≡ false → lowest (evidenceConditions checks n round keys m) ≡ 0
+unfolding evidenceConditions outsideConditions formConditions signatureConditions lowest
+evidence-unrefused checks n seat round keys m range b f t low =
+    let h = of-taken checks n round m t in
+    rw (size-right n (range .some) (range .most), round-right round (range .early), b, f, h .0, h .1, h .2, h .3, low)
+
+-- the evidence check's
+pub evidence-checked : (checks : Checks) (n round : ℕ) (keys : List ℕ) (m : Message) → lowest (evidenceConditions checks n round keys m) ≡ 0
+    → (isEvidence m ≡ true) × Taken checks n round m × (notLowerFirst m ≡ false)
+unfolding evidenceConditions outsideConditions formConditions signatureConditions
+evidence-checked checks n round keys m e =
+    let a = lowest-zero 0 _ _ e in
+    let b = lowest-zero 2 _ _ (a .1) in
+    let c = lowest-zero 4 _ _ (b .1) in
+    let f = lowest-zero 8 _ _ (c .1) in
+    let g = lowest-zero 9 _ _ (f .1) in
+    let h = lowest-zero 10 _ _ (g .1) in
+    let i = lowest-zero 11 _ _ (h .1) in
+    let l = lowest-zero 13 _ _ (i .1) in
+    let o = lowest-zero 14 _ _ (l .1) in
+    (not-false (isEvidence m) (f .0), taken-of checks n round m (g .0) (h .0) (i .0) (l .0), o .0)
+
+-- a making's: two certificates of different values
+pub record MakingTaken (checks : Checks) (n round : ℕ) (a b : Message) : Type 0 where
+  pub some : 1 ≤ n
+  pub early : round ≤ lastRound
+  pub fullA : isFull a ≡ true
+  pub takenA : Taken checks n round a
+  pub fullB : isFull b ≡ true
+  pub takenB : Taken checks n round b
+  pub different : certificateIn a .value ≢ certificateIn b .value
+
+pub making-taken : (checks : Checks) (n round : ℕ) (keys : List ℕ) (a b : Message) (out : List ℕ) → lowest (makingConditions checks n round keys a b out) ≡ 0 → MakingTaken checks n round a b
+unfolding makingConditions twoConditions outsideConditions formConditions signatureConditions equalValues wrongSize wrongRound
+making-taken checks n round keys a b out e =
+    let p = lowest-zero 0 _ _ e in
+    let q = lowest-zero 2 _ _ (p .1) in
+    let r = lowest-zero 4 _ _ (q .1) in
+    let s = lowest-zero 6 _ _ (r .1) in
+    let f = lowest-zero 8 _ _ (s .1) in
+    let g = lowest-zero 9 _ _ (f .1) in
+    let h = lowest-zero 10 _ _ (g .1) in
+    let i = lowest-zero 11 _ _ (h .1) in
+    let l = lowest-zero 13 _ _ (i .1) in
+    let f′ = lowest-zero 8 _ _ (l .1) in
+    let g′ = lowest-zero 9 _ _ (f′ .1) in
+    let h′ = lowest-zero 10 _ _ (g′ .1) in
+    let i′ = lowest-zero 11 _ _ (h′ .1) in
+    let l′ = lowest-zero 13 _ _ (i′ .1) in
+    let o = lowest-zero 14 _ _ (l′ .1) in
+    let nonzero = eqb-false n 0 (or-false-both (eqb n 0) (ltb mostSeats n) (p .0) .0) in
+    record {
+      some = omega arith;
+      early = ltb-false lastRound round (q .0);
+      fullA = not-false (isFull a) (f .0);
+      takenA = taken-of checks n round a (g .0) (h .0) (i .0) (l .0);
+      fullB = not-false (isFull b) (f′ .0);
+      takenB = taken-of checks n round b (g′ .0) (h′ .0) (i′ .0) (l′ .0);
+      different = λ d. true≢false (sym (same-refl (certificateIn b .value)) ∙ subst (λ (v : List ℕ). same v (certificateIn b .value) ≡ false) d (o .0));
+    }
+
+-- ---- what it brings
+
+module _ (checks : Checks) (W : Relation) where
+  entries-kept : (value : List ℕ) (es : List Entry) → EachSigned (λ s v g. checks s v g ≡ true) (Full 0 0 value es) → EachSigned W (Full 0 0 value es) → Each (λ (e : Entry). length (e .signature) ≡ signatureLength) es
+      → Each (λ (e : Entry). Kept checks W (e .seat) value (e .signature)) es
+  unfolding signed
+  entries-kept value es c w l e d = record {
+    checked = signed-entries (λ s v g. checks s v g ≡ true) value es c e d;
+    sized = l e d;
+    worthy = signed-entries W value es w e d;
+  }
+
+  -- a FULL that a call takes
+  pub entries-taken : (n round ρ sender : ℕ) (value : List ℕ) (es : List Entry) → Taken checks n round (Full ρ sender value es) → Laid n (Full ρ sender value es) → EachSigned W (Full ρ sender value es) → Entries checks W n value es
+  unfolding signed seatsOf entrySeats
+  entries-taken n round ρ sender value es t l w = record {
+    sized = l .0;
+    many = l .1;
+    rise = t .rises;
+    below = λ e d. t .inside (e .seat) (List·Memᴰ·tail (Memᴰ·map (λ (x : Entry). x .seat) d));
+    kept = entries-kept value es (t .checked) w (l .2);
+  }
+
+  -- a FULL that a unit wrote, to another
+  pub full-taken : (n ρ sender : ℕ) (value : List ℕ) (es : List Entry) → sender < n → Entries checks W n value es → Taken checks n ρ (Full ρ sender value es)
+  unfolding roundOf signed seatsOf entrySeats
+  full-taken n ρ sender value es l z = record {
+    inRound = refl;
+    inside = each-cons (λ s. s < n) sender (map (λ (e : Entry). e .seat) es) l (each-map (λ s. s < n) (λ (e : Entry). e .seat) es (z .below));
+    rises = z .rise;
+    checked = entries-signed (λ s v g. checks s v g ≡ true) value es (λ e d. z .kept e d .checked);
+  }
+
+  pub evidence-taken : (n ρ : ℕ) (lower higher : List ℕ) (ps : List Pair) → Pairs checks W n lower higher ps → Taken checks n ρ (Evidence ρ lower higher ps)
+  unfolding roundOf signed seatsOf entrySeats
+  evidence-taken n ρ lower higher ps z = record {
+    inRound = refl;
+    inside = each-map (λ s. s < n) (λ (p : Pair). p .seat) ps (z .below);
+    rises = z .rise;
+    checked = pairs-signed (λ s v g. checks s v g ≡ true) lower higher ps (λ p d. (z .lows p d .checked, z .highs p d .checked));
+  }
+
+  pub brings : (r : Record) (m : Message) → Taken checks (r .n) (r .round) m → early r m ≡ false → Laid (r .n) m → EachSigned W m → Brings checks W r m
+  unfolding early signed seatsOf
+  brings r (Submit ρ seat value signature) t e l w = (
+    not-false (r .own .submitted) e,
+    t .inside seat (List·Memᴰ·head refl),
+    record { checked = t .checked _ (List·Memᴰ·head refl); sized = l .1; worthy = w _ (List·Memᴰ·head refl) },
+  )
+  brings r (Notice ρ seat value) t e l w = tt
+  brings r (Full ρ sender value es) t e l w = entries-taken (r .n) (r .round) ρ sender value es t l w
+  brings r (Evidence ρ lower higher ps) t e l w = tt
+  brings r Garbled t e l w = tt

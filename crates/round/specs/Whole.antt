@@ -1,0 +1,260 @@
+-- A whole submit and a whole step, from the laws of their parts.
+-- Assumes nothing.
+use mathlib.Core.Path.{_≡_, refl, sym, ap, _∙_}
+use mathlib.Core.Bool.{true, false, cond, not, and-false, true≢false}
+use mathlib.Core.List.{List}
+use mathlib.Core.Logic.{⊎-elim}
+use Prim.Native.Nat.{ℕ, _+_, _<_}
+use native.Mathlib.Omega.{arith}
+use lib.Dec.{eqb}
+use lib.ListN.{length}
+use borrow.Author.Tests.{eqb-true, eqb-false, not-true, not-false}
+use Rattle.quorum.specs.Quorum.{k, size}
+use Rattle.protocol.specs.Layout.{valueLength}
+use Rattle.protocol.specs.Message.{Entry, Message, Submit, Notice, Full, Evidence, Garbled}
+use Rattle.protocol.specs.Certificate.{Certificate, ownCertificate, certificateOf, certificateIn}
+use Rattle.protocol.specs.Record.{noneHeard, oneHeard, holds}
+use Rattle.protocol.specs.Refusals.{Checks, isFull, isEvidence}
+use Rattle.protocol.specs.Step.{State, write, collect, keepValue, submitOwn, isWanted, hearSubmit, hear, otherHeard, owesFull, sendFull, reply, hold, blame, blames, holdOrBlame, hearCertificate, isComplete, confirm, hearOwn, confirmIfComplete, submitted, stepped}
+use Rattle.protocol.specs.declared.Record.{Record}
+use Rattle.round.specs.Round.{Relation, Kind, SUBMIT, NOTICE, FULL, EVIDENCE, isOf, flagOf, isSubmit, isNotice, worth}
+use Rattle.round.specs.Lists.{cond-elim, and-true-both, and-false-either}
+use Rattle.round.specs.Sound.{Heard, Held, Grows, Room, Settled, Kept, Certifies, Entries, Sound, Leads}
+use Rattle.round.specs.Certificates.{certifies-of}
+use Rattle.round.specs.Parts.{k-pos, room-leads, leads-trans, leads-writing, leads-refl, collect-leads, submitOwn-leads, hear-leads, hear-heard, reply-leads, holdOrBlame-leads, holdOrBlame-held, own-certifies, collected-submitted, confirmed-submitted}
+
+-- ---- what hearing leaves alone
+
+pub record Stays (r r′ : Record) : Type 0 where
+  pub own : r′ .own ≡ r .own
+  pub confirmed : r′ .confirmed ≡ r .confirmed
+
+stays-trans : (r r′ r″ : Record) → Stays r r′ → Stays r′ r″ → Stays r r″
+stays-trans r r′ r″ a b = record { own = b .own ∙ a .own; confirmed = b .confirmed ∙ a .confirmed }
+
+reply-stays : (s : State) → Stays (s .unit) (reply s .unit)
+unfolding reply sendFull write
+reply-stays s =
+    cond-elim (λ x. Stays (s .unit) (x .unit)) (owesFull (s .unit)) (sendFull s) s (λ e. record { own = refl; confirmed = refl }) (λ e. record { own = refl; confirmed = refl })
+
+-- what FULL is owed for stays too
+pub record Quiet (r r′ : Record) : Type 0 where
+  pub stays : Stays r r′
+  pub owes : owesFull r′ ≡ owesFull r
+
+holdOrBlame-quiet : (c : Certificate) (s : State) → Quiet (s .unit) (holdOrBlame c s .unit)
+unfolding holdOrBlame hold blame write owesFull otherHeard noneHeard oneHeard
+holdOrBlame-quiet c s =
+    let P : State → Type 0 = λ x. Quiet (s .unit) (x .unit) in
+    let still : Stays (s .unit) (s .unit) = record { own = refl; confirmed = refl } in
+    cond-elim P (holds (s .unit)) (cond (blames c (s .unit)) (blame c s) s) (hold c s)
+    (λ h. cond-elim P (blames c (s .unit)) (blame c s) s (λ e. record { stays = record { own = refl; confirmed = refl }; owes = refl }) (λ e. record { stays = still; owes = refl }))
+    (λ h. record { stays = record { own = refl; confirmed = refl }; owes = refl })
+
+-- once looked at, nothing is owed
+reply-owes : (s : State) → owesFull (reply s .unit) ≡ false
+unfolding reply sendFull write owesFull
+reply-owes s =
+    cond-elim (λ x. owesFull (x .unit) ≡ false) (owesFull (s .unit)) (sendFull s) s (λ e. rw and-false) (λ e. e)
+
+hear-stays : (value : List ℕ) (s : State) → Stays (s .unit) (hear value s .unit)
+unfolding hear
+hear-stays value s = record { own = refl; confirmed = refl }
+
+hearing-stays : (c : Certificate) (s : State) → Stays (s .unit) (hearCertificate c s .unit)
+unfolding hearCertificate
+hearing-stays c s =
+    let heard = hear (c .value) s in
+    stays-trans (s .unit) (reply heard .unit) (hearCertificate c s .unit) (stays-trans (s .unit) (heard .unit) (reply heard .unit) (hear-stays (c .value) s) (reply-stays heard))
+    (holdOrBlame-quiet c (reply heard) .stays)
+
+hearing-owes : (c : Certificate) (s : State) → owesFull (hearCertificate c s .unit) ≡ false
+unfolding hearCertificate
+hearing-owes c s = holdOrBlame-quiet c (reply (hear (c .value) s)) .owes ∙ reply-owes (hear (c .value) s)
+
+submitOwn-confirmed : (value signature : List ℕ) (s : State) → submitOwn value signature s .unit .confirmed ≡ s .unit .confirmed
+unfolding submitOwn write collect keepValue
+submitOwn-confirmed value signature s = refl
+
+collect-held : (seat : ℕ) (signature : List ℕ) (s : State) → (s .unit .confirmed ≡ true → Held (s .unit .own .value) (s .unit))
+    → collect seat signature s .unit .confirmed ≡ true → Held (collect seat signature s .unit .own .value) (collect seat signature s .unit)
+unfolding collect
+collect-held seat signature s held e = held e
+
+module _ (checks : Checks) (W : Relation) where
+  -- ---- a certificate heard
+
+  module _ (c : Certificate) (s : State) (z : Sound checks W (s .unit) (s .store)) (room : Room s) (y : Certifies checks W (s .unit .n) c) where
+    heard-leads : Leads checks W s (reply (hear (c .value) s))
+    heard-leads =
+        let a = hear-leads checks W (c .value) s z in
+        leads-trans checks W s (hear (c .value) s) (reply (hear (c .value) s)) a (reply-leads checks W (hear (c .value) s) (a .sound))
+
+    heard-certifies : Certifies checks W (reply (hear (c .value) s) .unit .n) c
+    heard-certifies = rw (heard-leads .grows .n) y
+
+    heard-room : Room (reply (hear (c .value) s))
+    heard-room = room-leads checks W s (reply (hear (c .value) s)) heard-leads room
+
+    pub hearing-leads : Leads checks W s (hearCertificate c s)
+    unfolding hearCertificate
+    hearing-leads =
+        leads-trans checks W s (reply (hear (c .value) s)) (hearCertificate c s) heard-leads (holdOrBlame-leads checks W c (reply (hear (c .value) s)) (heard-leads .sound) heard-room heard-certifies)
+
+    pub hearing-held : Held (c .value) (hearCertificate c s .unit)
+    unfolding hearCertificate
+    hearing-held = holdOrBlame-held checks W c (reply (hear (c .value) s)) (heard-leads .sound) heard-room heard-certifies
+
+  -- ---- at the end of a call
+
+  pub record Done (s s′ : State) : Type 0 where
+    pub leads : Leads checks W s s′
+    pub settled : Settled (s′ .unit)
+
+  -- what was complete and held stays so where own value, collected seats and confirmed stay
+  settled-stays : (r r′ : Record) → Grows r r′ → Stays r r′ → owesFull r′ ≡ false → (size (r .own .collected) ≡ k (r .n) → r .confirmed ≡ true) → (r .confirmed ≡ true → Held (r .own .value) r) → Settled r′
+  settled-stays r r′ g t owes complete held = record {
+    complete = λ e. t .confirmed ∙ complete (sym (ap (λ o. size (o .collected)) (t .own)) ∙ e ∙ ap k (g .n));
+    holds = λ e. rw (t .own) (g .held (r .own .value) (held (sym (t .confirmed) ∙ e)));
+    owes = owes;
+  }
+
+  module _ (s : State) (z : Sound checks W (s .unit) (s .store)) (room : Room s) where
+    confirm-leads : isComplete (s .unit) ≡ true → Leads checks W s (confirm s)
+    unfolding confirm write isComplete isSubmit isNotice isFull isEvidence worth
+    confirm-leads e =
+        let r = s .unit in
+        let both = and-true-both (not (r .confirmed)) (eqb (size (r .own .collected)) (k (r .n))) e in
+        let full = eqb-true (size (r .own .collected)) (k (r .n)) (both .1) in
+        let pos = k-pos (r .n) (z .range .some) in
+        leads-writing checks W s (confirm s) (Notice (r .round) (r .seat) (r .own .value))
+        (record {
+          range = z .range;
+          own = z .own;
+          heard = z .heard;
+          first = z .first;
+          flags = record { full = λ q. full; confirmed = λ q. refl };
+        })
+        refl
+        (record { n = refl; seat = refl; round = refl; said = λ q. (q, refl); heard = λ v h. h; held = λ v h. h })
+        refl
+        (record { ofRound = refl; ofSeat = refl; ofValue = refl; submitted = collected-submitted checks W r (s .store) z (omega arith); sized = z .own .collection .sized })
+        (flags (not-true (r .confirmed) (both .0)))
+      where
+        flags : s .unit .confirmed ≡ false → (κ : Kind) → worth (isOf κ (Notice (s .unit .round) (s .unit .seat) (s .unit .own .value))) + worth (flagOf κ (s .unit)) ≡ worth (flagOf κ (confirm s .unit))
+        flags unconfirmed SUBMIT = omega arith
+        flags unconfirmed NOTICE = rw unconfirmed
+        flags unconfirmed FULL = omega arith
+        flags unconfirmed EVIDENCE = omega arith
+
+    complete-size : isComplete (s .unit) ≡ true → size (s .unit .own .collected) ≡ k (s .unit .n)
+    unfolding isComplete
+    complete-size e =
+        eqb-true (size (s .unit .own .collected)) (k (s .unit .n)) (and-true-both (not (s .unit .confirmed)) (eqb (size (s .unit .own .collected)) (k (s .unit .n))) e .1)
+
+    confirm-size : isComplete (s .unit) ≡ true → size (confirm s .unit .own .collected) ≡ k (confirm s .unit .n)
+    unfolding confirm write
+    confirm-size e = complete-size e
+
+    confirm-confirmed : confirm s .unit .confirmed ≡ true
+    unfolding confirm write
+    confirm-confirmed = refl
+
+    confirmed-done : isComplete (s .unit) ≡ true → Done s (hearOwn (confirm s))
+    unfolding hearOwn ownCertificate
+    confirmed-done e =
+        let t = confirm s in
+        let c = ownCertificate (t .unit) (t .store) in
+        let a = confirm-leads e in
+        let y : Certifies checks W (t .unit .n) c = own-certifies checks W (t .unit) (t .store) (a .sound) (confirm-size e) in
+        let roomy = room-leads checks W s t a room in
+        let b = hearing-leads c t (a .sound) roomy y in
+        let stays = hearing-stays c t in
+        record {
+          leads = leads-trans checks W s t (hearOwn t) a b;
+          settled = record { complete = λ q. stays .confirmed ∙ confirm-confirmed; holds = λ q. rw (stays .own) (hearing-held c t (a .sound) roomy y); owes = hearing-owes c t };
+        }
+
+    unconfirmed-done : isComplete (s .unit) ≡ false → (s .unit .confirmed ≡ true → Held (s .unit .own .value) (s .unit)) → Done s (reply s)
+    unfolding isComplete
+    unconfirmed-done e held =
+        let r = s .unit in
+        let a = reply-leads checks W s z in
+        let complete : size (r .own .collected) ≡ k (r .n) → r .confirmed ≡ true =
+        λ q. ⊎-elim (not-false (r .confirmed)) (λ p. absurd (eqb-false (size (r .own .collected)) (k (r .n)) p q)) (and-false-either (not (r .confirmed)) (eqb (size (r .own .collected)) (k (r .n))) e) in
+        record { leads = a; settled = settled-stays r (reply s .unit) (a .grows) (reply-stays s) (reply-owes s) complete held }
+
+    pub confirmIfComplete-done : (s .unit .confirmed ≡ true → Held (s .unit .own .value) (s .unit)) → Done s (confirmIfComplete s)
+    unfolding confirmIfComplete
+    confirmIfComplete-done held =
+        cond-elim (Done s) (isComplete (s .unit)) (hearOwn (confirm s)) (reply s) confirmed-done (λ e. unconfirmed-done e held)
+
+  -- ---- submit and step
+
+  module _ (value signature : List ℕ) (s : State) (z : Sound checks W (s .unit) (s .store)) (room : Room s) (unsaid : s .unit .own .submitted ≡ false) (sized : length value ≡ valueLength) (g : Kept checks W (s .unit .seat) value signature) where
+    own-leads : Leads checks W s (submitOwn value signature s)
+    own-leads = submitOwn-leads checks W value signature s z room unsaid sized g
+
+    unconfirmed : submitOwn value signature s .unit .confirmed ≡ true → ⊥
+    unconfirmed q = true≢false (sym (confirmed-submitted checks W (s .unit) (s .store) z (sym (submitOwn-confirmed value signature s) ∙ q)) ∙ unsaid)
+
+    own-done : Done (submitOwn value signature s) (submitted value signature s)
+    unfolding submitted
+    own-done = confirmIfComplete-done (submitOwn value signature s) (own-leads .sound) (room-leads checks W s (submitOwn value signature s) own-leads room) (λ q. absurd (unconfirmed q))
+
+    pub submitted-done : Done s (submitted value signature s)
+    submitted-done =
+        record { leads = leads-trans checks W s (submitOwn value signature s) (submitted value signature s) own-leads (own-done .leads); settled = own-done .settled }
+
+    -- "the value kept"
+    pub submitted-value : (submitted value signature s .unit .own .submitted ≡ true) × (submitted value signature s .unit .own .value ≡ value)
+    unfolding submitOwn write collect keepValue
+    submitted-value = own-done .leads .grows .said refl
+
+  -- what a message brings that a step doesn't refuse
+  abbrev pub Brings : Record → Message → Type 0
+  Brings r (Submit ρ seat value signature) = (r .own .submitted ≡ true) × (seat < r .n) × Kept checks W seat value signature
+  Brings r (Notice ρ seat value) = Unit {0}
+  Brings r (Full ρ sender value entries) = Entries checks W (r .n) value entries
+  Brings r (Evidence ρ lower higher entries) = Unit {0}
+  Brings r Garbled = Unit {0}
+
+  module _ (s : State) (z : Sound checks W (s .unit) (s .store)) (room : Room s) (e : Settled (s .unit)) where
+    hearSubmit-done : (seat : ℕ) (value signature : List ℕ) → s .unit .own .submitted ≡ true → seat < s .unit .n → Kept checks W seat value signature → Done s (confirmIfComplete (hearSubmit seat value signature s))
+    unfolding hearSubmit
+    hearSubmit-done seat value signature submitted inside g =
+        cond-elim (λ x. Done s (confirmIfComplete x)) (isWanted seat value (s .unit)) (collect seat signature s) s
+        (λ w.
+        let a = collect-leads checks W seat value signature s z room w submitted (e .complete) inside g in
+        let b = confirmIfComplete-done (collect seat signature s) (a .sound) (room-leads checks W s (collect seat signature s) a room) (collect-held seat signature s (e .holds)) in
+        record { leads = leads-trans checks W s (collect seat signature s) (confirmIfComplete (collect seat signature s)) a (b .leads); settled = b .settled })
+        (λ w. confirmIfComplete-done s z room (e .holds))
+
+    pub stepped-done : (m : Message) → Brings (s .unit) m → Done s (stepped m s)
+    unfolding stepped certificateIn
+    stepped-done (Submit ρ seat value signature) w = hearSubmit-done seat value signature (w .0) (w .1) (w .2)
+    stepped-done (Notice ρ seat value) w =
+        let a = hear-leads checks W value s z in
+        let b = reply-leads checks W (hear value s) (a .sound) in
+        let t = reply (hear value s) in
+        let c = leads-trans checks W s (hear value s) t a b in
+        record {
+          leads = c;
+          settled = settled-stays (s .unit) (t .unit) (c .grows) (stays-trans (s .unit) (hear value s .unit) (t .unit) (hear-stays value s) (reply-stays (hear value s))) (reply-owes (hear value s)) (e .complete) (e .holds);
+        }
+    stepped-done (Full ρ sender value entries) w =
+        let c = certificateIn (Full ρ sender value entries) in
+        let a = hearing-leads c s z room (certifies-of checks W (s .unit .n) value entries w) in
+        record { leads = a; settled = settled-stays (s .unit) (hearCertificate c s .unit) (a .grows) (hearing-stays c s) (hearing-owes c s) (e .complete) (e .holds) }
+    stepped-done (Evidence ρ lower higher entries) w = record { leads = leads-refl checks W s z; settled = e }
+    stepped-done Garbled w = record { leads = leads-refl checks W s z; settled = e }
+
+    -- a NOTICE taken is heard, and a FULL taken is held or compared
+    pub notice-heard : (ρ seat : ℕ) (value : List ℕ) → Heard value (stepped (Notice ρ seat value) s .unit)
+    unfolding stepped
+    notice-heard ρ seat value =
+        reply-leads checks W (hear value s) (hear-leads checks W value s z .sound) .grows .heard value (hear-heard checks W value s)
+
+    pub full-held : (ρ sender : ℕ) (value : List ℕ) (es : List Entry) → Entries checks W (s .unit .n) value es → Held value (stepped (Full ρ sender value es) s .unit)
+    unfolding stepped certificateIn certificateOf
+    full-held ρ sender value es w = hearing-held (certificateOf value es) s z room (certifies-of checks W (s .unit .n) value es w)

@@ -1,0 +1,64 @@
+use Rattle.vectors.proofs.sign_all.Statement.{statement}
+use Rattle.vectors.proofs.sign_all.Tie as tie
+use Rattle.vectors.proofs.sign_all.Reads as reads
+use Rattle.vectors.proofs.sign_all.Lts as lts
+use Rattle.vectors.proofs.named.Reads as named-reads
+use Rattle.vectors.proofs.sign.Reads as sign-reads
+
+abbrev Inv-loop : tie.InvT-loop
+Inv-loop seed identifier tree count left₀ left = ?
+
+abbrev μ-loop : tie.MeasureT-loop
+μ-loop seed identifier tree count left₀ left = ?
+
+-- src/main.rt:117:5
+loop-holds : tie.Need-loop-holds Inv-loop μ-loop
+loop-holds c = ?
+
+-- src/main.rt:118:13
+named-requires : tie.Need-named-requires Inv-loop μ-loop
+named-requires c κs = ?
+
+-- src/main.rt:119:13
+returns : tie.Need-returns Inv-loop μ-loop
+returns c = ?
+
+-- src/main.rt:121:13
+sign-requires : tie.Need-sign-requires Inv-loop μ-loop
+sign-requires c κs = ?
+
+-- src/main.rt:122:13
+returns-2 : tie.Need-returns-2 Inv-loop μ-loop
+returns-2 c = ?
+
+-- src/main.rt:124:9
+sub-left : tie.Need-sub-left Inv-loop μ-loop
+sub-left c = ?
+
+-- src/main.rt:117:5
+loop-less : tie.Need-loop-less Inv-loop μ-loop
+loop-less c = ?
+
+-- src/main.rt:117:5
+loop-again : tie.Need-loop-again Inv-loop μ-loop
+loop-again c = ?
+
+-- src/main.rt:115:1
+returns-3 : tie.Need-returns-3 Inv-loop μ-loop
+returns-3 c = ?
+
+pub sign-all-spec : {M : Type 1} → statement M
+sign-all-spec =
+    tie.close
+    (tie.spec
+    Inv-loop
+    μ-loop
+    loop-holds
+    named-requires
+    returns
+    sign-requires
+    returns-2
+    sub-left
+    loop-less
+    loop-again
+    returns-3)

@@ -1,2 +1,0 @@
--- What reading an operand finds.
-pub mod Field
