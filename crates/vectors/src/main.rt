@@ -138,14 +138,16 @@ fn make_and_sign() -> bool {
     };
     let mut tree = io::large_buffer();
     let mut key = [0u8; 56];
-    lms::calls::make_key(first(&seed, s), first(&identifier, i), &mut tree, &mut key);
+    let secret = first(&seed, s);
+    let name = first(&identifier, i);
+    lms::calls::make_key(secret, name, &mut tree, &mut key);
     print(b" ");
     print_bytes(&key);
     let mut count = [0u8; 1];
     if io::read_full(STDIN_FILENO, &mut count) < 1 {
         return false;
     }
-    sign_all(first(&seed, s), first(&identifier, i), &tree, count[0])
+    sign_all(secret, name, &tree, count[0])
 }
 
 // The name that starts each record is printed.
@@ -173,7 +175,7 @@ fn record() -> bool {
 }
 
 fn main() {
-    let mut left = 1000;
+    let mut left: u32 = 1000;
     while 0 < left {
         if !record() {
             return;
