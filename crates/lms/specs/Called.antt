@@ -1,24 +1,21 @@
 -- The calls, by what their code found: one law for each return.
-use mathlib.Core.Path.{_≡_, refl, sym, ap, _∙_}
-use mathlib.Core.Bool.{Bool, true, false, not, _&&_, _||_, and-true, and-false, false≢true}
-use mathlib.Core.List.{List, [], _++_}
+use mathlib.Core.Path.{_≡_, refl, sym, _∙_}
+use mathlib.Core.Bool.{Bool, true, false, _||_, and-true, and-false, false≢true}
+use mathlib.Core.List.{List, []}
 use Prim.Native.Nat.{ℕ, zero, suc, _+_, _*_, _≤_, _<_}
 use native.Mathlib.Omega.{arith}
-use lib.Dec.{eqb}
-use lib.ListN.{length}
 use borrow.Author.Tests.{lt-ltb, le-ltb, ltb-false, eq-eqb, ne-eqb, eqb-true, not-false}
-use Rattle.octets.specs.Octets.{part, patch, be, wordAt}
+use lib.ListN.{length}
+use Rattle.octets.specs.Octets.{part, wordAt}
 use Rattle.octets.specs.Laws.{length-part}
-use Rattle.octets.specs.StringLaws.{number-part-four, patch-nothing}
+use Rattle.octets.specs.StringLaws.{number-part-four}
 use Rattle.refusal.specs.Refusal.{lowest}
 use Rattle.refusal.specs.Laws.{lowest-zero}
-use Rattle.rfc8554.specs.Ots.{knownOts, width}
-use Rattle.rfc8554.specs.Tree.{knownLms, height, publicKey, treeFilled, lmsSignature}
-use Rattle.rfc8554.specs.TreeLaws.{part-treeFilled}
+use Rattle.rfc8554.specs.Ots.{knownOts}
+use Rattle.rfc8554.specs.Tree.{knownLms}
 use Rattle.rfc8554.specs.Verify.{lmsTypeOf, otsTypeOf, leafOf, valid}
-use Rattle.rfc8554.specs.VerifyLaws.{length-publicKey}
-use Rattle.rfc8554.specs.Calls.{Made, Signed, signatureBytes, treeBytes, messageLimit, keyRefused, checkSignature, makeKeyRefusal, makeKey, signRefusal, sign, signedBytes, seatKey, checks}
-use Rattle.rfc8554.specs.CallLaws.{makeKey-refused, makeKey-unrefused, sign-refused, sign-unrefused, length-lmsSignature-six-four}
+use Rattle.rfc8554.specs.Calls.{signatureBytes, treeBytes, messageLimit, keyRefused, checkSignature, makeKeyRefusal, makeKey, signRefusal, sign, signedBytes, seatKey, checks}
+use Rattle.rfc8554.specs.CallLaws.{makeKey-refused, sign-refused}
 
 neither : (a b : Bool) → (a || b) ≡ false → (a ≡ false) × (b ≡ false)
 neither true b e = absurd (false≢true (sym e))
@@ -97,7 +94,7 @@ module _ (key message s : List ℕ) (b : Bool) (e : b ≡ keyRefused key) where
 -- ---- a seat's signature
 
 module _ (keys : List ℕ) (seat : ℕ) (h : 56 * (seat + 1) ≤ length keys) where
-  length-seatKey : length (seatKey keys seat) ≡ 56
+  pub length-seatKey : length (seatKey keys seat) ≡ 56
   unfolding seatKey
   length-seatKey = length-part (56 * seat) 56 keys (omega arith)
 

@@ -1,11 +1,11 @@
 -- The tree's buffer as the key maker fills it: the leaves, then the inner nodes up to the root.
-use mathlib.Core.Path.{_≡_, refl, sym, ap, ap₂, _∙_}
+use mathlib.Core.Path.{_≡_, refl, sym, _∙_}
 use mathlib.Core.List.{List, _++_}
 use Prim.Native.Nat.{ℕ, zero, suc, _+_, _-_, _*_, _≤_, _<_}
 use native.Mathlib.Nat.{add-sub-cancel-left}
 use native.Mathlib.Numerals.{add-one}
 use native.Mathlib.Omega.{arith}
-use lib.ListN.{length, take, drop}
+use lib.ListN.{length, drop}
 use lib.Seq.{take-add, drop-drop}
 use Rattle.octets.specs.Octets.{part, patch}
 use Rattle.octets.specs.StringLaws.{patch-before}

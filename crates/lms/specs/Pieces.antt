@@ -1,6 +1,6 @@
 -- What the code's pieces compute on the way.
-use Prim.Native.Nat.{ℕ, zero, suc, _-_, _*_}
 use mathlib.Core.List.{List, _++_}
+use Prim.Native.Nat.{ℕ, zero, suc, _-_, _*_}
 use Rattle.octets.specs.Octets.{part, patch}
 use Rattle.rfc8554.specs.Ots.{H, u16str, u32str}
 use Rattle.rfc8554.specs.Tree.{dIntr}

@@ -1,17 +1,16 @@
 -- What is turned back, by the tests of the code: one law for each return.
-use mathlib.Core.Path.{_≡_, refl, sym, ap, _∙_}
+use mathlib.Core.Path.{_≡_, refl, sym, _∙_}
 use mathlib.Core.Bool.{Bool, true, false, not, _||_, or-true, or-false, false≢true}
 use mathlib.Core.List.{List}
-use Prim.Native.Nat.{ℕ, _+_, _*_, _^_, _≤_, _<_}
+use Prim.Native.Nat.{ℕ, _+_, _*_, _^_, _<_}
 use native.Mathlib.Omega.{arith}
+use borrow.Author.Tests.{le-ltb, eq-eqb, ne-eqb, eqb-true, leb-false}
 use lib.Dec.{leb, eqb}
 use lib.ListN.{length}
-use borrow.Author.Tests.{le-ltb, eq-eqb, ne-eqb, eqb-true, leb-false}
 use Rattle.octets.specs.Octets.{part, wordAt}
 use Rattle.octets.specs.Strings.{same}
 use Rattle.octets.specs.StringLaws.{number-part-four}
 use Rattle.rfc8554.specs.Ots.{u32At, knownOts, width, otsLength}
-use Rattle.rfc8554.specs.OtsLaws.{four-le-otsLength}
 use Rattle.rfc8554.specs.Tree.{knownLms, height}
 use Rattle.rfc8554.specs.Verify.{lmsTypeOf, otsTypeOf, leafOf, sigTypeOf, rootCandidate, signatureLength, signatureInvalid, valid}
 use Rattle.rfc8554.specs.VerifyLaws.{otsInvalid-inside}
@@ -82,8 +81,8 @@ module _ (lms ots : ℕ) (s : List ℕ) where
               ← g,
               eq-eqb (length s) (signatureLength (height lms) (width ots)) long,
               otsInvalid-inside (height lms) ots s (ots-field ∙ a) long,
-              or-false,
-              or-false,
+              or-false (leb m z || false),
+              or-false (leb m z),
             )
 
   -- what isn't turned back fits
@@ -102,21 +101,21 @@ module _ (lms ots : ℕ) (s : List ℕ) where
 
 -- ---- the whole check
 
-module _ (key message s : List ℕ) (known : keyRefused key ≡ false) where
-  pub key-fits : length key ≡ 56
-  unfolding keyRefused
-  key-fits = go (eqb (length key) 56) refl
-    where
-      go : (b : Bool) → eqb (length key) 56 ≡ b → length key ≡ 56
-      go true p = eqb-true _ _ p
-      go false p = absurd (false≢true (sym (rw p at known)))
+pub key-fits : (key : List ℕ) → keyRefused key ≡ false → length key ≡ 56
+unfolding keyRefused
+key-fits key known = go (eqb (length key) 56) refl
+  where
+    go : (b : Bool) → eqb (length key) 56 ≡ b → length key ≡ 56
+    go true p = eqb-true _ _ p
+    go false p = absurd (false≢true (sym (rw p at known)))
 
+module _ (key message s : List ℕ) (l : length key ≡ 56) (known : keyRefused key ≡ false) where
   module _ (x y : ℕ) (e : x ≡ wordAt key 0) (f : y ≡ wordAt key 4) where
     key-field : lmsTypeOf key ≡ x
-    key-field = number-part-four 0 key (omega (arith, key-fits)) ∙ sym e
+    key-field = number-part-four 0 key (omega arith) ∙ sym e
 
     key-field-ots : otsTypeOf key ≡ y
-    key-field-ots = number-part-four 4 key (omega (arith, key-fits)) ∙ sym f
+    key-field-ots = number-part-four 4 key (omega arith) ∙ sym f
 
     pub signature-turned-back : (b : Bool) → b ≡ signatureInvalid x y s → b ≡ true → false ≡ valid key message s
     unfolding valid

@@ -1,7 +1,7 @@
 -- Keys, signatures and signed bytes, as they are written piece by piece.
 use mathlib.Core.Path.{_≡_, refl, sym, ap, _∙_}
-use mathlib.Core.List.{List, [], _∷_, _++_, append-assoc}
-use Prim.Native.Nat.{ℕ, zero, suc, _+_, _-_, _*_, _/_, _%_, _^_, _≤_, _<_}
+use mathlib.Core.List.{List, _∷_, _++_, append-assoc}
+use Prim.Native.Nat.{ℕ, _+_, _-_, _*_, _/_, _%_, _^_, _≤_, _<_}
 use native.Mathlib.Omega.{arith}
 use lib.ListN.{length, length-append}
 use Rattle.octets.specs.Octets.{part, patch, be}
@@ -30,18 +30,15 @@ module _ (at : ℕ) (a b c xs p q r : List ℕ) (i j : ℕ) (h : at ≤ length x
 -- ---- the path of a leaf r of 1,024
 
 module _ (tree : List ℕ) (r : ℕ) (t : length tree ≡ treeBytes) (k : 1024 ≤ r) (l : r < 2048) where
-  -- the node x, less than ten levels above the leaf, and the node beside it
+  -- the node x, less than ten levels above the leaf, is below the root
   pub way-within : (x i : ℕ) → x ≡ r / 2 ^ i → i < 10 → (1 < x) × (x < 2048)
   way-within x i e h = rw e (ancestor-within 10 r i k l h)
 
-  pub beside-within : (x i s : ℕ) → x ≡ r / 2 ^ i → i < 10 → s ≡ sibling x → s < 2048
-  beside-within x i s e h f =
-      let within = way-within x i e h in
-      rw f (sibling-within 1024 x (within .0) (within .1) .1)
-
   length-path : (i : ℕ) → i < 10 → length (path tree r i) ≡ 32
   unfolding path treeBytes
-  length-path i h = length-part _ 32 tree (omega (arith, beside-within (r / 2 ^ i) i _ refl h refl))
+  length-path i h =
+      let within = way-within (r / 2 ^ i) i refl h in
+      length-part _ 32 tree (omega (arith, sibling-within 1024 (r / 2 ^ i) (within .0) (within .1) .1))
 
   -- one turn of the loop that writes the path
   pub path-turn : (before out beside new : List ℕ) (at x i s : ℕ) → x ≡ r / 2 ^ i → i < 10 → s ≡ sibling x

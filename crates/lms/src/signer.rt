@@ -41,7 +41,7 @@ fn write_head(leaf: u32, randomizer: &[u8], out: &mut [u8])
 // The node beside the node r.
 fn sibling(r: u32) -> u32
     requires { ⌜ (1 < r) × (r < 2048) ⌝ }
-    ensures { λ s. ⌜ s ≡ Tree.sibling r ⌝ }
+    ensures { λ s. ⌜ (s ≡ Tree.sibling r) × (s < 2048) ⌝ }
 {
     if r % 2 == 0 { r + 1 } else { r - 1 }
 }

@@ -199,7 +199,7 @@ fn equal(a: &[u8], b: &[u8]) -> bool
 
 // Whether RFC 8554 accepts the signature of the message under a key of known types.
 pub fn verified(k: &[u32; 64], key: &[u8], message: &[u8], signature: &[u8]) -> bool
-    requires { ⌜ (now k ≡ constants) × (keyRefused (now key) ≡ false) ⌝ }
+    requires { ⌜ (now k ≡ constants) × (length (now key) ≡ 56) × (keyRefused (now key) ≡ false) ⌝ }
     ensures { λ r. ⌜ r ≡ valid (now (key .entry)) (now (message .entry)) (now (signature .entry)) ⌝ }
 {
     let lms = octets::word_at(key, 0);

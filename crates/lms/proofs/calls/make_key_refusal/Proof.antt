@@ -1,32 +1,27 @@
-use Rattle.rfc8554.specs.Calls.{makeKeyRefusal, treeBytes}
-use Rattle.refusal.specs.Refusal.{lowest}
 use borrow.Author.Tests.{lt-ltb, le-ltb, eq-eqb, ne-eqb}
+use Rattle.refusal.specs.Refusal.{lowest}
+use Rattle.rfc8554.specs.Calls.{makeKeyRefusal, treeBytes}
 use Rattle.lms.proofs.calls.make_key_refusal.Statement.{statement}
 use Rattle.lms.proofs.calls.make_key_refusal.Tie as tie
 use Rattle.lms.proofs.calls.make_key_refusal.Reads as reads
 use Rattle.lms.proofs.calls.make_key_refusal.Lts as lts
 
--- src/calls.rt:19:9
 returns : tie.Need-returns
 unfolding makeKeyRefusal lowest treeBytes
 returns c = rw (lt-ltb _ _ (c .if1 .taken))
 
--- src/calls.rt:22:9
 returns-2 : tie.Need-returns-2
 unfolding makeKeyRefusal lowest treeBytes
 returns-2 c = rw (le-ltb _ _ (c .before .if1 .left), ne-eqb _ _ (c .if2 .taken))
 
--- src/calls.rt:25:9
 returns-3 : tie.Need-returns-3
 unfolding makeKeyRefusal lowest treeBytes
 returns-3 c = rw (le-ltb _ _ (c .before .before .if1 .left), eq-eqb _ _ (c .before .if2 .left), ne-eqb _ _ (c .if3 .taken))
 
--- src/calls.rt:28:9
 returns-4 : tie.Need-returns-4
 unfolding makeKeyRefusal lowest treeBytes
 returns-4 c = rw (le-ltb _ _ (c .before .before .before .if1 .left), eq-eqb _ _ (c .before .before .if2 .left), eq-eqb _ _ (c .before .if3 .left), ne-eqb _ _ (c .if4 .taken))
 
--- src/calls.rt:15:1
 returns-5 : tie.Need-returns-5
 unfolding makeKeyRefusal lowest treeBytes
 returns-5 c = rw (le-ltb _ _ (c .before .before .before .if1 .left), eq-eqb _ _ (c .before .before .if2 .left), eq-eqb _ _ (c .before .if3 .left), eq-eqb _ _ (c .if4 .left))

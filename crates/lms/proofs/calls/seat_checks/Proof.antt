@@ -1,8 +1,8 @@
-use Rattle.lms.specs.Called.{seat-key, leaf-differs, leaf-agrees}
-use Rattle.rfc8554.specs.Calls.{signatureBytes, seatKey}
 use native.Mathlib.Omega.{arith}
-use denote.Ref.{now}
 use borrow.Author.Needs.{needs}
+use denote.Ref.{now}
+use Rattle.rfc8554.specs.Calls.{signatureBytes, seatKey}
+use Rattle.lms.specs.Called.{length-seatKey, seat-key, leaf-differs, leaf-agrees}
 use Rattle.lms.proofs.calls.seat_checks.Statement.{statement}
 use Rattle.lms.proofs.calls.seat_checks.Tie as tie
 use Rattle.lms.proofs.calls.seat_checks.Reads as reads
@@ -12,41 +12,46 @@ use Rattle.lms.proofs.node.bytes_at.Reads as bytes-at-reads
 use Rattle.lms.proofs.verify.verified.Reads as verified-reads
 use Rattle.octets.proofs.word_at.Reads as word-at-reads
 
--- src/calls.rt:144:8
 word-at-requires : tie.Need-word-at-requires
 unfolding signatureBytes
 word-at-requires c κs = omega arith
 
--- src/calls.rt:145:9
 returns : tie.Need-returns
 unfolding signatureBytes
-returns c = let args = c .before .before .before .before .before .args in leaf-differs (now (args .keys)) (args .round) (args .seat) (now (args .value)) (now (args .signature)) (omega arith) (c .before .word-at .result) (c .before .word-at .ensures) (c .if1 .taken)
+returns c =
+    let args = c .before .before .before .before .before .args in
+    leaf-differs (now (args .keys)) (args .round) (args .seat) (now (args .value)) (now (args .signature)) (omega arith) (c .before .word-at .result)
+    (c .before .word-at .ensures) (c .if1 .taken)
 
--- src/calls.rt:147:36
 mul-bytes-at : tie.Need-mul-bytes-at
 mul-bytes-at c = search needs
 
--- src/calls.rt:147:9
 bytes-at-requires : tie.Need-bytes-at-requires
 bytes-at-requires c κs = search needs
 
--- src/calls.rt:148:19
 signed-bytes-requires : tie.Need-signed-bytes-requires
 signed-bytes-requires c κs = search needs
 
--- src/calls.rt:149:30
 slice-aggregate-verified : tie.Need-slice-aggregate-verified
 slice-aggregate-verified c = search needs
 
--- src/calls.rt:149:5
 verified-requires : tie.Need-verified-requires
 unfolding seatKey
-verified-requires c κs = let start = c .before .before .before .before .before .before .before .before in (start .pre .0 .0, rw (c .before .before .bytes-at .ensures) (seat-key (now (start .args .keys)) (start .args .seat) (start .pre .1 .0) (start .pre .1 .1) (start .pre .1 .2)))
+verified-requires c κs =
+    let start = c .before .before .before .before .before .before .before .before in
+    let keys = now (start .args .keys) in
+    let seat = start .args .seat in
+    (start .pre .0 .0, rw (c .before .before .bytes-at .ensures) (length-seatKey keys seat (start .pre .1 .0)), rw (c .before .before .bytes-at .ensures) (seat-key keys seat (start .pre .1 .0) (start .pre .1 .1) (start .pre .1 .2)))
 
--- src/calls.rt:139:1
 returns-2 : tie.Need-returns-2
 unfolding signatureBytes
-returns-2 c = let word = c .before .before .before .before .before in let args = word .before .before .before .before .args in leaf-agrees (now (args .keys)) (args .round) (args .seat) (now (args .value)) (now (args .signature)) (omega arith) (word .word-at .result) (word .word-at .ensures) (c .before .before .before .before .if1 .left) (now (c .before .before .before .bytes-at .result)) (c .before .before .signed-bytes .result) (c .verified .result) (c .before .before .before .bytes-at .ensures) (c .before .before .signed-bytes .ensures) (c .verified .ensures)
+returns-2 c =
+    let word = c .before .before .before .before .before in
+    let args = word .before .before .before .before .args in
+    leaf-agrees (now (args .keys)) (args .round) (args .seat) (now (args .value)) (now (args .signature)) (omega arith) (word .word-at .result)
+    (word .word-at .ensures) (c .before .before .before .before .if1 .left) (now (c .before .before .before .bytes-at .result))
+    (c .before .before .signed-bytes .result) (c .verified .result) (c .before .before .before .bytes-at .ensures)
+    (c .before .before .signed-bytes .ensures) (c .verified .ensures)
 
 pub seat-checks-spec : {M : Type 1} → statement M
 seat-checks-spec =

@@ -1,47 +1,39 @@
-use Rattle.rfc8554.specs.Calls.{signRefusal, treeBytes, messageLimit, signatureBytes}
-use Rattle.refusal.specs.Refusal.{lowest}
 use borrow.Author.Tests.{lt-ltb, le-ltb, eq-eqb, ne-eqb}
+use Rattle.refusal.specs.Refusal.{lowest}
+use Rattle.rfc8554.specs.Calls.{signRefusal, treeBytes, messageLimit, signatureBytes}
 use Rattle.lms.proofs.calls.sign_refusal.Statement.{statement}
 use Rattle.lms.proofs.calls.sign_refusal.Tie as tie
 use Rattle.lms.proofs.calls.sign_refusal.Reads as reads
 use Rattle.lms.proofs.calls.sign_refusal.Lts as lts
 
--- src/calls.rt:38:9
 returns : tie.Need-returns
 unfolding signRefusal lowest treeBytes messageLimit signatureBytes
 returns c = rw (lt-ltb _ _ (c .if1 .taken))
 
--- src/calls.rt:41:9
 returns-2 : tie.Need-returns-2
 unfolding signRefusal lowest treeBytes messageLimit signatureBytes
 returns-2 c = rw (le-ltb _ _ (c .before .if1 .left), lt-ltb _ _ (c .if2 .taken))
 
--- src/calls.rt:44:9
 returns-3 : tie.Need-returns-3
 unfolding signRefusal lowest treeBytes messageLimit signatureBytes
 returns-3 c = rw (le-ltb _ _ (c .before .before .if1 .left), le-ltb _ _ (c .before .if2 .left), lt-ltb _ _ (c .if3 .taken))
 
--- src/calls.rt:47:9
 returns-4 : tie.Need-returns-4
 unfolding signRefusal lowest treeBytes messageLimit signatureBytes
 returns-4 c = rw (le-ltb _ _ (c .before .before .before .if1 .left), le-ltb _ _ (c .before .before .if2 .left), le-ltb _ _ (c .before .if3 .left), ne-eqb _ _ (c .if4 .taken))
 
--- src/calls.rt:50:9
 returns-5 : tie.Need-returns-5
 unfolding signRefusal lowest treeBytes messageLimit signatureBytes
 returns-5 c = rw (le-ltb _ _ (c .before .before .before .before .if1 .left), le-ltb _ _ (c .before .before .before .if2 .left), le-ltb _ _ (c .before .before .if3 .left), eq-eqb _ _ (c .before .if4 .left), ne-eqb _ _ (c .if5 .taken))
 
--- src/calls.rt:53:9
 returns-6 : tie.Need-returns-6
 unfolding signRefusal lowest treeBytes messageLimit signatureBytes
 returns-6 c = rw (le-ltb _ _ (c .before .before .before .before .before .if1 .left), le-ltb _ _ (c .before .before .before .before .if2 .left), le-ltb _ _ (c .before .before .before .if3 .left), eq-eqb _ _ (c .before .before .if4 .left), eq-eqb _ _ (c .before .if5 .left), ne-eqb _ _ (c .if6 .taken))
 
--- src/calls.rt:56:9
 returns-7 : tie.Need-returns-7
 unfolding signRefusal lowest treeBytes messageLimit signatureBytes
 returns-7 c = rw (le-ltb _ _ (c .before .before .before .before .before .before .if1 .left), le-ltb _ _ (c .before .before .before .before .before .if2 .left), le-ltb _ _ (c .before .before .before .before .if3 .left), eq-eqb _ _ (c .before .before .before .if4 .left), eq-eqb _ _ (c .before .before .if5 .left), eq-eqb _ _ (c .before .if6 .left), ne-eqb _ _ (c .if7 .taken))
 
--- src/calls.rt:34:1
 returns-8 : tie.Need-returns-8
 unfolding signRefusal lowest treeBytes messageLimit signatureBytes
 returns-8 c = rw (le-ltb _ _ (c .before .before .before .before .before .before .if1 .left), le-ltb _ _ (c .before .before .before .before .before .if2 .left), le-ltb _ _ (c .before .before .before .before .if3 .left), eq-eqb _ _ (c .before .before .before .if4 .left), eq-eqb _ _ (c .before .before .if5 .left), eq-eqb _ _ (c .before .if6 .left), eq-eqb _ _ (c .if7 .left))

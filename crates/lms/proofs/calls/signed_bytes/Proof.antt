@@ -1,7 +1,7 @@
-use Rattle.lms.specs.Written.{seat-signed}
 use native.Mathlib.Omega.{arith}
-use denote.Ref.{now}
 use borrow.Author.Needs.{needs}
+use denote.Ref.{now}
+use Rattle.lms.specs.Written.{seat-signed}
 use Rattle.lms.proofs.calls.signed_bytes.Statement.{statement}
 use Rattle.lms.proofs.calls.signed_bytes.Tie as tie
 use Rattle.lms.proofs.calls.signed_bytes.Reads as reads
@@ -9,37 +9,33 @@ use Rattle.lms.proofs.calls.signed_bytes.Lts as lts
 use Rattle.octets.proofs.copy.Reads as copy-reads
 use Rattle.octets.proofs.put_word.Reads as put-word-reads
 
--- src/calls.rt:67:22
 slice-aggregate-put-word : tie.Need-slice-aggregate-put-word
 slice-aggregate-put-word c = search needs
 
--- src/calls.rt:67:44
 mul-put-word : tie.Need-mul-put-word
 mul-put-word c = search needs
 
--- src/calls.rt:67:33
 add-put-word : tie.Need-add-put-word
 add-put-word c = search needs
 
--- src/calls.rt:67:33
 add-put-word-2 : tie.Need-add-put-word-2
 add-put-word-2 c = search needs
 
--- src/calls.rt:67:5
 put-word-requires : tie.Need-put-word-requires
 put-word-requires c κs = search needs
 
--- src/calls.rt:68:18
 slice-aggregate-copy : tie.Need-slice-aggregate-copy
 slice-aggregate-copy c = search needs
 
--- src/calls.rt:68:5
 copy-requires : tie.Need-copy-requires
 copy-requires c κs = search needs
 
--- src/calls.rt:62:1
 returns : tie.Need-returns
-returns c = let start = c .before .before .before .before .before .before .before in let args = start .args in seat-signed (now (args .value)) _ _ (c .before .copy .last .0) (args .round) (args .seat) (start .pre .0) (start .pre .1) (c .before .before .before .before .put-word .ensures) (c .before .copy .ensures) (omega arith)
+returns c =
+    let start = c .before .before .before .before .before .before .before in
+    let args = start .args in
+    seat-signed (now (args .value)) _ _ (c .before .copy .last .0) (args .round) (args .seat) (start .pre .0) (start .pre .1)
+    (c .before .before .before .before .put-word .ensures) (c .before .copy .ensures) (omega arith)
 
 pub signed-bytes-spec : {M : Type 1} → statement M
 signed-bytes-spec =

@@ -1,8 +1,8 @@
-use Rattle.lms.specs.Laws.{prefixed}
-use Rattle.lmots.specs.Pieces.{front}
-use Rattle.rfc8554.specs.Tree.{leafInput}
-use denote.Ref.{now}
 use borrow.Author.Needs.{needs}
+use denote.Ref.{now}
+use Rattle.rfc8554.specs.Tree.{leafInput}
+use Rattle.lmots.specs.Pieces.{front}
+use Rattle.lms.specs.Laws.{prefixed}
 use Rattle.lms.proofs.node.leaf.Statement.{statement}
 use Rattle.lms.proofs.node.leaf.Tie as tie
 use Rattle.lms.proofs.node.leaf.Reads as reads
@@ -10,22 +10,21 @@ use Rattle.lms.proofs.node.leaf.Lts as lts
 use Rattle.lmots.proofs.digits.front.Reads as front-reads
 use Rattle.sha256.proofs.hash.sha256_two.Reads as sha256-two-reads
 
--- src/node.rt:31:13
 front-requires : tie.Need-front-requires
 front-requires c κs = search needs
 
--- src/node.rt:32:33
 slice-aggregate-sha256-two : tie.Need-slice-aggregate-sha256-two
 slice-aggregate-sha256-two c = search needs
 
--- src/node.rt:32:5
 sha256-two-requires : tie.Need-sha256-two-requires
 sha256-two-requires c κs = search needs
 
--- src/node.rt:27:1
 returns : tie.Need-returns
 unfolding leafInput front
-returns c = let args = c .before .before .before .before .args in prefixed (c .before .before .front .result) _ (now (args .key)) (c .sha256-two .result) (c .before .before .front .ensures) (c .sha256-two .ensures)
+returns c =
+    let args = c .before .before .before .before .args in
+    prefixed (c .before .before .front .result) _ (now (args .key)) (c .sha256-two .result) (c .before .before .front .ensures)
+    (c .sha256-two .ensures)
 
 pub leaf-spec : {M : Type 1} → statement M
 leaf-spec =

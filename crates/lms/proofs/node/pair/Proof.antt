@@ -1,30 +1,25 @@
 use native.Mathlib.Omega.{arith}
+use borrow.Author.Needs.{needs}
 use denote.Ref.{now}
 use Rattle.lmots.specs.WriteLaws.{pieces}
-use borrow.Author.Needs.{needs}
 use Rattle.lms.proofs.node.pair.Statement.{statement}
 use Rattle.lms.proofs.node.pair.Tie as tie
 use Rattle.lms.proofs.node.pair.Reads as reads
 use Rattle.lms.proofs.node.pair.Lts as lts
 use Rattle.octets.proofs.copy.Reads as copy-reads
 
--- src/node.rt:63:18
 slice-aggregate-copy : tie.Need-slice-aggregate-copy
 slice-aggregate-copy c = search needs
 
--- src/node.rt:63:5
 copy-requires : tie.Need-copy-requires
 copy-requires c κs = search needs
 
--- src/node.rt:64:18
 slice-aggregate-copy-2 : tie.Need-slice-aggregate-copy-2
 slice-aggregate-copy-2 c = search needs
 
--- src/node.rt:64:5
 copy-requires-2 : tie.Need-copy-requires-2
 copy-requires-2 c κs = search needs
 
--- src/node.rt:58:1
 returns : tie.Need-returns
 returns c =
     let start = c .before .before .before .before .before .before .before .before in

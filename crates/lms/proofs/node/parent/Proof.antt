@@ -1,7 +1,7 @@
-use Rattle.lms.specs.Laws.{over-two}
-use Rattle.octets.specs.Octets.{bytes}
-use denote.Ref.{now}
 use borrow.Author.Needs.{needs}
+use denote.Ref.{now}
+use Rattle.octets.specs.Octets.{bytes}
+use Rattle.lms.specs.Laws.{over-two}
 use Rattle.lms.proofs.node.parent.Statement.{statement}
 use Rattle.lms.proofs.node.parent.Tie as tie
 use Rattle.lms.proofs.node.parent.Reads as reads
@@ -9,21 +9,20 @@ use Rattle.lms.proofs.node.parent.Lts as lts
 use Rattle.lms.proofs.node.inner.Reads as inner-reads
 use Rattle.lms.proofs.node.pair.Reads as pair-reads
 
--- src/node.rt:60:13
 pair-requires : tie.Need-pair-requires
 pair-requires c κs = search needs
 
--- src/node.rt:61:21
 slice-aggregate-inner : tie.Need-slice-aggregate-inner
 slice-aggregate-inner c = search needs
 
--- src/node.rt:61:5
 inner-requires : tie.Need-inner-requires
 inner-requires c κs = search needs
 
--- src/node.rt:56:1
 returns : tie.Need-returns
-returns c = let args = c .before .before .before .before .before .args in over-two (bytes (args .id)) (c .before .before .pair .result) (now (args .left)) (now (args .right)) (c .inner .result) (args .r) (c .before .before .pair .ensures) (c .inner .ensures)
+returns c =
+    let args = c .before .before .before .before .before .args in
+    over-two (bytes (args .id)) (c .before .before .pair .result) (now (args .left)) (now (args .right)) (c .inner .result) (args .r)
+    (c .before .before .pair .ensures) (c .inner .ensures)
 
 pub parent-spec : {M : Type 1} → statement M
 parent-spec = tie.close (tie.spec pair-requires slice-aggregate-inner inner-requires returns)

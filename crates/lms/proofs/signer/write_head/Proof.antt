@@ -1,10 +1,9 @@
-use Rattle.lms.specs.Written.{three-writes}
-use Rattle.octets.specs.Octets.{be}
+use mathlib.Core.Path.{refl}
 use native.Mathlib.Omega.{arith}
-use Rattle.octets.specs.Laws.{length-be}
-use mathlib.Core.Path.{refl, sym}
-use denote.Ref.{now}
 use borrow.Author.Needs.{needs}
+use denote.Ref.{now}
+use Rattle.octets.specs.Octets.{be}
+use Rattle.lms.specs.Written.{three-writes}
 use Rattle.lms.proofs.signer.write_head.Statement.{statement}
 use Rattle.lms.proofs.signer.write_head.Tie as tie
 use Rattle.lms.proofs.signer.write_head.Reads as reads
@@ -12,23 +11,18 @@ use Rattle.lms.proofs.signer.write_head.Lts as lts
 use Rattle.octets.proofs.copy.Reads as copy-reads
 use Rattle.octets.proofs.put_word.Reads as put-word-reads
 
--- src/signer.rt:34:5
 put-word-requires : tie.Need-put-word-requires
 put-word-requires c κs = search needs
 
--- src/signer.rt:35:5
 put-word-requires-2 : tie.Need-put-word-requires-2
 put-word-requires-2 c κs = search needs
 
--- src/signer.rt:36:5
 copy-requires : tie.Need-copy-requires
 copy-requires c κs = search needs
 
--- src/signer.rt:30:1
 same-length : tie.Need-same-length
 same-length c = search needs
 
--- src/signer.rt:30:1
 returns : tie.Need-returns
 unfolding be
 returns c =

@@ -1,10 +1,9 @@
-use Rattle.lms.specs.Written.{four-writes}
-use Rattle.octets.specs.Octets.{be}
+use mathlib.Core.Path.{refl}
 use native.Mathlib.Omega.{arith}
-use Rattle.octets.specs.Laws.{length-be}
-use mathlib.Core.Path.{refl, sym}
-use denote.Ref.{now}
 use borrow.Author.Needs.{needs}
+use denote.Ref.{now}
+use Rattle.octets.specs.Octets.{be}
+use Rattle.lms.specs.Written.{four-writes}
 use Rattle.lms.proofs.signer.write_key.Statement.{statement}
 use Rattle.lms.proofs.signer.write_key.Tie as tie
 use Rattle.lms.proofs.signer.write_key.Reads as reads
@@ -12,27 +11,21 @@ use Rattle.lms.proofs.signer.write_key.Lts as lts
 use Rattle.octets.proofs.copy.Reads as copy-reads
 use Rattle.octets.proofs.put_word.Reads as put-word-reads
 
--- src/signer.rt:23:5
 put-word-requires : tie.Need-put-word-requires
 put-word-requires c κs = search needs
 
--- src/signer.rt:24:5
 put-word-requires-2 : tie.Need-put-word-requires-2
 put-word-requires-2 c κs = search needs
 
--- src/signer.rt:25:5
 copy-requires : tie.Need-copy-requires
 copy-requires c κs = search needs
 
--- src/signer.rt:26:5
 copy-requires-2 : tie.Need-copy-requires-2
 copy-requires-2 c κs = search needs
 
--- src/signer.rt:19:1
 same-length : tie.Need-same-length
 same-length c = search needs
 
--- src/signer.rt:19:1
 returns : tie.Need-returns
 unfolding be
 returns c =

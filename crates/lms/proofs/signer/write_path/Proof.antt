@@ -1,18 +1,18 @@
-use Rattle.lms.specs.Written.{way-within, beside-within, path-turn}
-use Rattle.lms.specs.Laws.{half-turn}
-use Rattle.lmots.specs.WriteLaws.{patch-none}
-use Rattle.rfc8554.specs.Calls.{treeBytes}
-use Rattle.rfc8554.specs.Tree.{path}
+use mathlib.Core.Path.{_≡_, refl, sym, ap, _∙_}
+use Prim.Native.Nat.{_-_, _*_, _/_, _^_, _≤_}
+use native.Mathlib.Nat.{div-one}
+use native.Mathlib.Omega.{arith}
+use borrow.Author.Needs.{needs}
+use lib.ListN.{length}
+use denote.Ref.{now}
 use Rattle.octets.specs.Laws.{length-part}
 use Rattle.octets.specs.Strings.{joined}
 use Rattle.octets.specs.Octets.{patch}
-use lib.ListN.{length}
-use Prim.Native.Nat.{_+_, _-_, _*_, _/_, _^_, _≤_}
-use mathlib.Core.Path.{_≡_, refl, sym, ap, _∙_}
-use native.Mathlib.Nat.{div-one}
-use borrow.Author.Needs.{needs}
-use native.Mathlib.Omega.{arith}
-use denote.Ref.{now}
+use Rattle.rfc8554.specs.Calls.{treeBytes}
+use Rattle.rfc8554.specs.Tree.{path}
+use Rattle.lmots.specs.WriteLaws.{patch-none}
+use Rattle.lms.specs.Written.{way-within, path-turn}
+use Rattle.lms.specs.Laws.{half-turn}
 use Rattle.lms.proofs.signer.write_path.Statement.{statement}
 use Rattle.lms.proofs.signer.write_path.Tie as tie
 use Rattle.lms.proofs.signer.write_path.Reads as reads
@@ -27,67 +27,66 @@ Inv-loop tree r out₀ at x₀ i₀ out x i = (i ≤ 10) × (length out ≡ leng
 abbrev μ-loop : tie.MeasureT-loop
 μ-loop tree r out₀ at x₀ i₀ out x i = 10 - i
 
--- src/signer.rt:54:5
 loop-holds : tie.Need-loop-holds Inv-loop μ-loop
 unfolding joined
 loop-holds c = (omega arith, refl, sym (div-one _), patch-none _ _)
 
--- src/signer.rt:55:25
 sibling-requires : tie.Need-sibling-requires Inv-loop μ-loop
-sibling-requires c κs = let at-loop = c .before in let start = at-loop .before .before .before in let args = start .args in way-within (now (args .tree)) (args .r) (start .pre .0) (start .pre .1) (start .pre .2) (at-loop .loop .x) (at-loop .loop .i) (at-loop .loop .inv .2) (omega arith)
+sibling-requires c κs =
+    let at-loop = c .before in
+    let start = at-loop .before .before .before in
+    let args = start .args in
+    way-within (now (args .tree)) (args .r) (start .pre .0) (start .pre .1) (start .pre .2) (at-loop .loop .x) (at-loop .loop .i)
+    (at-loop .loop .inv .2) (omega arith)
 
--- src/signer.rt:55:25
 cast-from : tie.Need-cast-from Inv-loop μ-loop
 cast-from c = search needs
 
--- src/signer.rt:55:20
 mul-from : tie.Need-mul-from Inv-loop μ-loop
-mul-from c = let at-loop = c .before .before in let start = at-loop .before .before .before in let args = start .args in omega (arith, beside-within (now (args .tree)) (args .r) (start .pre .0) (start .pre .1) (start .pre .2) (at-loop .loop .x) (at-loop .loop .i) (c .sibling .result) (at-loop .loop .inv .2) (omega arith) (c .sibling .ensures))
+mul-from c = omega arith
 
--- src/signer.rt:56:13
 bytes-at-requires : tie.Need-bytes-at-requires Inv-loop μ-loop
 unfolding treeBytes
-bytes-at-requires c κs = let at-loop = c .before .before in let start = at-loop .before .before .before in let args = start .args in omega (arith, beside-within (now (args .tree)) (args .r) (start .pre .0) (start .pre .1) (start .pre .2) (at-loop .loop .x) (at-loop .loop .i) (c .sibling .result) (at-loop .loop .inv .2) (omega arith) (c .sibling .ensures))
+bytes-at-requires c κs = omega arith
 
--- src/signer.rt:57:32
 mul-copy : tie.Need-mul-copy Inv-loop μ-loop
 mul-copy c = omega arith
 
--- src/signer.rt:57:27
 add-copy : tie.Need-add-copy Inv-loop μ-loop
 add-copy c = omega arith
 
--- src/signer.rt:57:9
 copy-requires : tie.Need-copy-requires Inv-loop μ-loop
 unfolding treeBytes
 copy-requires c κs =
-    let at-loop = c .before .before .before .before in
-    let start = at-loop .before .before .before in
-    let args = start .args in
+    let tree = now (c .before .before .before .before .before .before .before .args .tree) in
     let s = c .before .before .sibling .result in
-    let within = beside-within (now (args .tree)) (args .r) (start .pre .0) (start .pre .1) (start .pre .2) (at-loop .loop .x) (at-loop .loop .i) s (at-loop .loop .inv .2) (omega arith) (c .before .before .sibling .ensures) in
-    let long : length (now (c .before .bytes-at .result)) ≡ 32 = rw (c .before .bytes-at .ensures) (length-part (32 * s) 32 (now (args .tree)) (omega arith)) in
+    let long : length (now (c .before .bytes-at .result)) ≡ 32 = rw (c .before .bytes-at .ensures) (length-part (32 * s) 32 tree (omega arith)) in
     omega arith
 
--- src/signer.rt:59:9
 add-i : tie.Need-add-i Inv-loop μ-loop
 add-i c = omega arith
 
--- src/signer.rt:54:5
 loop-less : tie.Need-loop-less Inv-loop μ-loop
 loop-less c = omega arith
 
--- src/signer.rt:54:5
 loop-again : tie.Need-loop-again Inv-loop μ-loop
-loop-again c = let at-loop = c .before .before .before .before .before .before .before in let start = at-loop .before .before .before in let args = start .args in let x = at-loop .loop .x in let i = at-loop .loop .i in (omega arith, omega arith, half-turn x (args .r) i (at-loop .loop .inv .2), path-turn (now (args .tree)) (args .r) (start .pre .0) (start .pre .1) (start .pre .2) (now (args .out)) (at-loop .loop .out) (now (c .before .before .before .before .bytes-at .result)) (c .before .before .copy .last .0) (args .at) x i (c .before .before .before .before .before .sibling .result) (at-loop .loop .inv .2) (omega arith) (c .before .before .before .before .before .sibling .ensures) (c .before .before .before .before .bytes-at .ensures) (omega arith) (at-loop .loop .inv .3) (c .before .before .copy .ensures))
+loop-again c =
+    let at-loop = c .before .before .before .before .before .before .before in
+    let start = at-loop .before .before .before in
+    let args = start .args in
+    let x = at-loop .loop .x in
+    let i = at-loop .loop .i in
+    (omega arith, omega arith, half-turn x (args .r) i (at-loop .loop .inv .2), path-turn (now (args .tree)) (args .r) (start .pre .0) (start .pre .1) (start .pre .2) (now (args .out)) (at-loop .loop .out) (now (c .before .before .before .before .bytes-at .result)) (c .before .before .copy .last .0) (args .at) x i (c .before .before .before .before .before .sibling .result) (at-loop .loop .inv .2) (omega arith) (c .before .before .before .before .before .sibling .ensures .0) (c .before .before .before .before .bytes-at .ensures) (omega arith) (at-loop .loop .inv .3) (c .before .before .copy .ensures))
 
--- src/signer.rt:48:1
 same-length : tie.Need-same-length Inv-loop μ-loop
 same-length c = omega arith
 
--- src/signer.rt:48:1
 returns : tie.Need-returns Inv-loop μ-loop
-returns c = let at-loop = c .before in let args = at-loop .before .before .before .args in let all : at-loop .loop .i ≡ 10 = omega arith in at-loop .loop .inv .3 ∙ ap (λ i. patch (args .at) (joined (path (now (args .tree)) (args .r)) i) (now (args .out))) all
+returns c =
+    let at-loop = c .before in
+    let args = at-loop .before .before .before .args in
+    let all : at-loop .loop .i ≡ 10 = omega arith in
+    at-loop .loop .inv .3 ∙ ap (λ i. patch (args .at) (joined (path (now (args .tree)) (args .r)) i) (now (args .out))) all
 
 pub write-path-spec : {M : Type 1} → statement M
 write-path-spec =

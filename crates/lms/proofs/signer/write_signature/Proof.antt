@@ -1,8 +1,7 @@
-use Rattle.lms.specs.Written.{whole-string, signature-written}
-use native.Mathlib.Omega.{arith}
-use Rattle.octets.specs.Octets.{bytes}
-use denote.Ref.{now}
 use borrow.Author.Needs.{needs}
+use denote.Ref.{now}
+use Rattle.octets.specs.Octets.{bytes}
+use Rattle.lms.specs.Written.{whole-string, signature-written}
 use Rattle.lms.proofs.signer.write_signature.Statement.{statement}
 use Rattle.lms.proofs.signer.write_signature.Tie as tie
 use Rattle.lms.proofs.signer.write_signature.Reads as reads
@@ -14,37 +13,41 @@ use Rattle.lms.proofs.signer.write_tail.Reads as write-tail-reads
 use Rattle.lms.proofs.signer.write_values.Reads as write-values-reads
 use Rattle.sha256.proofs.constants.round_constants.Reads as round-constants-reads
 
--- src/signer.rt:88:13
 round-constants-requires : tie.Need-round-constants-requires
 round-constants-requires c κs = search needs
 
--- src/signer.rt:89:9
 four-requires : tie.Need-four-requires
 four-requires c κs = search needs
 
--- src/signer.rt:90:9
 eight-requires : tie.Need-eight-requires
 eight-requires c κs = search needs
 
--- src/signer.rt:91:5
 write-head-requires : tie.Need-write-head-requires
 write-head-requires c κs = search needs
 
--- src/signer.rt:92:5
 write-values-requires : tie.Need-write-values-requires
 write-values-requires c κs = search needs
 
--- src/signer.rt:93:5
 write-tail-requires : tie.Need-write-tail-requires
 write-tail-requires c κs = search needs
 
--- src/signer.rt:84:1
 same-length : tie.Need-same-length
 same-length c = search needs
 
--- src/signer.rt:84:1
 returns : tie.Need-returns
-returns c = let headed = c .before .before .before .before .before .before .before .before .before .before .before in let four = headed .before .before .before in let start = four .before .before .before .before .before .before .before .before in let args = start .args in let id = now (args .id) in let seed = now (args .seed) in signature-written id (bytes (four .four .result)) seed (bytes (headed .before .before .eight .result)) (now (args .randomizer)) (now (args .message)) (now (args .tree)) (now (args .out)) (headed .write-head .last .1 .1 .0) (c .before .before .before .before .before .before .write-values .last .1 .1 .1 .1 .1 .1 .0) (c .before .before .write-tail .last .1 .1 .0) (args .leaf) (start .pre .3) (whole-string id (bytes (four .four .result)) 16 (start .pre .2) (four .four .ensures)) (whole-string seed (bytes (headed .before .before .eight .result)) 32 (start .pre .1) (headed .before .before .eight .ensures)) (headed .write-head .ensures) (c .before .before .before .before .before .before .write-values .ensures) (c .before .before .write-tail .ensures)
+returns c =
+    let headed = c .before .before .before .before .before .before .before .before .before .before .before in
+    let four = headed .before .before .before in
+    let start = four .before .before .before .before .before .before .before .before in
+    let args = start .args in
+    let id = now (args .id) in
+    let seed = now (args .seed) in
+    signature-written id (bytes (four .four .result)) seed (bytes (headed .before .before .eight .result)) (now (args .randomizer))
+    (now (args .message)) (now (args .tree)) (now (args .out)) (headed .write-head .last .1 .1 .0)
+    (c .before .before .before .before .before .before .write-values .last .1 .1 .1 .1 .1 .1 .0) (c .before .before .write-tail .last .1 .1 .0)
+    (args .leaf) (start .pre .3) (whole-string id (bytes (four .four .result)) 16 (start .pre .2) (four .four .ensures))
+    (whole-string seed (bytes (headed .before .before .eight .result)) 32 (start .pre .1) (headed .before .before .eight .ensures))
+    (headed .write-head .ensures) (c .before .before .before .before .before .before .write-values .ensures) (c .before .before .write-tail .ensures)
 
 pub write-signature-spec : {M : Type 1} → statement M
 write-signature-spec =

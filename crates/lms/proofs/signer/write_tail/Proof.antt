@@ -1,9 +1,9 @@
-use Rattle.lmots.specs.WriteLaws.{patch-next}
-use Rattle.octets.specs.Octets.{be}
-use native.Mathlib.Omega.{arith}
 use mathlib.Core.Path.{refl}
-use denote.Ref.{now}
+use native.Mathlib.Omega.{arith}
 use borrow.Author.Needs.{needs}
+use denote.Ref.{now}
+use Rattle.octets.specs.Octets.{be}
+use Rattle.lmots.specs.WriteLaws.{patch-next}
 use Rattle.lms.proofs.signer.write_tail.Statement.{statement}
 use Rattle.lms.proofs.signer.write_tail.Tie as tie
 use Rattle.lms.proofs.signer.write_tail.Reads as reads
@@ -11,23 +11,18 @@ use Rattle.lms.proofs.signer.write_tail.Lts as lts
 use Rattle.lms.proofs.signer.write_path.Reads as write-path-reads
 use Rattle.octets.proofs.put_word.Reads as put-word-reads
 
--- src/signer.rt:68:5
 put-word-requires : tie.Need-put-word-requires
 put-word-requires c κs = search needs
 
--- src/signer.rt:69:22
 add-write-path : tie.Need-add-write-path
 add-write-path c = search needs
 
--- src/signer.rt:69:5
 write-path-requires : tie.Need-write-path-requires
 write-path-requires c κs = search needs
 
--- src/signer.rt:64:1
 same-length : tie.Need-same-length
 same-length c = search needs
 
--- src/signer.rt:64:1
 returns : tie.Need-returns
 unfolding be
 returns c =

@@ -1,10 +1,10 @@
-use Rattle.rfc8554.specs.Ots.{digested}
-use Rattle.lms.specs.Written.{values-for}
 use mathlib.Core.Logic.{inr}
 use mathlib.Core.Path.{refl}
-use Rattle.octets.specs.Octets.{bytes}
-use denote.Ref.{now}
 use borrow.Author.Needs.{needs}
+use denote.Ref.{now}
+use Rattle.octets.specs.Octets.{bytes}
+use Rattle.rfc8554.specs.Ots.{digested}
+use Rattle.lms.specs.Written.{values-for}
 use Rattle.lms.proofs.signer.write_values.Statement.{statement}
 use Rattle.lms.proofs.signer.write_values.Tie as tie
 use Rattle.lms.proofs.signer.write_values.Reads as reads
@@ -12,25 +12,27 @@ use Rattle.lms.proofs.signer.write_values.Lts as lts
 use Rattle.lmots.proofs.digits.message_digits.Reads as message-digits-reads
 use Rattle.lmots.proofs.key.write_signed.Reads as write-signed-reads
 
--- src/signer.rt:79:18
 message-digits-requires : tie.Need-message-digits-requires
-message-digits-requires c κs = let start = c .before .before .before in (start .pre .0, inr refl, start .pre .1)
+message-digits-requires c κs =
+    let start = c .before .before .before in
+    (start .pre .0, inr refl, start .pre .1)
 
--- src/signer.rt:80:49
 slice-aggregate-write-signed : tie.Need-slice-aggregate-write-signed
 slice-aggregate-write-signed c = search needs
 
--- src/signer.rt:80:5
 write-signed-requires : tie.Need-write-signed-requires
 write-signed-requires c κs = search needs
 
--- src/signer.rt:75:1
 same-length : tie.Need-same-length
 same-length c = search needs
 
--- src/signer.rt:75:1
 returns : tie.Need-returns
-returns c = let args = c .before .before .before .before .before .before .before .before .before .args in values-for (bytes (args .id)) (bytes (args .seed)) (c .before .before .before .before .before .message-digits .result) (digested (bytes (args .id)) (args .leaf) 8 (now (args .randomizer)) (now (args .message))) (now (args .out)) (c .before .before .write-signed .last .1 .1 .1 .1 .1 .0) (args .leaf) (c .before .before .before .before .before .message-digits .ensures) (c .before .before .write-signed .ensures)
+returns c =
+    let args = c .before .before .before .before .before .before .before .before .before .args in
+    values-for (bytes (args .id)) (bytes (args .seed)) (c .before .before .before .before .before .message-digits .result)
+    (digested (bytes (args .id)) (args .leaf) 8 (now (args .randomizer)) (now (args .message))) (now (args .out))
+    (c .before .before .write-signed .last .1 .1 .1 .1 .1 .0) (args .leaf) (c .before .before .before .before .before .message-digits .ensures)
+    (c .before .before .write-signed .ensures)
 
 pub write-values-spec : {M : Type 1} → statement M
 write-values-spec =

@@ -1,8 +1,8 @@
-use Rattle.lms.specs.Filled.{tree-filled}
-use Rattle.rfc8554.specs.Calls.{treeBytes}
-use Rattle.octets.specs.Octets.{bytes}
-use denote.Ref.{now}
 use borrow.Author.Needs.{needs}
+use denote.Ref.{now}
+use Rattle.octets.specs.Octets.{bytes}
+use Rattle.rfc8554.specs.Calls.{treeBytes}
+use Rattle.lms.specs.Filled.{tree-filled}
 use Rattle.lms.proofs.tree.fill.Statement.{statement}
 use Rattle.lms.proofs.tree.fill.Tie as tie
 use Rattle.lms.proofs.tree.fill.Reads as reads
@@ -10,22 +10,23 @@ use Rattle.lms.proofs.tree.fill.Lts as lts
 use Rattle.lms.proofs.tree.put_inners.Reads as put-inners-reads
 use Rattle.lms.proofs.tree.put_leaves.Reads as put-leaves-reads
 
--- src/tree.rt:63:5
 put-leaves-requires : tie.Need-put-leaves-requires
 put-leaves-requires c κs = search needs
 
--- src/tree.rt:64:5
 put-inners-requires : tie.Need-put-inners-requires
 put-inners-requires c κs = search needs
 
--- src/tree.rt:59:1
 same-length : tie.Need-same-length
 same-length c = search needs
 
--- src/tree.rt:59:1
 returns : tie.Need-returns
 unfolding treeBytes
-returns c = let start = c .before .before .before .before .before .before .before .before .before in let args = start .args in tree-filled (bytes (args .id)) (bytes (args .seed)) (now (args .tree)) (start .pre .1) (c .before .before .before .before .before .before .put-leaves .last .1 .1 .1 .0) (c .before .before .put-inners .last .1 .1 .0) (c .before .before .before .before .before .before .put-leaves .ensures) (c .before .before .put-inners .ensures)
+returns c =
+    let start = c .before .before .before .before .before .before .before .before .before in
+    let args = start .args in
+    tree-filled (bytes (args .id)) (bytes (args .seed)) (now (args .tree)) (start .pre .1)
+    (c .before .before .before .before .before .before .put-leaves .last .1 .1 .1 .0) (c .before .before .put-inners .last .1 .1 .0)
+    (c .before .before .before .before .before .before .put-leaves .ensures) (c .before .before .put-inners .ensures)
 
 pub fill-spec : {M : Type 1} → statement M
 fill-spec = tie.close (tie.spec put-leaves-requires put-inners-requires same-length returns)

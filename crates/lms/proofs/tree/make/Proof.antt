@@ -1,10 +1,10 @@
-use Rattle.lms.specs.Written.{whole-string, key-written}
-use Rattle.rfc8554.specs.Calls.{treeBytes}
+use native.Mathlib.Omega.{arith}
+use borrow.Author.Needs.{needs}
+use denote.Ref.{now}
 use Rattle.octets.specs.Laws.{length-part}
 use Rattle.octets.specs.Octets.{bytes}
-use native.Mathlib.Omega.{arith}
-use denote.Ref.{now}
-use borrow.Author.Needs.{needs}
+use Rattle.rfc8554.specs.Calls.{treeBytes}
+use Rattle.lms.specs.Written.{whole-string, key-written}
 use Rattle.lms.proofs.tree.make.Statement.{statement}
 use Rattle.lms.proofs.tree.make.Tie as tie
 use Rattle.lms.proofs.tree.make.Reads as reads
@@ -16,43 +16,49 @@ use Rattle.lms.proofs.signer.write_key.Reads as write-key-reads
 use Rattle.lms.proofs.tree.fill.Reads as fill-reads
 use Rattle.sha256.proofs.constants.round_constants.Reads as round-constants-reads
 
--- src/tree.rt:73:13
 round-constants-requires : tie.Need-round-constants-requires
 round-constants-requires c κs = search needs
 
--- src/tree.rt:74:9
 four-requires : tie.Need-four-requires
 four-requires c κs = search needs
 
--- src/tree.rt:75:9
 eight-requires : tie.Need-eight-requires
 eight-requires c κs = search needs
 
--- src/tree.rt:76:5
 fill-requires : tie.Need-fill-requires
 fill-requires c κs = search needs
 
--- src/tree.rt:77:19
 bytes-at-requires : tie.Need-bytes-at-requires
 unfolding treeBytes
 bytes-at-requires c κs = omega arith
 
--- src/tree.rt:77:5
 write-key-requires : tie.Need-write-key-requires
 unfolding treeBytes
-write-key-requires c κs = let start = c .before .before .before .before .before .before .before .before .before .before .before .before .before .before .before in (start .pre .1, rw (c .before .bytes-at .ensures) (length-part 32 32 (c .before .before .before .before .before .fill .last .1 .1 .1 .0) (omega arith)), omega arith)
+write-key-requires c κs =
+    let start = c .before .before .before .before .before .before .before .before .before .before .before .before .before .before .before in
+    (start .pre .1, rw (c .before .bytes-at .ensures) (length-part 32 32 (c .before .before .before .before .before .fill .last .1 .1 .1 .0) (omega arith)), omega arith)
 
--- src/tree.rt:69:1
 same-length : tie.Need-same-length
 same-length c = search needs
 
--- src/tree.rt:69:1
 same-length-2 : tie.Need-same-length-2
 same-length-2 c = search needs
 
--- src/tree.rt:69:1
 returns : tie.Need-returns
-returns c = let four = c .before .before .before .before .before .before .before .before .before .before .before .before in let start = four .before .before .before .before .before .before in let args = start .args in let id = now (args .id) in let seed = now (args .seed) in key-written id (bytes (four .four .result)) seed (bytes (c .before .before .before .before .before .before .before .before .before .before .before .eight .result)) (now (args .tree)) (c .before .before .before .before .before .before .before .before .fill .last .1 .1 .1 .0) (now (c .before .before .before .before .bytes-at .result)) (now (args .out)) (c .before .before .write-key .last .1 .1 .0) (start .pre .2) (whole-string id (bytes (four .four .result)) 16 (start .pre .1) (four .four .ensures)) (whole-string seed (bytes (c .before .before .before .before .before .before .before .before .before .before .before .eight .result)) 32 (start .pre .0) (c .before .before .before .before .before .before .before .before .before .before .before .eight .ensures)) (c .before .before .before .before .before .before .before .before .fill .ensures) (c .before .before .before .before .bytes-at .ensures) (c .before .before .write-key .ensures)
+returns c =
+    let four = c .before .before .before .before .before .before .before .before .before .before .before .before in
+    let start = four .before .before .before .before .before .before in
+    let args = start .args in
+    let id = now (args .id) in
+    let seed = now (args .seed) in
+    key-written id (bytes (four .four .result)) seed
+    (bytes (c .before .before .before .before .before .before .before .before .before .before .before .eight .result)) (now (args .tree))
+    (c .before .before .before .before .before .before .before .before .fill .last .1 .1 .1 .0)
+    (now (c .before .before .before .before .bytes-at .result)) (now (args .out)) (c .before .before .write-key .last .1 .1 .0) (start .pre .2)
+    (whole-string id (bytes (four .four .result)) 16 (start .pre .1) (four .four .ensures))
+    (whole-string seed (bytes (c .before .before .before .before .before .before .before .before .before .before .before .eight .result)) 32 (start .pre .0) (c .before .before .before .before .before .before .before .before .before .before .before .eight .ensures))
+    (c .before .before .before .before .before .before .before .before .fill .ensures) (c .before .before .before .before .bytes-at .ensures)
+    (c .before .before .write-key .ensures)
 
 pub make-spec : {M : Type 1} → statement M
 make-spec =

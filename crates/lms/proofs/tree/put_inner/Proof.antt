@@ -1,9 +1,9 @@
-use Rattle.octets.specs.Octets.{bytes}
-use Rattle.lms.specs.Filled.{inner-put}
-use Rattle.rfc8554.specs.Calls.{treeBytes}
 use native.Mathlib.Omega.{arith}
-use denote.Ref.{now}
 use borrow.Author.Needs.{needs}
+use denote.Ref.{now}
+use Rattle.octets.specs.Octets.{bytes}
+use Rattle.rfc8554.specs.Calls.{treeBytes}
+use Rattle.lms.specs.Filled.{inner-put}
 use Rattle.lms.proofs.tree.put_inner.Statement.{statement}
 use Rattle.lms.proofs.tree.put_inner.Tie as tie
 use Rattle.lms.proofs.tree.put_inner.Reads as reads
@@ -12,39 +12,36 @@ use Rattle.lms.proofs.node.bytes_at.Reads as bytes-at-reads
 use Rattle.lms.proofs.node.inner.Reads as inner-reads
 use Rattle.octets.proofs.copy.Reads as copy-reads
 
--- src/tree.rt:16:56
 mul-bytes-at : tie.Need-mul-bytes-at
 mul-bytes-at c = search needs
 
--- src/tree.rt:16:35
 bytes-at-requires : tie.Need-bytes-at-requires
 unfolding treeBytes
 bytes-at-requires c κs = omega arith
 
--- src/tree.rt:16:13
 inner-requires : tie.Need-inner-requires
 inner-requires c κs = search needs
 
--- src/tree.rt:17:24
 mul-copy : tie.Need-mul-copy
 mul-copy c = search needs
 
--- src/tree.rt:17:36
 slice-aggregate-copy : tie.Need-slice-aggregate-copy
 slice-aggregate-copy c = search needs
 
--- src/tree.rt:17:5
 copy-requires : tie.Need-copy-requires
 unfolding treeBytes
 copy-requires c κs = omega arith
 
--- src/tree.rt:11:1
 same-length : tie.Need-same-length
 same-length c = search needs
 
--- src/tree.rt:11:1
 returns : tie.Need-returns
-returns c = let args = c .before .before .before .before .before .before .before .before .before .args in inner-put (bytes (args .id)) (now (args .tree)) (now (c .before .before .before .before .before .before .bytes-at .result)) (c .before .before .before .before .before .inner .result) (c .before .before .copy .last .0) (args .r) (c .before .before .before .before .before .before .bytes-at .ensures) (c .before .before .before .before .before .inner .ensures) (c .before .before .copy .ensures)
+returns c =
+    let args = c .before .before .before .before .before .before .before .before .before .args in
+    inner-put (bytes (args .id)) (now (args .tree)) (now (c .before .before .before .before .before .before .bytes-at .result))
+    (c .before .before .before .before .before .inner .result) (c .before .before .copy .last .0) (args .r)
+    (c .before .before .before .before .before .before .bytes-at .ensures) (c .before .before .before .before .before .inner .ensures)
+    (c .before .before .copy .ensures)
 
 pub put-inner-spec : {M : Type 1} → statement M
 put-inner-spec =

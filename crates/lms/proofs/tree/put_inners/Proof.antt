@@ -1,12 +1,11 @@
+use mathlib.Core.Path.{_≡_, refl, ap, _∙_}
+use Prim.Native.Nat.{_-_, _≤_}
+use native.Mathlib.Omega.{arith}
+use lib.ListN.{length}
+use denote.Ref.{now}
 use Rattle.octets.specs.Octets.{bytes}
 use Rattle.lms.specs.Filled.{inners-turn}
 use Rattle.lms.specs.Pieces.{innersPut}
-use lib.ListN.{length}
-use Prim.Native.Nat.{_-_, _≤_}
-use mathlib.Core.Path.{_≡_, refl, ap, _∙_}
-use borrow.Author.Needs.{needs}
-use native.Mathlib.Omega.{arith}
-use denote.Ref.{now}
 use Rattle.lms.proofs.tree.put_inners.Statement.{statement}
 use Rattle.lms.proofs.tree.put_inners.Tie as tie
 use Rattle.lms.proofs.tree.put_inners.Reads as reads
@@ -19,38 +18,39 @@ Inv-loop k id tree₀ t₀ tree t = (t ≤ 1023) × (length tree ≡ length tree
 abbrev μ-loop : tie.MeasureT-loop
 μ-loop k id tree₀ t₀ tree t = 1023 - t
 
--- src/tree.rt:26:5
 loop-holds : tie.Need-loop-holds Inv-loop μ-loop
 unfolding innersPut
 loop-holds c = (omega arith, refl, refl)
 
--- src/tree.rt:27:26
 sub-put-inner : tie.Need-sub-put-inner Inv-loop μ-loop
 sub-put-inner c = omega arith
 
--- src/tree.rt:27:9
 put-inner-requires : tie.Need-put-inner-requires Inv-loop μ-loop
-put-inner-requires c κs = let start = c .before .before .before .before in (start .pre .0, omega arith, omega arith)
+put-inner-requires c κs =
+    let start = c .before .before .before .before in
+    (start .pre .0, omega arith, omega arith)
 
--- src/tree.rt:28:9
 add-t : tie.Need-add-t Inv-loop μ-loop
 add-t c = omega arith
 
--- src/tree.rt:26:5
 loop-less : tie.Need-loop-less Inv-loop μ-loop
 loop-less c = omega arith
 
--- src/tree.rt:26:5
 loop-again : tie.Need-loop-again Inv-loop μ-loop
-loop-again c = let at-loop = c .before .before .before .before .before in let args = at-loop .before .before .args in (omega arith, omega arith, inners-turn (bytes (args .id)) (now (args .tree)) (at-loop .loop .tree) (c .before .before .put-inner .last .1 .1 .1 .0) (at-loop .loop .t) (at-loop .loop .inv .2) (c .before .before .put-inner .ensures))
+loop-again c =
+    let at-loop = c .before .before .before .before .before in
+    let args = at-loop .before .before .args in
+    (omega arith, omega arith, inners-turn (bytes (args .id)) (now (args .tree)) (at-loop .loop .tree) (c .before .before .put-inner .last .1 .1 .1 .0) (at-loop .loop .t) (at-loop .loop .inv .2) (c .before .before .put-inner .ensures))
 
--- src/tree.rt:21:1
 same-length : tie.Need-same-length Inv-loop μ-loop
 same-length c = omega arith
 
--- src/tree.rt:21:1
 returns : tie.Need-returns Inv-loop μ-loop
-returns c = let at-loop = c .before in let args = at-loop .before .before .args in let all : at-loop .loop .t ≡ 1023 = omega arith in at-loop .loop .inv .2 ∙ ap (λ t. innersPut (bytes (args .id)) t (now (args .tree))) all
+returns c =
+    let at-loop = c .before in
+    let args = at-loop .before .before .args in
+    let all : at-loop .loop .t ≡ 1023 = omega arith in
+    at-loop .loop .inv .2 ∙ ap (λ t. innersPut (bytes (args .id)) t (now (args .tree))) all
 
 pub put-inners-spec : {M : Type 1} → statement M
 put-inners-spec =

@@ -1,14 +1,14 @@
-use native.Mathlib.Nat.{div-one}
-use Rattle.octets.specs.Laws.{length-part}
-use Rattle.lms.specs.Laws.{half-turn, climbed-turn}
-use Rattle.rfc8554.specs.Verify.{climbed, signatureLength}
-use denote.Ref.{now}
-use lib.ListN.{length}
-use Rattle.octets.specs.Octets.{bytes}
-use borrow.Author.Needs.{needs}
-use native.Mathlib.Omega.{arith}
-use Prim.Native.Nat.{_+_, _-_, _*_, _/_, _^_, _≤_}
 use mathlib.Core.Path.{_≡_, refl, sym, ap, _∙_}
+use Prim.Native.Nat.{_+_, _-_, _*_, _/_, _^_, _≤_}
+use native.Mathlib.Nat.{div-one}
+use native.Mathlib.Omega.{arith}
+use borrow.Author.Needs.{needs}
+use lib.ListN.{length}
+use denote.Ref.{now}
+use Rattle.octets.specs.Laws.{length-part}
+use Rattle.octets.specs.Octets.{bytes}
+use Rattle.rfc8554.specs.Verify.{climbed, signatureLength}
+use Rattle.lms.specs.Laws.{half-turn, climbed-turn}
 use Rattle.lms.proofs.verify.climb.Statement.{statement}
 use Rattle.lms.proofs.verify.climb.Tie as tie
 use Rattle.lms.proofs.verify.climb.Reads as reads
@@ -23,39 +23,31 @@ Inv-loop k id h w r signature at tmp₀ x₀ i₀ tmp x i = (i ≤ h) × (length
 abbrev μ-loop : tie.MeasureT-loop
 μ-loop k id h w r signature at tmp₀ x₀ i₀ tmp x i = h - i
 
--- src/verify.rt:115:18
 ots-length-requires : tie.Need-ots-length-requires Inv-loop μ-loop
 ots-length-requires c κs = tt
 
--- src/verify.rt:115:14
 add-at : tie.Need-add-at Inv-loop μ-loop
 add-at c = omega arith
 
--- src/verify.rt:119:5
 loop-holds : tie.Need-loop-holds Inv-loop μ-loop
 unfolding climbed
 loop-holds c = (omega arith, search needs, sym (div-one _), refl)
 
--- src/verify.rt:120:53
 mul-bytes-at : tie.Need-mul-bytes-at Inv-loop μ-loop
 unfolding signatureLength
 mul-bytes-at c = omega arith
 
--- src/verify.rt:120:48
 add-bytes-at : tie.Need-add-bytes-at Inv-loop μ-loop
 unfolding signatureLength
 add-bytes-at c = omega arith
 
--- src/verify.rt:120:13
 bytes-at-requires : tie.Need-bytes-at-requires Inv-loop μ-loop
 unfolding signatureLength
 bytes-at-requires c κs = omega arith
 
--- src/verify.rt:121:42
 slice-aggregate-turned : tie.Need-slice-aggregate-turned Inv-loop μ-loop
 slice-aggregate-turned c = search needs
 
--- src/verify.rt:121:13
 turned-requires : tie.Need-turned-requires Inv-loop μ-loop
 unfolding signatureLength
 turned-requires c κs =
@@ -65,15 +57,12 @@ turned-requires c κs =
     let i = at-loop .loop .i in
     (start .pre .0, rw (c .before .bytes-at .ensures) (length-part (8 + n + 32 * i) 32 (now (start .args .signature)) (omega arith)), at-loop .loop .inv .1)
 
--- src/verify.rt:124:9
 add-i : tie.Need-add-i Inv-loop μ-loop
 add-i c = omega arith
 
--- src/verify.rt:119:5
 loop-less : tie.Need-loop-less Inv-loop μ-loop
 loop-less c = omega arith
 
--- src/verify.rt:119:5
 loop-again : tie.Need-loop-again Inv-loop μ-loop
 loop-again c =
     let at-loop = c .before .before .before .before in
@@ -89,7 +78,6 @@ loop-again c =
           (c .before .before .bytes-at .ensures) (c .turned .ensures),
     )
 
--- src/verify.rt:111:1
 returns : tie.Need-returns Inv-loop μ-loop
 returns c =
     let at-loop = c .before in

@@ -1,10 +1,10 @@
 use mathlib.Core.Path.{_≡_}
 use Prim.Native.Nat.{ℕ, _-_, _≤_, _<_}
 use native.Mathlib.Omega.{arith}
+use borrow.Author.Count.{below-none, below-more}
 use lib.ListN.{length, getD}
 use denote.Ref.{now}
 use Rattle.lms.specs.Compared.{differ-length, differ-at, equal-all}
-use borrow.Author.Count.{below-none, below-more}
 use Rattle.lms.proofs.verify.equal.Statement.{statement}
 use Rattle.lms.proofs.verify.equal.Tie as tie
 use Rattle.lms.proofs.verify.equal.Reads as reads
@@ -16,41 +16,40 @@ Inv-loop a b i₀ i = (i ≤ length a) × ((j : ℕ) → j < i → getD a j 0 �
 abbrev μ-loop : tie.MeasureT-loop
 μ-loop a b i₀ i = length a - i
 
--- src/verify.rt:136:9
 returns : tie.Need-returns Inv-loop μ-loop
-returns c = let args = c .before .args in differ-length (now (args .a)) (now (args .b)) (c .if1 .taken)
+returns c =
+    let args = c .before .args in
+    differ-length (now (args .a)) (now (args .b)) (c .if1 .taken)
 
--- src/verify.rt:139:5
 loop-holds : tie.Need-loop-holds Inv-loop μ-loop
 loop-holds c = (omega arith, below-none _)
 
--- src/verify.rt:140:12
 shared-slice-read-if2 : tie.Need-shared-slice-read-if2 Inv-loop μ-loop
 shared-slice-read-if2 c = omega arith
 
--- src/verify.rt:140:20
 shared-slice-read-if2-2 : tie.Need-shared-slice-read-if2-2 Inv-loop μ-loop
 shared-slice-read-if2-2 c = omega arith
 
--- src/verify.rt:141:13
 returns-2 : tie.Need-returns-2 Inv-loop μ-loop
-returns-2 c = let at-loop = c .before .before .before .before in let args = at-loop .before .before .args in differ-at (now (args .a)) (now (args .b)) (at-loop .loop .i) (c .if2 .taken)
+returns-2 c =
+    let at-loop = c .before .before .before .before in
+    let args = at-loop .before .before .args in
+    differ-at (now (args .a)) (now (args .b)) (at-loop .loop .i) (c .if2 .taken)
 
--- src/verify.rt:143:9
 add-i : tie.Need-add-i Inv-loop μ-loop
 add-i c = omega arith
 
--- src/verify.rt:139:5
 loop-less : tie.Need-loop-less Inv-loop μ-loop
 loop-less c = omega arith
 
--- src/verify.rt:139:5
 loop-again : tie.Need-loop-again Inv-loop μ-loop
 loop-again c = (omega arith, below-more _ _ (c .before .before .before .before .loop .inv .1) (c .if2 .left))
 
--- src/verify.rt:132:1
 returns-3 : tie.Need-returns-3 Inv-loop μ-loop
-returns-3 c = let at-loop = c .before in let args = at-loop .before .before .args in equal-all (now (args .a)) (now (args .b)) (at-loop .loop .i) (at-loop .before .if1 .left) (omega arith) (at-loop .loop .inv .1)
+returns-3 c =
+    let at-loop = c .before in
+    let args = at-loop .before .before .args in
+    equal-all (now (args .a)) (now (args .b)) (at-loop .loop .i) (at-loop .before .if1 .left) (omega arith) (at-loop .loop .inv .1)
 
 pub equal-spec : {M : Type 1} → statement M
 equal-spec =

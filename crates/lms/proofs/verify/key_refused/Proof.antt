@@ -1,6 +1,6 @@
-use Rattle.lms.specs.Refused.{key-length, key-lms, key-types}
-use denote.Ref.{now}
 use borrow.Author.Needs.{needs}
+use denote.Ref.{now}
+use Rattle.lms.specs.Refused.{key-length, key-lms, key-types}
 use Rattle.lms.proofs.verify.key_refused.Statement.{statement}
 use Rattle.lms.proofs.verify.key_refused.Tie as tie
 use Rattle.lms.proofs.verify.key_refused.Reads as reads
@@ -9,33 +9,35 @@ use Rattle.lms.proofs.verify.known_lms.Reads as known-lms-reads
 use Rattle.lms.proofs.verify.known_ots.Reads as known-ots-reads
 use Rattle.octets.proofs.word_at.Reads as word-at-reads
 
--- src/verify.rt:70:9
 returns : tie.Need-returns
 returns c = key-length (now (c .before .before .args .key)) (c .if1 .taken)
 
--- src/verify.rt:72:9
 word-at-requires : tie.Need-word-at-requires
 word-at-requires c κs = search needs
 
--- src/verify.rt:73:9
 word-at-requires-2 : tie.Need-word-at-requires-2
 word-at-requires-2 c κs = search needs
 
--- src/verify.rt:74:8
 known-lms-requires : tie.Need-known-lms-requires
 known-lms-requires c κs = search needs
 
--- src/verify.rt:75:17
 known-ots-requires : tie.Need-known-ots-requires
 known-ots-requires c κs = search needs
 
--- src/verify.rt:75:9
 returns-2 : tie.Need-returns-2
-returns-2 c = let words = c .before .before .before in let start = words .before .before .before .before in key-types (now (start .args .key)) (words .before .before .if1 .left) (words .before .word-at .result) (words .before .word-at .ensures) (words .word-at2 .result) (words .word-at2 .ensures) (c .before .before .known-lms .result) (c .known-ots .result) (c .before .before .known-lms .ensures) (c .before .if2 .taken) (c .known-ots .ensures)
+returns-2 c =
+    let words = c .before .before .before in
+    let start = words .before .before .before .before in
+    key-types (now (start .args .key)) (words .before .before .if1 .left) (words .before .word-at .result) (words .before .word-at .ensures)
+    (words .word-at2 .result) (words .word-at2 .ensures) (c .before .before .known-lms .result) (c .known-ots .result)
+    (c .before .before .known-lms .ensures) (c .before .if2 .taken) (c .known-ots .ensures)
 
--- src/verify.rt:66:1
 returns-3 : tie.Need-returns-3
-returns-3 c = let words = c .before .before in let start = words .before .before .before .before in key-lms (now (start .args .key)) (words .before .before .if1 .left) (words .before .word-at .result) (words .before .word-at .ensures) (c .before .known-lms .result) (c .before .known-lms .ensures) (c .if2 .left)
+returns-3 c =
+    let words = c .before .before in
+    let start = words .before .before .before .before in
+    key-lms (now (start .args .key)) (words .before .before .if1 .left) (words .before .word-at .result) (words .before .word-at .ensures)
+    (c .before .known-lms .result) (c .before .known-lms .ensures) (c .if2 .left)
 
 pub key-refused-spec : {M : Type 1} → statement M
 key-refused-spec =

@@ -5,12 +5,10 @@ use Rattle.lms.proofs.verify.known_lms.Tie as tie
 use Rattle.lms.proofs.verify.known_lms.Reads as reads
 use Rattle.lms.proofs.verify.known_lms.Lts as lts
 
--- src/verify.rt:49:9
 returns : tie.Need-returns
 unfolding knownLms
 returns c = rw (eq-eqb _ _ (c .if1 .taken))
 
--- src/verify.rt:45:1
 returns-2 : tie.Need-returns-2
 unfolding knownLms
 returns-2 c = rw (ne-eqb _ _ (c .if1 .left))

@@ -5,12 +5,10 @@ use Rattle.lms.proofs.verify.known_ots.Tie as tie
 use Rattle.lms.proofs.verify.known_ots.Reads as reads
 use Rattle.lms.proofs.verify.known_ots.Lts as lts
 
--- src/verify.rt:58:9
 returns : tie.Need-returns
 unfolding knownOts
 returns c = rw (eq-eqb _ _ (c .if1 .taken))
 
--- src/verify.rt:54:1
 returns-2 : tie.Need-returns-2
 unfolding knownOts
 returns-2 c = rw (ne-eqb _ _ (c .if1 .left))

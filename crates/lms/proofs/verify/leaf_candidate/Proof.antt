@@ -1,10 +1,10 @@
-use Rattle.lms.specs.Laws.{leaf-from}
-use Rattle.octets.specs.Laws.{length-part}
 use mathlib.Core.Path.{_∙_}
 use native.Mathlib.Omega.{arith}
-use Rattle.octets.specs.Octets.{bytes}
-use denote.Ref.{now}
 use borrow.Author.Needs.{needs}
+use denote.Ref.{now}
+use Rattle.octets.specs.Laws.{length-part}
+use Rattle.octets.specs.Octets.{bytes}
+use Rattle.lms.specs.Laws.{leaf-from}
 use Rattle.lms.proofs.verify.leaf_candidate.Statement.{statement}
 use Rattle.lms.proofs.verify.leaf_candidate.Tie as tie
 use Rattle.lms.proofs.verify.leaf_candidate.Reads as reads
@@ -14,29 +14,31 @@ use Rattle.lms.proofs.node.bytes_at.Reads as bytes-at-reads
 use Rattle.lms.proofs.node.leaf.Reads as leaf-reads
 use Rattle.lms.proofs.verify.ots_length.Reads as ots-length-reads
 
--- src/verify.rt:148:44
 ots-length-requires : tie.Need-ots-length-requires
 ots-length-requires c κs = search needs
 
--- src/verify.rt:148:9
 bytes-at-requires : tie.Need-bytes-at-requires
 bytes-at-requires c κs = search needs
 
--- src/verify.rt:149:15
 candidate-requires : tie.Need-candidate-requires
-candidate-requires c κs = let start = c .before .before .before .before in let n = c .before .ots-length in (start .pre .0, start .pre .1, rw (c .bytes-at .ensures) (length-part 4 (n .result) (now (start .args .signature)) (omega arith) ∙ n .ensures .0))
+candidate-requires c κs =
+    let start = c .before .before .before .before in
+    let n = c .before .ots-length in
+    (start .pre .0, start .pre .1, rw (c .bytes-at .ensures) (length-part 4 (n .result) (now (start .args .signature)) (omega arith) ∙ n .ensures .0))
 
--- src/verify.rt:150:26
 slice-aggregate-leaf : tie.Need-slice-aggregate-leaf
 slice-aggregate-leaf c = search needs
 
--- src/verify.rt:150:5
 leaf-requires : tie.Need-leaf-requires
 leaf-requires c κs = search needs
 
--- src/verify.rt:144:1
 returns : tie.Need-returns
-returns c = let args = c .before .before .before .before .before .before .before .args in leaf-from (bytes (args .id)) (now (args .message)) (now (args .signature)) (now (c .before .before .before .bytes-at .result)) (c .before .before .candidate .result) (c .leaf .result) (args .w) (c .before .before .before .before .ots-length .result) (args .q) (args .r) (c .before .before .before .before .ots-length .ensures .0) (c .before .before .before .bytes-at .ensures) (c .before .before .candidate .ensures) (c .leaf .ensures)
+returns c =
+    let args = c .before .before .before .before .before .before .before .args in
+    leaf-from (bytes (args .id)) (now (args .message)) (now (args .signature)) (now (c .before .before .before .bytes-at .result))
+    (c .before .before .candidate .result) (c .leaf .result) (args .w) (c .before .before .before .before .ots-length .result) (args .q) (args .r)
+    (c .before .before .before .before .ots-length .ensures .0) (c .before .before .before .bytes-at .ensures)
+    (c .before .before .candidate .ensures) (c .leaf .ensures)
 
 pub leaf-candidate-spec : {M : Type 1} → statement M
 leaf-candidate-spec =

@@ -6,12 +6,10 @@ use Rattle.lms.proofs.verify.leaves.Tie as tie
 use Rattle.lms.proofs.verify.leaves.Reads as reads
 use Rattle.lms.proofs.verify.leaves.Lts as lts
 
--- src/verify.rt:32:1
 returns : tie.Need-returns
 unfolding height
 returns c = (rw (eq-eqb _ _ (c .if1 .taken)), search needs)
 
--- src/verify.rt:32:1
 returns-2 : tie.Need-returns-2
 unfolding height
 returns-2 c = (rw (ne-eqb _ _ (c .if1 .left)), search needs)

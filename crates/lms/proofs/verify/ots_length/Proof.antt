@@ -6,12 +6,10 @@ use Rattle.lms.proofs.verify.ots_length.Tie as tie
 use Rattle.lms.proofs.verify.ots_length.Reads as reads
 use Rattle.lms.proofs.verify.ots_length.Lts as lts
 
--- src/verify.rt:39:1
 returns : tie.Need-returns
 unfolding chains otsLength
 returns c = (rw (eq-eqb _ _ (c .if1 .taken)), search needs)
 
--- src/verify.rt:39:1
 returns-2 : tie.Need-returns-2
 unfolding chains otsLength
 returns-2 c = (rw (ne-eqb _ _ (c .if1 .left)), search needs)

@@ -1,11 +1,11 @@
-use Rattle.lms.specs.Laws.{root-from}
-use Rattle.rfc8554.specs.Verify.{leafOf, signatureLength}
-use Rattle.octets.specs.StringLaws.{number-part-four}
 use mathlib.Core.Path.{_≡_, sym, _∙_}
 use native.Mathlib.Omega.{arith}
-use Rattle.octets.specs.Octets.{bytes}
-use denote.Ref.{now}
 use borrow.Author.Needs.{needs}
+use denote.Ref.{now}
+use Rattle.octets.specs.StringLaws.{number-part-four}
+use Rattle.octets.specs.Octets.{bytes}
+use Rattle.rfc8554.specs.Verify.{leafOf, signatureLength}
+use Rattle.lms.specs.Laws.{root-from}
 use Rattle.lms.proofs.verify.root_candidate.Statement.{statement}
 use Rattle.lms.proofs.verify.root_candidate.Tie as tie
 use Rattle.lms.proofs.verify.root_candidate.Reads as reads
@@ -17,41 +17,46 @@ use Rattle.lms.proofs.verify.leaves.Reads as leaves-reads
 use Rattle.lms.proofs.verify.width.Reads as width-reads
 use Rattle.octets.proofs.word_at.Reads as word-at-reads
 
--- src/verify.rt:158:9
 width-requires : tie.Need-width-requires
 width-requires c κs = search needs
 
--- src/verify.rt:159:9
 height-requires : tie.Need-height-requires
 height-requires c κs = search needs
 
--- src/verify.rt:160:9
 word-at-requires : tie.Need-word-at-requires
 unfolding signatureLength
 word-at-requires c κs = omega arith
 
--- src/verify.rt:161:13
 leaves-requires : tie.Need-leaves-requires
 leaves-requires c κs = search needs
 
--- src/verify.rt:161:13
 add-r : tie.Need-add-r
 unfolding signatureLength
-add-r c = let s = now (c .before .before .before .before .before .before .args .signature) in let leaf : leafOf s ≡ c .before .word-at .result = number-part-four 0 s (omega arith) ∙ sym (c .before .word-at .ensures) in omega arith
+add-r c =
+    let s = now (c .before .before .before .before .before .before .args .signature) in
+    let leaf : leafOf s ≡ c .before .word-at .result = number-part-four 0 s (omega arith) ∙ sym (c .before .word-at .ensures) in
+    omega arith
 
--- src/verify.rt:162:9
 leaf-candidate-requires : tie.Need-leaf-candidate-requires
 unfolding signatureLength
-leaf-candidate-requires c κs = let start = c .before .before .before .before .before .before in (start .pre .0, c .before .before .before .width .ensures .1, rw (c .before .before .before .width .ensures .0) (omega arith))
+leaf-candidate-requires c κs =
+    let start = c .before .before .before .before .before .before in
+    (start .pre .0, c .before .before .before .width .ensures .1, rw (c .before .before .before .width .ensures .0) (omega arith))
 
--- src/verify.rt:163:5
 climb-requires : tie.Need-climb-requires
-climb-requires c κs = let start = c .before .before .before .before .before .before .before in (start .pre .0, rw (c .before .before .before .height .ensures .0, c .before .before .before .before .width .ensures .0) (start .pre .1))
+climb-requires c κs =
+    let start = c .before .before .before .before .before .before .before in
+    (start .pre .0, rw (c .before .before .before .height .ensures .0, c .before .before .before .before .width .ensures .0) (start .pre .1))
 
--- src/verify.rt:154:1
 returns : tie.Need-returns
 unfolding signatureLength
-returns c = let args = c .before .before .before .before .before .before .before .before .args in root-from (bytes (args .id)) (now (args .message)) (now (args .signature)) (c .before .leaf-candidate .result) (c .climb .result) (args .lms) (args .ots) (c .before .before .before .before .height .result) (c .before .before .before .before .before .width .result) (c .before .before .before .word-at .result) (c .before .before .leaves .result) (c .before .before .before .before .height .ensures .0) (c .before .before .before .before .before .width .ensures .0) (omega arith) (c .before .before .before .word-at .ensures) (c .before .before .leaves .ensures .0) (c .before .leaf-candidate .ensures) (c .climb .ensures)
+returns c =
+    let args = c .before .before .before .before .before .before .before .before .args in
+    root-from (bytes (args .id)) (now (args .message)) (now (args .signature)) (c .before .leaf-candidate .result) (c .climb .result) (args .lms)
+    (args .ots) (c .before .before .before .before .height .result) (c .before .before .before .before .before .width .result)
+    (c .before .before .before .word-at .result) (c .before .before .leaves .result) (c .before .before .before .before .height .ensures .0)
+    (c .before .before .before .before .before .width .ensures .0) (omega arith) (c .before .before .before .word-at .ensures)
+    (c .before .before .leaves .ensures .0) (c .before .leaf-candidate .ensures) (c .climb .ensures)
 
 pub root-candidate-spec : {M : Type 1} → statement M
 root-candidate-spec =

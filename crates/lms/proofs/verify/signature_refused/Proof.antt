@@ -1,6 +1,6 @@
-use Rattle.lms.specs.Refused.{signature-length, signature-ots, signature-lms, signature-leaf}
-use denote.Ref.{now}
 use borrow.Author.Needs.{needs}
+use denote.Ref.{now}
+use Rattle.lms.specs.Refused.{signature-length, signature-ots, signature-lms, signature-leaf}
 use Rattle.lms.proofs.verify.signature_refused.Statement.{statement}
 use Rattle.lms.proofs.verify.signature_refused.Tie as tie
 use Rattle.lms.proofs.verify.signature_refused.Reads as reads
@@ -11,65 +11,80 @@ use Rattle.lms.proofs.verify.ots_length.Reads as ots-length-reads
 use Rattle.lms.proofs.verify.width.Reads as width-reads
 use Rattle.octets.proofs.word_at.Reads as word-at-reads
 
--- src/verify.rt:84:29
 width-requires : tie.Need-width-requires
 width-requires c κs = search needs
 
--- src/verify.rt:84:18
 ots-length-requires : tie.Need-ots-length-requires
 ots-length-requires c κs = search needs
 
--- src/verify.rt:84:14
 add-at : tie.Need-add-at
 add-at c = search needs
 
--- src/verify.rt:85:27
 add-if1 : tie.Need-add-if1
 add-if1 c = search needs
 
--- src/verify.rt:85:41
 height-requires : tie.Need-height-requires
 height-requires c κs = search needs
 
--- src/verify.rt:85:36
 mul-if1 : tie.Need-mul-if1
 mul-if1 c = search needs
 
--- src/verify.rt:85:27
 add-if1-2 : tie.Need-add-if1-2
 add-if1-2 c = search needs
 
--- src/verify.rt:86:9
 returns : tie.Need-returns
-returns c = let sized = c .before in let start = sized .before .before .before .before in let args = start .args in signature-length (args .lms) (args .ots) (now (args .signature)) (sized .before .before .width .result) (sized .before .ots-length .result) (sized .height .result) (sized .before .before .width .ensures .0) (sized .before .ots-length .ensures .0) (sized .height .ensures .0) (c .if1 .taken)
+returns c =
+    let sized = c .before in
+    let start = sized .before .before .before .before in
+    let args = start .args in
+    signature-length (args .lms) (args .ots) (now (args .signature)) (sized .before .before .width .result) (sized .before .ots-length .result)
+    (sized .height .result) (sized .before .before .width .ensures .0) (sized .before .ots-length .ensures .0) (sized .height .ensures .0)
+    (c .if1 .taken)
 
--- src/verify.rt:88:8
 word-at-requires : tie.Need-word-at-requires
 word-at-requires c κs = search needs
 
--- src/verify.rt:89:9
 returns-2 : tie.Need-returns-2
-returns-2 c = let sized = c .before .before .before in let start = sized .before .before .before .before in let args = start .args in signature-ots (args .lms) (args .ots) (now (args .signature)) (sized .before .before .width .result) (sized .before .ots-length .result) (sized .height .result) (sized .before .before .width .ensures .0) (sized .before .ots-length .ensures .0) (sized .height .ensures .0) (c .before .before .if1 .left) (c .before .word-at .result) (c .before .word-at .ensures) (c .if2 .taken)
+returns-2 c =
+    let sized = c .before .before .before in
+    let start = sized .before .before .before .before in
+    let args = start .args in
+    signature-ots (args .lms) (args .ots) (now (args .signature)) (sized .before .before .width .result) (sized .before .ots-length .result)
+    (sized .height .result) (sized .before .before .width .ensures .0) (sized .before .ots-length .ensures .0) (sized .height .ensures .0)
+    (c .before .before .if1 .left) (c .before .word-at .result) (c .before .word-at .ensures) (c .if2 .taken)
 
--- src/verify.rt:91:8
 word-at-requires-2 : tie.Need-word-at-requires-2
 word-at-requires-2 c κs = search needs
 
--- src/verify.rt:92:9
 returns-3 : tie.Need-returns-3
-returns-3 c = let word = c .before .before .before in let sized = word .before .before in let start = sized .before .before .before .before in let args = start .args in signature-lms (args .lms) (args .ots) (now (args .signature)) (sized .before .before .width .result) (sized .before .ots-length .result) (sized .height .result) (sized .before .before .width .ensures .0) (sized .before .ots-length .ensures .0) (sized .height .ensures .0) (word .before .if1 .left) (word .word-at .result) (word .word-at .ensures) (c .before .word-at2 .result) (c .before .word-at2 .ensures) (c .if3 .taken)
+returns-3 c =
+    let word = c .before .before .before in
+    let sized = word .before .before in
+    let start = sized .before .before .before .before in
+    let args = start .args in
+    signature-lms (args .lms) (args .ots) (now (args .signature)) (sized .before .before .width .result) (sized .before .ots-length .result)
+    (sized .height .result) (sized .before .before .width .ensures .0) (sized .before .ots-length .ensures .0) (sized .height .ensures .0)
+    (word .before .if1 .left) (word .word-at .result) (word .word-at .ensures) (c .before .word-at2 .result) (c .before .word-at2 .ensures)
+    (c .if3 .taken)
 
--- src/verify.rt:94:5
 leaves-requires : tie.Need-leaves-requires
 leaves-requires c κs = search needs
 
--- src/verify.rt:94:20
 word-at-requires-3 : tie.Need-word-at-requires-3
 word-at-requires-3 c κs = search needs
 
--- src/verify.rt:81:1
 returns-4 : tie.Need-returns-4
-returns-4 c = let second = c .before .before .before in let word = second .before .before in let sized = word .before .before in let start = sized .before .before .before .before in let args = start .args in signature-leaf (args .lms) (args .ots) (now (args .signature)) (sized .before .before .width .result) (sized .before .ots-length .result) (sized .height .result) (sized .before .before .width .ensures .0) (sized .before .ots-length .ensures .0) (sized .height .ensures .0) (word .before .if1 .left) (word .word-at .result) (word .word-at .ensures) (second .word-at2 .result) (second .word-at2 .ensures) (second .before .if2 .left) (c .before .before .if3 .left) (c .before .leaves .result) (c .word-at3 .result) (c .before .leaves .ensures .0) (c .word-at3 .ensures)
+returns-4 c =
+    let second = c .before .before .before in
+    let word = second .before .before in
+    let sized = word .before .before in
+    let start = sized .before .before .before .before in
+    let args = start .args in
+    signature-leaf (args .lms) (args .ots) (now (args .signature)) (sized .before .before .width .result) (sized .before .ots-length .result)
+    (sized .height .result) (sized .before .before .width .ensures .0) (sized .before .ots-length .ensures .0) (sized .height .ensures .0)
+    (word .before .if1 .left) (word .word-at .result) (word .word-at .ensures) (second .word-at2 .result) (second .word-at2 .ensures)
+    (second .before .if2 .left) (c .before .before .if3 .left) (c .before .leaves .result) (c .word-at3 .result) (c .before .leaves .ensures .0)
+    (c .word-at3 .ensures)
 
 pub signature-refused-spec : {M : Type 1} → statement M
 signature-refused-spec =

@@ -1,26 +1,22 @@
-use Rattle.rfc8554.specs.Verify.{turn}
 use borrow.Author.Tests.{eq-eqb, ne-eqb}
 use borrow.Author.Needs.{needs}
+use Rattle.rfc8554.specs.Verify.{turn}
 use Rattle.lms.proofs.verify.turned.Statement.{statement}
 use Rattle.lms.proofs.verify.turned.Tie as tie
 use Rattle.lms.proofs.verify.turned.Reads as reads
 use Rattle.lms.proofs.verify.turned.Lts as lts
 use Rattle.lms.proofs.node.parent.Reads as parent-reads
 
--- src/verify.rt:106:9
 parent-requires : tie.Need-parent-requires
 parent-requires c κs = search needs
 
--- src/verify.rt:106:9
 returns : tie.Need-returns
 unfolding turn
 returns c = rw (eq-eqb _ _ (c .before .if1 .taken)) (c .parent .ensures)
 
--- src/verify.rt:108:5
 parent-requires-2 : tie.Need-parent-requires-2
 parent-requires-2 c κs = search needs
 
--- src/verify.rt:101:1
 returns-2 : tie.Need-returns-2
 unfolding turn
 returns-2 c = rw (ne-eqb _ _ (c .before .if1 .left)) (c .parent2 .ensures)

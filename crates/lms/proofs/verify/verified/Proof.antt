@@ -1,9 +1,8 @@
-use Rattle.lms.specs.Refused.{signature-fits, key-fits, signature-turned-back, signature-compared}
 use mathlib.Core.Path.{sym, _∙_}
-use native.Mathlib.Omega.{arith}
-use Rattle.octets.specs.Octets.{bytes}
-use denote.Ref.{now}
 use borrow.Author.Needs.{needs}
+use denote.Ref.{now}
+use Rattle.octets.specs.Octets.{bytes}
+use Rattle.lms.specs.Refused.{signature-fits, signature-turned-back, signature-compared}
 use Rattle.lms.proofs.verify.verified.Statement.{statement}
 use Rattle.lms.proofs.verify.verified.Tie as tie
 use Rattle.lms.proofs.verify.verified.Reads as reads
@@ -15,45 +14,54 @@ use Rattle.lms.proofs.verify.root_candidate.Reads as root-candidate-rea
 use Rattle.lms.proofs.verify.signature_refused.Reads as signature-refused-reads
 use Rattle.octets.proofs.word_at.Reads as word-at-reads
 
--- src/verify.rt:190:9
 word-at-requires : tie.Need-word-at-requires
-word-at-requires c κs = let start = c .before .before .before in let args = start .args in omega (arith, key-fits (now (args .key)) (now (args .message)) (now (args .signature)) (start .pre .1))
+word-at-requires c κs = search needs
 
--- src/verify.rt:191:9
 word-at-requires-2 : tie.Need-word-at-requires-2
-word-at-requires-2 c κs = let start = c .before .before .before .before in let args = start .args in omega (arith, key-fits (now (args .key)) (now (args .message)) (now (args .signature)) (start .pre .1))
+word-at-requires-2 c κs = search needs
 
--- src/verify.rt:192:8
 signature-refused-requires : tie.Need-signature-refused-requires
 signature-refused-requires c κs = search needs
 
--- src/verify.rt:193:9
 returns : tie.Need-returns
-returns c = let words = c .before .before in let start = words .before .before .before .before .before in let args = start .args in signature-turned-back (now (args .key)) (now (args .message)) (now (args .signature)) (start .pre .1) (words .before .word-at .result) (words .word-at2 .result) (words .before .word-at .ensures) (words .word-at2 .ensures) (c .before .signature-refused .result) (c .before .signature-refused .ensures) (c .if1 .taken)
+returns c =
+    let words = c .before .before in
+    let start = words .before .before .before .before .before in
+    let args = start .args in
+    signature-turned-back (now (args .key)) (now (args .message)) (now (args .signature)) (start .pre .1) (start .pre .2)
+    (words .before .word-at .result) (words .word-at2 .result) (words .before .word-at .ensures) (words .word-at2 .ensures)
+    (c .before .signature-refused .result) (c .before .signature-refused .ensures) (c .if1 .taken)
 
--- src/verify.rt:195:9
 four-requires : tie.Need-four-requires
-four-requires c κs = let start = c .before .before .before .before .before .before .before in let args = start .args in omega (arith, key-fits (now (args .key)) (now (args .message)) (now (args .signature)) (start .pre .1))
+four-requires c κs = search needs
 
--- src/verify.rt:196:16
 root-candidate-requires : tie.Need-root-candidate-requires
-root-candidate-requires c κs = let words = c .before .before .before in let start = words .before .before .before .before .before in let fits = signature-fits (words .before .word-at .result) (words .word-at2 .result) (now (start .args .signature)) (sym (c .before .before .signature-refused .ensures) ∙ c .before .if1 .left) in (start .pre .0, fits .0, fits .1)
+root-candidate-requires c κs =
+    let words = c .before .before .before in
+    let start = words .before .before .before .before .before in
+    let fits = signature-fits (words .before .word-at .result) (words .word-at2 .result) (now (start .args .signature)) (sym (c .before .before .signature-refused .ensures) ∙ c .before .if1 .left) in
+    (start .pre .0, fits .0, fits .1)
 
--- src/verify.rt:197:11
 slice-aggregate-equal : tie.Need-slice-aggregate-equal
 slice-aggregate-equal c = search needs
 
--- src/verify.rt:197:18
 bytes-at-requires : tie.Need-bytes-at-requires
-bytes-at-requires c κs = let start = c .before .before .before .before .before .before .before .before .before .before in let args = start .args in omega (arith, key-fits (now (args .key)) (now (args .message)) (now (args .signature)) (start .pre .1))
+bytes-at-requires c κs = search needs
 
--- src/verify.rt:197:5
 equal-requires : tie.Need-equal-requires
 equal-requires c κs = search needs
 
--- src/verify.rt:186:1
 returns-2 : tie.Need-returns-2
-returns-2 c = let rooted = c .before .before .before in let words = rooted .before .before .before .before in let start = words .before .before .before .before .before in let args = start .args in signature-compared (now (args .key)) (now (args .message)) (now (args .signature)) (start .pre .1) (words .before .word-at .result) (words .word-at2 .result) (words .before .word-at .ensures) (words .word-at2 .ensures) (rooted .before .before .before .signature-refused .result) (rooted .before .before .before .signature-refused .ensures) (rooted .before .before .if1 .left) (bytes (rooted .before .four .result)) (rooted .root-candidate .result) (now (c .before .bytes-at .result)) (c .equal .result) (rooted .before .four .ensures) (rooted .root-candidate .ensures) (c .before .bytes-at .ensures) (c .equal .ensures)
+returns-2 c =
+    let rooted = c .before .before .before in
+    let words = rooted .before .before .before .before in
+    let start = words .before .before .before .before .before in
+    let args = start .args in
+    signature-compared (now (args .key)) (now (args .message)) (now (args .signature)) (start .pre .1) (start .pre .2)
+    (words .before .word-at .result) (words .word-at2 .result) (words .before .word-at .ensures) (words .word-at2 .ensures)
+    (rooted .before .before .before .signature-refused .result) (rooted .before .before .before .signature-refused .ensures)
+    (rooted .before .before .if1 .left) (bytes (rooted .before .four .result)) (rooted .root-candidate .result) (now (c .before .bytes-at .result))
+    (c .equal .result) (rooted .before .four .ensures) (rooted .root-candidate .ensures) (c .before .bytes-at .ensures) (c .equal .ensures)
 
 pub verified-spec : {M : Type 1} → statement M
 verified-spec =

@@ -1,18 +1,16 @@
-use borrow.Author.Tests.{eq-eqb, ne-eqb}
 use mathlib.Core.Logic.{inl, inr}
 use mathlib.Core.Path.{refl}
+use borrow.Author.Tests.{eq-eqb, ne-eqb}
 use Rattle.rfc8554.specs.Ots.{width}
 use Rattle.lms.proofs.verify.width.Statement.{statement}
 use Rattle.lms.proofs.verify.width.Tie as tie
 use Rattle.lms.proofs.verify.width.Reads as reads
 use Rattle.lms.proofs.verify.width.Lts as lts
 
--- src/verify.rt:22:1
 returns : tie.Need-returns
 unfolding width
 returns c = (rw (eq-eqb _ _ (c .if1 .taken)), inl refl)
 
--- src/verify.rt:22:1
 returns-2 : tie.Need-returns-2
 unfolding width
 returns-2 c = (rw (ne-eqb _ _ (c .if1 .left)), inr refl)
