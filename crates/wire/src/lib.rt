@@ -2,3 +2,4 @@
 // "A unit's record and store").
 pub mod slots;
 pub mod values;
+pub mod write;
