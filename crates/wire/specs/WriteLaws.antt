@@ -13,9 +13,9 @@ use Rattle.octets.specs.Laws.{length-be, patch-patch, length-patch}
 use Rattle.octets.specs.StringLaws.{be-two}
 use Rattle.quorum.specs.Quorum.{bit, In, seats, size}
 use Rattle.quorum.specs.Laws.{seats-in, seats-out, length-seats}
-use Rattle.protocol.specs.Layout.{valueLength}
+use Rattle.protocol.specs.Layout.{valueLength, noticeLength}
 use Rattle.protocol.specs.Message.{Entry, Pair, renderEntry, renderEntries, renderPair, renderPairs}
-use Rattle.wire.specs.Writing.{Wrote}
+use Rattle.wire.specs.Writing.{Wrote, head}
 
 -- ---- one write after another
 
@@ -43,3 +43,10 @@ command-written at command round xs h =
         (sets-eq (command ∷ round / 256 % 256 ∷ round % 256 ∷ []) xs at h
         ∙ append-assoc (take at xs) (command ∷ round / 256 % 256 ∷ round % 256 ∷ []) (drop (at + 3) xs));
     }
+
+pub length-head : (command round seat : ℕ) (value : List ℕ) → length value ≡ valueLength → length (head command round seat value) ≡ noticeLength
+unfolding noticeLength
+length-head command round seat value h = simp (length-append, length-be) (omega arith)
+
+pub length-command : (command round : ℕ) → length (command ∷ be 2 round) ≡ 3
+length-command command round = rw length-be

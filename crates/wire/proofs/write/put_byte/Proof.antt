@@ -1,3 +1,5 @@
+use denote.Ref.{now}
+use Rattle.wire.specs.WriteLaws.{one-byte}
 use borrow.Author.Needs.{needs}
 use Rattle.wire.proofs.write.put_byte.Statement.{statement}
 use Rattle.wire.proofs.write.put_byte.Tie as tie
@@ -18,7 +20,7 @@ same-length c = search needs
 
 -- src/write.rt:13:1
 returns : tie.Need-returns
-returns c = ?
+returns c = one-byte (c .args .at) (c .args .b) (now (c .args .out)) (c .pre)
 
 pub put-byte-spec : {M : Type 1} → statement M
 put-byte-spec = tie.close (tie.spec slice-write-out add-result same-length returns)

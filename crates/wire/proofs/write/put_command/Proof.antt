@@ -1,3 +1,7 @@
+use native.Mathlib.Omega.{arith}
+use lib.ListN.{length-set}
+use denote.Ref.{now}
+use Rattle.wire.specs.WriteLaws.{command-written}
 use borrow.Author.Needs.{needs}
 use Rattle.wire.proofs.write.put_command.Statement.{statement}
 use Rattle.wire.proofs.write.put_command.Tie as tie
@@ -18,7 +22,7 @@ add-out c = search needs
 
 -- src/write.rt:36:5
 slice-write-out-2 : tie.Need-slice-write-out-2
-slice-write-out-2 c = ?
+slice-write-out-2 c = simp length-set (omega arith)
 
 -- src/write.rt:37:19
 cast-out-2 : tie.Need-cast-out-2
@@ -30,7 +34,7 @@ add-out-2 c = search needs
 
 -- src/write.rt:37:5
 slice-write-out-3 : tie.Need-slice-write-out-3
-slice-write-out-3 c = ?
+slice-write-out-3 c = simp length-set (omega arith)
 
 -- src/write.rt:38:5
 add-result : tie.Need-add-result
@@ -42,7 +46,7 @@ same-length c = search needs
 
 -- src/write.rt:31:1
 returns : tie.Need-returns
-returns c = ?
+returns c = command-written (c .args .at) (c .args .command) (c .args .round) (now (c .args .out)) (c .pre)
 
 pub put-command-spec : {M : Type 1} → statement M
 put-command-spec =
