@@ -4,10 +4,13 @@ ghost use mathlib.Core.List.{[], _∷_};
 ghost use Prim.Native.Nat.{_+_, _*_, _^_, _<_, _≤_};
 ghost use lib.ListN.{length};
 ghost use Rattle.octets.specs.Octets.{be};
-ghost use Rattle.quorum.specs.Quorum.{mostSeats};
-ghost use Rattle.protocol.specs.Layout.{valueLength, signatureLength, submitLength, noticeLength, fullEntryLength, evidenceEntryLength};
-ghost use Rattle.protocol.specs.Message.{Submit, Notice, render, renderEntry, renderPair};
-ghost use Rattle.wire.specs.Writing.{Wrote, head, entry, pair};
+ghost use Rattle.quorum.specs.Quorum.{mostSeats, seats, shared, size};
+ghost use Rattle.protocol.specs.Layout.{valueLength, signatureLength, submitLength, noticeLength, fullEntryLength, fullEntryAt, evidenceEntryLength, evidenceLength};
+ghost use Rattle.protocol.specs.Message.{Submit, Notice, render, renderEntry, renderEntries, renderPair, renderPairs};
+ghost use Rattle.protocol.specs.Certificate.{entriesOf, fullOf, pairsOf, orderedEvidence};
+ghost use Rattle.wire.specs.Writing.{Wrote, head, evidenceHead, entry, pair};
+ghost use Rattle.wire.specs.Sources.{Readable, certificateFrom};
+use crate::sources::{Source, signature_of};
 
 // One byte.
 fn put_byte(out: &mut [u8], at: usize, b: u8) -> usize
@@ -91,4 +94,70 @@ fn write_pair(out: &mut [u8], at: usize, seat: u32, lower: &[u8], higher: &[u8])
     let a = put_tag(out, at, 6, seat);
     let b = put(out, a, lower);
     put(out, b, higher)
+}
+
+// The entries of FULL for a certificate, rising.
+fn write_entries(out: &mut [u8], at: usize, n: u32, source: Source, m: &[u8]) -> usize
+    requires { ⌜ (n ≤ mostSeats) × Readable n source (now m) × (at + fullEntryLength * length (seats n (source .seats)) ≤ length (now out)) ⌝ }
+    ensures { λ r. ⌜ Wrote at (renderEntries (entriesOf n (certificateFrom n source [] (now (m .entry))))) (now (out .entry)) (now (out .exit)) r × (r ≡ at + fullEntryLength * length (seats n (source .seats))) ⌝ }
+{
+    let mask = source.seats;
+    let mut end = at;
+    let mut s = 0;
+    while s < n {
+        if quorum::has(mask, s) {
+            end = write_entry(out, end, s, signature_of(source, n, s, m));
+        }
+        s += 1;
+    }
+    end
+}
+
+// FULL of a certificate.
+pub fn write_full(out: &mut [u8], at: usize, n: u32, round: u32, sender: u32, value: &[u8], source: Source, m: &[u8]) -> usize
+    requires { ⌜ (n ≤ mostSeats) × (sender < 256) × (length (now value) ≡ valueLength) × Readable n source (now m) × (at + fullEntryAt (size (source .seats)) ≤ length (now out)) ⌝ }
+    ensures { λ r. ⌜ Wrote at (render (fullOf n round sender (certificateFrom n source (now (value .entry)) (now (m .entry))))) (now (out .entry)) (now (out .exit)) r × (r ≡ at + fullEntryAt (size (source .seats))) ⌝ }
+{
+    let count = quorum::size(source.seats);
+    let a = write_head(out, at, 3, round, sender, value);
+    let b = put_byte(out, a, count as u8);
+    write_entries(out, b, n, source, m)
+}
+
+// The entries of EVIDENCE for the seats that two certificates share, rising.
+fn write_pairs(out: &mut [u8], at: usize, n: u32, low: Source, lows: &[u8], high: Source, highs: &[u8]) -> usize
+    requires { ⌜ (n ≤ mostSeats) × Readable n low (now lows) × Readable n high (now highs) × (at + evidenceEntryLength * length (seats n (shared (low .seats) (high .seats))) ≤ length (now out)) ⌝ }
+    ensures { λ r. ⌜ Wrote at (renderPairs (pairsOf n (certificateFrom n low [] (now (lows .entry))) (certificateFrom n high [] (now (highs .entry))))) (now (out .entry)) (now (out .exit)) r × (r ≡ at + evidenceEntryLength * length (seats n (shared (low .seats) (high .seats)))) ⌝ }
+{
+    let mask = quorum::shared(low.seats, high.seats);
+    let mut end = at;
+    let mut s = 0;
+    while s < n {
+        if quorum::has(mask, s) {
+            end = write_pair(out, end, s, signature_of(low, n, s, lows), signature_of(high, n, s, highs));
+        }
+        s += 1;
+    }
+    end
+}
+
+// What EVIDENCE starts with.
+fn write_evidence_head(out: &mut [u8], at: usize, round: u32, lower: &[u8], higher: &[u8], count: u32) -> usize
+    requires { ⌜ (count < 256) × (length (now lower) ≡ valueLength) × (length (now higher) ≡ valueLength) × (at + 68 ≤ length (now out)) ⌝ }
+    ensures { λ r. ⌜ Wrote at (evidenceHead round (now (lower .entry)) (now (higher .entry)) count) (now (out .entry)) (now (out .exit)) r × (r ≡ at + 68) ⌝ }
+{
+    let a = put_command(out, at, 5, round);
+    let b = put(out, a, lower);
+    let c = put(out, b, higher);
+    put_byte(out, c, count as u8)
+}
+
+// EVIDENCE from two certificates, the one with the lower value first.
+fn write_ordered(out: &mut [u8], at: usize, n: u32, round: u32, lower: &[u8], low: Source, lows: &[u8], higher: &[u8], high: Source, highs: &[u8]) -> usize
+    requires { ⌜ (n ≤ mostSeats) × (length (now lower) ≡ valueLength) × Readable n low (now lows) × (length (now higher) ≡ valueLength) × Readable n high (now highs) × (at + evidenceLength (size (shared (low .seats) (high .seats))) ≤ length (now out)) ⌝ }
+    ensures { λ r. ⌜ Wrote at (render (orderedEvidence n round (certificateFrom n low (now (lower .entry)) (now (lows .entry))) (certificateFrom n high (now (higher .entry)) (now (highs .entry))))) (now (out .entry)) (now (out .exit)) r × (r ≡ at + evidenceLength (size (shared (low .seats) (high .seats)))) ⌝ }
+{
+    let count = quorum::shared_count(low.seats, high.seats);
+    let a = write_evidence_head(out, at, round, lower, higher, count);
+    write_pairs(out, a, n, low, lows, high, highs)
 }
