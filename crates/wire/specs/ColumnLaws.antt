@@ -8,9 +8,9 @@ use Prim.Native.Nat.{ℕ, zero, suc, _+_, _*_, _≤_, _<_}
 use native.Mathlib.Nat.{mul-suc, mul-le-mul-left, eq-or-lt-of-le, le-of-suc-le-suc}
 use native.Mathlib.Numerals.{add-one}
 use native.Mathlib.Omega.{arith}
-use lib.Dec.{ltb, eqb}
+use lib.Dec.{ltb}
 use lib.ListN.{length}
-use borrow.Author.Tests.{lt-ltb, le-ltb, eq-eqb, ne-eqb}
+use borrow.Author.Tests.{ltb-true, lt-ltb, le-ltb}
 use Rattle.quorum.specs.Quorum.{with}
 use Rattle.protocol.specs.Message.{byteAt}
 use Rattle.protocol.specs.Certificate.{setOf}
@@ -25,7 +25,7 @@ module _ (at stride : ℕ) (bytes : List ℕ) where
   -- ---- a test of every byte
 
   module _ (test : ℕ → Bool) where
-    every-step : (t : ℕ) → every test (column at stride (suc t) bytes) ≡ (every test (column at stride t bytes) && test (byteAt bytes (at + stride * t)))
+    pub every-step : (t : ℕ) → every test (column at stride (suc t) bytes) ≡ (every test (column at stride t bytes) && test (byteAt bytes (at + stride * t)))
     unfolding column every
     every-step t = every-append test (column at stride t bytes) (byteAt bytes (at + stride * t) ∷ []) ∙ rw and-true
 
@@ -99,9 +99,12 @@ module _ (at stride : ℕ) (bytes : List ℕ) where
   set-turn t m r e q = q ∙ rw (add-one, set-snoc (column at stride t bytes) (byteAt bytes (at + stride * t)), ← e)
 
   -- a byte of a column that passes
-  pub every-read : (test : ℕ → Bool) (count t : ℕ) → t < count → every test (column at stride count bytes) ≡ true → test (byteAt bytes (at + stride * t)) ≡ true
+  every-read : (test : ℕ → Bool) (count t : ℕ) → t < count → every test (column at stride count bytes) ≡ true → test (byteAt bytes (at + stride * t)) ≡ true
   every-read test count t l h = go (test (byteAt bytes (at + stride * t))) refl
     where
       go : (b : Bool) → test (byteAt bytes (at + stride * t)) ≡ b → b ≡ true
       go true e = refl
       go false e = absurd (false≢true (every-stops test count t l e ∙ h))
+
+  pub below-read : (n count t : ℕ) → t < count → every (λ (x : ℕ). ltb x n) (column at stride count bytes) ≡ true → byteAt bytes (at + stride * t) < n
+  below-read n count t l h = ltb-true _ n (every-read (λ (x : ℕ). ltb x n) count t l h)

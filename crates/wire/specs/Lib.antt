@@ -7,5 +7,7 @@ pub mod MaskLaws
 pub mod SeatLaws
 pub mod SourceLaws
 pub mod ColumnLaws
+pub mod FormLaws
+pub mod KindLaws
 pub mod StoreLaws
 pub mod WriteLaws

@@ -27,3 +27,11 @@ bytesOf c bytes = column (c .at) (c .stride) (c .count) bytes
 -- the last of them lies in the message
 abbrev pub Inside : Column → List ℕ → Type 0
 Inside c bytes = c .at + c .stride * c .count < length bytes + c .stride
+
+-- the seat that sends a message, where it names one
+unfoldable pub sendersOf : Message → List ℕ
+sendersOf (Submit round seat value signature) = seat ∷ []
+sendersOf (Notice round seat value) = seat ∷ []
+sendersOf (Full round sender value entries) = sender ∷ []
+sendersOf (Evidence round lower higher entries) = []
+sendersOf Garbled = []

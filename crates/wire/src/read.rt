@@ -1,14 +1,14 @@
 // Readers: what the bytes of a message say, and the conditions on its seats.
 ghost use mathlib.Core.Path.{_≡_};
-ghost use mathlib.Core.Bool.{true};
+ghost use mathlib.Core.Bool.{true, false, not};
 ghost use Prim.Native.Nat.{ℕ, _+_, _*_, _<_, _≤_};
 ghost use lib.Dec.{ltb, eqb};
 ghost use lib.ListN.{length};
 ghost use Rattle.quorum.specs.Quorum.{mostSeats};
-ghost use Rattle.protocol.specs.Message.{byteAt, readRound, fitsSubmit, fitsNotice, fitsFull, fitsEvidence, read};
+ghost use Rattle.protocol.specs.Message.{byteAt, readRound, fitsSubmit, fitsNotice, fitsFull, fitsEvidence, read, entrySeats};
 ghost use Rattle.protocol.specs.Certificate.{setOf};
-ghost use Rattle.protocol.specs.Refusals.{every, rising};
-ghost use Rattle.wire.specs.Reading.{kindOf, bytesOf, Inside};
+ghost use Rattle.protocol.specs.Refusals.{every, rising, otherRound, stranger, disorder};
+ghost use Rattle.wire.specs.Reading.{kindOf, bytesOf, Inside, sendersOf};
 use octets::wide;
 use quorum::Mask;
 
@@ -207,4 +207,80 @@ pub fn classify(n: u32, m: &[u8]) -> Kind
         return Kind::Evidence;
     }
     Kind::Garbled
+}
+
+// Whether the round of a message is not the caller's.
+pub fn other_round(n: u32, kind: Kind, m: &[u8], round: u32) -> bool
+    requires { ⌜ kind ≡ kindOf (read n (now m)) ⌝ }
+    ensures { λ r. ⌜ r ≡ otherRound round (read n (now (m .entry))) ⌝ }
+{
+    if let Kind::Garbled = kind {
+        return round != 0;
+    }
+    round_of(m) != round
+}
+
+// Whether the seat that sends a message is at or above n.
+fn sender_outside(n: u32, kind: Kind, m: &[u8]) -> bool
+    requires { ⌜ kind ≡ kindOf (read n (now m)) ⌝ }
+    ensures { λ r. ⌜ r ≡ not (every (λ (s : ℕ). ltb s n) (sendersOf (read n (now (m .entry))))) ⌝ }
+{
+    match kind {
+        Kind::Submit | Kind::Notice | Kind::Full => n <= number_at(m, 3),
+        Kind::Evidence | Kind::Garbled => false,
+    }
+}
+
+// The seats of a message's entries, as a column: none where a command has no entries.
+fn seat_column(n: u32, kind: Kind, m: &[u8]) -> Column
+    requires { ⌜ (1 ≤ n) × (n ≤ mostSeats) × (kind ≡ kindOf (read n (now m))) ⌝ }
+    ensures { λ r. ⌜ (bytesOf r (now (m .entry)) ≡ entrySeats (read n (now (m .entry)))) × Inside r (now (m .entry)) ⌝ }
+{
+    match kind {
+        Kind::Full => Column {
+            at: 38,
+            stride: 1454,
+            count: quorum::k(n) as usize,
+        },
+        Kind::Evidence => Column {
+            at: 69,
+            stride: 2906,
+            count: number_at(m, 67) as usize,
+        },
+        Kind::Submit | Kind::Notice | Kind::Garbled => Column {
+            at: 0,
+            stride: 1,
+            count: 0,
+        },
+    }
+}
+
+// Whether a seat in a message is at or above n.
+pub fn is_stranger(n: u32, kind: Kind, m: &[u8]) -> bool
+    requires { ⌜ (1 ≤ n) × (n ≤ mostSeats) × (kind ≡ kindOf (read n (now m))) ⌝ }
+    ensures { λ r. ⌜ r ≡ stranger n (read n (now (m .entry))) ⌝ }
+{
+    if sender_outside(n, kind, m) {
+        return true;
+    }
+    let seats = seat_column(n, kind, m);
+    !all_below(m, seats, n)
+}
+
+// Whether the seats of a message's entries don't rise.
+pub fn is_disordered(n: u32, kind: Kind, m: &[u8]) -> bool
+    requires { ⌜ (1 ≤ n) × (n ≤ mostSeats) × (kind ≡ kindOf (read n (now m))) ⌝ }
+    ensures { λ r. ⌜ r ≡ disorder (read n (now (m .entry))) ⌝ }
+{
+    let seats = seat_column(n, kind, m);
+    !all_rise(m, seats)
+}
+
+// The set of the seats of a message's entries.
+pub fn entry_set(n: u32, kind: Kind, m: &[u8]) -> Mask
+    requires { ⌜ (1 ≤ n) × (n ≤ mostSeats) × (kind ≡ kindOf (read n (now m))) × (stranger n (read n (now m)) ≡ false) ⌝ }
+    ensures { λ r. ⌜ r ≡ setOf (entrySeats (read n (now (m .entry)))) ⌝ }
+{
+    let seats = seat_column(n, kind, m);
+    set_of(m, seats)
 }
