@@ -14,11 +14,11 @@ demo: archives
 	@$(HARNESS) run --release --offline --features probes --bin demo
 
 bench: archives
-	@$(HARNESS) run --release --offline --features probes --bin bench
+	@$(HARNESS) run --release --offline --features zolbine,probes --bin bench
 
 # the static libraries, for C and for the harness
 archives: toolchain
-	@for name in probes; do rt staticlib $$name >target-$$name.log 2>&1 || { cat target-$$name.log; rm -f target-$$name.log; exit 1; }; rm -f target-$$name.log; done
+	@for name in zolbine probes; do rt staticlib $$name >target-$$name.log 2>&1 || { cat target-$$name.log; rm -f target-$$name.log; exit 1; }; rm -f target-$$name.log; done
 
 toolchain:
 	@command -v rt >/dev/null || { echo "zolbine: no rt on the PATH: the Rattle toolchain is needed"; exit 1; }

@@ -1,16 +1,20 @@
 -- The key table: a loop over its keys, and what a table that isn't refused says of each key.
-use mathlib.Core.Path.{_≡_, refl, sym, _∙_}
+use mathlib.Core.Path.{_≡_, refl, sym, ap, _∙_}
 use mathlib.Core.Bool.{Bool, true, false, not, _&&_, _||_, and-false, false≢true}
 use mathlib.Core.List.{List}
 use mathlib.Core.Logic.{⊎-elim}
-use Prim.Native.Nat.{ℕ, zero, suc, _+_, _*_, _<_}
-use native.Mathlib.Nat.{eq-or-lt-of-le, suc-inj, le-of-suc-le-suc}
+use Prim.Native.Nat.{ℕ, zero, suc, _+_, _*_, _≤_, _<_}
+use native.Mathlib.Nat.{add-zero, eq-or-lt-of-le, suc-inj, le-of-suc-le-suc}
 use native.Mathlib.Numerals.{add-one}
 use native.Mathlib.Omega.{arith}
 use lib.Dec.{eqb}
 use lib.ListN.{length}
 use borrow.Author.Tests.{eq-eqb, ne-eqb, eqb-true}
-use Rattle.octets.specs.Octets.{wordAt}
+use Rattle.octets.specs.Octets.{part, number, wordAt}
+use Rattle.octets.specs.StringLaws.{part-part, number-part-four}
+use Rattle.rfc8554.specs.Calls.{signatureBytes, seatKey}
+use Rattle.rfc8554.specs.Verify.{lmsTypeOf, otsTypeOf}
+use Rattle.protocol.specs.Layout.{signatureLength}
 use Rattle.protocol.specs.Refusals.{keyAllowed, keysAllowed, wrongKeys}
 
 -- ---- the loop
@@ -82,3 +86,23 @@ keys-say n keys e =
           let q = both (eqb (wordAt keys (56 * seat)) 6) (eqb (wordAt keys (56 * seat + 4)) 4) (allowed-at seat n keys h (p .1)) in
           (eqb-true (wordAt keys (56 * seat)) 6 (q .0), eqb-true (wordAt keys (56 * seat + 4)) 4 (q .1)),
     )
+
+-- the types of a seat's key, as RFC 8554's check reads them, and its place in the table
+pub seat-key : (n : ℕ) (keys : List ℕ) (seat : ℕ) → wrongKeys n keys ≡ false → seat < n
+    → (56 * (seat + 1) ≤ length keys) × (lmsTypeOf (seatKey keys seat) ≡ 6) × (otsTypeOf (seatKey keys seat) ≡ 4)
+unfolding seatKey
+seat-key n keys seat e h =
+    let said = keys-say n keys e in
+    let types = said .1 seat h in
+    let room : 56 * (seat + 1) ≤ length keys = omega (arith, said .0) in
+    let lms : number (part 0 4 (part (56 * seat) 56 keys)) ≡ 6 =
+        ap number (part-part 0 4 (56 * seat) 56 keys (omega arith)) ∙ number-part-four (56 * seat + 0) keys (omega arith)
+        ∙ ap (wordAt keys) (add-zero (56 * seat)) ∙ types .0 in
+    let ots : number (part 4 4 (part (56 * seat) 56 keys)) ≡ 4 =
+        ap number (part-part 4 4 (56 * seat) 56 keys (omega arith)) ∙ number-part-four (56 * seat + 4) keys (omega arith) ∙ types .1 in
+    (room, lms, ots)
+
+-- the two crates' names for a signature's length
+pub same-length : signatureLength ≡ signatureBytes
+unfolding signatureLength signatureBytes
+same-length = refl

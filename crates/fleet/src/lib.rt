@@ -1,6 +1,12 @@
-// What a call is given outside a record: the number of seats, the own seat, the round and the key table.
+// What a call is given outside a record: the number of seats, the own seat, the round and the key table; and the check of a seat's
+// signature under that table.
 ghost use mathlib.Core.Path.{_≡_};
-ghost use Prim.Native.Nat.{_≤_};
+ghost use mathlib.Core.Bool.{false};
+ghost use Prim.Native.Nat.{_≤_, _<_};
+ghost use lib.ListN.{length};
+ghost use Rattle.sha256.specs.Constants.{constants};
+ghost use Rattle.rfc8554.specs.Calls.{checks};
+ghost use Rattle.protocol.specs.Layout.{signatureLength};
 ghost use Rattle.protocol.specs.Record.{wrongSize, wrongSeat, wrongRound};
 ghost use Rattle.protocol.specs.Refusals.{wrongKeys};
 ghost use Rattle.quorum.specs.Quorum.{mostSeats};
@@ -49,4 +55,21 @@ pub fn wrong_keys(n: u32, keys: &[u8]) -> bool
         seat += 1;
     }
     false
+}
+
+// Whether a seat's signature over a value checks in the round, under a key table that isn't refused.
+pub fn seat_checks(
+    k: &[u32; 64],
+    n: u32,
+    keys: &[u8],
+    round: u32,
+    seat: u32,
+    value: &[u8],
+    signature: &[u8],
+) -> bool
+    requires { ⌜ (now k ≡ constants) × (n ≤ mostSeats) × (wrongKeys n (now keys) ≡ false) × (seat < n) × (round ≤ 1023) ⌝ }
+    requires { ⌜ (length (now value) ≡ 32) × (length (now signature) ≡ signatureLength) ⌝ }
+    ensures { λ r. ⌜ r ≡ checks (now (keys .entry)) round seat (now (value .entry)) (now (signature .entry)) ⌝ }
+{
+    lms::calls::seat_checks(k, keys, round, seat, value, signature)
 }
