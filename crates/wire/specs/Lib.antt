@@ -9,5 +9,6 @@ pub mod SourceLaws
 pub mod ColumnLaws
 pub mod FormLaws
 pub mod KindLaws
+pub mod MessageLaws
 pub mod StoreLaws
 pub mod WriteLaws
