@@ -1,2 +1,3 @@
--- The evidence check: signatures of entries, and the laws of its returns.
+-- The evidence check: signatures of entries, what an EVIDENCE taken says, and the laws of its returns.
 pub mod Signatures
+pub mod Taken

@@ -3,12 +3,14 @@ use mathlib.Core.Path.{_≡_, refl, sym, ap, _∙_}
 use mathlib.Core.Bool.{Bool, true, false, not, _&&_, and-false, and-true, false≢true}
 use mathlib.Core.List.{List, [], _∷_, _++_}
 use mathlib.Core.Logic.{⊎-elim}
-use Prim.Native.Nat.{ℕ, zero, suc, _+_, _<_}
+use Prim.Native.Nat.{ℕ, zero, suc, _+_, _≤_, _<_}
+use lib.ListN.{length}
+use Rattle.octets.specs.Laws.{length-part}
 use native.Mathlib.Nat.{eq-or-lt-of-le, suc-inj, le-of-suc-le-suc}
 use native.Mathlib.Numerals.{add-one}
 use native.Mathlib.Omega.{arith}
-use Rattle.protocol.specs.Layout.{evidenceEntryAt}
-use Rattle.protocol.specs.Message.{Pair, Signed, Message, Evidence, byteAt, readValue, readPair, readPairs, readEvidence, signedPairs, signed}
+use Rattle.protocol.specs.Layout.{signatureLength, evidenceEntryAt}
+use Rattle.protocol.specs.Message.{Pair, Signed, Message, Evidence, byteAt, readValue, readSignature, readPair, readPairs, readEvidence, signedPairs, signed}
 use Rattle.protocol.specs.Refusals.{Checks, every, badSignature}
 
 -- both signatures of an entry check, over the lower value and the higher
@@ -72,3 +74,22 @@ module _ (checks : Checks) where
       (λ (s : suc t ≡ suc n). rw (← suc-inj s, p) (and-false (pairsCheck checks bytes t)))
       (λ (l : suc t < suc n). rw (pairs-not bytes t n (le-of-suc-le-suc l) p))
       (eq-or-lt-of-le h)
+
+-- ---- one entry, as the code checks it
+
+module _ (checks : Checks) (bytes : List ℕ) (at seat : ℕ) (lower low : List ℕ) (first : Bool) (s : seat ≡ byteAt bytes (at + 1))
+    (l : lower ≡ readValue 3 bytes) (p : low ≡ readSignature (at + 2) bytes) (f : first ≡ checks seat lower low) where
+  pub pair-low : first ≡ false → false ≡ pairChecks checks (readValue 3 bytes) (readValue 35 bytes) (readPair at bytes)
+  unfolding pairChecks readPair
+  pair-low e = rw (← s, ← l, ← p, ← f, e)
+
+  pub pair-both : first ≡ true → (higher high : List ℕ) (second : Bool) → higher ≡ readValue 35 bytes → high ≡ readSignature (at + 1454) bytes
+      → second ≡ checks seat higher high → second ≡ pairChecks checks (readValue 3 bytes) (readValue 35 bytes) (readPair at bytes)
+  unfolding pairChecks readPair signatureLength
+  pair-both e higher high second h q t =
+      let place : at + 2 + 1452 ≡ at + 1454 = omega arith in
+      rw (place, ← s, ← l, ← p, ← f, e, ← h, ← q) t
+
+pub length-signature : (at : ℕ) (bytes : List ℕ) → at + signatureLength ≤ length bytes → length (readSignature at bytes) ≡ signatureLength
+unfolding readSignature
+length-signature at bytes h = length-part at signatureLength bytes h
