@@ -57,8 +57,3 @@ module _ (r : Record) where
       → a ≡ (parts || guilty) → b ≡ (a || sent) → c ≡ (b || unset) → c ≡ impossible r
   unfolding impossible
   impossible-parts parts guilty sent unset a b c e p q s t u v w = rw (w, v, u, p, q, s, t, e)
-
--- a size that isn't refused
-pub size-most : (n : ℕ) → wrongSize n ≡ false → n ≤ mostSeats
-unfolding wrongSize
-size-most n e = ltb-false mostSeats n (or-false (eqb n 0) (ltb mostSeats n) e .1)

@@ -7,9 +7,10 @@ use native.Mathlib.Omega.{arith}
 use lib.Dec.{leb, ltb, eqb}
 use lib.ListN.{length}
 use borrow.Author.Tests.{leb-true}
+use Rattle.protocol.specs.Values.{isLower}
 use Rattle.protocol.specs.Layout.{evidenceEntryLength, evidenceEntryAt, evidenceLength}
-use Rattle.protocol.specs.Message.{byteAt, readValue, readPair, pairCommands, fitsEvidence, read, readEvidence}
-use Rattle.protocol.specs.Refusals.{Checks, stranger, badSignature}
+use Rattle.protocol.specs.Message.{Message, Submit, Notice, Full, Evidence, Garbled, byteAt, readValue, readPair, pairCommands, fitsEvidence, read, readEvidence}
+use Rattle.protocol.specs.Refusals.{Checks, isEvidence, stranger, badSignature, notLowerFirst}
 use Rattle.wire.specs.Reading.{kindOf, column}
 use Rattle.wire.specs.KindLaws.{read-as}
 use Rattle.wire.specs.MessageLaws.{evidence-length, known-entries, evidence-column}
@@ -17,6 +18,25 @@ use Rattle.wire.specs.ColumnLaws.{below-read}
 use Rattle.evidence.specs.Signatures.{pairChecks, pairsCheck, bad-is, pairs-not}
 use Rattle.wire.specs.declared.read.Kind.{Kind}
 use Rattle.wire.specs.declared.read.Kind.the-variants as kind
+
+-- the kinds of message that are no EVIDENCE
+abbrev pub other : Kind → Bool
+other kind.Submit = true
+other kind.Notice = true
+other kind.Full = true
+other kind.Evidence = false
+other kind.Garbled = true
+
+pub other-is : (m : Message) → other (kindOf m) ≡ not (isEvidence m)
+unfolding kindOf isEvidence
+other-is (Submit round seat value signature) = refl
+other-is (Notice round seat value) = refl
+other-is (Full round sender value entries) = refl
+other-is (Evidence round lower higher entries) = refl
+other-is Garbled = refl
+
+pub told-other : (m : Message) (t : Kind) (b : Bool) → t ≡ kindOf m → b ≡ other t → b ≡ not (isEvidence m)
+told-other m t b e f = f ∙ ap other e ∙ other-is m
 
 pub record Taken (n : ℕ) (bytes : List ℕ) : Type 0 where
   pub says : read n bytes ≡ readEvidence bytes
@@ -61,3 +81,9 @@ module _ (checks : Checks) (n : ℕ) (bytes : List ℕ) (h : Taken n bytes) wher
   -- all of them check
   pub good-signatures : pairsCheck checks bytes (byteAt bytes 67) ≡ true → false ≡ badSignature checks (read n bytes)
   good-signatures e = rw (h .says, bad-is checks bytes, e)
+
+-- its values
+pub order-is : (n : ℕ) (bytes lower higher : List ℕ) (b : Bool) → Taken n bytes → lower ≡ readValue 3 bytes → higher ≡ readValue 35 bytes
+    → b ≡ isLower lower higher → not b ≡ notLowerFirst (read n bytes)
+unfolding notLowerFirst readEvidence
+order-is n bytes lower higher b h p q e = rw (h .says, e, p, q)

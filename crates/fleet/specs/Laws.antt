@@ -7,14 +7,16 @@ use Prim.Native.Nat.{ℕ, zero, suc, _+_, _*_, _≤_, _<_}
 use native.Mathlib.Nat.{add-zero, eq-or-lt-of-le, suc-inj, le-of-suc-le-suc}
 use native.Mathlib.Numerals.{add-one}
 use native.Mathlib.Omega.{arith}
-use lib.Dec.{eqb}
+use lib.Dec.{ltb, eqb}
 use lib.ListN.{length}
-use borrow.Author.Tests.{eq-eqb, ne-eqb, eqb-true}
+use borrow.Author.Tests.{eq-eqb, ne-eqb, eqb-true, eqb-false, ltb-false}
 use Rattle.octets.specs.Octets.{part, number, wordAt}
 use Rattle.octets.specs.StringLaws.{part-part, number-part-four}
 use Rattle.rfc8554.specs.Calls.{signatureBytes, seatKey}
 use Rattle.rfc8554.specs.Verify.{lmsTypeOf, otsTypeOf}
 use Rattle.protocol.specs.Layout.{signatureLength}
+use Rattle.quorum.specs.Quorum.{mostSeats}
+use Rattle.protocol.specs.Record.{wrongSize}
 use Rattle.protocol.specs.Refusals.{keyAllowed, keysAllowed, wrongKeys}
 
 -- ---- the loop
@@ -106,3 +108,17 @@ seat-key n keys seat e h =
 pub same-length : signatureLength ≡ signatureBytes
 unfolding signatureLength signatureBytes
 same-length = refl
+
+-- ---- a size that isn't refused
+
+or-false : (a b : Bool) → (a || b) ≡ false → (a ≡ false) × (b ≡ false)
+or-false true b e = absurd (false≢true (sym e))
+or-false false b e = (refl, e)
+
+pub size-most : (n : ℕ) → wrongSize n ≡ false → n ≤ mostSeats
+unfolding wrongSize
+size-most n e = ltb-false mostSeats n (or-false (eqb n 0) (ltb mostSeats n) e .1)
+
+pub size-some : (n : ℕ) → wrongSize n ≡ false → 1 ≤ n
+unfolding wrongSize
+size-some n e = let some : n ≡ 0 → ⊥ = eqb-false n 0 (or-false (eqb n 0) (ltb mostSeats n) e .0) in omega arith

@@ -4,7 +4,7 @@ use denote.Ref.{now}
 use Rattle.refusal.specs.Refusal.{lowest}
 use Rattle.protocol.specs.Record.{wrongSize, wrongSeat, wrongRound}
 use Rattle.protocol.specs.Refusals.{wrongKeys, openingConditions}
-use Rattle.confirmer.specs.Records.{size-most}
+use Rattle.fleet.specs.Laws.{size-most}
 use borrow.Author.Needs.{needs}
 use Rattle.confirmer.proofs.opening.refused.Statement.{statement}
 use Rattle.confirmer.proofs.opening.refused.Tie as tie
