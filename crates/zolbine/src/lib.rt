@@ -2,8 +2,10 @@
 ghost use mathlib.Core.Path.{_≡_};
 ghost use lib.ListN.{length};
 ghost use Rattle.octets.specs.Octets.{patch};
-ghost use Rattle.rfc8554.specs.Calls.{checkSignature, makeKey, sign};
+ghost use Rattle.protocol.specs.Calls.{evidenceCheck};
+ghost use Rattle.rfc8554.specs.Calls.{checkSignature, makeKey, sign, checks};
 use lms::calls::Written;
+use protocol::Checked;
 
 #[no_mangle]
 pub extern "C" fn zolbine_check_signature(key: &[u8], message: &[u8], signature: &[u8]) -> u32
@@ -42,4 +44,11 @@ pub extern "C" fn zolbine_sign(
     ensures out { λ _. ⌜ now (out .exit) ≡ patch 0 (sign leaf (now (message .entry)) (now (seed .entry)) (now (identifier .entry)) (now (randomizer .entry)) (now (tree .entry)) (now (out .entry)) .written) (now (out .entry)) ⌝ }
 {
     lms::calls::sign(leaf, seed, identifier, randomizer, tree, message, out)
+}
+
+#[no_mangle]
+pub extern "C" fn zolbine_check_evidence(n: u32, round: u32, keys: &[u8], evidence: &[u8]) -> Checked
+    ensures { λ r. ⌜ r ≡ evidenceCheck (checks (now (keys .entry)) round) n round (now (keys .entry)) (now (evidence .entry)) ⌝ }
+{
+    evidence::check_evidence(n, round, keys, evidence)
 }
