@@ -12,5 +12,6 @@ pub mod FormLaws
 pub mod KindLaws
 pub mod MessageLaws
 pub mod WalkLaws
+pub mod RoundTrip
 pub mod StoreLaws
 pub mod WriteLaws

@@ -23,11 +23,11 @@ use Rattle.wire.specs.declared.read.Kind.the-variants as kind
 
 -- ---- lengths
 
-submit-length : (bytes : List ℕ) → fitsSubmit bytes ≡ true → length bytes ≡ submitLength
+pub submit-length : (bytes : List ℕ) → fitsSubmit bytes ≡ true → length bytes ≡ submitLength
 unfolding fitsSubmit
 submit-length bytes h = eqb-true (length bytes) submitLength (and-eq-true-iff (eqb (length bytes) submitLength) (eqb (byteAt bytes 0) 0x01) .0 h .0)
 
-notice-length : (bytes : List ℕ) → fitsNotice bytes ≡ true → length bytes ≡ noticeLength
+pub notice-length : (bytes : List ℕ) → fitsNotice bytes ≡ true → length bytes ≡ noticeLength
 unfolding fitsNotice
 notice-length bytes h = eqb-true (length bytes) noticeLength (and-eq-true-iff (eqb (length bytes) noticeLength) (eqb (byteAt bytes 0) 0x02) .0 h .0)
 
