@@ -4,7 +4,7 @@ use mathlib.Core.List.{List, [], _∷_}
 use Prim.Native.Nat.{ℕ, zero, suc, _+_, _*_, _≤_}
 use lib.ListN.{length}
 use Rattle.quorum.specs.Quorum.{k}
-use Rattle.protocol.specs.Layout.{signatureLength, fullEntryLength, fullEntryAt, evidenceEntryLength, evidenceEntryAt}
+use Rattle.protocol.specs.Layout.{signatureLength, fullEntryLength, evidenceEntryLength}
 use Rattle.protocol.specs.Message.{Entry, Pair, byteAt, readEntry, readPair}
 use Rattle.wire.specs.declared.cursor.Cursor.{Cursor}
 use Rattle.wire.specs.declared.cursor.Step.{Step}

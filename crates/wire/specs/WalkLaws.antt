@@ -2,13 +2,13 @@
 -- Assumes nothing.
 use mathlib.Core.Path.{_≡_, refl, sym, ap, _∙_}
 use mathlib.Core.List.{List, [], _∷_, _++_, append-assoc, append-nil}
-use Prim.Native.Nat.{ℕ, zero, suc, _+_, _-_, _*_, _≤_, _<_}
+use Prim.Native.Nat.{ℕ, zero, suc, _+_, _-_, _*_, _≤_}
 use native.Mathlib.Nat.{add-zero, zero-add, mul-suc}
 use native.Mathlib.Omega.{arith}
 use lib.ListN.{length}
 use Rattle.quorum.specs.Quorum.{k}
 use Rattle.protocol.specs.Layout.{signatureLength, fullEntryLength, fullEntryAt, fullLength, evidenceEntryLength, evidenceEntryAt, evidenceLength}
-use Rattle.protocol.specs.Message.{Entry, Pair, byteAt, readSignature, readEntry, readEntries, readPair, readPairs}
+use Rattle.protocol.specs.Message.{Entry, byteAt, readSignature, readEntry, readEntries, readPair, readPairs}
 use Rattle.wire.specs.Walk.{fullStart, evidenceStart, FullWithin, EvidenceWithin, stepAt, pairStepAt, entriesFrom, entriesLeft, pairsFrom, pairsLeft}
 use Rattle.wire.specs.Writing.{entry, pair}
 use Rattle.wire.specs.declared.cursor.Cursor.{Cursor}
