@@ -1,18 +1,18 @@
 -- The conditions on a message, as the readers test them.
 -- Assumes nothing.
-use mathlib.Core.Path.{_≡_, refl, sym, ap, _∙_}
+use mathlib.Core.Path.{_≡_, refl, sym, _∙_}
 use mathlib.Core.Bool.{Bool, true, false, not, _&&_, and-eq-true-iff}
+use mathlib.Core.Logic.{_⊎_, ⊎-elim}
 use mathlib.Core.List.{List, [], _∷_, _++_, map, map-append}
-use mathlib.Core.Logic.{_⊎_, inl, inr, ⊎-elim}
 use Prim.Native.Nat.{ℕ, zero, suc, _+_, _*_, _≤_, _<_}
 use native.Mathlib.Decide.{decLt, ℕ-discrete}
 use native.Mathlib.Omega.{arith}
 use lib.Dec.{leb, ltb, eqb}
 use lib.ListN.{length}
-use borrow.Author.Tests.{eqb-true, leb-true, ltb-true, lt-ltb, le-ltb, le-leb, lt-leb, eq-eqb, ne-eqb, not-true, not-false}
+use borrow.Author.Tests.{eqb-true, ltb-true, lt-ltb, le-ltb, le-leb, lt-leb, ne-eqb, not-true, not-false}
 use Rattle.quorum.specs.Quorum.{k}
 use Rattle.protocol.specs.Layout.{submitLength, noticeLength, fullEntryLength, fullEntryAt, fullLength, evidenceEntryLength, evidenceEntryAt, evidenceLength}
-use Rattle.protocol.specs.Message.{Entry, Pair, Message, Submit, Notice, Full, Evidence, Garbled, byteAt, readRound, readEntry, readEntries, readPair, readPairs, readSubmit, readNotice, readFull, readEvidence, fitsSubmit, fitsNotice, fitsFull, fitsEvidence, read, roundOf, entrySeats, seatsOf, pairCommands}
+use Rattle.protocol.specs.Message.{Entry, Pair, Message, Submit, Notice, Full, Evidence, Garbled, byteAt, readRound, readEntry, readEntries, readPair, readPairs, readSubmit, readNotice, readFull, readEvidence, fitsSubmit, fitsNotice, fitsEvidence, read, roundOf, entrySeats, seatsOf, pairCommands}
 use Rattle.protocol.specs.Refusals.{every, rising, otherRound, stranger, disorder}
 use Rattle.protocol.specs.Laws.{every-append}
 use Rattle.wire.specs.Reading.{kindOf, column, sendersOf, tag}
@@ -23,11 +23,11 @@ use Rattle.wire.specs.declared.read.Kind.the-variants as kind
 
 -- ---- lengths
 
-submit-length : (bytes : List ℕ) → fitsSubmit bytes ≡ true → length bytes ≡ submitLength
+pub submit-length : (bytes : List ℕ) → fitsSubmit bytes ≡ true → length bytes ≡ submitLength
 unfolding fitsSubmit
 submit-length bytes h = eqb-true (length bytes) submitLength (and-eq-true-iff (eqb (length bytes) submitLength) (eqb (byteAt bytes 0) 0x01) .0 h .0)
 
-notice-length : (bytes : List ℕ) → fitsNotice bytes ≡ true → length bytes ≡ noticeLength
+pub notice-length : (bytes : List ℕ) → fitsNotice bytes ≡ true → length bytes ≡ noticeLength
 unfolding fitsNotice
 notice-length bytes h = eqb-true (length bytes) noticeLength (and-eq-true-iff (eqb (length bytes) noticeLength) (eqb (byteAt bytes 0) 0x02) .0 h .0)
 

@@ -1,18 +1,18 @@
 -- A rising list of seats and its set: each says the other, and where a seat stands in the list.
 -- Assumes nothing.
-use mathlib.Core.Path.{_≡_, refl, sym, ap, subst, _∙_}
-use mathlib.Core.Bool.{Bool, true, false, _&&_, and-eq-true-iff}
-use mathlib.Core.List.{List, [], _∷_, _++_, append-assoc, append-nil, List·Memᴰ, List·Memᴰ·head, List·Memᴰ·tail, List·Memᴰ·not-nil, List·Memᴰ·cases-cons, List·Memᴰ·append-cases, List·Memᴰ·eq-of-singleton}
+use mathlib.Core.Path.{_≡_, refl, sym, ap, _∙_}
+use mathlib.Core.Bool.{Bool, true, and-eq-true-iff}
 use mathlib.Core.Logic.{_⊎_, inl, inr, ⊎-elim}
-use Prim.Native.Nat.{ℕ, zero, suc, _+_, _^_, _≤_, _<_}
+use mathlib.Core.List.{List, [], _∷_, _++_, append-assoc, List·Memᴰ, List·Memᴰ·head, List·Memᴰ·tail, List·Memᴰ·not-nil, List·Memᴰ·cases-cons, List·Memᴰ·append-cases, List·Memᴰ·eq-of-singleton}
+use Prim.Native.Nat.{ℕ, zero, suc, _^_, _≤_, _<_}
 use native.Mathlib.Nat.{eq-or-lt-of-le, le-of-suc-le-suc}
 use native.Mathlib.Numerals.{add-one}
 use native.Mathlib.Omega.{arith}
-use lib.Dec.{ltb, eqb}
+use lib.Dec.{ltb}
 use lib.ListN.{length}
 use borrow.Author.Tests.{ltb-true}
 use Rattle.quorum.specs.Quorum.{bit, In, size, shared, all, seats}
-use Rattle.quorum.specs.Laws.{bit-cases, bit-shared, bit-lt-two, bit-all-below, seats-in, seats-out, length-seats, shared-lt, all-lt, in-shared, in-all, bit-outside, lt-of-none-outside, mem-seats}
+use Rattle.quorum.specs.Laws.{bit-cases, bit-shared, bit-lt-two, bit-all-below, seats-in, seats-out, length-seats, all-lt, bit-outside, lt-of-none-outside, mem-seats}
 use Rattle.protocol.specs.Certificate.{setOf}
 use Rattle.protocol.specs.Refusals.{every, rising}
 use Rattle.protocol.specs.Laws.{in-set}

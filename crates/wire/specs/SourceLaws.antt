@@ -1,12 +1,11 @@
 -- A FULL whose entries rise has each seat's signature where its place among them says.
 -- Assumes nothing.
 use mathlib.Core.Path.{_≡_, refl, sym, ap, _∙_}
-use mathlib.Core.Bool.{Bool, true, false, cond, not, _&&_, and-eq-true-iff, false≢true}
-use mathlib.Core.List.{List, [], _∷_, _++_, map}
-use Prim.Native.Nat.{ℕ, zero, suc, _+_, _*_, _^_, _≤_, _<_}
+use mathlib.Core.Bool.{Bool, true, false, cond, and-eq-true-iff, false≢true}
 use mathlib.Core.Logic.{⊎-elim}
+use mathlib.Core.List.{List, [], _∷_, _++_, map}
+use Prim.Native.Nat.{ℕ, zero, suc, _+_, _^_, _≤_, _<_}
 use native.Mathlib.Nat.{eq-or-lt-of-le, le-of-suc-le-suc}
-use native.Mathlib.Numerals.{add-one}
 use native.Mathlib.Omega.{arith}
 use lib.Dec.{ltb, eqb}
 use lib.ListN.{length, getD, length-append, length-map, List·getD-append}
@@ -20,9 +19,9 @@ use Rattle.protocol.specs.Message.{Entry, Message, byteAt, read, readEntry, rea
 use Rattle.protocol.specs.Certificate.{slot, setOf, signatureOf, certificateOf, certificateIn}
 use Rattle.protocol.specs.Refusals.{every, rising, isFull, stranger, disorder}
 use Rattle.wire.specs.Sources.{Sound, entryPlace, Readable, signatureFrom}
-use Rattle.wire.specs.declared.sources.Source.{Source}
 use Rattle.wire.specs.StoreLaws.{length-signature}
 use Rattle.wire.specs.SeatLaws.{seats-set, set-lt, seats-split, count-below}
+use Rattle.wire.specs.declared.sources.Source.{Source}
 
 -- ---- bytes that are a FULL's
 

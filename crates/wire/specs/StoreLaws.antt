@@ -1,13 +1,12 @@
 -- Laws of slots and of signatures kept.
 -- Assumes nothing.
 use mathlib.Core.Path.{_≡_, refl, sym, ap, _∙_}
-use mathlib.Core.List.{List, [], _∷_, _++_}
-use Prim.Native.Nat.{ℕ, zero, suc, _+_, _-_, _*_, _≤_, _<_}
-use native.Mathlib.Numerals.{add-one}
+use mathlib.Core.List.{List, _++_}
+use Prim.Native.Nat.{ℕ, zero, suc, _+_, _*_, _≤_, _<_}
 use native.Mathlib.Omega.{arith}
 use lib.ListN.{length, take, drop, getD, set, length-append, List·getD-append}
 use lib.Seq.{paste, length-take-le, getD-take}
-use Rattle.octets.specs.Octets.{part, patch}
+use Rattle.octets.specs.Octets.{part}
 use Rattle.octets.specs.Laws.{length-part, getD-part, paste-turn, length-patch}
 use Rattle.quorum.specs.Quorum.{bit, In, seats}
 use Rattle.quorum.specs.Laws.{seats-in, seats-out}

@@ -3,8 +3,8 @@
 use mathlib.Core.Path.{_≡_, refl, sym, ap, _∙_}
 use mathlib.Core.Bool.{Bool, true, false}
 use mathlib.Core.List.{List, [], _∷_, _++_, append-assoc, append-nil, map}
-use Prim.Native.Nat.{ℕ, zero, suc, _+_, _*_, _/_, _%_, _^_, _≤_, _<_}
-use native.Mathlib.Nat.{add-assoc, add-zero, mul-zero, mul-suc, mul-le-mul-left}
+use Prim.Native.Nat.{ℕ, suc, _+_, _*_, _/_, _%_, _^_, _≤_, _<_}
+use native.Mathlib.Nat.{add-zero, mul-zero, mul-suc, mul-le-mul-left}
 use native.Mathlib.Numerals.{add-one, add-two}
 use native.Mathlib.Omega.{arith}
 use lib.ListN.{length, take, drop, set, length-append, length-map, take-append-drop}
@@ -16,7 +16,7 @@ use Rattle.quorum.specs.Quorum.{bit, In, seats, shared, size}
 use Rattle.quorum.specs.Laws.{seats-in, seats-out, length-seats, shared-lt}
 use Rattle.protocol.specs.Layout.{valueLength, signatureLength, noticeLength, fullEntryLength, evidenceEntryLength}
 use Rattle.protocol.specs.Values.{isLower}
-use Rattle.protocol.specs.Message.{Entry, Pair, renderEntry, renderEntries, renderPair, renderPairs, render}
+use Rattle.protocol.specs.Message.{Pair, renderEntry, renderEntries, renderPair, renderPairs, render}
 use Rattle.protocol.specs.Certificate.{Certificate, entriesOf, fullOf, pairsOf, orderedEvidence, evidenceOf}
 use Rattle.protocol.specs.Laws.{length-entry, length-pair}
 use Rattle.wire.specs.Writing.{Wrote, head, evidenceHead, entry, pair, gathered, entryFor, pairFor}
@@ -46,9 +46,9 @@ command-written at command round xs h =
     record {
       ends = rw be-two;
       wrote =
-        rw (be-two, add-one, add-two)
-        (sets-eq (command ∷ round / 256 % 256 ∷ round % 256 ∷ []) xs at h
-        ∙ append-assoc (take at xs) (command ∷ round / 256 % 256 ∷ round % 256 ∷ []) (drop (at + 3) xs));
+          rw (be-two, add-one, add-two)
+          (sets-eq (command ∷ round / 256 % 256 ∷ round % 256 ∷ []) xs at h
+          ∙ append-assoc (take at xs) (command ∷ round / 256 % 256 ∷ round % 256 ∷ []) (drop (at + 3) xs));
     }
 
 pub length-head : (command round seat : ℕ) (value : List ℕ) → length value ≡ valueLength → length (head command round seat value) ≡ noticeLength
@@ -107,8 +107,8 @@ module _ (f : ℕ → List ℕ) (w n m at : ℕ) (before : List ℕ) (s end : �
           long = rw (v .wrote) (length-patch end (f s) out fits ∙ g .long);
           counted = rw (seats-in s m i, length-append (seats s m) (s ∷ []), add-one, mul-suc) (omega (arith, v .ends, g .counted));
           written =
-            rw (seats-in s m i, gathered-snoc f (seats s m) s)
-            (then at end e (gathered f (seats s m)) (f s) before out after (omega (arith, room)) (g .written) v);
+              rw (seats-in s m i, gathered-snoc f (seats s m) s)
+              (then at end e (gathered f (seats s m)) (f s) before out after (omega (arith, room)) (g .written) v);
         }
 
 -- the loop's end

@@ -8,8 +8,13 @@ ghost use Rattle.protocol.specs.Layout.{signatureLength, storeLength, collected
 ghost use Rattle.protocol.specs.Message.{readSignature};
 ghost use Rattle.protocol.specs.Certificate.{slot, keep, keepEach};
 ghost use Rattle.wire.specs.Sources.{Readable, signatureFrom};
-use crate::slots::{COLLECTED, FIRST, SIGNATURE, keep, slot_at};
-use crate::sources::{Source, signature_of};
+use crate::slots::COLLECTED;
+use crate::slots::FIRST;
+use crate::slots::SIGNATURE;
+use crate::slots::keep;
+use crate::slots::slot_at;
+use crate::sources::Source;
+use crate::sources::signature_of;
 use quorum::Mask;
 
 // Copies a signature within the store, to a place past it.

@@ -12,6 +12,7 @@ pub const SIGNATURE: usize = 1452;
 
 // The banks of the store: signatures collected, and those of the first certificate.
 pub const COLLECTED: u32 = 0;
+
 pub const FIRST: u32 = 1;
 
 // Where the slot of a seat in a bank starts.

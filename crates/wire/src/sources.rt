@@ -4,9 +4,9 @@ ghost use Prim.Native.Nat.{_+_, _<_, _≤_};
 ghost use lib.ListN.{length};
 ghost use Rattle.quorum.specs.Quorum.{mostSeats, In};
 ghost use Rattle.protocol.specs.Layout.{signatureLength};
-ghost use Rattle.protocol.specs.Message.{readSignature};
 ghost use Rattle.wire.specs.Sources.{entryPlace, Readable, signatureFrom};
-use crate::slots::{signature_at, slot_at};
+use crate::slots::signature_at;
+use crate::slots::slot_at;
 use quorum::Mask;
 
 // A certificate's seats, and where their signatures are: in the entries of a FULL, or else in a bank of the store.

@@ -1,7 +1,7 @@
 // Writers: each writes one command, or a part of one, from an index of `out` on, and answers the index after it.
 ghost use mathlib.Core.Path.{_≡_};
 ghost use mathlib.Core.List.{[], _∷_};
-ghost use Prim.Native.Nat.{_+_, _*_, _^_, _<_, _≤_};
+ghost use Prim.Native.Nat.{_+_, _*_, _<_, _≤_};
 ghost use lib.ListN.{length};
 ghost use Rattle.octets.specs.Octets.{be};
 ghost use Rattle.quorum.specs.Quorum.{mostSeats, seats, shared, size};
@@ -10,7 +10,8 @@ ghost use Rattle.protocol.specs.Message.{Submit, Notice, render, renderEntry, r
 ghost use Rattle.protocol.specs.Certificate.{entriesOf, fullOf, pairsOf, orderedEvidence, evidenceOf};
 ghost use Rattle.wire.specs.Writing.{Wrote, head, evidenceHead, entry, pair};
 ghost use Rattle.wire.specs.Sources.{Readable, certificateFrom};
-use crate::sources::{Source, signature_of};
+use crate::sources::Source;
+use crate::sources::signature_of;
 use crate::values::lower;
 
 // One byte.
@@ -61,7 +62,14 @@ pub fn write_notice(out: &mut [u8], at: usize, round: u32, seat: u32, value: &[u
 }
 
 // SUBMIT.
-pub fn write_submit(out: &mut [u8], at: usize, round: u32, seat: u32, value: &[u8], signature: &[u8]) -> usize
+pub fn write_submit(
+    out: &mut [u8],
+    at: usize,
+    round: u32,
+    seat: u32,
+    value: &[u8],
+    signature: &[u8],
+) -> usize
     requires { ⌜ (seat < 256) × (length (now value) ≡ valueLength) × (length (now signature) ≡ signatureLength) × (at + submitLength ≤ length (now out)) ⌝ }
     ensures { λ r. ⌜ Wrote at (render (Submit round seat (now (value .entry)) (now (signature .entry)))) (now (out .entry)) (now (out .exit)) r × (r ≡ at + submitLength) ⌝ }
 {
@@ -115,7 +123,16 @@ fn write_entries(out: &mut [u8], at: usize, n: u32, source: Source, m: &[u8]) ->
 }
 
 // FULL of a certificate.
-pub fn write_full(out: &mut [u8], at: usize, n: u32, round: u32, sender: u32, value: &[u8], source: Source, m: &[u8]) -> usize
+pub fn write_full(
+    out: &mut [u8],
+    at: usize,
+    n: u32,
+    round: u32,
+    sender: u32,
+    value: &[u8],
+    source: Source,
+    m: &[u8],
+) -> usize
     requires { ⌜ (n ≤ mostSeats) × (sender < 256) × (length (now value) ≡ valueLength) × Readable n source (now m) × (at + fullEntryAt (size (source .seats)) ≤ length (now out)) ⌝ }
     ensures { λ r. ⌜ Wrote at (render (fullOf n round sender (certificateFrom n source (now (value .entry)) (now (m .entry))))) (now (out .entry)) (now (out .exit)) r × (r ≡ at + fullEntryAt (size (source .seats))) ⌝ }
 {
@@ -126,7 +143,15 @@ pub fn write_full(out: &mut [u8], at: usize, n: u32, round: u32, sender: u32, va
 }
 
 // The entries of EVIDENCE for the seats that two certificates share, rising.
-fn write_pairs(out: &mut [u8], at: usize, n: u32, low: Source, lows: &[u8], high: Source, highs: &[u8]) -> usize
+fn write_pairs(
+    out: &mut [u8],
+    at: usize,
+    n: u32,
+    low: Source,
+    lows: &[u8],
+    high: Source,
+    highs: &[u8],
+) -> usize
     requires { ⌜ (n ≤ mostSeats) × Readable n low (now lows) × Readable n high (now highs) × (at + evidenceEntryLength * length (seats n (shared (low .seats) (high .seats))) ≤ length (now out)) ⌝ }
     ensures { λ r. ⌜ Wrote at (renderPairs (pairsOf n (certificateFrom n low [] (now (lows .entry))) (certificateFrom n high [] (now (highs .entry))))) (now (out .entry)) (now (out .exit)) r × (r ≡ at + evidenceEntryLength * length (seats n (shared (low .seats) (high .seats)))) ⌝ }
 {
@@ -135,7 +160,13 @@ fn write_pairs(out: &mut [u8], at: usize, n: u32, low: Source, lows: &[u8], high
     let mut s = 0;
     while s < n {
         if quorum::has(mask, s) {
-            end = write_pair(out, end, s, signature_of(low, n, s, lows), signature_of(high, n, s, highs));
+            end = write_pair(
+                out,
+                end,
+                s,
+                signature_of(low, n, s, lows),
+                signature_of(high, n, s, highs),
+            );
         }
         s += 1;
     }
@@ -143,7 +174,14 @@ fn write_pairs(out: &mut [u8], at: usize, n: u32, low: Source, lows: &[u8], high
 }
 
 // What EVIDENCE starts with.
-fn write_evidence_head(out: &mut [u8], at: usize, round: u32, lower: &[u8], higher: &[u8], count: u32) -> usize
+fn write_evidence_head(
+    out: &mut [u8],
+    at: usize,
+    round: u32,
+    lower: &[u8],
+    higher: &[u8],
+    count: u32,
+) -> usize
     requires { ⌜ (count < 256) × (length (now lower) ≡ valueLength) × (length (now higher) ≡ valueLength) × (at + 68 ≤ length (now out)) ⌝ }
     ensures { λ r. ⌜ Wrote at (evidenceHead round (now (lower .entry)) (now (higher .entry)) count) (now (out .entry)) (now (out .exit)) r × (r ≡ at + 68) ⌝ }
 {
@@ -154,7 +192,18 @@ fn write_evidence_head(out: &mut [u8], at: usize, round: u32, lower: &[u8], high
 }
 
 // EVIDENCE from two certificates, the one with the lower value first.
-fn write_ordered(out: &mut [u8], at: usize, n: u32, round: u32, lower: &[u8], low: Source, lows: &[u8], higher: &[u8], high: Source, highs: &[u8]) -> usize
+fn write_ordered(
+    out: &mut [u8],
+    at: usize,
+    n: u32,
+    round: u32,
+    lower: &[u8],
+    low: Source,
+    lows: &[u8],
+    higher: &[u8],
+    high: Source,
+    highs: &[u8],
+) -> usize
     requires { ⌜ (n ≤ mostSeats) × (length (now lower) ≡ valueLength) × Readable n low (now lows) × (length (now higher) ≡ valueLength) × Readable n high (now highs) × (at + evidenceLength (size (shared (low .seats) (high .seats))) ≤ length (now out)) ⌝ }
     ensures { λ r. ⌜ Wrote at (render (orderedEvidence n round (certificateFrom n low (now (lower .entry)) (now (lows .entry))) (certificateFrom n high (now (higher .entry)) (now (highs .entry))))) (now (out .entry)) (now (out .exit)) r × (r ≡ at + evidenceLength (size (shared (low .seats) (high .seats)))) ⌝ }
 {
@@ -164,7 +213,18 @@ fn write_ordered(out: &mut [u8], at: usize, n: u32, round: u32, lower: &[u8], lo
 }
 
 // EVIDENCE from two certificates, given in either order: values va and vb, signatures from ma and mb.
-pub fn write_evidence(out: &mut [u8], at: usize, n: u32, round: u32, va: &[u8], a: Source, ma: &[u8], vb: &[u8], b: Source, mb: &[u8]) -> usize
+pub fn write_evidence(
+    out: &mut [u8],
+    at: usize,
+    n: u32,
+    round: u32,
+    va: &[u8],
+    a: Source,
+    ma: &[u8],
+    vb: &[u8],
+    b: Source,
+    mb: &[u8],
+) -> usize
     requires { ⌜ (n ≤ mostSeats) × (length (now va) ≡ valueLength) × Readable n a (now ma) × (length (now vb) ≡ valueLength) × Readable n b (now mb) × (at + evidenceLength (size (shared (a .seats) (b .seats))) ≤ length (now out)) ⌝ }
     ensures { λ r. ⌜ Wrote at (render (evidenceOf n round (certificateFrom n a (now (va .entry)) (now (ma .entry))) (certificateFrom n b (now (vb .entry)) (now (mb .entry))))) (now (out .entry)) (now (out .exit)) r × (r ≡ at + evidenceLength (size (shared (a .seats) (b .seats)))) ⌝ }
 {

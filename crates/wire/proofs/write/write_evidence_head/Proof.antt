@@ -1,53 +1,41 @@
 use mathlib.Core.Path.{ap, _∙_}
 use Prim.Native.Nat.{ℕ, _+_}
 use native.Mathlib.Omega.{arith}
+use borrow.Author.Needs.{needs}
 use denote.Ref.{now}
 use Rattle.wire.specs.WriteLaws.{then, length-command, length-evidence-head}
-use borrow.Author.Needs.{needs}
 use Rattle.wire.proofs.write.write_evidence_head.Statement.{statement}
 use Rattle.wire.proofs.write.write_evidence_head.Tie as tie
-use Rattle.wire.proofs.write.write_evidence_head.Reads as reads
-use Rattle.wire.proofs.write.write_evidence_head.Lts as lts
-use Rattle.wire.proofs.write.put.Reads as put-reads
-use Rattle.wire.proofs.write.put_byte.Reads as put-byte-reads
-use Rattle.wire.proofs.write.put_command.Reads as put-command-reads
 
--- src/write.rt:149:9
 put-command-requires : tie.Need-put-command-requires
 put-command-requires c κs = search needs
 
--- src/write.rt:150:9
 put-requires : tie.Need-put-requires
-put-requires c κs = 
+put-requires c κs =
     let start = c .before .before .before .before .before .before .before .before in
     omega (arith, start .pre, length-command 5 (start .args .round), c .before .before .before .put-command .ensures .ends, c .before .before .before .put-command .kept)
 
--- src/write.rt:151:9
 put-requires-2 : tie.Need-put-requires-2
-put-requires-2 c κs = 
+put-requires-2 c κs =
     let first = c .before .before .before .before .before .before .before in
     let start = first .before .before .before .before .before in
     omega (arith, start .pre, length-command 5 (start .args .round), first .put-command .ensures .ends, first .put-command .kept, c .before .before .before .put .ensures .ends, c .before .before .before .put .kept)
 
--- src/write.rt:152:22
 cast-put-byte : tie.Need-cast-put-byte
 cast-put-byte c = search needs
 
--- src/write.rt:152:5
 put-byte-requires : tie.Need-put-byte-requires
-put-byte-requires c κs = 
+put-byte-requires c κs =
     let second = c .before .before .before .before .before .before .before in
     let first = second .before .before .before .before in
     let start = first .before .before .before .before .before in
     omega (arith, start .pre, length-command 5 (start .args .round), first .put-command .ensures .ends, first .put-command .kept, second .put .ensures .ends, second .put .kept, c .before .before .before .put2 .ensures .ends, c .before .before .before .put2 .kept)
 
--- src/write.rt:145:1
 same-length : tie.Need-same-length
 same-length c = search needs
 
--- src/write.rt:145:1
 returns : tie.Need-returns
-returns c = 
+returns c =
     let fourth = c .before .before in
     let third = fourth .before .before .before .before in
     let second = third .before .before .before .before in

@@ -1,49 +1,38 @@
 use mathlib.Core.Path.{ap, _∙_}
 use Prim.Native.Nat.{ℕ, _+_}
 use native.Mathlib.Omega.{arith}
+use borrow.Author.Needs.{needs}
 use denote.Ref.{now}
 use Rattle.protocol.specs.Layout.{noticeLength}
 use Rattle.wire.specs.WriteLaws.{then, length-command, length-head}
-use borrow.Author.Needs.{needs}
 use Rattle.wire.proofs.write.write_head.Statement.{statement}
 use Rattle.wire.proofs.write.write_head.Tie as tie
-use Rattle.wire.proofs.write.write_head.Reads as reads
-use Rattle.wire.proofs.write.write_head.Lts as lts
-use Rattle.wire.proofs.write.put.Reads as put-reads
-use Rattle.wire.proofs.write.put_byte.Reads as put-byte-reads
-use Rattle.wire.proofs.write.put_command.Reads as put-command-reads
 
--- src/write.rt:46:9
 put-command-requires : tie.Need-put-command-requires
 unfolding noticeLength
 put-command-requires c κs = omega arith
 
--- src/write.rt:47:30
 cast-put-byte : tie.Need-cast-put-byte
 cast-put-byte c = search needs
 
--- src/write.rt:47:9
 put-byte-requires : tie.Need-put-byte-requires
 unfolding noticeLength
-put-byte-requires c κs = 
+put-byte-requires c κs =
     let start = c .before .before .before .before .before .before .before in
     omega (arith, length-command (start .args .command) (start .args .round), start .pre)
 
--- src/write.rt:48:5
 put-requires : tie.Need-put-requires
 unfolding noticeLength
-put-requires c κs = 
+put-requires c κs =
     let start = c .before .before .before .before .before .before .before .before .before .before .before in
     let command = c .before .before .before .before .before .before .before in
     omega (arith, length-command (start .args .command) (start .args .round), start .pre, command .put-command)
 
--- src/write.rt:42:1
 same-length : tie.Need-same-length
 same-length c = search needs
 
--- src/write.rt:42:1
 returns : tie.Need-returns
-returns c = 
+returns c =
     let putting = c .before .before in
     let byte = putting .before .before .before .before in
     let command = byte .before .before .before .before in

@@ -1,39 +1,30 @@
 use native.Mathlib.Omega.{arith}
+use borrow.Author.Needs.{needs}
 use denote.Ref.{now}
 use Rattle.protocol.specs.Layout.{signatureLength, evidenceEntryLength}
 use Rattle.protocol.specs.Message.{renderPair}
 use Rattle.wire.specs.WriteLaws.{then}
-use borrow.Author.Needs.{needs}
 use Rattle.wire.proofs.write.write_pair.Statement.{statement}
 use Rattle.wire.proofs.write.write_pair.Tie as tie
-use Rattle.wire.proofs.write.write_pair.Reads as reads
-use Rattle.wire.proofs.write.write_pair.Lts as lts
-use Rattle.wire.proofs.write.put.Reads as put-reads
-use Rattle.wire.proofs.write.put_tag.Reads as put-tag-reads
 
--- src/write.rt:91:9
 put-tag-requires : tie.Need-put-tag-requires
 unfolding signatureLength evidenceEntryLength
 put-tag-requires c κs = omega arith
 
--- src/write.rt:92:9
 put-requires : tie.Need-put-requires
 unfolding signatureLength evidenceEntryLength
 put-requires c κs = omega arith
 
--- src/write.rt:93:5
 put-requires-2 : tie.Need-put-requires-2
 unfolding signatureLength evidenceEntryLength
 put-requires-2 c κs = omega (arith, c .before .before .before .before .before .before .before .before .before .before .before .before .pre)
 
--- src/write.rt:87:1
 same-length : tie.Need-same-length
 same-length c = search needs
 
--- src/write.rt:87:1
 returns : tie.Need-returns
 unfolding renderPair
-returns c = 
+returns c =
     let third = c .before .before in
     let second = third .before .before .before .before in
     let first = second .before .before .before .before in

@@ -1,37 +1,29 @@
 use mathlib.Core.Path.{ap, _∙_}
 use Prim.Native.Nat.{ℕ, _+_}
 use native.Mathlib.Omega.{arith}
+use borrow.Author.Needs.{needs}
 use denote.Ref.{now}
 use Rattle.protocol.specs.Layout.{signatureLength, noticeLength, submitLength}
 use Rattle.protocol.specs.Message.{render}
 use Rattle.protocol.specs.Laws.{length-submit}
 use Rattle.wire.specs.WriteLaws.{then}
-use borrow.Author.Needs.{needs}
 use Rattle.wire.proofs.write.write_submit.Statement.{statement}
 use Rattle.wire.proofs.write.write_submit.Tie as tie
-use Rattle.wire.proofs.write.write_submit.Reads as reads
-use Rattle.wire.proofs.write.write_submit.Lts as lts
-use Rattle.wire.proofs.write.put.Reads as put-reads
-use Rattle.wire.proofs.write.write_head.Reads as write-head-reads
 
--- src/write.rt:64:9
 write-head-requires : tie.Need-write-head-requires
 unfolding noticeLength submitLength
 write-head-requires c κs = omega arith
 
--- src/write.rt:65:5
 put-requires : tie.Need-put-requires
 unfolding noticeLength submitLength signatureLength
 put-requires c κs = omega (arith, c .before .before .before .before .before .before .before .before .pre)
 
--- src/write.rt:60:1
 same-length : tie.Need-same-length
 same-length c = search needs
 
--- src/write.rt:60:1
 returns : tie.Need-returns
 unfolding render
-returns c = 
+returns c =
     let second = c .before .before in
     let first = second .before .before .before .before in
     let start = first .before .before .before .before .before in
