@@ -1,0 +1,99 @@
+use mathlib.Core.Path.{_≡_, refl}
+use Prim.Native.Nat.{_≤_, _-_}
+use native.Mathlib.Omega.{arith}
+use lib.ListN.{length, drop}
+use denote.Ref.{now}
+use Rattle.protocol.specs.Values.{isLower}
+use Rattle.wire.specs.StringLaws.{lower-turn, lower-found, lower-missed, lower-short, lower-ends}
+use Rattle.wire.proofs.values.lower.Statement.{statement}
+use Rattle.wire.proofs.values.lower.Tie as tie
+use Rattle.wire.proofs.values.lower.Reads as reads
+use Rattle.wire.proofs.values.lower.Lts as lts
+
+abbrev Inv-loop : tie.InvT-loop
+Inv-loop a b i₀ i = (i ≤ length a) × (isLower (drop i a) (drop i b) ≡ isLower a b)
+
+abbrev μ-loop : tie.MeasureT-loop
+μ-loop a b i₀ i = length a - i
+
+-- src/values.rt:32:5
+loop-holds : tie.Need-loop-holds Inv-loop μ-loop
+loop-holds c = (omega arith, refl)
+
+-- src/values.rt:34:13
+returns : tie.Need-returns Inv-loop μ-loop
+returns c = 
+    let at-loop = c .before .before in
+    let args = at-loop .before .args in
+    lower-short (now (args .a)) (now (args .b)) (at-loop .loop .i) (c .if1 .taken) (at-loop .loop .inv .1)
+
+-- src/values.rt:36:12
+shared-slice-read-if2 : tie.Need-shared-slice-read-if2 Inv-loop μ-loop
+shared-slice-read-if2 c = omega arith
+
+-- src/values.rt:36:19
+shared-slice-read-if2-2 : tie.Need-shared-slice-read-if2-2 Inv-loop μ-loop
+shared-slice-read-if2-2 c = omega arith
+
+-- src/values.rt:37:13
+returns-2 : tie.Need-returns-2 Inv-loop μ-loop
+returns-2 c = 
+    let at-loop = c .before .before .before .before .before in
+    let args = at-loop .before .args in
+    lower-found (now (args .a)) (now (args .b)) (at-loop .loop .i) (omega arith) (omega arith) (c .if2 .taken) (at-loop .loop .inv .1)
+
+-- src/values.rt:39:12
+shared-slice-read-if3 : tie.Need-shared-slice-read-if3 Inv-loop μ-loop
+shared-slice-read-if3 c = omega arith
+
+-- src/values.rt:39:19
+shared-slice-read-if3-2 : tie.Need-shared-slice-read-if3-2 Inv-loop μ-loop
+shared-slice-read-if3-2 c = omega arith
+
+-- src/values.rt:40:13
+returns-3 : tie.Need-returns-3 Inv-loop μ-loop
+returns-3 c = 
+    let at-loop = c .before .before .before .before .before .before .before .before in
+    let args = at-loop .before .args in
+    lower-missed (now (args .a)) (now (args .b)) (at-loop .loop .i) (omega arith) (omega arith) (c .if3 .taken) (at-loop .loop .inv .1)
+
+-- src/values.rt:42:9
+add-i : tie.Need-add-i Inv-loop μ-loop
+add-i c = omega arith
+
+-- src/values.rt:32:5
+loop-less : tie.Need-loop-less Inv-loop μ-loop
+loop-less c = omega arith
+
+-- src/values.rt:32:5
+loop-again : tie.Need-loop-again Inv-loop μ-loop
+loop-again c = 
+    let at-loop = c .before .before .before .before .before .before .before .before in
+    let args = at-loop .before .args in
+    (omega arith, lower-turn (now (args .a)) (now (args .b)) (at-loop .loop .i) (omega arith) (omega arith) (omega arith) (at-loop .loop .inv .1))
+
+-- src/values.rt:28:1
+returns-4 : tie.Need-returns-4 Inv-loop μ-loop
+returns-4 c = 
+    let at-loop = c .before in
+    let args = at-loop .before .args in
+    lower-ends (now (args .a)) (now (args .b)) (at-loop .loop .i) (omega arith) (at-loop .loop .inv .1)
+
+pub lower-spec : {M : Type 1} → statement M
+lower-spec =
+    tie.close
+    (tie.spec
+    Inv-loop
+    μ-loop
+    loop-holds
+    returns
+    shared-slice-read-if2
+    shared-slice-read-if2-2
+    returns-2
+    shared-slice-read-if3
+    shared-slice-read-if3-2
+    returns-3
+    add-i
+    loop-less
+    loop-again
+    returns-4)

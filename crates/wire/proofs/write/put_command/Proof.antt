@@ -1,0 +1,64 @@
+use native.Mathlib.Omega.{arith}
+use lib.ListN.{length-set}
+use denote.Ref.{now}
+use Rattle.wire.specs.WriteLaws.{command-written}
+use borrow.Author.Needs.{needs}
+use Rattle.wire.proofs.write.put_command.Statement.{statement}
+use Rattle.wire.proofs.write.put_command.Tie as tie
+use Rattle.wire.proofs.write.put_command.Reads as reads
+use Rattle.wire.proofs.write.put_command.Lts as lts
+
+-- src/write.rt:35:5
+slice-write-out : tie.Need-slice-write-out
+slice-write-out c = search needs
+
+-- src/write.rt:36:19
+cast-out : tie.Need-cast-out
+cast-out c = search needs
+
+-- src/write.rt:36:9
+add-out : tie.Need-add-out
+add-out c = search needs
+
+-- src/write.rt:36:5
+slice-write-out-2 : tie.Need-slice-write-out-2
+slice-write-out-2 c = simp length-set (omega arith)
+
+-- src/write.rt:37:19
+cast-out-2 : tie.Need-cast-out-2
+cast-out-2 c = search needs
+
+-- src/write.rt:37:9
+add-out-2 : tie.Need-add-out-2
+add-out-2 c = search needs
+
+-- src/write.rt:37:5
+slice-write-out-3 : tie.Need-slice-write-out-3
+slice-write-out-3 c = simp length-set (omega arith)
+
+-- src/write.rt:38:5
+add-result : tie.Need-add-result
+add-result c = search needs
+
+-- src/write.rt:31:1
+same-length : tie.Need-same-length
+same-length c = search needs
+
+-- src/write.rt:31:1
+returns : tie.Need-returns
+returns c = command-written (c .args .at) (c .args .command) (c .args .round) (now (c .args .out)) (c .pre)
+
+pub put-command-spec : {M : Type 1} → statement M
+put-command-spec =
+    tie.close
+    (tie.spec
+    slice-write-out
+    cast-out
+    add-out
+    slice-write-out-2
+    cast-out-2
+    add-out-2
+    slice-write-out-3
+    add-result
+    same-length
+    returns)

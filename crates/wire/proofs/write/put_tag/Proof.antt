@@ -1,0 +1,38 @@
+use native.Mathlib.Omega.{arith}
+use denote.Ref.{now}
+use Rattle.wire.specs.WriteLaws.{then}
+use borrow.Author.Needs.{needs}
+use Rattle.wire.proofs.write.put_tag.Statement.{statement}
+use Rattle.wire.proofs.write.put_tag.Tie as tie
+use Rattle.wire.proofs.write.put_tag.Reads as reads
+use Rattle.wire.proofs.write.put_tag.Lts as lts
+use Rattle.wire.proofs.write.put_byte.Reads as put-byte-reads
+
+-- src/write.rt:73:9
+put-byte-requires : tie.Need-put-byte-requires
+put-byte-requires c κs = search needs
+
+-- src/write.rt:74:22
+cast-put-byte : tie.Need-cast-put-byte
+cast-put-byte c = search needs
+
+-- src/write.rt:74:5
+put-byte-requires-2 : tie.Need-put-byte-requires-2
+put-byte-requires-2 c κs = search needs
+
+-- src/write.rt:69:1
+same-length : tie.Need-same-length
+same-length c = search needs
+
+-- src/write.rt:69:1
+returns : tie.Need-returns
+returns c = 
+    let second = c .before .before in
+    let first = second .before .before .before .before in
+    let start = first .before .before .before in
+    then (start .args .at) (first .put-byte .result) (second .put-byte2 .result) _ _ (now (start .args .out)) (first .put-byte .last .0) (second .put-byte2 .last .0) (omega (arith, start .pre))
+    (first .put-byte .ensures) (second .put-byte2 .ensures)
+
+pub put-tag-spec : {M : Type 1} → statement M
+put-tag-spec =
+    tie.close (tie.spec put-byte-requires cast-put-byte put-byte-requires-2 same-length returns)

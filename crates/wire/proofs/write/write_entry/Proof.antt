@@ -1,0 +1,39 @@
+use native.Mathlib.Omega.{arith}
+use denote.Ref.{now}
+use Rattle.protocol.specs.Layout.{signatureLength, fullEntryLength}
+use Rattle.protocol.specs.Message.{renderEntry}
+use Rattle.wire.specs.WriteLaws.{then}
+use borrow.Author.Needs.{needs}
+use Rattle.wire.proofs.write.write_entry.Statement.{statement}
+use Rattle.wire.proofs.write.write_entry.Tie as tie
+use Rattle.wire.proofs.write.write_entry.Reads as reads
+use Rattle.wire.proofs.write.write_entry.Lts as lts
+use Rattle.wire.proofs.write.put.Reads as put-reads
+use Rattle.wire.proofs.write.put_tag.Reads as put-tag-reads
+
+-- src/write.rt:82:9
+put-tag-requires : tie.Need-put-tag-requires
+unfolding signatureLength fullEntryLength
+put-tag-requires c κs = omega arith
+
+-- src/write.rt:83:5
+put-requires : tie.Need-put-requires
+unfolding signatureLength fullEntryLength
+put-requires c κs = omega arith
+
+-- src/write.rt:78:1
+same-length : tie.Need-same-length
+same-length c = search needs
+
+-- src/write.rt:78:1
+returns : tie.Need-returns
+unfolding renderEntry
+returns c = 
+    let second = c .before .before in
+    let first = second .before .before .before .before in
+    let start = first .before .before .before .before in
+    then (start .args .at) (first .put-tag .result) (second .put .result) _ (now (start .args .signature)) (now (start .args .out)) (first .put-tag .last .0) (second .put .last .0) (omega (arith, start .pre))
+    (first .put-tag .ensures) (second .put .ensures)
+
+pub write-entry-spec : {M : Type 1} → statement M
+write-entry-spec = tie.close (tie.spec put-tag-requires put-requires same-length returns)

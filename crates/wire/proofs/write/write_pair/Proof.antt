@@ -1,0 +1,48 @@
+use native.Mathlib.Omega.{arith}
+use denote.Ref.{now}
+use Rattle.protocol.specs.Layout.{signatureLength, evidenceEntryLength}
+use Rattle.protocol.specs.Message.{renderPair}
+use Rattle.wire.specs.WriteLaws.{then}
+use borrow.Author.Needs.{needs}
+use Rattle.wire.proofs.write.write_pair.Statement.{statement}
+use Rattle.wire.proofs.write.write_pair.Tie as tie
+use Rattle.wire.proofs.write.write_pair.Reads as reads
+use Rattle.wire.proofs.write.write_pair.Lts as lts
+use Rattle.wire.proofs.write.put.Reads as put-reads
+use Rattle.wire.proofs.write.put_tag.Reads as put-tag-reads
+
+-- src/write.rt:91:9
+put-tag-requires : tie.Need-put-tag-requires
+unfolding signatureLength evidenceEntryLength
+put-tag-requires c κs = omega arith
+
+-- src/write.rt:92:9
+put-requires : tie.Need-put-requires
+unfolding signatureLength evidenceEntryLength
+put-requires c κs = omega arith
+
+-- src/write.rt:93:5
+put-requires-2 : tie.Need-put-requires-2
+unfolding signatureLength evidenceEntryLength
+put-requires-2 c κs = omega (arith, c .before .before .before .before .before .before .before .before .before .before .before .before .pre)
+
+-- src/write.rt:87:1
+same-length : tie.Need-same-length
+same-length c = search needs
+
+-- src/write.rt:87:1
+returns : tie.Need-returns
+unfolding renderPair
+returns c = 
+    let third = c .before .before in
+    let second = third .before .before .before .before in
+    let first = second .before .before .before .before in
+    let start = first .before .before .before .before .before in
+    let args = start .args in
+    then (args .at) (second .put .result) (third .put2 .result) _ (now (args .higher)) (now (args .out)) (second .put .last .0) (third .put2 .last .0) (omega (arith, start .pre))
+    (then (args .at) (first .put-tag .result) (second .put .result) _ (now (args .lower)) (now (args .out)) (first .put-tag .last .0) (second .put .last .0) (omega (arith, start .pre)) (first .put-tag .ensures) (second .put .ensures))
+    (third .put2 .ensures)
+
+pub write-pair-spec : {M : Type 1} → statement M
+write-pair-spec =
+    tie.close (tie.spec put-tag-requires put-requires put-requires-2 same-length returns)

@@ -1,0 +1,9 @@
+-- What the code's parts compute, with the laws that tie it to the definitions of `protocol`.
+pub mod Writing
+pub mod Sources
+pub mod StringLaws
+pub mod MaskLaws
+pub mod SeatLaws
+pub mod SourceLaws
+pub mod StoreLaws
+pub mod WriteLaws
