@@ -1,3 +1,5 @@
 -- Laws of the confirmer's code.
 pub mod Openings
 pub mod Records
+pub mod Phases
+pub mod Hearing

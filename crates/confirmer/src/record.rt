@@ -16,7 +16,7 @@ fn is_unset(value: [u8; 32]) -> bool
     wire::values::same(&value, &zeros)
 }
 
-fn both(a: bool, b: bool) -> bool
+pub fn both(a: bool, b: bool) -> bool
     ensures { λ r. ⌜ r ≡ (a && b) ⌝ }
 {
     if a { b } else { false }

@@ -1,0 +1,53 @@
+// Signatures over the own value, collected.
+ghost use mathlib.Core.Path.{_≡_};
+ghost use Prim.Native.Nat.{_+_, _<_, _≤_};
+ghost use lib.ListN.{length};
+ghost use mathlib.Core.List.{[]};
+ghost use Rattle.protocol.specs.Calls.{start};
+ghost use Rattle.protocol.specs.Record.{withOwn};
+ghost use Rattle.protocol.specs.Layout.{signatureLength, submitLength, valueLength};
+ghost use Rattle.protocol.specs.Step.{isWanted, keepValue, collect, submitOwn, hearSubmit};
+ghost use Rattle.confirmer.specs.Phases.{Did, Kept, Fits};
+
+use crate::phases::Phase;
+use crate::record::both;
+use protocol::Own;
+use protocol::Record;
+use wire::slots::COLLECTED;
+
+// The record with its own part set anew.
+fn with_own(r: Record, own: Own) -> Record
+    ensures { λ u. ⌜ u ≡ withOwn r own ⌝ }
+{
+    let mut u = r;
+    u.own = own;
+    u
+}
+
+// A seat's signature over the own value is collected.
+fn collect(r: Record, store: &mut [u8], seat: u32, signature: &[u8]) -> Record
+    requires { ⌜ Fits r (now store) × (seat < r .n) × (length (now signature) ≡ signatureLength) ⌝ }
+    ensures { λ u. ⌜ Kept (collect seat (now (signature .entry))) r (now (store .entry)) u (now (store .exit)) ⌝ }
+{
+    let value = r.own.value;
+    let collected = quorum::with(r.own.collected, seat);
+    wire::slots::keep(store, r.n, COLLECTED, seat, signature);
+    let own = Own {
+        submitted: r.own.submitted,
+        value,
+        collected,
+    };
+    with_own(r, own)
+}
+
+// The own value is kept.
+fn keep_value(r: Record, value: [u8; 32]) -> Record
+    ensures { λ u. ⌜ u ≡ keepValue value (start r []) .unit ⌝ }
+{
+    let own = Own {
+        submitted: true,
+        value,
+        collected: r.own.collected,
+    };
+    with_own(r, own)
+}
