@@ -96,3 +96,10 @@ pub holding-own : (n m : ℕ) (before : List ℕ) (s : ℕ) (store after : List 
 holding-own n m before s store after h l i r e =
     holding-keep n m (slot n collectedBank before) before s store after h l i r (length-slot n collectedBank before s (omega arith) l r)
     (e ∙ ap (λ (g : List ℕ). keep n firstBank s g store) (h .others s l))
+
+-- the same where g is the signature
+pub holding-signature : (n m : ℕ) (f : ℕ → List ℕ) (before : List ℕ) (s : ℕ) (store after : List ℕ)
+    → Holding n m f before s store → s < n → In s m → storeLength n ≤ length before
+    → (g : List ℕ) → (g ≡ f s) × (length g ≡ signatureLength) → after ≡ keep n firstBank s g store → Holding n m f before (s + 1) after
+holding-signature n m f before s store after h l i r g q e =
+    holding-keep n m f before s store after h l i r (ap length (sym (q .0)) ∙ q .1) (e ∙ ap (λ (x : List ℕ). keep n firstBank s x store) (q .0))

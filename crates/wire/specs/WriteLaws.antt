@@ -1,6 +1,7 @@
 -- Laws of writes one after another, and of a loop that writes something for each seat of a set.
 -- Assumes nothing.
 use mathlib.Core.Path.{_≡_, refl, sym, ap, _∙_}
+use mathlib.Core.Bool.{Bool, true, false}
 use mathlib.Core.List.{List, [], _∷_, _++_, append-assoc, append-nil, map}
 use Prim.Native.Nat.{ℕ, zero, suc, _+_, _*_, _/_, _%_, _^_, _≤_, _<_}
 use native.Mathlib.Nat.{add-assoc, add-zero, mul-zero, mul-suc, mul-le-mul-left}
@@ -14,8 +15,9 @@ use Rattle.octets.specs.StringLaws.{be-two}
 use Rattle.quorum.specs.Quorum.{bit, In, seats, shared, size}
 use Rattle.quorum.specs.Laws.{seats-in, seats-out, length-seats, shared-lt}
 use Rattle.protocol.specs.Layout.{valueLength, signatureLength, noticeLength, fullEntryLength, evidenceEntryLength}
+use Rattle.protocol.specs.Values.{isLower}
 use Rattle.protocol.specs.Message.{Entry, Pair, renderEntry, renderEntries, renderPair, renderPairs, render}
-use Rattle.protocol.specs.Certificate.{entriesOf, fullOf, pairsOf, orderedEvidence}
+use Rattle.protocol.specs.Certificate.{Certificate, entriesOf, fullOf, pairsOf, orderedEvidence, evidenceOf}
 use Rattle.protocol.specs.Laws.{length-entry, length-pair}
 use Rattle.wire.specs.Writing.{Wrote, head, evidenceHead, entry, pair, gathered, entryFor, pairFor}
 use Rattle.wire.specs.Sources.{signatureFrom, certificateFrom}
@@ -197,3 +199,13 @@ evidence-written n round at a e count lower low lows higher high highs before on
 
 pub length-evidence-head : (round : ℕ) (lower higher : List ℕ) (count : ℕ) → length lower ≡ valueLength → length higher ≡ valueLength → length (evidenceHead round lower higher count) ≡ 68
 length-evidence-head round lower higher count l h = simp (length-append, length-be) (omega arith)
+
+-- EVIDENCE from two certificates in either order, by a test of their values
+module _ (n round : ℕ) (c d : Certificate) (t : Bool) (e : t ≡ isLower (c .value) (d .value)) (at : ℕ) (before after : List ℕ) (end : ℕ) where
+  pub given-lower : t ≡ true → Wrote at (render (orderedEvidence n round c d)) before after end → Wrote at (render (evidenceOf n round c d)) before after end
+  unfolding evidenceOf
+  given-lower f w = rw (← e, f) w
+
+  pub given-higher : t ≡ false → Wrote at (render (orderedEvidence n round d c)) before after end → Wrote at (render (evidenceOf n round c d)) before after end
+  unfolding evidenceOf
+  given-higher f w = rw (← e, f) w

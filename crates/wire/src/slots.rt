@@ -2,12 +2,10 @@
 ghost use mathlib.Core.Path.{_≡_};
 ghost use Prim.Native.Nat.{_+_, _<_, _≤_};
 ghost use lib.ListN.{length};
-ghost use Rattle.octets.specs.Octets.{part, patch};
-ghost use Rattle.quorum.specs.Quorum.{mostSeats, seats};
-ghost use Rattle.protocol.specs.Layout.{signatureLength, storeLength, collectedBank, firstBank, slotAt};
-ghost use Rattle.protocol.specs.Certificate.{keep, keepEach, slot};
+ghost use Rattle.quorum.specs.Quorum.{mostSeats};
+ghost use Rattle.protocol.specs.Layout.{signatureLength, storeLength, slotAt};
+ghost use Rattle.protocol.specs.Certificate.{keep};
 ghost use Rattle.protocol.specs.Message.{readSignature};
-use quorum::Mask;
 
 // The bytes of a signature.
 pub const SIGNATURE: usize = 1452;
@@ -39,40 +37,4 @@ pub fn keep(store: &mut [u8], n: u32, bank: u32, seat: u32, signature: &[u8])
 {
     let at = slot_at(n, bank, seat);
     octets::copy(&mut store[at..], 0, signature);
-}
-
-// Copies a signature within the store, to a place past it.
-fn copy_within(store: &mut [u8], from: usize, to: usize)
-    requires { ⌜ (from + signatureLength ≤ to) × (to + signatureLength ≤ length (now store)) ⌝ }
-    ensures { λ _. ⌜ now (store .exit) ≡ patch to (readSignature from (now (store .entry))) (now (store .entry)) ⌝ }
-{
-    let mut i = 0;
-    while i < SIGNATURE {
-        store[to + i] = store[from + i];
-        i += 1;
-    }
-}
-
-// Copies a seat's collected signature into its slot for the first certificate.
-fn hold_collected(store: &mut [u8], n: u32, seat: u32)
-    requires { ⌜ (n ≤ mostSeats) × (seat < n) × (storeLength n ≤ length (now store)) ⌝ }
-    ensures { λ _. ⌜ now (store .exit) ≡ keep n firstBank seat (slot n collectedBank (now (store .entry)) seat) (now (store .entry)) ⌝ }
-{
-    let from = slot_at(n, COLLECTED, seat);
-    let to = slot_at(n, FIRST, seat);
-    copy_within(store, from, to);
-}
-
-// Holds the unit's own certificate: the signatures of its seats are copied from the first bank to the second.
-pub fn hold_own(store: &mut [u8], n: u32, mask: Mask)
-    requires { ⌜ (n ≤ mostSeats) × (storeLength n ≤ length (now store)) ⌝ }
-    ensures { λ _. ⌜ now (store .exit) ≡ keepEach n firstBank (slot n collectedBank (now (store .entry))) (seats n mask) (now (store .entry)) ⌝ }
-{
-    let mut s = 0;
-    while s < n {
-        if quorum::has(mask, s) {
-            hold_collected(store, n, s);
-        }
-        s += 1;
-    }
 }

@@ -7,10 +7,11 @@ ghost use Rattle.octets.specs.Octets.{be};
 ghost use Rattle.quorum.specs.Quorum.{mostSeats, seats, shared, size};
 ghost use Rattle.protocol.specs.Layout.{valueLength, signatureLength, submitLength, noticeLength, fullEntryLength, fullEntryAt, evidenceEntryLength, evidenceLength};
 ghost use Rattle.protocol.specs.Message.{Submit, Notice, render, renderEntry, renderEntries, renderPair, renderPairs};
-ghost use Rattle.protocol.specs.Certificate.{entriesOf, fullOf, pairsOf, orderedEvidence};
+ghost use Rattle.protocol.specs.Certificate.{entriesOf, fullOf, pairsOf, orderedEvidence, evidenceOf};
 ghost use Rattle.wire.specs.Writing.{Wrote, head, evidenceHead, entry, pair};
 ghost use Rattle.wire.specs.Sources.{Readable, certificateFrom};
 use crate::sources::{Source, signature_of};
+use crate::values::lower;
 
 // One byte.
 fn put_byte(out: &mut [u8], at: usize, b: u8) -> usize
@@ -160,4 +161,15 @@ fn write_ordered(out: &mut [u8], at: usize, n: u32, round: u32, lower: &[u8], lo
     let count = quorum::shared_count(low.seats, high.seats);
     let a = write_evidence_head(out, at, round, lower, higher, count);
     write_pairs(out, a, n, low, lows, high, highs)
+}
+
+// EVIDENCE from two certificates, given in either order: values va and vb, signatures from ma and mb.
+pub fn write_evidence(out: &mut [u8], at: usize, n: u32, round: u32, va: &[u8], a: Source, ma: &[u8], vb: &[u8], b: Source, mb: &[u8]) -> usize
+    requires { ⌜ (n ≤ mostSeats) × (length (now va) ≡ valueLength) × Readable n a (now ma) × (length (now vb) ≡ valueLength) × Readable n b (now mb) × (at + evidenceLength (size (shared (a .seats) (b .seats))) ≤ length (now out)) ⌝ }
+    ensures { λ r. ⌜ Wrote at (render (evidenceOf n round (certificateFrom n a (now (va .entry)) (now (ma .entry))) (certificateFrom n b (now (vb .entry)) (now (mb .entry))))) (now (out .entry)) (now (out .exit)) r × (r ≡ at + evidenceLength (size (shared (a .seats) (b .seats)))) ⌝ }
+{
+    if lower(va, vb) {
+        return write_ordered(out, at, n, round, va, a, ma, vb, b, mb);
+    }
+    write_ordered(out, at, n, round, vb, b, mb, va, a, ma)
 }

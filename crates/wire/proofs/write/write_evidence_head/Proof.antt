@@ -1,3 +1,8 @@
+use mathlib.Core.Path.{ap, _∙_}
+use Prim.Native.Nat.{ℕ, _+_}
+use native.Mathlib.Omega.{arith}
+use denote.Ref.{now}
+use Rattle.wire.specs.WriteLaws.{then, length-command, length-evidence-head}
 use borrow.Author.Needs.{needs}
 use Rattle.wire.proofs.write.write_evidence_head.Statement.{statement}
 use Rattle.wire.proofs.write.write_evidence_head.Tie as tie
@@ -13,11 +18,16 @@ put-command-requires c κs = search needs
 
 -- src/write.rt:150:9
 put-requires : tie.Need-put-requires
-put-requires c κs = ?
+put-requires c κs = 
+    let start = c .before .before .before .before .before .before .before .before in
+    omega (arith, start .pre, length-command 5 (start .args .round), c .before .before .before .put-command .ensures .ends, c .before .before .before .put-command .kept)
 
 -- src/write.rt:151:9
 put-requires-2 : tie.Need-put-requires-2
-put-requires-2 c κs = ?
+put-requires-2 c κs = 
+    let first = c .before .before .before .before .before .before .before in
+    let start = first .before .before .before .before .before in
+    omega (arith, start .pre, length-command 5 (start .args .round), first .put-command .ensures .ends, first .put-command .kept, c .before .before .before .put .ensures .ends, c .before .before .before .put .kept)
 
 -- src/write.rt:152:22
 cast-put-byte : tie.Need-cast-put-byte
@@ -25,7 +35,11 @@ cast-put-byte c = search needs
 
 -- src/write.rt:152:5
 put-byte-requires : tie.Need-put-byte-requires
-put-byte-requires c κs = ?
+put-byte-requires c κs = 
+    let second = c .before .before .before .before .before .before .before in
+    let first = second .before .before .before .before in
+    let start = first .before .before .before .before .before in
+    omega (arith, start .pre, length-command 5 (start .args .round), first .put-command .ensures .ends, first .put-command .kept, second .put .ensures .ends, second .put .kept, c .before .before .before .put2 .ensures .ends, c .before .before .before .put2 .kept)
 
 -- src/write.rt:145:1
 same-length : tie.Need-same-length
@@ -33,7 +47,21 @@ same-length c = search needs
 
 -- src/write.rt:145:1
 returns : tie.Need-returns
-returns c = ?
+returns c = 
+    let fourth = c .before .before in
+    let third = fourth .before .before .before .before in
+    let second = third .before .before .before .before in
+    let first = second .before .before .before .before in
+    let start = first .before .before .before .before .before in
+    let args = start .args in
+    let out = now (args .out) in
+    let h = start .pre in
+    let wrote =
+    then (args .at) (third .put2 .result) (fourth .put-byte .result) _ _ out (third .put2 .last .0) (fourth .put-byte .last .0) (omega arith)
+    (then (args .at) (second .put .result) (third .put2 .result) _ (now (args .higher)) out (second .put .last .0) (third .put2 .last .0) (omega arith)
+    (then (args .at) (first .put-command .result) (second .put .result) _ (now (args .lower)) out (first .put-command .last .0) (second .put .last .0) (omega arith)
+    (first .put-command .ensures) (second .put .ensures)) (third .put2 .ensures)) (fourth .put-byte .ensures) in
+    (wrote, wrote .ends ∙ ap (λ (l : ℕ). args .at + l) (length-evidence-head (args .round) (now (args .lower)) (now (args .higher)) (args .count) (start .pre .1) (start .pre .2)))
 
 pub write-evidence-head-spec : {M : Type 1} → statement M
 write-evidence-head-spec =

@@ -6,11 +6,11 @@ use Rattle.protocol.specs.Message.{readSignature}
 use Rattle.protocol.specs.Certificate.{slot, keep}
 use Rattle.wire.specs.StoreLaws.{banks-apart}
 use borrow.Author.Needs.{needs}
-use Rattle.wire.proofs.slots.hold_collected.Statement.{statement}
-use Rattle.wire.proofs.slots.hold_collected.Tie as tie
-use Rattle.wire.proofs.slots.hold_collected.Reads as reads
-use Rattle.wire.proofs.slots.hold_collected.Lts as lts
-use Rattle.wire.proofs.slots.copy_within.Reads as copy-within-reads
+use Rattle.wire.proofs.held.hold_collected.Statement.{statement}
+use Rattle.wire.proofs.held.hold_collected.Tie as tie
+use Rattle.wire.proofs.held.hold_collected.Reads as reads
+use Rattle.wire.proofs.held.hold_collected.Lts as lts
+use Rattle.wire.proofs.held.copy_within.Reads as copy-within-reads
 use Rattle.wire.proofs.slots.slot_at.Reads as slot-at-reads
 
 -- src/slots.rt:61:9

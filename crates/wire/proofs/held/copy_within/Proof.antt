@@ -8,10 +8,10 @@ use Rattle.octets.specs.Laws.{patch-paste}
 use Rattle.protocol.specs.Layout.{signatureLength}
 use Rattle.protocol.specs.Message.{readSignature}
 use Rattle.wire.specs.StoreLaws.{within-turn, length-signature}
-use Rattle.wire.proofs.slots.copy_within.Statement.{statement}
-use Rattle.wire.proofs.slots.copy_within.Tie as tie
-use Rattle.wire.proofs.slots.copy_within.Reads as reads
-use Rattle.wire.proofs.slots.copy_within.Lts as lts
+use Rattle.wire.proofs.held.copy_within.Statement.{statement}
+use Rattle.wire.proofs.held.copy_within.Tie as tie
+use Rattle.wire.proofs.held.copy_within.Reads as reads
+use Rattle.wire.proofs.held.copy_within.Lts as lts
 
 abbrev Inv-loop : tie.InvT-loop
 Inv-loop store₀ from to i₀ store i = (i ≤ signatureLength) × (length store ≡ length store₀) × (store ≡ paste store₀ to (readSignature from store₀) i)

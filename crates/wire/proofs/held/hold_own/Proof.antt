@@ -7,12 +7,12 @@ use Rattle.protocol.specs.Layout.{collectedBank}
 use Rattle.protocol.specs.Certificate.{slot}
 use Rattle.wire.specs.MaskLaws.{test-in, test-out}
 use Rattle.wire.specs.StoreLaws.{Holding, holding-none, holding-skip, holding-own}
-use Rattle.wire.proofs.slots.hold_own.Statement.{statement}
-use Rattle.wire.proofs.slots.hold_own.Tie as tie
-use Rattle.wire.proofs.slots.hold_own.Reads as reads
-use Rattle.wire.proofs.slots.hold_own.Lts as lts
+use Rattle.wire.proofs.held.hold_own.Statement.{statement}
+use Rattle.wire.proofs.held.hold_own.Tie as tie
+use Rattle.wire.proofs.held.hold_own.Reads as reads
+use Rattle.wire.proofs.held.hold_own.Lts as lts
 use Rattle.quorum.proofs.has.Reads as has-reads
-use Rattle.wire.proofs.slots.hold_collected.Reads as hold-collected-reads
+use Rattle.wire.proofs.held.hold_collected.Reads as hold-collected-reads
 
 abbrev Inv-loop : tie.InvT-loop
 Inv-loop store₀ n mask s₀ store s = Holding n mask (slot n collectedBank store₀) store₀ s store

@@ -1,0 +1,64 @@
+// Certificates held: their signatures, seat by seat, in the second bank of the store.
+ghost use mathlib.Core.Path.{_≡_};
+ghost use Prim.Native.Nat.{_+_, _<_, _≤_};
+ghost use lib.ListN.{length};
+ghost use Rattle.octets.specs.Octets.{patch};
+ghost use Rattle.quorum.specs.Quorum.{mostSeats, seats};
+ghost use Rattle.protocol.specs.Layout.{signatureLength, storeLength, collectedBank, firstBank};
+ghost use Rattle.protocol.specs.Message.{readSignature};
+ghost use Rattle.protocol.specs.Certificate.{slot, keep, keepEach};
+ghost use Rattle.wire.specs.Sources.{Readable, signatureFrom};
+use crate::slots::{COLLECTED, FIRST, SIGNATURE, keep, slot_at};
+use crate::sources::{Source, signature_of};
+use quorum::Mask;
+
+// Copies a signature within the store, to a place past it.
+fn copy_within(store: &mut [u8], from: usize, to: usize)
+    requires { ⌜ (from + signatureLength ≤ to) × (to + signatureLength ≤ length (now store)) ⌝ }
+    ensures { λ _. ⌜ now (store .exit) ≡ patch to (readSignature from (now (store .entry))) (now (store .entry)) ⌝ }
+{
+    let mut i = 0;
+    while i < SIGNATURE {
+        store[to + i] = store[from + i];
+        i += 1;
+    }
+}
+
+// Copies a seat's collected signature into its slot for the first certificate.
+fn hold_collected(store: &mut [u8], n: u32, seat: u32)
+    requires { ⌜ (n ≤ mostSeats) × (seat < n) × (storeLength n ≤ length (now store)) ⌝ }
+    ensures { λ _. ⌜ now (store .exit) ≡ keep n firstBank seat (slot n collectedBank (now (store .entry)) seat) (now (store .entry)) ⌝ }
+{
+    let from = slot_at(n, COLLECTED, seat);
+    let to = slot_at(n, FIRST, seat);
+    copy_within(store, from, to);
+}
+
+// Holds the unit's own certificate: the signatures of its seats are copied from the first bank to the second.
+pub fn hold_own(store: &mut [u8], n: u32, mask: Mask)
+    requires { ⌜ (n ≤ mostSeats) × (storeLength n ≤ length (now store)) ⌝ }
+    ensures { λ _. ⌜ now (store .exit) ≡ keepEach n firstBank (slot n collectedBank (now (store .entry))) (seats n mask) (now (store .entry)) ⌝ }
+{
+    let mut s = 0;
+    while s < n {
+        if quorum::has(mask, s) {
+            hold_collected(store, n, s);
+        }
+        s += 1;
+    }
+}
+
+// Holds a certificate whose signatures stand in m, outside the store.
+pub fn hold(store: &mut [u8], n: u32, source: Source, m: &[u8])
+    requires { ⌜ (n ≤ mostSeats) × (storeLength n ≤ length (now store)) × Readable n source (now m) ⌝ }
+    ensures { λ _. ⌜ now (store .exit) ≡ keepEach n firstBank (signatureFrom n source (now (m .entry))) (seats n (source .seats)) (now (store .entry)) ⌝ }
+{
+    let mask = source.seats;
+    let mut s = 0;
+    while s < n {
+        if quorum::has(mask, s) {
+            keep(store, n, FIRST, s, signature_of(source, n, s, m));
+        }
+        s += 1;
+    }
+}
