@@ -3,3 +3,4 @@ pub mod Openings
 pub mod Records
 pub mod Phases
 pub mod Hearing
+pub mod Certificates

@@ -40,11 +40,32 @@ pub record Fits (r : Record) (store : List ℕ) : Type 0 where
   pub held : size (r .first .seats) ≤ k (r .n)
   pub slots : storeLength (r .n) ≤ length store
 
+-- a record and a store that are alike in this
+pub fits-like : (r u : Record) (store store′ : List ℕ) → Fits r store → u .n ≡ r .n → u .seat ≡ r .seat → u .own .collected ≡ r .own .collected
+    → u .first .seats ≡ r .first .seats → length store′ ≡ length store → Fits u store′
+fits-like r u store store′ h n seat collected first long =
+    record {
+      some = rw n (h .some);
+      most = rw n (h .most);
+      seated = rw (n, seat) (h .seated);
+      collected = rw (n, collected) (h .collected);
+      few = rw (n, collected) (h .few);
+      first = rw (n, first) (h .first);
+      held = rw (n, first) (h .held);
+      slots = rw (n, long) (h .slots);
+    }
+
 module _ (f : State → State) (r : Record) (store : List ℕ) where
   -- a phase that writes nothing
   pub quietly : (out : List ℕ) (at : ℕ) (unit : Record) (store′ : List ℕ) → f (start r store) .written ≡ [] → Kept f r store unit store′ → Did f r store out at unit store′ out at
   unfolding renderAll patch
   quietly out at unit store′ e k = record { kept = k; wrote = rw e (record { ends = sym (add-zero at); wrote = rw add-zero (sym (take-append-drop at out)) }) }
+
+  -- a phase that does there what f does
+  pub likewise : (g : State → State) (out : List ℕ) (at : ℕ) (unit : Record) (store′ out′ : List ℕ) (end : ℕ) → f (start r store) ≡ g (start r store)
+      → Did f r store out at unit store′ out′ end → Did g r store out at unit store′ out′ end
+  likewise g out at unit store′ out′ end e d =
+      record { kept = record { recorded = d .kept .recorded ∙ rw e; stored = d .kept .stored ∙ rw e }; wrote = rw (← e) (d .wrote) }
 
   -- a phase that writes one message
   pub saying : (m : Message) (out : List ℕ) (at : ℕ) (unit : Record) (store′ out′ : List ℕ) (end : ℕ) → f (start r store) .written ≡ m ∷ []
