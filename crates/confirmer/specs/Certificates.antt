@@ -1,5 +1,5 @@
 -- The returns of replying, holding and blaming, over plain values.
-use mathlib.Core.Path.{_≡_, refl, sym, ap, _∙_}
+use mathlib.Core.Path.{_≡_, refl, sym, ap, subst, _∙_}
 use mathlib.Core.Bool.{Bool, true, false, cond, not, _&&_, false≢true}
 use mathlib.Core.List.{List, []}
 use Prim.Native.Nat.{ℕ, _+_, _/_, _%_, _^_, _≤_, _<_, min}
@@ -101,3 +101,82 @@ module _ (r : Record) (store out : List ℕ) (at : ℕ) where
       pub not-blamed : b ≡ false → Did (holdOrBlame c) r store out at r store out at
       unfolding holdOrBlame holds blames
       not-blamed e = likewise (λ s. s) r store (holdOrBlame c) out at r store out at (rw (ne-eqb (r .first .seats) 0 some, ← tested, e)) nothing-done
+
+-- ---- hearing and replying
+
+reply-leaves : (r : Record) (store : List ℕ) → reply (start r store) .unit ≡ cond (owesFull r) (withSent r) r
+unfolding reply sendFull write
+reply-leaves r store = go (owesFull r)
+  where
+    go : (b : Bool) → cond b (sendFull (start r store)) (start r store) .unit ≡ cond b (withSent r) r
+    go true = refl
+    go false = refl
+
+-- n, seat, what is collected and what is held are as they were
+record Alike (r u : Record) : Type 0 where
+  n : u .n ≡ r .n
+  seat : u .seat ≡ r .seat
+  own : u .own ≡ r .own
+  first : u .first ≡ r .first
+
+fits-alike : (r u : Record) (store : List ℕ) → Alike r u → Fits r store → Fits u store
+fits-alike r u store a h = fits-like r u store store h (a .n) (a .seat) (rw (a .own)) (rw (a .first)) refl
+
+module _ (r : Record) (store : List ℕ) (notices : Notices) (u : Record) (heard : u ≡ withNotices r notices) where
+  heard-alike : Alike r u
+  heard-alike = record { n = rw heard; seat = rw heard; own = rw heard; first = rw heard }
+
+  pub heard-fits : Fits r store → Fits u store
+  heard-fits h = fits-alike r u store heard-alike h
+
+  pub heard-room : (at more L : ℕ) → at + fullLength (r .n) + more ≤ L → at + fullLength (u .n) ≤ L
+  heard-room at more L h = rw (heard-alike .n) (omega arith)
+
+  module _ (v : Record) (store′ : List ℕ) (done : Kept reply u store v store′) where
+    replied-alike : Alike r v
+    replied-alike = rw (done .recorded ∙ reply-leaves u store) (go (owesFull u))
+      where
+        go : (b : Bool) → Alike r (cond b (withSent u) u)
+        go true = record { n = heard-alike .n; seat = heard-alike .seat; own = heard-alike .own; first = heard-alike .first }
+        go false = heard-alike
+
+    pub replied-n : v .n ≡ r .n
+    replied-n = replied-alike .n
+
+    pub replied-fits : Fits r store → Fits v store
+    replied-fits h = fits-alike r v store replied-alike h
+
+    pub replied-own : ownCertificate v store ≡ ownCertificate r store
+    unfolding ownCertificate
+    replied-own = rw (replied-alike .n, replied-alike .own)
+
+    pub replied-room : (at a L : ℕ) → a ≤ at + fullLength (u .n) → at + fullLength (r .n) + evidenceLength (k (r .n)) ≤ L → a + evidenceLength (k (v .n)) ≤ L
+    replied-room at a L e h =
+        let f : a ≤ at + fullLength (r .n) = rw (heard-alike .n) at e in
+        rw replied-n (omega arith)
+
+-- a certificate heard, from its three phases
+module _ (r : Record) (store out : List ℕ) (at : ℕ) (room : at ≤ length out) (u v : Record) (out′ : List ℕ) (a : ℕ) (w : Record) (store″ out″ : List ℕ) (e : ℕ) where
+  certificate-heard : (c : Certificate) → u ≡ withNotices r (noticesWith (c .value) r) → Did reply u store out at v store out′ a → Did (holdOrBlame c) v store out′ a w store″ out″ e
+      → Did (hearCertificate c) r store out at w store″ out″ e
+  unfolding hearCertificate hear
+  certificate-heard c heard replied held =
+      let first = quietly (hear (c .value)) r store out at u store refl (record { recorded = heard; stored = refl }) in
+      let second = next (hear (c .value)) reply reply-after r store out at u store out at v store out′ a room first replied in
+      next (λ s. reply (hear (c .value) s)) (holdOrBlame c) (holdOrBlame-after c) r store out at v store out′ a w store″ out″ e room second held
+
+  pub own-heard : u ≡ withNotices r (noticesWith (r .own .value) r) → Did reply u store out at v store out′ a → Did (holdOrBlame (ownCertificate v store)) v store out′ a w store″ out″ e
+      → Did hearOwn r store out at w store″ out″ e
+  unfolding hearOwn ownCertificate
+  own-heard heard replied held =
+      let same = replied-own r store (noticesWith (r .own .value) r) u heard v store (replied .kept) in
+      likewise (hearCertificate (ownCertificate r store)) r store hearOwn out at w store″ out″ e refl
+      (certificate-heard (ownCertificate r store) heard replied (rw same at held))
+
+  pub source-heard : (source : Source) (value m : List ℕ) → u ≡ withNotices r (noticesWith value r) → Did reply u store out at v store out′ a
+      → Did (holdOrBlame (certificateFrom (v .n) source value m)) v store out′ a w store″ out″ e
+      → Did (hearCertificate (certificateFrom (r .n) source value m)) r store out at w store″ out″ e
+  source-heard source value m heard replied held =
+      let same = replied-n r store (noticesWith value r) u heard v store (replied .kept) in
+      certificate-heard (certificateFrom (r .n) source value m) heard replied
+      (subst (λ (n : ℕ). Did (holdOrBlame (certificateFrom n source value m)) v store out′ a w store″ out″ e) same held)
