@@ -1,9 +1,13 @@
 -- What the code's parts compute, with the laws that tie it to the definitions of `protocol`.
 pub mod Writing
 pub mod Sources
+pub mod Reading
 pub mod StringLaws
 pub mod MaskLaws
 pub mod SeatLaws
 pub mod SourceLaws
+pub mod ColumnLaws
+pub mod FormLaws
+pub mod KindLaws
 pub mod StoreLaws
 pub mod WriteLaws

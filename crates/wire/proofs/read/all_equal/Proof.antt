@@ -1,0 +1,76 @@
+use mathlib.Core.Path.{_≡_, refl, sym, _∙_}
+use mathlib.Core.Bool.{true}
+use Prim.Native.Nat.{ℕ, _≤_, _-_}
+use native.Mathlib.Omega.{arith}
+use denote.Ref.{now}
+use lib.Dec.{eqb}
+use borrow.Author.Tests.{eq-eqb, ne-eqb}
+use Rattle.protocol.specs.Refusals.{every}
+use Rattle.wire.specs.Reading as reading
+use Rattle.wire.specs.ColumnLaws.{every-none, every-turn, every-stops, every-ends}
+use Rattle.wire.proofs.read.all_equal.Statement.{statement}
+use Rattle.wire.proofs.read.all_equal.Tie as tie
+use Rattle.wire.proofs.read.all_equal.Reads as reads
+use Rattle.wire.proofs.read.all_equal.Lts as lts
+use Rattle.wire.proofs.read.cell.Reads as cell-reads
+
+abbrev Inv-loop : tie.InvT-loop
+Inv-loop m column b count t₀ t = (t ≤ column .count) × (every (λ (x : ℕ). eqb x b) (reading.column (column .at) (column .stride) t m) ≡ true)
+
+abbrev μ-loop : tie.MeasureT-loop
+μ-loop m column b count t₀ t = column .count - t
+
+-- src/read.rt:64:5
+loop-holds : tie.Need-loop-holds Inv-loop μ-loop
+loop-holds c = 
+    let args = c .before .args in
+    (omega arith, every-none (args .column .at) (args .column .stride) (now (args .m)) _)
+
+-- src/read.rt:65:12
+cell-requires : tie.Need-cell-requires Inv-loop μ-loop
+cell-requires c κs = (c .before .before .before .pre, omega arith)
+
+-- src/read.rt:66:13
+returns : tie.Need-returns Inv-loop μ-loop
+returns c = 
+    let at-loop = c .before .before .before in
+    let args = at-loop .before .before .args in
+    every-stops (args .column .at) (args .column .stride) (now (args .m)) (λ (x : ℕ). eqb x (args .b)) (args .column .count) (at-loop .loop .t) (omega arith)
+    (ne-eqb _ (args .b) (λ q. c .if1 .taken (c .before .cell .ensures .0 ∙ q)))
+
+-- src/read.rt:68:9
+add-t : tie.Need-add-t Inv-loop μ-loop
+add-t c = omega arith
+
+-- src/read.rt:64:5
+loop-less : tie.Need-loop-less Inv-loop μ-loop
+loop-less c = omega arith
+
+-- src/read.rt:64:5
+loop-again : tie.Need-loop-again Inv-loop μ-loop
+loop-again c = 
+    let at-loop = c .before .before .before in
+    let args = at-loop .before .before .args in
+    (omega arith, every-turn (args .column .at) (args .column .stride) (now (args .m)) (λ (x : ℕ). eqb x (args .b)) (at-loop .loop .t) (at-loop .loop .inv .1)
+    (eq-eqb _ (args .b) (sym (c .before .cell .ensures .0) ∙ c .if1 .left)))
+
+-- src/read.rt:58:1
+returns-2 : tie.Need-returns-2 Inv-loop μ-loop
+returns-2 c = 
+    let at-loop = c .before in
+    let args = at-loop .before .before .args in
+    every-ends (args .column .at) (args .column .stride) (now (args .m)) (λ (x : ℕ). eqb x (args .b)) (args .column .count) (at-loop .loop .t) (omega arith) (omega arith) (at-loop .loop .inv .1)
+
+pub all-equal-spec : {M : Type 1} → statement M
+all-equal-spec =
+    tie.close
+    (tie.spec
+    Inv-loop
+    μ-loop
+    loop-holds
+    cell-requires
+    returns
+    add-t
+    loop-less
+    loop-again
+    returns-2)

@@ -1,0 +1,43 @@
+use native.Mathlib.Omega.{arith}
+use Prim.Native.Nat.{_+_, _*_, _<_}
+use lib.ListN.{length}
+use denote.Ref.{now}
+use Rattle.wire.specs.ColumnLaws.{column-inside}
+use borrow.Author.Needs.{needs}
+use Rattle.wire.proofs.read.cell.Statement.{statement}
+use Rattle.wire.proofs.read.cell.Tie as tie
+use Rattle.wire.proofs.read.cell.Reads as reads
+use Rattle.wire.proofs.read.cell.Lts as lts
+use Rattle.octets.proofs.wide.Reads as wide-reads
+
+-- src/read.rt:54:17
+mul-wide : tie.Need-mul-wide
+mul-wide c = 
+    let start = c .before in
+    let col = start .args .column in
+    omega (arith, column-inside (col .at) (col .stride) (col .count) (length (now (start .args .m))) (start .args .t) (start .pre .0) (start .pre .1))
+
+-- src/read.rt:54:12
+add-wide : tie.Need-add-wide
+add-wide c = 
+    let start = c .before in
+    let col = start .args .column in
+    omega (arith, column-inside (col .at) (col .stride) (col .count) (length (now (start .args .m))) (start .args .t) (start .pre .0) (start .pre .1))
+
+-- src/read.rt:54:10
+shared-slice-read-wide : tie.Need-shared-slice-read-wide
+shared-slice-read-wide c = 
+    let start = c .before .before in
+    let col = start .args .column in
+    column-inside (col .at) (col .stride) (col .count) (length (now (start .args .m))) (start .args .t) (start .pre .0) (start .pre .1)
+
+-- src/read.rt:54:5
+wide-requires : tie.Need-wide-requires
+wide-requires c κs = search needs
+
+-- src/read.rt:48:1
+returns : tie.Need-returns
+returns c = search needs
+
+pub cell-spec : {M : Type 1} → statement M
+cell-spec = tie.close (tie.spec mul-wide add-wide shared-slice-read-wide wide-requires returns)

@@ -1,0 +1,22 @@
+use borrow.Author.Needs.{needs}
+use Rattle.wire.proofs.read.entry_set.Statement.{statement}
+use Rattle.wire.proofs.read.entry_set.Tie as tie
+use Rattle.wire.proofs.read.entry_set.Reads as reads
+use Rattle.wire.proofs.read.entry_set.Lts as lts
+use Rattle.wire.proofs.read.seat_column.Reads as seat-column-reads
+use Rattle.wire.proofs.read.set_of.Reads as set-of-reads
+
+-- src/read.rt:284:9
+seat-column-requires : tie.Need-seat-column-requires
+seat-column-requires c κs = search needs
+
+-- src/read.rt:285:5
+set-of-requires : tie.Need-set-of-requires
+set-of-requires c κs = ?
+
+-- src/read.rt:280:1
+returns : tie.Need-returns
+returns c = ?
+
+pub entry-set-spec : {M : Type 1} → statement M
+entry-set-spec = tie.close (tie.spec seat-column-requires set-of-requires returns)

@@ -1,0 +1,64 @@
+-- What a message is, and what its bytes then say.
+-- Assumes nothing.
+use mathlib.Core.Path.{_≡_, refl, sym, _∙_}
+use mathlib.Core.Bool.{Bool, true, false, cond}
+use mathlib.Core.List.{List, [], _∷_, _++_}
+use Prim.Native.Nat.{ℕ, _+_, _*_, _≤_, _<_}
+use Rattle.protocol.specs.Message.{Message, Garbled, readSubmit, readNotice, readFull, readEvidence, fitsSubmit, fitsNotice, fitsFull, fitsEvidence, read}
+use Rattle.wire.specs.Reading.{kindOf}
+use Rattle.wire.specs.declared.read.Kind.{Kind}
+use Rattle.wire.specs.declared.read.Kind.the-variants as kind
+
+-- ---- the kind, by the tests in their order: t is what a test answered
+
+module _ (n : ℕ) (bytes : List ℕ) where
+  pub told-submit : (t : Bool) → t ≡ fitsSubmit bytes → t ≡ true → kind.Submit ≡ kindOf (read n bytes)
+  unfolding kindOf read readSubmit
+  told-submit t a h = rw (← a, h)
+
+  module _ (s : Bool) (a : s ≡ fitsSubmit bytes) (no-submit : s ≡ false) where
+    pub told-notice : (t : Bool) → t ≡ fitsNotice bytes → t ≡ true → kind.Notice ≡ kindOf (read n bytes)
+    unfolding kindOf read readNotice
+    told-notice t b h = rw (← a, no-submit, ← b, h)
+
+    module _ (u : Bool) (b : u ≡ fitsNotice bytes) (no-notice : u ≡ false) where
+      pub told-full : (t : Bool) → t ≡ fitsFull n bytes → t ≡ true → kind.Full ≡ kindOf (read n bytes)
+      unfolding kindOf read readFull
+      told-full t c h = rw (← a, no-submit, ← b, no-notice, ← c, h)
+
+      module _ (v : Bool) (c : v ≡ fitsFull n bytes) (no-full : v ≡ false) where
+        pub told-evidence : (t : Bool) → t ≡ fitsEvidence n bytes → t ≡ true → kind.Evidence ≡ kindOf (read n bytes)
+        unfolding kindOf read readEvidence
+        told-evidence t d h = rw (← a, no-submit, ← b, no-notice, ← c, no-full, ← d, h)
+
+        pub told-garbled : (t : Bool) → t ≡ fitsEvidence n bytes → t ≡ false → kind.Garbled ≡ kindOf (read n bytes)
+        unfolding kindOf read
+        told-garbled t d h = rw (← a, no-submit, ← b, no-notice, ← c, no-full, ← d, h)
+
+-- ---- what bytes of a kind say, and the test they pass
+
+abbrev pub readAs : Kind → ℕ → List ℕ → Message
+readAs kind.Submit n bytes = readSubmit bytes
+readAs kind.Notice n bytes = readNotice bytes
+readAs kind.Full n bytes = readFull n bytes
+readAs kind.Evidence n bytes = readEvidence bytes
+readAs kind.Garbled n bytes = Garbled
+
+abbrev pub fitsAs : Kind → ℕ → List ℕ → Bool
+fitsAs kind.Submit n bytes = fitsSubmit bytes
+fitsAs kind.Notice n bytes = fitsNotice bytes
+fitsAs kind.Full n bytes = fitsFull n bytes
+fitsAs kind.Evidence n bytes = fitsEvidence n bytes
+fitsAs kind.Garbled n bytes = true
+
+pub read-as : (k : Kind) (n : ℕ) (bytes : List ℕ) → k ≡ kindOf (read n bytes) → (read n bytes ≡ readAs k n bytes) × (fitsAs k n bytes ≡ true)
+unfolding read kindOf readSubmit readNotice readFull readEvidence
+read-as k n bytes e = go (fitsSubmit bytes) refl (fitsNotice bytes) refl (fitsFull n bytes) refl (fitsEvidence n bytes) refl
+  where
+    go : (a : Bool) → fitsSubmit bytes ≡ a → (b : Bool) → fitsNotice bytes ≡ b → (c : Bool) → fitsFull n bytes ≡ c → (d : Bool) → fitsEvidence n bytes ≡ d
+        → (read n bytes ≡ readAs k n bytes) × (fitsAs k n bytes ≡ true)
+    go true p b q c r d s = let h : k ≡ kind.Submit = e ∙ rw p in rw (h, p) (refl, refl)
+    go false p true q c r d s = let h : k ≡ kind.Notice = e ∙ rw (p, q) in rw (h, p, q) (refl, refl)
+    go false p false q true r d s = let h : k ≡ kind.Full = e ∙ rw (p, q, r) in rw (h, p, q, r) (refl, refl)
+    go false p false q false r true s = let h : k ≡ kind.Evidence = e ∙ rw (p, q, r, s) in rw (h, p, q, r, s) (refl, refl)
+    go false p false q false r false s = let h : k ≡ kind.Garbled = e ∙ rw (p, q, r, s) in rw (h, p, q, r, s) (refl, refl)
