@@ -4,3 +4,7 @@ pub mod Records
 pub mod Phases
 pub mod Hearing
 pub mod Certificates
+pub mod Possible
+pub mod Collecting
+pub mod Confirming
+pub mod Steps

@@ -62,10 +62,13 @@ module _ (f : State → State) (r : Record) (store : List ℕ) where
   quietly out at unit store′ e k = record { kept = k; wrote = rw e (record { ends = sym (add-zero at); wrote = rw add-zero (sym (take-append-drop at out)) }) }
 
   -- a phase that does there what f does
+  pub likewise-kept : (g : State → State) (unit : Record) (store′ : List ℕ) → f (start r store) ≡ g (start r store) → Kept f r store unit store′ → Kept g r store unit store′
+  likewise-kept g unit store′ e k = record { recorded = k .recorded ∙ rw e; stored = k .stored ∙ rw e }
+
   pub likewise : (g : State → State) (out : List ℕ) (at : ℕ) (unit : Record) (store′ out′ : List ℕ) (end : ℕ) → f (start r store) ≡ g (start r store)
       → Did f r store out at unit store′ out′ end → Did g r store out at unit store′ out′ end
   likewise g out at unit store′ out′ end e d =
-      record { kept = record { recorded = d .kept .recorded ∙ rw e; stored = d .kept .stored ∙ rw e }; wrote = rw (← e) (d .wrote) }
+      record { kept = likewise-kept g unit store′ e (d .kept); wrote = rw (← e) (d .wrote) }
 
   -- a phase that writes one message
   pub saying : (m : Message) (out : List ℕ) (at : ℕ) (unit : Record) (store′ out′ : List ℕ) (end : ℕ) → f (start r store) .written ≡ m ∷ []

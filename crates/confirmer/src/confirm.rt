@@ -3,13 +3,15 @@ ghost use mathlib.Core.Path.{_≡_};
 ghost use mathlib.Core.List.{List};
 ghost use Prim.Native.Nat.{ℕ, _+_, _<_, _≤_};
 ghost use lib.ListN.{length};
-ghost use Rattle.protocol.specs.Layout.{noticeLength};
-ghost use Rattle.protocol.specs.Step.{isComplete, confirm};
-ghost use Rattle.confirmer.specs.Phases.{Did};
-ghost use Rattle.quorum.specs.Quorum.{mostSeats};
+ghost use Rattle.quorum.specs.Quorum.{mostSeats, k};
+ghost use Rattle.protocol.specs.Layout.{noticeLength, fullLength, evidenceLength};
+ghost use Rattle.protocol.specs.Step.{isComplete, confirm, confirmIfComplete};
+ghost use Rattle.confirmer.specs.Phases.{Did, Fits};
 
+use crate::certificate::hear_own;
 use crate::phases::Phase;
 use crate::record::both;
+use crate::reply::reply;
 use protocol::Record;
 
 // k seats are collected, and the unit hasn't confirmed.
@@ -32,4 +34,18 @@ fn confirm(r: Record, out: &mut [u8], at: usize) -> Phase
     let mut unit = r;
     unit.confirmed = true;
     Phase { unit, at: end }
+}
+
+// k seats collected: the unit confirms, and treats its own certificate like one heard. Else it may still owe FULL.
+pub fn confirm_if_complete(r: Record, store: &mut [u8], out: &mut [u8], at: usize) -> Phase
+    requires { ⌜ Fits r (now store) × (at + noticeLength + fullLength (r .n) + evidenceLength (k (r .n)) ≤ length (now out)) ⌝ }
+    ensures { λ p. ⌜ Did confirmIfComplete r (now (store .entry)) (now (out .entry)) at (p .unit) (now (store .exit)) (now (out .exit)) (p .at) ⌝ }
+{
+    if is_complete(r) {
+        let p = confirm(r, out, at);
+        let unit = p.unit;
+        let next = p.at;
+        return hear_own(unit, store, out, next);
+    }
+    reply(r, store, out, at)
 }
