@@ -2,6 +2,7 @@
 pub mod Writing
 pub mod Sources
 pub mod Reading
+pub mod Walk
 pub mod StringLaws
 pub mod MaskLaws
 pub mod SeatLaws
@@ -9,5 +10,7 @@ pub mod SourceLaws
 pub mod ColumnLaws
 pub mod FormLaws
 pub mod KindLaws
+pub mod MessageLaws
+pub mod WalkLaws
 pub mod StoreLaws
 pub mod WriteLaws

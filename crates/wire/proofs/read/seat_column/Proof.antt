@@ -1,3 +1,10 @@
+use mathlib.Core.Logic.{_⊎_}
+use mathlib.Core.Path.{_≡_}
+use native.Mathlib.Omega.{arith}
+use denote.Ref.{now}
+use Rattle.wire.specs.Reading.{tag}
+use Rattle.wire.specs.MessageLaws.{evidence-long, full-column, evidence-column, no-column}
+use Rattle.wire.proofs.Tags.{tags}
 use borrow.Author.Needs.{needs}
 use Rattle.wire.proofs.read.seat_column.Statement.{statement}
 use Rattle.wire.proofs.read.seat_column.Tie as tie
@@ -24,7 +31,9 @@ enum-told-2 c = search needs
 
 -- src/read.rt:248:20
 number-at-requires : tie.Need-number-at-requires
-number-at-requires c κs = ?
+number-at-requires c κs = 
+    let start = c .before .before .before in
+    evidence-long (start .args .kind) (start .args .n) (now (start .args .m)) (start .pre .2) (c .enum-told2 .given .1)
 
 -- src/read.rt:248:20
 cast-t8 : tie.Need-cast-t8
@@ -32,15 +41,21 @@ cast-t8 c = search needs
 
 -- src/read.rt:235:1
 returns : tie.Need-returns
-returns c = ?
+returns c = 
+    let start = c .before .before .before .before in
+    full-column (start .args .kind) (start .args .n) (now (start .args .m)) (start .pre .2) (c .k .result) (c .before .enum-told .given .1) (c .k .ensures)
 
 -- src/read.rt:235:1
 returns-2 : tie.Need-returns-2
-returns-2 c = ?
+returns-2 c = 
+    let start = c .before .before .before .before in
+    evidence-column (start .args .kind) (start .args .n) (now (start .args .m)) (start .pre .2) (c .number-at .result) (c .before .enum-told2 .given .1) (c .number-at .ensures .0)
 
 -- src/read.rt:235:1
 returns-3 : tie.Need-returns-3
-returns-3 c = ?
+returns-3 c = 
+    let start = c .before .before in
+    (no-column (start .args .kind) (start .args .n) (now (start .args .m)) (start .pre .2) (rw (tags (start .args .kind)) at (c .match .keys3)), omega arith)
 
 pub seat-column-spec : {M : Type 1} → statement M
 seat-column-spec =

@@ -1,3 +1,9 @@
+use mathlib.Core.Logic.{_⊎_, inl, inr, ⊎-elim}
+use mathlib.Core.Path.{_≡_, _∙_}
+use native.Mathlib.Omega.{arith}
+use denote.Ref.{now}
+use Rattle.wire.specs.MessageLaws.{long-enough, sender-told, sender-none}
+use Rattle.wire.proofs.Tags.{tags}
 use Rattle.wire.proofs.read.sender_outside.Statement.{statement}
 use Rattle.wire.proofs.read.sender_outside.Tie as tie
 use Rattle.wire.proofs.read.sender_outside.Reads as reads
@@ -6,15 +12,25 @@ use Rattle.wire.proofs.read.number_at.Reads as number-at-reads
 
 -- src/read.rt:229:58
 number-at-requires : tie.Need-number-at-requires
-number-at-requires c κs = ?
+number-at-requires c κs = 
+    let start = c .before .before in
+    let k = start .args .kind in
+    let some = rw (tags k) at (c .match .keys1) in
+    omega (arith, long-enough k (start .args .n) (now (start .args .m)) (start .pre) (λ e. ⊎-elim (λ a. omega arith) (⊎-elim (λ a. omega arith) (λ a. omega arith)) some))
 
 -- src/read.rt:224:1
 returns : tie.Need-returns
-returns c = ?
+returns c = 
+    let start = c .before .before .before in
+    let k = start .args .kind in
+    sender-told k (start .args .n) (now (start .args .m)) (start .pre) (rw (tags k) at (c .before .match .keys1)) (c .number-at .result) (c .number-at .ensures .0)
 
 -- src/read.rt:224:1
 returns-2 : tie.Need-returns-2
-returns-2 c = ?
+returns-2 c = 
+    let start = c .before .before in
+    let k = start .args .kind in
+    sender-none k (start .args .n) (now (start .args .m)) (start .pre) (rw (tags k) at (c .match .keys2))
 
 pub sender-outside-spec : {M : Type 1} → statement M
 sender-outside-spec = tie.close (tie.spec number-at-requires returns returns-2)

@@ -1,0 +1,63 @@
+use native.Mathlib.Omega.{arith}
+use denote.Ref.{now}
+use Rattle.protocol.specs.Layout.{evidenceEntryLength}
+use Rattle.wire.specs.WalkLaws.{pair-step-entry}
+use borrow.Author.Needs.{needs}
+use Rattle.wire.proofs.cursor.Cursor.next_pair.Statement.{statement}
+use Rattle.wire.proofs.cursor.Cursor.next_pair.Tie as tie
+use Rattle.wire.proofs.cursor.Cursor.next_pair.Reads as reads
+use Rattle.wire.proofs.cursor.Cursor.next_pair.Lts as lts
+use Rattle.wire.proofs.read.number_at.Reads as number-at-reads
+
+-- src/cursor.rt:87:13
+returns : tie.Need-returns
+returns c = search needs
+
+-- src/cursor.rt:90:32
+add-number-at : tie.Need-add-number-at
+add-number-at c = search needs
+
+-- src/cursor.rt:90:19
+number-at-requires : tie.Need-number-at-requires
+unfolding evidenceEntryLength
+number-at-requires c κs = omega arith
+
+-- src/cursor.rt:91:20
+add-t8 : tie.Need-add-t8
+add-t8 c = search needs
+
+-- src/cursor.rt:92:21
+add-t9 : tie.Need-add-t9
+add-t9 c = search needs
+
+-- src/cursor.rt:92:21
+add-t10 : tie.Need-add-t10
+add-t10 c = search needs
+
+-- src/cursor.rt:94:21
+add-t11 : tie.Need-add-t11
+add-t11 c = search needs
+
+-- src/cursor.rt:95:23
+sub-t12 : tie.Need-sub-t12
+sub-t12 c = search needs
+
+-- src/cursor.rt:80:5
+returns-2 : tie.Need-returns-2
+returns-2 c = 
+    let args = c .before .before .before .args in
+    pair-step-entry (args .self .at) (args .self .left) (now (args .m)) (c .number-at .result) (c .before .if1 .left) (c .number-at .ensures .0)
+
+pub next-pair-spec : {M : Type 1} → statement M
+next-pair-spec =
+    tie.close
+    (tie.spec
+    returns
+    add-number-at
+    number-at-requires
+    add-t8
+    add-t9
+    add-t10
+    add-t11
+    sub-t12
+    returns-2)
