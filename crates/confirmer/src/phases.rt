@@ -11,12 +11,15 @@ ghost use Rattle.wire.specs.declared.read.Kind.the-variants as kind;
 ghost use Rattle.confirmer.specs.Phases.{Did};
 ghost use Rattle.confirmer.specs.Possible.{Ready};
 
+use crate::certificate::hear_certificate;
 use crate::collect::hear_submit;
 use crate::collect::submit_own;
 use crate::confirm::confirm_if_complete;
 use crate::hear::hear;
 use crate::reply::reply;
 use protocol::Record;
+use wire::read::Kind;
+use wire::sources::Source;
 
 // What a phase comes to: the record, and the next place in `out`.
 pub struct Phase {
@@ -55,4 +58,19 @@ pub fn step_notice(r: Record, store: &[u8], out: &mut [u8], message: &[u8]) -> P
     let value = wire::values::value_at(message, 4);
     let unit = hear(r, value);
     reply(unit, store, out, 0)
+}
+
+// A FULL heard.
+pub fn step_full(r: Record, store: &mut [u8], out: &mut [u8], message: &[u8]) -> Phase
+    requires { ⌜ Ready r (now store) (now out) × (kind.Full ≡ kindOf (read (r .n) (now message))) × (stranger (r .n) (read (r .n) (now message)) ≡ false) × (disorder (read (r .n) (now message)) ≡ false) ⌝ }
+    ensures { λ p. ⌜ Did (stepped (read (r .n) (now (message .entry)))) r (now (store .entry)) (now (out .entry)) 0 (p .unit) (now (store .exit)) (now (out .exit)) (p .at) ⌝ }
+{
+    let value = wire::values::value_at(message, 4);
+    let seats = wire::read::entry_set(r.n, Kind::Full, message);
+    let source = Source {
+        full: true,
+        bank: 0,
+        seats,
+    };
+    hear_certificate(r, store, out, 0, value, source, message)
 }
