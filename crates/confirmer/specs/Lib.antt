@@ -1,3 +1,10 @@
 -- Laws of the confirmer's code.
 pub mod Openings
 pub mod Records
+pub mod Phases
+pub mod Hearing
+pub mod Certificates
+pub mod Possible
+pub mod Collecting
+pub mod Confirming
+pub mod Steps

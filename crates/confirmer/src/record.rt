@@ -11,17 +11,11 @@ use protocol::Record;
 fn is_unset(value: [u8; 32]) -> bool
     ensures { λ r. ⌜ r ≡ same value unset ⌝ }
 {
-    let mut i = 0;
-    while i < 32 {
-        if value[i] != 0 {
-            return false;
-        }
-        i += 1;
-    }
-    true
+    let zeros = [0u8; 32];
+    wire::values::same(&value, &zeros)
 }
 
-fn both(a: bool, b: bool) -> bool
+pub fn both(a: bool, b: bool) -> bool
     ensures { λ r. ⌜ r ≡ (a && b) ⌝ }
 {
     if a { b } else { false }
