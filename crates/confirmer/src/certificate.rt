@@ -12,7 +12,6 @@ ghost use Rattle.protocol.specs.Certificate.{ownCertificate};
 ghost use Rattle.protocol.specs.Step.{hold, blame, holdOrBlame, hearCertificate, hearOwn};
 ghost use Rattle.wire.specs.Sources.{Readable, certificateFrom};
 ghost use Rattle.confirmer.specs.Phases.{Kept, Did, Fits};
-
 use crate::hear::hear;
 use crate::phases::Phase;
 use crate::record::both;
@@ -65,7 +64,15 @@ fn blames(r: Record, value: [u8; 32]) -> bool
 }
 
 // The shared seats become guilty, and EVIDENCE is written.
-fn blame(r: Record, store: &[u8], out: &mut [u8], at: usize, value: [u8; 32], source: Source, m: &[u8]) -> Phase
+fn blame(
+    r: Record,
+    store: &[u8],
+    out: &mut [u8],
+    at: usize,
+    value: [u8; 32],
+    source: Source,
+    m: &[u8],
+) -> Phase
     requires { ⌜ Fits r (now store) × Readable (r .n) source (now m) × (at + evidenceLength (k (r .n)) ≤ length (now out)) ⌝ }
     ensures { λ p. ⌜ Did (blame (certificateFrom (r .n) source value (now (m .entry)))) r (now (store .entry)) (now (out .entry)) at (p .unit) (now (store .entry)) (now (out .exit)) (p .at) ⌝ }
 {
@@ -75,7 +82,18 @@ fn blame(r: Record, store: &[u8], out: &mut [u8], at: usize, value: [u8; 32], so
         bank: FIRST,
         seats: r.first.seats,
     };
-    let end = wire::write::write_evidence(out, at, r.n, r.round, &first_value, first, store, &value, source, m);
+    let end = wire::write::write_evidence(
+        out,
+        at,
+        r.n,
+        r.round,
+        &first_value,
+        first,
+        store,
+        &value,
+        source,
+        m,
+    );
     let guilty = quorum::shared(r.first.seats, source.seats);
     let mut unit = r;
     unit.guilty = guilty;
@@ -105,7 +123,15 @@ fn hold_or_blame_own(r: Record, store: &mut [u8], out: &mut [u8], at: usize) -> 
 }
 
 // A certificate of a value, whose signatures stand in m, is held where none is, or blames.
-fn hold_or_blame(r: Record, store: &mut [u8], out: &mut [u8], at: usize, value: [u8; 32], source: Source, m: &[u8]) -> Phase
+fn hold_or_blame(
+    r: Record,
+    store: &mut [u8],
+    out: &mut [u8],
+    at: usize,
+    value: [u8; 32],
+    source: Source,
+    m: &[u8],
+) -> Phase
     requires { ⌜ Fits r (now store) × Readable (r .n) source (now m) × (at + evidenceLength (k (r .n)) ≤ length (now out)) ⌝ }
     ensures { λ p. ⌜ Did (holdOrBlame (certificateFrom (r .n) source value (now (m .entry)))) r (now (store .entry)) (now (out .entry)) at (p .unit) (now (store .exit)) (now (out .exit)) (p .at) ⌝ }
 {
@@ -133,7 +159,15 @@ pub fn hear_own(r: Record, store: &mut [u8], out: &mut [u8], at: usize) -> Phase
 }
 
 // So does a certificate of a value, whose signatures stand in m.
-pub fn hear_certificate(r: Record, store: &mut [u8], out: &mut [u8], at: usize, value: [u8; 32], source: Source, m: &[u8]) -> Phase
+pub fn hear_certificate(
+    r: Record,
+    store: &mut [u8],
+    out: &mut [u8],
+    at: usize,
+    value: [u8; 32],
+    source: Source,
+    m: &[u8],
+) -> Phase
     requires { ⌜ Fits r (now store) × Readable (r .n) source (now m) × (at + fullLength (r .n) + evidenceLength (k (r .n)) ≤ length (now out)) ⌝ }
     ensures { λ p. ⌜ Did (hearCertificate (certificateFrom (r .n) source value (now (m .entry)))) r (now (store .entry)) (now (out .entry)) at (p .unit) (now (store .exit)) (now (out .exit)) (p .at) ⌝ }
 {

@@ -9,7 +9,6 @@ ghost use Rattle.protocol.specs.Record.{withOwn};
 ghost use Rattle.protocol.specs.Layout.{signatureLength, submitLength, valueLength};
 ghost use Rattle.protocol.specs.Step.{isWanted, keepValue, collect, submitOwn, hearSubmit};
 ghost use Rattle.confirmer.specs.Phases.{Did, Kept, Fits};
-
 use crate::phases::Phase;
 use crate::record::both;
 use protocol::Own;
@@ -54,7 +53,13 @@ fn keep_value(r: Record, value: [u8; 32]) -> Record
 }
 
 // Submit: the value is kept, the own signature collected, SUBMIT written from the start of `out`.
-pub fn submit_own(r: Record, store: &mut [u8], out: &mut [u8], value: &[u8], signature: &[u8]) -> Phase
+pub fn submit_own(
+    r: Record,
+    store: &mut [u8],
+    out: &mut [u8],
+    value: &[u8],
+    signature: &[u8],
+) -> Phase
     requires { ⌜ Fits r (now store) × (length (now value) ≡ valueLength) × (length (now signature) ≡ signatureLength) × (submitLength ≤ length (now out)) ⌝ }
     ensures { λ p. ⌜ Did (submitOwn (now (value .entry)) (now (signature .entry))) r (now (store .entry)) (now (out .entry)) 0 (p .unit) (now (store .exit)) (now (out .exit)) (p .at) × (p .at ≡ submitLength) ⌝ }
 {
@@ -76,7 +81,13 @@ fn is_wanted(r: Record, seat: u32, value: [u8; 32]) -> bool
 }
 
 // SUBMIT heard: its signature is collected where it is wanted.
-pub fn hear_submit(r: Record, store: &mut [u8], seat: u32, value: [u8; 32], signature: &[u8]) -> Record
+pub fn hear_submit(
+    r: Record,
+    store: &mut [u8],
+    seat: u32,
+    value: [u8; 32],
+    signature: &[u8],
+) -> Record
     requires { ⌜ Fits r (now store) × (seat < r .n) × (length (now signature) ≡ signatureLength) ⌝ }
     ensures { λ u. ⌜ Kept (hearSubmit seat value (now (signature .entry))) r (now (store .entry)) u (now (store .exit)) ⌝ }
 {

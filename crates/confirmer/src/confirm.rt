@@ -7,7 +7,6 @@ ghost use Rattle.quorum.specs.Quorum.{mostSeats, k};
 ghost use Rattle.protocol.specs.Layout.{noticeLength, fullLength, evidenceLength};
 ghost use Rattle.protocol.specs.Step.{isComplete, confirm, confirmIfComplete};
 ghost use Rattle.confirmer.specs.Phases.{Did, Fits};
-
 use crate::certificate::hear_own;
 use crate::phases::Phase;
 use crate::record::both;

@@ -2,7 +2,6 @@
 ghost use mathlib.Core.Path.{_≡_};
 ghost use Rattle.protocol.specs.Record.{withNotices};
 ghost use Rattle.protocol.specs.Step.{noticesWith};
-
 use crate::record::both;
 use protocol::Notices;
 use protocol::Record;

@@ -10,7 +10,6 @@ ghost use Rattle.wire.specs.Reading.{kindOf};
 ghost use Rattle.wire.specs.declared.read.Kind.the-variants as kind;
 ghost use Rattle.confirmer.specs.Phases.{Did};
 ghost use Rattle.confirmer.specs.Possible.{Ready};
-
 use crate::certificate::hear_certificate;
 use crate::collect::hear_submit;
 use crate::collect::submit_own;
@@ -28,7 +27,13 @@ pub struct Phase {
 }
 
 // A submit.
-pub fn submit_phase(r: Record, store: &mut [u8], out: &mut [u8], value: &[u8], signature: &[u8]) -> Phase
+pub fn submit_phase(
+    r: Record,
+    store: &mut [u8],
+    out: &mut [u8],
+    value: &[u8],
+    signature: &[u8],
+) -> Phase
     requires { ⌜ Ready r (now store) (now out) × (said r ≡ false) × (length (now value) ≡ valueLength) × (length (now signature) ≡ signatureLength) ⌝ }
     ensures { λ p. ⌜ Did (submitted (now (value .entry)) (now (signature .entry))) r (now (store .entry)) (now (out .entry)) 0 (p .unit) (now (store .exit)) (now (out .exit)) (p .at) ⌝ }
 {

@@ -5,7 +5,6 @@ ghost use lib.ListN.{length};
 ghost use Rattle.protocol.specs.Layout.{fullLength};
 ghost use Rattle.protocol.specs.Step.{otherHeard, owesFull, sendFull, reply};
 ghost use Rattle.confirmer.specs.Phases.{Did, Fits};
-
 use crate::phases::Phase;
 use crate::record::both;
 use protocol::Record;

@@ -88,8 +88,13 @@ module _ (checks : Checks) (n round : ℕ) (keys bytes : List ℕ) where
       let d = lowest-zero 10 (stranger n m) ((12, disorder m) ∷ []) (b .1) in
       let o = lowest-zero 11 (disorder m) [] (d .1) in
       record {
-        size = g .size; turn = g .turn; table = g .table;
-        is = not-false (isEvidence m) (a .0); same = b .0; known = d .0; ordered = o .0
+        size = g .size;
+        turn = g .turn;
+        table = g .table;
+        is = not-false (isEvidence m) (a .0);
+        same = b .0;
+        known = d .0;
+        ordered = o .0;
       }
 
   -- of its signatures, its values, and nothing

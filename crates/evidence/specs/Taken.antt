@@ -65,8 +65,8 @@ taken n bytes t e g s =
       size = evidence-length n bytes (r .1);
       few = few-entries n bytes (r .1);
       known = λ i h.
-        let place : 68 + 2906 * i + 1 ≡ 69 + 2906 * i = omega arith in
-        rw place (below-read 69 2906 bytes n (byteAt bytes 67) i h (known-entries n (read n bytes) (column 69 2906 (byteAt bytes 67) bytes) n (omega arith) s seats))
+          let place : 68 + 2906 * i + 1 ≡ 69 + 2906 * i = omega arith in
+          rw place (below-read 69 2906 bytes n (byteAt bytes 67) i h (known-entries n (read n bytes) (column 69 2906 (byteAt bytes 67) bytes) n (omega arith) s seats));
     }
 
 -- ---- its signatures

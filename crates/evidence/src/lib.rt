@@ -15,7 +15,6 @@ ghost use Rattle.evidence.specs.Signatures.{pairChecks};
 ghost use Rattle.evidence.specs.Returns.{Formed};
 ghost use Rattle.evidence.specs.Taken.{other, Taken};
 ghost use Rattle.wire.specs.Reading.{kindOf};
-
 use protocol::Checked;
 use wire::read::Kind;
 
@@ -51,7 +50,6 @@ fn has_bad_signature(k: &[u32; 64], n: u32, round: u32, keys: &[u8], m: &[u8]) -
     }
     false
 }
-
 
 // What is turned back of the number of seats, the round and the key table: 1, 3, 5.
 fn outside_refusal(n: u32, round: u32, keys: &[u8]) -> u32

@@ -98,10 +98,10 @@ seat-key n keys seat e h =
     let types = said .1 seat h in
     let room : 56 * (seat + 1) ≤ length keys = omega (arith, said .0) in
     let lms : number (part 0 4 (part (56 * seat) 56 keys)) ≡ 6 =
-        ap number (part-part 0 4 (56 * seat) 56 keys (omega arith)) ∙ number-part-four (56 * seat + 0) keys (omega arith)
-        ∙ ap (wordAt keys) (add-zero (56 * seat)) ∙ types .0 in
+    ap number (part-part 0 4 (56 * seat) 56 keys (omega arith)) ∙ number-part-four (56 * seat + 0) keys (omega arith)
+    ∙ ap (wordAt keys) (add-zero (56 * seat)) ∙ types .0 in
     let ots : number (part 4 4 (part (56 * seat) 56 keys)) ≡ 4 =
-        ap number (part-part 4 4 (56 * seat) 56 keys (omega arith)) ∙ number-part-four (56 * seat + 4) keys (omega arith) ∙ types .1 in
+    ap number (part-part 4 4 (56 * seat) 56 keys (omega arith)) ∙ number-part-four (56 * seat + 4) keys (omega arith) ∙ types .1 in
     (room, lms, ots)
 
 -- the two crates' names for a signature's length

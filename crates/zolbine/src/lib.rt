@@ -47,7 +47,12 @@ pub extern "C" fn zolbine_sign(
 }
 
 #[no_mangle]
-pub extern "C" fn zolbine_check_evidence(n: u32, round: u32, keys: &[u8], evidence: &[u8]) -> Checked
+pub extern "C" fn zolbine_check_evidence(
+    n: u32,
+    round: u32,
+    keys: &[u8],
+    evidence: &[u8],
+) -> Checked
     ensures { λ r. ⌜ r ≡ evidenceCheck (checks (now (keys .entry)) round) n round (now (keys .entry)) (now (evidence .entry)) ⌝ }
 {
     evidence::check_evidence(n, round, keys, evidence)

@@ -50,7 +50,7 @@ add-pair-checks c = omega arith
 -- src/lib.rt:45:13
 pair-checks-requires : tie.Need-pair-checks-requires Inv-loop μ-loop
 unfolding evidenceLength evidenceEntryAt evidenceEntryLength
-pair-checks-requires c κs = 
+pair-checks-requires c κs =
     let at-loop = c .before in
     let start = at-loop .before .before .before .before in
     let t = at-loop .loop .t in
@@ -60,7 +60,7 @@ pair-checks-requires c κs =
 
 -- src/lib.rt:46:13
 returns : tie.Need-returns Inv-loop μ-loop
-returns c = 
+returns c =
     let at-loop = c .before .before .before in
     let start = at-loop .before .before .before .before in
     let keys = now (start .args .keys) in
@@ -80,14 +80,14 @@ loop-less c = omega arith
 -- src/lib.rt:44:5
 loop-again : tie.Need-loop-again Inv-loop μ-loop
 unfolding evidenceEntryAt evidenceEntryLength
-loop-again c = 
+loop-again c =
     let at-loop = c .before .before .before in
     let start = at-loop .before .before .before .before in
     (omega arith, at-loop .loop .inv .1, pairs-turn (checks (now (start .args .keys)) (start .args .round)) (now (start .args .m)) (at-loop .loop .t) (at-loop .loop .inv .2) (sym (c .before .pair-checks .ensures) ∙ not-false _ (c .if1 .left)))
 
 -- src/lib.rt:38:1
 returns-2 : tie.Need-returns-2 Inv-loop μ-loop
-returns-2 c = 
+returns-2 c =
     let at-loop = c .before in
     let start = at-loop .before .before .before .before in
     let all : at-loop .loop .t ≡ byteAt (now (start .args .m)) 67 = omega arith in

@@ -41,7 +41,7 @@ returns-2 c =
 
 -- src/lib.rt:65:8
 wrong-keys-requires : tie.Need-wrong-keys-requires
-wrong-keys-requires c κs = 
+wrong-keys-requires c κs =
     let sized = c .before .before in
     let n = sized .before .before .before .args .n in
     let right : wrongSize n ≡ false = sym (sized .before .wrong-size .ensures) ∙ sized .if1 .left in

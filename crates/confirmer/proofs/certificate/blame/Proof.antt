@@ -23,7 +23,7 @@ slice-aggregate-write-evidence-2 c = search needs
 
 -- src/certificate.rt:78:9
 write-evidence-requires : tie.Need-write-evidence-requires
-write-evidence-requires c κs = 
+write-evidence-requires c κs =
     let start = c .before .before .before .before .before .before .before in
     let r = start .args .r in
     let fits = start .pre .0 in
@@ -43,7 +43,7 @@ same-length c = search needs
 
 -- src/certificate.rt:68:1
 returns : tie.Need-returns
-returns c = 
+returns c =
     let start = c .before .before .before .before .before .before .before .before .before .before .before in
     let args = start .args in
     let wrote = c .before .before .before .write-evidence in

@@ -20,17 +20,18 @@ hear-requires c κs = search needs
 
 -- src/certificate.rt:141:9
 reply-requires : tie.Need-reply-requires
-reply-requires c κs = 
+reply-requires c κs =
     let start = c .before .before .before .before .before .before in
     let args = start .args in
     let heard = c .before .before .hear in
-    let notices = noticesWith (start .args .value) (args .r) in
-    (heard-fits (args .r) (now (args .store)) notices (heard .result) (heard .ensures) (start .pre .0),
-    heard-room (args .r) (now (args .store)) notices (heard .result) (heard .ensures) (args .at) (evidenceLength (k (args .r .n))) (length (now (args .out))) (start .pre .2))
+    let notices = noticesWith (start .args .value) (args .r) in (
+      heard-fits (args .r) (now (args .store)) notices (heard .result) (heard .ensures) (start .pre .0),
+      heard-room (args .r) (now (args .store)) notices (heard .result) (heard .ensures) (args .at) (evidenceLength (k (args .r .n))) (length (now (args .out))) (start .pre .2),
+    )
 
 -- src/certificate.rt:144:5
 hold-or-blame-requires : tie.Need-hold-or-blame-requires
-hold-or-blame-requires c κs = 
+hold-or-blame-requires c κs =
     let start = c .before .before .before .before .before .before .before .before .before .before .before .before in
     let args = start .args in
     let heard = c .before .before .before .before .before .before .before .before .hear in
@@ -53,7 +54,7 @@ same-length-2 c = search needs
 
 -- src/certificate.rt:136:1
 returns : tie.Need-returns
-returns c = 
+returns c =
     let start = c .before .before .before .before .before .before .before .before .before .before .before .before .before .before .before .before .before in
     let args = start .args in
     let heard = c .before .before .before .before .before .before .before .before .before .before .before .before .before .hear in

@@ -20,17 +20,18 @@ hear-requires c κs = search needs
 
 -- src/certificate.rt:129:9
 reply-requires : tie.Need-reply-requires
-reply-requires c κs = 
+reply-requires c κs =
     let start = c .before .before .before .before .before .before in
     let args = start .args in
     let heard = c .before .before .hear in
-    let notices = noticesWith (start .args .r .own .value) (args .r) in
-    (heard-fits (args .r) (now (args .store)) notices (heard .result) (heard .ensures) (start .pre .0),
-    heard-room (args .r) (now (args .store)) notices (heard .result) (heard .ensures) (args .at) (evidenceLength (k (args .r .n))) (length (now (args .out))) (start .pre .1))
+    let notices = noticesWith (start .args .r .own .value) (args .r) in (
+      heard-fits (args .r) (now (args .store)) notices (heard .result) (heard .ensures) (start .pre .0),
+      heard-room (args .r) (now (args .store)) notices (heard .result) (heard .ensures) (args .at) (evidenceLength (k (args .r .n))) (length (now (args .out))) (start .pre .1),
+    )
 
 -- src/certificate.rt:132:5
 hold-or-blame-own-requires : tie.Need-hold-or-blame-own-requires
-hold-or-blame-own-requires c κs = 
+hold-or-blame-own-requires c κs =
     let start = c .before .before .before .before .before .before .before .before .before .before .before .before in
     let args = start .args in
     let heard = c .before .before .before .before .before .before .before .before .hear in
@@ -52,7 +53,7 @@ same-length-2 c = search needs
 
 -- src/certificate.rt:123:1
 returns : tie.Need-returns
-returns c = 
+returns c =
     let start = c .before .before .before .before .before .before .before .before .before .before .before .before .before .before .before .before .before in
     let args = start .args in
     let heard = c .before .before .before .before .before .before .before .before .before .before .before .before .before .hear in

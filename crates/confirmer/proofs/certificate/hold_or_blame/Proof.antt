@@ -20,7 +20,7 @@ same-length c = search needs
 
 -- src/certificate.rt:114:9
 returns : tie.Need-returns
-returns c = 
+returns c =
     let start = c .before .before .before .before .before .before .before .before .before in
     let args = start .args in
     let held = c .before .before .hold in
@@ -45,7 +45,7 @@ same-length-3 c = search needs
 
 -- src/certificate.rt:117:9
 returns-2 : tie.Need-returns-2
-returns-2 c = 
+returns-2 c =
     let start = c .before .before .before .before .before .before .before .before .before .before .before .before in
     let args = start .args in
     let done = c .before .before .blame in
@@ -56,7 +56,7 @@ returns-2 c =
 
 -- src/certificate.rt:108:1
 returns-3 : tie.Need-returns-3
-returns-3 c = 
+returns-3 c =
     let start = c .before .before .before .before .before .before .before in
     let args = start .args in
     not-blamed (args .r) (now (args .store)) (now (args .out)) (args .at) (certificateFrom (args .r .n) (args .source) (args .value) (now (args .m)))

@@ -23,7 +23,7 @@ same-length c = search needs
 
 -- src/certificate.rt:92:9
 returns : tie.Need-returns
-returns c = 
+returns c =
     let args = c .before .before .before .before .before .before .before .before .args in
     let held = c .before .before .hold-own in
     first-held (args .r) (now (args .store)) (now (args .out)) (args .at) (ownCertificate (args .r) (now (args .store)))
@@ -35,7 +35,7 @@ blames-requires c κs = search needs
 
 -- src/certificate.rt:102:9
 blame-requires : tie.Need-blame-requires
-blame-requires c κs = 
+blame-requires c κs =
     let start = c .before .before .before .before .before .before .before .before .before in
     let r = start .args .r in
     let fits = start .pre .0 in
@@ -52,7 +52,7 @@ same-length-3 c = search needs
 -- src/certificate.rt:102:9
 returns-2 : tie.Need-returns-2
 unfolding ownCertificate signatureFrom
-returns-2 c = 
+returns-2 c =
     let args = c .before .before .before .before .before .before .before .before .before .before .before .before .args in
     let done = c .before .before .blame in
     let second = c .before .before .before .before .before in
@@ -63,7 +63,7 @@ returns-2 c =
 -- src/certificate.rt:86:1
 returns-3 : tie.Need-returns-3
 unfolding ownCertificate
-returns-3 c = 
+returns-3 c =
     let args = c .before .before .before .before .before .before .before .args in
     not-blamed (args .r) (now (args .store)) (now (args .out)) (args .at) (ownCertificate (args .r) (now (args .store)))
     (c .before .before .before .if1 .left) (c .before .blames .result) (c .before .blames .ensures) (c .if2 .left)

@@ -23,7 +23,7 @@ same-length c = search needs
 
 -- src/collect.rt:84:9
 returns : tie.Need-returns
-returns c = 
+returns c =
     let args = c .before .before .before .before .before .before .before .before .args in
     let done = c .before .before .collect in
     let chosen = c .before .before .before .before in
@@ -31,7 +31,7 @@ returns c =
 
 -- src/collect.rt:79:1
 returns-2 : tie.Need-returns-2
-returns-2 c = 
+returns-2 c =
     let args = c .before .before .before .before .args in
     unwanted (args .r) (now (args .store)) (args .seat) (args .value) (now (args .signature)) (sym (c .before .is-wanted .ensures) ∙ c .if1 .left)
 

@@ -21,7 +21,7 @@ keep-value-requires c κs = search needs
 
 -- src/collect.rt:62:9
 collect-requires : tie.Need-collect-requires
-collect-requires c κs = 
+collect-requires c κs =
     let start = c .before .before .before .before .before .before .before in
     let kept = c .before .keep-value in
     let fits = kept-fits (start .args .r) (c .before .before .value-at .result) (kept .result) (kept .ensures) (now (start .args .store)) (start .pre .0) in
@@ -41,15 +41,17 @@ same-length-2 c = search needs
 
 -- src/collect.rt:57:1
 returns : tie.Need-returns
-returns c = 
+returns c =
     let start = c .before .before .before .before .before .before .before .before .before .before .before .before .before .before in
     let args = start .args in
     let wrote = c .before .before .write-submit in
     let gathered = c .before .before .before .before .before .before .collect in
     let kept = c .before .before .before .before .before .before .before .before .keep-value in
-    let read = c .before .before .before .before .before .before .before .before .before .value-at in
-    (own-submitted (args .r) (read .result) (kept .result) (kept .ensures) (now (args .value)) (now (args .signature)) (now (args .store)) (now (args .out)) (start .pre .1) (read .ensures)
-    (gathered .result) (gathered .last .1 .0) (wrote .last .0) (wrote .result) (gathered .ensures) (wrote .ensures .0), omega (arith, wrote .ensures .1))
+    let read = c .before .before .before .before .before .before .before .before .before .value-at in (
+      own-submitted (args .r) (read .result) (kept .result) (kept .ensures) (now (args .value)) (now (args .signature)) (now (args .store)) (now (args .out)) (start .pre .1) (read .ensures)
+          (gathered .result) (gathered .last .1 .0) (wrote .last .0) (wrote .result) (gathered .ensures) (wrote .ensures .0),
+      omega (arith, wrote .ensures .1),
+    )
 
 pub submit-own-spec : {M : Type 1} → statement M
 submit-own-spec =

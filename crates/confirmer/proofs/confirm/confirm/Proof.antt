@@ -26,14 +26,16 @@ same-length c = search needs
 -- src/confirm.rt:26:1
 returns : tie.Need-returns
 unfolding confirm write
-returns c = 
+returns c =
     let start = c .before .before .before .before .before .before .before in
     let args = start .args in
     let r = args .r in
-    let wrote = c .before .before .write-notice in
-    (λ store.
-    saying confirm r store (Notice (r .round) (r .seat) (r .own .value)) (now (args .out)) (args .at) (withConfirmed r) store (wrote .last .0) (wrote .result) refl
-    (record { recorded = refl; stored = refl }) (wrote .ensures .0), wrote .ensures .1)
+    let wrote = c .before .before .write-notice in (
+      λ store.
+          saying confirm r store (Notice (r .round) (r .seat) (r .own .value)) (now (args .out)) (args .at) (withConfirmed r) store (wrote .last .0) (wrote .result) refl
+          (record { recorded = refl; stored = refl }) (wrote .ensures .0),
+      wrote .ensures .1,
+    )
 
 pub confirm-spec : {M : Type 1} → statement M
 confirm-spec =

@@ -23,7 +23,7 @@ confirm-requires c κs = search needs
 
 -- src/confirm.rt:48:9
 hear-own-requires : tie.Need-hear-own-requires
-hear-own-requires c κs = 
+hear-own-requires c κs =
     let start = c .before .before .before .before .before .before .before .before .before .before .before in
     let args = start .args in
     let done = c .before .before .before .before .before .confirm in
@@ -41,7 +41,7 @@ same-length-2 c = search needs
 
 -- src/confirm.rt:48:9
 returns : tie.Need-returns
-returns c = 
+returns c =
     let start = c .before .before .before .before .before .before .before .before .before .before .before .before .before .before .before .before in
     let args = start .args in
     let done = c .before .before .before .before .before .before .before .before .before .before .confirm in
@@ -64,7 +64,7 @@ same-length-4 c = search needs
 
 -- src/confirm.rt:40:1
 returns-2 : tie.Need-returns-2
-returns-2 c = 
+returns-2 c =
     let args = c .before .before .before .before .before .before .before .before .before .args in
     let done = c .before .before .reply in
     let short = sym (c .before .before .before .before .before .before .is-complete .ensures) ∙ c .before .before .before .before .before .if1 .left in

@@ -29,14 +29,14 @@ both-requires c κs = search needs
 
 -- src/hear.rt:21:9
 returns-2 : tie.Need-returns-2
-returns-2 c = 
+returns-2 c =
     let start = c .before .before .before .before .before .before .before in
     let first = c .before .before .before .before .before in
     other-before (start .args .t2) (start .args .r) (first .if1 .left) (c .before .before .same .result) (c .before .both .result) (c .before .before .same .ensures) (c .before .both .ensures) (c .if2 .taken)
 
 -- src/hear.rt:11:1
 returns-3 : tie.Need-returns-3
-returns-3 c = 
+returns-3 c =
     let second = c .before in
     let start = second .before .before .before .before .before .before .before in
     let first = second .before .before .before .before .before in

@@ -14,7 +14,7 @@ use Rattle.wire.proofs.values.value_at.Reads as value-at-reads
 
 -- src/phases.rt:68:9
 value-at-requires : tie.Need-value-at-requires
-value-at-requires c κs = 
+value-at-requires c κs =
     let start = c .before .before .before in
     full-long (start .args .r .n) (now (start .args .message)) (start .pre .1)
 
@@ -24,7 +24,7 @@ entry-set-requires c κs = search needs
 
 -- src/phases.rt:75:5
 hear-certificate-requires : tie.Need-hear-certificate-requires
-hear-certificate-requires c κs = 
+hear-certificate-requires c κs =
     let start = c .before .before .before .before .before .before .before in
     let args = start .args in
     let set = c .before .before .entry-set in
@@ -41,7 +41,7 @@ same-length-2 c = search needs
 
 -- src/phases.rt:64:1
 returns : tie.Need-returns
-returns c = 
+returns c =
     let start = c .before .before .before .before .before .before .before .before .before .before .before .before in
     let args = start .args in
     let set = c .before .before .before .before .before .before .before .entry-set in

@@ -16,7 +16,7 @@ use Rattle.wire.proofs.values.value_at.Reads as value-at-reads
 
 -- src/phases.rt:55:9
 value-at-requires : tie.Need-value-at-requires
-value-at-requires c κs = 
+value-at-requires c κs =
     let start = c .before .before .before in
     omega (arith, notice-length (start .args .r .n) (now (start .args .message)) (start .pre .1))
 
@@ -26,15 +26,16 @@ hear-requires c κs = search needs
 
 -- src/phases.rt:57:5
 reply-requires : tie.Need-reply-requires
-reply-requires c κs = 
+reply-requires c κs =
     let start = c .before .before .before .before .before .before in
     let args = start .args in
     let heard = c .before .hear in
     let notices = noticesWith (c .before .before .value-at .result) (args .r) in
     let fits = ready-fits (args .r) (now (args .store)) (now (args .out)) (start .pre .0) in
-    let room = all-fits (args .r .n) (length (now (args .out))) (start .pre .0 .room) in
-    (heard-fits (args .r) (now (args .store)) notices (heard .result) (heard .ensures) fits,
-    heard-room (args .r) (now (args .store)) notices (heard .result) (heard .ensures) 0 0 (length (now (args .out))) (omega (arith, room)))
+    let room = all-fits (args .r .n) (length (now (args .out))) (start .pre .0 .room) in (
+      heard-fits (args .r) (now (args .store)) notices (heard .result) (heard .ensures) fits,
+      heard-room (args .r) (now (args .store)) notices (heard .result) (heard .ensures) 0 0 (length (now (args .out))) (omega (arith, room)),
+    )
 
 -- src/phases.rt:51:1
 same-length : tie.Need-same-length
@@ -42,7 +43,7 @@ same-length c = search needs
 
 -- src/phases.rt:51:1
 returns : tie.Need-returns
-returns c = 
+returns c =
     let start = c .before .before .before .before .before .before .before .before .before in
     let args = start .args in
     let read = c .before .before .before .before .before .value-at in

@@ -17,33 +17,35 @@ use Rattle.wire.proofs.values.value_at.Reads as value-at-reads
 
 -- src/phases.rt:43:9
 value-at-requires : tie.Need-value-at-requires
-value-at-requires c κs = 
+value-at-requires c κs =
     let start = c .before .before .before in
     omega (arith, submit-length (start .args .r .n) (now (start .args .message)) (start .pre .1))
 
 -- src/phases.rt:44:9
 signature-at-requires : tie.Need-signature-at-requires
-signature-at-requires c κs = 
+signature-at-requires c κs =
     let start = c .before .before .before .before in
     omega (arith, submit-length (start .args .r .n) (now (start .args .message)) (start .pre .1))
 
 -- src/phases.rt:45:9
 number-at-requires : tie.Need-number-at-requires
-number-at-requires c κs = 
+number-at-requires c κs =
     let start = c .before .before .before .before .before in
     omega (arith, submit-length (start .args .r .n) (now (start .args .message)) (start .pre .1))
 
 -- src/phases.rt:46:9
 hear-submit-requires : tie.Need-hear-submit-requires
-hear-submit-requires c κs = 
+hear-submit-requires c κs =
     let start = c .before .before .before .before .before .before .before in
-    let args = start .args in
-    (ready-fits (args .r) (now (args .store)) (now (args .out)) (start .pre .0), submit-seat (start .args .r .n) (now (start .args .message)) (start .pre .1) (c .before .number-at .result) (c .before .number-at .ensures .0) (start .pre .2),
-    submit-signature (start .args .r .n) (now (start .args .message)) (start .pre .1) (now (c .before .before .signature-at .result)) (c .before .before .signature-at .ensures))
+    let args = start .args in (
+      ready-fits (args .r) (now (args .store)) (now (args .out)) (start .pre .0),
+      submit-seat (start .args .r .n) (now (start .args .message)) (start .pre .1) (c .before .number-at .result) (c .before .number-at .ensures .0) (start .pre .2),
+      submit-signature (start .args .r .n) (now (start .args .message)) (start .pre .1) (now (c .before .before .signature-at .result)) (c .before .before .signature-at .ensures),
+    )
 
 -- src/phases.rt:47:5
 confirm-if-complete-requires : tie.Need-confirm-if-complete-requires
-confirm-if-complete-requires c κs = 
+confirm-if-complete-requires c κs =
     let start = c .before .before .before .before .before .before .before .before .before .before .before .before in
     let args = start .args in
     let heard = c .before .before .before .before .hear-submit in
@@ -63,7 +65,7 @@ same-length-2 c = search needs
 
 -- src/phases.rt:39:1
 returns : tie.Need-returns
-returns c = 
+returns c =
     let start = c .before .before .before .before .before .before .before .before .before .before .before .before .before .before .before .before .before in
     let args = start .args in
     let heard = c .before .before .before .before .before .before .before .before .before .hear-submit in

@@ -14,15 +14,18 @@ use Rattle.confirmer.proofs.confirm.confirm_if_complete.Reads as confir
 
 -- src/phases.rt:32:9
 submit-own-requires : tie.Need-submit-own-requires
-submit-own-requires c κs = 
+submit-own-requires c κs =
     let start = c .before .before .before .before .before .before in
-    let args = start .args in
-    (ready-fits (args .r) (now (args .store)) (now (args .out)) (start .pre .0), start .pre .2, start .pre .3,
-    omega (arith, all-fits (args .r .n) (length (now (args .out))) (start .pre .0 .room)))
+    let args = start .args in (
+      ready-fits (args .r) (now (args .store)) (now (args .out)) (start .pre .0),
+      start .pre .2,
+      start .pre .3,
+      omega (arith, all-fits (args .r .n) (length (now (args .out))) (start .pre .0 .room)),
+    )
 
 -- src/phases.rt:35:5
 confirm-if-complete-requires : tie.Need-confirm-if-complete-requires
-confirm-if-complete-requires c κs = 
+confirm-if-complete-requires c κs =
     let start = c .before .before .before .before .before .before .before .before .before .before .before .before .before .before in
     let args = start .args in
     let said = c .before .before .before .before .before .before .before .submit-own in
@@ -42,7 +45,7 @@ same-length-2 c = search needs
 
 -- src/phases.rt:28:1
 returns : tie.Need-returns
-returns c = 
+returns c =
     let start = c .before .before .before .before .before .before .before .before .before .before .before .before .before .before .before .before .before .before .before in
     let args = start .args in
     let said = c .before .before .before .before .before .before .before .before .before .before .before .before .submit-own in

@@ -24,7 +24,7 @@ same-requires c κs = search needs
 
 -- src/reply.rt:26:9
 returns-2 : tie.Need-returns-2
-returns-2 c = 
+returns-2 c =
     let second = c .before .before .before .before .before in
     one-other (second .before .before .args .r) (second .before .if1 .left) (c .same .result) (second .if2 .taken) (c .same .ensures)
 

@@ -24,16 +24,17 @@ same-length c = search needs
 
 -- src/reply.rt:62:9
 returns : tie.Need-returns
-returns c = 
+returns c =
     let start = c .before .before .before .before .before .before .before .before in
     let sent = c .before .before .send-full in
-    let owed = sym (c .before .before .before .before .before .owes-full .ensures) ∙ c .before .before .before .before .if1 .taken in
-    (replied (start .args .r) (now (start .args .store)) (now (start .args .out)) (start .args .at) (sent .result .unit) (now (start .args .store)) (sent .last .1 .1 .0) (sent .result .at) owed (sent .ensures .0),
-    sent .ensures .1)
+    let owed = sym (c .before .before .before .before .before .owes-full .ensures) ∙ c .before .before .before .before .if1 .taken in (
+      replied (start .args .r) (now (start .args .store)) (now (start .args .out)) (start .args .at) (sent .result .unit) (now (start .args .store)) (sent .last .1 .1 .0) (sent .result .at) owed (sent .ensures .0),
+      sent .ensures .1,
+    )
 
 -- src/reply.rt:57:1
 returns-2 : tie.Need-returns-2
-returns-2 c = 
+returns-2 c =
     let start = c .before .before .before .before in
     let owed = sym (c .before .owes-full .ensures) ∙ c .if1 .left in
     (silent (start .args .r) (now (start .args .store)) (now (start .args .out)) (start .args .at) owed, omega arith)

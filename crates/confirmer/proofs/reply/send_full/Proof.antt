@@ -18,7 +18,7 @@ slice-aggregate-write-full c = search needs
 
 -- src/reply.rt:50:9
 write-full-requires : tie.Need-write-full-requires
-write-full-requires c κs = 
+write-full-requires c κs =
     let long : length (c .before .before .before .before .before .args .r .own .value) ≡ valueLength = sym (slice-aggregate-write-full c) in
     let start = c .before .before .before .before .before in
     let r = start .args .r in
@@ -33,12 +33,13 @@ same-length c = search needs
 
 -- src/reply.rt:40:1
 returns : tie.Need-returns
-returns c = 
+returns c =
     let start = c .before .before .before .before .before .before .before .before in
     let r = start .args .r in
-    let wrote = c .before .before .write-full in
-    (full-sent r (now (start .args .store)) (now (start .args .out)) (start .args .at) (wrote .last .0) (wrote .result) (wrote .ensures .0),
-    omega (arith, wrote .ensures .1, full-bound (r .n) (size (r .own .collected)) (start .pre .0 .few)))
+    let wrote = c .before .before .write-full in (
+      full-sent r (now (start .args .store)) (now (start .args .out)) (start .args .at) (wrote .last .0) (wrote .result) (wrote .ensures .0),
+      omega (arith, wrote .ensures .1, full-bound (r .n) (size (r .own .collected)) (start .pre .0 .few)),
+    )
 
 pub send-full-spec : {M : Type 1} → statement M
 send-full-spec =
