@@ -84,6 +84,20 @@ struct zolbine_written zolbine_sign(uint32_t leaf,
                                     const uint8_t *message, size_t message_len,
                                     uint8_t *out, size_t out_len);
 
+struct zolbine_verdict {
+    uint32_t number; /* the refusal's number, or 0 */
+    uint32_t mask;   /* the seats that the evidence names, seat s being bit s; 0 with a refusal */
+};
+
+/* The evidence check: an EVIDENCE command of a fleet of n seats in a round, under the fleet's key table (56 * n bytes, seat s's
+ * key at byte 56 * s, types 6 and 4). Accepted evidence names double signers: each seat in the mask signed two layouts in the round.
+ * Refusals: ZOLBINE_SIZE, ZOLBINE_ROUND, ZOLBINE_KEYS, ZOLBINE_GARBLED, ZOLBINE_OTHER_ROUND, ZOLBINE_STRANGER, ZOLBINE_DISORDER,
+ * ZOLBINE_SIGNATURE, ZOLBINE_NO_CONFLICT. Signatures are checked only after everything cheaper has passed.
+ */
+struct zolbine_verdict zolbine_check_evidence(uint32_t n, uint32_t round,
+                                              const uint8_t *keys, size_t keys_len,
+                                              const uint8_t *evidence, size_t evidence_len);
+
 #ifdef __cplusplus
 }
 #endif
