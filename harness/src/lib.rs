@@ -1,13 +1,16 @@
 //! Tests and measurements of the library from outside: a second implementation, foreign vectors, plain C.
 
 pub mod compare;
+pub mod confirmer;
 pub mod contest;
 pub mod cpu_time;
 pub mod digests;
+pub mod fleet;
 pub mod guarded;
 pub mod hex;
 pub mod keys;
 pub mod library;
+pub mod memo;
 pub mod parallel;
 pub mod plain;
 pub mod reference;

@@ -1,4 +1,5 @@
-//! The proved code: libzolbine.a under the feature `zolbine`, libprobes.a under the feature `probes`.
+//! The proved code: libzolbine.a under the feature `zolbine`, the confirmer's calls in it group by group under
+//! `evidence`, `engine`, `making` and `lent`, and libprobes.a under the feature `probes`.
 
 pub struct Library;
 
@@ -8,6 +9,163 @@ mod calls {
     use crate::subject::c_calls;
 
     c_calls!(Library: zolbine_check_signature, zolbine_make_key, zolbine_sign);
+}
+
+#[cfg(feature = "evidence")]
+mod evidence {
+    use super::Library;
+    use crate::confirmer::EvidenceCheck;
+    use crate::reference::record::Verdict;
+    use crate::subject::c_functions;
+
+    c_functions! {
+        fn zolbine_check_evidence(n: u32, round: u32, keys: &[u8], evidence: &[u8]) -> Verdict;
+    }
+
+    impl EvidenceCheck for Library {
+        fn check_evidence(&self, n: u32, round: u32, keys: &[u8], evidence: &[u8]) -> Verdict {
+            zolbine_check_evidence(n, round, keys, evidence)
+        }
+    }
+}
+
+#[cfg(feature = "engine")]
+mod engine {
+    use super::Library;
+    use crate::confirmer::Engine;
+    use crate::reference::record::{Opened, Record, Stepped};
+    use crate::subject::c_functions;
+
+    c_functions! {
+        fn zolbine_open(n: u32, seat: u32, round: u32, keys: &[u8]) -> Opened;
+        fn zolbine_submit(
+            record: Record,
+            keys: &[u8],
+            store: &mut [u8],
+            value: &[u8],
+            signature: &[u8],
+            out: &mut [u8]
+        ) -> Stepped;
+        fn zolbine_step(record: Record, keys: &[u8], store: &mut [u8], message: &[u8], out: &mut [u8]) -> Stepped;
+    }
+
+    impl Engine for Library {
+        fn open(&self, n: u32, seat: u32, round: u32, keys: &[u8]) -> Opened {
+            zolbine_open(n, seat, round, keys)
+        }
+
+        fn submit(
+            &self,
+            record: Record,
+            keys: &[u8],
+            store: &mut [u8],
+            value: &[u8],
+            signature: &[u8],
+            out: &mut [u8],
+        ) -> Stepped {
+            zolbine_submit(record, keys, store, value, signature, out)
+        }
+
+        fn step(&self, record: Record, keys: &[u8], store: &mut [u8], message: &[u8], out: &mut [u8]) -> Stepped {
+            zolbine_step(record, keys, store, message, out)
+        }
+    }
+}
+
+#[cfg(feature = "lent")]
+mod lent {
+    use super::Library;
+    use crate::confirmer::LentStep;
+    use crate::reference::calls::Written;
+    use crate::reference::record::Record;
+    use crate::subject::c_functions;
+
+    c_functions! {
+        fn zolbine_step_lent(
+            record: &mut Record,
+            keys: &[u8],
+            store: &mut [u8],
+            message: &[u8],
+            out: &mut [u8]
+        ) -> Written;
+    }
+
+    impl LentStep for Library {
+        fn step_lent(
+            &self,
+            record: &mut Record,
+            keys: &[u8],
+            store: &mut [u8],
+            message: &[u8],
+            out: &mut [u8],
+        ) -> Written {
+            zolbine_step_lent(record, keys, store, message, out)
+        }
+    }
+}
+
+#[cfg(feature = "making")]
+mod making {
+    use super::Library;
+    use crate::confirmer::Making;
+    use crate::reference::calls::Written;
+    use crate::subject::c_functions;
+
+    /// A part of a lent buffer.
+    #[repr(C)]
+    struct Part {
+        start: *const u8,
+        length: usize,
+    }
+
+    c_functions! {
+        fn zolbine_make_evidence(
+            n: u32,
+            round: u32,
+            keys: &[u8],
+            first: &[u8],
+            second: &[u8],
+            out: &mut [u8]
+        ) -> Written;
+        fn zolbine_lower_certificate(n: u32, round: u32, keys: &[u8], first: &[u8], second: &[u8]) -> Part;
+    }
+
+    impl Making for Library {
+        fn make_evidence(
+            &self,
+            n: u32,
+            round: u32,
+            keys: &[u8],
+            first: &[u8],
+            second: &[u8],
+            out: &mut [u8],
+        ) -> Written {
+            zolbine_make_evidence(n, round, keys, first, second, out)
+        }
+
+        fn lower_certificate<'a>(
+            &self,
+            n: u32,
+            round: u32,
+            keys: &[u8],
+            first: &'a [u8],
+            second: &'a [u8],
+        ) -> &'a [u8] {
+            part_of(&[first, second], &zolbine_lower_certificate(n, round, keys, first, second))
+        }
+    }
+
+    /// The part as a slice, once it is known to lie in one of the buffers.
+    fn part_of<'a>(buffers: &[&'a [u8]], part: &Part) -> &'a [u8] {
+        if part.length == 0 {
+            return &[];
+        }
+        let found = buffers.iter().find_map(|buffer| {
+            let start = (part.start as usize).checked_sub(buffer.as_ptr() as usize)?;
+            buffer.get(start..start.checked_add(part.length)?)
+        });
+        found.expect("the answer is a part of a lent buffer")
+    }
 }
 
 #[cfg(feature = "probes")]
@@ -46,5 +204,13 @@ pub fn hashes() -> Option<&'static dyn crate::subject::Hashes> {
     #[cfg(feature = "probes")]
     return Some(&Library);
     #[cfg(not(feature = "probes"))]
+    None
+}
+
+/// The proved step that is lent its record where it is linked.
+pub fn lent_step() -> Option<&'static dyn crate::confirmer::LentStep> {
+    #[cfg(feature = "lent")]
+    return Some(&Library);
+    #[cfg(not(feature = "lent"))]
     None
 }
