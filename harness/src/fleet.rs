@@ -112,3 +112,12 @@ pub fn sign(seat: u32, leaf: u32, message: &[u8], hand: u32) -> Vec<u8> {
         keys()[seat as usize].sign(leaf, &randomizer, message)
     })
 }
+
+/// So many of n seats, rising.
+pub fn some_seats(n: u32, count: u32, rng: &mut Rng) -> Vec<u32> {
+    let mut seats: Vec<u32> = (0..n).collect();
+    while seats.len() > count as usize {
+        seats.remove(rng.below(seats.len()));
+    }
+    seats
+}

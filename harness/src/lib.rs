@@ -1,5 +1,6 @@
 //! Tests and measurements of the library from outside: a second implementation, foreign vectors, plain C.
 
+pub mod air;
 pub mod compare;
 pub mod confirmer;
 pub mod contest;

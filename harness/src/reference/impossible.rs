@@ -32,7 +32,7 @@ pub fn causes(record: &Record) -> Vec<&'static str> {
         ("the first certificate has neither 0 nor k seats", first.seats != 0 && size(first.seats) != k),
         ("confirmed without a first certificate", confirmed && first.seats == 0),
         ("guilty seats without a first certificate", guilty != 0 && first.seats == 0),
-        ("a guilty seat is outside the first certificate", guilty & !first.seats != 0),
+        ("a guilty seat is outside the first certificate", first.seats != 0 && guilty & !first.seats != 0),
         ("FULL was sent unconfirmed", sent && !confirmed),
         ("the own value is not zero and unset", !own.submitted && own.value != nothing),
         ("the heard value is not zero and unset", notices.heard == 0 && notices.value != nothing),
