@@ -35,6 +35,11 @@ pub trait Making: Sync {
     fn lower_certificate<'a>(&self, n: u32, round: u32, keys: &[u8], first: &'a [u8], second: &'a [u8]) -> &'a [u8];
 }
 
+/// All of the calls.
+pub trait Confirmer: EvidenceCheck + Engine + LentStep + Making {}
+
+impl<T: EvidenceCheck + Engine + LentStep + Making> Confirmer for T {}
+
 /// Gives a type the calls of a module like [`crate::reference`].
 #[macro_export]
 macro_rules! confirmer_of {

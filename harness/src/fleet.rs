@@ -18,10 +18,10 @@ pub struct Fleet {
     pub round: u32,
 }
 
-/// The rounds that the seats can sign in: the first, the last, and two between.
+/// The rounds that the seats can sign in: the first, the last, one of the scripts, and one of more than a byte.
 pub fn rounds() -> [u32; 4] {
     let mut rng = Rng::new(seed(), "rounds");
-    [0, 1023, 1 + rng.below(511) as u32, 512 + rng.below(511) as u32]
+    [0, 5, 256 + rng.below(767) as u32, 1023]
 }
 
 fn keys() -> &'static [Key] {

@@ -16,5 +16,6 @@ pub mod parallel;
 pub mod plain;
 pub mod reference;
 pub mod rng;
+pub mod script;
 pub mod subject;
 pub mod vectors;

@@ -5,8 +5,8 @@ use std::sync::Mutex;
 
 pub struct Memo<Q, A>(Mutex<BTreeMap<Q, A>>);
 
-/// Answers kept before all are forgotten: some tens of megabytes of signatures.
-const KEPT: usize = 20_000;
+/// Answers kept before all are forgotten: about 100 megabytes of signatures.
+const KEPT: usize = 60_000;
 
 impl<Q: Ord, A: Clone> Memo<Q, A> {
     pub const fn new() -> Memo<Q, A> {

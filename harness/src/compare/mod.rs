@@ -62,7 +62,7 @@ fn run<C: Sync, R: Send>(
     given
 }
 
-fn equal<T: PartialEq + std::fmt::Debug>(name: &str, is: T, expected: T) -> Result<(), String> {
+pub fn equal<T: PartialEq + std::fmt::Debug>(name: &str, is: T, expected: T) -> Result<(), String> {
     if is == expected {
         Ok(())
     } else {

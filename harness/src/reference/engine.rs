@@ -45,6 +45,7 @@ pub fn submit(
         signature(keys, record.round, record.seat, &value, own_signature)?;
         let mut unit = Unit::new(&record, store);
         unit.submit(value, own_signature);
+        unit.send_full();
         Ok(unit)
     };
     hand_over(submitted(), record, store, out)
@@ -130,7 +131,6 @@ impl Unit {
         self.record.own.value = value;
         self.submit = Some(Submit { round, seat, value, signature: signature.to_vec() });
         self.collect(seat, signature);
-        self.send_full();
     }
 
     fn hear_submit(&mut self, submit: &Submit) {
