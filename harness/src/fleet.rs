@@ -97,7 +97,7 @@ impl Fleet {
     }
 }
 
-/// The public keys of the first n seats; n may go one beyond a fleet's 32, the last key then stands twice.
+/// The public keys of the first n seats; beyond a fleet's 32 the last key stands again.
 pub fn table(n: u32) -> Vec<u8> {
     let keys = keys();
     (0..n as usize).flat_map(|seat| keys[seat.min(31)].public.clone()).collect()

@@ -4,7 +4,7 @@
 pub struct Library;
 
 #[cfg(feature = "zolbine")]
-mod calls {
+mod signature_calls {
     use super::Library;
     use crate::subject::c_calls;
 
@@ -12,7 +12,7 @@ mod calls {
 }
 
 #[cfg(feature = "evidence")]
-mod evidence {
+mod evidence_calls {
     use super::Library;
     use crate::confirmer::EvidenceCheck;
     use crate::reference::record::Verdict;
@@ -30,7 +30,7 @@ mod evidence {
 }
 
 #[cfg(feature = "engine")]
-mod engine {
+mod engine_calls {
     use super::Library;
     use crate::confirmer::Engine;
     use crate::reference::record::{Opened, Record, Stepped};
@@ -73,7 +73,7 @@ mod engine {
 }
 
 #[cfg(feature = "lent")]
-mod lent {
+mod lent_calls {
     use super::Library;
     use crate::confirmer::LentStep;
     use crate::reference::calls::Written;
@@ -105,7 +105,7 @@ mod lent {
 }
 
 #[cfg(feature = "making")]
-mod making {
+mod making_calls {
     use super::Library;
     use crate::confirmer::Making;
     use crate::reference::calls::Written;
@@ -191,26 +191,23 @@ mod probes {
     }
 }
 
-/// The proved calls where an archive is linked.
-pub fn calls() -> Option<&'static dyn crate::subject::Calls> {
-    #[cfg(feature = "zolbine")]
-    return Some(&Library);
-    #[cfg(not(feature = "zolbine"))]
-    None
+/// Hands out the library behind a face where the feature links what stands behind it.
+macro_rules! linked {
+    ($($name:ident: $face:path, $feature:literal;)*) => {
+        $(pub fn $name() -> Option<&'static dyn $face> {
+            #[cfg(feature = $feature)]
+            return Some(&Library);
+            #[cfg(not(feature = $feature))]
+            None
+        })*
+    };
 }
 
-/// The proved layers below where the archive with the probes is linked.
-pub fn hashes() -> Option<&'static dyn crate::subject::Hashes> {
-    #[cfg(feature = "probes")]
-    return Some(&Library);
-    #[cfg(not(feature = "probes"))]
-    None
-}
-
-/// The proved step that is lent its record where it is linked.
-pub fn lent_step() -> Option<&'static dyn crate::confirmer::LentStep> {
-    #[cfg(feature = "lent")]
-    return Some(&Library);
-    #[cfg(not(feature = "lent"))]
-    None
+linked! {
+    calls: crate::subject::Calls, "zolbine";
+    hashes: crate::subject::Hashes, "probes";
+    evidence_check: crate::confirmer::EvidenceCheck, "evidence";
+    engine: crate::confirmer::Engine, "engine";
+    lent_step: crate::confirmer::LentStep, "lent";
+    making: crate::confirmer::Making, "making";
 }

@@ -23,6 +23,19 @@ pub struct Calls<'a> {
 /// What stands in `out` and in a store before anything is written there.
 const BLANK: u8 = 0xa5;
 
+/// Runs every script of data/rounds.
+pub fn all(calls: Calls) {
+    let folder = concat!(env!("CARGO_MANIFEST_DIR"), "/data/rounds");
+    let files = std::fs::read_dir(folder).expect(folder).map(|entry| entry.expect(folder).path());
+    let mut scripts: Vec<_> = files.filter(|path| path.extension().is_some_and(|end| end == "txt")).collect();
+    scripts.sort();
+    assert!(!scripts.is_empty(), "no scripts in {folder}");
+    for path in scripts {
+        let text = std::fs::read_to_string(&path).expect("a script");
+        run(&text, calls).unwrap_or_else(|difference| panic!("{}, {difference}", path.display()));
+    }
+}
+
 /// Runs a script, and tells the line at which an answer isn't the expected one.
 pub fn run(text: &str, calls: Calls) -> Result<(), String> {
     let mut script = Script {

@@ -1,28 +1,28 @@
 //! The rounds of data/rounds, whose answers were worked out from document 01 by hand.
 
 use harness::confirmer::Reference;
+use harness::library;
 use harness::script::{self, Calls};
 
-fn all(calls: Calls) {
-    let folder = concat!(env!("CARGO_MANIFEST_DIR"), "/data/rounds");
-    let files = std::fs::read_dir(folder).unwrap().map(|entry| entry.unwrap().path());
-    let mut scripts: Vec<_> = files.filter(|path| path.extension().is_some_and(|end| end == "txt")).collect();
-    scripts.sort();
-    assert!(!scripts.is_empty());
-    for path in scripts {
-        let text = std::fs::read_to_string(&path).unwrap();
-        script::run(&text, calls).unwrap_or_else(|difference| panic!("{}, {difference}", path.display()));
-    }
-}
+const REFERENCE: Calls<'static> = Calls { engine: &Reference, evidence: &Reference, making: &Reference };
 
 #[test]
 fn on_the_reference() {
-    all(Calls { engine: &Reference, evidence: &Reference, making: &Reference });
+    script::all(REFERENCE);
+}
+
+/// The reference stands in for what isn't linked.
+#[test]
+fn on_the_library() {
+    script::all(Calls {
+        engine: library::engine().unwrap_or(&Reference),
+        evidence: library::evidence_check().unwrap_or(&Reference),
+        making: library::making().unwrap_or(&Reference),
+    });
 }
 
 #[test]
 fn a_wrong_answer_is_told() {
-    let calls = Calls { engine: &Reference, evidence: &Reference, making: &Reference };
     let opening = "fleet 4 round 5\nlayout A 11\n0 opens\n= 0\n";
     for (rest, line) in [
         ("0 submits A\n= 0 1487 SUBMIT 0 A", 6),
@@ -33,7 +33,7 @@ fn a_wrong_answer_is_told() {
         ("check EVIDENCE A A of 1\n= 14", 6),
         ("lower NOTICE 1 A and NOTICE 1 A\n= first", 6),
     ] {
-        let told = script::run(&format!("{opening}{rest}"), calls).unwrap_err();
+        let told = script::run(&format!("{opening}{rest}"), REFERENCE).unwrap_err();
         assert!(told.starts_with(&format!("line {line}: ")), "{rest}: {told}");
     }
 }

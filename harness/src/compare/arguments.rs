@@ -1,7 +1,7 @@
 //! What a call outside a record is given: n, round and key table, and each of them made wrong.
 
-use super::refusals::{lengths, on_part, spoiler, Spoiler};
-use crate::fleet::Fleet;
+use super::refusals::{on_part, spoiler, Spoiler};
+use crate::fleet::{self, Fleet};
 use crate::guarded::Guarded;
 use crate::reference::lms::PUBLIC_KEY;
 
@@ -35,8 +35,12 @@ impl Arguments {
 /// Tables of other lengths, and a type that isn't allowed in the first, a middle and the last key.
 pub fn key_spoilers(n: u32) -> Vec<Spoiler<Vec<u8>>> {
     let whole = PUBLIC_KEY * n as usize;
-    let wrong = [0, 1, whole - 1, whole + 1, whole - PUBLIC_KEY, whole + PUBLIC_KEY, 2 * whole];
-    let mut spoilers = lengths(5, "keys", &wrong, |keys| keys);
+    let longer = fleet::table(2 * n);
+    let mut spoilers: Vec<Spoiler<Vec<u8>>> = Vec::new();
+    for length in [0, 1, whole - 1, whole + 1, whole - PUBLIC_KEY, whole + PUBLIC_KEY, 2 * whole] {
+        let keys = longer[..length].to_vec();
+        spoilers.push(spoiler(5, format!("keys of {length} bytes"), move |it, _| *it = keys.clone()));
+    }
     for seat in [0, n / 2, n - 1] {
         // A byte of the two types, and another number there; 5 and 3 are allowed only in the stand-alone check.
         for (at, byte) in [(0, 6), (2, 1), (3, 5), (3, 7), (3, 4), (4, 0x80), (6, 4), (7, 3), (7, 5), (7, 6)] {

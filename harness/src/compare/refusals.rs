@@ -68,8 +68,8 @@ impl<C> Spoiled<C> {
     }
 }
 
-/// Each spoiler alone, then `together` times two to four at once: the later condition's change first, so that no change
-/// mends an earlier condition.
+/// Each spoiler alone, each two numbers together, then `together` times two to four spoilers at once: the later
+/// condition's change first, so that no change mends an earlier condition.
 pub fn spoiled<C>(
     spoilers: &[Spoiler<C>],
     together: usize,
@@ -77,13 +77,13 @@ pub fn spoiled<C>(
     right: impl Fn(&mut Rng) -> C,
 ) -> Vec<Spoiled<C>> {
     let mut choices: Vec<Vec<usize>> = (0..spoilers.len()).map(|index| vec![index]).collect();
+    choices.extend(pairs(spoilers, rng));
     for _ in 0..together {
-        let mut choice: Vec<usize> = (0..2 + rng.below(3)).map(|_| rng.below(spoilers.len())).collect();
+        choices.push((0..2 + rng.below(3)).map(|_| rng.below(spoilers.len())).collect());
+    }
+    let spoil = |mut choice: Vec<usize>| {
         choice.sort_by_key(|&index| (std::cmp::Reverse(spoilers[index].place), index));
         choice.dedup();
-        choices.push(choice);
-    }
-    let spoil = |choice: Vec<usize>| {
         let mut case = right(rng);
         let chosen: Vec<&Spoiler<C>> = choice.into_iter().map(|index| &spoilers[index]).collect();
         for spoiler in &chosen {
@@ -93,4 +93,19 @@ pub fn spoiled<C>(
         Spoiled { case, what: names.join("; "), places: chosen.iter().map(|spoiler| spoiler.place).collect() }
     };
     choices.into_iter().map(spoil).collect()
+}
+
+/// Three times a spoiler of each number with one of each other number.
+fn pairs<C>(spoilers: &[Spoiler<C>], rng: &mut Rng) -> Vec<Vec<usize>> {
+    let mut places: Vec<u32> = spoilers.iter().map(|spoiler| spoiler.place).collect();
+    places.sort();
+    places.dedup();
+    let of = |place: u32| (0..spoilers.len()).filter(move |&index| spoilers[index].place == place).collect::<Vec<_>>();
+    let mut pairs = Vec::new();
+    for (number, &earlier) in places.iter().enumerate() {
+        for &later in &places[number + 1..] {
+            pairs.extend((0..3).map(|_| vec![*rng.pick(&of(earlier)), *rng.pick(&of(later))]));
+        }
+    }
+    pairs
 }
