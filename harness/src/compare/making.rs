@@ -62,7 +62,7 @@ pub fn battery(subject: &dyn Making) {
         let fleet = Fleet { n, round: *rng.pick(&rounds()) };
         let pairs = if n <= 7 { 12 } else { 2 };
         cases.extend((0..pairs).flat_map(|_| both_orders(fleet, &mut rng)));
-        if long() || [1, 2, 3, 4, 5, 7, 32].contains(&n) {
+        if long() || [1, 2, 3, 4, 7].contains(&n) {
             cases.extend(refusals(fleet, &mut rng));
         }
         cases.extend(in_another_fleet(fleet, &mut rng));

@@ -6,7 +6,7 @@ use std::collections::BTreeMap;
 use super::records::{any_impossible, opened};
 use super::{both, Call, Case, Subject};
 use crate::air;
-use crate::compare::{equal, long, run};
+use crate::compare::{equal, long, progress, run};
 use crate::fleet::{layouts, rounds, some_seats, Fleet, HANDS};
 use crate::reference::engine::out_length;
 use crate::reference::evidence::check_evidence;
@@ -32,10 +32,10 @@ pub fn battery(subject: Subject) {
     let mut plans = Vec::new();
     for n in (1..=32).rev() {
         let (lists, calls) = match (n, long()) {
-            (1, _) => (120, 20),
+            (1, _) => (200, 20),
             (_, true) => (50, 100),
-            (2..=7, false) => (24, 60),
-            (10 | 31 | 32, false) => (4, 40),
+            (2..=7, false) => (40, 60),
+            (10 | 31 | 32, false) => (6, 40),
             _ => continue,
         };
         let plan =
@@ -56,6 +56,8 @@ pub fn battery(subject: Subject) {
 
 /// The lists mean nothing if they don't come by every answer and every choice of messages.
 fn covered(tally: &Tally) {
+    let told: Vec<String> = tally.iter().map(|(what, times)| format!("{what}: {times}")).collect();
+    progress(&format!("lists: {}", told.join(", ")));
     let steps = [0, 4, 5, 6, 7, 9, 10, 11, 12, 13, 14].map(|number| format!("step {number}"));
     let submits = [0, 4, 5, 6, 7, 8, 9, 14].map(|number| format!("submit {number}"));
     let written = [
@@ -73,7 +75,7 @@ fn covered(tally: &Tally) {
     ];
     let written = written.map(|names| format!("wrote{names}"));
     for what in steps.iter().chain(&submits).chain(&written).chain([&"disagreement".to_string()]) {
-        assert!(tally.contains_key(what), "no list came by `{what}`: {tally:?}");
+        assert!(tally.contains_key(what), "no list came by `{what}`");
     }
 }
 
@@ -123,8 +125,14 @@ impl<'a> Sea<'a> {
 
     fn play(&mut self, rng: &mut Rng) -> Result<(), String> {
         for boat in 0..self.boats.len() {
-            if rng.one_in(2) {
-                self.nearly_confirmed(boat, rng)?;
+            let (heard_before, lacking) =
+                *rng.pick(&[(0, None), (0, Some(1)), (0, Some(2)), (6, Some(0)), (6, Some(1))]);
+            for _ in 0..heard_before {
+                let message = self.sent_to(boat, rng);
+                self.hear(boat, "sent early on", message, rng)?;
+            }
+            if let Some(lacking) = lacking {
+                self.collect(boat, lacking, rng)?;
             }
         }
         for _ in 0..self.plan.calls {
@@ -142,6 +150,10 @@ impl<'a> Sea<'a> {
                 }
                 60..=65 => self.wrong_buffers(boat, rng)?,
                 66..=68 => self.impossible(boat, rng)?,
+                69..=71 => {
+                    let message = self.foreign(rng);
+                    self.hear(boat, "of another fleet or round", message, rng)?;
+                }
                 _ => {
                     let message = self.sent_to(boat, rng);
                     self.hear(boat, "sent", message, rng)?;
@@ -154,13 +166,12 @@ impl<'a> Sea<'a> {
         Ok(())
     }
 
-    /// A boat that has submitted and lacks only a few signatures.
-    fn nearly_confirmed(&mut self, boat: usize, rng: &mut Rng) -> Result<(), String> {
+    /// A boat submits and collects, until it lacks only so many signatures of k or nobody else is willing.
+    fn collect(&mut self, boat: usize, lacking: u32, rng: &mut Rng) -> Result<(), String> {
         self.submit(boat, rng)?;
-        let lacking = 1 + rng.below(3);
-        for _ in lacking..self.plan.fleet.k() as usize {
+        for _ in lacking + 1..self.plan.fleet.k() {
             let message = self.helpful_submit(boat, rng);
-            self.hear(boat, "sent early on", message, rng)?;
+            self.hear(boat, "collected", message, rng)?;
         }
         Ok(())
     }
@@ -227,6 +238,24 @@ impl<'a> Sea<'a> {
         };
         self.air.push(message.clone());
         message
+    }
+
+    /// A message that is right in another round, or in a fleet of another size.
+    fn foreign(&self, rng: &mut Rng) -> Vec<u8> {
+        let Fleet { n, round } = self.plan.fleet;
+        let fleet = if self.plan.fair || rng.one_in(2) {
+            let others: Vec<u32> = rounds().into_iter().filter(|&other| other != round).collect();
+            Fleet { n, round: *rng.pick(&others) }
+        } else {
+            Fleet { n: *rng.pick(&[(n - 1).max(1), (n + 1).min(32)]), round }
+        };
+        let seat = rng.below(fleet.n as usize) as u32;
+        let value = rng.pick(&self.layouts);
+        match rng.below(3) {
+            0 => fleet.submit(seat, value, 0).write(),
+            1 => fleet.notice(seat, value).write(),
+            _ => fleet.full(seat, value, &some_seats(fleet.n, fleet.k(), rng), 0).write(),
+        }
     }
 
     fn wrong_buffers(&mut self, boat: usize, rng: &mut Rng) -> Result<(), String> {
@@ -332,9 +361,12 @@ impl<'a> Sea<'a> {
         Ok(())
     }
 
-    /// The end of a fair list: the NOTICE and FULL of each boat reach every other. Demand 3: where two have confirmed
+    /// The end of a fair list: each boat gets the signatures that it lacks, and its NOTICE and FULL reach every other. Demand 3: where two have confirmed
     /// different layouts, each boat has written evidence that names at least t0 + 1 seats.
     fn settle(&mut self, rng: &mut Rng) -> Result<(), String> {
+        for boat in 0..self.boats.len() {
+            self.collect(boat, 0, rng)?;
+        }
         let mut reached = vec![0; self.boats.len()];
         while let Some(from) = (0..reached.len()).find(|&boat| reached[boat] < self.boats[boat].said.len()) {
             let message = self.boats[from].said[reached[from]].clone();

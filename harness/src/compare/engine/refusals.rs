@@ -107,10 +107,12 @@ fn own_spoilers(fleet: Fleet, seat: u32, value: Value) -> Vec<Spoiler<Case>> {
     spoilers
 }
 
+type Change = fn(&mut Record);
+
 /// 4 to 7. A record is made impossible whatever it was before.
 fn shared_spoilers(fleet: Fleet) -> Vec<Spoiler<Case>> {
     let Fleet { n, .. } = fleet;
-    let records: [(&str, fn(&mut Record)); 8] = [
+    let records: [(&str, Change); 8] = [
         ("n of 0", |record| record.n = 0),
         ("n of 33", |record| record.n = 33),
         ("seat at n", |record| record.seat = record.n),
