@@ -1,4 +1,4 @@
-//! Lent buffers with guard bytes before and after.
+//! Lent buffers and structs with guard bytes before and after.
 
 use crate::rng::Rng;
 
@@ -44,6 +44,34 @@ impl Guarded {
     }
 }
 
+#[repr(C)]
+pub struct GuardedItem<T> {
+    before: [u8; MARGIN],
+    item: T,
+    after: [u8; MARGIN],
+    guards: [[u8; MARGIN]; 2],
+}
+
+impl<T> GuardedItem<T> {
+    pub fn new(item: T, rng: &mut Rng) -> GuardedItem<T> {
+        let guards = [0; 2].map(|_: u8| rng.bytes(MARGIN).try_into().expect("a margin"));
+        GuardedItem { before: guards[0], item, after: guards[1], guards }
+    }
+
+    pub fn lent_mut(&mut self) -> &mut T {
+        &mut self.item
+    }
+
+    /// What stands there, where the guards are as they were.
+    pub fn taken(self, name: &str) -> Result<T, String> {
+        if [self.before, self.after] == self.guards {
+            Ok(self.item)
+        } else {
+            Err(format!("{name}: bytes around it were written"))
+        }
+    }
+}
+
 #[cfg(test)]
 mod tests {
     use super::*;
@@ -58,6 +86,21 @@ mod tests {
             let mut touched = fresh();
             touched.whole[at] ^= 1;
             assert_eq!(touched.expect("x", &[1, 2, 3]), Err(format!("x: bytes {told} it were written")));
+        }
+    }
+
+    #[test]
+    fn a_byte_touched_beside_an_item_is_told() {
+        let fresh = || GuardedItem::new(5u32, &mut Rng::new(1, "guarded"));
+        assert_eq!(fresh().taken("x"), Ok(5));
+        let mut changed = fresh();
+        *changed.lent_mut() = 6;
+        assert_eq!(changed.taken("x"), Ok(6));
+        let touches: [fn(&mut GuardedItem<u32>); 2] = [|item| item.before[MARGIN - 1] ^= 1, |item| item.after[0] ^= 1];
+        for touch in touches {
+            let mut touched = fresh();
+            touch(&mut touched);
+            assert_eq!(touched.taken("x"), Err("x: bytes around it were written".to_string()));
         }
     }
 }

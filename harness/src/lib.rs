@@ -1,16 +1,21 @@
 //! Tests and measurements of the library from outside: a second implementation, foreign vectors, plain C.
 
+pub mod air;
 pub mod compare;
+pub mod confirmer;
 pub mod contest;
 pub mod cpu_time;
 pub mod digests;
+pub mod fleet;
 pub mod guarded;
 pub mod hex;
 pub mod keys;
 pub mod library;
+pub mod memo;
 pub mod parallel;
 pub mod plain;
 pub mod reference;
 pub mod rng;
+pub mod script;
 pub mod subject;
 pub mod vectors;

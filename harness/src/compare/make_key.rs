@@ -1,6 +1,6 @@
 //! The key maker: whole trees and public keys byte by byte, and each refusal alone and with others.
 
-use super::refusals::{spoiled, Spoiler};
+use super::refusals::{lengths, spoiled, Spoiler};
 use super::{equal, progress, run};
 use crate::guarded::Guarded;
 use crate::reference::calls::{self, TREE};
@@ -68,27 +68,24 @@ fn right(what: &str, rng: &mut Rng) -> Case {
 
 fn spoilers() -> Vec<Spoiler<Case>> {
     let mut spoilers: Vec<Spoiler<Case>> = Vec::new();
-    for length in [0, 1, 31, 32, PUBLIC_KEY - 1] {
-        spoilers.push((7, Box::new(move |case, rng| case.out = rng.bytes(length))));
-    }
-    for length in [0, 1, N - 1, N + 1, 2 * N] {
-        spoilers.push((16, Box::new(move |case, rng| case.seed = rng.bytes(length))));
-    }
-    for length in [0, 1, IDENTIFIER - 1, IDENTIFIER + 1, 2 * IDENTIFIER] {
-        spoilers.push((16, Box::new(move |case, rng| case.identifier = rng.bytes(length))));
-    }
-    for length in [0, N, TREE / 2, TREE - N, TREE - 1, TREE + 1, TREE + N, 2 * TREE] {
-        spoilers.push((16, Box::new(move |case, rng| case.tree = rng.bytes(length))));
-    }
+    spoilers.extend(lengths(7, "out", &[0, 1, 31, 32, PUBLIC_KEY - 1], |case: &mut Case| &mut case.out));
+    spoilers.extend(lengths(16, "seed", &[0, 1, N - 1, N + 1, 2 * N], |case: &mut Case| &mut case.seed));
+    spoilers.extend(lengths(
+        16,
+        "identifier",
+        &[0, 1, IDENTIFIER - 1, IDENTIFIER + 1, 2 * IDENTIFIER],
+        |case: &mut Case| &mut case.identifier,
+    ));
+    spoilers.extend(lengths(
+        16,
+        "tree",
+        &[0, N, TREE / 2, TREE - N, TREE - 1, TREE + 1, TREE + N, 2 * TREE],
+        |case: &mut Case| &mut case.tree,
+    ));
     spoilers
 }
 
 fn refusals(rng: &mut Rng) -> Vec<Case> {
     let spoiled = spoiled(&spoilers(), 200, rng, |rng| right("", rng));
-    let named = spoiled.into_iter().map(|(case, numbers)| Case {
-        what: format!("operands of refusals {numbers:?}"),
-        expected: numbers.into_iter().min().unwrap(),
-        ..case
-    });
-    named.collect()
+    spoiled.into_iter().map(|wrong| Case { expected: wrong.number(), what: wrong.what, ..wrong.case }).collect()
 }

@@ -1,8 +1,13 @@
 //! Batteries of cases: each one is given to a subject and to the reference, and every byte that comes out is compared.
 
+mod arguments;
 pub mod check_signature;
+pub mod engine;
+pub mod evidence;
 pub mod hashes;
 pub mod make_key;
+pub mod making;
+mod messages;
 mod refusals;
 pub mod sign;
 
@@ -19,12 +24,27 @@ pub fn progress(line: &str) {
     writeln!(std::io::stderr(), "{line}").expect("standard error");
 }
 
-/// Runs all cases in parallel and fails with the first differences and the seed.
-fn run<C: Sync>(title: &str, cases: &[C], compare: impl Fn(&C, &mut Rng) -> Result<(), String> + Sync) {
+/// ZOLBINE_LONG=1 asks for the long batteries.
+fn long() -> bool {
+    std::env::var("ZOLBINE_LONG").is_ok_and(|value| value == "1")
+}
+
+/// Runs all cases in parallel, fails with the first differences and the seed, and else hands back what the cases gave.
+fn run<C: Sync, R: Send>(
+    title: &str,
+    cases: &[C],
+    compare: impl Fn(&C, &mut Rng) -> Result<R, String> + Sync,
+) -> Vec<R> {
     let numbered: Vec<(usize, &C)> = cases.iter().enumerate().collect();
     let results =
         parallel::map(&numbered, |(number, case)| compare(case, &mut Rng::new(seed(), &format!("{title} {number}"))));
-    let failures: Vec<String> = results.into_iter().filter_map(Result::err).collect();
+    let (mut given, mut failures) = (Vec::new(), Vec::new());
+    for result in results {
+        match result {
+            Ok(result) => given.push(result),
+            Err(difference) => failures.push(difference),
+        }
+    }
     progress(&format!(
         "{title}: {} of {} cases agree (ZOLBINE_SEED={})",
         cases.len() - failures.len(),
@@ -39,9 +59,10 @@ fn run<C: Sync>(title: &str, cases: &[C], compare: impl Fn(&C, &mut Rng) -> Resu
         seed(),
         first.join("\n")
     );
+    given
 }
 
-fn equal<T: PartialEq + std::fmt::Debug>(name: &str, is: T, expected: T) -> Result<(), String> {
+pub fn equal<T: PartialEq + std::fmt::Debug>(name: &str, is: T, expected: T) -> Result<(), String> {
     if is == expected {
         Ok(())
     } else {

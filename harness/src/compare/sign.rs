@@ -2,7 +2,7 @@
 
 use std::sync::Arc;
 
-use super::refusals::{spoiled, Spoiler};
+use super::refusals::{lengths, spoiled, spoiler, Spoiler};
 use super::{equal, keys, message_lengths, run};
 use crate::guarded::Guarded;
 use crate::keys::Key;
@@ -143,23 +143,24 @@ fn any_tree(rng: &mut Rng) -> Vec<Case> {
 fn spoilers() -> Vec<Spoiler<Case>> {
     let mut spoilers: Vec<Spoiler<Case>> = Vec::new();
     for leaf in [MAX_LEAF + 1, 1025, 2047, 2048, 65_535, 65_536, 65_541, 1 << 31, u32::MAX - 1023, u32::MAX] {
-        spoilers.push((3, Box::new(move |case, _| case.leaf = leaf)));
+        spoilers.push(spoiler(3, format!("leaf {leaf}"), move |case: &mut Case, _| case.leaf = leaf));
     }
-    for length in [0, 1, 31, 56, 1292, SIGNATURE - 1] {
-        spoilers.push((7, Box::new(move |case, rng| case.out = rng.bytes(length))));
-    }
-    for length in [MAX_MESSAGE + 1, MAX_MESSAGE + 2, 100_000] {
-        spoilers.push((9, Box::new(move |case, rng| case.message = rng.bytes(length))));
-    }
-    for length in [0, 1, N - 1, N + 1, 2 * N] {
-        spoilers.push((16, Box::new(move |case, rng| case.seed = rng.bytes(length))));
-        spoilers.push((16, Box::new(move |case, rng| case.randomizer = rng.bytes(length))));
-    }
-    for length in [0, 1, IDENTIFIER - 1, IDENTIFIER + 1, 2 * IDENTIFIER] {
-        spoilers.push((16, Box::new(move |case, rng| case.identifier = rng.bytes(length))));
-    }
+    spoilers.extend(lengths(7, "out", &[0, 1, 31, 56, 1292, SIGNATURE - 1], |case: &mut Case| &mut case.out));
+    spoilers.extend(lengths(9, "message", &[MAX_MESSAGE + 1, MAX_MESSAGE + 2, 100_000], |case: &mut Case| {
+        &mut case.message
+    }));
+    spoilers.extend(lengths(16, "seed", &[0, 1, N - 1, N + 1, 2 * N], |case: &mut Case| &mut case.seed));
+    spoilers.extend(lengths(16, "randomizer", &[0, 1, N - 1, N + 1, 2 * N], |case: &mut Case| &mut case.randomizer));
+    spoilers.extend(lengths(
+        16,
+        "identifier",
+        &[0, 1, IDENTIFIER - 1, IDENTIFIER + 1, 2 * IDENTIFIER],
+        |case: &mut Case| &mut case.identifier,
+    ));
     for length in [0, N, TREE / 2, TREE - N, TREE - 1, TREE + 1, TREE + N, 2 * TREE] {
-        spoilers.push((16, Box::new(move |case, rng| case.tree = Arc::new(rng.bytes(length)))));
+        spoilers.push(spoiler(16, format!("tree of {length} bytes"), move |case: &mut Case, rng| {
+            case.tree = Arc::new(rng.bytes(length))
+        }));
     }
     spoilers
 }
@@ -167,10 +168,5 @@ fn spoilers() -> Vec<Spoiler<Case>> {
 fn refusals(rng: &mut Rng) -> Vec<Case> {
     let tree = Arc::new(rng.bytes(TREE));
     let spoiled = spoiled(&spoilers(), 400, rng, |rng| any_operands("", &tree, rng));
-    let named = spoiled.into_iter().map(|(case, numbers)| Case {
-        what: format!("operands of refusals {numbers:?}"),
-        expected: numbers.into_iter().min().unwrap(),
-        ..case
-    });
-    named.collect()
+    spoiled.into_iter().map(|wrong| Case { expected: wrong.number(), what: wrong.what, ..wrong.case }).collect()
 }

@@ -1,0 +1,115 @@
+//! What goes over the air: the messages that a call wrote, taken apart, and messages garbled on their way.
+
+use crate::fleet;
+use crate::reference::calls::SIGNATURE;
+use crate::reference::messages::{EVIDENCE, FULL, NOTICE, SUBMIT};
+use crate::rng::Rng;
+
+/// The name of a written message.
+pub fn name(message: &[u8]) -> &'static str {
+    match message[0] {
+        SUBMIT => "SUBMIT",
+        NOTICE => "NOTICE",
+        FULL => "FULL",
+        EVIDENCE => "EVIDENCE",
+        other => panic!("no command that a call writes: {other:#04x}"),
+    }
+}
+
+/// The messages in the bytes that a call's answer counts.
+pub fn messages(mut written: &[u8]) -> Vec<Vec<u8>> {
+    let mut messages = Vec::new();
+    while !written.is_empty() {
+        let length = match written[0] {
+            SUBMIT => 36 + SIGNATURE,
+            NOTICE => 36,
+            FULL => 37 + (2 + SIGNATURE) * usize::from(written[36]),
+            EVIDENCE => 68 + (2 + 2 * SIGNATURE) * usize::from(written[67]),
+            other => panic!("no command that a call writes: {other:#04x}"),
+        };
+        let (message, rest) = written.split_at(length);
+        messages.push(message.to_vec());
+        written = rest;
+    }
+    messages
+}
+
+/// A message as a bad link or a bad sender leaves it, and what was done to it. Some come out right by chance.
+pub fn garbled(message: &[u8], rng: &mut Rng) -> (&'static str, Vec<u8>) {
+    let mut garbled = message.to_vec();
+    let length = message.len();
+    let what = match rng.below(12) {
+        0 => {
+            garbled[rng.below(length)] ^= 1 << rng.below(8);
+            "a bit flipped"
+        }
+        1 => {
+            garbled[rng.below(length.min(40))] ^= 1 << rng.below(8);
+            "a bit of its head flipped"
+        }
+        2 => {
+            garbled.truncate(rng.below(length));
+            "cut short"
+        }
+        3 => {
+            let most = *rng.pick(&[1, 40, 3000]);
+            let added = 1 + rng.below(most);
+            garbled.extend(rng.bytes(added));
+            "lengthened"
+        }
+        4 => {
+            let length = *rng.pick(&[0, 1, 35, 36, 37, 1488, 1491, 68 + 2906]);
+            garbled = rng.bytes(length);
+            "noise"
+        }
+        5 => {
+            garbled[0] = rng.below(8) as u8;
+            "with another command"
+        }
+        6 => {
+            garbled[1..3].copy_from_slice(&(*rng.pick(&fleet::rounds()) as u16).to_be_bytes());
+            "of some round"
+        }
+        7 => {
+            garbled[3] = rng.below(40) as u8;
+            "of some seat"
+        }
+        8 => {
+            garbled.extend_from_slice(message);
+            "twice in one"
+        }
+        9 => {
+            in_entries(&mut garbled, |entries| {
+                let (one, other) = (rng.below(entries.len()), rng.below(entries.len()));
+                entries.swap(one, other);
+            });
+            "with two entries swapped"
+        }
+        10 => {
+            in_entries(&mut garbled, |entries| {
+                let place = rng.below(entries.len());
+                entries[place][1] = rng.below(40) as u8;
+            });
+            "with an entry of some seat"
+        }
+        _ => {
+            in_entries(&mut garbled, |entries| {
+                let (one, other) = (rng.below(entries.len()), rng.below(entries.len()));
+                let signature = entries[one][2..].to_vec();
+                entries[other][2..].copy_from_slice(&signature);
+            });
+            "with a signature of another entry"
+        }
+    };
+    (what, garbled)
+}
+
+/// A change to the entries of a FULL; any other message stays.
+fn in_entries(message: &mut Vec<u8>, change: impl FnOnce(&mut Vec<Vec<u8>>)) {
+    if message[0] == FULL {
+        let mut entries = message[37..].chunks(2 + SIGNATURE).map(<[u8]>::to_vec).collect();
+        change(&mut entries);
+        message.truncate(37);
+        message.extend(entries.concat());
+    }
+}

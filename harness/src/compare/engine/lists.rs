@@ -1,0 +1,408 @@
+//! Long random lists of calls: boats under test among seats that sign whatever the script wants, over links that lose,
+//! copy, reorder and garble. The subject keeps step with the reference, and the reference with demands 1 and 3.
+
+use std::collections::BTreeMap;
+
+use super::records::{any_impossible, opened};
+use super::{both, Call, Case, Subject};
+use crate::air;
+use crate::compare::{equal, long, progress, run};
+use crate::fleet::{layouts, rounds, some_seats, Fleet, HANDS};
+use crate::reference::engine::out_length;
+use crate::reference::evidence::check_evidence;
+use crate::reference::messages::{Value, EVIDENCE, FULL, NOTICE};
+use crate::reference::quorum::t0;
+use crate::reference::record::{Record, Verdict};
+use crate::reference::seats::{contains, mask, size};
+use crate::reference::store;
+use crate::rng::Rng;
+
+#[derive(Debug)]
+struct Plan {
+    fleet: Fleet,
+    calls: usize,
+    /// No signature over another layout than its own is delivered for a boat's seat.
+    fair: bool,
+}
+
+/// How often a call came to a number, or wrote messages together.
+type Tally = BTreeMap<String, usize>;
+
+pub fn battery(subject: Subject) {
+    let mut plans = Vec::new();
+    for n in (1..=32).rev() {
+        let (lists, calls) = match (n, long()) {
+            (1, _) => (200, 20),
+            (_, true) => (50, 100),
+            (2..=7, false) => (40, 60),
+            (10 | 31 | 32, false) => (6, 40),
+            _ => continue,
+        };
+        let plan =
+            |list: usize| Plan { fleet: Fleet { n, round: rounds()[list % 4] }, calls, fair: list.is_multiple_of(2) };
+        plans.extend((0..lists).map(plan));
+    }
+    let tallies = run("lists", &plans, |plan, rng| {
+        let mut sea = Sea::new(subject, plan, rng);
+        sea.play(rng).map_err(|difference| format!("{plan:?}, {}: {difference}", sea.trail()))?;
+        Ok(sea.tally)
+    });
+    let mut tally = Tally::new();
+    for (what, times) in tallies.into_iter().flatten() {
+        *tally.entry(what).or_default() += times;
+    }
+    covered(&tally);
+}
+
+/// The lists mean nothing if they don't come by every answer and every choice of messages.
+fn covered(tally: &Tally) {
+    let told: Vec<String> = tally.iter().map(|(what, times)| format!("{what}: {times}")).collect();
+    progress(&format!("lists: {}", told.join(", ")));
+    let steps = [0, 4, 5, 6, 7, 9, 10, 11, 12, 13, 14].map(|number| format!("step {number}"));
+    let submits = [0, 4, 5, 6, 7, 8, 9, 14].map(|number| format!("submit {number}"));
+    let written = [
+        "",
+        " SUBMIT",
+        " NOTICE",
+        " FULL",
+        " EVIDENCE",
+        " NOTICE FULL",
+        " FULL EVIDENCE",
+        " NOTICE FULL EVIDENCE",
+        " SUBMIT NOTICE",
+        " SUBMIT NOTICE FULL",
+        " SUBMIT NOTICE FULL EVIDENCE",
+    ];
+    let written = written.map(|names| format!("wrote{names}"));
+    for what in steps.iter().chain(&submits).chain(&written).chain([&"disagreement".to_string()]) {
+        assert!(tally.contains_key(what), "no list came by `{what}`");
+    }
+}
+
+/// A unit under test.
+struct Boat {
+    layout: Value,
+    record: Record,
+    store: Vec<u8>,
+    said: Vec<Vec<u8>>,
+}
+
+struct Sea<'a> {
+    subject: Subject<'a>,
+    plan: &'a Plan,
+    layouts: Vec<Value>,
+    boats: Vec<Boat>,
+    /// Every message that was written or sent.
+    air: Vec<Vec<u8>>,
+    calls: Vec<String>,
+    tally: Tally,
+}
+
+impl<'a> Sea<'a> {
+    fn new(subject: Subject<'a>, plan: &'a Plan, rng: &mut Rng) -> Sea<'a> {
+        let fleet = plan.fleet;
+        let all = layouts();
+        let chosen: Vec<Value> = (0..2 + rng.below(2)).map(|_| *rng.pick(&all)).collect();
+        let seats = some_seats(fleet.n, 1 + rng.below(3) as u32, rng);
+        let boat = |seat| {
+            let spare = *rng.pick(&[0, 0, 1, 100]);
+            Boat {
+                layout: *rng.pick(&chosen),
+                record: opened(fleet, seat),
+                store: rng.bytes(store::length(fleet.n) + spare),
+                said: Vec::new(),
+            }
+        };
+        let boats = seats.into_iter().map(boat).collect();
+        Sea { subject, plan, layouts: chosen, boats, air: Vec::new(), calls: Vec::new(), tally: Tally::new() }
+    }
+
+    /// The last calls, for a difference to be told with.
+    fn trail(&self) -> String {
+        let first = self.calls.len().saturating_sub(8);
+        format!("call {} after\n  {}", self.calls.len(), self.calls[first..].join("\n  "))
+    }
+
+    fn play(&mut self, rng: &mut Rng) -> Result<(), String> {
+        for boat in 0..self.boats.len() {
+            let (heard_before, lacking) =
+                *rng.pick(&[(0, None), (0, Some(1)), (0, Some(2)), (6, Some(0)), (6, Some(1))]);
+            for _ in 0..heard_before {
+                let message = self.sent_to(boat, rng);
+                self.hear(boat, "sent early on", message, rng)?;
+            }
+            if let Some(lacking) = lacking {
+                self.collect(boat, lacking, rng)?;
+            }
+        }
+        for _ in 0..self.plan.calls {
+            let boat = rng.below(self.boats.len());
+            match rng.below(100) {
+                0..=5 => self.submit(boat, rng)?,
+                6..=8 => self.wrong_submit(boat, rng)?,
+                9..=44 if !self.air.is_empty() => {
+                    let message = rng.pick(&self.air).clone();
+                    self.hear(boat, "heard again", message, rng)?;
+                }
+                45..=59 => {
+                    let (what, message) = air::garbled(&self.sent_to(boat, rng), rng);
+                    self.hear(boat, what, message, rng)?;
+                }
+                60..=65 => self.wrong_buffers(boat, rng)?,
+                66..=68 => self.impossible(boat, rng)?,
+                69..=71 => {
+                    let message = self.foreign(rng);
+                    self.hear(boat, "of another fleet or round", message, rng)?;
+                }
+                _ => {
+                    let message = self.sent_to(boat, rng);
+                    self.hear(boat, "sent", message, rng)?;
+                }
+            }
+        }
+        if self.plan.fair {
+            self.settle(rng)?;
+        }
+        Ok(())
+    }
+
+    /// A boat submits and collects, until it lacks only so many signatures of k or nobody else is willing.
+    fn collect(&mut self, boat: usize, lacking: u32, rng: &mut Rng) -> Result<(), String> {
+        self.submit(boat, rng)?;
+        for _ in lacking + 1..self.plan.fleet.k() {
+            let message = self.helpful_submit(boat, rng);
+            self.hear(boat, "collected", message, rng)?;
+        }
+        Ok(())
+    }
+
+    fn submit(&mut self, boat: usize, rng: &mut Rng) -> Result<(), String> {
+        let Boat { layout, record, .. } = self.boats[boat];
+        let signature = self.plan.fleet.signature(record.seat, &layout, rng.below(HANDS as usize) as u32);
+        self.right_call(boat, "submit", Call::Submit { value: layout.to_vec(), signature }, rng)
+    }
+
+    fn hear(&mut self, boat: usize, what: &str, message: Vec<u8>, rng: &mut Rng) -> Result<(), String> {
+        self.right_call(boat, what, Call::Step { message }, rng)
+    }
+
+    fn wrong_submit(&mut self, boat: usize, rng: &mut Rng) -> Result<(), String> {
+        let Boat { layout, record, .. } = self.boats[boat];
+        let fleet = self.plan.fleet;
+        let mut value = layout.to_vec();
+        let mut signature = fleet.signature(record.seat, &layout, 0);
+        match rng.below(5) {
+            0 => value.truncate(rng.below(32)),
+            1 => value.push(rng.below(256) as u8),
+            2 => signature.truncate(rng.below(1452)),
+            3 => signature[rng.below(1452)] ^= 1,
+            _ => value[rng.below(32)] ^= 1,
+        }
+        self.right_call(boat, "wrong submit", Call::Submit { value, signature }, rng)
+    }
+
+    /// The seats that the script makes sign a layout.
+    fn willing(&self, value: &Value) -> Vec<u32> {
+        let says_another = |seat: &u32| {
+            let mut boats = self.boats.iter();
+            boats.any(|boat| boat.record.seat == *seat && boat.layout != *value)
+        };
+        let seats = self.plan.fleet.seats().into_iter();
+        seats.filter(|seat| !self.plan.fair || !says_another(seat)).collect()
+    }
+
+    /// A SUBMIT that brings the boat nearer to confirming, where there is one.
+    fn helpful_submit(&self, boat: usize, rng: &mut Rng) -> Vec<u8> {
+        let Boat { layout, record, .. } = &self.boats[boat];
+        let willing = self.willing(layout);
+        let new: Vec<u32> = willing.iter().copied().filter(|&seat| !contains(record.own.collected, seat)).collect();
+        let seat = *rng.pick(if new.is_empty() { &willing } else { &new });
+        self.plan.fleet.submit(seat, layout, rng.below(HANDS as usize) as u32).write()
+    }
+
+    /// A message of the script.
+    fn sent_to(&mut self, boat: usize, rng: &mut Rng) -> Vec<u8> {
+        let fleet = self.plan.fleet;
+        let seat = rng.below(fleet.n as usize) as u32;
+        let value = *rng.pick(&self.layouts);
+        let willing = self.willing(&value);
+        let message = match rng.below(10) {
+            0..=3 => self.helpful_submit(boat, rng),
+            4 if willing.contains(&seat) => fleet.submit(seat, &value, 0).write(),
+            5..=7 if willing.len() as u32 >= fleet.k() => {
+                let places = some_seats(willing.len() as u32, fleet.k(), rng);
+                let seats: Vec<u32> = places.into_iter().map(|place| willing[place as usize]).collect();
+                fleet.full(seat, &value, &seats, rng.below(HANDS as usize) as u32).write()
+            }
+            _ => fleet.notice(seat, &value).write(),
+        };
+        self.air.push(message.clone());
+        message
+    }
+
+    /// A message that is right in another round, or in a fleet of another size.
+    fn foreign(&self, rng: &mut Rng) -> Vec<u8> {
+        let Fleet { n, round } = self.plan.fleet;
+        let fleet = if self.plan.fair || rng.one_in(2) {
+            let others: Vec<u32> = rounds().into_iter().filter(|&other| other != round).collect();
+            Fleet { n, round: *rng.pick(&others) }
+        } else {
+            Fleet { n: *rng.pick(&[(n - 1).max(1), (n + 1).min(32)]), round }
+        };
+        let seat = rng.below(fleet.n as usize) as u32;
+        let value = rng.pick(&self.layouts);
+        match rng.below(3) {
+            0 => fleet.submit(seat, value, 0).write(),
+            1 => fleet.notice(seat, value).write(),
+            _ => fleet.full(seat, value, &some_seats(fleet.n, fleet.k(), rng), 0).write(),
+        }
+    }
+
+    fn wrong_buffers(&mut self, boat: usize, rng: &mut Rng) -> Result<(), String> {
+        let Fleet { n, .. } = self.plan.fleet;
+        let message = self.sent_to(boat, rng);
+        let mut case = self.case(boat, Call::Step { message }, rng);
+        let number = match rng.below(5) {
+            0 => {
+                case.keys.truncate(rng.below(case.keys.len()));
+                5
+            }
+            1 => {
+                let seat = rng.below(n as usize);
+                case.keys[56 * seat + rng.below(8)] ^= 1 << rng.below(8);
+                5
+            }
+            2 => {
+                case.store.truncate(store::length(n) - 1 - rng.below(20));
+                6
+            }
+            3 => {
+                case.out.truncate(rng.below(out_length(n)));
+                7
+            }
+            _ => {
+                case.out.truncate(out_length(n) - 1);
+                7
+            }
+        };
+        self.refused_call(boat, "wrong buffers", number, case, rng)
+    }
+
+    fn impossible(&mut self, boat: usize, rng: &mut Rng) -> Result<(), String> {
+        let message = self.sent_to(boat, rng);
+        let mut case = self.case(boat, Call::Step { message }, rng);
+        case.record = any_impossible(self.plan.fleet, rng);
+        self.refused_call(boat, "impossible record", 4, case, rng)
+    }
+
+    fn case(&self, boat: usize, call: Call, rng: &mut Rng) -> Case {
+        let Boat { record, store, .. } = &self.boats[boat];
+        let fleet = self.plan.fleet;
+        let out = out_length(fleet.n) + *rng.pick(&[0, 0, 1, 60]);
+        Case { record: *record, keys: fleet.key_table(), store: store.clone(), call, out: rng.bytes(out) }
+    }
+
+    /// A call beside the boat's list, for some of which a submit serves as well as a step.
+    fn refused_call(
+        &mut self,
+        boat: usize,
+        what: &str,
+        number: u32,
+        mut case: Case,
+        rng: &mut Rng,
+    ) -> Result<(), String> {
+        let Boat { layout, record, .. } = self.boats[boat];
+        if rng.one_in(3) {
+            let signature = self.plan.fleet.signature(record.seat, &layout, 0);
+            case.call = Call::Submit { value: layout.to_vec(), signature };
+        }
+        self.note(boat, what, &case.call);
+        let after = both(self.subject, &case, rng)?;
+        self.count(&case.call, after.number);
+        equal("the reference's number", after.number, number)?;
+        equal("the record after a refusal", after.record, case.record)
+    }
+
+    /// A call in the boat's list.
+    fn right_call(&mut self, boat: usize, what: &str, call: Call, rng: &mut Rng) -> Result<(), String> {
+        self.note(boat, what, &call);
+        let case = self.case(boat, call, rng);
+        let after = both(self.subject, &case, rng)?;
+        self.count(&case.call, after.number);
+        if after.number != 0 {
+            equal("the record after a refusal", after.record, case.record)?;
+            equal("the store after a refusal", after.store == case.store, true)?;
+            return equal("bytes written with a refusal", after.written.len(), 0);
+        }
+        let messages = air::messages(&after.written);
+        let names: String = messages.iter().map(|message| format!(" {}", air::name(message))).collect();
+        *self.tally.entry(format!("wrote{names}")).or_default() += 1;
+        self.boats[boat].record = after.record;
+        self.boats[boat].store = after.store;
+        for message in messages {
+            self.said(boat, message)?;
+        }
+        Ok(())
+    }
+
+    /// Demand 1: each message at most once in a round. Demand 3: evidence is accepted and names no honest seat.
+    fn said(&mut self, boat: usize, message: Vec<u8>) -> Result<(), String> {
+        let Fleet { n, round } = self.plan.fleet;
+        if message[0] == EVIDENCE {
+            let verdict = check_evidence(n, round, &self.plan.fleet.key_table(), &message);
+            equal("the evidence", verdict, Verdict { number: 0, mask: self.boats[boat].record.guilty })?;
+            let honest: Vec<u32> = self.boats.iter().map(|boat| boat.record.seat).collect();
+            equal("honest seats in fair evidence", self.plan.fair && verdict.mask & mask(&honest) != 0, false)?;
+        }
+        let said = &mut self.boats[boat].said;
+        equal("said before", said.iter().any(|before| before[0] == message[0]), false)?;
+        said.push(message.clone());
+        self.air.push(message);
+        Ok(())
+    }
+
+    /// The end of a fair list: each boat gets the signatures that it lacks, and its NOTICE and FULL reach every other. Demand 3: where two have confirmed
+    /// different layouts, each boat has written evidence that names at least t0 + 1 seats.
+    fn settle(&mut self, rng: &mut Rng) -> Result<(), String> {
+        for boat in 0..self.boats.len() {
+            self.collect(boat, 0, rng)?;
+        }
+        let mut reached = vec![0; self.boats.len()];
+        while let Some(from) = (0..reached.len()).find(|&boat| reached[boat] < self.boats[boat].said.len()) {
+            let message = self.boats[from].said[reached[from]].clone();
+            reached[from] += 1;
+            if [NOTICE, FULL].contains(&message[0]) {
+                for to in (0..reached.len()).filter(|&to| to != from) {
+                    self.hear(to, "reached at last", message.clone(), rng)?;
+                }
+            }
+        }
+        let confirmed = || self.boats.iter().filter(|boat| boat.record.confirmed).map(|boat| boat.layout);
+        if confirmed().any(|layout| Some(layout) != confirmed().next()) {
+            for boat in &self.boats {
+                equal("evidence written", boat.said.iter().any(|message| message[0] == EVIDENCE), true)?;
+                equal("more than t0 seats named", size(boat.record.guilty) > t0(self.plan.fleet.n), true)?;
+            }
+            *self.tally.entry("disagreement".to_string()).or_default() += 1;
+        }
+        Ok(())
+    }
+
+    fn note(&mut self, boat: usize, what: &str, call: &Call) {
+        let told = match call {
+            Call::Submit { value, signature } => format!("submit of {} and {} bytes", value.len(), signature.len()),
+            Call::Step { message } => {
+                format!("step with {} bytes, the first {:02x?}", message.len(), &message[..message.len().min(8)])
+            }
+        };
+        self.calls.push(format!("seat {}, {what}: {told}", self.boats[boat].record.seat));
+    }
+
+    fn count(&mut self, call: &Call, number: u32) {
+        let name = match call {
+            Call::Submit { .. } => "submit",
+            Call::Step { .. } => "step",
+        };
+        *self.tally.entry(format!("{name} {number}")).or_default() += 1;
+    }
+}

@@ -1,0 +1,94 @@
+//! Opening, submit and step: each call given to a subject and to the reference, every byte afterwards compared.
+
+pub mod lists;
+pub mod opening;
+pub mod records;
+pub mod refusals;
+
+use super::arguments::untouched;
+use super::equal;
+use crate::confirmer::{Engine, LentStep};
+use crate::guarded::{Guarded, GuardedItem};
+use crate::reference::engine;
+use crate::reference::record::{Record, Stepped};
+use crate::rng::Rng;
+
+/// What is tested; where it has the step that is lent its record, every other step goes through that one.
+#[derive(Clone, Copy)]
+pub struct Subject<'a> {
+    pub engine: &'a dyn Engine,
+    pub lent: Option<&'a dyn LentStep>,
+}
+
+#[derive(Clone)]
+pub enum Call {
+    Submit { value: Vec<u8>, signature: Vec<u8> },
+    Step { message: Vec<u8> },
+}
+
+#[derive(Clone)]
+pub struct Case {
+    pub record: Record,
+    pub keys: Vec<u8>,
+    pub store: Vec<u8>,
+    pub call: Call,
+    pub out: Vec<u8>,
+}
+
+/// What the reference and, with it, the subject came to.
+#[derive(Debug)]
+pub struct After {
+    pub number: u32,
+    pub record: Record,
+    pub store: Vec<u8>,
+    pub written: Vec<u8>,
+}
+
+/// The case given to both, or how they differ.
+pub fn both(subject: Subject, case: &Case, rng: &mut Rng) -> Result<After, String> {
+    let (mut store, mut out) = (case.store.clone(), case.out.clone());
+    let expected = match &case.call {
+        Call::Submit { value, signature } => {
+            engine::submit(case.record, &case.keys, &mut store, value, signature, &mut out)
+        }
+        Call::Step { message } => engine::step(case.record, &case.keys, &mut store, message, &mut out),
+    };
+    let keys = Guarded::new(&case.keys, rng);
+    let mut lent_store = Guarded::new(&case.store, rng);
+    let mut lent_out = Guarded::new(&case.out, rng);
+    let answer = match &case.call {
+        Call::Submit { value, signature } => {
+            let (lent_value, lent_signature) = (Guarded::new(value, rng), Guarded::new(signature, rng));
+            let answer = subject.engine.submit(
+                case.record,
+                keys.lent(),
+                lent_store.lent_mut(),
+                lent_value.lent(),
+                lent_signature.lent(),
+                lent_out.lent_mut(),
+            );
+            untouched(&[("value", &lent_value, value), ("signature", &lent_signature, signature)])?;
+            answer
+        }
+        Call::Step { message } => {
+            let lent_message = Guarded::new(message, rng);
+            let (keys, store, out) = (keys.lent(), lent_store.lent_mut(), lent_out.lent_mut());
+            let answer = match subject.lent.filter(|_| rng.one_in(2)) {
+                None => subject.engine.step(case.record, keys, store, lent_message.lent(), out),
+                Some(subject) => {
+                    let mut record = GuardedItem::new(case.record, rng);
+                    let answer = subject.step_lent(record.lent_mut(), keys, store, lent_message.lent(), out);
+                    Stepped { number: answer.number, written: answer.written, record: record.taken("record")? }
+                }
+            };
+            untouched(&[("message", &lent_message, message)])?;
+            answer
+        }
+    };
+    equal("the number", answer.number, expected.number)?;
+    equal("the bytes written", answer.written, expected.written)?;
+    equal("the record", answer.record, expected.record)?;
+    untouched(&[("keys", &keys, &case.keys), ("store", &lent_store, &store), ("out", &lent_out, &out)])?;
+    out.truncate(expected.written as usize);
+    Ok(After { number: expected.number, record: expected.record, store, written: out })
+}

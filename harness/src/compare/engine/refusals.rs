@@ -1,0 +1,135 @@
+//! A right submit, SUBMIT, NOTICE and FULL, and each operand of theirs made wrong, alone and together.
+
+use super::records::{opened, seats_with, submitted};
+use super::{both, Call, Case, Subject};
+use crate::compare::arguments::key_spoilers;
+use crate::compare::messages;
+use crate::compare::refusals::{lengths, on_part, spoiled, spoiler, Spoiler};
+use crate::compare::{equal, long, run};
+use crate::fleet::{layouts, rounds, Fleet};
+use crate::reference::calls::SIGNATURE;
+use crate::reference::engine::out_length;
+use crate::reference::messages::Value;
+use crate::reference::record::{First, Own, Record};
+use crate::reference::store;
+use crate::rng::{seed, Rng};
+
+pub fn battery(subject: Subject) {
+    let mut rng = Rng::new(seed(), "refusals");
+    let mut cases = Vec::new();
+    let sizes: Vec<u32> = if long() { (1..=32).collect() } else { vec![1, 2, 3, 4, 7, 32] };
+    for n in sizes {
+        let fleet = Fleet { n, round: *rng.pick(&rounds()) };
+        for (base, mut spoilers) in kinds(fleet, &mut rng) {
+            spoilers.extend(shared_spoilers(fleet));
+            cases.push((format!("n = {n}, {}", base.name), 0, base.case.clone()));
+            let spoiled = spoiled(&spoilers, 150, &mut rng, |_| base.case.clone());
+            cases.extend(
+                spoiled
+                    .into_iter()
+                    .map(|wrong| (format!("n = {n}, {}: {}", base.name, wrong.what), wrong.number(), wrong.case)),
+            );
+        }
+    }
+    run("refusals", &cases, |(what, number, case), rng| {
+        let compared =
+            both(subject, case, rng).and_then(|after| equal("the reference's number", after.number, *number));
+        compared.map_err(|difference| format!("{what}: {difference}"))
+    });
+}
+
+struct Base {
+    name: &'static str,
+    case: Case,
+}
+
+/// The four kinds of call, each right, with what can be wrong in it alone.
+fn kinds(fleet: Fleet, rng: &mut Rng) -> Vec<(Base, Vec<Spoiler<Case>>)> {
+    let seat = rng.below(fleet.n as usize) as u32;
+    let other = rng.below(fleet.n as usize) as u32;
+    let value = *rng.pick(&layouts());
+    let (unsaid, said) = (opened(fleet, seat), submitted(fleet, seat, value));
+    let own = Call::Submit { value: value.to_vec(), signature: fleet.signature(seat, &value, 0) };
+    let submit = fleet.submit(other, &value, 0);
+    let notice = fleet.notice(other, &value);
+    let full = fleet.full(other, &value, &seats_with(fleet, other, rng), 0);
+    let mut base = |name, record, call| {
+        let (store, out) = (rng.bytes(store::length(fleet.n)), rng.bytes(out_length(fleet.n)));
+        Base { name, case: Case { record, keys: fleet.key_table(), store, call, out } }
+    };
+    let step = |message: Vec<u8>| Call::Step { message };
+    let mut in_submit = on_part(messages::submit(fleet, &submit), message_of);
+    in_submit.push(spoiler(13, "before the own submit", move |case: &mut Case, _| case.record = unsaid));
+    vec![
+        (base("submit", unsaid, own), own_spoilers(fleet, seat, value)),
+        (base("SUBMIT", said, step(submit.write())), in_submit),
+        (base("NOTICE", unsaid, step(notice.write())), on_part(messages::notice(fleet, &notice), message_of)),
+        (base("FULL", unsaid, step(full.write())), on_part(messages::full(fleet, &full), message_of)),
+    ]
+}
+
+fn message_of(case: &mut Case) -> &mut Vec<u8> {
+    match &mut case.call {
+        Call::Step { message } => message,
+        Call::Submit { .. } => panic!("no step"),
+    }
+}
+
+fn value_of(case: &mut Case) -> &mut Vec<u8> {
+    match &mut case.call {
+        Call::Submit { value, .. } => value,
+        Call::Step { .. } => panic!("no submit"),
+    }
+}
+
+fn signature_of(case: &mut Case) -> &mut Vec<u8> {
+    match &mut case.call {
+        Call::Submit { signature, .. } => signature,
+        Call::Step { .. } => panic!("no submit"),
+    }
+}
+
+/// What can be wrong in a submit alone.
+fn own_spoilers(fleet: Fleet, seat: u32, value: Value) -> Vec<Spoiler<Case>> {
+    let mut spoilers = Vec::new();
+    spoilers.push(spoiler(8, "a second time", move |case: &mut Case, _| case.record = submitted(fleet, seat, value)));
+    let mut other = value;
+    other[0] ^= 0xff;
+    spoilers.push(spoiler(8, "a second time, another value", move |case: &mut Case, _| {
+        case.record = submitted(fleet, seat, other);
+    }));
+    spoilers.extend(lengths(9, "value", &[0, 1, 31, 33, 64], value_of));
+    spoilers.extend(lengths(9, "signature", &[0, 1, 1292, SIGNATURE - 1, SIGNATURE + 1, 2 * SIGNATURE], signature_of));
+    for at in [0, 31] {
+        spoilers.push(spoiler(14, format!("value changed at byte {at}"), move |case, _| value_of(case)[at] ^= 1));
+    }
+    spoilers.extend(on_part(messages::signatures(fleet, "", seat, &value, 0), signature_of));
+    spoilers
+}
+
+type Change = fn(&mut Record);
+
+/// 4 to 7. A record is made impossible whatever it was before.
+fn shared_spoilers(fleet: Fleet) -> Vec<Spoiler<Case>> {
+    let Fleet { n, .. } = fleet;
+    let records: [(&str, Change); 8] = [
+        ("n of 0", |record| record.n = 0),
+        ("n of 33", |record| record.n = 33),
+        ("seat at n", |record| record.seat = record.n),
+        ("round 1024", |record| record.round = 1024),
+        ("notices heard 3", |record| record.notices.heard = 3),
+        ("confirmed without a first certificate", |record| (record.confirmed, record.first) = (true, First::default())),
+        ("guilty without a first certificate", |record| (record.guilty, record.first) = (1, First::default())),
+        ("seats collected without a submission", |record| record.own = Own { collected: 1, ..Own::default() }),
+    ];
+    let mut spoilers: Vec<Spoiler<Case>> = Vec::new();
+    for (what, spoil) in records {
+        spoilers.push(spoiler(4, what, move |case: &mut Case, _| spoil(&mut case.record)));
+    }
+    spoilers.extend(on_part(key_spoilers(n), |case: &mut Case| &mut case.keys));
+    let (store, out) = (store::length(n), out_length(n));
+    spoilers.extend(lengths(6, "store", &[0, 1, store / 2, store - 1], |case: &mut Case| &mut case.store));
+    let short = [0, 36, 1488, out - 2906, out - 1];
+    spoilers.extend(lengths(7, "out", &short, |case: &mut Case| &mut case.out));
+    spoilers
+}

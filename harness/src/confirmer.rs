@@ -1,0 +1,125 @@
+//! The confirmer's calls behind safe faces, and the reference behind them.
+
+use crate::reference::calls::Written;
+use crate::reference::record::{Opened, Record, Stepped, Verdict};
+
+pub trait EvidenceCheck: Sync {
+    fn check_evidence(&self, n: u32, round: u32, keys: &[u8], evidence: &[u8]) -> Verdict;
+}
+
+pub trait Engine: Sync {
+    fn open(&self, n: u32, seat: u32, round: u32, keys: &[u8]) -> Opened;
+
+    fn submit(
+        &self,
+        record: Record,
+        keys: &[u8],
+        store: &mut [u8],
+        value: &[u8],
+        signature: &[u8],
+        out: &mut [u8],
+    ) -> Stepped;
+
+    fn step(&self, record: Record, keys: &[u8], store: &mut [u8], message: &[u8], out: &mut [u8]) -> Stepped;
+}
+
+/// The step that is lent its record.
+pub trait LentStep: Sync {
+    fn step_lent(&self, record: &mut Record, keys: &[u8], store: &mut [u8], message: &[u8], out: &mut [u8]) -> Written;
+}
+
+/// What is made of two certificates in hand.
+pub trait Making: Sync {
+    fn make_evidence(&self, n: u32, round: u32, keys: &[u8], first: &[u8], second: &[u8], out: &mut [u8]) -> Written;
+
+    fn lower_certificate<'a>(&self, n: u32, round: u32, keys: &[u8], first: &'a [u8], second: &'a [u8]) -> &'a [u8];
+}
+
+/// All of the calls.
+pub trait Confirmer: EvidenceCheck + Engine + LentStep + Making {}
+
+impl<T: EvidenceCheck + Engine + LentStep + Making> Confirmer for T {}
+
+/// Gives a type the calls of a module like [`crate::reference`].
+#[macro_export]
+macro_rules! confirmer_of {
+    ($subject:ident: $($module:tt)+) => {
+        impl $crate::confirmer::EvidenceCheck for $subject {
+            fn check_evidence(&self, n: u32, round: u32, keys: &[u8], evidence: &[u8]) -> $crate::reference::record::Verdict {
+                $($module)+::evidence::check_evidence(n, round, keys, evidence)
+            }
+        }
+
+        impl $crate::confirmer::Engine for $subject {
+            fn open(&self, n: u32, seat: u32, round: u32, keys: &[u8]) -> $crate::reference::record::Opened {
+                $($module)+::engine::open(n, seat, round, keys)
+            }
+
+            fn submit(
+                &self,
+                record: $crate::reference::record::Record,
+                keys: &[u8],
+                store: &mut [u8],
+                value: &[u8],
+                signature: &[u8],
+                out: &mut [u8],
+            ) -> $crate::reference::record::Stepped {
+                $($module)+::engine::submit(record, keys, store, value, signature, out)
+            }
+
+            fn step(
+                &self,
+                record: $crate::reference::record::Record,
+                keys: &[u8],
+                store: &mut [u8],
+                message: &[u8],
+                out: &mut [u8],
+            ) -> $crate::reference::record::Stepped {
+                $($module)+::engine::step(record, keys, store, message, out)
+            }
+        }
+
+        impl $crate::confirmer::LentStep for $subject {
+            fn step_lent(
+                &self,
+                record: &mut $crate::reference::record::Record,
+                keys: &[u8],
+                store: &mut [u8],
+                message: &[u8],
+                out: &mut [u8],
+            ) -> $crate::reference::calls::Written {
+                $($module)+::engine::step_lent(record, keys, store, message, out)
+            }
+        }
+
+        impl $crate::confirmer::Making for $subject {
+            fn make_evidence(
+                &self,
+                n: u32,
+                round: u32,
+                keys: &[u8],
+                first: &[u8],
+                second: &[u8],
+                out: &mut [u8],
+            ) -> $crate::reference::calls::Written {
+                $($module)+::evidence::make_evidence(n, round, keys, first, second, out)
+            }
+
+            fn lower_certificate<'a>(
+                &self,
+                n: u32,
+                round: u32,
+                keys: &[u8],
+                first: &'a [u8],
+                second: &'a [u8],
+            ) -> &'a [u8] {
+                $($module)+::evidence::lower_certificate(n, round, keys, first, second)
+            }
+        }
+    };
+}
+
+/// The second implementation.
+pub struct Reference;
+
+confirmer_of!(Reference: crate::reference);

@@ -1,0 +1,221 @@
+//! Document 01's opening and steps. A call works on copies; only at its end are they handed over, so that a refusal
+//! changes nothing.
+
+use super::calls::{Written, MAX_LEAF, SIGNATURE};
+use super::evidence;
+use super::impossible::impossible;
+use super::messages::{Evidence, Full, FullEntry, Notice, Submit, Value, FULL, NOTICE, SUBMIT};
+use super::quorum;
+use super::record::{First, Notices, Opened, Record, Stepped};
+use super::seats::{contains, list, mask, size};
+use super::store;
+use super::turned_back::{certificate, is_size, key_table, places, refuse, signature, Passed};
+
+/// The bytes that `out` needs for a submit or a step.
+pub fn out_length(n: u32) -> usize {
+    1629 + 4360 * quorum::k(n) as usize
+}
+
+pub fn open(n: u32, seat: u32, round: u32, keys: &[u8]) -> Opened {
+    let tested = || {
+        refuse(1, !is_size(n))?;
+        refuse(2, seat >= n)?;
+        refuse(3, round > MAX_LEAF)?;
+        key_table(n, keys)
+    };
+    match tested() {
+        Ok(()) => Opened { number: 0, record: Record { n, seat, round, ..Record::default() } },
+        Err(number) => Opened { number, record: Record::default() },
+    }
+}
+
+pub fn submit(
+    record: Record,
+    keys: &[u8],
+    store: &mut [u8],
+    value: &[u8],
+    own_signature: &[u8],
+    out: &mut [u8],
+) -> Stepped {
+    let submitted = || {
+        buffers(&record, keys, store, out)?;
+        refuse(8, record.own.submitted)?;
+        let value: Value = value.try_into().map_err(|_| 9u32)?;
+        refuse(9, own_signature.len() != SIGNATURE)?;
+        signature(keys, record.round, record.seat, &value, own_signature)?;
+        let mut unit = Unit::new(&record, store);
+        unit.submit(value, own_signature);
+        unit.send_full();
+        Ok(unit)
+    };
+    hand_over(submitted(), record, store, out)
+}
+
+pub fn step(record: Record, keys: &[u8], store: &mut [u8], message: &[u8], out: &mut [u8]) -> Stepped {
+    let stepped = || {
+        buffers(&record, keys, store, out)?;
+        let mut unit = Unit::new(&record, store);
+        match message.first() {
+            Some(&SUBMIT) => unit.hear_submit(&heard_submit(&record, keys, message)?),
+            Some(&NOTICE) => unit.hear_value(heard_notice(&record, message)?.value),
+            Some(&FULL) => unit.hear_certificate(&certificate(record.n, record.round, keys, message)?),
+            _ => return Err(9),
+        }
+        unit.send_full();
+        Ok(unit)
+    };
+    hand_over(stepped(), record, store, out)
+}
+
+/// The thin entry: the record lent, and overwritten with the stepped one.
+pub fn step_lent(record: &mut Record, keys: &[u8], store: &mut [u8], message: &[u8], out: &mut [u8]) -> Written {
+    let stepped = step(*record, keys, store, message, out);
+    *record = stepped.record;
+    Written { number: stepped.number, written: stepped.written }
+}
+
+/// 4 to 7.
+fn buffers(record: &Record, keys: &[u8], store: &[u8], out: &[u8]) -> Passed {
+    refuse(4, impossible(record))?;
+    key_table(record.n, keys)?;
+    refuse(6, store.len() < store::length(record.n))?;
+    refuse(7, out.len() < out_length(record.n))
+}
+
+/// 9 to 14 of a SUBMIT.
+fn heard_submit(record: &Record, keys: &[u8], message: &[u8]) -> Passed<Submit> {
+    let submit = Submit::read(message).ok_or(9u32)?;
+    places(record.n, record.round, submit.round, Some(submit.seat), &[])?;
+    refuse(13, !record.own.submitted)?;
+    signature(keys, record.round, submit.seat, &submit.value, &submit.signature)?;
+    Ok(submit)
+}
+
+/// 9 to 11 of a NOTICE.
+fn heard_notice(record: &Record, message: &[u8]) -> Passed<Notice> {
+    let notice = Notice::read(message).ok_or(9u32)?;
+    places(record.n, record.round, notice.round, Some(notice.seat), &[])?;
+    Ok(notice)
+}
+
+fn hand_over(result: Passed<Unit>, record: Record, store: &mut [u8], out: &mut [u8]) -> Stepped {
+    match result {
+        Err(number) => Stepped { number, written: 0, record },
+        Ok(unit) => {
+            let bytes = unit.bytes();
+            store.copy_from_slice(&unit.store);
+            out[..bytes.len()].copy_from_slice(&bytes);
+            Stepped { number: 0, written: bytes.len() as u32, record: unit.record }
+        }
+    }
+}
+
+/// A unit during a call that isn't refused, with the messages that it writes.
+struct Unit {
+    record: Record,
+    store: Vec<u8>,
+    submit: Option<Submit>,
+    notice: Option<Notice>,
+    full: Option<Full>,
+    evidence: Option<Evidence>,
+}
+
+impl Unit {
+    fn new(record: &Record, store: &[u8]) -> Unit {
+        Unit { record: *record, store: store.to_vec(), submit: None, notice: None, full: None, evidence: None }
+    }
+
+    fn submit(&mut self, value: Value, signature: &[u8]) {
+        let Record { round, seat, .. } = self.record;
+        self.record.own.submitted = true;
+        self.record.own.value = value;
+        self.submit = Some(Submit { round, seat, value, signature: signature.to_vec() });
+        self.collect(seat, signature);
+    }
+
+    fn hear_submit(&mut self, submit: &Submit) {
+        let own = &self.record.own;
+        if !self.record.confirmed && submit.value == own.value && !contains(own.collected, submit.seat) {
+            self.collect(submit.seat, &submit.signature);
+        }
+    }
+
+    fn collect(&mut self, seat: u32, signature: &[u8]) {
+        self.record.own.collected |= mask(&[seat]);
+        self.store[store::collected(seat)].copy_from_slice(signature);
+        if size(self.record.own.collected) == quorum::k(self.record.n) {
+            self.confirm();
+        }
+    }
+
+    fn confirm(&mut self) {
+        let Record { round, seat, own, .. } = self.record;
+        self.record.confirmed = true;
+        self.notice = Some(Notice { round, seat, value: own.value });
+        self.hear_certificate(&self.own_certificate());
+    }
+
+    fn hear_value(&mut self, value: Value) {
+        let notices = &mut self.record.notices;
+        if notices.heard == 0 {
+            *notices = Notices { heard: 1, value };
+        } else if notices.value != value {
+            notices.heard = 2;
+        }
+    }
+
+    /// A certificate heard, or the own.
+    fn hear_certificate(&mut self, full: &Full) {
+        self.hear_value(full.value);
+        if self.record.first.seats == 0 {
+            self.hold(full);
+        } else if self.record.first.value != full.value && self.record.guilty == 0 {
+            let evidence = evidence::of_conflict(&self.first_certificate(), full);
+            self.record.guilty = mask(&evidence.seats());
+            self.evidence = Some(evidence);
+        }
+    }
+
+    fn hold(&mut self, full: &Full) {
+        self.record.first = First { value: full.value, seats: mask(&full.seats()) };
+        for entry in &full.entries {
+            self.store[store::first(self.record.n, entry.seat)].copy_from_slice(&entry.signature);
+        }
+    }
+
+    /// Confirmed, FULL not sent, and a value heard that isn't its own.
+    fn send_full(&mut self) {
+        let Record { own, confirmed, notices, sent, .. } = self.record;
+        let another_heard = notices.heard == 2 || notices.heard == 1 && notices.value != own.value;
+        if confirmed && !sent && another_heard {
+            self.record.sent = true;
+            self.full = Some(self.own_certificate());
+        }
+    }
+
+    fn own_certificate(&self) -> Full {
+        let own = self.record.own;
+        self.certificate(own.value, own.collected, store::collected)
+    }
+
+    fn first_certificate(&self) -> Full {
+        let Record { n, first, .. } = self.record;
+        self.certificate(first.value, first.seats, |seat| store::first(n, seat))
+    }
+
+    fn certificate(&self, value: Value, seats: u32, slot: impl Fn(u32) -> std::ops::Range<usize>) -> Full {
+        let entry = |seat| FullEntry { seat, signature: self.store[slot(seat)].to_vec() };
+        let entries = list(seats).into_iter().map(entry).collect();
+        Full { round: self.record.round, sender: self.record.seat, value, entries }
+    }
+
+    /// The messages in the order SUBMIT, NOTICE, FULL, EVIDENCE.
+    fn bytes(&self) -> Vec<u8> {
+        let mut bytes = Vec::new();
+        bytes.extend(self.submit.iter().flat_map(Submit::write));
+        bytes.extend(self.notice.iter().flat_map(Notice::write));
+        bytes.extend(self.full.iter().flat_map(Full::write));
+        bytes.extend(self.evidence.iter().flat_map(Evidence::write));
+        bytes
+    }
+}

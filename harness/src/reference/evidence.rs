@@ -1,0 +1,87 @@
+//! The evidence check, evidence from two certificates in hand, and the lower of two certificates.
+
+use super::calls::Written;
+use super::messages::{Evidence, EvidenceEntry, Full, FullEntry};
+use super::quorum;
+use super::record::Verdict;
+use super::seats::mask;
+use super::turned_back::{arguments, certificate, places, refuse, signature, Passed};
+
+/// The bytes that `out` needs for evidence from two certificates.
+pub fn out_length(n: u32) -> usize {
+    68 + 2906 * quorum::k(n) as usize
+}
+
+pub fn check_evidence(n: u32, round: u32, keys: &[u8], evidence: &[u8]) -> Verdict {
+    let named = || {
+        arguments(n, round, keys)?;
+        let evidence = Evidence::read(evidence, n).ok_or(9u32)?;
+        places(n, round, evidence.round, None, &evidence.seats())?;
+        for entry in &evidence.entries {
+            signature(keys, round, entry.seat, &evidence.lower, &entry.over_lower)?;
+            signature(keys, round, entry.seat, &evidence.higher, &entry.over_higher)?;
+        }
+        refuse(15, evidence.lower >= evidence.higher)?;
+        Ok(mask(&evidence.seats()))
+    };
+    match named() {
+        Ok(mask) => Verdict { number: 0, mask },
+        Err(number) => Verdict { number, mask: 0 },
+    }
+}
+
+pub fn make_evidence(n: u32, round: u32, keys: &[u8], first: &[u8], second: &[u8], out: &mut [u8]) -> Written {
+    let made = || {
+        arguments(n, round, keys)?;
+        refuse(7, out.len() < out_length(n))?;
+        let (first, second) = conflicting(n, round, keys, first, second)?;
+        Ok(of_conflict(&first, &second).write())
+    };
+    match made() {
+        Ok(bytes) => {
+            out[..bytes.len()].copy_from_slice(&bytes);
+            Written { number: 0, written: bytes.len() as u32 }
+        }
+        Err(number) => Written { number, written: 0 },
+    }
+}
+
+/// The certificate with the lower value, of length 0 where the call or either one is refused or they don't conflict.
+pub fn lower_certificate<'a>(n: u32, round: u32, keys: &[u8], first: &'a [u8], second: &'a [u8]) -> &'a [u8] {
+    let pair = || {
+        arguments(n, round, keys)?;
+        conflicting(n, round, keys, first, second)
+    };
+    match pair() {
+        Ok((lower, higher)) if lower.value < higher.value => first,
+        Ok(_) => second,
+        Err(_) => &[],
+    }
+}
+
+/// The first one's 9 to 14, the second's, then 15.
+fn conflicting(n: u32, round: u32, keys: &[u8], first: &[u8], second: &[u8]) -> Passed<(Full, Full)> {
+    let first = certificate(n, round, keys, first)?;
+    let second = certificate(n, round, keys, second)?;
+    refuse(15, first.value == second.value)?;
+    Ok((first, second))
+}
+
+/// The seats that stand in both certificates, each with what it signed twice.
+pub fn of_conflict(one: &Full, other: &Full) -> Evidence {
+    let (lower, higher) = if one.value < other.value { (one, other) } else { (other, one) };
+    let shared = |entry: &FullEntry| {
+        let twin = higher.entries.iter().find(|twin| twin.seat == entry.seat)?;
+        Some(EvidenceEntry {
+            seat: entry.seat,
+            over_lower: entry.signature.clone(),
+            over_higher: twin.signature.clone(),
+        })
+    };
+    Evidence {
+        round: lower.round,
+        lower: lower.value,
+        higher: higher.value,
+        entries: lower.entries.iter().filter_map(shared).collect(),
+    }
+}

@@ -1,0 +1,279 @@
+//! Document 01's commands on the air, written and read. None from a reader is refusal 9: a wrong command, length,
+//! count or entry command.
+
+use super::calls::SIGNATURE;
+
+pub const SUBMIT: u8 = 0x01;
+pub const NOTICE: u8 = 0x02;
+pub const FULL: u8 = 0x03;
+pub const FULL_ENTRY: u8 = 0x04;
+pub const EVIDENCE: u8 = 0x05;
+pub const EVIDENCE_ENTRY: u8 = 0x06;
+
+/// Compared byte by byte from the first, as Rust compares arrays.
+pub type Value = [u8; 32];
+
+#[derive(Clone, Debug, PartialEq, Eq)]
+pub struct Submit {
+    pub round: u32,
+    pub seat: u32,
+    pub value: Value,
+    pub signature: Vec<u8>,
+}
+
+#[derive(Clone, Debug, PartialEq, Eq)]
+pub struct Notice {
+    pub round: u32,
+    pub seat: u32,
+    pub value: Value,
+}
+
+#[derive(Clone, Debug, PartialEq, Eq)]
+pub struct Full {
+    pub round: u32,
+    pub sender: u32,
+    pub value: Value,
+    pub entries: Vec<FullEntry>,
+}
+
+#[derive(Clone, Debug, PartialEq, Eq)]
+pub struct FullEntry {
+    pub seat: u32,
+    pub signature: Vec<u8>,
+}
+
+#[derive(Clone, Debug, PartialEq, Eq)]
+pub struct Evidence {
+    pub round: u32,
+    pub lower: Value,
+    pub higher: Value,
+    pub entries: Vec<EvidenceEntry>,
+}
+
+#[derive(Clone, Debug, PartialEq, Eq)]
+pub struct EvidenceEntry {
+    pub seat: u32,
+    pub over_lower: Vec<u8>,
+    pub over_higher: Vec<u8>,
+}
+
+/// The 36 bytes that a seat signs.
+pub fn signed_bytes(round: u32, seat: u32, value: &Value) -> Vec<u8> {
+    [&[0x01], two_bytes(round).as_slice(), &[one_byte(seat)], value].concat()
+}
+
+fn two_bytes(number: u32) -> [u8; 2] {
+    u16::try_from(number).expect("a number of two bytes").to_be_bytes()
+}
+
+fn one_byte(number: u32) -> u8 {
+    u8::try_from(number).expect("a number of one byte")
+}
+
+fn count(entries: usize) -> u8 {
+    one_byte(entries as u32)
+}
+
+impl Submit {
+    pub fn write(&self) -> Vec<u8> {
+        [&[SUBMIT], two_bytes(self.round).as_slice(), &[one_byte(self.seat)], &self.value, &self.signature].concat()
+    }
+
+    pub fn read(message: &[u8]) -> Option<Submit> {
+        let mut rest = Rest(message);
+        rest.command(SUBMIT)?;
+        let submit = Submit {
+            round: rest.number(2)?,
+            seat: rest.number(1)?,
+            value: rest.value()?,
+            signature: rest.signature()?,
+        };
+        rest.end()?;
+        Some(submit)
+    }
+}
+
+impl Notice {
+    pub fn write(&self) -> Vec<u8> {
+        [&[NOTICE], two_bytes(self.round).as_slice(), &[one_byte(self.seat)], &self.value].concat()
+    }
+
+    pub fn read(message: &[u8]) -> Option<Notice> {
+        let mut rest = Rest(message);
+        rest.command(NOTICE)?;
+        let notice = Notice { round: rest.number(2)?, seat: rest.number(1)?, value: rest.value()? };
+        rest.end()?;
+        Some(notice)
+    }
+}
+
+impl Full {
+    pub fn write(&self) -> Vec<u8> {
+        let mut bytes = [&[FULL], two_bytes(self.round).as_slice(), &[one_byte(self.sender)], &self.value].concat();
+        bytes.push(count(self.entries.len()));
+        for entry in &self.entries {
+            bytes.extend([FULL_ENTRY, one_byte(entry.seat)]);
+            bytes.extend(&entry.signature);
+        }
+        bytes
+    }
+
+    /// The count is always k.
+    pub fn read(message: &[u8], k: u32) -> Option<Full> {
+        let mut rest = Rest(message);
+        rest.command(FULL)?;
+        let (round, sender, value) = (rest.number(2)?, rest.number(1)?, rest.value()?);
+        if rest.number(1)? != k {
+            return None;
+        }
+        let mut entries = Vec::new();
+        for _ in 0..k {
+            rest.command(FULL_ENTRY)?;
+            entries.push(FullEntry { seat: rest.number(1)?, signature: rest.signature()? });
+        }
+        rest.end()?;
+        Some(Full { round, sender, value, entries })
+    }
+
+    pub fn seats(&self) -> Vec<u32> {
+        self.entries.iter().map(|entry| entry.seat).collect()
+    }
+}
+
+impl Evidence {
+    pub fn write(&self) -> Vec<u8> {
+        let mut bytes = [&[EVIDENCE], two_bytes(self.round).as_slice(), &self.lower, &self.higher].concat();
+        bytes.push(count(self.entries.len()));
+        for entry in &self.entries {
+            bytes.extend([EVIDENCE_ENTRY, one_byte(entry.seat)]);
+            bytes.extend(&entry.over_lower);
+            bytes.extend(&entry.over_higher);
+        }
+        bytes
+    }
+
+    /// The count is 1 to n.
+    pub fn read(message: &[u8], n: u32) -> Option<Evidence> {
+        let mut rest = Rest(message);
+        rest.command(EVIDENCE)?;
+        let (round, lower, higher) = (rest.number(2)?, rest.value()?, rest.value()?);
+        let count = rest.number(1)?;
+        if count < 1 || count > n {
+            return None;
+        }
+        let mut entries = Vec::new();
+        for _ in 0..count {
+            rest.command(EVIDENCE_ENTRY)?;
+            entries.push(EvidenceEntry {
+                seat: rest.number(1)?,
+                over_lower: rest.signature()?,
+                over_higher: rest.signature()?,
+            });
+        }
+        rest.end()?;
+        Some(Evidence { round, lower, higher, entries })
+    }
+
+    pub fn seats(&self) -> Vec<u32> {
+        self.entries.iter().map(|entry| entry.seat).collect()
+    }
+}
+
+/// What is left to read.
+struct Rest<'a>(&'a [u8]);
+
+impl Rest<'_> {
+    fn take(&mut self, length: usize) -> Option<&[u8]> {
+        let (taken, rest) = self.0.split_at_checked(length)?;
+        self.0 = rest;
+        Some(taken)
+    }
+
+    fn command(&mut self, command: u8) -> Option<()> {
+        (self.take(1)? == [command]).then_some(())
+    }
+
+    fn number(&mut self, width: usize) -> Option<u32> {
+        Some(self.take(width)?.iter().fold(0, |number, &byte| 256 * number + u32::from(byte)))
+    }
+
+    fn value(&mut self) -> Option<Value> {
+        Some(self.take(32)?.try_into().expect("32 bytes"))
+    }
+
+    fn signature(&mut self) -> Option<Vec<u8>> {
+        Some(self.take(SIGNATURE)?.to_vec())
+    }
+
+    fn end(&self) -> Option<()> {
+        self.0.is_empty().then_some(())
+    }
+}
+
+#[cfg(test)]
+mod tests {
+    use super::*;
+
+    fn signature(byte: u8) -> Vec<u8> {
+        vec![byte; SIGNATURE]
+    }
+
+    fn full(k: u32) -> Full {
+        let entries = (0..k).map(|seat| FullEntry { seat, signature: signature(seat as u8) }).collect();
+        Full { round: 0x0102, sender: 3, value: [9; 32], entries }
+    }
+
+    fn evidence(count: u32) -> Evidence {
+        let entry =
+            |seat| EvidenceEntry { seat, over_lower: signature(seat as u8), over_higher: signature(!seat as u8) };
+        Evidence { round: 0x0102, lower: [1; 32], higher: [2; 32], entries: (0..count).map(entry).collect() }
+    }
+
+    /// "Messages written are read back the same", in the lengths that document 01 states.
+    #[test]
+    fn what_is_written_is_read_back() {
+        let submit = Submit { round: 1023, seat: 31, value: [7; 32], signature: signature(8) };
+        assert_eq!((submit.write().len(), Submit::read(&submit.write())), (1488, Some(submit)));
+        let notice = Notice { round: 65_535, seat: 255, value: [7; 32] };
+        assert_eq!((notice.write().len(), Notice::read(&notice.write())), (36, Some(notice)));
+        for k in 1..=22 {
+            let bytes = full(k).write();
+            assert_eq!((bytes.len(), Full::read(&bytes, k)), (37 + 1454 * k as usize, Some(full(k))));
+            assert_eq!((Full::read(&bytes, k + 1), Full::read(&bytes, k - 1)), (None, None));
+        }
+        for count in 1..=32 {
+            let bytes = evidence(count).write();
+            assert_eq!((bytes.len(), Evidence::read(&bytes, 32)), (68 + 2906 * count as usize, Some(evidence(count))));
+            assert_eq!(Evidence::read(&bytes, count - 1), None);
+        }
+        assert_eq!(Evidence::read(&evidence(0).write(), 32), None);
+    }
+
+    /// The places of the operands, by document 01's widths.
+    #[test]
+    fn operands_stand_in_their_places() {
+        let bytes = full(2).write();
+        assert_eq!(bytes[..4], [0x03, 0x01, 0x02, 3]);
+        assert_eq!((&bytes[4..36], bytes[36]), ([9; 32].as_slice(), 2));
+        assert_eq!((bytes[37], bytes[38], bytes[39]), (0x04, 0, 0));
+        assert_eq!((bytes[37 + 1454], bytes[38 + 1454], bytes[39 + 1454]), (0x04, 1, 1));
+        let bytes = evidence(2).write();
+        assert_eq!(bytes[..3], [0x05, 0x01, 0x02]);
+        assert_eq!((bytes[3], bytes[35], bytes[67]), (1, 2, 2));
+        assert_eq!((bytes[68 + 2906], bytes[69 + 2906], bytes[70 + 2906]), (0x06, 1, 1));
+        assert_eq!(bytes[70 + 2906 + 1452], 254);
+        assert_eq!(signed_bytes(0x0102, 3, &[9; 32]), [&[0x01, 0x01, 0x02, 3], [9; 32].as_slice()].concat());
+    }
+
+    #[test]
+    fn other_lengths_are_garbled() {
+        for whole in [full(3).write(), evidence(3).write()] {
+            for length in 0..whole.len() {
+                assert_eq!(Full::read(&whole[..length], 3), None, "{length} bytes");
+                assert_eq!(Evidence::read(&whole[..length], 3), None, "{length} bytes");
+            }
+            let longer = [whole.as_slice(), &[0]].concat();
+            assert_eq!((Full::read(&longer, 3), Evidence::read(&longer, 3)), (None, None));
+        }
+    }
+}

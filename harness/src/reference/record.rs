@@ -1,0 +1,82 @@
+//! A unit's record and the answers of the calls, laid out as C lays them out.
+
+use super::messages::Value;
+
+#[derive(Clone, Copy, Debug, Default, PartialEq, Eq)]
+#[repr(C)]
+pub struct Record {
+    pub n: u32,
+    pub seat: u32,
+    pub round: u32,
+    pub own: Own,
+    pub confirmed: bool,
+    pub notices: Notices,
+    pub first: First,
+    /// Whether FULL was sent.
+    pub sent: bool,
+    pub guilty: u32,
+}
+
+#[derive(Clone, Copy, Debug, Default, PartialEq, Eq)]
+#[repr(C)]
+pub struct Own {
+    pub submitted: bool,
+    pub value: Value,
+    pub collected: u32,
+}
+
+/// `heard` is 0 for none, 1 for one value, 2 for two different ones, the first kept.
+#[derive(Clone, Copy, Debug, Default, PartialEq, Eq)]
+#[repr(C)]
+pub struct Notices {
+    pub heard: u32,
+    pub value: Value,
+}
+
+/// The first certificate held: none where it has no seats.
+#[derive(Clone, Copy, Debug, Default, PartialEq, Eq)]
+#[repr(C)]
+pub struct First {
+    pub value: Value,
+    pub seats: u32,
+}
+
+#[derive(Clone, Copy, Debug, PartialEq, Eq)]
+#[repr(C)]
+pub struct Opened {
+    pub number: u32,
+    pub record: Record,
+}
+
+#[derive(Clone, Copy, Debug, PartialEq, Eq)]
+#[repr(C)]
+pub struct Stepped {
+    pub number: u32,
+    pub written: u32,
+    pub record: Record,
+}
+
+/// The evidence check's answer: the mask of the seats named, 0 with a refusal.
+#[derive(Clone, Copy, Debug, PartialEq, Eq)]
+#[repr(C)]
+pub struct Verdict {
+    pub number: u32,
+    pub mask: u32,
+}
+
+#[cfg(test)]
+mod tests {
+    use super::*;
+    use std::mem::{offset_of, size_of};
+
+    /// Offsets by C's rules: a flag takes one byte, a number starts at a multiple of four.
+    #[test]
+    fn the_layout_is_that_of_c() {
+        assert_eq!(size_of::<Record>(), 136);
+        assert_eq!((offset_of!(Record, own), offset_of!(Own, value), offset_of!(Own, collected)), (12, 1, 36));
+        assert_eq!((offset_of!(Record, confirmed), offset_of!(Record, notices)), (52, 56));
+        assert_eq!((offset_of!(Record, first), offset_of!(First, seats)), (92, 32));
+        assert_eq!((offset_of!(Record, sent), offset_of!(Record, guilty)), (128, 132));
+        assert_eq!((size_of::<Opened>(), size_of::<Stepped>(), size_of::<Verdict>()), (140, 144, 8));
+    }
+}

@@ -1,0 +1,394 @@
+//! Rounds written for a person to read: data/rounds/README.md tells the language.
+
+use std::collections::BTreeMap;
+use std::iter::Peekable;
+
+use crate::compare::equal;
+use crate::confirmer::{Engine, EvidenceCheck, Making};
+use crate::fleet::Fleet;
+use crate::hex;
+use crate::reference::messages::Value;
+use crate::reference::record::{First, Notices, Own, Record, Stepped, Verdict};
+use crate::reference::seats::mask;
+use crate::reference::{engine, evidence, store};
+
+/// The calls that a script is run with.
+#[derive(Clone, Copy)]
+pub struct Calls<'a> {
+    pub engine: &'a dyn Engine,
+    pub evidence: &'a dyn EvidenceCheck,
+    pub making: &'a dyn Making,
+}
+
+/// What stands in `out` and in a store before anything is written there.
+const BLANK: u8 = 0xa5;
+
+/// Runs every script of data/rounds.
+pub fn all(calls: Calls) {
+    let folder = concat!(env!("CARGO_MANIFEST_DIR"), "/data/rounds");
+    let files = std::fs::read_dir(folder).expect(folder).map(|entry| entry.expect(folder).path());
+    let mut scripts: Vec<_> = files.filter(|path| path.extension().is_some_and(|end| end == "txt")).collect();
+    scripts.sort();
+    assert!(!scripts.is_empty(), "no scripts in {folder}");
+    for path in scripts {
+        let text = std::fs::read_to_string(&path).expect("a script");
+        run(&text, calls).unwrap_or_else(|difference| panic!("{}, {difference}", path.display()));
+    }
+}
+
+/// Runs a script, and tells the line at which an answer isn't the expected one.
+pub fn run(text: &str, calls: Calls) -> Result<(), String> {
+    let mut script = Script {
+        calls,
+        fleet: Fleet { n: 0, round: 0 },
+        layouts: BTreeMap::new(),
+        units: BTreeMap::new(),
+        answer: None,
+    };
+    for (number, line) in (1..).zip(text.lines()) {
+        let line = line.split('#').next().unwrap_or_default().replace(',', " , ");
+        if !line.trim().is_empty() {
+            script.line(&line).map_err(|difference| format!("line {number}: {difference}"))?;
+        }
+    }
+    match script.answer {
+        None => Ok(()),
+        Some(_) => Err("the last call has no expected answer under it".to_string()),
+    }
+}
+
+struct Unit {
+    record: Record,
+    store: Vec<u8>,
+}
+
+struct Script<'a> {
+    calls: Calls<'a>,
+    fleet: Fleet,
+    layouts: BTreeMap<String, Value>,
+    units: BTreeMap<u32, Unit>,
+    /// The answer of the last call, until it is compared.
+    answer: Option<Answer>,
+}
+
+enum Answer {
+    Opened(u32),
+    Written(u32, Vec<u8>),
+    Named(Verdict),
+    Lower(&'static str),
+}
+
+/// Lengths of the lent buffers where they aren't the stated ones.
+#[derive(Default)]
+struct Lent {
+    keys: Option<usize>,
+    store: Option<usize>,
+    out: Option<usize>,
+}
+
+type Words<'a> = Peekable<std::str::SplitWhitespace<'a>>;
+
+impl Script<'_> {
+    fn line(&mut self, line: &str) -> Result<(), String> {
+        let mut words = line.split_whitespace().peekable();
+        if words.next_if_eq(&"=").is_some() {
+            let answer = self.answer.take().ok_or("no call stands above this answer")?;
+            self.compare(answer, &mut words)?;
+        } else {
+            if self.answer.is_some() {
+                return Err("the call above has no expected answer".to_string());
+            }
+            self.command(&mut words)?;
+        }
+        match words.next() {
+            None => Ok(()),
+            Some(word) => Err(format!("`{word}` isn't understood")),
+        }
+    }
+
+    fn command(&mut self, words: &mut Words) -> Result<(), String> {
+        match words.next().unwrap_or_default() {
+            "fleet" => {
+                self.fleet.n = number(words)?;
+                expect(words, "round")?;
+                self.fleet.round = number(words)?;
+            }
+            "layout" => {
+                let name = words.next().ok_or("a layout has a name")?;
+                let byte = |word: &str| hex::decode(word)[0];
+                let mut value = [byte(words.next().ok_or("a layout has a byte")?); 32];
+                value[31] = words.next().map_or(value[31], byte);
+                self.layouts.insert(name.to_string(), value);
+            }
+            "check" => {
+                let mut message = self.message(words)?;
+                self.changes(words, &mut message)?;
+                let Fleet { n, round } = self.fleet;
+                let verdict = self.calls.evidence.check_evidence(n, round, &self.fleet.key_table(), &message);
+                self.answer = Some(Answer::Named(verdict));
+            }
+            "join" => self.join(words)?,
+            "lower" => self.lower(words)?,
+            seat => {
+                let seat = seat.parse().map_err(|_| format!("`{seat}` is no command and no seat"))?;
+                match words.next().unwrap_or_default() {
+                    "opens" => self.open(seat),
+                    "submits" => self.submit(seat, words)?,
+                    "hears" => self.step(seat, words)?,
+                    "has" => return self.has(seat, words),
+                    verb => return Err(format!("`{verb}` isn't understood")),
+                }
+            }
+        }
+        Ok(())
+    }
+
+    fn open(&mut self, seat: u32) {
+        let Fleet { n, round } = self.fleet;
+        let opened = self.calls.engine.open(n, seat, round, &self.fleet.key_table());
+        self.answer = Some(Answer::Opened(opened.number));
+        if opened.number == 0 {
+            self.units.insert(seat, Unit { record: opened.record, store: vec![BLANK; store::length(n)] });
+        }
+    }
+
+    fn submit(&mut self, seat: u32, words: &mut Words) -> Result<(), String> {
+        let (value, hand) = self.layout(words)?;
+        let mut signature = self.fleet.signature(seat, &value, hand);
+        let mut value = value.to_vec();
+        let mut lent = Lent::default();
+        while let Some(word) = words.next() {
+            match word {
+                "signed" => {
+                    let (other, hand) = self.layout(words)?;
+                    signature = self.fleet.signature(seat, &other, hand);
+                }
+                "value" => value.resize(length(words)?, 0),
+                "signature" => signature.resize(length(words)?, 0),
+                word => lent.take(word, words)?,
+            }
+        }
+        let engine = self.calls.engine;
+        self.call(seat, &lent, |record, keys, store, out| engine.submit(record, keys, store, &value, &signature, out))
+    }
+
+    fn step(&mut self, seat: u32, words: &mut Words) -> Result<(), String> {
+        let mut message = self.message(words)?;
+        let lent = self.changes(words, &mut message)?;
+        let engine = self.calls.engine;
+        self.call(seat, &lent, |record, keys, store, out| engine.step(record, keys, store, &message, out))
+    }
+
+    /// A call on a unit's record and store; what a refusal must leave alone is looked at here.
+    fn call(
+        &mut self,
+        seat: u32,
+        lent: &Lent,
+        call: impl Fn(Record, &[u8], &mut [u8], &mut [u8]) -> Stepped,
+    ) -> Result<(), String> {
+        let n = self.fleet.n;
+        let mut keys = self.fleet.key_table();
+        keys.resize(lent.keys.unwrap_or(keys.len()), 0);
+        let unit = self.units.get_mut(&seat).ok_or("the unit isn't open")?;
+        let mut store = unit.store[..lent.store.unwrap_or(unit.store.len())].to_vec();
+        let before = store.clone();
+        let mut out = vec![BLANK; lent.out.unwrap_or(engine::out_length(n))];
+        let answer = call(unit.record, &keys, &mut store, &mut out);
+        let written = out.drain(..answer.written as usize).collect();
+        if out.iter().any(|&byte| byte != BLANK) {
+            return Err("bytes of out beyond those written were changed".to_string());
+        }
+        if answer.number != 0 && (answer.record != unit.record || store != before || answer.written != 0) {
+            return Err("a refusal changed something".to_string());
+        }
+        if answer.number == 0 {
+            *unit = Unit { record: answer.record, store };
+        }
+        self.answer = Some(Answer::Written(answer.number, written));
+        Ok(())
+    }
+
+    fn join(&mut self, words: &mut Words) -> Result<(), String> {
+        let (first, second, lent) = self.two_certificates(words)?;
+        let Fleet { n, round } = self.fleet;
+        let mut out = vec![BLANK; lent.out.unwrap_or(evidence::out_length(n))];
+        let answer = self.calls.making.make_evidence(n, round, &self.fleet.key_table(), &first, &second, &mut out);
+        out.truncate(answer.written as usize);
+        self.answer = Some(Answer::Written(answer.number, out));
+        Ok(())
+    }
+
+    fn lower(&mut self, words: &mut Words) -> Result<(), String> {
+        let (first, second, _) = self.two_certificates(words)?;
+        let Fleet { n, round } = self.fleet;
+        let part = self.calls.making.lower_certificate(n, round, &self.fleet.key_table(), &first, &second);
+        let places = [("first", &first), ("second", &second)];
+        let whole = places.iter().find(|(_, buffer)| part.as_ptr() == buffer.as_ptr() && part.len() == buffer.len());
+        self.answer = Some(Answer::Lower(match whole {
+            Some((name, _)) => name,
+            None if part.is_empty() => "none",
+            None => "something else",
+        }));
+        Ok(())
+    }
+
+    fn two_certificates(&self, words: &mut Words) -> Result<(Vec<u8>, Vec<u8>, Lent), String> {
+        let mut first = self.message(words)?;
+        self.changes(words, &mut first)?;
+        expect(words, "and")?;
+        let mut second = self.message(words)?;
+        let lent = self.changes(words, &mut second)?;
+        Ok((first, second, lent))
+    }
+
+    /// `A`, or `A'` for the other signatures over the same layout.
+    fn layout(&self, words: &mut Words) -> Result<(Value, u32), String> {
+        let word = words.next().ok_or("a layout is missing")?;
+        let (name, hand) = word.strip_suffix('\'').map_or((word, 0), |name| (name, 1));
+        let value = self.layouts.get(name).ok_or_else(|| format!("no layout `{name}`"))?;
+        Ok((*value, hand))
+    }
+
+    fn message(&self, words: &mut Words) -> Result<Vec<u8>, String> {
+        let fleet = self.fleet;
+        Ok(match words.next().unwrap_or_default() {
+            "SUBMIT" => {
+                let seat = number(words)?;
+                let (value, hand) = self.layout(words)?;
+                fleet.submit(seat, &value, hand).write()
+            }
+            "NOTICE" => {
+                let seat = number(words)?;
+                fleet.notice(seat, &self.layout(words)?.0).write()
+            }
+            "FULL" => {
+                let sender = number(words)?;
+                let (value, hand) = self.layout(words)?;
+                expect(words, "of")?;
+                fleet.full(sender, &value, &seats(words), hand).write()
+            }
+            "EVIDENCE" => {
+                let (lower, higher) = (self.layout(words)?, self.layout(words)?);
+                expect(words, "of")?;
+                fleet.evidence((&lower.0, lower.1), (&higher.0, higher.1), &seats(words)).write()
+            }
+            word => return Err(format!("`{word}` is no message")),
+        })
+    }
+
+    /// What is done to a message before it is heard, and to the lent buffers.
+    fn changes(&self, words: &mut Words, message: &mut Vec<u8>) -> Result<Lent, String> {
+        let mut lent = Lent::default();
+        while let Some(word) = words.next_if(|&word| word != "and") {
+            match word {
+                "byte" => {
+                    let at = number(words)? as usize;
+                    match words.next().unwrap_or_default() {
+                        "flipped" => message[at] ^= 1,
+                        "is" => message[at] = hex::decode(words.next().ok_or("a byte is missing")?)[0],
+                        word => return Err(format!("`{word}`: a byte is set by `is` or it is `flipped`")),
+                    }
+                }
+                "message" => message.resize(length(words)?, 0),
+                word => lent.take(word, words)?,
+            }
+        }
+        Ok(lent)
+    }
+
+    fn compare(&self, answer: Answer, words: &mut Words) -> Result<(), String> {
+        match answer {
+            Answer::Opened(is) => equal("the number", is, number(words)?),
+            Answer::Written(is, written) => {
+                equal("the number", is, number(words)?)?;
+                equal("the bytes written", written.len() as u32, number(words)?)?;
+                let mut expected = Vec::new();
+                while words.peek().is_some() {
+                    expected.extend(self.message(words)?);
+                    words.next_if_eq(&",");
+                }
+                equal("the bytes", written == expected, true)
+            }
+            Answer::Named(verdict) => {
+                let expected = number(words)?;
+                let named = if words.next_if_eq(&"seats").is_some() { mask(&seats(words)) } else { 0 };
+                equal("the verdict", verdict, Verdict { number: expected, mask: named })
+            }
+            Answer::Lower(is) => equal("the lower one", is, words.next().unwrap_or_default()),
+        }
+    }
+
+    /// The whole record: what isn't told is unset.
+    fn has(&self, seat: u32, words: &mut Words) -> Result<(), String> {
+        let Fleet { n, round } = self.fleet;
+        let mut record = Record { n, seat, round, ..Record::default() };
+        while let Some(word) = words.next() {
+            match word {
+                "nothing" | "," => (),
+                "submitted" => record.own = Own { submitted: true, value: self.layout(words)?.0, ..record.own },
+                "collected" => record.own.collected = mask(&seats(words)),
+                "confirmed" => record.confirmed = true,
+                "heard" => {
+                    let value = self.layout(words)?.0;
+                    record.notices = Notices { heard: 1, value };
+                    if words.next_if_eq(&"and").is_some() {
+                        expect(words, "another")?;
+                        record.notices.heard = 2;
+                    }
+                }
+                "first" => {
+                    let value = self.layout(words)?.0;
+                    expect(words, "of")?;
+                    record.first = First { value, seats: mask(&seats(words)) };
+                }
+                "sent" => record.sent = true,
+                "guilty" => record.guilty = mask(&seats(words)),
+                word => return Err(format!("a record has no `{word}`")),
+            }
+        }
+        equal("the record", self.units.get(&seat).ok_or("the unit isn't open")?.record, record)
+    }
+}
+
+impl Lent {
+    fn take(&mut self, word: &str, words: &mut Words) -> Result<(), String> {
+        let length = Some(length(words)?);
+        match word {
+            "keys" => self.keys = length,
+            "store" => self.store = length,
+            "out" => self.out = length,
+            word => return Err(format!("`{word}` isn't understood")),
+        }
+        Ok(())
+    }
+}
+
+fn number(words: &mut Words) -> Result<u32, String> {
+    let word = words.next().unwrap_or_default();
+    word.parse().map_err(|_| format!("`{word}` is no number"))
+}
+
+fn expect(words: &mut Words, expected: &str) -> Result<(), String> {
+    words.next_if_eq(&expected).map(|_| ()).ok_or_else(|| format!("`{expected}` is missing"))
+}
+
+/// `of LENGTH`.
+fn length(words: &mut Words) -> Result<usize, String> {
+    expect(words, "of")?;
+    Ok(number(words)? as usize)
+}
+
+/// `2 5 7`, and `0-20` for all from 0 to 20.
+fn seats(words: &mut Words) -> Vec<u32> {
+    let range = |word: &str| {
+        let (first, last) = word.split_once('-').unwrap_or((word, word));
+        Some((first.parse().ok()?, last.parse().ok()?))
+    };
+    let mut seats = Vec::new();
+    while let Some((first, last)) = words.peek().and_then(|word| range(word)) {
+        let run: std::ops::RangeInclusive<u32> = first..=last;
+        seats.extend(run);
+        words.next();
+    }
+    seats
+}

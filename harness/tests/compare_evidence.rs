@@ -1,0 +1,10 @@
+//! The evidence check against the reference.
+#![cfg(feature = "evidence")]
+
+use harness::compare::evidence;
+use harness::library::Library;
+
+#[test]
+fn check() {
+    evidence::battery(&Library);
+}

@@ -1,0 +1,39 @@
+//! The rounds of data/rounds, whose answers were worked out from document 01 by hand.
+
+use harness::confirmer::Reference;
+use harness::library;
+use harness::script::{self, Calls};
+
+const REFERENCE: Calls<'static> = Calls { engine: &Reference, evidence: &Reference, making: &Reference };
+
+#[test]
+fn on_the_reference() {
+    script::all(REFERENCE);
+}
+
+/// The reference stands in for what isn't linked.
+#[test]
+fn on_the_library() {
+    script::all(Calls {
+        engine: library::engine().unwrap_or(&Reference),
+        evidence: library::evidence_check().unwrap_or(&Reference),
+        making: library::making().unwrap_or(&Reference),
+    });
+}
+
+#[test]
+fn a_wrong_answer_is_told() {
+    let opening = "fleet 4 round 5\nlayout A 11\n0 opens\n= 0\n";
+    for (rest, line) in [
+        ("0 submits A\n= 0 1487 SUBMIT 0 A", 6),
+        ("0 submits A\n= 0 1488 SUBMIT 0 A'", 6),
+        ("0 submits A\n= 8 0", 6),
+        ("0 hears NOTICE 1 A\n= 0 0\n0 has nothing", 7),
+        ("0 submits A\n0 submits A", 6),
+        ("check EVIDENCE A A of 1\n= 14", 6),
+        ("lower NOTICE 1 A and NOTICE 1 A\n= first", 6),
+    ] {
+        let told = script::run(&format!("{opening}{rest}"), REFERENCE).unwrap_err();
+        assert!(told.starts_with(&format!("line {line}: ")), "{rest}: {told}");
+    }
+}
