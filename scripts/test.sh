@@ -9,6 +9,6 @@ rt ci | tee "$log"
 verdict=$(tail -n 1 "$log")
 
 make --no-print-directory archives
-(cd harness && cargo test --quiet --release --offline --features zolbine,probes)
+(cd harness && cargo test --quiet --release --offline --features evidence,probes)
 
 printf '%s\n' "$verdict"

@@ -356,11 +356,15 @@ pub quorums-share : (n a b : ℕ) → 1 ≤ n → a < 2 ^ n → b < 2 ^ n → k 
 unfolding k
 quorums-share n a b h la lb qa qb = omega (arith, t0-is-third n h, size-union-shared a b, size-le n (union a b) (union-lt n a b la lb))
 
--- of just k, in masks of any width w that holds n; and in masks of 32 bits
-pub k-of-n-share : (w n a b : ℕ) → 1 ≤ n → n ≤ w → a < 2 ^ w → b < 2 ^ w → outside n a ≡ false → outside n b ≡ false
+-- of just k
+pub k-of-n-share : (n a b : ℕ) → 1 ≤ n → a < 2 ^ n → b < 2 ^ n → size a ≡ k n → size b ≡ k n → t0 n + 1 ≤ size (shared a b)
+k-of-n-share n a b h la lb ea eb = quorums-share n a b h la lb (omega arith) (omega arith)
+
+-- in masks of any width w that holds n, which name no seat at or above n; and in masks of 32 bits
+pub k-of-n-share-in : (w n a b : ℕ) → 1 ≤ n → n ≤ w → a < 2 ^ w → b < 2 ^ w → outside n a ≡ false → outside n b ≡ false
     → size a ≡ k n → size b ≡ k n → t0 n + 1 ≤ size (shared a b)
-k-of-n-share w n a b h _ _ _ oa ob ea eb = quorums-share n a b h (outside-false n a .0 oa) (outside-false n b .0 ob) (omega arith) (omega arith)
+k-of-n-share-in w n a b h _ _ _ oa ob = k-of-n-share n a b h (outside-false n a .0 oa) (outside-false n b .0 ob)
 
 pub k-of-n-share-32 : (n a b : ℕ) → 1 ≤ n → n ≤ 32 → a < 2 ^ 32 → b < 2 ^ 32 → outside n a ≡ false → outside n b ≡ false
     → size a ≡ k n → size b ≡ k n → t0 n + 1 ≤ size (shared a b)
-k-of-n-share-32 = k-of-n-share 32
+k-of-n-share-32 = k-of-n-share-in 32
