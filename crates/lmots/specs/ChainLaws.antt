@@ -7,7 +7,7 @@ use native.Mathlib.Omega.{arith}
 use lib.ListN.{length, getD}
 use lib.Seq.{take-all}
 use Rattle.octets.specs.Octets.{be, words, bytes}
-use Rattle.octets.specs.Laws.{be-four, length-bytes, bytes-append}
+use Rattle.octets.specs.Laws.{as-four, as-eight, be-four, length-bytes, bytes-append}
 use Rattle.sha256.specs.Constants.{initial}
 use Rattle.sha256.specs.Fips.{compress, pad, sha256}
 use Rattle.sha256.specs.Pieces.{oneBlock}
@@ -15,7 +15,7 @@ use Rattle.sha256.specs.Laws.{one-block, pad-55}
 use Rattle.rfc8554.specs.Ots.{chainInput, chain}
 use Rattle.rfc8554.specs.OtsLaws.{length-chainInput}
 use Rattle.lmots.specs.Pieces.{across}
-use Rattle.lmots.specs.WordLaws.{as-four, as-eight, words-bytes}
+use Rattle.lmots.specs.WordLaws.{words-bytes}
 
 -- ---- the prepared block of a chain step
 

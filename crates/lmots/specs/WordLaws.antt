@@ -4,10 +4,10 @@ use mathlib.Core.List.{List, [], _∷_, _++_}
 use Prim.Native.Nat.{ℕ, zero, suc, _+_, _*_, _/_, _%_, _≤_, _<_}
 use native.Mathlib.Numerals.{add-one, add-two, add-three}
 use native.Mathlib.Omega.{arith}
-use lib.ListN.{length, take, drop, getD, drop-of-length-le}
-use lib.Seq.{take-add, drop-drop, drop-cons, take-suc}
+use lib.ListN.{length, take, drop, getD}
+use lib.Seq.{take-add, drop-drop, take-suc}
 use Rattle.octets.specs.Octets.{part, be, wordAt, words, bytes}
-use Rattle.octets.specs.Laws.{be-four, bytes-append}
+use Rattle.octets.specs.Laws.{as-four, be-four, bytes-append}
 use Rattle.octets.specs.StringLaws.{part-suc}
 
 -- ---- words of bytes
@@ -64,26 +64,7 @@ module _ (xs : List ℕ) (byte : (i : ℕ) → getD xs i 0 < 256) where
       (word-first (at + 12) 4 0 (at + 16) d [] (omega arith) (omega arith) (omega arith) ed
       (sym (part-none (at + 16) xs)))))
 
--- ---- lists of a known length, element by element
-
-listed : ℕ → ℕ → List ℕ → List ℕ
-listed at zero xs = []
-listed at (suc n) xs = getD xs at 0 ∷ listed (suc at) n xs
-
-listed-rest : (at n : ℕ) (xs : List ℕ) → at + n ≡ length xs → listed at n xs ≡ drop at xs
-unfolding listed
-listed-rest at zero xs e = sym (drop-of-length-le xs {i = at} (omega arith))
-listed-rest at (suc n) xs e =
-    ap (λ (l : List ℕ). getD xs at 0 ∷ l) (listed-rest (suc at) n xs (omega arith)) ∙ sym (drop-cons xs at 0 (omega arith))
-
-pub as-four : (xs : List ℕ) → length xs ≡ 4 → getD xs 0 0 ∷ getD xs 1 0 ∷ getD xs 2 0 ∷ getD xs 3 0 ∷ [] ≡ xs
-unfolding listed
-as-four xs e = listed-rest 0 4 xs (sym e)
-
-pub as-eight : (xs : List ℕ) → length xs ≡ 8
-    → getD xs 0 0 ∷ getD xs 1 0 ∷ getD xs 2 0 ∷ getD xs 3 0 ∷ getD xs 4 0 ∷ getD xs 5 0 ∷ getD xs 6 0 ∷ getD xs 7 0 ∷ [] ≡ xs
-unfolding listed
-as-eight xs e = listed-rest 0 8 xs (sym e)
+-- ---- eight words
 
 -- four words and the next four
 pub eight-words : (at : ℕ) (xs a b : List ℕ) → length a ≡ 4 → length b ≡ 4 → bytes a ≡ part at 16 xs → bytes b ≡ part (at + 16) 16 xs

@@ -9,10 +9,9 @@ use lib.ListN.{length, take, drop, getD, set, take-append-drop, length-append, d
 use lib.Seq.{length-take-le, take-suc, sets-eq}
 use Rattle.octets.specs.Octets.{patch, be, bytes}
 use Rattle.octets.specs.Strings.{joined}
-use Rattle.octets.specs.Laws.{length-be, length-bytes, bytes-append, length-patch, patch-patch}
+use Rattle.octets.specs.Laws.{as-four, length-be, length-bytes, bytes-append, length-patch, patch-patch}
 use Rattle.octets.specs.StringLaws.{be-two}
 use Rattle.lmots.specs.Pieces.{front}
-use Rattle.lmots.specs.WordLaws.{as-four}
 
 -- ---- writes in a row
 

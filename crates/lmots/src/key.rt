@@ -1,21 +1,20 @@
 // Public key, signature and candidate key (RFC 8554, sections 4.3, 4.5 and 4.6).
 ghost use mathlib.Core.Path.{_≡_};
 ghost use mathlib.Core.Logic.{_⊎_};
-ghost use Prim.Native.Nat.{_+_, _*_, _<_, _≤_};
-ghost use lib.ListN.{length, take};
+ghost use Prim.Native.Nat.{ℕ, _+_, _-_, _*_, _^_, _<_, _≤_};
+ghost use lib.ListN.{length, take, getD};
 ghost use Rattle.octets.specs.Octets.{patch, bytes};
 ghost use Rattle.octets.specs.Strings.{joined};
 ghost use Rattle.sha256.specs.Constants.{constants};
 ghost use Rattle.rfc8554.specs.Ots.{dPblc};
 ghost use Rattle.rfc8554.specs.Ots as Ots;
 ghost use Rattle.lmots.specs.Pieces as Pieces;
-use crate::chain::chain;
 use crate::chain::start;
 use crate::digits::coef;
 use crate::digits::front;
 use crate::digits::message_digits;
 use crate::digits::most;
-use crate::words::eight;
+use crate::turns::run;
 use crate::words::put_eight;
 
 // How many chains a key of width w has.
@@ -26,15 +25,45 @@ fn count(w: u32) -> usize
     if w == 8 { 34 } else { 67 }
 }
 
-// Chain i after as many steps from its start as digit i says, for width 8.
-fn signed(k: &[u32; 64], id: [u32; 4], q: u32, seed: [u32; 8], digits: &[u8], i: usize) -> [u32; 8]
-    requires { ⌜ (now k ≡ constants) × (length (now digits) ≡ 34) × (i < 34) ⌝ }
-    ensures { λ r. ⌜ bytes r ≡ Ots.signed (bytes id) q 8 (bytes seed) (now (digits .entry)) i ⌝ }
+// The first n digits of width w, as places of chains.
+fn digit_places(w: u32, digits: &[u8], n: usize) -> [u32; 67]
+    requires { ⌜ ((w ≡ 4) ⊎ (w ≡ 8)) × (length (now digits) ≡ 34) × (n ≤ Ots.chains w) ⌝ }
+    ensures { λ r. ⌜ ((i : ℕ) → i < n → getD r i 0 ≡ Ots.coef w (now (digits .entry)) i) × ((i : ℕ) → i < 67 → getD r i 0 ≤ 2 ^ w - 1) ⌝ }
 {
-    let n = i as u32;
-    let a = coef(8, digits, i);
-    let x = start(k, id, q, n, seed);
-    chain(k, id, q, n, 0, a, x)
+    let mut out = [0u32; 67];
+    let mut i = 0;
+    while i < n {
+        let x = coef(w, digits, i);
+        out[i] = x;
+        i += 1;
+    }
+    out
+}
+
+// Writes the starts of the chains of width 8.
+fn write_starts(k: &[u32; 64], id: [u32; 4], q: u32, seed: [u32; 8], z: &mut [u8])
+    requires { ⌜ (now k ≡ constants) × (length (now z) ≡ 2144) ⌝ }
+    ensures { λ _. ⌜ (length (now (z .exit)) ≡ 2144) × (now (z .exit) ≡ patch 0 (joined (Ots.start (bytes id) q (bytes seed)) 34) (now (z .entry))) ⌝ }
+{
+    let mut i = 0;
+    while i < 34 {
+        let n = i as u32;
+        let x = start(k, id, q, n, seed);
+        put_eight(z, 32 * i, x);
+        i += 1;
+    }
+}
+
+// The values of a signature of width 8: each chain from its start as many steps as its digit says.
+fn signed(k: &[u32; 64], id: [u32; 4], q: u32, seed: [u32; 8], digits: &[u8]) -> [u8; 2144]
+    requires { ⌜ (now k ≡ constants) × (length (now digits) ≡ 34) ⌝ }
+    ensures { λ r. ⌜ take 1088 r ≡ joined (Ots.signed (bytes id) q 8 (bytes seed) (now (digits .entry))) 34 ⌝ }
+{
+    let ends = digit_places(8, digits, 34);
+    let mut z = [0u8; 2144];
+    write_starts(k, id, q, seed, &mut z);
+    run(k, id, q, [0u32; 67], ends, 34, &mut z);
+    z
 }
 
 // Writes the values of a signature of width 8 for the digits, from index `at`.
@@ -50,15 +79,11 @@ pub fn write_signed(
     requires { ⌜ (now k ≡ constants) × (length (now digits) ≡ 34) × (at + 1088 ≤ length (now out)) ⌝ }
     ensures { λ _. ⌜ now (out .exit) ≡ patch at (joined (Ots.signed (bytes id) q 8 (bytes seed) (now (digits .entry))) 34) (now (out .entry)) ⌝ }
 {
-    let mut i = 0;
-    while i < 34 {
-        let y = signed(k, id, q, seed, digits, i);
-        put_eight(out, at + 32 * i, y);
-        i += 1;
-    }
+    let z = signed(k, id, q, seed, digits);
+    octets::copy(out, at, &z[..1088]);
 }
 
-// Chain i to its end from the value of a signature, at the place that digit i says.
+// The ends of n chains, from the values of a signature, at the places that the digits say.
 fn completed(
     k: &[u32; 64],
     id: [u32; 4],
@@ -66,16 +91,17 @@ fn completed(
     w: u32,
     digits: &[u8],
     sig: &[u8],
-    i: usize,
-) -> [u32; 8]
-    requires { ⌜ (now k ≡ constants) × ((w ≡ 4) ⊎ (w ≡ 8)) × (length (now digits) ≡ 34) × (length (now sig) ≡ Ots.otsLength w) × (i < Ots.chains w) ⌝ }
-    ensures { λ r. ⌜ bytes r ≡ Ots.completed (bytes id) q w (now (digits .entry)) (now (sig .entry)) i ⌝ }
+    n: usize,
+) -> [u8; 2144]
+    requires { ⌜ (now k ≡ constants) × ((w ≡ 4) ⊎ (w ≡ 8)) × (length (now digits) ≡ 34) × (length (now sig) ≡ Ots.otsLength w) × (n ≡ Ots.chains w) ⌝ }
+    ensures { λ r. ⌜ take (32 * n) r ≡ joined (Ots.completed (bytes id) q w (now (digits .entry)) (now (sig .entry))) n ⌝ }
 {
-    let n = i as u32;
-    let a = coef(w, digits, i);
     let top = most(w);
-    let y = eight(sig, 36 + 32 * i);
-    chain(k, id, q, n, a, top - a, y)
+    let places = digit_places(w, digits, n);
+    let mut z = [0u8; 2144];
+    octets::copy(&mut z, 0, &sig[36..]);
+    run(k, id, q, places, [top; 67], n, &mut z);
+    z
 }
 
 // Writes the ends of all chains, from index `at`.
@@ -93,12 +119,9 @@ fn write_completed(
     ensures { λ _. ⌜ now (out .exit) ≡ patch at (joined (Ots.completed (bytes id) q w (now (digits .entry)) (now (sig .entry))) (Ots.chains w)) (now (out .entry)) ⌝ }
 {
     let n = count(w);
-    let mut i = 0;
-    while i < n {
-        let z = completed(k, id, q, w, digits, sig, i);
-        put_eight(out, at + 32 * i, z);
-        i += 1;
-    }
+    let z = completed(k, id, q, w, digits, sig, n);
+    let end = 32 * n;
+    octets::copy(out, at, &z[..end]);
 }
 
 // A buffer for what is hashed to a key of either width, with its front.

@@ -3,4 +3,6 @@
 pub mod chain;
 pub mod digits;
 pub mod key;
+pub mod sixteen;
+pub mod turns;
 pub mod words;

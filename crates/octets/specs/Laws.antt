@@ -6,8 +6,8 @@ use native.Mathlib.Nat.{add-assoc, sub-zero, zero-sub, suc-sub-suc, not-suc-le-z
 use native.Mathlib.Numerals.{add-one, add-two, add-three}
 use native.Mathlib.Omega.{arith}
 use lib.Dec.{lit<}
-use lib.ListN.{replicate, length, take, drop, getD, set, length-append, length-take, length-drop}
-use lib.Seq.{take-all, take-suc, take-suc-set, paste, paste-suc, take-length, take-at, drop-at, sets-eq, drop-drop, getD-take, getD-drop}
+use lib.ListN.{replicate, length, take, drop, getD, set, length-append, length-take, length-drop, drop-of-length-le}
+use lib.Seq.{drop-cons, take-all, take-suc, take-suc-set, paste, paste-suc, take-length, take-at, drop-at, sets-eq, drop-drop, getD-take, getD-drop}
 use Rattle.octets.specs.Octets.{part, patch, be, wordAt, words, bytes}
 
 -- ---- loops that fill a list from the front
@@ -31,6 +31,27 @@ pub take-replicate : (i n a : ℕ) → i ≤ n → take i (replicate n a) ≡ re
 take-replicate zero n a h = refl
 take-replicate (suc i) zero a h = absurd (not-suc-le-zero h)
 take-replicate (suc i) (suc n) a h = ap {B = List ℕ} (λ r. a ∷ r) (take-replicate i n a (le-of-suc-le-suc h))
+
+-- ---- lists of a known length, element by element
+
+listed : ℕ → ℕ → List ℕ → List ℕ
+listed at zero xs = []
+listed at (suc n) xs = getD xs at 0 ∷ listed (suc at) n xs
+
+listed-rest : (at n : ℕ) (xs : List ℕ) → at + n ≡ length xs → listed at n xs ≡ drop at xs
+unfolding listed
+listed-rest at zero xs e = sym (drop-of-length-le xs {i = at} (omega arith))
+listed-rest at (suc n) xs e =
+    ap (λ (l : List ℕ). getD xs at 0 ∷ l) (listed-rest (suc at) n xs (omega arith)) ∙ sym (drop-cons xs at 0 (omega arith))
+
+pub as-four : (xs : List ℕ) → length xs ≡ 4 → getD xs 0 0 ∷ getD xs 1 0 ∷ getD xs 2 0 ∷ getD xs 3 0 ∷ [] ≡ xs
+unfolding listed
+as-four xs e = listed-rest 0 4 xs (sym e)
+
+pub as-eight : (xs : List ℕ) → length xs ≡ 8
+    → getD xs 0 0 ∷ getD xs 1 0 ∷ getD xs 2 0 ∷ getD xs 3 0 ∷ getD xs 4 0 ∷ getD xs 5 0 ∷ getD xs 6 0 ∷ getD xs 7 0 ∷ [] ≡ xs
+unfolding listed
+as-eight xs e = listed-rest 0 8 xs (sym e)
 
 -- ---- parts
 

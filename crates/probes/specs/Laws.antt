@@ -6,9 +6,11 @@ use lib.ListN.{length}
 use borrow.Author.Tests.{lt-ltb, le-ltb, eq-eqb, ne-eqb}
 use Rattle.octets.specs.Octets.{patch, part, words, bytes}
 use Rattle.octets.specs.StringLaws.{patch-nothing, part-all}
+use Rattle.octets.specs.Strings.{joined}
 use Rattle.refusal.specs.Refusal.{lowest, unrefused}
 use Rattle.sha256.specs.Fips.{sha256}
-use Rattle.probes.specs.Probes.{digestRefusal, digestWritten, compressRefusal, repeated, compressWritten}
+use Rattle.rfc8554.specs.Ots.{signed}
+use Rattle.probes.specs.Probes.{digestRefusal, digestWritten, compressRefusal, repeated, compressWritten, signedRefusal, signedWritten}
 
 -- an out buffer that is too short
 
@@ -50,3 +52,42 @@ compress-fits count state block out h m s d last room e f p q r t u = (
   rw (le-ltb (length out) 32 room, eq-eqb (length state) 32 e, eq-eqb (length block) 64 f)
       (u ∙ rw (t, r, p, q, part-all block 64 f)),
 )
+
+-- the values of a signature
+
+module _ (q : ℕ) (id seed digits out : List ℕ) where
+  pub signed-short : length out < 1088
+      → (7 ≡ signedRefusal id seed digits out) × (out ≡ patch 0 (signedWritten q id seed digits out) out)
+  unfolding signedRefusal signedWritten lowest unrefused
+  signed-short h = (rw (lt-ltb (length out) 1088 h), rw (lt-ltb (length out) 1088 h) (sym (patch-nothing out)))
+
+  pub id-garbled : 1088 ≤ length out → (length id ≡ 16 → ⊥)
+      → (9 ≡ signedRefusal id seed digits out) × (out ≡ patch 0 (signedWritten q id seed digits out) out)
+  unfolding signedRefusal signedWritten lowest unrefused
+  id-garbled h e = (rw (le-ltb (length out) 1088 h, ne-eqb (length id) 16 e), rw (le-ltb (length out) 1088 h, ne-eqb (length id) 16 e) (sym (patch-nothing out)))
+
+  pub seed-garbled : 1088 ≤ length out → length id ≡ 16 → (length seed ≡ 32 → ⊥)
+      → (9 ≡ signedRefusal id seed digits out) × (out ≡ patch 0 (signedWritten q id seed digits out) out)
+  unfolding signedRefusal signedWritten lowest unrefused
+  seed-garbled h e f = (
+    rw (le-ltb (length out) 1088 h, eq-eqb (length id) 16 e, ne-eqb (length seed) 32 f),
+    rw (le-ltb (length out) 1088 h, eq-eqb (length id) 16 e, ne-eqb (length seed) 32 f) (sym (patch-nothing out)),
+  )
+
+  pub digits-garbled : 1088 ≤ length out → length id ≡ 16 → length seed ≡ 32 → (length digits ≡ 34 → ⊥)
+      → (9 ≡ signedRefusal id seed digits out) × (out ≡ patch 0 (signedWritten q id seed digits out) out)
+  unfolding signedRefusal signedWritten lowest unrefused
+  digits-garbled h e f g = (
+    rw (le-ltb (length out) 1088 h, eq-eqb (length id) 16 e, eq-eqb (length seed) 32 f, ne-eqb (length digits) 34 g),
+    rw (le-ltb (length out) 1088 h, eq-eqb (length id) 16 e, eq-eqb (length seed) 32 f, ne-eqb (length digits) 34 g) (sym (patch-nothing out)),
+  )
+
+  pub signed-fits : (i s last : List ℕ) → 1088 ≤ length out → length id ≡ 16 → length seed ≡ 32 → length digits ≡ 34
+      → bytes i ≡ part 0 16 id → bytes s ≡ part 0 32 seed → last ≡ patch 0 (joined (signed (bytes i) q 8 (bytes s) digits) 34) out
+      → (0 ≡ signedRefusal id seed digits out) × (last ≡ patch 0 (signedWritten q id seed digits out) out)
+  unfolding signedRefusal signedWritten lowest unrefused
+  signed-fits i s last h e f g p r u = (
+    rw (le-ltb (length out) 1088 h, eq-eqb (length id) 16 e, eq-eqb (length seed) 32 f, eq-eqb (length digits) 34 g),
+    rw (le-ltb (length out) 1088 h, eq-eqb (length id) 16 e, eq-eqb (length seed) 32 f, eq-eqb (length digits) 34 g)
+        (u ∙ rw (p, r, part-all id 16 e, part-all seed 32 f)),
+  )

@@ -1,4 +1,4 @@
--- The layers below the library's calls, for measurement and comparison: thresholds, digests, compressions.
+-- The layers below the library's calls, for measurement and comparison: thresholds, digests, compressions, chains.
 use Prim.Native.Nat.{ℕ, zero, suc}
 use mathlib.Core.Bool.{not, cond, _&&_, _||_}
 use mathlib.Core.List.{List, [], _∷_}
@@ -7,7 +7,9 @@ use lib.ListN.{length}
 use Rattle.octets.specs.Octets.{words, bytes}
 use Rattle.quorum.specs.Quorum.{mostSeats}
 use Rattle.refusal.specs.Refusal.{lowest, unrefused}
+use Rattle.octets.specs.Strings.{joined}
 use Rattle.sha256.specs.Fips.{compress, sha256}
+use Rattle.rfc8554.specs.Ots.{signed}
 
 -- a threshold of n, and 0 where no fleet has n seats
 unfoldable pub ofFleet : (ℕ → ℕ) → ℕ → ℕ
@@ -33,3 +35,14 @@ repeated h m (suc t) = compress (repeated h m t) m
 unfoldable pub compressWritten : ℕ → List ℕ → List ℕ → List ℕ → List ℕ
 compressWritten count state block out =
     unrefused (compressRefusal state block out) (bytes (repeated (words 8 state) (words 16 block) count)) []
+
+-- an out buffer too short for the values of a signature is refused as 7, and an identifier, seed or digits of another length as 9
+unfoldable pub signedRefusal : List ℕ → List ℕ → List ℕ → List ℕ → ℕ
+signedRefusal id seed digits out =
+    lowest
+    ((7, ltb (length out) 1088)
+    ∷ (9, not (eqb (length id) 16) || (not (eqb (length seed) 32) || not (eqb (length digits) 34)))
+    ∷ [])
+
+unfoldable pub signedWritten : ℕ → List ℕ → List ℕ → List ℕ → List ℕ → List ℕ
+signedWritten q id seed digits out = unrefused (signedRefusal id seed digits out) (joined (signed id q 8 seed digits) 34) []

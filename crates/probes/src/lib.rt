@@ -5,7 +5,7 @@ ghost use lib.ListN.{length};
 ghost use Rattle.octets.specs.Octets.{patch, words};
 ghost use Rattle.quorum.specs.Quorum as Quorum;
 ghost use Rattle.sha256.specs.Constants.{constants};
-ghost use Rattle.probes.specs.Probes.{ofFleet, digestRefusal, digestWritten, compressRefusal, compressWritten, repeated};
+ghost use Rattle.probes.specs.Probes.{ofFleet, digestRefusal, digestWritten, compressRefusal, compressWritten, repeated, signedRefusal, signedWritten};
 
 #[no_mangle]
 pub extern "C" fn probe_t0(n: u32) -> u32
@@ -99,5 +99,30 @@ pub extern "C" fn probe_compress_many(count: u32, state: &[u8], block: &[u8], ou
     let s = compress_times(&k, h, m, count);
     let d = sha256::hash::digest(s);
     octets::copy(out, 0, &d);
+    0
+}
+
+// The values of an LM-OTS signature of width 8 for given digits.
+#[no_mangle]
+pub extern "C" fn probe_signed(q: u32, id: &[u8], seed: &[u8], digits: &[u8], out: &mut [u8]) -> u32
+    ensures { λ r. ⌜ r ≡ signedRefusal (now (id .entry)) (now (seed .entry)) (now (digits .entry)) (now (out .entry)) ⌝ }
+    ensures { λ _. ⌜ now (out .exit) ≡ patch 0 (signedWritten q (now (id .entry)) (now (seed .entry)) (now (digits .entry)) (now (out .entry))) (now (out .entry)) ⌝ }
+{
+    if out.len() < 1088 {
+        return refusal::OUT;
+    }
+    if id.len() != 16 {
+        return refusal::GARBLED;
+    }
+    if seed.len() != 32 {
+        return refusal::GARBLED;
+    }
+    if digits.len() != 34 {
+        return refusal::GARBLED;
+    }
+    let k = sha256::constants::round_constants();
+    let i = lmots::words::four(id, 0);
+    let s = lmots::words::eight(seed, 0);
+    lmots::key::write_signed(&k, i, q, s, digits, out, 0);
     0
 }

@@ -182,6 +182,9 @@ same-seats =
     (λ b h. sym (zero-of-none-in b (λ s. sym (h s) ∙ bit-empty s)))
     (λ a half b h. omega (arith, h 0, half (b / 2) (λ s. h (suc s))))
 
+pub shared-comm : (a b : ℕ) → shared a b ≡ shared b a
+shared-comm a b = same-seats (shared a b) (shared b a) (λ s. omega (arith, bit-shared s a b, bit-shared s b a))
+
 pub same-seats-below : (n a b : ℕ) → a < 2 ^ n → b < 2 ^ n → ((s : ℕ) → s < n → bit s a ≡ bit s b) → a ≡ b
 same-seats-below n a b la lb h = same-seats a b (λ s. go s (decLt s n))
   where
@@ -212,6 +215,14 @@ size-union-shared =
     step : (a : ℕ) → ((b : ℕ) → size (union (a / 2) b) + size (shared (a / 2) b) ≡ size (a / 2) + size b) → (b : ℕ) → size (union a b) + size (shared a b) ≡ size a + size b
     step a half b =
         omega (arith, ones-step (union a b), ones-step (shared a b), ones-step a, ones-step b, union-low a b, shared-low a b, ap size (union-half a b), ap size (shared-half a b), half (b / 2))
+
+-- a set has at least the seats that it shares
+pub size-shared-le : (a b : ℕ) → size (shared a b) ≤ size a
+unfolding shared
+size-shared-le = bin-ind (λ (a : ℕ). (b : ℕ) → size (shared a b) ≤ size a) (λ b. omega arith) step
+  where
+    step : (a : ℕ) → ((b : ℕ) → size (shared (a / 2) b) ≤ size (a / 2)) → (b : ℕ) → size (shared a b) ≤ size a
+    step a half b = omega (arith, ones-step (shared a b), ones-step a, shared-low a b, ap size (shared-half a b), half (b / 2))
 
 pub size-empty : size 0 ≡ 0
 unfolding ones

@@ -1,6 +1,6 @@
 -- Ch and Maj with fewer operations than FIPS 180-4 writes, and the same value: digit by digit.
 use mathlib.Core.Path.{_≡_, refl}
-use Prim.Native.Nat.{ℕ, zero, suc, _-_, _*_, _/_, _%_, _^_, _<_, min}
+use Prim.Native.Nat.{ℕ, zero, suc, _+_, _-_, _*_, _/_, _%_, _^_, _<_, min}
 use native.Mathlib.Nat.{mod-lt, not-suc-le-zero, le-of-suc-le-suc, pow-suc}
 use native.Mathlib.Omega.{arith}
 use lib.Arith.{lt-one}
@@ -97,3 +97,15 @@ ch-word x y z hx hy hz = ch-form 32 x y z hx hy hz
 pub maj-word : (x y z : ℕ) → x < 2 ^ 32 → y < 2 ^ 32 → z < 2 ^ 32 → bitXor y (bitAnd (bitXor x y) (bitXor y z)) ≡ maj x y z
 unfolding maj
 maj-word x y z hx hy hz = maj-form 32 x y z hx hy hz
+
+-- numbers of any length
+
+below-power : (n : ℕ) → n < 2 ^ n
+below-power zero = omega arith
+below-power (suc n) = let e : 2 ^ suc n ≡ 2 ^ n * 2 = pow-suc 2 n in omega (arith, below-power n)
+
+pub maj-any : (x y z : ℕ) → bitXor y (bitAnd (bitXor x y) (bitXor y z)) ≡ maj x y z
+unfolding maj
+maj-any x y z =
+    let h : x + y + z < 2 ^ (x + y + z) = below-power (x + y + z) in
+    maj-form (x + y + z) x y z (omega arith) (omega arith) (omega arith)

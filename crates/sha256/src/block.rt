@@ -54,7 +54,7 @@ fn schedule(m: [u32; 16]) -> [u32; 64]
     w
 }
 
-fn temp1(k: u32, w: u32, e: u32, f: u32, g: u32, h: u32) -> u32
+pub fn temp1(k: u32, w: u32, e: u32, f: u32, g: u32, h: u32) -> u32
     ensures { λ r. ⌜ r ≡ Fips.temp1 k w e f g h ⌝ }
 {
     add(add(add(add(h, big_sigma1(e)), ch(e, f, g)), k), w)

@@ -1,56 +1,78 @@
 -- `lmots::key::completed` meets its contract.
+use Prim.Native.Nat.{ℕ}
 use native.Mathlib.Omega.{arith}
 use denote.Ref.{now}
+use lib.ListN.{replicate, length-replicate, length-take, length-drop}
 use Rattle.octets.specs.Octets.{bytes}
-use lib.ListN.{length}
-use Rattle.lmots.specs.DigitLaws.{chain-place}
-use Rattle.lmots.specs.KeyLaws.{chains-le, value-place, completed-by}
+use Rattle.lmots.specs.KeyLaws.{chains-le, some-chains, length-values, ordered-completed, completed-by}
 use borrow.Author.Needs.{needs}
 use Rattle.lmots.proofs.key.completed.Statement.{statement}
 use Rattle.lmots.proofs.key.completed.Tie as tie
 
-cast-n : tie.Need-cast-n
-cast-n c = omega (arith, chains-le (c .before .before .args .w) (c .before .before .pre .1))
-
-coef-requires : tie.Need-coef-requires
-coef-requires c κs =
-    let start = c .before .before in
-    (start .pre .1, rw (start .pre .2) (chain-place (start .args .w) (start .args .i) (start .pre .1) (start .pre .4)))
-
 most-requires : tie.Need-most-requires
 most-requires c κs = search needs
 
-mul-eight : tie.Need-mul-eight
-mul-eight c = omega (arith, chains-le (c .before .before .before .before .args .w) (c .before .before .before .before .pre .1))
+digit-places-requires : tie.Need-digit-places-requires
+digit-places-requires c κs = search needs
 
-add-eight : tie.Need-add-eight
-add-eight c = omega (arith, chains-le (c .before .before .before .before .args .w) (c .before .before .before .before .pre .1))
+slice-aggregate-copy : tie.Need-slice-aggregate-copy
+slice-aggregate-copy c = search needs
 
-eight-requires : tie.Need-eight-requires
-eight-requires c κs = value-place (c .before .before .before .before .args .w) (c .before .before .before .before .args .i) (length (now (c .before .before .before .before .args .sig))) (c .before .before .before .before .pre .3) (c .before .before .before .before .pre .4)
+sub-copy : tie.Need-sub-copy
+sub-copy c = omega (arith, c .before .before .before .before .before .pre .3, length-values (c .before .before .before .before .before .args .w))
 
-sub-chain : tie.Need-sub-chain
-sub-chain c = search needs
+part-copy-start : tie.Need-part-copy-start
+part-copy-start c = omega (arith, c .before .before .before .before .before .pre .3, length-values (c .before .before .before .before .before .args .w))
 
-chain-requires : tie.Need-chain-requires
-chain-requires c κs = (c .before .before .before .before .before .pre .0, omega (arith, chains-le (c .before .before .before .before .before .args .w) (c .before .before .before .before .before .pre .1)), omega arith)
+part-copy-end : tie.Need-part-copy-end
+part-copy-end c = search needs
+
+copy-requires : tie.Need-copy-requires
+copy-requires c κs =
+    let start = c .before .before .before .before .before .before in
+    let w = start .args .w in
+    let few = chains-le w (start .pre .1) in
+    let long = length-values w in
+    simp (length-take, length-drop) (omega arith)
+
+slice-aggregate-run : tie.Need-slice-aggregate-run
+slice-aggregate-run c = search needs
+
+run-requires : tie.Need-run-requires
+run-requires c κs =
+    let start = c .before .before .before .before .before .before .before .before .before in
+    let w = start .args .w in
+    let top = c .before .before .before .before .before .before .most in
+    let digits = c .before .before .before .before .before .digit-places in (
+      start .pre .0,
+      search needs,
+      ordered-completed (digits .result) w (top .result) (top .ensures .0) (top .ensures .1) (digits .ensures .1),
+      omega (arith, start .pre .4, some-chains w (start .pre .1)),
+      omega (arith, start .pre .4, chains-le w (start .pre .1)),
+    )
 
 returns : tie.Need-returns
 returns c =
-    let args = c .before .before .before .before .before .before .args in
-    completed-by (bytes (args .id)) (now (args .digits)) (now (args .sig)) (c .before .eight .result) (c .chain .result) (args .q) (args .w) (args .i)
-    (c .before .before .before .coef .result) (c .before .before .most .result) (c .before .before .before .coef .ensures .0) (c .before .before .most .ensures .0) (c .before .eight .ensures) (c .chain .ensures)
+    let start = c .before .before .before .before .before .before .before .before .before .before .before in
+    let args = start .args in
+    let top = c .before .before .before .before .before .before .before .before .most in
+    let digits = c .before .before .before .before .before .before .before .digit-places in
+    let copied = c .before .before .before .before .copy in
+    completed-by (bytes (args .id)) (now (args .digits)) (now (args .sig)) (digits .result) (replicate 2144 0) _ _ (args .q) (args .w) (args .n) (top .result)
+    (length-replicate {A = ℕ} 2144 0) (start .pre .4) (omega (arith, start .pre .4, chains-le (args .w) (start .pre .1))) (start .pre .3) (top .ensures .0)
+    (digits .ensures .0) (copied .ensures) (c .before .run .ensures .1)
 
 pub completed-spec : {M : Type 1} → statement M
 completed-spec =
     tie.close
     (tie.spec
-    cast-n
-    coef-requires
     most-requires
-    mul-eight
-    add-eight
-    eight-requires
-    sub-chain
-    chain-requires
+    digit-places-requires
+    slice-aggregate-copy
+    sub-copy
+    part-copy-start
+    part-copy-end
+    copy-requires
+    slice-aggregate-run
+    run-requires
     returns)

@@ -1,82 +1,35 @@
 -- `lmots::key::write_signed` meets its contract.
-use mathlib.Core.Path.{_≡_, refl, ap, _∙_}
-use Prim.Native.Nat.{ℕ, _-_, _≤_}
 use native.Mathlib.Omega.{arith}
+use lib.ListN.{length-take}
 use borrow.Author.Needs.{needs}
-use lib.ListN.{length}
-use denote.Ref.{now}
-use Rattle.octets.specs.Octets.{patch, bytes}
-use Rattle.octets.specs.Strings.{joined}
-use Rattle.octets.specs.StringLaws.{length-joined}
-use Rattle.rfc8554.specs.Ots.{signed}
-use Rattle.rfc8554.specs.OtsLaws.{length-signed}
-use Rattle.lmots.specs.WriteLaws.{patch-none, joined-written}
 use Rattle.lmots.proofs.key.write_signed.Statement.{statement}
 use Rattle.lmots.proofs.key.write_signed.Tie as tie
 
-abbrev Inv-loop : tie.InvT-loop
-Inv-loop k id q seed digits out₀ at i₀ out i = (i ≤ 34) × (length out ≡ length out₀) × (out ≡ patch at (joined (signed (bytes id) q 8 (bytes seed) digits) i) out₀)
+signed-requires : tie.Need-signed-requires
+signed-requires c κs = search needs
 
-abbrev μ-loop : tie.MeasureT-loop
-μ-loop k id q seed digits out₀ at i₀ out i = 34 - i
+array-share-prefix-z : tie.Need-array-share-prefix-z
+array-share-prefix-z c = search needs
 
-loop-holds : tie.Need-loop-holds Inv-loop μ-loop
-unfolding joined
-loop-holds c = (omega arith, refl, patch-none (c .before .before .args .at) (now (c .before .before .args .out)))
+slice-aggregate-copy : tie.Need-slice-aggregate-copy
+slice-aggregate-copy c = simp length-take (omega arith)
 
-signed-requires : tie.Need-signed-requires Inv-loop μ-loop
-signed-requires c κs = (c .before .before .before .before .pre .0, c .before .before .before .before .pre .1, omega arith)
+copy-requires : tie.Need-copy-requires
+copy-requires c κs = simp length-take (omega arith)
 
-mul-put-eight : tie.Need-mul-put-eight Inv-loop μ-loop
-mul-put-eight c = omega arith
+same-length : tie.Need-same-length
+same-length c = search needs
 
-add-put-eight : tie.Need-add-put-eight Inv-loop μ-loop
-add-put-eight c = omega arith
-
-put-eight-requires : tie.Need-put-eight-requires Inv-loop μ-loop
-put-eight-requires c κs = omega arith
-
-add-i : tie.Need-add-i Inv-loop μ-loop
-add-i c = omega arith
-
-loop-less : tie.Need-loop-less Inv-loop μ-loop
-loop-less c = omega arith
-
-loop-again : tie.Need-loop-again Inv-loop μ-loop
-loop-again c =
-    let at-loop = c .before .before .before .before .before .before in
-    let args = at-loop .before .before .before .args in
-    let f = signed (bytes (args .id)) (args .q) 8 (bytes (args .seed)) (now (args .digits)) in (
-      omega arith,
-      search needs,
-      joined-written f (args .at) (at-loop .loop .i) (now (args .out)) (at-loop .loop .out) (bytes (c .before .before .before .before .signed .result)) (c .before .before .put-eight .last .0)
-          (length-joined 32 f (at-loop .loop .i) (λ j _. length-signed _ _ 8 _ _ j)) (omega arith) (at-loop .loop .inv .2) (c .before .before .before .before .signed .ensures) (c .before .before .put-eight .ensures),
-    )
-
-same-length : tie.Need-same-length Inv-loop μ-loop
-same-length c = omega arith
-
-returns : tie.Need-returns Inv-loop μ-loop
-returns c =
-    let at-loop = c .before in
-    let args = at-loop .before .before .before .args in
-    let f = signed (bytes (args .id)) (args .q) 8 (bytes (args .seed)) (now (args .digits)) in
-    let all : at-loop .loop .i ≡ 34 = omega arith in
-    at-loop .loop .inv .2 ∙ ap (λ (n : ℕ). patch (args .at) (joined f n) (now (args .out))) all
+returns : tie.Need-returns
+returns c = rw (c .before .before .before .before .before .signed .ensures) at (c .before .before .copy .ensures)
 
 pub write-signed-spec : {M : Type 1} → statement M
 write-signed-spec =
     tie.close
     (tie.spec
-    Inv-loop
-    μ-loop
-    loop-holds
     signed-requires
-    mul-put-eight
-    add-put-eight
-    put-eight-requires
-    add-i
-    loop-less
-    loop-again
+    array-share-prefix-z
+    slice-aggregate-copy
+    copy-requires
     same-length
     returns)

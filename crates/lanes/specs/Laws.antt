@@ -1,0 +1,495 @@
+-- What follows for the lanes from the rows.
+use mathlib.Core.Path.{_≡_, refl, sym, ap, ap₂, subst, _∙_}
+use mathlib.Core.Logic.{_⊎_, inl, inr, ⊎-elim}
+use mathlib.Core.List.{List, [], _∷_, _++_}
+use Prim.Native.Nat.{ℕ, zero, suc, _+_, _-_, _*_, _/_, _≤_, _<_}
+use native.Mathlib.Nat.{add-suc, eq-or-lt-of-le}
+use native.Mathlib.Numerals.{add-one}
+use native.Mathlib.Omega.{arith}
+use lib.Bits.{bitAnd, bitXor}
+use lib.ListN.{length, getD, set, length-append, length-set, List·getD-append}
+use lib.Seq.{getD-set-same, getD-set-other, getD-at, ext-getD}
+use Rattle.octets.specs.Laws.{as-eight}
+use Rattle.sha256.specs.Constants.{constants}
+use Rattle.sha256.specs.Forms.{maj-any}
+use Rattle.sha256.specs.Fips as Fips
+use Rattle.lanes.specs.Rows.{column, Same, scheduledAt, eight, State, place, temp1At, temp2At, roundAt, Kept, Rounded, Compressed}
+
+-- ---- words of a list, by index
+
+abbrev pub Apart : ℕ → ℕ → Type 0
+Apart i j = (i < j) ⊎ (j < i)
+
+pub moved : (d i n j m : ℕ) → j ≡ i + d → m ≡ n + d → Apart i n → Apart j m
+moved d i n j m p q h = ⊎-elim (λ a. inl (omega arith)) (λ a. inr (omega arith)) h
+
+-- what is written at one index is not seen at another
+pub other : (xs : List ℕ) (i j x : ℕ) → Apart j i → getD (set xs i x) j 0 ≡ getD xs j 0
+other xs i j x h = getD-set-other xs i j x 0 (λ e. ⊎-elim (λ k. omega arith) (λ k. omega arith) h)
+
+pub below : (xs : List ℕ) (i j x : ℕ) → j < i → getD (set xs i x) j 0 ≡ getD xs j 0
+below xs i j x h = other xs i j x (inl h)
+
+pub above : (xs : List ℕ) (i j x : ℕ) → i < j → getD (set xs i x) j 0 ≡ getD xs j 0
+above xs i j x h = other xs i j x (inr h)
+
+pub there : (xs : List ℕ) (i j x : ℕ) → j ≡ i → i < length xs → getD (set xs i x) j 0 ≡ x
+there xs i j x e h = rw e (getD-set-same xs i x 0 h)
+
+-- ---- columns
+
+pub length-column : (l n : ℕ) (xs : List ℕ) → length (column l n xs) ≡ n
+unfolding column
+length-column l zero xs = refl
+length-column l (suc n) xs = rw (length-append, length-column l n xs) (omega arith)
+
+pub getD-column : (l n : ℕ) (xs : List ℕ) (t : ℕ) → t < n → getD (column l n xs) t 0 ≡ getD xs (16 * t + l) 0
+unfolding column
+getD-column l zero xs t h = absurd (omega arith)
+getD-column l (suc n) xs t h =
+    let fits : t ≤ n = omega arith in
+    let last : List ℕ = getD xs (16 * n + l) 0 ∷ [] in
+    ⊎-elim
+    (λ e. rw e (getD-at (column l n xs) (getD xs (16 * n + l) 0) [] 0 n (length-column l n xs)))
+    (λ k. List·getD-append (column l n xs) last 0 t (rw length-column k) ∙ getD-column l n xs t k)
+    (eq-or-lt-of-le fits)
+
+pub column-same : (l n : ℕ) (xs ys : List ℕ) → ((t : ℕ) → t < n → getD ys (16 * t + l) 0 ≡ getD xs (16 * t + l) 0) → column l n ys ≡ column l n xs
+unfolding column
+column-same l zero xs ys h = refl
+column-same l (suc n) xs ys h =
+    ap₂ (λ (c : List ℕ) (x : ℕ). c ++ (x ∷ [])) (column-same l n xs ys (λ t k. h t (omega arith))) (h n (omega arith))
+
+-- ---- the schedule
+
+module _ (w : List ℕ) (l u n : ℕ) (e : 16 * (16 + u) + l ≡ n) where
+  word-of : (d m : ℕ) → 0 < d → d ≤ 16 → m ≡ n - 16 * d → getD (column l (16 + u) w) (16 + u - d) 0 ≡ getD w m 0
+  word-of d m h k p =
+      getD-column l (16 + u) w (16 + u - d) (omega arith) ∙ ap (λ (i : ℕ). getD w i 0) (let q : 16 * (16 + u - d) + l ≡ m = omega arith in q)
+
+  pub scheduled-column : scheduledAt w n ≡ Fips.scheduled (column l (16 + u) w) (16 + u)
+  unfolding scheduledAt Fips.scheduled
+  scheduled-column =
+      rw (
+        word-of 2 (n - 32) (omega arith) (omega arith) (omega arith),
+        word-of 7 (n - 112) (omega arith) (omega arith) (omega arith),
+        word-of 15 (n - 240) (omega arith) (omega arith) (omega arith),
+        word-of 16 (n - 256) (omega arith) (omega arith) (omega arith),
+      )
+
+-- the words before index n are those of the schedules of the blocks in m
+unfoldable pub Filled : ℕ → List ℕ → List ℕ → Type 0
+Filled n m w = (l t : ℕ) → l < 16 → 16 * (16 + t) + l < n + 16 → column l (16 + t) w ≡ Fips.schedule (column l 16 m) t
+
+pub filled-none : (m : List ℕ) → Filled 256 m m
+unfolding Filled Fips.schedule
+filled-none m l zero h k = refl
+filled-none m l (suc t) h k = absurd (omega arith)
+
+module _ (m w : List ℕ) (n x : ℕ) (f : Filled n m w) (hn : 256 ≤ n) (in-w : n < length w) (p : x ≡ scheduledAt w n) where
+  before : (l t : ℕ) → 16 * (16 + t) + l < n + 16 → column l (16 + t) (set w n x) ≡ column l (16 + t) w
+  before l t h = column-same l (16 + t) w (set w n x) (λ j k. below w n (16 * j + l) x (omega arith))
+
+  next : (l u : ℕ) → l < 16 → 16 * (16 + u) + l ≡ n → column l (suc (16 + u)) (set w n x) ≡ Fips.schedule (column l 16 m) (suc u)
+  unfolding Filled column Fips.schedule
+  next l u h e =
+      let old : column l (16 + u) w ≡ Fips.schedule (column l 16 m) u = f l u h (omega arith) in
+      let word : getD (set w n x) (16 * (16 + u) + l) 0 ≡ Fips.scheduled (Fips.schedule (column l 16 m) u) (16 + u) =
+      there w n (16 * (16 + u) + l) x e in-w ∙ p ∙ scheduled-column w l u n e ∙ ap (λ (c : List ℕ). Fips.scheduled c (16 + u)) old in
+      ap₂ (λ (c : List ℕ) (y : ℕ). c ++ (y ∷ [])) (before l u (omega arith) ∙ old) word
+
+  pub filled-turn : Filled (n + 1) m (set w n x)
+  unfolding Filled
+  filled-turn l zero h k = before l zero (omega arith) ∙ f l zero h (omega arith)
+  filled-turn l (suc u) h k =
+      let fits : 16 * (16 + u) + l ≤ n = omega arith in
+      ⊎-elim
+      (λ e. rw add-suc (next l u h e))
+      (λ a. before l (suc u) (omega arith) ∙ f l (suc u) h (omega arith))
+      (eq-or-lt-of-le fits)
+
+pub same-turn : (m w : List ℕ) (n x : ℕ) → Same 256 m w → 256 ≤ n → Same 256 m (set w n x)
+unfolding Same
+same-turn m w n x f h i k = below w n i x (omega arith) ∙ f i k
+
+-- ---- a round of one lane
+
+-- three words written: y at n + 2176, then e at n + 1088, then a at n
+module _ (s : List ℕ) (n y e a : ℕ) (hn : n < 1024) (ls : length s ≡ 3264) where
+  one : List ℕ
+  one = set s (n + 2176) y
+
+  two : List ℕ
+  two = set one (n + 1088) e
+
+  unfoldable three : List ℕ
+  three = set two n a
+
+  low : (i : ℕ) → Apart i n → i < n + 1088 → getD three i 0 ≡ getD s i 0
+  unfolding one two three
+  low i g h = other two n i a g ∙ below one (n + 1088) i e h ∙ below s (n + 2176) i y (omega arith)
+
+  mid : (i : ℕ) → n < i → Apart i (n + 1088) → i < n + 2176 → getD three i 0 ≡ getD s i 0
+  unfolding one two three
+  mid i f g h = above two n i a f ∙ other one (n + 1088) i e g ∙ below s (n + 2176) i y h
+
+  high : (i : ℕ) → n + 1088 < i → Apart i (n + 2176) → getD three i 0 ≡ getD s i 0
+  unfolding one two three
+  high i f g = above two n i a (omega arith) ∙ above one (n + 1088) i e f ∙ other s (n + 2176) i y g
+
+  new-a : getD three n 0 ≡ a
+  unfolding one two three
+  new-a = there two n n a refl (simp length-set (omega arith))
+
+  new-e : getD three (n + 1088) 0 ≡ e
+  unfolding one two three
+  new-e = above two n (n + 1088) a (omega arith) ∙ there one (n + 1088) (n + 1088) e refl (simp length-set (omega arith))
+
+  new-y : getD three (n + 2176) 0 ≡ y
+  unfolding one two three
+  new-y =
+      above two n (n + 2176) a (omega arith) ∙ above one (n + 1088) (n + 2176) e (omega arith) ∙ there s (n + 2176) (n + 2176) y refl (omega arith)
+
+  -- working variables that are not at n
+  three-kept : (q : List ℕ) (m : ℕ) → m < 1040 → Apart m n → Apart (m + 16) n → Apart (m + 32) n → Apart (m + 48) n → State q m s → State q m three
+  unfolding eight
+  three-kept q m k s0 s1 s2 s3 g =
+      record {
+        words =
+            rw (
+              low m s0 (omega arith),
+              low (m + 16) s1 (omega arith),
+              low (m + 32) s2 (omega arith),
+              low (m + 48) s3 (omega arith),
+              mid (m + 1088) (omega arith) (moved 1088 m n (m + 1088) (n + 1088) refl refl s0) (omega arith),
+              mid (m + 1088 + 16) (omega arith) (moved 1088 (m + 16) n (m + 1088 + 16) (n + 1088) (omega arith) refl s1) (omega arith),
+              mid (m + 1088 + 32) (omega arith) (moved 1088 (m + 32) n (m + 1088 + 32) (n + 1088) (omega arith) refl s2) (omega arith),
+              mid (m + 1088 + 48) (omega arith) (moved 1088 (m + 48) n (m + 1088 + 48) (n + 1088) (omega arith) refl s3) (omega arith),
+            ) (g .words);
+        differ =
+            rw (
+              high (m + 2176) (omega arith) (moved 2176 m n (m + 2176) (n + 2176) refl refl s0),
+              low (m + 16) s1 (omega arith),
+              low (m + 32) s2 (omega arith),
+            ) (g .differ);
+      }
+
+  -- the words at n
+  three-words : eight n (n + 1088) three
+      ≡ a ∷ getD s (n + 16) 0 ∷ getD s (n + 32) 0 ∷ getD s (n + 48) 0
+      ∷ e ∷ getD s (n + 1104) 0 ∷ getD s (n + 1120) 0 ∷ getD s (n + 1136) 0 ∷ []
+  unfolding eight
+  three-words =
+      let old : (i j : ℕ) → i ≡ j → getD s i 0 ≡ getD s j 0 = λ i j p. ap (λ (m : ℕ). getD s m 0) p in
+      rw (
+        new-a,
+        low (n + 16) (inr (omega arith)) (omega arith),
+        low (n + 32) (inr (omega arith)) (omega arith),
+        low (n + 48) (inr (omega arith)) (omega arith),
+        new-e,
+        mid (n + 1088 + 16) (omega arith) (inr (omega arith)) (omega arith) ∙ old (n + 1088 + 16) (n + 1104) (omega arith),
+        mid (n + 1088 + 32) (omega arith) (inr (omega arith)) (omega arith) ∙ old (n + 1088 + 32) (n + 1120) (omega arith),
+        mid (n + 1088 + 48) (omega arith) (inr (omega arith)) (omega arith) ∙ old (n + 1088 + 48) (n + 1136) (omega arith),
+      )
+
+  three-differ : y ≡ bitXor (getD s (n + 16) 0) (getD s (n + 32) 0)
+      → getD three (n + 2176) 0 ≡ bitXor (getD three (n + 16) 0) (getD three (n + 32) 0)
+  three-differ p = rw (new-y, low (n + 16) (inr (omega arith)) (omega arith), low (n + 32) (inr (omega arith)) (omega arith)) p
+
+module _ (k x n : ℕ) (s : List ℕ) (hn : n < 1024) (ls : length s ≡ 3264) where
+  pub length-roundAt : length (roundAt k x n s) ≡ 3264
+  unfolding roundAt
+  length-roundAt = simp length-set ls
+
+  -- working variables behind n
+  pub round-kept : (q : List ℕ) (m : ℕ) → n < m → m < 1040 → State q m s → State q m (roundAt k x n s)
+  unfolding roundAt three two one
+  round-kept q m h i g = three-kept s n _ _ _ hn ls q m i (inr h) (inr (omega arith)) (inr (omega arith)) (inr (omega arith)) g
+
+  -- those of a lane before it in the same row
+  pub round-beside : (q : List ℕ) (m : ℕ) → m < n → n < m + 16 → State q m s → State q m (roundAt k x n s)
+  unfolding roundAt three two one
+  round-beside q m h i g = three-kept s n _ _ _ hn ls q m (omega arith) (inl h) (inr i) (inr (omega arith)) (inr (omega arith)) g
+
+  pub round-state : (q : List ℕ) → State q (n + 16) s → State (Fips.round k x q) n (roundAt k x n s)
+  unfolding roundAt three two one eight Fips.round temp1At temp2At Fips.temp2
+  round-state q g =
+      let t1 = temp1At k x n s in
+      let t2 = temp2At n s in
+      let y = bitXor (getD s (n + 16) 0) (getD s (n + 32) 0) in
+      let old : (i j : ℕ) → i ≡ j → getD s i 0 ≡ getD s j 0 = λ i j p. ap (λ (m : ℕ). getD s m 0) p in
+      let differ = rw (old (n + 16 + 2176) (n + 2192) (omega arith), old (n + 16 + 16) (n + 32) (omega arith), old (n + 16 + 32) (n + 48) (omega arith)) at (g .differ) in
+      record {
+        words =
+            three-words s n y (Fips.add (getD s (n + 64) 0) t1) (Fips.add t1 t2) hn ls
+            ∙ rw (
+              ← g .words,
+              differ,
+              maj-any,
+              old (n + 16 + 16) (n + 32) (omega arith),
+              old (n + 16 + 32) (n + 48) (omega arith),
+              old (n + 16 + 48) (n + 64) (omega arith),
+              old (n + 16 + 1088) (n + 1104) (omega arith),
+              old (n + 16 + 1088 + 16) (n + 1120) (omega arith),
+              old (n + 16 + 1088 + 32) (n + 1136) (omega arith),
+              old (n + 16 + 1088 + 48) (n + 1152) (omega arith),
+            );
+        differ = three-differ s n y (Fips.add (getD s (n + 64) 0) t1) (Fips.add t1 t2) hn ls refl;
+      }
+
+-- ---- a round of every lane
+
+pub kept-all : (b : ℕ) (s : List ℕ) → Kept b s s
+unfolding Kept
+kept-all b s q m h k g = g
+
+pub kept-then : (b d : ℕ) (s r z : List ℕ) → d ≤ b → Kept b s r → Kept d r z → Kept b s z
+unfolding Kept
+kept-then b d s r z h f g q m i k e = g q m (omega arith) k (f q m i k e)
+
+-- round t, of which the lanes before l are done
+unfoldable pub Part : ℕ → ℕ → ℕ → List ℕ → List ℕ → List ℕ → Type 0
+Part k t l w s r =
+    (j : ℕ) (q : List ℕ) → j < l → State q (place t j) s → State (Fips.round k (getD w (16 * t + j) 0) q) (place (t + 1) j) r
+
+pub part-none : (k t : ℕ) (w s r : List ℕ) → Part k t 0 w s r
+unfolding Part
+part-none k t w s r j q h g = absurd (omega arith)
+
+module _ (k t l n x : ℕ) (w s r z : List ℕ) (ht : t < 64) (hl : l < 16) (e : n ≡ 1008 - 16 * t + l) (p : x ≡ getD w (16 * t + l) 0)
+    (lr : length r ≡ 3264) (kept : Kept (1024 - 16 * t) s r) (d : z ≡ roundAt k x n r) where
+  hn : n < 1024
+  hn = omega arith
+
+  pub part-kept : Kept (1024 - 16 * t) s z
+  unfolding Kept
+  part-kept q m h i g = rw d (round-kept k x n r hn lr q m (omega arith) i (kept q m h i g))
+
+  pub part-turn : Part k t l w s r → Part k t (l + 1) w s z
+  unfolding Part Kept
+  part-turn f j q h g =
+      let fits : j ≤ l = omega arith in
+      ⊎-elim
+      (λ i.
+      let old : 16 * (64 - t) + j ≡ n + 16 = omega arith in
+      let new : 16 * (64 - (t + 1)) + j ≡ n = omega arith in
+      let word : x ≡ getD w (16 * t + j) 0 = rw i p in
+      rw (new, ← word, d) (round-state k x n r hn lr q (kept q (n + 16) (omega arith) (omega arith) (rw old at g))))
+      (λ i. rw d (round-beside k x n r hn lr _ (place (t + 1) j) (omega arith) (omega arith) (f j q i g)))
+      (eq-or-lt-of-le fits)
+
+pub part-done : (k t l : ℕ) (w s r : List ℕ) → l ≡ 16 → t < 64 → k ≡ getD constants t 0 → Part k t l w s r → Rounded w t (t + 1) s r
+unfolding Part Rounded Fips.rounds
+part-done k t l w s r e ht p f j h i g =
+    subst (λ (q : List ℕ). State q (place (t + 1) j) r)
+    (rw (add-one, getD-column j 64 w t ht, ← p))
+    (f j (Fips.rounds (column j 64 w) h t) (omega arith) g)
+
+pub rounded-none : (w : List ℕ) (t : ℕ) (s : List ℕ) → Rounded w t t s s
+unfolding Rounded
+rounded-none w t s l h k g = g
+
+pub rounded-then : (w : List ℕ) (a b d : ℕ) (s r z : List ℕ) → Rounded w a b s r → Rounded w b d r z → Rounded w a d s z
+unfolding Rounded
+rounded-then w a b d s r z f g l h k e = g l h k (f l h k e)
+
+-- ---- the sums
+
+-- the sums of the words before index n are made
+pub record Summed (n : ℕ) (s v : List ℕ) : Type 0 where
+  pub first : (i : ℕ) → i < n → getD v i 0 ≡ Fips.add (getD s (i + 1024) 0) (getD s i 0)
+  pub second : (i : ℕ) → i < n → getD v (i + 64) 0 ≡ Fips.add (getD s (i + 2112) 0) (getD s (i + 1088) 0)
+
+pub summed-none : (s v : List ℕ) → Summed 0 s v
+summed-none s v = record { first = λ i h. absurd (omega arith); second = λ i h. absurd (omega arith) }
+
+pub summed-turn : (n : ℕ) (s v z : List ℕ) (x y : ℕ) → n < 64 → length v ≡ 128
+    → x ≡ Fips.add (getD s (n + 1024) 0) (getD s n 0) → y ≡ Fips.add (getD s (n + 2112) 0) (getD s (n + 1088) 0)
+    → z ≡ set (set v n x) (n + 64) y → Summed n s v → Summed (n + 1) s z
+summed-turn n s v z x y h l p q d f =
+    let u = set v n x in
+    let lu : length u ≡ 128 = simp length-set l in
+    record {
+      first =
+          λ i k.
+          let fits : i ≤ n = omega arith in
+          rw d
+          (below u (n + 64) i y (omega arith)
+          ∙ ⊎-elim
+          (λ e. rw e (there v n n x refl (omega arith) ∙ p))
+          (λ a. below v n i x a ∙ f .first i a)
+          (eq-or-lt-of-le fits));
+      second =
+          λ i k.
+          let fits : i ≤ n = omega arith in
+          rw d
+          (⊎-elim
+          (λ e. rw e (there u (n + 64) (n + 64) y refl (omega arith) ∙ q))
+          (λ a. below u (n + 64) (i + 64) y (omega arith) ∙ above v n (i + 64) x (omega arith) ∙ f .second i a)
+          (eq-or-lt-of-le fits));
+    }
+
+-- the words of a column of eight
+column-eight : (l : ℕ) (v : List ℕ)
+    → column l 8 v
+    ≡ getD v (0 + l) 0 ∷ getD v (16 + l) 0 ∷ getD v (32 + l) 0 ∷ getD v (48 + l) 0
+    ∷ getD v (64 + l) 0 ∷ getD v (80 + l) 0 ∷ getD v (96 + l) 0 ∷ getD v (112 + l) 0 ∷ []
+unfolding column
+column-eight l v = refl
+
+pub summed-done : (n : ℕ) (s v : List ℕ) → 64 ≤ n → Summed n s v → (l : ℕ) (h q : List ℕ) → l < 16 → State h (place 0 l) s → State q (place 64 l) s
+    → column l 8 v ≡ Fips.sums h q
+unfolding eight Fips.sums
+summed-done n s v e f l h q k g u =
+    let at : (i j o m : ℕ) → j ≡ i → o ≡ i + 1024 → m ≡ i → i < n → getD v j 0 ≡ Fips.add (getD s o 0) (getD s m 0) =
+    λ i j o m a b c d. rw (a, b, c) (f .first i d) in
+    let by : (i j o m : ℕ) → j ≡ i + 64 → o ≡ i + 2112 → m ≡ i + 1088 → i < n → getD v j 0 ≡ Fips.add (getD s o 0) (getD s m 0) =
+    λ i j o m a b c d. rw (a, b, c) (f .second i d) in
+    column-eight l v
+    ∙ rw (
+      ← g .words,
+      ← u .words,
+      at l (0 + l) (1024 + l) (0 + l) (omega arith) (omega arith) (omega arith) (omega arith),
+      at (l + 16) (16 + l) (1024 + l + 16) (0 + l + 16) (omega arith) (omega arith) (omega arith) (omega arith),
+      at (l + 32) (32 + l) (1024 + l + 32) (0 + l + 32) (omega arith) (omega arith) (omega arith) (omega arith),
+      at (l + 48) (48 + l) (1024 + l + 48) (0 + l + 48) (omega arith) (omega arith) (omega arith) (omega arith),
+      by l (64 + l) (1024 + l + 1088) (0 + l + 1088) (omega arith) (omega arith) (omega arith) (omega arith),
+      by (l + 16) (80 + l) (1024 + l + 1088 + 16) (0 + l + 1088 + 16) (omega arith) (omega arith) (omega arith) (omega arith),
+      by (l + 32) (96 + l) (1024 + l + 1088 + 32) (0 + l + 1088 + 32) (omega arith) (omega arith) (omega arith) (omega arith),
+      by (l + 48) (112 + l) (1024 + l + 1088 + 48) (0 + l + 1088 + 48) (omega arith) (omega arith) (omega arith) (omega arith),
+    )
+
+-- ---- the compression
+
+-- the first t rounds look at the first t words alone
+pub rounds-first : (w m h : List ℕ) (t : ℕ) → ((i : ℕ) → i < t → getD w i 0 ≡ getD m i 0) → Fips.rounds w h t ≡ Fips.rounds m h t
+unfolding Fips.rounds
+rounds-first w m h zero e = refl
+rounds-first w m h (suc t) e =
+    ap₂ (λ (x : ℕ) (s : List ℕ). Fips.round (getD constants t 0) x s) (e t (omega arith)) (rounds-first w m h t (λ i k. e i (omega arith)))
+
+module _ (m w s r v : List ℕ) (from : ℕ) (hf : from ≤ 16) (same : Same 256 m w)
+    (made : (l : ℕ) → l < 16 → column l 64 w ≡ Fips.schedule (column l 16 m) 48) (kept : Kept (1024 - 16 * from) s r)
+    (done : Rounded w from 64 s r) (summed : (l : ℕ) (h q : List ℕ) → l < 16 → State h (place 0 l) r → State q (place 64 l) r → column l 8 v ≡ Fips.sums h q) where
+  started : (l : ℕ) (h : List ℕ) → l < 16 → Fips.rounds (column l 16 m) h from ≡ Fips.rounds (column l 64 w) h from
+  unfolding Same
+  started l h k =
+      rounds-first (column l 16 m) (column l 64 w) h from
+      (λ i a. getD-column l 16 m i (omega arith) ∙ sym (same (16 * i + l) (omega arith)) ∙ sym (getD-column l 64 w i (omega arith)))
+
+  pub compressed-by : Compressed m s from v
+  unfolding Compressed Rounded Kept Fips.compress
+  compressed-by l h k g u =
+      let end = done l h k (rw (started l h k) at u) in
+      summed l h _ k (kept h (place 0 l) (omega arith) (omega arith) g) end ∙ ap (λ (c : List ℕ). Fips.sums h (Fips.rounds c h 64)) (made l k)
+
+-- ---- one block and one hash value in every lane
+
+-- the rows before index n repeat the words of m
+unfoldable pub Spread : ℕ → List ℕ → List ℕ → Type 0
+Spread n m w = (i : ℕ) → i < n → getD w i 0 ≡ getD m (i / 16) 0
+
+pub spread-none : (m w : List ℕ) → Spread 0 m w
+unfolding Spread
+spread-none m w i h = absurd (omega arith)
+
+pub spread-turn : (n : ℕ) (m w : List ℕ) → n < length w → Spread n m w → Spread (n + 1) m (set w n (getD m (n / 16) 0))
+unfolding Spread
+spread-turn n m w h f i k =
+    let fits : i ≤ n = omega arith in
+    ⊎-elim
+    (λ e. rw e (there w n n (getD m (n / 16) 0) refl h))
+    (λ a. below w n i (getD m (n / 16) 0) a ∙ f i a)
+    (eq-or-lt-of-le fits)
+
+pub spread-done : (n : ℕ) (m w : List ℕ) → 256 ≤ n → length m ≡ 16 → Spread n m w → (l : ℕ) → l < 16 → column l 16 w ≡ m
+unfolding Spread
+spread-done n m w h e f l k =
+    ext-getD 0 (column l 16 w) m (length-column l 16 w ∙ sym e)
+    (λ t a.
+    let in-rows : t < 16 = rw (length-column l 16 w) at a in
+    let row : (16 * t + l) / 16 ≡ t = omega arith in
+    getD-column l 16 w t in-rows ∙ f (16 * t + l) (omega arith) ∙ rw row)
+
+-- the rows of a, of e and of b xor c, of which the words before index n are those of the hash value h
+pub record Begun (n : ℕ) (h s : List ℕ) : Type 0 where
+  pub first : (i : ℕ) → i < n → getD s (i + 1024) 0 ≡ getD h (i / 16) 0
+  pub second : (i : ℕ) → i < n → getD s (i + 2112) 0 ≡ getD h (4 + i / 16) 0
+  pub third : (i : ℕ) → i < n → getD s (i + 3200) 0 ≡ bitXor (getD h 1 0) (getD h 2 0)
+
+pub begun-none : (h s : List ℕ) → Begun 0 h s
+begun-none h s = record { first = λ i k. absurd (omega arith); second = λ i k. absurd (omega arith); third = λ i k. absurd (omega arith) }
+
+module _ (n : ℕ) (h s : List ℕ) (hn : n < 64) (ls : length s ≡ 3264) where
+  begun-one : List ℕ
+  begun-one = set s (n + 1024) (getD h (n / 16) 0)
+
+  begun-two : List ℕ
+  begun-two = set begun-one (n + 2112) (getD h (4 + n / 16) 0)
+
+  pub begun-turn : (z : List ℕ) → z ≡ set (set (set s (n + 1024) (getD h (n / 16) 0)) (n + 2112) (getD h (4 + n / 16) 0)) (n + 3200) (bitXor (getD h 1 0) (getD h 2 0))
+      → Begun n h s → Begun (n + 1) h z
+  unfolding begun-one begun-two
+  begun-turn z d f =
+      let x = getD h (n / 16) 0 in
+      let y = getD h (4 + n / 16) 0 in
+      let b = bitXor (getD h 1 0) (getD h 2 0) in
+      let l1 : length begun-one ≡ 3264 = simp length-set ls in
+      let l2 : length begun-two ≡ 3264 = simp length-set ls in
+      record {
+        first =
+            λ i k.
+            let fits : i ≤ n = omega arith in
+            rw d
+            (below begun-two (n + 3200) (i + 1024) b (omega arith)
+            ∙ below begun-one (n + 2112) (i + 1024) y (omega arith)
+            ∙ ⊎-elim
+            (λ e. rw e (there s (n + 1024) (n + 1024) x refl (omega arith)))
+            (λ a. below s (n + 1024) (i + 1024) x (omega arith) ∙ f .first i a)
+            (eq-or-lt-of-le fits));
+        second =
+            λ i k.
+            let fits : i ≤ n = omega arith in
+            rw d
+            (below begun-two (n + 3200) (i + 2112) b (omega arith)
+            ∙ ⊎-elim
+            (λ e. rw e (there begun-one (n + 2112) (n + 2112) y refl (omega arith)))
+            (λ a. below begun-one (n + 2112) (i + 2112) y (omega arith) ∙ above s (n + 1024) (i + 2112) x (omega arith) ∙ f .second i a)
+            (eq-or-lt-of-le fits));
+        third =
+            λ i k.
+            let fits : i ≤ n = omega arith in
+            rw d
+            (⊎-elim
+            (λ e. rw e (there begun-two (n + 3200) (n + 3200) b refl (omega arith)))
+            (λ a.
+            below begun-two (n + 3200) (i + 3200) b (omega arith)
+            ∙ above begun-one (n + 2112) (i + 3200) y (omega arith)
+            ∙ above s (n + 1024) (i + 3200) x (omega arith)
+            ∙ f .third i a)
+            (eq-or-lt-of-le fits));
+      }
+
+pub begun-done : (n : ℕ) (h s : List ℕ) → 64 ≤ n → length h ≡ 8 → Begun n h s → (l : ℕ) → l < 16 → State h (place 0 l) s
+unfolding eight
+begun-done n h s k e f l a =
+    let at : (c i j : ℕ) → j ≡ i + 1024 → i / 16 ≡ c → i < n → getD s j 0 ≡ getD h c 0 =
+    λ c i j p q b. rw p (f .first i b ∙ rw q) in
+    let by : (d i j : ℕ) → j ≡ i + 2112 → 4 + i / 16 ≡ d → i < n → getD s j 0 ≡ getD h d 0 =
+    λ d i j p q b. rw p (f .second i b ∙ rw q) in
+    let second = at 1 (l + 16) (1024 + l + 16) (omega arith) (omega arith) (omega arith) in
+    let third = at 2 (l + 32) (1024 + l + 32) (omega arith) (omega arith) (omega arith) in
+    record {
+      words =
+          rw (
+            at 0 l (1024 + l) (omega arith) (omega arith) (omega arith),
+            second,
+            third,
+            at 3 (l + 48) (1024 + l + 48) (omega arith) (omega arith) (omega arith),
+            by 4 l (1024 + l + 1088) (omega arith) (omega arith) (omega arith),
+            by 5 (l + 16) (1024 + l + 1088 + 16) (omega arith) (omega arith) (omega arith),
+            by 6 (l + 32) (1024 + l + 1088 + 32) (omega arith) (omega arith) (omega arith),
+            by 7 (l + 48) (1024 + l + 1088 + 48) (omega arith) (omega arith) (omega arith),
+          ) (as-eight h e);
+      differ = rw (second, third) (let p : 1024 + l + 2176 ≡ l + 3200 = omega arith in rw p (f .third l (omega arith)));
+    }

@@ -1,0 +1,5 @@
+-- Sixteen compressions of SHA-256 side by side.
+--
+-- `Rows` says how the lanes stand in rows and what the code's pieces compute, `Laws` what follows.
+pub mod Laws
+pub mod Rows

@@ -1,0 +1,82 @@
+-- Sixteen lanes in rows: row r of a list is its sixteen words from 16 * r on, one for each lane, so that lane l has the words
+-- at l, 16 + l, 32 + l and so on.
+use mathlib.Core.Path.{_≡_}
+use mathlib.Core.List.{List, [], _∷_, _++_}
+use Prim.Native.Nat.{ℕ, zero, suc, _+_, _-_, _*_, _≤_, _<_}
+use lib.Bits.{bitAnd, bitXor}
+use lib.ListN.{getD, set}
+use Rattle.sha256.specs.Fips as Fips
+
+-- the first n words of lane l
+unfoldable pub column : ℕ → ℕ → List ℕ → List ℕ
+column l zero xs = []
+column l (suc n) xs = column l n xs ++ (getD xs (16 * n + l) 0 ∷ [])
+
+-- two lists agree up to index n
+unfoldable pub Same : ℕ → List ℕ → List ℕ → Type 0
+Same n xs ys = (i : ℕ) → i < n → getD ys i 0 ≡ getD xs i 0
+
+-- ---- the schedule
+
+-- the word at n: its lane's words of the rows 2, 7, 15 and 16 before it
+unfoldable pub scheduledAt : List ℕ → ℕ → ℕ
+scheduledAt w n =
+    Fips.add
+    (Fips.add (Fips.add (Fips.smallSigma1 (getD w (n - 32) 0)) (getD w (n - 112) 0)) (Fips.smallSigma0 (getD w (n - 240) 0)))
+    (getD w (n - 256) 0)
+
+-- ---- the rounds: 68 rows of the variable a, 68 of e, and 68 of b xor c, each from its last row to its first. What is b after a
+-- round was a before it, and so on, so that four rows in a row are a, b, c, d, and four are e, f, g, h
+
+-- the eight words whose a is at index `a` and whose e is at index `e`
+unfoldable pub eight : ℕ → ℕ → List ℕ → List ℕ
+eight a e s =
+    getD s a 0 ∷ getD s (a + 16) 0 ∷ getD s (a + 32) 0 ∷ getD s (a + 48) 0
+    ∷ getD s e 0 ∷ getD s (e + 16) 0 ∷ getD s (e + 32) 0 ∷ getD s (e + 48) 0 ∷ []
+
+-- the working variables of the lane at n are q
+pub record State (q : List ℕ) (n : ℕ) (s : List ℕ) : Type 0 where
+  pub words : eight n (n + 1088) s ≡ q
+  pub differ : getD s (n + 2176) 0 ≡ bitXor (getD s (n + 16) 0) (getD s (n + 32) 0)
+
+-- where the working variables of lane l are after t rounds
+abbrev pub place : ℕ → ℕ → ℕ
+place t l = 16 * (64 - t) + l
+
+unfoldable pub temp1At : ℕ → ℕ → ℕ → List ℕ → ℕ
+temp1At k x n s = Fips.temp1 k x (getD s (n + 1104) 0) (getD s (n + 1120) 0) (getD s (n + 1136) 0) (getD s (n + 1152) 0)
+
+-- Maj of a, b and c is b xor ((a xor b) and (b xor c))
+unfoldable pub temp2At : ℕ → List ℕ → ℕ
+temp2At n s =
+    Fips.add (Fips.bigSigma0 (getD s (n + 16) 0))
+    (bitXor (getD s (n + 32) 0) (bitAnd (bitXor (getD s (n + 16) 0) (getD s (n + 32) 0)) (getD s (n + 2192) 0)))
+
+-- the rows after one round of one lane, from n + 16 to n, with the constant k and the word x
+unfoldable pub roundAt : ℕ → ℕ → ℕ → List ℕ → List ℕ
+roundAt k x n s =
+    set
+    (set (set s (n + 2176) (bitXor (getD s (n + 16) 0) (getD s (n + 32) 0))) (n + 1088) (Fips.add (getD s (n + 64) 0) (temp1At k x n s)))
+    n
+    (Fips.add (temp1At k x n s) (temp2At n s))
+
+-- the working variables from index b on stay
+unfoldable pub Kept : ℕ → List ℕ → List ℕ → Type 0
+Kept b s r = (q : List ℕ) (m : ℕ) → b ≤ m → m < 1040 → State q m s → State q m r
+
+-- ---- every lane
+
+-- rounds from one to another with the schedule w
+unfoldable pub Rounded : List ℕ → ℕ → ℕ → List ℕ → List ℕ → Type 0
+Rounded w from to s r =
+    (l : ℕ) (h : List ℕ) → l < 16
+    → State (Fips.rounds (column l 64 w) h from) (place from l) s
+    → State (Fips.rounds (column l 64 w) h to) (place to l) r
+
+-- compression of the blocks m, in which the first `from` rounds are done
+unfoldable pub Compressed : List ℕ → List ℕ → ℕ → List ℕ → Type 0
+Compressed m s from v =
+    (l : ℕ) (h : List ℕ) → l < 16
+    → State h (place 0 l) s
+    → State (Fips.rounds (column l 16 m) h from) (place from l) s
+    → column l 8 v ≡ Fips.compress h (column l 16 m)

@@ -1,0 +1,19 @@
+-- `lmots::sixteen::steps` meets its contract.
+use borrow.Author.Needs.{needs}
+use Rattle.lmots.proofs.sixteen.steps.Statement.{statement}
+use Rattle.lmots.proofs.sixteen.steps.Tie as tie
+
+prepare-requires : tie.Need-prepare-requires
+prepare-requires c κs = search needs
+
+walk-requires : tie.Need-walk-requires
+walk-requires c κs = search needs
+
+returns : tie.Need-returns
+returns c =
+    let args = c .before .before .before .before .before .before .before .args in
+    let prepared = c .before .before .before .before .prepare in
+    (c .walk .ensures .0 .2, c .walk .ensures .1 (args .id) (args .q) (prepared .ensures .2))
+
+pub steps-spec : {M : Type 1} → statement M
+steps-spec = tie.close (tie.spec prepare-requires walk-requires returns)

@@ -1,0 +1,55 @@
+-- Sixteen chains of one leaf side by side: what the lanes' blocks hold.
+use mathlib.Core.Path.{_≡_}
+use mathlib.Core.Logic.{_⊎_}
+use mathlib.Core.List.{List, [], _∷_}
+use Prim.Native.Nat.{ℕ, _+_, _*_, _/_, _%_, _≤_, _<_}
+use lib.ListN.{length, getD}
+use Rattle.octets.specs.Octets.{bytes}
+use Rattle.sha256.specs.Constants.{initial}
+use Rattle.sha256.specs.Fips.{rounds}
+use Rattle.lanes.specs.Rows.{column, State, place}
+use Rattle.rfc8554.specs.Ots.{H, chain, chainInput}
+use Rattle.lmots.specs.Pieces.{across}
+
+-- words 6 to 12 of the blocks z, of which n are written, for the values v; the others are those of w
+pub record Slid (n : ℕ) (v w z : List ℕ) : Type 0 where
+  pub long : length z ≡ 1024
+  pub new : (i : ℕ) → i < n → getD z (i + 96) 0 ≡ across (getD v i 0) (getD v (i + 16) 0)
+  pub old : (i : ℕ) → (i < 96) ⊎ (208 ≤ i) → getD z i 0 ≡ getD w i 0
+
+-- words 5 and 13 of the blocks z, of which those of n lanes are written, for the places and values; the others are those of w
+pub record Placed (n : ℕ) (places : List ℕ) (t : ℕ) (v w z : List ℕ) : Type 0 where
+  pub long : length z ≡ 1024
+  pub fifth : (l : ℕ) → l < n → getD z (l + 80) 0 ≡ getD places l 0 + 256 * t + getD v l 0 / 16777216 % 256
+  pub last : (l : ℕ) → l < n → getD z (l + 208) 0 ≡ getD v (l + 112) 0 % 16777216 * 256 + 128
+  pub low : (i : ℕ) → i < 80 → getD z i 0 ≡ getD w i 0
+  pub high : (i : ℕ) → 224 ≤ i → getD z i 0 ≡ getD w i 0
+
+-- the first five words of every block
+unfoldable pub five : List ℕ → ℕ → List ℕ
+five id q = getD id 0 0 ∷ getD id 1 0 ∷ getD id 2 0 ∷ getD id 3 0 ∷ q ∷ []
+
+-- blocks and working variables of the leaf q
+pub record Ready (id : List ℕ) (q : ℕ) (w s : List ℕ) : Type 0 where
+  pub long : length id ≡ 4
+  pub words : (i : ℕ) → getD id i 0 < 4294967296
+  pub word : q < 4294967296
+  pub front : (l r : ℕ) → l < 16 → r < 5 → getD w (16 * r + l) 0 ≡ getD (five id q) r 0
+  pub zero : (l : ℕ) → l < 16 → getD w (224 + l) 0 ≡ 0
+  pub bits : (l : ℕ) → l < 16 → getD w (240 + l) 0 ≡ 440
+  pub begun : (l : ℕ) → l < 16 → State initial (place 0 l) s
+  pub first : (l : ℕ) → l < 16 → State (rounds (five id q) initial 5) (place 5 l) s
+
+-- a step of every chain of a leaf for which w and s are ready
+unfoldable pub Stepped : List ℕ → ℕ → List ℕ → List ℕ → List ℕ → List ℕ → List ℕ → List ℕ → Type 0
+Stepped places t w s v w′ s′ v′ =
+    (id : List ℕ) (q : ℕ) → Ready id q w s
+    → Ready id q w′ s′
+    × ((l i j : ℕ) → l < 16 → i < 65536 → j + t < 256 → getD places l 0 ≡ i * 65536 + j * 256
+    → bytes (column l 8 v′) ≡ H (chainInput (bytes id) q i (j + t) (bytes (column l 8 v))))
+
+-- every lane has come t places on from v₀ to v
+unfoldable pub Walked : List ℕ → ℕ → List ℕ → ℕ → List ℕ → List ℕ → Type 0
+Walked id q places t v₀ v =
+    (l i j : ℕ) → l < 16 → i < 65536 → j + t ≤ 255 → getD places l 0 ≡ i * 65536 + j * 256
+    → bytes (column l 8 v) ≡ chain (bytes id) q i j t (bytes (column l 8 v₀))
