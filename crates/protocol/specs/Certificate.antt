@@ -65,16 +65,21 @@ certificateIn Garbled = certificateOf [] []
 
 -- ---- messages from certificates: "Entry seats rise."
 
+abbrev pub entryOf : Certificate → ℕ → Entry
+entryOf c seat = record { seat = seat; signature = c .signature seat }
+
 unfoldable pub entriesOf : ℕ → Certificate → List Entry
-entriesOf n c = map (λ (seat : ℕ). record { seat = seat; signature = c .signature seat }) (seats n (c .seats))
+entriesOf n c = map (entryOf c) (seats n (c .seats))
 
 unfoldable pub fullOf : ℕ → ℕ → ℕ → Certificate → Message
 fullOf n round sender c = Full round sender (c .value) (entriesOf n c)
 
 -- the seats that two certificates share, each with its two signatures
+abbrev pub pairOf : Certificate → Certificate → ℕ → Pair
+pairOf low high seat = record { seat = seat; lower = low .signature seat; higher = high .signature seat }
+
 unfoldable pub pairsOf : ℕ → Certificate → Certificate → List Pair
-pairsOf n low high =
-    map (λ (seat : ℕ). record { seat = seat; lower = low .signature seat; higher = high .signature seat }) (seats n (shared (low .seats) (high .seats)))
+pairsOf n low high = map (pairOf low high) (seats n (shared (low .seats) (high .seats)))
 
 unfoldable pub orderedEvidence : ℕ → ℕ → Certificate → Certificate → Message
 orderedEvidence n round low high = Evidence round (low .value) (high .value) (pairsOf n low high)

@@ -14,4 +14,3 @@ pub mod Calls
 pub mod Laws
 pub mod StepLaws
 pub mod ReadLaws
-pub mod Runs

@@ -6,18 +6,18 @@ use mathlib.Core.Path.{_≡_, refl, sym, ap, subst, subst₂, _∙_}
 use mathlib.Core.Bool.{true, false, not, _&&_, true≢false, false≢true}
 use mathlib.Core.List.{List}
 use mathlib.Core.Logic.{⊎-elim, _≢_, _↔_}
-use Prim.Native.Nat.{ℕ, zero, _+_, _≤_, _<_}
+use Prim.Native.Nat.{ℕ, _≤_, _<_}
 use native.Mathlib.Omega.{arith}
 use native.Mathlib.Decide.{ℕ-discrete}
 use lib.ListN.{length}
 use borrow.Author.Tests.{ne-eqb, not-false}
-use Rattle.quorum.specs.Quorum.{t0, In, size}
+use Rattle.quorum.specs.Quorum.{In}
 use Rattle.refusal.specs.Refusal.{lowest, unrefused}
 use Rattle.protocol.specs.Layout.{valueLength, storeLength, outLength}
-use Rattle.protocol.specs.Message.{Entry, Pair, Message, Submit, Notice, Full, Evidence, Garbled, render, read, roundOf, entrySeats, seatsOf, signed}
+use Rattle.protocol.specs.Message.{Entry, Message, Submit, Notice, Full, Evidence, Garbled, render, read, roundOf, entrySeats, seatsOf, signed}
 use Rattle.protocol.specs.Laws.{in-set}
 use Rattle.protocol.specs.ReadLaws.{WellFormed, read-render}
-use Rattle.protocol.specs.Refusals.{Checks, wrongKeys, isForStep, isFull, isEvidence, rising, early, notLowerFirst, stepConditions}
+use Rattle.protocol.specs.Refusals.{Checks, wrongKeys, isForStep, isFull, isEvidence, rising, early, stepConditions}
 use Rattle.protocol.specs.Step.{State, otherHeard, owesFull, stepped}
 use Rattle.protocol.specs.Calls.{start, opening, checkedBy, evidenceCheck}
 use Rattle.protocol.specs.declared.Record.{Record}
@@ -27,10 +27,11 @@ use Rattle.round.specs.Sound.{Heard, Held, Grows, Settled, Entries, Pair
 use Rattle.round.specs.Certificates.{sized-entries}
 use Rattle.round.specs.Parts.{other-heard}
 use Rattle.round.specs.Whole.{notice-heard, full-held}
-use Rattle.round.specs.Unrefused.{possible, Taken, step-unrefused, evidence-unrefused, full-taken, evidence-taken}
+use Rattle.round.specs.Unrefused.{possible, Taken, step-unrefused, full-taken}
 use Rattle.round.specs.Journey.{Worthy, At, step-is, left-came}
-use Rattle.round.specs.Units.{Any, any-worthy, startOf, endOf, opened-range, opened-keys, start-n, start-round, trip, stop, end-n, end-seat, end-round, pairs-formed, written-flag, flag-written, writes-good}
+use Rattle.round.specs.Units.{Any, any-worthy, startOf, endOf, opened-range, opened-keys, start-n, start-round, trip, stop, end-n, end-seat, end-round, written-flag, flag-written, writes-good}
 use Rattle.round.specs.Safe.{evidence-cases}
+use Rattle.round.specs.Made.{evidence-accepted}
 
 -- a message that is FULL
 full-cases : (P : Message → Type 0) (m : Message) → isFull m ≡ true → ((ρ sender : ℕ) (value : List ℕ) (es : List Entry) → P (Full ρ sender value es)) → P m
@@ -123,18 +124,6 @@ module _ (checks : Checks) (n round : ℕ) (keys : List ℕ) where
         (λ r r′ g. g .held value)
         (λ r store e z room settled. full-held checks Any (start r store) z room settled round sender value es (subst (λ i. Entries checks Any i value es) (sym e) entries))
 
-    -- evidence of t0 + 1 pairs or more is accepted
-    evidence-accepted : (ρ : ℕ) (lower higher : List ℕ) (ps : List Pair) → ρ ≡ round → Pairs checks Any n lower higher ps
-        → (evidenceCheck checks n round keys (render (Evidence ρ lower higher ps)) .number ≡ 0) × (t0 n + 1 ≤ size (evidenceCheck checks n round keys (render (Evidence ρ lower higher ps)) .mask))
-    unfolding evidenceCheck checkedBy unrefused entrySeats isEvidence notLowerFirst
-    evidence-accepted ρ lower higher ps e z =
-        let m = Evidence ρ lower higher ps in
-        let range = opened-range checks n round keys u opened in
-        let formed = pairs-formed checks Any n ρ lower higher ps (rw e (range .early)) z in
-        let taken = subst (λ r. Taken checks n r m) e (evidence-taken checks Any n ρ lower higher ps z) in
-        let zero = evidence-unrefused checks n (u .seat) round keys m range (opened-keys checks n round keys u opened) refl taken (rw (z .ordered)) in
-        rw (read-render n m formed, zero) (refl, z .named)
-
     -- ---- what the unit confirmed and sent
 
     abbrev Own : ℕ → ℕ → List ℕ → Type 0
@@ -183,7 +172,7 @@ module _ (checks : Checks) (n round : ℕ) (keys : List ℕ) where
         (λ ρ lower higher ps is w.
         let g = writes-good checks n round keys u opened Any any (Evidence ρ lower higher ps) w in
         let pairs = subst (λ i. Pairs checks Any i lower higher ps) (end-n checks n round keys u opened Any any) (g .1) in
-        let accept = evidence-accepted ρ lower higher ps (g .0 ∙ end-round checks n round keys u opened Any any) pairs in
+        let accept = evidence-accepted checks n (u .seat) round keys (opened-range checks n round keys u opened) (opened-keys checks n round keys u opened) ρ lower higher ps (g .0 ∙ end-round checks n round keys u opened Any any) pairs in
         (render (Evidence ρ lower higher ps), (Evidence ρ lower higher ps, is, refl, w), accept .0, accept .1))
         (f .1) (f .2)
 

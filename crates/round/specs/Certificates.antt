@@ -5,21 +5,18 @@ use mathlib.Core.Path.{_≡_, refl, sym, ap, subst, _∙_}
 use mathlib.Core.Bool.{true, not}
 use mathlib.Core.List.{List, [], _∷_, map, map-map, map-id, List·Memᴰ, List·Memᴰ·head, List·Memᴰ·tail, List·Memᴰ·not-nil, List·Memᴰ·cases-cons}
 use mathlib.Core.Logic.{⊎-elim, _≢_}
-use Prim.Native.Nat.{ℕ, _+_, _/_, _%_, _^_, _≤_, _<_, min}
+use Prim.Native.Nat.{ℕ, _+_, _^_, _≤_, _<_}
 use native.Mathlib.Omega.{arith}
-use lib.Arith.{bin-ind}
-use lib.Bits.{and-step}
-use lib.Count.{ones-step}
 use lib.Dec.{eqb}
 use lib.ListN.{length, length-map}
 use lib.Pow.{pow-pos}
 use borrow.Author.Tests.{eqb-true, eqb-false}
 use Rattle.quorum.specs.Quorum.{t0, k, In, size, shared, seats}
-use Rattle.quorum.specs.Laws.{bit-cases, in-shared, shared-lt, with-lt, size-empty, size-with-new, length-seats, mem-seats, seats-rise, k-of-n-share}
+use Rattle.quorum.specs.Laws.{bit-cases, in-shared, shared-lt, shared-comm, with-lt, size-empty, size-shared-le, size-with-new, length-seats, mem-seats, seats-rise, k-of-n-share}
 use Rattle.protocol.specs.Layout.{signatureLength}
 use Rattle.protocol.specs.Values.{isLower}
-use Rattle.protocol.specs.Message.{Entry, Pair, Message, Evidence}
-use Rattle.protocol.specs.Certificate.{Certificate, setOf, signatureOf, certificateOf, entriesOf, pairsOf, orderedEvidence, evidenceOf}
+use Rattle.protocol.specs.Message.{Entry, Pair, Message, Evidence, entrySeats}
+use Rattle.protocol.specs.Certificate.{Certificate, setOf, signatureOf, certificateOf, entryOf, entriesOf, pairOf, pairsOf, orderedEvidence, evidenceOf}
 use Rattle.protocol.specs.Laws.{lower-other, in-set, set-seats, Sized, SizedPairs}
 use Rattle.protocol.specs.Refusals.{Checks, rising}
 use Rattle.round.specs.Round.{Each, Relation}
@@ -27,20 +24,6 @@ use Rattle.round.specs.Lists.{cond-elim, each-map, rising-first, rising-
 use Rattle.round.specs.Sound.{Kept, Certifies, Entries, Pairs}
 
 -- ---- sets and lists of seats
-
-pub size-shared-le : (a b : ℕ) → size (shared a b) ≤ size a
-unfolding shared
-size-shared-le =
-    bin-ind (λ (a : ℕ). (b : ℕ) → size (shared a b) ≤ size a) (λ b. go b) step
-  where
-    go : (b : ℕ) → size (shared 0 b) ≤ size 0
-    go b = omega arith
-
-    step : (a : ℕ) → ((b : ℕ) → size (shared (a / 2) b) ≤ size (a / 2)) → (b : ℕ) → size (shared a b) ≤ size a
-    step a half b =
-        let low : shared a b % 2 ≡ min (a % 2) (b % 2) = omega (arith, and-step a b) in
-        let rest : shared a b / 2 ≡ shared (a / 2) (b / 2) = omega (arith, and-step a b) in
-        omega (arith, ones-step (shared a b), ones-step a, ap size rest, half (b / 2))
 
 pub set-size : (xs : List ℕ) → rising xs ≡ true → size (setOf xs) ≡ length xs
 unfolding setOf
@@ -80,12 +63,12 @@ sized-pairs (p ∷ ps) l h =
 
 pub entry-seats : (n : ℕ) (c : Certificate) → map (λ (e : Entry). e .seat) (entriesOf n c) ≡ seats n (c .seats)
 unfolding entriesOf
-entry-seats n c = map-map (λ (e : Entry). e .seat) (λ (seat : ℕ). record { seat = seat; signature = c .signature seat }) (seats n (c .seats)) ∙ map-id (seats n (c .seats))
+entry-seats n c = map-map (λ (e : Entry). e .seat) (entryOf c) (seats n (c .seats)) ∙ map-id (seats n (c .seats))
 
 pub pair-seats : (n : ℕ) (c d : Certificate) → map (λ (p : Pair). p .seat) (pairsOf n c d) ≡ seats n (shared (c .seats) (d .seats))
 unfolding pairsOf
 pair-seats n c d =
-    map-map (λ (p : Pair). p .seat) (λ (seat : ℕ). record { seat = seat; lower = c .signature seat; higher = d .signature seat }) (seats n (shared (c .seats) (d .seats)))
+    map-map (λ (p : Pair). p .seat) (pairOf c d) (seats n (shared (c .seats) (d .seats)))
     ∙ map-id (seats n (shared (c .seats) (d .seats)))
 
 module _ (checks : Checks) (W : Relation) where
@@ -94,10 +77,10 @@ module _ (checks : Checks) (W : Relation) where
   unfolding entriesOf
   entries-of n c z = record {
     sized = z .sized;
-    many = length-map (seats n (c .seats)) (λ (seat : ℕ). record { seat = seat; signature = c .signature seat }) ∙ length-seats n (c .seats) (z .below) ∙ z .enough;
+    many = length-map (seats n (c .seats)) (entryOf c) ∙ length-seats n (c .seats) (z .below) ∙ z .enough;
     rise = ap rising (entry-seats n c) ∙ seats-rising n (c .seats);
-    below = each-map (λ (e : Entry). e .seat < n) (λ (seat : ℕ). record { seat = seat; signature = c .signature seat }) (seats n (c .seats)) (seats-below n (c .seats));
-    kept = each-map (λ (e : Entry). Kept checks W (e .seat) (c .value) (e .signature)) (λ (seat : ℕ). record { seat = seat; signature = c .signature seat }) (seats n (c .seats)) (λ s d. z .kept s (seats-in-set n (c .seats) s d));
+    below = each-map (λ (e : Entry). e .seat < n) (entryOf c) (seats n (c .seats)) (seats-below n (c .seats));
+    kept = each-map (λ (e : Entry). Kept checks W (e .seat) (c .value) (e .signature)) (entryOf c) (seats n (c .seats)) (λ s d. z .kept s (seats-in-set n (c .seats) s d));
   }
 
   -- a FULL's certificate
@@ -124,7 +107,7 @@ module _ (checks : Checks) (W : Relation) where
   unfolding pairsOf
   pairs-of n c d some y z l =
       let both = shared (c .seats) (d .seats) in
-      let pair : ℕ → Pair = λ seat. record { seat = seat; lower = c .signature seat; higher = d .signature seat } in
+      let pair : ℕ → Pair = pairOf c d in
       let below : both < 2 ^ n = shared-lt n (c .seats) (d .seats) (y .below) (z .below) in
       let sized : length (pairsOf n c d) ≡ size both = length-map (seats n both) pair ∙ length-seats n both below in
       let enough : t0 n + 1 ≤ size both = k-of-n-share n (c .seats) (d .seats) some (y .below) (z .below) (y .enough) (z .enough) in
@@ -151,3 +134,12 @@ module _ (checks : Checks) (W : Relation) where
       cond-elim P (isLower (c .value) (d .value)) (orderedEvidence n round c d) (orderedEvidence n round d c)
       (λ l. f (c .value) (d .value) (pairsOf n c d) (pairs-of n c d some y z l))
       (λ l. f (d .value) (c .value) (pairsOf n d c) (pairs-of n d c some z y (lower-other (c .value) (d .value) (y .sized ∙ sym (z .sized)) different ∙ ap not l)))
+
+  -- it names the seats that they share
+  pub evidence-names : (n round : ℕ) (c d : Certificate) → Certifies checks W n c → Certifies checks W n d
+      → setOf (entrySeats (evidenceOf n round c d)) ≡ shared (c .seats) (d .seats)
+  unfolding evidenceOf orderedEvidence entrySeats
+  evidence-names n round c d y z =
+      cond-elim (λ m. setOf (entrySeats m) ≡ shared (c .seats) (d .seats)) (isLower (c .value) (d .value)) (orderedEvidence n round c d) (orderedEvidence n round d c)
+      (λ _. rw (pair-seats n c d, set-seats n (shared (c .seats) (d .seats)) (shared-lt n (c .seats) (d .seats) (y .below) (z .below))))
+      (λ _. rw (pair-seats n d c, set-seats n (shared (d .seats) (c .seats)) (shared-lt n (d .seats) (c .seats) (z .below) (y .below))) (shared-comm (d .seats) (c .seats)))

@@ -44,7 +44,7 @@ evidence-cases P (Evidence ρ lower higher ps) e f = f ρ lower higher ps
 evidence-cases P Garbled e f = absurd (false≢true e)
 
 -- the certificate of a FULL that a making takes
-certifies-in : (checks : Checks) (R : Relation) (n round : ℕ) (m : Message) → isFull m ≡ true → Taken checks n round m → Laid n m → EachSigned R m → Certifies checks R n (certificateIn m)
+pub certifies-in : (checks : Checks) (R : Relation) (n round : ℕ) (m : Message) → isFull m ≡ true → Taken checks n round m → Laid n m → EachSigned R m → Certifies checks R n (certificateIn m)
 unfolding isFull certificateIn
 certifies-in checks R n round (Submit ρ seat value signature) e t l w = absurd (false≢true e)
 certifies-in checks R n round (Notice ρ seat value) e t l w = absurd (false≢true e)
@@ -53,6 +53,18 @@ certifies-in checks R n round (Evidence ρ lower higher ps) e t l w = absurd (fa
 certifies-in checks R n round Garbled e t l w = absurd (false≢true e)
 
 module _ (checks : Checks) (n round : ℕ) (keys : List ℕ) where
+  -- ---- what a making writes
+
+  abbrev pub conditions : InHand → List (ℕ × Bool)
+  conditions h = makingConditions checks n round keys (read n (h .a)) (read n (h .b)) (h .out)
+
+  abbrev pub evidenceFrom : InHand → Message
+  evidenceFrom h = evidenceOf n round (certificateIn (read n (h .a))) (certificateIn (read n (h .b)))
+
+  pub making-bytes : (h : InHand) → makingOf checks n round keys h ≡ unrefused (lowest (conditions h)) (render (evidenceFrom h)) []
+  unfolding making makingBy made
+  making-bytes h = counted-written (making checks n round keys (h .a) (h .b) (h .out) .written) (h .out)
+
   -- ---- an honest unit submits one layout
 
   module _ (u : Honest) (opened : opening n (u .seat) round keys .number ≡ 0) where
@@ -135,16 +147,6 @@ module _ (checks : Checks) (n round : ℕ) (keys : List ℕ) where
         evidence-cases (λ x. Good checks (Backed j) end x → List·Memᴰ (unit i .seat) (entrySeats x) → ⊥) m (w .1)
         (λ ρ lower higher ps g e. unnamed i j lower higher ps (g .1 .ordered) (kept-both j (Backed j) (end .n) lower higher ps (λ s v h b. b) (g .1)) e)
         good (named-in m evidence (unit i .seat) (stands .1 .0 m (stands .2)) (w .2) d)
-
-    abbrev conditions : InHand → List (ℕ × Bool)
-    conditions h = makingConditions checks n round keys (read n (h .a)) (read n (h .b)) (h .out)
-
-    abbrev evidenceFrom : InHand → Message
-    evidenceFrom h = evidenceOf n round (certificateIn (read n (h .a))) (certificateIn (read n (h .b)))
-
-    making-bytes : (h : InHand) → makingOf checks n round keys h ≡ unrefused (lowest (conditions h)) (render (evidenceFrom h)) []
-    unfolding making makingBy made
-    making-bytes h = counted-written (making checks n round keys (h .a) (h .b) (h .out) .written) (h .out)
 
     making-refused : (h : InHand) (q : ℕ) → lowest (conditions h) ≡ suc q → makingOf checks n round keys h ≡ renderAll []
     unfolding unrefused renderAll

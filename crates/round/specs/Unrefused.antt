@@ -259,16 +259,18 @@ evidence-checked checks n round keys m e =
     (not-false (isEvidence m) (f .0), taken-of checks n round m (g .0) (h .0) (i .0) (l .0), o .0)
 
 -- a making's: two certificates of different values
-pub record MakingTaken (checks : Checks) (n round : ℕ) (a b : Message) : Type 0 where
+pub record MakingTaken (checks : Checks) (n round : ℕ) (keys : List ℕ) (a b : Message) : Type 0 where
   pub some : 1 ≤ n
+  pub most : n ≤ mostSeats
   pub early : round ≤ lastRound
+  pub table : wrongKeys n keys ≡ false
   pub fullA : isFull a ≡ true
   pub takenA : Taken checks n round a
   pub fullB : isFull b ≡ true
   pub takenB : Taken checks n round b
   pub different : certificateIn a .value ≢ certificateIn b .value
 
-pub making-taken : (checks : Checks) (n round : ℕ) (keys : List ℕ) (a b : Message) (out : List ℕ) → lowest (makingConditions checks n round keys a b out) ≡ 0 → MakingTaken checks n round a b
+pub making-taken : (checks : Checks) (n round : ℕ) (keys : List ℕ) (a b : Message) (out : List ℕ) → lowest (makingConditions checks n round keys a b out) ≡ 0 → MakingTaken checks n round keys a b
 unfolding makingConditions twoConditions outsideConditions formConditions signatureConditions equalValues wrongSize wrongRound
 making-taken checks n round keys a b out e =
     let p = lowest-zero 0 _ _ e in
@@ -286,10 +288,13 @@ making-taken checks n round keys a b out e =
     let i′ = lowest-zero 11 _ _ (h′ .1) in
     let l′ = lowest-zero 13 _ _ (i′ .1) in
     let o = lowest-zero 14 _ _ (l′ .1) in
-    let nonzero = eqb-false n 0 (or-false-both (eqb n 0) (ltb mostSeats n) (p .0) .0) in
+    let sized = or-false-both (eqb n 0) (ltb mostSeats n) (p .0) in
+    let nonzero = eqb-false n 0 (sized .0) in
     record {
       some = omega arith;
+      most = ltb-false mostSeats n (sized .1);
       early = ltb-false lastRound round (q .0);
+      table = r .0;
       fullA = not-false (isFull a) (f .0);
       takenA = taken-of checks n round a (g .0) (h .0) (i .0) (l .0);
       fullB = not-false (isFull b) (f′ .0);

@@ -1,55 +1,20 @@
 -- Small runs of whole calls, computed.
 -- Assumes nothing.
-use Prim.Native.Nat.{ℕ, zero, suc, _*_}
+use Prim.Native.Nat.{ℕ, _*_}
 use mathlib.Core.Bool.{Bool, true, false, not, _&&_}
 use mathlib.Core.List.{List, [], _∷_, _++_}
-use lib.Count.{ones}
 use lib.Dec.{T, eqb}
 use lib.ListN.{length, replicate}
-use Rattle.octets.specs.Octets.{part, patch, be}
-use Rattle.quorum.specs.Quorum.{t0, k, bit, has, union, shared, with, outside, seats}
-use Rattle.refusal.specs.Refusal.{lowest, unrefused}
-use Rattle.protocol.specs.Layout.{signatureLength, submitLength, noticeLength, fullEntryLength, fullEntryAt, fullLength, evidenceEntryLength, evidenceEntryAt, evidenceLength, storeLength, slotAt, outLength, evidenceOutLength}
-use Rattle.protocol.specs.Values.{unset, isLower}
+use Rattle.quorum.specs.Quorum.{seats}
 use Rattle.octets.specs.Strings.{same}
-use Rattle.protocol.specs.Message.{Entry, Pair, Message, Submit, Notice, Full, Evidence, renderEntry, renderEntries, renderPair, renderPairs, render, renderAll, byteAt, readRound, readValue, readSignature, entryCommands, readEntry, readEntries, pairCommands, readPair, readPairs, fitsSubmit, fitsNotice, fitsFull, fitsEvidence, readSubmit, readNotice, readFull, readEvidence, read, roundOf, entrySeats, seatsOf, signedEntries, signedPairs, signed}
-use Rattle.protocol.specs.Certificate.{slot, keep, keepEach, ownCertificate, firstCertificate, setOf, signatureOf, certificateOf, certificateIn, entriesOf, fullOf, pairsOf, orderedEvidence, evidenceOf}
+use Rattle.protocol.specs.Message.{Entry, Pair, Message, Submit, Notice, Full, Evidence, render, renderAll}
 use Rattle.protocol.specs.declared.Record.{Record}
-use Rattle.protocol.specs.Record.{withOwn, withNotices, withFirst, withSent, withGuilty, wrongSize, wrongSeat, wrongRound, fresh, zeros, noneHeard, oneHeard, holds, outOfRange, wrongHeard, namesStranger, wrongCollected, wrongFirst, lacksFirst, wrongGuilty, wrongSent, wrongUnset, impossible}
-use Rattle.protocol.specs.Refusals.{every, keyAllowed, keysAllowed, wrongKeys, shortStore, shortOut, said, isForStep, isFull, isEvidence, wrongLengths, otherRound, stranger, rising, disorder, early, badSignature, notLowerFirst, equalValues, formConditions, signatureConditions, outsideConditions, recordConditions, openingConditions, submitConditions, stepConditions, evidenceConditions, twoConditions, makingConditions, lowerConditions}
-use Rattle.protocol.specs.Step.{write, collect, keepValue, submitOwn, isWanted, hearSubmit, noticesWith, hear, otherHeard, owesFull, sendFull, reply, hold, blame, blames, holdOrBlame, hearCertificate, isComplete, confirm, hearOwn, confirmIfComplete, submitted, stepped}
-use Rattle.protocol.specs.Calls.{outAfter, openedBy, opening, Result, resultBy, submit, step, answer, makingBy, making, made, checkedBy, evidenceCheck, lowerOf, lowerCertificate}
-
--- every definition of the crate, open
-unfolded : Bool
-unfolding ones part patch be t0 k bit has union shared with outside seats lowest unrefused signatureLength submitLength noticeLength fullEntryLength fullEntryAt fullLength evidenceEntryLength evidenceEntryAt evidenceLength storeLength slotAt outLength evidenceOutLength unset same isLower renderEntry renderEntries renderPair renderPairs render renderAll readRound readValue readSignature entryCommands readEntry readEntries pairCommands readPair readPairs fitsSubmit fitsNotice fitsFull fitsEvidence readSubmit readNotice readFull readEvidence read roundOf entrySeats seatsOf signedEntries signedPairs signed slot keep keepEach ownCertificate firstCertificate setOf signatureOf certificateOf certificateIn entriesOf fullOf pairsOf orderedEvidence evidenceOf wrongSize wrongSeat wrongRound fresh zeros noneHeard oneHeard holds outOfRange wrongHeard namesStranger wrongCollected wrongFirst lacksFirst wrongGuilty wrongSent wrongUnset impossible every keyAllowed keysAllowed wrongKeys shortStore shortOut said isForStep isFull isEvidence wrongLengths otherRound stranger rising disorder early badSignature notLowerFirst equalValues formConditions signatureConditions outsideConditions recordConditions openingConditions submitConditions stepConditions evidenceConditions twoConditions makingConditions lowerConditions write collect keepValue submitOwn isWanted hearSubmit noticesWith hear otherHeard owesFull sendFull reply hold blame blames holdOrBlame hearCertificate isComplete confirm hearOwn confirmIfComplete submitted stepped outAfter openedBy opening resultBy submit step answer makingBy making made checkedBy evidenceCheck lowerOf lowerCertificate
-unfolded = true
+use Rattle.protocol.specs.Record.{withOwn, withNotices, withFirst, withSent, withGuilty, fresh, zeros, impossible}
+use Rattle.protocol.specs.Step.{submitted}
+use Rattle.protocol.specs.Calls.{opening, Result, submit, step, making, made, evidenceCheck, lowerCertificate}
+use Rattle.runs.specs.Toy.{unfolded, toy, layout, sign, keys, submitBy, entryBy, fullBy}
 
 -- ---- what the runs are given
-
--- a toy for the signature check: a signature's first byte is its seat, and the second is the first of its value
-abbrev toy : ℕ → List ℕ → List ℕ → Bool
-toy seat value signature = eqb (byteAt signature 0) seat && eqb (byteAt signature 1) (byteAt value 0)
-
-abbrev layout : ℕ → List ℕ
-layout b = replicate 32 b
-
-abbrev sign : ℕ → ℕ → List ℕ
-sign seat b = seat ∷ b ∷ replicate 1450 0
-
-abbrev keys : ℕ → List ℕ
-keys zero = []
-keys (suc n) = keys n ++ 0 ∷ 0 ∷ 0 ∷ 6 ∷ 0 ∷ 0 ∷ 0 ∷ 4 ∷ replicate 48 0
-
--- a SUBMIT of a seat for the layout of a byte, and a certificate of it by three seats
-abbrev submitBy : ℕ → ℕ → Message
-submitBy seat b = Submit 5 seat (layout b) (sign seat b)
-
-abbrev entryBy : ℕ → ℕ → Entry
-entryBy b seat = record { seat = seat; signature = sign seat b }
-
-abbrev fullBy : ℕ → ℕ → ℕ → ℕ → Message
-fullBy b s t u = Full 5 s (layout b) (entryBy b s ∷ entryBy b t ∷ entryBy b u ∷ [])
 
 -- the unit of seat 0 among n in round 5, after an opening and before its first call
 abbrev opened : ℕ → Result

@@ -1,0 +1,109 @@
+-- A message that a step turns back as early or for a signature is one that the machine discards: nothing changes and nothing is sent.
+-- Assumes nothing.
+use Prim.Native.Nat.{ℕ}
+use mathlib.Core.Path.{_≡_, refl, sym, ap, _∙_}
+use mathlib.Core.Bool.{Bool, true, false, cond, not, _&&_, and-true, and-false, true≢false, false≢true}
+use mathlib.Core.List.{List, [], _∷_}
+use mathlib.Core.Logic.{_≢_}
+use mathlib.Core.Option.{Option, none, some}
+use native.Mathlib.Omega.{arith}
+use lib.Dec.{leb}
+use lib.ListN.{length}
+use borrow.Author.Tests.{not-true}
+use Rattle.quorum.specs.Quorum.{k}
+use Rattle.refusal.specs.Refusal.{lowest}
+use Rattle.protocol.specs.Message.{Entry, Message, Submit, Notice, Full, Evidence, Garbled, Signed, signedEntries, signed}
+use Rattle.protocol.specs.Refusals.{Checks, every, early, badSignature, formConditions, signatureConditions, recordConditions, stepConditions}
+use Rattle.protocol.specs.declared.Record.{Record}
+use Rattle.paper.specs.Machine.{FullCertificate, Machine, Reaction, isSome, isOwn, isFrom, distinct, isFullCertificate, isCollected, uponSubmitDelivered, uponFullDelivered, addCollected, obtain, uponEvent, uponRules, react}
+use Rattle.paper.specs.Memory.{kept}
+use Rattle.paper.specs.Events.{delivered, reactTo}
+use Rattle.paper.specs.Rules.{AtRest, rest-quiet}
+
+-- ---- what a refusal number says
+
+-- a number that is another one is passed over
+lowest-other : (i j : ℕ) (b : Bool) (rest : List (ℕ × Bool)) → i ≢ j → lowest ((i, b) ∷ rest) ≡ j → lowest rest ≡ j
+unfolding lowest
+lowest-other i j true rest d e = absurd (d e)
+lowest-other i j false rest d e = e
+
+last-held : (i : ℕ) (b : Bool) → i ≢ 0 → lowest ((i, b) ∷ []) ≡ i → b ≡ true
+unfolding lowest
+last-held i true d e = refl
+last-held i false d e = absurd (d (sym e))
+
+before-last : (i j : ℕ) (a b : Bool) → j ≢ 0 → i ≢ j → lowest ((i, b) ∷ (j, a) ∷ []) ≡ i → i ≢ 0 → b ≡ true
+unfolding lowest
+before-last i j a true p q e r = refl
+before-last i j true false p q e r = absurd (q (sym e))
+before-last i j false false p q e r = absurd (r (sym e))
+
+module _ (checks : Checks) (keys : List ℕ) (r : Record) (store : List ℕ) (m : Message) (out : List ℕ) where
+  past-form : (j : ℕ) → 12 ≢ j → 11 ≢ j → 10 ≢ j → 9 ≢ j → 7 ≢ j → 6 ≢ j → 5 ≢ j → 4 ≢ j → lowest (stepConditions checks keys r store m out) ≡ j → lowest ((13, early r m) ∷ (14, badSignature checks m) ∷ []) ≡ j
+  unfolding stepConditions recordConditions formConditions signatureConditions
+  past-form j l i h g d c b a e =
+      lowest-other 12 j _ _ l (lowest-other 11 j _ _ i (lowest-other 10 j _ _ h (lowest-other 9 j _ _ g (lowest-other 7 j _ _ d (lowest-other 6 j _ _ c (lowest-other 5 j _ _ b (lowest-other 4 j _ _ a e)))))))
+
+  pub refused-early : lowest (stepConditions checks keys r store m out) ≡ 13 → early r m ≡ true
+  refused-early e =
+      before-last 13 14 (badSignature checks m) (early r m) (λ q. omega arith) (λ q. omega arith)
+      (past-form 13 (λ q. omega arith) (λ q. omega arith) (λ q. omega arith) (λ q. omega arith) (λ q. omega arith) (λ q. omega arith) (λ q. omega arith) (λ q. omega arith) e) (λ q. omega arith)
+
+  pub refused-signature : lowest (stepConditions checks keys r store m out) ≡ 14 → badSignature checks m ≡ true
+  refused-signature e =
+      last-held 14 (badSignature checks m) (λ q. omega arith)
+      (lowest-other 13 14 (early r m) ((14, badSignature checks m) ∷ []) (λ q. omega arith)
+      (past-form 14 (λ q. omega arith) (λ q. omega arith) (λ q. omega arith) (λ q. omega arith) (λ q. omega arith) (λ q. omega arith) (λ q. omega arith) (λ q. omega arith) e))
+
+-- ---- what the machine does with such a message
+
+unsaid-own : (v : List ℕ) (o : Option (List ℕ)) → isSome o ≡ false → isOwn v o ≡ false
+unfolding isSome isOwn
+unsaid-own v none e = refl
+unsaid-own v (some w) e = absurd (true≢false e)
+
+signed-every : (checks : Checks) (v : List ℕ) (es : List Entry) → every (λ (s : Signed). checks (s .seat) (s .value) (s .signature)) (signedEntries v es) ≡ every (λ (e : Entry). checks (e .seat) v (e .signature)) es
+unfolding every signedEntries
+signed-every checks v [] = refl
+signed-every checks v (e ∷ es) = ap (λ (b : Bool). checks (e .seat) v (e .signature) && b) (signed-every checks v es)
+
+module _ (checks : Checks) (n round : ℕ) (keys : List ℕ) (seat : ℕ) (m : Machine) (rest : AtRest n m) where
+  abbrev still : Reaction
+  still = record { machine = m; actions = [] }
+
+  not-collected : (s : ℕ) (v g : List ℕ) → isCollected checks n seat s v g m ≡ false → uponRules checks n seat (uponSubmitDelivered checks n seat s v g still) ≡ still
+  unfolding uponSubmitDelivered
+  not-collected s v g e =
+      ap (λ (b : Bool). uponRules checks n seat (cond b (addCollected (record { seat = s; signature = g }) still) still)) e ∙ rest-quiet checks n seat still rest
+
+  not-obtained : (c : FullCertificate) → isFullCertificate checks n seat c ≡ false → uponRules checks n seat (uponFullDelivered checks n seat c still) ≡ still
+  unfolding uponFullDelivered
+  not-obtained c e = ap (λ (b : Bool). uponRules checks n seat (cond b (obtain checks n seat c still) still)) e ∙ rest-quiet checks n seat still rest
+
+  -- "SUBMIT heard before the own submit": value_i is ⊥, and no value is the own one
+  pub early-discarded : (msg : Message) → early (kept n seat round m) msg ≡ true → reactTo checks n round keys seat (delivered msg) m ≡ still
+  unfolding early kept delivered reactTo react uponEvent isCollected
+  early-discarded (Submit ρ s v g) e =
+      not-collected s v g
+      (ap (λ (b : Bool). checks s v g && b && not (isFrom s (m .collected))) (unsaid-own v (m .value) (not-true (isSome (m .value)) e))
+      ∙ ap (λ (b : Bool). b && not (isFrom s (m .collected))) (and-false (checks s v g)))
+  early-discarded (Notice ρ s v) e = absurd (false≢true e)
+  early-discarded (Full ρ sender v es) e = absurd (false≢true e)
+  early-discarded (Evidence ρ lower higher ps) e = absurd (false≢true e)
+  early-discarded Garbled e = absurd (false≢true e)
+
+  -- "Any SUBMIT message that is not properly signed is discarded.", and a set of them that aren't all is no full certificate
+  pub unsigned-discarded : (msg : Message) → badSignature checks msg ≡ true → reactTo checks n round keys seat (delivered msg) m ≡ still
+  unfolding badSignature signed every delivered reactTo react uponEvent isCollected isFullCertificate
+  unsigned-discarded (Submit ρ s v g) e =
+      not-collected s v g
+      (ap (λ (b : Bool). b && isOwn v (m .value) && not (isFrom s (m .collected))) (sym (and-true (checks s v g)) ∙ not-true (checks s v g && true) e))
+  unsigned-discarded (Notice ρ s v) e = absurd (false≢true e)
+  unsigned-discarded (Full ρ sender v es) e =
+      let unsigned : every (λ (a : Entry). checks (a .seat) v (a .signature)) es ≡ false =
+      sym (signed-every checks v es) ∙ not-true (every (λ (s : Signed). checks (s .seat) (s .value) (s .signature)) (signedEntries v es)) e in
+      not-obtained (record { value = v; entries = es })
+      (ap (λ (b : Bool). leb (k n) (length es) && distinct es && b) unsigned ∙ and-false (leb (k n) (length es) && distinct es))
+  unsigned-discarded (Evidence ρ lower higher ps) e = refl
+  unsigned-discarded Garbled e = refl

@@ -1,0 +1,126 @@
+-- Lists of entries: the set of their seats, the signature of a seat, and the messages made from them.
+-- Assumes nothing.
+use Prim.Native.Nat.{ℕ, _^_, _<_}
+use mathlib.Core.Path.{_≡_, refl, sym, ap, ap₂, subst, _∙_}
+use mathlib.Core.Bool.{Bool, true, false, cond, _||_, true≢false}
+use mathlib.Core.List.{List, [], _∷_, _++_, map, map-append, List·Memᴰ, List·Memᴰ·head, List·Memᴰ·tail, List·Memᴰ·not-nil, List·Memᴰ·cases-cons}
+use mathlib.Core.Logic.{_⊎_, inl, inr, ⊎-elim, _≢_}
+use native.Mathlib.Omega.{arith}
+use native.Mathlib.Decide.{ℕ-discrete}
+use lib.Dec.{eqb}
+use borrow.Author.Tests.{eqb-true, eqb-false, eq-eqb, ne-eqb}
+use Rattle.quorum.specs.Quorum.{bit, In, has, shared, with, seats}
+use Rattle.quorum.specs.Laws.{bit-cases, bit-empty, bit-with-same, bit-with-other, has-true, has-false, in-shared, mem-seats}
+use Rattle.protocol.specs.Values.{isLower}
+use Rattle.protocol.specs.Message.{Entry, Full, Evidence}
+use Rattle.protocol.specs.Certificate.{setOf, signatureOf, entriesOf, fullOf, pairsOf, orderedEvidence, evidenceOf}
+use Rattle.protocol.specs.Laws.{in-set, set-snoc}
+use Rattle.protocol.specs.Refusals.{rising}
+use Rattle.round.specs.Round.{Each}
+use Rattle.round.specs.Lists.{cond-elim, each-map, rising-first}
+use Rattle.round.specs.Certificates.{set-below}
+use Rattle.paper.specs.Machine.{isFrom, distinct}
+use Rattle.paper.specs.Memory.{seatsIn}
+
+-- ---- the set of seats
+
+pub seats-none : seatsIn [] ≡ 0
+unfolding seatsIn setOf
+seats-none = refl
+
+pub seats-more : (es : List Entry) (e : Entry) → seatsIn (es ++ e ∷ []) ≡ with (e .seat) (seatsIn es)
+unfolding seatsIn
+seats-more es e = ap setOf (map-append (λ (x : Entry). x .seat) es (e ∷ [])) ∙ set-snoc (map (λ (x : Entry). x .seat) es) (e .seat)
+
+pub seats-below : (n : ℕ) (es : List Entry) → Each (λ (e : Entry). e .seat < n) es → seatsIn es < 2 ^ n
+unfolding seatsIn
+seats-below n es h = set-below n (map (λ (e : Entry). e .seat) es) (each-map (λ s. s < n) (λ (e : Entry). e .seat) es h)
+
+-- a seat is in the set just where an entry is from it
+pub from-seats : (s : ℕ) (es : List Entry) → isFrom s es ≡ has s (seatsIn es)
+unfolding isFrom seatsIn setOf
+from-seats s [] = sym (has-false s 0 .1 (bit-empty s))
+from-seats s (e ∷ es) = go (ℕ-discrete s (e .seat)) (from-seats s es)
+  where
+    still : (m t : ℕ) → s ≢ t → (bit s m ≡ 0) ⊎ In s m → has s m ≡ has s (with t m)
+    still m t d (inl z) = has-false s m .1 z ∙ sym (has-false s (with t m) .1 (bit-with-other s t m d ∙ z))
+    still m t d (inr i) = has-true s m .1 i ∙ sym (has-true s (with t m) .1 (bit-with-other s t m d ∙ i))
+
+    go : Dec (s ≡ e .seat) → isFrom s es ≡ has s (seatsIn es) → (eqb (e .seat) s || isFrom s es) ≡ has s (with (e .seat) (seatsIn es))
+    go (yes q) rest = rw (eq-eqb (e .seat) s (sym q)) (sym (has-true s (with (e .seat) (seatsIn es)) .1 (rw q (bit-with-same (e .seat) (seatsIn es)))))
+    go (no d) rest = rw (ne-eqb (e .seat) s (λ q. d (sym q))) (rest ∙ still (seatsIn es) (e .seat) d (bit-cases s (seatsIn es)))
+
+-- ---- the signature of a seat
+
+pub signature-new : (s : ℕ) (g : List ℕ) (es : List Entry) → isFrom s es ≡ false → signatureOf (es ++ record { seat = s; signature = g } ∷ []) s ≡ g
+unfolding signatureOf isFrom
+signature-new s g [] e = rw (eq-eqb s s refl)
+signature-new s g (x ∷ es) e = go (eqb (x .seat) s) e (λ p. signature-new s g es p)
+  where
+    go : (b : Bool) → (b || isFrom s es) ≡ false → (isFrom s es ≡ false → signatureOf (es ++ record { seat = s; signature = g } ∷ []) s ≡ g)
+        → cond b (x .signature) (signatureOf (es ++ record { seat = s; signature = g } ∷ []) s) ≡ g
+    go true p rest = absurd (true≢false p)
+    go false p rest = rest p
+
+pub signature-old : (s : ℕ) (es : List Entry) (e : Entry) → e .seat ≢ s → signatureOf (es ++ e ∷ []) s ≡ signatureOf es s
+unfolding signatureOf
+signature-old s [] e d = rw (ne-eqb (e .seat) s d)
+signature-old s (x ∷ es) e d = ap (cond (eqb (x .seat) s) (x .signature)) (signature-old s es e d)
+
+-- what holds of each entry holds of the signature of a seat among them
+pub signature-each : (P : ℕ → List ℕ → Type 0) (es : List Entry) (s : ℕ) → Each (λ (e : Entry). P (e .seat) (e .signature)) es → In s (seatsIn es) → P s (signatureOf es s)
+unfolding seatsIn signatureOf
+signature-each P es s h i = go es h (in-set s (map (λ (e : Entry). e .seat) es) .0 i)
+  where
+    go : (xs : List Entry) → Each (λ (e : Entry). P (e .seat) (e .signature)) xs → List·Memᴰ s (map (λ (e : Entry). e .seat) xs) → P s (signatureOf xs s)
+    go [] p d = absurd (List·Memᴰ·not-nil d)
+    go (e ∷ xs) p d =
+        cond-elim (P s) (eqb (e .seat) s) (e .signature) (signatureOf xs s)
+        (λ q. subst (λ t. P t (e .signature)) (eqb-true (e .seat) s q) (p e (List·Memᴰ·head refl)))
+        (λ q. ⊎-elim (λ w. absurd (eqb-false (e .seat) s q (sym w))) (λ t. go xs (λ x m. p x (List·Memᴰ·tail m)) t) (List·Memᴰ·cases-cons d))
+
+-- ---- messages: only the signatures of the seats of a certificate stand in them
+
+pub map-same : {A : Type 0} (f g : ℕ → A) (xs : List ℕ) → Each (λ (s : ℕ). f s ≡ g s) xs → map f xs ≡ map g xs
+map-same f g [] h = refl
+map-same f g (x ∷ xs) h = ap₂ _∷_ (h x (List·Memᴰ·head refl)) (map-same f g xs (λ s d. h s (List·Memᴰ·tail d)))
+
+module _ (n round : ℕ) where
+  pub full-same : (seat : ℕ) (v : List ℕ) (m : ℕ) (f g : ℕ → List ℕ) → ((s : ℕ) → In s m → f s ≡ g s)
+      → fullOf n round seat (record { value = v; seats = m; signature = f }) ≡ fullOf n round seat (record { value = v; seats = m; signature = g })
+  unfolding fullOf entriesOf
+  full-same seat v m f g h =
+      ap (Full round seat v)
+      (map-same (λ (s : ℕ). record { seat = s; signature = f s }) (λ (s : ℕ). record { seat = s; signature = g s }) (seats n m)
+      (λ s d. ap (λ (x : List ℕ). record { seat = s; signature = x }) (h s (mem-seats n s m .0 d .1))))
+
+  module _ (v w : List ℕ) (a b : ℕ) (f f′ g g′ : ℕ → List ℕ) (p : (s : ℕ) → In s a → f s ≡ f′ s) (q : (s : ℕ) → In s b → g s ≡ g′ s) where
+    pairs-same : pairsOf n (record { value = v; seats = a; signature = f }) (record { value = w; seats = b; signature = g }) ≡ pairsOf n (record { value = v; seats = a; signature = f′ }) (record { value = w; seats = b; signature = g′ })
+    unfolding pairsOf
+    pairs-same =
+        map-same (λ (s : ℕ). record { seat = s; lower = f s; higher = g s }) (λ (s : ℕ). record { seat = s; lower = f′ s; higher = g′ s }) (seats n (shared a b))
+        (λ s d.
+        let i = in-shared s a b .0 (mem-seats n s (shared a b) .0 d .1) in
+        ap₂ (λ (x y : List ℕ). record { seat = s; lower = x; higher = y }) (p s (i .0)) (q s (i .1)))
+
+  pub evidence-same : (v w : List ℕ) (a b : ℕ) (f f′ g g′ : ℕ → List ℕ) → ((s : ℕ) → In s a → f s ≡ f′ s) → ((s : ℕ) → In s b → g s ≡ g′ s)
+      → evidenceOf n round (record { value = v; seats = a; signature = f }) (record { value = w; seats = b; signature = g }) ≡ evidenceOf n round (record { value = v; seats = a; signature = f′ }) (record { value = w; seats = b; signature = g′ })
+  unfolding evidenceOf orderedEvidence
+  evidence-same v w a b f f′ g g′ p q =
+      ap₂ (cond (isLower v w)) (ap (Evidence round v w) (pairs-same v w a b f f′ g g′ p q)) (ap (Evidence round w v) (pairs-same w v b a g g′ f f′ q p))
+
+-- ---- entries whose seats rise are from distinct seats
+
+from-above : (s : ℕ) (es : List Entry) → Each (λ t. s < t) (map (λ (e : Entry). e .seat) es) → isFrom s es ≡ false
+unfolding isFrom
+from-above s [] h = refl
+from-above s (e ∷ es) h =
+    let above = h (e .seat) (List·Memᴰ·head refl) in
+    rw (ne-eqb (e .seat) s (λ q. omega arith)) (from-above s es (λ t d. h t (List·Memᴰ·tail d)))
+
+pub rising-distinct : (es : List Entry) → rising (map (λ (e : Entry). e .seat) es) ≡ true → distinct es ≡ true
+unfolding distinct
+rising-distinct [] r = refl
+rising-distinct (e ∷ es) r =
+    let first = rising-first (e .seat) (map (λ (x : Entry). x .seat) es) r in
+    rw (from-above (e .seat) es (first .1)) (rising-distinct es (first .0))

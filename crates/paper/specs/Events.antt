@@ -1,0 +1,57 @@
+-- The calls of a list as the machine's events, and what it does at each of them.
+-- Assumes nothing.
+use Prim.Native.Nat.{ℕ}
+use mathlib.Core.Path.{_≡_}
+use mathlib.Core.Bool.{Bool, cond, _||_}
+use mathlib.Core.List.{List, [], _∷_, _++_, map}
+use mathlib.Core.Option.{Option, none, some}
+use lib.Dec.{eqb}
+use Rattle.refusal.specs.Refusal.{unrefused}
+use Rattle.protocol.specs.Message.{Message, Submit, Notice, Full, Evidence, Garbled, read}
+use Rattle.protocol.specs.Refusals.{Checks}
+use Rattle.round.specs.Round.{Call, BySubmit, ByStep, ByThinEntry, Turn, left, writtenIn, Are}
+use Rattle.paper.specs.Machine.{Machine, Event, Submitted, SubmitDelivered, NoticeDelivered, FullDelivered, Action, Reaction, react, spoken}
+use Rattle.paper.specs.Memory.{kept}
+
+-- a message delivered; EVIDENCE is none of the paper's, and no step takes it
+unfoldable pub delivered : Message → Option Event
+delivered (Submit ρ seat value signature) = some (SubmitDelivered seat value signature)
+delivered (Notice ρ seat value) = some (NoticeDelivered value)
+delivered (Full ρ sender value entries) = some (FullDelivered (record { value = value; entries = entries }))
+delivered (Evidence ρ lower higher entries) = none
+delivered Garbled = none
+
+-- A message refused as early (13) or for a signature (14) is delivered all the same: the machine has its own `if` for these. Every
+-- other refusal is document 01's own, and such a call is none of the paper's.
+unfoldable pub isDelivered : ℕ → Bool
+isDelivered refusal = eqb refusal 0 || eqb refusal 13 || eqb refusal 14
+
+-- a call by its refusal number; a refused submit is no event
+unfoldable pub eventOf : ℕ → ℕ → Call → Option Event
+eventOf n refusal (BySubmit value signature out) = unrefused refusal (some (Submitted value signature)) none
+eventOf n refusal (ByStep bytes out) = cond (isDelivered refusal) (delivered (read n bytes)) none
+eventOf n refusal (ByThinEntry bytes out) = cond (isDelivered refusal) (delivered (read n bytes)) none
+
+module _ (checks : Checks) (n round : ℕ) (keys : List ℕ) (seat : ℕ) where
+  unfoldable pub reactTo : Option Event → Machine → Reaction
+  reactTo none m = record { machine = m; actions = [] }
+  reactTo (some e) m = react checks n seat e m
+
+  -- what the machine does at a call
+  unfoldable pub reaction : Turn → Machine → Reaction
+  reaction t m = reactTo (eventOf n (left checks keys t .refusal) (t .given)) m
+
+  -- At each call of a list, with the machine in step: the record that the call gets is what a record keeps of the machine's state,
+  -- and the bytes that it writes are the machine's actions at that event, each sent as its command, one after another. (`Are` says
+  -- that they are these messages and no others: bytes are messages in one way only, `round/specs/Reading: are-unique`.)
+  abbrev pub DoesAs : Machine → List Turn → Type 0
+  DoesAs m [] = Unit {0}
+  DoesAs m (t ∷ ts) =
+      (t .unit ≡ kept n seat round m)
+      × Are n (writtenIn checks keys t) (map (spoken n round seat) (reaction t m .actions))
+      × DoesAs (reaction t m .machine) ts
+
+  -- all that the machine does over a list
+  unfoldable pub actionsOver : Machine → List Turn → List Action
+  actionsOver m [] = []
+  actionsOver m (t ∷ ts) = reaction t m .actions ++ actionsOver (reaction t m .machine) ts

@@ -1,0 +1,256 @@
+-- The accountable confirmer of the ABC paper (source document 002, Algorithm 2) as an abstract machine that forgets nothing: each
+-- variable and each `upon` beside its lines, with what document 01 changes at the place.
+--
+-- What document 01 changes:
+-- (1) No threshold signatures: `share`, `lightCertificate_i` and `Combine` of lines 12, 18, 22 and 28 are gone.
+-- (2) So "the papers' light certificate becomes an unsigned notice: it proves nothing and only prompts a full certificate": the
+--     `if` of line 30 is gone.
+-- (3) A full certificate has k = n − t0 messages and no more ("count 1 (always k)"): of a unit's own, the first k.
+-- (4) At line 25 the unit "treats its own certificate like one heard", without waiting until its broadcast comes back to it.
+-- (5) A FULL heard "counts as a notice for its value".
+-- (6) What `detect` hands up is also sent, as EVIDENCE, once (the paper's rule 2 says once too).
+-- Assumes nothing.
+use Prim.Native.Nat.{ℕ}
+use mathlib.Core.Bool.{Bool, true, false, cond, not, _&&_, _||_}
+use mathlib.Core.List.{List, [], _∷_, _++_}
+use mathlib.Core.Option.{Option, none, some}
+use lib.Dec.{leb, eqb}
+use lib.ListN.{length, take}
+use Rattle.octets.specs.Strings.{same}
+use Rattle.quorum.specs.Quorum.{k}
+use Rattle.protocol.specs.Values.{unset}
+use Rattle.protocol.specs.Message.{Entry, Message, Submit, Notice}
+use Rattle.protocol.specs.Certificate.{certificateOf, fullOf, evidenceOf}
+use Rattle.protocol.specs.Refusals.{Checks, every}
+
+-- ---- the state
+
+-- "A set S of properly signed [SUBMIT, v, *] messages": the value, and the seat and signature of each
+pub record FullCertificate : Type 0 where
+  pub value : List ℕ
+  pub entries : List Entry
+
+-- lines 8 to 15, "upon event ⟨ac, Init⟩ do". A list has what came, all of it, in the order in which it came.
+pub record Machine : Type 0 where
+  -- "value_i ← ⊥"
+  pub value : Option (List ℕ)
+  -- "confirmed_i ← false"
+  pub confirmed : Bool
+  -- "from_i ← ∅" and "fullCertificate_i ← ∅": from_i is the set of its seats
+  pub collected : List Entry
+  -- "obtainedLightCertificates_i ← ∅": the values of all notices
+  pub noticed : List (List ℕ)
+  -- "obtainedFullCertificates_i ← ∅": all of them
+  pub obtained : List FullCertificate
+  -- "Rules at lines 25, 33 and 39 are activated at most once.": that of line 33 was, and that of line 39, with the two certificates.
+  -- That of line 25 was where `confirmed` is set.
+  pub sent : Bool
+  pub detected : Option (FullCertificate × FullCertificate)
+
+unfoldable pub init : Machine
+init = record { value = none; confirmed = false; collected = []; noticed = []; obtained = []; sent = false; detected = none }
+
+-- ---- what comes in and what goes out
+
+pub data Event : Type 0 where
+  -- "⟨ac, Submit | v⟩", with the own signature over it
+  Submitted : (value signature : List ℕ) → Event
+  -- "⟨beb, Deliver | P_j, [SUBMIT, value, share]σ_j⟩"
+  SubmitDelivered : (seat : ℕ) (value signature : List ℕ) → Event
+  -- "⟨beb, Deliver | P_j, [LIGHT-CERTIFICATE, value_j, lightCertificate_j]⟩"; (2)
+  NoticeDelivered : (value : List ℕ) → Event
+  -- "⟨beb, Deliver | P_j, [FULL-CERTIFICATE, value_j, fullCertificate_j]⟩"
+  FullDelivered : FullCertificate → Event
+
+pub data Action : Type 0 where
+  -- "trigger ⟨beb, Broadcast | [SUBMIT, v, ShareSign_i(v)]σ_i⟩"
+  BroadcastSubmit : (value signature : List ℕ) → Action
+  -- "trigger ⟨ac, Confirm | value_i⟩" and "trigger ⟨beb, Broadcast | [LIGHT-CERTIFICATE, value_i, ..]⟩"
+  ConfirmAndNotice : (value : List ℕ) → Action
+  -- "trigger ⟨beb, Broadcast | [FULL-CERTIFICATE, value_i, fullCertificate_i]⟩"
+  BroadcastFull : FullCertificate → Action
+  -- "trigger ⟨ac, Detect | F, proof⟩": the proof is the two certificates, and F the seats that they share; (6)
+  Detect : FullCertificate → FullCertificate → Action
+
+-- the machine on its way through one event, and what it has done so far
+pub record Reaction : Type 0 where
+  pub machine : Machine
+  pub actions : List Action
+
+unfoldable pub act : Action → Reaction → Reaction
+act a x = record { machine = x .machine; actions = x .actions ++ a ∷ [] }
+
+-- ---- one variable set anew
+
+abbrev pub setValue : List ℕ → Reaction → Reaction
+setValue v x = let m = x .machine in record { machine = record { value = some v; confirmed = m .confirmed; collected = m .collected; noticed = m .noticed; obtained = m .obtained; sent = m .sent; detected = m .detected }; actions = x .actions }
+
+abbrev pub setConfirmed : Reaction → Reaction
+setConfirmed x = let m = x .machine in record { machine = record { value = m .value; confirmed = true; collected = m .collected; noticed = m .noticed; obtained = m .obtained; sent = m .sent; detected = m .detected }; actions = x .actions }
+
+abbrev pub addCollected : Entry → Reaction → Reaction
+addCollected e x = let m = x .machine in record { machine = record { value = m .value; confirmed = m .confirmed; collected = m .collected ++ e ∷ []; noticed = m .noticed; obtained = m .obtained; sent = m .sent; detected = m .detected }; actions = x .actions }
+
+abbrev pub addNoticed : List ℕ → Reaction → Reaction
+addNoticed v x = let m = x .machine in record { machine = record { value = m .value; confirmed = m .confirmed; collected = m .collected; noticed = m .noticed ++ v ∷ []; obtained = m .obtained; sent = m .sent; detected = m .detected }; actions = x .actions }
+
+abbrev pub addObtained : FullCertificate → Reaction → Reaction
+addObtained c x = let m = x .machine in record { machine = record { value = m .value; confirmed = m .confirmed; collected = m .collected; noticed = m .noticed; obtained = m .obtained ++ c ∷ []; sent = m .sent; detected = m .detected }; actions = x .actions }
+
+abbrev pub setSent : Reaction → Reaction
+setSent x = let m = x .machine in record { machine = record { value = m .value; confirmed = m .confirmed; collected = m .collected; noticed = m .noticed; obtained = m .obtained; sent = true; detected = m .detected }; actions = x .actions }
+
+abbrev pub setDetected : FullCertificate × FullCertificate → Reaction → Reaction
+setDetected p x = let m = x .machine in record { machine = record { value = m .value; confirmed = m .confirmed; collected = m .collected; noticed = m .noticed; obtained = m .obtained; sent = m .sent; detected = some p }; actions = x .actions }
+
+-- ---- tests
+
+unfoldable pub isSome {ℓ} : {A : Type ℓ} → Option A → Bool
+isSome none = false
+isSome (some a) = true
+
+-- "value = value_i"
+unfoldable pub isOwn : List ℕ → Option (List ℕ) → Bool
+isOwn v none = false
+isOwn v (some own) = same v own
+
+-- value_i, once there is one
+unfoldable pub ownValue : Option (List ℕ) → List ℕ
+ownValue none = unset
+ownValue (some own) = own
+
+-- "P_j ∈ from_i"
+unfoldable pub isFrom : ℕ → List Entry → Bool
+isFrom seat [] = false
+isFrom seat (e ∷ es) = eqb (e .seat) seat || isFrom seat es
+
+-- "Each message m is sent (i.e., signed) by a distinct process."
+unfoldable pub distinct : List Entry → Bool
+distinct [] = true
+distinct (e ∷ es) = not (isFrom (e .seat) es) && distinct es
+
+-- "conflicts with .. if and only if v ≠ v′": the first of a list that conflicts with a value
+unfoldable pub other {ℓ} : {A : Type ℓ} → (A → List ℕ) → List ℕ → List A → Option A
+other valueOf v [] = none
+other valueOf v (x ∷ xs) = cond (same v (valueOf x)) (other valueOf v xs) (some x)
+
+unfoldable pub pairOr {ℓ} : {A : Type ℓ} → A → Option A → Option (A × A) → Option (A × A)
+pairOr x none rest = rest
+pairOr x (some y) rest = some (x, y)
+
+-- "certificate_1, certificate_2 ∈ .. where certificate_1 conflicts with certificate_2": of any two that conflict, the first pair.
+-- It is always the first of the list with the first that conflicts with it: of any two that conflict, one conflicts with the
+-- first of the list (`Conflicts: conflict-head`). So the first moment at which any two conflict is that at which one conflicts
+-- with the first.
+unfoldable pub conflict {ℓ} : {A : Type ℓ} → (A → List ℕ) → List A → Option (A × A)
+conflict valueOf [] = none
+conflict valueOf (x ∷ xs) = pairOr x (other valueOf (valueOf x) xs) (conflict valueOf xs)
+
+-- two values conflict where they differ, and two certificates where their values do
+abbrev pub valueOfNotice : List ℕ → List ℕ
+valueOfNotice v = v
+
+abbrev pub valueOfFull : FullCertificate → List ℕ
+valueOfFull c = c .value
+
+-- ---- each `upon`: under one signature check, in a fleet of n seats, at a seat
+
+module _ (checks : Checks) (n own : ℕ) where
+  -- "a valid full certificate for value v if and only if: a) |S| ≥ n − t0 b) Each message m is sent (i.e., signed) by a distinct
+  -- process", of "properly signed" messages
+  unfoldable pub isFullCertificate : FullCertificate → Bool
+  isFullCertificate c = leb (k n) (length (c .entries)) && distinct (c .entries) && every (λ (e : Entry). checks (e .seat) (c .value) (e .signature)) (c .entries)
+
+  -- the unit's own full certificate; (3)
+  unfoldable pub ownFull : Machine → FullCertificate
+  ownFull m = record { value = ownValue (m .value); entries = take (k n) (m .collected) }
+
+  -- 19: "upon event ⟨beb, Deliver | P_j, [SUBMIT, value, share]σ_j⟩ do"
+  -- 6: "Any SUBMIT message that is not properly signed is discarded."
+  -- 20: "if ShareVerify_j(value, share) = ⊤ and value = value_i and P_j ∉ from_i then"; (1)
+  unfoldable pub isCollected : ℕ → List ℕ → List ℕ → Machine → Bool
+  isCollected seat v signature m = checks seat v signature && isOwn v (m .value) && not (isFrom seat (m .collected))
+
+  -- 21: "from_i ← from_i ∪ {P_j}"
+  -- 23: "fullCertificate_i ← fullCertificate_i ∪ {[SUBMIT, value, share]σ_j}"
+  unfoldable pub uponSubmitDelivered : ℕ → List ℕ → List ℕ → Reaction → Reaction
+  uponSubmitDelivered seat v signature x =
+      cond (isCollected seat v signature (x .machine)) (addCollected (record { seat = seat; signature = signature }) x) x
+
+  -- 16: "upon event ⟨ac, Submit | v⟩ do"
+  -- 17: "value_i ← v"
+  -- 18: "trigger ⟨beb, Broadcast | [SUBMIT, v, ShareSign_i(v)]σ_i⟩"; a broadcast reaches its sender too
+  unfoldable pub uponSubmit : List ℕ → List ℕ → Reaction → Reaction
+  uponSubmit v signature x = uponSubmitDelivered own v signature (act (BroadcastSubmit v signature) (setValue v x))
+
+  -- 29: "upon event ⟨beb, Deliver | P_j, [LIGHT-CERTIFICATE, value_j, lightCertificate_j]⟩ do"
+  -- 31: "obtainedLightCertificates_i ← obtainedLightCertificates_i ∪ {[LIGHT-CERTIFICATE, value_j, lightCertificate_j]}"; (2)
+  unfoldable pub uponNoticeDelivered : List ℕ → Reaction → Reaction
+  uponNoticeDelivered v x = addNoticed v x
+
+  -- a full certificate, heard or the unit's own; (5), (4)
+  unfoldable pub obtain : FullCertificate → Reaction → Reaction
+  obtain c x = addObtained c (uponNoticeDelivered (c .value) x)
+
+  -- 35: "upon event ⟨beb, Deliver | P_j, [FULL-CERTIFICATE, value_j, fullCertificate_j]⟩ do"
+  -- 36: "if fullCertificate_j is a valid full certificate for value_j then"
+  -- 37: "obtainedFullCertificates_i ← obtainedFullCertificates_i ∪ {fullCertificate_j}"
+  unfoldable pub uponFullDelivered : FullCertificate → Reaction → Reaction
+  uponFullDelivered c x = cond (isFullCertificate c) (obtain c x) x
+
+  -- 26: "confirmed_i ← true"
+  -- 27: "trigger ⟨ac, Confirm | value_i⟩"
+  -- 28: "trigger ⟨beb, Broadcast | [LIGHT-CERTIFICATE, value_i, Combine(lightCertificate_i)]⟩"; (1), (4)
+  unfoldable pub confirming : Reaction → Reaction
+  confirming x = obtain (ownFull (x .machine)) (act (ConfirmAndNotice (ownValue (x .machine .value))) (setConfirmed x))
+
+  -- 25: "upon |from_i| ≥ n − t0 do"
+  unfoldable pub uponQuorum : Reaction → Reaction
+  uponQuorum x = cond (not (x .machine .confirmed) && leb (k n) (length (x .machine .collected))) (confirming x) x
+
+  -- 34: "trigger ⟨beb, Broadcast | [FULL-CERTIFICATE, value_i, fullCertificate_i]⟩"
+  unfoldable pub sending : Reaction → Reaction
+  sending x = act (BroadcastFull (ownFull (x .machine))) (setSent x)
+
+  -- 33: "upon certificate_1, certificate_2 ∈ obtainedLightCertificates_i where certificate_1 conflicts with certificate_2 and
+  -- confirmed_i = true do"
+  unfoldable pub uponNoticesConflict : Reaction → Reaction
+  uponNoticesConflict x =
+      cond (x .machine .confirmed && not (x .machine .sent) && isSome (conflict valueOfNotice (x .machine .noticed))) (sending x) x
+
+  -- 40: "proof ← extract proof of culpability of (at least) t0 + 1 processes from certificate_1 and certificate_2"
+  -- 41: "F ← the set of processes detected via proof"
+  -- 42: "trigger ⟨ac, Detect | F, proof⟩"
+  unfoldable pub detecting : Option (FullCertificate × FullCertificate) → Reaction → Reaction
+  detecting none x = x
+  detecting (some p) x = act (Detect (p .0) (p .1)) (setDetected p x)
+
+  -- 39: "upon certificate_1, certificate_2 ∈ obtainedFullCertificates_i where certificate_1 conflicts with certificate_2 do"
+  unfoldable pub uponFullsConflict : Reaction → Reaction
+  uponFullsConflict x = cond (isSome (x .machine .detected)) x (detecting (conflict valueOfFull (x .machine .obtained)) x)
+
+  -- ---- one event after another
+
+  unfoldable pub uponEvent : Event → Reaction → Reaction
+  uponEvent (Submitted v signature) x = uponSubmit v signature x
+  uponEvent (SubmitDelivered seat v signature) x = uponSubmitDelivered seat v signature x
+  uponEvent (NoticeDelivered v) x = uponNoticeDelivered v x
+  uponEvent (FullDelivered c) x = uponFullDelivered c x
+
+  -- the rules of lines 25, 33 and 39, each looked at once after each event: what that of line 25 does the others see, and they
+  -- let none come about
+  unfoldable pub uponRules : Reaction → Reaction
+  uponRules x = uponFullsConflict (uponNoticesConflict (uponQuorum x))
+
+  unfoldable pub react : Event → Machine → Reaction
+  react e m = uponRules (uponEvent e (record { machine = m; actions = [] }))
+
+-- ---- what an action is on the air
+
+-- the command that an action is sent as, by a unit at a seat in a round: "FULL is written from its own collected signatures",
+-- and EVIDENCE with the lower value first and the two signatures of each seat that stands in both
+unfoldable pub spoken : ℕ → ℕ → ℕ → Action → Message
+spoken n round seat (BroadcastSubmit v signature) = Submit round seat v signature
+spoken n round seat (ConfirmAndNotice v) = Notice round seat v
+spoken n round seat (BroadcastFull c) = fullOf n round seat (certificateOf (c .value) (c .entries))
+spoken n round seat (Detect c d) = evidenceOf n round (certificateOf (c .value) (c .entries)) (certificateOf (d .value) (d .entries))

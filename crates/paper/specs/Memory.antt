@@ -1,0 +1,48 @@
+-- What a unit's record keeps of the machine: all else it forgets.
+-- Assumes nothing.
+use Prim.Native.Nat.{ℕ}
+use mathlib.Core.Bool.{cond}
+use mathlib.Core.List.{List, [], _∷_, map}
+use mathlib.Core.Option.{Option, none, some}
+use lib.ListN.{take}
+use Rattle.quorum.specs.Quorum.{k, shared}
+use Rattle.protocol.specs.Values.{unset}
+use Rattle.protocol.specs.Message.{Entry}
+use Rattle.protocol.specs.Certificate.{setOf}
+use Rattle.protocol.specs.declared.Notices.{Notices}
+use Rattle.protocol.specs.declared.First.{First}
+use Rattle.protocol.specs.declared.Record.{Record}
+use Rattle.paper.specs.Machine.{FullCertificate, Machine, isSome, ownValue, other, valueOfNotice}
+
+-- the set of the seats of a list of entries
+unfoldable pub seatsIn : List Entry → ℕ
+seatsIn es = setOf (map (λ (e : Entry). e .seat) es)
+
+-- of all notices, "none, one value, or two different, the first kept"
+unfoldable pub noticesOf : List (List ℕ) → Notices
+noticesOf [] = record { heard = 0; value = unset }
+noticesOf (v ∷ vs) = record { heard = cond (isSome (other valueOfNotice v vs)) 2 1; value = v }
+
+-- of all certificates, "the first certificate held (value and seats)"
+unfoldable pub firstOf : List FullCertificate → First
+firstOf [] = record { value = unset; seats = 0 }
+firstOf (c ∷ cs) = record { value = c .value; seats = seatsIn (c .entries) }
+
+-- of the two that were detected, "the shared seats"
+unfoldable pub guiltyOf : Option (FullCertificate × FullCertificate) → ℕ
+guiltyOf none = 0
+guiltyOf (some p) = shared (seatsIn (p .0 .entries)) (seatsIn (p .1 .entries))
+
+-- the record of a unit at a seat in a round: of all signatures over its value, the seats of the first k
+unfoldable pub kept : ℕ → ℕ → ℕ → Machine → Record
+kept n seat round m = record {
+  n = n;
+  seat = seat;
+  round = round;
+  own = record { submitted = isSome (m .value); value = ownValue (m .value); collected = seatsIn (take (k n) (m .collected)) };
+  confirmed = m .confirmed;
+  notices = noticesOf (m .noticed);
+  first = firstOf (m .obtained);
+  sent = m .sent;
+  guilty = guiltyOf (m .detected);
+}

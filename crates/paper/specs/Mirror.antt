@@ -1,0 +1,59 @@
+-- What holds of the machine, and of the store beside it, between two events.
+-- Assumes nothing.
+use Prim.Native.Nat.{ℕ, _^_, _<_}
+use mathlib.Core.Path.{_≡_}
+use mathlib.Core.Bool.{Bool, true}
+use mathlib.Core.List.{List, [], _∷_, List·Memᴰ}
+use mathlib.Core.Logic.{_≢_}
+use mathlib.Core.Option.{Option, none, some}
+use lib.Dec.{leb}
+use lib.ListN.{length, take}
+use Rattle.quorum.specs.Quorum.{k, In, size}
+use Rattle.protocol.specs.Layout.{signatureLength, collectedBank, firstBank}
+use Rattle.protocol.specs.Message.{Entry}
+use Rattle.protocol.specs.Certificate.{slot, signatureOf}
+use Rattle.round.specs.Round.{Each}
+use Rattle.paper.specs.Machine.{FullCertificate, Machine, ownValue, conflict, valueOfFull}
+use Rattle.paper.specs.Memory.{seatsIn, firstOf, guiltyOf}
+
+-- the signatures collected: nothing before the own submission, and of the first k each from a seat of its own
+pub record Collecting (n : ℕ) (value : Option (List ℕ)) (collected : List Entry) : Type 0 where
+  pub unsaid : value ≡ none → collected ≡ []
+  pub below : Each (λ (e : Entry). e .seat < n) collected
+  pub sized : Each (λ (e : Entry). length (e .signature) ≡ signatureLength) collected
+  pub counted : size (seatsIn (take (k n) collected)) ≡ length (take (k n) collected)
+
+-- a certificate of k of n seats
+pub record Quorum (n : ℕ) (c : FullCertificate) : Type 0 where
+  pub below : seatsIn (c .entries) < 2 ^ n
+  pub enough : size (seatsIn (c .entries)) ≡ k n
+  pub sized : (s : ℕ) → In s (seatsIn (c .entries)) → length (signatureOf (c .entries) s) ≡ signatureLength
+
+-- the certificates obtained: until two are detected, no two conflict
+pub record Obtaining (n : ℕ) (obtained : List FullCertificate) (detected : Option (FullCertificate × FullCertificate)) : Type 0 where
+  pub quorums : Each (Quorum n) obtained
+  pub agreed : detected ≡ none → conflict valueOfFull obtained ≡ none
+  pub guilty : (p : FullCertificate × FullCertificate) → detected ≡ some p → guiltyOf (some p) ≢ 0
+
+unfoldable pub firstEntries : List FullCertificate → List Entry
+firstEntries [] = []
+firstEntries (c ∷ cs) = c .entries
+
+-- the store has the signatures of the first k, and those of the first certificate
+pub record Stored (n : ℕ) (store : List ℕ) (collected : List Entry) (obtained : List FullCertificate) : Type 0 where
+  pub own : (s : ℕ) → In s (seatsIn (take (k n) collected)) → slot n collectedBank store s ≡ signatureOf (take (k n) collected) s
+  pub first : (s : ℕ) → In s (firstOf obtained .seats) → slot n firstBank store s ≡ signatureOf (firstEntries obtained) s
+
+-- the rule of line 25 is done, and its own value is among those noticed
+pub record Resting (n : ℕ) (value : Option (List ℕ)) (confirmed : Bool) (collected : List Entry) (noticed : List (List ℕ)) : Type 0 where
+  pub complete : confirmed ≡ leb (k n) (length collected)
+  pub heard : confirmed ≡ true → List·Memᴰ (ownValue value) noticed
+
+pub record Mirror (n : ℕ) (store : List ℕ) (value : Option (List ℕ)) (confirmed : Bool) (collected : List Entry) (noticed : List (List ℕ)) (obtained : List FullCertificate) (detected : Option (FullCertificate × FullCertificate)) : Type 0 where
+  pub collecting : Collecting n value collected
+  pub obtaining : Obtaining n obtained detected
+  pub stored : Stored n store collected obtained
+  pub resting : Resting n value confirmed collected noticed
+
+abbrev pub Mirrors : ℕ → List ℕ → Machine → Type 0
+Mirrors n store m = Mirror n store (m .value) (m .confirmed) (m .collected) (m .noticed) (m .obtained) (m .detected)

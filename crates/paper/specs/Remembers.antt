@@ -1,0 +1,122 @@
+-- The machine forgets nothing: what it has collected, noticed and obtained stays, and what is delivered and not discarded is added.
+-- Assumes nothing.
+use Prim.Native.Nat.{ℕ}
+use mathlib.Core.Path.{_≡_, refl, sym, subst}
+use mathlib.Core.Bool.{Bool, true, cond}
+use mathlib.Core.List.{List, [], _∷_, List·Memᴰ, List·Memᴰ·head, Memᴰ·append-left, Memᴰ·append-right}
+use Rattle.protocol.specs.Message.{Entry}
+use Rattle.protocol.specs.Refusals.{Checks}
+use Rattle.round.specs.Round.{Each}
+use Rattle.round.specs.Lists.{cond-elim}
+use Rattle.paper.specs.Machine.{FullCertificate, Machine, Event, Submitted, SubmitDelivered, NoticeDelivered, FullDelivered, BroadcastSubmit, ConfirmAndNotice, Reaction, act, setValue, setConfirmed, addCollected, isSome, ownValue, conflict, valueOfFull, isFullCertificate, ownFull, isCollected, uponSubmitDelivered, uponSubmit, uponNoticeDelivered, obtain, uponFullDelivered, confirming, uponQuorum, sending, uponNoticesConflict, detecting, uponFullsConflict, uponEvent, uponRules, react}
+use Rattle.paper.specs.Rules.{quorumDue, noticesDue, detecting-elim}
+
+pub record Remembers (m m′ : Machine) : Type 0 where
+  pub collected : Each (λ (e : Entry). List·Memᴰ e (m′ .collected)) (m .collected)
+  pub noticed : Each (λ (v : List ℕ). List·Memᴰ v (m′ .noticed)) (m .noticed)
+  pub obtained : Each (λ (c : FullCertificate). List·Memᴰ c (m′ .obtained)) (m .obtained)
+
+remembers-trans : (a b c : Machine) → Remembers a b → Remembers b c → Remembers a c
+remembers-trans a b c p q = record {
+  collected = λ e d. q .collected e (p .collected e d);
+  noticed = λ v d. q .noticed v (p .noticed v d);
+  obtained = λ f d. q .obtained f (p .obtained f d);
+}
+
+module _ (checks : Checks) (n own : ℕ) where
+  submit-remembers : (s : ℕ) (v g : List ℕ) (x : Reaction) → Remembers (x .machine) (uponSubmitDelivered checks n own s v g x .machine)
+  unfolding uponSubmitDelivered
+  submit-remembers s v g x =
+      let e : Entry = record { seat = s; signature = g } in
+      cond-elim (λ y. Remembers (x .machine) (y .machine)) (isCollected checks n own s v g (x .machine)) (addCollected e x) x
+      (λ h. record { collected = λ a d. Memᴰ·append-left (e ∷ []) d; noticed = λ a d. d; obtained = λ a d. d })
+      (λ h. record { collected = λ a d. d; noticed = λ a d. d; obtained = λ a d. d })
+
+  own-remembers : (v g : List ℕ) (x : Reaction) → Remembers (x .machine) (uponSubmit checks n own v g x .machine)
+  unfolding uponSubmit act
+  own-remembers v g x =
+      let after = submit-remembers own v g (act (BroadcastSubmit v g) (setValue v x)) in
+      record { collected = after .collected; noticed = after .noticed; obtained = after .obtained }
+
+  notice-remembers : (v : List ℕ) (x : Reaction) → Remembers (x .machine) (uponNoticeDelivered checks n own v x .machine)
+  unfolding uponNoticeDelivered
+  notice-remembers v x = record { collected = λ a d. d; noticed = λ a d. Memᴰ·append-left (v ∷ []) d; obtained = λ a d. d }
+
+  obtain-remembers : (c : FullCertificate) (x : Reaction) → Remembers (x .machine) (obtain checks n own c x .machine)
+  unfolding obtain uponNoticeDelivered
+  obtain-remembers c x = record { collected = λ a d. d; noticed = λ a d. Memᴰ·append-left (c .value ∷ []) d; obtained = λ a d. Memᴰ·append-left (c ∷ []) d }
+
+  full-remembers : (c : FullCertificate) (x : Reaction) → Remembers (x .machine) (uponFullDelivered checks n own c x .machine)
+  unfolding uponFullDelivered
+  full-remembers c x =
+      cond-elim (λ y. Remembers (x .machine) (y .machine)) (isFullCertificate checks n own c) (obtain checks n own c x) x (λ h. obtain-remembers c x)
+      (λ h. record { collected = λ a d. d; noticed = λ a d. d; obtained = λ a d. d })
+
+  quorum-remembers : (x : Reaction) → Remembers (x .machine) (uponQuorum checks n own x .machine)
+  unfolding uponQuorum confirming act
+  quorum-remembers x =
+      cond-elim (λ y. Remembers (x .machine) (y .machine)) (quorumDue n (x .machine)) (confirming checks n own x) x
+      (λ h.
+      let after = obtain-remembers (ownFull checks n own (x .machine)) (act (ConfirmAndNotice (ownValue (x .machine .value))) (setConfirmed x)) in
+      record { collected = after .collected; noticed = after .noticed; obtained = after .obtained })
+      (λ h. record { collected = λ a d. d; noticed = λ a d. d; obtained = λ a d. d })
+
+  notices-remember : (x : Reaction) → Remembers (x .machine) (uponNoticesConflict checks n own x .machine)
+  unfolding uponNoticesConflict sending act
+  notices-remember x =
+      cond-elim (λ y. Remembers (x .machine) (y .machine)) (noticesDue (x .machine)) (sending checks n own x) x
+      (λ h. record { collected = λ a d. d; noticed = λ a d. d; obtained = λ a d. d }) (λ h. record { collected = λ a d. d; noticed = λ a d. d; obtained = λ a d. d })
+
+  fulls-remember : (x : Reaction) → Remembers (x .machine) (uponFullsConflict checks n own x .machine)
+  unfolding uponFullsConflict act
+  fulls-remember x =
+      let P : Reaction → Type 0 = λ y. Remembers (x .machine) (y .machine) in
+      let all : P x = record { collected = λ a d. d; noticed = λ a d. d; obtained = λ a d. d } in
+      cond-elim P (isSome (x .machine .detected)) x (detecting checks n own (conflict valueOfFull (x .machine .obtained)) x) (λ h. all)
+      (λ h. detecting-elim checks n own P (conflict valueOfFull (x .machine .obtained)) x all (λ p. record { collected = λ a d. d; noticed = λ a d. d; obtained = λ a d. d }))
+
+  rules-remember : (x : Reaction) → Remembers (x .machine) (uponRules checks n own x .machine)
+  unfolding uponRules
+  rules-remember x =
+      let a = uponQuorum checks n own x in
+      let b = uponNoticesConflict checks n own a in
+      remembers-trans (x .machine) (a .machine) (uponRules checks n own x .machine) (quorum-remembers x)
+      (remembers-trans (a .machine) (b .machine) (uponRules checks n own x .machine) (notices-remember a) (fulls-remember b))
+
+  event-remembers : (e : Event) (x : Reaction) → Remembers (x .machine) (uponEvent checks n own e x .machine)
+  unfolding uponEvent
+  event-remembers (Submitted v g) x = own-remembers v g x
+  event-remembers (SubmitDelivered s v g) x = submit-remembers s v g x
+  event-remembers (NoticeDelivered v) x = notice-remembers v x
+  event-remembers (FullDelivered c) x = full-remembers c x
+
+  -- ---- at every event
+
+  pub react-remembers : (e : Event) (m : Machine) → Remembers m (react checks n own e m .machine)
+  unfolding react
+  react-remembers e m =
+      let x : Reaction = record { machine = m; actions = [] } in
+      remembers-trans m (uponEvent checks n own e x .machine) (react checks n own e m .machine) (event-remembers e x) (rules-remember (uponEvent checks n own e x))
+
+  -- ---- what is delivered
+
+  pub submit-added : (s : ℕ) (v g : List ℕ) (m : Machine) → isCollected checks n own s v g m ≡ true → List·Memᴰ (record { seat = s; signature = g }) (react checks n own (SubmitDelivered s v g) m .machine .collected)
+  unfolding react uponEvent uponSubmitDelivered
+  submit-added s v g m h =
+      let x : Reaction = record { machine = m; actions = [] } in
+      let e : Entry = record { seat = s; signature = g } in
+      subst (λ (b : Bool). List·Memᴰ e (uponRules checks n own (cond b (addCollected e x) x) .machine .collected)) (sym h)
+      (rules-remember (addCollected e x) .collected e (Memᴰ·append-right (m .collected) (List·Memᴰ·head refl)))
+
+  pub notice-added : (v : List ℕ) (m : Machine) → List·Memᴰ v (react checks n own (NoticeDelivered v) m .machine .noticed)
+  unfolding react uponEvent uponNoticeDelivered
+  notice-added v m =
+      let x : Reaction = record { machine = m; actions = [] } in
+      rules-remember (uponNoticeDelivered checks n own v x) .noticed v (Memᴰ·append-right (m .noticed) (List·Memᴰ·head refl))
+
+  pub full-added : (c : FullCertificate) (m : Machine) → isFullCertificate checks n own c ≡ true → List·Memᴰ c (react checks n own (FullDelivered c) m .machine .obtained)
+  unfolding react uponEvent uponFullDelivered obtain uponNoticeDelivered
+  full-added c m h =
+      let x : Reaction = record { machine = m; actions = [] } in
+      subst (λ (b : Bool). List·Memᴰ c (uponRules checks n own (cond b (obtain checks n own c x) x) .machine .obtained)) (sym h)
+      (rules-remember (obtain checks n own c x) .obtained c (Memᴰ·append-right (m .obtained) (List·Memᴰ·head refl)))

@@ -1,0 +1,87 @@
+-- What making evidence from two certificates in hand makes, where it isn't refused: evidence that the check accepts, and that names
+-- exactly the seats which the two share, t0 + 1 or more. For all inputs, and for any signature check.
+-- Assumes nothing.
+use mathlib.Core.Path.{_≡_, refl, subst, _∙_}
+use mathlib.Core.Bool.{false}
+use mathlib.Core.List.{List}
+use Prim.Native.Nat.{ℕ, _+_, _≤_}
+use native.Mathlib.Omega.{arith}
+use Rattle.quorum.specs.Quorum.{t0, size, shared}
+use Rattle.refusal.specs.Refusal.{lowest, unrefused}
+use Rattle.protocol.specs.Message.{Pair, Message, Evidence, render, read, entrySeats}
+use Rattle.protocol.specs.ReadLaws.{read-render}
+use Rattle.protocol.specs.Certificate.{setOf, certificateIn}
+use Rattle.protocol.specs.Refusals.{Checks, wrongKeys, isEvidence, notLowerFirst}
+use Rattle.protocol.specs.Calls.{makingBy, making, checkedBy, evidenceCheck}
+use Rattle.round.specs.Round.{InHand, makingOf}
+use Rattle.round.specs.Sound.{InRange, Certifies, Pairs}
+use Rattle.round.specs.Certificates.{evidence-elim, evidence-names}
+use Rattle.round.specs.Reading.{read-laid}
+use Rattle.round.specs.Unrefused.{Taken, MakingTaken, making-taken, evidence-unrefused, evidence-taken}
+use Rattle.round.specs.Units.{Any, pairs-formed}
+use Rattle.round.specs.Safe.{conditions, evidenceFrom, making-bytes, certifies-in}
+
+module _ (checks : Checks) (n seat round : ℕ) (keys : List ℕ) (range : InRange n seat round) (table : wrongKeys n keys ≡ false) where
+  -- evidence of t0 + 1 pairs or more is accepted, and what it is read as names its seats
+  accepted-as : (ρ : ℕ) (lower higher : List ℕ) (ps : List Pair) → ρ ≡ round → Pairs checks Any n lower higher ps
+      → (evidenceCheck checks n round keys (render (Evidence ρ lower higher ps)) .number ≡ 0)
+      × (evidenceCheck checks n round keys (render (Evidence ρ lower higher ps)) .mask ≡ setOf (entrySeats (Evidence ρ lower higher ps)))
+  unfolding evidenceCheck checkedBy unrefused isEvidence notLowerFirst
+  accepted-as ρ lower higher ps e z =
+      let m = Evidence ρ lower higher ps in
+      let formed = pairs-formed checks Any n ρ lower higher ps (rw e (range .early)) z in
+      let taken = subst (λ r. Taken checks n r m) e (evidence-taken checks Any n ρ lower higher ps z) in
+      let zero = evidence-unrefused checks n seat round keys m range table refl taken (rw (z .ordered)) in
+      rw (read-render n m formed, zero) (refl, refl)
+
+  pub evidence-accepted : (ρ : ℕ) (lower higher : List ℕ) (ps : List Pair) → ρ ≡ round → Pairs checks Any n lower higher ps
+      → (evidenceCheck checks n round keys (render (Evidence ρ lower higher ps)) .number ≡ 0)
+      × (t0 n + 1 ≤ size (evidenceCheck checks n round keys (render (Evidence ρ lower higher ps)) .mask))
+  unfolding entrySeats
+  evidence-accepted ρ lower higher ps e z =
+      let a = accepted-as ρ lower higher ps e z in
+      (a .0, rw (a .1) (z .named))
+
+-- bytes that the check accepts, and that name exactly the seats which two certificates share
+pub record Accuses (checks : Checks) (n round : ℕ) (keys a b evidence : List ℕ) : Type 0 where
+  pub accepted : evidenceCheck checks n round keys evidence .number ≡ 0
+  pub names : evidenceCheck checks n round keys evidence .mask ≡ shared (certificateIn (read n a) .seats) (certificateIn (read n b) .seats)
+  pub enough : t0 n + 1 ≤ size (evidenceCheck checks n round keys evidence .mask)
+
+module _ (checks : Checks) (n round : ℕ) (keys : List ℕ) (h : InHand) (unrefused-making : making checks n round keys (h .a) (h .b) (h .out) .refusal ≡ 0) where
+  zero : lowest (conditions checks n round keys h) ≡ 0
+  unfolding making makingBy
+  zero = unrefused-making
+
+  abbrev a : Message
+  a = read n (h .a)
+
+  abbrev b : Message
+  b = read n (h .b)
+
+  taken : MakingTaken checks n round keys a b
+  taken = making-taken checks n round keys a b (h .out) zero
+
+  first : Certifies checks Any n (certificateIn a)
+  first = certifies-in checks Any n round a (taken .fullA) (taken .takenA) (read-laid n (h .a)) (λ s m. tt)
+
+  second : Certifies checks Any n (certificateIn b)
+  second = certifies-in checks Any n round b (taken .fullB) (taken .takenB) (read-laid n (h .b)) (λ s m. tt)
+
+  range : InRange n 0 round
+  range = record { some = taken .some; most = taken .most; inside = (let s = taken .some in omega arith); early = taken .early }
+
+  -- the claim, of the bytes that the call's answer counts
+  pub made-accepted : Accuses checks n round keys (h .a) (h .b) (makingOf checks n round keys h)
+  unfolding unrefused
+  made-accepted =
+      let bytes : makingOf checks n round keys h ≡ render (evidenceFrom checks n round keys h) = making-bytes checks n round keys h ∙ rw zero in
+      let c = certificateIn a in
+      let d = certificateIn b in
+      let named = evidence-names checks Any n round c d first second in
+      let accuses = evidence-elim checks Any (λ m. setOf (entrySeats m) ≡ shared (c .seats) (d .seats) → Accuses checks n round keys (h .a) (h .b) (render m)) n round c d (taken .some) first second (taken .different)
+      (λ lower higher ps z e.
+      let p = accepted-as checks n 0 round keys range (taken .table) round lower higher ps refl z in
+      let q = evidence-accepted checks n 0 round keys range (taken .table) round lower higher ps refl z in
+      record { accepted = p .0; names = p .1 ∙ e; enough = q .1 }) in
+      rw bytes (accuses named)

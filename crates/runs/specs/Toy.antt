@@ -1,0 +1,49 @@
+-- What the runs are given: every definition of a call, open, and a toy for the signature check.
+-- Assumes nothing.
+use Prim.Native.Nat.{ℕ, zero, suc}
+use mathlib.Core.Bool.{Bool, true, _&&_}
+use mathlib.Core.List.{List, [], _∷_, _++_}
+use lib.Count.{ones}
+use lib.Dec.{eqb}
+use lib.ListN.{replicate}
+use Rattle.octets.specs.Octets.{part, patch, be}
+use Rattle.quorum.specs.Quorum.{t0, k, bit, has, union, shared, with, outside, seats}
+use Rattle.refusal.specs.Refusal.{lowest, unrefused}
+use Rattle.protocol.specs.Layout.{signatureLength, submitLength, noticeLength, fullEntryLength, fullEntryAt, fullLength, evidenceEntryLength, evidenceEntryAt, evidenceLength, storeLength, slotAt, outLength, evidenceOutLength}
+use Rattle.protocol.specs.Values.{unset, isLower}
+use Rattle.octets.specs.Strings.{same}
+use Rattle.protocol.specs.Message.{Entry, Message, Submit, Full, renderEntry, renderEntries, renderPair, renderPairs, render, renderAll, byteAt, readRound, readValue, readSignature, entryCommands, readEntry, readEntries, pairCommands, readPair, readPairs, fitsSubmit, fitsNotice, fitsFull, fitsEvidence, readSubmit, readNotice, readFull, readEvidence, read, roundOf, entrySeats, seatsOf, signedEntries, signedPairs, signed}
+use Rattle.protocol.specs.Certificate.{slot, keep, keepEach, ownCertificate, firstCertificate, setOf, signatureOf, certificateOf, certificateIn, entriesOf, fullOf, pairsOf, orderedEvidence, evidenceOf}
+use Rattle.protocol.specs.Record.{wrongSize, wrongSeat, wrongRound, fresh, zeros, noneHeard, oneHeard, holds, outOfRange, wrongHeard, namesStranger, wrongCollected, wrongFirst, lacksFirst, wrongGuilty, wrongSent, wrongUnset, impossible}
+use Rattle.protocol.specs.Refusals.{every, keyAllowed, keysAllowed, wrongKeys, shortStore, shortOut, said, isForStep, isFull, isEvidence, wrongLengths, otherRound, stranger, rising, disorder, early, badSignature, notLowerFirst, equalValues, formConditions, signatureConditions, outsideConditions, recordConditions, openingConditions, submitConditions, stepConditions, evidenceConditions, twoConditions, makingConditions, lowerConditions}
+use Rattle.protocol.specs.Step.{write, collect, keepValue, submitOwn, isWanted, hearSubmit, noticesWith, hear, otherHeard, owesFull, sendFull, reply, hold, blame, blames, holdOrBlame, hearCertificate, isComplete, confirm, hearOwn, confirmIfComplete, submitted, stepped}
+use Rattle.protocol.specs.Calls.{outAfter, openedBy, opening, resultBy, submit, step, answer, makingBy, making, made, checkedBy, evidenceCheck, lowerOf, lowerCertificate}
+
+-- every definition of a call, open
+unfoldable pub unfolded : Bool
+unfolding ones part patch be t0 k bit has union shared with outside seats lowest unrefused signatureLength submitLength noticeLength fullEntryLength fullEntryAt fullLength evidenceEntryLength evidenceEntryAt evidenceLength storeLength slotAt outLength evidenceOutLength unset same isLower renderEntry renderEntries renderPair renderPairs render renderAll readRound readValue readSignature entryCommands readEntry readEntries pairCommands readPair readPairs fitsSubmit fitsNotice fitsFull fitsEvidence readSubmit readNotice readFull readEvidence read roundOf entrySeats seatsOf signedEntries signedPairs signed slot keep keepEach ownCertificate firstCertificate setOf signatureOf certificateOf certificateIn entriesOf fullOf pairsOf orderedEvidence evidenceOf wrongSize wrongSeat wrongRound fresh zeros noneHeard oneHeard holds outOfRange wrongHeard namesStranger wrongCollected wrongFirst lacksFirst wrongGuilty wrongSent wrongUnset impossible every keyAllowed keysAllowed wrongKeys shortStore shortOut said isForStep isFull isEvidence wrongLengths otherRound stranger rising disorder early badSignature notLowerFirst equalValues formConditions signatureConditions outsideConditions recordConditions openingConditions submitConditions stepConditions evidenceConditions twoConditions makingConditions lowerConditions write collect keepValue submitOwn isWanted hearSubmit noticesWith hear otherHeard owesFull sendFull reply hold blame blames holdOrBlame hearCertificate isComplete confirm hearOwn confirmIfComplete submitted stepped outAfter openedBy opening resultBy submit step answer makingBy making made checkedBy evidenceCheck lowerOf lowerCertificate
+unfolded = true
+
+-- a toy for the signature check: a signature's first byte is its seat, and the second is the first of its value
+abbrev pub toy : ℕ → List ℕ → List ℕ → Bool
+toy seat value signature = eqb (byteAt signature 0) seat && eqb (byteAt signature 1) (byteAt value 0)
+
+abbrev pub layout : ℕ → List ℕ
+layout b = replicate 32 b
+
+abbrev pub sign : ℕ → ℕ → List ℕ
+sign seat b = seat ∷ b ∷ replicate 1450 0
+
+abbrev pub keys : ℕ → List ℕ
+keys zero = []
+keys (suc n) = keys n ++ 0 ∷ 0 ∷ 0 ∷ 6 ∷ 0 ∷ 0 ∷ 0 ∷ 4 ∷ replicate 48 0
+
+-- a SUBMIT of a seat for the layout of a byte, and a certificate of it by three seats
+abbrev pub submitBy : ℕ → ℕ → Message
+submitBy seat b = Submit 5 seat (layout b) (sign seat b)
+
+abbrev pub entryBy : ℕ → ℕ → Entry
+entryBy b seat = record { seat = seat; signature = sign seat b }
+
+abbrev pub fullBy : ℕ → ℕ → ℕ → ℕ → Message
+fullBy b s t u = Full 5 s (layout b) (entryBy b s ∷ entryBy b t ∷ entryBy b u ∷ [])
