@@ -7,6 +7,7 @@
 #ifndef ZOLBINE_H
 #define ZOLBINE_H
 
+#include <stdbool.h>
 #include <stddef.h>
 #include <stdint.h>
 
@@ -97,6 +98,96 @@ struct zolbine_verdict {
 struct zolbine_verdict zolbine_check_evidence(uint32_t n, uint32_t round,
                                               const uint8_t *keys, size_t keys_len,
                                               const uint8_t *evidence, size_t evidence_len);
+
+/* Evidence from two FULL commands in hand, given in either order, whose values differ: writes the EVIDENCE command that names the
+ * seats they share to out, of 68 + 2906 * k bytes or more. zolbine_check_evidence accepts what it writes. Refusals: ZOLBINE_SIZE,
+ * ZOLBINE_ROUND, ZOLBINE_KEYS, ZOLBINE_OUT, then of the first and then of the second ZOLBINE_GARBLED, ZOLBINE_OTHER_ROUND,
+ * ZOLBINE_STRANGER, ZOLBINE_DISORDER, ZOLBINE_SIGNATURE, and of both ZOLBINE_NO_CONFLICT (equal values).
+ */
+struct zolbine_written zolbine_make_evidence(uint32_t n, uint32_t round,
+                                             const uint8_t *keys, size_t keys_len,
+                                             const uint8_t *first, size_t first_len,
+                                             const uint8_t *second, size_t second_len,
+                                             uint8_t *out, size_t out_len);
+
+/* A unit's record in a round. It goes in and comes back by value, or is lent, and is to be read and never written by the host: a
+ * record that no call gave may be refused (ZOLBINE_RECORD), or go with a store that doesn't hold what it says. A value is 32 bytes,
+ * zeros where it isn't set; a set of seats is a mask, seat s being bit s.
+ */
+struct zolbine_own {
+    bool submitted;     /* whether the unit has submitted */
+    uint8_t value[32];  /* what it submitted */
+    uint32_t collected; /* the seats whose signatures over it are collected, the own one among them */
+};
+
+struct zolbine_notices {
+    uint32_t heard;    /* values heard in NOTICE and FULL: 0 for none, 1 for one, 2 for two different ones */
+    uint8_t value[32]; /* the first of them */
+};
+
+struct zolbine_first {
+    uint8_t value[32]; /* the value of the first certificate held */
+    uint32_t seats;    /* its seats, 0 where none is held */
+};
+
+struct zolbine_record {
+    uint32_t n;                     /* seats of the fleet, 1 to 32 */
+    uint32_t seat;                  /* the own seat, below n */
+    uint32_t round;                 /* 0 to 1,023 */
+    struct zolbine_own own;         /* the own submission */
+    bool confirmed;                 /* whether the unit has confirmed its value */
+    struct zolbine_notices notices; /* notices heard */
+    struct zolbine_first first;     /* the first certificate held */
+    bool sent;                      /* whether FULL was sent */
+    uint32_t guilty;                /* seats shown to have signed two values */
+};
+
+struct zolbine_opened {
+    uint32_t number;              /* the refusal's number, or 0 */
+    struct zolbine_record record; /* the unit's record, zeros with a refusal */
+};
+
+struct zolbine_stepped {
+    uint32_t number;              /* the refusal's number, or 0 */
+    uint32_t written;             /* bytes written from the start of out; the bytes beyond them keep what they held */
+    struct zolbine_record record; /* the record after the call; with a refusal as it was given */
+};
+
+/* Opening: the record of a unit at its seat in a fleet of n, for one round. The key table has 56 * n bytes, seat s's key at byte
+ * 56 * s, types 6 and 4. Refusals: ZOLBINE_SIZE, ZOLBINE_SEAT, ZOLBINE_ROUND, ZOLBINE_KEYS.
+ */
+struct zolbine_opened zolbine_open(uint32_t n, uint32_t seat, uint32_t round,
+                                   const uint8_t *keys, size_t keys_len);
+
+/* Submit: the unit's own value, 32 bytes, with its own signature, 1,452 bytes, over the 36 bytes 0x01, round (2), seat (1), value.
+ * The store has 2,904 * n bytes or more and holds the signatures that the record speaks of: the two are kept together, and a round's
+ * first call takes a store of any bytes. Out has 1,629 + 4,360 * k bytes or more, k = n - t0 with t0 = n/3 rounded up, less one.
+ * Everything written to out is to be sent, in its order. Refusals: ZOLBINE_RECORD, ZOLBINE_KEYS, ZOLBINE_STORE, ZOLBINE_OUT,
+ * ZOLBINE_SAID, ZOLBINE_GARBLED (a length), ZOLBINE_SIGNATURE.
+ */
+struct zolbine_stepped zolbine_submit(struct zolbine_record record,
+                                      const uint8_t *keys, size_t keys_len,
+                                      uint8_t *store, size_t store_len,
+                                      const uint8_t *value, size_t value_len,
+                                      const uint8_t *signature, size_t signature_len,
+                                      uint8_t *out, size_t out_len);
+
+/* A step: a SUBMIT, NOTICE or FULL heard, with store and out as for zolbine_submit. Refusals: ZOLBINE_RECORD, ZOLBINE_KEYS,
+ * ZOLBINE_STORE, ZOLBINE_OUT, ZOLBINE_GARBLED, ZOLBINE_OTHER_ROUND, ZOLBINE_STRANGER, ZOLBINE_DISORDER, ZOLBINE_EARLY,
+ * ZOLBINE_SIGNATURE. Signatures are checked only after everything cheaper has passed.
+ */
+struct zolbine_stepped zolbine_step(struct zolbine_record record,
+                                    const uint8_t *keys, size_t keys_len,
+                                    uint8_t *store, size_t store_len,
+                                    const uint8_t *message, size_t message_len,
+                                    uint8_t *out, size_t out_len);
+
+/* The same step with the record lent: it is overwritten with the record after the call, which with a refusal is as it was. */
+struct zolbine_written zolbine_step_lent(struct zolbine_record *record,
+                                         const uint8_t *keys, size_t keys_len,
+                                         uint8_t *store, size_t store_len,
+                                         const uint8_t *message, size_t message_len,
+                                         uint8_t *out, size_t out_len);
 
 #ifdef __cplusplus
 }

@@ -1,10 +1,5 @@
 -- Laws of the confirmer's code.
 pub mod Openings
-pub mod Records
-pub mod Phases
-pub mod Hearing
-pub mod Certificates
-pub mod Possible
-pub mod Collecting
-pub mod Confirming
-pub mod Steps
+pub mod Impossible
+pub mod Refused
+pub mod Returns

@@ -4,7 +4,9 @@ ghost use mathlib.Core.Bool.{_&&_, _||_};
 ghost use Rattle.octets.specs.Strings.{same};
 ghost use Rattle.protocol.specs.Record.{outOfRange, wrongHeard, namesStranger, wrongCollected, wrongFirst, lacksFirst, wrongGuilty, wrongSent, wrongUnset, impossible};
 ghost use Rattle.protocol.specs.Values.{unset};
-ghost use Rattle.confirmer.specs.Records.{InRange};
+ghost use Rattle.phases.specs.Records.{InRange};
+use phases::bools::both;
+use phases::bools::either;
 use protocol::Record;
 
 // Whether a value is 32 zero bytes.
@@ -13,18 +15,6 @@ fn is_unset(value: [u8; 32]) -> bool
 {
     let zeros = [0u8; 32];
     wire::values::same(&value, &zeros)
-}
-
-pub fn both(a: bool, b: bool) -> bool
-    ensures { λ r. ⌜ r ≡ (a && b) ⌝ }
-{
-    if a { b } else { false }
-}
-
-fn either(a: bool, b: bool) -> bool
-    ensures { λ r. ⌜ r ≡ (a || b) ⌝ }
-{
-    if a { true } else { b }
 }
 
 // n, seat or round is out of range.

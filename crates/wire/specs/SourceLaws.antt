@@ -12,13 +12,13 @@ use lib.ListN.{length, getD, length-append, length-map, List·getD-append}
 use lib.Seq.{getD-at}
 use borrow.Author.Tests.{eqb-true, eq-eqb, ne-eqb, not-false}
 use Rattle.quorum.specs.Quorum.{k, In, size, shared, all, seats}
-use Rattle.quorum.specs.Laws.{seat-at}
+use Rattle.quorum.specs.Laws.{seat-at, length-seats}
 use Rattle.protocol.specs.Layout.{signatureLength, fullEntryLength, fullEntryAt, fullLength, slotAt}
 use Rattle.protocol.specs.Laws.{slot-fits}
-use Rattle.protocol.specs.Message.{Entry, Message, byteAt, read, readEntry, readEntries, readSignature, readFull, readSubmit, readNotice, readEvidence, fitsSubmit, fitsNotice, fitsFull, fitsEvidence, entryCommands, entrySeats, seatsOf, Garbled}
+use Rattle.protocol.specs.Message.{Entry, Message, byteAt, read, readEntry, readEntries, readValue, readSignature, readFull, readSubmit, readNotice, readEvidence, fitsSubmit, fitsNotice, fitsFull, fitsEvidence, entryCommands, entrySeats, seatsOf, Garbled}
 use Rattle.protocol.specs.Certificate.{slot, setOf, signatureOf, certificateOf, certificateIn}
 use Rattle.protocol.specs.Refusals.{every, rising, isFull, stranger, disorder}
-use Rattle.wire.specs.Sources.{Sound, entryPlace, Readable, signatureFrom}
+use Rattle.wire.specs.Sources.{Sound, entryPlace, Readable, signatureFrom, certificateFrom}
 use Rattle.wire.specs.StoreLaws.{length-signature}
 use Rattle.wire.specs.SeatLaws.{seats-set, set-lt, seats-split, count-below}
 use Rattle.wire.specs.declared.sources.Source.{Source}
@@ -113,13 +113,14 @@ module _ (n : ℕ) (bytes : List ℕ) (mask : ℕ) (h : Sound n bytes mask) wher
   pub sound-seats : seats n mask ≡ seatsIn (entriesIn n bytes)
   sound-seats = rw sound-set (seats-set n (seatsIn (entriesIn n bytes)) sound-ordered sound-known)
 
+  pub sound-many : length (seats n mask) ≡ k n
+  sound-many = ap length sound-seats ∙ length-map (entriesIn n bytes) (λ (e : Entry). e .seat) ∙ length-entries-read (k n) bytes
+
   module _ (s : ℕ) (l : s < n) (i : In s mask) where
     entry-index : size (shared mask (all s)) < k n
     entry-index =
         let f = seats-split n s mask l i in
-        let total : length (seats n mask) ≡ k n =
-        ap length sound-seats ∙ length-map (entriesIn n bytes) (λ (e : Entry). e .seat) ∙ length-entries-read (k n) bytes in
-        omega (arith, count-below s mask, ap length (f .1), length-append (seats s mask) (s ∷ f .0))
+        omega (arith, sound-many, count-below s mask, ap length (f .1), length-append (seats s mask) (s ∷ f .0))
 
     pub entry-inside : entryPlace mask s + signatureLength ≤ length bytes
     unfolding entryPlace fullLength fullEntryAt fullEntryLength signatureLength
@@ -156,3 +157,34 @@ module _ (n : ℕ) (source : Source) (bytes : List ℕ) (readable : Readable n s
     pub slots-signature : source .full ≡ false → p ≡ slotAt n (source .bank) s → (g ≡ signatureFrom n source bytes s) × (length g ≡ signatureLength)
     unfolding signatureFrom slot readSignature
     slots-signature f e = (at ∙ rw (e, f), rw at (length-signature p bytes (slots-inside f e)))
+
+-- ---- a FULL as a source, with `seats` the set of its entries' seats
+
+abbrev pub inFull : ℕ → Source
+inFull seats = record { full = true; bank = 0; seats = seats }
+
+module _ (n : ℕ) (bytes : List ℕ) (full : isFull (read n bytes) ≡ true) where
+  pub full-long : length bytes ≡ fullLength n
+  full-long = full-length n bytes (read-is-full n bytes full .0)
+
+  pub full-value : certificateIn (read n bytes) .value ≡ readValue 4 bytes
+  unfolding certificateIn readFull certificateOf
+  full-value = rw (read-is-full n bytes full .1)
+
+  module _ (known : stranger n (read n bytes) ≡ false) (ordered : disorder (read n bytes) ≡ false) (mask : ℕ) (set : mask ≡ setOf (entrySeats (read n bytes))) where
+    set-in : mask ≡ certificateIn (read n bytes) .seats
+    unfolding certificateIn certificateOf entrySeats readFull
+    set-in = set ∙ rw (read-is-full n bytes full .1)
+
+    sound : Sound n bytes mask
+    sound = record { full = full; known = known; ordered = ordered; set = set-in }
+
+    pub full-readable : Readable n (inFull mask) bytes
+    full-readable = record { inside = sound-lt n bytes mask sound; entries = λ _. sound; slots = λ q. absurd (false≢true (sym q)) }
+
+    pub full-certificate : (value : List ℕ) → value ≡ readValue 4 bytes → certificateFrom n (inFull mask) value bytes ≡ certificateIn (read n bytes)
+    unfolding signatureFrom
+    full-certificate value v = rw (v ∙ sym full-value, set-in)
+
+    pub full-size : size mask ≡ k n
+    full-size = sym (length-seats n mask (sound-lt n bytes mask sound)) ∙ sound-many n bytes mask sound

@@ -1,10 +1,12 @@
 -- A reader over the entries of one message: what each step finds, and what is still to come.
 -- Assumes nothing.
+use mathlib.Core.Bool.{cond}
 use mathlib.Core.List.{List, [], _∷_}
-use Prim.Native.Nat.{ℕ, zero, suc, _+_, _*_, _≤_}
+use Prim.Native.Nat.{ℕ, zero, suc, _+_, _-_, _*_, _≤_}
+use lib.Dec.{leb}
 use lib.ListN.{length}
 use Rattle.quorum.specs.Quorum.{k}
-use Rattle.protocol.specs.Layout.{signatureLength, fullEntryLength, evidenceEntryLength}
+use Rattle.protocol.specs.Layout.{signatureLength, fullEntryLength, fullEntryAt, evidenceEntryLength}
 use Rattle.protocol.specs.Message.{Entry, Pair, byteAt, readEntry, readPair}
 use Rattle.wire.specs.declared.cursor.Cursor.{Cursor}
 use Rattle.wire.specs.declared.cursor.Step.{Step}
@@ -33,6 +35,10 @@ stepAt at (suc left) bytes = step.Entry (byteAt bytes (at + 1)) (at + 2) (record
 
 abbrev pub stepOf : Cursor → List ℕ → Step
 stepOf c bytes = stepAt (c .at) (c .left) bytes
+
+-- the entry at an index of a FULL, counted from 0: one of those that its count says, where its bytes have them all
+unfoldable pub entryAt : ℕ → List ℕ → Step
+entryAt next bytes = cond (leb (fullEntryAt (byteAt bytes 36)) (length bytes)) (stepAt (fullEntryAt next) (byteAt bytes 36 - next) bytes) step.End
 
 -- a step over an EVIDENCE
 abbrev pub pairStepAt : ℕ → ℕ → List ℕ → PairStep

@@ -2,16 +2,18 @@
 -- Assumes nothing.
 use mathlib.Core.Path.{_≡_, refl, sym, ap, _∙_}
 use mathlib.Core.List.{List, [], _∷_, _++_, append-assoc, append-nil}
-use Prim.Native.Nat.{ℕ, zero, suc, _+_, _-_, _*_, _≤_}
+use Prim.Native.Nat.{ℕ, zero, suc, _+_, _-_, _*_, _≤_, _<_}
 use native.Mathlib.Nat.{add-zero, zero-add, mul-suc}
 use native.Mathlib.Omega.{arith}
 use lib.ListN.{length}
+use borrow.Author.Tests.{le-leb, lt-leb}
 use Rattle.quorum.specs.Quorum.{k}
 use Rattle.protocol.specs.Layout.{signatureLength, fullEntryLength, fullEntryAt, fullLength, evidenceEntryLength, evidenceEntryAt, evidenceLength}
 use Rattle.protocol.specs.Message.{Entry, byteAt, readSignature, readEntry, readEntries, readPair, readPairs}
-use Rattle.wire.specs.Walk.{fullStart, evidenceStart, FullWithin, EvidenceWithin, stepAt, pairStepAt, entriesFrom, entriesLeft, pairsFrom, pairsLeft}
+use Rattle.wire.specs.Walk.{fullStart, evidenceStart, FullWithin, EvidenceWithin, stepAt, entryAt, pairStepAt, entriesFrom, entriesLeft, pairsFrom, pairsLeft}
 use Rattle.wire.specs.Writing.{entry, pair}
 use Rattle.wire.specs.declared.cursor.Cursor.{Cursor}
+use Rattle.wire.specs.declared.cursor.Step.{Step}
 use Rattle.wire.specs.declared.cursor.Step.the-variants as step
 use Rattle.wire.specs.declared.cursor.PairStep.the-variants as pairStep
 
@@ -75,6 +77,26 @@ step-within at (suc left) bytes seat signature rest h e =
     let b : at + 2 ≡ signature = cc in
     let c : record { at = at + fullEntryLength; left = left } ≡ rest = cc in
     (omega arith, rw (← c) (omega arith))
+
+-- one entry by its index, as the code finds it: its count's entries aren't all there, it is past them, or it is found
+module _ (bytes : List ℕ) (next count : ℕ) (e : count ≡ byteAt bytes 36) where
+  pub entry-short : length bytes < 37 + 1454 * count → step.End ≡ entryAt next bytes
+  unfolding entryAt fullEntryAt fullEntryLength
+  entry-short h = rw (← e, lt-leb (37 + 1454 * count) (length bytes) h)
+
+  module _ (room : 37 + 1454 * count ≤ length bytes) where
+    pub entry-past : count ≤ next → step.End ≡ entryAt next bytes
+    unfolding entryAt fullEntryAt fullEntryLength
+    entry-past h = rw (← e, le-leb (37 + 1454 * count) (length bytes) room) (step-end (37 + 1454 * next) (count - next) bytes (omega arith))
+
+    pub entry-found : (s : Step) → s ≡ stepAt (37 + 1454 * next) (count - next) bytes → s ≡ entryAt next bytes
+    unfolding entryAt fullEntryAt fullEntryLength
+    entry-found s q = rw (← e, le-leb (37 + 1454 * count) (length bytes) room) q
+
+-- no count: the bytes end before it
+pub entry-none : (bytes : List ℕ) (next : ℕ) → length bytes < 37 → step.End ≡ entryAt next bytes
+unfolding fullEntryAt
+entry-none bytes next h = entry-short bytes next (byteAt bytes 36) refl (omega arith)
 
 -- ---- EVIDENCE, in the same way
 

@@ -3,6 +3,7 @@
 pub mod cursor;
 pub mod held;
 pub mod read;
+pub mod reader;
 pub mod slots;
 pub mod sources;
 pub mod values;

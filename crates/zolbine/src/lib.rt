@@ -2,10 +2,14 @@
 ghost use mathlib.Core.Path.{_≡_};
 ghost use lib.ListN.{length};
 ghost use Rattle.octets.specs.Octets.{patch};
-ghost use Rattle.protocol.specs.Calls.{evidenceCheck};
+ghost use Rattle.protocol.specs.Calls as calls;
 ghost use Rattle.rfc8554.specs.Calls.{checkSignature, makeKey, sign, checks};
 use lms::calls::Written;
 use protocol::Checked;
+use protocol::Made;
+use protocol::Opened;
+use protocol::Record;
+use protocol::Stepped;
 
 #[no_mangle]
 pub extern "C" fn zolbine_check_signature(key: &[u8], message: &[u8], signature: &[u8]) -> u32
@@ -53,7 +57,83 @@ pub extern "C" fn zolbine_check_evidence(
     keys: &[u8],
     evidence: &[u8],
 ) -> Checked
-    ensures { λ r. ⌜ r ≡ evidenceCheck (checks (now (keys .entry)) round) n round (now (keys .entry)) (now (evidence .entry)) ⌝ }
+    ensures { λ r. ⌜ r ≡ calls.evidenceCheck (checks (now (keys .entry)) round) n round (now (keys .entry)) (now (evidence .entry)) ⌝ }
 {
     evidence::check_evidence(n, round, keys, evidence)
+}
+
+#[no_mangle]
+pub extern "C" fn zolbine_make_evidence(
+    n: u32,
+    round: u32,
+    keys: &[u8],
+    first: &[u8],
+    second: &[u8],
+    out: &mut [u8],
+) -> Made
+    ensures answer { λ r. ⌜ r ≡ calls.made (calls.making (checks (now (keys .entry)) round) n round (now (keys .entry)) (now (first .entry)) (now (second .entry)) (now (out .entry))) ⌝ }
+    ensures out { λ _. ⌜ now (out .exit) ≡ calls.outAfter (calls.making (checks (now (keys .entry)) round) n round (now (keys .entry)) (now (first .entry)) (now (second .entry)) (now (out .entry)) .written) (now (out .entry)) ⌝ }
+{
+    evidence::make_evidence(n, round, keys, first, second, out)
+}
+
+#[no_mangle]
+pub extern "C" fn zolbine_open(n: u32, seat: u32, round: u32, keys: &[u8]) -> Opened
+    ensures { λ r. ⌜ r ≡ calls.opening n seat round (now (keys .entry)) ⌝ }
+{
+    confirmer::opening::open(n, seat, round, keys)
+}
+
+#[no_mangle]
+pub extern "C" fn zolbine_submit(
+    unit: Record,
+    keys: &[u8],
+    store: &mut [u8],
+    value: &[u8],
+    signature: &[u8],
+    out: &mut [u8],
+) -> Stepped
+    ensures answer { λ r. ⌜ r ≡ calls.answer (calls.submit (checks (now (keys .entry)) (unit .round)) (now (keys .entry)) unit (now (store .entry)) (now (value .entry)) (now (signature .entry)) (now (out .entry))) ⌝ }
+    ensures store { λ _. ⌜ now (store .exit) ≡ calls.submit (checks (now (keys .entry)) (unit .round)) (now (keys .entry)) unit (now (store .entry)) (now (value .entry)) (now (signature .entry)) (now (out .entry)) .store ⌝ }
+    ensures out { λ _. ⌜ now (out .exit) ≡ calls.outAfter (calls.submit (checks (now (keys .entry)) (unit .round)) (now (keys .entry)) unit (now (store .entry)) (now (value .entry)) (now (signature .entry)) (now (out .entry)) .written) (now (out .entry)) ⌝ }
+{
+    confirmer::calls::submit(unit, keys, store, value, signature, out)
+}
+
+#[no_mangle]
+pub extern "C" fn zolbine_step(
+    unit: Record,
+    keys: &[u8],
+    store: &mut [u8],
+    message: &[u8],
+    out: &mut [u8],
+) -> Stepped
+    ensures answer { λ r. ⌜ r ≡ calls.answer (calls.step (checks (now (keys .entry)) (unit .round)) (now (keys .entry)) unit (now (store .entry)) (now (message .entry)) (now (out .entry))) ⌝ }
+    ensures store { λ _. ⌜ now (store .exit) ≡ calls.step (checks (now (keys .entry)) (unit .round)) (now (keys .entry)) unit (now (store .entry)) (now (message .entry)) (now (out .entry)) .store ⌝ }
+    ensures out { λ _. ⌜ now (out .exit) ≡ calls.outAfter (calls.step (checks (now (keys .entry)) (unit .round)) (now (keys .entry)) unit (now (store .entry)) (now (message .entry)) (now (out .entry)) .written) (now (out .entry)) ⌝ }
+{
+    confirmer::calls::step(unit, keys, store, message, out)
+}
+
+// "a thin entry takes the record lent and overwrites it with the stepped one"
+#[no_mangle]
+pub extern "C" fn zolbine_step_lent(
+    unit: &mut Record,
+    keys: &[u8],
+    store: &mut [u8],
+    message: &[u8],
+    out: &mut [u8],
+) -> Made
+    ensures number { λ r. ⌜ r .number ≡ calls.step (checks (now (keys .entry)) (now (unit .entry) .round)) (now (keys .entry)) (now (unit .entry)) (now (store .entry)) (now (message .entry)) (now (out .entry)) .refusal ⌝ }
+    ensures written { λ r. ⌜ r .written ≡ length (calls.step (checks (now (keys .entry)) (now (unit .entry) .round)) (now (keys .entry)) (now (unit .entry)) (now (store .entry)) (now (message .entry)) (now (out .entry)) .written) ⌝ }
+    ensures unit { λ _. ⌜ now (unit .exit) ≡ calls.step (checks (now (keys .entry)) (now (unit .entry) .round)) (now (keys .entry)) (now (unit .entry)) (now (store .entry)) (now (message .entry)) (now (out .entry)) .unit ⌝ }
+    ensures store { λ _. ⌜ now (store .exit) ≡ calls.step (checks (now (keys .entry)) (now (unit .entry) .round)) (now (keys .entry)) (now (unit .entry)) (now (store .entry)) (now (message .entry)) (now (out .entry)) .store ⌝ }
+    ensures out { λ _. ⌜ now (out .exit) ≡ calls.outAfter (calls.step (checks (now (keys .entry)) (now (unit .entry) .round)) (now (keys .entry)) (now (unit .entry)) (now (store .entry)) (now (message .entry)) (now (out .entry)) .written) (now (out .entry)) ⌝ }
+{
+    let a = confirmer::calls::step(*unit, keys, store, message, out);
+    *unit = a.unit;
+    Made {
+        number: a.number,
+        written: a.written,
+    }
 }

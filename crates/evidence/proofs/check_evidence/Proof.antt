@@ -1,67 +1,97 @@
-use mathlib.Core.Path.{sym, _∙_}
 use denote.Ref.{now}
 use Rattle.rfc8554.specs.Calls.{checks}
 use Rattle.fleet.specs.Laws.{size-most, size-some}
-use Rattle.evidence.specs.Returns.{outside-refused, outside-passed, form-refused, form-passed}
+use Rattle.protocol.specs.Message.{read}
+use Rattle.validate.specs.Conditions.{outside-passed}
+use Rattle.evidence.specs.Kinds.{evidence-told}
+use Rattle.evidence.specs.Returns.{outside-refused, form-refused, form-right}
 use borrow.Author.Needs.{needs}
 use Rattle.evidence.proofs.check_evidence.Statement.{statement}
 use Rattle.evidence.proofs.check_evidence.Tie as tie
 use Rattle.evidence.proofs.check_evidence.Reads as reads
 use Rattle.evidence.proofs.check_evidence.Lts as lts
 use Rattle.evidence.proofs.check_signatures.Reads as check-signatures-reads
-use Rattle.evidence.proofs.form_refusal.Reads as form-refusal-reads
-use Rattle.evidence.proofs.outside_refusal.Reads as outside-refusal-reads
+use Rattle.evidence.proofs.is_evidence.Reads as is-evidence-reads
+use Rattle.validate.proofs.form_refusal.Reads as form-refusal-reads
+use Rattle.validate.proofs.outside_refusal.Reads as outside-refusal-reads
 use Rattle.wire.proofs.read.classify.Reads as classify-reads
 
--- src/lib.rt:142:9
+-- src/lib.rt:64:9
 outside-refusal-requires : tie.Need-outside-refusal-requires
 outside-refusal-requires c κs = search needs
 
--- src/lib.rt:144:9
+-- src/lib.rt:66:9
 returns : tie.Need-returns
 returns c =
-    let args = c .before .before .before .before .args in
-    let keys = now (args .keys) in
-    let m = now (args .evidence) in
-    outside-refused (checks keys (args .round)) (args .n) (args .round) keys m (c .before .outside-refusal .result) (c .before .outside-refusal .ensures) (c .if1 .taken)
+    let start = c .before .before .before .before in
+    let n = start .args .n in
+    let round = start .args .round in
+    let keys = now (start .args .keys) in
+    let m = now (start .args .evidence) in
+    let outside = c .before .outside-refusal in
+    outside-refused (checks keys round) n round keys m (outside .result) (outside .ensures) (c .if1 .taken)
 
--- src/lib.rt:149:9
+-- src/lib.rt:71:9
 classify-requires : tie.Need-classify-requires
 classify-requires c κs =
-    let args = c .before .before .before .before .args in
-    let keys = now (args .keys) in
-    let m = now (args .evidence) in
-    let given = outside-passed (checks keys (args .round)) (args .n) (args .round) keys m (sym (c .before .outside-refusal .ensures) ∙ c .if1 .left) in
-    (size-some (args .n) (given .size), size-most (args .n) (given .size))
+    let start = c .before .before .before .before in
+    let n = start .args .n in
+    let round = start .args .round in
+    let keys = now (start .args .keys) in
+    let m = now (start .args .evidence) in
+    let outside = c .before .outside-refusal in
+    let given = outside-passed n round (outside .result) keys (outside .ensures) (c .if1 .left) in
+    (size-some n (given .size), size-most n (given .size))
 
--- src/lib.rt:150:9
+-- src/lib.rt:72:9
+is-evidence-requires : tie.Need-is-evidence-requires
+is-evidence-requires c κs = search needs
+
+-- src/lib.rt:73:9
 form-refusal-requires : tie.Need-form-refusal-requires
 form-refusal-requires c κs =
-    let args = c .before .before .before .before .before .args in
-    let keys = now (args .keys) in
-    let m = now (args .evidence) in
-    let given = outside-passed (checks keys (args .round)) (args .n) (args .round) keys m (sym (c .before .before .outside-refusal .ensures) ∙ c .before .if1 .left) in
-    (size-some (args .n) (given .size), size-most (args .n) (given .size), c .classify .ensures)
+    let start = c .before .before .before .before .before .before in
+    let n = start .args .n in
+    let round = start .args .round in
+    let keys = now (start .args .keys) in
+    let m = now (start .args .evidence) in
+    let outside = c .before .before .before .outside-refusal in
+    let given = outside-passed n round (outside .result) keys (outside .ensures) (c .before .before .if1 .left) in
+    (size-some n (given .size), size-most n (given .size), c .before .classify .ensures)
 
--- src/lib.rt:152:9
+-- src/lib.rt:75:9
 returns-2 : tie.Need-returns-2
 returns-2 c =
-    let args = c .before .before .before .before .before .before .before .args in
-    let keys = now (args .keys) in
-    let m = now (args .evidence) in
-    let given = outside-passed (checks keys (args .round)) (args .n) (args .round) keys m (sym (c .before .before .before .before .outside-refusal .ensures) ∙ c .before .before .before .if1 .left) in
-    form-refused (checks keys (args .round)) (args .n) (args .round) keys m given (c .before .form-refusal .result) (c .before .form-refusal .ensures) (c .if2 .taken)
+    let start = c .before .before .before .before .before .before .before .before in
+    let n = start .args .n in
+    let round = start .args .round in
+    let keys = now (start .args .keys) in
+    let m = now (start .args .evidence) in
+    let outside = c .before .before .before .before .before .outside-refusal in
+    let given = outside-passed n round (outside .result) keys (outside .ensures) (c .before .before .before .before .if1 .left) in
+    let kind = c .before .before .before .classify in
+    let taken = c .before .before .is-evidence in
+    let form = c .before .form-refusal in
+    let is = evidence-told (read n m) (kind .result) (kind .ensures) (taken .result) (taken .ensures) in
+    form-refused (checks keys round) n round keys m given (form .result) (taken .result) is (form .ensures) (c .if2 .taken)
 
--- src/lib.rt:157:5
+-- src/lib.rt:80:5
 check-signatures-requires : tie.Need-check-signatures-requires
 check-signatures-requires c κs =
-    let args = c .before .before .before .before .before .before .before .args in
-    let keys = now (args .keys) in
-    let m = now (args .evidence) in
-    let given = outside-passed (checks keys (args .round)) (args .n) (args .round) keys m (sym (c .before .before .before .before .outside-refusal .ensures) ∙ c .before .before .before .if1 .left) in
-    (c .before .before .classify .ensures, form-passed (checks keys (args .round)) (args .n) (args .round) keys m given (sym (c .before .form-refusal .ensures) ∙ c .if2 .left))
+    let start = c .before .before .before .before .before .before .before .before in
+    let n = start .args .n in
+    let round = start .args .round in
+    let keys = now (start .args .keys) in
+    let m = now (start .args .evidence) in
+    let outside = c .before .before .before .before .before .outside-refusal in
+    let given = outside-passed n round (outside .result) keys (outside .ensures) (c .before .before .before .before .if1 .left) in
+    let kind = c .before .before .before .classify in
+    let taken = c .before .before .is-evidence in
+    let form = c .before .form-refusal in
+    let is = evidence-told (read n m) (kind .result) (kind .ensures) (taken .result) (taken .ensures) in
+    (kind .ensures, given, form-right (checks keys round) n round keys m given (form .result) (taken .result) is (form .ensures) (c .if2 .left))
 
--- src/lib.rt:139:1
+-- src/lib.rt:61:1
 returns-3 : tie.Need-returns-3
 returns-3 c = search needs
 
@@ -72,6 +102,7 @@ check-evidence-spec =
     outside-refusal-requires
     returns
     classify-requires
+    is-evidence-requires
     form-refusal-requires
     returns-2
     check-signatures-requires

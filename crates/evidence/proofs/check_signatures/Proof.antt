@@ -2,22 +2,23 @@ use mathlib.Core.Path.{sym, _∙_}
 use denote.Ref.{now}
 use Rattle.rfc8554.specs.Calls.{checks}
 use Rattle.fleet.specs.Laws.{size-most, size-some}
-use Rattle.evidence.specs.Returns.{signature-refused, order-refused, accepted, formed-taken, round-in}
+use Rattle.validate.specs.Conditions.{round-in}
+use Rattle.evidence.specs.Returns.{signature-refused, order-refused, accepted, formed-taken}
 use borrow.Author.Needs.{needs}
 use Rattle.evidence.proofs.check_signatures.Statement.{statement}
 use Rattle.evidence.proofs.check_signatures.Tie as tie
 use Rattle.evidence.proofs.check_signatures.Reads as reads
 use Rattle.evidence.proofs.check_signatures.Lts as lts
-use Rattle.evidence.proofs.has_bad_signature.Reads as has-bad-signature-reads
 use Rattle.evidence.proofs.is_out_of_order.Reads as is-out-of-order-reads
 use Rattle.sha256.proofs.constants.round_constants.Reads as round-constants-reads
+use Rattle.validate.proofs.has_bad_signature.Reads as has-bad-signature-reads
 use Rattle.wire.proofs.read.entry_set.Reads as entry-set-reads
 
--- src/lib.rt:120:13
+-- src/lib.rt:42:13
 round-constants-requires : tie.Need-round-constants-requires
 round-constants-requires c κs = search needs
 
--- src/lib.rt:121:8
+-- src/lib.rt:43:8
 has-bad-signature-requires : tie.Need-has-bad-signature-requires
 has-bad-signature-requires c κs =
     let start = c .before .before .before .before in
@@ -25,10 +26,10 @@ has-bad-signature-requires c κs =
     let round = start .args .round in
     let keys = now (start .args .keys) in
     let m = now (start .args .m) in
-    let formed = start .pre .1 in
-    (c .before .round-constants .ensures, size-most n (formed .size), formed .table, round-in round (formed .turn), formed-taken n round keys m (start .args .kind) (start .pre .0) formed)
+    let given = start .pre .1 in
+    (c .before .round-constants .ensures, size-some n (given .size), size-most n (given .size), given .table, round-in round (given .turn), start .pre .0, start .pre .2 .known)
 
--- src/lib.rt:122:9
+-- src/lib.rt:44:9
 returns : tie.Need-returns
 returns c =
     let start = c .before .before .before .before .before .before in
@@ -36,10 +37,9 @@ returns c =
     let round = start .args .round in
     let keys = now (start .args .keys) in
     let m = now (start .args .m) in
-    let formed = start .pre .1 in
-    signature-refused (checks keys round) n round keys m formed (sym (c .before .has-bad-signature .ensures) ∙ c .if1 .taken)
+    signature-refused (checks keys round) n round keys m (start .pre .1) (start .pre .2) (sym (c .before .has-bad-signature .ensures) ∙ c .if1 .taken)
 
--- src/lib.rt:127:8
+-- src/lib.rt:49:8
 is-out-of-order-requires : tie.Need-is-out-of-order-requires
 is-out-of-order-requires c κs =
     let start = c .before .before .before .before .before .before in
@@ -47,10 +47,9 @@ is-out-of-order-requires c κs =
     let round = start .args .round in
     let keys = now (start .args .keys) in
     let m = now (start .args .m) in
-    let formed = start .pre .1 in
-    formed-taken n round keys m (start .args .kind) (start .pre .0) formed
+    formed-taken n round m (start .args .kind) (start .pre .0) (start .pre .2)
 
--- src/lib.rt:128:9
+-- src/lib.rt:50:9
 returns-2 : tie.Need-returns-2
 returns-2 c =
     let start = c .before .before .before .before .before .before .before .before in
@@ -58,21 +57,17 @@ returns-2 c =
     let round = start .args .round in
     let keys = now (start .args .keys) in
     let m = now (start .args .m) in
-    let formed = start .pre .1 in
-    order-refused (checks keys round) n round keys m formed (sym (c .before .before .before .has-bad-signature .ensures) ∙ c .before .before .if1 .left) (sym (c .before .is-out-of-order .ensures) ∙ c .if2 .taken)
+    order-refused (checks keys round) n round keys m (start .pre .1) (start .pre .2) (sym (c .before .before .before .has-bad-signature .ensures) ∙ c .before .before .if1 .left) (sym (c .before .is-out-of-order .ensures) ∙ c .if2 .taken)
 
--- src/lib.rt:133:9
+-- src/lib.rt:55:9
 entry-set-requires : tie.Need-entry-set-requires
 entry-set-requires c κs =
     let start = c .before .before .before .before .before .before .before .before in
     let n = start .args .n in
-    let round = start .args .round in
-    let keys = now (start .args .keys) in
-    let m = now (start .args .m) in
-    let formed = start .pre .1 in
-    (size-some n (formed .size), size-most n (formed .size), start .pre .0, formed .known)
+    let given = start .pre .1 in
+    (size-some n (given .size), size-most n (given .size), start .pre .0, start .pre .2 .known)
 
--- src/lib.rt:116:1
+-- src/lib.rt:38:1
 returns-3 : tie.Need-returns-3
 returns-3 c =
     let start = c .before .before .before .before .before .before .before .before .before in
@@ -80,8 +75,7 @@ returns-3 c =
     let round = start .args .round in
     let keys = now (start .args .keys) in
     let m = now (start .args .m) in
-    let formed = start .pre .1 in
-    accepted (checks keys round) n round keys m formed (sym (c .before .before .before .before .has-bad-signature .ensures) ∙ c .before .before .before .if1 .left) (sym (c .before .before .is-out-of-order .ensures) ∙ c .before .if2 .left) (c .entry-set .result) (c .entry-set .ensures)
+    accepted (checks keys round) n round keys m (start .pre .1) (start .pre .2) (sym (c .before .before .before .before .has-bad-signature .ensures) ∙ c .before .before .before .if1 .left) (sym (c .before .before .is-out-of-order .ensures) ∙ c .before .if2 .left) (c .entry-set .result) (c .entry-set .ensures)
 
 pub check-signatures-spec : {M : Type 1} → statement M
 check-signatures-spec =

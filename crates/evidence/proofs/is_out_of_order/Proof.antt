@@ -1,7 +1,7 @@
 use native.Mathlib.Omega.{arith}
 use denote.Ref.{now}
 use Rattle.protocol.specs.Layout.{evidenceLength, evidenceEntryAt}
-use Rattle.evidence.specs.Taken.{order-is}
+use Rattle.evidence.specs.Returns.{order-is}
 use borrow.Author.Needs.{needs}
 use Rattle.evidence.proofs.is_out_of_order.Statement.{statement}
 use Rattle.evidence.proofs.is_out_of_order.Tie as tie

@@ -1,11 +1,12 @@
 use mathlib.Core.Path.{sym, _∙_}
-use Rattle.confirmer.specs.Records.{in-range, impossible-range, impossible-parts}
+use Rattle.phases.specs.Records.{in-range}
+use Rattle.confirmer.specs.Impossible.{impossible-range, impossible-parts}
 use borrow.Author.Needs.{needs}
 use Rattle.confirmer.proofs.record.is_impossible.Statement.{statement}
 use Rattle.confirmer.proofs.record.is_impossible.Tie as tie
 use Rattle.confirmer.proofs.record.is_impossible.Reads as reads
 use Rattle.confirmer.proofs.record.is_impossible.Lts as lts
-use Rattle.confirmer.proofs.record.either.Reads as either-reads
+use Rattle.phases.proofs.bools.either.Reads as either-reads
 use Rattle.confirmer.proofs.record.out_of_range.Reads as out-of-range-reads
 use Rattle.confirmer.proofs.record.wrong_guilty.Reads as wrong-guilty-reads
 use Rattle.confirmer.proofs.record.wrong_parts.Reads as wrong-parts-reads

@@ -4,8 +4,8 @@ use Rattle.confirmer.proofs.record.lacks_first.Statement.{statement}
 use Rattle.confirmer.proofs.record.lacks_first.Tie as tie
 use Rattle.confirmer.proofs.record.lacks_first.Reads as reads
 use Rattle.confirmer.proofs.record.lacks_first.Lts as lts
-use Rattle.confirmer.proofs.record.both.Reads as both-reads
-use Rattle.confirmer.proofs.record.either.Reads as either-reads
+use Rattle.phases.proofs.bools.both.Reads as both-reads
+use Rattle.phases.proofs.bools.either.Reads as either-reads
 
 -- src/record.rt:93:9
 either-requires : tie.Need-either-requires

@@ -4,7 +4,7 @@ use Rattle.confirmer.proofs.record.names_stranger.Statement.{statement}
 use Rattle.confirmer.proofs.record.names_stranger.Tie as tie
 use Rattle.confirmer.proofs.record.names_stranger.Reads as reads
 use Rattle.confirmer.proofs.record.names_stranger.Lts as lts
-use Rattle.confirmer.proofs.record.either.Reads as either-reads
+use Rattle.phases.proofs.bools.either.Reads as either-reads
 use Rattle.quorum.proofs.names_outside.Reads as names-outside-reads
 
 -- src/record.rt:52:9

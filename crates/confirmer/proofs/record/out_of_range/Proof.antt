@@ -4,7 +4,7 @@ use Rattle.confirmer.proofs.record.out_of_range.Statement.{statement}
 use Rattle.confirmer.proofs.record.out_of_range.Tie as tie
 use Rattle.confirmer.proofs.record.out_of_range.Reads as reads
 use Rattle.confirmer.proofs.record.out_of_range.Lts as lts
-use Rattle.confirmer.proofs.record.either.Reads as either-reads
+use Rattle.phases.proofs.bools.either.Reads as either-reads
 use Rattle.fleet.proofs.wrong_round.Reads as wrong-round-reads
 use Rattle.fleet.proofs.wrong_seat.Reads as wrong-seat-reads
 use Rattle.fleet.proofs.wrong_size.Reads as wrong-size-reads

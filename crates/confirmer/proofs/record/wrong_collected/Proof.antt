@@ -4,8 +4,8 @@ use Rattle.confirmer.proofs.record.wrong_collected.Statement.{statement
 use Rattle.confirmer.proofs.record.wrong_collected.Tie as tie
 use Rattle.confirmer.proofs.record.wrong_collected.Reads as reads
 use Rattle.confirmer.proofs.record.wrong_collected.Lts as lts
-use Rattle.confirmer.proofs.record.both.Reads as both-reads
-use Rattle.confirmer.proofs.record.either.Reads as either-reads
+use Rattle.phases.proofs.bools.both.Reads as both-reads
+use Rattle.phases.proofs.bools.either.Reads as either-reads
 use Rattle.quorum.proofs.has.Reads as has-reads
 use Rattle.quorum.proofs.k.Reads as k-reads
 use Rattle.quorum.proofs.size.Reads as size-reads

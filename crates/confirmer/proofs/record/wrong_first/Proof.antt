@@ -4,7 +4,7 @@ use Rattle.confirmer.proofs.record.wrong_first.Statement.{statement}
 use Rattle.confirmer.proofs.record.wrong_first.Tie as tie
 use Rattle.confirmer.proofs.record.wrong_first.Reads as reads
 use Rattle.confirmer.proofs.record.wrong_first.Lts as lts
-use Rattle.confirmer.proofs.record.both.Reads as both-reads
+use Rattle.phases.proofs.bools.both.Reads as both-reads
 use Rattle.quorum.proofs.k.Reads as k-reads
 use Rattle.quorum.proofs.size.Reads as size-reads
 

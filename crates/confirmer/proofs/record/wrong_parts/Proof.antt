@@ -4,7 +4,7 @@ use Rattle.confirmer.proofs.record.wrong_parts.Statement.{statement}
 use Rattle.confirmer.proofs.record.wrong_parts.Tie as tie
 use Rattle.confirmer.proofs.record.wrong_parts.Reads as reads
 use Rattle.confirmer.proofs.record.wrong_parts.Lts as lts
-use Rattle.confirmer.proofs.record.either.Reads as either-reads
+use Rattle.phases.proofs.bools.either.Reads as either-reads
 use Rattle.confirmer.proofs.record.lacks_first.Reads as lacks-first-reads
 use Rattle.confirmer.proofs.record.names_stranger.Reads as names-stranger-reads
 use Rattle.confirmer.proofs.record.wrong_collected.Reads as wrong-collected-reads

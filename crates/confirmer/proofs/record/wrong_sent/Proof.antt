@@ -4,7 +4,7 @@ use Rattle.confirmer.proofs.record.wrong_sent.Statement.{statement}
 use Rattle.confirmer.proofs.record.wrong_sent.Tie as tie
 use Rattle.confirmer.proofs.record.wrong_sent.Reads as reads
 use Rattle.confirmer.proofs.record.wrong_sent.Lts as lts
-use Rattle.confirmer.proofs.record.both.Reads as both-reads
+use Rattle.phases.proofs.bools.both.Reads as both-reads
 
 -- src/record.rt:109:5
 both-requires : tie.Need-both-requires

@@ -1,11 +1,11 @@
-use Rattle.confirmer.specs.Records.{unset-parts}
+use Rattle.confirmer.specs.Impossible.{unset-parts}
 use borrow.Author.Needs.{needs}
 use Rattle.confirmer.proofs.record.wrong_unset.Statement.{statement}
 use Rattle.confirmer.proofs.record.wrong_unset.Tie as tie
 use Rattle.confirmer.proofs.record.wrong_unset.Reads as reads
 use Rattle.confirmer.proofs.record.wrong_unset.Lts as lts
-use Rattle.confirmer.proofs.record.both.Reads as both-reads
-use Rattle.confirmer.proofs.record.either.Reads as either-reads
+use Rattle.phases.proofs.bools.both.Reads as both-reads
+use Rattle.phases.proofs.bools.either.Reads as either-reads
 use Rattle.confirmer.proofs.record.is_unset.Reads as is-unset-reads
 
 -- src/record.rt:119:9

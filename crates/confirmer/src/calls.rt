@@ -1,0 +1,86 @@
+// Submit and step as whole calls: what is turned back, then the phases.
+ghost use mathlib.Core.Path.{_≡_};
+ghost use Prim.Native.Nat.{_^_, _<_};
+ghost use Rattle.rfc8554.specs.Calls.{checks};
+ghost use Rattle.protocol.specs.Calls as calls;
+ghost use Rattle.confirmer.specs.Returns.{answered};
+use crate::refusals::message_refusal;
+use crate::refusals::out_length;
+use crate::refusals::own_refusal;
+use crate::refusals::record_refusal;
+use phases::steps::Phase;
+use phases::steps::step_phase;
+use phases::steps::submit_phase;
+use protocol::Record;
+use protocol::Stepped;
+
+// What a call answers that is turned back: its number, no byte written, and the record as it was.
+fn turned_back(number: u32, r: Record) -> Stepped
+    ensures { λ a. ⌜ a ≡ answered number 0 r ⌝ }
+{
+    Stepped {
+        number,
+        written: 0,
+        unit: r,
+    }
+}
+
+// What a call answers that isn't: the bytes written, and the record that its phases came to.
+fn done(p: Phase) -> Stepped
+    requires { ⌜ p .at < 2 ^ 32 ⌝ }
+    ensures { λ a. ⌜ a ≡ answered 0 (p .at) (p .unit) ⌝ }
+{
+    let unit = p.unit;
+    let end = p.at;
+    Stepped {
+        number: 0,
+        written: end as u32,
+        unit,
+    }
+}
+
+// Submit.
+pub fn submit(
+    r: Record,
+    keys: &[u8],
+    store: &mut [u8],
+    value: &[u8],
+    signature: &[u8],
+    out: &mut [u8],
+) -> Stepped
+    ensures answer { λ a. ⌜ a ≡ calls.answer (calls.submit (checks (now (keys .entry)) (r .round)) (now (keys .entry)) r (now (store .entry)) (now (value .entry)) (now (signature .entry)) (now (out .entry))) ⌝ }
+    ensures store { λ _. ⌜ now (store .exit) ≡ calls.submit (checks (now (keys .entry)) (r .round)) (now (keys .entry)) r (now (store .entry)) (now (value .entry)) (now (signature .entry)) (now (out .entry)) .store ⌝ }
+    ensures out { λ _. ⌜ now (out .exit) ≡ calls.outAfter (calls.submit (checks (now (keys .entry)) (r .round)) (now (keys .entry)) r (now (store .entry)) (now (value .entry)) (now (signature .entry)) (now (out .entry)) .written) (now (out .entry)) ⌝ }
+{
+    let given = record_refusal(r, keys, store, out);
+    if given != 0 {
+        return turned_back(given, r);
+    }
+    let number = own_refusal(r, keys, value, signature);
+    if number != 0 {
+        return turned_back(number, r);
+    }
+    let room = out_length(r.n);
+    let p = submit_phase(r, store, &mut out[..room], value, signature);
+    done(p)
+}
+
+// A step.
+pub fn step(r: Record, keys: &[u8], store: &mut [u8], message: &[u8], out: &mut [u8]) -> Stepped
+    ensures answer { λ a. ⌜ a ≡ calls.answer (calls.step (checks (now (keys .entry)) (r .round)) (now (keys .entry)) r (now (store .entry)) (now (message .entry)) (now (out .entry))) ⌝ }
+    ensures store { λ _. ⌜ now (store .exit) ≡ calls.step (checks (now (keys .entry)) (r .round)) (now (keys .entry)) r (now (store .entry)) (now (message .entry)) (now (out .entry)) .store ⌝ }
+    ensures out { λ _. ⌜ now (out .exit) ≡ calls.outAfter (calls.step (checks (now (keys .entry)) (r .round)) (now (keys .entry)) r (now (store .entry)) (now (message .entry)) (now (out .entry)) .written) (now (out .entry)) ⌝ }
+{
+    let given = record_refusal(r, keys, store, out);
+    if given != 0 {
+        return turned_back(given, r);
+    }
+    let kind = wire::read::classify(r.n, message);
+    let number = message_refusal(r, keys, kind, message);
+    if number != 0 {
+        return turned_back(number, r);
+    }
+    let room = out_length(r.n);
+    let p = step_phase(r, store, &mut out[..room], kind, message);
+    done(p)
+}

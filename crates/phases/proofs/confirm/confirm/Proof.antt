@@ -1,0 +1,42 @@
+use Rattle.phases.specs.Phases.{saying}
+use Rattle.protocol.specs.Step.{confirm, write}
+use Rattle.protocol.specs.Message.{Notice}
+use Rattle.protocol.specs.Record.{withConfirmed}
+use mathlib.Core.Path.{refl}
+use denote.Ref.{now}
+use borrow.Author.Needs.{needs}
+use Rattle.phases.proofs.confirm.confirm.Statement.{statement}
+use Rattle.phases.proofs.confirm.confirm.Tie as tie
+use Rattle.phases.proofs.confirm.confirm.Reads as reads
+use Rattle.phases.proofs.confirm.confirm.Lts as lts
+use Rattle.wire.proofs.write.write_notice.Reads as write-notice-reads
+
+-- src/confirm.rt:31:67
+slice-aggregate-write-notice : tie.Need-slice-aggregate-write-notice
+slice-aggregate-write-notice c = search needs
+
+-- src/confirm.rt:31:9
+write-notice-requires : tie.Need-write-notice-requires
+write-notice-requires c κs = search needs
+
+-- src/confirm.rt:26:1
+same-length : tie.Need-same-length
+same-length c = search needs
+
+-- src/confirm.rt:26:1
+returns : tie.Need-returns
+unfolding confirm write
+returns c =
+    let start = c .before .before .before .before .before .before .before in
+    let args = start .args in
+    let r = args .r in
+    let wrote = c .before .before .write-notice in (
+      λ store.
+          saying confirm r store (Notice (r .round) (r .seat) (r .own .value)) (now (args .out)) (args .at) (withConfirmed r) store (wrote .last .0) (wrote .result) refl
+          (record { recorded = refl; stored = refl }) (wrote .ensures .0),
+      wrote .ensures .1,
+    )
+
+pub confirm-spec : {M : Type 1} → statement M
+confirm-spec =
+    tie.close (tie.spec slice-aggregate-write-notice write-notice-requires same-length returns)

@@ -1,0 +1,9 @@
+-- Laws of the phases' code.
+pub mod Records
+pub mod Phases
+pub mod Hearing
+pub mod Certificates
+pub mod Possible
+pub mod Collecting
+pub mod Confirming
+pub mod Steps

@@ -1,0 +1,36 @@
+// Notices heard.
+ghost use mathlib.Core.Path.{_≡_};
+ghost use Rattle.protocol.specs.Record.{withNotices};
+ghost use Rattle.protocol.specs.Step.{noticesWith};
+use crate::bools::both;
+use protocol::Notices;
+use protocol::Record;
+
+// The notices heard, and now this value: the first is kept.
+fn notices_with(r: Record, value: [u8; 32]) -> Notices
+    ensures { λ q. ⌜ q ≡ noticesWith value r ⌝ }
+{
+    let heard = r.notices.heard;
+    let first = r.notices.value;
+    if heard == 0 {
+        return Notices { heard: 1, value };
+    }
+    let same = wire::values::same(&value, &first);
+    if both(heard == 1, !same) {
+        return Notices {
+            heard: 2,
+            value: first,
+        };
+    }
+    r.notices
+}
+
+// A notice for a value updates the notices heard.
+pub fn hear(r: Record, value: [u8; 32]) -> Record
+    ensures { λ u. ⌜ u ≡ withNotices r (noticesWith value r) ⌝ }
+{
+    let notices = notices_with(r, value);
+    let mut u = r;
+    u.notices = notices;
+    u
+}

@@ -1,0 +1,93 @@
+use mathlib.Core.Path.{_≡_, sym, _∙_}
+use mathlib.Core.Bool.{true, false, not}
+use denote.Ref.{now}
+use Rattle.refusal.specs.Refusal.{lowest}
+use Rattle.protocol.specs.Message.{read}
+use Rattle.protocol.specs.Refusals.{otherRound, stranger, disorder, formConditions}
+use borrow.Author.Needs.{needs}
+use Rattle.validate.proofs.form_refusal.Statement.{statement}
+use Rattle.validate.proofs.form_refusal.Tie as tie
+use Rattle.validate.proofs.form_refusal.Reads as reads
+use Rattle.validate.proofs.form_refusal.Lts as lts
+use Rattle.wire.proofs.read.is_disordered.Reads as is-disordered-reads
+use Rattle.wire.proofs.read.is_stranger.Reads as is-stranger-reads
+use Rattle.wire.proofs.read.other_round.Reads as other-round-reads
+
+-- src/lib.rt:42:9
+returns : tie.Need-returns
+unfolding formConditions lowest
+returns c =
+    let args = c .before .before .args in
+    let m = read (args .n) (now (args .m)) in
+    let t0 : not (args .taken) ≡ true = c .if1 .taken in
+    rw (t0)
+
+-- src/lib.rt:44:8
+other-round-requires : tie.Need-other-round-requires
+other-round-requires c κs = search needs
+
+-- src/lib.rt:45:9
+returns-2 : tie.Need-returns-2
+unfolding formConditions lowest
+returns-2 c =
+    let args = c .before .before .before .before .args in
+    let m = read (args .n) (now (args .m)) in
+    let t0 : not (args .taken) ≡ false = c .before .before .if1 .left in
+    let t1 : otherRound (args .round) m ≡ true = sym (c .before .other-round .ensures) ∙ c .if2 .taken in
+    rw (t0, t1)
+
+-- src/lib.rt:47:8
+is-stranger-requires : tie.Need-is-stranger-requires
+is-stranger-requires c κs = search needs
+
+-- src/lib.rt:48:9
+returns-3 : tie.Need-returns-3
+unfolding formConditions lowest
+returns-3 c =
+    let args = c .before .before .before .before .before .before .args in
+    let m = read (args .n) (now (args .m)) in
+    let t0 : not (args .taken) ≡ false = c .before .before .before .before .if1 .left in
+    let t1 : otherRound (args .round) m ≡ false = sym (c .before .before .before .other-round .ensures) ∙ c .before .before .if2 .left in
+    let t2 : stranger (args .n) m ≡ true = sym (c .before .is-stranger .ensures) ∙ c .if3 .taken in
+    rw (t0, t1, t2)
+
+-- src/lib.rt:50:8
+is-disordered-requires : tie.Need-is-disordered-requires
+is-disordered-requires c κs = search needs
+
+-- src/lib.rt:51:9
+returns-4 : tie.Need-returns-4
+unfolding formConditions lowest
+returns-4 c =
+    let args = c .before .before .before .before .before .before .before .before .args in
+    let m = read (args .n) (now (args .m)) in
+    let t0 : not (args .taken) ≡ false = c .before .before .before .before .before .before .if1 .left in
+    let t1 : otherRound (args .round) m ≡ false = sym (c .before .before .before .before .before .other-round .ensures) ∙ c .before .before .before .before .if2 .left in
+    let t2 : stranger (args .n) m ≡ false = sym (c .before .before .before .is-stranger .ensures) ∙ c .before .before .if3 .left in
+    let t3 : disorder m ≡ true = sym (c .before .is-disordered .ensures) ∙ c .if4 .taken in
+    rw (t0, t1, t2, t3)
+
+-- src/lib.rt:37:1
+returns-5 : tie.Need-returns-5
+unfolding formConditions lowest
+returns-5 c =
+    let args = c .before .before .before .before .before .before .before .before .args in
+    let m = read (args .n) (now (args .m)) in
+    let t0 : not (args .taken) ≡ false = c .before .before .before .before .before .before .if1 .left in
+    let t1 : otherRound (args .round) m ≡ false = sym (c .before .before .before .before .before .other-round .ensures) ∙ c .before .before .before .before .if2 .left in
+    let t2 : stranger (args .n) m ≡ false = sym (c .before .before .before .is-stranger .ensures) ∙ c .before .before .if3 .left in
+    let t3 : disorder m ≡ false = sym (c .before .is-disordered .ensures) ∙ c .if4 .left in
+    rw (t0, t1, t2, t3)
+
+pub form-refusal-spec : {M : Type 1} → statement M
+form-refusal-spec =
+    tie.close
+    (tie.spec
+    returns
+    other-round-requires
+    returns-2
+    is-stranger-requires
+    returns-3
+    is-disordered-requires
+    returns-4
+    returns-5)

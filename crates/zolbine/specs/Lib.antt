@@ -1,0 +1,2 @@
+-- What the exported calls' contracts come to.
+pub mod Refused
