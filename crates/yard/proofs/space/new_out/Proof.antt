@@ -1,0 +1,13 @@
+use mathlib.Core.Path.{refl}
+use Rattle.quorum.specs.Quorum.{t0, k}
+use Rattle.protocol.specs.Layout.{outLength}
+use Rattle.yard.specs.Yard.{yardOut}
+use Rattle.yard.proofs.space.new_out.Statement.{statement}
+use Rattle.yard.proofs.space.new_out.Tie as tie
+
+returns : tie.Need-returns
+unfolding yardOut outLength k t0
+returns c = (refl, refl)
+
+pub new-out-spec : {M : Type 1} → statement M
+new-out-spec = tie.close (tie.spec returns)

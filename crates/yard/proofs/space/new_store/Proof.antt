@@ -1,0 +1,12 @@
+use mathlib.Core.Path.{refl}
+use Rattle.protocol.specs.Layout.{storeLength}
+use Rattle.yard.specs.Yard.{yardStore}
+use Rattle.yard.proofs.space.new_store.Statement.{statement}
+use Rattle.yard.proofs.space.new_store.Tie as tie
+
+returns : tie.Need-returns
+unfolding yardStore storeLength
+returns c = (refl, refl)
+
+pub new-store-spec : {M : Type 1} → statement M
+new-store-spec = tie.close (tie.spec returns)

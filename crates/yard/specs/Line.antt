@@ -1,0 +1,34 @@
+-- What the yard's program prints for a call, in ASCII.
+-- Assumes nothing.
+use Prim.Native.Nat.{ℕ, zero, suc, _+_, _/_, _%_}
+use mathlib.Core.Bool.{cond}
+use mathlib.Core.List.{List, [], _∷_, _++_}
+use lib.Dec.{ltb}
+use lib.ListN.{length, replicate}
+use Rattle.octets.specs.Octets.{patch}
+use Rattle.yard.specs.declared.line.Line.{Line}
+
+-- the digit of a number below ten
+abbrev pub digit : ℕ → ℕ
+digit x = 48 + x
+
+-- a number in decimal, with no zeros in front; `more` bounds the digits after the first
+unfoldable pub decimalIn : ℕ → ℕ → List ℕ
+decimalIn zero x = digit x ∷ []
+decimalIn (suc more) x = cond (ltb x 10) (digit x ∷ []) (decimalIn more (x / 10) ++ (digit (x % 10) ∷ []))
+
+-- no number has more digits after the first than its own worth
+unfoldable pub decimal : ℕ → List ℕ
+decimal x = decimalIn x x
+
+-- "refusal number or 0, a space, bytes written, newline"
+unfoldable pub line : ℕ → ℕ → List ℕ
+line number written = decimal number ++ (32 ∷ []) ++ decimal written ++ (10 ∷ [])
+
+-- a line of two 32-bit numbers has at most so many bytes
+abbrev pub lineLimit : ℕ
+lineLimit = 22
+
+-- the line in a space of that length, zeros after it, with its own length
+unfoldable pub lineWhole : ℕ → ℕ → Line
+lineWhole number written = record { text = patch 0 (line number written) (replicate lineLimit 0); length = length (line number written) }

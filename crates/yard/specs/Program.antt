@@ -1,0 +1,209 @@
+-- What the program comes to, as it reads command by command into fixed buffers: the output that `yard` gives for the whole
+-- input.
+-- Assumes nothing.
+use mathlib.Core.Path.{_≡_, refl}
+use mathlib.Core.Bool.{Bool, true, false, cond}
+use mathlib.Core.List.{List, [], _∷_, _++_}
+use Prim.Native.Nat.{ℕ, zero, suc, _+_, _*_, _≤_, _<_}
+use native.Mathlib.Omega.{arith}
+use native.Mathlib.Decide.{decLt, decLe}
+use lib.Dec.{eqb, ltb, leb}
+use lib.ListN.{length, take, drop, length-take, length-drop}
+use lib.Seq.{getD-take, take-all}
+use borrow.Author.Tests.{ne-eqb, lt-ltb, le-ltb, le-leb, lt-leb}
+use Rattle.protocol.specs.Layout.{signatureLength}
+use Rattle.protocol.specs.Message.{byteAt}
+use Rattle.protocol.specs.Refusals.{Checks, shortOut, recordConditions, submitConditions, stepConditions}
+use Rattle.protocol.specs.Calls.{submit, step}
+use Rattle.protocol.specs.declared.Record.{Record}
+use Rattle.yard.specs.Line.{line}
+use Rattle.yard.specs.Commands.{twoAt, isOpening, isMessage, isSubmit, tooMany, keysOf, openingLength, opened, callLength, turn}
+use Rattle.yard.specs.Yard.{yardStore, yardOut, lineOf, printed, yard}
+
+-- Reads go on until so many bytes are there or the input ends: what is there then, of the input, where some were there before.
+unfoldable pub readOn : List ℕ → ℕ → List ℕ → List ℕ
+readOn have to input = cond (leb to (length have)) have (take to input)
+
+-- A command's bytes as they are read, where `size` is its length as far as its start tells it: one byte, then as many as that
+-- one tells of, then as many as those tell of; none where the input has ended.
+unfoldable pub gathered : (List ℕ → ℕ) → List ℕ → List ℕ
+gathered size [] = []
+gathered size (b ∷ rest) =
+    let have = readOn (b ∷ []) (size (b ∷ [])) (b ∷ rest) in
+    cond (ltb (length have) (size (b ∷ []))) have (readOn have (size have) (b ∷ rest))
+
+module _ (checks : List ℕ → ℕ → Checks) (outs : ℕ → List ℕ) where
+  -- the loop over the commands after the first, of at most so many turns; each turn finds some bytes in the out buffer
+  unfoldable pub ran : ℕ → List ℕ → Record → List ℕ → List ℕ → List ℕ
+  ran zero keys r store input = []
+  ran (suc turns) keys r store input =
+      let bytes = gathered callLength input in
+      let o = turn checks keys r store (outs turns) bytes in
+      cond (eqb (length bytes) 0) [] (lineOf o ++ cond (o .ends) [] (ran turns keys (o .result .unit) (o .result .store) (drop (length bytes) input)))
+
+  unfoldable pub program : ℕ → List ℕ → List ℕ
+  program turns input =
+      let bytes = gathered openingLength input in
+      let o = opened bytes in
+      cond (eqb (length bytes) 0) []
+      (line (o .number) 0 ++ cond (eqb (o .number) 0) (ran turns (keysOf bytes) (o .unit) yardStore (drop (length bytes) input)) [])
+
+-- ---- a command's length is told by its first bytes
+
+cond-by : (b : Bool) (x y z : ℕ) → (b ≡ true → x ≡ y) → cond b x z ≡ cond b y z
+cond-by true x y z h = h refl
+cond-by false x y z h = refl
+
+module _ (m : ℕ) (input : List ℕ) (some : 0 < m) where
+  call-start : (isMessage input ≡ true → 3 ≤ m) → callLength (take m input) ≡ callLength input
+  unfolding callLength
+  call-start h =
+      rw (getD-take m input 0 0 some)
+      (cond-by (isMessage input) (3 + twoAt (take m input) 1) (3 + twoAt input 1) _
+      (λ e. rw (getD-take m input 1 0 (omega (arith, h e)), getD-take m input 2 0 (omega (arith, h e)))))
+
+  opening-start : (isOpening input ≡ true → 2 ≤ m) → openingLength (take m input) ≡ openingLength input
+  unfolding openingLength
+  opening-start h =
+      rw (getD-take m input 0 0 some)
+      (cond-by (isOpening input) (5 + cond (tooMany (take m input)) 0 (56 * byteAt (take m input) 1)) (5 + cond (tooMany input) 0 (56 * byteAt input 1)) 1
+      (λ e. rw (getD-take m input 1 0 (omega (arith, h e)))))
+
+pub call-some : (input : List ℕ) → 1 ≤ callLength input
+unfolding callLength
+call-some input = go (isMessage input) (isSubmit input)
+  where
+    go : (b c : Bool) → 1 ≤ cond b (3 + twoAt input 1) (cond c (1 + 32 + signatureLength) 1)
+    go true c = omega arith
+    go false true = omega arith
+    go false false = omega arith
+
+pub opening-some : (input : List ℕ) → 1 ≤ openingLength input
+unfolding openingLength
+opening-some input = go (isOpening input)
+  where
+    go : (b : Bool) → 1 ≤ cond b (5 + cond (tooMany input) 0 (56 * byteAt input 1)) 1
+    go true = omega arith
+    go false = omega arith
+
+-- the length that a message's first byte tells
+call-first : (b : ℕ) → eqb b 0x11 ≡ true → 3 ≤ callLength (b ∷ [])
+unfolding callLength
+call-first b e = rw e (omega arith)
+
+call-grows : (b : ℕ) (rest : List ℕ) → callLength (b ∷ []) ≤ callLength (b ∷ rest)
+unfolding callLength
+call-grows b rest = go (eqb b 0x11) (eqb b 0x12)
+  where
+    go : (m s : Bool) → cond m 3 (cond s (1 + 32 + signatureLength) 1) ≤ cond m (3 + twoAt (b ∷ rest) 1) (cond s (1 + 32 + signatureLength) 1)
+    go true s = omega arith
+    go false true = omega arith
+    go false false = omega arith
+
+opening-grows : (b : ℕ) (rest : List ℕ) → openingLength (b ∷ []) ≤ openingLength (b ∷ rest)
+unfolding openingLength
+opening-grows b rest = go (eqb b 0x10)
+  where
+    go : (o : Bool) → cond o 5 1 ≤ cond o (5 + cond (tooMany (b ∷ rest)) 0 (56 * byteAt (b ∷ rest) 1)) 1
+    go true = omega arith
+    go false = omega arith
+
+opening-first : (b : ℕ) → eqb b 0x10 ≡ true → 5 ≤ openingLength (b ∷ [])
+unfolding openingLength
+opening-first b e = rw e (omega arith)
+
+read-more : (input : List ℕ) (n m : ℕ) → n ≤ m → readOn (take n input) m input ≡ take m input
+unfolding readOn
+read-more input n m h = go (decLe m (length (take n input)))
+  where
+    go : Dec (m ≤ length (take n input)) → cond (leb m (length (take n input))) (take n input) (take m input) ≡ take m input
+    go (yes l) =
+        let same : n ≡ m = omega (arith, length-take n input) in
+        rw (le-leb m (length (take n input)) l, same)
+    go (no l) = rw (lt-leb m (length (take n input)) (omega arith))
+
+-- where the first byte tells of no more than the whole input does, and of enough to know the rest
+gathered-whole : (size : List ℕ → ℕ) (b : ℕ) (rest : List ℕ) → 1 ≤ size (b ∷ []) → size (b ∷ []) ≤ size (b ∷ rest)
+    → size (take (size (b ∷ [])) (b ∷ rest)) ≡ size (b ∷ rest) → gathered size (b ∷ rest) ≡ take (size (b ∷ rest)) (b ∷ rest)
+unfolding gathered
+gathered-whole size b rest some grows tells =
+    rw (read-more (b ∷ rest) 1 (size (b ∷ [])) some) (go (size (b ∷ [])) refl (decLt (length (take (size (b ∷ [])) (b ∷ rest))) (size (b ∷ []))))
+  where
+    go : (first : ℕ) → first ≡ size (b ∷ []) → Dec (length (take first (b ∷ rest)) < first)
+        → cond (ltb (length (take first (b ∷ rest))) first) (take first (b ∷ rest)) (readOn (take first (b ∷ rest)) (size (take first (b ∷ rest))) (b ∷ rest))
+        ≡ take (size (b ∷ rest)) (b ∷ rest)
+    go first e (yes l) =
+        let ended : length (b ∷ rest) ≤ first = omega (arith, length-take first (b ∷ rest)) in
+        rw (lt-ltb (length (take first (b ∷ rest))) first l, take-all first (b ∷ rest) ended, take-all (size (b ∷ rest)) (b ∷ rest) (omega arith))
+    go first e (no l) =
+        rw (le-ltb (length (take first (b ∷ rest))) first (omega arith), e, tells)
+        (read-more (b ∷ rest) (size (b ∷ [])) (size (b ∷ rest)) grows)
+
+gathered-nothing : (size : List ℕ → ℕ) → gathered size [] ≡ []
+unfolding gathered
+gathered-nothing size = refl
+
+pub gathered-call : (b : ℕ) (rest : List ℕ) → gathered callLength (b ∷ rest) ≡ take (callLength (b ∷ rest)) (b ∷ rest)
+gathered-call b rest =
+    gathered-whole callLength b rest (call-some (b ∷ [])) (call-grows b rest)
+    (call-start (callLength (b ∷ [])) (b ∷ rest) (call-some (b ∷ [])) (λ e. call-first b e))
+
+pub gathered-opening : (b : ℕ) (rest : List ℕ) → gathered openingLength (b ∷ rest) ≡ take (openingLength (b ∷ rest)) (b ∷ rest)
+gathered-opening b rest =
+    gathered-whole openingLength b rest (opening-some (b ∷ [])) (opening-grows b rest)
+    (opening-start (openingLength (b ∷ [])) (b ∷ rest) (opening-some (b ∷ [])) (λ e. omega (arith, opening-first b e)))
+
+-- ---- the run
+
+-- a call looks at no byte of the out buffer
+turn-out : (checks : List ℕ → ℕ → Checks) (keys : List ℕ) (r : Record) (store out out′ bytes : List ℕ) → length out ≡ length out′
+    → turn checks keys r store out bytes ≡ turn checks keys r store out′ bytes
+unfolding turn submit step submitConditions stepConditions recordConditions shortOut
+turn-out checks keys r store out out′ bytes e = rw e
+
+drop-taken : (n : ℕ) (xs : List ℕ) → drop (length (take n xs)) xs ≡ drop n xs
+drop-taken zero xs = refl
+drop-taken (suc n) [] = refl
+drop-taken (suc n) (x ∷ xs) = drop-taken n xs
+
+taken-some : (n b : ℕ) (rest : List ℕ) → 1 ≤ n → eqb (length (take n (b ∷ rest))) 0 ≡ false
+taken-some n b rest h = ne-eqb (length (take n (b ∷ rest))) 0 (λ e. omega (arith, length-take n (b ∷ rest)))
+
+module _ (checks : List ℕ → ℕ → Checks) (outs : ℕ → List ℕ) (long : (i : ℕ) → length (outs i) ≡ length yardOut) where
+  ran-printed : (turns count : ℕ) (keys : List ℕ) (r : Record) (store input : List ℕ) → length input ≤ turns → length input ≤ count
+      → ran checks outs turns keys r store input ≡ printed checks count keys r store input
+  unfolding ran printed
+  ran-printed zero zero keys r store input h l = refl
+  ran-printed zero (suc count) keys r store [] h l = refl
+  ran-printed zero (suc count) keys r store (b ∷ rest) h l = absurd (omega arith)
+  ran-printed (suc turns) zero keys r store [] h l = rw gathered-nothing
+  ran-printed (suc turns) zero keys r store (b ∷ rest) h l = absurd (omega arith)
+  ran-printed (suc turns) (suc count) keys r store [] h l = rw gathered-nothing
+  ran-printed (suc turns) (suc count) keys r store (b ∷ rest) h l =
+      let input = b ∷ rest in
+      let size = callLength input in
+      let o = turn checks keys r store yardOut (take size input) in
+      let less : length (drop size input) ≤ length rest = rw length-drop (omega (arith, call-some input)) in
+      rw (
+        gathered-call b rest,
+        taken-some size b rest (call-some input),
+        drop-taken size input,
+        turn-out checks keys r store (outs turns) yardOut (take size input) (long turns),
+        ran-printed turns count keys (o .result .unit) (o .result .store) (drop size input) (omega arith) (omega arith),
+      )
+
+  -- turns for as many commands as the input has bytes are enough
+  pub program-is-yard : (turns : ℕ) (input : List ℕ) → length input ≤ turns → program checks outs turns input ≡ yard checks input
+  unfolding program yard
+  program-is-yard turns [] h = rw gathered-nothing
+  program-is-yard turns (b ∷ rest) h =
+      let input = b ∷ rest in
+      let size = openingLength input in
+      let bytes = take size input in
+      let less : length (drop size input) ≤ length input = rw length-drop (omega arith) in
+      rw (
+        gathered-opening b rest,
+        taken-some size b rest (opening-some input),
+        drop-taken size input,
+        ran-printed turns (length input) (keysOf bytes) (opened bytes .unit) yardStore (drop size input) (omega arith) (omega arith),
+      )

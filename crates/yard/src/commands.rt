@@ -1,0 +1,151 @@
+// The commands of the yard's program.
+ghost use mathlib.Core.Path.{_≡_};
+ghost use Prim.Native.Nat.{_<_, _≤_};
+ghost use Rattle.rfc8554.specs.Calls.{checks};
+ghost use Rattle.protocol.specs.Message.{byteAt};
+ghost use Rattle.protocol.specs.Calls.{outAfter};
+ghost use Rattle.yard.specs.Commands.{twoAt, keysOf, openingLength, longestOpening, misframedOpening, refusedOpening, opened, callLength, longestCall, misframedCall, turn, told};
+use octets::wide;
+use protocol::Opened;
+use protocol::Record;
+use protocol::Stepped;
+
+// What a command after the first comes to: whether it ends the program, and the answer of its call.
+pub struct Turn {
+    pub ends: bool,
+    pub answer: Stepped,
+}
+
+// The byte at index i, 0 past the end.
+fn byte_at(bytes: &[u8], i: usize) -> u32
+    ensures { λ r. ⌜ (r ≡ byteAt (now (bytes .entry)) i) × (r < 256) ⌝ }
+{
+    if i < bytes.len() {
+        return wide(bytes[i]);
+    }
+    0
+}
+
+// The number of two bytes at index i.
+fn two_at(bytes: &[u8], i: usize) -> u32
+    requires { ⌜ i < 65535 ⌝ }
+    ensures { λ r. ⌜ (r ≡ twoAt (now (bytes .entry)) i) × (r < 65536) ⌝ }
+{
+    byte_at(bytes, i) * 256 + byte_at(bytes, i + 1)
+}
+
+// The length of the first command, by the bytes at its start: after 5 bytes it is known.
+pub fn opening_length(bytes: &[u8]) -> usize
+    ensures { λ r. ⌜ (r ≡ openingLength (now (bytes .entry))) × (r ≤ longestOpening) ⌝ }
+{
+    if byte_at(bytes, 0) != 0x10 {
+        return 1;
+    }
+    let n = byte_at(bytes, 1);
+    if 7 < n {
+        return 5;
+    }
+    (5 + 56 * n) as usize
+}
+
+// The length of a command after the first, by the bytes at its start: after 3 bytes it is known.
+pub fn call_length(bytes: &[u8]) -> usize
+    ensures { λ r. ⌜ (r ≡ callLength (now (bytes .entry))) × (r ≤ longestCall) ⌝ }
+{
+    let command = byte_at(bytes, 0);
+    if command == 0x11 {
+        return (3 + two_at(bytes, 1)) as usize;
+    }
+    if command == 0x12 {
+        return 1485;
+    }
+    1
+}
+
+// The key table of an opening.
+pub fn keys_of(bytes: &[u8]) -> &[u8]
+    ensures { λ r. ⌜ now r ≡ keysOf (now (bytes .entry)) ⌝ }
+{
+    if bytes.len() < 5 {
+        return &bytes[..0];
+    }
+    &bytes[5..]
+}
+
+// Whether the first command is short, or no opening.
+fn is_misframed_opening(bytes: &[u8]) -> bool
+    ensures { λ r. ⌜ r ≡ misframedOpening (now (bytes .entry)) ⌝ }
+{
+    if bytes.len() < opening_length(bytes) {
+        return true;
+    }
+    byte_at(bytes, 0) != 0x10
+}
+
+// An opening turned back: a record of zeros, as one of no seats gives.
+fn refused_opening(number: u32) -> Opened
+    ensures { λ r. ⌜ r ≡ refusedOpening number ⌝ }
+{
+    let none = [0u8; 1];
+    let o = confirmer::opening::open(0, 0, 0, &none);
+    let unit = o.unit;
+    Opened { number, unit }
+}
+
+// The first command, with as many of its bytes as the input has.
+pub fn open(bytes: &[u8]) -> Opened
+    ensures { λ r. ⌜ r ≡ opened (now (bytes .entry)) ⌝ }
+{
+    if is_misframed_opening(bytes) {
+        return refused_opening(refusal::GARBLED);
+    }
+    let n = byte_at(bytes, 1);
+    if 7 < n {
+        return refused_opening(refusal::SIZE);
+    }
+    let seat = byte_at(bytes, 2);
+    let round = two_at(bytes, 3);
+    confirmer::opening::open(n, seat, round, keys_of(bytes))
+}
+
+// Whether a command after the first is short, or no call.
+fn is_misframed_call(bytes: &[u8]) -> bool
+    ensures { λ r. ⌜ r ≡ misframedCall (now (bytes .entry)) ⌝ }
+{
+    if bytes.len() < call_length(bytes) {
+        return true;
+    }
+    let command = byte_at(bytes, 0);
+    if command == 0x11 {
+        return false;
+    }
+    command != 0x12
+}
+
+// A command after the first, with as many of its bytes as the input has.
+pub fn take_turn(r: Record, keys: &[u8], store: &mut [u8], out: &mut [u8], bytes: &[u8]) -> Turn
+    ensures answer { λ t. ⌜ t ≡ told (turn checks (now (keys .entry)) r (now (store .entry)) (now (out .entry)) (now (bytes .entry))) ⌝ }
+    ensures store { λ _. ⌜ now (store .exit) ≡ turn checks (now (keys .entry)) r (now (store .entry)) (now (out .entry)) (now (bytes .entry)) .result .store ⌝ }
+    ensures out { λ _. ⌜ now (out .exit) ≡ outAfter (turn checks (now (keys .entry)) r (now (store .entry)) (now (out .entry)) (now (bytes .entry)) .result .written) (now (out .entry)) ⌝ }
+{
+    if is_misframed_call(bytes) {
+        let answer = Stepped {
+            number: refusal::GARBLED,
+            written: 0,
+            unit: r,
+        };
+        return Turn { ends: true, answer };
+    }
+    if byte_at(bytes, 0) == 0x11 {
+        let answer = confirmer::calls::step(r, keys, store, &bytes[3..], out);
+        return Turn {
+            ends: false,
+            answer,
+        };
+    }
+    let answer = confirmer::calls::submit(r, keys, store, &bytes[1..33], &bytes[33..], out);
+    Turn {
+        ends: false,
+        answer,
+    }
+}

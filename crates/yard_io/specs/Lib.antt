@@ -1,0 +1,2 @@
+-- The room that reading needs.
+pub mod Room
