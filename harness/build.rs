@@ -1,6 +1,7 @@
 //! Compiles plain C with the system's compiler and finds the archives of the proved code that the features ask for.
 
 use std::env;
+use std::ffi::OsStr;
 use std::path::{Path, PathBuf};
 use std::process::Command;
 
@@ -18,13 +19,23 @@ fn plain_c(source: &Path, out: &Path) {
     let version = Command::new(&compiler).arg("--version").output().expect("a C compiler: gcc, or CC names another");
     let version = String::from_utf8_lossy(&version.stdout).lines().next().unwrap_or_default().to_string();
     println!("cargo:rustc-env=PLAIN_C={version} -O3");
-    let object = out.join("plain.o");
-    let mut compile = Command::new(&compiler);
-    compile.args(["-std=c11", "-O3", "-fPIE", "-Wall", "-Wextra", "-c"]).arg(source.join("plain.c"));
-    run(compile.arg("-o").arg(&object));
-    run(Command::new("ar").arg("crs").arg(out.join("libplain.a")).arg(&object));
     println!("cargo:rustc-link-search=native={}", out.display());
-    println!("cargo:rustc-link-lib=static=plain");
+    compiled(&compiler, source, out, "plain");
+    compiled(&compiler, source, out, "stack");
+    if env::var_os("CARGO_FEATURE_LIBCRYPTO").is_some() {
+        compiled(&compiler, source, out, "crypto");
+        println!("cargo:rustc-link-lib=dylib=crypto");
+    }
+}
+
+/// Links the C file of a name.
+fn compiled(compiler: &OsStr, source: &Path, out: &Path, name: &str) {
+    let object = out.join(format!("{name}.o"));
+    let mut compile = Command::new(compiler);
+    compile.args(["-std=c11", "-O3", "-fPIE", "-Wall", "-Wextra", "-c"]).arg(source.join(format!("{name}.c")));
+    run(compile.arg("-o").arg(&object));
+    run(Command::new("ar").arg("crs").arg(out.join(format!("lib{name}_c.a"))).arg(&object));
+    println!("cargo:rustc-link-lib=static={name}_c");
 }
 
 fn run(command: &mut Command) {

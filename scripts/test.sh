@@ -1,5 +1,7 @@
 #!/usr/bin/env bash
-# The gate: `rt ci` over every listed crate, then the static libraries against the harness. The last line is rt ci's own.
+# The gate: `rt ci` over every listed crate, then edits of definitions that must break the claims, then the static libraries
+# and the yard's program against the harness, and the harness against faults planted in its second implementation. The last
+# line is rt ci's own.
 set -euo pipefail
 cd "$(dirname "$0")/.."
 
@@ -8,7 +10,9 @@ trap 'rm -f "$log"' EXIT
 rt ci | tee "$log"
 verdict=$(tail -n 1 "$log")
 
+scripts/mutations.sh
 make --no-print-directory archives
-(cd harness && cargo test --quiet --release --offline --features evidence,probes)
+(cd harness && cargo test --quiet --release --offline --features zolbine,probes,yard)
+(cd harness && cargo test --quiet --release --offline -p mutants)
 
 printf '%s\n' "$verdict"

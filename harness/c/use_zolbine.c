@@ -6,6 +6,16 @@
 
 enum { TREE = 65536, KEY = 56, SIGNATURE = 1452 };
 
+/* The header's structs are laid out as the library's, which src/reference/record.rs has too. */
+_Static_assert(sizeof(struct zolbine_record) == 136, "record");
+_Static_assert(offsetof(struct zolbine_record, own) == 12 && offsetof(struct zolbine_own, value) == 1, "own");
+_Static_assert(offsetof(struct zolbine_own, collected) == 36, "collected");
+_Static_assert(offsetof(struct zolbine_record, confirmed) == 52, "confirmed");
+_Static_assert(offsetof(struct zolbine_record, notices) == 56 && offsetof(struct zolbine_notices, value) == 4, "notices");
+_Static_assert(offsetof(struct zolbine_record, first) == 92 && offsetof(struct zolbine_first, seats) == 32, "first");
+_Static_assert(offsetof(struct zolbine_record, sent) == 128 && offsetof(struct zolbine_record, guilty) == 132, "guilty");
+_Static_assert(sizeof(struct zolbine_opened) == 140 && sizeof(struct zolbine_stepped) == 144, "answers");
+
 /* Seed, identifier and public key of vectors/bc-vectors.txt, types 6 and 4: Bouncy Castle made the key. */
 static const uint8_t SEED[32] = {
     0x9d, 0x0e, 0xce, 0x55, 0xbb, 0xba, 0x22, 0x55, 0x28, 0x3a, 0xc2, 0x39, 0x0d, 0xa9, 0xcb, 0x95,

@@ -28,17 +28,20 @@ pub trait LentStep: Sync {
     fn step_lent(&self, record: &mut Record, keys: &[u8], store: &mut [u8], message: &[u8], out: &mut [u8]) -> Written;
 }
 
-/// What is made of two certificates in hand.
+/// Evidence from two certificates in hand.
 pub trait Making: Sync {
     fn make_evidence(&self, n: u32, round: u32, keys: &[u8], first: &[u8], second: &[u8], out: &mut [u8]) -> Written;
+}
 
+/// The lower of two certificates in hand.
+pub trait Lower: Sync {
     fn lower_certificate<'a>(&self, n: u32, round: u32, keys: &[u8], first: &'a [u8], second: &'a [u8]) -> &'a [u8];
 }
 
 /// All of the calls.
-pub trait Confirmer: EvidenceCheck + Engine + LentStep + Making {}
+pub trait Confirmer: EvidenceCheck + Engine + LentStep + Making + Lower {}
 
-impl<T: EvidenceCheck + Engine + LentStep + Making> Confirmer for T {}
+impl<T: EvidenceCheck + Engine + LentStep + Making + Lower> Confirmer for T {}
 
 /// Gives a type the calls of a module like [`crate::reference`].
 #[macro_export]
@@ -104,7 +107,9 @@ macro_rules! confirmer_of {
             ) -> $crate::reference::calls::Written {
                 $($module)+::evidence::make_evidence(n, round, keys, first, second, out)
             }
+        }
 
+        impl $crate::confirmer::Lower for $subject {
             fn lower_certificate<'a>(
                 &self,
                 n: u32,

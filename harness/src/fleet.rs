@@ -2,6 +2,7 @@
 
 use std::sync::OnceLock;
 
+use crate::compare::progress;
 use crate::keys::Key;
 use crate::memo::Memo;
 use crate::parallel;
@@ -30,7 +31,9 @@ fn keys() -> &'static [Key] {
         let seats: Vec<u32> = (0..32).collect();
         let key =
             |seat: &u32| Key::with_leaves(engine_types(), &rounds(), &mut Rng::new(seed(), &format!("seat {seat}")));
-        parallel::map(&seats, key)
+        let keys = parallel::map(&seats, key);
+        progress("the reference made the keys of 32 seats");
+        keys
     })
 }
 
@@ -120,4 +123,22 @@ pub fn some_seats(n: u32, count: u32, rng: &mut Rng) -> Vec<u32> {
         seats.remove(rng.below(seats.len()));
     }
     seats
+}
+
+/// The fewest double signers that split a fleet of n boats: with half of the others they make up k, on either side.
+pub fn fewest_to_split(n: u32) -> u32 {
+    let k = quorum::k(n);
+    (0..=n).find(|&double| double + (n - double) / 2 >= k).expect("all boats of a fleet are k at least")
+}
+
+#[cfg(test)]
+mod tests {
+    use super::fewest_to_split;
+
+    /// A fleet of less than four has to sign twice as a whole.
+    #[test]
+    fn double_signers_that_split_a_fleet() {
+        assert_eq!([4, 7, 10, 31, 32].map(fewest_to_split), [2, 3, 4, 11, 12]);
+        assert!((1..=3).all(|n| fewest_to_split(n) == n));
+    }
 }

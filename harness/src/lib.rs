@@ -5,6 +5,9 @@ pub mod compare;
 pub mod confirmer;
 pub mod contest;
 pub mod cpu_time;
+#[cfg(feature = "libcrypto")]
+pub mod crypto;
+pub mod demo;
 pub mod digests;
 pub mod fleet;
 pub mod guarded;
@@ -17,5 +20,8 @@ pub mod plain;
 pub mod reference;
 pub mod rng;
 pub mod script;
+pub mod stack;
 pub mod subject;
+pub mod terms;
 pub mod vectors;
+pub mod yard;

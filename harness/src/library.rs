@@ -1,42 +1,19 @@
-//! The proved code: libzolbine.a under the feature `zolbine`, the confirmer's calls in it group by group under
-//! `evidence`, `engine`, `making` and `lent`, and libprobes.a under the feature `probes`.
+//! The proved code: libzolbine.a under the feature `zolbine`, libprobes.a under the feature `probes`.
 
 pub struct Library;
 
 #[cfg(feature = "zolbine")]
-mod signature_calls {
+mod calls {
     use super::Library;
-    use crate::subject::c_calls;
+    use crate::confirmer::{Engine, EvidenceCheck, LentStep, Making};
+    use crate::reference::calls::Written;
+    use crate::reference::record::{Opened, Record, Stepped, Verdict};
+    use crate::subject::{c_calls, c_functions};
 
     c_calls!(Library: zolbine_check_signature, zolbine_make_key, zolbine_sign);
-}
-
-#[cfg(feature = "evidence")]
-mod evidence_calls {
-    use super::Library;
-    use crate::confirmer::EvidenceCheck;
-    use crate::reference::record::Verdict;
-    use crate::subject::c_functions;
 
     c_functions! {
         fn zolbine_check_evidence(n: u32, round: u32, keys: &[u8], evidence: &[u8]) -> Verdict;
-    }
-
-    impl EvidenceCheck for Library {
-        fn check_evidence(&self, n: u32, round: u32, keys: &[u8], evidence: &[u8]) -> Verdict {
-            zolbine_check_evidence(n, round, keys, evidence)
-        }
-    }
-}
-
-#[cfg(feature = "engine")]
-mod engine_calls {
-    use super::Library;
-    use crate::confirmer::Engine;
-    use crate::reference::record::{Opened, Record, Stepped};
-    use crate::subject::c_functions;
-
-    c_functions! {
         fn zolbine_open(n: u32, seat: u32, round: u32, keys: &[u8]) -> Opened;
         fn zolbine_submit(
             record: Record,
@@ -47,6 +24,27 @@ mod engine_calls {
             out: &mut [u8]
         ) -> Stepped;
         fn zolbine_step(record: Record, keys: &[u8], store: &mut [u8], message: &[u8], out: &mut [u8]) -> Stepped;
+        fn zolbine_step_lent(
+            record: &mut Record,
+            keys: &[u8],
+            store: &mut [u8],
+            message: &[u8],
+            out: &mut [u8]
+        ) -> Written;
+        fn zolbine_make_evidence(
+            n: u32,
+            round: u32,
+            keys: &[u8],
+            first: &[u8],
+            second: &[u8],
+            out: &mut [u8]
+        ) -> Written;
+    }
+
+    impl EvidenceCheck for Library {
+        fn check_evidence(&self, n: u32, round: u32, keys: &[u8], evidence: &[u8]) -> Verdict {
+            zolbine_check_evidence(n, round, keys, evidence)
+        }
     }
 
     impl Engine for Library {
@@ -70,25 +68,6 @@ mod engine_calls {
             zolbine_step(record, keys, store, message, out)
         }
     }
-}
-
-#[cfg(feature = "lent")]
-mod lent_calls {
-    use super::Library;
-    use crate::confirmer::LentStep;
-    use crate::reference::calls::Written;
-    use crate::reference::record::Record;
-    use crate::subject::c_functions;
-
-    c_functions! {
-        fn zolbine_step_lent(
-            record: &mut Record,
-            keys: &[u8],
-            store: &mut [u8],
-            message: &[u8],
-            out: &mut [u8]
-        ) -> Written;
-    }
 
     impl LentStep for Library {
         fn step_lent(
@@ -101,33 +80,6 @@ mod lent_calls {
         ) -> Written {
             zolbine_step_lent(record, keys, store, message, out)
         }
-    }
-}
-
-#[cfg(feature = "making")]
-mod making_calls {
-    use super::Library;
-    use crate::confirmer::Making;
-    use crate::reference::calls::Written;
-    use crate::subject::c_functions;
-
-    /// A part of a lent buffer.
-    #[repr(C)]
-    struct Part {
-        start: *const u8,
-        length: usize,
-    }
-
-    c_functions! {
-        fn zolbine_make_evidence(
-            n: u32,
-            round: u32,
-            keys: &[u8],
-            first: &[u8],
-            second: &[u8],
-            out: &mut [u8]
-        ) -> Written;
-        fn zolbine_lower_certificate(n: u32, round: u32, keys: &[u8], first: &[u8], second: &[u8]) -> Part;
     }
 
     impl Making for Library {
@@ -142,38 +94,19 @@ mod making_calls {
         ) -> Written {
             zolbine_make_evidence(n, round, keys, first, second, out)
         }
-
-        fn lower_certificate<'a>(
-            &self,
-            n: u32,
-            round: u32,
-            keys: &[u8],
-            first: &'a [u8],
-            second: &'a [u8],
-        ) -> &'a [u8] {
-            part_of(&[first, second], &zolbine_lower_certificate(n, round, keys, first, second))
-        }
-    }
-
-    /// The part as a slice, once it is known to lie in one of the buffers.
-    fn part_of<'a>(buffers: &[&'a [u8]], part: &Part) -> &'a [u8] {
-        if part.length == 0 {
-            return &[];
-        }
-        let found = buffers.iter().find_map(|buffer| {
-            let start = (part.start as usize).checked_sub(buffer.as_ptr() as usize)?;
-            buffer.get(start..start.checked_add(part.length)?)
-        });
-        found.expect("the answer is a part of a lent buffer")
     }
 }
 
 #[cfg(feature = "probes")]
 mod probes {
     use super::Library;
-    use crate::subject::c_hashes;
+    use crate::subject::{c_functions, c_hashes};
 
     c_hashes!(Library: probe_sha256, probe_compress_many);
+
+    c_functions! {
+        fn probe_signed(q: u32, identifier: &[u8], seed: &[u8], digits: &[u8], out: &mut [u8]) -> u32;
+    }
 
     extern "C" {
         fn probe_t0(n: u32) -> u32;
@@ -187,6 +120,11 @@ mod probes {
 
         pub fn k(&self, n: u32) -> u32 {
             unsafe { probe_k(n) }
+        }
+
+        /// The values of a signature of width 8 for the digits.
+        pub fn signed(&self, q: u32, identifier: &[u8], seed: &[u8], digits: &[u8], out: &mut [u8]) -> u32 {
+            probe_signed(q, identifier, seed, digits, out)
         }
     }
 }
@@ -206,8 +144,7 @@ macro_rules! linked {
 linked! {
     calls: crate::subject::Calls, "zolbine";
     hashes: crate::subject::Hashes, "probes";
-    evidence_check: crate::confirmer::EvidenceCheck, "evidence";
-    engine: crate::confirmer::Engine, "engine";
-    lent_step: crate::confirmer::LentStep, "lent";
-    making: crate::confirmer::Making, "making";
+    evidence_check: crate::confirmer::EvidenceCheck, "zolbine";
+    engine: crate::confirmer::Engine, "zolbine";
+    making: crate::confirmer::Making, "zolbine";
 }

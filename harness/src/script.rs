@@ -1,16 +1,14 @@
 //! Rounds written for a person to read: data/rounds/README.md tells the language.
 
 use std::collections::BTreeMap;
-use std::iter::Peekable;
 
 use crate::compare::equal;
-use crate::confirmer::{Engine, EvidenceCheck, Making};
+use crate::confirmer::{Engine, EvidenceCheck, Lower, Making};
 use crate::fleet::Fleet;
-use crate::hex;
-use crate::reference::messages::Value;
 use crate::reference::record::{First, Notices, Own, Record, Stepped, Verdict};
 use crate::reference::seats::mask;
 use crate::reference::{engine, evidence, store};
+use crate::terms::{change, each_line, each_script, expect, length, number, seats, Terms, Words};
 
 /// The calls that a script is run with.
 #[derive(Clone, Copy)]
@@ -18,6 +16,7 @@ pub struct Calls<'a> {
     pub engine: &'a dyn Engine,
     pub evidence: &'a dyn EvidenceCheck,
     pub making: &'a dyn Making,
+    pub lower: &'a dyn Lower,
 }
 
 /// What stands in `out` and in a store before anything is written there.
@@ -25,32 +24,13 @@ const BLANK: u8 = 0xa5;
 
 /// Runs every script of data/rounds.
 pub fn all(calls: Calls) {
-    let folder = concat!(env!("CARGO_MANIFEST_DIR"), "/data/rounds");
-    let files = std::fs::read_dir(folder).expect(folder).map(|entry| entry.expect(folder).path());
-    let mut scripts: Vec<_> = files.filter(|path| path.extension().is_some_and(|end| end == "txt")).collect();
-    scripts.sort();
-    assert!(!scripts.is_empty(), "no scripts in {folder}");
-    for path in scripts {
-        let text = std::fs::read_to_string(&path).expect("a script");
-        run(&text, calls).unwrap_or_else(|difference| panic!("{}, {difference}", path.display()));
-    }
+    each_script("rounds", |text| run(text, calls));
 }
 
 /// Runs a script, and tells the line at which an answer isn't the expected one.
 pub fn run(text: &str, calls: Calls) -> Result<(), String> {
-    let mut script = Script {
-        calls,
-        fleet: Fleet { n: 0, round: 0 },
-        layouts: BTreeMap::new(),
-        units: BTreeMap::new(),
-        answer: None,
-    };
-    for (number, line) in (1..).zip(text.lines()) {
-        let line = line.split('#').next().unwrap_or_default().replace(',', " , ");
-        if !line.trim().is_empty() {
-            script.line(&line).map_err(|difference| format!("line {number}: {difference}"))?;
-        }
-    }
+    let mut script = Script { calls, terms: Terms::default(), units: BTreeMap::new(), answer: None };
+    each_line(text, |words| script.line(words))?;
     match script.answer {
         None => Ok(()),
         Some(_) => Err("the last call has no expected answer under it".to_string()),
@@ -64,8 +44,7 @@ struct Unit {
 
 struct Script<'a> {
     calls: Calls<'a>,
-    fleet: Fleet,
-    layouts: BTreeMap<String, Value>,
+    terms: Terms,
     units: BTreeMap<u32, Unit>,
     /// The answer of the last call, until it is compared.
     answer: Option<Answer>,
@@ -86,45 +65,27 @@ struct Lent {
     out: Option<usize>,
 }
 
-type Words<'a> = Peekable<std::str::SplitWhitespace<'a>>;
-
 impl Script<'_> {
-    fn line(&mut self, line: &str) -> Result<(), String> {
-        let mut words = line.split_whitespace().peekable();
+    fn line(&mut self, words: &mut Words) -> Result<(), String> {
         if words.next_if_eq(&"=").is_some() {
             let answer = self.answer.take().ok_or("no call stands above this answer")?;
-            self.compare(answer, &mut words)?;
-        } else {
-            if self.answer.is_some() {
-                return Err("the call above has no expected answer".to_string());
-            }
-            self.command(&mut words)?;
+            return self.compare(answer, words);
         }
-        match words.next() {
-            None => Ok(()),
-            Some(word) => Err(format!("`{word}` isn't understood")),
+        if self.answer.is_some() {
+            return Err("the call above has no expected answer".to_string());
         }
+        self.command(words)
     }
 
     fn command(&mut self, words: &mut Words) -> Result<(), String> {
         match words.next().unwrap_or_default() {
-            "fleet" => {
-                self.fleet.n = number(words)?;
-                expect(words, "round")?;
-                self.fleet.round = number(words)?;
-            }
-            "layout" => {
-                let name = words.next().ok_or("a layout has a name")?;
-                let byte = |word: &str| hex::decode(word)[0];
-                let mut value = [byte(words.next().ok_or("a layout has a byte")?); 32];
-                value[31] = words.next().map_or(value[31], byte);
-                self.layouts.insert(name.to_string(), value);
-            }
+            "fleet" => self.terms.set_fleet(words)?,
+            "layout" => self.terms.set_layout(words)?,
             "check" => {
-                let mut message = self.message(words)?;
+                let mut message = self.terms.message(words)?;
                 self.changes(words, &mut message)?;
-                let Fleet { n, round } = self.fleet;
-                let verdict = self.calls.evidence.check_evidence(n, round, &self.fleet.key_table(), &message);
+                let Fleet { n, round } = self.terms.fleet;
+                let verdict = self.calls.evidence.check_evidence(n, round, &self.terms.fleet.key_table(), &message);
                 self.answer = Some(Answer::Named(verdict));
             }
             "join" => self.join(words)?,
@@ -144,8 +105,8 @@ impl Script<'_> {
     }
 
     fn open(&mut self, seat: u32) {
-        let Fleet { n, round } = self.fleet;
-        let opened = self.calls.engine.open(n, seat, round, &self.fleet.key_table());
+        let Fleet { n, round } = self.terms.fleet;
+        let opened = self.calls.engine.open(n, seat, round, &self.terms.fleet.key_table());
         self.answer = Some(Answer::Opened(opened.number));
         if opened.number == 0 {
             self.units.insert(seat, Unit { record: opened.record, store: vec![BLANK; store::length(n)] });
@@ -153,15 +114,15 @@ impl Script<'_> {
     }
 
     fn submit(&mut self, seat: u32, words: &mut Words) -> Result<(), String> {
-        let (value, hand) = self.layout(words)?;
-        let mut signature = self.fleet.signature(seat, &value, hand);
+        let (value, hand) = self.terms.layout(words)?;
+        let mut signature = self.terms.fleet.signature(seat, &value, hand);
         let mut value = value.to_vec();
         let mut lent = Lent::default();
         while let Some(word) = words.next() {
             match word {
                 "signed" => {
-                    let (other, hand) = self.layout(words)?;
-                    signature = self.fleet.signature(seat, &other, hand);
+                    let (other, hand) = self.terms.layout(words)?;
+                    signature = self.terms.fleet.signature(seat, &other, hand);
                 }
                 "value" => value.resize(length(words)?, 0),
                 "signature" => signature.resize(length(words)?, 0),
@@ -173,7 +134,7 @@ impl Script<'_> {
     }
 
     fn step(&mut self, seat: u32, words: &mut Words) -> Result<(), String> {
-        let mut message = self.message(words)?;
+        let mut message = self.terms.message(words)?;
         let lent = self.changes(words, &mut message)?;
         let engine = self.calls.engine;
         self.call(seat, &lent, |record, keys, store, out| engine.step(record, keys, store, &message, out))
@@ -186,8 +147,8 @@ impl Script<'_> {
         lent: &Lent,
         call: impl Fn(Record, &[u8], &mut [u8], &mut [u8]) -> Stepped,
     ) -> Result<(), String> {
-        let n = self.fleet.n;
-        let mut keys = self.fleet.key_table();
+        let n = self.terms.fleet.n;
+        let mut keys = self.terms.fleet.key_table();
         keys.resize(lent.keys.unwrap_or(keys.len()), 0);
         let unit = self.units.get_mut(&seat).ok_or("the unit isn't open")?;
         let mut store = unit.store[..lent.store.unwrap_or(unit.store.len())].to_vec();
@@ -210,9 +171,10 @@ impl Script<'_> {
 
     fn join(&mut self, words: &mut Words) -> Result<(), String> {
         let (first, second, lent) = self.two_certificates(words)?;
-        let Fleet { n, round } = self.fleet;
+        let Fleet { n, round } = self.terms.fleet;
         let mut out = vec![BLANK; lent.out.unwrap_or(evidence::out_length(n))];
-        let answer = self.calls.making.make_evidence(n, round, &self.fleet.key_table(), &first, &second, &mut out);
+        let answer =
+            self.calls.making.make_evidence(n, round, &self.terms.fleet.key_table(), &first, &second, &mut out);
         out.truncate(answer.written as usize);
         self.answer = Some(Answer::Written(answer.number, out));
         Ok(())
@@ -220,8 +182,8 @@ impl Script<'_> {
 
     fn lower(&mut self, words: &mut Words) -> Result<(), String> {
         let (first, second, _) = self.two_certificates(words)?;
-        let Fleet { n, round } = self.fleet;
-        let part = self.calls.making.lower_certificate(n, round, &self.fleet.key_table(), &first, &second);
+        let Fleet { n, round } = self.terms.fleet;
+        let part = self.calls.lower.lower_certificate(n, round, &self.terms.fleet.key_table(), &first, &second);
         let places = [("first", &first), ("second", &second)];
         let whole = places.iter().find(|(_, buffer)| part.as_ptr() == buffer.as_ptr() && part.len() == buffer.len());
         self.answer = Some(Answer::Lower(match whole {
@@ -233,64 +195,20 @@ impl Script<'_> {
     }
 
     fn two_certificates(&self, words: &mut Words) -> Result<(Vec<u8>, Vec<u8>, Lent), String> {
-        let mut first = self.message(words)?;
+        let mut first = self.terms.message(words)?;
         self.changes(words, &mut first)?;
         expect(words, "and")?;
-        let mut second = self.message(words)?;
+        let mut second = self.terms.message(words)?;
         let lent = self.changes(words, &mut second)?;
         Ok((first, second, lent))
-    }
-
-    /// `A`, or `A'` for the other signatures over the same layout.
-    fn layout(&self, words: &mut Words) -> Result<(Value, u32), String> {
-        let word = words.next().ok_or("a layout is missing")?;
-        let (name, hand) = word.strip_suffix('\'').map_or((word, 0), |name| (name, 1));
-        let value = self.layouts.get(name).ok_or_else(|| format!("no layout `{name}`"))?;
-        Ok((*value, hand))
-    }
-
-    fn message(&self, words: &mut Words) -> Result<Vec<u8>, String> {
-        let fleet = self.fleet;
-        Ok(match words.next().unwrap_or_default() {
-            "SUBMIT" => {
-                let seat = number(words)?;
-                let (value, hand) = self.layout(words)?;
-                fleet.submit(seat, &value, hand).write()
-            }
-            "NOTICE" => {
-                let seat = number(words)?;
-                fleet.notice(seat, &self.layout(words)?.0).write()
-            }
-            "FULL" => {
-                let sender = number(words)?;
-                let (value, hand) = self.layout(words)?;
-                expect(words, "of")?;
-                fleet.full(sender, &value, &seats(words), hand).write()
-            }
-            "EVIDENCE" => {
-                let (lower, higher) = (self.layout(words)?, self.layout(words)?);
-                expect(words, "of")?;
-                fleet.evidence((&lower.0, lower.1), (&higher.0, higher.1), &seats(words)).write()
-            }
-            word => return Err(format!("`{word}` is no message")),
-        })
     }
 
     /// What is done to a message before it is heard, and to the lent buffers.
     fn changes(&self, words: &mut Words, message: &mut Vec<u8>) -> Result<Lent, String> {
         let mut lent = Lent::default();
         while let Some(word) = words.next_if(|&word| word != "and") {
-            match word {
-                "byte" => {
-                    let at = number(words)? as usize;
-                    match words.next().unwrap_or_default() {
-                        "flipped" => message[at] ^= 1,
-                        "is" => message[at] = hex::decode(words.next().ok_or("a byte is missing")?)[0],
-                        word => return Err(format!("`{word}`: a byte is set by `is` or it is `flipped`")),
-                    }
-                }
-                "message" => message.resize(length(words)?, 0),
-                word => lent.take(word, words)?,
+            if !change(word, words, message)? {
+                lent.take(word, words)?;
             }
         }
         Ok(lent)
@@ -304,7 +222,7 @@ impl Script<'_> {
                 equal("the bytes written", written.len() as u32, number(words)?)?;
                 let mut expected = Vec::new();
                 while words.peek().is_some() {
-                    expected.extend(self.message(words)?);
+                    expected.extend(self.terms.message(words)?);
                     words.next_if_eq(&",");
                 }
                 equal("the bytes", written == expected, true)
@@ -320,16 +238,16 @@ impl Script<'_> {
 
     /// The whole record: what isn't told is unset.
     fn has(&self, seat: u32, words: &mut Words) -> Result<(), String> {
-        let Fleet { n, round } = self.fleet;
+        let Fleet { n, round } = self.terms.fleet;
         let mut record = Record { n, seat, round, ..Record::default() };
         while let Some(word) = words.next() {
             match word {
                 "nothing" | "," => (),
-                "submitted" => record.own = Own { submitted: true, value: self.layout(words)?.0, ..record.own },
+                "submitted" => record.own = Own { submitted: true, value: self.terms.layout(words)?.0, ..record.own },
                 "collected" => record.own.collected = mask(&seats(words)),
                 "confirmed" => record.confirmed = true,
                 "heard" => {
-                    let value = self.layout(words)?.0;
+                    let value = self.terms.layout(words)?.0;
                     record.notices = Notices { heard: 1, value };
                     if words.next_if_eq(&"and").is_some() {
                         expect(words, "another")?;
@@ -337,7 +255,7 @@ impl Script<'_> {
                     }
                 }
                 "first" => {
-                    let value = self.layout(words)?.0;
+                    let value = self.terms.layout(words)?.0;
                     expect(words, "of")?;
                     record.first = First { value, seats: mask(&seats(words)) };
                 }
@@ -361,34 +279,4 @@ impl Lent {
         }
         Ok(())
     }
-}
-
-fn number(words: &mut Words) -> Result<u32, String> {
-    let word = words.next().unwrap_or_default();
-    word.parse().map_err(|_| format!("`{word}` is no number"))
-}
-
-fn expect(words: &mut Words, expected: &str) -> Result<(), String> {
-    words.next_if_eq(&expected).map(|_| ()).ok_or_else(|| format!("`{expected}` is missing"))
-}
-
-/// `of LENGTH`.
-fn length(words: &mut Words) -> Result<usize, String> {
-    expect(words, "of")?;
-    Ok(number(words)? as usize)
-}
-
-/// `2 5 7`, and `0-20` for all from 0 to 20.
-fn seats(words: &mut Words) -> Vec<u32> {
-    let range = |word: &str| {
-        let (first, last) = word.split_once('-').unwrap_or((word, word));
-        Some((first.parse().ok()?, last.parse().ok()?))
-    };
-    let mut seats = Vec::new();
-    while let Some((first, last)) = words.peek().and_then(|word| range(word)) {
-        let run: std::ops::RangeInclusive<u32> = first..=last;
-        seats.extend(run);
-        words.next();
-    }
-    seats
 }

@@ -1,12 +1,10 @@
 //! Opening, submit and step against the reference.
-#![cfg(feature = "engine")]
+#![cfg(feature = "zolbine")]
 
 use harness::compare::engine::{lists, opening, records, refusals, Subject};
-use harness::library::{lent_step, Library};
+use harness::library::Library;
 
-fn subject() -> Subject<'static> {
-    Subject { engine: &Library, lent: lent_step() }
-}
+const SUBJECT: Subject<'static> = Subject { engine: &Library, lent: &Library };
 
 #[test]
 fn openings() {
@@ -15,15 +13,15 @@ fn openings() {
 
 #[test]
 fn impossible_and_possible_records() {
-    records::battery(subject());
+    records::battery(SUBJECT);
 }
 
 #[test]
 fn refusals_alone_and_together() {
-    refusals::battery(subject());
+    refusals::battery(SUBJECT);
 }
 
 #[test]
 fn random_lists() {
-    lists::battery(subject());
+    lists::battery(SUBJECT);
 }

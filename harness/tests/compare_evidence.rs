@@ -1,5 +1,5 @@
 //! The evidence check against the reference.
-#![cfg(feature = "evidence")]
+#![cfg(feature = "zolbine")]
 
 use harness::compare::evidence;
 use harness::library::Library;

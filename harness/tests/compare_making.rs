@@ -1,10 +1,10 @@
-//! Evidence and the lower certificate from two in hand against the reference.
-#![cfg(feature = "making")]
+//! Evidence from two certificates in hand against the reference.
+#![cfg(feature = "zolbine")]
 
 use harness::compare::making;
 use harness::library::Library;
 
 #[test]
 fn pairs_of_certificates() {
-    making::battery(&Library);
+    making::battery(making::Subject { making: &Library, lower: None });
 }

@@ -4,7 +4,8 @@ use harness::confirmer::Reference;
 use harness::library;
 use harness::script::{self, Calls};
 
-const REFERENCE: Calls<'static> = Calls { engine: &Reference, evidence: &Reference, making: &Reference };
+const REFERENCE: Calls<'static> =
+    Calls { engine: &Reference, evidence: &Reference, making: &Reference, lower: &Reference };
 
 #[test]
 fn on_the_reference() {
@@ -18,6 +19,7 @@ fn on_the_library() {
         engine: library::engine().unwrap_or(&Reference),
         evidence: library::evidence_check().unwrap_or(&Reference),
         making: library::making().unwrap_or(&Reference),
+        lower: &Reference,
     });
 }
 

@@ -8,15 +8,15 @@ use harness::confirmer::{Confirmer, Reference};
 use harness::script::{self, Calls};
 
 fn run(battery: &str, confirmer: &'static dyn Confirmer) {
-    let subject = Subject { engine: confirmer, lent: Some(confirmer) };
+    let subject = Subject { engine: confirmer, lent: confirmer };
     match battery {
         "evidence" => evidence::battery(confirmer),
         "lists" => lists::battery(subject),
-        "making" => making::battery(confirmer),
+        "making" => making::battery(making::Subject { making: confirmer, lower: Some(confirmer) }),
         "opening" => opening::battery(confirmer),
         "records" => records::battery(subject),
         "refusals" => refusals::battery(subject),
-        "rounds" => script::all(Calls { engine: confirmer, evidence: confirmer, making: confirmer }),
+        "rounds" => script::all(Calls { engine: confirmer, evidence: confirmer, making: confirmer, lower: confirmer }),
         battery => panic!("no battery {battery}"),
     }
 }

@@ -1,4 +1,5 @@
-//! The proved code beside plain C. The verdict is the ratio; nanoseconds are told for information.
+//! The proved code beside plain C, and under the feature `libcrypto` beside OpenSSL's block function. The verdict is the ratio;
+//! nanoseconds are told for information.
 //! `bench WORD` runs only the contests whose names contain the word.
 
 use harness::contest::Contest;
@@ -13,9 +14,45 @@ use harness::vectors;
 fn main() {
     let word = std::env::args().nth(1).unwrap_or_default();
     println!("plain C: {}", env!("PLAIN_C"));
-    println!("{:<32} {:>7} {:>14} {:>15} {:>15}", "proved : plain", "ratio", "quartiles", "proved, ns", "plain, ns");
+    head("plain");
     hash_contests().iter().for_each(|contest| hold(&word, contest, library::hashes(), &Plain));
     call_contests().iter().for_each(|contest| hold(&word, contest, library::calls(), &Plain));
+    #[cfg(all(feature = "libcrypto", feature = "probes"))]
+    beside_libcrypto(&word);
+}
+
+fn head(other: &str) {
+    let [pair, time] = [format!("proved : {other}"), format!("{other}, ns")];
+    println!("{pair:<32} {:>7} {:>14} {:>15} {time:>15}", "ratio", "quartiles", "proved, ns");
+}
+
+/// Hashes of one block: in the proved code one by one and in lanes, in libcrypto by its block function.
+#[cfg(all(feature = "libcrypto", feature = "probes"))]
+fn beside_libcrypto(word: &str) {
+    use harness::crypto::Libcrypto;
+    use harness::library::Library;
+
+    /// The hashes of 34 chains of 256, as many as a leaf's key takes.
+    trait Blocks {
+        fn blocks(&self);
+    }
+
+    impl Blocks for Library {
+        fn blocks(&self) {
+            assert_eq!(self.signed(1, &[2; IDENTIFIER], &[3; N], &[255; 34], &mut [0; 34 * N]), 0);
+        }
+    }
+
+    impl Blocks for Libcrypto {
+        fn blocks(&self) {
+            assert_eq!(self.compress_many(34 * 256, &[2; 32], &[3; 64], &mut [0; 32]), 0);
+        }
+    }
+
+    head("libcrypto");
+    hold(word, &hash_contests()[0], library::hashes(), &Libcrypto);
+    let lanes = contest::<dyn Blocks>("compression in lanes", 34 * 256, 301, |subject| subject.blocks());
+    hold::<dyn Blocks>(word, &lanes, Some(&Library), &Libcrypto);
 }
 
 fn hold<S: ?Sized>(word: &str, contest: &Contest<S>, proved: Option<&S>, plain: &S) {

@@ -1,27 +1,21 @@
-//! What stands of the main job, shown from the proved code: the fleet's thresholds, and the digest that a layout is signed by.
+//! The demonstration over the proved code; its numbers come from flags.
 
-#[cfg(feature = "probes")]
+use std::process::exit;
+
+use harness::demo::options::{Options, USAGE};
+use harness::demo::{told_by, Calls};
+use harness::library;
+
 fn main() {
-    use harness::hex;
-    use harness::library::Library;
-    use harness::subject::Hashes;
-
-    println!("A fleet of n seats bears t0 faulty ones, and confirms a layout that k = n - t0 seats have signed.");
-    println!();
-    println!("{:>4} {:>4} {:>4}", "n", "t0", "k");
-    for n in 1..=32 {
-        println!("{n:>4} {:>4} {:>4}", Library.t0(n), Library.k(n));
-    }
-    println!();
-    let text = "six miles, gear marks as agreed";
-    let mut digest = [0; 32];
-    assert_eq!(Library.sha256(text.as_bytes(), &mut digest), 0);
-    println!("SHA-256 of \"{text}\":");
-    println!("{}", hex::encode(&digest));
-}
-
-#[cfg(not(feature = "probes"))]
-fn main() {
-    eprintln!("the demonstration runs on the proved code: `make demo` links it");
-    std::process::exit(1);
+    let words: Vec<String> = std::env::args().skip(1).collect();
+    let options = Options::parse(&words).unwrap_or_else(|error| {
+        eprintln!("demo: {error}\n\n{USAGE}");
+        exit(2);
+    });
+    let linked = (library::calls(), library::engine(), library::evidence_check());
+    let (Some(signatures), Some(engine), Some(evidence)) = linked else {
+        eprintln!("demo: it runs on the proved code, which `make demo` links");
+        exit(1);
+    };
+    print!("{}", told_by(Calls { signatures, engine, evidence }, options));
 }

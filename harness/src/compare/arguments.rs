@@ -1,9 +1,11 @@
 //! What a call outside a record is given: n, round and key table, and each of them made wrong.
 
+use super::noise;
 use super::refusals::{on_part, spoiler, Spoiler};
 use crate::fleet::{self, Fleet};
 use crate::guarded::Guarded;
 use crate::reference::lms::PUBLIC_KEY;
+use crate::rng::Rng;
 
 #[derive(Clone)]
 pub struct Arguments {
@@ -15,6 +17,14 @@ pub struct Arguments {
 impl Arguments {
     pub fn of(fleet: Fleet) -> Arguments {
         Arguments { n: fleet.n, round: fleet.round, keys: fleet.key_table() }
+    }
+
+    /// Random ones, mostly of a small fleet.
+    pub fn noise(rng: &mut Rng) -> Arguments {
+        let n = 1 + rng.below(3) as u32;
+        let keys = noise::keys(n, rng);
+        let n = if rng.one_in(8) { noise::number(33, rng) } else { n };
+        Arguments { n, round: noise::number(1024, rng), keys }
     }
 
     /// Numbers out of range, those among them that a narrower type would cut down to right ones, and wrong key tables.

@@ -2,12 +2,12 @@
 
 use super::arguments::{untouched, Arguments};
 use super::refusals::{on_part, spoiled};
-use super::{equal, flip_bit, messages, run};
+use super::{equal, flip_bit, messages, noise, resized, run};
 use crate::confirmer::EvidenceCheck;
 use crate::fleet::{layouts, rounds, some_seats, Fleet};
 use crate::guarded::Guarded;
 use crate::reference::evidence;
-use crate::reference::messages::{Evidence, Value};
+use crate::reference::messages::{Evidence, Value, EVIDENCE, EVIDENCE_ENTRY};
 use crate::reference::record::Verdict;
 use crate::reference::seats::mask;
 use crate::rng::{seed, Rng};
@@ -21,17 +21,53 @@ struct Case {
 }
 
 fn compare(subject: &dyn EvidenceCheck, case: &Case, rng: &mut Rng) -> Result<(), String> {
-    let Arguments { n, round, keys } = &case.arguments;
+    let compared = both(subject, &case.arguments, &case.evidence, rng);
+    let told = compared.and_then(|verdict| equal("the reference's answer", verdict, case.expected));
+    told.map_err(|difference| format!("n = {}, {}: {difference}", case.arguments.n, case.what))
+}
+
+/// The verdict of the reference and the subject, or how they differ.
+fn both(subject: &dyn EvidenceCheck, arguments: &Arguments, evidence: &[u8], rng: &mut Rng) -> Result<Verdict, String> {
+    let Arguments { n, round, keys } = arguments;
     let lent_keys = Guarded::new(keys, rng);
-    let lent_evidence = Guarded::new(&case.evidence, rng);
+    let lent_evidence = Guarded::new(evidence, rng);
     let answer = subject.check_evidence(*n, *round, lent_keys.lent(), lent_evidence.lent());
-    let reference = evidence::check_evidence(*n, *round, keys, &case.evidence);
-    let told = || {
-        equal("the reference's answer", reference, case.expected)?;
-        equal("the answer", answer, reference)?;
-        untouched(&[("keys", &lent_keys, keys), ("evidence", &lent_evidence, &case.evidence)])
-    };
-    told().map_err(|difference| format!("n = {n}, {}: {difference}", case.what))
+    let reference = evidence::check_evidence(*n, *round, keys, evidence);
+    equal("the answer", answer, reference)?;
+    untouched(&[("keys", &lent_keys, keys), ("evidence", &lent_evidence, evidence)])?;
+    Ok(reference)
+}
+
+/// Every buffer of every length around its own.
+pub fn lengths_around(subject: &dyn EvidenceCheck, n: u32, rng: &mut Rng) -> Result<usize, String> {
+    let fleet = Fleet { n, round: *rng.pick(&rounds()) };
+    let (lower, higher) = two_layouts(rng);
+    let arguments = Arguments::of(fleet);
+    let evidence = fleet.evidence((&lower, 0), (&higher, 0), &[n - 1]).write();
+    let mut calls = 0;
+    for length in noise::around(arguments.keys.len()) {
+        let keys = resized(&arguments.keys, length, rng);
+        both(subject, &Arguments { keys, ..arguments.clone() }, &evidence, rng)?;
+        calls += 1;
+    }
+    for length in noise::around(evidence.len()) {
+        both(subject, &arguments, &resized(&evidence, length, rng), rng)?;
+        calls += 1;
+    }
+    Ok(calls)
+}
+
+/// A call with random bytes.
+pub fn noise(subject: &dyn EvidenceCheck, rng: &mut Rng) -> Result<u32, String> {
+    let arguments = Arguments::noise(rng);
+    let count = 1 + rng.below(2);
+    let mut evidence = noise::bytes(68 + 2906 * count, rng);
+    if rng.below(4) > 0 {
+        noise::head(&mut evidence, EVIDENCE, arguments.round, rng);
+        noise::set(&mut evidence, 67, &[count as u8]);
+        noise::entries(&mut evidence, 68, 2906, EVIDENCE_ENTRY, rng);
+    }
+    Ok(both(subject, &arguments, &evidence, rng)?.number)
 }
 
 pub fn battery(subject: &dyn EvidenceCheck) {

@@ -1,7 +1,7 @@
 //! The key maker: whole trees and public keys byte by byte, and each refusal alone and with others.
 
 use super::refusals::{lengths, spoiled, Spoiler};
-use super::{equal, progress, run};
+use super::{equal, noise, progress, run};
 use crate::guarded::Guarded;
 use crate::reference::calls::{self, TREE};
 use crate::reference::lms::{IDENTIFIER, N, PUBLIC_KEY};
@@ -14,10 +14,11 @@ struct Case {
     identifier: Vec<u8>,
     tree: Vec<u8>,
     out: Vec<u8>,
-    expected: u32,
+    /// The refusal where the case's making fixes it.
+    expected: Option<u32>,
 }
 
-fn compare(subject: &dyn Calls, case: &Case, rng: &mut Rng) -> Result<(), String> {
+fn compare(subject: &dyn Calls, case: &Case, rng: &mut Rng) -> Result<u32, String> {
     let mut reference_tree = case.tree.clone();
     let mut reference_out = case.out.clone();
     let reference = calls::make_key(&case.seed, &case.identifier, &mut reference_tree, &mut reference_out);
@@ -27,14 +28,14 @@ fn compare(subject: &dyn Calls, case: &Case, rng: &mut Rng) -> Result<(), String
     let mut out = Guarded::new(&case.out, rng);
     let answer = subject.make_key(seed.lent(), identifier.lent(), tree.lent_mut(), out.lent_mut());
     let told = || {
-        equal("the reference's refusal", reference.number, case.expected)?;
+        equal("the reference's refusal", reference.number, case.expected.unwrap_or(reference.number))?;
         equal("the answer", answer, reference)?;
         seed.expect("seed", &case.seed)?;
         identifier.expect("identifier", &case.identifier)?;
         tree.expect("tree", &reference_tree)?;
         out.expect("out", &reference_out)
     };
-    told().map_err(|difference| format!("{}: {difference}", case.what))
+    told().map(|()| reference.number).map_err(|difference| format!("{}: {difference}", case.what))
 }
 
 pub fn battery(subject: &dyn Calls) {
@@ -55,6 +56,20 @@ pub fn battery(subject: &dyn Calls) {
     run("make_key", &cases, |case, rng| compare(subject, case, rng));
 }
 
+/// A call with random bytes; a tree of the right length would have a key made.
+pub fn noise(subject: &dyn Calls, rng: &mut Rng) -> Result<u32, String> {
+    let tree = rng.below(200);
+    let case = Case {
+        what: "random bytes".to_string(),
+        seed: noise::bytes(N, rng),
+        identifier: noise::bytes(IDENTIFIER, rng),
+        tree: rng.bytes(tree),
+        out: noise::bytes(PUBLIC_KEY, rng),
+        expected: None,
+    };
+    compare(subject, &case, rng)
+}
+
 fn right(what: &str, rng: &mut Rng) -> Case {
     Case {
         what: what.to_string(),
@@ -62,7 +77,7 @@ fn right(what: &str, rng: &mut Rng) -> Case {
         identifier: rng.bytes(IDENTIFIER),
         tree: rng.bytes(TREE),
         out: rng.bytes(PUBLIC_KEY),
-        expected: 0,
+        expected: Some(0),
     }
 }
 
@@ -87,5 +102,5 @@ fn spoilers() -> Vec<Spoiler<Case>> {
 
 fn refusals(rng: &mut Rng) -> Vec<Case> {
     let spoiled = spoiled(&spoilers(), 200, rng, |rng| right("", rng));
-    spoiled.into_iter().map(|wrong| Case { expected: wrong.number(), what: wrong.what, ..wrong.case }).collect()
+    spoiled.into_iter().map(|wrong| Case { expected: Some(wrong.number()), what: wrong.what, ..wrong.case }).collect()
 }

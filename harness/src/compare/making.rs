@@ -2,16 +2,24 @@
 
 use super::arguments::{untouched, Arguments};
 use super::refusals::{lengths, on_part, spoiled, spoiler, Spoiler};
-use super::{equal, long, messages, run};
-use crate::confirmer::Making;
+use super::{equal, long, messages, noise, resized, run};
+use crate::confirmer::{Lower, Making};
 use crate::fleet::{layouts, rounds, some_seats, Fleet};
 use crate::guarded::Guarded;
 use crate::reference::calls::Written;
 use crate::reference::evidence::{check_evidence, lower_certificate, make_evidence, out_length};
-use crate::reference::messages::Full;
+use crate::reference::messages::{Full, FULL, FULL_ENTRY};
+use crate::reference::quorum;
 use crate::reference::record::Verdict;
 use crate::reference::seats::mask;
 use crate::rng::{seed, Rng};
+
+/// What is tested; the lower certificate only where there is one.
+#[derive(Clone, Copy)]
+pub struct Subject<'a> {
+    pub making: &'a dyn Making,
+    pub lower: Option<&'a dyn Lower>,
+}
 
 #[derive(Clone)]
 struct Case {
@@ -26,36 +34,99 @@ struct Case {
     lower: Option<usize>,
 }
 
-fn compare(subject: &dyn Making, case: &Case, rng: &mut Rng) -> Result<(), String> {
+fn compare(subject: Subject, case: &Case, rng: &mut Rng) -> Result<(), String> {
     let Arguments { n, round, keys } = &case.arguments;
     let (n, round) = (*n, *round);
-    let [first, second] = &case.certificates;
-    let mut expected_out = case.out.clone();
-    let reference = make_evidence(n, round, keys, first, second, &mut expected_out);
-    let lent_keys = Guarded::new(keys, rng);
-    let lent = [Guarded::new(first, rng), Guarded::new(second, rng)];
-    let mut out = Guarded::new(&case.out, rng);
-    let answer = subject.make_evidence(n, round, lent_keys.lent(), lent[0].lent(), lent[1].lent(), out.lent_mut());
-    let lower = subject.lower_certificate(n, round, lent_keys.lent(), lent[0].lent(), lent[1].lent());
-    let told = || {
-        equal("the reference's answer", reference, case.made)?;
-        equal("the answer", answer, reference)?;
-        out.expect("out", &expected_out)?;
-        untouched(&[("keys", &lent_keys, keys), ("first", &lent[0], first), ("second", &lent[1], second)])?;
-        if reference.number == 0 {
-            let verdict = check_evidence(n, round, keys, &expected_out[..reference.written as usize]);
+    let mut told = || {
+        let (answer, out) = both(subject.making, &case.arguments, &case.certificates, &case.out, rng)?;
+        equal("the reference's answer", answer, case.made)?;
+        if answer.number == 0 {
+            let verdict = check_evidence(n, round, keys, &out[..answer.written as usize]);
             equal("the evidence", verdict, Verdict { number: 0, mask: case.named })?;
         }
+        let [first, second] = &case.certificates;
         let part = case.lower.map_or(&[][..], |which| &case.certificates[which]);
         equal("the reference's lower one", lower_certificate(n, round, keys, first, second) == part, true)?;
-        equal("the length of the lower one", lower.len(), part.len())?;
-        let place = case.lower.map(|which| lent[which].lent().as_ptr());
-        equal("the place of the lower one", place.is_none_or(|place| place == lower.as_ptr()), true)
+        subject.lower.map_or(Ok(()), |lower| compare_lower(lower, case, rng))
     };
     told().map_err(|difference| format!("n = {n}, {}: {difference}", case.what))
 }
 
-pub fn battery(subject: &dyn Making) {
+/// The answer of the reference and the subject and what `out` holds then, or how they differ.
+fn both(
+    subject: &dyn Making,
+    arguments: &Arguments,
+    [first, second]: &[Vec<u8>; 2],
+    out: &[u8],
+    rng: &mut Rng,
+) -> Result<(Written, Vec<u8>), String> {
+    let Arguments { n, round, keys } = arguments;
+    let mut expected_out = out.to_vec();
+    let reference = make_evidence(*n, *round, keys, first, second, &mut expected_out);
+    let lent_keys = Guarded::new(keys, rng);
+    let lent = [Guarded::new(first, rng), Guarded::new(second, rng)];
+    let mut lent_out = Guarded::new(out, rng);
+    let (one, other) = (lent[0].lent(), lent[1].lent());
+    let answer = subject.make_evidence(*n, *round, lent_keys.lent(), one, other, lent_out.lent_mut());
+    equal("the answer", answer, reference)?;
+    lent_out.expect("out", &expected_out)?;
+    untouched(&[("keys", &lent_keys, keys), ("first", &lent[0], first), ("second", &lent[1], second)])?;
+    Ok((reference, expected_out))
+}
+
+/// The lower one is the whole of a lent buffer, or nothing.
+fn compare_lower(subject: &dyn Lower, case: &Case, rng: &mut Rng) -> Result<(), String> {
+    let Arguments { n, round, keys } = &case.arguments;
+    let lent = [0, 1].map(|which| Guarded::new(&case.certificates[which], rng));
+    let lower = subject.lower_certificate(*n, *round, keys, lent[0].lent(), lent[1].lent());
+    let whole = case.lower.map(|which| lent[which].lent());
+    equal("the length of the lower one", lower.len(), whole.map_or(0, <[u8]>::len))?;
+    equal("the place of the lower one", whole.is_none_or(|whole| whole.as_ptr() == lower.as_ptr()), true)
+}
+
+/// Every buffer of every length around its own.
+pub fn lengths_around(subject: &dyn Making, n: u32, rng: &mut Rng) -> Result<usize, String> {
+    let fleet = Fleet { n, round: *rng.pick(&rounds()) };
+    let Case { arguments, certificates, out, .. } = right(fleet, &pair(fleet, rng), rng);
+    let mut calls = 0;
+    for length in noise::around(arguments.keys.len()) {
+        let keys = resized(&arguments.keys, length, rng);
+        both(subject, &Arguments { keys, ..arguments.clone() }, &certificates, &out, rng)?;
+        calls += 1;
+    }
+    for which in [0, 1] {
+        for length in noise::around(certificates[which].len()) {
+            let mut certificates = certificates.clone();
+            certificates[which] = resized(&certificates[which], length, rng);
+            both(subject, &arguments, &certificates, &out, rng)?;
+            calls += 1;
+        }
+    }
+    for length in noise::around(out_length(n)) {
+        both(subject, &arguments, &certificates, &rng.bytes(length), rng)?;
+        calls += 1;
+    }
+    Ok(calls)
+}
+
+/// A call with random bytes.
+pub fn noise(subject: &dyn Making, rng: &mut Rng) -> Result<u32, String> {
+    let arguments = Arguments::noise(rng);
+    let k = quorum::k(arguments.n.clamp(1, 3)) as usize;
+    let certificates = [0, 1].map(|_| {
+        let mut full = noise::bytes(37 + 1454 * k, rng);
+        if rng.below(8) > 0 {
+            noise::head(&mut full, FULL, arguments.round, rng);
+            noise::set(&mut full, 36, &[k as u8]);
+            noise::entries(&mut full, 37, 1454, FULL_ENTRY, rng);
+        }
+        full
+    });
+    let out = noise::bytes(68 + 2906 * k, rng);
+    Ok(both(subject, &arguments, &certificates, &out, rng)?.0.number)
+}
+
+pub fn battery(subject: Subject) {
     let mut rng = Rng::new(seed(), "making");
     let mut cases = Vec::new();
     for n in 1..=32 {

@@ -8,10 +8,12 @@ pub mod hashes;
 pub mod make_key;
 pub mod making;
 mod messages;
+pub mod noise;
 mod refusals;
 pub mod sign;
 
 use std::io::Write;
+use std::sync::atomic::{AtomicUsize, Ordering};
 use std::sync::OnceLock;
 
 use crate::keys::Key;
@@ -29,6 +31,22 @@ fn long() -> bool {
     std::env::var("ZOLBINE_LONG").is_ok_and(|value| value == "1")
 }
 
+/// Every buffer of the confirmer's calls at every length around its own, for each n. The signature calls' batteries have
+/// theirs.
+pub fn lengths(subjects: noise::Subjects) {
+    let sizes: Vec<u32> = (1..=32).rev().collect();
+    let calls = run("buffer lengths, for each n", &sizes, |&n, rng| {
+        let mut calls = engine::refusals::lengths_around(subjects.engine, n, rng)?;
+        calls += evidence::lengths_around(subjects.evidence, n, rng)?;
+        calls += making::lengths_around(subjects.making, n, rng)?;
+        Ok(calls)
+    });
+    progress(&format!("buffer lengths: {} calls", calls.into_iter().sum::<usize>()));
+}
+
+/// Differences after which the other cases are passed over.
+const ENOUGH: usize = 5;
+
 /// Runs all cases in parallel, fails with the first differences and the seed, and else hands back what the cases gave.
 fn run<C: Sync, R: Send>(
     title: &str,
@@ -36,22 +54,28 @@ fn run<C: Sync, R: Send>(
     compare: impl Fn(&C, &mut Rng) -> Result<R, String> + Sync,
 ) -> Vec<R> {
     let numbered: Vec<(usize, &C)> = cases.iter().enumerate().collect();
-    let results =
-        parallel::map(&numbered, |(number, case)| compare(case, &mut Rng::new(seed(), &format!("{title} {number}"))));
+    let (differences, done) = (AtomicUsize::new(0), AtomicUsize::new(0));
+    let results = parallel::map(&numbered, |(number, case)| {
+        if differences.load(Ordering::Relaxed) >= ENOUGH {
+            return None;
+        }
+        let result = compare(case, &mut Rng::new(seed(), &format!("{title} {number}")));
+        differences.fetch_add(usize::from(result.is_err()), Ordering::Relaxed);
+        let done = done.fetch_add(1, Ordering::Relaxed) + 1;
+        if long() && 10 * done / cases.len() > 10 * (done - 1) / cases.len() {
+            progress(&format!("{title}: {done} of {} cases done", cases.len()));
+        }
+        Some(result)
+    });
     let (mut given, mut failures) = (Vec::new(), Vec::new());
-    for result in results {
+    for result in results.into_iter().flatten() {
         match result {
             Ok(result) => given.push(result),
             Err(difference) => failures.push(difference),
         }
     }
-    progress(&format!(
-        "{title}: {} of {} cases agree (ZOLBINE_SEED={})",
-        cases.len() - failures.len(),
-        cases.len(),
-        seed()
-    ));
-    let first: Vec<&str> = failures.iter().take(5).map(String::as_str).collect();
+    progress(&format!("{title}: {} of {} cases agree (ZOLBINE_SEED={})", given.len(), cases.len(), seed()));
+    let first: Vec<&str> = failures.iter().take(ENOUGH).map(String::as_str).collect();
     assert!(
         failures.is_empty(),
         "{title}: {} differ with ZOLBINE_SEED={}:\n{}",

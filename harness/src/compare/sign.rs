@@ -3,7 +3,7 @@
 use std::sync::Arc;
 
 use super::refusals::{lengths, spoiled, spoiler, Spoiler};
-use super::{equal, keys, message_lengths, run};
+use super::{equal, keys, message_lengths, noise, run};
 use crate::guarded::Guarded;
 use crate::keys::Key;
 use crate::reference::calls::{self, engine_types, MAX_LEAF, MAX_MESSAGE, SIGNATURE, TREE};
@@ -20,12 +20,13 @@ struct Case {
     tree: Arc<Vec<u8>>,
     message: Vec<u8>,
     out: Vec<u8>,
-    expected: u32,
+    /// The refusal where the case's making fixes it.
+    expected: Option<u32>,
     /// The public key that must accept the signature.
     public: Option<Vec<u8>>,
 }
 
-fn compare(subject: &dyn Calls, case: &Case, rng: &mut Rng) -> Result<(), String> {
+fn compare(subject: &dyn Calls, case: &Case, rng: &mut Rng) -> Result<u32, String> {
     let mut reference_out = case.out.clone();
     let reference = calls::sign(
         case.leaf,
@@ -52,7 +53,7 @@ fn compare(subject: &dyn Calls, case: &Case, rng: &mut Rng) -> Result<(), String
         out.lent_mut(),
     );
     let told = || {
-        equal("the reference's refusal", reference.number, case.expected)?;
+        equal("the reference's refusal", reference.number, case.expected.unwrap_or(reference.number))?;
         equal("the answer", answer, reference)?;
         seed.expect("seed", &case.seed)?;
         identifier.expect("identifier", &case.identifier)?;
@@ -65,7 +66,7 @@ fn compare(subject: &dyn Calls, case: &Case, rng: &mut Rng) -> Result<(), String
             None => Ok(()),
         }
     };
-    told().map_err(|difference| format!("{}: {difference}", case.what))
+    told().map(|()| reference.number).map_err(|difference| format!("{}: {difference}", case.what))
 }
 
 pub fn battery(subject: &dyn Calls) {
@@ -97,7 +98,7 @@ fn honest(keys: &[&Key], rng: &mut Rng) -> Vec<Case> {
             tree: trees[which].clone(),
             message: rng.bytes(length),
             out: rng.bytes(SIGNATURE + spare),
-            expected: 0,
+            expected: Some(0),
             public: Some(keys[which].public.clone()),
         });
     }
@@ -115,9 +116,27 @@ fn any_operands(what: impl Into<String>, tree: &Arc<Vec<u8>>, rng: &mut Rng) -> 
         tree: tree.clone(),
         message: rng.bytes(length),
         out: rng.bytes(SIGNATURE),
-        expected: 0,
+        expected: Some(0),
         public: None,
     }
+}
+
+/// A call with random bytes; seldom with a tree of the right length.
+pub fn noise(subject: &dyn Calls, rng: &mut Rng) -> Result<u32, String> {
+    let tree = if rng.one_in(50) { TREE } else { rng.below(200) };
+    let case = Case {
+        what: "random bytes".to_string(),
+        leaf: noise::number(1024, rng),
+        seed: noise::bytes(N, rng),
+        identifier: noise::bytes(IDENTIFIER, rng),
+        randomizer: noise::bytes(N, rng),
+        tree: Arc::new(rng.bytes(tree)),
+        message: noise::bytes(36, rng),
+        out: noise::bytes(SIGNATURE, rng),
+        expected: None,
+        public: None,
+    };
+    compare(subject, &case, rng)
 }
 
 /// The tree is read and never compared with the seed.
@@ -168,5 +187,5 @@ fn spoilers() -> Vec<Spoiler<Case>> {
 fn refusals(rng: &mut Rng) -> Vec<Case> {
     let tree = Arc::new(rng.bytes(TREE));
     let spoiled = spoiled(&spoilers(), 400, rng, |rng| any_operands("", &tree, rng));
-    spoiled.into_iter().map(|wrong| Case { expected: wrong.number(), what: wrong.what, ..wrong.case }).collect()
+    spoiled.into_iter().map(|wrong| Case { expected: Some(wrong.number()), what: wrong.what, ..wrong.case }).collect()
 }

@@ -14,3 +14,4 @@ pub mod sha256;
 pub mod store;
 pub mod turned_back;
 pub mod verdicts;
+pub mod yard;

@@ -7,7 +7,7 @@ use super::records::{any_impossible, opened};
 use super::{both, Call, Case, Subject};
 use crate::air;
 use crate::compare::{equal, long, progress, run};
-use crate::fleet::{layouts, rounds, some_seats, Fleet, HANDS};
+use crate::fleet::{fewest_to_split, layouts, rounds, some_seats, Fleet, HANDS};
 use crate::reference::engine::out_length;
 use crate::reference::evidence::check_evidence;
 use crate::reference::messages::{Value, EVIDENCE, FULL, NOTICE};
@@ -20,6 +20,9 @@ use crate::rng::Rng;
 #[derive(Debug)]
 struct Plan {
     fleet: Fleet,
+    /// Units under test, and the layouts that are about.
+    boats: u32,
+    layouts: usize,
     calls: usize,
     /// No signature over another layout than its own is delivered for a boat's seat.
     fair: bool,
@@ -28,21 +31,46 @@ struct Plan {
 /// How often a call came to a number, or wrote messages together.
 type Tally = BTreeMap<String, usize>;
 
+/// Thousands of calls for each n.
 pub fn battery(subject: Subject) {
     let mut plans = Vec::new();
     for n in (1..=32).rev() {
         let (lists, calls) = match (n, long()) {
-            (1, _) => (200, 20),
-            (_, true) => (50, 100),
-            (2..=7, false) => (40, 60),
-            (10 | 31 | 32, false) => (6, 40),
-            _ => continue,
+            (1, false) => (120, 20),
+            (_, false) => (30, 50),
+            (_, true) => (100, 100),
         };
-        let plan =
-            |list: usize| Plan { fleet: Fleet { n, round: rounds()[list % 4] }, calls, fair: list.is_multiple_of(2) };
+        let plan = |list: usize| Plan {
+            fleet: Fleet { n, round: rounds()[list % 4] },
+            boats: 1 + (list % 3) as u32,
+            layouts: 2 + list / 3 % 2,
+            calls,
+            fair: list.is_multiple_of(2),
+        };
         plans.extend((0..lists).map(plan));
     }
-    let tallies = run("lists", &plans, |plan, rng| {
+    covered(&played("lists", subject, &plans));
+}
+
+/// Rounds of the largest fleet in which every honest boat is under test, and the fewest double signers that can split it.
+pub fn whole_rounds(subject: Subject) {
+    let (n, double) = (32, fewest_to_split(32));
+    let count = if long() { 20 } else { 2 };
+    let plan = |list: usize| Plan {
+        fleet: Fleet { n, round: rounds()[list % 4] },
+        boats: n - double,
+        layouts: 2,
+        calls: 100,
+        fair: true,
+    };
+    let plans: Vec<Plan> = (0..count).map(plan).collect();
+    let tally = played("whole rounds", subject, &plans);
+    assert_eq!(tally.get("disagreement"), Some(&count), "each round splits the fleet");
+}
+
+/// Plays the lists, and counts what they came by.
+fn played(title: &str, subject: Subject, plans: &[Plan]) -> Tally {
+    let tallies = run(title, plans, |plan, rng| {
         let mut sea = Sea::new(subject, plan, rng);
         sea.play(rng).map_err(|difference| format!("{plan:?}, {}: {difference}", sea.trail()))?;
         Ok(sea.tally)
@@ -51,13 +79,13 @@ pub fn battery(subject: Subject) {
     for (what, times) in tallies.into_iter().flatten() {
         *tally.entry(what).or_default() += times;
     }
-    covered(&tally);
+    let told: Vec<String> = tally.iter().map(|(what, times)| format!("{what}: {times}")).collect();
+    progress(&format!("{title}: {}", told.join(", ")));
+    tally
 }
 
 /// The lists mean nothing if they don't come by every answer and every choice of messages.
 fn covered(tally: &Tally) {
-    let told: Vec<String> = tally.iter().map(|(what, times)| format!("{what}: {times}")).collect();
-    progress(&format!("lists: {}", told.join(", ")));
     let steps = [0, 4, 5, 6, 7, 9, 10, 11, 12, 13, 14].map(|number| format!("step {number}"));
     let submits = [0, 4, 5, 6, 7, 8, 9, 14].map(|number| format!("submit {number}"));
     let written = [
@@ -101,19 +129,19 @@ struct Sea<'a> {
 impl<'a> Sea<'a> {
     fn new(subject: Subject<'a>, plan: &'a Plan, rng: &mut Rng) -> Sea<'a> {
         let fleet = plan.fleet;
-        let all = layouts();
-        let chosen: Vec<Value> = (0..2 + rng.below(2)).map(|_| *rng.pick(&all)).collect();
-        let seats = some_seats(fleet.n, 1 + rng.below(3) as u32, rng);
-        let boat = |seat| {
+        let mut all = layouts();
+        let chosen: Vec<Value> = (0..plan.layouts).map(|_| all.swap_remove(rng.below(all.len()))).collect();
+        let seats = some_seats(fleet.n, plan.boats, rng);
+        let boat = |(place, seat): (usize, u32)| {
             let spare = *rng.pick(&[0, 0, 1, 100]);
             Boat {
-                layout: *rng.pick(&chosen),
+                layout: chosen[place % chosen.len()],
                 record: opened(fleet, seat),
                 store: rng.bytes(store::length(fleet.n) + spare),
                 said: Vec::new(),
             }
         };
-        let boats = seats.into_iter().map(boat).collect();
+        let boats = seats.into_iter().enumerate().map(boat).collect();
         Sea { subject, plan, layouts: chosen, boats, air: Vec::new(), calls: Vec::new(), tally: Tally::new() }
     }
 
@@ -141,7 +169,7 @@ impl<'a> Sea<'a> {
                 0..=5 => self.submit(boat, rng)?,
                 6..=8 => self.wrong_submit(boat, rng)?,
                 9..=44 if !self.air.is_empty() => {
-                    let message = rng.pick(&self.air).clone();
+                    let message = self.heard_before(rng);
                     self.hear(boat, "heard again", message, rng)?;
                 }
                 45..=59 => {
@@ -220,7 +248,15 @@ impl<'a> Sea<'a> {
         self.plan.fleet.submit(seat, layout, rng.below(HANDS as usize) as u32).write()
     }
 
-    /// A message of the script.
+    /// A message from the air, seldom a long one.
+    fn heard_before(&self, rng: &mut Rng) -> Vec<u8> {
+        let picks = [rng.pick(&self.air), rng.pick(&self.air), rng.pick(&self.air)];
+        let shortest = picks.into_iter().min_by_key(|message| message.len()).expect("three of them");
+        let pick = if self.plan.fleet.n <= 7 || rng.one_in(4) { picks[0] } else { shortest };
+        pick.clone()
+    }
+
+    /// A message of the script. The certificates of a large fleet take long to check, and come seldom.
     fn sent_to(&mut self, boat: usize, rng: &mut Rng) -> Vec<u8> {
         let fleet = self.plan.fleet;
         let seat = rng.below(fleet.n as usize) as u32;
@@ -229,7 +265,7 @@ impl<'a> Sea<'a> {
         let message = match rng.below(10) {
             0..=3 => self.helpful_submit(boat, rng),
             4 if willing.contains(&seat) => fleet.submit(seat, &value, 0).write(),
-            5..=7 if willing.len() as u32 >= fleet.k() => {
+            5..=7 if willing.len() as u32 >= fleet.k() && (fleet.n <= 7 || rng.one_in(4)) => {
                 let places = some_seats(willing.len() as u32, fleet.k(), rng);
                 let seats: Vec<u32> = places.into_iter().map(|place| willing[place as usize]).collect();
                 fleet.full(seat, &value, &seats, rng.below(HANDS as usize) as u32).write()

@@ -13,11 +13,11 @@ use crate::reference::engine;
 use crate::reference::record::{Record, Stepped};
 use crate::rng::Rng;
 
-/// What is tested; where it has the step that is lent its record, every other step goes through that one.
+/// What is tested; about every other step goes through the one that is lent its record.
 #[derive(Clone, Copy)]
 pub struct Subject<'a> {
     pub engine: &'a dyn Engine,
-    pub lent: Option<&'a dyn LentStep>,
+    pub lent: &'a dyn LentStep,
 }
 
 #[derive(Clone)]
@@ -73,13 +73,12 @@ pub fn both(subject: Subject, case: &Case, rng: &mut Rng) -> Result<After, Strin
         Call::Step { message } => {
             let lent_message = Guarded::new(message, rng);
             let (keys, store, out) = (keys.lent(), lent_store.lent_mut(), lent_out.lent_mut());
-            let answer = match subject.lent.filter(|_| rng.one_in(2)) {
-                None => subject.engine.step(case.record, keys, store, lent_message.lent(), out),
-                Some(subject) => {
-                    let mut record = GuardedItem::new(case.record, rng);
-                    let answer = subject.step_lent(record.lent_mut(), keys, store, lent_message.lent(), out);
-                    Stepped { number: answer.number, written: answer.written, record: record.taken("record")? }
-                }
+            let answer = if rng.one_in(2) {
+                subject.engine.step(case.record, keys, store, lent_message.lent(), out)
+            } else {
+                let mut record = GuardedItem::new(case.record, rng);
+                let answer = subject.lent.step_lent(record.lent_mut(), keys, store, lent_message.lent(), out);
+                Stepped { number: answer.number, written: answer.written, record: record.taken("record")? }
             };
             untouched(&[("message", &lent_message, message)])?;
             answer

@@ -2,7 +2,7 @@
 
 use crate::compare::arguments::{untouched, Arguments};
 use crate::compare::refusals::{on_part, spoiled, spoiler};
-use crate::compare::{equal, run};
+use crate::compare::{equal, noise, run};
 use crate::confirmer::Engine;
 use crate::fleet::{rounds, Fleet};
 use crate::guarded::Guarded;
@@ -34,6 +34,15 @@ fn compare(subject: &dyn Engine, case: &Case, rng: &mut Rng) -> Result<(), Strin
         untouched(&[("keys", &lent_keys, keys)])
     };
     told().map_err(|difference| format!("n = {n}, seat {seat}, round {round}, {}: {difference}", case.what))
+}
+
+/// A call with random bytes.
+pub fn noise(subject: &dyn Engine, rng: &mut Rng) -> Result<u32, String> {
+    let arguments = Arguments::noise(rng);
+    let seat = noise::number(2, rng);
+    let expected = engine::open(arguments.n, seat, arguments.round, &arguments.keys).number;
+    compare(subject, &Case { what: "random bytes".to_string(), seat, arguments, expected }, rng)?;
+    Ok(expected)
 }
 
 pub fn battery(subject: &dyn Engine) {

@@ -1,11 +1,13 @@
 //! Records: states of a unit, possible ones that no list of calls reaches, and impossible ones, each cause alone.
 
 use super::{both, Call, Case, Subject};
-use crate::compare::{equal, long, run};
+use crate::compare::{equal, long, noise, run};
 use crate::fleet::{layouts, rounds, some_seats, Fleet};
+use crate::reference::calls::SIGNATURE;
 use crate::reference::engine::out_length;
 use crate::reference::impossible::causes;
-use crate::reference::messages::Value;
+use crate::reference::messages::{Value, EVIDENCE, FULL, FULL_ENTRY, NOTICE, SUBMIT};
+use crate::reference::quorum;
 use crate::reference::record::{First, Notices, Own, Record};
 use crate::reference::seats::mask;
 use crate::reference::store;
@@ -197,6 +199,67 @@ fn case(fleet: Fleet, record: Record, call: Call, rng: &mut Rng) -> Case {
         store: rng.bytes(store::length(fleet.n) + spare),
         call,
         out: rng.bytes(out_length(fleet.n) + spare),
+    }
+}
+
+/// A submit with random bytes.
+pub fn noise_submit(subject: Subject, rng: &mut Rng) -> Result<u32, String> {
+    let case = noise_case(rng, |record, rng| {
+        let mut signature = noise::bytes(SIGNATURE, rng);
+        if rng.one_in(50) {
+            noise::set(&mut signature, 0, &record.round.to_be_bytes());
+        }
+        Call::Submit { value: noise::bytes(32, rng), signature }
+    });
+    Ok(both(subject, &case, rng)?.number)
+}
+
+/// A step with random bytes: a message of some command in its right length, or of any.
+pub fn noise_step(subject: Subject, rng: &mut Rng) -> Result<u32, String> {
+    let case = noise_case(rng, |record, rng| {
+        let k = quorum::k(record.n.clamp(1, 3)) as usize;
+        let (command, length) = *rng.pick(&[(SUBMIT, 1488), (NOTICE, 36), (FULL, 37 + 1454 * k), (EVIDENCE, 68)]);
+        let mut message = noise::bytes(length, rng);
+        if !rng.one_in(16) {
+            noise::head(&mut message, command, record.round, rng);
+        }
+        if command == FULL && !rng.one_in(16) {
+            noise::set(&mut message, 36, &[k as u8]);
+            noise::entries(&mut message, 37, 1454, FULL_ENTRY, rng);
+        }
+        Call::Step { message }
+    });
+    Ok(both(subject, &case, rng)?.number)
+}
+
+/// Random keys, store and out, mostly of the right lengths, and a record that is possible, nearly possible or random.
+fn noise_case(rng: &mut Rng, call: impl Fn(&Record, &mut Rng) -> Call) -> Case {
+    let n = 1 + rng.below(3) as u32;
+    let fleet = Fleet { n, round: noise::number(1024, rng) };
+    let record = match rng.below(8) {
+        0 => any_record(rng),
+        1 => any_impossible(fleet, rng),
+        2 | 3 => opened(fleet, rng.below(n as usize) as u32),
+        _ => any_possible(fleet, &layouts(), rng),
+    };
+    let (store, out) = (noise::bytes(store::length(n), rng), noise::bytes(out_length(n), rng));
+    Case { record, keys: noise::keys(n, rng), store, call: call(&record, rng), out }
+}
+
+/// Any bytes, but for the flags, which are 0 or 1.
+fn any_record(rng: &mut Rng) -> Record {
+    let mut value = || rng.bytes(32).try_into().expect("32 bytes");
+    let values: [Value; 3] = [value(), value(), value()];
+    Record {
+        n: noise::number(33, rng),
+        seat: noise::number(32, rng),
+        round: noise::number(1024, rng),
+        own: Own { submitted: rng.one_in(2), value: values[0], collected: rng.u32() },
+        confirmed: rng.one_in(2),
+        notices: Notices { heard: noise::number(3, rng), value: values[1] },
+        first: First { value: values[2], seats: rng.u32() },
+        sent: rng.one_in(2),
+        guilty: rng.u32(),
     }
 }
 

@@ -5,11 +5,11 @@ use super::{both, Call, Case, Subject};
 use crate::compare::arguments::key_spoilers;
 use crate::compare::messages;
 use crate::compare::refusals::{lengths, on_part, spoiled, spoiler, Spoiler};
-use crate::compare::{equal, long, run};
+use crate::compare::{equal, long, noise, resized, run};
 use crate::fleet::{layouts, rounds, Fleet};
 use crate::reference::calls::SIGNATURE;
 use crate::reference::engine::out_length;
-use crate::reference::messages::Value;
+use crate::reference::messages::{Full, Notice, Submit, Value};
 use crate::reference::record::{First, Own, Record};
 use crate::reference::store;
 use crate::rng::{seed, Rng};
@@ -43,29 +43,81 @@ struct Base {
     case: Case,
 }
 
+/// What is right in a fleet: a seat's layout, and a message of each kind.
+struct Right {
+    seat: u32,
+    value: Value,
+    submit: Submit,
+    notice: Notice,
+    full: Full,
+}
+
+impl Right {
+    fn new(fleet: Fleet, rng: &mut Rng) -> Right {
+        let (seat, other) = (rng.below(fleet.n as usize) as u32, rng.below(fleet.n as usize) as u32);
+        let value = *rng.pick(&layouts());
+        let seats = seats_with(fleet, other, rng);
+        let full = fleet.full(other, &value, &seats, 0);
+        Right { seat, value, submit: fleet.submit(other, &value, 0), notice: fleet.notice(other, &value), full }
+    }
+
+    /// The four kinds of call.
+    fn calls(&self, fleet: Fleet, rng: &mut Rng) -> [Base; 4] {
+        let Right { seat, value, .. } = *self;
+        let (unsaid, said) = (opened(fleet, seat), submitted(fleet, seat, value));
+        let own = Call::Submit { value: value.to_vec(), signature: fleet.signature(seat, &value, 0) };
+        let mut base = |name, record, call| {
+            let (store, out) = (rng.bytes(store::length(fleet.n)), rng.bytes(out_length(fleet.n)));
+            Base { name, case: Case { record, keys: fleet.key_table(), store, call, out } }
+        };
+        [
+            base("submit", unsaid, own),
+            base("SUBMIT", said, Call::Step { message: self.submit.write() }),
+            base("NOTICE", unsaid, Call::Step { message: self.notice.write() }),
+            base("FULL", unsaid, Call::Step { message: self.full.write() }),
+        ]
+    }
+}
+
+/// Every buffer of every length around its own, in each kind of call.
+pub fn lengths_around(subject: Subject, n: u32, rng: &mut Rng) -> Result<usize, String> {
+    let fleet = Fleet { n, round: *rng.pick(&rounds()) };
+    let mut calls = 0;
+    for Base { name, case } in Right::new(fleet, rng).calls(fleet, rng) {
+        let mut buffers: Vec<Part> = vec![|case| &mut case.keys, |case| &mut case.store, |case| &mut case.out];
+        match &case.call {
+            Call::Submit { .. } => buffers.extend([value_of as Part, signature_of]),
+            Call::Step { .. } => buffers.push(message_of),
+        }
+        for (place, buffer) in buffers.into_iter().enumerate() {
+            let right = buffer(&mut case.clone()).clone();
+            for length in noise::around(right.len()) {
+                let mut case = case.clone();
+                *buffer(&mut case) = resized(&right, length, rng);
+                let compared = both(subject, &case, rng);
+                compared.map_err(|difference| format!("{name}, buffer {place} of {length} bytes: {difference}"))?;
+                calls += 1;
+            }
+        }
+    }
+    Ok(calls)
+}
+
+type Part = fn(&mut Case) -> &mut Vec<u8>;
+
 /// The four kinds of call, each right, with what can be wrong in it alone.
 fn kinds(fleet: Fleet, rng: &mut Rng) -> Vec<(Base, Vec<Spoiler<Case>>)> {
-    let seat = rng.below(fleet.n as usize) as u32;
-    let other = rng.below(fleet.n as usize) as u32;
-    let value = *rng.pick(&layouts());
-    let (unsaid, said) = (opened(fleet, seat), submitted(fleet, seat, value));
-    let own = Call::Submit { value: value.to_vec(), signature: fleet.signature(seat, &value, 0) };
-    let submit = fleet.submit(other, &value, 0);
-    let notice = fleet.notice(other, &value);
-    let full = fleet.full(other, &value, &seats_with(fleet, other, rng), 0);
-    let mut base = |name, record, call| {
-        let (store, out) = (rng.bytes(store::length(fleet.n)), rng.bytes(out_length(fleet.n)));
-        Base { name, case: Case { record, keys: fleet.key_table(), store, call, out } }
-    };
-    let step = |message: Vec<u8>| Call::Step { message };
-    let mut in_submit = on_part(messages::submit(fleet, &submit), message_of);
+    let right = Right::new(fleet, rng);
+    let unsaid = opened(fleet, right.seat);
+    let mut in_submit = on_part(messages::submit(fleet, &right.submit), message_of);
     in_submit.push(spoiler(13, "before the own submit", move |case: &mut Case, _| case.record = unsaid));
-    vec![
-        (base("submit", unsaid, own), own_spoilers(fleet, seat, value)),
-        (base("SUBMIT", said, step(submit.write())), in_submit),
-        (base("NOTICE", unsaid, step(notice.write())), on_part(messages::notice(fleet, &notice), message_of)),
-        (base("FULL", unsaid, step(full.write())), on_part(messages::full(fleet, &full), message_of)),
-    ]
+    let spoilers = [
+        own_spoilers(fleet, right.seat, right.value),
+        in_submit,
+        on_part(messages::notice(fleet, &right.notice), message_of),
+        on_part(messages::full(fleet, &right.full), message_of),
+    ];
+    right.calls(fleet, rng).into_iter().zip(spoilers).collect()
 }
 
 fn message_of(case: &mut Case) -> &mut Vec<u8> {

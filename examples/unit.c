@@ -1,0 +1,181 @@
+/* A unit's loop over a recorded round: what a display's firmware does with libzolbine.a.
+ *
+ *     gcc -std=c11 -Iinclude examples/unit.c target/staticlib/libzolbine.a -o unit && ./unit examples/round.bin
+ *
+ * The file holds what reached one boat, in the order in which it came: 0x10 with n (1 byte), own seat (1), round (2) and the
+ * fleet's n public keys of 56 bytes; then 0x12 with the own layout (32) and the signature over it (1,452), or 0x11 with the
+ * length (2) of a message heard and its bytes. A display gets the same from its plotter, its signer and its radio.
+ * harness/data/yard/radio.txt is this round to read, and unit.txt what the program prints.
+ */
+#include "zolbine.h"
+
+#include <stdio.h>
+#include <stdlib.h>
+
+enum { VALUE_LEN = 32, SUBMIT_LEN = 1488, MOST_SEATS = 32 };
+
+/* One round of one boat. Record and store belong together: they are kept together and given to every call together. */
+struct unit {
+    struct zolbine_record record;
+    uint8_t *keys, *store, *out;
+    size_t keys_len, store_len, out_len;
+    uint8_t *early[MOST_SEATS]; /* SUBMITs that came before the own submit, to be given again after it */
+    size_t early_count;
+};
+
+static void stop(const char *why)
+{
+    fprintf(stderr, "unit: %s\n", why);
+    exit(1);
+}
+
+static uint8_t *buffer(size_t len)
+{
+    uint8_t *bytes = malloc(len > 0 ? len : 1); /* a pointer is never NULL, also where the length is 0 */
+    if (bytes == NULL)
+        stop("no memory");
+    return bytes;
+}
+
+static void read_bytes(FILE *file, uint8_t *bytes, size_t len)
+{
+    if (fread(bytes, 1, len, file) != len)
+        stop("the recorded round ends too early");
+}
+
+static unsigned number(const uint8_t *bytes)
+{
+    return 256u * bytes[0] + bytes[1];
+}
+
+/* Lengths by n, as docs/HOST.md has them. */
+static unsigned seats_to_confirm(unsigned n)
+{
+    return n - ((n + 2) / 3 - 1);
+}
+
+static void open_unit(struct unit *unit, FILE *file)
+{
+    uint8_t head[4];
+    struct zolbine_opened opened;
+
+    read_bytes(file, head, sizeof head);
+    unit->keys_len = 56 * (size_t)head[0];
+    unit->keys = buffer(unit->keys_len);
+    read_bytes(file, unit->keys, unit->keys_len);
+    opened = zolbine_open(head[0], head[1], number(head + 2), unit->keys, unit->keys_len);
+    printf("open n %u, seat %u, round %u: %u\n", head[0], head[1], number(head + 2), (unsigned)opened.number);
+    if (opened.number != 0)
+        stop("the opening is refused");
+    unit->record = opened.record;
+    unit->store_len = 2904 * (size_t)head[0];
+    unit->store = buffer(unit->store_len); /* any bytes will do */
+    unit->out_len = 1629 + 4360 * (size_t)seats_to_confirm(head[0]);
+    unit->out = buffer(unit->out_len);
+    unit->early_count = 0;
+}
+
+/* All of the bytes written go on the air. Here the messages among them are named. */
+static void send_all(const uint8_t *out, size_t written)
+{
+    size_t len;
+
+    for (; written > 0; out += len, written -= len) {
+        switch (out[0]) {
+        case 0x01: len = SUBMIT_LEN; printf("  sends SUBMIT"); break;
+        case 0x02: len = 36; printf("  sends NOTICE"); break;
+        case 0x03: len = 37 + 1454 * (size_t)out[36]; printf("  sends FULL"); break;
+        default: len = 68 + 2906 * (size_t)out[67]; printf("  sends EVIDENCE"); break;
+        }
+        printf(", %zu bytes\n", len);
+    }
+}
+
+/* A refusal has changed nothing: record and store go on as they are, and nothing was written. Otherwise record and store are kept
+ * in lasting memory here, before the first byte leaves.
+ */
+static void answered(const struct unit *unit, const char *what, uint32_t number, uint32_t written)
+{
+    printf("%s: %u\n", what, (unsigned)number);
+    send_all(unit->out, written);
+}
+
+static uint32_t step(struct unit *unit, const uint8_t *message, size_t len)
+{
+    static const char *const names[] = { "garbled", "SUBMIT", "NOTICE", "FULL" };
+    struct zolbine_written answer = zolbine_step_lent(&unit->record, unit->keys, unit->keys_len, unit->store,
+                                                      unit->store_len, message, len, unit->out, unit->out_len);
+
+    answered(unit, names[len == 0 || message[0] > 3 ? 0 : message[0]], answer.number, answer.written);
+    return answer.number;
+}
+
+static void submit(struct unit *unit, FILE *file)
+{
+    uint8_t *value = buffer(VALUE_LEN), *signature = buffer(ZOLBINE_SIGNATURE_LEN);
+    struct zolbine_stepped answer;
+
+    read_bytes(file, value, VALUE_LEN);
+    read_bytes(file, signature, ZOLBINE_SIGNATURE_LEN);
+    answer = zolbine_submit(unit->record, unit->keys, unit->keys_len, unit->store, unit->store_len,
+                            value, VALUE_LEN, signature, ZOLBINE_SIGNATURE_LEN, unit->out, unit->out_len);
+    unit->record = answer.record; /* with a refusal it is as it was given */
+    answered(unit, "submit", answer.number, answer.written);
+    free(value);
+    free(signature);
+    while (answer.number == 0 && unit->early_count > 0) {
+        uint8_t *message = unit->early[--unit->early_count];
+        step(unit, message, SUBMIT_LEN);
+        free(message);
+    }
+}
+
+/* EVIDENCE is for the evidence check; every other message is for the unit. */
+static void hear(struct unit *unit, FILE *file)
+{
+    uint8_t head[2], *message;
+    size_t len;
+
+    read_bytes(file, head, sizeof head);
+    len = number(head);
+    message = buffer(len);
+    read_bytes(file, message, len);
+    if (len > 0 && message[0] == 0x05) {
+        struct zolbine_verdict verdict = zolbine_check_evidence(unit->record.n, unit->record.round, unit->keys,
+                                                                unit->keys_len, message, len);
+        printf("EVIDENCE: %u, seats 0x%08x\n", (unsigned)verdict.number, (unsigned)verdict.mask);
+    } else if (step(unit, message, len) == ZOLBINE_EARLY && unit->early_count < MOST_SEATS) {
+        unit->early[unit->early_count++] = message;
+        return;
+    }
+    free(message);
+}
+
+int main(int argc, char **argv)
+{
+    struct unit unit;
+    FILE *file = argc == 2 ? fopen(argv[1], "rb") : NULL;
+
+    if (file == NULL)
+        stop("a recorded round is needed: unit FILE");
+    if (getc(file) != 0x10)
+        stop("a recorded round starts with an opening");
+    open_unit(&unit, file);
+    for (int command = getc(file); command != EOF; command = getc(file)) {
+        if (command == 0x11)
+            hear(&unit, file);
+        else if (command == 0x12)
+            submit(&unit, file);
+        else
+            stop("an unknown command in the recorded round");
+    }
+    printf("%s; double signers 0x%08x\n", unit.record.confirmed ? "confirmed" : "not confirmed",
+           (unsigned)unit.record.guilty);
+    fclose(file);
+    while (unit.early_count > 0)
+        free(unit.early[--unit.early_count]);
+    free(unit.keys);
+    free(unit.store);
+    free(unit.out);
+    return 0;
+}

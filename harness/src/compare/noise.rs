@@ -1,0 +1,133 @@
+//! Random bytes as every operand: mostly turned back for one cause, now and then for a later one.
+
+use std::collections::BTreeMap;
+
+use super::engine::{self, Subject};
+use super::{check_signature, evidence, make_key, making, progress, run, sign};
+use crate::confirmer::{EvidenceCheck, Making};
+use crate::reference::lms::PUBLIC_KEY;
+use crate::rng::Rng;
+use crate::subject::Calls;
+
+/// The calls that are given random bytes.
+#[derive(Clone, Copy)]
+pub struct Subjects<'a> {
+    pub signatures: &'a dyn Calls,
+    pub evidence: &'a dyn EvidenceCheck,
+    pub engine: Subject<'a>,
+    pub making: &'a dyn Making,
+}
+
+const BATCH: usize = 1000;
+
+/// The numbers that each call must come by.
+const COVERED: [(&str, &[u32]); 8] = [
+    ("check_signature", &[5, 14]),
+    ("make_key", &[7, 16]),
+    ("sign", &[0, 3, 7, 16]),
+    ("check_evidence", &[1, 3, 5, 9, 10, 11, 12, 14]),
+    ("make_evidence", &[1, 3, 5, 7, 9, 10, 11, 12, 14]),
+    ("open", &[0, 1, 2, 3, 5]),
+    ("submit", &[4, 5, 6, 7, 8, 9, 14]),
+    ("step", &[0, 4, 5, 6, 7, 9, 10, 11, 12, 13, 14]),
+];
+
+/// A million calls in the long battery.
+pub fn battery(subjects: Subjects) {
+    let batches: Vec<usize> = (0..if super::long() { 1000 } else { 200 }).collect();
+    let tallies = run("random bytes, batches of 1000 calls", &batches, |_, rng| {
+        let mut tally = BTreeMap::new();
+        for _ in 0..BATCH {
+            *tally.entry(call(subjects, rng)?).or_insert(0) += 1;
+        }
+        Ok(tally)
+    });
+    let mut tally: BTreeMap<(&str, u32), usize> = BTreeMap::new();
+    for (told, times) in tallies.into_iter().flatten() {
+        *tally.entry(told).or_default() += times;
+    }
+    let told: Vec<String> = tally.iter().map(|((name, number), times)| format!("{name} {number}: {times}")).collect();
+    progress(&format!("random bytes: {}", told.join(", ")));
+    for (name, numbers) in COVERED {
+        for &number in numbers {
+            assert!(tally.contains_key(&(name, number)), "no random {name} was answered {number}");
+        }
+    }
+}
+
+/// A call's name and the number that it was answered.
+fn call(subjects: Subjects, rng: &mut Rng) -> Result<(&'static str, u32), String> {
+    let Subjects { signatures, evidence, engine, making } = subjects;
+    let (name, number) = match rng.below(12) {
+        0 => ("check_signature", check_signature::noise(signatures, rng)),
+        1 => ("make_key", make_key::noise(signatures, rng)),
+        2 => ("sign", sign::noise(signatures, rng)),
+        3 => ("check_evidence", evidence::noise(evidence, rng)),
+        4 => ("make_evidence", making::noise(making, rng)),
+        5 => ("open", engine::opening::noise(engine.engine, rng)),
+        6 | 7 => ("submit", engine::records::noise_submit(engine, rng)),
+        _ => ("step", engine::records::noise_step(engine, rng)),
+    };
+    let number = number.map_err(|difference| format!("{name}: {difference}"))?;
+    Ok((name, number))
+}
+
+/// A number below `limit` mostly, or a little above it, or any.
+pub fn number(limit: u32, rng: &mut Rng) -> u32 {
+    match rng.below(16) {
+        0 => rng.u32(),
+        1 => limit + rng.below(3) as u32,
+        _ => rng.below(limit as usize) as u32,
+    }
+}
+
+/// Bytes of the right length mostly, or near it, or few.
+pub fn bytes(right: usize, rng: &mut Rng) -> Vec<u8> {
+    let length = match rng.below(16) {
+        0 => rng.below(100),
+        1 => (right + 1).saturating_sub(rng.below(3)),
+        _ => right,
+    };
+    rng.bytes(length)
+}
+
+/// The bytes put into a place, as far as the buffer has it.
+pub fn set(buffer: &mut [u8], at: usize, bytes: &[u8]) {
+    buffer.iter_mut().skip(at).zip(bytes).for_each(|(place, byte)| *place = *byte);
+}
+
+/// A table of n keys of types 6 and 4, mostly.
+pub fn keys(n: u32, rng: &mut Rng) -> Vec<u8> {
+    let mut keys = bytes(PUBLIC_KEY * n as usize, rng);
+    for key in keys.chunks_mut(PUBLIC_KEY) {
+        if !rng.one_in(32) {
+            set(key, 0, &[0, 0, 0, 6, 0, 0, 0, 4]);
+        }
+    }
+    keys
+}
+
+/// A message's command, mostly its round, and a low seat.
+pub fn head(message: &mut [u8], command: u8, round: u32, rng: &mut Rng) {
+    let round = if rng.one_in(8) { round ^ 1 } else { round };
+    set(message, 0, &[command, (round >> 8) as u8, round as u8]);
+    set(message, 3, &[rng.below(4) as u8]);
+}
+
+/// The entries' command and low seats, mostly rising.
+pub fn entries(message: &mut [u8], start: usize, width: usize, command: u8, rng: &mut Rng) {
+    let entries = message.get_mut(start..).unwrap_or_default();
+    for (place, entry) in entries.chunks_mut(width).enumerate() {
+        let seat = if rng.one_in(4) { rng.below(5) } else { place };
+        set(entry, 0, &[command, seat as u8]);
+    }
+}
+
+/// The lengths around one, and the shortest.
+pub fn around(length: usize) -> Vec<usize> {
+    let mut lengths = vec![0, 1, 2, length / 2, 2 * length];
+    lengths.extend(length.saturating_sub(2)..=length + 2);
+    lengths.sort();
+    lengths.dedup();
+    lengths
+}
