@@ -17,8 +17,9 @@ use harness::reference::store;
 use harness::stack::used;
 use harness::subject::Calls;
 
-/// In KiB, as docs/HOST.md has it.
-const STATED: usize = 32;
+/// In KiB, as docs/HOST.md has it: for any call, and for one that comes to no signature.
+const STATED: usize = 40;
+const UNSIGNED: usize = 4;
 
 /// The deepest that each call went.
 #[derive(Default)]
@@ -45,10 +46,14 @@ fn the_stated_stack_is_enough() {
     let depths = depths.0.into_inner();
     progress(&format!("bytes of stack: {depths:?}"));
     for (name, depth) in depths {
-        assert!(depth <= 1024 * STATED, "{name} takes {depth} bytes of stack, and docs/HOST.md states {STATED} KiB");
+        let stated = if ["open", "step, NOTICE", "step, early"].contains(&name) { UNSIGNED } else { STATED };
+        assert!(depth <= 1024 * stated, "{name} takes {depth} bytes of stack, and docs/HOST.md states {stated} KiB");
     }
-    let stated = format!("Each call gets by with {STATED} KiB of stack");
-    assert!(include_str!("../../docs/HOST.md").contains(&stated), "docs/HOST.md hasn't: {stated}");
+    for stated in
+        [format!("Each call gets by with {STATED} KiB of stack"), format!("comes before 14) {UNSIGNED} KiB do")]
+    {
+        assert!(include_str!("../../docs/HOST.md").contains(&stated), "docs/HOST.md hasn't: {stated}");
+    }
 }
 
 fn signatures(depths: &Depths) {
@@ -71,6 +76,9 @@ fn round(depths: &Depths, fleet: Fleet) {
     let quorum: Vec<u32> = (0..fleet.k()).collect();
     let opened = depths.of("open", || Library.open(n, 0, round, &keys));
     let mut unit = Unit { record: opened.record, store: vec![0; store::length(n)], out: vec![0; out_length(n)], keys };
+    let early = fleet.submit(0, &value, 0).write();
+    let Unit { record, store, out, keys } = &mut unit;
+    assert_eq!(depths.of("step, early", || Library.step(*record, keys, store, &early, out)).number, 13);
     unit.hear(depths, "step, NOTICE", &fleet.notice(0, &other).write());
     unit.hear(depths, "step, FULL", &fleet.full(0, &other, &quorum, 0).write());
     let signature = fleet.signature(0, &value, 0);
