@@ -1,4 +1,4 @@
--- Sixteen chains of one leaf side by side: what the lanes' blocks hold.
+-- Sixteen chains side by side, each of the leaf that its lane has: what the lanes' blocks hold.
 use mathlib.Core.Path.{_≡_}
 use mathlib.Core.Logic.{_⊎_}
 use mathlib.Core.List.{List, [], _∷_}
@@ -25,31 +25,42 @@ pub record Placed (n : ℕ) (places : List ℕ) (t : ℕ) (v w z : List ℕ) : T
   pub low : (i : ℕ) → i < 80 → getD z i 0 ≡ getD w i 0
   pub high : (i : ℕ) → 224 ≤ i → getD z i 0 ≡ getD w i 0
 
--- the first five words of every block
+-- word 4 of the blocks z, of which those of n lanes are written, for the leaves' numbers; the others are those of w
+pub record Numbered (n : ℕ) (leaves w z : List ℕ) : Type 0 where
+  pub long : length z ≡ 1024
+  pub new : (l : ℕ) → l < n → getD z (l + 64) 0 ≡ getD leaves l 0
+  pub low : (i : ℕ) → i < 64 → getD z i 0 ≡ getD w i 0
+  pub high : (i : ℕ) → 80 ≤ i → getD z i 0 ≡ getD w i 0
+
+-- the first five words of a leaf's blocks
 unfoldable pub five : List ℕ → ℕ → List ℕ
 five id q = getD id 0 0 ∷ getD id 1 0 ∷ getD id 2 0 ∷ getD id 3 0 ∷ q ∷ []
 
--- blocks and working variables of the leaf q
-pub record Ready (id : List ℕ) (q : ℕ) (w s : List ℕ) : Type 0 where
+-- blocks and working variables of the lanes' leaves
+pub record Ready (id leaves w s : List ℕ) : Type 0 where
   pub long : length id ≡ 4
   pub words : (i : ℕ) → getD id i 0 < 4294967296
-  pub word : q < 4294967296
-  pub front : (l r : ℕ) → l < 16 → r < 5 → getD w (16 * r + l) 0 ≡ getD (five id q) r 0
+  pub numbers : (l : ℕ) → getD leaves l 0 < 4294967296
+  pub front : (l r : ℕ) → l < 16 → r < 5 → getD w (16 * r + l) 0 ≡ getD (five id (getD leaves l 0)) r 0
   pub zero : (l : ℕ) → l < 16 → getD w (224 + l) 0 ≡ 0
   pub bits : (l : ℕ) → l < 16 → getD w (240 + l) 0 ≡ 440
   pub begun : (l : ℕ) → l < 16 → State initial (place 0 l) s
-  pub first : (l : ℕ) → l < 16 → State (rounds (five id q) initial 5) (place 5 l) s
+  pub first : (l : ℕ) → l < 16 → State (rounds (five id (getD leaves l 0)) initial 5) (place 5 l) s
 
--- a step of every chain of a leaf for which w and s are ready
+-- a step of every chain, for leaves for which w and s are ready
 unfoldable pub Stepped : List ℕ → ℕ → List ℕ → List ℕ → List ℕ → List ℕ → List ℕ → List ℕ → Type 0
 Stepped places t w s v w′ s′ v′ =
-    (id : List ℕ) (q : ℕ) → Ready id q w s
-    → Ready id q w′ s′
+    (id leaves : List ℕ) → Ready id leaves w s
+    → Ready id leaves w′ s′
     × ((l i j : ℕ) → l < 16 → i < 65536 → j + t < 256 → getD places l 0 ≡ i * 65536 + j * 256
-    → bytes (column l 8 v′) ≡ H (chainInput (bytes id) q i (j + t) (bytes (column l 8 v))))
+    → bytes (column l 8 v′) ≡ H (chainInput (bytes id) (getD leaves l 0) i (j + t) (bytes (column l 8 v))))
 
 -- every lane has come t places on from v₀ to v
-unfoldable pub Walked : List ℕ → ℕ → List ℕ → ℕ → List ℕ → List ℕ → Type 0
-Walked id q places t v₀ v =
+unfoldable pub Walked : List ℕ → List ℕ → List ℕ → ℕ → List ℕ → List ℕ → Type 0
+Walked id leaves places t v₀ v =
     (l i j : ℕ) → l < 16 → i < 65536 → j + t ≤ 255 → getD places l 0 ≡ i * 65536 + j * 256
-    → bytes (column l 8 v) ≡ chain (bytes id) q i j t (bytes (column l 8 v₀))
+    → bytes (column l 8 v) ≡ chain (bytes id) (getD leaves l 0) i j t (bytes (column l 8 v₀))
+
+-- the same, for all leaves for which w and s were ready
+unfoldable pub AllWalked : List ℕ → ℕ → List ℕ → List ℕ → List ℕ → List ℕ → List ℕ → List ℕ → Type 0
+AllWalked places t w₀ s₀ v₀ w s v = (id leaves : List ℕ) → Ready id leaves w₀ s₀ → Ready id leaves w s × Walked id leaves places t v₀ v

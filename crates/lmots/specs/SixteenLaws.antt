@@ -1,4 +1,4 @@
--- Sixteen chains of one leaf side by side: every lane steps as its chain does.
+-- Sixteen chains side by side: every lane steps as its chain does.
 use mathlib.Core.Path.{_≡_, refl, sym, ap, subst, _∙_}
 use mathlib.Core.Logic.{_⊎_, inl, inr, ⊎-elim}
 use mathlib.Core.List.{List, [], _∷_}
@@ -14,7 +14,7 @@ use Rattle.lanes.specs.Laws.{below, above, there, length-column, getD-column, c
 use Rattle.rfc8554.specs.Ots.{chain, chainInput}
 use Rattle.lmots.specs.ChainLaws.{prepared, compressed, chain-turn}
 use Rattle.lmots.specs.Pieces.{across}
-use Rattle.lmots.specs.Sixteen.{Slid, Placed, five, Ready, Stepped, Walked}
+use Rattle.lmots.specs.Sixteen.{Slid, Placed, Numbered, five, Ready, Stepped, Walked, AllWalked}
 
 -- ---- the loops that write the blocks
 
@@ -91,15 +91,19 @@ unfolding across
 across-lt a b = omega arith
 
 -- a lane l of the blocks z, for places and values in v
-module _ (id : List ℕ) (q : ℕ) (places : List ℕ) (t : ℕ) (w s v y z : List ℕ) (ready : Ready id q w s) (placed : Placed 16 places t v w y)
+module _ (id leaves places : List ℕ) (t : ℕ) (w s v y z : List ℕ) (ready : Ready id leaves w s) (placed : Placed 16 places t v w y)
     (slid : Slid 112 v y z) (l : ℕ) (hl : l < 16) where
+  leaf : ℕ
+  leaf = getD leaves l 0
+
   value : (r : ℕ) → r < 8 → getD (column l 8 v) r 0 ≡ getD v (16 * r + l) 0
   value r h = getD-column l 8 v r h
 
   at : (xs : List ℕ) (i j : ℕ) → i ≡ j → getD xs i 0 ≡ getD xs j 0
   at xs i j e = ap (λ (m : ℕ). getD xs m 0) e
 
-  front-word : (r : ℕ) → r < 5 → getD z (16 * r + l) 0 ≡ getD (five id q) r 0
+  front-word : (r : ℕ) → r < 5 → getD z (16 * r + l) 0 ≡ getD (five id leaf) r 0
+  unfolding leaf
   front-word r h = slid .old (16 * r + l) (inl (omega arith)) ∙ placed .low (16 * r + l) (omega arith) ∙ ready .front l r hl h
 
   place-word : getD z (80 + l) 0 ≡ getD places l 0 + 256 * t + getD (column l 8 v) 0 0 / 16777216 % 256
@@ -127,7 +131,7 @@ module _ (id : List ℕ) (q : ℕ) (places : List ℕ) (t : ℕ) (w s v y z : Li
   module _ (i j : ℕ) (hi : i < 65536) (hj : j + t < 256) (e : getD places l 0 ≡ i * 65536 + j * 256) where
     words : List ℕ
     words =
-        getD id 0 0 ∷ getD id 1 0 ∷ getD id 2 0 ∷ getD id 3 0 ∷ q ∷ (i * 65536 + (j + t) * 256 + getD (column l 8 v) 0 0 / 16777216 % 256)
+        getD id 0 0 ∷ getD id 1 0 ∷ getD id 2 0 ∷ getD id 3 0 ∷ leaf ∷ (i * 65536 + (j + t) * 256 + getD (column l 8 v) 0 0 / 16777216 % 256)
         ∷ across (getD (column l 8 v) 0 0) (getD (column l 8 v) 1 0) ∷ across (getD (column l 8 v) 1 0) (getD (column l 8 v) 2 0)
         ∷ across (getD (column l 8 v) 2 0) (getD (column l 8 v) 3 0) ∷ across (getD (column l 8 v) 3 0) (getD (column l 8 v) 4 0)
         ∷ across (getD (column l 8 v) 4 0) (getD (column l 8 v) 5 0) ∷ across (getD (column l 8 v) 5 0) (getD (column l 8 v) 6 0)
@@ -158,7 +162,7 @@ module _ (id : List ℕ) (q : ℕ) (places : List ℕ) (t : ℕ) (w s v y z : Li
         )
 
     small : Words words
-    unfolding words
+    unfolding words leaf
     small =
         let fifth : i * 65536 + (j + t) * 256 + getD (column l 8 v) 0 0 / 16777216 % 256 < 4294967296 = omega arith in
         let last : getD (column l 8 v) 7 0 % 16777216 * 256 + 128 < 4294967296 = omega arith in
@@ -168,7 +172,7 @@ module _ (id : List ℕ) (q : ℕ) (places : List ℕ) (t : ℕ) (w s v y z : Li
         (more (ready .words 1)
         (more (ready .words 2)
         (more (ready .words 3)
-        (more (ready .word)
+        (more (ready .numbers l)
         (more fifth
         (more (across-lt _ _)
         (more (across-lt _ _)
@@ -178,20 +182,20 @@ module _ (id : List ℕ) (q : ℕ) (places : List ℕ) (t : ℕ) (w s v y z : Li
         (more (across-lt _ _)
         (more (across-lt _ _) (more last (more zeros (more bits none)))))))))))))))
 
-    padded : bytes (column l 16 z) ≡ pad (chainInput (bytes id) q i (j + t) (bytes (column l 8 v)))
+    padded : bytes (column l 16 z) ≡ pad (chainInput (bytes id) leaf i (j + t) (bytes (column l 8 v)))
     unfolding words
     padded =
         ap bytes block
-        ∙ prepared id (column l 8 v) q i (j + t) _ _ _ _ _ _ _ (ready .long) (length-column l 8 v) hi hj refl refl refl refl refl refl refl
+        ∙ prepared id (column l 8 v) leaf i (j + t) _ _ _ _ _ _ _ (ready .long) (length-column l 8 v) hi hj refl refl refl refl refl refl refl
 
-    lane-stepped : (v′ : List ℕ) → Compressed z s 5 v′ → bytes (column l 8 v′) ≡ sha256 (chainInput (bytes id) q i (j + t) (bytes (column l 8 v)))
-    unfolding Compressed
+    lane-stepped : (v′ : List ℕ) → Compressed z s 5 v′ → bytes (column l 8 v′) ≡ sha256 (chainInput (bytes id) leaf i (j + t) (bytes (column l 8 v)))
+    unfolding Compressed leaf
     lane-stepped v′ f =
-        let same = rounds-first (five id q) (column l 16 z) initial 5 (λ n h. sym (getD-column l 16 z n (omega arith) ∙ front-word n h)) in
+        let same = rounds-first (five id leaf) (column l 16 z) initial 5 (λ n h. sym (getD-column l 16 z n (omega arith) ∙ front-word n h)) in
         compressed (column l 16 z) initial (column l 8 v′) _ (length-column l 16 z) (λ n. rw block (word-lt small n)) refl padded
         (f l initial hl (ready .begun l hl) (rw same at (ready .first l hl)))
 
-module _ (id : List ℕ) (q : ℕ) (places : List ℕ) (t : ℕ) (w s v y z w′ s′ v′ : List ℕ) (placed : Placed 16 places t v w y) (slid : Slid 112 v y z)
+module _ (id leaves places : List ℕ) (t : ℕ) (w s v y z w′ s′ v′ : List ℕ) (placed : Placed 16 places t v w y) (slid : Slid 112 v y z)
     (same : Same 256 z w′) (kept : Kept (1024 - 16 * 5) s s′) where
   still : (i : ℕ) → (i < 80) ⊎ (224 ≤ i) → i < 256 → getD w′ i 0 ≡ getD w i 0
   unfolding Same
@@ -202,13 +206,13 @@ module _ (id : List ℕ) (q : ℕ) (places : List ℕ) (t : ℕ) (w s v y z w′
       (λ a. slid .old i (inr (omega arith)) ∙ placed .high i a)
       h
 
-  still-ready : Ready id q w s → Ready id q w′ s′
+  still-ready : Ready id leaves w s → Ready id leaves w′ s′
   unfolding Kept
   still-ready r =
       record {
         long = r .long;
         words = r .words;
-        word = r .word;
+        numbers = r .numbers;
         front = λ l n h k. still (16 * n + l) (inl (omega arith)) (omega arith) ∙ r .front l n h k;
         zero = λ l h. still (224 + l) (inr (omega arith)) (omega arith) ∙ r .zero l h;
         bits = λ l h. still (240 + l) (inr (omega arith)) (omega arith) ∙ r .bits l h;
@@ -218,10 +222,10 @@ module _ (id : List ℕ) (q : ℕ) (places : List ℕ) (t : ℕ) (w s v y z w′
 
 pub stepped-by : (places : List ℕ) (t : ℕ) (w s v y z w′ s′ v′ : List ℕ) → Placed 16 places t v w y → Slid 112 v y z → Same 256 z w′
     → Kept (1024 - 16 * 5) s s′ → Compressed z s 5 v′ → Stepped places t w s v w′ s′ v′
-unfolding Stepped
-stepped-by places t w s v y z w′ s′ v′ placed slid same kept done id q ready = (
-  still-ready id q places t w s v y z w′ s′ v′ placed slid same kept ready,
-  λ l i j hl hi hj e. lane-stepped id q places t w s v y z ready placed slid l hl i j hi hj e v′ done,
+unfolding Stepped leaf
+stepped-by places t w s v y z w′ s′ v′ placed slid same kept done id leaves ready = (
+  still-ready id leaves places t w s v y z w′ s′ v′ placed slid same kept ready,
+  λ l i j hl hi hj e. lane-stepped id leaves places t w s v y z ready placed slid l hl i j hi hj e v′ done,
 )
 
 -- ---- the words and rounds that are made once
@@ -230,74 +234,107 @@ no-rounds : (w s : List ℕ) (n : ℕ) → State initial n s → State (rounds w
 unfolding rounds
 no-rounds w s n x = x
 
-five-first : (id : List ℕ) (q n : ℕ) → n < 5
-    → getD (getD id 0 0 ∷ getD id 1 0 ∷ getD id 2 0 ∷ getD id 3 0 ∷ q ∷ 0 ∷ 0 ∷ 0 ∷ 0 ∷ 0 ∷ 0 ∷ 0 ∷ 0 ∷ 0 ∷ 0 ∷ 440 ∷ []) n 0 ≡ getD (five id q) n 0
-unfolding five
-five-first id q zero h = refl
-five-first id q (suc zero) h = refl
-five-first id q (suc (suc zero)) h = refl
-five-first id q (suc (suc (suc zero))) h = refl
-five-first id q (suc (suc (suc (suc zero)))) h = refl
-five-first id q (suc (suc (suc (suc (suc n))))) h = absurd (omega arith)
+-- what the lanes' blocks hold before the leaves' numbers are written
+unfoldable pub unnumbered : List ℕ → List ℕ
+unnumbered id = getD id 0 0 ∷ getD id 1 0 ∷ getD id 2 0 ∷ getD id 3 0 ∷ 0 ∷ 0 ∷ 0 ∷ 0 ∷ 0 ∷ 0 ∷ 0 ∷ 0 ∷ 0 ∷ 0 ∷ 0 ∷ 440 ∷ []
 
-pub ready-by : (id : List ℕ) (q : ℕ) (m w s r : List ℕ) → length id ≡ 4 → ((i : ℕ) → getD id i 0 < 4294967296) → q < 4294967296
-    → m ≡ getD id 0 0 ∷ getD id 1 0 ∷ getD id 2 0 ∷ getD id 3 0 ∷ q ∷ 0 ∷ 0 ∷ 0 ∷ 0 ∷ 0 ∷ 0 ∷ 0 ∷ 0 ∷ 0 ∷ 0 ∷ 440 ∷ []
-    → ((l : ℕ) → l < 16 → column l 16 w ≡ m) → ((l : ℕ) → l < 16 → State initial (place 0 l) s) → Kept (1024 - 16 * 0) s r → Rounded w 0 5 s r
-    → Ready id q w r
-unfolding Kept Rounded
-ready-by id q m w s r li bi bq e f g kept done =
-    let word : (l n : ℕ) → l < 16 → n < 16 → getD w (16 * n + l) 0 ≡ getD m n 0 =
-    λ l n h k. sym (getD-column l 16 w n k) ∙ ap (λ (c : List ℕ). getD c n 0) (f l h) in
-    let five-word : (l n : ℕ) → l < 16 → n < 5 → getD w (16 * n + l) 0 ≡ getD (five id q) n 0 =
-    λ l n h k. word l n h (omega arith) ∙ rw e (five-first id q n k) in
+four-first : (id : List ℕ) (q n : ℕ) → n < 4 → getD (unnumbered id) n 0 ≡ getD (five id q) n 0
+unfolding unnumbered five
+four-first id q zero h = refl
+four-first id q (suc zero) h = refl
+four-first id q (suc (suc zero)) h = refl
+four-first id q (suc (suc (suc zero))) h = refl
+four-first id q (suc (suc (suc (suc n)))) h = absurd (omega arith)
+
+fifth-word : (id : List ℕ) (q : ℕ) → getD (five id q) 4 0 ≡ q
+unfolding five
+fifth-word id q = refl
+
+pub numbered-none : (leaves w : List ℕ) → length w ≡ 1024 → Numbered 0 leaves w w
+numbered-none leaves w l = record { long = l; new = λ i h. absurd (omega arith); low = λ i h. refl; high = λ i h. refl }
+
+pub numbered-turn : (n : ℕ) (leaves w z : List ℕ) (x : ℕ) → n < 16 → x ≡ getD leaves n 0 → Numbered n leaves w z → Numbered (n + 1) leaves w (set z (n + 64) x)
+numbered-turn n leaves w z x h p f =
     record {
-      long = li;
-      words = bi;
-      word = bq;
-      front = five-word;
-      zero = λ l h. word l 14 h (omega arith) ∙ rw e;
-      bits = λ l h. word l 15 h (omega arith) ∙ rw e;
-      begun = λ l h. kept initial (place 0 l) (omega arith) (omega arith) (g l h);
-      first =
-          λ l h.
-          subst (λ (p : List ℕ). State p (place 5 l) r)
-          (rounds-first (column l 64 w) (five id q) initial 5 (λ n k. getD-column l 64 w n (omega arith) ∙ five-word l n h k))
-          (done l initial h (no-rounds (column l 64 w) s (place 0 l) (g l h)));
+      long = simp length-set (f .long);
+      new =
+          λ i k.
+          let fits : i ≤ n = omega arith in
+          ⊎-elim
+          (λ e. rw e (there z (n + 64) (n + 64) x refl (omega (arith, f .long)) ∙ p))
+          (λ a. below z (n + 64) (i + 64) x (omega arith) ∙ f .new i a)
+          (eq-or-lt-of-le fits);
+      low = λ i k. below z (n + 64) i x (omega arith) ∙ f .low i k;
+      high = λ i k. above z (n + 64) i x (omega arith) ∙ f .high i k;
     }
+
+module _ (id leaves m w₀ w s r : List ℕ) (li : length id ≡ 4) (bi : (i : ℕ) → getD id i 0 < 4294967296) (bl : (l : ℕ) → getD leaves l 0 < 4294967296)
+    (e : m ≡ unnumbered id) (f : (l : ℕ) → l < 16 → column l 16 w₀ ≡ m) (n : Numbered 16 leaves w₀ w) (g : (l : ℕ) → l < 16 → State initial (place 0 l) s)
+    (kept : Kept (1024 - 16 * 0) s r) (done : Rounded w 0 5 s r) where
+  spread-word : (l n : ℕ) → l < 16 → n < 16 → getD w₀ (16 * n + l) 0 ≡ getD (unnumbered id) n 0
+  spread-word l n h k = sym (getD-column l 16 w₀ n k) ∙ ap (λ (c : List ℕ). getD c n 0) (f l h ∙ e)
+
+  five-word : (l r : ℕ) → l < 16 → r < 5 → getD w (16 * r + l) 0 ≡ getD (five id (getD leaves l 0)) r 0
+  five-word l r h k =
+      let fits : r ≤ 4 = omega arith in
+      let fourth : 16 * 4 + l ≡ l + 64 = omega arith in
+      ⊎-elim
+      (λ a.
+      rw a (ap (λ (i : ℕ). getD w i 0) fourth ∙ n .new l h ∙ sym (fifth-word id (getD leaves l 0))))
+      (λ a. n .low (16 * r + l) (omega arith) ∙ spread-word l r h (omega arith) ∙ four-first id (getD leaves l 0) r a)
+      (eq-or-lt-of-le fits)
+
+  pub ready-by : Ready id leaves w r
+  unfolding Kept Rounded unnumbered
+  ready-by =
+      record {
+        long = li;
+        words = bi;
+        numbers = bl;
+        front = five-word;
+        zero = λ l h. n .high (224 + l) (omega arith) ∙ spread-word l 14 h (omega arith);
+        bits = λ l h. n .high (240 + l) (omega arith) ∙ spread-word l 15 h (omega arith);
+        begun = λ l h. kept initial (place 0 l) (omega arith) (omega arith) (g l h);
+        first =
+            λ l h.
+            subst (λ (p : List ℕ). State p (place 5 l) r)
+            (rounds-first (column l 64 w) (five id (getD leaves l 0)) initial 5 (λ n k. getD-column l 64 w n (omega arith) ∙ five-word l n h k))
+            (done l initial h (no-rounds (column l 64 w) s (place 0 l) (g l h)));
+      }
 
 -- ---- chains
 
-pub walked-none : (id : List ℕ) (q : ℕ) (places v : List ℕ) → Walked id q places 0 v v
+pub walked-none : (id leaves places v : List ℕ) → Walked id leaves places 0 v v
 unfolding Walked chain
-walked-none id q places v l i j hl hi hj e = refl
+walked-none id leaves places v l i j hl hi hj e = refl
 
-pub walked-turn : (id : List ℕ) (q : ℕ) (places : List ℕ) (t : ℕ) (w s v₀ v w′ s′ v′ : List ℕ) → Ready id q w s → Stepped places t w s v w′ s′ v′
-    → Walked id q places t v₀ v → Walked id q places (t + 1) v₀ v′
+pub walked-turn : (id leaves places : List ℕ) (t : ℕ) (w s v₀ v w′ s′ v′ : List ℕ) → Ready id leaves w s → Stepped places t w s v w′ s′ v′
+    → Walked id leaves places t v₀ v → Walked id leaves places (t + 1) v₀ v′
 unfolding Walked Stepped
-walked-turn id q places t w s v₀ v w′ s′ v′ ready stepped f l i j hl hi hj e =
-    chain-turn (bytes id) (bytes (column l 8 v₀)) (column l 8 v) (column l 8 v′) q i j t (f l i j hl hi (omega arith) e)
-    (stepped id q ready .1 l i j hl hi (omega arith) e)
+walked-turn id leaves places t w s v₀ v w′ s′ v′ ready stepped f l i j hl hi hj e =
+    chain-turn (bytes id) (bytes (column l 8 v₀)) (column l 8 v) (column l 8 v′) (getD leaves l 0) i j t (f l i j hl hi (omega arith) e)
+    (stepped id leaves ready .1 l i j hl hi (omega arith) e)
 
-pub still-by : (id : List ℕ) (q : ℕ) (places : List ℕ) (t : ℕ) (w s v w′ s′ v′ : List ℕ) → Ready id q w s → Stepped places t w s v w′ s′ v′ → Ready id q w′ s′
+pub still-by : (id leaves places : List ℕ) (t : ℕ) (w s v w′ s′ v′ : List ℕ) → Ready id leaves w s → Stepped places t w s v w′ s′ v′ → Ready id leaves w′ s′
 unfolding Stepped
-still-by id q places t w s v w′ s′ v′ ready stepped = stepped id q ready .0
-
--- the same, for every leaf for which w and s were ready
-unfoldable pub AllWalked : List ℕ → ℕ → List ℕ → List ℕ → List ℕ → List ℕ → List ℕ → List ℕ → Type 0
-AllWalked places t w₀ s₀ v₀ w s v = (id : List ℕ) (q : ℕ) → Ready id q w₀ s₀ → Ready id q w s × Walked id q places t v₀ v
+still-by id leaves places t w s v w′ s′ v′ ready stepped = stepped id leaves ready .0
 
 pub all-none : (places w s v : List ℕ) → AllWalked places 0 w s v w s v
 unfolding AllWalked
-all-none places w s v id q r = (r, walked-none id q places v)
+all-none places w s v id leaves r = (r, walked-none id leaves places v)
 
 pub all-turn : (places : List ℕ) (t : ℕ) (w₀ s₀ v₀ w s v w′ s′ v′ : List ℕ) → AllWalked places t w₀ s₀ v₀ w s v → Stepped places t w s v w′ s′ v′
     → AllWalked places (t + 1) w₀ s₀ v₀ w′ s′ v′
 unfolding AllWalked
-all-turn places t w₀ s₀ v₀ w s v w′ s′ v′ f g id q r =
-    let now = f id q r in
-    (still-by id q places t w s v w′ s′ v′ (now .0) g, walked-turn id q places t w s v₀ v w′ s′ v′ (now .0) g (now .1))
+all-turn places t w₀ s₀ v₀ w s v w′ s′ v′ f g id leaves r =
+    let now = f id leaves r in
+    (still-by id leaves places t w s v w′ s′ v′ (now .0) g, walked-turn id leaves places t w s v₀ v w′ s′ v′ (now .0) g (now .1))
 
 pub all-done : (places : List ℕ) (t count : ℕ) (w₀ s₀ v₀ w s v : List ℕ) → t ≡ count → AllWalked places t w₀ s₀ v₀ w s v
-    → (id : List ℕ) (q : ℕ) → Ready id q w₀ s₀ → Walked id q places count v₀ v
+    → AllWalked places count w₀ s₀ v₀ w s v
+all-done places t count w₀ s₀ v₀ w s v e f = subst (λ (n : ℕ). AllWalked places n w₀ s₀ v₀ w s v) e f
+
+pub walked-for : (id leaves places : List ℕ) (count : ℕ) (w₀ s₀ v₀ w s v : List ℕ) → Ready id leaves w₀ s₀ → AllWalked places count w₀ s₀ v₀ w s v
+    → Walked id leaves places count v₀ v
 unfolding AllWalked
-all-done places t count w₀ s₀ v₀ w s v e f id q r = subst (λ (n : ℕ). Walked id q places n v₀ v) e (f id q r .1)
+walked-for id leaves places count w₀ s₀ v₀ w s v r f = f id leaves r .1

@@ -8,7 +8,7 @@ use native.Mathlib.Nat.{add-zero, zero-add, eq-or-lt-of-le}
 use native.Mathlib.Omega.{arith}
 use borrow.Author.Tests.{ltb-true, ltb-false}
 use lib.Dec.{ltb}
-use lib.ListN.{length, take, drop, getD, set, length-append, length-take, length-set, take-append-drop}
+use lib.ListN.{length, take, drop, getD, set, replicate, getD-replicate, length-append, length-take, length-set, take-append-drop}
 use lib.Seq.{length-take-le, drop-drop, getD-take, ext-getD, take-suc-set}
 use Rattle.octets.specs.Octets.{part, patch, bytes}
 use Rattle.octets.specs.Strings.{joined}
@@ -182,7 +182,7 @@ chain-join I q i a b d x h k =
 module _ (id : List ℕ) (q : ℕ) (places ends picks : List ℕ) (count : ℕ) (at v v′ z next z′ : List ℕ) (ordered : Ordered places ends)
     (some : (l : ℕ) → l < 16 → getD picks l 0 < 67) (few : (l : ℕ) → l < 16 → count ≤ getD ends (getD picks l 0) 0 - getD places (getD picks l 0) 0)
     (there-at : (l : ℕ) → l < 16 → getD at l 0 ≡ getD picks l 0 * 65536 + getD places (getD picks l 0) 0 * 256)
-    (gathered : (l : ℕ) → l < 16 → bytes (column l 8 v) ≡ part (32 * getD picks l 0) 32 z) (walked : Walked id q at count v v′)
+    (gathered : (l : ℕ) → l < 16 → bytes (column l 8 v) ≡ part (32 * getD picks l 0) 32 z) (walked : Walked id (replicate 16 q) at count v v′)
     (f : (i : ℕ) → i < 67 → Scattered 16 picks places count v′ z next z′ i) where
   stayed-moved : (i : ℕ) → i < 67 → Stayed places z next z′ i → MovedAt (bytes id) q ends places z next z′ i
   unfolding chain
@@ -207,7 +207,7 @@ module _ (id : List ℕ) (q : ℕ) (places ends picks : List ℕ) (count : ℕ) 
       record {
         low = omega arith;
         high = omega arith;
-        value = g .value ∙ walked l i (getD places i 0) hl (omega arith) (omega arith) place ∙ rw (start, ← steps);
+        value = g .value ∙ walked l i (getD places i 0) hl (omega arith) (omega arith) place ∙ rw (getD-replicate 16 l q 0 hl, start, ← steps);
       }
 
   pub moved-by : Moved (bytes id) q ends places z next z′

@@ -1,10 +1,10 @@
-// Sixteen chains of one leaf side by side: a step of all of them is one compression in each lane.
+// Sixteen chains side by side, each of the leaf that its lane has: a step of all of them is one compression in each lane.
 ghost use mathlib.Core.Path.{_≡_};
 ghost use mathlib.Core.List.{List};
 ghost use Prim.Native.Nat.{ℕ, _<_, _≤_};
 ghost use lib.ListN.{length, getD};
 ghost use Rattle.sha256.specs.Constants.{constants};
-ghost use Rattle.lmots.specs.Sixteen.{Slid, Placed, Ready, Stepped, Walked};
+ghost use Rattle.lmots.specs.Sixteen.{Slid, Placed, Numbered, Ready, Stepped, Walked, AllWalked};
 use crate::chain::across;
 use sha256::constants::initial_value;
 
@@ -34,8 +34,20 @@ fn put_places(places: &[u32; 16], t: u32, v: &[u32; 128], w: &mut [u32; 1024])
     }
 }
 
+// Word 4 of the blocks, the leaf's number.
+fn put_numbers(leaves: [u32; 16], w: &mut [u32; 1024])
+    requires { ⌜ (length (now w) ≡ 1024) ⌝ }
+    ensures { λ _. ⌜ Numbered 16 leaves (now (w .entry)) (now (w .exit)) ⌝ }
+{
+    let mut l = 0;
+    while l < 16 {
+        w[l + 64] = leaves[l];
+        l += 1;
+    }
+}
+
 // One step of every chain, t places after the lane's own.
-fn step(
+pub fn step(
     k: &[u32; 64],
     places: &[u32; 16],
     t: u32,
@@ -54,9 +66,15 @@ fn step(
 }
 
 // What is the same in every step of a leaf's chains: the blocks' words around place and value, and the first five rounds.
-fn prepare(k: &[u32; 64], id: [u32; 4], q: u32, w: &mut [u32; 1024], s: &mut [u32; 3264])
+pub fn prepare(
+    k: &[u32; 64],
+    id: [u32; 4],
+    leaves: [u32; 16],
+    w: &mut [u32; 1024],
+    s: &mut [u32; 3264],
+)
     requires { ⌜ (now k ≡ constants) × (length (now w) ≡ 1024) × (length (now s) ≡ 3264) ⌝ }
-    ensures { λ _. ⌜ (length (now (w .exit)) ≡ 1024) × (length (now (s .exit)) ≡ 3264) × Ready id q (now (w .exit)) (now (s .exit)) ⌝ }
+    ensures { λ _. ⌜ (length (now (w .exit)) ≡ 1024) × (length (now (s .exit)) ≡ 3264) × Ready id leaves (now (w .exit)) (now (s .exit)) ⌝ }
 {
     let h = initial_value();
     lanes::spread(
@@ -65,7 +83,7 @@ fn prepare(k: &[u32; 64], id: [u32; 4], q: u32, w: &mut [u32; 1024], s: &mut [u3
             id[1],
             id[2],
             id[3],
-            q,
+            0,
             0,
             0,
             0,
@@ -80,12 +98,13 @@ fn prepare(k: &[u32; 64], id: [u32; 4], q: u32, w: &mut [u32; 1024], s: &mut [u3
         ],
         w,
     );
+    put_numbers(leaves, w);
     lanes::start(h, s);
     lanes::rounds(k, w, s, 0, 5);
 }
 
-// Steps of every chain, for a leaf for which w and s are ready.
-fn walk(
+// Steps of every chain, for leaves for which w and s are ready.
+pub fn walk(
     k: &[u32; 64],
     places: &[u32; 16],
     count: u32,
@@ -96,7 +115,7 @@ fn walk(
     requires { ⌜ (now k ≡ constants) × (length (now w) ≡ 1024) × (length (now s) ≡ 3264) × (length (now v) ≡ 128) ⌝ }
     requires { ⌜ (length (now places) ≡ 16) × (count ≤ 255) × ((l : ℕ) → l < 16 → getD (now places) l 0 < 16777216) ⌝ }
     ensures { λ _. ⌜ (length (now (w .exit)) ≡ 1024) × (length (now (s .exit)) ≡ 3264) × (length (now (v .exit)) ≡ 128) ⌝ }
-    ensures { λ _. ⌜ ((id : List ℕ) (q : ℕ) → Ready id q (now (w .entry)) (now (s .entry)) → Walked id q (now (places .entry)) count (now (v .entry)) (now (v .exit))) ⌝ }
+    ensures { λ _. ⌜ AllWalked (now (places .entry)) count (now (w .entry)) (now (s .entry)) (now (v .entry)) (now (w .exit)) (now (s .exit)) (now (v .exit)) ⌝ }
 {
     let mut t = 0;
     while t < count {
@@ -109,17 +128,17 @@ fn walk(
 pub fn steps(
     k: &[u32; 64],
     id: [u32; 4],
-    q: u32,
+    leaves: [u32; 16],
     places: &[u32; 16],
     count: u32,
     v: &mut [u32; 128],
 )
     requires { ⌜ (now k ≡ constants) × (length (now v) ≡ 128) × (length (now places) ≡ 16) × (count ≤ 255) × ((l : ℕ) → l < 16 → getD (now places) l 0 < 16777216) ⌝ }
     ensures { λ _. ⌜ length (now (v .exit)) ≡ 128 ⌝ }
-    ensures { λ _. ⌜ Walked id q (now (places .entry)) count (now (v .entry)) (now (v .exit)) ⌝ }
+    ensures { λ _. ⌜ Walked id leaves (now (places .entry)) count (now (v .entry)) (now (v .exit)) ⌝ }
 {
     let mut w = [0u32; 1024];
     let mut s = [0u32; 3264];
-    prepare(k, id, q, &mut w, &mut s);
+    prepare(k, id, leaves, &mut w, &mut s);
     walk(k, places, count, &mut w, &mut s, v);
 }

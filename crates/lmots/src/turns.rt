@@ -191,7 +191,7 @@ fn turn(
     let at = row(places, picks);
     let mut v = [0u32; 128];
     gather(z, picks, &mut v);
-    steps(k, id, q, &at, count, &mut v);
+    steps(k, id, [q; 16], &at, count, &mut v);
     scatter(&v, picks, places, count, z)
 }
 

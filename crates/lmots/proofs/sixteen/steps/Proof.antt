@@ -1,4 +1,6 @@
 -- `lmots::sixteen::steps` meets its contract.
+use denote.Ref.{now}
+use Rattle.lmots.specs.SixteenLaws.{walked-for}
 use borrow.Author.Needs.{needs}
 use Rattle.lmots.proofs.sixteen.steps.Statement.{statement}
 use Rattle.lmots.proofs.sixteen.steps.Tie as tie
@@ -13,7 +15,7 @@ returns : tie.Need-returns
 returns c =
     let args = c .before .before .before .before .before .before .before .args in
     let prepared = c .before .before .before .before .prepare in
-    (c .walk .ensures .0 .2, c .walk .ensures .1 (args .id) (args .q) (prepared .ensures .2))
+    (c .walk .ensures .0 .2, walked-for (args .id) (args .leaves) (now (args .places)) (args .count) _ _ (now (args .v)) _ _ _ (prepared .ensures .2) (c .walk .ensures .1))
 
 pub steps-spec : {M : Type 1} → statement M
 steps-spec = tie.close (tie.spec prepare-requires walk-requires returns)

@@ -4,7 +4,8 @@ use Prim.Native.Nat.{_-_, _≤_}
 use native.Mathlib.Omega.{arith}
 use lib.ListN.{length}
 use denote.Ref.{now}
-use Rattle.lmots.specs.SixteenLaws.{AllWalked, all-none, all-turn, all-done}
+use Rattle.lmots.specs.Sixteen.{AllWalked}
+use Rattle.lmots.specs.SixteenLaws.{all-none, all-turn, all-done}
 use Rattle.lmots.proofs.sixteen.walk.Statement.{statement}
 use Rattle.lmots.proofs.sixteen.walk.Tie as tie
 
