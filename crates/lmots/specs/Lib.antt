@@ -10,3 +10,5 @@ pub mod WriteLaws
 pub mod ChainLaws
 pub mod DigitLaws
 pub mod KeyLaws
+pub mod Leaves
+pub mod LeafLaws

@@ -9,7 +9,7 @@ use native.Mathlib.Omega.{arith}
 use borrow.Author.Tests.{ltb-true, ltb-false}
 use lib.Dec.{ltb}
 use lib.ListN.{length, take, drop, getD, set, replicate, getD-replicate, length-append, length-take, length-set, take-append-drop}
-use lib.Seq.{length-take-le, drop-drop, getD-take, ext-getD, take-suc-set}
+use lib.Seq.{length-take-le, take-add, drop-drop, getD-take, ext-getD, take-suc-set}
 use Rattle.octets.specs.Octets.{part, patch, bytes}
 use Rattle.octets.specs.Strings.{joined}
 use Rattle.octets.specs.Laws.{length-part, length-patch, take-patch, length-bytes}
@@ -55,15 +55,23 @@ fill-next f xs l x g h k j a =
     (λ b. below xs l j x b ∙ g j b)
     (eq-or-lt-of-le fits)
 
--- ---- slots of 32 bytes
+-- ---- parts of what is written
 
-part-before : (a n b : ℕ) (ws xs : List ℕ) → a + n ≤ b → b ≤ length xs → part a n (patch b ws xs) ≡ part a n xs
+pub part-add : (at n m : ℕ) (xs : List ℕ) → part at (n + m) xs ≡ part at n xs ++ part (at + n) m xs
+unfolding part
+part-add at n m xs = take-add n m (drop at xs) ∙ rw (drop-drop n at xs)
+
+pub part-own : (a n : ℕ) (ws xs : List ℕ) → a ≤ length xs → length ws ≡ n → part a n (patch a ws xs) ≡ ws
+part-own a n ws xs h l =
+    ap (λ (b : ℕ). part b n (patch a ws xs)) (sym (add-zero a)) ∙ part-patch a 0 n ws xs h (omega arith) ∙ part-all ws n l
+
+pub part-before : (a n b : ℕ) (ws xs : List ℕ) → a + n ≤ b → b ≤ length xs → part a n (patch b ws xs) ≡ part a n xs
 unfolding patch
 part-before a n b ws xs h k =
     let l : length (take b xs) ≡ b = length-take-le b xs k in
     part-left (take b xs) _ a n (omega arith) ∙ sym (part-left (take b xs) (drop b xs) a n (omega arith)) ∙ ap (part a n) (take-append-drop b xs)
 
-part-after : (a n b : ℕ) (ws xs : List ℕ) → b + length ws ≤ a → b ≤ length xs → part a n (patch b ws xs) ≡ part a n xs
+pub part-after : (a n b : ℕ) (ws xs : List ℕ) → b + length ws ≤ a → b ≤ length xs → part a n (patch b ws xs) ≡ part a n xs
 unfolding patch part
 part-after a n b ws xs h k =
     let m = b + length ws in
@@ -73,11 +81,11 @@ part-after a n b ws xs h k =
     ap (λ (y : List ℕ). take n (drop a y)) (sym (append-assoc (take b xs) ws (drop m xs)))
     ∙ rw e (part-skip (take b xs ++ ws) (drop m xs) m d n l ∙ ap (take n) (drop-drop d m xs))
 
+-- ---- slots of 32 bytes
+
 module _ (z ws : List ℕ) (i : ℕ) (lz : length z ≡ 2144) (lw : length ws ≡ 32) (hi : i < 67) where
   slot-same : part (32 * i) 32 (patch (32 * i) ws z) ≡ ws
-  slot-same =
-      ap (λ (a : ℕ). part a 32 (patch (32 * i) ws z)) (sym (add-zero (32 * i)))
-      ∙ part-patch (32 * i) 0 32 ws z (omega arith) (omega arith) ∙ part-all ws 32 lw
+  slot-same = part-own (32 * i) 32 ws z (omega arith) lw
 
   slot-other : (j : ℕ) → Apart j i → part (32 * j) 32 (patch (32 * i) ws z) ≡ part (32 * j) 32 z
   slot-other j h =

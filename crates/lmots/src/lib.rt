@@ -3,6 +3,7 @@
 pub mod chain;
 pub mod digits;
 pub mod key;
+pub mod leaves;
 pub mod sixteen;
 pub mod turns;
 pub mod words;

@@ -113,7 +113,7 @@ fn row(places: [u32; 67], picks: [usize; 16]) -> [u32; 16]
 }
 
 // Lane l is y.
-fn put_lane(v: &mut [u32; 128], l: usize, y: [u32; 8])
+pub fn put_lane(v: &mut [u32; 128], l: usize, y: [u32; 8])
     requires { ⌜ (l < 16) × (length (now v) ≡ 128) ⌝ }
     ensures { λ _. ⌜ (length (now (v .exit)) ≡ 128) × (column l 8 (now (v .exit)) ≡ y) × ((j : ℕ) → j < l → column j 8 (now (v .exit)) ≡ column j 8 (now (v .entry))) ⌝ }
 {
@@ -124,7 +124,7 @@ fn put_lane(v: &mut [u32; 128], l: usize, y: [u32; 8])
     }
 }
 
-fn lane(v: &[u32; 128], l: usize) -> [u32; 8]
+pub fn lane(v: &[u32; 128], l: usize) -> [u32; 8]
     requires { ⌜ (l < 16) × (length (now v) ≡ 128) ⌝ }
     ensures { λ r. ⌜ r ≡ column l 8 (now (v .entry)) ⌝ }
 {

@@ -1,0 +1,87 @@
+-- `lmots::leaves::put_ends` meets its contract.
+use mathlib.Core.Path.{_≡_, subst}
+use Prim.Native.Nat.{ℕ, _-_, _≤_}
+use native.Mathlib.Omega.{arith}
+use borrow.Author.Needs.{needs}
+use denote.Ref.{now}
+use Rattle.lmots.specs.Leaves.{Put}
+use Rattle.lmots.specs.LeafLaws.{put-none, put-turn}
+use Rattle.lmots.proofs.leaves.put_ends.Statement.{statement}
+use Rattle.lmots.proofs.leaves.put_ends.Tie as tie
+
+abbrev Inv-loop : tie.InvT-loop
+Inv-loop v i z₀ l₀ z l = (l ≤ 16) × Put l i v z₀ z
+
+abbrev μ-loop : tie.MeasureT-loop
+μ-loop v i z₀ l₀ z l = 16 - l
+
+loop-holds : tie.Need-loop-holds Inv-loop μ-loop
+loop-holds c =
+    let start = c .before in
+    (omega arith, put-none (start .args .i) (now (start .args .v)) (now (start .args .z)) (start .pre .2))
+
+lane-requires : tie.Need-lane-requires Inv-loop μ-loop
+lane-requires c κs = (omega arith, c .before .before .before .pre .0)
+
+mul-put-eight : tie.Need-mul-put-eight Inv-loop μ-loop
+mul-put-eight c = omega arith
+
+mul-put-eight-2 : tie.Need-mul-put-eight-2 Inv-loop μ-loop
+mul-put-eight-2 c = omega arith
+
+add-put-eight : tie.Need-add-put-eight Inv-loop μ-loop
+add-put-eight c = omega arith
+
+add-put-eight-2 : tie.Need-add-put-eight-2 Inv-loop μ-loop
+add-put-eight-2 c = omega arith
+
+put-eight-requires : tie.Need-put-eight-requires Inv-loop μ-loop
+put-eight-requires c κs = let long = c .before .before .before .loop .inv .1 .long in omega arith
+
+add-l : tie.Need-add-l Inv-loop μ-loop
+add-l c = omega arith
+
+loop-less : tie.Need-loop-less Inv-loop μ-loop
+loop-less c = omega arith
+
+loop-again : tie.Need-loop-again Inv-loop μ-loop
+loop-again c =
+    let loop = c .before .before .before .before .before .before .loop in
+    let start = c .before .before .before .before .before .before .before .before in
+    let args = start .args in
+    let y = c .before .before .before .before .lane in
+    let put = c .before .before .put-eight in (
+      omega arith,
+      put-turn (loop .l) (args .i) (now (args .v)) (now (args .z)) (loop .z) (y .result) (put .last .0) (omega arith) (start .pre .1) (search needs) (y .ensures) (put .ensures) (loop .inv .1),
+    )
+
+same-length : tie.Need-same-length Inv-loop μ-loop
+same-length c =
+    let long = c .before .loop .inv .1 .long in
+    omega arith
+
+returns : tie.Need-returns Inv-loop μ-loop
+returns c =
+    let loop = c .before .loop in
+    let args = c .before .before .before .args in
+    let all : loop .l ≡ 16 = omega arith in
+    subst (λ (n : ℕ). Put n (args .i) (now (args .v)) (now (args .z)) (loop .z)) all (loop .inv .1)
+
+pub put-ends-spec : {M : Type 1} → statement M
+put-ends-spec =
+    tie.close
+    (tie.spec
+    Inv-loop
+    μ-loop
+    loop-holds
+    lane-requires
+    mul-put-eight
+    mul-put-eight-2
+    add-put-eight
+    add-put-eight-2
+    put-eight-requires
+    add-l
+    loop-less
+    loop-again
+    same-length
+    returns)

@@ -1,0 +1,164 @@
+-- Sixteen leaves, one in each lane: every string comes to be what is hashed to its leaf's key.
+use mathlib.Core.Path.{_≡_, refl, sym, ap, ap₂, _∙_}
+use mathlib.Core.Logic.{⊎-elim}
+use mathlib.Core.List.{List, _++_, append-assoc, append-nil}
+use Prim.Native.Nat.{ℕ, _+_, _*_, _≤_, _<_}
+use native.Mathlib.Nat.{eq-or-lt-of-le}
+use native.Mathlib.Numerals.{add-one}
+use native.Mathlib.Omega.{arith}
+use lib.ListN.{length, getD, replicate, getD-replicate}
+use Rattle.octets.specs.Octets.{part, patch, bytes}
+use Rattle.octets.specs.Laws.{length-patch, length-bytes}
+use Rattle.octets.specs.Strings.{joined}
+use Rattle.octets.specs.StringLaws.{length-joined, joined-same}
+use Rattle.sha256.specs.Fips.{sha256}
+use Rattle.sha256.specs.Laws.{length-sha256}
+use Rattle.lanes.specs.Rows.{column}
+use Rattle.rfc8554.specs.Ots.{H, chainInput, chain, start, keyInput, chainEnd, chains, otsKey, dPblc}
+use Rattle.lmots.specs.Leaves.{string, Ended, Put}
+use Rattle.lmots.specs.Pieces.{front}
+use Rattle.lmots.specs.Sixteen.{Ready, Stepped, Walked, AllWalked}
+use Rattle.lmots.specs.TurnLaws.{part-add, part-own, part-before, part-after, written-next}
+use Rattle.lmots.specs.WriteLaws.{patch-whole}
+
+-- ---- lanes
+
+-- one more lane with the value y
+pub filled-turn : (v v₁ y : List ℕ) (l : ℕ) → ((j : ℕ) → j < l → column j 8 v ≡ y) → column l 8 v₁ ≡ y → ((j : ℕ) → j < l → column j 8 v₁ ≡ column j 8 v)
+    → (j : ℕ) → j < l + 1 → column j 8 v₁ ≡ y
+filled-turn v v₁ y l f e g j a =
+    let fits : j ≤ l = omega arith in
+    ⊎-elim (λ i. rw i e) (λ b. g j b ∙ f j b) (eq-or-lt-of-le fits)
+
+-- the step over the seed and 255 more
+pub ended-by : (i : ℕ) (seed w s v w₁ s₁ v₁ w₂ s₂ v₂ : List ℕ) → i < 34 → ((l : ℕ) → l < 16 → column l 8 v ≡ seed)
+    → Stepped (replicate 16 (i * 65536 + 65280)) 0 w s v w₁ s₁ v₁ → AllWalked (replicate 16 (i * 65536)) 255 w₁ s₁ v₁ w₂ s₂ v₂
+    → Ended i seed w s w₂ s₂ v₂
+unfolding Ended Stepped AllWalked Walked chainEnd start
+ended-by i seed w s v w₁ s₁ v₁ w₂ s₂ v₂ hi filled stepped walked id leaves ready =
+    let first = stepped id leaves ready in
+    let rest = walked id leaves (first .0) in (
+      rest .0,
+      λ l h.
+          let last : getD (replicate 16 (i * 65536 + 65280)) l 0 ≡ i * 65536 + 255 * 256 = getD-replicate 16 l (i * 65536 + 65280) 0 h ∙ omega arith in
+          let none : getD (replicate 16 (i * 65536)) l 0 ≡ i * 65536 + 0 * 256 = getD-replicate 16 l (i * 65536) 0 h ∙ omega arith in
+          let begun : bytes (column l 8 v₁) ≡ H (chainInput (bytes id) (getD leaves l 0) i 255 (bytes seed)) =
+          first .1 l i 255 h (omega arith) (omega arith) last ∙ rw (filled l h) in
+          rest .1 l i 0 h (omega arith) (omega arith) none ∙ ap (chain (bytes id) (getD leaves l 0) i 0 255) begun,
+    )
+
+-- ---- strings
+
+-- a part that goes on with what is written behind it
+part-more : (a m : ℕ) (ws xs : List ℕ) → a + m ≤ length xs → part a (m + length ws) (patch (a + m) ws xs) ≡ part a m xs ++ ws
+part-more a m ws xs h =
+    part-add a m (length ws) (patch (a + m) ws xs)
+    ∙ ap₂ (λ (x y : List ℕ). x ++ y) (part-before a m (a + m) ws xs (omega arith) h) (part-own (a + m) (length ws) ws xs h refl)
+
+pub put-none : (i : ℕ) (v z : List ℕ) → length z ≡ 17760 → Put 0 i v z z
+put-none i v z l = record { long = l; new = λ j h. absurd (omega arith); old = λ j h k. refl }
+
+module _ (n i : ℕ) (v z z₁ y z₂ : List ℕ) (hn : n < 16) (hi : i < 34) (ly : length y ≡ 8) (e : y ≡ column n 8 v)
+    (p : z₂ ≡ patch (1110 * n + 32 * i + 22) (bytes y) z₁) (f : Put n i v z z₁) where
+  wide : length (bytes y) ≡ 32
+  wide = length-bytes y ∙ ap (λ (m : ℕ). 4 * m) ly
+
+  put-own : part (1110 * n) (22 + 32 * i + 32) z₂ ≡ part (1110 * n) (22 + 32 * i) z ++ bytes (column n 8 v)
+  put-own =
+      let here : 1110 * n + 32 * i + 22 ≡ 1110 * n + (22 + 32 * i) = omega arith in
+      ap (λ (m : ℕ). part (1110 * n) (22 + 32 * i + m) z₂) (sym wide)
+      ∙ rw (p, here) (part-more (1110 * n) (22 + 32 * i) (bytes y) z₁ (omega (arith, f .long)))
+      ∙ ap₂ (λ (a b : List ℕ). a ++ b) (f .old n (omega arith) hn) (ap bytes e)
+
+  pub put-turn : Put (n + 1) i v z z₂
+  put-turn =
+      let at = 1110 * n + 32 * i + 22 in
+      record {
+        long = ap length p ∙ length-patch at (bytes y) z₁ (omega (arith, wide, f .long)) ∙ f .long;
+        new =
+            λ l a.
+            let fits : l ≤ n = omega arith in
+            ⊎-elim
+            (λ b. rw b put-own)
+            (λ b. rw p (part-before (1110 * l) (22 + 32 * i + 32) at (bytes y) z₁ (omega arith) (omega (arith, f .long))) ∙ f .new l b)
+            (eq-or-lt-of-le fits);
+        old =
+            λ l a b.
+            rw p (part-after (1110 * l) (22 + 32 * i) at (bytes y) z₁ (omega (arith, wide)) (omega (arith, f .long))) ∙ f .old l (omega arith) b;
+      }
+
+pub fronts-turn : (I leaves z x z₁ : List ℕ) (l : ℕ) → l < 16 → length z ≡ 17760 → length x ≡ 22 → x ≡ front I (getD leaves l 0) dPblc → z₁ ≡ patch (1110 * l) x z
+    → ((j : ℕ) → j < l → part (1110 * j) 22 z ≡ front I (getD leaves j 0) dPblc)
+    → (j : ℕ) → j < l + 1 → part (1110 * j) 22 z₁ ≡ front I (getD leaves j 0) dPblc
+fronts-turn I leaves z x z₁ l h lz lx e p f j a =
+    let fits : j ≤ l = omega arith in
+    ⊎-elim
+    (λ i. rw i (rw p (part-own (1110 * l) 22 x z (omega arith) lx) ∙ e))
+    (λ b. rw p (part-before (1110 * j) 22 (1110 * l) x z (omega arith) (omega arith)) ∙ f j b)
+    (eq-or-lt-of-le fits)
+
+-- the strings, up to the end of n chains
+unfoldable pub Strings : List ℕ → List ℕ → List ℕ → ℕ → List ℕ → Type 0
+Strings I leaves seed n z = (l : ℕ) → l < 16 → part (1110 * l) (22 + 32 * n) z ≡ string I (getD leaves l 0) seed n
+
+strings-none : (I leaves seed z : List ℕ) → ((l : ℕ) → l < 16 → part (1110 * l) 22 z ≡ front I (getD leaves l 0) dPblc) → Strings I leaves seed 0 z
+unfolding Strings string keyInput front joined
+strings-none I leaves seed z f l h = f l h ∙ sym (append-nil _)
+
+strings-turn : (I leaves seed : List ℕ) (i : ℕ) (v z z₁ : List ℕ) → ((l : ℕ) → l < 16 → bytes (column l 8 v) ≡ chainEnd I (getD leaves l 0) 8 seed i)
+    → Put 16 i v z z₁ → Strings I leaves seed i z → Strings I leaves seed (i + 1) z₁
+unfolding Strings string keyInput front joined
+strings-turn I leaves seed i v z z₁ ended put f l h =
+    let q = getD leaves l 0 in
+    let ends = chainEnd I q 8 seed in
+    let wide : 22 + 32 * (i + 1) ≡ 22 + 32 * i + 32 = omega arith in
+    rw (wide, add-one)
+    (put .new l h ∙ ap₂ (λ (a b : List ℕ). a ++ b) (f l h) (ended l h) ∙ append-assoc (front I q dPblc) (joined ends i) (ends i))
+
+-- the strings of all leaves for which w₀ and s₀ were ready and z₀ had the fronts
+unfoldable pub Grown : ℕ → List ℕ → List ℕ → List ℕ → List ℕ → List ℕ → List ℕ → List ℕ → Type 0
+Grown i seed w₀ s₀ z₀ w s z =
+    (id leaves : List ℕ) → Ready id leaves w₀ s₀ → Strings (bytes id) leaves (bytes seed) 0 z₀
+    → Ready id leaves w s × Strings (bytes id) leaves (bytes seed) i z
+
+pub grown-none : (seed w s z : List ℕ) → Grown 0 seed w s z w s z
+unfolding Grown
+grown-none seed w s z id leaves r f = (r, f)
+
+pub grown-turn : (i : ℕ) (seed w₀ s₀ z₀ w s z w₁ s₁ v z₁ : List ℕ) → Grown i seed w₀ s₀ z₀ w s z → Ended i seed w s w₁ s₁ v → Put 16 i v z z₁
+    → Grown (i + 1) seed w₀ s₀ z₀ w₁ s₁ z₁
+unfolding Grown Ended
+grown-turn i seed w₀ s₀ z₀ w s z w₁ s₁ v z₁ f ended put id leaves r g =
+    let now = f id leaves r g in
+    let ends = ended id leaves (now .0) in
+    (ends .0, strings-turn (bytes id) leaves (bytes seed) i v z z₁ (ends .1) put (now .1))
+
+pub grown-done : (i : ℕ) (seed w₀ s₀ z₀ w s z id leaves : List ℕ) → i ≡ 34 → Grown i seed w₀ s₀ z₀ w s z → Ready id leaves w₀ s₀
+    → ((l : ℕ) → l < 16 → part (1110 * l) 22 z₀ ≡ front (bytes id) (getD leaves l 0) dPblc)
+    → (l : ℕ) → l < 16 → part (1110 * l) 1110 z ≡ string (bytes id) (getD leaves l 0) (bytes seed) 34
+unfolding Grown Strings
+grown-done i seed w₀ s₀ z₀ w s z id leaves e f r g =
+    (rw e at f) id leaves r (strings-none (bytes id) leaves (bytes seed) z₀ g) .1
+
+-- ---- keys
+
+-- the hash of string l
+unfoldable pub hash : List ℕ → ℕ → List ℕ
+hash z l = sha256 (part (1110 * l) 1110 z)
+
+length-hashes : (z : List ℕ) (l : ℕ) → length (joined (hash z) l) ≡ 32 * l
+unfolding hash
+length-hashes z l = length-joined 32 (hash z) l (λ i h. length-sha256 _)
+
+pub keys-turn : (z out₀ out key new : List ℕ) (l : ℕ) → key ≡ sha256 (part (1110 * l) 1110 z) → out ≡ patch 0 (joined (hash z) l) out₀
+    → new ≡ patch (32 * l) key out → new ≡ patch 0 (joined (hash z) (l + 1)) out₀
+unfolding hash
+keys-turn z out₀ out key new l k p r = written-next (hash z) l out₀ out key new (length-hashes z l) p k r
+
+pub keys-done : (I seed leaves z out₀ out : List ℕ) (q l : ℕ) → l ≡ 16 → length out₀ ≡ 512 → ((j : ℕ) → j < 16 → getD leaves j 0 ≡ q + j)
+    → ((j : ℕ) → j < 16 → part (1110 * j) 1110 z ≡ string I (getD leaves j 0) seed 34) → out ≡ patch 0 (joined (hash z) l) out₀
+    → out ≡ joined (λ j. otsKey I (q + j) 8 seed) 16
+unfolding hash otsKey chains string
+keys-done I seed leaves z out₀ out q l e n g f p =
+    (rw e at p) ∙ patch-whole (joined (hash z) 16) out₀ (length-hashes z 16 ∙ sym n)
+    ∙ joined-same _ _ 16 (λ j h. ap sha256 (f j h ∙ rw (g j h)))

@@ -1,0 +1,141 @@
+// The keys of sixteen leaves side by side (RFC 8554, section 4.3): each lane has a leaf of its own, and all go through the same
+// chain together. What is hashed to the keys stands in sixteen strings of 1,110 bytes, one after the other in z.
+ghost use mathlib.Core.Path.{_≡_};
+ghost use mathlib.Core.List.{_++_};
+ghost use Prim.Native.Nat.{ℕ, _+_, _*_, _<_, _≤_};
+ghost use lib.ListN.{length, getD};
+ghost use Rattle.octets.specs.Octets.{part, bytes};
+ghost use Rattle.octets.specs.Strings.{joined};
+ghost use Rattle.sha256.specs.Constants.{constants};
+ghost use Rattle.sha256.specs.Fips as Fips;
+ghost use Rattle.lanes.specs.Rows.{column};
+ghost use Rattle.rfc8554.specs.Ots.{dPblc};
+ghost use Rattle.rfc8554.specs.Ots as Ots;
+ghost use Rattle.lmots.specs.Pieces as Pieces;
+ghost use Rattle.lmots.specs.Leaves.{Ended, Put, string};
+use crate::digits::front;
+use crate::sixteen::prepare;
+use crate::sixteen::step;
+use crate::sixteen::walk;
+use crate::turns::lane;
+use crate::turns::put_lane;
+use crate::words::put_eight;
+
+// One value in every lane.
+fn put_all(y: [u32; 8], v: &mut [u32; 128])
+    requires { ⌜ length (now v) ≡ 128 ⌝ }
+    ensures { λ _. ⌜ (length (now (v .exit)) ≡ 128) × ((l : ℕ) → l < 16 → column l 8 (now (v .exit)) ≡ y) ⌝ }
+{
+    let mut l = 0;
+    while l < 16 {
+        put_lane(v, l, y);
+        l += 1;
+    }
+}
+
+// The end of chain i in every lane, for leaves for which w and s are ready. The chain's start is a step too, from the seed and at
+// place 255.
+fn chain_ends(
+    k: &[u32; 64],
+    i: u32,
+    seed: [u32; 8],
+    w: &mut [u32; 1024],
+    s: &mut [u32; 3264],
+    v: &mut [u32; 128],
+)
+    requires { ⌜ (now k ≡ constants) × (i < 34) × (length (now w) ≡ 1024) × (length (now s) ≡ 3264) × (length (now v) ≡ 128) ⌝ }
+    ensures { λ _. ⌜ (length (now (w .exit)) ≡ 1024) × (length (now (s .exit)) ≡ 3264) × (length (now (v .exit)) ≡ 128) ⌝ }
+    ensures { λ _. ⌜ Ended i seed (now (w .entry)) (now (s .entry)) (now (w .exit)) (now (s .exit)) (now (v .exit)) ⌝ }
+{
+    put_all(seed, v);
+    step(k, &[i * 65536 + 65280; 16], 0, w, s, v);
+    walk(k, &[i * 65536; 16], 255, w, s, v);
+}
+
+// Writes the ends of chain i to the strings of the leaves.
+fn put_ends(v: &[u32; 128], i: usize, z: &mut [u8])
+    requires { ⌜ (length (now v) ≡ 128) × (i < 34) × (length (now z) ≡ 17760) ⌝ }
+    ensures { λ _. ⌜ Put 16 i (now (v .entry)) (now (z .entry)) (now (z .exit)) ⌝ }
+{
+    let mut l = 0;
+    while l < 16 {
+        let y = lane(v, l);
+        put_eight(z, 1110 * l + 32 * i + 22, y);
+        l += 1;
+    }
+}
+
+// Writes what the strings begin with.
+fn put_fronts(id: [u32; 4], leaves: [u32; 16], z: &mut [u8])
+    requires { ⌜ length (now z) ≡ 17760 ⌝ }
+    ensures { λ _. ⌜ (length (now (z .exit)) ≡ 17760) × ((l : ℕ) → l < 16 → part (1110 * l) 22 (now (z .exit)) ≡ Pieces.front (bytes id) (getD leaves l 0) dPblc) ⌝ }
+{
+    let mut l = 0;
+    while l < 16 {
+        let start = front(id, leaves[l], 0x8080);
+        octets::copy(z, 1110 * l, &start);
+        l += 1;
+    }
+}
+
+// Writes the strings of the leaves, of width 8.
+fn put_strings(k: &[u32; 64], id: [u32; 4], leaves: [u32; 16], seed: [u32; 8], z: &mut [u8])
+    requires { ⌜ (now k ≡ constants) × (length (now z) ≡ 17760) ⌝ }
+    ensures { λ _. ⌜ (length (now (z .exit)) ≡ 17760) × ((l : ℕ) → l < 16 → part (1110 * l) 1110 (now (z .exit)) ≡ string (bytes id) (getD leaves l 0) (bytes seed) 34) ⌝ }
+{
+    let mut w = [0u32; 1024];
+    let mut s = [0u32; 3264];
+    let mut v = [0u32; 128];
+    prepare(k, id, leaves, &mut w, &mut s);
+    put_fronts(id, leaves, z);
+    let mut i = 0;
+    while i < 34 {
+        let n = i as u32;
+        chain_ends(k, n, seed, &mut w, &mut s, &mut v);
+        put_ends(&v, i, z);
+        i += 1;
+    }
+}
+
+// The hash of string l.
+fn hashed(k: &[u32; 64], z: &[u8], l: usize) -> [u8; 32]
+    requires { ⌜ (now k ≡ constants) × (length (now z) ≡ 17760) × (l < 16) ⌝ }
+    ensures { λ r. ⌜ r ≡ Fips.sha256 (part (1110 * l) 1110 (now (z .entry))) ⌝ }
+{
+    let at = 1110 * l;
+    let end = at + 1110;
+    sha256::hash::sha256(k, &z[at..end])
+}
+
+// The numbers of sixteen leaves, from q on.
+fn numbers(q: u32) -> [u32; 16]
+    requires { ⌜ q + 16 ≤ 4294967296 ⌝ }
+    ensures { λ r. ⌜ ((l : ℕ) → l < 16 → getD r l 0 ≡ q + l) ⌝ }
+{
+    let mut out = [q; 16];
+    let mut l = 0;
+    while l < 16 {
+        let n = l as u32;
+        out[l] = q + n;
+        l += 1;
+    }
+    out
+}
+
+// The public keys of sixteen leaves from q on, of width 8, one after the other.
+pub fn ots_keys(k: &[u32; 64], id: [u32; 4], q: u32, seed: [u32; 8]) -> [u8; 512]
+    requires { ⌜ (now k ≡ constants) × (q + 16 ≤ 4294967296) ⌝ }
+    ensures { λ r. ⌜ r ≡ joined (λ l. Ots.otsKey (bytes id) (q + l) 8 (bytes seed)) 16 ⌝ }
+{
+    let leaves = numbers(q);
+    let mut z = [0u8; 17760];
+    put_strings(k, id, leaves, seed, &mut z);
+    let mut out = [0u8; 512];
+    let mut l = 0;
+    while l < 16 {
+        let key = hashed(k, &z, l);
+        octets::copy(&mut out, 32 * l, &key);
+        l += 1;
+    }
+    out
+}
