@@ -83,13 +83,6 @@ completed-by I S sig places x z r q w n top l e h ls et f p k =
     ∙ ap (take 32) (drop-drop (32 * i) 36 sig)) in
     rw (zeros i 67 top (omega arith), f i a, et) (ap (chain I q i (coef w S i) (2 ^ w - 1 - coef w S i)) slot))
 
--- the digits 255 lead to the ends of a key's chains
-pub ends-signed : (I seed S : List ℕ) (q n : ℕ) → ((i : ℕ) → i < n → getD S i 0 ≡ 255)
-    → joined (signed I q 8 seed S) n ≡ joined (chainEnd I q 8 seed) n
-unfolding signed chainEnd
-ends-signed I seed S q n e =
-    joined-same _ _ n (λ i h. ap (λ (a : ℕ). chain I q i 0 a (start I q seed i)) (coef-eight S i (rw (e i h) (omega arith)) ∙ e i h))
-
 -- ---- what is hashed to a key
 
 pub front-taken : (n : ℕ) (ws zs a : List ℕ) → length ws ≡ n → a ≡ patch 0 ws zs → take n a ≡ ws
@@ -118,13 +111,6 @@ value-place w i n e h = omega arith
 
 pub length-ends : (I S sig : List ℕ) (q w n : ℕ) → length sig ≡ otsLength w → n ≤ chains w → length (joined (completed I q w S sig) n) ≡ 32 * n
 length-ends I S sig q w n l h = length-joined 32 _ n (λ i k. length-completed I q w S sig i (omega (arith, value-place w i (length sig) l (omega arith))))
-
-pub key-signed : (I seed S a b r : List ℕ) (q : ℕ) → ((i : ℕ) → i < 34 → getD S i 0 ≡ 255) → 22 ≤ length a → take 22 a ≡ front I q dPblc
-    → b ≡ patch 22 (joined (signed I q 8 seed S) 34) a → r ≡ sha256 (take 1110 b) → r ≡ otsKey I q 8 seed
-unfolding otsKey chains
-key-signed I seed S a b r q e h f p k =
-    let l : length (joined (chainEnd I q 8 seed) 34) ≡ 1088 = length-joined 32 _ 34 (λ i _. length-chainEnd I q 8 seed i) in
-    key-by I (joined (chainEnd I q 8 seed) 34) a b r q 1110 h f (omega arith) (p ∙ rw (ends-signed I seed S q 34 e)) k
 
 pub key-completed : (I message sig S a b r : List ℕ) (q w m : ℕ) → length sig ≡ otsLength w → S ≡ digested I q w (part 4 32 sig) message → 22 ≤ length a
     → take 22 a ≡ front I q dPblc → m ≡ chains w → b ≡ patch 22 (joined (completed I q w S sig) (chains w)) a

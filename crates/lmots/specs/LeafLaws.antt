@@ -162,3 +162,7 @@ unfolding hash otsKey chains string
 keys-done I seed leaves z out₀ out q l e n g f p =
     (rw e at p) ∙ patch-whole (joined (hash z) 16) out₀ (length-hashes z 16 ∙ sym n)
     ∙ joined-same _ _ 16 (λ j h. ap sha256 (f j h ∙ rw (g j h)))
+
+pub length-otsKey : (I : List ℕ) (q w : ℕ) (seed : List ℕ) → length (otsKey I q w seed) ≡ 32
+unfolding otsKey
+length-otsKey I q w seed = length-sha256 _

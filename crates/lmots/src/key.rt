@@ -1,4 +1,4 @@
-// Public key, signature and candidate key (RFC 8554, sections 4.3, 4.5 and 4.6).
+// Signature and candidate key (RFC 8554, sections 4.5 and 4.6).
 ghost use mathlib.Core.Path.{_≡_};
 ghost use mathlib.Core.Logic.{_⊎_};
 ghost use Prim.Native.Nat.{ℕ, _+_, _-_, _*_, _^_, _<_, _≤_};
@@ -132,16 +132,6 @@ fn key_buffer(id: [u32; 4], q: u32) -> [u8; 2166]
     let mut out = [0u8; 2166];
     octets::copy(&mut out, 0, &start);
     out
-}
-
-// The public key of leaf q, of width 8: a chain's end is what a signature has for the digit 255.
-pub fn ots_key(k: &[u32; 64], id: [u32; 4], q: u32, seed: [u32; 8]) -> [u8; 32]
-    requires { ⌜ now k ≡ constants ⌝ }
-    ensures { λ r. ⌜ r ≡ Ots.otsKey (bytes id) q 8 (bytes seed) ⌝ }
-{
-    let mut all = key_buffer(id, q);
-    write_signed(k, id, q, seed, &[255u8; 34], &mut all, 22);
-    sha256::hash::sha256(k, &all[..1110])
 }
 
 // The key that a signature of width w leads to.

@@ -1,39 +1,62 @@
 -- The tree's buffer as the key maker fills it: the leaves, then the inner nodes up to the root.
-use mathlib.Core.Path.{_≡_, refl, sym, _∙_}
+use mathlib.Core.Path.{_≡_, refl, sym, ap, _∙_}
 use mathlib.Core.List.{List, _++_}
 use Prim.Native.Nat.{ℕ, zero, suc, _+_, _-_, _*_, _≤_, _<_}
-use native.Mathlib.Nat.{add-sub-cancel-left}
+use native.Mathlib.Nat.{add-assoc, add-sub-cancel-left}
 use native.Mathlib.Numerals.{add-one}
 use native.Mathlib.Omega.{arith}
-use lib.ListN.{length, drop}
-use lib.Seq.{take-add, drop-drop}
+use lib.ListN.{length}
 use Rattle.octets.specs.Octets.{part, patch}
-use Rattle.octets.specs.StringLaws.{patch-before}
+use Rattle.octets.specs.Strings.{joined}
+use Rattle.octets.specs.StringLaws.{patch-before, length-joined, part-joined, joined-same, joined-add}
 use Rattle.rfc8554.specs.Ots.{H, otsKey}
-use Rattle.rfc8554.specs.Tree.{leafInput, T, nodes, treeFilled}
+use Rattle.rfc8554.specs.Tree.{T, nodes, treeFilled}
 use Rattle.rfc8554.specs.TreeLaws.{T-leaf, T-inner, length-T, length-nodes, nodes-suc, part-nodes}
-use Rattle.lmots.specs.WriteLaws.{joined-written}
-use Rattle.lms.specs.Pieces.{overChildren, innerPut, innersPut}
-use Rattle.lms.specs.Laws.{over-two}
+use Rattle.lmots.specs.LeafLaws.{length-otsKey}
+use Rattle.lmots.specs.TurnLaws.{part-add}
+use Rattle.lmots.specs.WriteLaws.{patch-next, joined-written}
+use Rattle.lms.specs.Pieces.{leafOver, leafAt, overChildren, innerPut, innersPut}
+use Rattle.lms.specs.Laws.{length-leafOver, over-two}
 
 -- ---- as the code writes them
 
-module _ (I seed : List ℕ) where
-  pub leaf-put : (tree key n new : List ℕ) (q : ℕ) → key ≡ otsKey I q 8 seed → n ≡ H (leafInput I (1024 + q) key)
-      → new ≡ patch (32 * (1024 + q)) n tree → new ≡ patch (32 * (1024 + q)) (T 10 8 I seed (1024 + q)) tree
-  leaf-put tree key n new q e f g =
-      let leaf : T 10 8 I seed (1024 + q) ≡ H (leafInput I (1024 + q) (otsKey I q 8 seed)) =
-      rw add-sub-cancel-left at (T-leaf 10 8 I seed (1024 + q) (omega arith)) in
-      g ∙ rw (leaf, ← e, ← f)
+-- one more of sixteen leaves, over its key
+pub sixteen-turn : (I keys before tree key new : List ℕ) (q l : ℕ) → 32 * (1024 + q) ≤ length before
+    → tree ≡ patch (32 * (1024 + q)) (joined (leafAt I q keys) l) before → key ≡ part (32 * l) 32 keys
+    → new ≡ patch (32 * (1024 + (q + l))) (leafOver I (q + l) key) tree → new ≡ patch (32 * (1024 + q)) (joined (leafAt I q keys) (l + 1)) before
+unfolding leafAt
+sixteen-turn I keys before tree key new q l h e k f =
+    let next : 32 * (1024 + (q + l)) ≡ 32 * (1024 + q) + 32 * l = omega arith in
+    joined-written (leafAt I q keys) (32 * (1024 + q)) l before tree _ new (length-joined 32 _ l (λ i _. length-leafOver I (q + i) _)) h e (ap (leafOver I (q + l)) k)
+    (rw next at f)
 
-  pub leaves-turn : (before tree new : List ℕ) (q : ℕ) → 32 * 1024 ≤ length before
-      → tree ≡ patch (32 * 1024) (nodes 10 8 I seed 1024 q) before
-      → new ≡ patch (32 * (1024 + q)) (T 10 8 I seed (1024 + q)) tree
-      → new ≡ patch (32 * 1024) (nodes 10 8 I seed 1024 (q + 1)) before
+module _ (I seed : List ℕ) where
+  leaf-node : (keys : List ℕ) (q i : ℕ) → i < 16 → keys ≡ joined (λ l. otsKey I (q + l) 8 seed) 16 → leafAt I q keys i ≡ T 10 8 I seed (1024 + q + i)
+  unfolding leafAt leafOver
+  leaf-node keys q i h e =
+      let key : part (32 * i) 32 keys ≡ otsKey I (q + i) 8 seed =
+      rw e (part-joined 32 (λ l. otsKey I (q + l) 8 seed) 16 (λ l _. length-otsKey I (q + l) 8 seed) i h) in
+      let same : 1024 + q + i ≡ 1024 + (q + i) = omega arith in
+      rw (key, same) (sym (rw add-sub-cancel-left at (T-leaf 10 8 I seed (1024 + (q + i)) (omega arith))))
+
+  pub sixteen-done : (keys before new : List ℕ) (q l : ℕ) → l ≡ 16 → keys ≡ joined (λ i. otsKey I (q + i) 8 seed) 16
+      → new ≡ patch (32 * (1024 + q)) (joined (leafAt I q keys) l) before → new ≡ patch (32 * (1024 + q)) (nodes 10 8 I seed (1024 + q) 16) before
   unfolding nodes
-  leaves-turn before tree new q h e f =
-      let next : 32 * (1024 + q) ≡ 32 * 1024 + 32 * q = omega arith in
-      joined-written (λ i. T 10 8 I seed (1024 + i)) (32 * 1024) q before tree _ new (length-nodes 10 8 I seed 1024 q) h e refl (rw next at f)
+  sixteen-done keys before new q l e k f =
+      (rw e at f) ∙ ap (λ (ns : List ℕ). patch (32 * (1024 + q)) ns before) (joined-same _ _ 16 (λ i h. leaf-node keys q i h k))
+
+  pub leaves-turn : (before tree new : List ℕ) (n : ℕ) → 32 * 1024 ≤ length before
+      → tree ≡ patch (32 * 1024) (nodes 10 8 I seed 1024 (16 * n)) before
+      → new ≡ patch (32 * (1024 + 16 * n)) (nodes 10 8 I seed (1024 + 16 * n) 16) tree
+      → new ≡ patch (32 * 1024) (nodes 10 8 I seed 1024 (16 * (n + 1))) before
+  unfolding nodes
+  leaves-turn before tree new n h e f =
+      let more : 16 * (n + 1) ≡ 16 * n + 16 = omega arith in
+      let at : 32 * (1024 + 16 * n) ≡ 32 * 1024 + length (nodes 10 8 I seed 1024 (16 * n)) = rw (length-nodes 10 8 I seed 1024 (16 * n)) (omega arith) in
+      patch-next (32 * 1024) (32 * (1024 + 16 * n)) (nodes 10 8 I seed 1024 (16 * n)) (nodes 10 8 I seed (1024 + 16 * n) 16) before tree new e at h f
+      ∙ ap (λ (ns : List ℕ). patch (32 * 1024) ns before)
+      (ap (λ (ns : List ℕ). nodes 10 8 I seed 1024 (16 * n) ++ ns) (joined-same _ _ 16 (λ i _. ap (T 10 8 I seed) (add-assoc 1024 (16 * n) i)))
+      ∙ sym (rw more (joined-add (λ i. T 10 8 I seed (1024 + i)) (16 * n) 16)))
 
 pub inner-put : (I tree children n new : List ℕ) (r : ℕ) → children ≡ part (64 * r) 64 tree → n ≡ H (overChildren I r children)
     → new ≡ patch (32 * r) n tree → new ≡ innerPut I r tree
@@ -46,10 +69,6 @@ unfolding innersPut
 inners-turn I before tree new t e f = rw (add-one, ← e) f
 
 -- ---- what is there then
-
-part-add : (at n m : ℕ) (xs : List ℕ) → part at (n + m) xs ≡ part at n xs ++ part (at + n) m xs
-unfolding part
-part-add at n m xs = take-add n m (drop at xs) ∙ rw (drop-drop n at xs)
 
 module _ (I seed before : List ℕ) (e : length before ≡ 65536) where
   -- with all nodes after r in place, node r comes out right

@@ -6,13 +6,14 @@ use native.Mathlib.Nat.{add-sub-cancel-left}
 use native.Mathlib.Numerals.{add-one}
 use lib.ListN.{length, take, drop}
 use lib.Pow.{shr-shr}
-use Rattle.octets.specs.Octets.{part, be, wordAt}
+use Rattle.octets.specs.Octets.{part, patch, be, wordAt}
 use Rattle.octets.specs.StringLaws.{number-part-four}
 use Rattle.sha256.specs.Fips.{sha256}
+use Rattle.sha256.specs.Laws.{length-sha256}
 use Rattle.rfc8554.specs.Ots.{H, width, otsLength, candidate}
 use Rattle.rfc8554.specs.Tree.{height, leafInput, innerInput, dIntr}
 use Rattle.rfc8554.specs.Verify.{leafOf, otsPart, turn, climbed, rootCandidate}
-use Rattle.lms.specs.Pieces.{overChildren}
+use Rattle.lms.specs.Pieces.{leafOver, overChildren}
 
 -- the part `xs[at..end]` with n bytes up to its end
 pub part-lent : (at n : ℕ) (xs : List ℕ) → take (at + n - at) (drop at xs) ≡ part at n xs
@@ -24,6 +25,16 @@ part-lent at n xs = rw add-sub-cancel-left
 -- a prefix that stands for q
 pub prefixed : (p q m n : List ℕ) → p ≡ q → n ≡ sha256 (p ++ m) → n ≡ sha256 (q ++ m)
 prefixed p q m n e f = f ∙ rw e
+
+pub length-leafOver : (I : List ℕ) (q : ℕ) (key : List ℕ) → length (leafOver I q key) ≡ 32
+unfolding leafOver
+length-leafOver I q key = length-sha256 _
+
+-- the leaf's node, written as its own function makes it
+pub leaf-put : (I key n tree new : List ℕ) (q : ℕ) → n ≡ H (leafInput I (1024 + q) key) → new ≡ patch (32 * (1024 + q)) n tree
+    → new ≡ patch (32 * (1024 + q)) (leafOver I q key) tree
+unfolding leafOver
+leaf-put I key n tree new q e f = f ∙ rw e
 
 -- children in one string are two
 pub over-two : (I c left right n : List ℕ) (r : ℕ) → c ≡ left ++ right → n ≡ sha256 (overChildren I r c)

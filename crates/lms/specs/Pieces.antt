@@ -1,9 +1,16 @@
 -- What the code's pieces compute on the way.
 use mathlib.Core.List.{List, _++_}
-use Prim.Native.Nat.{ℕ, zero, suc, _-_, _*_}
+use Prim.Native.Nat.{ℕ, zero, suc, _+_, _-_, _*_}
 use Rattle.octets.specs.Octets.{part, patch}
 use Rattle.rfc8554.specs.Ots.{H, u16str, u32str}
-use Rattle.rfc8554.specs.Tree.{dIntr}
+use Rattle.rfc8554.specs.Tree.{leafInput, dIntr}
+
+-- the leaf of number q over its LM-OTS key, and over the key at i of those that stand one after the other
+unfoldable pub leafOver : List ℕ → ℕ → List ℕ → List ℕ
+leafOver I q key = H (leafInput I (1024 + q) key)
+
+unfoldable pub leafAt : List ℕ → ℕ → List ℕ → ℕ → List ℕ
+leafAt I q keys i = leafOver I (q + i) (part (32 * i) 32 keys)
 
 -- what is hashed at the inner node r, over its children in one string
 unfoldable pub overChildren : List ℕ → ℕ → List ℕ → List ℕ

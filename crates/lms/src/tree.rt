@@ -4,22 +4,35 @@ ghost use Prim.Native.Nat.{_+_, _*_, _≤_, _<_};
 ghost use lib.ListN.{length};
 ghost use Rattle.octets.specs.Octets.{bytes, patch};
 ghost use Rattle.sha256.specs.Constants.{constants};
-ghost use Rattle.rfc8554.specs.Tree.{T, nodes, publicKey, treeFilled};
+ghost use Rattle.rfc8554.specs.Tree.{nodes, publicKey, treeFilled};
 ghost use Rattle.rfc8554.specs.Calls.{treeBytes};
-ghost use Rattle.lms.specs.Pieces.{innerPut, innersPut};
+ghost use Rattle.lms.specs.Pieces.{leafOver, innerPut, innersPut};
 use crate::node;
 use crate::signer::write_key;
 
-// Writes the leaf of number q.
-fn put_leaf(k: &[u32; 64], id: [u32; 4], seed: [u32; 8], q: u32, tree: &mut [u8])
+// Writes the leaf of number q, over its LM-OTS key.
+fn put_leaf(k: &[u32; 64], id: [u32; 4], q: u32, key: &[u8], tree: &mut [u8])
     requires { ⌜ (now k ≡ constants) × (q < 1024) × (length (now tree) ≡ treeBytes) ⌝ }
-    ensures { λ _. ⌜ now (tree .exit) ≡ patch (32 * (1024 + q)) (T 10 8 (bytes id) (bytes seed) (1024 + q)) (now (tree .entry)) ⌝ }
+    ensures { λ _. ⌜ now (tree .exit) ≡ patch (32 * (1024 + q)) (leafOver (bytes id) q (now (key .entry))) (now (tree .entry)) ⌝ }
 {
     let r = 1024 + q;
     let place = r as usize;
-    let key = lmots::key::ots_key(k, id, q, seed);
-    let n = node::leaf(k, id, r, &key);
+    let n = node::leaf(k, id, r, key);
     octets::copy(tree, 32 * place, &n);
+}
+
+// Writes sixteen leaves, from number q on.
+fn put_sixteen(k: &[u32; 64], id: [u32; 4], seed: [u32; 8], q: u32, tree: &mut [u8])
+    requires { ⌜ (now k ≡ constants) × (q + 16 ≤ 1024) × (length (now tree) ≡ treeBytes) ⌝ }
+    ensures { λ _. ⌜ now (tree .exit) ≡ patch (32 * (1024 + q)) (nodes 10 8 (bytes id) (bytes seed) (1024 + q) 16) (now (tree .entry)) ⌝ }
+{
+    let keys = lmots::leaves::ots_keys(k, id, q, seed);
+    let mut l = 0;
+    while l < 16 {
+        let n = l as u32;
+        put_leaf(k, id, q + n, node::bytes_at(&keys, 32 * l, 32), tree);
+        l += 1;
+    }
 }
 
 // Writes all leaves.
@@ -27,10 +40,10 @@ fn put_leaves(k: &[u32; 64], id: [u32; 4], seed: [u32; 8], tree: &mut [u8])
     requires { ⌜ (now k ≡ constants) × (length (now tree) ≡ treeBytes) ⌝ }
     ensures { λ _. ⌜ now (tree .exit) ≡ patch (32 * 1024) (nodes 10 8 (bytes id) (bytes seed) 1024 1024) (now (tree .entry)) ⌝ }
 {
-    let mut q = 0;
-    while q < 1024 {
-        put_leaf(k, id, seed, q, tree);
-        q += 1;
+    let mut n = 0;
+    while n < 64 {
+        put_sixteen(k, id, seed, 16 * n, tree);
+        n += 1;
     }
 }
 
