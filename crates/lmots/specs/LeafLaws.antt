@@ -15,9 +15,9 @@ use Rattle.sha256.specs.Fips.{sha256}
 use Rattle.sha256.specs.Laws.{length-sha256}
 use Rattle.lanes.specs.Rows.{column}
 use Rattle.rfc8554.specs.Ots.{H, chainInput, chain, start, keyInput, chainEnd, chains, otsKey, dPblc}
-use Rattle.lmots.specs.Leaves.{string, Ended, Put}
+use Rattle.lmots.specs.Leaves.{string, Put}
 use Rattle.lmots.specs.Pieces.{front}
-use Rattle.lmots.specs.Sixteen.{Ready, Stepped, Walked, AllWalked}
+use Rattle.lmots.specs.Sixteen.{Walked}
 use Rattle.lmots.specs.TurnLaws.{part-add, part-own, part-before, part-after, written-next}
 use Rattle.lmots.specs.WriteLaws.{patch-whole}
 
@@ -31,21 +31,16 @@ filled-turn v v₁ y l f e g j a =
     ⊎-elim (λ i. rw i e) (λ b. g j b ∙ f j b) (eq-or-lt-of-le fits)
 
 -- the step over the seed and 255 more
-pub ended-by : (i : ℕ) (seed w s v w₁ s₁ v₁ w₂ s₂ v₂ : List ℕ) → i < 34 → ((l : ℕ) → l < 16 → column l 8 v ≡ seed)
-    → Stepped (replicate 16 (i * 65536 + 65280)) 0 w s v w₁ s₁ v₁ → AllWalked (replicate 16 (i * 65536)) 255 w₁ s₁ v₁ w₂ s₂ v₂
-    → Ended i seed w s w₂ s₂ v₂
-unfolding Ended Stepped AllWalked Walked chainEnd start
-ended-by i seed w s v w₁ s₁ v₁ w₂ s₂ v₂ hi filled stepped walked id leaves ready =
-    let first = stepped id leaves ready in
-    let rest = walked id leaves (first .0) in (
-      rest .0,
-      λ l h.
-          let last : getD (replicate 16 (i * 65536 + 65280)) l 0 ≡ i * 65536 + 255 * 256 = getD-replicate 16 l (i * 65536 + 65280) 0 h ∙ omega arith in
-          let none : getD (replicate 16 (i * 65536)) l 0 ≡ i * 65536 + 0 * 256 = getD-replicate 16 l (i * 65536) 0 h ∙ omega arith in
-          let begun : bytes (column l 8 v₁) ≡ H (chainInput (bytes id) (getD leaves l 0) i 255 (bytes seed)) =
-          first .1 l i 255 h (omega arith) (omega arith) last ∙ rw (filled l h) in
-          rest .1 l i 0 h (omega arith) (omega arith) none ∙ ap (chain (bytes id) (getD leaves l 0) i 0 255) begun,
-    )
+pub ended-by : (id leaves seed : List ℕ) (i : ℕ) (v v₁ v₂ : List ℕ) → i < 34 → ((l : ℕ) → l < 16 → column l 8 v ≡ seed)
+    → Walked id leaves (replicate 16 (i * 65536 + 65280)) 1 v v₁ → Walked id leaves (replicate 16 (i * 65536)) 255 v₁ v₂
+    → (l : ℕ) → l < 16 → bytes (column l 8 v₂) ≡ chainEnd (bytes id) (getD leaves l 0) 8 (bytes seed) i
+unfolding Walked chain chainEnd start
+ended-by id leaves seed i v v₁ v₂ hi filled first rest l h =
+    let last : getD (replicate 16 (i * 65536 + 65280)) l 0 ≡ i * 65536 + 255 * 256 = getD-replicate 16 l (i * 65536 + 65280) 0 h ∙ omega arith in
+    let none : getD (replicate 16 (i * 65536)) l 0 ≡ i * 65536 + 0 * 256 = getD-replicate 16 l (i * 65536) 0 h ∙ omega arith in
+    let begun : bytes (column l 8 v₁) ≡ H (chainInput (bytes id) (getD leaves l 0) i 255 (bytes seed)) =
+    first l i 255 h (omega arith) (omega arith) last ∙ rw (filled l h) in
+    rest l i 0 h (omega arith) (omega arith) none ∙ ap (chain (bytes id) (getD leaves l 0) i 0 255) begun
 
 -- ---- strings
 
@@ -101,11 +96,11 @@ fronts-turn I leaves z x z₁ l h lz lx e p f j a =
 unfoldable pub Strings : List ℕ → List ℕ → List ℕ → ℕ → List ℕ → Type 0
 Strings I leaves seed n z = (l : ℕ) → l < 16 → part (1110 * l) (22 + 32 * n) z ≡ string I (getD leaves l 0) seed n
 
-strings-none : (I leaves seed z : List ℕ) → ((l : ℕ) → l < 16 → part (1110 * l) 22 z ≡ front I (getD leaves l 0) dPblc) → Strings I leaves seed 0 z
+pub strings-none : (I leaves seed z : List ℕ) → ((l : ℕ) → l < 16 → part (1110 * l) 22 z ≡ front I (getD leaves l 0) dPblc) → Strings I leaves seed 0 z
 unfolding Strings string keyInput front joined
 strings-none I leaves seed z f l h = f l h ∙ sym (append-nil _)
 
-strings-turn : (I leaves seed : List ℕ) (i : ℕ) (v z z₁ : List ℕ) → ((l : ℕ) → l < 16 → bytes (column l 8 v) ≡ chainEnd I (getD leaves l 0) 8 seed i)
+pub strings-turn : (I leaves seed : List ℕ) (i : ℕ) (v z z₁ : List ℕ) → ((l : ℕ) → l < 16 → bytes (column l 8 v) ≡ chainEnd I (getD leaves l 0) 8 seed i)
     → Put 16 i v z z₁ → Strings I leaves seed i z → Strings I leaves seed (i + 1) z₁
 unfolding Strings string keyInput front joined
 strings-turn I leaves seed i v z z₁ ended put f l h =
@@ -115,30 +110,10 @@ strings-turn I leaves seed i v z z₁ ended put f l h =
     rw (wide, add-one)
     (put .new l h ∙ ap₂ (λ (a b : List ℕ). a ++ b) (f l h) (ended l h) ∙ append-assoc (front I q dPblc) (joined ends i) (ends i))
 
--- the strings of all leaves for which w₀ and s₀ were ready and z₀ had the fronts
-unfoldable pub Grown : ℕ → List ℕ → List ℕ → List ℕ → List ℕ → List ℕ → List ℕ → List ℕ → Type 0
-Grown i seed w₀ s₀ z₀ w s z =
-    (id leaves : List ℕ) → Ready id leaves w₀ s₀ → Strings (bytes id) leaves (bytes seed) 0 z₀
-    → Ready id leaves w s × Strings (bytes id) leaves (bytes seed) i z
-
-pub grown-none : (seed w s z : List ℕ) → Grown 0 seed w s z w s z
-unfolding Grown
-grown-none seed w s z id leaves r f = (r, f)
-
-pub grown-turn : (i : ℕ) (seed w₀ s₀ z₀ w s z w₁ s₁ v z₁ : List ℕ) → Grown i seed w₀ s₀ z₀ w s z → Ended i seed w s w₁ s₁ v → Put 16 i v z z₁
-    → Grown (i + 1) seed w₀ s₀ z₀ w₁ s₁ z₁
-unfolding Grown Ended
-grown-turn i seed w₀ s₀ z₀ w s z w₁ s₁ v z₁ f ended put id leaves r g =
-    let now = f id leaves r g in
-    let ends = ended id leaves (now .0) in
-    (ends .0, strings-turn (bytes id) leaves (bytes seed) i v z z₁ (ends .1) put (now .1))
-
-pub grown-done : (i : ℕ) (seed w₀ s₀ z₀ w s z id leaves : List ℕ) → i ≡ 34 → Grown i seed w₀ s₀ z₀ w s z → Ready id leaves w₀ s₀
-    → ((l : ℕ) → l < 16 → part (1110 * l) 22 z₀ ≡ front (bytes id) (getD leaves l 0) dPblc)
-    → (l : ℕ) → l < 16 → part (1110 * l) 1110 z ≡ string (bytes id) (getD leaves l 0) (bytes seed) 34
-unfolding Grown Strings
-grown-done i seed w₀ s₀ z₀ w s z id leaves e f r g =
-    (rw e at f) id leaves r (strings-none (bytes id) leaves (bytes seed) z₀ g) .1
+pub strings-done : (I leaves seed z : List ℕ) (i : ℕ) → i ≡ 34 → Strings I leaves seed i z
+    → (l : ℕ) → l < 16 → part (1110 * l) 1110 z ≡ string I (getD leaves l 0) seed 34
+unfolding Strings
+strings-done I leaves seed z i e f l h = (rw e at f) l h
 
 -- ---- keys
 

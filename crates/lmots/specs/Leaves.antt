@@ -2,22 +2,15 @@
 use mathlib.Core.Path.{_≡_}
 use mathlib.Core.List.{List, _++_}
 use Prim.Native.Nat.{ℕ, _+_, _*_, _≤_, _<_}
-use lib.ListN.{length, getD}
+use lib.ListN.{length}
 use Rattle.octets.specs.Octets.{part, bytes}
 use Rattle.octets.specs.Strings.{joined}
 use Rattle.lanes.specs.Rows.{column}
 use Rattle.rfc8554.specs.Ots.{keyInput, chainEnd}
-use Rattle.lmots.specs.Sixteen.{Ready}
 
 -- what is hashed to the key of leaf q, up to the end of n chains
 unfoldable pub string : List ℕ → ℕ → List ℕ → ℕ → List ℕ
 string I q seed n = keyInput I q (joined (chainEnd I q 8 seed) n)
-
--- every lane has the end of chain i of its leaf, for leaves for which w and s were ready
-unfoldable pub Ended : ℕ → List ℕ → List ℕ → List ℕ → List ℕ → List ℕ → List ℕ → Type 0
-Ended i seed w s w′ s′ v =
-    (id leaves : List ℕ) → Ready id leaves w s
-    → Ready id leaves w′ s′ × ((l : ℕ) → l < 16 → bytes (column l 8 v) ≡ chainEnd (bytes id) (getD leaves l 0) 8 (bytes seed) i)
 
 -- z′ is z with lane l's value at chain i's end of string l, for the lanes before n
 pub record Put (n i : ℕ) (v z z′ : List ℕ) : Type 0 where

@@ -58,7 +58,7 @@ Stepped places t w s v w′ s′ v′ =
 -- every lane has come t places on from v₀ to v
 unfoldable pub Walked : List ℕ → List ℕ → List ℕ → ℕ → List ℕ → List ℕ → Type 0
 Walked id leaves places t v₀ v =
-    (l i j : ℕ) → l < 16 → i < 65536 → j + t ≤ 255 → getD places l 0 ≡ i * 65536 + j * 256
+    (l i j : ℕ) → l < 16 → i < 65536 → j + t ≤ 256 → getD places l 0 ≡ i * 65536 + j * 256
     → bytes (column l 8 v) ≡ chain (bytes id) (getD leaves l 0) i j t (bytes (column l 8 v₀))
 
 -- the same, for all leaves for which w and s were ready

@@ -12,11 +12,9 @@ ghost use Rattle.lanes.specs.Rows.{column};
 ghost use Rattle.rfc8554.specs.Ots.{dPblc};
 ghost use Rattle.rfc8554.specs.Ots as Ots;
 ghost use Rattle.lmots.specs.Pieces as Pieces;
-ghost use Rattle.lmots.specs.Leaves.{Ended, Put, string};
+ghost use Rattle.lmots.specs.Leaves.{Put, string};
 use crate::digits::front;
-use crate::sixteen::prepare;
-use crate::sixteen::step;
-use crate::sixteen::walk;
+use crate::sixteen::steps;
 use crate::turns::lane;
 use crate::turns::put_lane;
 use crate::words::put_eight;
@@ -33,23 +31,22 @@ fn put_all(y: [u32; 8], v: &mut [u32; 128])
     }
 }
 
-// The end of chain i in every lane, for leaves for which w and s are ready. The chain's start is a step too, from the seed and at
-// place 255.
+// The end of chain i in every lane. The chain's start is a step too, from the seed and at place 255.
 fn chain_ends(
     k: &[u32; 64],
+    id: [u32; 4],
+    leaves: [u32; 16],
     i: u32,
     seed: [u32; 8],
-    w: &mut [u32; 1024],
-    s: &mut [u32; 3264],
     v: &mut [u32; 128],
 )
-    requires { ⌜ (now k ≡ constants) × (i < 34) × (length (now w) ≡ 1024) × (length (now s) ≡ 3264) × (length (now v) ≡ 128) ⌝ }
-    ensures { λ _. ⌜ (length (now (w .exit)) ≡ 1024) × (length (now (s .exit)) ≡ 3264) × (length (now (v .exit)) ≡ 128) ⌝ }
-    ensures { λ _. ⌜ Ended i seed (now (w .entry)) (now (s .entry)) (now (w .exit)) (now (s .exit)) (now (v .exit)) ⌝ }
+    requires { ⌜ (now k ≡ constants) × (i < 34) × (length (now v) ≡ 128) ⌝ }
+    ensures { λ _. ⌜ length (now (v .exit)) ≡ 128 ⌝ }
+    ensures { λ _. ⌜ ((l : ℕ) → l < 16 → bytes (column l 8 (now (v .exit))) ≡ Ots.chainEnd (bytes id) (getD leaves l 0) 8 (bytes seed) i) ⌝ }
 {
     put_all(seed, v);
-    step(k, &[i * 65536 + 65280; 16], 0, w, s, v);
-    walk(k, &[i * 65536; 16], 255, w, s, v);
+    steps(k, id, leaves, &[i * 65536 + 65280; 16], 1, v);
+    steps(k, id, leaves, &[i * 65536; 16], 255, v);
 }
 
 // Writes the ends of chain i to the strings of the leaves.
@@ -83,15 +80,12 @@ fn put_strings(k: &[u32; 64], id: [u32; 4], leaves: [u32; 16], seed: [u32; 8], z
     requires { ⌜ (now k ≡ constants) × (length (now z) ≡ 17760) ⌝ }
     ensures { λ _. ⌜ (length (now (z .exit)) ≡ 17760) × ((l : ℕ) → l < 16 → part (1110 * l) 1110 (now (z .exit)) ≡ string (bytes id) (getD leaves l 0) (bytes seed) 34) ⌝ }
 {
-    let mut w = [0u32; 1024];
-    let mut s = [0u32; 3264];
     let mut v = [0u32; 128];
-    prepare(k, id, leaves, &mut w, &mut s);
     put_fronts(id, leaves, z);
     let mut i = 0;
     while i < 34 {
         let n = i as u32;
-        chain_ends(k, n, seed, &mut w, &mut s, &mut v);
+        chain_ends(k, id, leaves, n, seed, &mut v);
         put_ends(&v, i, z);
         i += 1;
     }

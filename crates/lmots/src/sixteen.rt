@@ -47,7 +47,7 @@ fn put_numbers(leaves: [u32; 16], w: &mut [u32; 1024])
 }
 
 // One step of every chain, t places after the lane's own.
-pub fn step(
+fn step(
     k: &[u32; 64],
     places: &[u32; 16],
     t: u32,
@@ -66,7 +66,7 @@ pub fn step(
 }
 
 // What is the same in every step of a leaf's chains: the blocks' words around place and value, and the first five rounds.
-pub fn prepare(
+fn prepare(
     k: &[u32; 64],
     id: [u32; 4],
     leaves: [u32; 16],
@@ -104,7 +104,7 @@ pub fn prepare(
 }
 
 // Steps of every chain, for leaves for which w and s are ready.
-pub fn walk(
+fn walk(
     k: &[u32; 64],
     places: &[u32; 16],
     count: u32,
