@@ -6,14 +6,14 @@ use Prim.Native.Nat.{ℕ, zero, suc, _+_, _-_, _*_, _/_, _≤_, _<_}
 use native.Mathlib.Nat.{add-suc, eq-or-lt-of-le}
 use native.Mathlib.Numerals.{add-one}
 use native.Mathlib.Omega.{arith}
-use lib.Bits.{bitAnd, bitXor}
+use lib.Bits.{bitXor}
 use lib.ListN.{length, getD, set, length-append, length-set, List·getD-append}
 use lib.Seq.{getD-set-same, getD-set-other, getD-at, ext-getD}
 use Rattle.octets.specs.Laws.{as-eight}
 use Rattle.sha256.specs.Constants.{constants}
 use Rattle.sha256.specs.Forms.{maj-any}
 use Rattle.sha256.specs.Fips as Fips
-use Rattle.lanes.specs.Rows.{column, Same, scheduledAt, eight, State, place, temp1At, temp2At, roundAt, Kept, Rounded, Compressed}
+use Rattle.lanes.specs.Rows.{column, Same, Alike, scheduledAt, shareAt, Shares, Common, eight, State, place, temp1At, temp2At, roundAt, Kept, Rounded, Compressed}
 
 -- ---- words of a list, by index
 
@@ -35,6 +35,54 @@ above xs i j x h = other xs i j x (inr h)
 
 pub there : (xs : List ℕ) (i j x : ℕ) → j ≡ i → i < length xs → getD (set xs i x) j 0 ≡ x
 there xs i j x e h = rw e (getD-set-same xs i x 0 h)
+
+-- n of c words of z from index p on are f's, and n of c from q on are g's; all others are those of s
+pub record Two (p q c : ℕ) (f g : ℕ → ℕ) (n : ℕ) (s z : List ℕ) : Type 0 where
+  pub long : length z ≡ length s
+  pub first : (i : ℕ) → i < n → getD z (i + p) 0 ≡ f i
+  pub second : (i : ℕ) → i < n → getD z (i + q) 0 ≡ g i
+  pub low : (i : ℕ) → i < p → getD z i 0 ≡ getD s i 0
+  pub mid : (i : ℕ) → p + c ≤ i → i < q → getD z i 0 ≡ getD s i 0
+  pub high : (i : ℕ) → q + c ≤ i → getD z i 0 ≡ getD s i 0
+
+pub two-none : (p q c : ℕ) (f g : ℕ → ℕ) (s : List ℕ) → Two p q c f g 0 s s
+two-none p q c f g s =
+    record {
+      long = refl;
+      first = λ i h. absurd (omega arith);
+      second = λ i h. absurd (omega arith);
+      low = λ i h. refl;
+      mid = λ i h k. refl;
+      high = λ i h. refl;
+    }
+
+pub two-turn : (p q c : ℕ) (f g : ℕ → ℕ) (n : ℕ) (s z : List ℕ) (a b x y : ℕ) → n < c → p + c ≤ q → q + c ≤ length s → a ≡ n + p → b ≡ n + q
+    → x ≡ f n → y ≡ g n → Two p q c f g n s z → Two p q c f g (n + 1) s (set (set z a x) b y)
+two-turn p q c f g n s z a b x y h k l ea eb ex ey t =
+    let u = set z a x in
+    let lz : length z ≡ length s = t .long in
+    let lu : length u ≡ length s = simp length-set lz in
+    record {
+      long = simp length-set lz;
+      first =
+          λ i m.
+          let fits : i ≤ n = omega arith in
+          below u b (i + p) y (omega arith)
+          ∙ ⊎-elim
+          (λ e. rw e (there z a (n + p) x (sym ea) (omega arith) ∙ ex))
+          (λ d. below z a (i + p) x (omega arith) ∙ t .first i d)
+          (eq-or-lt-of-le fits);
+      second =
+          λ i m.
+          let fits : i ≤ n = omega arith in
+          ⊎-elim
+          (λ e. rw e (there u b (n + q) y (sym eb) (omega arith) ∙ ey))
+          (λ d. below u b (i + q) y (omega arith) ∙ above z a (i + q) x (omega arith) ∙ t .second i d)
+          (eq-or-lt-of-le fits);
+      low = λ i m. below u b i y (omega arith) ∙ below z a i x (omega arith) ∙ t .low i m;
+      mid = λ i m o. below u b i y (omega arith) ∙ above z a i x (omega arith) ∙ t .mid i m o;
+      high = λ i m. above u b i y (omega arith) ∙ above z a i x (omega arith) ∙ t .high i m;
+    }
 
 -- ---- columns
 
@@ -78,10 +126,10 @@ module _ (w : List ℕ) (l u n : ℕ) (e : 16 * (16 + u) + l ≡ n) where
       )
 
 -- the words before index n are those of the schedules of the blocks in m
-unfoldable pub Filled : ℕ → List ℕ → List ℕ → Type 0
+pub Filled : ℕ → List ℕ → List ℕ → Type 0
 Filled n m w = (l t : ℕ) → l < 16 → 16 * (16 + t) + l < n + 16 → column l (16 + t) w ≡ Fips.schedule (column l 16 m) t
 
-pub filled-none : (m : List ℕ) → Filled 256 m m
+filled-none : (m : List ℕ) → Filled 256 m m
 unfolding Filled Fips.schedule
 filled-none m l zero h k = refl
 filled-none m l (suc t) h k = absurd (omega arith)
@@ -98,7 +146,7 @@ module _ (m w : List ℕ) (n x : ℕ) (f : Filled n m w) (hn : 256 ≤ n) (in-w 
       there w n (16 * (16 + u) + l) x e in-w ∙ p ∙ scheduled-column w l u n e ∙ ap (λ (c : List ℕ). Fips.scheduled c (16 + u)) old in
       ap₂ (λ (c : List ℕ) (y : ℕ). c ++ (y ∷ [])) (before l u (omega arith) ∙ old) word
 
-  pub filled-turn : Filled (n + 1) m (set w n x)
+  filled-turn : Filled (n + 1) m (set w n x)
   unfolding Filled
   filled-turn l zero h k = before l zero (omega arith) ∙ f l zero h (omega arith)
   filled-turn l (suc u) h k =
@@ -108,9 +156,100 @@ module _ (m w : List ℕ) (n x : ℕ) (f : Filled n m w) (hn : 256 ≤ n) (in-w 
       (λ a. before l (suc u) (omega arith) ∙ f l (suc u) h (omega arith))
       (eq-or-lt-of-le fits)
 
-pub same-turn : (m w : List ℕ) (n x : ℕ) → Same 256 m w → 256 ≤ n → Same 256 m (set w n x)
+same-turn : (m w : List ℕ) (n x : ℕ) → Same 256 m w → 256 ≤ n → Same 256 m (set w n x)
 unfolding Same
 same-turn m w n x f h i k = below w n i x (omega arith) ∙ f i k
+
+-- ---- what is shared of the schedule
+
+add-group : (a b c : ℕ) → Fips.add a (Fips.add b c) ≡ Fips.add (Fips.add a b) c
+unfolding Fips.add
+add-group a b c = omega arith
+
+add-swap : (a b : ℕ) → Fips.add a b ≡ Fips.add b a
+unfolding Fips.add
+add-swap a b = omega arith
+
+add-across : (a b c d : ℕ) → Fips.add b (Fips.add a (Fips.add c d)) ≡ Fips.add (Fips.add (Fips.add a b) c) d
+add-across a b c d = add-group b a (Fips.add c d) ∙ ap (λ (y : ℕ). Fips.add y (Fips.add c d)) (add-swap b a) ∙ add-group (Fips.add a b) c d
+
+-- what words 14 and 15 and the words before them bring to words 16 and 17
+unfoldable pub firstShare : List ℕ → ℕ → ℕ
+firstShare w n = Fips.add (Fips.smallSigma1 (getD w (n + 224) 0)) (shareAt w n)
+
+-- what words 2 to 4 bring to words 18 and 19
+unfoldable pub nextShare : List ℕ → ℕ → ℕ
+nextShare w n = shareAt w (n + 32)
+
+pub shares-done : (n : ℕ) (w y x : List ℕ) → n ≡ 32 → Two 0 32 32 (firstShare w) (nextShare w) n y x → Shares w x
+unfolding firstShare nextShare
+shares-done n w y x e t =
+    record {
+      first = λ i h. (let p : i ≡ i + 0 = omega arith in ap (λ (m : ℕ). getD x m 0) p) ∙ t .first i (omega arith);
+      second = λ i h. t .second i (omega arith);
+    }
+
+module _ (w x : List ℕ) (n : ℕ) (f : Shares w x) where
+  share-of : (i : ℕ) → n ≡ i + 256 → shareAt w i ≡ Fips.add (Fips.smallSigma0 (getD w (n - 240) 0)) (getD w (n - 256) 0)
+  unfolding shareAt
+  share-of i e =
+      let far : i + 16 ≡ n - 240 = omega arith in
+      let last : i ≡ n - 256 = omega arith in
+      rw (far, last)
+
+  pub shared-first : 256 ≤ n → n < 288 → Fips.add (getD w (n - 112) 0) (getD x (n - 256) 0) ≡ scheduledAt w n
+  unfolding scheduledAt
+  shared-first h k =
+      let near : n - 256 + 224 ≡ n - 32 = omega arith in
+      let share = rw (near, share-of (n - 256) (omega arith)) at (f .first (n - 256) (omega arith)) in
+      rw share (add-across _ _ _ _)
+
+  pub shared-next : 288 ≤ n → n < 320
+      → Fips.add (Fips.add (Fips.smallSigma1 (getD w (n - 32) 0)) (getD w (n - 112) 0)) (getD x (n - 256) 0) ≡ scheduledAt w n
+  unfolding scheduledAt
+  shared-next h k =
+      let at : n - 288 + 32 ≡ n - 256 = omega arith in
+      let share = (rw at at (f .second (n - 288) (omega arith))) ∙ share-of (n - 256) (omega arith) in
+      rw share (add-group _ _ _)
+
+pub same-alike : (w z : List ℕ) → Same 256 w z → Alike w z
+unfolding Same Alike
+same-alike w z f i h k = f i k
+
+pub shares-alike : (w z x : List ℕ) → Alike w z → Shares w x → Shares z x
+unfolding Alike shareAt
+shares-alike w z x e f =
+    record {
+      first =
+          λ n h.
+          rw (
+            e (n + 224) (inr (omega arith)) (omega arith),
+            e (n + 16) (inl (omega arith)) (omega arith),
+            e n (inl (omega arith)) (omega arith),
+          ) (f .first n h);
+      second =
+          λ n h. rw (e (n + 32 + 16) (inl (omega arith)) (omega arith), e (n + 32) (inl (omega arith)) (omega arith)) (f .second n h);
+    }
+
+-- the blocks m stand in w, and, if x has their shares, so do the words of their schedules before index n
+pub record Going (x m : List ℕ) (n : ℕ) (w : List ℕ) : Type 0 where
+  pub same : Same 256 m w
+  pub filled : Shares m x → Filled n m w
+
+pub going-none : (x m : List ℕ) → Going x m 256 m
+unfolding Same
+going-none x m = record { same = λ i h. refl; filled = λ h. filled-none m }
+
+pub going-turn : (x m w : List ℕ) (n y : ℕ) → 256 ≤ n → n < length w → (Shares w x → y ≡ scheduledAt w n) → Going x m n w → Going x m (n + 1) (set w n y)
+going-turn x m w n y h k e g =
+    record {
+      same = same-turn m w n y (g .same) h;
+      filled = λ f. filled-turn m w n y (g .filled f) h k (e (shares-alike m w x (same-alike m w (g .same)) f));
+    }
+
+pub going-done : (x m w : List ℕ) (n : ℕ) → 1024 ≤ n → Going x m n w → Shares m x → (l : ℕ) → l < 16 → column l 64 w ≡ Fips.schedule (column l 16 m) 48
+unfolding Filled
+going-done x m w n h g f l k = g .filled f l 48 k (omega arith)
 
 -- ---- a round of one lane
 
@@ -368,20 +507,62 @@ rounds-first w m h zero e = refl
 rounds-first w m h (suc t) e =
     ap₂ (λ (x : ℕ) (s : List ℕ). Fips.round (getD constants t 0) x s) (e t (omega arith)) (rounds-first w m h t (λ i k. e i (omega arith)))
 
-module _ (m w s r v : List ℕ) (from : ℕ) (hf : from ≤ 16) (same : Same 256 m w)
-    (made : (l : ℕ) → l < 16 → column l 64 w ≡ Fips.schedule (column l 16 m) 48) (kept : Kept (1024 - 16 * from) s r)
-    (done : Rounded w from 64 s r) (summed : (l : ℕ) (h q : List ℕ) → l < 16 → State h (place 0 l) r → State q (place 64 l) r → column l 8 v ≡ Fips.sums h q) where
-  started : (l : ℕ) (h : List ℕ) → l < 16 → Fips.rounds (column l 16 m) h from ≡ Fips.rounds (column l 64 w) h from
-  unfolding Same
-  started l h k =
-      rounds-first (column l 16 m) (column l 64 w) h from
-      (λ i a. getD-column l 16 m i (omega arith) ∙ sym (same (16 * i + l) (omega arith)) ∙ sym (getD-column l 64 w i (omega arith)))
+pub common-alike : (h w z x s : List ℕ) → Alike w z → Common h w x s → Common h z x s
+unfolding Alike
+common-alike h w z x s e c =
+    record {
+      shares = shares-alike w z x e (c .shares);
+      start = c .start;
+      five =
+          λ l k.
+          let same : column l 5 z ≡ column l 5 w = column-same l 5 w z (λ t i. e (16 * t + l) (inl (omega arith)) (omega arith)) in
+          rw same (c .five l k);
+    }
 
-  pub compressed-by : Compressed m s from v
-  unfolding Compressed Rounded Kept Fips.compress
-  compressed-by l h k g u =
-      let end = done l h k (rw (started l h k) at u) in
-      summed l h _ k (kept h (place 0 l) (omega arith) (omega arith) g) end ∙ ap (λ (c : List ℕ). Fips.sums h (Fips.rounds c h 64)) (made l k)
+-- the first five rounds over a lane's schedule
+five-first : (h m w : List ℕ) (l : ℕ) → Alike m w → l < 16 → Fips.rounds (column l 5 m) h 5 ≡ Fips.rounds (column l 64 w) h 5
+unfolding Alike
+five-first h m w l e k =
+    rounds-first (column l 5 m) (column l 64 w) h 5
+    (λ i a. getD-column l 5 m i a ∙ sym (e (16 * i + l) (inl (omega arith)) (omega arith)) ∙ sym (getD-column l 64 w i (omega arith)))
+
+no-rounds : (w h s : List ℕ) (n : ℕ) → State h n s → State (Fips.rounds w h 0) n s
+unfolding Fips.rounds
+no-rounds w h s n x = x
+
+pub common-by : (h w x s r : List ℕ) → Shares w x → ((l : ℕ) → l < 16 → State h (place 0 l) s) → Kept (1024 - 16 * 0) s r → Rounded w 0 5 s r
+    → Common h w x r
+unfolding Kept Rounded Same
+common-by h w x s r shared g kept done =
+    record {
+      shares = shared;
+      start = λ l k. kept h (place 0 l) (omega arith) (omega arith) (g l k);
+      five =
+          λ l k.
+          subst (λ (q : List ℕ). State q (place 5 l) r) (sym (five-first h w w l (same-alike w w (λ i a. refl)) k))
+          (done l h k (no-rounds (column l 64 w) h s (place 0 l) (g l k)));
+    }
+
+module _ (m x w s r v : List ℕ) (same : Same 256 m w)
+    (made : Shares m x → (l : ℕ) → l < 16 → column l 64 w ≡ Fips.schedule (column l 16 m) 48) (kept : Kept (1024 - 16 * 5) s r)
+    (done : Rounded w 5 64 s r) (summed : (l : ℕ) (h q : List ℕ) → l < 16 → State h (place 0 l) r → State q (place 64 l) r → column l 8 v ≡ Fips.sums h q) where
+  still-common : (h : List ℕ) → Common h m x s → Common h m x r
+  unfolding Kept
+  still-common h c =
+      record {
+        shares = c .shares;
+        start = λ l k. kept h (place 0 l) (omega arith) (omega arith) (c .start l k);
+        five = λ l k. kept _ (place 5 l) (omega arith) (omega arith) (c .five l k);
+      }
+
+  pub compressed-by : Compressed m x s w r v
+  unfolding Compressed Rounded Fips.compress
+  compressed-by h c = (
+    common-alike h m w x r (same-alike m w same) (still-common h c),
+    λ l k.
+        let end = done l h k (rw (five-first h m w l (same-alike m w same) k) at (c .five l k)) in
+        summed l h _ k (still-common h c .start l k) end ∙ ap (λ (c : List ℕ). Fips.sums h (Fips.rounds c h 64)) (made (c .shares) l k),
+  )
 
 -- ---- one block and one hash value in every lane
 
