@@ -6,6 +6,7 @@ use mathlib.Core.List.{List, [], _∷_, _++_}
 use Prim.Native.Nat.{ℕ, zero, suc, _+_, _-_, _*_, _≤_, _<_}
 use lib.Bits.{bitAnd, bitXor}
 use lib.ListN.{getD, set}
+use Rattle.sha256.specs.Constants.{constants}
 use Rattle.sha256.specs.Fips as Fips
 
 -- the first n words of lane l
@@ -34,7 +35,7 @@ scheduledAt w n =
 unfoldable pub shareAt : List ℕ → ℕ → ℕ
 shareAt w n = Fips.add (Fips.smallSigma0 (getD w (n + 16) 0)) (getD w n 0)
 
--- x has what words 0 to 4, 14 and 15 bring to words 16 and 17, and to words 18 and 19
+-- x has what words 0 to 4, 14 and 15 of the blocks w bring to words 16 and 17, and to words 18 and 19
 pub record Shares (w x : List ℕ) : Type 0 where
   pub first : (n : ℕ) → n < 32 → getD x n 0 ≡ Fips.add (Fips.smallSigma1 (getD w (n + 224) 0)) (shareAt w n)
   pub second : (n : ℕ) → n < 32 → getD x (n + 32) 0 ≡ shareAt w (n + 32)
@@ -87,11 +88,23 @@ Rounded w from to s r =
     → State (Fips.rounds (column l 64 w) h from) (place from l) s
     → State (Fips.rounds (column l 64 w) h to) (place to l) r
 
+-- round 5 of lane l but for its word, for the working variables q before it: x has its a and e, s its b xor c
+pub record Held (q : List ℕ) (l : ℕ) (x s : List ℕ) : Type 0 where
+  pub a : getD x (64 + l) 0 ≡ getD (Fips.round (getD constants 5 0) 0 q) 0 0
+  pub e : getD x (80 + l) 0 ≡ getD (Fips.round (getD constants 5 0) 0 q) 4 0
+  pub differ : getD s (place 6 l + 2176) 0 ≡ bitXor (getD s (place 6 l + 16) 0) (getD s (place 6 l + 32) 0)
+
+-- round 5 of every lane, with word 5 of the blocks w
+unfoldable pub Resumed : List ℕ → List ℕ → List ℕ → List ℕ → Type 0
+Resumed w x s r =
+    (l : ℕ) (q : List ℕ) → l < 16 → State q (place 5 l) s → Held q l x s → State (Fips.round (getD constants 5 0) (getD w (80 + l) 0) q) (place 6 l) r
+
 -- what is made for all blocks that are alike to w, after the hash value h
 pub record Common (h w x s : List ℕ) : Type 0 where
   pub shares : Shares w x
   pub start : (l : ℕ) → l < 16 → State h (place 0 l) s
   pub five : (l : ℕ) → l < 16 → State (Fips.rounds (column l 5 w) h 5) (place 5 l) s
+  pub held : (l : ℕ) → l < 16 → Held (Fips.rounds (column l 5 w) h 5) l x s
 
 -- compression of the blocks m; what was made for them is there after it
 unfoldable pub Compressed : List ℕ → List ℕ → List ℕ → List ℕ → List ℕ → List ℕ → Type 0

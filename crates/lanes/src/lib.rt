@@ -2,8 +2,9 @@
 // that the compiler turns into vector code. Nothing is written over: a lane's schedule is a column of 64 words, and its working
 // variables are columns too, of 68 words, one more with each round.
 //
-// Blocks whose words 0 to 4, 14 and 15 are the same, and that have one hash value before them, share the first five rounds and
-// what these words bring to the schedule: `begin` makes it once, and `compress` goes on from it.
+// Blocks that a lane has one after the other, with words 0 to 4, 14 and 15 and the hash value before them unchanged, share the first
+// five rounds, round 5 but for its word, and what the unchanged words bring to the schedule: `begin` makes it once, and `compress`
+// goes on from it.
 ghost use mathlib.Core.Path.{_≡_};
 ghost use Prim.Native.Nat.{ℕ, _+_, _-_, _*_, _<_, _≤_};
 ghost use lib.Bits.{bitAnd, bitXor};
@@ -11,7 +12,7 @@ ghost use mathlib.Core.List.{List};
 ghost use lib.ListN.{length, getD};
 ghost use Rattle.sha256.specs.Constants.{constants};
 ghost use Rattle.sha256.specs.Fips as Fips;
-ghost use Rattle.lanes.specs.Rows.{column, place, State, Same, Kept, Rounded, Common, Compressed, Shares, shareAt, scheduledAt, temp1At, temp2At, roundAt};
+ghost use Rattle.lanes.specs.Rows.{column, place, State, Same, Kept, Rounded, Resumed, Common, Compressed, Shares, shareAt, scheduledAt, temp1At, temp2At, roundAt};
 use sha256::block::temp1;
 use sha256::functions::add;
 use sha256::functions::big_sigma0;
@@ -200,15 +201,45 @@ fn sums(s: &[u32; 3264], v: &mut [u32; 128])
     }
 }
 
-// What compress goes on from, for blocks whose first sixteen rows have words 0 to 4, 14 and 15 as w does, and for one hash value
-// before them.
+// Keeps a and e after round 5.
+fn keep(s: &[u32; 3264], x: &mut [u32; 96])
+    requires { ⌜ (length (now s) ≡ 3264) × (length (now x) ≡ 96) ⌝ }
+    ensures { λ _. ⌜ (length (now (x .exit)) ≡ 96) × Same 64 (now (x .entry)) (now (x .exit)) ⌝ }
+    ensures { λ _. ⌜ ((l : ℕ) → l < 16 → (getD (now (x .exit)) (64 + l) 0 ≡ getD (now (s .entry)) (928 + l) 0) × (getD (now (x .exit)) (80 + l) 0 ≡ getD (now (s .entry)) (2016 + l) 0)) ⌝ }
+{
+    let mut n = 0;
+    while n < 16 {
+        x[64 + n] = s[928 + n];
+        x[80 + n] = s[2016 + n];
+        n += 1;
+    }
+}
+
+// Round 5 of every lane, from what is kept of it: its word is only added.
+fn resume(w: &[u32; 1024], x: &[u32; 96], s: &mut [u32; 3264])
+    requires { ⌜ (length (now w) ≡ 1024) × (length (now x) ≡ 96) × (length (now s) ≡ 3264) ⌝ }
+    ensures { λ _. ⌜ (length (now (s .exit)) ≡ 3264) × Kept 944 (now (s .entry)) (now (s .exit)) ⌝ }
+    ensures { λ _. ⌜ Resumed (now (w .entry)) (now (x .entry)) (now (s .entry)) (now (s .exit)) ⌝ }
+{
+    let mut n = 0;
+    while n < 16 {
+        s[928 + n] = add(x[64 + n], w[80 + n]);
+        s[2016 + n] = add(x[80 + n], w[80 + n]);
+        n += 1;
+    }
+}
+
+// What compress goes on from, for blocks whose words 0 to 4, 14 and 15 are those in w, and for one hash value before them. Word 5 is
+// zero in w, so that round 5 is without it.
 pub fn begin(k: &[u32; 64], h: [u32; 8], w: &[u32; 1024], x: &mut [u32; 96], s: &mut [u32; 3264])
-    requires { ⌜ (now k ≡ constants) × (length (now w) ≡ 1024) × (length (now x) ≡ 96) × (length (now s) ≡ 3264) ⌝ }
+    requires { ⌜ (now k ≡ constants) × (length (now w) ≡ 1024) × (length (now x) ≡ 96) × (length (now s) ≡ 3264) × ((l : ℕ) → l < 16 → getD (now w) (80 + l) 0 ≡ 0) ⌝ }
     ensures { λ _. ⌜ (length (now (x .exit)) ≡ 96) × (length (now (s .exit)) ≡ 3264) × Common h (now (w .entry)) (now (x .exit)) (now (s .exit)) ⌝ }
 {
     shares(w, x);
     start(h, s);
     rounds(k, w, s, 0, 5);
+    rounds(k, w, s, 5, 6);
+    keep(s, x);
 }
 
 // The hash value of every lane after one more block, whose words are the first sixteen rows of w.
@@ -225,6 +256,7 @@ pub fn compress(
     ensures { λ _. ⌜ Compressed (now (w .entry)) (now (x .entry)) (now (s .entry)) (now (w .exit)) (now (s .exit)) (now (v .exit)) ⌝ }
 {
     schedule(w, x);
-    rounds(k, w, s, 5, 64);
+    resume(w, x, s);
+    rounds(k, w, s, 6, 64);
     sums(s, v);
 }

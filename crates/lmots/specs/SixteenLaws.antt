@@ -266,8 +266,7 @@ numbered-turn n leaves w z x h p f =
       high = λ i k. above z (n + 64) i x (omega arith) ∙ f .high i k;
     }
 
-module _ (id leaves m w₀ w x s : List ℕ) (li : length id ≡ 4) (bi : (i : ℕ) → getD id i 0 < 4294967296) (bl : (l : ℕ) → getD leaves l 0 < 4294967296)
-    (e : m ≡ unnumbered id) (f : (l : ℕ) → l < 16 → column l 16 w₀ ≡ m) (n : Numbered 16 leaves w₀ w) (c : Common initial w x s) where
+module _ (id leaves m w₀ w : List ℕ) (e : m ≡ unnumbered id) (f : (l : ℕ) → l < 16 → column l 16 w₀ ≡ m) (n : Numbered 16 leaves w₀ w) where
   spread-word : (l n : ℕ) → l < 16 → n < 16 → getD w₀ (16 * n + l) 0 ≡ getD (unnumbered id) n 0
   spread-word l n h k = sym (getD-column l 16 w₀ n k) ∙ ap (λ (c : List ℕ). getD c n 0) (f l h ∙ e)
 
@@ -281,9 +280,15 @@ module _ (id leaves m w₀ w x s : List ℕ) (li : length id ≡ 4) (bi : (i : �
       (λ a. n .low (16 * r + l) (omega arith) ∙ spread-word l r h (omega arith) ∙ four-first id (getD leaves l 0) r a)
       (eq-or-lt-of-le fits)
 
-  pub ready-by : Ready id leaves w x s
+  -- where the places will be
+  pub no-place : (l : ℕ) → l < 16 → getD w (80 + l) 0 ≡ 0
   unfolding unnumbered
-  ready-by =
+  no-place l h = n .high (80 + l) (omega arith) ∙ spread-word l 5 h (omega arith)
+
+  pub ready-by : (x s : List ℕ) → length id ≡ 4 → ((i : ℕ) → getD id i 0 < 4294967296) → ((l : ℕ) → getD leaves l 0 < 4294967296) → Common initial w x s
+      → Ready id leaves w x s
+  unfolding unnumbered
+  ready-by x s li bi bl c =
       record {
         long = li;
         words = bi;

@@ -1,5 +1,5 @@
 -- `lanes::shares` meets its contract.
-use mathlib.Core.Path.{_≡_, refl}
+use mathlib.Core.Path.{_≡_}
 use Prim.Native.Nat.{_-_, _≤_}
 use native.Mathlib.Omega.{arith}
 use lib.ListN.{length, length-set}
@@ -71,7 +71,8 @@ loop-again c =
     let made : c .before .add .result ≡ firstShare (now (args .w)) (loop .n) = cc in (
       omega arith,
       simp length-set (omega arith),
-      two-turn 0 32 32 _ _ (loop .n) (now (args .x)) (loop .x) _ _ _ _ (omega arith) (omega arith) (omega arith) (omega arith) refl made (c .share-at2 .ensures) (loop .inv .2),
+      two-turn 0 32 32 _ _ (loop .n) (now (args .x)) (loop .x) _ _ _ _ (omega arith) (omega arith) (omega arith) (omega arith) (omega arith) made
+          (c .share-at2 .ensures) (loop .inv .2),
     )
 
 returns : tie.Need-returns Inv-loop μ-loop

@@ -6,7 +6,7 @@ use lib.ListN.{length, getD}
 use mir.Syntax.{w32}
 use mir.Val.{Fits}
 use Rattle.lanes.specs.Rows.{Common}
-use Rattle.lmots.specs.SixteenLaws.{unnumbered, ready-by}
+use Rattle.lmots.specs.SixteenLaws.{unnumbered, no-place, ready-by}
 use borrow.Author.Needs.{needs}
 use Rattle.lmots.proofs.sixteen.prepare.Statement.{statement}
 use Rattle.lmots.proofs.sixteen.prepare.Tie as tie
@@ -33,7 +33,14 @@ put-numbers-requires : tie.Need-put-numbers-requires
 put-numbers-requires c κs = search needs
 
 begin-requires : tie.Need-begin-requires
-begin-requires c κs = search needs
+unfolding unnumbered
+begin-requires c κs =
+    let numbered = c .before .before .before .put-numbers in
+    let filled = c .before .before .before .before .before .spread in
+    let start = c .before .before .before .before .before .before .before .before in
+    let args = start .args in
+    let pre = start .pre in
+    (pre .0, numbered .ensures .long, pre .2, pre .3, no-place (args .t2) (args .leaves) _ _ _ refl (filled .ensures .1) (numbered .ensures))
 
 -- what the types of the arguments say
 long-id : (c : tie.Start) → length (c .args .t2) ≡ 4
@@ -62,7 +69,7 @@ returns c =
       numbered .ensures .long,
       begun .ensures .0,
       begun .ensures .1,
-      ready-by id leaves _ _ w x s (long-id start) (λ i. id-word start i .fits) (λ l. leaf-word start l .fits) refl (filled .ensures .1) (numbered .ensures)
+      ready-by id leaves _ _ w refl (filled .ensures .1) (numbered .ensures) x s (long-id start) (λ i. id-word start i .fits) (λ l. leaf-word start l .fits)
           (subst (λ (h : List ℕ). Common h w x s) (value .ensures) (begun .ensures .2)),
     )
 
