@@ -6,14 +6,14 @@ use Prim.Native.Nat.{ℕ, zero, suc, _+_, _-_, _*_, _/_, _≤_, _<_}
 use native.Mathlib.Nat.{add-suc, eq-or-lt-of-le}
 use native.Mathlib.Numerals.{add-one}
 use native.Mathlib.Omega.{arith}
-use lib.Bits.{bitAnd, bitXor}
+use lib.Bits.{bitXor}
 use lib.ListN.{length, getD, set, length-append, length-set, List·getD-append}
 use lib.Seq.{getD-set-same, getD-set-other, getD-at, ext-getD}
 use Rattle.octets.specs.Laws.{as-eight}
 use Rattle.sha256.specs.Constants.{constants}
 use Rattle.sha256.specs.Forms.{maj-any}
 use Rattle.sha256.specs.Fips as Fips
-use Rattle.lanes.specs.Rows.{column, Same, scheduledAt, eight, State, place, temp1At, temp2At, roundAt, Kept, Rounded, Compressed}
+use Rattle.lanes.specs.Rows.{column, Same, Alike, scheduledAt, shareAt, Shares, Resumed, Common, eight, State, place, temp1At, temp2At, roundAt, Kept, Rounded, Compressed}
 
 -- ---- words of a list, by index
 
@@ -35,6 +35,54 @@ above xs i j x h = other xs i j x (inr h)
 
 pub there : (xs : List ℕ) (i j x : ℕ) → j ≡ i → i < length xs → getD (set xs i x) j 0 ≡ x
 there xs i j x e h = rw e (getD-set-same xs i x 0 h)
+
+-- n of c words of z from index p on are f's, and n of c from q on are g's; all others are those of s
+pub record Two (p q c : ℕ) (f g : ℕ → ℕ) (n : ℕ) (s z : List ℕ) : Type 0 where
+  pub long : length z ≡ length s
+  pub first : (i : ℕ) → i < n → getD z (p + i) 0 ≡ f i
+  pub second : (i : ℕ) → i < n → getD z (q + i) 0 ≡ g i
+  pub low : (i : ℕ) → i < p → getD z i 0 ≡ getD s i 0
+  pub mid : (i : ℕ) → p + c ≤ i → i < q → getD z i 0 ≡ getD s i 0
+  pub high : (i : ℕ) → q + c ≤ i → getD z i 0 ≡ getD s i 0
+
+pub two-none : (p q c : ℕ) (f g : ℕ → ℕ) (s : List ℕ) → Two p q c f g 0 s s
+two-none p q c f g s =
+    record {
+      long = refl;
+      first = λ i h. absurd (omega arith);
+      second = λ i h. absurd (omega arith);
+      low = λ i h. refl;
+      mid = λ i h k. refl;
+      high = λ i h. refl;
+    }
+
+pub two-turn : (p q c : ℕ) (f g : ℕ → ℕ) (n : ℕ) (s z : List ℕ) (a b x y : ℕ) → n < c → p + c ≤ q → q + c ≤ length s → a ≡ p + n → b ≡ q + n
+    → x ≡ f n → y ≡ g n → Two p q c f g n s z → Two p q c f g (n + 1) s (set (set z a x) b y)
+two-turn p q c f g n s z a b x y h k l ea eb ex ey t =
+    let u = set z a x in
+    let lz : length z ≡ length s = t .long in
+    let lu : length u ≡ length s = simp length-set lz in
+    record {
+      long = simp length-set lz;
+      first =
+          λ i m.
+          let fits : i ≤ n = omega arith in
+          below u b (p + i) y (omega arith)
+          ∙ ⊎-elim
+          (λ e. rw e (there z a (p + n) x (sym ea) (omega arith) ∙ ex))
+          (λ d. below z a (p + i) x (omega arith) ∙ t .first i d)
+          (eq-or-lt-of-le fits);
+      second =
+          λ i m.
+          let fits : i ≤ n = omega arith in
+          ⊎-elim
+          (λ e. rw e (there u b (q + n) y (sym eb) (omega arith) ∙ ey))
+          (λ d. below u b (q + i) y (omega arith) ∙ above z a (q + i) x (omega arith) ∙ t .second i d)
+          (eq-or-lt-of-le fits);
+      low = λ i m. below u b i y (omega arith) ∙ below z a i x (omega arith) ∙ t .low i m;
+      mid = λ i m o. below u b i y (omega arith) ∙ above z a i x (omega arith) ∙ t .mid i m o;
+      high = λ i m. above u b i y (omega arith) ∙ above z a i x (omega arith) ∙ t .high i m;
+    }
 
 -- ---- columns
 
@@ -78,10 +126,10 @@ module _ (w : List ℕ) (l u n : ℕ) (e : 16 * (16 + u) + l ≡ n) where
       )
 
 -- the words before index n are those of the schedules of the blocks in m
-unfoldable pub Filled : ℕ → List ℕ → List ℕ → Type 0
+pub Filled : ℕ → List ℕ → List ℕ → Type 0
 Filled n m w = (l t : ℕ) → l < 16 → 16 * (16 + t) + l < n + 16 → column l (16 + t) w ≡ Fips.schedule (column l 16 m) t
 
-pub filled-none : (m : List ℕ) → Filled 256 m m
+filled-none : (m : List ℕ) → Filled 256 m m
 unfolding Filled Fips.schedule
 filled-none m l zero h k = refl
 filled-none m l (suc t) h k = absurd (omega arith)
@@ -98,7 +146,7 @@ module _ (m w : List ℕ) (n x : ℕ) (f : Filled n m w) (hn : 256 ≤ n) (in-w 
       there w n (16 * (16 + u) + l) x e in-w ∙ p ∙ scheduled-column w l u n e ∙ ap (λ (c : List ℕ). Fips.scheduled c (16 + u)) old in
       ap₂ (λ (c : List ℕ) (y : ℕ). c ++ (y ∷ [])) (before l u (omega arith) ∙ old) word
 
-  pub filled-turn : Filled (n + 1) m (set w n x)
+  filled-turn : Filled (n + 1) m (set w n x)
   unfolding Filled
   filled-turn l zero h k = before l zero (omega arith) ∙ f l zero h (omega arith)
   filled-turn l (suc u) h k =
@@ -108,9 +156,117 @@ module _ (m w : List ℕ) (n x : ℕ) (f : Filled n m w) (hn : 256 ≤ n) (in-w 
       (λ a. before l (suc u) (omega arith) ∙ f l (suc u) h (omega arith))
       (eq-or-lt-of-le fits)
 
-pub same-turn : (m w : List ℕ) (n x : ℕ) → Same 256 m w → 256 ≤ n → Same 256 m (set w n x)
+same-turn : (m w : List ℕ) (n x : ℕ) → Same 256 m w → 256 ≤ n → Same 256 m (set w n x)
 unfolding Same
 same-turn m w n x f h i k = below w n i x (omega arith) ∙ f i k
+
+-- ---- sums of words
+
+add-group : (a b c : ℕ) → Fips.add a (Fips.add b c) ≡ Fips.add (Fips.add a b) c
+unfolding Fips.add
+add-group a b c = omega arith
+
+add-swap : (a b : ℕ) → Fips.add a b ≡ Fips.add b a
+unfolding Fips.add
+add-swap a b = omega arith
+
+add-nothing : (a b : ℕ) → Fips.add (Fips.add a 0) b ≡ Fips.add a b
+unfolding Fips.add
+add-nothing a b = omega arith
+
+add-later : (a b c : ℕ) → Fips.add (Fips.add (Fips.add a 0) c) b ≡ Fips.add (Fips.add a b) c
+add-later a b c = ap (λ (y : ℕ). Fips.add y b) (add-nothing a c) ∙ sym (add-group a c b) ∙ ap (Fips.add a) (add-swap c b) ∙ add-group a b c
+
+add-across : (a b c d : ℕ) → Fips.add b (Fips.add a (Fips.add c d)) ≡ Fips.add (Fips.add (Fips.add a b) c) d
+add-across a b c d = add-group b a (Fips.add c d) ∙ ap (λ (y : ℕ). Fips.add y (Fips.add c d)) (add-swap b a) ∙ add-group (Fips.add a b) c d
+
+-- ---- what is shared of the schedule
+
+-- what words 0 to 2, 14 and 15 bring to words 16 and 17
+unfoldable pub firstShare : List ℕ → ℕ → ℕ
+firstShare w n = Fips.add (Fips.smallSigma1 (getD w (n + 224) 0)) (shareAt w n)
+
+-- what words 2 to 4 bring to words 18 and 19
+unfoldable pub nextShare : List ℕ → ℕ → ℕ
+nextShare w n = shareAt w (n + 32)
+
+pub shares-done : (n : ℕ) (w y x : List ℕ) → n ≡ 32 → Two 0 32 32 (firstShare w) (nextShare w) n y x → Shares w x
+unfolding firstShare nextShare
+shares-done n w y x e t =
+    record {
+      first = λ i h. (let p : i ≡ 0 + i = omega arith in ap (λ (m : ℕ). getD x m 0) p) ∙ t .first i (omega arith);
+      second = λ i h. (let p : i + 32 ≡ 32 + i = omega arith in ap (λ (m : ℕ). getD x m 0) p) ∙ t .second i (omega arith);
+    }
+
+module _ (w x : List ℕ) (n : ℕ) (f : Shares w x) where
+  share-of : (i : ℕ) → n ≡ i + 256 → shareAt w i ≡ Fips.add (Fips.smallSigma0 (getD w (n - 240) 0)) (getD w (n - 256) 0)
+  unfolding shareAt
+  share-of i e =
+      let far : i + 16 ≡ n - 240 = omega arith in
+      let last : i ≡ n - 256 = omega arith in
+      rw (far, last)
+
+  pub shared-first : 256 ≤ n → n < 288 → Fips.add (getD w (n - 112) 0) (getD x (n - 256) 0) ≡ scheduledAt w n
+  unfolding scheduledAt
+  shared-first h k =
+      let near : n - 256 + 224 ≡ n - 32 = omega arith in
+      let share = rw (near, share-of (n - 256) (omega arith)) at (f .first (n - 256) (omega arith)) in
+      rw share (add-across _ _ _ _)
+
+  pub shared-next : 288 ≤ n → n < 320
+      → Fips.add (Fips.add (Fips.smallSigma1 (getD w (n - 32) 0)) (getD w (n - 112) 0)) (getD x (n - 256) 0) ≡ scheduledAt w n
+  unfolding scheduledAt
+  shared-next h k =
+      let at : n - 288 + 32 ≡ n - 256 = omega arith in
+      let share = (rw at at (f .second (n - 288) (omega arith))) ∙ share-of (n - 256) (omega arith) in
+      rw share (add-group _ _ _)
+
+same-alike : (w z : List ℕ) → Same 256 w z → Alike w z
+unfolding Same Alike
+same-alike w z f i h k = f i k
+
+shares-kept : (w x y : List ℕ) → Same 64 x y → Shares w x → Shares w y
+unfolding Same
+shares-kept w x y e f =
+    record {
+      first = λ n h. e n (omega arith) ∙ f .first n h;
+      second = λ n h. e (n + 32) (omega arith) ∙ f .second n h;
+    }
+
+shares-alike : (w z x : List ℕ) → Alike w z → Shares w x → Shares z x
+unfolding Alike shareAt
+shares-alike w z x e f =
+    record {
+      first =
+          λ n h.
+          rw (
+            e (n + 224) (inr (omega arith)) (omega arith),
+            e (n + 16) (inl (omega arith)) (omega arith),
+            e n (inl (omega arith)) (omega arith),
+          ) (f .first n h);
+      second =
+          λ n h. rw (e (n + 32 + 16) (inl (omega arith)) (omega arith), e (n + 32) (inl (omega arith)) (omega arith)) (f .second n h);
+    }
+
+-- the blocks m stand in w, and, if x has their shares, so do the words of their schedules before index n
+pub record Going (x m : List ℕ) (n : ℕ) (w : List ℕ) : Type 0 where
+  pub same : Same 256 m w
+  pub filled : Shares m x → Filled n m w
+
+pub going-none : (x m : List ℕ) → Going x m 256 m
+unfolding Same
+going-none x m = record { same = λ i h. refl; filled = λ h. filled-none m }
+
+pub going-turn : (x m w : List ℕ) (n y : ℕ) → 256 ≤ n → n < length w → (Shares w x → y ≡ scheduledAt w n) → Going x m n w → Going x m (n + 1) (set w n y)
+going-turn x m w n y h k e g =
+    record {
+      same = same-turn m w n y (g .same) h;
+      filled = λ f. filled-turn m w n y (g .filled f) h k (e (shares-alike m w x (same-alike m w (g .same)) f));
+    }
+
+pub going-done : (x m w : List ℕ) (n : ℕ) → 1024 ≤ n → Going x m n w → Shares m x → (l : ℕ) → l < 16 → column l 64 w ≡ Fips.schedule (column l 16 m) 48
+unfolding Filled
+going-done x m w n h g f l k = g .filled f l 48 k (omega arith)
 
 -- ---- a round of one lane
 
@@ -293,6 +449,88 @@ pub rounded-then : (w : List ℕ) (a b d : ℕ) (s r z : List ℕ) → Rounded w
 unfolding Rounded
 rounded-then w a b d s r z f g l h k e = g l h k (f l h k e)
 
+-- ---- round 5 but for its word
+
+-- a round's word is only added, to a and to e
+round-word : (k w : ℕ) (q : List ℕ)
+    → Fips.add (getD (Fips.round k 0 q) 0 0) w ∷ getD q 0 0 ∷ getD q 1 0 ∷ getD q 2 0
+    ∷ Fips.add (getD (Fips.round k 0 q) 4 0) w ∷ getD q 4 0 ∷ getD q 5 0 ∷ getD q 6 0 ∷ []
+    ≡ Fips.round k w q
+unfolding Fips.round Fips.temp1
+round-word k w q =
+    let d = getD q 3 0 in
+    let t = Fips.add (Fips.add (Fips.add (getD q 7 0) (Fips.bigSigma1 (getD q 4 0))) (Fips.ch (getD q 4 0) (getD q 5 0) (getD q 6 0))) k in
+    let u = Fips.temp2 (getD q 0 0) (getD q 1 0) (getD q 2 0) in
+    rw (add-later t w u, ← add-group d (Fips.add t 0) w, add-nothing t w)
+
+-- what the rows of a and e are after round 5, but for its word
+unfoldable pub keptA : List ℕ → ℕ → ℕ
+keptA s l = getD s (928 + l) 0
+
+unfoldable pub keptE : List ℕ → ℕ → ℕ
+keptE s l = getD s (2016 + l) 0
+
+-- what they are with it
+unfoldable pub wordedA : List ℕ → List ℕ → ℕ → ℕ
+wordedA w x l = Fips.add (getD x (64 + l) 0) (getD w (80 + l) 0)
+
+unfoldable pub wordedE : List ℕ → List ℕ → ℕ → ℕ
+wordedE w x l = Fips.add (getD x (80 + l) 0) (getD w (80 + l) 0)
+
+pub keep-done : (n : ℕ) (s x y : List ℕ) → n ≡ 16 → Two 64 80 16 (keptA s) (keptE s) n x y
+    → Same 64 x y × ((l : ℕ) → l < 16 → (getD y (64 + l) 0 ≡ getD s (928 + l) 0) × (getD y (80 + l) 0 ≡ getD s (2016 + l) 0))
+unfolding Same keptA keptE
+keep-done n s x y e t = (t .low, λ l h. (t .first l (omega arith), t .second l (omega arith)))
+
+module _ (n : ℕ) (w x s r : List ℕ) (e : n ≡ 16) (t : Two 928 2016 16 (wordedA w x) (wordedE w x) n s r) where
+  pub resume-kept : Kept 944 s r
+  unfolding Kept eight
+  resume-kept q m h k g =
+      record {
+        words =
+            rw (
+              t .mid m (omega arith) (omega arith),
+              t .mid (m + 16) (omega arith) (omega arith),
+              t .mid (m + 32) (omega arith) (omega arith),
+              t .mid (m + 48) (omega arith) (omega arith),
+              t .high (m + 1088) (omega arith),
+              t .high (m + 1088 + 16) (omega arith),
+              t .high (m + 1088 + 32) (omega arith),
+              t .high (m + 1088 + 48) (omega arith),
+            ) (g .words);
+        differ =
+            rw (
+              t .high (m + 2176) (omega arith),
+              t .mid (m + 16) (omega arith) (omega arith),
+              t .mid (m + 32) (omega arith) (omega arith),
+            ) (g .differ);
+      }
+
+  pub resume-done : Resumed w x s r
+  unfolding Resumed eight wordedA wordedE
+  resume-done l q in-row before held =
+      let word = getD w (80 + l) 0 in
+      let old : (i j : ℕ) → i ≡ j → getD s i 0 ≡ getD s j 0 = λ i j p. ap (λ (m : ℕ). getD s m 0) p in
+      let five : (c : ℕ) → getD (eight (944 + l) (944 + l + 1088) s) c 0 ≡ getD q c 0 = λ c. ap (λ (p : List ℕ). getD p c 0) (before .words) in
+      let a = t .first l (omega arith) ∙ ap (λ (y : ℕ). Fips.add y word) (held .a) in
+      let b = t .mid (928 + l + 16) (omega arith) (omega arith) ∙ old (928 + l + 16) (944 + l) (omega arith) ∙ five 0 in
+      let c = t .mid (928 + l + 32) (omega arith) (omega arith) ∙ old (928 + l + 32) (944 + l + 16) (omega arith) ∙ five 1 in
+      let d = t .mid (928 + l + 48) (omega arith) (omega arith) ∙ old (928 + l + 48) (944 + l + 32) (omega arith) ∙ five 2 in
+      let at-e : 928 + l + 1088 ≡ 2016 + l = omega arith in
+      let e = ap (λ (m : ℕ). getD r m 0) at-e ∙ t .second l (omega arith) ∙ ap (λ (y : ℕ). Fips.add y word) (held .e) in
+      let f = t .high (928 + l + 1088 + 16) (omega arith) ∙ old (928 + l + 1088 + 16) (944 + l + 1088) (omega arith) ∙ five 4 in
+      let g = t .high (928 + l + 1088 + 32) (omega arith) ∙ old (928 + l + 1088 + 32) (944 + l + 1088 + 16) (omega arith) ∙ five 5 in
+      let h = t .high (928 + l + 1088 + 48) (omega arith) ∙ old (928 + l + 1088 + 48) (944 + l + 1088 + 32) (omega arith) ∙ five 6 in
+      record {
+        words = rw (a, b, c, d, e, f, g, h) (round-word (getD constants 5 0) word q);
+        differ =
+            rw (
+              t .high (928 + l + 2176) (omega arith),
+              t .mid (928 + l + 16) (omega arith) (omega arith),
+              t .mid (928 + l + 32) (omega arith) (omega arith),
+            ) (held .differ);
+      }
+
 -- ---- the sums
 
 -- the sums of the words before index n are made
@@ -362,26 +600,115 @@ summed-done n s v e f l h q k g u =
 -- ---- the compression
 
 -- the first t rounds look at the first t words alone
-pub rounds-first : (w m h : List ℕ) (t : ℕ) → ((i : ℕ) → i < t → getD w i 0 ≡ getD m i 0) → Fips.rounds w h t ≡ Fips.rounds m h t
+rounds-first : (w m h : List ℕ) (t : ℕ) → ((i : ℕ) → i < t → getD w i 0 ≡ getD m i 0) → Fips.rounds w h t ≡ Fips.rounds m h t
 unfolding Fips.rounds
 rounds-first w m h zero e = refl
 rounds-first w m h (suc t) e =
     ap₂ (λ (x : ℕ) (s : List ℕ). Fips.round (getD constants t 0) x s) (e t (omega arith)) (rounds-first w m h t (λ i k. e i (omega arith)))
 
-module _ (m w s r v : List ℕ) (from : ℕ) (hf : from ≤ 16) (same : Same 256 m w)
-    (made : (l : ℕ) → l < 16 → column l 64 w ≡ Fips.schedule (column l 16 m) 48) (kept : Kept (1024 - 16 * from) s r)
-    (done : Rounded w from 64 s r) (summed : (l : ℕ) (h q : List ℕ) → l < 16 → State h (place 0 l) r → State q (place 64 l) r → column l 8 v ≡ Fips.sums h q) where
-  started : (l : ℕ) (h : List ℕ) → l < 16 → Fips.rounds (column l 16 m) h from ≡ Fips.rounds (column l 64 w) h from
-  unfolding Same
-  started l h k =
-      rounds-first (column l 16 m) (column l 64 w) h from
-      (λ i a. getD-column l 16 m i (omega arith) ∙ sym (same (16 * i + l) (omega arith)) ∙ sym (getD-column l 64 w i (omega arith)))
+column-alike : (l : ℕ) (w z : List ℕ) → Alike w z → l < 16 → column l 5 z ≡ column l 5 w
+unfolding Alike
+column-alike l w z e k = column-same l 5 w z (λ t i. e (16 * t + l) (inl (omega arith)) (omega arith))
 
-  pub compressed-by : Compressed m s from v
-  unfolding Compressed Rounded Kept Fips.compress
-  compressed-by l h k g u =
-      let end = done l h k (rw (started l h k) at u) in
-      summed l h _ k (kept h (place 0 l) (omega arith) (omega arith) g) end ∙ ap (λ (c : List ℕ). Fips.sums h (Fips.rounds c h 64)) (made l k)
+pub common-alike : (h w z x s : List ℕ) → Alike w z → Common h w x s → Common h z x s
+common-alike h w z x s e c =
+    record {
+      shares = shares-alike w z x e (c .shares);
+      start = c .start;
+      five = λ l k. rw (column-alike l w z e k) (c .five l k);
+      held = λ l k. rw (column-alike l w z e k) (c .held l k);
+    }
+
+-- the first five rounds over a lane's schedule
+five-first : (h m w : List ℕ) (l : ℕ) → Alike m w → l < 16 → Fips.rounds (column l 5 m) h 5 ≡ Fips.rounds (column l 64 w) h 5
+unfolding Alike
+five-first h m w l e k =
+    rounds-first (column l 5 m) (column l 64 w) h 5
+    (λ i a. getD-column l 5 m i a ∙ sym (e (16 * i + l) (inl (omega arith)) (omega arith)) ∙ sym (getD-column l 64 w i (omega arith)))
+
+no-rounds : (w h s : List ℕ) (n : ℕ) → State h n s → State (Fips.rounds w h 0) n s
+unfolding Fips.rounds
+no-rounds w h s n x = x
+
+-- the first six, with word 5 of w
+six-first : (h m w : List ℕ) (l : ℕ) → Alike m w → l < 16
+    → Fips.round (getD constants 5 0) (getD w (80 + l) 0) (Fips.rounds (column l 5 m) h 5) ≡ Fips.rounds (column l 64 w) h 6
+unfolding Fips.rounds
+six-first h m w l e k =
+    ap₂ (λ (x : ℕ) (s : List ℕ). Fips.round (getD constants 5 0) x s) (sym (getD-column l 64 w 5 (omega arith))) (five-first h m w l e k)
+
+module _ (h w x y s u r : List ℕ) (shared : Shares w x) (zeros : (l : ℕ) → l < 16 → getD w (80 + l) 0 ≡ 0)
+    (g : (l : ℕ) → l < 16 → State h (place 0 l) s) (kept-five : Kept (1024 - 16 * 0) s u) (five : Rounded w 0 5 s u)
+    (kept-six : Kept (1024 - 16 * 5) u r) (six : Rounded w 5 6 u r) (same : Same 64 x y)
+    (rows : (l : ℕ) → l < 16 → (getD y (64 + l) 0 ≡ getD r (928 + l) 0) × (getD y (80 + l) 0 ≡ getD r (2016 + l) 0)) where
+  alike : Alike w w
+  unfolding Same
+  alike = same-alike w w (λ i a. refl)
+
+  after-five : (l : ℕ) → l < 16 → State (Fips.rounds (column l 64 w) h 5) (place 5 l) u
+  unfolding Rounded
+  after-five l k = five l h k (no-rounds (column l 64 w) h s (place 0 l) (g l k))
+
+  after-six : (l : ℕ) → l < 16 → State (Fips.round (getD constants 5 0) 0 (Fips.rounds (column l 5 w) h 5)) (place 6 l) r
+  unfolding Rounded
+  after-six l k =
+      subst (λ (q : List ℕ). State q (place 6 l) r)
+      (sym (rw (zeros l k) at (six-first h w w l alike k)))
+      (six l h k (after-five l k))
+
+  pub common-by : Common h w y r
+  unfolding Kept eight
+  common-by =
+      record {
+        shares = shares-kept w x y same shared;
+        start = λ l k. kept-six h (place 0 l) (omega arith) (omega arith) (kept-five h (place 0 l) (omega arith) (omega arith) (g l k));
+        five =
+            λ l k.
+            subst (λ (q : List ℕ). State q (place 5 l) r) (sym (five-first h w w l alike k))
+            (kept-six _ (place 5 l) (omega arith) (omega arith) (after-five l k));
+        held =
+            λ l k.
+            let at-e : 2016 + l ≡ 928 + l + 1088 = omega arith in
+            record {
+              a = rows l k .0 ∙ ap (λ (q : List ℕ). getD q 0 0) (after-six l k .words);
+              e = rows l k .1 ∙ ap (λ (m : ℕ). getD r m 0) at-e ∙ ap (λ (q : List ℕ). getD q 4 0) (after-six l k .words);
+              differ = after-six l k .differ;
+            };
+      }
+
+module _ (m x w s u r v : List ℕ) (same : Same 256 m w)
+    (made : Shares m x → (l : ℕ) → l < 16 → column l 64 w ≡ Fips.schedule (column l 16 m) 48) (kept-five : Kept 944 s u) (six : Resumed w x s u)
+    (kept : Kept (1024 - 16 * 6) u r) (done : Rounded w 6 64 u r)
+    (summed : (l : ℕ) (h q : List ℕ) → l < 16 → State h (place 0 l) r → State q (place 64 l) r → column l 8 v ≡ Fips.sums h q) where
+  resumed : (h : List ℕ) → Common h m x s → (l : ℕ) → l < 16 → State (Fips.rounds (column l 64 w) h 6) (place 6 l) u
+  unfolding Resumed
+  resumed h c l k =
+      subst (λ (q : List ℕ). State q (place 6 l) u) (six-first h m w l (same-alike m w same) k) (six l _ k (c .five l k) (c .held l k))
+
+  still-common : (h : List ℕ) → Common h m x s → Common h m x r
+  unfolding Kept
+  still-common h c =
+      record {
+        shares = c .shares;
+        start = λ l k. kept h (place 0 l) (omega arith) (omega arith) (kept-five h (place 0 l) (omega arith) (omega arith) (c .start l k));
+        five = λ l k. kept _ (place 5 l) (omega arith) (omega arith) (kept-five _ (place 5 l) (omega arith) (omega arith) (c .five l k));
+        held =
+            λ l k.
+            record {
+              a = c .held l k .a;
+              e = c .held l k .e;
+              differ = kept _ (place 6 l) (omega arith) (omega arith) (resumed h c l k) .differ;
+            };
+      }
+
+  pub compressed-by : Compressed m x s w r v
+  unfolding Compressed Rounded Fips.compress
+  compressed-by h c = (
+    common-alike h m w x r (same-alike m w same) (still-common h c),
+    λ l k.
+        summed l h _ k (still-common h c .start l k) (done l h k (resumed h c l k))
+        ∙ ap (λ (c : List ℕ). Fips.sums h (Fips.rounds c h 64)) (made (c .shares) l k),
+  )
 
 -- ---- one block and one hash value in every lane
 

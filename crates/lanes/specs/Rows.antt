@@ -1,10 +1,12 @@
 -- Sixteen lanes in rows: row r of a list is its sixteen words from 16 * r on, one for each lane, so that lane l has the words
 -- at l, 16 + l, 32 + l and so on.
 use mathlib.Core.Path.{_≡_}
+use mathlib.Core.Logic.{_⊎_}
 use mathlib.Core.List.{List, [], _∷_, _++_}
 use Prim.Native.Nat.{ℕ, zero, suc, _+_, _-_, _*_, _≤_, _<_}
 use lib.Bits.{bitAnd, bitXor}
 use lib.ListN.{getD, set}
+use Rattle.sha256.specs.Constants.{constants}
 use Rattle.sha256.specs.Fips as Fips
 
 -- the first n words of lane l
@@ -16,6 +18,10 @@ column l (suc n) xs = column l n xs ++ (getD xs (16 * n + l) 0 ∷ [])
 unfoldable pub Same : ℕ → List ℕ → List ℕ → Type 0
 Same n xs ys = (i : ℕ) → i < n → getD ys i 0 ≡ getD xs i 0
 
+-- words 0 to 4, 14 and 15 of the blocks z are those of the blocks w
+unfoldable pub Alike : List ℕ → List ℕ → Type 0
+Alike w z = (i : ℕ) → (i < 80) ⊎ (224 ≤ i) → i < 256 → getD z i 0 ≡ getD w i 0
+
 -- ---- the schedule
 
 -- the word at n: its lane's words of the rows 2, 7, 15 and 16 before it
@@ -24,6 +30,15 @@ scheduledAt w n =
     Fips.add
     (Fips.add (Fips.add (Fips.smallSigma1 (getD w (n - 32) 0)) (getD w (n - 112) 0)) (Fips.smallSigma0 (getD w (n - 240) 0)))
     (getD w (n - 256) 0)
+
+-- what the rows 15 and 16 before the word at n + 256 bring to it
+unfoldable pub shareAt : List ℕ → ℕ → ℕ
+shareAt w n = Fips.add (Fips.smallSigma0 (getD w (n + 16) 0)) (getD w n 0)
+
+-- x has what words 0 to 4, 14 and 15 of the blocks w bring to words 16 and 17, and to words 18 and 19
+pub record Shares (w x : List ℕ) : Type 0 where
+  pub first : (n : ℕ) → n < 32 → getD x n 0 ≡ Fips.add (Fips.smallSigma1 (getD w (n + 224) 0)) (shareAt w n)
+  pub second : (n : ℕ) → n < 32 → getD x (n + 32) 0 ≡ shareAt w (n + 32)
 
 -- ---- the rounds: 68 rows of the variable a, 68 of e, and 68 of b xor c, each from its last row to its first. What is b after a
 -- round was a before it, and so on, so that four rows in a row are a, b, c, d, and four are e, f, g, h
@@ -73,10 +88,25 @@ Rounded w from to s r =
     → State (Fips.rounds (column l 64 w) h from) (place from l) s
     → State (Fips.rounds (column l 64 w) h to) (place to l) r
 
--- compression of the blocks m, in which the first `from` rounds are done
-unfoldable pub Compressed : List ℕ → List ℕ → ℕ → List ℕ → Type 0
-Compressed m s from v =
-    (l : ℕ) (h : List ℕ) → l < 16
-    → State h (place 0 l) s
-    → State (Fips.rounds (column l 16 m) h from) (place from l) s
-    → column l 8 v ≡ Fips.compress h (column l 16 m)
+-- round 5 of lane l but for its word, for the working variables q before it: x has its a and e, s its b xor c
+pub record Held (q : List ℕ) (l : ℕ) (x s : List ℕ) : Type 0 where
+  pub a : getD x (64 + l) 0 ≡ getD (Fips.round (getD constants 5 0) 0 q) 0 0
+  pub e : getD x (80 + l) 0 ≡ getD (Fips.round (getD constants 5 0) 0 q) 4 0
+  pub differ : getD s (place 6 l + 2176) 0 ≡ bitXor (getD s (place 6 l + 16) 0) (getD s (place 6 l + 32) 0)
+
+-- round 5 of every lane, with word 5 of the blocks w
+unfoldable pub Resumed : List ℕ → List ℕ → List ℕ → List ℕ → Type 0
+Resumed w x s r =
+    (l : ℕ) (q : List ℕ) → l < 16 → State q (place 5 l) s → Held q l x s → State (Fips.round (getD constants 5 0) (getD w (80 + l) 0) q) (place 6 l) r
+
+-- what is made for all blocks that are alike to w, after the hash value h
+pub record Common (h w x s : List ℕ) : Type 0 where
+  pub shares : Shares w x
+  pub start : (l : ℕ) → l < 16 → State h (place 0 l) s
+  pub five : (l : ℕ) → l < 16 → State (Fips.rounds (column l 5 w) h 5) (place 5 l) s
+  pub held : (l : ℕ) → l < 16 → Held (Fips.rounds (column l 5 w) h 5) l x s
+
+-- compression of the blocks m; what was made for them is there after it
+unfoldable pub Compressed : List ℕ → List ℕ → List ℕ → List ℕ → List ℕ → List ℕ → Type 0
+Compressed m x s w r v =
+    (h : List ℕ) → Common h m x s → Common h w x r × ((l : ℕ) → l < 16 → column l 8 v ≡ Fips.compress h (column l 16 m))

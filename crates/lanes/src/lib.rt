@@ -1,6 +1,10 @@
 // SHA-256's compression of sixteen blocks side by side. The lanes stand in rows of sixteen words, and a loop over a row is one
 // that the compiler turns into vector code. Nothing is written over: a lane's schedule is a column of 64 words, and its working
 // variables are columns too, of 68 words, one more with each round.
+//
+// Blocks that a lane has one after the other, with words 0 to 4, 14 and 15 and the hash value before them unchanged, share the first
+// five rounds, round 5 but for its word, and what the unchanged words bring to the schedule: `begin` makes it once, and `compress`
+// goes on from it.
 ghost use mathlib.Core.Path.{_≡_};
 ghost use Prim.Native.Nat.{ℕ, _+_, _-_, _*_, _<_, _≤_};
 ghost use lib.Bits.{bitAnd, bitXor};
@@ -8,7 +12,7 @@ ghost use mathlib.Core.List.{List};
 ghost use lib.ListN.{length, getD};
 ghost use Rattle.sha256.specs.Constants.{constants};
 ghost use Rattle.sha256.specs.Fips as Fips;
-ghost use Rattle.lanes.specs.Rows.{column, place, State, Same, Kept, Rounded, Compressed, scheduledAt, temp1At, temp2At, roundAt};
+ghost use Rattle.lanes.specs.Rows.{column, place, State, Same, Kept, Rounded, Resumed, Common, Compressed, Shares, shareAt, scheduledAt, temp1At, temp2At, roundAt};
 use sha256::block::temp1;
 use sha256::functions::add;
 use sha256::functions::big_sigma0;
@@ -28,7 +32,7 @@ pub fn spread(m: [u32; 16], w: &mut [u32; 1024])
 }
 
 // One hash value before its rounds, in every lane.
-pub fn start(h: [u32; 8], s: &mut [u32; 3264])
+fn start(h: [u32; 8], s: &mut [u32; 3264])
     requires { ⌜ length (now s) ≡ 3264 ⌝ }
     ensures { λ _. ⌜ (length (now (s .exit)) ≡ 3264) × ((l : ℕ) → l < 16 → State h (place 0 l) (now (s .exit))) ⌝ }
 {
@@ -42,7 +46,44 @@ pub fn start(h: [u32; 8], s: &mut [u32; 3264])
     }
 }
 
-// The word at n of a schedule, from the rows before it.
+// What the words at n and n + 16 bring to the word at n + 256.
+fn share_at(w: &[u32; 1024], n: usize) -> u32
+    requires { ⌜ (n < 1008) × (length (now w) ≡ 1024) ⌝ }
+    ensures { λ r. ⌜ r ≡ shareAt (now (w .entry)) n ⌝ }
+{
+    add(small_sigma0(w[n + 16]), w[n])
+}
+
+// What words 0 to 4, 14 and 15 bring to words 16 to 19.
+fn shares(w: &[u32; 1024], x: &mut [u32; 96])
+    requires { ⌜ (length (now w) ≡ 1024) × (length (now x) ≡ 96) ⌝ }
+    ensures { λ _. ⌜ (length (now (x .exit)) ≡ 96) × Shares (now (w .entry)) (now (x .exit)) ⌝ }
+{
+    let mut n = 0;
+    while n < 32 {
+        x[n] = add(small_sigma1(w[n + 224]), share_at(w, n));
+        x[n + 32] = share_at(w, n + 32);
+        n += 1;
+    }
+}
+
+// The word at n of a schedule, one of words 16 and 17.
+fn scheduled_first(w: &[u32; 1024], x: &[u32; 96], n: usize) -> u32
+    requires { ⌜ (256 ≤ n) × (n < 288) × (length (now w) ≡ 1024) × (length (now x) ≡ 96) ⌝ }
+    ensures { λ r. ⌜ (Shares (now (w .entry)) (now (x .entry)) → r ≡ scheduledAt (now (w .entry)) n) ⌝ }
+{
+    add(w[n - 112], x[n - 256])
+}
+
+// One of words 18 and 19.
+fn scheduled_next(w: &[u32; 1024], x: &[u32; 96], n: usize) -> u32
+    requires { ⌜ (288 ≤ n) × (n < 320) × (length (now w) ≡ 1024) × (length (now x) ≡ 96) ⌝ }
+    ensures { λ r. ⌜ (Shares (now (w .entry)) (now (x .entry)) → r ≡ scheduledAt (now (w .entry)) n) ⌝ }
+{
+    add(add(small_sigma1(w[n - 32]), w[n - 112]), x[n - 256])
+}
+
+// Any word, from the rows before it.
 fn scheduled(w: &[u32; 1024], n: usize) -> u32
     requires { ⌜ (256 ≤ n) × (n < 1024) × (length (now w) ≡ 1024) ⌝ }
     ensures { λ r. ⌜ r ≡ scheduledAt (now (w .entry)) n ⌝ }
@@ -57,15 +98,25 @@ fn scheduled(w: &[u32; 1024], n: usize) -> u32
 }
 
 // The schedules of sixteen blocks, whose words are in the first sixteen rows.
-fn schedule(w: &mut [u32; 1024])
-    requires { ⌜ length (now w) ≡ 1024 ⌝ }
+fn schedule(w: &mut [u32; 1024], x: &[u32; 96])
+    requires { ⌜ (length (now w) ≡ 1024) × (length (now x) ≡ 96) ⌝ }
     ensures { λ _. ⌜ (length (now (w .exit)) ≡ 1024) × Same 256 (now (w .entry)) (now (w .exit)) ⌝ }
-    ensures { λ _. ⌜ ((l : ℕ) → l < 16 → column l 64 (now (w .exit)) ≡ Fips.schedule (column l 16 (now (w .entry))) 48) ⌝ }
+    ensures { λ _. ⌜ (Shares (now (w .entry)) (now (x .entry)) → (l : ℕ) → l < 16 → column l 64 (now (w .exit)) ≡ Fips.schedule (column l 16 (now (w .entry))) 48) ⌝ }
 {
     let mut n = 256;
+    while n < 288 {
+        let y = scheduled_first(w, x, n);
+        w[n] = y;
+        n += 1;
+    }
+    while n < 320 {
+        let y = scheduled_next(w, x, n);
+        w[n] = y;
+        n += 1;
+    }
     while n < 1024 {
-        let x = scheduled(w, n);
-        w[n] = x;
+        let y = scheduled(w, n);
+        w[n] = y;
         n += 1;
     }
 }
@@ -124,7 +175,7 @@ fn round(k: u32, w: &[u32; 1024], s: &mut [u32; 3264], t: usize)
 }
 
 // The rounds of every lane, from one to another.
-pub fn rounds(k: &[u32; 64], w: &[u32; 1024], s: &mut [u32; 3264], from: usize, to: usize)
+fn rounds(k: &[u32; 64], w: &[u32; 1024], s: &mut [u32; 3264], from: usize, to: usize)
     requires { ⌜ (now k ≡ constants) × (from ≤ to) × (to ≤ 64) × (length (now w) ≡ 1024) × (length (now s) ≡ 3264) ⌝ }
     ensures { λ _. ⌜ (length (now (s .exit)) ≡ 3264) × Kept (1024 - 16 * from) (now (s .entry)) (now (s .exit)) ⌝ }
     ensures { λ _. ⌜ Rounded (now (w .entry)) from to (now (s .entry)) (now (s .exit)) ⌝ }
@@ -150,21 +201,62 @@ fn sums(s: &[u32; 3264], v: &mut [u32; 128])
     }
 }
 
-// The hash value of every lane after one more block. Its words are the first sixteen rows of w; s has the hash value before it and
-// the working variables after the first `from` rounds.
+// Keeps a and e after round 5.
+fn keep(s: &[u32; 3264], x: &mut [u32; 96])
+    requires { ⌜ (length (now s) ≡ 3264) × (length (now x) ≡ 96) ⌝ }
+    ensures { λ _. ⌜ (length (now (x .exit)) ≡ 96) × Same 64 (now (x .entry)) (now (x .exit)) ⌝ }
+    ensures { λ _. ⌜ ((l : ℕ) → l < 16 → (getD (now (x .exit)) (64 + l) 0 ≡ getD (now (s .entry)) (928 + l) 0) × (getD (now (x .exit)) (80 + l) 0 ≡ getD (now (s .entry)) (2016 + l) 0)) ⌝ }
+{
+    let mut n = 0;
+    while n < 16 {
+        x[64 + n] = s[928 + n];
+        x[80 + n] = s[2016 + n];
+        n += 1;
+    }
+}
+
+// Round 5 of every lane, from what is kept of it: its word is only added.
+fn resume(w: &[u32; 1024], x: &[u32; 96], s: &mut [u32; 3264])
+    requires { ⌜ (length (now w) ≡ 1024) × (length (now x) ≡ 96) × (length (now s) ≡ 3264) ⌝ }
+    ensures { λ _. ⌜ (length (now (s .exit)) ≡ 3264) × Kept 944 (now (s .entry)) (now (s .exit)) ⌝ }
+    ensures { λ _. ⌜ Resumed (now (w .entry)) (now (x .entry)) (now (s .entry)) (now (s .exit)) ⌝ }
+{
+    let mut n = 0;
+    while n < 16 {
+        s[928 + n] = add(x[64 + n], w[80 + n]);
+        s[2016 + n] = add(x[80 + n], w[80 + n]);
+        n += 1;
+    }
+}
+
+// What compress goes on from, for blocks whose words 0 to 4, 14 and 15 are those in w, and for one hash value before them. Word 5 is
+// zero in w, so that round 5 is without it.
+pub fn begin(k: &[u32; 64], h: [u32; 8], w: &[u32; 1024], x: &mut [u32; 96], s: &mut [u32; 3264])
+    requires { ⌜ (now k ≡ constants) × (length (now w) ≡ 1024) × (length (now x) ≡ 96) × (length (now s) ≡ 3264) × ((l : ℕ) → l < 16 → getD (now w) (80 + l) 0 ≡ 0) ⌝ }
+    ensures { λ _. ⌜ (length (now (x .exit)) ≡ 96) × (length (now (s .exit)) ≡ 3264) × Common h (now (w .entry)) (now (x .exit)) (now (s .exit)) ⌝ }
+{
+    shares(w, x);
+    start(h, s);
+    rounds(k, w, s, 0, 5);
+    rounds(k, w, s, 5, 6);
+    keep(s, x);
+}
+
+// The hash value of every lane after one more block, whose words are the first sixteen rows of w.
 pub fn compress(
     k: &[u32; 64],
     w: &mut [u32; 1024],
+    x: &[u32; 96],
     s: &mut [u32; 3264],
     v: &mut [u32; 128],
-    from: usize,
 )
-    requires { ⌜ (now k ≡ constants) × (from ≤ 16) × (length (now w) ≡ 1024) × (length (now s) ≡ 3264) × (length (now v) ≡ 128) ⌝ }
-    ensures { λ _. ⌜ (length (now (w .exit)) ≡ 1024) × Same 256 (now (w .entry)) (now (w .exit)) ⌝ }
-    ensures { λ _. ⌜ (length (now (s .exit)) ≡ 3264) × Kept (1024 - 16 * from) (now (s .entry)) (now (s .exit)) ⌝ }
-    ensures { λ _. ⌜ (length (now (v .exit)) ≡ 128) × Compressed (now (w .entry)) (now (s .entry)) from (now (v .exit)) ⌝ }
+    requires { ⌜ (now k ≡ constants) × (length (now w) ≡ 1024) × (length (now x) ≡ 96) × (length (now s) ≡ 3264) × (length (now v) ≡ 128) ⌝ }
+    ensures { λ _. ⌜ (length (now (w .exit)) ≡ 1024) × (length (now (s .exit)) ≡ 3264) × (length (now (v .exit)) ≡ 128) ⌝ }
+    ensures { λ _. ⌜ Same 256 (now (w .entry)) (now (w .exit)) ⌝ }
+    ensures { λ _. ⌜ Compressed (now (w .entry)) (now (x .entry)) (now (s .entry)) (now (w .exit)) (now (s .exit)) (now (v .exit)) ⌝ }
 {
-    schedule(w);
-    rounds(k, w, s, from, 64);
+    schedule(w, x);
+    resume(w, x, s);
+    rounds(k, w, s, 6, 64);
     sums(s, v);
 }

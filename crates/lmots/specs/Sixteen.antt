@@ -6,8 +6,7 @@ use Prim.Native.Nat.{ℕ, _+_, _*_, _/_, _%_, _≤_, _<_}
 use lib.ListN.{length, getD}
 use Rattle.octets.specs.Octets.{bytes}
 use Rattle.sha256.specs.Constants.{initial}
-use Rattle.sha256.specs.Fips.{rounds}
-use Rattle.lanes.specs.Rows.{column, State, place}
+use Rattle.lanes.specs.Rows.{column, Common}
 use Rattle.rfc8554.specs.Ots.{H, chain, chainInput}
 use Rattle.lmots.specs.Pieces.{across}
 
@@ -36,22 +35,21 @@ pub record Numbered (n : ℕ) (leaves w z : List ℕ) : Type 0 where
 unfoldable pub five : List ℕ → ℕ → List ℕ
 five id q = getD id 0 0 ∷ getD id 1 0 ∷ getD id 2 0 ∷ getD id 3 0 ∷ q ∷ []
 
--- blocks and working variables of the lanes' leaves
-pub record Ready (id leaves w s : List ℕ) : Type 0 where
+-- blocks of the lanes' leaves, and what is made for them
+pub record Ready (id leaves w x s : List ℕ) : Type 0 where
   pub long : length id ≡ 4
   pub words : (i : ℕ) → getD id i 0 < 4294967296
   pub numbers : (l : ℕ) → getD leaves l 0 < 4294967296
   pub front : (l r : ℕ) → l < 16 → r < 5 → getD w (16 * r + l) 0 ≡ getD (five id (getD leaves l 0)) r 0
   pub zero : (l : ℕ) → l < 16 → getD w (224 + l) 0 ≡ 0
   pub bits : (l : ℕ) → l < 16 → getD w (240 + l) 0 ≡ 440
-  pub begun : (l : ℕ) → l < 16 → State initial (place 0 l) s
-  pub first : (l : ℕ) → l < 16 → State (rounds (five id (getD leaves l 0)) initial 5) (place 5 l) s
+  pub common : Common initial w x s
 
--- a step of every chain, for leaves for which w and s are ready
-unfoldable pub Stepped : List ℕ → ℕ → List ℕ → List ℕ → List ℕ → List ℕ → List ℕ → List ℕ → Type 0
-Stepped places t w s v w′ s′ v′ =
-    (id leaves : List ℕ) → Ready id leaves w s
-    → Ready id leaves w′ s′
+-- a step of every chain, for leaves for which w, x and s are ready
+unfoldable pub Stepped : List ℕ → ℕ → List ℕ → List ℕ → List ℕ → List ℕ → List ℕ → List ℕ → List ℕ → Type 0
+Stepped places t w x s v w′ s′ v′ =
+    (id leaves : List ℕ) → Ready id leaves w x s
+    → Ready id leaves w′ x s′
     × ((l i j : ℕ) → l < 16 → i < 65536 → j + t < 256 → getD places l 0 ≡ i * 65536 + j * 256
     → bytes (column l 8 v′) ≡ H (chainInput (bytes id) (getD leaves l 0) i (j + t) (bytes (column l 8 v))))
 
@@ -61,6 +59,6 @@ Walked id leaves places t v₀ v =
     (l i j : ℕ) → l < 16 → i < 65536 → j + t ≤ 256 → getD places l 0 ≡ i * 65536 + j * 256
     → bytes (column l 8 v) ≡ chain (bytes id) (getD leaves l 0) i j t (bytes (column l 8 v₀))
 
--- the same, for all leaves for which w and s were ready
-unfoldable pub AllWalked : List ℕ → ℕ → List ℕ → List ℕ → List ℕ → List ℕ → List ℕ → List ℕ → Type 0
-AllWalked places t w₀ s₀ v₀ w s v = (id leaves : List ℕ) → Ready id leaves w₀ s₀ → Ready id leaves w s × Walked id leaves places t v₀ v
+-- the same, for all leaves for which w, x and s were ready
+unfoldable pub AllWalked : List ℕ → ℕ → List ℕ → List ℕ → List ℕ → List ℕ → List ℕ → List ℕ → List ℕ → Type 0
+AllWalked places t w₀ x s₀ v₀ w s v = (id leaves : List ℕ) → Ready id leaves w₀ x s₀ → Ready id leaves w x s × Walked id leaves places t v₀ v

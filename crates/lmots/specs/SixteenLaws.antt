@@ -8,9 +8,9 @@ use native.Mathlib.Omega.{arith}
 use lib.ListN.{length, getD, set, length-set}
 use Rattle.octets.specs.Octets.{bytes}
 use Rattle.sha256.specs.Constants.{initial}
-use Rattle.sha256.specs.Fips.{rounds, compress, pad, sha256}
-use Rattle.lanes.specs.Rows.{column, State, place, Same, Kept, Rounded, Compressed}
-use Rattle.lanes.specs.Laws.{below, above, there, length-column, getD-column, column-same, rounds-first}
+use Rattle.sha256.specs.Fips.{compress, pad, sha256}
+use Rattle.lanes.specs.Rows.{column, Same, Alike, Common, Compressed}
+use Rattle.lanes.specs.Laws.{below, above, there, length-column, getD-column, common-alike}
 use Rattle.rfc8554.specs.Ots.{chain, chainInput}
 use Rattle.lmots.specs.ChainLaws.{prepared, compressed, chain-turn}
 use Rattle.lmots.specs.Pieces.{across}
@@ -91,7 +91,7 @@ unfolding across
 across-lt a b = omega arith
 
 -- a lane l of the blocks z, for places and values in v
-module _ (id leaves places : List ℕ) (t : ℕ) (w s v y z : List ℕ) (ready : Ready id leaves w s) (placed : Placed 16 places t v w y)
+module _ (id leaves places : List ℕ) (t : ℕ) (w x s v y z : List ℕ) (ready : Ready id leaves w x s) (placed : Placed 16 places t v w y)
     (slid : Slid 112 v y z) (l : ℕ) (hl : l < 16) where
   leaf : ℕ
   leaf = getD leaves l 0
@@ -188,27 +188,28 @@ module _ (id leaves places : List ℕ) (t : ℕ) (w s v y z : List ℕ) (ready :
         ap bytes block
         ∙ prepared id (column l 8 v) leaf i (j + t) _ _ _ _ _ _ _ (ready .long) (length-column l 8 v) hi hj refl refl refl refl refl refl refl
 
-    lane-stepped : (v′ : List ℕ) → Compressed z s 5 v′ → bytes (column l 8 v′) ≡ sha256 (chainInput (bytes id) leaf i (j + t) (bytes (column l 8 v)))
-    unfolding Compressed leaf
-    lane-stepped v′ f =
-        let same = rounds-first (five id leaf) (column l 16 z) initial 5 (λ n h. sym (getD-column l 16 z n (omega arith) ∙ front-word n h)) in
-        compressed (column l 16 z) initial (column l 8 v′) _ (length-column l 16 z) (λ n. rw block (word-lt small n)) refl padded
-        (f l initial hl (ready .begun l hl) (rw same at (ready .first l hl)))
+    lane-stepped : (v′ : List ℕ) → column l 8 v′ ≡ compress initial (column l 16 z)
+        → bytes (column l 8 v′) ≡ sha256 (chainInput (bytes id) leaf i (j + t) (bytes (column l 8 v)))
+    unfolding leaf
+    lane-stepped v′ f = compressed (column l 16 z) initial (column l 8 v′) _ (length-column l 16 z) (λ n. rw block (word-lt small n)) refl padded f
 
-module _ (id leaves places : List ℕ) (t : ℕ) (w s v y z w′ s′ v′ : List ℕ) (placed : Placed 16 places t v w y) (slid : Slid 112 v y z)
-    (same : Same 256 z w′) (kept : Kept (1024 - 16 * 5) s s′) where
+module _ (id leaves places : List ℕ) (t : ℕ) (w x s v y z w′ s′ v′ : List ℕ) (placed : Placed 16 places t v w y) (slid : Slid 112 v y z)
+    (same : Same 256 z w′) (done : Compressed z x s w′ s′ v′) (r : Ready id leaves w x s) where
+  written : Alike w z
+  unfolding Alike
+  written i h k =
+      ⊎-elim (λ a. slid .old i (inl (omega arith)) ∙ placed .low i a) (λ a. slid .old i (inr (omega arith)) ∙ placed .high i a) h
+
   still : (i : ℕ) → (i < 80) ⊎ (224 ≤ i) → i < 256 → getD w′ i 0 ≡ getD w i 0
-  unfolding Same
-  still i h k =
-      same i k
-      ∙ ⊎-elim
-      (λ a. slid .old i (inl (omega arith)) ∙ placed .low i a)
-      (λ a. slid .old i (inr (omega arith)) ∙ placed .high i a)
-      h
+  unfolding Same Alike
+  still i h k = same i k ∙ written i h k
 
-  still-ready : Ready id leaves w s → Ready id leaves w′ s′
-  unfolding Kept
-  still-ready r =
+  after : Common initial w′ x s′ × ((l : ℕ) → l < 16 → column l 8 v′ ≡ compress initial (column l 16 z))
+  unfolding Compressed
+  after = done initial (common-alike initial w z x s written (r .common))
+
+  still-ready : Ready id leaves w′ x s′
+  still-ready =
       record {
         long = r .long;
         words = r .words;
@@ -216,23 +217,20 @@ module _ (id leaves places : List ℕ) (t : ℕ) (w s v y z w′ s′ v′ : Lis
         front = λ l n h k. still (16 * n + l) (inl (omega arith)) (omega arith) ∙ r .front l n h k;
         zero = λ l h. still (224 + l) (inr (omega arith)) (omega arith) ∙ r .zero l h;
         bits = λ l h. still (240 + l) (inr (omega arith)) (omega arith) ∙ r .bits l h;
-        begun = λ l h. kept initial (place 0 l) (omega arith) (omega arith) (r .begun l h);
-        first = λ l h. kept _ (place 5 l) (omega arith) (omega arith) (r .first l h);
+        common = after .0;
       }
 
-pub stepped-by : (places : List ℕ) (t : ℕ) (w s v y z w′ s′ v′ : List ℕ) → Placed 16 places t v w y → Slid 112 v y z → Same 256 z w′
-    → Kept (1024 - 16 * 5) s s′ → Compressed z s 5 v′ → Stepped places t w s v w′ s′ v′
+pub stepped-by : (places : List ℕ) (t : ℕ) (w x s v y z w′ s′ v′ : List ℕ) → Placed 16 places t v w y → Slid 112 v y z → Same 256 z w′
+    → Compressed z x s w′ s′ v′ → Stepped places t w x s v w′ s′ v′
 unfolding Stepped leaf
-stepped-by places t w s v y z w′ s′ v′ placed slid same kept done id leaves ready = (
-  still-ready id leaves places t w s v y z w′ s′ v′ placed slid same kept ready,
-  λ l i j hl hi hj e. lane-stepped id leaves places t w s v y z ready placed slid l hl i j hi hj e v′ done,
+stepped-by places t w x s v y z w′ s′ v′ placed slid same done id leaves ready = (
+  still-ready id leaves places t w x s v y z w′ s′ v′ placed slid same done ready,
+  λ l i j hl hi hj e.
+      lane-stepped id leaves places t w x s v y z ready placed slid l hl i j hi hj e v′
+      (after id leaves places t w x s v y z w′ s′ v′ placed slid same done ready .1 l hl),
 )
 
--- ---- the words and rounds that are made once
-
-no-rounds : (w s : List ℕ) (n : ℕ) → State initial n s → State (rounds w initial 0) n s
-unfolding rounds
-no-rounds w s n x = x
+-- ---- what is made once
 
 -- what the lanes' blocks hold before the leaves' numbers are written
 unfoldable pub unnumbered : List ℕ → List ℕ
@@ -268,9 +266,7 @@ numbered-turn n leaves w z x h p f =
       high = λ i k. above z (n + 64) i x (omega arith) ∙ f .high i k;
     }
 
-module _ (id leaves m w₀ w s r : List ℕ) (li : length id ≡ 4) (bi : (i : ℕ) → getD id i 0 < 4294967296) (bl : (l : ℕ) → getD leaves l 0 < 4294967296)
-    (e : m ≡ unnumbered id) (f : (l : ℕ) → l < 16 → column l 16 w₀ ≡ m) (n : Numbered 16 leaves w₀ w) (g : (l : ℕ) → l < 16 → State initial (place 0 l) s)
-    (kept : Kept (1024 - 16 * 0) s r) (done : Rounded w 0 5 s r) where
+module _ (id leaves m w₀ w : List ℕ) (e : m ≡ unnumbered id) (f : (l : ℕ) → l < 16 → column l 16 w₀ ≡ m) (n : Numbered 16 leaves w₀ w) where
   spread-word : (l n : ℕ) → l < 16 → n < 16 → getD w₀ (16 * n + l) 0 ≡ getD (unnumbered id) n 0
   spread-word l n h k = sym (getD-column l 16 w₀ n k) ∙ ap (λ (c : List ℕ). getD c n 0) (f l h ∙ e)
 
@@ -284,9 +280,15 @@ module _ (id leaves m w₀ w s r : List ℕ) (li : length id ≡ 4) (bi : (i : �
       (λ a. n .low (16 * r + l) (omega arith) ∙ spread-word l r h (omega arith) ∙ four-first id (getD leaves l 0) r a)
       (eq-or-lt-of-le fits)
 
-  pub ready-by : Ready id leaves w r
-  unfolding Kept Rounded unnumbered
-  ready-by =
+  -- where the places will be
+  pub no-place : (l : ℕ) → l < 16 → getD w (80 + l) 0 ≡ 0
+  unfolding unnumbered
+  no-place l h = n .high (80 + l) (omega arith) ∙ spread-word l 5 h (omega arith)
+
+  pub ready-by : (x s : List ℕ) → length id ≡ 4 → ((i : ℕ) → getD id i 0 < 4294967296) → ((l : ℕ) → getD leaves l 0 < 4294967296) → Common initial w x s
+      → Ready id leaves w x s
+  unfolding unnumbered
+  ready-by x s li bi bl c =
       record {
         long = li;
         words = bi;
@@ -294,12 +296,7 @@ module _ (id leaves m w₀ w s r : List ℕ) (li : length id ≡ 4) (bi : (i : �
         front = five-word;
         zero = λ l h. n .high (224 + l) (omega arith) ∙ spread-word l 14 h (omega arith);
         bits = λ l h. n .high (240 + l) (omega arith) ∙ spread-word l 15 h (omega arith);
-        begun = λ l h. kept initial (place 0 l) (omega arith) (omega arith) (g l h);
-        first =
-            λ l h.
-            subst (λ (p : List ℕ). State p (place 5 l) r)
-            (rounds-first (column l 64 w) (five id (getD leaves l 0)) initial 5 (λ n k. getD-column l 64 w n (omega arith) ∙ five-word l n h k))
-            (done l initial h (no-rounds (column l 64 w) s (place 0 l) (g l h)));
+        common = c;
       }
 
 -- ---- chains
@@ -308,33 +305,33 @@ pub walked-none : (id leaves places v : List ℕ) → Walked id leaves places 0 
 unfolding Walked chain
 walked-none id leaves places v l i j hl hi hj e = refl
 
-pub walked-turn : (id leaves places : List ℕ) (t : ℕ) (w s v₀ v w′ s′ v′ : List ℕ) → Ready id leaves w s → Stepped places t w s v w′ s′ v′
+pub walked-turn : (id leaves places : List ℕ) (t : ℕ) (w x s v₀ v w′ s′ v′ : List ℕ) → Ready id leaves w x s → Stepped places t w x s v w′ s′ v′
     → Walked id leaves places t v₀ v → Walked id leaves places (t + 1) v₀ v′
 unfolding Walked Stepped
-walked-turn id leaves places t w s v₀ v w′ s′ v′ ready stepped f l i j hl hi hj e =
+walked-turn id leaves places t w x s v₀ v w′ s′ v′ ready stepped f l i j hl hi hj e =
     chain-turn (bytes id) (bytes (column l 8 v₀)) (column l 8 v) (column l 8 v′) (getD leaves l 0) i j t (f l i j hl hi (omega arith) e)
     (stepped id leaves ready .1 l i j hl hi (omega arith) e)
 
-pub still-by : (id leaves places : List ℕ) (t : ℕ) (w s v w′ s′ v′ : List ℕ) → Ready id leaves w s → Stepped places t w s v w′ s′ v′ → Ready id leaves w′ s′
+pub still-by : (id leaves places : List ℕ) (t : ℕ) (w x s v w′ s′ v′ : List ℕ) → Ready id leaves w x s → Stepped places t w x s v w′ s′ v′ → Ready id leaves w′ x s′
 unfolding Stepped
-still-by id leaves places t w s v w′ s′ v′ ready stepped = stepped id leaves ready .0
+still-by id leaves places t w x s v w′ s′ v′ ready stepped = stepped id leaves ready .0
 
-pub all-none : (places w s v : List ℕ) → AllWalked places 0 w s v w s v
+pub all-none : (places w x s v : List ℕ) → AllWalked places 0 w x s v w s v
 unfolding AllWalked
-all-none places w s v id leaves r = (r, walked-none id leaves places v)
+all-none places w x s v id leaves r = (r, walked-none id leaves places v)
 
-pub all-turn : (places : List ℕ) (t : ℕ) (w₀ s₀ v₀ w s v w′ s′ v′ : List ℕ) → AllWalked places t w₀ s₀ v₀ w s v → Stepped places t w s v w′ s′ v′
-    → AllWalked places (t + 1) w₀ s₀ v₀ w′ s′ v′
+pub all-turn : (places : List ℕ) (t : ℕ) (w₀ x s₀ v₀ w s v w′ s′ v′ : List ℕ) → AllWalked places t w₀ x s₀ v₀ w s v → Stepped places t w x s v w′ s′ v′
+    → AllWalked places (t + 1) w₀ x s₀ v₀ w′ s′ v′
 unfolding AllWalked
-all-turn places t w₀ s₀ v₀ w s v w′ s′ v′ f g id leaves r =
+all-turn places t w₀ x s₀ v₀ w s v w′ s′ v′ f g id leaves r =
     let now = f id leaves r in
-    (still-by id leaves places t w s v w′ s′ v′ (now .0) g, walked-turn id leaves places t w s v₀ v w′ s′ v′ (now .0) g (now .1))
+    (still-by id leaves places t w x s v w′ s′ v′ (now .0) g, walked-turn id leaves places t w x s v₀ v w′ s′ v′ (now .0) g (now .1))
 
-pub all-done : (places : List ℕ) (t count : ℕ) (w₀ s₀ v₀ w s v : List ℕ) → t ≡ count → AllWalked places t w₀ s₀ v₀ w s v
-    → AllWalked places count w₀ s₀ v₀ w s v
-all-done places t count w₀ s₀ v₀ w s v e f = subst (λ (n : ℕ). AllWalked places n w₀ s₀ v₀ w s v) e f
+pub all-done : (places : List ℕ) (t count : ℕ) (w₀ x s₀ v₀ w s v : List ℕ) → t ≡ count → AllWalked places t w₀ x s₀ v₀ w s v
+    → AllWalked places count w₀ x s₀ v₀ w s v
+all-done places t count w₀ x s₀ v₀ w s v e f = subst (λ (n : ℕ). AllWalked places n w₀ x s₀ v₀ w s v) e f
 
-pub walked-for : (id leaves places : List ℕ) (count : ℕ) (w₀ s₀ v₀ w s v : List ℕ) → Ready id leaves w₀ s₀ → AllWalked places count w₀ s₀ v₀ w s v
+pub walked-for : (id leaves places : List ℕ) (count : ℕ) (w₀ x s₀ v₀ w s v : List ℕ) → Ready id leaves w₀ x s₀ → AllWalked places count w₀ x s₀ v₀ w s v
     → Walked id leaves places count v₀ v
 unfolding AllWalked
-walked-for id leaves places count w₀ s₀ v₀ w s v r f = f id leaves r .1
+walked-for id leaves places count w₀ x s₀ v₀ w s v r f = f id leaves r .1

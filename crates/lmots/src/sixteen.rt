@@ -1,6 +1,5 @@
 // Sixteen chains side by side, each of the leaf that its lane has: a step of all of them is one compression in each lane.
 ghost use mathlib.Core.Path.{_≡_};
-ghost use mathlib.Core.List.{List};
 ghost use Prim.Native.Nat.{ℕ, _<_, _≤_};
 ghost use lib.ListN.{length, getD};
 ghost use Rattle.sha256.specs.Constants.{constants};
@@ -52,29 +51,31 @@ fn step(
     places: &[u32; 16],
     t: u32,
     w: &mut [u32; 1024],
+    x: &[u32; 96],
     s: &mut [u32; 3264],
     v: &mut [u32; 128],
 )
-    requires { ⌜ (now k ≡ constants) × (length (now w) ≡ 1024) × (length (now s) ≡ 3264) × (length (now v) ≡ 128) ⌝ }
+    requires { ⌜ (now k ≡ constants) × (length (now w) ≡ 1024) × (length (now x) ≡ 96) × (length (now s) ≡ 3264) × (length (now v) ≡ 128) ⌝ }
     requires { ⌜ (length (now places) ≡ 16) × (t < 256) × ((l : ℕ) → l < 16 → getD (now places) l 0 < 16777216) ⌝ }
     ensures { λ _. ⌜ (length (now (w .exit)) ≡ 1024) × (length (now (s .exit)) ≡ 3264) × (length (now (v .exit)) ≡ 128) ⌝ }
-    ensures { λ _. ⌜ Stepped (now (places .entry)) t (now (w .entry)) (now (s .entry)) (now (v .entry)) (now (w .exit)) (now (s .exit)) (now (v .exit)) ⌝ }
+    ensures { λ _. ⌜ Stepped (now (places .entry)) t (now (w .entry)) (now (x .entry)) (now (s .entry)) (now (v .entry)) (now (w .exit)) (now (s .exit)) (now (v .exit)) ⌝ }
 {
     put_places(places, t, v, w);
     put_values(v, w);
-    lanes::compress(k, w, s, v, 5);
+    lanes::compress(k, w, x, s, v);
 }
 
-// What is the same in every step of a leaf's chains: the blocks' words around place and value, and the first five rounds.
+// What is the same in every step of a leaf's chains: the blocks' words around place and value, and what comes of them.
 fn prepare(
     k: &[u32; 64],
     id: [u32; 4],
     leaves: [u32; 16],
     w: &mut [u32; 1024],
+    x: &mut [u32; 96],
     s: &mut [u32; 3264],
 )
-    requires { ⌜ (now k ≡ constants) × (length (now w) ≡ 1024) × (length (now s) ≡ 3264) ⌝ }
-    ensures { λ _. ⌜ (length (now (w .exit)) ≡ 1024) × (length (now (s .exit)) ≡ 3264) × Ready id leaves (now (w .exit)) (now (s .exit)) ⌝ }
+    requires { ⌜ (now k ≡ constants) × (length (now w) ≡ 1024) × (length (now x) ≡ 96) × (length (now s) ≡ 3264) ⌝ }
+    ensures { λ _. ⌜ (length (now (w .exit)) ≡ 1024) × (length (now (x .exit)) ≡ 96) × (length (now (s .exit)) ≡ 3264) × Ready id leaves (now (w .exit)) (now (x .exit)) (now (s .exit)) ⌝ }
 {
     let h = initial_value();
     lanes::spread(
@@ -99,27 +100,27 @@ fn prepare(
         w,
     );
     put_numbers(leaves, w);
-    lanes::start(h, s);
-    lanes::rounds(k, w, s, 0, 5);
+    lanes::begin(k, h, w, x, s);
 }
 
-// Steps of every chain, for leaves for which w and s are ready.
+// Steps of every chain, for leaves for which w, x and s are ready.
 fn walk(
     k: &[u32; 64],
     places: &[u32; 16],
     count: u32,
     w: &mut [u32; 1024],
+    x: &[u32; 96],
     s: &mut [u32; 3264],
     v: &mut [u32; 128],
 )
-    requires { ⌜ (now k ≡ constants) × (length (now w) ≡ 1024) × (length (now s) ≡ 3264) × (length (now v) ≡ 128) ⌝ }
+    requires { ⌜ (now k ≡ constants) × (length (now w) ≡ 1024) × (length (now x) ≡ 96) × (length (now s) ≡ 3264) × (length (now v) ≡ 128) ⌝ }
     requires { ⌜ (length (now places) ≡ 16) × (count ≤ 255) × ((l : ℕ) → l < 16 → getD (now places) l 0 < 16777216) ⌝ }
     ensures { λ _. ⌜ (length (now (w .exit)) ≡ 1024) × (length (now (s .exit)) ≡ 3264) × (length (now (v .exit)) ≡ 128) ⌝ }
-    ensures { λ _. ⌜ AllWalked (now (places .entry)) count (now (w .entry)) (now (s .entry)) (now (v .entry)) (now (w .exit)) (now (s .exit)) (now (v .exit)) ⌝ }
+    ensures { λ _. ⌜ AllWalked (now (places .entry)) count (now (w .entry)) (now (x .entry)) (now (s .entry)) (now (v .entry)) (now (w .exit)) (now (s .exit)) (now (v .exit)) ⌝ }
 {
     let mut t = 0;
     while t < count {
-        step(k, places, t, w, s, v);
+        step(k, places, t, w, x, s, v);
         t += 1;
     }
 }
@@ -138,7 +139,8 @@ pub fn steps(
     ensures { λ _. ⌜ Walked id leaves (now (places .entry)) count (now (v .entry)) (now (v .exit)) ⌝ }
 {
     let mut w = [0u32; 1024];
+    let mut x = [0u32; 96];
     let mut s = [0u32; 3264];
-    prepare(k, id, leaves, &mut w, &mut s);
-    walk(k, places, count, &mut w, &mut s, v);
+    prepare(k, id, leaves, &mut w, &mut x, &mut s);
+    walk(k, places, count, &mut w, &x, &mut s, v);
 }

@@ -8,6 +8,9 @@ use Rattle.lanes.proofs.compress.Tie as tie
 schedule-requires : tie.Need-schedule-requires
 schedule-requires c κs = search needs
 
+resume-requires : tie.Need-resume-requires
+resume-requires c κs = search needs
+
 rounds-requires : tie.Need-rounds-requires
 rounds-requires c κs = search needs
 
@@ -16,24 +19,22 @@ sums-requires c κs = search needs
 
 returns : tie.Need-returns
 returns c =
-    let scheduled = c .before .before .before .before .before .before .schedule in
     let rounded = c .before .before .before .rounds in
-    let start = c .before .before .before .before .before .before .before .before in
-    let m = now (start .args .w) in
-    let s = now (start .args .s) in
+    let resumed = c .before .before .before .before .before .before .resume in
+    let scheduled = c .before .before .before .before .before .before .before .before .before .schedule in
+    let args = c .before .before .before .before .before .before .before .before .before .before .before .args in
     let w = scheduled .last .0 in
+    let u = resumed .last .1 .1 .0 in
     let r = rounded .last .1 .1 .0 in
     let v = c .sums .last .1 .0 in (
-      scheduled .ensures .0,
+      (scheduled .ensures .0 .0, rounded .ensures .0 .0, c .sums .ensures .0),
       (
-        rounded .ensures .0,
-        (
-          c .sums .ensures .0,
-          compressed-by m w s r v (start .args .from) (start .pre .1) (scheduled .ensures .0 .1) (scheduled .ensures .1) (rounded .ensures .0 .1)
-              (rounded .ensures .1) (c .sums .ensures .1),
-        ),
+        scheduled .ensures .0 .1,
+        compressed-by (now (args .w)) (now (args .x)) w (now (args .s)) u r v (scheduled .ensures .0 .1) (scheduled .ensures .1) (resumed .ensures .0 .1)
+            (resumed .ensures .1) (rounded .ensures .0 .1) (rounded .ensures .1) (c .sums .ensures .1),
       ),
     )
 
 pub compress-spec : {M : Type 1} → statement M
-compress-spec = tie.close (tie.spec schedule-requires rounds-requires sums-requires returns)
+compress-spec =
+    tie.close (tie.spec schedule-requires resume-requires rounds-requires sums-requires returns)

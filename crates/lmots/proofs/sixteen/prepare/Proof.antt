@@ -5,8 +5,8 @@ use Prim.Native.Nat.{ℕ}
 use lib.ListN.{length, getD}
 use mir.Syntax.{w32}
 use mir.Val.{Fits}
-use Rattle.lanes.specs.Rows.{State, place}
-use Rattle.lmots.specs.SixteenLaws.{unnumbered, ready-by}
+use Rattle.lanes.specs.Rows.{Common}
+use Rattle.lmots.specs.SixteenLaws.{unnumbered, no-place, ready-by}
 use borrow.Author.Needs.{needs}
 use Rattle.lmots.proofs.sixteen.prepare.Statement.{statement}
 use Rattle.lmots.proofs.sixteen.prepare.Tie as tie
@@ -14,17 +14,17 @@ use Rattle.lmots.proofs.sixteen.prepare.Tie as tie
 initial-value-requires : tie.Need-initial-value-requires
 initial-value-requires c κs = search needs
 
-array-read-t11 : tie.Need-array-read-t11
-array-read-t11 c = search needs
+array-read-t12 : tie.Need-array-read-t12
+array-read-t12 c = search needs
 
-array-read-t14 : tie.Need-array-read-t14
-array-read-t14 c = search needs
+array-read-t15 : tie.Need-array-read-t15
+array-read-t15 c = search needs
 
-array-read-t17 : tie.Need-array-read-t17
-array-read-t17 c = search needs
+array-read-t18 : tie.Need-array-read-t18
+array-read-t18 c = search needs
 
-array-read-t20 : tie.Need-array-read-t20
-array-read-t20 c = search needs
+array-read-t21 : tie.Need-array-read-t21
+array-read-t21 c = search needs
 
 spread-requires : tie.Need-spread-requires
 spread-requires c κs = search needs
@@ -32,11 +32,15 @@ spread-requires c κs = search needs
 put-numbers-requires : tie.Need-put-numbers-requires
 put-numbers-requires c κs = search needs
 
-start-requires : tie.Need-start-requires
-start-requires c κs = search needs
-
-rounds-requires : tie.Need-rounds-requires
-rounds-requires c κs = search needs
+begin-requires : tie.Need-begin-requires
+unfolding unnumbered
+begin-requires c κs =
+    let numbered = c .before .before .before .put-numbers in
+    let filled = c .before .before .before .before .before .spread in
+    let start = c .before .before .before .before .before .before .before .before in
+    let args = start .args in
+    let pre = start .pre in
+    (pre .0, numbered .ensures .long, pre .2, pre .3, no-place (args .t2) (args .leaves) _ _ _ refl (filled .ensures .1) (numbered .ensures))
 
 -- what the types of the arguments say
 long-id : (c : tie.Start) → length (c .args .t2) ≡ 4
@@ -51,20 +55,22 @@ leaf-word c l = search needs
 returns : tie.Need-returns
 unfolding unnumbered
 returns c =
-    let rounded = c .rounds in
-    let started = c .before .before .before .start in
-    let numbered = c .before .before .before .before .before .put-numbers in
-    let filled = c .before .before .before .before .before .before .before .spread in
-    let value = c .before .before .before .before .before .before .before .before .before .initial-value in
-    let start = c .before .before .before .before .before .before .before .before .before .before in
+    let begun = c .begin in
+    let numbered = c .before .before .before .before .put-numbers in
+    let filled = c .before .before .before .before .before .before .spread in
+    let value = c .before .before .before .before .before .before .before .before .initial-value in
+    let start = c .before .before .before .before .before .before .before .before .before in
     let args = start .args in
     let id = args .t2 in
     let leaves = args .leaves in
-    let before = started .last .1 .0 in (
+    let w = numbered .last .1 .0 in
+    let x = begun .last .1 .1 .1 .0 in
+    let s = begun .last .1 .1 .1 .1 .0 in (
       numbered .ensures .long,
-      rounded .ensures .0 .0,
-      ready-by id leaves _ _ _ before _ (long-id start) (λ i. id-word start i .fits) (λ l. leaf-word start l .fits) refl (filled .ensures .1) (numbered .ensures)
-          (λ l h. subst (λ (p : List ℕ). State p (place 0 l) before) (value .ensures) (started .ensures .1 l h)) (rounded .ensures .0 .1) (rounded .ensures .1),
+      begun .ensures .0,
+      begun .ensures .1,
+      ready-by id leaves _ _ w refl (filled .ensures .1) (numbered .ensures) x s (long-id start) (λ i. id-word start i .fits) (λ l. leaf-word start l .fits)
+          (subst (λ (h : List ℕ). Common h w x s) (value .ensures) (begun .ensures .2)),
     )
 
 pub prepare-spec : {M : Type 1} → statement M
@@ -72,12 +78,11 @@ prepare-spec =
     tie.close
     (tie.spec
     initial-value-requires
-    array-read-t11
-    array-read-t14
-    array-read-t17
-    array-read-t20
+    array-read-t12
+    array-read-t15
+    array-read-t18
+    array-read-t21
     spread-requires
     put-numbers-requires
-    start-requires
-    rounds-requires
+    begin-requires
     returns)

@@ -20,8 +20,8 @@ returns c =
     let slid = c .before .before .before .before .put-values .ensures in
     let placed = c .before .before .before .before .before .before .before .put-places .ensures in
     let args = c .before .before .before .before .before .before .before .before .before .before .args in (
-      (e .0 .0, e .1 .0 .0, e .1 .1 .0),
-      stepped-by (now (args .places)) (args .t) (now (args .w)) (now (args .s)) (now (args .v)) _ _ _ _ _ placed slid (e .0 .1) (e .1 .0 .1) (e .1 .1 .1),
+      e .0,
+      stepped-by (now (args .places)) (args .t) (now (args .w)) (now (args .x)) (now (args .s)) (now (args .v)) _ _ _ _ _ placed slid (e .1 .0) (e .1 .1),
     )
 
 pub step-spec : {M : Type 1} → statement M

@@ -13,9 +13,9 @@ walk-requires c κs = search needs
 
 returns : tie.Need-returns
 returns c =
-    let args = c .before .before .before .before .before .before .before .args in
-    let prepared = c .before .before .before .before .prepare in
-    (c .walk .ensures .0 .2, walked-for (args .id) (args .leaves) (now (args .places)) (args .count) _ _ (now (args .v)) _ _ _ (prepared .ensures .2) (c .walk .ensures .1))
+    let args = c .before .before .before .before .before .before .before .before .before .args in
+    let prepared = c .before .before .before .before .before .prepare in
+    (c .walk .ensures .0 .2, walked-for (args .id) (args .leaves) (now (args .places)) (args .count) _ _ _ (now (args .v)) _ _ _ (prepared .ensures .3) (c .walk .ensures .1))
 
 pub steps-spec : {M : Type 1} → statement M
 steps-spec = tie.close (tie.spec prepare-requires walk-requires returns)
