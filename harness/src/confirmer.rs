@@ -38,6 +38,11 @@ pub trait Lower: Sync {
     fn lower_certificate<'a>(&self, n: u32, round: u32, keys: &[u8], first: &'a [u8], second: &'a [u8]) -> &'a [u8];
 }
 
+/// The same, copied to `out`: 0, or 7 where `out` is too short for it.
+pub trait LowerCopy: Sync {
+    fn copy_lower(&self, n: u32, round: u32, keys: &[u8], first: &[u8], second: &[u8], out: &mut [u8]) -> u32;
+}
+
 /// All of the calls.
 pub trait Confirmer: EvidenceCheck + Engine + LentStep + Making + Lower {}
 

@@ -100,12 +100,21 @@ mod calls {
 #[cfg(feature = "probes")]
 mod probes {
     use super::Library;
+    use crate::confirmer::LowerCopy;
     use crate::subject::{c_functions, c_hashes};
 
     c_hashes!(Library: probe_sha256, probe_compress_many);
 
     c_functions! {
         fn probe_signed(q: u32, identifier: &[u8], seed: &[u8], digits: &[u8], out: &mut [u8]) -> u32;
+        fn probe_lower_certificate(
+            n: u32,
+            round: u32,
+            keys: &[u8],
+            first: &[u8],
+            second: &[u8],
+            out: &mut [u8]
+        ) -> u32;
     }
 
     extern "C" {
@@ -125,6 +134,12 @@ mod probes {
         /// The values of a signature of width 8 for the digits.
         pub fn signed(&self, q: u32, identifier: &[u8], seed: &[u8], digits: &[u8], out: &mut [u8]) -> u32 {
             probe_signed(q, identifier, seed, digits, out)
+        }
+    }
+
+    impl LowerCopy for Library {
+        fn copy_lower(&self, n: u32, round: u32, keys: &[u8], first: &[u8], second: &[u8], out: &mut [u8]) -> u32 {
+            probe_lower_certificate(n, round, keys, first, second, out)
         }
     }
 }

@@ -10,7 +10,7 @@ use Rattle.octets.specs.Strings.{joined}
 use Rattle.refusal.specs.Refusal.{lowest, unrefused}
 use Rattle.sha256.specs.Fips.{sha256}
 use Rattle.rfc8554.specs.Ots.{signed}
-use Rattle.probes.specs.Probes.{digestRefusal, digestWritten, compressRefusal, repeated, compressWritten, signedRefusal, signedWritten}
+use Rattle.probes.specs.Probes.{digestRefusal, digestWritten, compressRefusal, repeated, compressWritten, signedRefusal, signedWritten, copyRefusal, copyWritten}
 
 -- an out buffer that is too short
 
@@ -91,3 +91,20 @@ module _ (q : ℕ) (id seed digits out : List ℕ) where
     rw (le-ltb (length out) 1088 h, eq-eqb (length id) 16 e, eq-eqb (length seed) 32 f, eq-eqb (length digits) 34 g)
         (u ∙ rw (p, r, part-all id 16 e, part-all seed 32 f)),
   )
+
+-- a copy of what is handed back
+
+module _ (handed out : List ℕ) where
+  pub copy-short : (part : List ℕ) → part ≡ handed → length out < length part
+      → (7 ≡ copyRefusal handed out) × (out ≡ patch 0 (copyWritten handed out) out)
+  unfolding copyRefusal copyWritten lowest unrefused
+  copy-short part e h =
+      let short : length out < length handed = rw e at h in
+      (rw (lt-ltb (length out) (length handed) short), rw (lt-ltb (length out) (length handed) short) (sym (patch-nothing out)))
+
+  pub copy-fits : (part last : List ℕ) → part ≡ handed → length part ≤ length out → last ≡ patch 0 part out
+      → (0 ≡ copyRefusal handed out) × (last ≡ patch 0 (copyWritten handed out) out)
+  unfolding copyRefusal copyWritten lowest unrefused
+  copy-fits part last e h p =
+      let room : length handed ≤ length out = rw e at h in
+      (rw (le-ltb (length out) (length handed) room), rw (le-ltb (length out) (length handed) room, ← e) p)

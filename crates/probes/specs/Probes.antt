@@ -1,4 +1,5 @@
--- The layers below the library's calls, for measurement and comparison: thresholds, digests, compressions, chains.
+-- The layers below the library's calls, for measurement and comparison: thresholds, digests, compressions, chains; and what is handed
+-- back as a copy.
 use Prim.Native.Nat.{ℕ, zero, suc}
 use mathlib.Core.Bool.{not, cond, _&&_, _||_}
 use mathlib.Core.List.{List, [], _∷_}
@@ -46,3 +47,10 @@ signedRefusal id seed digits out =
 
 unfoldable pub signedWritten : ℕ → List ℕ → List ℕ → List ℕ → List ℕ → List ℕ
 signedWritten q id seed digits out = unrefused (signedRefusal id seed digits out) (joined (signed id q 8 seed digits) 34) []
+
+-- an out buffer too short for a copy of what is handed back is refused as 7
+unfoldable pub copyRefusal : List ℕ → List ℕ → ℕ
+copyRefusal handed out = lowest ((7, ltb (length out) (length handed)) ∷ [])
+
+unfoldable pub copyWritten : List ℕ → List ℕ → List ℕ
+copyWritten handed out = unrefused (copyRefusal handed out) handed []

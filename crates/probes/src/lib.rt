@@ -1,11 +1,14 @@
-// The layers below the library's calls, exported for measurement and comparison. It is no part of what ships.
+// The layers below the library's calls, and the lower certificate as a copy, exported for measurement and comparison. It is no part of
+// what ships.
 ghost use mathlib.Core.Path.{_≡_};
 ghost use Prim.Native.Nat.{_≤_};
 ghost use lib.ListN.{length};
 ghost use Rattle.octets.specs.Octets.{patch, words};
 ghost use Rattle.quorum.specs.Quorum as Quorum;
 ghost use Rattle.sha256.specs.Constants.{constants};
-ghost use Rattle.probes.specs.Probes.{ofFleet, digestRefusal, digestWritten, compressRefusal, compressWritten, repeated, signedRefusal, signedWritten};
+ghost use Rattle.rfc8554.specs.Calls.{checks};
+ghost use Rattle.protocol.specs.Calls.{lowerCertificate};
+ghost use Rattle.probes.specs.Probes.{ofFleet, digestRefusal, digestWritten, compressRefusal, compressWritten, repeated, signedRefusal, signedWritten, copyRefusal, copyWritten};
 
 #[no_mangle]
 pub extern "C" fn probe_t0(n: u32) -> u32
@@ -124,5 +127,26 @@ pub extern "C" fn probe_signed(q: u32, id: &[u8], seed: &[u8], digits: &[u8], ou
     let i = lmots::words::four(id, 0);
     let s = lmots::words::eight(seed, 0);
     lmots::key::write_signed(&k, i, q, s, digits, out, 0);
+    0
+}
+
+// A copy of what is handed back as the lower of two certificates.
+#[no_mangle]
+pub extern "C" fn probe_lower_certificate<'a>(
+    n: u32,
+    round: u32,
+    keys: &[u8],
+    first: &'a [u8],
+    second: &'a [u8],
+    out: &mut [u8],
+) -> u32
+    ensures { λ r. ⌜ r ≡ copyRefusal (lowerCertificate (checks (now (keys .entry)) round) n round (now (keys .entry)) (now (first .entry)) (now (second .entry))) (now (out .entry)) ⌝ }
+    ensures { λ _. ⌜ now (out .exit) ≡ patch 0 (copyWritten (lowerCertificate (checks (now (keys .entry)) round) n round (now (keys .entry)) (now (first .entry)) (now (second .entry))) (now (out .entry))) (now (out .entry)) ⌝ }
+{
+    let lower = evidence::lower_certificate(n, round, keys, first, second);
+    if out.len() < lower.len() {
+        return refusal::OUT;
+    }
+    octets::copy(out, 0, lower);
     0
 }

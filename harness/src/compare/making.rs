@@ -3,7 +3,7 @@
 use super::arguments::{untouched, Arguments};
 use super::refusals::{lengths, on_part, spoiled, spoiler, Spoiler};
 use super::{equal, long, messages, noise, resized, run};
-use crate::confirmer::{Lower, Making};
+use crate::confirmer::{Lower, LowerCopy, Making};
 use crate::fleet::{layouts, rounds, some_seats, Fleet};
 use crate::guarded::Guarded;
 use crate::reference::calls::Written;
@@ -84,6 +84,32 @@ fn compare_lower(subject: &dyn Lower, case: &Case, rng: &mut Rng) -> Result<(), 
     equal("the place of the lower one", whole.is_none_or(|whole| whole.as_ptr() == lower.as_ptr()), true)
 }
 
+/// The lower one as a copy: in an out buffer of its length, in one that has room for either certificate and more, and in one
+/// that is a byte too short.
+fn compare_copy(subject: &dyn LowerCopy, case: &Case, rng: &mut Rng) -> Result<(), String> {
+    let Arguments { n, round, keys } = &case.arguments;
+    let [first, second] = &case.certificates;
+    let lower = lower_certificate(*n, *round, keys, first, second);
+    let mut told = |length: usize| {
+        let out = rng.bytes(length);
+        let fits = lower.len() <= length;
+        let expected = if fits { [lower, &out[lower.len()..]].concat() } else { out.clone() };
+        let lent_keys = Guarded::new(keys, rng);
+        let lent = [Guarded::new(first, rng), Guarded::new(second, rng)];
+        let mut lent_out = Guarded::new(&out, rng);
+        let (one, other) = (lent[0].lent(), lent[1].lent());
+        let number = subject.copy_lower(*n, *round, lent_keys.lent(), one, other, lent_out.lent_mut());
+        equal("the answer", number, if fits { 0 } else { 7 })?;
+        lent_out.expect("out", &expected)?;
+        untouched(&[("keys", &lent_keys, keys), ("first", &lent[0], first), ("second", &lent[1], second)])
+    };
+    let mut lengths = vec![lower.len(), first.len().max(second.len()) + 70];
+    lengths.extend(lower.len().checked_sub(1));
+    lengths.into_iter().try_for_each(|length| {
+        told(length).map_err(|difference| format!("n = {n}, {}, out of {length} bytes: {difference}", case.what))
+    })
+}
+
 /// Every buffer of every length around its own.
 pub fn lengths_around(subject: &dyn Making, n: u32, rng: &mut Rng) -> Result<usize, String> {
     let fleet = Fleet { n, round: *rng.pick(&rounds()) };
@@ -127,6 +153,15 @@ pub fn noise(subject: &dyn Making, rng: &mut Rng) -> Result<u32, String> {
 }
 
 pub fn battery(subject: Subject) {
+    run("make_evidence and lower_certificate", &cases(), |case, rng| compare(subject, case, rng));
+}
+
+/// The lower one alone, on the same cases.
+pub fn copies(subject: &dyn LowerCopy) {
+    run("lower_certificate as a copy", &cases(), |case, rng| compare_copy(subject, case, rng));
+}
+
+fn cases() -> Vec<Case> {
     let mut rng = Rng::new(seed(), "making");
     let mut cases = Vec::new();
     for n in 1..=32 {
@@ -138,7 +173,7 @@ pub fn battery(subject: Subject) {
         }
         cases.extend(in_another_fleet(fleet, &mut rng));
     }
-    run("make_evidence and lower_certificate", &cases, |case, rng| compare(subject, case, rng));
+    cases
 }
 
 /// Two certificates with different values, the lower first; their seats are chosen apart.

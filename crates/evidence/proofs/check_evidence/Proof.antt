@@ -1,97 +1,95 @@
+-- `evidence::check_evidence` meets its contract.
+use mathlib.Core.Path.{_≡_}
+use mathlib.Core.List.{List}
+use Prim.Native.Nat.{ℕ}
 use denote.Ref.{now}
 use Rattle.rfc8554.specs.Calls.{checks}
 use Rattle.fleet.specs.Laws.{size-most, size-some}
 use Rattle.protocol.specs.Message.{read}
-use Rattle.validate.specs.Conditions.{outside-passed}
+use Rattle.protocol.specs.Refusals.{Checks, isEvidence}
+use Rattle.validate.specs.Conditions.{Given, outside-passed}
 use Rattle.evidence.specs.Kinds.{evidence-told}
 use Rattle.evidence.specs.Returns.{outside-refused, form-refused, form-right}
 use borrow.Author.Needs.{needs}
 use Rattle.evidence.proofs.check_evidence.Statement.{statement}
 use Rattle.evidence.proofs.check_evidence.Tie as tie
-use Rattle.evidence.proofs.check_evidence.Reads as reads
-use Rattle.evidence.proofs.check_evidence.Lts as lts
-use Rattle.evidence.proofs.check_signatures.Reads as check-signatures-reads
-use Rattle.evidence.proofs.is_evidence.Reads as is-evidence-reads
-use Rattle.validate.proofs.form_refusal.Reads as form-refusal-reads
-use Rattle.validate.proofs.outside_refusal.Reads as outside-refusal-reads
-use Rattle.wire.proofs.read.classify.Reads as classify-reads
 
--- src/lib.rt:64:9
+-- what the call is given
+module _ (start : tie.Start) where
+  abbrev n : ℕ
+  n = start .args .n
+
+  abbrev round : ℕ
+  round = start .args .round
+
+  abbrev keys : List ℕ
+  keys = now (start .args .keys)
+
+  abbrev check : Checks
+  check = checks keys round
+
+  abbrev m : List ℕ
+  m = now (start .args .evidence)
+
+abbrev started : tie.After-outside-refusal → tie.Start
+started c = c .before .before .before
+
+-- n, round and key table pass
+given : (c : tie.Else1) → let s = started (c .before) in Given (n s) (round s) (keys s)
+given c =
+    let s = started (c .before) in
+    let outside = c .before .outside-refusal in
+    outside-passed (n s) (round s) (outside .result) (keys s) (outside .ensures) (c .if1 .left)
+
+abbrev after-outside : tie.After-form-refusal → tie.Else1
+after-outside c = c .before .before .before
+
+-- the message is taken if it is an EVIDENCE
+taken-is : (c : tie.After-form-refusal) → let s = started (after-outside c .before) in c .before .is-evidence .result ≡ isEvidence (read (n s) (m s))
+taken-is c =
+    let s = started (after-outside c .before) in
+    let kind = c .before .before .classify in
+    let taken = c .before .is-evidence in
+    evidence-told (read (n s) (m s)) (kind .result) (kind .ensures) (taken .result) (taken .ensures)
+
 outside-refusal-requires : tie.Need-outside-refusal-requires
 outside-refusal-requires c κs = search needs
 
--- src/lib.rt:66:9
 returns : tie.Need-returns
 returns c =
-    let start = c .before .before .before .before in
-    let n = start .args .n in
-    let round = start .args .round in
-    let keys = now (start .args .keys) in
-    let m = now (start .args .evidence) in
+    let s = started (c .before) in
     let outside = c .before .outside-refusal in
-    outside-refused (checks keys round) n round keys m (outside .result) (outside .ensures) (c .if1 .taken)
+    outside-refused (check s) (n s) (round s) (keys s) (m s) (outside .result) (outside .ensures) (c .if1 .taken)
 
--- src/lib.rt:71:9
 classify-requires : tie.Need-classify-requires
 classify-requires c κs =
-    let start = c .before .before .before .before in
-    let n = start .args .n in
-    let round = start .args .round in
-    let keys = now (start .args .keys) in
-    let m = now (start .args .evidence) in
-    let outside = c .before .outside-refusal in
-    let given = outside-passed n round (outside .result) keys (outside .ensures) (c .if1 .left) in
-    (size-some n (given .size), size-most n (given .size))
+    let s = started (c .before) in
+    (size-some (n s) (given c .size), size-most (n s) (given c .size))
 
--- src/lib.rt:72:9
 is-evidence-requires : tie.Need-is-evidence-requires
 is-evidence-requires c κs = search needs
 
--- src/lib.rt:73:9
 form-refusal-requires : tie.Need-form-refusal-requires
 form-refusal-requires c κs =
-    let start = c .before .before .before .before .before .before in
-    let n = start .args .n in
-    let round = start .args .round in
-    let keys = now (start .args .keys) in
-    let m = now (start .args .evidence) in
-    let outside = c .before .before .before .outside-refusal in
-    let given = outside-passed n round (outside .result) keys (outside .ensures) (c .before .before .if1 .left) in
-    (size-some n (given .size), size-most n (given .size), c .before .classify .ensures)
+    let passed = c .before .before in
+    let s = started (passed .before) in
+    (size-some (n s) (given passed .size), size-most (n s) (given passed .size), c .before .classify .ensures)
 
--- src/lib.rt:75:9
 returns-2 : tie.Need-returns-2
 returns-2 c =
-    let start = c .before .before .before .before .before .before .before .before in
-    let n = start .args .n in
-    let round = start .args .round in
-    let keys = now (start .args .keys) in
-    let m = now (start .args .evidence) in
-    let outside = c .before .before .before .before .before .outside-refusal in
-    let given = outside-passed n round (outside .result) keys (outside .ensures) (c .before .before .before .before .if1 .left) in
-    let kind = c .before .before .before .classify in
-    let taken = c .before .before .is-evidence in
     let form = c .before .form-refusal in
-    let is = evidence-told (read n m) (kind .result) (kind .ensures) (taken .result) (taken .ensures) in
-    form-refused (checks keys round) n round keys m given (form .result) (taken .result) is (form .ensures) (c .if2 .taken)
+    let passed = after-outside (c .before) in
+    let s = started (passed .before) in
+    form-refused (check s) (n s) (round s) (keys s) (m s) (given passed) (form .result) (c .before .before .is-evidence .result) (taken-is (c .before)) (form .ensures) (c .if2 .taken)
 
--- src/lib.rt:80:5
 check-signatures-requires : tie.Need-check-signatures-requires
 check-signatures-requires c κs =
-    let start = c .before .before .before .before .before .before .before .before in
-    let n = start .args .n in
-    let round = start .args .round in
-    let keys = now (start .args .keys) in
-    let m = now (start .args .evidence) in
-    let outside = c .before .before .before .before .before .outside-refusal in
-    let given = outside-passed n round (outside .result) keys (outside .ensures) (c .before .before .before .before .if1 .left) in
-    let kind = c .before .before .before .classify in
-    let taken = c .before .before .is-evidence in
     let form = c .before .form-refusal in
-    let is = evidence-told (read n m) (kind .result) (kind .ensures) (taken .result) (taken .ensures) in
-    (kind .ensures, given, form-right (checks keys round) n round keys m given (form .result) (taken .result) is (form .ensures) (c .if2 .left))
+    let passed = after-outside (c .before) in
+    let s = started (passed .before) in
+    let right = form-right (check s) (n s) (round s) (keys s) (m s) (given passed) (form .result) (c .before .before .is-evidence .result) (taken-is (c .before)) (form .ensures) (c .if2 .left) in
+    (c .before .before .before .classify .ensures, given passed, right)
 
--- src/lib.rt:61:1
 returns-3 : tie.Need-returns-3
 returns-3 c = search needs
 

@@ -1,0 +1,44 @@
+-- `probes::probe_lower_certificate` meets its contract.
+use mathlib.Core.List.{List}
+use Prim.Native.Nat.{ℕ}
+use denote.Ref.{now}
+use Rattle.rfc8554.specs.Calls.{checks}
+use Rattle.protocol.specs.Calls.{lowerCertificate}
+use Rattle.probes.specs.Laws.{copy-short, copy-fits}
+use borrow.Author.Needs.{needs}
+use Rattle.probes.proofs.probe_lower_certificate.Statement.{statement}
+use Rattle.probes.proofs.probe_lower_certificate.Tie as tie
+
+lower-certificate-requires : tie.Need-lower-certificate-requires
+lower-certificate-requires c κs = search needs
+
+-- what is handed back, by its definition
+abbrev handed : tie.Start → List ℕ
+handed start =
+    let args = start .args in
+    let keys = now (args .keys) in
+    lowerCertificate (checks keys (args .round)) (args .n) (args .round) keys (now (args .first)) (now (args .second))
+
+returns : tie.Need-returns
+returns c =
+    let lower = c .before .lower-certificate in
+    let start = c .before .before .before .before .before .before in
+    copy-short (handed start) (now (start .args .out)) (now (lower .result)) (lower .ensures .0) (c .if1 .taken)
+
+copy-requires : tie.Need-copy-requires
+copy-requires c κs = search needs
+
+same-length : tie.Need-same-length
+same-length c = search needs
+
+returns-2 : tie.Need-returns-2
+returns-2 c =
+    let copied = c .before .before .copy in
+    let tested = c .before .before .before .before in
+    let lower = tested .before .lower-certificate in
+    let start = tested .before .before .before .before .before .before in
+    copy-fits (handed start) (now (start .args .out)) (now (lower .result)) (copied .last .0) (lower .ensures .0) (tested .if1 .left) (copied .ensures)
+
+pub probe-lower-certificate-spec : {M : Type 1} → statement M
+probe-lower-certificate-spec =
+    tie.close (tie.spec lower-certificate-requires returns copy-requires same-length returns-2)
