@@ -1,5 +1,5 @@
 -- The returns of opening, over plain values.
-use mathlib.Core.Path.{_≡_, refl, ap, ap₂, _∙_}
+use mathlib.Core.Path.{_≡_, refl}
 use mathlib.Core.List.{List}
 use Prim.Native.Nat.{ℕ, zero, suc}
 use Rattle.refusal.specs.Refusal.{lowest, unrefused}

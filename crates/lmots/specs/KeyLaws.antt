@@ -12,8 +12,8 @@ use Rattle.octets.specs.Strings.{joined}
 use Rattle.octets.specs.Laws.{take-patch, take-rest}
 use Rattle.octets.specs.StringLaws.{length-joined, joined-same, part-patch, part-joined}
 use Rattle.sha256.specs.Fips.{sha256}
-use Rattle.rfc8554.specs.Ots.{coef, chains, otsLength, otsKey, candidate, dPblc, chain, start, keyInput, chainEnd, digested, signed, completed}
-use Rattle.rfc8554.specs.OtsLaws.{coef-eight, length-start, length-chainEnd, length-completed}
+use Rattle.rfc8554.specs.Ots.{coef, chains, otsLength, candidate, dPblc, chain, start, keyInput, digested, signed, completed}
+use Rattle.rfc8554.specs.OtsLaws.{length-start, length-completed}
 use Rattle.lmots.specs.Pieces.{front}
 use Rattle.lmots.specs.Turns.{Ordered, ended}
 use Rattle.lmots.specs.TurnLaws.{all-set, written-next}

@@ -1,15 +1,15 @@
 -- All chains of a leaf, sixteen at a time: whatever the order, each comes to its own end.
-use mathlib.Core.Path.{_≡_, refl, sym, ap, ap₂, subst, _∙_}
+use mathlib.Core.Path.{_≡_, refl, sym, ap, subst, _∙_}
 use mathlib.Core.Bool.{Bool, true, false}
 use mathlib.Core.Logic.{_⊎_, inl, inr, ⊎-elim}
-use mathlib.Core.List.{List, [], _∷_, _++_, append-assoc}
-use Prim.Native.Nat.{ℕ, zero, suc, _+_, _-_, _*_, _≤_, _<_}
+use mathlib.Core.List.{List, _++_, append-assoc}
+use Prim.Native.Nat.{ℕ, zero, _+_, _-_, _*_, _≤_, _<_}
 use native.Mathlib.Nat.{add-zero, zero-add, eq-or-lt-of-le}
 use native.Mathlib.Omega.{arith}
 use borrow.Author.Tests.{ltb-true, ltb-false}
 use lib.Dec.{ltb}
-use lib.ListN.{length, take, drop, getD, set, replicate, getD-replicate, length-append, length-take, length-set, take-append-drop}
-use lib.Seq.{length-take-le, take-add, drop-drop, getD-take, ext-getD, take-suc-set}
+use lib.ListN.{length, take, drop, getD, set, replicate, getD-replicate, length-append, take-append-drop}
+use lib.Seq.{length-take-le, take-add, drop-drop, ext-getD}
 use Rattle.octets.specs.Octets.{part, patch, bytes}
 use Rattle.octets.specs.Strings.{joined}
 use Rattle.octets.specs.Laws.{length-part, length-patch, take-patch, length-bytes}

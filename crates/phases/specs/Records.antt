@@ -1,14 +1,12 @@
 -- What a possible record says.
 use mathlib.Core.Path.{_≡_, refl, sym}
-use mathlib.Core.Bool.{Bool, true, false, not, _&&_, _||_, false≢true}
-use Prim.Native.Nat.{ℕ, _≤_, _<_}
+use mathlib.Core.Bool.{Bool, true, false, _||_, false≢true}
+use Prim.Native.Nat.{_≤_, _<_}
 use native.Mathlib.Omega.{arith}
-use lib.Dec.{leb, ltb, eqb}
+use lib.Dec.{ltb, eqb}
 use borrow.Author.Tests.{eqb-false, ltb-false, leb-false}
 use Rattle.quorum.specs.Quorum.{mostSeats}
-use Rattle.protocol.specs.Record.{wrongSize, wrongSeat, wrongRound, outOfRange, noneHeard, holds, wrongHeard, namesStranger, wrongCollected, wrongFirst, lacksFirst, wrongGuilty, wrongSent, wrongUnset, impossible}
-use Rattle.protocol.specs.Values.{unset}
-use Rattle.octets.specs.Strings.{same}
+use Rattle.protocol.specs.Record.{wrongSize, wrongSeat, wrongRound, outOfRange}
 use Rattle.protocol.specs.declared.Record.{Record}
 
 pub or-false : (a b : Bool) → (a || b) ≡ false → (a ≡ false) × (b ≡ false)

@@ -1,7 +1,7 @@
 -- Demand 3, whole: one claim about any family of honest units, one round and one key table, from end to end. The signature check is
 -- RFC 8554's; the theory beneath holds for any.
 -- Assumes nothing.
-use mathlib.Core.Path.{_≡_, refl, ap, _∙_}
+use mathlib.Core.Path.{_≡_, ap, _∙_}
 use mathlib.Core.List.{List, List·Memᴰ}
 use mathlib.Core.Logic.{_≢_}
 use Prim.Native.Nat.{ℕ}

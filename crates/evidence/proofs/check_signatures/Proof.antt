@@ -1,3 +1,4 @@
+-- `evidence::check_signatures` meets its contract.
 use mathlib.Core.Path.{sym, _∙_}
 use denote.Ref.{now}
 use Rattle.rfc8554.specs.Calls.{checks}
@@ -7,18 +8,10 @@ use Rattle.evidence.specs.Returns.{signature-refused, order-refused, acc
 use borrow.Author.Needs.{needs}
 use Rattle.evidence.proofs.check_signatures.Statement.{statement}
 use Rattle.evidence.proofs.check_signatures.Tie as tie
-use Rattle.evidence.proofs.check_signatures.Reads as reads
-use Rattle.evidence.proofs.check_signatures.Lts as lts
-use Rattle.evidence.proofs.is_out_of_order.Reads as is-out-of-order-reads
-use Rattle.sha256.proofs.constants.round_constants.Reads as round-constants-reads
-use Rattle.validate.proofs.has_bad_signature.Reads as has-bad-signature-reads
-use Rattle.wire.proofs.read.entry_set.Reads as entry-set-reads
 
--- src/lib.rt:42:13
 round-constants-requires : tie.Need-round-constants-requires
 round-constants-requires c κs = search needs
 
--- src/lib.rt:43:8
 has-bad-signature-requires : tie.Need-has-bad-signature-requires
 has-bad-signature-requires c κs =
     let start = c .before .before .before .before in
@@ -29,7 +22,6 @@ has-bad-signature-requires c κs =
     let given = start .pre .1 in
     (c .before .round-constants .ensures, size-some n (given .size), size-most n (given .size), given .table, round-in round (given .turn), start .pre .0, start .pre .2 .known)
 
--- src/lib.rt:44:9
 returns : tie.Need-returns
 returns c =
     let start = c .before .before .before .before .before .before in
@@ -39,7 +31,6 @@ returns c =
     let m = now (start .args .m) in
     signature-refused (checks keys round) n round keys m (start .pre .1) (start .pre .2) (sym (c .before .has-bad-signature .ensures) ∙ c .if1 .taken)
 
--- src/lib.rt:49:8
 is-out-of-order-requires : tie.Need-is-out-of-order-requires
 is-out-of-order-requires c κs =
     let start = c .before .before .before .before .before .before in
@@ -49,7 +40,6 @@ is-out-of-order-requires c κs =
     let m = now (start .args .m) in
     formed-taken n round m (start .args .kind) (start .pre .0) (start .pre .2)
 
--- src/lib.rt:50:9
 returns-2 : tie.Need-returns-2
 returns-2 c =
     let start = c .before .before .before .before .before .before .before .before in
@@ -59,7 +49,6 @@ returns-2 c =
     let m = now (start .args .m) in
     order-refused (checks keys round) n round keys m (start .pre .1) (start .pre .2) (sym (c .before .before .before .has-bad-signature .ensures) ∙ c .before .before .if1 .left) (sym (c .before .is-out-of-order .ensures) ∙ c .if2 .taken)
 
--- src/lib.rt:55:9
 entry-set-requires : tie.Need-entry-set-requires
 entry-set-requires c κs =
     let start = c .before .before .before .before .before .before .before .before in
@@ -67,7 +56,6 @@ entry-set-requires c κs =
     let given = start .pre .1 in
     (size-some n (given .size), size-most n (given .size), start .pre .0, start .pre .2 .known)
 
--- src/lib.rt:38:1
 returns-3 : tie.Need-returns-3
 returns-3 c =
     let start = c .before .before .before .before .before .before .before .before .before in

@@ -1,3 +1,4 @@
+-- `evidence::is_out_of_order` meets its contract.
 use native.Mathlib.Omega.{arith}
 use denote.Ref.{now}
 use Rattle.protocol.specs.Layout.{evidenceLength, evidenceEntryAt}
@@ -5,34 +6,24 @@ use Rattle.evidence.specs.Returns.{order-is}
 use borrow.Author.Needs.{needs}
 use Rattle.evidence.proofs.is_out_of_order.Statement.{statement}
 use Rattle.evidence.proofs.is_out_of_order.Tie as tie
-use Rattle.evidence.proofs.is_out_of_order.Reads as reads
-use Rattle.evidence.proofs.is_out_of_order.Lts as lts
-use Rattle.wire.proofs.values.lower.Reads as lower-reads
-use Rattle.wire.proofs.values.value_at.Reads as value-at-reads
 
--- src/lib.rt:109:17
 value-at-requires : tie.Need-value-at-requires
 unfolding evidenceLength evidenceEntryAt
 value-at-requires c κs = omega arith
 
--- src/lib.rt:110:18
 value-at-requires-2 : tie.Need-value-at-requires-2
 unfolding evidenceLength evidenceEntryAt
 value-at-requires-2 c κs = omega arith
 
--- src/lib.rt:111:26
 slice-aggregate-lower : tie.Need-slice-aggregate-lower
 slice-aggregate-lower c = search needs
 
--- src/lib.rt:111:34
 slice-aggregate-lower-2 : tie.Need-slice-aggregate-lower-2
 slice-aggregate-lower-2 c = search needs
 
--- src/lib.rt:111:6
 lower-requires : tie.Need-lower-requires
 lower-requires c κs = search needs
 
--- src/lib.rt:105:1
 returns : tie.Need-returns
 returns c =
     let start = c .before .before .before .before .before .before in

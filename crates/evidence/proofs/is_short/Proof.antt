@@ -1,29 +1,22 @@
+-- `evidence::is_short` meets its contract.
 use Rattle.protocol.specs.Layout.{evidenceEntryLength, evidenceEntryAt, evidenceLength, evidenceOutLength}
 use Rattle.protocol.specs.Refusals.{shortOut}
 use borrow.Author.Needs.{needs}
 use Rattle.evidence.proofs.is_short.Statement.{statement}
 use Rattle.evidence.proofs.is_short.Tie as tie
-use Rattle.evidence.proofs.is_short.Reads as reads
-use Rattle.evidence.proofs.is_short.Lts as lts
-use Rattle.quorum.proofs.k.Reads as k-reads
 
--- src/lib.rt:98:30
 k-requires : tie.Need-k-requires
 k-requires c κs = search needs
 
--- src/lib.rt:98:30
 cast-result : tie.Need-cast-result
 cast-result c = search needs
 
--- src/lib.rt:98:22
 mul-result : tie.Need-mul-result
 mul-result c = search needs
 
--- src/lib.rt:98:17
 add-result : tie.Need-add-result
 add-result c = search needs
 
--- src/lib.rt:94:1
 returns : tie.Need-returns
 unfolding shortOut evidenceOutLength evidenceLength evidenceEntryAt evidenceEntryLength
 returns c = rw (c .k .ensures)

@@ -1,3 +1,4 @@
+-- `validate::form_refusal` meets its contract.
 use mathlib.Core.Path.{_≡_, sym, _∙_}
 use mathlib.Core.Bool.{true, false, not}
 use denote.Ref.{now}
@@ -7,13 +8,7 @@ use Rattle.protocol.specs.Refusals.{otherRound, stranger, disorder, formConditi
 use borrow.Author.Needs.{needs}
 use Rattle.validate.proofs.form_refusal.Statement.{statement}
 use Rattle.validate.proofs.form_refusal.Tie as tie
-use Rattle.validate.proofs.form_refusal.Reads as reads
-use Rattle.validate.proofs.form_refusal.Lts as lts
-use Rattle.wire.proofs.read.is_disordered.Reads as is-disordered-reads
-use Rattle.wire.proofs.read.is_stranger.Reads as is-stranger-reads
-use Rattle.wire.proofs.read.other_round.Reads as other-round-reads
 
--- src/lib.rt:42:9
 returns : tie.Need-returns
 unfolding formConditions lowest
 returns c =
@@ -22,11 +17,9 @@ returns c =
     let t0 : not (args .taken) ≡ true = c .if1 .taken in
     rw (t0)
 
--- src/lib.rt:44:8
 other-round-requires : tie.Need-other-round-requires
 other-round-requires c κs = search needs
 
--- src/lib.rt:45:9
 returns-2 : tie.Need-returns-2
 unfolding formConditions lowest
 returns-2 c =
@@ -36,11 +29,9 @@ returns-2 c =
     let t1 : otherRound (args .round) m ≡ true = sym (c .before .other-round .ensures) ∙ c .if2 .taken in
     rw (t0, t1)
 
--- src/lib.rt:47:8
 is-stranger-requires : tie.Need-is-stranger-requires
 is-stranger-requires c κs = search needs
 
--- src/lib.rt:48:9
 returns-3 : tie.Need-returns-3
 unfolding formConditions lowest
 returns-3 c =
@@ -51,11 +42,9 @@ returns-3 c =
     let t2 : stranger (args .n) m ≡ true = sym (c .before .is-stranger .ensures) ∙ c .if3 .taken in
     rw (t0, t1, t2)
 
--- src/lib.rt:50:8
 is-disordered-requires : tie.Need-is-disordered-requires
 is-disordered-requires c κs = search needs
 
--- src/lib.rt:51:9
 returns-4 : tie.Need-returns-4
 unfolding formConditions lowest
 returns-4 c =
@@ -67,7 +56,6 @@ returns-4 c =
     let t3 : disorder m ≡ true = sym (c .before .is-disordered .ensures) ∙ c .if4 .taken in
     rw (t0, t1, t2, t3)
 
--- src/lib.rt:37:1
 returns-5 : tie.Need-returns-5
 unfolding formConditions lowest
 returns-5 c =

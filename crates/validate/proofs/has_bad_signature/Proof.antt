@@ -1,20 +1,14 @@
+-- `validate::has_bad_signature` meets its contract.
 use denote.Ref.{now}
 use Rattle.rfc8554.specs.Calls.{checks}
 use Rattle.validate.specs.Entries.{submit-taken, full-taken, evidence-taken, notice-none, garbled-none}
 use borrow.Author.Needs.{needs}
 use Rattle.validate.proofs.has_bad_signature.Statement.{statement}
 use Rattle.validate.proofs.has_bad_signature.Tie as tie
-use Rattle.validate.proofs.has_bad_signature.Reads as reads
-use Rattle.validate.proofs.has_bad_signature.Lts as lts
-use Rattle.validate.proofs.signatures.bad_in_evidence.Reads as bad-in-evidence-reads
-use Rattle.validate.proofs.signatures.bad_in_full.Reads as bad-in-full-reads
-use Rattle.validate.proofs.signatures.bad_in_submit.Reads as bad-in-submit-reads
 
--- src/lib.rt:69:25
 enum-told : tie.Need-enum-told
 enum-told c = search needs
 
--- src/lib.rt:69:25
 bad-in-submit-requires : tie.Need-bad-in-submit-requires
 bad-in-submit-requires c κs =
     let start = c .before .before .before .before in
@@ -22,15 +16,12 @@ bad-in-submit-requires c κs =
     let pre = start .pre in
     (record { words = pre .0; size = pre .2; table = pre .3; turn = pre .4 }, submit-taken (args .n) (now (args .m)) (args .kind) (pre .5) (pre .6) (c .enum-told .given .1))
 
--- src/lib.rt:70:25
 enum-told-2 : tie.Need-enum-told-2
 enum-told-2 c = search needs
 
--- src/lib.rt:71:23
 enum-told-3 : tie.Need-enum-told-3
 enum-told-3 c = search needs
 
--- src/lib.rt:71:23
 bad-in-full-requires : tie.Need-bad-in-full-requires
 bad-in-full-requires c κs =
     let start = c .before .before .before .before in
@@ -38,11 +29,9 @@ bad-in-full-requires c κs =
     let pre = start .pre in
     (record { words = pre .0; size = pre .2; table = pre .3; turn = pre .4 }, pre .1, full-taken (args .n) (now (args .m)) (args .kind) (pre .5) (pre .6) (c .enum-told3 .given .1))
 
--- src/lib.rt:72:27
 enum-told-4 : tie.Need-enum-told-4
 enum-told-4 c = search needs
 
--- src/lib.rt:72:27
 bad-in-evidence-requires : tie.Need-bad-in-evidence-requires
 bad-in-evidence-requires c κs =
     let start = c .before .before .before .before in
@@ -50,15 +39,12 @@ bad-in-evidence-requires c κs =
     let pre = start .pre in
     (record { words = pre .0; size = pre .2; table = pre .3; turn = pre .4 }, evidence-taken (args .n) (now (args .m)) (args .kind) (pre .5) (pre .6) (c .enum-told4 .given .1))
 
--- src/lib.rt:73:26
 enum-told-5 : tie.Need-enum-told-5
 enum-told-5 c = search needs
 
--- src/lib.rt:57:1
 returns : tie.Need-returns
 returns c = search needs
 
--- src/lib.rt:57:1
 returns-2 : tie.Need-returns-2
 returns-2 c =
     let start = c .before .before .before .before in
@@ -66,15 +52,12 @@ returns-2 c =
     let pre = start .pre in
     notice-none (checks (now (args .keys)) (args .round)) (args .n) (now (args .m)) (args .kind) (pre .5) (c .enum-told2 .given .1)
 
--- src/lib.rt:57:1
 returns-3 : tie.Need-returns-3
 returns-3 c = search needs
 
--- src/lib.rt:57:1
 returns-4 : tie.Need-returns-4
 returns-4 c = search needs
 
--- src/lib.rt:57:1
 returns-5 : tie.Need-returns-5
 returns-5 c =
     let start = c .before .before .before .before in

@@ -1,3 +1,4 @@
+-- `validate::outside_refusal` meets its contract.
 use mathlib.Core.Path.{_≡_, sym, _∙_}
 use mathlib.Core.Bool.{true, false}
 use denote.Ref.{now}
@@ -8,17 +9,10 @@ use Rattle.fleet.specs.Laws.{size-most}
 use borrow.Author.Needs.{needs}
 use Rattle.validate.proofs.outside_refusal.Statement.{statement}
 use Rattle.validate.proofs.outside_refusal.Tie as tie
-use Rattle.validate.proofs.outside_refusal.Reads as reads
-use Rattle.validate.proofs.outside_refusal.Lts as lts
-use Rattle.fleet.proofs.wrong_keys.Reads as wrong-keys-reads
-use Rattle.fleet.proofs.wrong_round.Reads as wrong-round-reads
-use Rattle.fleet.proofs.wrong_size.Reads as wrong-size-reads
 
--- src/lib.rt:59:8
 wrong-size-requires : tie.Need-wrong-size-requires
 wrong-size-requires c κs = search needs
 
--- src/lib.rt:60:9
 returns : tie.Need-returns
 unfolding outsideConditions lowest
 returns c =
@@ -26,11 +20,9 @@ returns c =
     let t0 : wrongSize (args .n) ≡ true = sym (c .before .wrong-size .ensures) ∙ c .if1 .taken in
     rw (t0)
 
--- src/lib.rt:62:8
 wrong-round-requires : tie.Need-wrong-round-requires
 wrong-round-requires c κs = search needs
 
--- src/lib.rt:63:9
 returns-2 : tie.Need-returns-2
 unfolding outsideConditions lowest
 returns-2 c =
@@ -39,7 +31,6 @@ returns-2 c =
     let t1 : wrongRound (args .round) ≡ true = sym (c .before .wrong-round .ensures) ∙ c .if2 .taken in
     rw (t0, t1)
 
--- src/lib.rt:65:8
 wrong-keys-requires : tie.Need-wrong-keys-requires
 wrong-keys-requires c κs =
     let sized = c .before .before in
@@ -47,7 +38,6 @@ wrong-keys-requires c κs =
     let right : wrongSize n ≡ false = sym (sized .before .wrong-size .ensures) ∙ sized .if1 .left in
     size-most n right
 
--- src/lib.rt:66:9
 returns-3 : tie.Need-returns-3
 unfolding outsideConditions lowest
 returns-3 c =
@@ -57,7 +47,6 @@ returns-3 c =
     let t2 : wrongKeys (args .n) (now (args .keys)) ≡ true = sym (c .before .wrong-keys .ensures) ∙ c .if3 .taken in
     rw (t0, t1, t2)
 
--- src/lib.rt:56:1
 returns-4 : tie.Need-returns-4
 unfolding outsideConditions lowest
 returns-4 c =

@@ -1,11 +1,8 @@
+-- `vectors::sign_all` meets its contract.
 use Prim.Native.Nat.{_≤_}
 use borrow.Author.Needs.{needs}
 use Rattle.vectors.proofs.sign_all.Statement.{statement}
 use Rattle.vectors.proofs.sign_all.Tie as tie
-use Rattle.vectors.proofs.sign_all.Reads as reads
-use Rattle.vectors.proofs.sign_all.Lts as lts
-use Rattle.vectors.proofs.named.Reads as named-reads
-use Rattle.vectors.proofs.sign.Reads as sign-reads
 
 abbrev Inv-loop : tie.InvT-loop
 Inv-loop seed identifier tree count left₀ left = left ≤ count
@@ -13,39 +10,30 @@ Inv-loop seed identifier tree count left₀ left = left ≤ count
 abbrev μ-loop : tie.MeasureT-loop
 μ-loop seed identifier tree count left₀ left = left
 
--- src/main.rt:117:5
 loop-holds : tie.Need-loop-holds Inv-loop μ-loop
 loop-holds c = search needs
 
--- src/main.rt:118:13
 named-requires : tie.Need-named-requires Inv-loop μ-loop
 named-requires c κs = search needs
 
--- src/main.rt:119:13
 returns : tie.Need-returns Inv-loop μ-loop
 returns c = search needs
 
--- src/main.rt:121:13
 sign-requires : tie.Need-sign-requires Inv-loop μ-loop
 sign-requires c κs = search needs
 
--- src/main.rt:122:13
 returns-2 : tie.Need-returns-2 Inv-loop μ-loop
 returns-2 c = search needs
 
--- src/main.rt:124:9
 sub-left : tie.Need-sub-left Inv-loop μ-loop
 sub-left c = search needs
 
--- src/main.rt:117:5
 loop-less : tie.Need-loop-less Inv-loop μ-loop
 loop-less c = search needs
 
--- src/main.rt:117:5
 loop-again : tie.Need-loop-again Inv-loop μ-loop
 loop-again c = search needs
 
--- src/main.rt:115:1
 returns-3 : tie.Need-returns-3 Inv-loop μ-loop
 returns-3 c = search needs
 

@@ -1,3 +1,4 @@
+-- `yard_io::print_line` meets its contract.
 use Prim.Native.Nat.{_≤_}
 use native.Mathlib.Omega.{arith}
 use lib.ListN.{length, length-take}
@@ -5,16 +6,10 @@ use Rattle.yard.specs.LineLaws.{line-fits}
 use borrow.Author.Needs.{needs}
 use Rattle.yard_io.proofs.print_line.Statement.{statement}
 use Rattle.yard_io.proofs.print_line.Tie as tie
-use Rattle.yard_io.proofs.print_line.Reads as reads
-use Rattle.yard_io.proofs.print_line.Lts as lts
-use Rattle.io.proofs.write_all.Reads as write-all-reads
-use Rattle.yard.proofs.line.line_of.Reads as line-of-reads
 
--- src/lib.rt:51:9
 line-of-requires : tie.Need-line-of-requires
 line-of-requires c κs = search needs
 
--- src/lib.rt:54:34
 array-share-prefix-text : tie.Need-array-share-prefix-text
 array-share-prefix-text c =
     let lined = c .before in
@@ -22,7 +17,6 @@ array-share-prefix-text c =
     let fits : lined .line-of .result .length ≤ length (lined .line-of .result .text) = rw (lined .line-of .ensures) (line-fits (args .number) (args .written) (search needs) (search needs)) in
     fits
 
--- src/lib.rt:54:34
 slice-aggregate-write-all : tie.Need-slice-aggregate-write-all
 slice-aggregate-write-all c =
     let lined = c .before .before in
@@ -30,11 +24,9 @@ slice-aggregate-write-all c =
     let fits : lined .line-of .result .length ≤ length (lined .line-of .result .text) = rw (lined .line-of .ensures) (line-fits (args .number) (args .written) (search needs) (search needs)) in
     simp length-take (omega arith)
 
--- src/lib.rt:54:5
 write-all-requires : tie.Need-write-all-requires
 write-all-requires c κs = search needs
 
--- src/lib.rt:50:1
 returns : tie.Need-returns
 returns c = search needs
 

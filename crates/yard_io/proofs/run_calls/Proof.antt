@@ -1,11 +1,9 @@
+-- `yard_io::run_calls` meets its contract.
 use mathlib.Core.Path.{_≡_}
 use borrow.Author.Needs.{needs}
 use lib.ListN.{length}
 use Rattle.yard_io.proofs.run_calls.Statement.{statement}
 use Rattle.yard_io.proofs.run_calls.Tie as tie
-use Rattle.yard_io.proofs.run_calls.Reads as reads
-use Rattle.yard_io.proofs.run_calls.Lts as lts
-use Rattle.yard_io.proofs.turn.Reads as turn-reads
 
 abbrev Inv-loop : tie.InvT-loop
 Inv-loop keys store₀ out₀ input₀ r₀ turns₀ store out input r turns = (20328 ≡ length store) × (23429 ≡ length out) × (65538 ≡ length input)

@@ -1,3 +1,4 @@
+-- `yard_io::told_length` meets its contract.
 use borrow.Author.Needs.{needs}
 use Rattle.yard_io.proofs.told_length.Statement.{statement}
 use Rattle.yard_io.proofs.told_length.Tie as tie

@@ -1,3 +1,4 @@
+-- `confirmer::calls::step` meets its contract.
 use mathlib.Core.Path.{sym, _∙_}
 use denote.Ref.{now}
 use lib.Seq.{length-take-le}
@@ -10,33 +11,19 @@ use Rattle.confirmer.specs.Returns.{room-within, part-ready, end-small, 
 use borrow.Author.Needs.{needs}
 use Rattle.confirmer.proofs.calls.step.Statement.{statement}
 use Rattle.confirmer.proofs.calls.step.Tie as tie
-use Rattle.confirmer.proofs.calls.step.Reads as reads
-use Rattle.confirmer.proofs.calls.step.Lts as lts
-use Rattle.confirmer.proofs.calls.done.Reads as done-reads
-use Rattle.confirmer.proofs.calls.turned_back.Reads as turned-back-reads
-use Rattle.confirmer.proofs.refusals.message_refusal.Reads as message-refusal-reads
-use Rattle.confirmer.proofs.refusals.out_length.Reads as out-length-reads
-use Rattle.confirmer.proofs.refusals.record_refusal.Reads as record-refusal-reads
-use Rattle.phases.proofs.steps.step_phase.Reads as step-phase-reads
-use Rattle.wire.proofs.read.classify.Reads as classify-reads
 
--- src/calls.rt:74:9
 record-refusal-requires : tie.Need-record-refusal-requires
 record-refusal-requires c κs = search needs
 
--- src/calls.rt:76:9
 turned-back-requires : tie.Need-turned-back-requires
 turned-back-requires c κs = search needs
 
--- src/calls.rt:76:9
 same-length : tie.Need-same-length
 same-length c = search needs
 
--- src/calls.rt:76:9
 same-length-2 : tie.Need-same-length-2
 same-length-2 c = search needs
 
--- src/calls.rt:76:9
 returns : tie.Need-returns
 returns c =
     let args = c .before .before .before .before .before .before .before .before .before .args in
@@ -50,7 +37,6 @@ returns c =
     let left = refused-given keys (args .r) store out (messageConditions check (args .r) m) (stepped m) (step check keys (args .r) store bytes out) (step-is check keys (args .r) store bytes out) (first .result) (first .ensures) (c .before .if1 .taken) in
     (c .turned-back .ensures ∙ left .0, left .1)
 
--- src/calls.rt:78:9
 classify-requires : tie.Need-classify-requires
 classify-requires c κs =
     let args = c .before .before .before .before .before .before .before .before .args in
@@ -62,7 +48,6 @@ classify-requires c κs =
     let range = given-ready keys (args .r) store out g .possible .range in
     (range .some, range .most)
 
--- src/calls.rt:79:9
 message-refusal-requires : tie.Need-message-refusal-requires
 message-refusal-requires c κs =
     let args = c .before .before .before .before .before .before .before .before .before .args in
@@ -73,19 +58,15 @@ message-refusal-requires c κs =
     let g = given keys (args .r) store out (first .result) (first .ensures) (c .before .if1 .left) in
     (given-ready keys (args .r) store out g .possible .range, g .table, c .classify .ensures)
 
--- src/calls.rt:81:9
 turned-back-requires-2 : tie.Need-turned-back-requires-2
 turned-back-requires-2 c κs = search needs
 
--- src/calls.rt:81:9
 same-length-3 : tie.Need-same-length-3
 same-length-3 c = search needs
 
--- src/calls.rt:81:9
 same-length-4 : tie.Need-same-length-4
 same-length-4 c = search needs
 
--- src/calls.rt:81:9
 returns-2 : tie.Need-returns-2
 returns-2 c =
     let args = c .before .before .before .before .before .before .before .before .before .before .before .before .args in
@@ -101,7 +82,6 @@ returns-2 c =
     let left = refused-rest keys (args .r) store out (messageConditions check (args .r) m) (stepped m) (step check keys (args .r) store bytes out) (step-is check keys (args .r) store bytes out) g (later .result) (later .ensures) (c .before .if2 .taken) in
     (c .turned-back2 .ensures ∙ left .0, left .1)
 
--- src/calls.rt:83:9
 out-length-requires : tie.Need-out-length-requires
 out-length-requires c κs =
     let args = c .before .before .before .before .before .before .before .before .before .before .before .args in
@@ -113,7 +93,6 @@ out-length-requires c κs =
     let range = given-ready keys (args .r) store out g .possible .range in
     (range .some, range .most)
 
--- src/calls.rt:84:34
 slice-relend-prefix-step-phase : tie.Need-slice-relend-prefix-step-phase
 slice-relend-prefix-step-phase c =
     let args = c .before .before .before .before .before .before .before .before .before .before .before .before .before .args in
@@ -125,7 +104,6 @@ slice-relend-prefix-step-phase c =
     let room = c .before .out-length in
     room-within keys (args .r) store out (room .result) (room .ensures) g
 
--- src/calls.rt:84:34
 slice-aggregate-step-phase : tie.Need-slice-aggregate-step-phase
 slice-aggregate-step-phase c =
     let args = c .before .before .before .before .before .before .before .before .before .before .before .before .before .before .args in
@@ -137,7 +115,6 @@ slice-aggregate-step-phase c =
     let room = c .before .before .out-length in
     sym (length-take-le (room .result) out (room-within keys (args .r) store out (room .result) (room .ensures) g))
 
--- src/calls.rt:84:9
 step-phase-requires : tie.Need-step-phase-requires
 step-phase-requires c κs =
     let args = c .before .before .before .before .before .before .before .before .before .before .before .before .before .before .args in
@@ -154,7 +131,6 @@ step-phase-requires c κs =
     let sound = message-unrefused check (args .r) m (later .result) (later .ensures) (c .before .before .before .if2 .left) in
     (part-ready keys (args .r) store out (room .result) (room .ensures) g, c .before .before .before .before .before .classify .ensures, sound .0, sound .1)
 
--- src/calls.rt:85:5
 done-requires : tie.Need-done-requires
 done-requires c κs =
     let args = c .before .before .before .before .before .before .before .before .before .before .before .before .before .before .before .before .before .before .before .args in
@@ -170,15 +146,12 @@ done-requires c κs =
     let did = c .before .before .before .before .step-phase in
     end-small (stepped m) keys (args .r) store out (room .result) (room .ensures) g (did .result .unit) (did .last .1 .0) (did .last .1 .1 .0) (did .result .at) (did .ensures) (did .kept .1 .1 .0)
 
--- src/calls.rt:69:1
 same-length-5 : tie.Need-same-length-5
 same-length-5 c = search needs
 
--- src/calls.rt:69:1
 same-length-6 : tie.Need-same-length-6
 same-length-6 c = search needs
 
--- src/calls.rt:69:1
 returns-3 : tie.Need-returns-3
 returns-3 c =
     let args = c .before .before .before .before .before .before .before .before .before .before .before .before .before .before .before .before .before .before .before .before .args in

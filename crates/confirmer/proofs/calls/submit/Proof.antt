@@ -1,3 +1,4 @@
+-- `confirmer::calls::submit` meets its contract.
 use mathlib.Core.Path.{sym, _∙_}
 use denote.Ref.{now}
 use lib.Seq.{length-take-le}
@@ -9,32 +10,19 @@ use Rattle.confirmer.specs.Returns.{room-within, part-ready, end-small, 
 use borrow.Author.Needs.{needs}
 use Rattle.confirmer.proofs.calls.submit.Statement.{statement}
 use Rattle.confirmer.proofs.calls.submit.Tie as tie
-use Rattle.confirmer.proofs.calls.submit.Reads as reads
-use Rattle.confirmer.proofs.calls.submit.Lts as lts
-use Rattle.confirmer.proofs.calls.done.Reads as done-reads
-use Rattle.confirmer.proofs.calls.turned_back.Reads as turned-back-reads
-use Rattle.confirmer.proofs.refusals.out_length.Reads as out-length-reads
-use Rattle.confirmer.proofs.refusals.own_refusal.Reads as own-refusal-reads
-use Rattle.confirmer.proofs.refusals.record_refusal.Reads as record-refusal-reads
-use Rattle.phases.proofs.steps.submit_phase.Reads as submit-phase-reads
 
--- src/calls.rt:55:9
 record-refusal-requires : tie.Need-record-refusal-requires
 record-refusal-requires c κs = search needs
 
--- src/calls.rt:57:9
 turned-back-requires : tie.Need-turned-back-requires
 turned-back-requires c κs = search needs
 
--- src/calls.rt:57:9
 same-length : tie.Need-same-length
 same-length c = search needs
 
--- src/calls.rt:57:9
 same-length-2 : tie.Need-same-length-2
 same-length-2 c = search needs
 
--- src/calls.rt:57:9
 returns : tie.Need-returns
 returns c =
     let args = c .before .before .before .before .before .before .before .before .before .before .args in
@@ -48,7 +36,6 @@ returns c =
     let left = refused-given keys (args .r) store out (ownConditions check (args .r) value signature) (submitted value signature) (submit check keys (args .r) store value signature out) (submit-is check keys (args .r) store value signature out) (first .result) (first .ensures) (c .before .if1 .taken) in
     (c .turned-back .ensures ∙ left .0, left .1)
 
--- src/calls.rt:59:9
 own-refusal-requires : tie.Need-own-refusal-requires
 own-refusal-requires c κs =
     let args = c .before .before .before .before .before .before .before .before .before .args in
@@ -59,19 +46,15 @@ own-refusal-requires c κs =
     let g = given keys (args .r) store out (first .result) (first .ensures) (c .if1 .left) in
     (given-ready keys (args .r) store out g .possible .range, g .table)
 
--- src/calls.rt:61:9
 turned-back-requires-2 : tie.Need-turned-back-requires-2
 turned-back-requires-2 c κs = search needs
 
--- src/calls.rt:61:9
 same-length-3 : tie.Need-same-length-3
 same-length-3 c = search needs
 
--- src/calls.rt:61:9
 same-length-4 : tie.Need-same-length-4
 same-length-4 c = search needs
 
--- src/calls.rt:61:9
 returns-2 : tie.Need-returns-2
 returns-2 c =
     let args = c .before .before .before .before .before .before .before .before .before .before .before .before .args in
@@ -87,7 +70,6 @@ returns-2 c =
     let left = refused-rest keys (args .r) store out (ownConditions check (args .r) value signature) (submitted value signature) (submit check keys (args .r) store value signature out) (submit-is check keys (args .r) store value signature out) g (later .result) (later .ensures) (c .before .if2 .taken) in
     (c .turned-back2 .ensures ∙ left .0, left .1)
 
--- src/calls.rt:63:9
 out-length-requires : tie.Need-out-length-requires
 out-length-requires c κs =
     let args = c .before .before .before .before .before .before .before .before .before .before .before .args in
@@ -99,7 +81,6 @@ out-length-requires c κs =
     let range = given-ready keys (args .r) store out g .possible .range in
     (range .some, range .most)
 
--- src/calls.rt:64:36
 slice-relend-prefix-submit-phase : tie.Need-slice-relend-prefix-submit-phase
 slice-relend-prefix-submit-phase c =
     let args = c .before .before .before .before .before .before .before .before .before .before .before .before .before .args in
@@ -111,7 +92,6 @@ slice-relend-prefix-submit-phase c =
     let room = c .before .out-length in
     room-within keys (args .r) store out (room .result) (room .ensures) g
 
--- src/calls.rt:64:36
 slice-aggregate-submit-phase : tie.Need-slice-aggregate-submit-phase
 slice-aggregate-submit-phase c =
     let args = c .before .before .before .before .before .before .before .before .before .before .before .before .before .before .args in
@@ -123,7 +103,6 @@ slice-aggregate-submit-phase c =
     let room = c .before .before .out-length in
     sym (length-take-le (room .result) out (room-within keys (args .r) store out (room .result) (room .ensures) g))
 
--- src/calls.rt:64:9
 submit-phase-requires : tie.Need-submit-phase-requires
 submit-phase-requires c κs =
     let args = c .before .before .before .before .before .before .before .before .before .before .before .before .before .before .args in
@@ -141,7 +120,6 @@ submit-phase-requires c κs =
     let long = right-lengths value signature (sound .1) in
     (part-ready keys (args .r) store out (room .result) (room .ensures) g, sound .0, long .0, long .1)
 
--- src/calls.rt:65:5
 done-requires : tie.Need-done-requires
 done-requires c κs =
     let args = c .before .before .before .before .before .before .before .before .before .before .before .before .before .before .before .before .before .before .before .args in
@@ -157,15 +135,12 @@ done-requires c κs =
     let did = c .before .before .before .before .submit-phase in
     end-small (submitted value signature) keys (args .r) store out (room .result) (room .ensures) g (did .result .unit) (did .last .1 .0) (did .last .1 .1 .0) (did .result .at) (did .ensures) (did .kept .1 .1 .0)
 
--- src/calls.rt:43:1
 same-length-5 : tie.Need-same-length-5
 same-length-5 c = search needs
 
--- src/calls.rt:43:1
 same-length-6 : tie.Need-same-length-6
 same-length-6 c = search needs
 
--- src/calls.rt:43:1
 returns-3 : tie.Need-returns-3
 returns-3 c =
     let args = c .before .before .before .before .before .before .before .before .before .before .before .before .before .before .before .before .before .before .before .before .args in

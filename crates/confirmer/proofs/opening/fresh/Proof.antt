@@ -1,12 +1,10 @@
+-- `confirmer::opening::fresh` meets its contract.
 use mathlib.Core.Path.{refl}
 use Rattle.protocol.specs.Values.{unset}
 use Rattle.protocol.specs.Record.{fresh}
 use Rattle.confirmer.proofs.opening.fresh.Statement.{statement}
 use Rattle.confirmer.proofs.opening.fresh.Tie as tie
-use Rattle.confirmer.proofs.opening.fresh.Reads as reads
-use Rattle.confirmer.proofs.opening.fresh.Lts as lts
 
--- src/opening.rt:15:1
 returns : tie.Need-returns
 unfolding fresh unset
 returns c = refl

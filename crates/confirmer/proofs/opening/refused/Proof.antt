@@ -1,3 +1,4 @@
+-- `confirmer::opening::refused` meets its contract.
 use mathlib.Core.Path.{_≡_, sym, _∙_}
 use mathlib.Core.Bool.{true, false}
 use denote.Ref.{now}
@@ -8,18 +9,10 @@ use Rattle.fleet.specs.Laws.{size-most}
 use borrow.Author.Needs.{needs}
 use Rattle.confirmer.proofs.opening.refused.Statement.{statement}
 use Rattle.confirmer.proofs.opening.refused.Tie as tie
-use Rattle.confirmer.proofs.opening.refused.Reads as reads
-use Rattle.confirmer.proofs.opening.refused.Lts as lts
-use Rattle.fleet.proofs.wrong_keys.Reads as wrong-keys-reads
-use Rattle.fleet.proofs.wrong_round.Reads as wrong-round-reads
-use Rattle.fleet.proofs.wrong_seat.Reads as wrong-seat-reads
-use Rattle.fleet.proofs.wrong_size.Reads as wrong-size-reads
 
--- src/opening.rt:46:8
 wrong-size-requires : tie.Need-wrong-size-requires
 wrong-size-requires c κs = search needs
 
--- src/opening.rt:47:9
 returns : tie.Need-returns
 unfolding openingConditions lowest
 returns c =
@@ -27,11 +20,9 @@ returns c =
     let t0 : wrongSize (args .n) ≡ true = sym (c .before .wrong-size .ensures) ∙ c .if1 .taken in
     rw (t0)
 
--- src/opening.rt:49:8
 wrong-seat-requires : tie.Need-wrong-seat-requires
 wrong-seat-requires c κs = search needs
 
--- src/opening.rt:50:9
 returns-2 : tie.Need-returns-2
 unfolding openingConditions lowest
 returns-2 c =
@@ -40,11 +31,9 @@ returns-2 c =
     let t1 : wrongSeat (args .n) (args .seat) ≡ true = sym (c .before .wrong-seat .ensures) ∙ c .if2 .taken in
     rw (t0, t1)
 
--- src/opening.rt:52:8
 wrong-round-requires : tie.Need-wrong-round-requires
 wrong-round-requires c κs = search needs
 
--- src/opening.rt:53:9
 returns-3 : tie.Need-returns-3
 unfolding openingConditions lowest
 returns-3 c =
@@ -54,14 +43,12 @@ returns-3 c =
     let t2 : wrongRound (args .round) ≡ true = sym (c .before .wrong-round .ensures) ∙ c .if3 .taken in
     rw (t0, t1, t2)
 
--- src/opening.rt:55:8
 wrong-keys-requires : tie.Need-wrong-keys-requires
 wrong-keys-requires c κs =
     let sized = c .before .before .before .before in
     let right : wrongSize (sized .before .before .before .args .n) ≡ false = sym (sized .before .wrong-size .ensures) ∙ sized .if1 .left in
     size-most (sized .before .before .before .args .n) right
 
--- src/opening.rt:56:9
 returns-4 : tie.Need-returns-4
 unfolding openingConditions lowest
 returns-4 c =
@@ -72,7 +59,6 @@ returns-4 c =
     let t3 : wrongKeys (args .n) (now (args .keys)) ≡ true = sym (c .before .wrong-keys .ensures) ∙ c .if4 .taken in
     rw (t0, t1, t2, t3)
 
--- src/opening.rt:43:1
 returns-5 : tie.Need-returns-5
 unfolding openingConditions lowest
 returns-5 c =

@@ -1,55 +1,38 @@
+-- `confirmer::record::is_impossible` meets its contract.
 use mathlib.Core.Path.{sym, _∙_}
 use Rattle.phases.specs.Records.{in-range}
 use Rattle.confirmer.specs.Impossible.{impossible-range, impossible-parts}
 use borrow.Author.Needs.{needs}
 use Rattle.confirmer.proofs.record.is_impossible.Statement.{statement}
 use Rattle.confirmer.proofs.record.is_impossible.Tie as tie
-use Rattle.confirmer.proofs.record.is_impossible.Reads as reads
-use Rattle.confirmer.proofs.record.is_impossible.Lts as lts
-use Rattle.phases.proofs.bools.either.Reads as either-reads
-use Rattle.confirmer.proofs.record.out_of_range.Reads as out-of-range-reads
-use Rattle.confirmer.proofs.record.wrong_guilty.Reads as wrong-guilty-reads
-use Rattle.confirmer.proofs.record.wrong_parts.Reads as wrong-parts-reads
-use Rattle.confirmer.proofs.record.wrong_sent.Reads as wrong-sent-reads
-use Rattle.confirmer.proofs.record.wrong_unset.Reads as wrong-unset-reads
 
--- src/record.rt:145:8
 out-of-range-requires : tie.Need-out-of-range-requires
 out-of-range-requires c κs = search needs
 
--- src/record.rt:146:9
 returns : tie.Need-returns
 returns c = impossible-range (c .before .before .args .r) (sym (c .before .out-of-range .ensures) ∙ c .if1 .taken)
 
--- src/record.rt:148:9
 wrong-parts-requires : tie.Need-wrong-parts-requires
 wrong-parts-requires c κs = in-range (c .before .before .args .r) (sym (c .before .out-of-range .ensures) ∙ c .if1 .left)
 
--- src/record.rt:149:9
 wrong-guilty-requires : tie.Need-wrong-guilty-requires
 wrong-guilty-requires c κs = search needs
 
--- src/record.rt:150:9
 wrong-sent-requires : tie.Need-wrong-sent-requires
 wrong-sent-requires c κs = search needs
 
--- src/record.rt:151:9
 wrong-unset-requires : tie.Need-wrong-unset-requires
 wrong-unset-requires c κs = search needs
 
--- src/record.rt:152:19
 either-requires : tie.Need-either-requires
 either-requires c κs = search needs
 
--- src/record.rt:152:12
 either-requires-2 : tie.Need-either-requires-2
 either-requires-2 c κs = search needs
 
--- src/record.rt:152:5
 either-requires-3 : tie.Need-either-requires-3
 either-requires-3 c κs = search needs
 
--- src/record.rt:142:1
 returns-2 : tie.Need-returns-2
 returns-2 c =
     let tests = c .before .before .before in

@@ -1,3 +1,4 @@
+-- `confirmer::refusals::is_early` meets its contract.
 use mathlib.Core.Path.{sym, _∙_}
 use denote.Ref.{now}
 use Rattle.wire.proofs.Tags.{tags}
@@ -5,20 +6,15 @@ use Rattle.confirmer.specs.Refused.{early-submit, never-early}
 use borrow.Author.Needs.{needs}
 use Rattle.confirmer.proofs.refusals.is_early.Statement.{statement}
 use Rattle.confirmer.proofs.refusals.is_early.Tie as tie
-use Rattle.confirmer.proofs.refusals.is_early.Reads as reads
-use Rattle.confirmer.proofs.refusals.is_early.Lts as lts
 
--- src/refusals.rt:118:25
 enum-told : tie.Need-enum-told
 enum-told c = search needs
 
--- src/refusals.rt:113:1
 returns : tie.Need-returns
 returns c =
     let start = c .before .before .before in
     early-submit (start .args .r .n) (now (start .args .m)) (start .args .r) (sym (c .before .enum-told .given .1) ∙ start .pre)
 
--- src/refusals.rt:113:1
 returns-2 : tie.Need-returns-2
 returns-2 c =
     let args = c .before .args in

@@ -1,18 +1,15 @@
+-- `confirmer::refusals::is_for_step` meets its contract.
 use denote.Ref.{now}
 use Rattle.wire.proofs.Tags.{tags}
 use Rattle.confirmer.specs.Refused.{for-step, not-for-step}
 use Rattle.confirmer.proofs.refusals.is_for_step.Statement.{statement}
 use Rattle.confirmer.proofs.refusals.is_for_step.Tie as tie
-use Rattle.confirmer.proofs.refusals.is_for_step.Reads as reads
-use Rattle.confirmer.proofs.refusals.is_for_step.Lts as lts
 
--- src/refusals.rt:102:1
 returns : tie.Need-returns
 returns c =
     let args = c .before .args in
     for-step (args .n) (now (args .m)) (args .kind) (c .before .pre) (rw (tags (args .kind)) at (c .match .keys1))
 
--- src/refusals.rt:102:1
 returns-2 : tie.Need-returns-2
 returns-2 c =
     let args = c .before .args in

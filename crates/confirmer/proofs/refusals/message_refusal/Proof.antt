@@ -1,3 +1,4 @@
+-- `confirmer::refusals::message_refusal` meets its contract.
 use mathlib.Core.Path.{sym, _∙_}
 use denote.Ref.{now}
 use Rattle.rfc8554.specs.Calls.{checks}
@@ -6,23 +7,13 @@ use Rattle.confirmer.specs.Refused.{message-garbled, message-formed, mes
 use borrow.Author.Needs.{needs}
 use Rattle.confirmer.proofs.refusals.message_refusal.Statement.{statement}
 use Rattle.confirmer.proofs.refusals.message_refusal.Tie as tie
-use Rattle.confirmer.proofs.refusals.message_refusal.Reads as reads
-use Rattle.confirmer.proofs.refusals.message_refusal.Lts as lts
-use Rattle.confirmer.proofs.refusals.is_early.Reads as is-early-reads
-use Rattle.confirmer.proofs.refusals.is_for_step.Reads as is-for-step-reads
-use Rattle.sha256.proofs.constants.round_constants.Reads as round-constants-reads
-use Rattle.validate.proofs.form_refusal.Reads as form-refusal-reads
-use Rattle.validate.proofs.has_bad_signature.Reads as has-bad-signature-reads
 
--- src/refusals.rt:128:9
 is-for-step-requires : tie.Need-is-for-step-requires
 is-for-step-requires c κs = search needs
 
--- src/refusals.rt:129:9
 form-refusal-requires : tie.Need-form-refusal-requires
 form-refusal-requires c κs = search needs
 
--- src/refusals.rt:131:9
 returns : tie.Need-returns
 returns c =
     let start = c .before .before .before .before .before in
@@ -33,11 +24,9 @@ returns c =
     let form = c .before .form-refusal in
     message-garbled check (args .r) m (taken .result) (taken .ensures) (form .result) (form .ensures) (c .if1 .taken)
 
--- src/refusals.rt:133:8
 is-early-requires : tie.Need-is-early-requires
 is-early-requires c κs = search needs
 
--- src/refusals.rt:134:9
 returns-2 : tie.Need-returns-2
 returns-2 c =
     let start = c .before .before .before .before .before .before .before in
@@ -49,11 +38,9 @@ returns-2 c =
     let formed = message-formed check (args .r) m (taken .result) (taken .ensures) (form .result) (form .ensures) (c .before .before .if1 .left) in
     message-early check (args .r) m formed (sym (c .before .is-early .ensures) ∙ c .if2 .taken)
 
--- src/refusals.rt:136:13
 round-constants-requires : tie.Need-round-constants-requires
 round-constants-requires c κs = search needs
 
--- src/refusals.rt:137:8
 has-bad-signature-requires : tie.Need-has-bad-signature-requires
 has-bad-signature-requires c κs =
     let start = c .before .before .before .before .before .before .before .before .before in
@@ -66,7 +53,6 @@ has-bad-signature-requires c κs =
     let range = start .pre .0 in
     (c .before .round-constants .ensures, range .some, range .most, start .pre .1, range .round, start .pre .2, formed .known)
 
--- src/refusals.rt:138:9
 returns-3 : tie.Need-returns-3
 returns-3 c =
     let start = c .before .before .before .before .before .before .before .before .before .before .before in
@@ -78,7 +64,6 @@ returns-3 c =
     let formed = message-formed check (args .r) m (taken .result) (taken .ensures) (form .result) (form .ensures) (c .before .before .before .before .before .before .if1 .left) in
     message-bad check (args .r) m formed (sym (c .before .before .before .before .before .is-early .ensures) ∙ c .before .before .before .before .if2 .left) (sym (c .before .has-bad-signature .ensures) ∙ c .if3 .taken)
 
--- src/refusals.rt:124:1
 returns-4 : tie.Need-returns-4
 returns-4 c =
     let start = c .before .before .before .before .before .before .before .before .before .before .before in

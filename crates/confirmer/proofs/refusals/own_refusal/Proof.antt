@@ -1,3 +1,4 @@
+-- `confirmer::refusals::own_refusal` meets its contract.
 use mathlib.Core.Path.{sym, _∙_}
 use denote.Ref.{now}
 use borrow.Author.Tests.{not-true, not-false}
@@ -7,13 +8,7 @@ use Rattle.confirmer.specs.Refused.{right-lengths, own-said, own-lengths
 use borrow.Author.Needs.{needs}
 use Rattle.confirmer.proofs.refusals.own_refusal.Statement.{statement}
 use Rattle.confirmer.proofs.refusals.own_refusal.Tie as tie
-use Rattle.confirmer.proofs.refusals.own_refusal.Reads as reads
-use Rattle.confirmer.proofs.refusals.own_refusal.Lts as lts
-use Rattle.confirmer.proofs.refusals.wrong_lengths.Reads as wrong-lengths-reads
-use Rattle.fleet.proofs.seat_checks.Reads as seat-checks-reads
-use Rattle.sha256.proofs.constants.round_constants.Reads as round-constants-reads
 
--- src/refusals.rt:78:9
 returns : tie.Need-returns
 unfolding said
 returns c =
@@ -24,11 +19,9 @@ returns c =
     let signature = now (args .signature) in
     own-said check (args .r) value signature (c .if1 .taken)
 
--- src/refusals.rt:80:8
 wrong-lengths-requires : tie.Need-wrong-lengths-requires
 wrong-lengths-requires c κs = search needs
 
--- src/refusals.rt:81:9
 returns-2 : tie.Need-returns-2
 unfolding said
 returns-2 c =
@@ -39,11 +32,9 @@ returns-2 c =
     let signature = now (args .signature) in
     own-lengths check (args .r) value signature (c .before .before .if1 .left) (sym (c .before .wrong-lengths .ensures) ∙ c .if2 .taken)
 
--- src/refusals.rt:83:13
 round-constants-requires : tie.Need-round-constants-requires
 round-constants-requires c κs = search needs
 
--- src/refusals.rt:84:9
 seat-checks-requires : tie.Need-seat-checks-requires
 seat-checks-requires c κs =
     let start = c .before .before .before .before .before .before .before .before in
@@ -52,7 +43,6 @@ seat-checks-requires c κs =
     let long = right-lengths (now (args .value)) (now (args .signature)) (sym (c .before .before .before .wrong-lengths .ensures) ∙ c .before .before .if2 .left) in
     ((c .before .round-constants .ensures, range .most, start .pre .1, range .seated, range .round), long)
 
--- src/refusals.rt:85:9
 returns-3 : tie.Need-returns-3
 unfolding said
 returns-3 c =
@@ -63,7 +53,6 @@ returns-3 c =
     let signature = now (args .signature) in
     own-bad check (args .r) value signature (c .before .before .before .before .before .before .if1 .left) (sym (c .before .before .before .before .before .wrong-lengths .ensures) ∙ c .before .before .before .before .if2 .left) (sym (c .before .seat-checks .ensures) ∙ not-true _ (c .if3 .taken))
 
--- src/refusals.rt:73:1
 returns-4 : tie.Need-returns-4
 unfolding said
 returns-4 c =

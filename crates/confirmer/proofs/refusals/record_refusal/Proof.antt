@@ -1,3 +1,4 @@
+-- `confirmer::refusals::record_refusal` meets its contract.
 use mathlib.Core.Path.{_≡_, sym, _∙_}
 use mathlib.Core.Bool.{true, false}
 use denote.Ref.{now}
@@ -9,18 +10,10 @@ use Rattle.phases.specs.Possible.{possible}
 use borrow.Author.Needs.{needs}
 use Rattle.confirmer.proofs.refusals.record_refusal.Statement.{statement}
 use Rattle.confirmer.proofs.refusals.record_refusal.Tie as tie
-use Rattle.confirmer.proofs.refusals.record_refusal.Reads as reads
-use Rattle.confirmer.proofs.refusals.record_refusal.Lts as lts
-use Rattle.confirmer.proofs.record.is_impossible.Reads as is-impossible-reads
-use Rattle.confirmer.proofs.refusals.short_out.Reads as short-out-reads
-use Rattle.confirmer.proofs.refusals.short_store.Reads as short-store-reads
-use Rattle.fleet.proofs.wrong_keys.Reads as wrong-keys-reads
 
--- src/refusals.rt:48:8
 is-impossible-requires : tie.Need-is-impossible-requires
 is-impossible-requires c κs = search needs
 
--- src/refusals.rt:49:9
 returns : tie.Need-returns
 unfolding recordConditions lowest
 returns c =
@@ -28,14 +21,12 @@ returns c =
     let t0 : impossible (args .r) ≡ true = sym (c .before .is-impossible .ensures) ∙ c .if1 .taken in
     rw (t0)
 
--- src/refusals.rt:51:8
 wrong-keys-requires : tie.Need-wrong-keys-requires
 wrong-keys-requires c κs =
     let args = c .before .before .before .before .before .args in
     let sound : impossible (args .r) ≡ false = sym (c .before .is-impossible .ensures) ∙ c .if1 .left in
     possible (args .r) sound .range .most
 
--- src/refusals.rt:52:9
 returns-2 : tie.Need-returns-2
 unfolding recordConditions lowest
 returns-2 c =
@@ -44,14 +35,12 @@ returns-2 c =
     let t1 : wrongKeys (args .r .n) (now (args .keys)) ≡ true = sym (c .before .wrong-keys .ensures) ∙ c .if2 .taken in
     rw (t0, t1)
 
--- src/refusals.rt:54:8
 short-store-requires : tie.Need-short-store-requires
 short-store-requires c κs =
     let args = c .before .before .before .before .before .before .before .args in
     let sound : impossible (args .r) ≡ false = sym (c .before .before .before .is-impossible .ensures) ∙ c .before .before .if1 .left in
     possible (args .r) sound .range .most
 
--- src/refusals.rt:55:9
 returns-3 : tie.Need-returns-3
 unfolding recordConditions lowest
 returns-3 c =
@@ -61,14 +50,12 @@ returns-3 c =
     let t2 : shortStore (args .r .n) (now (args .store)) ≡ true = sym (c .before .short-store .ensures) ∙ c .if3 .taken in
     rw (t0, t1, t2)
 
--- src/refusals.rt:57:8
 short-out-requires : tie.Need-short-out-requires
 short-out-requires c κs =
     let args = c .before .before .before .before .before .before .before .before .before .args in
     let sound : impossible (args .r) ≡ false = sym (c .before .before .before .before .before .is-impossible .ensures) ∙ c .before .before .before .before .if1 .left in
     (possible (args .r) sound .range .some, possible (args .r) sound .range .most)
 
--- src/refusals.rt:58:9
 returns-4 : tie.Need-returns-4
 unfolding recordConditions lowest
 returns-4 c =
@@ -79,7 +66,6 @@ returns-4 c =
     let t3 : shortOut (outLength (args .r .n)) (now (args .out)) ≡ true = sym (c .before .short-out .ensures) ∙ c .if4 .taken in
     rw (t0, t1, t2, t3)
 
--- src/refusals.rt:45:1
 returns-5 : tie.Need-returns-5
 unfolding recordConditions lowest
 returns-5 c =

@@ -1,17 +1,14 @@
+-- `confirmer::refusals::short_store` meets its contract.
 use Rattle.protocol.specs.Layout.{storeLength}
 use Rattle.protocol.specs.Refusals.{shortStore}
 use mathlib.Core.Path.{refl}
 use borrow.Author.Needs.{needs}
 use Rattle.confirmer.proofs.refusals.short_store.Statement.{statement}
 use Rattle.confirmer.proofs.refusals.short_store.Tie as tie
-use Rattle.confirmer.proofs.refusals.short_store.Reads as reads
-use Rattle.confirmer.proofs.refusals.short_store.Lts as lts
 
--- src/refusals.rt:33:19
 mul-result : tie.Need-mul-result
 mul-result c = search needs
 
--- src/refusals.rt:29:1
 returns : tie.Need-returns
 unfolding shortStore storeLength
 returns c = refl

@@ -1,15 +1,12 @@
+-- `confirmer::refusals::wrong_lengths` meets its contract.
 use denote.Ref.{now}
 use Rattle.confirmer.specs.Refused.{value-wrong, signature-tested}
 use Rattle.confirmer.proofs.refusals.wrong_lengths.Statement.{statement}
 use Rattle.confirmer.proofs.refusals.wrong_lengths.Tie as tie
-use Rattle.confirmer.proofs.refusals.wrong_lengths.Reads as reads
-use Rattle.confirmer.proofs.refusals.wrong_lengths.Lts as lts
 
--- src/refusals.rt:68:9
 returns : tie.Need-returns
 returns c = value-wrong (now (c .before .args .value)) (now (c .before .args .signature)) (c .if1 .taken)
 
--- src/refusals.rt:64:1
 returns-2 : tie.Need-returns-2
 returns-2 c = signature-tested (now (c .before .args .value)) (now (c .before .args .signature)) (c .if1 .left)
 

@@ -1,38 +1,29 @@
+-- `evidence::certificates::equal_values` meets its contract.
 use denote.Ref.{now}
 use Rattle.evidence.specs.Making.{value-inside, value-is, equal-told}
 use borrow.Author.Needs.{needs}
 use Rattle.evidence.proofs.certificates.equal_values.Statement.{statement}
 use Rattle.evidence.proofs.certificates.equal_values.Tie as tie
-use Rattle.evidence.proofs.certificates.equal_values.Reads as reads
-use Rattle.evidence.proofs.certificates.equal_values.Lts as lts
-use Rattle.wire.proofs.values.same.Reads as same-reads
-use Rattle.wire.proofs.values.value_at.Reads as value-at-reads
 
--- src/certificates.rt:56:13
 value-at-requires : tie.Need-value-at-requires
 value-at-requires c κs =
     let start = c .before .before in
     value-inside (start .args .n) (start .args .round) (now (start .args .first)) (start .pre .0)
 
--- src/certificates.rt:57:13
 value-at-requires-2 : tie.Need-value-at-requires-2
 value-at-requires-2 c κs =
     let start = c .before .before .before in
     value-inside (start .args .n) (start .args .round) (now (start .args .second)) (start .pre .1)
 
--- src/certificates.rt:58:24
 slice-aggregate-same : tie.Need-slice-aggregate-same
 slice-aggregate-same c = search needs
 
--- src/certificates.rt:58:28
 slice-aggregate-same-2 : tie.Need-slice-aggregate-same-2
 slice-aggregate-same-2 c = search needs
 
--- src/certificates.rt:58:5
 same-requires : tie.Need-same-requires
 same-requires c κs = search needs
 
--- src/certificates.rt:52:1
 returns : tie.Need-returns
 returns c =
     let start = c .before .before .before .before .before .before .before in

@@ -1,38 +1,29 @@
+-- `evidence::certificates::first_is_lower` meets its contract.
 use denote.Ref.{now}
 use Rattle.evidence.specs.Making.{value-inside, value-is, lower-told}
 use borrow.Author.Needs.{needs}
 use Rattle.evidence.proofs.certificates.first_is_lower.Statement.{statement}
 use Rattle.evidence.proofs.certificates.first_is_lower.Tie as tie
-use Rattle.evidence.proofs.certificates.first_is_lower.Reads as reads
-use Rattle.evidence.proofs.certificates.first_is_lower.Lts as lts
-use Rattle.wire.proofs.values.lower.Reads as lower-reads
-use Rattle.wire.proofs.values.value_at.Reads as value-at-reads
 
--- src/certificates.rt:66:13
 value-at-requires : tie.Need-value-at-requires
 value-at-requires c κs =
     let start = c .before .before in
     value-inside (start .args .n) (start .args .round) (now (start .args .first)) (start .pre .first)
 
--- src/certificates.rt:67:13
 value-at-requires-2 : tie.Need-value-at-requires-2
 value-at-requires-2 c κs =
     let start = c .before .before .before in
     value-inside (start .args .n) (start .args .round) (now (start .args .second)) (start .pre .second)
 
--- src/certificates.rt:68:25
 slice-aggregate-lower : tie.Need-slice-aggregate-lower
 slice-aggregate-lower c = search needs
 
--- src/certificates.rt:68:29
 slice-aggregate-lower-2 : tie.Need-slice-aggregate-lower-2
 slice-aggregate-lower-2 c = search needs
 
--- src/certificates.rt:68:5
 lower-requires : tie.Need-lower-requires
 lower-requires c κs = search needs
 
--- src/certificates.rt:62:1
 returns : tie.Need-returns
 returns c =
     let start = c .before .before .before .before .before .before .before in

@@ -1,3 +1,4 @@
+-- `evidence::certificates::write_conflict` meets its contract.
 use lib.ListN.{length}
 use native.Mathlib.Omega.{arith}
 use denote.Ref.{now}
@@ -13,13 +14,7 @@ use Rattle.evidence.specs.Making.{value-inside, readable, sized, certifi
 use borrow.Author.Needs.{needs}
 use Rattle.evidence.proofs.certificates.write_conflict.Statement.{statement}
 use Rattle.evidence.proofs.certificates.write_conflict.Tie as tie
-use Rattle.evidence.proofs.certificates.write_conflict.Reads as reads
-use Rattle.evidence.proofs.certificates.write_conflict.Lts as lts
-use Rattle.wire.proofs.read.entry_set.Reads as entry-set-reads
-use Rattle.wire.proofs.values.value_at.Reads as value-at-reads
-use Rattle.wire.proofs.write.write_evidence.Reads as write-evidence-reads
 
--- src/certificates.rt:96:14
 value-at-requires : tie.Need-value-at-requires
 value-at-requires c κs =
     let start = c .before .before .before in
@@ -30,7 +25,6 @@ value-at-requires c κs =
     let conflict = start .pre .2 in
     value-inside n round a (conflict .first)
 
--- src/certificates.rt:97:14
 value-at-requires-2 : tie.Need-value-at-requires-2
 value-at-requires-2 c κs =
     let start = c .before .before .before .before in
@@ -41,7 +35,6 @@ value-at-requires-2 c κs =
     let conflict = start .pre .2 in
     value-inside n round b (conflict .second)
 
--- src/certificates.rt:101:16
 entry-set-requires : tie.Need-entry-set-requires
 entry-set-requires c κs =
     let start = c .before .before .before .before .before in
@@ -52,7 +45,6 @@ entry-set-requires c κs =
     let conflict = start .pre .2 in
     (start .pre .0, start .pre .1, full-kind (read n a) (conflict .first .is), conflict .first .known)
 
--- src/certificates.rt:106:16
 entry-set-requires-2 : tie.Need-entry-set-requires-2
 entry-set-requires-2 c κs =
     let start = c .before .before .before .before .before .before in
@@ -63,15 +55,12 @@ entry-set-requires-2 c κs =
     let conflict = start .pre .2 in
     (start .pre .0, start .pre .1, full-kind (read n b) (conflict .second .is), conflict .second .known)
 
--- src/certificates.rt:108:61
 slice-aggregate-write-evidence : tie.Need-slice-aggregate-write-evidence
 slice-aggregate-write-evidence c = search needs
 
--- src/certificates.rt:108:76
 slice-aggregate-write-evidence-2 : tie.Need-slice-aggregate-write-evidence-2
 slice-aggregate-write-evidence-2 c = search needs
 
--- src/certificates.rt:108:9
 write-evidence-requires : tie.Need-write-evidence-requires
 write-evidence-requires c κs =
     let start = c .before .before .before .before .before .before .before .before .before .before in
@@ -84,7 +73,6 @@ write-evidence-requires c κs =
     let sb = c .before .before .before .entry-set2 in
     (start .pre .1, search needs, readable n round a (conflict .first) (sa .result) (sa .ensures), search needs, readable n round b (conflict .second) (sb .result) (sb .ensures), evidence-room n (sa .result) (sb .result) (length (now (start .args .out))) (sized n round a (conflict .first) (sa .result) (sa .ensures)) (start .pre .3))
 
--- src/certificates.rt:109:5
 cast-result : tie.Need-cast-result
 unfolding evidenceLength evidenceEntryAt evidenceEntryLength k
 cast-result c =
@@ -98,11 +86,9 @@ cast-result c =
     let sb = c .before .before .before .before .before .before .entry-set2 in
     omega (arith, size-shared-le (sa .result) (sb .result), sized n round a (conflict .first) (sa .result) (sa .ensures), c .before .before .write-evidence .ensures .1)
 
--- src/certificates.rt:92:1
 same-length : tie.Need-same-length
 same-length c = search needs
 
--- src/certificates.rt:92:1
 returns : tie.Need-returns
 returns c =
     let start = c .before .before .before .before .before .before .before .before .before .before .before .before .before in

@@ -2,7 +2,6 @@
 use mathlib.Core.Path.{_≡_, refl, subst}
 use Prim.Native.Nat.{ℕ, _-_, _≤_}
 use native.Mathlib.Omega.{arith}
-use borrow.Author.Needs.{needs}
 use denote.Ref.{now}
 use Rattle.lmots.specs.Sixteen.{Numbered}
 use Rattle.lmots.specs.SixteenLaws.{numbered-none, numbered-turn}

@@ -1,3 +1,4 @@
+-- `lms::calls::check_signature` meets its contract.
 use mathlib.Core.Path.{sym, _∙_}
 use borrow.Author.Needs.{needs}
 use denote.Ref.{now}
@@ -5,11 +6,6 @@ use Rattle.lms.specs.Refused.{key-fits}
 use Rattle.lms.specs.Called.{check-key, check-message, check-valid, check-invalid}
 use Rattle.lms.proofs.calls.check_signature.Statement.{statement}
 use Rattle.lms.proofs.calls.check_signature.Tie as tie
-use Rattle.lms.proofs.calls.check_signature.Reads as reads
-use Rattle.lms.proofs.calls.check_signature.Lts as lts
-use Rattle.lms.proofs.verify.key_refused.Reads as key-refused-reads
-use Rattle.lms.proofs.verify.verified.Reads as verified-reads
-use Rattle.sha256.proofs.constants.round_constants.Reads as round-constants-reads
 
 key-refused-requires : tie.Need-key-refused-requires
 key-refused-requires c κs = search needs

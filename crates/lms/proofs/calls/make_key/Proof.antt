@@ -1,3 +1,4 @@
+-- `lms::calls::make_key` meets its contract.
 use mathlib.Core.Path.{refl, sym}
 use borrow.Author.Needs.{needs}
 use denote.Ref.{now}
@@ -8,10 +9,6 @@ use Rattle.rfc8554.specs.VerifyLaws.{length-publicKey}
 use Rattle.lms.specs.Called.{key-refused, key-room}
 use Rattle.lms.proofs.calls.make_key.Statement.{statement}
 use Rattle.lms.proofs.calls.make_key.Tie as tie
-use Rattle.lms.proofs.calls.make_key.Reads as reads
-use Rattle.lms.proofs.calls.make_key.Lts as lts
-use Rattle.lms.proofs.calls.make_key_refusal.Reads as make-key-refusal-reads
-use Rattle.lms.proofs.tree.make.Reads as make-reads
 
 make-key-refusal-requires : tie.Need-make-key-refusal-requires
 make-key-refusal-requires c κs = search needs

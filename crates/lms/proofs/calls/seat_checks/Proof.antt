@@ -1,3 +1,4 @@
+-- `lms::calls::seat_checks` meets its contract.
 use native.Mathlib.Omega.{arith}
 use borrow.Author.Needs.{needs}
 use denote.Ref.{now}
@@ -5,12 +6,6 @@ use Rattle.rfc8554.specs.Calls.{signatureBytes, seatKey}
 use Rattle.lms.specs.Called.{length-seatKey, seat-key, leaf-differs, leaf-agrees}
 use Rattle.lms.proofs.calls.seat_checks.Statement.{statement}
 use Rattle.lms.proofs.calls.seat_checks.Tie as tie
-use Rattle.lms.proofs.calls.seat_checks.Reads as reads
-use Rattle.lms.proofs.calls.seat_checks.Lts as lts
-use Rattle.lms.proofs.calls.signed_bytes.Reads as signed-bytes-reads
-use Rattle.lms.proofs.node.bytes_at.Reads as bytes-at-reads
-use Rattle.lms.proofs.verify.verified.Reads as verified-reads
-use Rattle.octets.proofs.word_at.Reads as word-at-reads
 
 word-at-requires : tie.Need-word-at-requires
 unfolding signatureBytes

@@ -1,3 +1,4 @@
+-- `lms::calls::sign` meets its contract.
 use mathlib.Core.Path.{refl, sym}
 use native.Mathlib.Omega.{arith}
 use borrow.Author.Needs.{needs}
@@ -8,10 +9,6 @@ use Rattle.rfc8554.specs.Calls.{signatureBytes, treeBytes, messageLimit}
 use Rattle.lms.specs.Called.{signer-refused, signer-room}
 use Rattle.lms.proofs.calls.sign.Statement.{statement}
 use Rattle.lms.proofs.calls.sign.Tie as tie
-use Rattle.lms.proofs.calls.sign.Reads as reads
-use Rattle.lms.proofs.calls.sign.Lts as lts
-use Rattle.lms.proofs.calls.sign_refusal.Reads as sign-refusal-reads
-use Rattle.lms.proofs.signer.write_signature.Reads as write-signature-reads
 
 sign-refusal-requires : tie.Need-sign-refusal-requires
 sign-refusal-requires c κs = search needs

@@ -1,10 +1,9 @@
+-- `lms::calls::sign_refusal` meets its contract.
 use borrow.Author.Tests.{lt-ltb, le-ltb, eq-eqb, ne-eqb}
 use Rattle.refusal.specs.Refusal.{lowest}
 use Rattle.rfc8554.specs.Calls.{signRefusal, treeBytes, messageLimit, signatureBytes}
 use Rattle.lms.proofs.calls.sign_refusal.Statement.{statement}
 use Rattle.lms.proofs.calls.sign_refusal.Tie as tie
-use Rattle.lms.proofs.calls.sign_refusal.Reads as reads
-use Rattle.lms.proofs.calls.sign_refusal.Lts as lts
 
 returns : tie.Need-returns
 unfolding signRefusal lowest treeBytes messageLimit signatureBytes

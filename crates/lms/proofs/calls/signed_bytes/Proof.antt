@@ -1,13 +1,10 @@
+-- `lms::calls::signed_bytes` meets its contract.
 use native.Mathlib.Omega.{arith}
 use borrow.Author.Needs.{needs}
 use denote.Ref.{now}
 use Rattle.lms.specs.Written.{seat-signed}
 use Rattle.lms.proofs.calls.signed_bytes.Statement.{statement}
 use Rattle.lms.proofs.calls.signed_bytes.Tie as tie
-use Rattle.lms.proofs.calls.signed_bytes.Reads as reads
-use Rattle.lms.proofs.calls.signed_bytes.Lts as lts
-use Rattle.octets.proofs.copy.Reads as copy-reads
-use Rattle.octets.proofs.put_word.Reads as put-word-reads
 
 slice-aggregate-put-word : tie.Need-slice-aggregate-put-word
 slice-aggregate-put-word c = search needs

@@ -1,10 +1,9 @@
+-- `lms::node::bytes_at` meets its contract.
 use borrow.Author.Needs.{needs}
 use denote.Ref.{now}
 use Rattle.lms.specs.Laws.{part-lent}
 use Rattle.lms.proofs.node.bytes_at.Statement.{statement}
 use Rattle.lms.proofs.node.bytes_at.Tie as tie
-use Rattle.lms.proofs.node.bytes_at.Reads as reads
-use Rattle.lms.proofs.node.bytes_at.Lts as lts
 
 add-end : tie.Need-add-end
 add-end c = search needs

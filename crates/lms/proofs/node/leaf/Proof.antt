@@ -1,3 +1,4 @@
+-- `lms::node::leaf` meets its contract.
 use borrow.Author.Needs.{needs}
 use denote.Ref.{now}
 use Rattle.rfc8554.specs.Tree.{leafInput}
@@ -5,10 +6,6 @@ use Rattle.lmots.specs.Pieces.{front}
 use Rattle.lms.specs.Laws.{prefixed}
 use Rattle.lms.proofs.node.leaf.Statement.{statement}
 use Rattle.lms.proofs.node.leaf.Tie as tie
-use Rattle.lms.proofs.node.leaf.Reads as reads
-use Rattle.lms.proofs.node.leaf.Lts as lts
-use Rattle.lmots.proofs.digits.front.Reads as front-reads
-use Rattle.sha256.proofs.hash.sha256_two.Reads as sha256-two-reads
 
 front-requires : tie.Need-front-requires
 front-requires c κs = search needs

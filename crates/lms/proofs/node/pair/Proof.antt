@@ -1,12 +1,10 @@
+-- `lms::node::pair` meets its contract.
 use native.Mathlib.Omega.{arith}
 use borrow.Author.Needs.{needs}
 use denote.Ref.{now}
 use Rattle.lmots.specs.WriteLaws.{pieces}
 use Rattle.lms.proofs.node.pair.Statement.{statement}
 use Rattle.lms.proofs.node.pair.Tie as tie
-use Rattle.lms.proofs.node.pair.Reads as reads
-use Rattle.lms.proofs.node.pair.Lts as lts
-use Rattle.octets.proofs.copy.Reads as copy-reads
 
 slice-aggregate-copy : tie.Need-slice-aggregate-copy
 slice-aggregate-copy c = search needs

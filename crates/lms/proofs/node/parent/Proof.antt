@@ -1,13 +1,10 @@
+-- `lms::node::parent` meets its contract.
 use borrow.Author.Needs.{needs}
 use denote.Ref.{now}
 use Rattle.octets.specs.Octets.{bytes}
 use Rattle.lms.specs.Laws.{over-two}
 use Rattle.lms.proofs.node.parent.Statement.{statement}
 use Rattle.lms.proofs.node.parent.Tie as tie
-use Rattle.lms.proofs.node.parent.Reads as reads
-use Rattle.lms.proofs.node.parent.Lts as lts
-use Rattle.lms.proofs.node.inner.Reads as inner-reads
-use Rattle.lms.proofs.node.pair.Reads as pair-reads
 
 pair-requires : tie.Need-pair-requires
 pair-requires c κs = search needs

@@ -1,11 +1,10 @@
+-- `lms::signer::sibling` meets its contract.
 use native.Mathlib.Omega.{arith}
 use borrow.Author.Tests.{eq-eqb, ne-eqb}
 use borrow.Author.Needs.{needs}
 use Rattle.rfc8554.specs.Tree.{sibling}
 use Rattle.lms.proofs.signer.sibling.Statement.{statement}
 use Rattle.lms.proofs.signer.sibling.Tie as tie
-use Rattle.lms.proofs.signer.sibling.Reads as reads
-use Rattle.lms.proofs.signer.sibling.Lts as lts
 
 add-result : tie.Need-add-result
 add-result c = search needs

@@ -1,3 +1,4 @@
+-- `lms::signer::write_key` meets its contract.
 use mathlib.Core.Path.{refl}
 use native.Mathlib.Omega.{arith}
 use borrow.Author.Needs.{needs}
@@ -6,10 +7,6 @@ use Rattle.octets.specs.Octets.{be}
 use Rattle.lms.specs.Written.{four-writes}
 use Rattle.lms.proofs.signer.write_key.Statement.{statement}
 use Rattle.lms.proofs.signer.write_key.Tie as tie
-use Rattle.lms.proofs.signer.write_key.Reads as reads
-use Rattle.lms.proofs.signer.write_key.Lts as lts
-use Rattle.octets.proofs.copy.Reads as copy-reads
-use Rattle.octets.proofs.put_word.Reads as put-word-reads
 
 put-word-requires : tie.Need-put-word-requires
 put-word-requires c κs = search needs

@@ -1,3 +1,4 @@
+-- `lms::signer::write_path` meets its contract.
 use mathlib.Core.Path.{_≡_, refl, sym, ap, _∙_}
 use Prim.Native.Nat.{_-_, _*_, _/_, _^_, _≤_}
 use native.Mathlib.Nat.{div-one}
@@ -15,11 +16,6 @@ use Rattle.lms.specs.Written.{way-within, path-turn}
 use Rattle.lms.specs.Laws.{half-turn}
 use Rattle.lms.proofs.signer.write_path.Statement.{statement}
 use Rattle.lms.proofs.signer.write_path.Tie as tie
-use Rattle.lms.proofs.signer.write_path.Reads as reads
-use Rattle.lms.proofs.signer.write_path.Lts as lts
-use Rattle.lms.proofs.node.bytes_at.Reads as bytes-at-reads
-use Rattle.lms.proofs.signer.sibling.Reads as sibling-reads
-use Rattle.octets.proofs.copy.Reads as copy-reads
 
 abbrev Inv-loop : tie.InvT-loop
 Inv-loop tree r out₀ at x₀ i₀ out x i = (i ≤ 10) × (length out ≡ length out₀) × (x ≡ r / 2 ^ i) × (out ≡ patch at (joined (path tree r) i) out₀)

@@ -1,17 +1,10 @@
+-- `lms::signer::write_signature` meets its contract.
 use borrow.Author.Needs.{needs}
 use denote.Ref.{now}
 use Rattle.octets.specs.Octets.{bytes}
 use Rattle.lms.specs.Written.{whole-string, signature-written}
 use Rattle.lms.proofs.signer.write_signature.Statement.{statement}
 use Rattle.lms.proofs.signer.write_signature.Tie as tie
-use Rattle.lms.proofs.signer.write_signature.Reads as reads
-use Rattle.lms.proofs.signer.write_signature.Lts as lts
-use Rattle.lmots.proofs.words.eight.Reads as eight-reads
-use Rattle.lmots.proofs.words.four.Reads as four-reads
-use Rattle.lms.proofs.signer.write_head.Reads as write-head-reads
-use Rattle.lms.proofs.signer.write_tail.Reads as write-tail-reads
-use Rattle.lms.proofs.signer.write_values.Reads as write-values-reads
-use Rattle.sha256.proofs.constants.round_constants.Reads as round-constants-reads
 
 round-constants-requires : tie.Need-round-constants-requires
 round-constants-requires c κs = search needs

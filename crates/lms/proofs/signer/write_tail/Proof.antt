@@ -1,3 +1,4 @@
+-- `lms::signer::write_tail` meets its contract.
 use mathlib.Core.Path.{refl}
 use native.Mathlib.Omega.{arith}
 use borrow.Author.Needs.{needs}
@@ -6,10 +7,6 @@ use Rattle.octets.specs.Octets.{be}
 use Rattle.lmots.specs.WriteLaws.{patch-next}
 use Rattle.lms.proofs.signer.write_tail.Statement.{statement}
 use Rattle.lms.proofs.signer.write_tail.Tie as tie
-use Rattle.lms.proofs.signer.write_tail.Reads as reads
-use Rattle.lms.proofs.signer.write_tail.Lts as lts
-use Rattle.lms.proofs.signer.write_path.Reads as write-path-reads
-use Rattle.octets.proofs.put_word.Reads as put-word-reads
 
 put-word-requires : tie.Need-put-word-requires
 put-word-requires c κs = search needs

@@ -1,3 +1,4 @@
+-- `lms::signer::write_values` meets its contract.
 use mathlib.Core.Logic.{inr}
 use mathlib.Core.Path.{refl}
 use borrow.Author.Needs.{needs}
@@ -7,10 +8,6 @@ use Rattle.rfc8554.specs.Ots.{digested}
 use Rattle.lms.specs.Written.{values-for}
 use Rattle.lms.proofs.signer.write_values.Statement.{statement}
 use Rattle.lms.proofs.signer.write_values.Tie as tie
-use Rattle.lms.proofs.signer.write_values.Reads as reads
-use Rattle.lms.proofs.signer.write_values.Lts as lts
-use Rattle.lmots.proofs.digits.message_digits.Reads as message-digits-reads
-use Rattle.lmots.proofs.key.write_signed.Reads as write-signed-reads
 
 message-digits-requires : tie.Need-message-digits-requires
 message-digits-requires c κs =

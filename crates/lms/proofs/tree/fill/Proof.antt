@@ -1,3 +1,4 @@
+-- `lms::tree::fill` meets its contract.
 use borrow.Author.Needs.{needs}
 use denote.Ref.{now}
 use Rattle.octets.specs.Octets.{bytes}
@@ -5,10 +6,6 @@ use Rattle.rfc8554.specs.Calls.{treeBytes}
 use Rattle.lms.specs.Filled.{tree-filled}
 use Rattle.lms.proofs.tree.fill.Statement.{statement}
 use Rattle.lms.proofs.tree.fill.Tie as tie
-use Rattle.lms.proofs.tree.fill.Reads as reads
-use Rattle.lms.proofs.tree.fill.Lts as lts
-use Rattle.lms.proofs.tree.put_inners.Reads as put-inners-reads
-use Rattle.lms.proofs.tree.put_leaves.Reads as put-leaves-reads
 
 put-leaves-requires : tie.Need-put-leaves-requires
 put-leaves-requires c κs = search needs

@@ -1,3 +1,4 @@
+-- `lms::tree::make` meets its contract.
 use native.Mathlib.Omega.{arith}
 use borrow.Author.Needs.{needs}
 use denote.Ref.{now}
@@ -7,14 +8,6 @@ use Rattle.rfc8554.specs.Calls.{treeBytes}
 use Rattle.lms.specs.Written.{whole-string, key-written}
 use Rattle.lms.proofs.tree.make.Statement.{statement}
 use Rattle.lms.proofs.tree.make.Tie as tie
-use Rattle.lms.proofs.tree.make.Reads as reads
-use Rattle.lms.proofs.tree.make.Lts as lts
-use Rattle.lmots.proofs.words.eight.Reads as eight-reads
-use Rattle.lmots.proofs.words.four.Reads as four-reads
-use Rattle.lms.proofs.node.bytes_at.Reads as bytes-at-reads
-use Rattle.lms.proofs.signer.write_key.Reads as write-key-reads
-use Rattle.lms.proofs.tree.fill.Reads as fill-reads
-use Rattle.sha256.proofs.constants.round_constants.Reads as round-constants-reads
 
 round-constants-requires : tie.Need-round-constants-requires
 round-constants-requires c κs = search needs

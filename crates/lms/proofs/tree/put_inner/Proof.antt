@@ -1,3 +1,4 @@
+-- `lms::tree::put_inner` meets its contract.
 use native.Mathlib.Omega.{arith}
 use borrow.Author.Needs.{needs}
 use denote.Ref.{now}
@@ -6,11 +7,6 @@ use Rattle.rfc8554.specs.Calls.{treeBytes}
 use Rattle.lms.specs.Filled.{inner-put}
 use Rattle.lms.proofs.tree.put_inner.Statement.{statement}
 use Rattle.lms.proofs.tree.put_inner.Tie as tie
-use Rattle.lms.proofs.tree.put_inner.Reads as reads
-use Rattle.lms.proofs.tree.put_inner.Lts as lts
-use Rattle.lms.proofs.node.bytes_at.Reads as bytes-at-reads
-use Rattle.lms.proofs.node.inner.Reads as inner-reads
-use Rattle.octets.proofs.copy.Reads as copy-reads
 
 mul-bytes-at : tie.Need-mul-bytes-at
 mul-bytes-at c = search needs

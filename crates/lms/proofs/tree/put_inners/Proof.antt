@@ -1,3 +1,4 @@
+-- `lms::tree::put_inners` meets its contract.
 use mathlib.Core.Path.{_≡_, refl, ap, _∙_}
 use Prim.Native.Nat.{_-_, _≤_}
 use native.Mathlib.Omega.{arith}
@@ -8,9 +9,6 @@ use Rattle.lms.specs.Filled.{inners-turn}
 use Rattle.lms.specs.Pieces.{innersPut}
 use Rattle.lms.proofs.tree.put_inners.Statement.{statement}
 use Rattle.lms.proofs.tree.put_inners.Tie as tie
-use Rattle.lms.proofs.tree.put_inners.Reads as reads
-use Rattle.lms.proofs.tree.put_inners.Lts as lts
-use Rattle.lms.proofs.tree.put_inner.Reads as put-inner-reads
 
 abbrev Inv-loop : tie.InvT-loop
 Inv-loop k id tree₀ t₀ tree t = (t ≤ 1023) × (length tree ≡ length tree₀) × (tree ≡ innersPut (bytes id) t tree₀)

@@ -1,3 +1,4 @@
+-- `lms::verify::climb` meets its contract.
 use mathlib.Core.Path.{_≡_, refl, sym, ap, _∙_}
 use Prim.Native.Nat.{_+_, _-_, _*_, _/_, _^_, _≤_}
 use native.Mathlib.Nat.{div-one}
@@ -11,11 +12,6 @@ use Rattle.rfc8554.specs.Verify.{climbed, signatureLength}
 use Rattle.lms.specs.Laws.{half-turn, climbed-turn}
 use Rattle.lms.proofs.verify.climb.Statement.{statement}
 use Rattle.lms.proofs.verify.climb.Tie as tie
-use Rattle.lms.proofs.verify.climb.Reads as reads
-use Rattle.lms.proofs.verify.climb.Lts as lts
-use Rattle.lms.proofs.node.bytes_at.Reads as bytes-at-reads
-use Rattle.lms.proofs.verify.ots_length.Reads as ots-length-reads
-use Rattle.lms.proofs.verify.turned.Reads as turned-reads
 
 abbrev Inv-loop : tie.InvT-loop
 Inv-loop k id h w r signature at tmp₀ x₀ i₀ tmp x i = (i ≤ h) × (length tmp ≡ 32) × (x ≡ r / 2 ^ i) × (tmp ≡ climbed (bytes id) w r signature tmp₀ i)

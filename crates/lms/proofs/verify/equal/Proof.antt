@@ -1,3 +1,4 @@
+-- `lms::verify::equal` meets its contract.
 use mathlib.Core.Path.{_≡_}
 use Prim.Native.Nat.{ℕ, _-_, _≤_, _<_}
 use native.Mathlib.Omega.{arith}
@@ -7,8 +8,6 @@ use denote.Ref.{now}
 use Rattle.lms.specs.Compared.{differ-length, differ-at, equal-all}
 use Rattle.lms.proofs.verify.equal.Statement.{statement}
 use Rattle.lms.proofs.verify.equal.Tie as tie
-use Rattle.lms.proofs.verify.equal.Reads as reads
-use Rattle.lms.proofs.verify.equal.Lts as lts
 
 abbrev Inv-loop : tie.InvT-loop
 Inv-loop a b i₀ i = (i ≤ length a) × ((j : ℕ) → j < i → getD a j 0 ≡ getD b j 0)

@@ -1,10 +1,9 @@
+-- `lms::verify::height` meets its contract.
 use borrow.Author.Needs.{needs}
 use borrow.Author.Tests.{eq-eqb, ne-eqb}
 use Rattle.rfc8554.specs.Tree.{height}
 use Rattle.lms.proofs.verify.height.Statement.{statement}
 use Rattle.lms.proofs.verify.height.Tie as tie
-use Rattle.lms.proofs.verify.height.Reads as reads
-use Rattle.lms.proofs.verify.height.Lts as lts
 
 returns : tie.Need-returns
 unfolding height

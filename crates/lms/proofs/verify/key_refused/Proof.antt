@@ -1,13 +1,9 @@
+-- `lms::verify::key_refused` meets its contract.
 use borrow.Author.Needs.{needs}
 use denote.Ref.{now}
 use Rattle.lms.specs.Refused.{key-length, key-lms, key-types}
 use Rattle.lms.proofs.verify.key_refused.Statement.{statement}
 use Rattle.lms.proofs.verify.key_refused.Tie as tie
-use Rattle.lms.proofs.verify.key_refused.Reads as reads
-use Rattle.lms.proofs.verify.key_refused.Lts as lts
-use Rattle.lms.proofs.verify.known_lms.Reads as known-lms-reads
-use Rattle.lms.proofs.verify.known_ots.Reads as known-ots-reads
-use Rattle.octets.proofs.word_at.Reads as word-at-reads
 
 returns : tie.Need-returns
 returns c = key-length (now (c .before .before .args .key)) (c .if1 .taken)

@@ -1,9 +1,8 @@
+-- `lms::verify::known_lms` meets its contract.
 use borrow.Author.Tests.{eq-eqb, ne-eqb}
 use Rattle.rfc8554.specs.Tree.{knownLms}
 use Rattle.lms.proofs.verify.known_lms.Statement.{statement}
 use Rattle.lms.proofs.verify.known_lms.Tie as tie
-use Rattle.lms.proofs.verify.known_lms.Reads as reads
-use Rattle.lms.proofs.verify.known_lms.Lts as lts
 
 returns : tie.Need-returns
 unfolding knownLms

@@ -1,9 +1,8 @@
+-- `lms::verify::known_ots` meets its contract.
 use borrow.Author.Tests.{eq-eqb, ne-eqb}
 use Rattle.rfc8554.specs.Ots.{knownOts}
 use Rattle.lms.proofs.verify.known_ots.Statement.{statement}
 use Rattle.lms.proofs.verify.known_ots.Tie as tie
-use Rattle.lms.proofs.verify.known_ots.Reads as reads
-use Rattle.lms.proofs.verify.known_ots.Lts as lts
 
 returns : tie.Need-returns
 unfolding knownOts

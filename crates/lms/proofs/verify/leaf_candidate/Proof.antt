@@ -1,3 +1,4 @@
+-- `lms::verify::leaf_candidate` meets its contract.
 use mathlib.Core.Path.{_∙_}
 use native.Mathlib.Omega.{arith}
 use borrow.Author.Needs.{needs}
@@ -7,12 +8,6 @@ use Rattle.octets.specs.Octets.{bytes}
 use Rattle.lms.specs.Laws.{leaf-from}
 use Rattle.lms.proofs.verify.leaf_candidate.Statement.{statement}
 use Rattle.lms.proofs.verify.leaf_candidate.Tie as tie
-use Rattle.lms.proofs.verify.leaf_candidate.Reads as reads
-use Rattle.lms.proofs.verify.leaf_candidate.Lts as lts
-use Rattle.lmots.proofs.key.candidate.Reads as candidate-reads
-use Rattle.lms.proofs.node.bytes_at.Reads as bytes-at-reads
-use Rattle.lms.proofs.node.leaf.Reads as leaf-reads
-use Rattle.lms.proofs.verify.ots_length.Reads as ots-length-reads
 
 ots-length-requires : tie.Need-ots-length-requires
 ots-length-requires c κs = search needs

@@ -1,10 +1,9 @@
+-- `lms::verify::leaves` meets its contract.
 use borrow.Author.Needs.{needs}
 use borrow.Author.Tests.{eq-eqb, ne-eqb}
 use Rattle.rfc8554.specs.Tree.{height}
 use Rattle.lms.proofs.verify.leaves.Statement.{statement}
 use Rattle.lms.proofs.verify.leaves.Tie as tie
-use Rattle.lms.proofs.verify.leaves.Reads as reads
-use Rattle.lms.proofs.verify.leaves.Lts as lts
 
 returns : tie.Need-returns
 unfolding height

@@ -1,10 +1,9 @@
+-- `lms::verify::ots_length` meets its contract.
 use borrow.Author.Needs.{needs}
 use borrow.Author.Tests.{eq-eqb, ne-eqb}
 use Rattle.rfc8554.specs.Ots.{chains, otsLength}
 use Rattle.lms.proofs.verify.ots_length.Statement.{statement}
 use Rattle.lms.proofs.verify.ots_length.Tie as tie
-use Rattle.lms.proofs.verify.ots_length.Reads as reads
-use Rattle.lms.proofs.verify.ots_length.Lts as lts
 
 returns : tie.Need-returns
 unfolding chains otsLength

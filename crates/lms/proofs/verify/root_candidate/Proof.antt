@@ -1,3 +1,4 @@
+-- `lms::verify::root_candidate` meets its contract.
 use mathlib.Core.Path.{_≡_, sym, _∙_}
 use native.Mathlib.Omega.{arith}
 use borrow.Author.Needs.{needs}
@@ -8,14 +9,6 @@ use Rattle.rfc8554.specs.Verify.{leafOf, signatureLength}
 use Rattle.lms.specs.Laws.{root-from}
 use Rattle.lms.proofs.verify.root_candidate.Statement.{statement}
 use Rattle.lms.proofs.verify.root_candidate.Tie as tie
-use Rattle.lms.proofs.verify.root_candidate.Reads as reads
-use Rattle.lms.proofs.verify.root_candidate.Lts as lts
-use Rattle.lms.proofs.verify.climb.Reads as climb-reads
-use Rattle.lms.proofs.verify.height.Reads as height-reads
-use Rattle.lms.proofs.verify.leaf_candidate.Reads as leaf-candidate-reads
-use Rattle.lms.proofs.verify.leaves.Reads as leaves-reads
-use Rattle.lms.proofs.verify.width.Reads as width-reads
-use Rattle.octets.proofs.word_at.Reads as word-at-reads
 
 width-requires : tie.Need-width-requires
 width-requires c κs = search needs

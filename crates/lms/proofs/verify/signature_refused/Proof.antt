@@ -1,15 +1,9 @@
+-- `lms::verify::signature_refused` meets its contract.
 use borrow.Author.Needs.{needs}
 use denote.Ref.{now}
 use Rattle.lms.specs.Refused.{signature-length, signature-ots, signature-lms, signature-leaf}
 use Rattle.lms.proofs.verify.signature_refused.Statement.{statement}
 use Rattle.lms.proofs.verify.signature_refused.Tie as tie
-use Rattle.lms.proofs.verify.signature_refused.Reads as reads
-use Rattle.lms.proofs.verify.signature_refused.Lts as lts
-use Rattle.lms.proofs.verify.height.Reads as height-reads
-use Rattle.lms.proofs.verify.leaves.Reads as leaves-reads
-use Rattle.lms.proofs.verify.ots_length.Reads as ots-length-reads
-use Rattle.lms.proofs.verify.width.Reads as width-reads
-use Rattle.octets.proofs.word_at.Reads as word-at-reads
 
 width-requires : tie.Need-width-requires
 width-requires c κs = search needs

@@ -1,11 +1,9 @@
+-- `lms::verify::turned` meets its contract.
 use borrow.Author.Tests.{eq-eqb, ne-eqb}
 use borrow.Author.Needs.{needs}
 use Rattle.rfc8554.specs.Verify.{turn}
 use Rattle.lms.proofs.verify.turned.Statement.{statement}
 use Rattle.lms.proofs.verify.turned.Tie as tie
-use Rattle.lms.proofs.verify.turned.Reads as reads
-use Rattle.lms.proofs.verify.turned.Lts as lts
-use Rattle.lms.proofs.node.parent.Reads as parent-reads
 
 parent-requires : tie.Need-parent-requires
 parent-requires c κs = search needs

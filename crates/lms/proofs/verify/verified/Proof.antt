@@ -1,3 +1,4 @@
+-- `lms::verify::verified` meets its contract.
 use mathlib.Core.Path.{sym, _∙_}
 use borrow.Author.Needs.{needs}
 use denote.Ref.{now}
@@ -5,14 +6,6 @@ use Rattle.octets.specs.Octets.{bytes}
 use Rattle.lms.specs.Refused.{signature-fits, signature-turned-back, signature-compared}
 use Rattle.lms.proofs.verify.verified.Statement.{statement}
 use Rattle.lms.proofs.verify.verified.Tie as tie
-use Rattle.lms.proofs.verify.verified.Reads as reads
-use Rattle.lms.proofs.verify.verified.Lts as lts
-use Rattle.lmots.proofs.words.four.Reads as four-reads
-use Rattle.lms.proofs.node.bytes_at.Reads as bytes-at-reads
-use Rattle.lms.proofs.verify.equal.Reads as equal-reads
-use Rattle.lms.proofs.verify.root_candidate.Reads as root-candidate-reads
-use Rattle.lms.proofs.verify.signature_refused.Reads as signature-refused-reads
-use Rattle.octets.proofs.word_at.Reads as word-at-reads
 
 word-at-requires : tie.Need-word-at-requires
 word-at-requires c κs = search needs

@@ -1,11 +1,10 @@
+-- `lms::verify::width` meets its contract.
 use mathlib.Core.Logic.{inl, inr}
 use mathlib.Core.Path.{refl}
 use borrow.Author.Tests.{eq-eqb, ne-eqb}
 use Rattle.rfc8554.specs.Ots.{width}
 use Rattle.lms.proofs.verify.width.Statement.{statement}
 use Rattle.lms.proofs.verify.width.Tie as tie
-use Rattle.lms.proofs.verify.width.Reads as reads
-use Rattle.lms.proofs.verify.width.Lts as lts
 
 returns : tie.Need-returns
 unfolding width

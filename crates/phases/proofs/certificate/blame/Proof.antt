@@ -1,3 +1,4 @@
+-- `phases::certificate::blame` meets its contract.
 use lib.ListN.{length}
 use mathlib.Core.Path.{_≡_, sym}
 use Rattle.protocol.specs.Layout.{firstBank, valueLength}
@@ -8,20 +9,13 @@ use Rattle.phases.specs.Certificates.{readable-bank, evidence-bound, evi
 use borrow.Author.Needs.{needs}
 use Rattle.phases.proofs.certificate.blame.Statement.{statement}
 use Rattle.phases.proofs.certificate.blame.Tie as tie
-use Rattle.phases.proofs.certificate.blame.Reads as reads
-use Rattle.phases.proofs.certificate.blame.Lts as lts
-use Rattle.quorum.proofs.shared.Reads as shared-reads
-use Rattle.wire.proofs.write.write_evidence.Reads as write-evidence-reads
 
--- src/certificate.rt:78:66
 slice-aggregate-write-evidence : tie.Need-slice-aggregate-write-evidence
 slice-aggregate-write-evidence c = search needs
 
--- src/certificate.rt:78:94
 slice-aggregate-write-evidence-2 : tie.Need-slice-aggregate-write-evidence-2
 slice-aggregate-write-evidence-2 c = search needs
 
--- src/certificate.rt:78:9
 write-evidence-requires : tie.Need-write-evidence-requires
 write-evidence-requires c κs =
     let start = c .before .before .before .before .before .before .before in
@@ -33,15 +27,12 @@ write-evidence-requires c κs =
     let long-too : length (start .args .t5) ≡ valueLength = sym (slice-aggregate-write-evidence-2 c) in
     (fits .most, long, readable, long-too, start .pre .1, omega (arith, room, start .pre .2))
 
--- src/certificate.rt:79:9
 shared-requires : tie.Need-shared-requires
 shared-requires c κs = search needs
 
--- src/certificate.rt:68:1
 same-length : tie.Need-same-length
 same-length c = search needs
 
--- src/certificate.rt:68:1
 returns : tie.Need-returns
 returns c =
     let start = c .before .before .before .before .before .before .before .before .before .before .before in

@@ -1,3 +1,4 @@
+-- `phases::certificate::hear_certificate` meets its contract.
 use Rattle.protocol.specs.Step.{noticesWith}
 use Rattle.protocol.specs.Layout.{evidenceLength}
 use Rattle.quorum.specs.Quorum.{k}
@@ -8,17 +9,10 @@ use Rattle.phases.specs.Certificates.{heard-fits, heard-room, replied-n,
 use borrow.Author.Needs.{needs}
 use Rattle.phases.proofs.certificate.hear_certificate.Statement.{statement}
 use Rattle.phases.proofs.certificate.hear_certificate.Tie as tie
-use Rattle.phases.proofs.certificate.hear_certificate.Reads as reads
-use Rattle.phases.proofs.certificate.hear_certificate.Lts as lts
-use Rattle.phases.proofs.certificate.hold_or_blame.Reads as hold-or-blame-reads
-use Rattle.phases.proofs.hear.hear.Reads as hear-reads
-use Rattle.phases.proofs.reply.reply.Reads as reply-reads
 
--- src/certificate.rt:140:9
 hear-requires : tie.Need-hear-requires
 hear-requires c κs = search needs
 
--- src/certificate.rt:141:9
 reply-requires : tie.Need-reply-requires
 reply-requires c κs =
     let start = c .before .before .before .before .before .before in
@@ -29,7 +23,6 @@ reply-requires c κs =
       heard-room (args .r) (now (args .store)) notices (heard .result) (heard .ensures) (args .at) (evidenceLength (k (args .r .n))) (length (now (args .out))) (start .pre .2),
     )
 
--- src/certificate.rt:144:5
 hold-or-blame-requires : tie.Need-hold-or-blame-requires
 hold-or-blame-requires c κs =
     let start = c .before .before .before .before .before .before .before .before .before .before .before .before in
@@ -44,15 +37,12 @@ hold-or-blame-requires c κs =
     let same-n = replied-n (args .r) (now (args .store)) notices (heard .result) (heard .ensures) (answered .result .unit) (now (args .store)) (answered .ensures .0 .kept) in
     (fits, rw same-n (start .pre .1), omega (arith, room, answered .kept .1 .1 .0))
 
--- src/certificate.rt:136:1
 same-length : tie.Need-same-length
 same-length c = search needs
 
--- src/certificate.rt:136:1
 same-length-2 : tie.Need-same-length-2
 same-length-2 c = search needs
 
--- src/certificate.rt:136:1
 returns : tie.Need-returns
 returns c =
     let start = c .before .before .before .before .before .before .before .before .before .before .before .before .before .before .before .before .before in

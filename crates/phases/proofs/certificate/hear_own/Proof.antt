@@ -1,3 +1,4 @@
+-- `phases::certificate::hear_own` meets its contract.
 use Rattle.protocol.specs.Step.{noticesWith}
 use Rattle.protocol.specs.Layout.{evidenceLength}
 use Rattle.quorum.specs.Quorum.{k}
@@ -8,17 +9,10 @@ use Rattle.phases.specs.Certificates.{heard-fits, heard-room, replied-fi
 use borrow.Author.Needs.{needs}
 use Rattle.phases.proofs.certificate.hear_own.Statement.{statement}
 use Rattle.phases.proofs.certificate.hear_own.Tie as tie
-use Rattle.phases.proofs.certificate.hear_own.Reads as reads
-use Rattle.phases.proofs.certificate.hear_own.Lts as lts
-use Rattle.phases.proofs.certificate.hold_or_blame_own.Reads as hold-or-blame-own-reads
-use Rattle.phases.proofs.hear.hear.Reads as hear-reads
-use Rattle.phases.proofs.reply.reply.Reads as reply-reads
 
--- src/certificate.rt:128:9
 hear-requires : tie.Need-hear-requires
 hear-requires c κs = search needs
 
--- src/certificate.rt:129:9
 reply-requires : tie.Need-reply-requires
 reply-requires c κs =
     let start = c .before .before .before .before .before .before in
@@ -29,7 +23,6 @@ reply-requires c κs =
       heard-room (args .r) (now (args .store)) notices (heard .result) (heard .ensures) (args .at) (evidenceLength (k (args .r .n))) (length (now (args .out))) (start .pre .1),
     )
 
--- src/certificate.rt:132:5
 hold-or-blame-own-requires : tie.Need-hold-or-blame-own-requires
 hold-or-blame-own-requires c κs =
     let start = c .before .before .before .before .before .before .before .before .before .before .before .before in
@@ -43,15 +36,12 @@ hold-or-blame-own-requires c κs =
     (args .at) (answered .result .at) (length (now (args .out))) (answered .ensures .1) (start .pre .1) in
     (fits, omega (arith, room, answered .kept .1 .1 .0))
 
--- src/certificate.rt:123:1
 same-length : tie.Need-same-length
 same-length c = search needs
 
--- src/certificate.rt:123:1
 same-length-2 : tie.Need-same-length-2
 same-length-2 c = search needs
 
--- src/certificate.rt:123:1
 returns : tie.Need-returns
 returns c =
     let start = c .before .before .before .before .before .before .before .before .before .before .before .before .before .before .before .before .before in

@@ -1,24 +1,17 @@
+-- `phases::certificate::hold_or_blame` meets its contract.
 use Rattle.wire.specs.Sources.{certificateFrom}
 use denote.Ref.{now}
 use Rattle.phases.specs.Certificates.{first-held, blamed, not-blamed}
 use borrow.Author.Needs.{needs}
 use Rattle.phases.proofs.certificate.hold_or_blame.Statement.{statement}
 use Rattle.phases.proofs.certificate.hold_or_blame.Tie as tie
-use Rattle.phases.proofs.certificate.hold_or_blame.Reads as reads
-use Rattle.phases.proofs.certificate.hold_or_blame.Lts as lts
-use Rattle.phases.proofs.certificate.blame.Reads as blame-reads
-use Rattle.phases.proofs.certificate.blames.Reads as blames-reads
-use Rattle.phases.proofs.certificate.hold.Reads as hold-reads
 
--- src/certificate.rt:113:13
 hold-requires : tie.Need-hold-requires
 hold-requires c κs = search needs
 
--- src/certificate.rt:114:9
 same-length : tie.Need-same-length
 same-length c = search needs
 
--- src/certificate.rt:114:9
 returns : tie.Need-returns
 returns c =
     let start = c .before .before .before .before .before .before .before .before .before in
@@ -27,23 +20,18 @@ returns c =
     first-held (args .r) (now (args .store)) (now (args .out)) (args .at) (certificateFrom (args .r .n) (args .source) (args .value) (now (args .m)))
     (held .result) (held .last .1 .0) (c .before .before .before .before .if1 .taken) (held .ensures)
 
--- src/certificate.rt:116:8
 blames-requires : tie.Need-blames-requires
 blames-requires c κs = search needs
 
--- src/certificate.rt:117:9
 blame-requires : tie.Need-blame-requires
 blame-requires c κs = search needs
 
--- src/certificate.rt:117:9
 same-length-2 : tie.Need-same-length-2
 same-length-2 c = search needs
 
--- src/certificate.rt:117:9
 same-length-3 : tie.Need-same-length-3
 same-length-3 c = search needs
 
--- src/certificate.rt:117:9
 returns-2 : tie.Need-returns-2
 returns-2 c =
     let start = c .before .before .before .before .before .before .before .before .before .before .before .before in
@@ -54,7 +42,6 @@ returns-2 c =
     (second .before .before .if1 .left) (second .before .blames .result) (second .before .blames .ensures)
     (done .result .unit) (now (args .store)) (done .last .1 .1 .0) (done .result .at) (second .if2 .taken) (done .ensures)
 
--- src/certificate.rt:108:1
 returns-3 : tie.Need-returns-3
 returns-3 c =
     let start = c .before .before .before .before .before .before .before in

@@ -1,3 +1,4 @@
+-- `phases::certificate::hold_or_blame_own` meets its contract.
 use Rattle.wire.specs.Sources.{signatureFrom}
 use Rattle.protocol.specs.Layout.{collectedBank}
 use Rattle.protocol.specs.Certificate.{ownCertificate}
@@ -7,21 +8,13 @@ use Rattle.phases.specs.Certificates.{readable-bank, first-held, blamed,
 use borrow.Author.Needs.{needs}
 use Rattle.phases.proofs.certificate.hold_or_blame_own.Statement.{statement}
 use Rattle.phases.proofs.certificate.hold_or_blame_own.Tie as tie
-use Rattle.phases.proofs.certificate.hold_or_blame_own.Reads as reads
-use Rattle.phases.proofs.certificate.hold_or_blame_own.Lts as lts
-use Rattle.phases.proofs.certificate.blame.Reads as blame-reads
-use Rattle.phases.proofs.certificate.blames.Reads as blames-reads
-use Rattle.phases.proofs.certificate.hold_own.Reads as hold-own-reads
 
--- src/certificate.rt:91:13
 hold-own-requires : tie.Need-hold-own-requires
 hold-own-requires c κs = search needs
 
--- src/certificate.rt:92:9
 same-length : tie.Need-same-length
 same-length c = search needs
 
--- src/certificate.rt:92:9
 returns : tie.Need-returns
 returns c =
     let args = c .before .before .before .before .before .before .before .before .args in
@@ -29,11 +22,9 @@ returns c =
     first-held (args .r) (now (args .store)) (now (args .out)) (args .at) (ownCertificate (args .r) (now (args .store)))
     (held .result) (held .last .1 .0) (c .before .before .before .before .if1 .taken) (held .ensures)
 
--- src/certificate.rt:95:8
 blames-requires : tie.Need-blames-requires
 blames-requires c κs = search needs
 
--- src/certificate.rt:102:9
 blame-requires : tie.Need-blame-requires
 blame-requires c κs =
     let start = c .before .before .before .before .before .before .before .before .before in
@@ -41,15 +32,12 @@ blame-requires c κs =
     let fits = start .pre .0 in
     (fits, readable-bank (r .n) collectedBank (r .own .collected) (now (start .args .store)) (omega arith) (fits .collected) (fits .slots), start .pre .1)
 
--- src/certificate.rt:102:9
 same-length-2 : tie.Need-same-length-2
 same-length-2 c = search needs
 
--- src/certificate.rt:102:9
 same-length-3 : tie.Need-same-length-3
 same-length-3 c = search needs
 
--- src/certificate.rt:102:9
 returns-2 : tie.Need-returns-2
 unfolding ownCertificate signatureFrom
 returns-2 c =
@@ -60,7 +48,6 @@ returns-2 c =
     (second .before .before .before .if1 .left) (second .before .blames .result) (second .before .blames .ensures)
     (done .result .unit) (now (args .store)) (done .last .1 .1 .0) (done .result .at) (second .if2 .taken) (done .ensures)
 
--- src/certificate.rt:86:1
 returns-3 : tie.Need-returns-3
 unfolding ownCertificate
 returns-3 c =

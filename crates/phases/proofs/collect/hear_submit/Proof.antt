@@ -1,27 +1,20 @@
+-- `phases::collect::hear_submit` meets its contract.
 use mathlib.Core.Path.{sym, _∙_}
 use denote.Ref.{now}
 use Rattle.phases.specs.Collecting.{wanted, unwanted}
 use borrow.Author.Needs.{needs}
 use Rattle.phases.proofs.collect.hear_submit.Statement.{statement}
 use Rattle.phases.proofs.collect.hear_submit.Tie as tie
-use Rattle.phases.proofs.collect.hear_submit.Reads as reads
-use Rattle.phases.proofs.collect.hear_submit.Lts as lts
-use Rattle.phases.proofs.collect.collect.Reads as collect-reads
-use Rattle.phases.proofs.collect.is_wanted.Reads as is-wanted-reads
 
--- src/collect.rt:83:8
 is-wanted-requires : tie.Need-is-wanted-requires
 is-wanted-requires c κs = search needs
 
--- src/collect.rt:84:9
 collect-requires : tie.Need-collect-requires
 collect-requires c κs = search needs
 
--- src/collect.rt:84:9
 same-length : tie.Need-same-length
 same-length c = search needs
 
--- src/collect.rt:84:9
 returns : tie.Need-returns
 returns c =
     let args = c .before .before .before .before .before .before .before .before .args in
@@ -29,7 +22,6 @@ returns c =
     let chosen = c .before .before .before .before in
     wanted (args .r) (now (args .store)) (args .seat) (args .value) (now (args .signature)) (done .result) (done .last .1 .0) (sym (chosen .before .is-wanted .ensures) ∙ chosen .if1 .taken) (done .ensures)
 
--- src/collect.rt:79:1
 returns-2 : tie.Need-returns-2
 returns-2 c =
     let args = c .before .before .before .before .args in

@@ -1,25 +1,17 @@
+-- `phases::collect::submit_own` meets its contract.
 use native.Mathlib.Omega.{arith}
 use denote.Ref.{now}
 use Rattle.phases.specs.Collecting.{kept-fits, own-submitted}
 use borrow.Author.Needs.{needs}
 use Rattle.phases.proofs.collect.submit_own.Statement.{statement}
 use Rattle.phases.proofs.collect.submit_own.Tie as tie
-use Rattle.phases.proofs.collect.submit_own.Reads as reads
-use Rattle.phases.proofs.collect.submit_own.Lts as lts
-use Rattle.phases.proofs.collect.collect.Reads as collect-reads
-use Rattle.phases.proofs.collect.keep_value.Reads as keep-value-reads
-use Rattle.wire.proofs.values.value_at.Reads as value-at-reads
-use Rattle.wire.proofs.write.write_submit.Reads as write-submit-reads
 
--- src/collect.rt:61:30
 value-at-requires : tie.Need-value-at-requires
 value-at-requires c κs = search needs
 
--- src/collect.rt:61:9
 keep-value-requires : tie.Need-keep-value-requires
 keep-value-requires c κs = search needs
 
--- src/collect.rt:62:9
 collect-requires : tie.Need-collect-requires
 collect-requires c κs =
     let start = c .before .before .before .before .before .before .before in
@@ -27,19 +19,15 @@ collect-requires c κs =
     let fits = kept-fits (start .args .r) (c .before .before .value-at .result) (kept .result) (kept .ensures) (now (start .args .store)) (start .pre .0) in
     (fits .0, fits .1, start .pre .2)
 
--- src/collect.rt:63:9
 write-submit-requires : tie.Need-write-submit-requires
 write-submit-requires c κs = search needs
 
--- src/collect.rt:57:1
 same-length : tie.Need-same-length
 same-length c = search needs
 
--- src/collect.rt:57:1
 same-length-2 : tie.Need-same-length-2
 same-length-2 c = search needs
 
--- src/collect.rt:57:1
 returns : tie.Need-returns
 returns c =
     let start = c .before .before .before .before .before .before .before .before .before .before .before .before .before .before in

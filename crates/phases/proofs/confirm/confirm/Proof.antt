@@ -1,3 +1,4 @@
+-- `phases::confirm::confirm` meets its contract.
 use Rattle.phases.specs.Phases.{saying}
 use Rattle.protocol.specs.Step.{confirm, write}
 use Rattle.protocol.specs.Message.{Notice}
@@ -7,23 +8,16 @@ use denote.Ref.{now}
 use borrow.Author.Needs.{needs}
 use Rattle.phases.proofs.confirm.confirm.Statement.{statement}
 use Rattle.phases.proofs.confirm.confirm.Tie as tie
-use Rattle.phases.proofs.confirm.confirm.Reads as reads
-use Rattle.phases.proofs.confirm.confirm.Lts as lts
-use Rattle.wire.proofs.write.write_notice.Reads as write-notice-reads
 
--- src/confirm.rt:31:67
 slice-aggregate-write-notice : tie.Need-slice-aggregate-write-notice
 slice-aggregate-write-notice c = search needs
 
--- src/confirm.rt:31:9
 write-notice-requires : tie.Need-write-notice-requires
 write-notice-requires c κs = search needs
 
--- src/confirm.rt:26:1
 same-length : tie.Need-same-length
 same-length c = search needs
 
--- src/confirm.rt:26:1
 returns : tie.Need-returns
 unfolding confirm write
 returns c =

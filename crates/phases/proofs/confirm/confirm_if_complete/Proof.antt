@@ -1,3 +1,4 @@
+-- `phases::confirm::confirm_if_complete` meets its contract.
 use lib.ListN.{length}
 use mathlib.Core.Path.{sym, _∙_}
 use native.Mathlib.Omega.{arith}
@@ -6,22 +7,13 @@ use Rattle.phases.specs.Confirming.{confirmed-fits, confirmed-room, comp
 use borrow.Author.Needs.{needs}
 use Rattle.phases.proofs.confirm.confirm_if_complete.Statement.{statement}
 use Rattle.phases.proofs.confirm.confirm_if_complete.Tie as tie
-use Rattle.phases.proofs.confirm.confirm_if_complete.Reads as reads
-use Rattle.phases.proofs.confirm.confirm_if_complete.Lts as lts
-use Rattle.phases.proofs.certificate.hear_own.Reads as hear-own-reads
-use Rattle.phases.proofs.confirm.confirm.Reads as confirm-reads
-use Rattle.phases.proofs.confirm.is_complete.Reads as is-complete-reads
-use Rattle.phases.proofs.reply.reply.Reads as reply-reads
 
--- src/confirm.rt:44:8
 is-complete-requires : tie.Need-is-complete-requires
 is-complete-requires c κs = search needs
 
--- src/confirm.rt:45:13
 confirm-requires : tie.Need-confirm-requires
 confirm-requires c κs = search needs
 
--- src/confirm.rt:48:9
 hear-own-requires : tie.Need-hear-own-requires
 hear-own-requires c κs =
     let start = c .before .before .before .before .before .before .before .before .before .before .before in
@@ -31,15 +23,12 @@ hear-own-requires c κs =
     let room = confirmed-room (args .r) (now (args .store)) (done .result .unit) kept (args .at) (done .result .at) (length (now (args .out))) (done .ensures .1) (start .pre .1) in
     (confirmed-fits (args .r) (now (args .store)) (done .result .unit) kept (start .pre .0), omega (arith, room, done .kept .1 .0))
 
--- src/confirm.rt:48:9
 same-length : tie.Need-same-length
 same-length c = search needs
 
--- src/confirm.rt:48:9
 same-length-2 : tie.Need-same-length-2
 same-length-2 c = search needs
 
--- src/confirm.rt:48:9
 returns : tie.Need-returns
 returns c =
     let start = c .before .before .before .before .before .before .before .before .before .before .before .before .before .before .before .before in
@@ -50,19 +39,15 @@ returns c =
     completed (args .r) (now (args .store)) (now (args .out)) (args .at) (heard .result .unit) (heard .last .1 .0) (heard .last .1 .1 .0) (heard .result .at)
     (done .result .unit) (done .last .1 .0) (done .result .at) (omega (arith, start .pre)) complete (done .ensures .0 (now (args .store))) (heard .ensures)
 
--- src/confirm.rt:50:5
 reply-requires : tie.Need-reply-requires
 reply-requires c κs = search needs
 
--- src/confirm.rt:40:1
 same-length-3 : tie.Need-same-length-3
 same-length-3 c = search needs
 
--- src/confirm.rt:40:1
 same-length-4 : tie.Need-same-length-4
 same-length-4 c = search needs
 
--- src/confirm.rt:40:1
 returns-2 : tie.Need-returns-2
 returns-2 c =
     let args = c .before .before .before .before .before .before .before .before .before .args in

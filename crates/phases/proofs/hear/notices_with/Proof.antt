@@ -1,40 +1,30 @@
+-- `phases::hear::notices_with` meets its contract.
 use Rattle.phases.specs.Hearing.{none-before, other-before, nothing-new}
 use borrow.Author.Needs.{needs}
 use Rattle.phases.proofs.hear.notices_with.Statement.{statement}
 use Rattle.phases.proofs.hear.notices_with.Tie as tie
-use Rattle.phases.proofs.hear.notices_with.Reads as reads
-use Rattle.phases.proofs.hear.notices_with.Lts as lts
-use Rattle.phases.proofs.bools.both.Reads as both-reads
-use Rattle.wire.proofs.values.same.Reads as same-reads
 
--- src/hear.rt:17:9
 returns : tie.Need-returns
 returns c = none-before (c .before .before .args .t2) (c .before .before .args .r) (c .if1 .taken)
 
--- src/hear.rt:19:35
 slice-aggregate-same : tie.Need-slice-aggregate-same
 slice-aggregate-same c = search needs
 
--- src/hear.rt:19:43
 slice-aggregate-same-2 : tie.Need-slice-aggregate-same-2
 slice-aggregate-same-2 c = search needs
 
--- src/hear.rt:19:9
 same-requires : tie.Need-same-requires
 same-requires c κs = search needs
 
--- src/hear.rt:20:8
 both-requires : tie.Need-both-requires
 both-requires c κs = search needs
 
--- src/hear.rt:21:9
 returns-2 : tie.Need-returns-2
 returns-2 c =
     let start = c .before .before .before .before .before .before .before in
     let first = c .before .before .before .before .before in
     other-before (start .args .t2) (start .args .r) (first .if1 .left) (c .before .before .same .result) (c .before .both .result) (c .before .before .same .ensures) (c .before .both .ensures) (c .if2 .taken)
 
--- src/hear.rt:11:1
 returns-3 : tie.Need-returns-3
 returns-3 c =
     let second = c .before in

@@ -1,3 +1,4 @@
+-- `phases::reply::reply` meets its contract.
 use mathlib.Core.Path.{sym, _∙_}
 use native.Mathlib.Omega.{arith}
 use denote.Ref.{now}
@@ -5,24 +6,16 @@ use Rattle.phases.specs.Certificates.{replied, silent}
 use borrow.Author.Needs.{needs}
 use Rattle.phases.proofs.reply.reply.Statement.{statement}
 use Rattle.phases.proofs.reply.reply.Tie as tie
-use Rattle.phases.proofs.reply.reply.Reads as reads
-use Rattle.phases.proofs.reply.reply.Lts as lts
-use Rattle.phases.proofs.reply.owes_full.Reads as owes-full-reads
-use Rattle.phases.proofs.reply.send_full.Reads as send-full-reads
 
--- src/reply.rt:61:8
 owes-full-requires : tie.Need-owes-full-requires
 owes-full-requires c κs = search needs
 
--- src/reply.rt:62:9
 send-full-requires : tie.Need-send-full-requires
 send-full-requires c κs = search needs
 
--- src/reply.rt:62:9
 same-length : tie.Need-same-length
 same-length c = search needs
 
--- src/reply.rt:62:9
 returns : tie.Need-returns
 returns c =
     let start = c .before .before .before .before .before .before .before .before in
@@ -32,7 +25,6 @@ returns c =
       sent .ensures .1,
     )
 
--- src/reply.rt:57:1
 returns-2 : tie.Need-returns-2
 returns-2 c =
     let start = c .before .before .before .before in

@@ -1,3 +1,4 @@
+-- `phases::reply::send_full` meets its contract.
 use lib.ListN.{length}
 use mathlib.Core.Path.{_≡_, sym}
 use Rattle.protocol.specs.Layout.{collectedBank, valueLength}
@@ -8,15 +9,10 @@ use Rattle.phases.specs.Certificates.{readable-bank, full-bound, full-se
 use borrow.Author.Needs.{needs}
 use Rattle.phases.proofs.reply.send_full.Statement.{statement}
 use Rattle.phases.proofs.reply.send_full.Tie as tie
-use Rattle.phases.proofs.reply.send_full.Reads as reads
-use Rattle.phases.proofs.reply.send_full.Lts as lts
-use Rattle.wire.proofs.write.write_full.Reads as write-full-reads
 
--- src/reply.rt:50:70
 slice-aggregate-write-full : tie.Need-slice-aggregate-write-full
 slice-aggregate-write-full c = search needs
 
--- src/reply.rt:50:9
 write-full-requires : tie.Need-write-full-requires
 write-full-requires c κs =
     let long : length (c .before .before .before .before .before .args .r .own .value) ≡ valueLength = sym (slice-aggregate-write-full c) in
@@ -27,11 +23,9 @@ write-full-requires c κs =
     let readable = readable-bank (r .n) collectedBank (r .own .collected) (now (start .args .store)) (omega arith) (fits .collected) (fits .slots) in
     (fits .most, omega (arith, fits .seated, fits .most), long, readable, omega (arith, room, start .pre .1))
 
--- src/reply.rt:40:1
 same-length : tie.Need-same-length
 same-length c = search needs
 
--- src/reply.rt:40:1
 returns : tie.Need-returns
 returns c =
     let start = c .before .before .before .before .before .before .before .before in

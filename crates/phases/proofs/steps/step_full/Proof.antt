@@ -1,3 +1,4 @@
+-- `phases::steps::step_full` meets its contract.
 use lib.ListN.{length}
 use native.Mathlib.Omega.{arith}
 use denote.Ref.{now}
@@ -7,23 +8,15 @@ use Rattle.phases.specs.Steps.{all-fits, full-long, full-said, full-hear
 use borrow.Author.Needs.{needs}
 use Rattle.phases.proofs.steps.step_full.Statement.{statement}
 use Rattle.phases.proofs.steps.step_full.Tie as tie
-use Rattle.phases.proofs.steps.step_full.Reads as reads
-use Rattle.phases.proofs.steps.step_full.Lts as lts
-use Rattle.phases.proofs.certificate.hear_certificate.Reads as hear-certificate-reads
-use Rattle.wire.proofs.read.entry_set.Reads as entry-set-reads
-use Rattle.wire.proofs.values.value_at.Reads as value-at-reads
 
--- src/steps.rt:68:9
 value-at-requires : tie.Need-value-at-requires
 value-at-requires c κs =
     let start = c .before .before .before in
     full-long (start .args .r .n) (now (start .args .message)) (start .pre .1)
 
--- src/steps.rt:69:9
 entry-set-requires : tie.Need-entry-set-requires
 entry-set-requires c κs = search needs
 
--- src/steps.rt:75:5
 hear-certificate-requires : tie.Need-hear-certificate-requires
 hear-certificate-requires c κs =
     let start = c .before .before .before .before .before .before .before in
@@ -32,15 +25,12 @@ hear-certificate-requires c κs =
     let room = all-fits (args .r .n) (length (now (args .out))) (start .pre .0 .room) in
     (ready-fits (args .r) (now (args .store)) (now (args .out)) (start .pre .0), full-readable (args .r .n) (now (args .message)) (full-said (args .r .n) (now (args .message)) (start .pre .1)) (start .pre .2) (start .pre .3) (set .result) (set .ensures), omega (arith, room))
 
--- src/steps.rt:64:1
 same-length : tie.Need-same-length
 same-length c = search needs
 
--- src/steps.rt:64:1
 same-length-2 : tie.Need-same-length-2
 same-length-2 c = search needs
 
--- src/steps.rt:64:1
 returns : tie.Need-returns
 returns c =
     let start = c .before .before .before .before .before .before .before .before .before .before .before .before in

@@ -1,3 +1,4 @@
+-- `phases::steps::step_notice` meets its contract.
 use Rattle.protocol.specs.Step.{noticesWith}
 use lib.ListN.{length}
 use native.Mathlib.Omega.{arith}
@@ -8,23 +9,15 @@ use Rattle.phases.specs.Steps.{all-fits, notice-length, notice-heard}
 use borrow.Author.Needs.{needs}
 use Rattle.phases.proofs.steps.step_notice.Statement.{statement}
 use Rattle.phases.proofs.steps.step_notice.Tie as tie
-use Rattle.phases.proofs.steps.step_notice.Reads as reads
-use Rattle.phases.proofs.steps.step_notice.Lts as lts
-use Rattle.phases.proofs.hear.hear.Reads as hear-reads
-use Rattle.phases.proofs.reply.reply.Reads as reply-reads
-use Rattle.wire.proofs.values.value_at.Reads as value-at-reads
 
--- src/steps.rt:55:9
 value-at-requires : tie.Need-value-at-requires
 value-at-requires c κs =
     let start = c .before .before .before in
     omega (arith, notice-length (start .args .r .n) (now (start .args .message)) (start .pre .1))
 
--- src/steps.rt:56:9
 hear-requires : tie.Need-hear-requires
 hear-requires c κs = search needs
 
--- src/steps.rt:57:5
 reply-requires : tie.Need-reply-requires
 reply-requires c κs =
     let start = c .before .before .before .before .before .before in
@@ -37,11 +30,9 @@ reply-requires c κs =
       heard-room (args .r) (now (args .store)) notices (heard .result) (heard .ensures) 0 0 (length (now (args .out))) (omega (arith, room)),
     )
 
--- src/steps.rt:51:1
 same-length : tie.Need-same-length
 same-length c = search needs
 
--- src/steps.rt:51:1
 returns : tie.Need-returns
 returns c =
     let start = c .before .before .before .before .before .before .before .before .before in

@@ -1,3 +1,4 @@
+-- `phases::steps::step_phase` meets its contract.
 use mathlib.Core.Path.{sym, _∙_}
 use denote.Ref.{now}
 use Rattle.phases.specs.Steps.{nothing-heard}
@@ -5,82 +6,61 @@ use Rattle.wire.proofs.Tags.{tags}
 use borrow.Author.Needs.{needs}
 use Rattle.phases.proofs.steps.step_phase.Statement.{statement}
 use Rattle.phases.proofs.steps.step_phase.Tie as tie
-use Rattle.phases.proofs.steps.step_phase.Reads as reads
-use Rattle.phases.proofs.steps.step_phase.Lts as lts
-use Rattle.phases.proofs.steps.step_full.Reads as step-full-reads
-use Rattle.phases.proofs.steps.step_notice.Reads as step-notice-reads
-use Rattle.phases.proofs.steps.step_submit.Reads as step-submit-reads
 
--- src/steps.rt:89:40
 enum-told : tie.Need-enum-told
 enum-told c = search needs
 
--- src/steps.rt:89:25
 step-submit-requires : tie.Need-step-submit-requires
 step-submit-requires c κs =
     let start = c .before .before .before .before .before .before .before in
     let kind = c .before .before .enum-told .given .1 in
     (start .pre .0, sym kind ∙ start .pre .1, start .pre .2)
 
--- src/steps.rt:90:40
 enum-told-2 : tie.Need-enum-told-2
 enum-told-2 c = search needs
 
--- src/steps.rt:90:25
 step-notice-requires : tie.Need-step-notice-requires
 step-notice-requires c κs =
     let start = c .before .before .before .before .before .before .before in
     let kind = c .before .before .enum-told2 .given .1 in
     (start .pre .0, sym kind ∙ start .pre .1)
 
--- src/steps.rt:91:36
 enum-told-3 : tie.Need-enum-told-3
 enum-told-3 c = search needs
 
--- src/steps.rt:91:23
 step-full-requires : tie.Need-step-full-requires
 step-full-requires c κs =
     let start = c .before .before .before .before .before .before .before in
     let kind = c .before .before .enum-told3 .given .1 in
     (start .pre .0, sym kind ∙ start .pre .1, start .pre .2, start .pre .3)
 
--- src/steps.rt:84:1
 same-length : tie.Need-same-length
 same-length c = search needs
 
--- src/steps.rt:84:1
 same-length-2 : tie.Need-same-length-2
 same-length-2 c = search needs
 
--- src/steps.rt:84:1
 returns : tie.Need-returns
 returns c = search needs
 
--- src/steps.rt:84:1
 same-length-3 : tie.Need-same-length-3
 same-length-3 c = search needs
 
--- src/steps.rt:84:1
 same-length-4 : tie.Need-same-length-4
 same-length-4 c = search needs
 
--- src/steps.rt:84:1
 returns-2 : tie.Need-returns-2
 returns-2 c = search needs
 
--- src/steps.rt:84:1
 same-length-5 : tie.Need-same-length-5
 same-length-5 c = search needs
 
--- src/steps.rt:84:1
 same-length-6 : tie.Need-same-length-6
 same-length-6 c = search needs
 
--- src/steps.rt:84:1
 returns-3 : tie.Need-returns-3
 returns-3 c = search needs
 
--- src/steps.rt:84:1
 returns-4 : tie.Need-returns-4
 returns-4 c =
     let start = c .before .before .before .before in

@@ -1,3 +1,4 @@
+-- `phases::steps::step_submit` meets its contract.
 use lib.ListN.{length}
 use native.Mathlib.Omega.{arith}
 use denote.Ref.{now}
@@ -7,33 +8,22 @@ use Rattle.phases.specs.Steps.{rest-fits, submit-length, submit-signatur
 use borrow.Author.Needs.{needs}
 use Rattle.phases.proofs.steps.step_submit.Statement.{statement}
 use Rattle.phases.proofs.steps.step_submit.Tie as tie
-use Rattle.phases.proofs.steps.step_submit.Reads as reads
-use Rattle.phases.proofs.steps.step_submit.Lts as lts
-use Rattle.phases.proofs.collect.hear_submit.Reads as hear-submit-reads
-use Rattle.phases.proofs.confirm.confirm_if_complete.Reads as confirm-if-complete-reads
-use Rattle.wire.proofs.read.number_at.Reads as number-at-reads
-use Rattle.wire.proofs.slots.signature_at.Reads as signature-at-reads
-use Rattle.wire.proofs.values.value_at.Reads as value-at-reads
 
--- src/steps.rt:43:9
 value-at-requires : tie.Need-value-at-requires
 value-at-requires c κs =
     let start = c .before .before .before in
     omega (arith, submit-length (start .args .r .n) (now (start .args .message)) (start .pre .1))
 
--- src/steps.rt:44:9
 signature-at-requires : tie.Need-signature-at-requires
 signature-at-requires c κs =
     let start = c .before .before .before .before in
     omega (arith, submit-length (start .args .r .n) (now (start .args .message)) (start .pre .1))
 
--- src/steps.rt:45:9
 number-at-requires : tie.Need-number-at-requires
 number-at-requires c κs =
     let start = c .before .before .before .before .before in
     omega (arith, submit-length (start .args .r .n) (now (start .args .message)) (start .pre .1))
 
--- src/steps.rt:46:9
 hear-submit-requires : tie.Need-hear-submit-requires
 hear-submit-requires c κs =
     let start = c .before .before .before .before .before .before .before in
@@ -43,7 +33,6 @@ hear-submit-requires c κs =
       submit-signature (start .args .r .n) (now (start .args .message)) (start .pre .1) (now (c .before .before .signature-at .result)) (c .before .before .signature-at .ensures),
     )
 
--- src/steps.rt:47:5
 confirm-if-complete-requires : tie.Need-confirm-if-complete-requires
 confirm-if-complete-requires c κs =
     let start = c .before .before .before .before .before .before .before .before .before .before .before .before in
@@ -55,15 +44,12 @@ confirm-if-complete-requires c κs =
     (seat .result) (c .before .before .before .before .before .before .before .before .value-at .result) (now (c .before .before .before .before .before .before .before .signature-at .result)) (submit-seat (start .args .r .n) (now (start .args .message)) (start .pre .1) (seat .result) (seat .ensures .0) (start .pre .2)) (heard .ensures) in
     (fits .0, rest-fits (args .r .n) (heard .result .n) 0 (length (now (args .out))) (fits .1) (omega arith) (start .pre .0 .room))
 
--- src/steps.rt:39:1
 same-length : tie.Need-same-length
 same-length c = search needs
 
--- src/steps.rt:39:1
 same-length-2 : tie.Need-same-length-2
 same-length-2 c = search needs
 
--- src/steps.rt:39:1
 returns : tie.Need-returns
 returns c =
     let start = c .before .before .before .before .before .before .before .before .before .before .before .before .before .before .before .before .before in

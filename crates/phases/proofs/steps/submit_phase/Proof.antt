@@ -1,3 +1,4 @@
+-- `phases::steps::submit_phase` meets its contract.
 use lib.ListN.{length}
 use native.Mathlib.Omega.{arith}
 use denote.Ref.{now}
@@ -7,12 +8,7 @@ use Rattle.phases.specs.Steps.{all-fits, rest-fits, submit-done}
 use borrow.Author.Needs.{needs}
 use Rattle.phases.proofs.steps.submit_phase.Statement.{statement}
 use Rattle.phases.proofs.steps.submit_phase.Tie as tie
-use Rattle.phases.proofs.steps.submit_phase.Reads as reads
-use Rattle.phases.proofs.steps.submit_phase.Lts as lts
-use Rattle.phases.proofs.collect.submit_own.Reads as submit-own-reads
-use Rattle.phases.proofs.confirm.confirm_if_complete.Reads as confirm-if-complete-reads
 
--- src/steps.rt:32:9
 submit-own-requires : tie.Need-submit-own-requires
 submit-own-requires c κs =
     let start = c .before .before .before .before .before .before in
@@ -23,7 +19,6 @@ submit-own-requires c κs =
       omega (arith, all-fits (args .r .n) (length (now (args .out))) (start .pre .0 .room)),
     )
 
--- src/steps.rt:35:5
 confirm-if-complete-requires : tie.Need-confirm-if-complete-requires
 confirm-if-complete-requires c κs =
     let start = c .before .before .before .before .before .before .before .before .before .before .before .before .before .before in
@@ -35,15 +30,12 @@ confirm-if-complete-requires c κs =
     let room = rest-fits (args .r .n) (said .result .unit .n) (said .result .at) (length (now (args .out))) (fits .1) (omega (arith, said .ensures .1)) (start .pre .0 .room) in
     (fits .0, omega (arith, room, said .kept .1 .1 .0))
 
--- src/steps.rt:28:1
 same-length : tie.Need-same-length
 same-length c = search needs
 
--- src/steps.rt:28:1
 same-length-2 : tie.Need-same-length-2
 same-length-2 c = search needs
 
--- src/steps.rt:28:1
 returns : tie.Need-returns
 returns c =
     let start = c .before .before .before .before .before .before .before .before .before .before .before .before .before .before .before .before .before .before .before in

@@ -1,3 +1,4 @@
+-- `validate::signatures::bad_in_evidence` meets its contract.
 use mathlib.Core.Path.{_≡_, sym, _∙_}
 use mathlib.Core.Bool.{true}
 use Prim.Native.Nat.{_-_, _≤_, _<_}
@@ -11,10 +12,6 @@ use Rattle.validate.specs.Signatures.{pairCheck, eachBelow, each-none, e
 use Rattle.validate.specs.Entries.{evidence-not, evidence-all}
 use Rattle.validate.proofs.signatures.bad_in_evidence.Statement.{statement}
 use Rattle.validate.proofs.signatures.bad_in_evidence.Tie as tie
-use Rattle.validate.proofs.signatures.bad_in_evidence.Reads as reads
-use Rattle.validate.proofs.signatures.bad_in_evidence.Lts as lts
-use Rattle.validate.proofs.signatures.pair_checks.Reads as pair-checks-reads
-use Rattle.wire.proofs.read.number_at.Reads as number-at-reads
 
 abbrev Inv-loop : tie.InvT-loop
 Inv-loop k n round keys m count t₀ t = (t ≤ count) × (count ≡ byteAt m 67) × (eachBelow (pairCheck (checks keys round) m) t ≡ true)
@@ -22,30 +19,24 @@ Inv-loop k n round keys m count t₀ t = (t ≤ count) × (count ≡ byteAt m 67
 abbrev μ-loop : tie.MeasureT-loop
 μ-loop k n round keys m count t₀ t = count - t
 
--- src/signatures.rt:83:17
 number-at-requires : tie.Need-number-at-requires Inv-loop μ-loop
 unfolding evidenceLength evidenceEntryAt
 number-at-requires c κs = omega arith
 
--- src/signatures.rt:83:17
 cast-count : tie.Need-cast-count Inv-loop μ-loop
 cast-count c = omega arith
 
--- src/signatures.rt:85:5
 loop-holds : tie.Need-loop-holds Inv-loop μ-loop
 loop-holds c =
     let start = c .before .before .before in
     (omega arith, c .number-at .ensures .0, each-none (pairCheck (checks (now (start .args .keys)) (start .args .round)) (now (start .args .m))))
 
--- src/signatures.rt:86:52
 mul-pair-checks : tie.Need-mul-pair-checks Inv-loop μ-loop
 mul-pair-checks c = omega arith
 
--- src/signatures.rt:86:47
 add-pair-checks : tie.Need-add-pair-checks Inv-loop μ-loop
 add-pair-checks c = omega arith
 
--- src/signatures.rt:86:13
 pair-checks-requires : tie.Need-pair-checks-requires Inv-loop μ-loop
 unfolding evidenceLength evidenceEntryAt evidenceEntryLength
 pair-checks-requires c κs =
@@ -57,7 +48,6 @@ pair-checks-requires c κs =
     let inside : t < byteAt m 67 = omega arith in
     (start .pre .0, omega arith, omega (arith, taken .size), taken .known t inside)
 
--- src/signatures.rt:87:13
 returns : tie.Need-returns Inv-loop μ-loop
 unfolding evidenceEntryAt evidenceEntryLength
 returns c =
@@ -68,15 +58,12 @@ returns c =
     let inside : t < byteAt m 67 = omega arith in
     evidence-not (checks (now (start .args .keys)) (start .args .round)) (start .args .n) m (start .pre .1) t inside (sym (c .before .pair-checks .ensures) ∙ not-true _ (c .if1 .taken))
 
--- src/signatures.rt:89:9
 add-t : tie.Need-add-t Inv-loop μ-loop
 add-t c = omega arith
 
--- src/signatures.rt:85:5
 loop-less : tie.Need-loop-less Inv-loop μ-loop
 loop-less c = omega arith
 
--- src/signatures.rt:85:5
 loop-again : tie.Need-loop-again Inv-loop μ-loop
 unfolding evidenceEntryAt evidenceEntryLength
 loop-again c =
@@ -84,7 +71,6 @@ loop-again c =
     let start = at-loop .before .before .before .before in
     (omega arith, at-loop .loop .inv .1, each-turn (pairCheck (checks (now (start .args .keys)) (start .args .round)) (now (start .args .m))) (at-loop .loop .t) (at-loop .loop .inv .2) (sym (c .before .pair-checks .ensures) ∙ not-false _ (c .if1 .left)))
 
--- src/signatures.rt:79:1
 returns-2 : tie.Need-returns-2 Inv-loop μ-loop
 returns-2 c =
     let at-loop = c .before in

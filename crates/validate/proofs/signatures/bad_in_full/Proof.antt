@@ -1,3 +1,4 @@
+-- `validate::signatures::bad_in_full` meets its contract.
 use mathlib.Core.Path.{_≡_, sym, _∙_}
 use mathlib.Core.Bool.{true}
 use Prim.Native.Nat.{_-_, _≤_, _<_}
@@ -11,10 +12,6 @@ use Rattle.validate.specs.Signatures.{entryCheck, eachBelow, each-none, 
 use Rattle.validate.specs.Entries.{full-not, full-all}
 use Rattle.validate.proofs.signatures.bad_in_full.Statement.{statement}
 use Rattle.validate.proofs.signatures.bad_in_full.Tie as tie
-use Rattle.validate.proofs.signatures.bad_in_full.Reads as reads
-use Rattle.validate.proofs.signatures.bad_in_full.Lts as lts
-use Rattle.quorum.proofs.k.Reads as k-reads
-use Rattle.validate.proofs.signatures.entry_checks.Reads as entry-checks-reads
 
 abbrev Inv-loop : tie.InvT-loop
 Inv-loop words n round keys m count t₀ t = (t ≤ count) × (count ≡ k n) × (count ≤ n) × (eachBelow (entryCheck (checks keys round) m) t ≡ true)
@@ -22,22 +19,18 @@ Inv-loop words n round keys m count t₀ t = (t ≤ count) × (count ≡ k n) ×
 abbrev μ-loop : tie.MeasureT-loop
 μ-loop words n round keys m count t₀ t = count - t
 
--- src/signatures.rt:55:17
 k-requires : tie.Need-k-requires Inv-loop μ-loop
 k-requires c κs = search needs
 
--- src/signatures.rt:55:17
 cast-count : tie.Need-cast-count Inv-loop μ-loop
 cast-count c = omega arith
 
--- src/signatures.rt:57:5
 loop-holds : tie.Need-loop-holds Inv-loop μ-loop
 unfolding k
 loop-holds c =
     let start = c .before .before .before in
     (omega arith, c .k .ensures, omega arith, each-none (entryCheck (checks (now (start .args .keys)) (start .args .round)) (now (start .args .m))))
 
--- src/signatures.rt:58:13
 entry-checks-requires : tie.Need-entry-checks-requires Inv-loop μ-loop
 entry-checks-requires c κs =
     let start = c .before .before .before .before .before in
@@ -45,7 +38,6 @@ entry-checks-requires c κs =
     let count = taken .count in
     (start .pre .0, taken, omega arith)
 
--- src/signatures.rt:59:13
 returns : tie.Need-returns Inv-loop μ-loop
 returns c =
     let at-loop = c .before .before .before in
@@ -55,22 +47,18 @@ returns c =
     let inside : t < k (start .args .n) = omega arith in
     full-not (checks (now (start .args .keys)) (start .args .round)) (start .args .n) m (start .pre .2) t inside (sym (c .before .entry-checks .ensures) ∙ not-true _ (c .if1 .taken))
 
--- src/signatures.rt:61:9
 add-t : tie.Need-add-t Inv-loop μ-loop
 add-t c = omega arith
 
--- src/signatures.rt:57:5
 loop-less : tie.Need-loop-less Inv-loop μ-loop
 loop-less c = omega arith
 
--- src/signatures.rt:57:5
 loop-again : tie.Need-loop-again Inv-loop μ-loop
 loop-again c =
     let at-loop = c .before .before .before in
     let start = at-loop .before .before .before .before in
     (omega arith, at-loop .loop .inv .1, at-loop .loop .inv .2, each-turn (entryCheck (checks (now (start .args .keys)) (start .args .round)) (now (start .args .m))) (at-loop .loop .t) (at-loop .loop .inv .3) (sym (c .before .entry-checks .ensures) ∙ not-false _ (c .if1 .left)))
 
--- src/signatures.rt:51:1
 returns-2 : tie.Need-returns-2 Inv-loop μ-loop
 returns-2 c =
     let at-loop = c .before in

@@ -1,3 +1,4 @@
+-- `validate::signatures::bad_in_submit` meets its contract.
 use native.Mathlib.Omega.{arith}
 use denote.Ref.{now}
 use Rattle.rfc8554.specs.Calls.{checks}
@@ -5,17 +6,11 @@ use Rattle.protocol.specs.Layout.{signatureLength, submitLength}
 use Rattle.validate.specs.Entries.{submit-signature}
 use Rattle.validate.proofs.signatures.bad_in_submit.Statement.{statement}
 use Rattle.validate.proofs.signatures.bad_in_submit.Tie as tie
-use Rattle.validate.proofs.signatures.bad_in_submit.Reads as reads
-use Rattle.validate.proofs.signatures.bad_in_submit.Lts as lts
-use Rattle.validate.proofs.signatures.signed_at.Reads as signed-at-reads
-use Rattle.wire.proofs.read.number_at.Reads as number-at-reads
 
--- src/signatures.rt:37:9
 number-at-requires : tie.Need-number-at-requires
 unfolding submitLength
 number-at-requires c κs = omega arith
 
--- src/signatures.rt:38:6
 signed-at-requires : tie.Need-signed-at-requires
 unfolding submitLength signatureLength
 signed-at-requires c κs =
@@ -23,7 +18,6 @@ signed-at-requires c κs =
     let read = c .number-at .ensures .0 in
     (start .pre .0, omega arith, omega arith, omega arith)
 
--- src/signatures.rt:33:1
 returns : tie.Need-returns
 returns c =
     let start = c .before .before .before .before in

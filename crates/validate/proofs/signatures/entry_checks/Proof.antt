@@ -1,3 +1,4 @@
+-- `validate::signatures::entry_checks` meets its contract.
 use mathlib.Core.Path.{sym, _∙_}
 use denote.Ref.{now}
 use Rattle.rfc8554.specs.Calls.{checks}
@@ -6,20 +7,13 @@ use Rattle.validate.specs.Entries.{entry-is, entry-fits, entry-not-end}
 use borrow.Author.Needs.{needs}
 use Rattle.validate.proofs.signatures.entry_checks.Statement.{statement}
 use Rattle.validate.proofs.signatures.entry_checks.Tie as tie
-use Rattle.validate.proofs.signatures.entry_checks.Reads as reads
-use Rattle.validate.proofs.signatures.entry_checks.Lts as lts
-use Rattle.validate.proofs.signatures.signed_at.Reads as signed-at-reads
-use Rattle.wire.proofs.reader.read_entry.Reads as read-entry-reads
 
--- src/signatures.rt:47:9
 read-entry-requires : tie.Need-read-entry-requires
 read-entry-requires c κs = search needs
 
--- src/signatures.rt:50:13
 enum-known-found : tie.Need-enum-known-found
 enum-known-found c = search needs
 
--- src/signatures.rt:53:14
 signed-at-requires : tie.Need-signed-at-requires
 signed-at-requires c κs =
     let start = c .before .before .before .before .before .before in
@@ -30,11 +24,9 @@ signed-at-requires c κs =
     let fits = entry-fits n m (start .pre .1) t (start .pre .2) _ _ is in
     (start .pre .0, fits .0, fits .1, fits .2)
 
--- src/signatures.rt:54:22
 enum-told : tie.Need-enum-told
 enum-told c = search needs
 
--- src/signatures.rt:43:1
 returns : tie.Need-returns
 returns c =
     let start = c .before .before .before .before .before .before .before in
@@ -44,7 +36,6 @@ returns c =
     let is = entry-is n m (start .pre .1) t (start .pre .2) _ _ _ (sym (c .before .before .before .before .read-entry .ensures) ∙ c .before .before .found .given .1) in
     entry-checked (checks (now (start .args .keys)) (start .args .round)) m t _ _ (c .signed-at .result) (is .0) (is .1) (c .signed-at .ensures)
 
--- src/signatures.rt:43:1
 returns-2 : tie.Need-returns-2
 returns-2 c =
     let start = c .before .before .before .before .before in

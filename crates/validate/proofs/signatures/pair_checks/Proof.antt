@@ -1,3 +1,4 @@
+-- `validate::signatures::pair_checks` meets its contract.
 use native.Mathlib.Omega.{arith}
 use borrow.Author.Tests.{not-true, not-false}
 use denote.Ref.{now}
@@ -7,25 +8,17 @@ use Rattle.validate.specs.Signatures.{pair-low, pair-both}
 use borrow.Author.Needs.{needs}
 use Rattle.validate.proofs.signatures.pair_checks.Statement.{statement}
 use Rattle.validate.proofs.signatures.pair_checks.Tie as tie
-use Rattle.validate.proofs.signatures.pair_checks.Reads as reads
-use Rattle.validate.proofs.signatures.pair_checks.Lts as lts
-use Rattle.validate.proofs.signatures.signed_at.Reads as signed-at-reads
-use Rattle.wire.proofs.read.number_at.Reads as number-at-reads
 
--- src/signatures.rt:71:41
 add-number-at : tie.Need-add-number-at
 add-number-at c = search needs
 
--- src/signatures.rt:71:9
 number-at-requires : tie.Need-number-at-requires
 unfolding evidenceEntryLength
 number-at-requires c κs = omega arith
 
--- src/signatures.rt:72:50
 add-signed-at : tie.Need-add-signed-at
 add-signed-at c = search needs
 
--- src/signatures.rt:72:9
 signed-at-requires : tie.Need-signed-at-requires
 unfolding evidenceEntryLength signatureLength
 signed-at-requires c κs =
@@ -33,7 +26,6 @@ signed-at-requires c κs =
     let read = c .number-at .ensures .0 in
     (start .pre .0, omega arith, omega arith, omega arith)
 
--- src/signatures.rt:73:9
 returns : tie.Need-returns
 returns c =
     let start = c .before .before .before .before .before in
@@ -41,11 +33,9 @@ returns c =
     let low = c .before .signed-at in
     pair-low (checks (now (start .args .keys)) (start .args .round)) (now (start .args .m)) (start .args .at) (seat .result) (seat .ensures .0) (low .result) (low .ensures) (not-true _ (c .if1 .taken))
 
--- src/signatures.rt:75:47
 add-signed-at-2 : tie.Need-add-signed-at-2
 add-signed-at-2 c = search needs
 
--- src/signatures.rt:75:5
 signed-at-requires-2 : tie.Need-signed-at-requires-2
 unfolding evidenceEntryLength signatureLength
 signed-at-requires-2 c κs =
@@ -53,7 +43,6 @@ signed-at-requires-2 c κs =
     let read = c .before .before .number-at .ensures .0 in
     (start .pre .0, omega arith, omega arith, omega arith)
 
--- src/signatures.rt:67:1
 returns-2 : tie.Need-returns-2
 returns-2 c =
     let start = c .before .before .before .before .before .before in

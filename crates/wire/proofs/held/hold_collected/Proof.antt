@@ -1,3 +1,4 @@
+-- `wire::held::hold_collected` meets its contract.
 use native.Mathlib.Omega.{arith}
 use borrow.Author.Needs.{needs}
 use Rattle.protocol.specs.Message.{readSignature}

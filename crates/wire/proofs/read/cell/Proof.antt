@@ -1,3 +1,4 @@
+-- `wire::read::cell` meets its contract.
 use native.Mathlib.Omega.{arith}
 use lib.ListN.{length}
 use borrow.Author.Needs.{needs}

@@ -1,3 +1,4 @@
+-- `wire::read::classify` meets its contract.
 use borrow.Author.Needs.{needs}
 use denote.Ref.{now}
 use Rattle.wire.specs.KindLaws.{told-submit, told-notice, told-full, told-evidence, told-garbled}

@@ -1,3 +1,4 @@
+-- `wire::read::entry_set` meets its contract.
 use mathlib.Core.Path.{ap, _∙_}
 use borrow.Author.Needs.{needs}
 use denote.Ref.{now}

@@ -1,3 +1,4 @@
+-- `wire::read::is_disordered` meets its contract.
 use borrow.Author.Needs.{needs}
 use denote.Ref.{now}
 use Rattle.protocol.specs.Message.{read}

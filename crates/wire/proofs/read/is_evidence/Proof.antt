@@ -1,3 +1,4 @@
+-- `wire::read::is_evidence` meets its contract.
 use borrow.Author.Needs.{needs}
 use denote.Ref.{now}
 use Rattle.wire.specs.FormLaws.{evidence-short, evidence-code, evidence-none, evidence-many, evidence-size, evidence-entries}

@@ -1,3 +1,4 @@
+-- `wire::read::is_notice` meets its contract.
 use borrow.Author.Tests.{eq-eqb, ne-eqb}
 use borrow.Author.Needs.{needs}
 use Rattle.protocol.specs.Layout.{noticeLength}

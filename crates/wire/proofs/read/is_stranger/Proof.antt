@@ -1,3 +1,4 @@
+-- `wire::read::is_stranger` meets its contract.
 use borrow.Author.Needs.{needs}
 use denote.Ref.{now}
 use Rattle.protocol.specs.Message.{read}

@@ -1,3 +1,4 @@
+-- `wire::read::other_round` meets its contract.
 use mathlib.Core.Path.{_≡_}
 use mathlib.Core.Logic.{_⊎_, ⊎-elim}
 use Prim.Native.Nat.{ℕ}

@@ -1,3 +1,4 @@
+-- `wire::read::round_of` meets its contract.
 use native.Mathlib.Omega.{arith}
 use borrow.Author.Needs.{needs}
 use Rattle.protocol.specs.Message.{readRound}

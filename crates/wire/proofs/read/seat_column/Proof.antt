@@ -1,3 +1,4 @@
+-- `wire::read::seat_column` meets its contract.
 use native.Mathlib.Omega.{arith}
 use borrow.Author.Needs.{needs}
 use denote.Ref.{now}

@@ -1,3 +1,4 @@
+-- `wire::read::sender_outside` meets its contract.
 use mathlib.Core.Logic.{⊎-elim}
 use native.Mathlib.Omega.{arith}
 use denote.Ref.{now}

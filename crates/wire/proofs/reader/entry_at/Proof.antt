@@ -1,3 +1,4 @@
+-- `wire::reader::entry_at` meets its contract.
 use native.Mathlib.Omega.{arith}
 use denote.Ref.{now}
 use Rattle.protocol.specs.Layout.{fullEntryLength}

@@ -1,3 +1,4 @@
+-- `wire::slots::slot_at` meets its contract.
 use mathlib.Core.Path.{refl}
 use native.Mathlib.Omega.{arith}
 use Rattle.protocol.specs.Layout.{signatureLength, slotAt}

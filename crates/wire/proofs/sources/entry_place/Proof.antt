@@ -1,3 +1,4 @@
+-- `wire::sources::entry_place` meets its contract.
 use mathlib.Core.Path.{ap}
 use Prim.Native.Nat.{ℕ}
 use native.Mathlib.Omega.{arith}

@@ -1,3 +1,4 @@
+-- `wire::sources::signature_of` meets its contract.
 use borrow.Author.Needs.{needs}
 use denote.Ref.{now}
 use Rattle.wire.specs.SourceLaws.{entries-inside, slots-inside, entries-signature, slots-signature}

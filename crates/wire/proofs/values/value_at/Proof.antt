@@ -1,3 +1,4 @@
+-- `wire::values::value_at` meets its contract.
 use mathlib.Core.Path.{refl}
 use borrow.Author.Needs.{needs}
 use denote.Ref.{now}

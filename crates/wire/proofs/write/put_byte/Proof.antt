@@ -1,3 +1,4 @@
+-- `wire::write::put_byte` meets its contract.
 use borrow.Author.Needs.{needs}
 use denote.Ref.{now}
 use Rattle.wire.specs.WriteLaws.{one-byte}

@@ -1,3 +1,4 @@
+-- `wire::write::put_tag` meets its contract.
 use native.Mathlib.Omega.{arith}
 use borrow.Author.Needs.{needs}
 use denote.Ref.{now}

@@ -1,3 +1,4 @@
+-- `wire::write::write_entry` meets its contract.
 use native.Mathlib.Omega.{arith}
 use borrow.Author.Needs.{needs}
 use denote.Ref.{now}

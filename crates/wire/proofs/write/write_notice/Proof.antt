@@ -1,3 +1,4 @@
+-- `wire::write::write_notice` meets its contract.
 use borrow.Author.Needs.{needs}
 use Rattle.protocol.specs.Message.{render}
 use Rattle.wire.proofs.write.write_notice.Statement.{statement}

@@ -1,3 +1,4 @@
+-- `wire::write::write_ordered` meets its contract.
 use mathlib.Core.Path.{_∙_}
 use native.Mathlib.Omega.{arith}
 use borrow.Author.Needs.{needs}

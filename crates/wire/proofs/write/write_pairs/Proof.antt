@@ -1,3 +1,4 @@
+-- `wire::write::write_pairs` meets its contract.
 use mathlib.Core.Logic.{⊎-elim}
 use Prim.Native.Nat.{_-_}
 use native.Mathlib.Omega.{arith}

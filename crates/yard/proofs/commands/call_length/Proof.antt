@@ -1,42 +1,32 @@
+-- `yard::commands::call_length` meets its contract.
 use denote.Ref.{now}
 use Rattle.yard.specs.CommandLaws.{call-message, call-submit, call-other}
 use borrow.Author.Needs.{needs}
 use Rattle.yard.proofs.commands.call_length.Statement.{statement}
 use Rattle.yard.proofs.commands.call_length.Tie as tie
-use Rattle.yard.proofs.commands.call_length.Reads as reads
-use Rattle.yard.proofs.commands.call_length.Lts as lts
-use Rattle.yard.proofs.commands.byte_at.Reads as byte-at-reads
-use Rattle.yard.proofs.commands.two_at.Reads as two-at-reads
 
--- src/commands.rt:52:9
 byte-at-requires : tie.Need-byte-at-requires
 byte-at-requires c κs = search needs
 
--- src/commands.rt:54:21
 two-at-requires : tie.Need-two-at-requires
 two-at-requires c κs = search needs
 
--- src/commands.rt:54:17
 add-result : tie.Need-add-result
 add-result c = search needs
 
--- src/commands.rt:54:16
 cast-result : tie.Need-cast-result
 cast-result c = search needs
 
--- src/commands.rt:54:9
 returns : tie.Need-returns
 returns c =
     let read = c .before .before in
     (call-message (now (read .before .before .args .bytes)) (read .byte-at .result) (read .byte-at .ensures .0) (c .two-at .result) (c .before .if1 .taken) (c .two-at .ensures .0), search needs)
 
--- src/commands.rt:57:9
 returns-2 : tie.Need-returns-2
 returns-2 c =
     let read = c .before .before in
     (call-submit (now (read .before .before .args .bytes)) (read .byte-at .result) (read .byte-at .ensures .0) (c .before .if1 .left) (c .if2 .taken), search needs)
 
--- src/commands.rt:49:1
 returns-3 : tie.Need-returns-3
 returns-3 c =
     let read = c .before .before in

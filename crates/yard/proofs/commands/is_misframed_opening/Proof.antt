@@ -1,28 +1,21 @@
+-- `yard::commands::is_misframed_opening` meets its contract.
 use denote.Ref.{now}
 use Rattle.yard.specs.CommandLaws.{opening-short, opening-whole}
 use borrow.Author.Needs.{needs}
 use Rattle.yard.proofs.commands.is_misframed_opening.Statement.{statement}
 use Rattle.yard.proofs.commands.is_misframed_opening.Tie as tie
-use Rattle.yard.proofs.commands.is_misframed_opening.Reads as reads
-use Rattle.yard.proofs.commands.is_misframed_opening.Lts as lts
-use Rattle.yard.proofs.commands.byte_at.Reads as byte-at-reads
-use Rattle.yard.proofs.commands.opening_length.Reads as opening-length-reads
 
--- src/commands.rt:76:22
 opening-length-requires : tie.Need-opening-length-requires
 opening-length-requires c κs = search needs
 
--- src/commands.rt:77:9
 returns : tie.Need-returns
 returns c =
     let sized = c .before in
     opening-short (now (sized .before .before .args .bytes)) (sized .opening-length .result) (sized .opening-length .ensures .0) (c .if1 .taken)
 
--- src/commands.rt:79:5
 byte-at-requires : tie.Need-byte-at-requires
 byte-at-requires c κs = search needs
 
--- src/commands.rt:73:1
 returns-2 : tie.Need-returns-2
 returns-2 c =
     let tested = c .before in

@@ -1,32 +1,25 @@
+-- `yard::commands::keys_of` meets its contract.
 use denote.Ref.{now}
 use Rattle.yard.specs.CommandLaws.{keys-none, keys-rest}
 use borrow.Author.Needs.{needs}
 use Rattle.yard.proofs.commands.keys_of.Statement.{statement}
 use Rattle.yard.proofs.commands.keys_of.Tie as tie
-use Rattle.yard.proofs.commands.keys_of.Reads as reads
-use Rattle.yard.proofs.commands.keys_of.Lts as lts
 
--- src/commands.rt:67:9
 slice-aggregate-result : tie.Need-slice-aggregate-result
 slice-aggregate-result c = search needs
 
--- src/commands.rt:67:9
 returns : tie.Need-returns
 returns c = keys-none (now (c .before .before .args .bytes)) (search needs)
 
--- src/commands.rt:69:5
 sub-result : tie.Need-sub-result
 sub-result c = search needs
 
--- src/commands.rt:69:5
 part-result-start : tie.Need-part-result-start
 part-result-start c = search needs
 
--- src/commands.rt:69:5
 part-result-end : tie.Need-part-result-end
 part-result-end c = search needs
 
--- src/commands.rt:63:1
 returns-2 : tie.Need-returns-2
 returns-2 c = keys-rest (now (c .before .before .args .bytes))
 

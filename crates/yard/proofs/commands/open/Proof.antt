@@ -1,63 +1,45 @@
+-- `yard::commands::open` meets its contract.
 use denote.Ref.{now}
 use Rattle.yard.specs.CommandLaws.{open-misframed, open-many, open-few}
 use borrow.Author.Needs.{needs}
 use Rattle.yard.proofs.commands.open.Statement.{statement}
 use Rattle.yard.proofs.commands.open.Tie as tie
-use Rattle.yard.proofs.commands.open.Reads as reads
-use Rattle.yard.proofs.commands.open.Lts as lts
-use Rattle.confirmer.proofs.opening.open.Reads as open-reads
-use Rattle.yard.proofs.commands.byte_at.Reads as byte-at-reads
-use Rattle.yard.proofs.commands.is_misframed_opening.Reads as is-misframed-opening-reads
-use Rattle.yard.proofs.commands.keys_of.Reads as keys-of-reads
-use Rattle.yard.proofs.commands.refused_opening.Reads as refused-opening-reads
-use Rattle.yard.proofs.commands.two_at.Reads as two-at-reads
 
--- src/commands.rt:96:8
 is-misframed-opening-requires : tie.Need-is-misframed-opening-requires
 is-misframed-opening-requires c κs = search needs
 
--- src/commands.rt:97:9
 refused-opening-requires : tie.Need-refused-opening-requires
 refused-opening-requires c κs = search needs
 
--- src/commands.rt:97:9
 returns : tie.Need-returns
 returns c =
     let framed = c .before .before in
     open-misframed (now (framed .before .before .args .bytes)) (c .refused-opening .result) (rw (← framed .is-misframed-opening .ensures) (c .before .if1 .taken)) (c .refused-opening .ensures)
 
--- src/commands.rt:99:9
 byte-at-requires : tie.Need-byte-at-requires
 byte-at-requires c κs = search needs
 
--- src/commands.rt:101:9
 refused-opening-requires-2 : tie.Need-refused-opening-requires-2
 refused-opening-requires-2 c κs = search needs
 
--- src/commands.rt:101:9
 returns-2 : tie.Need-returns-2
 returns-2 c =
     let read = c .before .before in
     let framed = read .before .before in
     open-many (now (framed .before .before .args .bytes)) (c .refused-opening2 .result) (rw (← framed .is-misframed-opening .ensures) (read .before .if1 .left)) (read .byte-at .result) (read .byte-at .ensures .0) (c .before .if2 .taken) (c .refused-opening2 .ensures)
 
--- src/commands.rt:103:9
 byte-at-requires-2 : tie.Need-byte-at-requires-2
 byte-at-requires-2 c κs = search needs
 
--- src/commands.rt:104:9
 two-at-requires : tie.Need-two-at-requires
 two-at-requires c κs = search needs
 
--- src/commands.rt:105:46
 keys-of-requires : tie.Need-keys-of-requires
 keys-of-requires c κs = search needs
 
--- src/commands.rt:105:5
 open-requires : tie.Need-open-requires
 open-requires c κs = search needs
 
--- src/commands.rt:93:1
 returns-3 : tie.Need-returns-3
 returns-3 c =
     let seated = c .before .before .before in

@@ -1,46 +1,36 @@
+-- `yard::commands::opening_length` meets its contract.
 use denote.Ref.{now}
 use Rattle.yard.specs.CommandLaws.{opening-other, opening-many, opening-few}
 use borrow.Author.Needs.{needs}
 use Rattle.yard.proofs.commands.opening_length.Statement.{statement}
 use Rattle.yard.proofs.commands.opening_length.Tie as tie
-use Rattle.yard.proofs.commands.opening_length.Reads as reads
-use Rattle.yard.proofs.commands.opening_length.Lts as lts
-use Rattle.yard.proofs.commands.byte_at.Reads as byte-at-reads
 
--- src/commands.rt:38:8
 byte-at-requires : tie.Need-byte-at-requires
 byte-at-requires c κs = search needs
 
--- src/commands.rt:39:9
 returns : tie.Need-returns
 returns c =
     let read = c .before in
     (opening-other (now (read .before .before .args .bytes)) (read .byte-at .result) (read .byte-at .ensures .0) (c .if1 .taken), search needs)
 
--- src/commands.rt:41:9
 byte-at-requires-2 : tie.Need-byte-at-requires-2
 byte-at-requires-2 c κs = search needs
 
--- src/commands.rt:43:9
 returns-2 : tie.Need-returns-2
 returns-2 c =
     let tested = c .before .before in
     let read = tested .before in
     (opening-many (now (read .before .before .args .bytes)) (read .byte-at .result) (read .byte-at .ensures .0) (tested .if1 .left) (c .before .byte-at2 .result) (c .before .byte-at2 .ensures .0) (c .if2 .taken), search needs)
 
--- src/commands.rt:45:10
 mul-result : tie.Need-mul-result
 mul-result c = search needs
 
--- src/commands.rt:45:6
 add-result : tie.Need-add-result
 add-result c = search needs
 
--- src/commands.rt:45:5
 cast-result : tie.Need-cast-result
 cast-result c = search needs
 
--- src/commands.rt:35:1
 returns-3 : tie.Need-returns-3
 returns-3 c =
     let tested = c .before .before in

@@ -1,3 +1,4 @@
+-- `yard::commands::take_turn` meets its contract.
 use mathlib.Core.Path.{refl, sym, _∙_}
 use denote.Ref.{now}
 use Rattle.rfc8554.specs.Calls.{checks}
@@ -5,29 +6,19 @@ use Rattle.yard.specs.TurnLaws.{message-whole, submit-whole, turn-misfra
 use borrow.Author.Needs.{needs}
 use Rattle.yard.proofs.commands.take_turn.Statement.{statement}
 use Rattle.yard.proofs.commands.take_turn.Tie as tie
-use Rattle.yard.proofs.commands.take_turn.Reads as reads
-use Rattle.yard.proofs.commands.take_turn.Lts as lts
-use Rattle.confirmer.proofs.calls.step.Reads as step-reads
-use Rattle.confirmer.proofs.calls.submit.Reads as submit-reads
-use Rattle.yard.proofs.commands.byte_at.Reads as byte-at-reads
-use Rattle.yard.proofs.commands.is_misframed_call.Reads as is-misframed-call-reads
 
--- src/commands.rt:137:8
 is-misframed-call-requires : tie.Need-is-misframed-call-requires
 is-misframed-call-requires c κs = search needs
 
--- src/commands.rt:143:9
 returns : tie.Need-returns
 returns c =
     let framed = c .before in
     let args = framed .before .before .before .before .before .args in
     turn-misframed checks (now (args .keys)) (args .r) (now (args .store)) (now (args .out)) (now (args .bytes)) (sym (framed .is-misframed-call .ensures) ∙ c .if1 .taken)
 
--- src/commands.rt:145:8
 byte-at-requires : tie.Need-byte-at-requires
 byte-at-requires c κs = search needs
 
--- src/commands.rt:146:61
 sub-step : tie.Need-sub-step
 sub-step c =
     let tested = c .before .before .before in
@@ -39,27 +30,21 @@ sub-step c =
     let h = message-whole (now (args .bytes)) m (read .byte-at .result) (read .byte-at .ensures .0) (c .before .if2 .taken) in
     search needs
 
--- src/commands.rt:146:61
 part-step-start : tie.Need-part-step-start
 part-step-start c = let h = sub-step c in search needs
 
--- src/commands.rt:146:61
 part-step-end : tie.Need-part-step-end
 part-step-end c = search needs
 
--- src/commands.rt:146:13
 step-requires : tie.Need-step-requires
 step-requires c κs = search needs
 
--- src/commands.rt:147:9
 same-length : tie.Need-same-length
 same-length c = search needs
 
--- src/commands.rt:147:9
 same-length-2 : tie.Need-same-length-2
 same-length-2 c = search needs
 
--- src/commands.rt:147:9
 returns-2 : tie.Need-returns-2
 returns-2 c =
     let tested = c .before .before .before .before .before .before .before .before .before .before in
@@ -73,15 +58,12 @@ returns-2 c =
     (called .step .result) (called .step .last .1 .1 .0) (called .step .last .1 .1 .1 .1 .0) (c .before .before .before .before .before .before .before .before .if2 .taken) _ refl
     (called .step .ensures .0) (called .step .ensures .1 .0) (called .step .ensures .1 .1)
 
--- src/commands.rt:152:59
 sub-submit : tie.Need-sub-submit
 sub-submit c = search needs
 
--- src/commands.rt:152:59
 part-submit-start : tie.Need-part-submit-start
 part-submit-start c = search needs
 
--- src/commands.rt:152:59
 part-submit-end : tie.Need-part-submit-end
 part-submit-end c =
     let tested = c .before .before .before in
@@ -93,31 +75,24 @@ part-submit-end c =
     let h = submit-whole (now (args .bytes)) m (read .byte-at .result) (read .byte-at .ensures .0) (c .before .if2 .left) in
     search needs
 
--- src/commands.rt:152:74
 sub-submit-2 : tie.Need-sub-submit-2
 sub-submit-2 c = part-submit-end (c .before)
 
--- src/commands.rt:152:74
 part-submit-start-2 : tie.Need-part-submit-start-2
 part-submit-start-2 c = let h = sub-submit-2 c in search needs
 
--- src/commands.rt:152:74
 part-submit-end-2 : tie.Need-part-submit-end-2
 part-submit-end-2 c = search needs
 
--- src/commands.rt:152:9
 submit-requires : tie.Need-submit-requires
 submit-requires c κs = search needs
 
--- src/commands.rt:126:1
 same-length-3 : tie.Need-same-length-3
 same-length-3 c = search needs
 
--- src/commands.rt:126:1
 same-length-4 : tie.Need-same-length-4
 same-length-4 c = search needs
 
--- src/commands.rt:126:1
 returns-3 : tie.Need-returns-3
 returns-3 c =
     let tested = c .before .before .before .before .before .before .before .before .before .before .before in

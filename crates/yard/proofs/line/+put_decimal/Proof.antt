@@ -1,3 +1,4 @@
+-- `yard::line::+put_decimal` meets its contract.
 use denote.Ref.{now}
 use native.Mathlib.Omega.{arith}
 use borrow.Author.Needs.{needs}
@@ -23,7 +24,6 @@ abbrev put-decimal-below : ℕ → In 1 put-decimal-kinds.ps
 put-decimal-below t =
     and 1 put-decimal-kinds.ps (falls 1 put-decimal-kinds.ps _<_ μ-put-decimal t) put-decimal.Pre
 
--- src/line.rt:30:35
 put-decimal-add-put-byte : (t : ℕ) → put-decimal-lts.Need-add-put-byte (
   put-byte-reads.Asked,
   put-byte-reads.Learnt,
@@ -32,7 +32,6 @@ put-decimal-add-put-byte : (t : ℕ) → put-decimal-lts.Need-add-put-byte (
 ) (put-decimal-at t) put-decimal.Post
 put-decimal-add-put-byte t c = omega arith
 
--- src/line.rt:30:34
 put-decimal-cast-put-byte : (t : ℕ) → put-decimal-lts.Need-cast-put-byte (
   put-byte-reads.Asked,
   put-byte-reads.Learnt,
@@ -41,7 +40,6 @@ put-decimal-cast-put-byte : (t : ℕ) → put-decimal-lts.Need-cast-put-byte (
 ) (put-decimal-at t) put-decimal.Post
 put-decimal-cast-put-byte t c = omega arith
 
--- src/line.rt:30:9
 put-decimal-put-byte-requires : (t : ℕ) → put-decimal-lts.Need-put-byte-requires (
   put-byte-reads.Asked,
   put-byte-reads.Learnt,
@@ -52,7 +50,6 @@ put-decimal-put-byte-requires t c κs =
     let args = c .before .before .before .args in
     one-digit (now (args .out)) (args .at) (args .x) (c .before .before .before .pre .1) (c .before .if1 .taken)
 
--- src/line.rt:30:9
 put-decimal-same-length : (t : ℕ) → put-decimal-lts.Need-same-length (
   put-byte-reads.Asked,
   put-byte-reads.Learnt,
@@ -61,7 +58,6 @@ put-decimal-same-length : (t : ℕ) → put-decimal-lts.Need-same-length (
 ) (put-decimal-at t) put-decimal.Post
 put-decimal-same-length t c = search needs
 
--- src/line.rt:30:9
 put-decimal-returns : (t : ℕ) → put-decimal-lts.Need-returns (
   put-byte-reads.Asked,
   put-byte-reads.Learnt,
@@ -74,7 +70,6 @@ put-decimal-returns t c =
     let args = tested .before .before .args in
     wrote-one (now (args .out)) (args .at) (args .x) (tested .before .before .pre .1) (put .put-byte .last .0) (put .put-byte .result) (tested .if1 .taken) (put .put-byte .ensures .0) (put .put-byte .ensures .1)
 
--- src/line.rt:32:9
 put-decimal-put-decimal-requires : (t : ℕ) → put-decimal-lts.Need-put-decimal-requires (
   put-byte-reads.Asked,
   put-byte-reads.Learnt,
@@ -85,7 +80,6 @@ put-decimal-put-decimal-requires t c κs =
     let args = c .before .before .before .args in
     (omega (arith, c .before .before .before .pre .0), front-fits (now (args .out)) (args .at) (args .x) (c .before .before .before .pre .1) (c .before .if1 .left))
 
--- src/line.rt:33:26
 put-decimal-add-put-byte-2 : (t : ℕ) → put-decimal-lts.Need-add-put-byte-2 (
   put-byte-reads.Asked,
   put-byte-reads.Learnt,
@@ -94,7 +88,6 @@ put-decimal-add-put-byte-2 : (t : ℕ) → put-decimal-lts.Need-add-put-byte-2 (
 ) (put-decimal-at t) put-decimal.Post
 put-decimal-add-put-byte-2 t c = omega arith
 
--- src/line.rt:33:25
 put-decimal-cast-put-byte-2 : (t : ℕ) → put-decimal-lts.Need-cast-put-byte-2 (
   put-byte-reads.Asked,
   put-byte-reads.Learnt,
@@ -103,7 +96,6 @@ put-decimal-cast-put-byte-2 : (t : ℕ) → put-decimal-lts.Need-cast-put-byte-2
 ) (put-decimal-at t) put-decimal.Post
 put-decimal-cast-put-byte-2 t c = omega arith
 
--- src/line.rt:33:5
 put-decimal-put-byte-requires-2 : (t : ℕ) → put-decimal-lts.Need-put-byte-requires-2 (
   put-byte-reads.Asked,
   put-byte-reads.Learnt,
@@ -116,7 +108,6 @@ put-decimal-put-byte-requires-2 t c κs =
     let args = start .args in
     last-fits (now (args .out)) (args .at) (args .x) (start .pre .1) (front .before .before .if1 .left) (front .put-decimal .last .0) (front .put-decimal .result) (front .put-decimal .ensures .0) (front .put-decimal .ensures .1)
 
--- src/line.rt:25:1
 put-decimal-same-length-2 : (t : ℕ) → put-decimal-lts.Need-same-length-2 (
   put-byte-reads.Asked,
   put-byte-reads.Learnt,
@@ -125,7 +116,6 @@ put-decimal-same-length-2 : (t : ℕ) → put-decimal-lts.Need-same-length-2 (
 ) (put-decimal-at t) put-decimal.Post
 put-decimal-same-length-2 t c = search needs
 
--- src/line.rt:25:1
 put-decimal-returns-2 : (t : ℕ) → put-decimal-lts.Need-returns-2 (
   put-byte-reads.Asked,
   put-byte-reads.Learnt,

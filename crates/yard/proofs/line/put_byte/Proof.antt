@@ -1,24 +1,19 @@
+-- `yard::line::put_byte` meets its contract.
 use denote.Ref.{now}
 use Rattle.yard.specs.LineLaws.{put-one}
 use borrow.Author.Needs.{needs}
 use Rattle.yard.proofs.line.put_byte.Statement.{statement}
 use Rattle.yard.proofs.line.put_byte.Tie as tie
-use Rattle.yard.proofs.line.put_byte.Reads as reads
-use Rattle.yard.proofs.line.put_byte.Lts as lts
 
--- src/line.rt:20:5
 slice-write-out : tie.Need-slice-write-out
 slice-write-out c = search needs
 
--- src/line.rt:21:5
 add-result : tie.Need-add-result
 add-result c = search needs
 
--- src/line.rt:16:1
 same-length : tie.Need-same-length
 same-length c = search needs
 
--- src/line.rt:16:1
 returns : tie.Need-returns
 returns c = (put-one (c .args .at) (c .args .b) (now (c .args .out)) (search needs), search needs)
 

@@ -1,3 +1,4 @@
+-- `yard::space::new_out` meets its contract.
 use mathlib.Core.Path.{refl}
 use Rattle.quorum.specs.Quorum.{t0, k}
 use Rattle.protocol.specs.Layout.{outLength}

@@ -1,3 +1,4 @@
+-- `yard::space::new_store` meets its contract.
 use mathlib.Core.Path.{refl}
 use Rattle.protocol.specs.Layout.{storeLength}
 use Rattle.yard.specs.Yard.{yardStore}

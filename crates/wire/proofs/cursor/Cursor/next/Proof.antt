@@ -1,3 +1,4 @@
+-- `wire::cursor::Cursor::next` meets its contract.
 use native.Mathlib.Omega.{arith}
 use borrow.Author.Needs.{needs}
 use denote.Ref.{now}

@@ -1,3 +1,4 @@
+-- `wire::cursor::Cursor::over_evidence` meets its contract.
 use borrow.Author.Needs.{needs}
 use Rattle.wire.proofs.cursor.Cursor.over_evidence.Statement.{statement}
 use Rattle.wire.proofs.cursor.Cursor.over_evidence.Tie as tie

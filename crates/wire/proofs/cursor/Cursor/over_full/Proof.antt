@@ -1,3 +1,4 @@
+-- `wire::cursor::Cursor::over_full` meets its contract.
 use borrow.Author.Needs.{needs}
 use Rattle.wire.proofs.cursor.Cursor.over_full.Statement.{statement}
 use Rattle.wire.proofs.cursor.Cursor.over_full.Tie as tie
