@@ -14,7 +14,7 @@ fn is_unset(value: [u8; 32]) -> bool
     ensures { λ r. ⌜ r ≡ same value unset ⌝ }
 {
     let zeros = [0u8; 32];
-    wire::values::same(&value, &zeros)
+    octets::same(&value, &zeros)
 }
 
 // n, seat or round is out of range.

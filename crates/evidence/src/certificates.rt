@@ -55,7 +55,7 @@ fn equal_values(n: u32, round: u32, first: &[u8], second: &[u8]) -> bool
 {
     let a = wire::values::value_at(first, 4);
     let b = wire::values::value_at(second, 4);
-    wire::values::same(&a, &b)
+    octets::same(&a, &b)
 }
 
 // Whether the first has the lower value.

@@ -11,6 +11,7 @@ use Rattle.octets.specs.Octets.{part, patch, bytes}
 use Rattle.octets.specs.Laws.{length-patch, length-bytes}
 use Rattle.octets.specs.Strings.{joined}
 use Rattle.octets.specs.StringLaws.{length-joined, joined-same}
+use Rattle.octets.specs.WriteLaws.{part-add, part-own, part-before, part-after, patch-whole}
 use Rattle.sha256.specs.Fips.{sha256}
 use Rattle.sha256.specs.Laws.{length-sha256}
 use Rattle.lanes.specs.Rows.{column}
@@ -18,8 +19,7 @@ use Rattle.rfc8554.specs.Ots.{H, chainInput, chain, start, keyInput, chainEnd, 
 use Rattle.lmots.specs.Leaves.{string, Put}
 use Rattle.lmots.specs.Pieces.{front}
 use Rattle.lmots.specs.Sixteen.{Walked}
-use Rattle.lmots.specs.TurnLaws.{part-add, part-own, part-before, part-after, written-next}
-use Rattle.lmots.specs.WriteLaws.{patch-whole}
+use Rattle.lmots.specs.TurnLaws.{written-next}
 
 -- ---- lanes
 

@@ -2,25 +2,25 @@
 use mathlib.Core.Path.{_≡_, refl, sym, ap, subst, _∙_}
 use mathlib.Core.Bool.{Bool, true, false}
 use mathlib.Core.Logic.{_⊎_, inl, inr, ⊎-elim}
-use mathlib.Core.List.{List, _++_, append-assoc}
+use mathlib.Core.List.{List}
 use Prim.Native.Nat.{ℕ, zero, _+_, _-_, _*_, _≤_, _<_}
-use native.Mathlib.Nat.{add-zero, zero-add, eq-or-lt-of-le}
+use native.Mathlib.Nat.{zero-add, eq-or-lt-of-le}
 use native.Mathlib.Omega.{arith}
 use borrow.Author.Tests.{ltb-true, ltb-false}
 use lib.Dec.{ltb}
-use lib.ListN.{length, take, drop, getD, set, replicate, getD-replicate, length-append, take-append-drop}
-use lib.Seq.{length-take-le, take-add, drop-drop, ext-getD}
+use lib.ListN.{length, take, getD, set, replicate, getD-replicate}
+use lib.Seq.{ext-getD}
 use Rattle.octets.specs.Octets.{part, patch, bytes}
 use Rattle.octets.specs.Strings.{joined}
 use Rattle.octets.specs.Laws.{length-part, length-patch, take-patch, length-bytes}
-use Rattle.octets.specs.StringLaws.{part-left, part-skip, part-patch, part-all, length-joined, joined-same}
+use Rattle.octets.specs.StringLaws.{length-joined, joined-same}
+use Rattle.octets.specs.WriteLaws.{part-own, part-before, part-after, joined-written}
 use Rattle.lanes.specs.Rows.{column}
 use Rattle.lanes.specs.Laws.{Apart, other, below, there, length-column, getD-column, column-same}
 use Rattle.rfc8554.specs.Ots.{chain}
 use Rattle.rfc8554.specs.OtsLaws.{chain-add, length-chain}
 use Rattle.lmots.specs.Sixteen.{Walked}
 use Rattle.lmots.specs.Turns.{Ordered, Stayed, Laned, Scattered, MovedAt, Moved, ended}
-use Rattle.lmots.specs.WriteLaws.{joined-written}
 
 -- ---- indices
 
@@ -54,32 +54,6 @@ fill-next f xs l x g h k j a =
     (λ e. there xs l j x e h ∙ k ∙ ap f (sym e))
     (λ b. below xs l j x b ∙ g j b)
     (eq-or-lt-of-le fits)
-
--- ---- parts of what is written
-
-pub part-add : (at n m : ℕ) (xs : List ℕ) → part at (n + m) xs ≡ part at n xs ++ part (at + n) m xs
-unfolding part
-part-add at n m xs = take-add n m (drop at xs) ∙ rw (drop-drop n at xs)
-
-pub part-own : (a n : ℕ) (ws xs : List ℕ) → a ≤ length xs → length ws ≡ n → part a n (patch a ws xs) ≡ ws
-part-own a n ws xs h l =
-    ap (λ (b : ℕ). part b n (patch a ws xs)) (sym (add-zero a)) ∙ part-patch a 0 n ws xs h (omega arith) ∙ part-all ws n l
-
-pub part-before : (a n b : ℕ) (ws xs : List ℕ) → a + n ≤ b → b ≤ length xs → part a n (patch b ws xs) ≡ part a n xs
-unfolding patch
-part-before a n b ws xs h k =
-    let l : length (take b xs) ≡ b = length-take-le b xs k in
-    part-left (take b xs) _ a n (omega arith) ∙ sym (part-left (take b xs) (drop b xs) a n (omega arith)) ∙ ap (part a n) (take-append-drop b xs)
-
-pub part-after : (a n b : ℕ) (ws xs : List ℕ) → b + length ws ≤ a → b ≤ length xs → part a n (patch b ws xs) ≡ part a n xs
-unfolding patch part
-part-after a n b ws xs h k =
-    let m = b + length ws in
-    let d = a - m in
-    let e : a ≡ m + d = omega arith in
-    let l : length (take b xs ++ ws) ≡ m = length-append (take b xs) ws ∙ ap (λ (i : ℕ). i + length ws) (length-take-le b xs k) in
-    ap (λ (y : List ℕ). take n (drop a y)) (sym (append-assoc (take b xs) ws (drop m xs)))
-    ∙ rw e (part-skip (take b xs ++ ws) (drop m xs) m d n l ∙ ap (take n) (drop-drop d m xs))
 
 -- ---- slots of 32 bytes
 

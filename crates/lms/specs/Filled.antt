@@ -9,12 +9,11 @@ use lib.ListN.{length}
 use Rattle.octets.specs.Octets.{part, patch}
 use Rattle.octets.specs.Strings.{joined}
 use Rattle.octets.specs.StringLaws.{patch-before, length-joined, part-joined, joined-same, joined-add}
+use Rattle.octets.specs.WriteLaws.{part-add, patch-next, joined-written}
 use Rattle.rfc8554.specs.Ots.{H, otsKey}
 use Rattle.rfc8554.specs.Tree.{T, nodes, treeFilled}
 use Rattle.rfc8554.specs.TreeLaws.{T-leaf, T-inner, length-T, length-nodes, nodes-suc, part-nodes}
 use Rattle.lmots.specs.LeafLaws.{length-otsKey}
-use Rattle.lmots.specs.TurnLaws.{part-add}
-use Rattle.lmots.specs.WriteLaws.{patch-next, joined-written}
 use Rattle.lms.specs.Pieces.{leafOver, leafAt, overChildren, innerPut, innersPut}
 use Rattle.lms.specs.Laws.{length-leafOver, over-two}
 

@@ -8,13 +8,13 @@ use Rattle.octets.specs.Octets.{part, patch, be}
 use Rattle.octets.specs.Laws.{length-part, length-be, be-four}
 use Rattle.octets.specs.Strings.{joined}
 use Rattle.octets.specs.StringLaws.{part-all, length-joined, be-one, be-two}
+use Rattle.octets.specs.WriteLaws.{patch-next, pieces, joined-written}
 use Rattle.rfc8554.specs.Ots.{width, chains, digested, signed, otsSignature}
 use Rattle.rfc8554.specs.OtsLaws.{length-signed}
 use Rattle.rfc8554.specs.Tree.{height, T, publicKey, treeFilled, sibling, path, lmsSignature}
 use Rattle.rfc8554.specs.TreeLaws.{part-treeFilled}
 use Rattle.rfc8554.specs.VerifyLaws.{sibling-within, ancestor-within}
 use Rattle.rfc8554.specs.Calls.{treeBytes, signedBytes}
-use Rattle.lmots.specs.WriteLaws.{patch-next, pieces, joined-written}
 
 -- ---- writes in a row
 

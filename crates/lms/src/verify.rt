@@ -5,7 +5,6 @@ ghost use mathlib.Core.Logic.{_⊎_};
 ghost use Prim.Native.Nat.{_+_, _*_, _^_, _≤_, _<_};
 ghost use lib.ListN.{length};
 ghost use Rattle.octets.specs.Octets.{bytes};
-ghost use Rattle.octets.specs.Strings.{same};
 ghost use Rattle.sha256.specs.Constants.{constants};
 ghost use Rattle.sha256.specs.Fips as Fips;
 ghost use Rattle.rfc8554.specs.Ots as Ots;
@@ -178,25 +177,6 @@ fn root_candidate(
     climb(k, id, h, w, r, signature, start)
 }
 
-// ---- comparison
-
-// Whether a and b hold the same bytes.
-fn equal(a: &[u8], b: &[u8]) -> bool
-    ensures { λ r. ⌜ r ≡ same (now (a .entry)) (now (b .entry)) ⌝ }
-{
-    if a.len() != b.len() {
-        return false;
-    }
-    let mut i = 0;
-    while i < a.len() {
-        if a[i] != b[i] {
-            return false;
-        }
-        i += 1;
-    }
-    true
-}
-
 // Whether RFC 8554 accepts the signature of the message under a key of known types.
 pub fn verified(k: &[u32; 64], key: &[u8], message: &[u8], signature: &[u8]) -> bool
     requires { ⌜ (now k ≡ constants) × (length (now key) ≡ 56) × (keyRefused (now key) ≡ false) ⌝ }
@@ -209,5 +189,5 @@ pub fn verified(k: &[u32; 64], key: &[u8], message: &[u8], signature: &[u8]) -> 
     }
     let id = lmots::words::four(key, 8);
     let root = root_candidate(k, id, lms, ots, message, signature);
-    equal(&root, node::bytes_at(key, 24, 32))
+    octets::same(&root, node::bytes_at(key, 24, 32))
 }

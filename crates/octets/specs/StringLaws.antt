@@ -9,7 +9,7 @@ use native.Mathlib.Numerals.{add-one, add-two, add-three}
 use native.Mathlib.Omega.{arith}
 use lib.Dec.{lit<, eqb}
 use lib.ListN.{length, take, drop, getD, length-append, length-take, length-drop}
-use lib.Seq.{drop-at, take-take, drop-drop, take-append-le, drop-append-le, drop-append-add, drop-cons, take-all, length-take-le}
+use lib.Seq.{ext-getD, drop-at, take-take, drop-drop, take-append-le, drop-append-le, drop-append-add, drop-cons, take-all, length-take-le}
 use borrow.Author.Tests.{eqb-true, eq-eqb}
 use Rattle.octets.specs.Octets.{part, patch, be, numberFrom, number, wordAt}
 use Rattle.octets.specs.Strings.{joined, same}
@@ -195,3 +195,15 @@ same-by false xs ys f g = go (same xs ys) refl
     go : (b : Bool) → same xs ys ≡ b → false ≡ same xs ys
     go true e = absurd (false≢true (g (same-true xs ys e)))
     go false e = sym e
+
+-- as a loop compares them
+module _ (a b : List ℕ) where
+  pub differ-length : (length a ≡ length b → ⊥) → false ≡ same a b
+  differ-length n = same-by false a b (λ e. absurd (false≢true e)) (λ e. absurd (n (ap length e)))
+
+  pub differ-at : (i : ℕ) → (getD a i 0 ≡ getD b i 0 → ⊥) → false ≡ same a b
+  differ-at i n =
+      same-by false a b (λ e. absurd (false≢true e)) (λ e. absurd (n (ap (λ (l : List ℕ). getD l i 0) e)))
+
+  pub equal-all : (i : ℕ) → length a ≡ length b → length a ≤ i → ((j : ℕ) → j < i → getD a j 0 ≡ getD b j 0) → true ≡ same a b
+  equal-all i l h each = same-by true a b (λ _. ext-getD 0 a b l (λ j k. each j (omega arith))) (λ _. refl)

@@ -1,8 +1,9 @@
-// Bytes in lent buffers: big-endian words, and copies.
+// Bytes in lent buffers: big-endian words, copies and comparison.
 ghost use mathlib.Core.Path.{_≡_};
 ghost use Prim.Native.Nat.{_+_, _<_, _≤_};
 ghost use lib.ListN.{length};
 ghost use Rattle.octets.specs.Octets.{be, patch, wordAt};
+ghost use Rattle.octets.specs.Strings as Strings;
 
 // A byte as a word, with its bound.
 pub fn wide(b: u8) -> u32
@@ -40,4 +41,21 @@ pub fn copy(out: &mut [u8], at: usize, src: &[u8])
         out[at + i] = src[i];
         i += 1;
     }
+}
+
+// Whether a and b hold the same bytes.
+pub fn same(a: &[u8], b: &[u8]) -> bool
+    ensures { λ r. ⌜ r ≡ Strings.same (now (a .entry)) (now (b .entry)) ⌝ }
+{
+    if a.len() != b.len() {
+        return false;
+    }
+    let mut i = 0;
+    while i < a.len() {
+        if a[i] != b[i] {
+            return false;
+        }
+        i += 1;
+    }
+    true
 }

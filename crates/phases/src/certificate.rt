@@ -59,7 +59,7 @@ fn blames(r: Record, value: [u8; 32]) -> bool
     ensures { λ b. ⌜ b ≡ (not (same value (r .first .value)) && eqb (r .guilty) 0) ⌝ }
 {
     let first = r.first.value;
-    let same = wire::values::same(&value, &first);
+    let same = octets::same(&value, &first);
     both(!same, r.guilty == 0)
 }
 

@@ -75,7 +75,7 @@ fn is_wanted(r: Record, seat: u32, value: [u8; 32]) -> bool
     ensures { λ b. ⌜ b ≡ isWanted seat value r ⌝ }
 {
     let own = r.own.value;
-    let same = wire::values::same(&value, &own);
+    let same = octets::same(&value, &own);
     let has = quorum::has(r.own.collected, seat);
     both(both(!r.confirmed, same), !has)
 }

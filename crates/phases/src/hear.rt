@@ -15,7 +15,7 @@ fn notices_with(r: Record, value: [u8; 32]) -> Notices
     if heard == 0 {
         return Notices { heard: 1, value };
     }
-    let same = wire::values::same(&value, &first);
+    let same = octets::same(&value, &first);
     if both(heard == 1, !same) {
         return Notices {
             heard: 2,

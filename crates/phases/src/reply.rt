@@ -22,7 +22,7 @@ fn other_heard(r: Record) -> bool
     if heard == 1 {
         let value = r.notices.value;
         let own = r.own.value;
-        return !wire::values::same(&value, &own);
+        return !octets::same(&value, &own);
     }
     true
 }

@@ -8,13 +8,13 @@ use lib.ListN.{length, take, drop, getD, set, length-append, List·getD-append}
 use lib.Seq.{paste, length-take-le, getD-take}
 use Rattle.octets.specs.Octets.{part}
 use Rattle.octets.specs.Laws.{length-part, getD-part, paste-turn, length-patch}
+use Rattle.octets.specs.WriteLaws.{part-before}
 use Rattle.quorum.specs.Quorum.{bit, In, seats}
 use Rattle.quorum.specs.Laws.{seats-in, seats-out}
 use Rattle.protocol.specs.Layout.{signatureLength, storeLength, collectedBank, firstBank, slotAt}
 use Rattle.protocol.specs.Message.{readSignature}
 use Rattle.protocol.specs.Certificate.{slot, keep, keepEach}
 use Rattle.protocol.specs.Laws.{slot-fits, keep-snoc}
-use Rattle.wire.specs.StringLaws.{part-before}
 
 -- ---- places
 

@@ -2,27 +2,9 @@
 ghost use mathlib.Core.Path.{_≡_};
 ghost use Prim.Native.Nat.{_+_, _≤_};
 ghost use lib.ListN.{length};
-ghost use Rattle.octets.specs.Strings.{same};
 ghost use Rattle.protocol.specs.Layout.{valueLength};
 ghost use Rattle.protocol.specs.Values.{isLower};
 ghost use Rattle.protocol.specs.Message.{readValue};
-
-// Whether two byte strings are equal.
-pub fn same(a: &[u8], b: &[u8]) -> bool
-    ensures { λ r. ⌜ r ≡ same (now (a .entry)) (now (b .entry)) ⌝ }
-{
-    if a.len() != b.len() {
-        return false;
-    }
-    let mut i = 0;
-    while i < a.len() {
-        if a[i] != b[i] {
-            return false;
-        }
-        i += 1;
-    }
-    true
-}
 
 // Whether the value a is lower than b, compared byte by byte from the first.
 pub fn lower(a: &[u8], b: &[u8]) -> bool

@@ -5,7 +5,7 @@ use Prim.Native.Nat.{ℕ}
 use native.Mathlib.Omega.{arith}
 use denote.Ref.{now}
 use lib.ListN.{length, replicate}
-use Rattle.lmots.specs.WriteLaws.{pieces}
+use Rattle.octets.specs.WriteLaws.{pieces}
 use borrow.Author.Needs.{needs}
 use Rattle.lmots.proofs.digits.prefix.Statement.{statement}
 use Rattle.lmots.proofs.digits.prefix.Tie as tie

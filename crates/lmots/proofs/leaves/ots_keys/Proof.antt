@@ -6,8 +6,8 @@ use borrow.Author.Needs.{needs}
 use lib.ListN.{length}
 use Rattle.octets.specs.Octets.{patch, bytes}
 use Rattle.octets.specs.Strings.{joined}
+use Rattle.octets.specs.WriteLaws.{patch-none}
 use Rattle.lmots.specs.LeafLaws.{hash, keys-turn, keys-done}
-use Rattle.lmots.specs.WriteLaws.{patch-none}
 use Rattle.lmots.proofs.leaves.ots_keys.Statement.{statement}
 use Rattle.lmots.proofs.leaves.ots_keys.Tie as tie
 

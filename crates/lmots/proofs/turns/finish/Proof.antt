@@ -7,9 +7,9 @@ use denote.Ref.{now}
 use lib.ListN.{length}
 use Rattle.octets.specs.Octets.{patch, bytes}
 use Rattle.octets.specs.Strings.{joined}
+use Rattle.octets.specs.WriteLaws.{patch-none}
 use Rattle.lmots.specs.Turns.{ended}
 use Rattle.lmots.specs.TurnLaws.{finish-turn, length-written, finished}
-use Rattle.lmots.specs.WriteLaws.{patch-none}
 use Rattle.lmots.proofs.turns.finish.Statement.{statement}
 use Rattle.lmots.proofs.turns.finish.Tie as tie
 

@@ -8,7 +8,7 @@ use lib.ListN.{length, take}
 use lib.Seq.{take-all}
 use denote.Ref.{now}
 use Rattle.octets.specs.Octets.{patch, bytes}
-use Rattle.lmots.specs.WriteLaws.{patch-none, words-written}
+use Rattle.octets.specs.WriteLaws.{patch-none, words-written}
 use Rattle.lmots.proofs.words.put_eight.Statement.{statement}
 use Rattle.lmots.proofs.words.put_eight.Tie as tie
 

@@ -2,7 +2,7 @@
 use native.Mathlib.Omega.{arith}
 use borrow.Author.Needs.{needs}
 use denote.Ref.{now}
-use Rattle.lmots.specs.WriteLaws.{pieces}
+use Rattle.octets.specs.WriteLaws.{pieces}
 use Rattle.lms.proofs.node.pair.Statement.{statement}
 use Rattle.lms.proofs.node.pair.Tie as tie
 

@@ -9,9 +9,9 @@ use denote.Ref.{now}
 use Rattle.octets.specs.Laws.{length-part}
 use Rattle.octets.specs.Strings.{joined}
 use Rattle.octets.specs.Octets.{patch}
+use Rattle.octets.specs.WriteLaws.{patch-none}
 use Rattle.rfc8554.specs.Calls.{treeBytes}
 use Rattle.rfc8554.specs.Tree.{path}
-use Rattle.lmots.specs.WriteLaws.{patch-none}
 use Rattle.lms.specs.Written.{way-within, path-turn}
 use Rattle.lms.specs.Laws.{half-turn}
 use Rattle.lms.proofs.signer.write_path.Statement.{statement}

@@ -4,7 +4,7 @@ use native.Mathlib.Omega.{arith}
 use borrow.Author.Needs.{needs}
 use denote.Ref.{now}
 use Rattle.octets.specs.Octets.{be}
-use Rattle.lmots.specs.WriteLaws.{patch-next}
+use Rattle.octets.specs.WriteLaws.{patch-next}
 use Rattle.lms.proofs.signer.write_tail.Statement.{statement}
 use Rattle.lms.proofs.signer.write_tail.Tie as tie
 

@@ -35,14 +35,14 @@ root-candidate-requires c κs =
     let fits = signature-fits (words .before .word-at .result) (words .word-at2 .result) (now (start .args .signature)) (sym (c .before .before .signature-refused .ensures) ∙ c .before .if1 .left) in
     (start .pre .0, fits .0, fits .1)
 
-slice-aggregate-equal : tie.Need-slice-aggregate-equal
-slice-aggregate-equal c = search needs
+slice-aggregate-same : tie.Need-slice-aggregate-same
+slice-aggregate-same c = search needs
 
 bytes-at-requires : tie.Need-bytes-at-requires
 bytes-at-requires c κs = search needs
 
-equal-requires : tie.Need-equal-requires
-equal-requires c κs = search needs
+same-requires : tie.Need-same-requires
+same-requires c κs = search needs
 
 returns-2 : tie.Need-returns-2
 returns-2 c =
@@ -54,7 +54,7 @@ returns-2 c =
     (words .before .word-at .result) (words .word-at2 .result) (words .before .word-at .ensures) (words .word-at2 .ensures)
     (rooted .before .before .before .signature-refused .result) (rooted .before .before .before .signature-refused .ensures)
     (rooted .before .before .if1 .left) (bytes (rooted .before .four .result)) (rooted .root-candidate .result) (now (c .before .bytes-at .result))
-    (c .equal .result) (rooted .before .four .ensures) (rooted .root-candidate .ensures) (c .before .bytes-at .ensures) (c .equal .ensures)
+    (c .same .result) (rooted .before .four .ensures) (rooted .root-candidate .ensures) (c .before .bytes-at .ensures) (c .same .ensures)
 
 pub verified-spec : {M : Type 1} → statement M
 verified-spec =
@@ -66,7 +66,7 @@ verified-spec =
     returns
     four-requires
     root-candidate-requires
-    slice-aggregate-equal
+    slice-aggregate-same
     bytes-at-requires
-    equal-requires
+    same-requires
     returns-2)

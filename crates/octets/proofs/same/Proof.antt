@@ -1,13 +1,13 @@
--- `lms::verify::equal` meets its contract.
+-- `octets::same` meets its contract.
 use mathlib.Core.Path.{_≡_}
 use Prim.Native.Nat.{ℕ, _-_, _≤_, _<_}
 use native.Mathlib.Omega.{arith}
 use borrow.Author.Count.{below-none, below-more}
 use lib.ListN.{length, getD}
 use denote.Ref.{now}
-use Rattle.lms.specs.Compared.{differ-length, differ-at, equal-all}
-use Rattle.lms.proofs.verify.equal.Statement.{statement}
-use Rattle.lms.proofs.verify.equal.Tie as tie
+use Rattle.octets.specs.StringLaws.{differ-length, differ-at, equal-all}
+use Rattle.octets.proofs.same.Statement.{statement}
+use Rattle.octets.proofs.same.Tie as tie
 
 abbrev Inv-loop : tie.InvT-loop
 Inv-loop a b i₀ i = (i ≤ length a) × ((j : ℕ) → j < i → getD a j 0 ≡ getD b j 0)
@@ -50,8 +50,8 @@ returns-3 c =
     let args = at-loop .before .before .args in
     equal-all (now (args .a)) (now (args .b)) (at-loop .loop .i) (at-loop .before .if1 .left) (omega arith) (at-loop .loop .inv .1)
 
-pub equal-spec : {M : Type 1} → statement M
-equal-spec =
+pub same-spec : {M : Type 1} → statement M
+same-spec =
     tie.close
     (tie.spec
     Inv-loop
