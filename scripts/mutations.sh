@@ -1,6 +1,6 @@
 #!/usr/bin/env bash
-# Tries each edit of mutations/ on a copy of the repository: with it, `protocol` must still be proved and `round` must not.
-# Needs the crates below proved in target/, as `rt check round` leaves them.
+# Tries each edit of mutations/ on a copy of the repository: with it, `protocol` must still be proved and `claims` must not.
+# Needs the crates below proved in target/, as `rt check claims` leaves them.
 set -euo pipefail
 cd "$(dirname "$0")/.."
 
@@ -32,8 +32,8 @@ for edit in mutations/*.edit; do
         exit 1
     fi
     status=0
-    (cd "$work/copy" && rt check round) >"$work/log" 2>&1 || status=$?
-    if [ "$status" -ne 1 ] || ! grep -q '^rt: round NOT PROVED' "$work/log"; then
+    (cd "$work/copy" && rt check claims) >"$work/log" 2>&1 || status=$?
+    if [ "$status" -ne 1 ] || ! grep -q '^rt: claims NOT PROVED' "$work/log"; then
         echo "mutation $label: NOT REFUSED (exit $status)"
         tail -n 20 "$work/log"
         exit 1

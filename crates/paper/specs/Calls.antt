@@ -21,13 +21,13 @@ use Rattle.protocol.specs.Message.{Entry, Message, Submit, Notice, Full, Eviden
 use Rattle.protocol.specs.Certificate.{slot, keep, signatureOf, certificateOf, certificateIn}
 use Rattle.protocol.specs.Refusals.{Checks}
 use Rattle.protocol.specs.Step.{State, write, collect, keepValue, submitOwn, isWanted, hearSubmit, hear, reply, confirmIfComplete, submitted, stepped}
-use Rattle.round.specs.Lists.{each-one, each-append, each-every}
-use Rattle.round.specs.Slots.{keep-length, slot-keep-same, slot-keep-other}
-use Rattle.round.specs.Sound.{Entries}
-use Rattle.round.specs.Certificates.{certifies-of}
-use Rattle.round.specs.Parts.{k-pos}
-use Rattle.round.specs.Whole.{Brings}
-use Rattle.round.specs.Units.{Any}
+use Rattle.claims.specs.Lists.{each-one, each-append, each-every}
+use Rattle.claims.specs.Slots.{keep-length, slot-keep-same, slot-keep-other}
+use Rattle.claims.specs.Sound.{Entries}
+use Rattle.claims.specs.Certificates.{certifies-of}
+use Rattle.claims.specs.Parts.{k-pos}
+use Rattle.claims.specs.Whole.{Brings}
+use Rattle.claims.specs.Units.{Any}
 use Rattle.paper.specs.Machine.{FullCertificate, Machine, BroadcastSubmit, Reaction, act, setValue, addCollected, addNoticed, isSome, isOwn, ownValue, isFrom, isFullCertificate, isCollected, uponSubmitDelivered, uponSubmit, uponNoticeDelivered, obtain, uponFullDelivered, confirming, uponQuorum, uponNoticesConflict, uponFullsConflict, uponEvent, uponRules, react, spoken}
 use Rattle.paper.specs.Memory.{seatsIn, noticesOf, firstOf, guiltyOf, kept}
 use Rattle.paper.specs.Events.{delivered, reactTo}

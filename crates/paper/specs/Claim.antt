@@ -21,12 +21,12 @@ use Rattle.protocol.specs.Step.{State, stepped}
 use Rattle.protocol.specs.Calls.{resultBy, opening, openedBy}
 use Rattle.protocol.specs.declared.Record.{Record}
 use Rattle.round.specs.Round.{Each, Call, BySubmit, ByStep, ByThinEntry, Honest, Turn, called, left, turns, writtenIn, Are, StandsIn, turnsOf, Writes}
-use Rattle.round.specs.Lists.{cond-elim, or-true-either, each-nil}
-use Rattle.round.specs.Parts.{k-pos}
-use Rattle.round.specs.Reading.{read-laid}
-use Rattle.round.specs.Unrefused.{submit-taken, step-taken, brings}
-use Rattle.round.specs.Journey.{refusalOf, cameTo, called-is, messages}
-use Rattle.round.specs.Units.{Any, any-worthy, opened-range, written-are}
+use Rattle.claims.specs.Lists.{cond-elim, or-true-either, each-nil}
+use Rattle.claims.specs.Parts.{k-pos}
+use Rattle.claims.specs.Reading.{read-laid}
+use Rattle.claims.specs.Unrefused.{submit-taken, step-taken, brings}
+use Rattle.claims.specs.Journey.{refusalOf, cameTo, called-is, messages}
+use Rattle.claims.specs.Units.{Any, any-worthy, opened-range, written-are}
 use Rattle.paper.specs.Machine.{Machine, init, Event, Action, Reaction, isSome, ownValue, conflict, uponEvent, react, spoken}
 use Rattle.paper.specs.Memory.{seatsIn, noticesOf, firstOf, guiltyOf, kept}
 use Rattle.paper.specs.Events.{delivered, isDelivered, eventOf, reactTo, reaction, DoesAs, actionsOver}

@@ -25,9 +25,9 @@ use Rattle.protocol.specs.Step.{State, write, noticesWith, hear, otherHeard, ow
 use Rattle.protocol.specs.declared.Notices.{Notices}
 use Rattle.protocol.specs.declared.Record.{Record}
 use Rattle.round.specs.Round.{Each}
-use Rattle.round.specs.Lists.{cond-elim, each-nil, each-cons, each-one, each-append}
-use Rattle.round.specs.Parts.{k-pos, in-below}
-use Rattle.round.specs.Slots.{slot-keepEach-other, slot-keepEach-same}
+use Rattle.claims.specs.Lists.{cond-elim, each-nil, each-cons, each-one, each-append}
+use Rattle.claims.specs.Parts.{k-pos, in-below}
+use Rattle.claims.specs.Slots.{slot-keepEach-other, slot-keepEach-same}
 use Rattle.paper.specs.Machine.{FullCertificate, Machine, Action, ConfirmAndNotice, BroadcastFull, Detect, Reaction, act, setConfirmed, addNoticed, addObtained, setSent, isSome, ownValue, other, pairOr, conflict, valueOfNotice, valueOfFull, ownFull, uponNoticeDelivered, obtain, confirming, uponQuorum, sending, uponNoticesConflict, detecting, uponFullsConflict, uponRules, spoken}
 use Rattle.paper.specs.Memory.{seatsIn, noticesOf, firstOf, guiltyOf, kept}
 use Rattle.paper.specs.Conflicts.{same-sym, some-none, other-none, other-more, other-still, conflict-head, head-none}

@@ -11,9 +11,9 @@ use Rattle.protocol.specs.Message.{Entry, Message, entrySeats}
 use Rattle.protocol.specs.Certificate.{setOf, certificateOf, fullOf, orderedEvidence, evidenceOf}
 use Rattle.protocol.specs.Laws.{in-set}
 use Rattle.round.specs.Round.{Are, StandsIn}
-use Rattle.round.specs.Reading.{are-unique}
-use Rattle.round.specs.Lists.{cond-elim}
-use Rattle.round.specs.Certificates.{entry-seats, pair-seats}
+use Rattle.claims.specs.Reading.{are-unique}
+use Rattle.claims.specs.Lists.{cond-elim}
+use Rattle.claims.specs.Certificates.{entry-seats, pair-seats}
 use Rattle.paper.specs.Machine.{FullCertificate, Action, BroadcastFull, Detect, spoken}
 
 -- a seat below n has a message in the certificate

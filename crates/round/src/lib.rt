@@ -1,1 +1,1 @@
-// The claims over whole lists of calls; they are in specs/, and there is no code here.
+// A round as a whole; its definitions are in specs/, and there is no code here.

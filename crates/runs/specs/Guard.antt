@@ -11,11 +11,11 @@ use Rattle.protocol.specs.Message.{Message, Notice, render, byteAt}
 use Rattle.protocol.specs.Refusals.{every}
 use Rattle.protocol.specs.Calls.{opening}
 use Rattle.round.specs.Round.{Call, BySubmit, ByStep, ByThinEntry, InHand, Honest, called, turns, isSubmit, isNotice, Family, Delivered, NoneForged, NoneBlamed, Submits, Blames, ReachedOthers, WritesEvidence, Names}
-use Rattle.round.specs.Journey.{refusalOf, cameTo, allMessages}
+use Rattle.claims.specs.Journey.{refusalOf, cameTo, allMessages}
 use Rattle.runs.specs.Toy.{unfolded, toy, layout, sign, keys, submitBy, fullBy}
 use Rattle.runs.specs.Tests.{found, isNoticeOf, isEvidenceOn, isStepWith, isSubmitOf, signsOnly, signsOnly-says, submits as submits′, submits-says, confirms, blames as blamesSeat, reached, haveReached, confirms-says, haveReached-says, blames-says}
-use Rattle.round.specs.Safe.{safe-delivered}
-use Rattle.round.specs.Blamed.{blamed}
+use Rattle.claims.specs.Safe.{safe-delivered}
+use Rattle.claims.specs.Blamed.{blamed}
 
 -- every definition of a list, open too
 unfoldedLists : Bool

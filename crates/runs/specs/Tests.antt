@@ -17,9 +17,9 @@ use Rattle.protocol.specs.Refusals.{Checks, every, isFull, isEvidence}
 use Rattle.protocol.specs.Calls.{opening}
 use Rattle.protocol.specs.declared.Record.{Record}
 use Rattle.round.specs.Round.{Call, BySubmit, ByStep, ByThinEntry, IsStep, Honest, Turn, called, left, turns, isNotice, turnsOf, Submits, Writes, Confirms, Reached, HaveReached, WritesEvidence, Names}
-use Rattle.round.specs.Lists.{and-true-both, or-true-either, every-each}
-use Rattle.round.specs.Journey.{messages, allMessages, all-member, member-all}
-use Rattle.round.specs.Units.{Any, any-worthy, written-are, stands-message}
+use Rattle.claims.specs.Lists.{and-true-both, or-true-either, every-each}
+use Rattle.claims.specs.Journey.{messages, allMessages, all-member, member-all}
+use Rattle.claims.specs.Units.{Any, any-worthy, written-are, stands-message}
 
 -- one of a list passes a test
 unfoldable pub found {ℓ} : {A : Type ℓ} → (A → Bool) → List A → Bool

@@ -14,14 +14,14 @@ use Rattle.protocol.specs.Record.{fresh, lastRound}
 use Rattle.protocol.specs.Refusals.{Checks, wrongKeys}
 use Rattle.protocol.specs.Calls.{openedBy, opening}
 use Rattle.protocol.specs.declared.Record.{Record}
 use Rattle.round.specs.Round.{Each, Relation, Kind, SUBMIT, NOTICE, FULL, EVIDENCE, isOf, flagOf, worth, Call, BySubmit, ByStep, ByThinEntry, Honest, Turn, left, writtenIn, writtenOver, Are, StandsIn, turnsOf, Writes}
-use Rattle.round.specs.Lists.{worth-le-one, worth-true, true-of-worth, count-pos, count-member, each-nil, each-append}
-use Rattle.round.specs.Sound.{Grows, InRange, Settled, Pairs, Sound, Good}
-use Rattle.round.specs.Certificates.{sized-entries, sized-pairs}
-use Rattle.round.specs.Parts.{grows-trans, good-grows}
-use Rattle.round.specs.Reading.{are-unique}
-use Rattle.round.specs.Unrefused.{opening-range}
-use Rattle.round.specs.Journey.{messages, allMessages, all-member, member-all, lastOf, written-is, WorthyGiven, Worthy, At, Journey, journey, fresh-sound, fresh-settled}
+use Rattle.claims.specs.Lists.{worth-le-one, worth-true, true-of-worth, count-pos, count-member, each-nil, each-append}
+use Rattle.claims.specs.Sound.{Grows, InRange, Settled, Pairs, Sound, Good}
+use Rattle.claims.specs.Certificates.{sized-entries, sized-pairs}
+use Rattle.claims.specs.Parts.{grows-trans, good-grows}
+use Rattle.claims.specs.Reading.{are-unique}
+use Rattle.claims.specs.Unrefused.{opening-range}
+use Rattle.claims.specs.Journey.{messages, allMessages, all-member, member-all, lastOf, written-is, WorthyGiven, Worthy, At, Journey, journey, fresh-sound, fresh-settled}
 
 -- ---- messages that a unit writes are laid out as document 01 says
 

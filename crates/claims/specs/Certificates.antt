@@ -19,9 +19,9 @@ use Rattle.protocol.specs.Message.{Entry, Pair, Message, Evidence, entrySeats}
 use Rattle.protocol.specs.Certificate.{Certificate, setOf, signatureOf, certificateOf, entryOf, entriesOf, pairOf, pairsOf, orderedEvidence, evidenceOf}
 use Rattle.protocol.specs.Laws.{lower-other, in-set, set-seats, Sized, SizedPairs}
 use Rattle.protocol.specs.Refusals.{Checks, rising}
 use Rattle.round.specs.Round.{Each, Relation}
-use Rattle.round.specs.Lists.{cond-elim, each-map, rising-first, rising-of-rises}
-use Rattle.round.specs.Sound.{Kept, Certifies, Entries, Pairs}
+use Rattle.claims.specs.Lists.{cond-elim, each-map, rising-first, rising-of-rises}
+use Rattle.claims.specs.Sound.{Kept, Certifies, Entries, Pairs}
 
 -- ---- sets and lists of seats
 

@@ -17,8 +17,8 @@ use Rattle.protocol.specs.Layout.{valueLength, signatureLength, submitLength, n
 use Rattle.protocol.specs.Message.{Entry, Pair, Message, Submit, Notice, Full, Evidence, Garbled, render, renderPairs, renderAll, byteAt, readValue, readSignature, entryCommands, readEntry, readEntries, pairCommands, readPair, readPairs, fitsSubmit, fitsNotice, fitsFull, fitsEvidence, readSubmit, readNotice, readFull, readEvidence, read}
 use Rattle.protocol.specs.Laws.{length-submit, length-notice, length-full, length-evidence}
 use Rattle.protocol.specs.ReadLaws.{WellFormed, read-render}
 use Rattle.round.specs.Round.{Each, Are}
-use Rattle.round.specs.Lists.{cond-elim, and-true-both, each-nil, each-one, each-append}
+use Rattle.claims.specs.Lists.{cond-elim, and-true-both, each-nil, each-one, each-append}
 
 -- ---- what bytes are read as
 

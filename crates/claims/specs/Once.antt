@@ -19,15 +19,15 @@ use Rattle.protocol.specs.Record.{impossible}
 use Rattle.protocol.specs.Refusals.{Checks, isFull, isEvidence}
 use Rattle.protocol.specs.Calls.{opening}
 use Rattle.protocol.specs.declared.Record.{Record}
 use Rattle.round.specs.Round.{Each, Relation, Kind, SUBMIT, NOTICE, FULL, EVIDENCE, isOf, isSubmit, isNotice, flagOf, worth, count, Honest, Turn, left, writtenIn, writtenOver, Are, turnsOf}
-use Rattle.round.specs.Lists.{worth-le-one, worth-true, true-of-worth, count-pos}
-use Rattle.round.specs.Sound.{Good}
-use Rattle.round.specs.Certificates.{sized-entries, sized-pairs}
-use Rattle.round.specs.Parts.{confirmed-submitted}
-use Rattle.round.specs.Reading.{are-unique}
-use Rattle.round.specs.Unrefused.{possible}
-use Rattle.round.specs.Journey.{Worthy, messages, allMessages, Passed}
-use Rattle.round.specs.Units.{Any, any-worthy, endOf, start-n, start-sound, start-settled, trip, stop, left-grows, written-are, all-are}
+use Rattle.claims.specs.Lists.{worth-le-one, worth-true, true-of-worth, count-pos}
+use Rattle.claims.specs.Sound.{Good}
+use Rattle.claims.specs.Certificates.{sized-entries, sized-pairs}
+use Rattle.claims.specs.Parts.{confirmed-submitted}
+use Rattle.claims.specs.Reading.{are-unique}
+use Rattle.claims.specs.Unrefused.{possible}
+use Rattle.claims.specs.Journey.{Worthy, messages, allMessages, Passed}
+use Rattle.claims.specs.Units.{Any, any-worthy, endOf, start-n, start-sound, start-settled, trip, stop, left-grows, written-are, all-are}
 
 -- ---- messages by kind
 

@@ -16,14 +16,14 @@ use Rattle.protocol.specs.Certificate.{certificateIn, evidenceOf}
 use Rattle.protocol.specs.Refusals.{Checks, isFull, isEvidence, notLowerFirst, makingConditions}
 use Rattle.protocol.specs.Calls.{opening, makingBy, making, made, checkedBy, evidenceCheck}
 use Rattle.protocol.specs.declared.Record.{Record}
 use Rattle.round.specs.Round.{Each, Relation, EachSigned, Call, BySubmit, ByStep, ByThinEntry, InHand, Honest, IsStep, Turn, left, StandsIn, turnsOf, Submits, WritesEvidence, makingOf, MakesEvidence, Names, AcceptedFrom, Family, Delivered, Takes, NoneForged, NoneBlamed}
-use Rattle.round.specs.Lists.{each-nil, each-one}
-use Rattle.round.specs.Sound.{Certifies, Pairs, Good}
-use Rattle.round.specs.Certificates.{certifies-of, evidence-elim}
-use Rattle.round.specs.Reading.{Laid, read-laid, are-unique}
-use Rattle.round.specs.Unrefused.{Taken, signed-pairs, evidence-checked, making-taken, entries-taken}
-use Rattle.round.specs.Journey.{refusalOf, cameTo, WorthyGiven, Worthy, At, counted-written, unrefused-left, submit-value}
-use Rattle.round.specs.Units.{Any, any-worthy, startOf, endOf, start-n, start-seat, stop, writes-good, pairs-formed}
+use Rattle.claims.specs.Lists.{each-nil, each-one}
+use Rattle.claims.specs.Sound.{Certifies, Pairs, Good}
+use Rattle.claims.specs.Certificates.{certifies-of, evidence-elim}
+use Rattle.claims.specs.Reading.{Laid, read-laid, are-unique}
+use Rattle.claims.specs.Unrefused.{Taken, signed-pairs, evidence-checked, making-taken, entries-taken}
+use Rattle.claims.specs.Journey.{refusalOf, cameTo, WorthyGiven, Worthy, At, counted-written, unrefused-left, submit-value}
+use Rattle.claims.specs.Units.{Any, any-worthy, startOf, endOf, start-n, start-seat, stop, writes-good, pairs-formed}
 
 -- a value isn't lower than itself
 lower-self : (v : List ℕ) → isLower v v ≡ false

@@ -21,17 +21,17 @@ use Rattle.protocol.specs.Refusals.{Checks, wrongKeys, isForStep, isFull, isEvi
 use Rattle.protocol.specs.Step.{State, otherHeard, owesFull, stepped}
 use Rattle.protocol.specs.Calls.{start, opening, checkedBy, evidenceCheck}
 use Rattle.protocol.specs.declared.Record.{Record}
 use Rattle.round.specs.Round.{Each, NOTICE, FULL, EVIDENCE, isNotice, Honest, Turn, left, turnsOf, Writes, Confirms, Reached, Accepted, Names, Blames, Family, ReachedOthers}
-use Rattle.round.specs.Lists.{and-false-either, each-nil, each-one}
-use Rattle.round.specs.Sound.{Heard, Held, Grows, Settled, Entries, Pairs, Sound, Said}
-use Rattle.round.specs.Certificates.{sized-entries}
-use Rattle.round.specs.Parts.{other-heard}
-use Rattle.round.specs.Whole.{notice-heard, full-held}
-use Rattle.round.specs.Unrefused.{possible, Taken, step-unrefused, full-taken}
-use Rattle.round.specs.Journey.{Worthy, At, step-is, left-came}
-use Rattle.round.specs.Units.{Any, any-worthy, startOf, endOf, opened-range, opened-keys, start-n, start-round, trip, stop, end-n, end-seat, end-round, written-flag, flag-written, writes-good}
-use Rattle.round.specs.Safe.{evidence-cases}
-use Rattle.round.specs.Made.{evidence-accepted}
+use Rattle.claims.specs.Lists.{and-false-either, each-nil, each-one}
+use Rattle.claims.specs.Sound.{Heard, Held, Grows, Settled, Entries, Pairs, Sound, Said}
+use Rattle.claims.specs.Certificates.{sized-entries}
+use Rattle.claims.specs.Parts.{other-heard}
+use Rattle.claims.specs.Whole.{notice-heard, full-held}
+use Rattle.claims.specs.Unrefused.{possible, Taken, step-unrefused, full-taken}
+use Rattle.claims.specs.Journey.{Worthy, At, step-is, left-came}
+use Rattle.claims.specs.Units.{Any, any-worthy, startOf, endOf, opened-range, opened-keys, start-n, start-round, trip, stop, end-n, end-seat, end-round, written-flag, flag-written, writes-good}
+use Rattle.claims.specs.Safe.{evidence-cases}
+use Rattle.claims.specs.Made.{evidence-accepted}
 
 -- a message that is FULL
 full-cases : (P : Message → Type 0) (m : Message) → isFull m ≡ true → ((ρ sender : ℕ) (value : List ℕ) (es : List Entry) → P (Full ρ sender value es)) → P m

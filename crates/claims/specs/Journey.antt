@@ -20,13 +20,13 @@ use Rattle.protocol.specs.Refusals.{Checks, submitConditions, stepConditions}
 use Rattle.protocol.specs.Step.{State, owesFull, submitted, stepped}
 use Rattle.protocol.specs.Calls.{Result, resultBy, start, outAfter, submit, step, answer}
 use Rattle.protocol.specs.declared.Record.{Record}
 use Rattle.round.specs.Round.{Each, Relation, EachSigned, isOf, Call, BySubmit, ByStep, ByThinEntry, IsStep, Turn, called, left, turns, counted, writtenIn, outOf}
-use Rattle.round.specs.Lists.{count-append, count-nil, each-nil, each-cons}
-use Rattle.round.specs.Sound.{Grows, Counts, InRange, Settled, Sound, Good}
-use Rattle.round.specs.Parts.{shared-none, grows-refl, grows-trans, k-pos}
-use Rattle.round.specs.Whole.{Done, submitted-done, submitted-value, stepped-done}
-use Rattle.round.specs.Reading.{read-laid}
-use Rattle.round.specs.Unrefused.{submit-taken, step-taken, brings}
+use Rattle.claims.specs.Lists.{count-append, count-nil, each-nil, each-cons}
+use Rattle.claims.specs.Sound.{Grows, Counts, InRange, Settled, Sound, Good}
+use Rattle.claims.specs.Parts.{shared-none, grows-refl, grows-trans, k-pos}
+use Rattle.claims.specs.Whole.{Done, submitted-done, submitted-value, stepped-done}
+use Rattle.claims.specs.Reading.{read-laid}
+use Rattle.claims.specs.Unrefused.{submit-taken, step-taken, brings}
 
 -- ---- a call at its turn
 

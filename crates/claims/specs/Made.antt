@@ -13,13 +13,13 @@ use Rattle.protocol.specs.ReadLaws.{read-render}
 use Rattle.protocol.specs.Certificate.{setOf, certificateIn}
 use Rattle.protocol.specs.Refusals.{Checks, wrongKeys, isEvidence, notLowerFirst}
 use Rattle.protocol.specs.Calls.{makingBy, making, checkedBy, evidenceCheck}
 use Rattle.round.specs.Round.{InHand, makingOf}
-use Rattle.round.specs.Sound.{InRange, Certifies, Pairs}
-use Rattle.round.specs.Certificates.{evidence-elim, evidence-names}
-use Rattle.round.specs.Reading.{read-laid}
-use Rattle.round.specs.Unrefused.{Taken, MakingTaken, making-taken, evidence-unrefused, evidence-taken}
-use Rattle.round.specs.Units.{Any, pairs-formed}
-use Rattle.round.specs.Safe.{conditions, evidenceFrom, making-bytes, certifies-in}
+use Rattle.claims.specs.Sound.{InRange, Certifies, Pairs}
+use Rattle.claims.specs.Certificates.{evidence-elim, evidence-names}
+use Rattle.claims.specs.Reading.{read-laid}
+use Rattle.claims.specs.Unrefused.{Taken, MakingTaken, making-taken, evidence-unrefused, evidence-taken}
+use Rattle.claims.specs.Units.{Any, pairs-formed}
+use Rattle.claims.specs.Safe.{conditions, evidenceFrom, making-bytes, certifies-in}
 
 module _ (checks : Checks) (n seat round : ℕ) (keys : List ℕ) (range : InRange n seat round) (table : wrongKeys n keys ≡ false) where
   -- evidence of t0 + 1 pairs or more is accepted, and what it is read as names its seats

@@ -9,10 +9,10 @@ use Rattle.rfc8554.specs.Calls.{checks}
 use Rattle.protocol.specs.Refusals.{Checks}
 use Rattle.protocol.specs.Calls.{Result, opening}
 use Rattle.protocol.specs.declared.Record.{Record}
 use Rattle.round.specs.Round.{Relation, Call, Honest, Turn, called, left, turnsOf, Confirms, Blames, Family, Delivered, Takes, NoneForged, NoneBlamed, ReachedOthers}
-use Rattle.round.specs.Units.{Any, any-worthy, start-round, stop}
-use Rattle.round.specs.Safe.{safe, safe-delivered}
-use Rattle.round.specs.Blamed.{blamed}
+use Rattle.claims.specs.Units.{Any, any-worthy, start-round, stop}
+use Rattle.claims.specs.Safe.{safe, safe-delivered}
+use Rattle.claims.specs.Blamed.{blamed}
 
 -- "In one round and under one key table"
 module _ (n round : ℕ) (keys : List ℕ) where

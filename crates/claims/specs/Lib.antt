@@ -1,0 +1,24 @@
+-- The claims over whole lists of calls (demands 1 and 3), over the definitions of crate `protocol`.
+--
+-- `Round` has document 01's "A round as a whole" as definitions. The claims are at the end of `Once` (demand 1) and in `Claim` (demand
+-- 3, whole); the two halves of demand 3 are at the end of `Safe` and of `Blamed`, for any signature check, and what evidence made of two
+-- certificates is worth is at the end of `Made`. Crate `runs` shows that they say something.
+--
+-- `Sound` has what holds of record and store all along a list; `Parts` and `Whole` show it of the parts of a step and of a whole
+-- one, `Journey` and `Units` of a list. The other files have the laws that these stand on.
+
+pub mod Lists
+pub mod Slots
+pub mod Sound
+pub mod Certificates
+pub mod Parts
+pub mod Whole
+pub mod Reading
+pub mod Unrefused
+pub mod Journey
+pub mod Units
+pub mod Once
+pub mod Safe
+pub mod Made
+pub mod Blamed
+pub mod Claim
