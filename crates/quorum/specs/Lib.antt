@@ -1,3 +1,2 @@
 pub mod Quorum
 pub mod Laws
-pub mod Marked

@@ -2,7 +2,7 @@
 --
 -- Definitions: `Ots` has section 4 and Appendix A, `Tree` section 5.3 with the signature and the tree's buffer, `Verify`
 -- section 5.4.2, `Calls` the calls of document 01. Each has its laws in a module of its own.
--- `Claim`: what the signer makes, the check takes. `Marked`: document 01's marked cases.
+-- `Claim`: what the signer makes, the check takes.
 pub mod Ots
 pub mod Tree
 pub mod Verify
@@ -12,4 +12,3 @@ pub mod TreeLaws
 pub mod VerifyLaws
 pub mod CallLaws
 pub mod Claim
-pub mod Marked
