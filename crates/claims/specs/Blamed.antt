@@ -21,14 +21,16 @@ use Rattle.protocol.specs.Refusals.{Checks, wrongKeys, isForStep, isFull, isEvi
 use Rattle.protocol.specs.Step.{State, otherHeard, owesFull, stepped}
 use Rattle.protocol.specs.Calls.{start, opening, checkedBy, evidenceCheck}
 use Rattle.protocol.specs.declared.Record.{Record}
-use Rattle.round.specs.Round.{Each, NOTICE, FULL, EVIDENCE, isNotice, Honest, Turn, left, turnsOf, Writes, Confirms, Reached, Accepted, Names, Blames, Family, ReachedOthers}
+use Rattle.round.specs.Round.{Setting, IsOpened, Each, Honest, Called, resultOf, listOf, Writes, Confirms, Reached, Accepted, Names, Family}
+use Rattle.round.specs.Demand3.{Blames, ReachedOthers}
+use Rattle.round.specs.Demand1.{NOTICE, FULL, EVIDENCE, isNotice}
 use Rattle.claims.specs.Lists.{and-false-either, each-nil, each-one}
 use Rattle.claims.specs.Sound.{Heard, Held, Grows, Settled, Entries, Pairs, Sound, Said}
 use Rattle.claims.specs.Certificates.{sized-entries}
 use Rattle.claims.specs.Parts.{other-heard}
 use Rattle.claims.specs.Whole.{notice-heard, full-held}
 use Rattle.claims.specs.Unrefused.{possible, Taken, step-unrefused, full-taken}
-use Rattle.claims.specs.Journey.{Worthy, At, step-is, left-came}
+use Rattle.claims.specs.Journey.{Worthy, At, step-is, result-came}
 use Rattle.claims.specs.Units.{Any, any-worthy, startOf, endOf, opened-range, opened-keys, start-n, start-round, trip, stop, end-n, end-seat, end-round, written-flag, flag-written, writes-good}
 use Rattle.claims.specs.Safe.{evidence-cases}
 use Rattle.claims.specs.Made.{evidence-accepted}
@@ -54,57 +56,67 @@ sent-of r owes confirmed other =
     ⊎-elim (λ e. ⊎-elim (λ c. absurd (true≢false (sym confirmed ∙ c))) (λ s. not-false (r .sent) s) (and-false-either (r .confirmed) (not (r .sent)) e)) (λ e. absurd (true≢false (sym other ∙ e)))
     (and-false-either (r .confirmed && not (r .sent)) (otherHeard r) owes)
 
-module _ (checks : Checks) (n round : ℕ) (keys : List ℕ) where
+module _ (S : Setting) where
+  open Setting S using (n, round, keys, checks)
+
+  -- the mask that the check answers is the seats that the evidence names
+  pub mask-names : (evidence : List ℕ) (seat : ℕ) → Accepted S evidence → In seat (evidenceCheck checks n round keys evidence .mask) ↔ Names S evidence seat
+  unfolding evidenceCheck checkedBy unrefused
+  mask-names evidence seat a = rw a (in-set seat (entrySeats (read n evidence)))
+
   -- ---- one unit
 
-  module _ (u : Honest) (opened : opening n (u .seat) round keys .number ≡ 0) where
-    abbrev any : Each (Worthy checks Any keys) (turnsOf checks n round keys u)
-    any = any-worthy checks keys (turnsOf checks n round keys u)
+  module _ (u : Honest) (opened : IsOpened S u) where
+    abbrev any : Each (Worthy S Any) (listOf S u)
+    any = any-worthy S (listOf S u)
 
     abbrev end : Record
-    end = endOf checks n round keys u opened
+    end = endOf S u opened
 
     -- what reaches the unit, and isn't refused there for what it is, is taken
-    module _ (m : Message) (formed : WellFormed n m) (forStep : isForStep m ≡ true) (timely : (r : Record) → early r m ≡ false) (taken : Taken checks n round m) (h : Reached checks n round keys u (render m)) where
-      abbrev t : Turn
-      t = h .0
+    module _ (m : Message) (formed : WellFormed n m) (forStep : isForStep m ≡ true) (timely : (r : Record) → early r m ≡ false) (taken : Taken checks n round m) (h : Reached S u (render m)) where
+      abbrev t : Called
+      t = h .step .call
 
-      abbrev at : At checks Any keys (startOf checks n round keys u opened) t end
-      at = stop checks n round keys u opened Any any t (h .2)
+      abbrev out : List ℕ
+      out = h .step .out
+
+      abbrev at : At S Any (startOf S u opened) t end
+      at = stop S u opened Any any t (h .step .inList)
 
       size-is : t .unit .n ≡ n
-      size-is = at .since .n ∙ start-n checks n round keys u opened
+      size-is = at .since .n ∙ start-n S u opened
 
       round-is : t .unit .round ≡ round
-      round-is = at .since .round ∙ start-round checks n round keys u opened
+      round-is = at .since .round ∙ start-round S u opened
 
       room : storeLength (t .unit .n) ≤ length (t .store)
-      room = subst (λ i. storeLength i ≤ length (t .store)) (sym size-is) (h .4)
+      room = subst (λ i. storeLength i ≤ length (t .store)) (sym size-is) (h .storeRoom)
 
       reads : read (t .unit .n) (render m) ≡ m
       reads = rw size-is (read-render n m formed)
 
-      unrefused-here : lowest (stepConditions checks keys (t .unit) (t .store) m (h .1)) ≡ 0
+      unrefused-here : lowest (stepConditions checks keys (t .unit) (t .store) m out) ≡ 0
       unrefused-here =
-          step-unrefused checks keys (t .unit) (t .store) m (h .1) (possible checks Any (t .unit) (t .store) (at .sound) (at .settled)) (subst (λ i. wrongKeys i keys ≡ false) (sym size-is) (opened-keys checks n round keys u opened)) room (subst (λ i. outLength i ≤ length (h .1)) (sym size-is) (h .5)) forStep (timely (t .unit))
+          step-unrefused checks keys (t .unit) (t .store) m out (possible checks Any (t .unit) (t .store) (at .sound) (at .settled)) (subst (λ i. wrongKeys i keys ≡ false) (sym size-is) (opened-keys S u opened)) room (subst (λ i. outLength i ≤ length out) (sym size-is) (h .outRoom)) forStep (timely (t .unit))
           (subst₂ (λ i ρ. Taken checks i ρ m) (sym size-is) (sym round-is) taken)
 
-      left-stepped : left checks keys t .unit ≡ stepped m (start (t .unit) (t .store)) .unit
-      left-stepped =
-          let is = step-is checks keys (t .given) (render m) (h .1) (t .unit) (t .store) (h .3) in
-          left-came checks keys t (is .0 ∙ rw reads unrefused-here) ∙ ap (λ (s : State). s .unit) (is .1) ∙ ap (λ x. stepped x (start (t .unit) (t .store)) .unit) reads
+      result-stepped : resultOf S t .unit ≡ stepped m (start (t .unit) (t .store)) .unit
+      result-stepped =
+          let is = step-is S (t .given) (render m) out (t .unit) (t .store) (h .step .isStep) in
+          result-came S t (is .0 ∙ rw reads unrefused-here) ∙ ap (λ (s : State). s .unit) (is .1) ∙ ap (λ x. stepped x (start (t .unit) (t .store)) .unit) reads
 
       -- what the step comes to, and what grows, holds at the end
       pub reached-end : (P : Record → Type 0) → ((r r′ : Record) → Grows r r′ → P r → P r′)
           → ((r : Record) (store : List ℕ) → r .n ≡ n → Sound checks Any r store → storeLength (r .n) ≤ length store → Settled r → P (stepped m (start r store) .unit)) → P end
       reached-end P grows f =
-          grows (left checks keys t .unit) end (at .before) (subst P (sym left-stepped) (f (t .unit) (t .store) size-is (at .sound) room (at .settled)))
+          grows (resultOf S t .unit) end (at .before) (subst P (sym result-stepped) (f (t .unit) (t .store) size-is (at .sound) room (at .settled)))
 
     -- a NOTICE that reached the unit is heard at the end
-    pub reached-heard : (seat : ℕ) (value : List ℕ) → seat < n → length value ≡ valueLength → Reached checks n round keys u (render (Notice round seat value)) → Heard value end
+    pub reached-heard : (seat : ℕ) (value : List ℕ) → seat < n → length value ≡ valueLength → Reached S u (render (Notice round seat value)) → Heard value end
     unfolding isForStep early roundOf seatsOf entrySeats signed rising
     reached-heard seat value inside sized h =
-        let range = opened-range checks n round keys u opened in
+        let range = opened-range S u opened in
         reached-end (Notice round seat value) (let e = range .early in omega arith, sized) refl (λ r. refl)
         (record { inRound = refl; inside = each-one (λ s. s < n) seat inside; rises = refl; checked = each-nil (λ s. checks (s .seat) (s .value) (s .signature) ≡ true) })
         h
@@ -113,10 +125,10 @@ module _ (checks : Checks) (n round : ℕ) (keys : List ℕ) where
         (λ r store e z room settled. notice-heard checks Any (start r store) z room settled round seat value)
 
     -- a FULL that reached the unit is held at the end, or was compared with the one held
-    pub reached-held : (sender : ℕ) (value : List ℕ) (es : List Entry) → sender < n → Entries checks Any n value es → Reached checks n round keys u (render (Full round sender value es)) → Held value end
+    pub reached-held : (sender : ℕ) (value : List ℕ) (es : List Entry) → sender < n → Entries checks Any n value es → Reached S u (render (Full round sender value es)) → Held value end
     unfolding isForStep early
     reached-held sender value es inside entries h =
-        let range = opened-range checks n round keys u opened in
+        let range = opened-range S u opened in
         reached-end (Full round sender value es) (let e = range .early in omega arith, entries .sized, entries .many, sized-entries es (λ e d. entries .kept e d .sized)) refl (λ r. refl)
         (full-taken checks Any n round sender value es inside entries)
         h
@@ -131,103 +143,107 @@ module _ (checks : Checks) (n round : ℕ) (keys : List ℕ) where
 
     own-said : (ρ seat : ℕ) (value : List ℕ) → Said end ρ seat value → Own ρ seat value
     own-said ρ seat value s =
-        (s .ofRound ∙ end-round checks n round keys u opened Any any, s .ofSeat ∙ end-seat checks n round keys u opened Any any, s .ofValue)
+        (s .ofRound ∙ end-round S u opened Any any, s .ofSeat ∙ end-seat S u opened Any any, s .ofValue)
 
-    pub confirms-end : (value : List ℕ) → Confirms checks n round keys u value → (end .confirmed ≡ true) × (end .own .value ≡ value) × (length value ≡ valueLength) × Writes checks n round keys u (Notice round (u .seat) value)
+    pub confirms-end : (value : List ℕ) → Confirms S u value → (end .confirmed ≡ true) × (end .own .value ≡ value) × (length value ≡ valueLength) × Writes S u (Notice round (u .seat) value)
     unfolding isNotice
     confirms-end value c =
         let m = Notice (c .0) (c .1) value in
-        let s = writes-good checks n round keys u opened Any any m (c .2) in
+        let s = writes-good S u opened Any any m (c .2) in
         let own = own-said (c .0) (c .1) value s in (
-          written-flag checks n round keys u opened Any any NOTICE m refl (c .2),
+          written-flag S u opened Any any NOTICE m refl (c .2),
           sym (own .2),
           s .sized,
-          subst (λ ρ. Writes checks n round keys u (Notice ρ (u .seat) value)) (own .0) (subst (λ t. Writes checks n round keys u (Notice (c .0) t value)) (own .1) (c .2)),
+          subst (λ ρ. Writes S u (Notice ρ (u .seat) value)) (own .0) (subst (λ t. Writes S u (Notice (c .0) t value)) (own .1) (c .2)),
         )
 
     -- a FULL that it wrote is of its own value
     abbrev WroteFull : List ℕ → Type 0
-    WroteFull value = (es : List Entry) × Entries checks Any n value es × Writes checks n round keys u (Full round (u .seat) value es)
+    WroteFull value = (es : List Entry) × Entries checks Any n value es × Writes S u (Full round (u .seat) value es)
 
     pub sent-full : end .sent ≡ true → WroteFull (end .own .value)
     sent-full e =
-        let f = flag-written checks n round keys u opened Any any FULL e in
-        full-cases (λ m. Writes checks n round keys u m → WroteFull (end .own .value)) (f .0) (f .1)
+        let f = flag-written S u opened Any any FULL e in
+        full-cases (λ m. Writes S u m → WroteFull (end .own .value)) (f .0) (f .1)
         (λ ρ sender value es w.
-        let g = writes-good checks n round keys u opened Any any (Full ρ sender value es) w in
+        let g = writes-good S u opened Any any (Full ρ sender value es) w in
         let own = own-said ρ sender value (g .0) in
         subst WroteFull (own .2) (
           es,
-          subst (λ i. Entries checks Any i value es) (end-n checks n round keys u opened Any any) (g .1),
-          subst₂ (λ x y. Writes checks n round keys u (Full x y value es)) (own .0) (own .1) w,
+          subst (λ i. Entries checks Any i value es) (end-n S u opened Any any) (g .1),
+          subst₂ (λ x y. Writes S u (Full x y value es)) (own .0) (own .1) w,
         ))
         (f .2)
 
     -- ---- evidence that it wrote
 
-    pub guilty-blames : end .guilty ≢ 0 → Blames checks n round keys u
+    pub guilty-blames : end .guilty ≢ 0 → Blames S u
     guilty-blames guilty =
-        let f = flag-written checks n round keys u opened Any any EVIDENCE (rw (ne-eqb (end .guilty) 0 guilty)) in
-        evidence-cases (λ m. isEvidence m ≡ true → Writes checks n round keys u m → Blames checks n round keys u) (f .0) (f .1)
+        let f = flag-written S u opened Any any EVIDENCE (rw (ne-eqb (end .guilty) 0 guilty)) in
+        evidence-cases (λ m. isEvidence m ≡ true → Writes S u m → Blames S u) (f .0) (f .1)
         (λ ρ lower higher ps is w.
-        let g = writes-good checks n round keys u opened Any any (Evidence ρ lower higher ps) w in
-        let pairs = subst (λ i. Pairs checks Any i lower higher ps) (end-n checks n round keys u opened Any any) (g .1) in
-        let accept = evidence-accepted checks n (u .seat) round keys (opened-range checks n round keys u opened) (opened-keys checks n round keys u opened) ρ lower higher ps (g .0 ∙ end-round checks n round keys u opened Any any) pairs in
-        (render (Evidence ρ lower higher ps), (Evidence ρ lower higher ps, is, refl, w), accept .0, accept .1))
+        let g = writes-good S u opened Any any (Evidence ρ lower higher ps) w in
+        let pairs = subst (λ i. Pairs checks Any i lower higher ps) (end-n S u opened Any any) (g .1) in
+        let accept = evidence-accepted S (u .seat) (opened-range S u opened) (opened-keys S u opened) ρ lower higher ps (g .0 ∙ end-round S u opened Any any) pairs in
+        let evidence = render (Evidence ρ lower higher ps) in
+        record {
+          evidence = evidence;
+          written = record { message = Evidence ρ lower higher ps; kind = is; bytes = refl; writes = w };
+          seats = evidenceCheck checks n round keys evidence .mask;
+          named = λ seat. mask-names evidence seat (accept .0);
+          enough = accept .1;
+          accepted = accept .0;
+          answered = refl;
+        })
         (f .1) (f .2)
-
-  -- the mask that the check answers is the seats that the evidence names
-  pub mask-names : (evidence : List ℕ) (seat : ℕ) → Accepted checks n round keys evidence → In seat (evidenceCheck checks n round keys evidence .mask) ↔ Names checks n round keys evidence seat
-  unfolding evidenceCheck checkedBy unrefused
-  mask-names evidence seat a = rw a (in-set seat (entrySeats (read n evidence)))
 
   -- ---- all of them
 
-  module _ {I : Type 0} (unit : I → Honest) (family : Family checks n round keys unit) where
+  module _ {I : Type 0} (boat : I → Honest) (family : Family S boat) where
     abbrev endAt : I → Record
-    endAt i = end (unit i) (family .opened i)
+    endAt i = end (boat i) (family .opened i)
 
     settled : (i : I) → Settled (endAt i)
-    settled i = trip checks n round keys (unit i) (family .opened i) Any (any (unit i) (family .opened i)) .settled
+    settled i = trip S (boat i) (family .opened i) Any (any (boat i) (family .opened i)) .settled
 
-    confirmed : (i : I) (value : List ℕ) → Confirms checks n round keys (unit i) value
-        → (endAt i .confirmed ≡ true) × (endAt i .own .value ≡ value) × (length value ≡ valueLength) × Writes checks n round keys (unit i) (Notice round (unit i .seat) value)
-    confirmed i value c = confirms-end (unit i) (family .opened i) value c
+    confirmed : (i : I) (value : List ℕ) → Confirms S (boat i) value
+        → (endAt i .confirmed ≡ true) × (endAt i .own .value ≡ value) × (length value ≡ valueLength) × Writes S (boat i) (Notice round (boat i .seat) value)
+    confirmed i value c = confirms-end (boat i) (family .opened i) value c
 
-    inside : (i : I) → unit i .seat < n
-    inside i = opened-range checks n round keys (unit i) (family .opened i) .inside
+    inside : (i : I) → boat i .seat < n
+    inside i = opened-range S (boat i) (family .opened i) .inside
 
     -- of two units that confirmed different layouts, each has sent its FULL
-    each-sent : (i j : I) (a b : List ℕ) → a ≢ b → Confirms checks n round keys (unit i) a → Confirms checks n round keys (unit j) b → ReachedOthers checks n round keys unit j → endAt i .sent ≡ true
+    each-sent : (i j : I) (a b : List ℕ) → a ≢ b → Confirms S (boat i) a → Confirms S (boat j) b → ReachedOthers S boat j → endAt i .sent ≡ true
     each-sent i j a b different ca cb reached =
         let x = confirmed i a ca in
         let y = confirmed j b cb in
         let other : i ≢ j = λ e. different (sym (x .1) ∙ ap (λ l. endAt l .own .value) e ∙ y .1) in
-        let heard = reached-heard (unit i) (family .opened i) (unit j .seat) b (inside j) (y .2) (reached i other .notice round (unit j .seat) b (y .3)) in
+        let heard = reached-heard (boat i) (family .opened i) (boat j .seat) b (inside j) (y .2) (reached i other .notice round (boat j .seat) b (y .3)) in
         sent-of (endAt i) (settled i .owes) (x .0) (other-heard b (endAt i) heard (λ e. different (sym (x .1) ∙ sym e)))
 
     -- and every unit has held a certificate of its layout, or compared one
-    each-held : (i : I) (a : List ℕ) → Confirms checks n round keys (unit i) a → endAt i .sent ≡ true → ReachedOthers checks n round keys unit i → (l : I) → (Held a (endAt l) → ⊥) → ⊥
-    each-held i a ca sent reached l never = go (ℕ-discrete (unit l .seat) (unit i .seat))
+    each-held : (i : I) (a : List ℕ) → Confirms S (boat i) a → endAt i .sent ≡ true → ReachedOthers S boat i → (l : I) → (Held a (endAt l) → ⊥) → ⊥
+    each-held i a ca sent reached l never = go (ℕ-discrete (boat l .seat) (boat i .seat))
       where
-        go : Dec (unit l .seat ≡ unit i .seat) → ⊥
+        go : Dec (boat l .seat ≡ boat i .seat) → ⊥
         go (yes e) =
             let x = confirmed i a ca in
             let own : Held a (endAt i) = subst (λ v. Held v (endAt i)) (x .1) (settled i .holds (x .0)) in
             family .apart l i (λ q. never (subst (λ o. Held a (endAt o)) (sym q) own)) e
         go (no d) =
             let x = confirmed i a ca in
-            let f = subst (WroteFull (unit i) (family .opened i)) (x .1) (sent-full (unit i) (family .opened i) sent) in
-            never (reached-held (unit l) (family .opened l) (unit i .seat) a (f .0) (inside i) (f .1) (reached l (λ q. d (ap (λ o. unit o .seat) q)) .full round (unit i .seat) a (f .0) (f .2)))
+            let f = subst (WroteFull (boat i) (family .opened i)) (x .1) (sent-full (boat i) (family .opened i) sent) in
+            never (reached-held (boat l) (family .opened l) (boat i .seat) a (f .0) (inside i) (f .1) (reached l (λ q. d (ap (λ o. boat o .seat) q)) .full round (boat i .seat) a (f .0) (f .2)))
 
 -- ---- the claim
 
-pub blamed : (checks : Checks) (n round : ℕ) (keys : List ℕ) {I : Type 0} (unit : I → Honest) → Family checks n round keys unit
-    → (i j : I) (a b : List ℕ) → a ≢ b → Confirms checks n round keys (unit i) a → Confirms checks n round keys (unit j) b
-    → ReachedOthers checks n round keys unit i → ReachedOthers checks n round keys unit j → (l : I) → Blames checks n round keys (unit l)
-blamed checks n round keys unit family i j a b different ca cb ri rj l =
-    let sent-a = each-sent checks n round keys unit family i j a b different ca cb rj in
-    let sent-b = each-sent checks n round keys unit family j i b a (λ e. different (sym e)) cb ca ri in
-    let held-a = each-held checks n round keys unit family i a ca sent-a ri l in
-    let held-b = each-held checks n round keys unit family j b cb sent-b rj l in
-    guilty-blames checks n round keys (unit l) (family .opened l) (λ g. held-a (λ x. held-b (λ y. both-held a b (endAt checks n round keys unit family l) different x y g)))
+pub blamed : (S : Setting) {I : Type 0} (boat : I → Honest) → Family S boat
+    → (i j : I) (a b : List ℕ) → a ≢ b → Confirms S (boat i) a → Confirms S (boat j) b
+    → ReachedOthers S boat i → ReachedOthers S boat j → (l : I) → Blames S (boat l)
+blamed S boat family i j a b different ca cb ri rj l =
+    let sent-a = each-sent S boat family i j a b different ca cb rj in
+    let sent-b = each-sent S boat family j i b a (λ e. different (sym e)) cb ca ri in
+    let held-a = each-held S boat family i a ca sent-a ri l in
+    let held-b = each-held S boat family j b cb sent-b rj l in
+    guilty-blames S (boat l) (family .opened l) (λ g. held-a (λ x. held-b (λ y. both-held a b (endAt S boat family l) different x y g)))

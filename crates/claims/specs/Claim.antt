@@ -1,58 +1,63 @@
 -- Demand 3, whole: one claim about any family of honest units, one round and one key table, from end to end. The signature check is
 -- RFC 8554's; the theory beneath holds for any.
 -- Assumes nothing.
-use mathlib.Core.Path.{_≡_, ap, _∙_}
-use mathlib.Core.List.{List, List·Memᴰ}
-use mathlib.Core.Logic.{_≢_}
+use mathlib.Core.Path.{_≡_, refl, ap, _∙_}
+use mathlib.Core.List.{List, [], _∷_, map, List·Memᴰ, List·Memᴰ·head, List·Memᴰ·tail}
 use Prim.Native.Nat.{ℕ}
 use Rattle.rfc8554.specs.Calls.{checks}
-use Rattle.protocol.specs.Refusals.{Checks}
-use Rattle.protocol.specs.Calls.{Result, opening}
+use Rattle.protocol.specs.Calls.{Result, submit, step, opening}
 use Rattle.protocol.specs.declared.Record.{Record}
-use Rattle.round.specs.Round.{Relation, Call, Honest, Turn, called, left, turnsOf, Confirms, Blames, Family, Delivered, Takes, NoneForged, NoneBlamed, ReachedOthers}
+use Rattle.round.specs.Round.{Setting, Call, BySubmit, ByStep, ByThinEntry, Honest, Called, outcome, resultOf, listFrom, listOf, IsOpened, Family}
+use Rattle.round.specs.Demand3.{Demand3}
 use Rattle.claims.specs.Units.{Any, any-worthy, start-round, stop}
 use Rattle.claims.specs.Safe.{safe, safe-delivered}
 use Rattle.claims.specs.Blamed.{blamed}
 
--- "In one round and under one key table"
+-- "A signature checks for a seat over a layout when RFC 8554 accepts it under that seat's key for the 36 bytes of the round,
+-- that seat and that layout, and its leaf is the round."
+abbrev pub setting : ℕ → ℕ → List ℕ → Setting
+setting n round keys = record { n = n; round = round; keys = keys; checks = checks keys round }
+
+pub demand-3 : (n round : ℕ) (keys : List ℕ) {I : Type 0} (boat : I → Honest) → Family (setting n round keys) boat → Demand3 (setting n round keys) boat
+demand-3 n round keys boat family =
+    let S = setting n round keys in
+    record { safety = safe-delivered S boat family; accountability = blamed S boat family; safety-however = safe S boat family }
+
+-- ---- the lists are of calls as the code's contracts state them
+
+-- Calls one after another, each with its result, as the contracts of submit and step promise it: they check in the round of the
+-- record that they are given.
+unfoldable pub promised : List ℕ → Record → List ℕ → List Call → List (Called × Result)
+promised keys r store [] = []
+promised keys r store (c ∷ cs) =
+    let result = outcome (setting (r .n) (r .round) keys) c r store in
+    (record { given = c; unit = r; store = store }, result) ∷ promised keys (result .unit) (result .store) cs
+
 module _ (n round : ℕ) (keys : List ℕ) where
-  -- "A signature checks for a seat over a layout when RFC 8554 accepts it under that seat's key for the 36 bytes of the round,
-  -- that seat and that layout, and its leaf is the round."
-  abbrev pub check : Checks
-  check = checks keys round
+  abbrev S : Setting
+  S = setting n round keys
 
-  -- "let some units be honest"
-  module _ {I : Type 0} (unit : I → Honest) where
-    pub record Demand3 : Type 1 where
-      -- "If no signature delivered for an honest seat over a layout that it didn't submit checks for that seat over that layout, then
-      -- no honest seat stands in any evidence written, or accepted from delivered signatures."
-      pub safety : NoneForged check n round keys unit (Delivered check n round keys unit) → NoneBlamed check n round keys unit (Delivered check n round keys unit)
-      -- the same for every other reading of "delivered" that has at least the signatures that calls took
-      pub safety-however : (R : Relation) → Takes check n round keys unit R → NoneForged check n round keys unit R → NoneBlamed check n round keys unit R
-      -- "Where two honest units have confirmed different layouts, and the notice and full certificate of each have reached every
-      -- other honest unit in buffers of the stated lengths, each honest unit has written evidence that names at least t0 + 1 seats
-      -- and that every unit accepts."
-      pub accountability : (i j : I) (a b : List ℕ) → a ≢ b → Confirms check n round keys (unit i) a → Confirms check n round keys (unit j) b
-          → ReachedOthers check n round keys unit i → ReachedOthers check n round keys unit j → (l : I) → Blames check n round keys (unit l)
+  abbrev withResult : Called → Called × Result
+  withResult c = (c, resultOf S c)
 
-    -- "each alone in its seat and opened once": nothing else is asked of a family
-    pub demand-3 : Family check n round keys unit → Demand3
-    demand-3 family = record {
-      safety = safe-delivered check n round keys unit family;
-      safety-however = safe check n round keys unit family;
-      accountability = blamed check n round keys unit family;
-    }
+  same-outcome : (c : Call) (r : Record) (store : List ℕ) → r .round ≡ round → outcome (setting (r .n) (r .round) keys) c r store ≡ outcome S c r store
+  unfolding outcome
+  same-outcome (BySubmit value signature out) r store e = ap (λ (ρ : ℕ). submit (checks keys ρ) keys r store value signature out) e
+  same-outcome (ByStep bytes out) r store e = ap (λ (ρ : ℕ). step (checks keys ρ) keys r store bytes out) e
+  same-outcome (ByThinEntry bytes out) r store e = ap (λ (ρ : ℕ). step (checks keys ρ) keys r store bytes out) e
 
-  -- ---- the lists are of calls as the code's contracts state them
+  same-list : (r : Record) (store : List ℕ) (cs : List Call) → ((c : Called) → List·Memᴰ c (listFrom S r store cs) → c .unit .round ≡ round)
+      → promised keys r store cs ≡ map withResult (listFrom S r store cs)
+  unfolding promised listFrom
+  same-list r store [] h = refl
+  same-list r store (c ∷ cs) h =
+      let first : Called = record { given = c; unit = r; store = store } in
+      let result = outcome S c r store in
+      rw (same-outcome c r store (h first (List·Memᴰ·head refl)))
+      (ap (λ (rest : List (Called × Result)). (first, result) ∷ rest) (same-list (result .unit) (result .store) cs (λ x d. h x (List·Memᴰ·tail d))))
 
-  -- what the contracts of submit and step promise of a call on a record and a store: they check in the record's round
-  abbrev pub promised : Call → Record → List ℕ → Result
-  promised c r store = called (checks keys (r .round)) keys c r store
-
-  -- at each call of a list, that is what the claim is about
-  pub as-promised : (u : Honest) → opening n (u .seat) round keys .number ≡ 0 → (t : Turn) → List·Memᴰ t (turnsOf check n round keys u)
-      → promised (t .given) (t .unit) (t .store) ≡ left check keys t
-  as-promised u opened t d =
-      let at = stop check n round keys u opened Any (any-worthy check keys (turnsOf check n round keys u)) t d in
-      let same : t .unit .round ≡ round = at .since .round ∙ start-round check n round keys u opened in
-      ap (λ ρ. called (checks keys ρ) keys (t .given) (t .unit) (t .store)) same
+  -- so, of a unit opened without a refusal, the claim is about the very list that the code's calls come to
+  pub as-promised : (u : Honest) → IsOpened S u → promised keys (opening n (u .seat) round keys .unit) (u .store) (u .calls) ≡ map withResult (listOf S u)
+  as-promised u opened =
+      same-list (opening n (u .seat) round keys .unit) (u .store) (u .calls)
+      (λ c d. stop S u opened Any (any-worthy S (listOf S u)) c d .since .round ∙ start-round S u opened)

@@ -20,7 +20,8 @@ use Rattle.protocol.specs.Refusals.{Checks, submitConditions, stepConditions}
 use Rattle.protocol.specs.Step.{State, owesFull, submitted, stepped}
 use Rattle.protocol.specs.Calls.{Result, resultBy, start, outAfter, submit, step, answer}
 use Rattle.protocol.specs.declared.Record.{Record}
-use Rattle.round.specs.Round.{Each, Relation, EachSigned, isOf, Call, BySubmit, ByStep, ByThinEntry, IsStep, Turn, called, left, turns, counted, writtenIn, outOf}
+use Rattle.round.specs.Round.{Each, Relation, EachSigned, Call, BySubmit, ByStep, ByThinEntry, IsStep, Setting, Called, outcome, resultOf, listFrom, counted, writtenIn, outOf}
+use Rattle.round.specs.Demand1.{isOf}
 use Rattle.claims.specs.Lists.{count-append, count-nil, each-nil, each-cons}
 use Rattle.claims.specs.Sound.{Grows, Counts, InRange, Settled, Sound, Good}
 use Rattle.claims.specs.Parts.{shared-none, grows-refl, grows-trans, k-pos}
@@ -28,70 +29,70 @@ use Rattle.claims.specs.Whole.{Done, submitted-done, submitted-value, st
 use Rattle.claims.specs.Reading.{read-laid}
 use Rattle.claims.specs.Unrefused.{submit-taken, step-taken, brings}
 
--- ---- a call at its turn
+-- ---- a call in its list
 
 -- its refusal number, and what it comes to where nothing is refused
-unfoldable pub refusalOf : Checks → List ℕ → Call → Record → List ℕ → ℕ
-refusalOf checks keys (BySubmit value signature out) r store = lowest (submitConditions checks keys r store value signature out)
-refusalOf checks keys (ByStep bytes out) r store = lowest (stepConditions checks keys r store (read (r .n) bytes) out)
-refusalOf checks keys (ByThinEntry bytes out) r store = lowest (stepConditions checks keys r store (read (r .n) bytes) out)
+unfoldable pub refusalOf : Setting → Call → Record → List ℕ → ℕ
+refusalOf S (BySubmit value signature out) r store = lowest (submitConditions (S .checks) (S .keys) r store value signature out)
+refusalOf S (ByStep bytes out) r store = lowest (stepConditions (S .checks) (S .keys) r store (read (r .n) bytes) out)
+refusalOf S (ByThinEntry bytes out) r store = lowest (stepConditions (S .checks) (S .keys) r store (read (r .n) bytes) out)
 
 unfoldable pub cameTo : Call → Record → List ℕ → State
 cameTo (BySubmit value signature out) r store = submitted value signature (start r store)
 cameTo (ByStep bytes out) r store = stepped (read (r .n) bytes) (start r store)
 cameTo (ByThinEntry bytes out) r store = stepped (read (r .n) bytes) (start r store)
 
-pub called-is : (checks : Checks) (keys : List ℕ) (c : Call) (r : Record) (store : List ℕ) → called checks keys c r store ≡ resultBy (refusalOf checks keys c r store) (cameTo c r store) r store
-unfolding called refusalOf cameTo submit step
-called-is checks keys (BySubmit value signature out) r store = refl
-called-is checks keys (ByStep bytes out) r store = refl
-called-is checks keys (ByThinEntry bytes out) r store = refl
+pub outcome-is : (S : Setting) (c : Call) (r : Record) (store : List ℕ) → outcome S c r store ≡ resultBy (refusalOf S c r store) (cameTo c r store) r store
+unfolding outcome refusalOf cameTo submit step
+outcome-is S (BySubmit value signature out) r store = refl
+outcome-is S (ByStep bytes out) r store = refl
+outcome-is S (ByThinEntry bytes out) r store = refl
 
 -- by value or through the thin entry
-pub step-is : (checks : Checks) (keys : List ℕ) (c : Call) (bytes out : List ℕ) (r : Record) (store : List ℕ) → IsStep c bytes out
-    → (refusalOf checks keys c r store ≡ lowest (stepConditions checks keys r store (read (r .n) bytes) out)) × (cameTo c r store ≡ stepped (read (r .n) bytes) (start r store))
+pub step-is : (S : Setting) (c : Call) (bytes out : List ℕ) (r : Record) (store : List ℕ) → IsStep c bytes out
+    → (refusalOf S c r store ≡ lowest (stepConditions (S .checks) (S .keys) r store (read (r .n) bytes) out)) × (cameTo c r store ≡ stepped (read (r .n) bytes) (start r store))
 unfolding refusalOf cameTo
-step-is checks keys c bytes out r store (inl e) = (ap (λ x. refusalOf checks keys x r store) e, ap (λ x. cameTo x r store) e)
-step-is checks keys c bytes out r store (inr e) = (ap (λ x. refusalOf checks keys x r store) e, ap (λ x. cameTo x r store) e)
+step-is S c bytes out r store (inl e) = (ap (λ x. refusalOf S x r store) e, ap (λ x. cameTo x r store) e)
+step-is S c bytes out r store (inr e) = (ap (λ x. refusalOf S x r store) e, ap (λ x. cameTo x r store) e)
 
 -- a call that isn't refused leaves what it comes to
-pub left-came : (checks : Checks) (keys : List ℕ) (t : Turn) → refusalOf checks keys (t .given) (t .unit) (t .store) ≡ 0 → left checks keys t .unit ≡ cameTo (t .given) (t .unit) (t .store) .unit
+pub result-came : (S : Setting) (t : Called) → refusalOf S (t .given) (t .unit) (t .store) ≡ 0 → resultOf S t .unit ≡ cameTo (t .given) (t .unit) (t .store) .unit
 unfolding resultBy unrefused
-left-came checks keys t e = ap (λ (x : Result). x .unit) (called-is checks keys (t .given) (t .unit) (t .store)) ∙ rw e
+result-came S t e = ap (λ (x : Result). x .unit) (outcome-is S (t .given) (t .unit) (t .store)) ∙ rw e
 
-pub unrefused-left : (checks : Checks) (keys : List ℕ) (t : Turn) → left checks keys t .refusal ≡ 0
-    → (refusalOf checks keys (t .given) (t .unit) (t .store) ≡ 0) × (left checks keys t .unit ≡ cameTo (t .given) (t .unit) (t .store) .unit)
+pub unrefused-result : (S : Setting) (t : Called) → resultOf S t .refusal ≡ 0
+    → (refusalOf S (t .given) (t .unit) (t .store) ≡ 0) × (resultOf S t .unit ≡ cameTo (t .given) (t .unit) (t .store) .unit)
 unfolding resultBy
-unrefused-left checks keys t q =
-    let e : refusalOf checks keys (t .given) (t .unit) (t .store) ≡ 0 = sym (ap (λ (x : Result). x .refusal) (called-is checks keys (t .given) (t .unit) (t .store))) ∙ q in
-    (e, left-came checks keys t e)
+unrefused-result S t q =
+    let e : refusalOf S (t .given) (t .unit) (t .store) ≡ 0 = sym (ap (λ (x : Result). x .refusal) (outcome-is S (t .given) (t .unit) (t .store))) ∙ q in
+    (e, result-came S t e)
 
 -- the messages that it writes
-abbrev pub messages : Checks → List ℕ → Turn → List Message
-messages checks keys t = unrefused (refusalOf checks keys (t .given) (t .unit) (t .store)) (cameTo (t .given) (t .unit) (t .store) .written) []
+abbrev pub messages : Setting → Called → List Message
+messages S t = unrefused (refusalOf S (t .given) (t .unit) (t .store)) (cameTo (t .given) (t .unit) (t .store) .written) []
 
 -- and those of a list
-unfoldable pub allMessages : Checks → List ℕ → List Turn → List Message
-allMessages checks keys [] = []
-allMessages checks keys (t ∷ ts) = messages checks keys t ++ allMessages checks keys ts
+unfoldable pub allMessages : Setting → List Called → List Message
+allMessages S [] = []
+allMessages S (t ∷ ts) = messages S t ++ allMessages S ts
 
 -- a message of a list is one of a call in it, and the other way round
-pub all-member : (checks : Checks) (keys : List ℕ) (ts : List Turn) (t : Turn) (m : Message) → List·Memᴰ t ts → List·Memᴰ m (messages checks keys t) → List·Memᴰ m (allMessages checks keys ts)
+pub all-member : (S : Setting) (ts : List Called) (t : Called) (m : Message) → List·Memᴰ t ts → List·Memᴰ m (messages S t) → List·Memᴰ m (allMessages S ts)
 unfolding allMessages
-all-member checks keys [] t m d e = absurd (List·Memᴰ·not-nil d)
-all-member checks keys (x ∷ ts) t m d e =
-    ⊎-elim (λ q. Memᴰ·append-left (allMessages checks keys ts) (subst (λ y. List·Memᴰ m (messages checks keys y)) q e)) (λ q. Memᴰ·append-right (messages checks keys x) (all-member checks keys ts t m q e)) (List·Memᴰ·cases-cons d)
+all-member S [] t m d e = absurd (List·Memᴰ·not-nil d)
+all-member S (x ∷ ts) t m d e =
+    ⊎-elim (λ q. Memᴰ·append-left (allMessages S ts) (subst (λ y. List·Memᴰ m (messages S y)) q e)) (λ q. Memᴰ·append-right (messages S x) (all-member S ts t m q e)) (List·Memᴰ·cases-cons d)
 
-pub member-all : (checks : Checks) (keys : List ℕ) (ts : List Turn) (m : Message) → List·Memᴰ m (allMessages checks keys ts) → (t : Turn) × List·Memᴰ t ts × List·Memᴰ m (messages checks keys t)
+pub member-all : (S : Setting) (ts : List Called) (m : Message) → List·Memᴰ m (allMessages S ts) → (t : Called) × List·Memᴰ t ts × List·Memᴰ m (messages S t)
 unfolding allMessages
-member-all checks keys [] m d = absurd (List·Memᴰ·not-nil d)
-member-all checks keys (x ∷ ts) m d =
-    ⊎-elim (λ q. (x, List·Memᴰ·head refl, q)) (λ q. let r = member-all checks keys ts m q in (r .0, List·Memᴰ·tail (r .1), r .2)) (List·Memᴰ·append-cases (messages checks keys x) d)
+member-all S [] m d = absurd (List·Memᴰ·not-nil d)
+member-all S (x ∷ ts) m d =
+    ⊎-elim (λ q. (x, List·Memᴰ·head refl, q)) (λ q. let r = member-all S ts m q in (r .0, List·Memᴰ·tail (r .1), r .2)) (List·Memᴰ·append-cases (messages S x) d)
 
 -- the record at the end of a list
-unfoldable pub lastOf : Checks → List ℕ → Record → List ℕ → List Call → Record
-lastOf checks keys r store [] = r
-lastOf checks keys r store (c ∷ cs) = lastOf checks keys (called checks keys c r store .unit) (called checks keys c r store .store) cs
+unfoldable pub lastOf : Setting → Record → List ℕ → List Call → Record
+lastOf S r store [] = r
+lastOf S r store (c ∷ cs) = lastOf S (outcome S c r store .unit) (outcome S c r store .store) cs
 
 -- the bytes that an answer counts are those written
 pub counted-written : (written out : List ℕ) → counted (length written) written out ≡ written
@@ -103,25 +104,27 @@ unfolding unrefused renderAll
 unrefused-render zero ms = refl
 unrefused-render (suc refusal) ms = refl
 
-pub written-is : (checks : Checks) (keys : List ℕ) (t : Turn) → writtenIn checks keys t ≡ renderAll (messages checks keys t)
+pub written-is : (S : Setting) (t : Called) → writtenIn S t ≡ renderAll (messages S t)
 unfolding answer resultBy
-written-is checks keys t =
-    counted-written (left checks keys t .written) (outOf (t .given)) ∙ ap (λ (x : Result). x .written) (called-is checks keys (t .given) (t .unit) (t .store))
-    ∙ unrefused-render (refusalOf checks keys (t .given) (t .unit) (t .store)) (cameTo (t .given) (t .unit) (t .store) .written)
+written-is S t =
+    counted-written (resultOf S t .written) (outOf (t .given)) ∙ ap (λ (x : Result). x .written) (outcome-is S (t .given) (t .unit) (t .store))
+    ∙ unrefused-render (refusalOf S (t .given) (t .unit) (t .store)) (cameTo (t .given) (t .unit) (t .store) .written)
 
 -- ---- what holds of a call
 
-module _ (checks : Checks) (W : Relation) (keys : List ℕ) where
+module _ (S : Setting) (W : Relation) where
+  open Setting S using (keys, checks)
+
   -- what the signatures are worth that a call takes
   abbrev pub WorthyGiven : Call → Record → Type 0
   WorthyGiven (BySubmit value signature out) r = W (r .seat) value signature
   WorthyGiven (ByStep bytes out) r = EachSigned W (read (r .n) bytes)
   WorthyGiven (ByThinEntry bytes out) r = EachSigned W (read (r .n) bytes)
 
-  abbrev pub Worthy : Turn → Type 0
-  Worthy t = left checks keys t .refusal ≡ 0 → WorthyGiven (t .given) (t .unit)
+  abbrev pub Worthy : Called → Type 0
+  Worthy t = resultOf S t .refusal ≡ 0 → WorthyGiven (t .given) (t .unit)
 
-  done : (c : Call) (r : Record) (store : List ℕ) → Sound checks W r store → Settled r → refusalOf checks keys c r store ≡ 0 → WorthyGiven c r → Done checks W (start r store) (cameTo c r store)
+  done : (c : Call) (r : Record) (store : List ℕ) → Sound checks W r store → Settled r → refusalOf S c r store ≡ 0 → WorthyGiven c r → Done checks W (start r store) (cameTo c r store)
   unfolding refusalOf cameTo
   done (BySubmit value signature out) r store z e q w =
       let t = submit-taken checks keys r store value signature out q in
@@ -136,7 +139,7 @@ module _ (checks : Checks) (W : Relation) (keys : List ℕ) where
       stepped-done checks W (start r store) z (t .0) e m (brings checks W r m (t .2) (t .3) (read-laid (r .n) bytes) w)
 
   -- a submit that isn't refused keeps its value
-  pub submit-value : (value signature out : List ℕ) (r : Record) (store : List ℕ) → Sound checks W r store → refusalOf checks keys (BySubmit value signature out) r store ≡ 0 → W (r .seat) value signature
+  pub submit-value : (value signature out : List ℕ) (r : Record) (store : List ℕ) → Sound checks W r store → refusalOf S (BySubmit value signature out) r store ≡ 0 → W (r .seat) value signature
       → (cameTo (BySubmit value signature out) r store .unit .own .submitted ≡ true) × (cameTo (BySubmit value signature out) r store .unit .own .value ≡ value)
   unfolding refusalOf cameTo
   submit-value value signature out r store z q w =
@@ -166,40 +169,40 @@ module _ (checks : Checks) (W : Relation) (keys : List ℕ) where
   passed-by (suc refusal) s r store z e d =
       record { sound = z; settled = e; grows = grows-refl r; counts = λ κ. let y = count-nil (isOf κ) in omega arith; good = each-nil (Good checks W r) }
 
-  pub passed : (t : Turn) → Sound checks W (t .unit) (t .store) → Settled (t .unit) → Worthy t
-      → Passed (t .unit) (t .store) (left checks keys t .unit) (left checks keys t .store) (messages checks keys t)
+  pub passed : (t : Called) → Sound checks W (t .unit) (t .store) → Settled (t .unit) → Worthy t
+      → Passed (t .unit) (t .store) (resultOf S t .unit) (resultOf S t .store) (messages S t)
   unfolding resultBy
   passed t z e w =
-      let is = called-is checks keys (t .given) (t .unit) (t .store) in
+      let is = outcome-is S (t .given) (t .unit) (t .store) in
       rw is
-      (passed-by (refusalOf checks keys (t .given) (t .unit) (t .store)) (cameTo (t .given) (t .unit) (t .store)) (t .unit) (t .store) z e
+      (passed-by (refusalOf S (t .given) (t .unit) (t .store)) (cameTo (t .given) (t .unit) (t .store)) (t .unit) (t .store) z e
       (λ q. done (t .given) (t .unit) (t .store) z e q (w (ap (λ (x : Result). x .refusal) is ∙ q))))
 
   -- ---- what holds of a list
 
-  -- at a turn of it
-  pub record At (r : Record) (t : Turn) (end : Record) : Type 0 where
+  -- at a call of it
+  pub record At (r : Record) (t : Called) (end : Record) : Type 0 where
     pub since : Grows r (t .unit)
     pub sound : Sound checks W (t .unit) (t .store)
     pub settled : Settled (t .unit)
-    pub after : Passed (t .unit) (t .store) (left checks keys t .unit) (left checks keys t .store) (messages checks keys t)
-    pub before : Grows (left checks keys t .unit) end
+    pub after : Passed (t .unit) (t .store) (resultOf S t .unit) (resultOf S t .store) (messages S t)
+    pub before : Grows (resultOf S t .unit) end
 
-  pub record Journey (r : Record) (end : Record) (ts : List Turn) : Type 0 where
+  pub record Journey (r : Record) (end : Record) (ts : List Called) : Type 0 where
     pub grows : Grows r end
     pub at : Each (λ t. At r t end) ts
-    pub counts : Counts r (allMessages checks keys ts) end
+    pub counts : Counts r (allMessages S ts) end
     pub settled : Settled end
 
-  pub journey : (r : Record) (store : List ℕ) (cs : List Call) → Sound checks W r store → Settled r → Each Worthy (turns checks keys r store cs)
-      → Journey r (lastOf checks keys r store cs) (turns checks keys r store cs)
-  unfolding turns lastOf allMessages
+  pub journey : (r : Record) (store : List ℕ) (cs : List Call) → Sound checks W r store → Settled r → Each Worthy (listFrom S r store cs)
+      → Journey r (lastOf S r store cs) (listFrom S r store cs)
+  unfolding listFrom lastOf allMessages
   journey r store [] z e w = record { grows = grows-refl r; at = each-nil (λ t. At r t r); counts = λ κ. let y = count-nil (isOf κ) in omega arith; settled = e }
   journey r store (c ∷ cs) z e w =
-      let t : Turn = record { given = c; unit = r; store = store } in
-      let after = called checks keys c r store in
-      let end = lastOf checks keys (after .unit) (after .store) cs in
-      let ts = turns checks keys (after .unit) (after .store) cs in
+      let t : Called = record { given = c; unit = r; store = store } in
+      let after = outcome S c r store in
+      let end = lastOf S (after .unit) (after .store) cs in
+      let ts = listFrom S (after .unit) (after .store) cs in
       let a = passed t z e (w t (List·Memᴰ·head refl)) in
       let rest = journey (after .unit) (after .store) cs (a .sound) (a .settled) (λ x d. w x (List·Memᴰ·tail d)) in
       record {
@@ -207,7 +210,7 @@ module _ (checks : Checks) (W : Relation) (keys : List ℕ) where
         at = each-cons (λ x. At r x end) t ts (record { since = grows-refl r; sound = z; settled = e; after = a; before = rest .grows })
             (λ x d. let y = rest .at x d in
             record { since = grows-trans r (after .unit) (x .unit) (a .grows) (y .since); sound = y .sound; settled = y .settled; after = y .after; before = y .before });
-        counts = λ κ. let x = a .counts κ in let y = rest .counts κ in omega (arith, count-append (isOf κ) (messages checks keys t) (allMessages checks keys ts));
+        counts = λ κ. let x = a .counts κ in let y = rest .counts κ in omega (arith, count-append (isOf κ) (messages S t) (allMessages S ts));
         settled = rest .settled;
       }
 

@@ -10,7 +10,8 @@ use lib.Dec.{ltb}
 use borrow.Author.Tests.{ltb-true, lt-ltb}
 use Rattle.quorum.specs.Quorum.{Rises}
 use Rattle.protocol.specs.Refusals.{every, rising}
-use Rattle.round.specs.Round.{Each, worth, count}
+use Rattle.round.specs.Round.{Each}
+use Rattle.round.specs.Demand1.{worth, count}
 
 -- ---- tests
 

@@ -13,7 +13,7 @@ use Rattle.protocol.specs.ReadLaws.{read-render}
 use Rattle.protocol.specs.Certificate.{setOf, certificateIn}
 use Rattle.protocol.specs.Refusals.{Checks, wrongKeys, isEvidence, notLowerFirst}
 use Rattle.protocol.specs.Calls.{makingBy, making, checkedBy, evidenceCheck}
-use Rattle.round.specs.Round.{InHand, makingOf}
+use Rattle.round.specs.Round.{Setting, InHand, makingOf, Accepted}
 use Rattle.claims.specs.Sound.{InRange, Certifies, Pairs}
 use Rattle.claims.specs.Certificates.{evidence-elim, evidence-names}
 use Rattle.claims.specs.Reading.{read-laid}
@@ -21,7 +21,9 @@ use Rattle.claims.specs.Unrefused.{Taken, MakingTaken, making-taken, evi
 use Rattle.claims.specs.Units.{Any, pairs-formed}
 use Rattle.claims.specs.Safe.{conditions, evidenceFrom, making-bytes, certifies-in}
 
-module _ (checks : Checks) (n seat round : ℕ) (keys : List ℕ) (range : InRange n seat round) (table : wrongKeys n keys ≡ false) where
+module _ (S : Setting) (seat : ℕ) (range : InRange (S .n) seat (S .round)) (table : wrongKeys (S .n) (S .keys) ≡ false) where
+  open Setting S using (n, round, keys, checks)
+
   -- evidence of t0 + 1 pairs or more is accepted, and what it is read as names its seats
   accepted-as : (ρ : ℕ) (lower higher : List ℕ) (ps : List Pair) → ρ ≡ round → Pairs checks Any n lower higher ps
       → (evidenceCheck checks n round keys (render (Evidence ρ lower higher ps)) .number ≡ 0)
@@ -43,13 +45,18 @@ module _ (checks : Checks) (n seat round : ℕ) (keys : List ℕ) (range : InRan
       (a .0, rw (a .1) (z .named))
 
 -- bytes that the check accepts, and that name exactly the seats which two certificates share
-pub record Accuses (checks : Checks) (n round : ℕ) (keys a b evidence : List ℕ) : Type 0 where
-  pub accepted : evidenceCheck checks n round keys evidence .number ≡ 0
-  pub names : evidenceCheck checks n round keys evidence .mask ≡ shared (certificateIn (read n a) .seats) (certificateIn (read n b) .seats)
-  pub enough : t0 n + 1 ≤ size (evidenceCheck checks n round keys evidence .mask)
+module _ (S : Setting) where
+  open Setting S using (n, round, keys, checks)
 
-module _ (checks : Checks) (n round : ℕ) (keys : List ℕ) (h : InHand) (unrefused-making : making checks n round keys (h .a) (h .b) (h .out) .refusal ≡ 0) where
-  zero : lowest (conditions checks n round keys h) ≡ 0
+  pub record Accuses (a b evidence : List ℕ) : Type 0 where
+    pub accepted : Accepted S evidence
+    pub names : evidenceCheck checks n round keys evidence .mask ≡ shared (certificateIn (read n a) .seats) (certificateIn (read n b) .seats)
+    pub enough : t0 n + 1 ≤ size (evidenceCheck checks n round keys evidence .mask)
+
+module _ (S : Setting) (h : InHand) (unrefused-making : making (S .checks) (S .n) (S .round) (S .keys) (h .a) (h .b) (h .out) .refusal ≡ 0) where
+  open Setting S using (n, round, keys, checks)
+
+  zero : lowest (conditions S h) ≡ 0
   unfolding making makingBy
   zero = unrefused-making
 
@@ -72,16 +79,16 @@ module _ (checks : Checks) (n round : ℕ) (keys : List ℕ) (h : InHand) (unref
   range = record { some = taken .some; most = taken .most; inside = (let s = taken .some in omega arith); early = taken .early }
 
   -- the claim, of the bytes that the call's answer counts
-  pub made-accepted : Accuses checks n round keys (h .a) (h .b) (makingOf checks n round keys h)
+  pub made-accepted : Accuses S (h .a) (h .b) (makingOf S h)
   unfolding unrefused
   made-accepted =
-      let bytes : makingOf checks n round keys h ≡ render (evidenceFrom checks n round keys h) = making-bytes checks n round keys h ∙ rw zero in
+      let bytes : makingOf S h ≡ render (evidenceFrom S h) = making-bytes S h ∙ rw zero in
       let c = certificateIn a in
       let d = certificateIn b in
       let named = evidence-names checks Any n round c d first second in
-      let accuses = evidence-elim checks Any (λ m. setOf (entrySeats m) ≡ shared (c .seats) (d .seats) → Accuses checks n round keys (h .a) (h .b) (render m)) n round c d (taken .some) first second (taken .different)
+      let accuses = evidence-elim checks Any (λ m. setOf (entrySeats m) ≡ shared (c .seats) (d .seats) → Accuses S (h .a) (h .b) (render m)) n round c d (taken .some) first second (taken .different)
       (λ lower higher ps z e.
-      let p = accepted-as checks n 0 round keys range (taken .table) round lower higher ps refl z in
-      let q = evidence-accepted checks n 0 round keys range (taken .table) round lower higher ps refl z in
+      let p = accepted-as S 0 range (taken .table) round lower higher ps refl z in
+      let q = evidence-accepted S 0 range (taken .table) round lower higher ps refl z in
       record { accepted = p .0; names = p .1 ∙ e; enough = q .1 }) in
       rw bytes (accuses named)

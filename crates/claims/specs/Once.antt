@@ -19,15 +19,16 @@ use Rattle.protocol.specs.Record.{impossible}
 use Rattle.protocol.specs.Refusals.{Checks, isFull, isEvidence}
 use Rattle.protocol.specs.Calls.{opening}
 use Rattle.protocol.specs.declared.Record.{Record}
-use Rattle.round.specs.Round.{Each, Relation, Kind, SUBMIT, NOTICE, FULL, EVIDENCE, isOf, isSubmit, isNotice, flagOf, worth, count, Honest, Turn, left, writtenIn, writtenOver, Are, turnsOf}
+use Rattle.round.specs.Round.{Setting, IsOpened, Each, Relation, Honest, Called, resultOf, writtenIn, Are, listOf}
+use Rattle.round.specs.Demand1.{Kind, SUBMIT, NOTICE, FULL, EVIDENCE, isOf, isSubmit, isNotice, worth, count, writtenOver, AtMostOne}
 use Rattle.claims.specs.Lists.{worth-le-one, worth-true, true-of-worth, count-pos}
-use Rattle.claims.specs.Sound.{Good}
+use Rattle.claims.specs.Sound.{flagOf, Good}
 use Rattle.claims.specs.Certificates.{sized-entries, sized-pairs}
 use Rattle.claims.specs.Parts.{confirmed-submitted}
 use Rattle.claims.specs.Reading.{are-unique}
 use Rattle.claims.specs.Unrefused.{possible}
 use Rattle.claims.specs.Journey.{Worthy, messages, allMessages, Passed}
-use Rattle.claims.specs.Units.{Any, any-worthy, endOf, start-n, start-sound, start-settled, trip, stop, left-grows, written-are, all-are}
+use Rattle.claims.specs.Units.{Any, any-worthy, endOf, start-n, start-sound, start-settled, trip, stop, result-grows, written-are, all-are}
 
 -- ---- messages by kind
 
@@ -93,27 +94,29 @@ module _ (checks : Checks) (W : Relation) (r : Record) where
 
 -- ---- an honest unit's list
 
-module _ (checks : Checks) (n round : ℕ) (keys : List ℕ) (u : Honest) (opened : opening n (u .seat) round keys .number ≡ 0) where
-  abbrev ts : List Turn
-  ts = turnsOf checks n round keys u
+module _ (S : Setting) (u : Honest) (opened : IsOpened S u) where
+  open Setting S using (n, round, keys, checks)
 
-  abbrev any : Each (Worthy checks Any keys) ts
-  any = any-worthy checks keys ts
+  abbrev ts : List Called
+  ts = listOf S u
+
+  abbrev any : Each (Worthy S Any) ts
+  any = any-worthy S ts
 
   -- the bytes written over the whole list are messages one after another
-  pub written-messages : (ms : List Message) × Are n (writtenOver checks keys ts) ms
-  written-messages = (allMessages checks keys ts, all-are checks n round keys u opened)
+  pub written-messages : (ms : List Message) × Are n (writtenOver S ts) ms
+  written-messages = (allMessages S ts, all-are S u opened)
 
   -- and at most one of each kind: SUBMIT, NOTICE, FULL and EVIDENCE
-  pub at-most-one : (ms : List Message) → Are n (writtenOver checks keys ts) ms → (κ : Kind) → count (isOf κ) ms ≤ 1
+  pub at-most-one : AtMostOne S u
   at-most-one ms a κ =
-      let e = are-unique n (writtenOver checks keys ts) ms (allMessages checks keys ts) a (all-are checks n round keys u opened) in
-      let c = trip checks n round keys u opened Any any .counts κ in
-      let l = worth-le-one (flagOf κ (endOf checks n round keys u opened)) in
+      let e = are-unique n (writtenOver S ts) ms (allMessages S ts) a (all-are S u opened) in
+      let c = trip S u opened Any any .counts κ in
+      let l = worth-le-one (flagOf κ (endOf S u opened)) in
       rw e (omega arith)
 
   -- four messages in all, however long the list: no two units reply to each other without end
-  pub at-most-four : (ms : List Message) → Are n (writtenOver checks keys ts) ms → length ms ≤ 4
+  pub at-most-four : (ms : List Message) → Are n (writtenOver S ts) ms → length ms ≤ 4
   unfolding kinds
   at-most-four ms a =
       let one = at-most-one ms a in
@@ -122,32 +125,32 @@ module _ (checks : Checks) (n round : ℕ) (keys : List ℕ) (u : Honest) (opene
   -- the record that the opening gave isn't impossible
   pub opened-possible : impossible (opening n (u .seat) round keys .unit) ≡ false
   opened-possible =
-      possible checks Any (opening n (u .seat) round keys .unit) (u .store) (start-sound checks n round keys u opened Any) (start-settled checks n round keys u opened)
+      possible checks Any (opening n (u .seat) round keys .unit) (u .store) (start-sound S u opened Any) (start-settled S u opened)
 
   -- ---- at each call
 
-  module _ (t : Turn) (d : List·Memᴰ t ts) where
-    abbrev here : Passed checks Any keys (t .unit) (t .store) (left checks keys t .unit) (left checks keys t .store) (messages checks keys t)
-    here = stop checks n round keys u opened Any any t d .after
+  module _ (t : Called) (d : List·Memᴰ t ts) where
+    abbrev here : Passed S Any (t .unit) (t .store) (resultOf S t .unit) (resultOf S t .store) (messages S t)
+    here = stop S u opened Any any t d .after
 
     -- and no record that comes out is
-    pub none-impossible : impossible (left checks keys t .unit) ≡ false
-    none-impossible = possible checks Any (left checks keys t .unit) (left checks keys t .store) (here .sound) (here .settled)
+    pub none-impossible : impossible (resultOf S t .unit) ≡ false
+    none-impossible = possible checks Any (resultOf S t .unit) (resultOf S t .store) (here .sound) (here .settled)
 
-    counted-once : (κ : Kind) → count (isOf κ) (messages checks keys t) ≤ 1
-    counted-once κ = let c = here .counts κ in let l = worth-le-one (flagOf κ (left checks keys t .unit)) in omega arith
+    counted-once : (κ : Kind) → count (isOf κ) (messages S t) ≤ 1
+    counted-once κ = let c = here .counts κ in let l = worth-le-one (flagOf κ (resultOf S t .unit)) in omega arith
 
     -- what is written fits the stated out
-    pub written-fits : length (writtenIn checks keys t) ≤ outLength n
+    pub written-fits : length (writtenIn S t) ≤ outLength n
     written-fits =
-        let ms = messages checks keys t in
-        let size = left checks keys t .unit .n in
-        let exact : size ≡ n = left-grows checks n round keys u opened Any any t d .n ∙ start-n checks n round keys u opened in
-        rw (written-are checks n round keys u opened Any any t d .1)
+        let ms = messages S t in
+        let size = resultOf S t .unit .n in
+        let exact : size ≡ n = result-grows S u opened Any any t d .n ∙ start-n S u opened in
+        rw (written-are S u opened Any any t d .1)
         (subst (λ i. length (renderAll ms) ≤ outLength i) exact
         (omega (
           arith,
-          bytes-by-kind checks Any (left checks keys t .unit) ms (here .good),
+          bytes-by-kind checks Any (resultOf S t .unit) ms (here .good),
           out-filled size,
           once-le (count (isOf SUBMIT) ms) submitLength (counted-once SUBMIT),
           once-le (count (isOf NOTICE) ms) noticeLength (counted-once NOTICE),
@@ -156,30 +159,30 @@ module _ (checks : Checks) (n round : ℕ) (keys : List ℕ) (u : Honest) (opene
         )))
 
     -- what is set stays set
-    pub flag-stays : (κ : Kind) → flagOf κ (t .unit) ≡ true → flagOf κ (left checks keys t .unit) ≡ true
+    pub flag-stays : (κ : Kind) → flagOf κ (t .unit) ≡ true → flagOf κ (resultOf S t .unit) ≡ true
     flag-stays κ e =
-        true-of-worth (flagOf κ (left checks keys t .unit)) (omega (arith, here .counts κ, worth-true (flagOf κ (t .unit)) e, worth-le-one (flagOf κ (left checks keys t .unit))))
+        true-of-worth (flagOf κ (resultOf S t .unit)) (omega (arith, here .counts κ, worth-true (flagOf κ (t .unit)) e, worth-le-one (flagOf κ (resultOf S t .unit))))
 
-    none-of : (κ : Kind) → flagOf κ (t .unit) ≡ true → count (isOf κ) (messages checks keys t) ≡ 0
-    none-of κ e = omega (arith, here .counts κ, worth-true (flagOf κ (t .unit)) e, worth-le-one (flagOf κ (left checks keys t .unit)))
+    none-of : (κ : Kind) → flagOf κ (t .unit) ≡ true → count (isOf κ) (messages S t) ≡ 0
+    none-of κ e = omega (arith, here .counts κ, worth-true (flagOf κ (t .unit)) e, worth-le-one (flagOf κ (resultOf S t .unit)))
 
-    innocent : (m : Message) → List·Memᴰ m (messages checks keys t) → isEvidence m ≡ true → t .unit .guilty ≡ 0
+    innocent : (m : Message) → List·Memᴰ m (messages S t) → isEvidence m ≡ true → t .unit .guilty ≡ 0
     innocent m e is = go (ℕ-discrete (t .unit .guilty) 0)
       where
         go : Dec (t .unit .guilty ≡ 0) → t .unit .guilty ≡ 0
         go (yes q) = q
-        go (no q) = absurd (omega (arith, count-pos (isOf EVIDENCE) (messages checks keys t) m e is, none-of EVIDENCE (rw (ne-eqb (t .unit .guilty) 0 q))))
+        go (no q) = absurd (omega (arith, count-pos (isOf EVIDENCE) (messages S t) m e is, none-of EVIDENCE (rw (ne-eqb (t .unit .guilty) 0 q))))
 
     -- once FULL is sent, a call writes nothing, or one EVIDENCE; and that only while guilty seats are empty
     pub quiet-once-sent : t .unit .sent ≡ true
-        → (writtenIn checks keys t ≡ []) ⊎ ((m : Message) × (isEvidence m ≡ true) × (t .unit .guilty ≡ 0) × (writtenIn checks keys t ≡ render m))
+        → (writtenIn S t ≡ []) ⊎ ((m : Message) × (isEvidence m ≡ true) × (t .unit .guilty ≡ 0) × (writtenIn S t ≡ render m))
     unfolding kinds renderAll
     quiet-once-sent sent =
-        let z = stop checks n round keys u opened Any any t d .sound in
+        let z = stop S u opened Any any t d .sound in
         let confirmed = z .flags .confirmed sent in
         let submitted = confirmed-submitted checks Any (t .unit) (t .store) z confirmed in
-        let ms = messages checks keys t in
-        let are = written-are checks n round keys u opened Any any t d in
+        let ms = messages S t in
+        let are = written-are S u opened Any any t d in
         let alone = evidence-alone ms (omega (arith, kinds-all n ms (are .0), none-of SUBMIT submitted, none-of NOTICE confirmed, none-of FULL sent)) (counted-once EVIDENCE) in
         ⊎-elim
         (λ e. inl (are .1 ∙ ap renderAll e))
@@ -187,5 +190,5 @@ module _ (checks : Checks) (n round : ℕ) (keys : List ℕ) (u : Honest) (opene
         alone
 
     -- so with both, nothing is ever written again
-    pub nothing-more : t .unit .sent ≡ true → t .unit .guilty ≢ 0 → writtenIn checks keys t ≡ []
+    pub nothing-more : t .unit .sent ≡ true → t .unit .guilty ≢ 0 → writtenIn S t ≡ []
     nothing-more sent guilty = ⊎-elim (λ e. e) (λ h. absurd (guilty (h .2))) (quiet-once-sent sent)

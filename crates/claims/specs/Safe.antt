@@ -16,13 +16,14 @@ use Rattle.protocol.specs.Certificate.{certificateIn, evidenceOf}
 use Rattle.protocol.specs.Refusals.{Checks, isFull, isEvidence, notLowerFirst, makingConditions}
 use Rattle.protocol.specs.Calls.{opening, makingBy, making, made, checkedBy, evidenceCheck}
 use Rattle.protocol.specs.declared.Record.{Record}
-use Rattle.round.specs.Round.{Each, Relation, EachSigned, Call, BySubmit, ByStep, ByThinEntry, InHand, Honest, IsStep, Turn, left, StandsIn, turnsOf, Submits, WritesEvidence, makingOf, MakesEvidence, Names, AcceptedFrom, Family, Delivered, Takes, NoneForged, NoneBlamed}
+use Rattle.round.specs.Round.{Setting, IsOpened, StepGiven, Each, Relation, EachSigned, Call, BySubmit, ByStep, ByThinEntry, InHand, Honest, IsStep, Called, resultOf, StandsIn, listOf, Submits, WritesEvidence, makingOf, MakesEvidence, Names, AcceptedFrom, Family, Delivered}
+use Rattle.round.specs.Demand3.{Takes, NoneForged, NoneBlamed}
 use Rattle.claims.specs.Lists.{each-nil, each-one}
 use Rattle.claims.specs.Sound.{Certifies, Pairs, Good}
 use Rattle.claims.specs.Certificates.{certifies-of, evidence-elim}
 use Rattle.claims.specs.Reading.{Laid, read-laid, are-unique}
 use Rattle.claims.specs.Unrefused.{Taken, signed-pairs, evidence-checked, making-taken, entries-taken}
-use Rattle.claims.specs.Journey.{refusalOf, cameTo, WorthyGiven, Worthy, At, counted-written, unrefused-left, submit-value}
+use Rattle.claims.specs.Journey.{refusalOf, cameTo, WorthyGiven, Worthy, At, counted-written, unrefused-result, submit-value}
 use Rattle.claims.specs.Units.{Any, any-worthy, startOf, endOf, start-n, start-seat, stop, writes-good, pairs-formed}
 
 -- a value isn't lower than itself
@@ -52,7 +53,9 @@ certifies-in checks R n round (Full ρ sender value es) e t l w = certifies-of c
 certifies-in checks R n round (Evidence ρ lower higher ps) e t l w = absurd (false≢true e)
 certifies-in checks R n round Garbled e t l w = absurd (false≢true e)
 
-module _ (checks : Checks) (n round : ℕ) (keys : List ℕ) where
+module _ (S : Setting) where
+  open Setting S using (n, round, keys, checks)
+
   -- ---- what a making writes
 
   abbrev pub conditions : InHand → List (ℕ × Bool)
@@ -61,58 +64,58 @@ module _ (checks : Checks) (n round : ℕ) (keys : List ℕ) where
   abbrev pub evidenceFrom : InHand → Message
   evidenceFrom h = evidenceOf n round (certificateIn (read n (h .a))) (certificateIn (read n (h .b)))
 
-  pub making-bytes : (h : InHand) → makingOf checks n round keys h ≡ unrefused (lowest (conditions h)) (render (evidenceFrom h)) []
+  pub making-bytes : (h : InHand) → makingOf S h ≡ unrefused (lowest (conditions h)) (render (evidenceFrom h)) []
   unfolding making makingBy made
   making-bytes h = counted-written (making checks n round keys (h .a) (h .b) (h .out) .written) (h .out)
 
   -- ---- an honest unit submits one layout
 
-  module _ (u : Honest) (opened : opening n (u .seat) round keys .number ≡ 0) where
-    pub submits-end : (value : List ℕ) → Submits checks n round keys u value → endOf checks n round keys u opened .own .value ≡ value
+  module _ (u : Honest) (opened : IsOpened S u) where
+    pub submits-end : (value : List ℕ) → Submits S u value → endOf S u opened .own .value ≡ value
     submits-end value s =
-        let t = s .0 in
-        let given = BySubmit value (s .1) (s .2) in
-        let at = stop checks n round keys u opened Any (any-worthy checks keys (turnsOf checks n round keys u)) t (s .3) in
-        let l = unrefused-left checks keys t (s .5) in
-        let zero : refusalOf checks keys given (t .unit) (t .store) ≡ 0 = subst (λ c. refusalOf checks keys c (t .unit) (t .store) ≡ 0) (s .4) (l .0) in
-        let came : left checks keys t .unit ≡ cameTo given (t .unit) (t .store) .unit = subst (λ c. left checks keys t .unit ≡ cameTo c (t .unit) (t .store) .unit) (s .4) (l .1) in
-        let v = submit-value checks Any keys value (s .1) (s .2) (t .unit) (t .store) (at .sound) zero tt in
+        let t = s .call in
+        let given = BySubmit value (s .signature) (s .out) in
+        let at = stop S u opened Any (any-worthy S (listOf S u)) t (s .inList) in
+        let l = unrefused-result S t (s .unrefused) in
+        let zero : refusalOf S given (t .unit) (t .store) ≡ 0 = subst (λ c. refusalOf S c (t .unit) (t .store) ≡ 0) (s .carries) (l .0) in
+        let came : resultOf S t .unit ≡ cameTo given (t .unit) (t .store) .unit = subst (λ c. resultOf S t .unit ≡ cameTo c (t .unit) (t .store) .unit) (s .carries) (l .1) in
+        let v = submit-value S Any value (s .signature) (s .out) (t .unit) (t .store) (at .sound) zero tt in
         at .before .said (ap (λ (r : Record). r .own .submitted) came ∙ v .0) .1 ∙ ap (λ (r : Record). r .own .value) came ∙ v .1
 
-  module _ {I : Type 0} (unit : I → Honest) (family : Family checks n round keys unit) (R : Relation) (takes : Takes checks n round keys unit R) (none : NoneForged checks n round keys unit R) where
+  module _ {I : Type 0} (boat : I → Honest) (family : Family S boat) (R : Relation) (takes : Takes S boat R) (none : NoneForged S boat R) where
     -- ---- what a unit keeps
 
     -- a signature that a unit keeps was delivered, or is its own over what it submitted
     abbrev Backed : I → Relation
-    Backed j seat value signature = R seat value signature ⊎ ((seat ≡ unit j .seat) × Submits checks n round keys (unit j) value)
+    Backed j seat value signature = R seat value signature ⊎ ((seat ≡ boat j .seat) × Submits S (boat j) value)
 
-    module _ (j : I) (t : Turn) (d : List·Memᴰ t (turnsOf checks n round keys (unit j))) where
-      abbrev at : At checks Any keys (startOf checks n round keys (unit j) (family .opened j)) t (endOf checks n round keys (unit j) (family .opened j))
-      at = stop checks n round keys (unit j) (family .opened j) Any (any-worthy checks keys (turnsOf checks n round keys (unit j))) t d
+    module _ (j : I) (t : Called) (d : List·Memᴰ t (listOf S (boat j))) where
+      abbrev at : At S Any (startOf S (boat j) (family .opened j)) t (endOf S (boat j) (family .opened j))
+      at = stop S (boat j) (family .opened j) Any (any-worthy S (listOf S (boat j))) t d
 
-      stepped-backed : (bytes out : List ℕ) → IsStep (t .given) bytes out → left checks keys t .refusal ≡ 0 → EachSigned (Backed j) (read (t .unit .n) bytes)
+      stepped-backed : (bytes out : List ℕ) → IsStep (t .given) bytes out → resultOf S t .refusal ≡ 0 → EachSigned (Backed j) (read (t .unit .n) bytes)
       stepped-backed bytes out e q =
-          rw (at .since .n ∙ start-n checks n round keys (unit j) (family .opened j)) (λ s m. inl (takes .steps j t bytes out d e q s m))
+          rw (at .since .n ∙ start-n S (boat j) (family .opened j)) (λ s m. inl (takes .steps j bytes (record { call = t; inList = d; out = out; isStep = e }) q s m))
 
-      given-backed : (c : Call) → t .given ≡ c → left checks keys t .refusal ≡ 0 → WorthyGiven checks (Backed j) keys c (t .unit)
-      given-backed (BySubmit value signature out) e q = inr (at .since .seat ∙ start-seat checks n round keys (unit j) (family .opened j), (t, signature, out, d, e, q))
+      given-backed : (c : Call) → t .given ≡ c → resultOf S t .refusal ≡ 0 → WorthyGiven S (Backed j) c (t .unit)
+      given-backed (BySubmit value signature out) e q = inr (at .since .seat ∙ start-seat S (boat j) (family .opened j), record { call = t; inList = d; signature = signature; out = out; carries = e; unrefused = q })
       given-backed (ByStep bytes out) e q = stepped-backed bytes out (inl e) q
       given-backed (ByThinEntry bytes out) e q = stepped-backed bytes out (inr e) q
 
-    backed : (j : I) → Each (Worthy checks (Backed j) keys) (turnsOf checks n round keys (unit j))
+    backed : (j : I) → Each (Worthy S (Backed j)) (listOf S (boat j))
     backed j t d q = given-backed j t d (t .given) refl q
 
     -- ---- an honest seat
 
     -- it did submit what a kept signature of it stands over
-    submitted-of : (i j : I) (value signature : List ℕ) → checks (unit i .seat) value signature ≡ true → Backed j (unit i .seat) value signature → (Submits checks n round keys (unit i) value → ⊥) → ⊥
+    submitted-of : (i j : I) (value signature : List ℕ) → checks (boat i .seat) value signature ≡ true → Backed j (boat i .seat) value signature → (Submits S (boat i) value → ⊥) → ⊥
     submitted-of i j value signature c (inl r) never = true≢false (sym c ∙ none i value signature r never)
-    submitted-of i j value signature c (inr s) never = family .apart i j (λ e. never (subst (λ l. Submits checks n round keys (unit l) value) (sym e) (s .1))) (s .0)
+    submitted-of i j value signature c (inr s) never = family .apart i j (λ e. never (subst (λ l. Submits S (boat l) value) (sym e) (s .1))) (s .0)
 
     -- and it submitted one layout alone
-    one-layout : (i : I) (lower higher : List ℕ) → isLower lower higher ≡ true → ((Submits checks n round keys (unit i) lower → ⊥) → ⊥) → ((Submits checks n round keys (unit i) higher → ⊥) → ⊥) → ⊥
+    one-layout : (i : I) (lower higher : List ℕ) → isLower lower higher ≡ true → ((Submits S (boat i) lower → ⊥) → ⊥) → ((Submits S (boat i) higher → ⊥) → ⊥) → ⊥
     one-layout i lower higher l a b =
-        a (λ s. b (λ s′. lower-differs lower higher l (sym (submits-end (unit i) (family .opened i) lower s) ∙ submits-end (unit i) (family .opened i) higher s′)))
+        a (λ s. b (λ s′. lower-differs lower higher l (sym (submits-end (boat i) (family .opened i) lower s) ∙ submits-end (boat i) (family .opened i) higher s′)))
 
     -- so it is in no entry whose two signatures check and are backed
     abbrev Both : I → List ℕ → List ℕ → Pair → Type 0
@@ -120,11 +123,11 @@ module _ (checks : Checks) (n round : ℕ) (keys : List ℕ) where
         (checks (p .seat) lower (p .lower) ≡ true) × Backed j (p .seat) lower (p .lower)
         × (checks (p .seat) higher (p .higher) ≡ true) × Backed j (p .seat) higher (p .higher)
 
-    unnamed : (i j : I) (lower higher : List ℕ) (ps : List Pair) → isLower lower higher ≡ true → Each (Both j lower higher) ps → List·Memᴰ (unit i .seat) (map (λ (p : Pair). p .seat) ps) → ⊥
+    unnamed : (i j : I) (lower higher : List ℕ) (ps : List Pair) → isLower lower higher ≡ true → Each (Both j lower higher) ps → List·Memᴰ (boat i .seat) (map (λ (p : Pair). p .seat) ps) → ⊥
     unnamed i j lower higher ps l h d =
         let m = Memᴰ·of-map (λ (p : Pair). p .seat) ps d in
         let p = m .0 in
-        let b : (checks (unit i .seat) lower (p .lower) ≡ true) × Backed j (unit i .seat) lower (p .lower) × (checks (unit i .seat) higher (p .higher) ≡ true) × Backed j (unit i .seat) higher (p .higher) =
+        let b : (checks (boat i .seat) lower (p .lower) ≡ true) × Backed j (boat i .seat) lower (p .lower) × (checks (boat i .seat) higher (p .higher) ≡ true) × Backed j (boat i .seat) higher (p .higher) =
         subst (λ s. (checks s lower (p .lower) ≡ true) × Backed j s lower (p .lower) × (checks s higher (p .higher) ≡ true) × Backed j s higher (p .higher)) (m .2) (h p (m .1)) in
         one-layout i lower higher l (submitted-of i j lower (p .lower) (b .0) (b .1)) (submitted-of i j higher (p .higher) (b .2) (b .3))
 
@@ -134,21 +137,21 @@ module _ (checks : Checks) (n round : ℕ) (keys : List ℕ) where
 
     -- ---- the three kinds of evidence
 
-    named-in : (m : Message) (evidence : List ℕ) (seat : ℕ) → WellFormed n m → evidence ≡ render m → Names checks n round keys evidence seat → List·Memᴰ seat (entrySeats m)
+    named-in : (m : Message) (evidence : List ℕ) (seat : ℕ) → WellFormed n m → evidence ≡ render m → Names S evidence seat → List·Memᴰ seat (entrySeats m)
     named-in m evidence seat w e d = subst (λ x. List·Memᴰ seat (entrySeats x)) (ap (read n) e ∙ read-render n m w) d
 
-    written-safe : (i j : I) (evidence : List ℕ) → WritesEvidence checks n round keys (unit j) evidence → Names checks n round keys evidence (unit i .seat) → ⊥
+    written-safe : (i j : I) (evidence : List ℕ) → WritesEvidence S (boat j) evidence → Names S evidence (boat i .seat) → ⊥
     unfolding entrySeats
     written-safe i j evidence w d =
-        let m = w .0 in
-        let stands = w .3 .2 in
-        let end = endOf checks n round keys (unit j) (family .opened j) in
-        let good = writes-good checks n round keys (unit j) (family .opened j) (Backed j) (backed j) m (w .3) in
-        evidence-cases (λ x. Good checks (Backed j) end x → List·Memᴰ (unit i .seat) (entrySeats x) → ⊥) m (w .1)
+        let m = w .message in
+        let stands = w .writes .stands in
+        let end = endOf S (boat j) (family .opened j) in
+        let good = writes-good S (boat j) (family .opened j) (Backed j) (backed j) m (w .writes) in
+        evidence-cases (λ x. Good checks (Backed j) end x → List·Memᴰ (boat i .seat) (entrySeats x) → ⊥) m (w .kind)
         (λ ρ lower higher ps g e. unnamed i j lower higher ps (g .1 .ordered) (kept-both j (Backed j) (end .n) lower higher ps (λ s v h b. b) (g .1)) e)
-        good (named-in m evidence (unit i .seat) (stands .1 .0 m (stands .2)) (w .2) d)
+        good (named-in m evidence (boat i .seat) (stands .1 .0 m (stands .2)) (w .bytes) d)
 
-    making-refused : (h : InHand) (q : ℕ) → lowest (conditions h) ≡ suc q → makingOf checks n round keys h ≡ renderAll []
+    making-refused : (h : InHand) (q : ℕ) → lowest (conditions h) ≡ suc q → makingOf S h ≡ renderAll []
     unfolding unrefused renderAll
     making-refused h q e = making-bytes h ∙ rw e
 
@@ -156,7 +159,7 @@ module _ (checks : Checks) (n round : ℕ) (keys : List ℕ) where
     unfolding making makingBy
     making-number h e = e
 
-    making-unnamed : (i j : I) (h : InHand) (m : Message) → List·Memᴰ h (unit j .inHand) → lowest (conditions h) ≡ 0 → StandsIn n m (makingOf checks n round keys h) → List·Memᴰ (unit i .seat) (entrySeats m) → ⊥
+    making-unnamed : (i j : I) (h : InHand) (m : Message) → List·Memᴰ h (boat j .inHand) → lowest (conditions h) ≡ 0 → StandsIn n m (makingOf S h) → List·Memᴰ (boat i .seat) (entrySeats m) → ⊥
     unfolding unrefused renderAll entrySeats
     making-unnamed i j h m d e stands named =
         let a = read n (h .a) in
@@ -165,28 +168,31 @@ module _ (checks : Checks) (n round : ℕ) (keys : List ℕ) where
         let r = takes .makings j h d (making-number h e) in
         let ca = certifies-in checks R n round a (t .fullA) (t .takenA) (read-laid n (h .a)) (r .0) in
         let cb = certifies-in checks R n round b (t .fullB) (t .takenB) (read-laid n (h .b)) (r .1) in
-        let bytes : makingOf checks n round keys h ≡ render (evidenceFrom h) = making-bytes h ∙ rw e in
-        evidence-elim checks R (λ x. makingOf checks n round keys h ≡ render x → ⊥) n round (certificateIn a) (certificateIn b) (t .some) ca cb (t .different)
+        let bytes : makingOf S h ≡ render (evidenceFrom h) = making-bytes h ∙ rw e in
+        evidence-elim checks R (λ x. makingOf S h ≡ render x → ⊥) n round (certificateIn a) (certificateIn b) (t .some) ca cb (t .different)
         (λ lower higher ps z is.
         let x = Evidence round lower higher ps in
-        let only = are-unique n (makingOf checks n round keys h) (stands .0) (x ∷ []) (stands .1) (each-one (WellFormed n) x (pairs-formed checks R n round lower higher ps (t .early) z), is ∙ sym (append-nil (render x))) in
+        let only = are-unique n (makingOf S h) (stands .0) (x ∷ []) (stands .1) (each-one (WellFormed n) x (pairs-formed checks R n round lower higher ps (t .early) z), is ∙ sym (append-nil (render x))) in
         let same : m ≡ x = List·Memᴰ·eq-of-singleton (subst (λ ms. List·Memᴰ m ms) only (stands .2)) in
-        unnamed i j lower higher ps (z .ordered) (kept-both j R n lower higher ps (λ s v g w. inl w) z) (subst (λ y. List·Memᴰ (unit i .seat) (entrySeats y)) same named))
+        unnamed i j lower higher ps (z .ordered) (kept-both j R n lower higher ps (λ s v g w. inl w) z) (subst (λ y. List·Memᴰ (boat i .seat) (entrySeats y)) same named))
         bytes
 
-    made-safe : (i j : I) (evidence : List ℕ) → MakesEvidence checks n round keys (unit j) evidence → Names checks n round keys evidence (unit i .seat) → ⊥
-    made-safe i j evidence w d = go (lowest (conditions (w .0))) refl
+    made-safe : (i j : I) (evidence : List ℕ) → MakesEvidence S (boat j) evidence → Names S evidence (boat i .seat) → ⊥
+    made-safe i j evidence w d = go (lowest (conditions h)) refl
       where
-        go : (q : ℕ) → lowest (conditions (w .0)) ≡ q → ⊥
-        go zero e = making-unnamed i j (w .0) (w .1) (w .2) e (w .5) (named-in (w .1) evidence (unit i .seat) (w .5 .1 .0 (w .1) (w .5 .2)) (w .4) d)
-        go (suc q) e =
-            List·Memᴰ·not-nil (subst (λ ms. List·Memᴰ (w .1) ms) (are-unique n (makingOf checks n round keys (w .0)) (w .5 .0) [] (w .5 .1) (each-nil (WellFormed n), making-refused (w .0) q e)) (w .5 .2))
+        h : InHand
+        h = w .hand
 
-    accepted-safe : (i : I) (evidence : List ℕ) → AcceptedFrom checks n round keys R evidence → Names checks n round keys evidence (unit i .seat) → ⊥
+        go : (q : ℕ) → lowest (conditions h) ≡ q → ⊥
+        go zero e = making-unnamed i j h (w .message) (w .has) e (w .stands) (named-in (w .message) evidence (boat i .seat) (w .stands .1 .0 (w .message) (w .stands .2)) (w .bytes) d)
+        go (suc q) e =
+            List·Memᴰ·not-nil (subst (λ ms. List·Memᴰ (w .message) ms) (are-unique n (makingOf S h) (w .stands .0) [] (w .stands .1) (each-nil (WellFormed n), making-refused h q e)) (w .stands .2))
+
+    accepted-safe : (i : I) (evidence : List ℕ) → AcceptedFrom S R evidence → Names S evidence (boat i .seat) → ⊥
     unfolding evidenceCheck checkedBy entrySeats notLowerFirst signed
     accepted-safe i evidence a d =
         let t = evidence-checked checks n round keys (read n evidence) (a .0) in
-        evidence-cases (λ x. Taken checks n round x → notLowerFirst x ≡ false → EachSigned R x → List·Memᴰ (unit i .seat) (entrySeats x) → ⊥) (read n evidence) (t .0)
+        evidence-cases (λ x. Taken checks n round x → notLowerFirst x ≡ false → EachSigned R x → List·Memᴰ (boat i .seat) (entrySeats x) → ⊥) (read n evidence) (t .0)
         (λ ρ lower higher ps taken low r e. unnamed i i lower higher ps (not-false (isLower lower higher) low)
         (λ p m. let c = signed-pairs (λ s v g. checks s v g ≡ true) lower higher ps (taken .checked) p m in let b = signed-pairs R lower higher ps r p m in (c .0, inl (b .0), c .1, inl (b .1))) e)
         (t .1) (t .2) (a .1) d
@@ -194,21 +200,24 @@ module _ (checks : Checks) (n round : ℕ) (keys : List ℕ) where
 -- ---- the claim
 
 -- for every relation that holds at least of the signatures that calls took
-pub safe : (checks : Checks) (n round : ℕ) (keys : List ℕ) {I : Type 0} (unit : I → Honest) → Family checks n round keys unit
-    → (R : Relation) → Takes checks n round keys unit R → NoneForged checks n round keys unit R → NoneBlamed checks n round keys unit R
-safe checks n round keys unit family R takes none = record {
-  written = written-safe checks n round keys unit family R takes none;
-  made = made-safe checks n round keys unit family R takes none;
-  accepted = accepted-safe checks n round keys unit family R takes none;
+pub safe : (S : Setting) {I : Type 0} (boat : I → Honest) → Family S boat
+    → (R : Relation) → Takes S boat R → NoneForged S boat R → NoneBlamed S boat R
+safe S boat family R takes none = record {
+  written = written-safe S boat family R takes none;
+  made = made-safe S boat family R takes none;
+  accepted = accepted-safe S boat family R takes none;
 }
 
 -- and for the signatures that document 01 calls delivered
-pub safe-delivered : (checks : Checks) (n round : ℕ) (keys : List ℕ) {I : Type 0} (unit : I → Honest) → Family checks n round keys unit
-    → NoneForged checks n round keys unit (Delivered checks n round keys unit) → NoneBlamed checks n round keys unit (Delivered checks n round keys unit)
-safe-delivered checks n round keys unit family none = safe checks n round keys unit family (Delivered checks n round keys unit) takes none
+pub safe-delivered : (S : Setting) {I : Type 0} (boat : I → Honest) → Family S boat
+    → NoneForged S boat (Delivered S boat) → NoneBlamed S boat (Delivered S boat)
+safe-delivered S boat family none = safe S boat family (Delivered S boat) takes none
   where
-    takes : Takes checks n round keys unit (Delivered checks n round keys unit)
+    takes : Takes S boat (Delivered S boat)
     takes = record {
-      steps = λ i t bytes out d e q s m. (i, bytes, inl (t, out, d, e), m);
-      makings = λ i h d q. ((λ s m. (i, h .a, inr (h, d, inl refl), m)), λ s m. (i, h .b, inr (h, d, inr refl), m));
+      steps = λ i bytes g q s m. record { to = i; bytes = bytes; given = inl g; stands = m };
+      makings = λ i h d q. (
+        λ s m. record { to = i; bytes = h .a; given = inr (record { hand = h; has = d; either = inl refl }); stands = m },
+        λ s m. record { to = i; bytes = h .b; given = inr (record { hand = h; has = d; either = inr refl }); stands = m },
+      );
     }

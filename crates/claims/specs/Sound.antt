@@ -2,10 +2,11 @@
 -- record goes on from call to call.
 -- Assumes nothing.
 use mathlib.Core.Path.{_≡_}
-use mathlib.Core.Bool.{Bool, true, false}
+use mathlib.Core.Bool.{Bool, true, false, not}
 use mathlib.Core.List.{List, map}
 use mathlib.Core.Logic.{_⊎_, _≢_}
 use Prim.Native.Nat.{ℕ, _+_, _^_, _≤_, _<_}
+use lib.Dec.{eqb}
 use lib.ListN.{length}
 use Rattle.quorum.specs.Quorum.{mostSeats, t0, k, In, size, shared}
 use Rattle.protocol.specs.Layout.{valueLength, signatureLength, storeLength, collectedBank, firstBank}
@@ -19,7 +20,8 @@ use Rattle.protocol.specs.declared.Own.{Own}
 use Rattle.protocol.specs.declared.Notices.{Notices}
 use Rattle.protocol.specs.declared.First.{First}
 use Rattle.protocol.specs.declared.Record.{Record}
-use Rattle.round.specs.Round.{Each, Relation, Kind, isOf, flagOf, worth, count}
+use Rattle.round.specs.Round.{Each, Relation}
+use Rattle.round.specs.Demand1.{Kind, SUBMIT, NOTICE, FULL, EVIDENCE, isOf, worth, count}
 
 -- ---- how a record goes on
 
@@ -39,6 +41,13 @@ pub record Grows (r r′ : Record) : Type 0 where
   pub said : r .own .submitted ≡ true → (r′ .own .submitted ≡ true) × (r′ .own .value ≡ r .own .value)
   pub heard : (value : List ℕ) → Heard value r → Heard value r′
   pub held : (value : List ℕ) → Held value r → Held value r′
+
+-- the part of a record that says a unit has sent one of a kind
+abbrev pub flagOf : Kind → Record → Bool
+flagOf SUBMIT r = r .own .submitted
+flagOf NOTICE r = r .confirmed
+flagOf FULL r = r .sent
+flagOf EVIDENCE r = not (eqb (r .guilty) 0)
 
 -- messages written, and the flag set: a message is written just where its flag comes to be set
 abbrev pub Counts : Record → List Message → Record → Type 0

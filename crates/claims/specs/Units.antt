@@ -14,9 +14,10 @@ use Rattle.protocol.specs.Record.{fresh, lastRound}
 use Rattle.protocol.specs.Refusals.{Checks, wrongKeys}
 use Rattle.protocol.specs.Calls.{openedBy, opening}
 use Rattle.protocol.specs.declared.Record.{Record}
-use Rattle.round.specs.Round.{Each, Relation, Kind, SUBMIT, NOTICE, FULL, EVIDENCE, isOf, flagOf, worth, Call, BySubmit, ByStep, ByThinEntry, Honest, Turn, left, writtenIn, writtenOver, Are, StandsIn, turnsOf, Writes}
+use Rattle.round.specs.Round.{Setting, IsOpened, Each, Relation, Call, BySubmit, ByStep, ByThinEntry, Honest, Called, resultOf, writtenIn, Are, StandsIn, listOf, Writes}
+use Rattle.round.specs.Demand1.{Kind, SUBMIT, NOTICE, FULL, EVIDENCE, isOf, worth, writtenOver}
 use Rattle.claims.specs.Lists.{worth-le-one, worth-true, true-of-worth, count-pos, count-member, each-nil, each-append}
-use Rattle.claims.specs.Sound.{Grows, InRange, Settled, Pairs, Sound, Good}
+use Rattle.claims.specs.Sound.{flagOf, Grows, InRange, Settled, Pairs, Sound, Good}
 use Rattle.claims.specs.Certificates.{sized-entries, sized-pairs}
 use Rattle.claims.specs.Parts.{grows-trans, good-grows}
 use Rattle.claims.specs.Reading.{are-unique}
@@ -51,13 +52,13 @@ good-formed checks W r Garbled range g = absurd g
 abbrev pub Any : Relation
 Any seat value signature = Unit {0}
 
-any-given : (checks : Checks) (keys : List ℕ) (c : Call) (r : Record) → WorthyGiven checks Any keys c r
-any-given checks keys (BySubmit value signature out) r = tt
-any-given checks keys (ByStep bytes out) r = λ s d. tt
-any-given checks keys (ByThinEntry bytes out) r = λ s d. tt
+any-given : (S : Setting) (c : Call) (r : Record) → WorthyGiven S Any c r
+any-given S (BySubmit value signature out) r = tt
+any-given S (ByStep bytes out) r = λ s d. tt
+any-given S (ByThinEntry bytes out) r = λ s d. tt
 
-pub any-worthy : (checks : Checks) (keys : List ℕ) (ts : List Turn) → Each (Worthy checks Any keys) ts
-any-worthy checks keys ts t d q = any-given checks keys (t .given) (t .unit)
+pub any-worthy : (S : Setting) (ts : List Called) → Each (Worthy S Any) ts
+any-worthy S ts t d q = any-given S (t .given) (t .unit)
 
 fresh-flag : (n seat round : ℕ) (κ : Kind) → worth (flagOf κ (fresh n seat round)) ≡ 0
 unfolding fresh worth
@@ -68,15 +69,17 @@ fresh-flag n seat round EVIDENCE = refl
 
 -- ---- the unit
 
-module _ (checks : Checks) (n round : ℕ) (keys : List ℕ) (u : Honest) (opened : opening n (u .seat) round keys .number ≡ 0) where
+module _ (S : Setting) (u : Honest) (opened : IsOpened S u) where
+  open Setting S using (n, round, keys, checks)
+
   abbrev pub startOf : Record
   startOf = opening n (u .seat) round keys .unit
 
   abbrev pub endOf : Record
-  endOf = lastOf checks keys startOf (u .store) (u .calls)
+  endOf = lastOf S startOf (u .store) (u .calls)
 
-  abbrev ts : List Turn
-  ts = turnsOf checks n round keys u
+  abbrev ts : List Called
+  ts = listOf S u
 
   pub opened-range : InRange n (u .seat) round
   unfolding opening openedBy
@@ -112,34 +115,34 @@ module _ (checks : Checks) (n round : ℕ) (keys : List ℕ) (u : Honest) (opene
   pub start-settled : Settled startOf
   start-settled = subst Settled (sym opened-fresh) (fresh-settled n (u .seat) round (opened-range .some))
 
-  module _ (W : Relation) (w : Each (Worthy checks W keys) ts) where
-    pub trip : Journey checks W keys startOf endOf ts
-    trip = journey checks W keys startOf (u .store) (u .calls) (start-sound W) start-settled w
+  module _ (W : Relation) (w : Each (Worthy S W) ts) where
+    pub trip : Journey S W startOf endOf ts
+    trip = journey S W startOf (u .store) (u .calls) (start-sound W) start-settled w
 
-    module _ (t : Turn) (d : List·Memᴰ t ts) where
-      pub stop : At checks W keys startOf t endOf
+    module _ (t : Called) (d : List·Memᴰ t ts) where
+      pub stop : At S W startOf t endOf
       stop = trip .at t d
 
-      pub left-grows : Grows startOf (left checks keys t .unit)
-      left-grows = grows-trans startOf (t .unit) (left checks keys t .unit) (stop .since) (stop .after .grows)
+      pub result-grows : Grows startOf (resultOf S t .unit)
+      result-grows = grows-trans startOf (t .unit) (resultOf S t .unit) (stop .since) (stop .after .grows)
 
       -- the bytes that the call writes are its messages
-      pub messages-formed : Each (WellFormed n) (messages checks keys t)
+      pub messages-formed : Each (WellFormed n) (messages S t)
       messages-formed m e =
-          subst (λ i. WellFormed i m) (left-grows .n ∙ start-n) (good-formed checks W (left checks keys t .unit) m (stop .after .sound .range) (stop .after .good m e))
+          subst (λ i. WellFormed i m) (result-grows .n ∙ start-n) (good-formed checks W (resultOf S t .unit) m (stop .after .sound .range) (stop .after .good m e))
 
-      pub written-are : Are n (writtenIn checks keys t) (messages checks keys t)
-      written-are = (messages-formed, written-is checks keys t)
+      pub written-are : Are n (writtenIn S t) (messages S t)
+      written-are = (messages-formed, written-is S t)
 
       -- a message that stands in them is one of those
-      pub stands-message : (m : Message) → StandsIn n m (writtenIn checks keys t) → List·Memᴰ m (messages checks keys t)
+      pub stands-message : (m : Message) → StandsIn n m (writtenIn S t) → List·Memᴰ m (messages S t)
       stands-message m s =
-          subst (λ ms. List·Memᴰ m ms) (are-unique n (writtenIn checks keys t) (s .0) (messages checks keys t) (s .1) written-are) (s .2)
+          subst (λ ms. List·Memᴰ m ms) (are-unique n (writtenIn S t) (s .0) (messages S t) (s .1) written-are) (s .2)
 
       -- and good at the end of the list too
-      pub stands-good : (m : Message) → StandsIn n m (writtenIn checks keys t) → Good checks W endOf m
+      pub stands-good : (m : Message) → StandsIn n m (writtenIn S t) → Good checks W endOf m
       stands-good m s =
-          good-grows checks W (left checks keys t .unit) endOf (stop .before) m (stop .after .good m (stands-message m s))
+          good-grows checks W (resultOf S t .unit) endOf (stop .before) m (stop .after .good m (stands-message m s))
 
     pub end-n : endOf .n ≡ n
     end-n = trip .grows .n ∙ start-n
@@ -151,30 +154,30 @@ module _ (checks : Checks) (n round : ℕ) (keys : List ℕ) (u : Honest) (opene
     end-round = trip .grows .round ∙ start-round
 
     -- a message is written in the list just where its flag is set at the end
-    pub written-flag : (κ : Kind) (m : Message) → isOf κ m ≡ true → Writes checks n round keys u m → flagOf κ endOf ≡ true
+    pub written-flag : (κ : Kind) (m : Message) → isOf κ m ≡ true → Writes S u m → flagOf κ endOf ≡ true
     written-flag κ m is h =
-        let d = all-member checks keys ts (h .0) m (h .1) (stands-message (h .0) (h .1) m (h .2)) in
-        true-of-worth (flagOf κ endOf) (omega (arith, count-pos (isOf κ) (allMessages checks keys ts) m d is, trip .counts κ, worth-le-one (flagOf κ endOf)))
+        let d = all-member S ts (h .call) m (h .inList) (stands-message (h .call) (h .inList) m (h .stands)) in
+        true-of-worth (flagOf κ endOf) (omega (arith, count-pos (isOf κ) (allMessages S ts) m d is, trip .counts κ, worth-le-one (flagOf κ endOf)))
 
-    pub flag-written : (κ : Kind) → flagOf κ endOf ≡ true → (m : Message) × (isOf κ m ≡ true) × Writes checks n round keys u m
+    pub flag-written : (κ : Kind) → flagOf κ endOf ≡ true → (m : Message) × (isOf κ m ≡ true) × Writes S u m
     flag-written κ e =
-        let c = count-member (isOf κ) (allMessages checks keys ts) (omega (arith, trip .counts κ, start-flag κ, worth-true (flagOf κ endOf) e)) in
-        let h = member-all checks keys ts (c .0) (c .1) in
-        (c .0, c .2, (h .0, h .1, (messages checks keys (h .0), written-are (h .0) (h .1), h .2)))
+        let c = count-member (isOf κ) (allMessages S ts) (omega (arith, trip .counts κ, start-flag κ, worth-true (flagOf κ endOf) e)) in
+        let h = member-all S ts (c .0) (c .1) in
+        (c .0, c .2, record { call = h .0; inList = h .1; stands = (messages S (h .0), written-are (h .0) (h .1), h .2) })
 
-    pub writes-good : (m : Message) → Writes checks n round keys u m → Good checks W endOf m
-    writes-good m h = stands-good (h .0) (h .1) m (h .2)
+    pub writes-good : (m : Message) → Writes S u m → Good checks W endOf m
+    writes-good m h = stands-good (h .call) (h .inList) m (h .stands)
 
   -- all that the list writes
-  over-are : (xs : List Turn) → Each (λ t. Are n (writtenIn checks keys t) (messages checks keys t)) xs → Are n (writtenOver checks keys xs) (allMessages checks keys xs)
+  over-are : (xs : List Called) → Each (λ t. Are n (writtenIn S t) (messages S t)) xs → Are n (writtenOver S xs) (allMessages S xs)
   unfolding writtenOver allMessages renderAll
   over-are [] h = (each-nil (WellFormed n), refl)
   over-are (t ∷ xs) h =
       let a = h t (List·Memᴰ·head refl) in
       let b = over-are xs (λ x d. h x (List·Memᴰ·tail d)) in (
-        each-append (WellFormed n) (messages checks keys t) (allMessages checks keys xs) (a .0) (b .0),
-        rw (a .1, b .1) (sym (all-append (messages checks keys t) (allMessages checks keys xs))),
+        each-append (WellFormed n) (messages S t) (allMessages S xs) (a .0) (b .0),
+        rw (a .1, b .1) (sym (all-append (messages S t) (allMessages S xs))),
       )
 
-  pub all-are : Are n (writtenOver checks keys ts) (allMessages checks keys ts)
-  all-are = over-are ts (λ t d. written-are Any (any-worthy checks keys ts) t d)
+  pub all-are : Are n (writtenOver S ts) (allMessages S ts)
+  all-are = over-are ts (λ t d. written-are Any (any-worthy S ts) t d)

@@ -17,9 +17,10 @@ use Rattle.protocol.specs.Record.{noneHeard, oneHeard, holds}
 use Rattle.protocol.specs.Refusals.{Checks, isFull, isEvidence}
 use Rattle.protocol.specs.Step.{State, write, collect, keepValue, submitOwn, isWanted, hearSubmit, hear, otherHeard, owesFull, sendFull, reply, hold, blame, blames, holdOrBlame, hearCertificate, isComplete, confirm, hearOwn, confirmIfComplete, submitted, stepped}
 use Rattle.protocol.specs.declared.Record.{Record}
-use Rattle.round.specs.Round.{Relation, Kind, SUBMIT, NOTICE, FULL, EVIDENCE, isOf, flagOf, isSubmit, isNotice, worth}
+use Rattle.round.specs.Round.{Relation}
+use Rattle.round.specs.Demand1.{Kind, SUBMIT, NOTICE, FULL, EVIDENCE, isOf, isSubmit, isNotice, worth}
 use Rattle.claims.specs.Lists.{cond-elim, and-true-both, and-false-either}
-use Rattle.claims.specs.Sound.{Heard, Held, Grows, Room, Settled, Kept, Certifies, Entries, Sound, Leads}
+use Rattle.claims.specs.Sound.{flagOf, Heard, Held, Grows, Room, Settled, Kept, Certifies, Entries, Sound, Leads}
 use Rattle.claims.specs.Certificates.{certifies-of}
 use Rattle.claims.specs.Parts.{k-pos, room-leads, leads-trans, leads-writing, leads-refl, collect-leads, submitOwn-leads, hear-leads, hear-heard, reply-leads, holdOrBlame-leads, holdOrBlame-held, own-certifies, collected-submitted, confirmed-submitted}
 

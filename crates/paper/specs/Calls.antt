@@ -329,7 +329,7 @@ module _ (n seat round : ℕ) where
   still m = record { machine = m; actions = [] }
 
   pub step-is : (checks : Checks) (keys : List ℕ) (m : Machine) (store : List ℕ) (msg : Message) → 1 ≤ n → storeLength n ≤ length store → Mirrors n store m → Brings checks Any (kept n seat round m) msg
-      → Comes n seat round (stepped msg (at n seat round (still m) store)) (reactTo checks n round keys seat (delivered msg) m)
+      → Comes n seat round (stepped msg (at n seat round (still m) store)) (reactTo checks n seat (delivered msg) m)
   unfolding stepped delivered reactTo react uponEvent kept
   step-is checks keys m store (Submit ρ s v g) some-seats room z b = submit-heard checks some-seats (still m) store room z s v g (b .0) (b .1) (b .2 .sized) (b .2 .checked)
   step-is checks keys m store (Notice ρ s v) some-seats room z b = notice-is checks some-seats (still m) store room z v

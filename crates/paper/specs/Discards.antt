@@ -82,7 +82,7 @@ module _ (checks : Checks) (n round : ℕ) (keys : List ℕ) (seat : ℕ) (m : M
   not-obtained c e = ap (λ (b : Bool). uponRules checks n seat (cond b (obtain checks n seat c still) still)) e ∙ rest-quiet checks n seat still rest
 
   -- "SUBMIT heard before the own submit": value_i is ⊥, and no value is the own one
-  pub early-discarded : (msg : Message) → early (kept n seat round m) msg ≡ true → reactTo checks n round keys seat (delivered msg) m ≡ still
+  pub early-discarded : (msg : Message) → early (kept n seat round m) msg ≡ true → reactTo checks n seat (delivered msg) m ≡ still
   unfolding early kept delivered reactTo react uponEvent isCollected
   early-discarded (Submit ρ s v g) e =
       not-collected s v g
@@ -94,7 +94,7 @@ module _ (checks : Checks) (n round : ℕ) (keys : List ℕ) (seat : ℕ) (m : M
   early-discarded Garbled e = absurd (false≢true e)
 
   -- "Any SUBMIT message that is not properly signed is discarded.", and a set of them that aren't all is no full certificate
-  pub unsigned-discarded : (msg : Message) → badSignature checks msg ≡ true → reactTo checks n round keys seat (delivered msg) m ≡ still
+  pub unsigned-discarded : (msg : Message) → badSignature checks msg ≡ true → reactTo checks n seat (delivered msg) m ≡ still
   unfolding badSignature signed every delivered reactTo react uponEvent isCollected isFullCertificate
   unsigned-discarded (Submit ρ s v g) e =
       not-collected s v g

@@ -9,7 +9,7 @@ use lib.Dec.{eqb}
 use Rattle.refusal.specs.Refusal.{unrefused}
 use Rattle.protocol.specs.Message.{Message, Submit, Notice, Full, Evidence, Garbled, read}
 use Rattle.protocol.specs.Refusals.{Checks}
-use Rattle.round.specs.Round.{Call, BySubmit, ByStep, ByThinEntry, Turn, left, writtenIn, Are}
+use Rattle.round.specs.Round.{Setting, Call, BySubmit, ByStep, ByThinEntry, Called, resultOf, writtenIn, Are}
 use Rattle.paper.specs.Machine.{Machine, Event, Submitted, SubmitDelivered, NoticeDelivered, FullDelivered, Action, Reaction, react, spoken}
 use Rattle.paper.specs.Memory.{kept}
 
@@ -32,26 +32,28 @@ eventOf n refusal (BySubmit value signature out) = unrefused refusal (some (Subm
 eventOf n refusal (ByStep bytes out) = cond (isDelivered refusal) (delivered (read n bytes)) none
 eventOf n refusal (ByThinEntry bytes out) = cond (isDelivered refusal) (delivered (read n bytes)) none
 
-module _ (checks : Checks) (n round : ℕ) (keys : List ℕ) (seat : ℕ) where
-  unfoldable pub reactTo : Option Event → Machine → Reaction
-  reactTo none m = record { machine = m; actions = [] }
-  reactTo (some e) m = react checks n seat e m
+unfoldable pub reactTo : Checks → ℕ → ℕ → Option Event → Machine → Reaction
+reactTo checks n seat none m = record { machine = m; actions = [] }
+reactTo checks n seat (some e) m = react checks n seat e m
+
+module _ (S : Setting) (seat : ℕ) where
+  open Setting S using (n, round, checks)
 
   -- what the machine does at a call
-  unfoldable pub reaction : Turn → Machine → Reaction
-  reaction t m = reactTo (eventOf n (left checks keys t .refusal) (t .given)) m
+  unfoldable pub reaction : Called → Machine → Reaction
+  reaction t m = reactTo checks n seat (eventOf n (resultOf S t .refusal) (t .given)) m
 
   -- At each call of a list, with the machine in step: the record that the call gets is what a record keeps of the machine's state,
   -- and the bytes that it writes are the machine's actions at that event, each sent as its command, one after another. (`Are` says
   -- that they are these messages and no others: bytes are messages in one way only, `round/specs/Reading: are-unique`.)
-  abbrev pub DoesAs : Machine → List Turn → Type 0
+  abbrev pub DoesAs : Machine → List Called → Type 0
   DoesAs m [] = Unit {0}
   DoesAs m (t ∷ ts) =
       (t .unit ≡ kept n seat round m)
-      × Are n (writtenIn checks keys t) (map (spoken n round seat) (reaction t m .actions))
+      × Are n (writtenIn S t) (map (spoken n round seat) (reaction t m .actions))
       × DoesAs (reaction t m .machine) ts
 
   -- all that the machine does over a list
-  unfoldable pub actionsOver : Machine → List Turn → List Action
+  unfoldable pub actionsOver : Machine → List Called → List Action
   actionsOver m [] = []
   actionsOver m (t ∷ ts) = reaction t m .actions ++ actionsOver (reaction t m .machine) ts

@@ -1,2 +1,5 @@
--- Document 01's "A round as a whole", as definitions. What is claimed of them is in crate `claims`.
+-- Document 01's "A round as a whole" (`Round`), and demands 3 and 1 in its words (`Demand3`, `Demand1`), as definitions. Crate
+-- `claims` proves them.
 pub mod Round
+pub mod Demand3
+pub mod Demand1

@@ -9,8 +9,9 @@ use native.Mathlib.Omega.{arith}
 use lib.ListN.{replicate}
 use Rattle.protocol.specs.Message.{Message, Notice, render, byteAt}
 use Rattle.protocol.specs.Refusals.{every}
-use Rattle.protocol.specs.Calls.{opening}
-use Rattle.round.specs.Round.{Call, BySubmit, ByStep, ByThinEntry, InHand, Honest, called, turns, isSubmit, isNotice, Family, Delivered, NoneForged, NoneBlamed, Submits, Blames, ReachedOthers, WritesEvidence, Names}
+use Rattle.round.specs.Round.{Setting, IsOpened, Call, BySubmit, ByStep, ByThinEntry, InHand, Honest, outcome, listFrom, Family, Delivered, Submits, WritesEvidence, Names}
+use Rattle.round.specs.Demand3.{NoneForged, NoneBlamed, Blames, ReachedOthers}
+use Rattle.round.specs.Demand1.{isSubmit, isNotice}
 use Rattle.claims.specs.Journey.{refusalOf, cameTo, allMessages}
 use Rattle.runs.specs.Toy.{unfolded, toy, layout, sign, keys, submitBy, fullBy}
 use Rattle.runs.specs.Tests.{found, isNoticeOf, isEvidenceOn, isStepWith, isSubmitOf, signsOnly, signsOnly-says, submits as submits′, submits-says, confirms, blames as blamesSeat, reached, haveReached, confirms-says, haveReached-says, blames-says}
@@ -19,13 +20,17 @@ use Rattle.claims.specs.Blamed.{blamed}
 
 -- every definition of a list, open too
 unfoldedLists : Bool
-unfolding unfolded called turns isSubmit isNotice refusalOf cameTo allMessages found isNoticeOf isEvidenceOn isStepWith isSubmitOf signsOnly submits′ confirms blamesSeat reached haveReached
+unfolding unfolded outcome listFrom isSubmit isNotice refusalOf cameTo allMessages found isNoticeOf isEvidenceOn isStepWith isSubmitOf signsOnly submits′ confirms blamesSeat reached haveReached
 unfoldedLists = true
 
 -- ---- what the runs are given
 
 abbrev table : List ℕ
 table = keys 4
+
+-- four seats in round 5, under the toy
+abbrev four : Setting
+four = record { n = 4; round = 5; keys = table; checks = toy }
 
 abbrev room : List ℕ
 room = replicate 14709 0
@@ -50,12 +55,12 @@ apart zeroth first false true d e = omega arith
 apart zeroth first true false d e = omega arith
 apart zeroth first true true d e = d refl
 
-opened : (zeroth first : List Call) (i : Bool) → opening 4 (two zeroth first i .seat) 5 table .number ≡ 0
+opened : (zeroth first : List Call) (i : Bool) → IsOpened four (two zeroth first i)
 unfolding unfoldedLists
 opened zeroth first false = refl
 opened zeroth first true = refl
 
-family : (zeroth first : List Call) → Family toy 4 5 table (two zeroth first)
+family : (zeroth first : List Call) → Family four (two zeroth first)
 family zeroth first = record { opened = opened zeroth first; apart = apart zeroth first }
 
 -- ---- two seats sign twice, and two honest units confirm different layouts
@@ -73,45 +78,45 @@ disagreeing seat b other c =
 abbrev apartUnits : Bool → Honest
 apartUnits = two (disagreeing 0 7 1 9) (disagreeing 1 9 0 7)
 
-zeroth-confirms : confirms toy 4 5 table (apartUnits false) (layout 7) ≡ true
+zeroth-confirms : confirms four (apartUnits false) (layout 7) ≡ true
 unfolding unfoldedLists
 zeroth-confirms = refl
 
-first-confirms : confirms toy 4 5 table (apartUnits true) (layout 9) ≡ true
+first-confirms : confirms four (apartUnits true) (layout 9) ≡ true
 unfolding unfoldedLists
 first-confirms = refl
 
 -- what each wrote has reached the other
-zeroth-reached : haveReached toy 4 5 table (apartUnits false) (apartUnits true) ≡ true
+zeroth-reached : haveReached four (apartUnits false) (apartUnits true) ≡ true
 unfolding unfoldedLists
 zeroth-reached = refl
 
-first-reached : haveReached toy 4 5 table (apartUnits true) (apartUnits false) ≡ true
+first-reached : haveReached four (apartUnits true) (apartUnits false) ≡ true
 unfolding unfoldedLists
 first-reached = refl
 
-apart-family : Family toy 4 5 table apartUnits
+apart-family : Family four apartUnits
 apart-family = family (disagreeing 0 7 1 9) (disagreeing 1 9 0 7)
 
-reached-others : (i : Bool) → ReachedOthers toy 4 5 table apartUnits i
+reached-others : (i : Bool) → ReachedOthers four apartUnits i
 reached-others false false d = absurd (d refl)
-reached-others false true d = haveReached-says toy 4 5 table (apartUnits false) (apart-family .opened false) (apartUnits true) zeroth-reached
-reached-others true false d = haveReached-says toy 4 5 table (apartUnits true) (apart-family .opened true) (apartUnits false) first-reached
+reached-others false true d = haveReached-says four (apartUnits false) (apart-family .opened false) (apartUnits true) zeroth-reached
+reached-others true false d = haveReached-says four (apartUnits true) (apart-family .opened true) (apartUnits false) first-reached
 reached-others true true d = absurd (d refl)
 
 -- so that both have written evidence that names two seats or more
-both-blame : (i : Bool) → Blames toy 4 5 table (apartUnits i)
+both-blame : (i : Bool) → Blames four (apartUnits i)
 both-blame =
-    blamed toy 4 5 table apartUnits apart-family false true (layout 7) (layout 9) (λ e. let h = ap (λ (l : List ℕ). byteAt l 0) e in omega arith)
-    (confirms-says toy 4 5 table (apartUnits false) (apart-family .opened false) (layout 7) zeroth-confirms)
-    (confirms-says toy 4 5 table (apartUnits true) (apart-family .opened true) (layout 9) first-confirms) (reached-others false) (reached-others true)
+    blamed four apartUnits apart-family false true (layout 7) (layout 9) (λ e. let h = ap (λ (l : List ℕ). byteAt l 0) e in omega arith)
+    (confirms-says four (apartUnits false) (apart-family .opened false) (layout 7) zeroth-confirms)
+    (confirms-says four (apartUnits true) (apart-family .opened true) (layout 9) first-confirms) (reached-others false) (reached-others true)
 
 -- no signature of the two is over a layout that it didn't submit: the premise of the safe half holds beside it
 abbrev layoutOf : Bool → List ℕ
 layoutOf false = layout 7
 layoutOf true = layout 9
 
-own-layouts : (i : Bool) → submits′ toy 4 5 table (apartUnits i) (layoutOf i) ≡ true
+own-layouts : (i : Bool) → submits′ four (apartUnits i) (layoutOf i) ≡ true
 unfolding unfoldedLists
 own-layouts false = refl
 own-layouts true = refl
@@ -127,16 +132,16 @@ none-in-hand : (i : Bool) (h : InHand) → List·Memᴰ h (apartUnits i .inHand)
 none-in-hand false h d = List·Memᴰ·not-nil d
 none-in-hand true h d = List·Memᴰ·not-nil d
 
-none-forged : NoneForged toy 4 5 table apartUnits (Delivered toy 4 5 table apartUnits)
+none-forged : NoneForged four apartUnits (Delivered four apartUnits)
 none-forged i value signature d never =
-    let j = d .0 in
+    let j = d .to in
     ⊎-elim
-    (λ g. absurd (never (subst (Submits toy 4 5 table (apartUnits i)) (sym (signsOnly-says toy 4 5 table (apartUnits j) (apartUnits i .seat) (layoutOf i) (signed-once i j) (g .0) (d .1) (g .1) value signature (g .2) (g .3) (d .3))) (submits-says toy 4 5 table (apartUnits i) (layoutOf i) (own-layouts i)))))
-    (λ h. absurd (none-in-hand j (h .0) (h .1)))
-    (d .2)
+    (λ g. absurd (never (subst (Submits four (apartUnits i)) (sym (signsOnly-says four (apartUnits j) (apartUnits i .seat) (layoutOf i) (signed-once i j) (g .call) (d .bytes) (g .out) value signature (g .inList) (g .isStep) (d .stands))) (submits-says four (apartUnits i) (layoutOf i) (own-layouts i)))))
+    (λ h. absurd (none-in-hand j (h .hand) (h .has)))
+    (d .given)
 
-none-blamed : NoneBlamed toy 4 5 table apartUnits (Delivered toy 4 5 table apartUnits)
-none-blamed = safe-delivered toy 4 5 table apartUnits apart-family none-forged
+none-blamed : NoneBlamed four apartUnits (Delivered four apartUnits)
+none-blamed = safe-delivered four apartUnits apart-family none-forged
 
 -- ---- a signature is forged, and an honest seat is blamed
 
@@ -144,18 +149,18 @@ none-blamed = safe-delivered toy 4 5 table apartUnits apart-family none-forged
 abbrev forgedUnits : Bool → Honest
 forgedUnits = two (submits 0 7 ∷ []) (hears (fullBy 7 0 2 3) ∷ hears (fullBy 9 0 2 3) ∷ [])
 
-forged-family : Family toy 4 5 table forgedUnits
+forged-family : Family four forgedUnits
 forged-family = family (submits 0 7 ∷ []) (hears (fullBy 7 0 2 3) ∷ hears (fullBy 9 0 2 3) ∷ [])
 
-forged-named : blamesSeat toy 4 5 table (forgedUnits true) 0 ≡ true
+forged-named : blamesSeat four (forgedUnits true) 0 ≡ true
 unfolding unfoldedLists
 forged-named = refl
 
-honest-blamed : (evidence : List ℕ) × WritesEvidence toy 4 5 table (forgedUnits true) evidence × Names toy 4 5 table evidence 0
-honest-blamed = blames-says toy 4 5 table (forgedUnits true) (forged-family .opened true) 0 forged-named
+honest-blamed : (evidence : List ℕ) × WritesEvidence four (forgedUnits true) evidence × Names four evidence 0
+honest-blamed = blames-says four (forgedUnits true) (forged-family .opened true) 0 forged-named
 
 -- so the premise of the safe half fails there, as it must
-premise-fails : NoneForged toy 4 5 table forgedUnits (Delivered toy 4 5 table forgedUnits) → ⊥
+premise-fails : NoneForged four forgedUnits (Delivered four forgedUnits) → ⊥
 premise-fails none =
     let e = honest-blamed in
-    safe-delivered toy 4 5 table forgedUnits forged-family none .written false true (e .0) (e .1) (e .2)
+    safe-delivered four forgedUnits forged-family none .written false true (e .0) (e .1) (e .2)

@@ -13,10 +13,11 @@ use Rattle.octets.specs.StringLaws.{same-true}
 use Rattle.protocol.specs.Layout.{storeLength, outLength}
 use Rattle.protocol.specs.Message.{Message, Submit, Notice, Full, Evidence, Garbled, Signed, render, read, signed, entrySeats}
 use Rattle.protocol.specs.ReadLaws.{read-render}
-use Rattle.protocol.specs.Refusals.{Checks, every, isFull, isEvidence}
+use Rattle.protocol.specs.Refusals.{every, isFull, isEvidence}
 use Rattle.protocol.specs.Calls.{opening}
 use Rattle.protocol.specs.declared.Record.{Record}
-use Rattle.round.specs.Round.{Call, BySubmit, ByStep, ByThinEntry, IsStep, Honest, Turn, called, left, turns, isNotice, turnsOf, Submits, Writes, Confirms, Reached, HaveReached, WritesEvidence, Names}
+use Rattle.round.specs.Round.{Setting, IsOpened, Call, BySubmit, ByStep, ByThinEntry, IsStep, Honest, Called, outcome, resultOf, listFrom, listOf, Submits, Writes, Confirms, Reached, HaveReached, WritesEvidence, Names}
+use Rattle.round.specs.Demand1.{isNotice}
 use Rattle.claims.specs.Lists.{and-true-both, or-true-either, every-each}
 use Rattle.claims.specs.Journey.{messages, allMessages, all-member, member-all}
 use Rattle.claims.specs.Units.{Any, any-worthy, written-are, stands-message}
@@ -87,12 +88,12 @@ module _ (n seat : ℕ) (layout bytes value signature : List ℕ) (d : List·Mem
   signs-only c out (inl q) e = over-layout (subst (λ x. signsOnly n seat layout x ≡ true) q e)
   signs-only c out (inr q) e = over-layout (subst (λ x. signsOnly n seat layout x ≡ true) q e)
 
--- a turn's call is one of the list
-turn-given : (checks : Checks) (keys : List ℕ) (r : Record) (store : List ℕ) (cs : List Call) (t : Turn) → List·Memᴰ t (turns checks keys r store cs) → List·Memᴰ (t .given) cs
-unfolding turns
-turn-given checks keys r store [] t d = absurd (List·Memᴰ·not-nil d)
-turn-given checks keys r store (c ∷ cs) t d =
-    ⊎-elim (λ q. List·Memᴰ·head (ap (λ (x : Turn). x .given) q)) (λ q. List·Memᴰ·tail (turn-given checks keys (called checks keys c r store .unit) (called checks keys c r store .store) cs t q)) (List·Memᴰ·cases-cons d)
+-- a call of the list is one that the unit was given
+called-given : (S : Setting) (r : Record) (store : List ℕ) (cs : List Call) (t : Called) → List·Memᴰ t (listFrom S r store cs) → List·Memᴰ (t .given) cs
+unfolding listFrom
+called-given S r store [] t d = absurd (List·Memᴰ·not-nil d)
+called-given S r store (c ∷ cs) t d =
+    ⊎-elim (λ q. List·Memᴰ·head (ap (λ (x : Called). x .given) q)) (λ q. List·Memᴰ·tail (called-given S (outcome S c r store .unit) (outcome S c r store .store) cs t q)) (List·Memᴰ·cases-cons d)
 
 unfoldable pub isSubmitOf : List ℕ → Call → Bool
 isSubmitOf layout (BySubmit value signature out) = same value layout
@@ -107,9 +108,11 @@ submit-of layout (ByThinEntry bytes out) e = absurd (false≢true e)
 
 -- ---- an honest unit
 
-module _ (checks : Checks) (n round : ℕ) (keys : List ℕ) where
+module _ (S : Setting) where
+  open Setting S using (n, round, keys)
+
   abbrev all : Honest → List Message
-  all u = allMessages checks keys (turnsOf checks n round keys u)
+  all u = allMessages S (listOf S u)
 
   unfoldable pub confirms : Honest → List ℕ → Bool
   confirms u value = found (isNoticeOf value) (all u)
@@ -118,58 +121,58 @@ module _ (checks : Checks) (n round : ℕ) (keys : List ℕ) where
   blames u seat = found (isEvidenceOn seat) (all u)
 
   unfoldable pub reached : Honest → List ℕ → Bool
-  reached u bytes = found (λ (t : Turn). isStepWith n bytes (t .given) && leb (storeLength n) (length (t .store))) (turnsOf checks n round keys u)
+  reached u bytes = found (λ (t : Called). isStepWith n bytes (t .given) && leb (storeLength n) (length (t .store))) (listOf S u)
 
   unfoldable pub haveReached : Honest → Honest → Bool
   haveReached u other = every (λ (m : Message). not (isNotice m || isFull m) || reached other (render m)) (all u)
 
   unfoldable pub submits : Honest → List ℕ → Bool
-  submits u layout = found (λ (t : Turn). isSubmitOf layout (t .given) && eqb (left checks keys t .refusal) 0) (turnsOf checks n round keys u)
+  submits u layout = found (λ (t : Called). isSubmitOf layout (t .given) && eqb (resultOf S t .refusal) 0) (listOf S u)
 
-  pub submits-says : (u : Honest) (layout : List ℕ) → submits u layout ≡ true → Submits checks n round keys u layout
+  pub submits-says : (u : Honest) (layout : List ℕ) → submits u layout ≡ true → Submits S u layout
   unfolding submits
   submits-says u layout e =
-      let f = found-one (λ (t : Turn). isSubmitOf layout (t .given) && eqb (left checks keys t .refusal) 0) (turnsOf checks n round keys u) e in
+      let f = found-one (λ (t : Called). isSubmitOf layout (t .given) && eqb (resultOf S t .refusal) 0) (listOf S u) e in
       let t = f .0 in
-      let both = and-true-both (isSubmitOf layout (t .given)) (eqb (left checks keys t .refusal) 0) (f .2) in
+      let both = and-true-both (isSubmitOf layout (t .given)) (eqb (resultOf S t .refusal) 0) (f .2) in
       let s = submit-of layout (t .given) (both .0) in
-      (t, s .0, s .1, f .1, s .2, eqb-true (left checks keys t .refusal) 0 (both .1))
+      record { call = t; inList = f .1; signature = s .0; out = s .1; carries = s .2; unrefused = eqb-true (resultOf S t .refusal) 0 (both .1) }
 
   -- what is given to a step in the unit's list and signed by the seat stands over the layout
-  pub signsOnly-says : (u : Honest) (seat : ℕ) (layout : List ℕ) → every (signsOnly n seat layout) (u .calls) ≡ true → (t : Turn) (bytes out value signature : List ℕ) → List·Memᴰ t (turnsOf checks n round keys u) → IsStep (t .given) bytes out
+  pub signsOnly-says : (u : Honest) (seat : ℕ) (layout : List ℕ) → every (signsOnly n seat layout) (u .calls) ≡ true → (t : Called) (bytes out value signature : List ℕ) → List·Memᴰ t (listOf S u) → IsStep (t .given) bytes out
       → List·Memᴰ (record { seat = seat; value = value; signature = signature }) (signed (read n bytes)) → value ≡ layout
   signsOnly-says u seat layout e t bytes out value signature d is m =
       signs-only n seat layout bytes value signature m (t .given) out is
-      (every-each (signsOnly n seat layout) (u .calls) e (t .given) (turn-given checks keys (opening n (u .seat) round keys .unit) (u .store) (u .calls) t d))
+      (every-each (signsOnly n seat layout) (u .calls) e (t .given) (called-given S (opening n (u .seat) round keys .unit) (u .store) (u .calls) t d))
 
-  pub reached-says : (u : Honest) (bytes : List ℕ) → reached u bytes ≡ true → Reached checks n round keys u bytes
+  pub reached-says : (u : Honest) (bytes : List ℕ) → reached u bytes ≡ true → Reached S u bytes
   unfolding reached
   reached-says u bytes e =
-      let f = found-one (λ (t : Turn). isStepWith n bytes (t .given) && leb (storeLength n) (length (t .store))) (turnsOf checks n round keys u) e in
+      let f = found-one (λ (t : Called). isStepWith n bytes (t .given) && leb (storeLength n) (length (t .store))) (listOf S u) e in
       let t = f .0 in
       let both = and-true-both (isStepWith n bytes (t .given)) (leb (storeLength n) (length (t .store))) (f .2) in
       let s = step-with n bytes (t .given) (both .0) in
-      (t, s .0, f .1, s .1, leb-true (storeLength n) (length (t .store)) (both .1), s .2)
+      record { step = record { call = t; inList = f .1; out = s .0; isStep = s .1 }; storeRoom = leb-true (storeLength n) (length (t .store)) (both .1); outRoom = s .2 }
 
-  module _ (u : Honest) (opened : opening n (u .seat) round keys .number ≡ 0) where
-    member-writes : (m : Message) → List·Memᴰ m (all u) → Writes checks n round keys u m
+  module _ (u : Honest) (opened : IsOpened S u) where
+    member-writes : (m : Message) → List·Memᴰ m (all u) → Writes S u m
     member-writes m d =
-        let h = member-all checks keys (turnsOf checks n round keys u) m d in
-        (h .0, h .1, (messages checks keys (h .0), written-are checks n round keys u opened Any (any-worthy checks keys (turnsOf checks n round keys u)) (h .0) (h .1), h .2))
+        let h = member-all S (listOf S u) m d in
+        record { call = h .0; inList = h .1; stands = (messages S (h .0), written-are S u opened Any (any-worthy S (listOf S u)) (h .0) (h .1), h .2) }
 
-    writes-member : (m : Message) → Writes checks n round keys u m → List·Memᴰ m (all u)
+    writes-member : (m : Message) → Writes S u m → List·Memᴰ m (all u)
     writes-member m h =
-        all-member checks keys (turnsOf checks n round keys u) (h .0) m (h .1)
-        (stands-message checks n round keys u opened Any (any-worthy checks keys (turnsOf checks n round keys u)) (h .0) (h .1) m (h .2))
+        all-member S (listOf S u) (h .call) m (h .inList)
+        (stands-message S u opened Any (any-worthy S (listOf S u)) (h .call) (h .inList) m (h .stands))
 
-    pub confirms-says : (value : List ℕ) → confirms u value ≡ true → Confirms checks n round keys u value
+    pub confirms-says : (value : List ℕ) → confirms u value ≡ true → Confirms S u value
     unfolding confirms
     confirms-says value e =
         let f = found-one (isNoticeOf value) (all u) e in
         let s = notice-of value (f .0) (f .2) in
         (s .0, s .1, member-writes (Notice (s .0) (s .1) value) (subst (λ m. List·Memᴰ m (all u)) (s .2) (f .1)))
 
-    pub haveReached-says : (other : Honest) → haveReached u other ≡ true → HaveReached checks n round keys u other
+    pub haveReached-says : (other : Honest) → haveReached u other ≡ true → HaveReached S u other
     unfolding haveReached isNotice isFull
     haveReached-says other e =
         let each = every-each (λ (m : Message). not (isNotice m || isFull m) || reached other (render m)) (all u) e in
@@ -178,7 +181,7 @@ module _ (checks : Checks) (n round : ℕ) (keys : List ℕ) where
           full = λ ρ sender value es w. reached-says other (render (Full ρ sender value es)) (each (Full ρ sender value es) (writes-member (Full ρ sender value es) w));
         }
 
-    pub blames-says : (seat : ℕ) → blames u seat ≡ true → (evidence : List ℕ) × WritesEvidence checks n round keys u evidence × Names checks n round keys evidence seat
+    pub blames-says : (seat : ℕ) → blames u seat ≡ true → (evidence : List ℕ) × WritesEvidence S u evidence × Names S evidence seat
     unfolding blames isEvidenceOn
     blames-says seat e =
         let f = found-one (isEvidenceOn seat) (all u) e in
@@ -187,5 +190,5 @@ module _ (checks : Checks) (n round : ℕ) (keys : List ℕ) where
         let g = found-one (eqb seat) (entrySeats m) (both .1) in
         let w = member-writes m (f .1) in
         let named : List·Memᴰ seat (entrySeats m) = subst (λ s. List·Memᴰ s (entrySeats m)) (sym (eqb-true seat (g .0) (g .2))) (g .1) in
-        let formed = w .2 .1 .0 m (w .2 .2) in
-        (render m, (m, both .0, refl, w), subst (λ x. List·Memᴰ seat (entrySeats x)) (sym (read-render n m formed)) named)
+        let formed = w .stands .1 .0 m (w .stands .2) in
+        (render m, record { message = m; kind = both .0; bytes = refl; writes = w }, subst (λ x. List·Memᴰ seat (entrySeats x)) (sym (read-render n m formed)) named)

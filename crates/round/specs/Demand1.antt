@@ -1,0 +1,51 @@
+-- Demand 1, over a whole list: "in a round a unit on one unbroken record sends at most one submission, one notice and one full
+-- certificate"; and at most one evidence.
+-- Assumes nothing.
+use Prim.Native.Nat.{ℕ, _+_, _≤_}
+use mathlib.Core.Bool.{Bool, true, false}
+use mathlib.Core.List.{List, [], _∷_, _++_}
+use Rattle.protocol.specs.Message.{Message, Submit, Notice, Full, Evidence, Garbled}
+use Rattle.protocol.specs.Refusals.{isFull, isEvidence}
+use Rattle.round.specs.Round.{Setting, Honest, Called, listOf, writtenIn, Are}
+
+-- everything that calls write, one after another
+unfoldable pub writtenOver : Setting → List Called → List ℕ
+writtenOver S [] = []
+writtenOver S (c ∷ cs) = writtenIn S c ++ writtenOver S cs
+
+-- what a unit sends
+pub data Kind : Type 0 where
+  SUBMIT NOTICE FULL EVIDENCE : Kind
+
+unfoldable pub isSubmit : Message → Bool
+isSubmit (Submit ρ seat value signature) = true
+isSubmit (Notice ρ seat value) = false
+isSubmit (Full ρ sender value entries) = false
+isSubmit (Evidence ρ lower higher entries) = false
+isSubmit Garbled = false
+
+unfoldable pub isNotice : Message → Bool
+isNotice (Submit ρ seat value signature) = false
+isNotice (Notice ρ seat value) = true
+isNotice (Full ρ sender value entries) = false
+isNotice (Evidence ρ lower higher entries) = false
+isNotice Garbled = false
+
+abbrev pub isOf : Kind → Message → Bool
+isOf SUBMIT m = isSubmit m
+isOf NOTICE m = isNotice m
+isOf FULL m = isFull m
+isOf EVIDENCE m = isEvidence m
+
+-- how many of a list pass a test
+unfoldable pub worth : Bool → ℕ
+worth true = 1
+worth false = 0
+
+unfoldable pub count {ℓ} : {A : Type ℓ} → (A → Bool) → List A → ℕ
+count test [] = 0
+count test (x ∷ xs) = worth (test x) + count test xs
+
+-- whatever messages the bytes are that a unit's list writes, at most one of each kind is among them
+abbrev pub AtMostOne : Setting → Honest → Type 0
+AtMostOne S u = (ms : List Message) → Are (S .n) (writtenOver S (listOf S u)) ms → (κ : Kind) → count (isOf κ) ms ≤ 1
