@@ -17,9 +17,9 @@ use Rattle.protocol.specs.Layout.{valueLength, storeLength, outLength}
 use Rattle.protocol.specs.Message.{Entry, Message, Submit, Notice, Full, Evidence, Garbled, render, read, roundOf, entrySeats, seatsOf, signed}
 use Rattle.protocol.specs.Laws.{in-set}
 use Rattle.protocol.specs.ReadLaws.{WellFormed, read-render}
-use Rattle.protocol.specs.Refusals.{Checks, wrongKeys, isForStep, isFull, isEvidence, rising, early, stepConditions}
+use Rattle.protocol.specs.Refusals.{wrongKeys, isForStep, isFull, isEvidence, rising, early, stepConditions}
 use Rattle.protocol.specs.Step.{State, otherHeard, owesFull, stepped}
-use Rattle.protocol.specs.Calls.{start, opening, checkedBy, evidenceCheck}
+use Rattle.protocol.specs.Calls.{start, checkedBy, evidenceCheck}
 use Rattle.protocol.specs.declared.Record.{Record}
 use Rattle.round.specs.Round.{Setting, IsOpened, Each, Honest, Called, resultOf, listOf, Writes, Confirms, Reached, Accepted, Names, Family}
 use Rattle.round.specs.Demand3.{Blames, ReachedOthers}

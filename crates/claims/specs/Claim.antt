@@ -1,5 +1,13 @@
--- Demand 3, whole: one claim about any family of honest units, one round and one key table, from end to end. The signature check is
--- RFC 8554's; the theory beneath holds for any.
+-- Demand 3, whole: one claim about any family of honest units, one round and one key table, from end to end.
+--
+-- What a reader has to read in order to believe it; no proof is among it:
+-- 1. `demand-3`, in this file, and `Demand3` in `round/specs/Demand3`: the demand, sentence by sentence.
+-- 2. `round/specs/Round`: the words of the demand, beside document 01's "A round as a whole".
+-- 3. `protocol/specs/Calls`: what an opening, a submit, a step, a making of evidence and the evidence check do; with the files of
+--    `protocol/specs` that it is put together from (`Step`, `Refusals`, `Record`, `Certificate`, `Message`, `Layout`, `Values`, and
+--    `WellFormed` in `ReadLaws`), and `quorum/specs/Quorum`: t0, k, sets of seats and their sizes.
+-- 4. `rfc8554/specs/Calls: checks`: the signature check, with `Verify`, `Tree` and `Ots` beside it, and `sha256/specs/Fips`.
+-- 5. `as-promised`, in this file: the lists are those that the contracts of the code come to.
 -- Assumes nothing.
 use mathlib.Core.Path.{_≡_, refl, ap, _∙_}
 use mathlib.Core.List.{List, [], _∷_, map, List·Memᴰ, List·Memᴰ·head, List·Memᴰ·tail}
@@ -13,20 +21,24 @@ use Rattle.claims.specs.Units.{Any, any-worthy, start-round, stop}
 use Rattle.claims.specs.Safe.{safe, safe-delivered}
 use Rattle.claims.specs.Blamed.{blamed}
 
--- "A signature checks for a seat over a layout when RFC 8554 accepts it under that seat's key for the 36 bytes of the round,
--- that seat and that layout, and its leaf is the round."
+-- ---- the claim
+
+-- "let some units be honest: each alone in its seat and opened once": `Family`. For any signature check:
+pub demand-3-any : (S : Setting) {I : Type 0} (boat : I → Honest) → Family S boat → Demand3 S boat
+demand-3-any S boat family = record { safety = safe-delivered S boat family; accountability = blamed S boat family; safety-however = safe S boat family }
+
+-- "In one round and under one key table", and "A signature checks for a seat over a layout when RFC 8554 accepts it under that
+-- seat's key for the 36 bytes of the round, that seat and that layout, and its leaf is the round."
 abbrev pub setting : ℕ → ℕ → List ℕ → Setting
 setting n round keys = record { n = n; round = round; keys = keys; checks = checks keys round }
 
 pub demand-3 : (n round : ℕ) (keys : List ℕ) {I : Type 0} (boat : I → Honest) → Family (setting n round keys) boat → Demand3 (setting n round keys) boat
-demand-3 n round keys boat family =
-    let S = setting n round keys in
-    record { safety = safe-delivered S boat family; accountability = blamed S boat family; safety-however = safe S boat family }
+demand-3 n round keys = demand-3-any (setting n round keys)
 
 -- ---- the lists are of calls as the code's contracts state them
 
--- Calls one after another, each with its result, as the contracts of submit and step promise it: they check in the round of the
--- record that they are given.
+-- Calls one after another from a record and a store, each with its result as the contract of submit, step or thin entry promises it:
+-- signatures are checked in the round of the record that the call is given.
 unfoldable pub promised : List ℕ → Record → List ℕ → List Call → List (Called × Result)
 promised keys r store [] = []
 promised keys r store (c ∷ cs) =
@@ -56,7 +68,7 @@ module _ (n round : ℕ) (keys : List ℕ) where
       rw (same-outcome c r store (h first (List·Memᴰ·head refl)))
       (ap (λ (rest : List (Called × Result)). (first, result) ∷ rest) (same-list (result .unit) (result .store) cs (λ x d. h x (List·Memᴰ·tail d))))
 
-  -- so, of a unit opened without a refusal, the claim is about the very list that the code's calls come to
+  -- from an opening without a refusal they are, call by call and result by result, the list that the claim is about
   pub as-promised : (u : Honest) → IsOpened S u → promised keys (opening n (u .seat) round keys .unit) (u .store) (u .calls) ≡ map withResult (listOf S u)
   as-promised u opened =
       same-list (opening n (u .seat) round keys .unit) (u .store) (u .calls)

@@ -1,8 +1,8 @@
--- The claims over whole lists of calls (demands 1 and 3), over the definitions of crate `protocol`.
+-- Demands 1 and 3 over whole lists of calls, proved. Their statements are definitions of crate `round`.
 --
--- `Round` has document 01's "A round as a whole" as definitions. The claims are at the end of `Once` (demand 1) and in `Claim` (demand
--- 3, whole); the two halves of demand 3 are at the end of `Safe` and of `Blamed`, for any signature check, and what evidence made of two
--- certificates is worth is at the end of `Made`. Crate `runs` shows that they say something.
+-- The claims are in `Claim` (demand 3, whole, with the order in which to read it) and at the end of `Once` (demand 1); the two halves of
+-- demand 3 are at the end of `Safe` and of `Blamed`, and what evidence made of two certificates is worth is at the end of `Made`. Crate
+-- `runs` shows that they say something.
 --
 -- `Sound` has what holds of record and store all along a list; `Parts` and `Whole` show it of the parts of a step and of a whole
 -- one, `Journey` and `Units` of a list. The other files have the laws that these stand on.

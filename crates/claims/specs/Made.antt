@@ -11,7 +11,7 @@ use Rattle.refusal.specs.Refusal.{lowest, unrefused}
 use Rattle.protocol.specs.Message.{Pair, Message, Evidence, render, read, entrySeats}
 use Rattle.protocol.specs.ReadLaws.{read-render}
 use Rattle.protocol.specs.Certificate.{setOf, certificateIn}
-use Rattle.protocol.specs.Refusals.{Checks, wrongKeys, isEvidence, notLowerFirst}
+use Rattle.protocol.specs.Refusals.{wrongKeys, isEvidence, notLowerFirst}
 use Rattle.protocol.specs.Calls.{makingBy, making, checkedBy, evidenceCheck}
 use Rattle.round.specs.Round.{Setting, InHand, makingOf, Accepted}
 use Rattle.claims.specs.Sound.{InRange, Certifies, Pairs}

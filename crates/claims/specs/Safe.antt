@@ -14,9 +14,9 @@ use Rattle.protocol.specs.Message.{Pair, Message, Submit, Notice, Full, Evidenc
 use Rattle.protocol.specs.ReadLaws.{WellFormed, read-render}
 use Rattle.protocol.specs.Certificate.{certificateIn, evidenceOf}
 use Rattle.protocol.specs.Refusals.{Checks, isFull, isEvidence, notLowerFirst, makingConditions}
-use Rattle.protocol.specs.Calls.{opening, makingBy, making, made, checkedBy, evidenceCheck}
+use Rattle.protocol.specs.Calls.{makingBy, making, made, checkedBy, evidenceCheck}
 use Rattle.protocol.specs.declared.Record.{Record}
-use Rattle.round.specs.Round.{Setting, IsOpened, StepGiven, Each, Relation, EachSigned, Call, BySubmit, ByStep, ByThinEntry, InHand, Honest, IsStep, Called, resultOf, StandsIn, listOf, Submits, WritesEvidence, makingOf, MakesEvidence, Names, AcceptedFrom, Family, Delivered}
+use Rattle.round.specs.Round.{Setting, IsOpened, Each, Relation, EachSigned, Call, BySubmit, ByStep, ByThinEntry, InHand, Honest, IsStep, Called, resultOf, StandsIn, listOf, Submits, WritesEvidence, makingOf, MakesEvidence, Names, AcceptedFrom, Family, Delivered}
 use Rattle.round.specs.Demand3.{Takes, NoneForged, NoneBlamed}
 use Rattle.claims.specs.Lists.{each-nil, each-one}
 use Rattle.claims.specs.Sound.{Certifies, Pairs, Good}

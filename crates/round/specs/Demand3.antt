@@ -1,4 +1,4 @@
--- Demand 3, over any setting and any family of honest units, in the words of `Round`.
+-- Demand 3 of any setting and any family of honest units, in the words of `Round`.
 -- Assumes nothing.
 use Prim.Native.Nat.{ℕ, _+_, _≤_}
 use mathlib.Core.Path.{_≡_}
@@ -14,7 +14,7 @@ use Rattle.round.specs.Round.{Setting, InHand, Honest, Relation, EachSig
 module _ (S : Setting) where
   open Setting S using (n, round, keys, checks)
 
-  -- "let some units be honest"
+  -- "let some units be honest": any family of boats
   module _ {I : Type 0} (boat : I → Honest) where
     -- "If no signature delivered for an honest seat over a layout that it didn't submit checks for that seat over that layout"
     abbrev pub NoneForged : Relation → Type 0

@@ -15,13 +15,6 @@ use Rattle.protocol.specs.declared.Record.{Record}
 
 -- ---- the lists
 
--- "All lists have the same n, round and key table"; and the signature check under them, any
-pub record Setting : Type 0 where
-  pub n : ℕ
-  pub round : ℕ
-  pub keys : List ℕ
-  pub checks : Checks
-
 -- "A call in it is a submit, or a step by value or through the thin entry, .. given any bytes as message, or as value and
 -- signature, and any out buffer."
 pub data Call : Type 0 where
@@ -29,7 +22,7 @@ pub data Call : Type 0 where
   ByStep : (bytes out : List ℕ) → Call
   ByThinEntry : (bytes out : List ℕ) → Call
 
--- "what an honest unit makes .. evidence from": two certificates, and out
+-- "Making evidence from what is in hand .. stand[s] outside the lists": two certificates, and any out buffer
 pub record InHand : Type 0 where
   pub a : List ℕ
   pub b : List ℕ
@@ -42,53 +35,23 @@ pub record Honest : Type 0 where
   pub calls : List Call
   pub inHand : List InHand
 
+-- "All lists have the same n, round and key table"; and a signature "checks for a seat over a layout" by one check, any
+pub record Setting : Type 0 where
+  pub n : ℕ
+  pub round : ℕ
+  pub keys : List ℕ
+  pub checks : Checks
+
 -- a call in a list, with the record and the store that it gets
 pub record Called : Type 0 where
   pub given : Call
   pub unit : Record
   pub store : List ℕ
 
-abbrev pub outOf : Call → List ℕ
-outOf (BySubmit value signature out) = out
-outOf (ByStep bytes out) = out
-outOf (ByThinEntry bytes out) = out
-
--- the call is a step, by value or through the thin entry, given these bytes and this out
-abbrev pub IsStep : Call → List ℕ → List ℕ → Type 0
-IsStep c bytes out = (c ≡ ByStep bytes out) ⊎ (c ≡ ByThinEntry bytes out)
-
--- ---- written
-
--- every one of a list
-abbrev pub Each {ℓ} : {A : Type ℓ} → (A → Type 0) → List A → Type ℓ
-Each {A = A} P xs = (x : A) → List·Memᴰ x xs → P x
-
--- "the bytes that a call's answer counts": the first of them in out as the call leaves it
-abbrev pub counted : ℕ → List ℕ → List ℕ → List ℕ
-counted count written out = take count (outAfter written out)
-
--- bytes are these messages one after another, each of them as document 01 lays it out
-abbrev pub Are : ℕ → List ℕ → List Message → Type 0
-Are n bytes ms = Each (WellFormed n) ms × (bytes ≡ renderAll ms)
-
--- the message stands in the bytes
-abbrev pub StandsIn : ℕ → Message → List ℕ → Type 0
-StandsIn n m bytes = (ms : List Message) × Are n bytes ms × List·Memᴰ m ms
-
--- ---- signatures
-
--- a relation between a seat, a layout and a signature
-abbrev pub Relation : Type 1
-Relation = ℕ → List ℕ → List ℕ → Type 0
-
--- of every signature in a message, with its seat and the layout that it stands for there
-abbrev pub EachSigned : Relation → Message → Type 0
-EachSigned R m = Each (λ (s : Signed). R (s .seat) (s .value) (s .signature)) (signed m)
-
 module _ (S : Setting) where
   open Setting S using (n, round, keys, checks)
 
-  -- "each doing what these papers say of it": what a call leaves of a record and a store
+  -- "each doing what these papers say of it": what a call makes of a record and a store
   unfoldable pub outcome : Call → Record → List ℕ → Result
   outcome (BySubmit value signature out) r store = submit checks keys r store value signature out
   outcome (ByStep bytes out) r store = step checks keys r store bytes out
@@ -101,7 +64,8 @@ module _ (S : Setting) where
   -- writes either."
   unfoldable pub listFrom : Record → List ℕ → List Call → List Called
   listFrom r store [] = []
-  listFrom r store (c ∷ cs) = record { given = c; unit = r; store = store } ∷ listFrom (outcome c r store .unit) (outcome c r store .store) cs
+  listFrom r store (c ∷ cs) =
+      record { given = c; unit = r; store = store } ∷ listFrom (outcome c r store .unit) (outcome c r store .store) cs
 
   -- "It starts from the record that an opening at its seat gave"
   abbrev pub listOf : Honest → List Called
@@ -111,29 +75,59 @@ module _ (S : Setting) where
   abbrev pub IsOpened : Honest → Type 0
   IsOpened u = opening n (u .seat) round keys .number ≡ 0
 
-  -- "and each its own seat. No order between calls of different units is assumed.": nothing more is asked of the honest units
+  -- "and each its own seat. No order between calls of different units is assumed.": all that is asked of the honest units
   pub record Family {I : Type 0} (boat : I → Honest) : Type 0 where
     pub opened : (i : I) → IsOpened (boat i)
     pub apart : (i j : I) → i ≢ j → boat i .seat ≢ boat j .seat
 
+-- ---- what is written, and what has reached a unit
+
+-- "the bytes that a call's answer counts": the first so many of out as the call leaves it
+abbrev pub counted : ℕ → List ℕ → List ℕ → List ℕ
+counted count written out = take count (outAfter written out)
+
+abbrev pub outOf : Call → List ℕ
+outOf (BySubmit value signature out) = out
+outOf (ByStep bytes out) = out
+outOf (ByThinEntry bytes out) = out
+
+-- every one of a list
+abbrev pub Each {ℓ} : {A : Type ℓ} → (A → Type 0) → List A → Type ℓ
+Each {A = A} P xs = (x : A) → List·Memᴰ x xs → P x
+
+-- bytes are these messages one after another, each of them as document 01 lays it out
+abbrev pub Are : ℕ → List ℕ → List Message → Type 0
+Are n bytes ms = Each (WellFormed n) ms × (bytes ≡ renderAll ms)
+
+-- the message stands in the bytes
+abbrev pub StandsIn : ℕ → Message → List ℕ → Type 0
+StandsIn n m bytes = (ms : List Message) × Are n bytes ms × List·Memᴰ m ms
+
+-- the call is a step, by value or through the thin entry, given these bytes and this out
+abbrev pub IsStep : Call → List ℕ → List ℕ → Type 0
+IsStep c bytes out = (c ≡ ByStep bytes out) ⊎ (c ≡ ByThinEntry bytes out)
+
+module _ (S : Setting) where
+  open Setting S using (n)
+
   -- "Written is what stands in the bytes that a call's answer counts."
   abbrev pub writtenIn : Called → List ℕ
-  writtenIn c = counted (answer (resultOf c) .written) (resultOf c .written) (outOf (c .given))
+  writtenIn c = counted (answer (resultOf S c) .written) (resultOf S c .written) (outOf (c .given))
 
   -- a call in the unit's list writes the message
   pub record Writes (u : Honest) (m : Message) : Type 0 where
     pub call : Called
-    pub inList : List·Memᴰ call (listOf u)
+    pub inList : List·Memᴰ call (listOf S u)
     pub stands : StandsIn n m (writtenIn call)
 
   -- "A unit submits a layout when a submit in its list isn't refused and carries it"
   pub record Submits (u : Honest) (layout : List ℕ) : Type 0 where
     pub call : Called
-    pub inList : List·Memᴰ call (listOf u)
+    pub inList : List·Memᴰ call (listOf S u)
     pub signature : List ℕ
     pub out : List ℕ
     pub carries : call .given ≡ BySubmit layout signature out
-    pub unrefused : resultOf call .refusal ≡ 0
+    pub unrefused : resultOf S call .refusal ≡ 0
 
   -- "and confirms the one in the NOTICE that a call in its list writes."
   abbrev pub Confirms : Honest → List ℕ → Type 0
@@ -142,7 +136,7 @@ module _ (S : Setting) where
   -- "its list has .. a step given exactly its bytes"
   pub record StepGiven (u : Honest) (bytes : List ℕ) : Type 0 where
     pub call : Called
-    pub inList : List·Memᴰ call (listOf u)
+    pub inList : List·Memᴰ call (listOf S u)
     pub out : List ℕ
     pub isStep : IsStep (call .given) bytes out
 
@@ -156,18 +150,34 @@ module _ (S : Setting) where
   -- unit": whatever NOTICE and FULL the one wrote
   pub record HaveReached (u other : Honest) : Type 0 where
     pub notice : (ρ seat : ℕ) (layout : List ℕ) → Writes u (Notice ρ seat layout) → Reached other (render (Notice ρ seat layout))
-    pub full : (ρ sender : ℕ) (layout : List ℕ) (entries : List Entry) → Writes u (Full ρ sender layout entries) → Reached other (render (Full ρ sender layout entries))
+    pub full : (ρ sender : ℕ) (layout : List ℕ) (entries : List Entry) → Writes u (Full ρ sender layout entries)
+        → Reached other (render (Full ρ sender layout entries))
+
+-- ---- evidence
+
+-- a relation between a seat, a layout and a signature
+abbrev pub Relation : Type 1
+Relation = ℕ → List ℕ → List ℕ → Type 0
+
+-- it holds of every signature in a message, with the seat and the layout that the signature stands for there
+abbrev pub EachSigned : Relation → Message → Type 0
+EachSigned R m = Each (λ (s : Signed). R (s .seat) (s .value) (s .signature)) (signed m)
+
+module _ (S : Setting) where
+  open Setting S using (n, round, keys, checks)
 
   -- "Evidence is written by a call in a list"
   pub record WritesEvidence (u : Honest) (evidence : List ℕ) : Type 0 where
     pub message : Message
     pub kind : isEvidence message ≡ true
     pub bytes : evidence ≡ render message
-    pub writes : Writes u message
+    pub writes : Writes S u message
 
   -- "or made or joined by an honest unit, with this n, round and key table, from what it has in hand."
   abbrev pub makingOf : InHand → List ℕ
-  makingOf h = let result = making checks n round keys (h .a) (h .b) (h .out) in counted (made result .written) (result .written) (h .out)
+  makingOf h =
+      let result = making checks n round keys (h .a) (h .b) (h .out) in
+      counted (made result .written) (result .written) (h .out)
 
   pub record MakesEvidence (u : Honest) (evidence : List ℕ) : Type 0 where
     pub hand : InHand
@@ -177,17 +187,18 @@ module _ (S : Setting) where
     pub bytes : evidence ≡ render message
     pub stands : StandsIn n message (makingOf hand)
 
-  -- "A signature is delivered for a seat over a layout when it stands, where a command puts that seat's over that layout, in
-  -- what a step in a list is given or in what an honest unit makes or joins evidence from."
+  -- "what an honest unit makes or joins evidence from"
   pub record MadeFrom (u : Honest) (bytes : List ℕ) : Type 0 where
     pub hand : InHand
     pub has : List·Memᴰ hand (u .inHand)
     pub either : (bytes ≡ hand .a) ⊎ (bytes ≡ hand .b)
 
+  -- "A signature is delivered for a seat over a layout when it stands, where a command puts that seat's over that layout, in
+  -- what a step in a list is given or in what an honest unit makes or joins evidence from."
   pub record Delivered {I : Type 0} (boat : I → Honest) (seat : ℕ) (layout signature : List ℕ) : Type 0 where
     pub to : I
     pub bytes : List ℕ
-    pub given : StepGiven (boat to) bytes ⊎ MadeFrom (boat to) bytes
+    pub given : StepGiven S (boat to) bytes ⊎ MadeFrom (boat to) bytes
     pub stands : List·Memᴰ (record { seat = seat; value = layout; signature = signature }) (signed (read n bytes))
 
   -- "A unit accepts evidence when the evidence check, given this n, round and key table, doesn't refuse it."
