@@ -158,11 +158,6 @@ module _ (S : Setting) (u : Honest) (opened : IsOpened S u) where
           once-le (count (isOf EVIDENCE) ms) (evidenceEntryAt (k size)) (counted-once EVIDENCE),
         )))
 
-    -- what is set stays set
-    pub flag-stays : (κ : Kind) → flagOf κ (t .unit) ≡ true → flagOf κ (resultOf S t .unit) ≡ true
-    flag-stays κ e =
-        true-of-worth (flagOf κ (resultOf S t .unit)) (omega (arith, here .counts κ, worth-true (flagOf κ (t .unit)) e, worth-le-one (flagOf κ (resultOf S t .unit))))
-
     none-of : (κ : Kind) → flagOf κ (t .unit) ≡ true → count (isOf κ) (messages S t) ≡ 0
     none-of κ e = omega (arith, here .counts κ, worth-true (flagOf κ (t .unit)) e, worth-le-one (flagOf κ (resultOf S t .unit)))
 
