@@ -28,11 +28,12 @@ use Rattle.claims.specs.Certificates.{certifies-of}
 use Rattle.claims.specs.Parts.{k-pos}
 use Rattle.claims.specs.Whole.{Brings}
 use Rattle.claims.specs.Units.{Any}
-use Rattle.paper.specs.Machine.{FullCertificate, Machine, BroadcastSubmit, Reaction, act, setValue, addCollected, addNoticed, isSome, isOwn, ownValue, isFrom, isFullCertificate, isCollected, uponSubmitDelivered, uponSubmit, uponNoticeDelivered, obtain, uponFullDelivered, confirming, uponQuorum, uponNoticesConflict, uponFullsConflict, uponEvent, uponRules, react, spoken}
+use Rattle.paper.specs.Machine.{FullCertificate, Machine, BroadcastSubmit, Reaction, act, setValue, addCollected, addNoticed, isSome, isOwn, ownValue, isFrom, isFullCertificate, isCollected, uponSubmitDelivered, uponSubmit, uponNoticeDelivered, obtain, uponFullDelivered, confirming, uponQuorum, uponNoticesConflict, uponFullsConflict, uponEvent, uponRules, react}
 use Rattle.paper.specs.Memory.{seatsIn, noticesOf, firstOf, guiltyOf, kept}
 use Rattle.paper.specs.Events.{delivered, reactTo}
 use Rattle.paper.specs.Conflicts.{some-none}
 use Rattle.paper.specs.Entries.{seats-more, from-seats, signature-new, signature-old, rising-distinct}
+use Rattle.paper.specs.Spoken.{spoken}
 use Rattle.paper.specs.Rules.{fulls-quiet}
 use Rattle.paper.specs.Mirror.{Collecting, Quorum, Stored, Mirrors}
 use Rattle.paper.specs.Parts.{at, Comes, write-is, hear-is, reply-is, reply-mirrors, certificate-is, confirm-is}
@@ -41,7 +42,7 @@ some-is : {A : Type 0} (o : Option A) → isSome o ≡ true → o ≢ none
 unfolding isSome
 some-is o e h = true≢false (sym e ∙ ap isSome h)
 
-none-is : {A : Type 0} (o : Option A) → isSome o ≡ false → o ≡ none
+pub none-is : {A : Type 0} (o : Option A) → isSome o ≡ false → o ≡ none
 unfolding isSome
 none-is none e = refl
 none-is (some a) e = absurd (true≢false e)

@@ -1,14 +1,15 @@
 -- Lists of entries: the set of their seats, the signature of a seat, and the messages made from them.
 -- Assumes nothing.
-use Prim.Native.Nat.{ℕ, _^_, _<_}
+use Prim.Native.Nat.{ℕ, zero, suc, _^_, _<_}
 use mathlib.Core.Path.{_≡_, refl, sym, ap, ap₂, subst, _∙_}
-use mathlib.Core.Bool.{Bool, true, false, cond, _||_, true≢false}
-use mathlib.Core.List.{List, [], _∷_, _++_, map, map-append, List·Memᴰ, List·Memᴰ·head, List·Memᴰ·tail, List·Memᴰ·not-nil, List·Memᴰ·cases-cons}
+use mathlib.Core.Bool.{Bool, true, false, cond, not, _||_, true≢false}
+use mathlib.Core.List.{List, [], _∷_, _++_, map, map-append, List·Memᴰ, List·Memᴰ·head, List·Memᴰ·tail, List·Memᴰ·not-nil, List·Memᴰ·cases-cons, Memᴰ·map}
 use mathlib.Core.Logic.{_⊎_, inl, inr, ⊎-elim, _≢_}
 use native.Mathlib.Omega.{arith}
 use native.Mathlib.Decide.{ℕ-discrete}
 use lib.Dec.{eqb}
-use borrow.Author.Tests.{eqb-true, eqb-false, eq-eqb, ne-eqb}
+use lib.ListN.{take}
+use borrow.Author.Tests.{eqb-true, eqb-false, eq-eqb, ne-eqb, not-true}
 use Rattle.quorum.specs.Quorum.{bit, In, has, shared, with, seats}
 use Rattle.quorum.specs.Laws.{bit-cases, bit-empty, bit-with-same, bit-with-other, has-true, has-false, in-shared, mem-seats}
 use Rattle.protocol.specs.Values.{isLower}
@@ -17,7 +18,7 @@ use Rattle.protocol.specs.Certificate.{setOf, signatureOf, entriesOf, fullOf, p
 use Rattle.protocol.specs.Laws.{in-set, set-snoc}
 use Rattle.protocol.specs.Refusals.{rising}
 use Rattle.round.specs.Round.{Each}
-use Rattle.claims.specs.Lists.{cond-elim, each-map, rising-first}
+use Rattle.claims.specs.Lists.{cond-elim, and-true-both, or-false-both, each-nil, each-cons, each-map, rising-first}
 use Rattle.claims.specs.Certificates.{set-below}
 use Rattle.paper.specs.Machine.{isFrom, distinct}
 use Rattle.paper.specs.Memory.{seatsIn}
@@ -50,6 +51,11 @@ from-seats s (e ∷ es) = go (ℕ-discrete s (e .seat)) (from-seats s es)
     go (yes q) rest = rw (eq-eqb (e .seat) s (sym q)) (sym (has-true s (with (e .seat) (seatsIn es)) .1 (rw q (bit-with-same (e .seat) (seatsIn es)))))
     go (no d) rest = rw (ne-eqb (e .seat) s (λ q. d (sym q))) (rest ∙ still (seatsIn es) (e .seat) d (bit-cases s (seatsIn es)))
 
+pub from-member : (e : Entry) (es : List Entry) → List·Memᴰ e es → isFrom (e .seat) es ≡ true
+unfolding seatsIn
+from-member e es d =
+    from-seats (e .seat) es ∙ has-true (e .seat) (seatsIn es) .1 (in-set (e .seat) (map (λ (x : Entry). x .seat) es) .1 (Memᴰ·map (λ (x : Entry). x .seat) d))
+
 -- ---- the signature of a seat
 
 pub signature-new : (s : ℕ) (g : List ℕ) (es : List Entry) → isFrom s es ≡ false → signatureOf (es ++ record { seat = s; signature = g } ∷ []) s ≡ g
@@ -78,6 +84,22 @@ signature-each P es s h i = go es h (in-set s (map (λ (e : Entry). e .seat) es)
         cond-elim (P s) (eqb (e .seat) s) (e .signature) (signatureOf xs s)
         (λ q. subst (λ t. P t (e .signature)) (eqb-true (e .seat) s q) (p e (List·Memᴰ·head refl)))
         (λ q. ⊎-elim (λ w. absurd (eqb-false (e .seat) s q (sym w))) (λ t. go xs (λ x m. p x (List·Memᴰ·tail m)) t) (List·Memᴰ·cases-cons d))
+
+-- a seat's signature is that of an entry from it
+pub signature-member : (es : List Entry) (s : ℕ) → In s (seatsIn es) → List·Memᴰ (record { seat = s; signature = signatureOf es s }) es
+signature-member es s i = signature-each (λ t g. List·Memᴰ (record { seat = t; signature = g }) es) es s (λ e d. d) i
+
+-- and where the seats are different, of each entry
+pub signature-is : (es : List Entry) → distinct es ≡ true → (e : Entry) → List·Memᴰ e es → signatureOf es (e .seat) ≡ e .signature
+unfolding distinct signatureOf
+signature-is [] h e d = absurd (List·Memᴰ·not-nil d)
+signature-is (x ∷ es) h e d =
+    let both = and-true-both (not (isFrom (x .seat) es)) (distinct es) h in
+    ⊎-elim (λ q. subst (λ (y : Entry). signatureOf (x ∷ es) (y .seat) ≡ y .signature) (sym q) (rw (eq-eqb (x .seat) (x .seat) refl)))
+    (λ t.
+    let apart : x .seat ≢ e .seat = λ q. true≢false (sym (from-member e es t) ∙ subst (λ s. isFrom s es ≡ false) q (not-true (isFrom (x .seat) es) (both .0))) in
+    rw (ne-eqb (x .seat) (e .seat) apart) (signature-is es (both .1) e t))
+    (List·Memᴰ·cases-cons d)
 
 -- ---- messages: only the signatures of the seats of a certificate stand in them
 
@@ -108,6 +130,41 @@ module _ (n round : ℕ) where
   unfolding evidenceOf orderedEvidence
   evidence-same v w a b f f′ g g′ p q =
       ap₂ (cond (isLower v w)) (ap (Evidence round v w) (pairs-same v w a b f f′ g g′ p q)) (ap (Evidence round w v) (pairs-same w v b a g g′ f f′ q p))
+
+-- ---- different seats
+
+from-more : (s : ℕ) (es : List Entry) (e : Entry) → isFrom s es ≡ false → e .seat ≢ s → isFrom s (es ++ e ∷ []) ≡ false
+unfolding isFrom
+from-more s [] e h d = rw (ne-eqb (e .seat) s d)
+from-more s (x ∷ es) e h d = let both = or-false-both (eqb (x .seat) s) (isFrom s es) h in rw (both .0) (from-more s es e (both .1) d)
+
+pub distinct-more : (es : List Entry) (e : Entry) → distinct es ≡ true → isFrom (e .seat) es ≡ false → distinct (es ++ e ∷ []) ≡ true
+unfolding distinct isFrom
+distinct-more [] e h d = refl
+distinct-more (x ∷ es) e h d =
+    let both = and-true-both (not (isFrom (x .seat) es)) (distinct es) h in
+    let new = or-false-both (eqb (x .seat) (e .seat)) (isFrom (e .seat) es) d in
+    rw (from-more (x .seat) es e (not-true (isFrom (x .seat) es) (both .0)) (λ q. eqb-false (x .seat) (e .seat) (new .0) (sym q))) (distinct-more es e (both .1) (new .1))
+
+-- the first of a list
+pub each-take {ℓ} : {A : Type ℓ} (P : A → Type 0) (i : ℕ) (xs : List A) → Each P xs → Each P (take i xs)
+each-take P zero xs h = each-nil P
+each-take P (suc i) [] h = each-nil P
+each-take P (suc i) (x ∷ xs) h = each-cons P x (take i xs) (h x (List·Memᴰ·head refl)) (each-take P i xs (λ y d. h y (List·Memᴰ·tail d)))
+
+from-take : (i s : ℕ) (es : List Entry) → isFrom s es ≡ false → isFrom s (take i es) ≡ false
+unfolding isFrom
+from-take zero s es h = refl
+from-take (suc i) s [] h = refl
+from-take (suc i) s (e ∷ es) h = let both = or-false-both (eqb (e .seat) s) (isFrom s es) h in rw (both .0) (from-take i s es (both .1))
+
+pub distinct-take : (i : ℕ) (es : List Entry) → distinct es ≡ true → distinct (take i es) ≡ true
+unfolding distinct
+distinct-take zero es h = refl
+distinct-take (suc i) [] h = refl
+distinct-take (suc i) (e ∷ es) h =
+    let both = and-true-both (not (isFrom (e .seat) es)) (distinct es) h in
+    rw (from-take i (e .seat) es (not-true (isFrom (e .seat) es) (both .0))) (distinct-take i es (both .1))
 
 -- ---- entries whose seats rise are from distinct seats
 

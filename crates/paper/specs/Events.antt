@@ -3,15 +3,15 @@
 use Prim.Native.Nat.{ℕ}
 use mathlib.Core.Path.{_≡_}
 use mathlib.Core.Bool.{Bool, cond, _||_}
-use mathlib.Core.List.{List, [], _∷_, _++_, map}
+use mathlib.Core.List.{List, [], _∷_, _++_, List·Memᴰ}
 use mathlib.Core.Option.{Option, none, some}
 use lib.Dec.{eqb}
 use Rattle.refusal.specs.Refusal.{unrefused}
 use Rattle.protocol.specs.Message.{Message, Submit, Notice, Full, Evidence, Garbled, read}
 use Rattle.protocol.specs.Refusals.{Checks}
 use Rattle.round.specs.Round.{Setting, Call, BySubmit, ByStep, ByThinEntry, Called, resultOf, writtenIn, Are}
-use Rattle.paper.specs.Machine.{Machine, Event, Submitted, SubmitDelivered, NoticeDelivered, FullDelivered, Action, Reaction, react, spoken}
-use Rattle.paper.specs.Memory.{kept}
+use Rattle.paper.specs.Machine.{Machine, Event, Submitted, SubmitDelivered, NoticeDelivered, FullDelivered, Action, Reaction, react, SaysEach}
+use Rattle.paper.specs.Memory.{Keeps}
 
 -- a message delivered; EVIDENCE is none of the paper's, and no step takes it
 unfoldable pub delivered : Message → Option Event
@@ -43,17 +43,28 @@ module _ (S : Setting) (seat : ℕ) where
   unfoldable pub reaction : Called → Machine → Reaction
   reaction t m = reactTo checks n seat (eventOf n (resultOf S t .refusal) (t .given)) m
 
-  -- At each call of a list, with the machine in step: the record that the call gets is what a record keeps of the machine's state,
-  -- and the bytes that it writes are the machine's actions at that event, each sent as its command, one after another. (`Are` says
-  -- that they are these messages and no others: bytes are messages in one way only, `round/specs/Reading: are-unique`.)
+  -- At a call, with the machine in step:
+  pub record AtCall (m : Machine) (t : Called) : Type 0 where
+    -- the record and the store that it gets are what they keep of the machine's state;
+    pub gets : Keeps n seat round m (t .unit) (t .store)
+    -- the bytes that it writes are what the machine does at that event, each action sent as its command, one after another. (`Are`
+    -- says that they are these messages and no others: bytes are messages in one way only, `claims/specs/Reading: are-unique`.)
+    pub sends : List Message
+    pub writes : Are n (writtenIn S t) sends
+    pub says : SaysEach round seat (reaction t m .actions) sends
+    -- the record and the store that it leaves are what they keep of the machine's next state.
+    pub leaves : Keeps n seat round (reaction t m .machine) (resultOf S t .unit) (resultOf S t .store)
+
+  -- at each call of a list, to the last
   abbrev pub DoesAs : Machine → List Called → Type 0
   DoesAs m [] = Unit {0}
-  DoesAs m (t ∷ ts) =
-      (t .unit ≡ kept n seat round m)
-      × Are n (writtenIn S t) (map (spoken n round seat) (reaction t m .actions))
-      × DoesAs (reaction t m .machine) ts
+  DoesAs m (t ∷ ts) = AtCall m t × DoesAs (reaction t m .machine) ts
 
   -- all that the machine does over a list
   unfoldable pub actionsOver : Machine → List Called → List Action
   actionsOver m [] = []
   actionsOver m (t ∷ ts) = reaction t m .actions ++ actionsOver (reaction t m .machine) ts
+
+-- an event that a call of a list brings, and that isn't refused
+abbrev pub TakenIn : Setting → List Called → Event → Type 0
+TakenIn S ts e = (t : Called) × List·Memᴰ t ts × (resultOf S t .refusal ≡ 0) × (eventOf (S .n) 0 (t .given) ≡ some e)

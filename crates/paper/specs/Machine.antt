@@ -8,20 +8,23 @@
 -- (3) A full certificate has k = n − t0 messages and no more ("count 1 (always k)"): of a unit's own, the first k.
 -- (4) At line 25 the unit "treats its own certificate like one heard", without waiting until its broadcast comes back to it.
 -- (5) A FULL heard "counts as a notice for its value".
--- (6) What `detect` hands up is also sent, as EVIDENCE, once (the paper's rule 2 says once too).
+-- (6) What `confirm` and `detect` hand up is what is sent, as NOTICE and as EVIDENCE.
+-- (7) At line 18 "the signature [is] collected" in the submit itself, without waiting until its broadcast comes back to it.
+-- (8) The own signature comes with the submission, where the paper's unit makes it, and "is checked like any other".
 -- Assumes nothing.
 use Prim.Native.Nat.{ℕ}
+use mathlib.Core.Path.{_≡_}
 use mathlib.Core.Bool.{Bool, true, false, cond, not, _&&_, _||_}
-use mathlib.Core.List.{List, [], _∷_, _++_}
+use mathlib.Core.List.{List, [], _∷_, _++_, map, List·Memᴰ}
+use mathlib.Core.Logic.{_⊎_, _↔_}
 use mathlib.Core.Option.{Option, none, some}
 use lib.Dec.{leb, eqb}
 use lib.ListN.{length, take}
 use Rattle.octets.specs.Strings.{same}
 use Rattle.quorum.specs.Quorum.{k}
-use Rattle.protocol.specs.Values.{unset}
-use Rattle.protocol.specs.Message.{Entry, Message, Submit, Notice}
-use Rattle.protocol.specs.Certificate.{certificateOf, fullOf, evidenceOf}
-use Rattle.protocol.specs.Refusals.{Checks, every}
+use Rattle.protocol.specs.Values.{unset, isLower}
+use Rattle.protocol.specs.Message.{Entry, Pair, Message, Submit, Notice, Full, Evidence}
+use Rattle.protocol.specs.Refusals.{Checks, every, rising}
 
 -- ---- the state
 
@@ -53,7 +56,7 @@ init = record { value = none; confirmed = false; collected = []; noticed = []; o
 -- ---- what comes in and what goes out
 
 pub data Event : Type 0 where
-  -- "⟨ac, Submit | v⟩", with the own signature over it
+  -- "⟨ac, Submit | v⟩", with the own signature over it; (8)
   Submitted : (value signature : List ℕ) → Event
   -- "⟨beb, Deliver | P_j, [SUBMIT, value, share]σ_j⟩"
   SubmitDelivered : (seat : ℕ) (value signature : List ℕ) → Event
@@ -65,7 +68,7 @@ pub data Event : Type 0 where
 pub data Action : Type 0 where
   -- "trigger ⟨beb, Broadcast | [SUBMIT, v, ShareSign_i(v)]σ_i⟩"
   BroadcastSubmit : (value signature : List ℕ) → Action
-  -- "trigger ⟨ac, Confirm | value_i⟩" and "trigger ⟨beb, Broadcast | [LIGHT-CERTIFICATE, value_i, ..]⟩"
+  -- "trigger ⟨ac, Confirm | value_i⟩" and "trigger ⟨beb, Broadcast | [LIGHT-CERTIFICATE, value_i, ..]⟩"; (6)
   ConfirmAndNotice : (value : List ℕ) → Action
   -- "trigger ⟨beb, Broadcast | [FULL-CERTIFICATE, value_i, fullCertificate_i]⟩"
   BroadcastFull : FullCertificate → Action
@@ -179,7 +182,7 @@ module _ (checks : Checks) (n own : ℕ) where
 
   -- 16: "upon event ⟨ac, Submit | v⟩ do"
   -- 17: "value_i ← v"
-  -- 18: "trigger ⟨beb, Broadcast | [SUBMIT, v, ShareSign_i(v)]σ_i⟩"; a broadcast reaches its sender too
+  -- 18: "trigger ⟨beb, Broadcast | [SUBMIT, v, ShareSign_i(v)]σ_i⟩"; (7): lines 19 to 23 for the own SUBMIT, at once
   unfoldable pub uponSubmit : List ℕ → List ℕ → Reaction → Reaction
   uponSubmit v signature x = uponSubmitDelivered own v signature (act (BroadcastSubmit v signature) (setValue v x))
 
@@ -247,10 +250,36 @@ module _ (checks : Checks) (n own : ℕ) where
 
 -- ---- what an action is on the air
 
--- the command that an action is sent as, by a unit at a seat in a round: "FULL is written from its own collected signatures",
--- and EVIDENCE with the lower value first and the two signatures of each seat that stands in both
-unfoldable pub spoken : ℕ → ℕ → ℕ → Action → Message
-spoken n round seat (BroadcastSubmit v signature) = Submit round seat v signature
-spoken n round seat (ConfirmAndNotice v) = Notice round seat v
-spoken n round seat (BroadcastFull c) = fullOf n round seat (certificateOf (c .value) (c .entries))
-spoken n round seat (Detect c d) = evidenceOf n round (certificateOf (c .value) (c .entries)) (certificateOf (d .value) (d .entries))
+-- "Entry seats rise.": just these, in the order of their seats
+pub record InOrder {A : Type 0} (seatOf : A → ℕ) (These : A → Type 0) (xs : List A) : Type 0 where
+  pub rise : rising (map seatOf xs) ≡ true
+  pub just : (x : A) → List·Memᴰ x xs ↔ These x
+
+-- "a pair of messages properly signed by the same process", one of each certificate
+abbrev pub PairOf : FullCertificate → FullCertificate → Pair → Type 0
+PairOf low high p =
+    List·Memᴰ (record { seat = p .seat; signature = p .lower }) (low .entries)
+    × List·Memᴰ (record { seat = p .seat; signature = p .higher }) (high .entries)
+
+-- by a unit at a seat in a round
+module _ (round seat : ℕ) where
+  -- EVIDENCE, with the lower value first: every such pair of the two certificates
+  abbrev pub SaysConflict : FullCertificate → FullCertificate → Message → Type 0
+  SaysConflict low high m =
+      (ps : List Pair) × (isLower (low .value) (high .value) ≡ true) × (m ≡ Evidence round (low .value) (high .value) ps)
+      × InOrder (λ (p : Pair). p .seat) (PairOf low high) ps
+
+  -- the command that an action is sent as. A FULL has the entries of the certificate, each with the signature that it has there.
+  abbrev pub Says : Action → Message → Type 0
+  Says (BroadcastSubmit v signature) m = m ≡ Submit round seat v signature
+  Says (ConfirmAndNotice v) m = m ≡ Notice round seat v
+  Says (BroadcastFull c) m =
+      (es : List Entry) × (m ≡ Full round seat (c .value) es) × InOrder (λ (e : Entry). e .seat) (λ (e : Entry). List·Memᴰ e (c .entries)) es
+  Says (Detect c d) m = SaysConflict c d m ⊎ SaysConflict d c m
+
+  -- actions, one after another
+  abbrev pub SaysEach : List Action → List Message → Type 0
+  SaysEach [] [] = Unit {0}
+  SaysEach [] (m ∷ ms) = ⊥
+  SaysEach (a ∷ acts) [] = ⊥
+  SaysEach (a ∷ acts) (m ∷ ms) = Says a m × SaysEach acts ms

@@ -1,17 +1,20 @@
--- What a unit's record keeps of the machine: all else it forgets.
+-- What a unit's record and store keep of the machine: all else is forgotten.
 -- Assumes nothing.
 use Prim.Native.Nat.{ℕ}
+use mathlib.Core.Path.{_≡_}
 use mathlib.Core.Bool.{cond}
 use mathlib.Core.List.{List, [], _∷_, map}
 use mathlib.Core.Option.{Option, none, some}
 use lib.ListN.{take}
 use Rattle.quorum.specs.Quorum.{k, shared}
+use Rattle.protocol.specs.Layout.{collectedBank, firstBank}
 use Rattle.protocol.specs.Values.{unset}
 use Rattle.protocol.specs.Message.{Entry}
-use Rattle.protocol.specs.Certificate.{setOf}
+use Rattle.protocol.specs.Certificate.{slot, setOf}
 use Rattle.protocol.specs.declared.Notices.{Notices}
 use Rattle.protocol.specs.declared.First.{First}
 use Rattle.protocol.specs.declared.Record.{Record}
+use Rattle.round.specs.Round.{Each}
 use Rattle.paper.specs.Machine.{FullCertificate, Machine, isSome, ownValue, other, valueOfNotice}
 
 -- the set of the seats of a list of entries
@@ -46,3 +49,14 @@ kept n seat round m = record {
   sent = m .sent;
   guilty = guiltyOf (m .detected);
 }
+
+-- the entries of the first certificate
+unfoldable pub firstEntries : List FullCertificate → List Entry
+firstEntries [] = []
+firstEntries (c ∷ cs) = c .entries
+
+-- record and store: "n slots of 1,452 for collected signatures, then n for the first certificate, each by seat"
+pub record Keeps (n seat round : ℕ) (m : Machine) (r : Record) (store : List ℕ) : Type 0 where
+  pub unit : r ≡ kept n seat round m
+  pub collected : Each (λ (e : Entry). slot n collectedBank store (e .seat) ≡ e .signature) (take (k n) (m .collected))
+  pub first : Each (λ (e : Entry). slot n firstBank store (e .seat) ≡ e .signature) (firstEntries (m .obtained))

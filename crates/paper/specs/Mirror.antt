@@ -3,7 +3,7 @@
 use Prim.Native.Nat.{ℕ, _^_, _<_}
 use mathlib.Core.Path.{_≡_}
 use mathlib.Core.Bool.{Bool, true}
-use mathlib.Core.List.{List, [], _∷_, List·Memᴰ}
+use mathlib.Core.List.{List, [], List·Memᴰ}
 use mathlib.Core.Logic.{_≢_}
 use mathlib.Core.Option.{Option, none, some}
 use lib.Dec.{leb}
@@ -14,7 +14,7 @@ use Rattle.protocol.specs.Message.{Entry}
 use Rattle.protocol.specs.Certificate.{slot, signatureOf}
 use Rattle.round.specs.Round.{Each}
 use Rattle.paper.specs.Machine.{FullCertificate, Machine, ownValue, conflict, valueOfFull}
-use Rattle.paper.specs.Memory.{seatsIn, firstOf, guiltyOf}
+use Rattle.paper.specs.Memory.{seatsIn, firstOf, guiltyOf, firstEntries}
 
 -- the signatures collected: nothing before the own submission, and of the first k each from a seat of its own
 pub record Collecting (n : ℕ) (value : Option (List ℕ)) (collected : List Entry) : Type 0 where
@@ -34,10 +34,6 @@ pub record Obtaining (n : ℕ) (obtained : List FullCertificate) (detected : Opt
   pub quorums : Each (Quorum n) obtained
   pub agreed : detected ≡ none → conflict valueOfFull obtained ≡ none
   pub guilty : (p : FullCertificate × FullCertificate) → detected ≡ some p → guiltyOf (some p) ≢ 0
-
-unfoldable pub firstEntries : List FullCertificate → List Entry
-firstEntries [] = []
-firstEntries (c ∷ cs) = c .entries
 
 -- the store has the signatures of the first k, and those of the first certificate
 pub record Stored (n : ℕ) (store : List ℕ) (collected : List Entry) (obtained : List FullCertificate) : Type 0 where

@@ -1,10 +1,10 @@
 -- The parts of a submit and a step, each beside the machine's `upon`: from the record that the machine's state keeps it comes to
 -- the record that the machine's next state keeps, and writes what the machine sends.
 -- Assumes nothing.
-use Prim.Native.Nat.{ℕ, zero, suc, _^_, _≤_, _<_}
+use Prim.Native.Nat.{ℕ, _^_, _≤_, _<_}
 use mathlib.Core.Path.{_≡_, refl, sym, ap, subst, _∙_}
 use mathlib.Core.Bool.{Bool, true, false, cond, not, _&&_, and-true, and-false, true≢false}
-use mathlib.Core.List.{List, [], _∷_, _++_, map, map-append, List·Memᴰ, List·Memᴰ·head, List·Memᴰ·tail, List·Memᴰ·not-nil, List·Memᴰ·cases-cons, Memᴰ·append-right}
+use mathlib.Core.List.{List, [], _∷_, _++_, map, map-append, List·Memᴰ, List·Memᴰ·head, List·Memᴰ·not-nil, List·Memᴰ·cases-cons, Memᴰ·append-right}
 use mathlib.Core.Logic.{⊎-elim, _≢_}
 use mathlib.Core.Option.{Option, none, some}
 use native.Mathlib.Omega.{arith}
@@ -25,15 +25,16 @@ use Rattle.protocol.specs.Step.{State, write, noticesWith, hear, otherHeard, ow
 use Rattle.protocol.specs.declared.Notices.{Notices}
 use Rattle.protocol.specs.declared.Record.{Record}
 use Rattle.round.specs.Round.{Each}
-use Rattle.claims.specs.Lists.{cond-elim, each-nil, each-cons, each-one, each-append}
+use Rattle.claims.specs.Lists.{cond-elim, each-one, each-append}
 use Rattle.claims.specs.Parts.{k-pos, in-below}
 use Rattle.claims.specs.Slots.{slot-keepEach-other, slot-keepEach-same}
-use Rattle.paper.specs.Machine.{FullCertificate, Machine, Action, ConfirmAndNotice, BroadcastFull, Detect, Reaction, act, setConfirmed, addNoticed, addObtained, setSent, isSome, ownValue, other, pairOr, conflict, valueOfNotice, valueOfFull, ownFull, uponNoticeDelivered, obtain, confirming, uponQuorum, sending, uponNoticesConflict, detecting, uponFullsConflict, uponRules, spoken}
-use Rattle.paper.specs.Memory.{seatsIn, noticesOf, firstOf, guiltyOf, kept}
+use Rattle.paper.specs.Machine.{FullCertificate, Machine, Action, ConfirmAndNotice, BroadcastFull, Detect, Reaction, act, setConfirmed, addNoticed, addObtained, setSent, isSome, ownValue, other, pairOr, conflict, valueOfNotice, valueOfFull, ownFull, uponNoticeDelivered, obtain, confirming, uponQuorum, sending, uponNoticesConflict, detecting, uponFullsConflict, uponRules}
+use Rattle.paper.specs.Memory.{seatsIn, noticesOf, firstOf, guiltyOf, kept, firstEntries}
 use Rattle.paper.specs.Conflicts.{same-sym, some-none, other-none, other-more, other-still, conflict-head, head-none}
-use Rattle.paper.specs.Entries.{seats-below, signature-each, full-same, evidence-same}
+use Rattle.paper.specs.Entries.{seats-below, signature-each, full-same, evidence-same, each-take}
+use Rattle.paper.specs.Spoken.{spoken}
 use Rattle.paper.specs.Rules.{fulls-quiet}
-use Rattle.paper.specs.Mirror.{Collecting, Quorum, Obtaining, firstEntries, Stored, Mirror, Mirrors}
+use Rattle.paper.specs.Mirror.{Collecting, Quorum, Obtaining, Stored, Mirror, Mirrors}
 
 -- ---- notices
 
@@ -70,11 +71,6 @@ other-heard-is (v ∷ vs) r e d = rw (e, conflict-head valueOfNotice v vs) (go (
     go (some w) q = refl
 
 -- ---- the first of a list
-
-pub each-take {ℓ} : {A : Type ℓ} (P : A → Type 0) (i : ℕ) (xs : List A) → Each P xs → Each P (take i xs)
-each-take P zero xs h = each-nil P
-each-take P (suc i) [] h = each-nil P
-each-take P (suc i) (x ∷ xs) h = each-cons P x (take i xs) (h x (List·Memᴰ·head refl)) (each-take P i xs (λ y d. h y (List·Memᴰ·tail d)))
 
 pub taken-below : (n : ℕ) (es : List Entry) → Each (λ (e : Entry). e .seat < n) es → seatsIn (take (k n) es) < 2 ^ n
 taken-below n es h = seats-below n (take (k n) es) (each-take (λ (e : Entry). e .seat < n) (k n) es h)

@@ -1,65 +1,184 @@
--- What the machine sends: which messages stand in the bytes, and which seats in them.
+-- What the machine sends, written with the engine's functions: that `Says` says it of each action, and says it of no other message.
 -- Assumes nothing.
 use Prim.Native.Nat.{ℕ, _<_}
-use mathlib.Core.Path.{_≡_, sym, subst}
-use mathlib.Core.List.{List, map, List·Memᴰ, Memᴰ·map, Memᴰ·of-map}
-use mathlib.Core.Logic.{_↔_}
-use Rattle.quorum.specs.Quorum.{shared}
+use mathlib.Core.Path.{_≡_, refl, sym, ap, subst, _∙_}
+use mathlib.Core.Bool.{true, not, true≢false}
+use mathlib.Core.List.{List, [], _∷_, map, List·Memᴰ, List·Memᴰ·head, List·Memᴰ·tail, List·Memᴰ·not-nil, List·Memᴰ·cases-cons, Memᴰ·map, Memᴰ·of-map}
+use mathlib.Core.Logic.{inl, inr, ⊎-elim, _≢_, _↔_}
+use native.Mathlib.Omega.{arith}
+use lib.ListN.{length}
+use Rattle.quorum.specs.Quorum.{In, shared, seats}
 use Rattle.quorum.specs.Laws.{mem-seats, in-shared}
+use Rattle.protocol.specs.Layout.{valueLength}
 use Rattle.protocol.specs.Values.{isLower}
-use Rattle.protocol.specs.Message.{Entry, Message, entrySeats}
-use Rattle.protocol.specs.Certificate.{setOf, certificateOf, fullOf, orderedEvidence, evidenceOf}
-use Rattle.protocol.specs.Laws.{in-set}
-use Rattle.round.specs.Round.{Are, StandsIn}
+use Rattle.protocol.specs.Message.{Entry, Pair, Message, Submit, Notice, Full, Evidence}
+use Rattle.protocol.specs.Certificate.{Certificate, certificateOf, entryOf, entriesOf, fullOf, pairOf, pairsOf, orderedEvidence, evidenceOf}
+use Rattle.protocol.specs.Laws.{lower-other, in-set}
+use Rattle.protocol.specs.Refusals.{rising}
+use Rattle.round.specs.Round.{Each, Are, StandsIn}
 use Rattle.claims.specs.Reading.{are-unique}
-use Rattle.claims.specs.Lists.{cond-elim}
-use Rattle.claims.specs.Certificates.{entry-seats, pair-seats}
-use Rattle.paper.specs.Machine.{FullCertificate, Action, BroadcastFull, Detect, spoken}
+use Rattle.claims.specs.Lists.{cond-elim, rising-first}
+use Rattle.claims.specs.Certificates.{entry-seats, pair-seats, seats-rising}
+use Rattle.paper.specs.Machine.{FullCertificate, Action, BroadcastSubmit, ConfirmAndNotice, BroadcastFull, Detect, distinct, InOrder, PairOf, SaysConflict, Says, SaysEach}
+use Rattle.paper.specs.Memory.{seatsIn}
+use Rattle.paper.specs.Entries.{signature-member, signature-is}
 
--- a seat below n has a message in the certificate
-abbrev pub HasSeat : ℕ → ℕ → FullCertificate → Type 0
-HasSeat n s c = (s < n) × List·Memᴰ s (map (λ (e : Entry). e .seat) (c .entries))
+unfoldable pub spoken : ℕ → ℕ → ℕ → Action → Message
+spoken n round seat (BroadcastSubmit v signature) = Submit round seat v signature
+spoken n round seat (ConfirmAndNotice v) = Notice round seat v
+spoken n round seat (BroadcastFull c) = fullOf n round seat (certificateOf (c .value) (c .entries))
+spoken n round seat (Detect c d) = evidenceOf n round (certificateOf (c .value) (c .entries)) (certificateOf (d .value) (d .entries))
+
+-- a certificate that can be sent: a value of its length, and entries of different seats below n
+pub record Formed (n : ℕ) (c : FullCertificate) : Type 0 where
+  pub sized : length (c .value) ≡ valueLength
+  pub below : Each (λ (e : Entry). e .seat < n) (c .entries)
+  pub apart : distinct (c .entries) ≡ true
+
+abbrev pub FormedAction : ℕ → Action → Type 0
+FormedAction n (BroadcastSubmit v signature) = Unit {0}
+FormedAction n (ConfirmAndNotice v) = Unit {0}
+FormedAction n (BroadcastFull c) = Formed n c
+FormedAction n (Detect c d) = Formed n c × Formed n d × (c .value ≢ d .value)
+
+-- ---- FULL and EVIDENCE have just the entries of the certificates
+
+abbrev certificate : FullCertificate → Certificate
+certificate c = certificateOf (c .value) (c .entries)
+
+module _ (n : ℕ) where
+  -- the entry of a seat
+  entry-in : (c : FullCertificate) (s : ℕ) → In s (certificate c .seats) → List·Memᴰ (entryOf (certificate c) s) (c .entries)
+  unfolding certificateOf seatsIn
+  entry-in c s i = signature-member (c .entries) s i
+
+  seat-in : (c : FullCertificate) (e : Entry) → List·Memᴰ e (c .entries) → In (e .seat) (certificate c .seats)
+  unfolding certificateOf
+  seat-in c e d = in-set (e .seat) (map (λ (x : Entry). x .seat) (c .entries)) .1 (Memᴰ·map (λ (x : Entry). x .seat) d)
+
+  entry-is : (c : FullCertificate) → Formed n c → (e : Entry) → List·Memᴰ e (c .entries) → certificate c .signature (e .seat) ≡ e .signature
+  unfolding certificateOf
+  entry-is c f e d = signature-is (c .entries) (f .apart) e d
+
+  full-entries : (c : FullCertificate) → Formed n c → InOrder (λ (e : Entry). e .seat) (λ (e : Entry). List·Memᴰ e (c .entries)) (entriesOf n (certificate c))
+  unfolding entriesOf
+  full-entries c f = record {
+    rise = ap rising (entry-seats n (certificate c)) ∙ seats-rising n (certificate c .seats);
+    just = λ e. (
+      λ d.
+          let m = Memᴰ·of-map (entryOf (certificate c)) (seats n (certificate c .seats)) d in
+          subst (λ (x : Entry). List·Memᴰ x (c .entries)) (m .2) (entry-in c (m .0) (mem-seats n (m .0) (certificate c .seats) .0 (m .1) .1)),
+      λ d. subst (λ (g : List ℕ). List·Memᴰ (record { seat = e .seat; signature = g }) (map (entryOf (certificate c)) (seats n (certificate c .seats)))) (entry-is c f e d)
+          (Memᴰ·map (entryOf (certificate c)) (mem-seats n (e .seat) (certificate c .seats) .1 (f .below e d, seat-in c e d))),
+    );
+  }
+
+  evidence-pairs : (c d : FullCertificate) → Formed n c → Formed n d → InOrder (λ (p : Pair). p .seat) (PairOf c d) (pairsOf n (certificate c) (certificate d))
+  unfolding pairsOf
+  evidence-pairs c d f g =
+      let both = shared (certificate c .seats) (certificate d .seats) in
+      let pair : ℕ → Pair = pairOf (certificate c) (certificate d) in
+      record {
+        rise = ap rising (pair-seats n (certificate c) (certificate d)) ∙ seats-rising n both;
+        just = λ p. (
+          λ m.
+              let o = Memᴰ·of-map pair (seats n both) m in
+              let i = in-shared (o .0) (certificate c .seats) (certificate d .seats) .0 (mem-seats n (o .0) both .0 (o .1) .1) in
+              subst (PairOf c d) (o .2) (entry-in c (o .0) (i .0), entry-in d (o .0) (i .1)),
+          λ h.
+              let low : Entry = record { seat = p .seat; signature = p .lower } in
+              let high : Entry = record { seat = p .seat; signature = p .higher } in
+              let at = mem-seats n (p .seat) both .1 (f .below low (h .0), in-shared (p .seat) (certificate c .seats) (certificate d .seats) .1 (seat-in c low (h .0), seat-in d high (h .1))) in
+              subst (λ (x : Pair). List·Memᴰ x (map pair (seats n both))) (pair-is p (entry-is c f low (h .0)) (entry-is d g high (h .1))) (Memᴰ·map pair at),
+        );
+      }
+    where
+      pair-is : (p : Pair) → certificate c .signature (p .seat) ≡ p .lower → certificate d .signature (p .seat) ≡ p .higher → pairOf (certificate c) (certificate d) (p .seat) ≡ p
+      pair-is p a b = rw (a, b)
+
+-- ---- what is sent is what `Says` says
 
 module _ (n round seat : ℕ) where
-  -- FULL has the seats of the certificate
-  pub full-seats : (c : FullCertificate) (s : ℕ) → List·Memᴰ s (entrySeats (spoken n round seat (BroadcastFull c))) ↔ HasSeat n s c
-  unfolding spoken fullOf certificateOf entrySeats
-  full-seats c s =
-      let cert = certificateOf (c .value) (c .entries) in
-      let all = map (λ (e : Entry). e .seat) (c .entries) in (
-        λ d. let i = mem-seats n s (setOf all) .0 (subst (List·Memᴰ s) (entry-seats n cert) d) in (i .0, in-set s all .0 (i .1)),
-        λ h. subst (List·Memᴰ s) (sym (entry-seats n cert)) (mem-seats n s (setOf all) .1 (h .0, in-set s all .1 (h .1))),
-      )
+  conflict-says : (c d : FullCertificate) → Formed n c → Formed n d → isLower (c .value) (d .value) ≡ true → SaysConflict round seat c d (orderedEvidence n round (certificate c) (certificate d))
+  unfolding orderedEvidence certificateOf
+  conflict-says c d f g l = (pairsOf n (certificate c) (certificate d), l, refl, evidence-pairs n c d f g)
 
-  ordered-seats : (c d : FullCertificate) (s : ℕ) → List·Memᴰ s (entrySeats (orderedEvidence n round (certificateOf (c .value) (c .entries)) (certificateOf (d .value) (d .entries)))) ↔ (HasSeat n s c × HasSeat n s d)
-  unfolding orderedEvidence certificateOf entrySeats
-  ordered-seats c d s =
-      let low = certificateOf (c .value) (c .entries) in
-      let high = certificateOf (d .value) (d .entries) in
-      let a = map (λ (e : Entry). e .seat) (c .entries) in
-      let b = map (λ (e : Entry). e .seat) (d .entries) in (
-        λ m.
-            let i = mem-seats n s (shared (setOf a) (setOf b)) .0 (subst (List·Memᴰ s) (pair-seats n low high) m) in
-            let j = in-shared s (setOf a) (setOf b) .0 (i .1) in
-            ((i .0, in-set s a .0 (j .0)), (i .0, in-set s b .0 (j .1))),
-        λ h. subst (List·Memᴰ s) (sym (pair-seats n low high)) (mem-seats n s (shared (setOf a) (setOf b)) .1 (h .0 .0, in-shared s (setOf a) (setOf b) .1 (in-set s a .1 (h .0 .1), in-set s b .1 (h .1 .1)))),
-      )
+  -- of two values that differ, one is lower
+  other-lower : (c d : FullCertificate) → FormedAction n (Detect c d) → isLower (d .value) (c .value) ≡ not (isLower (c .value) (d .value))
+  other-lower c d f = lower-other (c .value) (d .value) (f .0 .sized ∙ sym (f .1 .sized)) (f .2)
 
-  -- EVIDENCE has exactly the seats that the two certificates share
-  pub evidence-seats : (c d : FullCertificate) (s : ℕ) → List·Memᴰ s (entrySeats (spoken n round seat (Detect c d))) ↔ (HasSeat n s c × HasSeat n s d)
-  unfolding spoken evidenceOf
-  evidence-seats c d s =
-      let first = certificateOf (c .value) (c .entries) in
-      let second = certificateOf (d .value) (d .entries) in
-      let turned = ordered-seats d c s in
-      cond-elim (λ (m : Message). List·Memᴰ s (entrySeats m) ↔ (HasSeat n s c × HasSeat n s d)) (isLower (first .value) (second .value)) (orderedEvidence n round first second) (orderedEvidence n round second first)
-      (λ e. ordered-seats c d s)
-      (λ e. (λ m. let h = turned .0 m in (h .1, h .0), λ h. turned .1 (h .1, h .0)))
+  pub spoken-says : (a : Action) → FormedAction n a → Says round seat a (spoken n round seat a)
+  unfolding spoken fullOf evidenceOf certificateOf
+  spoken-says (BroadcastSubmit v signature) f = refl
+  spoken-says (ConfirmAndNotice v) f = refl
+  spoken-says (BroadcastFull c) f = (entriesOf n (certificate c), refl, full-entries n c f)
+  spoken-says (Detect c d) f =
+      cond-elim (Says round seat (Detect c d)) (isLower (c .value) (d .value)) (orderedEvidence n round (certificate c) (certificate d)) (orderedEvidence n round (certificate d) (certificate c))
+      (λ l. inl (conflict-says c d (f .0) (f .1) l))
+      (λ l. inr (conflict-says d c (f .1) (f .0) (other-lower c d f ∙ ap not l)))
 
-  -- a message stands in bytes that are what some actions are sent as, just where it is what one of them is sent as
-  pub stands-sent : (bytes : List ℕ) (acts : List Action) → Are n bytes (map (spoken n round seat) acts) → (m : Message)
-      → StandsIn n m bytes ↔ ((a : Action) × List·Memᴰ a acts × (spoken n round seat a ≡ m))
-  stands-sent bytes acts are m = (
-    λ s. Memᴰ·of-map (spoken n round seat) acts (subst (List·Memᴰ m) (are-unique n bytes (s .0) (map (spoken n round seat) acts) (s .1) are) (s .2)),
-    λ h. (map (spoken n round seat) acts, are, subst (λ x. List·Memᴰ x (map (spoken n round seat) acts)) (h .2) (Memᴰ·map (spoken n round seat) (h .1))),
-  )
+  pub each-says : (acts : List Action) → Each (FormedAction n) acts → SaysEach round seat acts (map (spoken n round seat) acts)
+  each-says [] f = tt
+  each-says (a ∷ acts) f = (spoken-says a (f a (List·Memᴰ·head refl)), each-says acts (λ x d. f x (List·Memᴰ·tail d)))
+
+-- ---- and nothing else is
+
+-- the same in the order of their seats are the same list
+pub in-order-unique : {A : Type 0} (seatOf : A → ℕ) (These : A → Type 0) (xs ys : List A) → InOrder seatOf These xs → InOrder seatOf These ys → xs ≡ ys
+in-order-unique {A = A} seatOf These xs ys a b = go xs ys (a .rise) (b .rise) (λ x d. b .just x .1 (a .just x .0 d)) (λ y d. a .just y .1 (b .just y .0 d))
+  where
+    above : (x : A) (zs : List A) → rising (seatOf x ∷ map seatOf zs) ≡ true → (z : A) → List·Memᴰ z zs → seatOf x < seatOf z
+    above x zs r z d = rising-first (seatOf x) (map seatOf zs) r .1 (seatOf z) (Memᴰ·map seatOf d)
+
+    go : (us vs : List A) → rising (map seatOf us) ≡ true → rising (map seatOf vs) ≡ true → ((x : A) → List·Memᴰ x us → List·Memᴰ x vs) → ((y : A) → List·Memᴰ y vs → List·Memᴰ y us) → us ≡ vs
+    go [] [] r q to fro = refl
+    go [] (v ∷ vs) r q to fro = absurd (List·Memᴰ·not-nil (fro v (List·Memᴰ·head refl)))
+    go (u ∷ us) [] r q to fro = absurd (List·Memᴰ·not-nil (to u (List·Memᴰ·head refl)))
+    go (u ∷ us) (v ∷ vs) r q to fro =
+        let same : u ≡ v = ⊎-elim (λ e. e)
+        (λ d. ⊎-elim (λ e. sym e) (λ f. absurd (let l = above v vs q u d in let h = above u us r v f in omega arith)) (List·Memᴰ·cases-cons (fro v (List·Memᴰ·head refl))))
+        (List·Memᴰ·cases-cons (to u (List·Memᴰ·head refl))) in
+        let into : (x : A) → List·Memᴰ x us → List·Memᴰ x vs =
+        λ x d. ⊎-elim (λ e. absurd (let l = above u us r x d in let at = ap seatOf (e ∙ sym same) in omega arith)) (λ t. t) (List·Memᴰ·cases-cons (to x (List·Memᴰ·tail d))) in
+        let back : (y : A) → List·Memᴰ y vs → List·Memᴰ y us =
+        λ y d. ⊎-elim (λ e. absurd (let l = above v vs q y d in let at = ap seatOf (e ∙ same) in omega arith)) (λ t. t) (List·Memᴰ·cases-cons (fro y (List·Memᴰ·tail d))) in
+        let rest = go us vs (rising-first (seatOf u) (map seatOf us) r .0) (rising-first (seatOf v) (map seatOf vs) q .0) into back in
+        cc
+
+module _ (n round seat : ℕ) where
+  conflict-unique : (c d : FullCertificate) (m m′ : Message) → SaysConflict round seat c d m → SaysConflict round seat c d m′ → m ≡ m′
+  conflict-unique c d m m′ a b =
+      a .2 ∙ ap (Evidence round (c .value) (d .value)) (in-order-unique (λ (p : Pair). p .seat) (PairOf c d) (a .0) (b .0) (a .3) (b .3)) ∙ sym (b .2)
+
+  pub says-unique : (a : Action) → FormedAction n a → (m m′ : Message) → Says round seat a m → Says round seat a m′ → m ≡ m′
+  says-unique (BroadcastSubmit v signature) f m m′ p q = p ∙ sym q
+  says-unique (ConfirmAndNotice v) f m m′ p q = p ∙ sym q
+  says-unique (BroadcastFull c) f m m′ p q =
+      p .1 ∙ ap (Full round seat (c .value)) (in-order-unique (λ (e : Entry). e .seat) (λ (e : Entry). List·Memᴰ e (c .entries)) (p .0) (q .0) (p .2) (q .2)) ∙ sym (q .1)
+  says-unique (Detect c d) f m m′ (inl p) (inl q) = conflict-unique c d m m′ p q
+  says-unique (Detect c d) f m m′ (inl p) (inr q) = absurd (true≢false (sym (q .1) ∙ other-lower n round seat c d f ∙ ap not (p .1)))
+  says-unique (Detect c d) f m m′ (inr p) (inl q) = absurd (true≢false (sym (p .1) ∙ other-lower n round seat c d f ∙ ap not (q .1)))
+  says-unique (Detect c d) f m m′ (inr p) (inr q) = conflict-unique d c m m′ p q
+
+  -- ---- bytes that are what some actions are sent as
+
+  said : (acts : List Action) (ms : List Message) → SaysEach round seat acts ms → (m : Message) → List·Memᴰ m ms → (a : Action) × List·Memᴰ a acts × Says round seat a m
+  said [] [] s m d = absurd (List·Memᴰ·not-nil d)
+  said [] (x ∷ ms) s m d = absurd s
+  said (a ∷ acts) [] s m d = absurd s
+  said (a ∷ acts) (x ∷ ms) s m d =
+      ⊎-elim (λ q. (a, List·Memᴰ·head refl, subst (Says round seat a) (sym q) (s .0))) (λ t. let r = said acts ms (s .1) m t in (r .0, List·Memᴰ·tail (r .1), r .2))
+      (List·Memᴰ·cases-cons d)
+
+  sent : (acts : List Action) (ms : List Message) → Each (FormedAction n) acts → SaysEach round seat acts ms → (a : Action) → List·Memᴰ a acts → (m : Message) → Says round seat a m → List·Memᴰ m ms
+  sent [] ms f s a d m p = absurd (List·Memᴰ·not-nil d)
+  sent (b ∷ acts) [] f s a d m p = absurd s
+  sent (b ∷ acts) (x ∷ ms) f s a d m p =
+      ⊎-elim (λ q. List·Memᴰ·head (says-unique b (f b (List·Memᴰ·head refl)) m x (subst (λ (y : Action). Says round seat y m) q p) (s .0)))
+      (λ t. List·Memᴰ·tail (sent acts ms (λ y e. f y (List·Memᴰ·tail e)) (s .1) a t m p)) (List·Memᴰ·cases-cons d)
+
+  -- a message stands in them just where it is what one of the actions is sent as
+  pub stands-sent : (bytes : List ℕ) (acts : List Action) (ms : List Message) → Each (FormedAction n) acts → Are n bytes ms → SaysEach round seat acts ms → (m : Message)
+      → StandsIn n m bytes ↔ ((a : Action) × List·Memᴰ a acts × Says round seat a m)
+  stands-sent bytes acts ms f are s m =
+      (λ h. said acts ms s m (subst (List·Memᴰ m) (are-unique n bytes (h .0) ms (h .1) are) (h .2)), λ h. (ms, are, sent acts ms f s (h .0) (h .1) m (h .2)))
