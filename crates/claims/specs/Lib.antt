@@ -17,6 +17,7 @@ pub mod Reading
 pub mod Unrefused
 pub mod Journey
 pub mod Units
+pub mod NotRefused
 pub mod Once
 pub mod Safe
 pub mod Made

@@ -1,0 +1,300 @@
+-- When a call is not refused (demand 1: "for a cause in the table and for no other"): just where none of its numbers has a cause. Each
+-- record has what a call asks, number by number in the table's words. The claims are both ways, and over every record, possible or not,
+-- every message and every buffer. So nothing meets them that refuses anything else, or all; the last claim shows it of a step.
+-- Assumes nothing.
+use Prim.Native.Nat.{ℕ, zero, suc, _+_, _*_, _≤_, _<_}
+use mathlib.Core.Path.{_≡_, refl, sym, subst}
+use mathlib.Core.Bool.{Bool, true, false, not, _&&_}
+use mathlib.Core.List.{List, _++_, List·Memᴰ·not-nil}
+use mathlib.Core.Logic.{_≢_, _↔_}
+use native.Mathlib.Omega.{arith}
+use native.Mathlib.Decide.{ℕ-discrete}
+use lib.Dec.{ltb, eqb}
+use lib.ListN.{length}
+use borrow.Author.Tests.{ltb-false, le-ltb, lt-leb, eqb-true, eqb-false, eq-eqb, not-false}
+use Rattle.octets.specs.Octets.{wordAt}
+use Rattle.octets.specs.StringLaws.{same-false}
+use Rattle.quorum.specs.Quorum.{mostSeats}
+use Rattle.refusal.specs.Refusal.{lowest}
+use Rattle.refusal.specs.Laws.{lowest-zero}
+use Rattle.protocol.specs.Layout.{valueLength, signatureLength, keyLength, keyAt, storeLength, outLength, evidenceOutLength}
+use Rattle.protocol.specs.Message.{Message, Notice, render, read, signed, seatsOf, entrySeats, roundOf}
+use Rattle.protocol.specs.ReadLaws.{WellFormed, read-render}
+use Rattle.protocol.specs.Certificate.{certificateIn}
+use Rattle.protocol.specs.Record.{lastRound, wrongSize, wrongSeat, wrongRound, impossible, fresh}
+use Rattle.protocol.specs.Refusals.{Checks, every, keyAllowed, keysAllowed, wrongKeys, shortStore, shortOut, said, isForStep, isFull, isEvidence, wrongLengths, rising, early, badSignature, notLowerFirst, equalValues, formConditions, signatureConditions, outsideConditions, recordConditions, openingConditions, submitConditions, stepConditions, evidenceConditions, twoConditions, makingConditions}
+use Rattle.protocol.specs.Calls.{openedBy, opening, resultBy, submit, step, makingBy, making, checkedBy, evidenceCheck}
+use Rattle.protocol.specs.declared.Record.{Record}
+use Rattle.claims.specs.Lists.{and-true-both, or-false-both, each-one}
+use Rattle.claims.specs.Sound.{InRange}
+use Rattle.claims.specs.Unrefused.{size-right, round-right, possible, Taken, of-taken, opening-range, submit-taken, step-taken, step-unrefused, evidence-checked, evidence-unrefused, making-taken}
+use Rattle.claims.specs.Journey.{fresh-sound, fresh-settled}
+use Rattle.claims.specs.Units.{Any}
+
+-- ---- 5: the key table
+
+-- "key table not 56 × n bytes or a type not allowed": every seat's key has the types 6 and 4
+pub record Table (n : ℕ) (keys : List ℕ) : Type 0 where
+  pub sized : length keys ≡ keyLength * n
+  pub types : (seat : ℕ) → seat < n → (wordAt keys (keyAt seat) ≡ 6) × (wordAt keys (keyAt seat + 4) ≡ 4)
+
+module _ (keys : List ℕ) where
+  abbrev Types : ℕ → Type 0
+  Types seat = (wordAt keys (keyAt seat) ≡ 6) × (wordAt keys (keyAt seat + 4) ≡ 4)
+
+  allowed-types : (n : ℕ) → keysAllowed n keys ≡ true → (seat : ℕ) → seat < n → Types seat
+  unfolding keysAllowed keyAllowed
+  allowed-types zero h seat l = absurd (omega arith)
+  allowed-types (suc n) h seat l =
+      let both = and-true-both (keysAllowed n keys) (eqb (wordAt keys (keyAt n)) 6 && eqb (wordAt keys (keyAt n + 4)) 4) h in
+      by (both .1) (λ m. allowed-types n (both .0) seat m) (ℕ-discrete seat n)
+    where
+      by : (eqb (wordAt keys (keyAt n)) 6 && eqb (wordAt keys (keyAt n + 4)) 4) ≡ true → (seat < n → Types seat) → Dec (seat ≡ n) → Types seat
+      by last rest (yes q) =
+          let both = and-true-both (eqb (wordAt keys (keyAt n)) 6) (eqb (wordAt keys (keyAt n + 4)) 4) last in
+          subst Types (sym q) (eqb-true (wordAt keys (keyAt n)) 6 (both .0), eqb-true (wordAt keys (keyAt n + 4)) 4 (both .1))
+      by last rest (no d) = rest (omega arith)
+
+  types-allowed : (n : ℕ) → ((seat : ℕ) → seat < n → Types seat) → keysAllowed n keys ≡ true
+  unfolding keysAllowed keyAllowed
+  types-allowed zero h = refl
+  types-allowed (suc n) h =
+      let last = h n (omega arith) in
+      rw (types-allowed n (λ s l. h s (omega arith)), eq-eqb (wordAt keys (keyAt n)) 6 (last .0), eq-eqb (wordAt keys (keyAt n + 4)) 4 (last .1))
+
+  pub keys-right : (n : ℕ) → (wrongKeys n keys ≡ false) ↔ Table n keys
+  unfolding wrongKeys
+  keys-right n = (
+    λ e.
+        let both = or-false-both (not (eqb (length keys) (keyLength * n))) (not (keysAllowed n keys)) e in
+        record {
+          sized = eqb-true (length keys) (keyLength * n) (not-false (eqb (length keys) (keyLength * n)) (both .0));
+          types = allowed-types n (not-false (keysAllowed n keys) (both .1));
+        },
+    λ t. rw (eq-eqb (length keys) (keyLength * n) (t .sized), types-allowed n (t .types)),
+  )
+
+-- ---- the opening
+
+pub record OpeningFit (n seat round : ℕ) (keys : List ℕ) : Type 0 where
+  -- 1, 2, 3: n is 1 to 32, the own seat below n, the round 1,023 at most
+  pub range : InRange n seat round
+  -- 5
+  pub table : Table n keys
+
+pub opening-not-refused : (n seat round : ℕ) (keys : List ℕ) → (opening n seat round keys .number ≡ 0) ↔ OpeningFit n seat round keys
+unfolding opening openedBy openingConditions wrongSeat lowest
+opening-not-refused n seat round keys = (
+  λ e. let r = opening-range n seat round keys e in record { range = r .0; table = keys-right keys n .0 (r .1) },
+  λ t. rw (size-right n (t .range .some) (t .range .most), lt-leb n seat (t .range .inside), round-right round (t .range .early), keys-right keys n .1 (t .table)),
+)
+
+-- ---- submit and step
+
+-- what both are lent
+pub record Lent (keys : List ℕ) (r : Record) (store out : List ℕ) : Type 0 where
+  -- 4: the record is possible
+  pub possible : impossible r ≡ false
+  -- 5
+  pub table : Table (r .n) keys
+  -- 6: "The store has 2,904 × n bytes or more"
+  pub storeRoom : storeLength (r .n) ≤ length store
+  -- 7: "Out buffer: 1,629 + 4,360 × k bytes or more"
+  pub outRoom : outLength (r .n) ≤ length out
+
+lent-of : (keys : List ℕ) (r : Record) (store out : List ℕ) (rest : List (ℕ × Bool)) → lowest (recordConditions keys r store out ++ rest) ≡ 0 → Lent keys r store out
+unfolding recordConditions shortStore shortOut
+lent-of keys r store out rest e =
+    let a = lowest-zero 3 _ _ e in
+    let b = lowest-zero 4 _ _ (a .1) in
+    let c = lowest-zero 5 _ _ (b .1) in
+    let d = lowest-zero 6 _ _ (c .1) in
+    record { possible = a .0; table = keys-right keys (r .n) .0 (b .0); storeRoom = ltb-false (length store) (storeLength (r .n)) (c .0); outRoom = ltb-false (length out) (outLength (r .n)) (d .0) }
+
+pub record SubmitFit (checks : Checks) (keys : List ℕ) (r : Record) (store value signature out : List ℕ) : Type 0 where
+  -- 4 to 7
+  pub lent : Lent keys r store out
+  -- 8: it isn't the second
+  pub first : r .own .submitted ≡ false
+  -- 9: value and signature have their lengths
+  pub sizedValue : length value ≡ valueLength
+  pub sizedSignature : length signature ≡ signatureLength
+  -- 14
+  pub checked : checks (r .seat) value signature ≡ true
+
+module _ (checks : Checks) (keys : List ℕ) (r : Record) (store value signature out : List ℕ) where
+  submit-fit : lowest (submitConditions checks keys r store value signature out) ≡ 0 → SubmitFit checks keys r store value signature out
+  unfolding submitConditions recordConditions signatureConditions
+  submit-fit e =
+      let t = submit-taken checks keys r store value signature out e in
+      record { lent = lent-of keys r store out _ e; first = t .unsaid; sizedValue = t .sizedValue; sizedSignature = t .sized; checked = t .checked }
+
+  fit-submit : SubmitFit checks keys r store value signature out → lowest (submitConditions checks keys r store value signature out) ≡ 0
+  unfolding submitConditions recordConditions signatureConditions shortStore shortOut said wrongLengths badSignature signed every lowest
+  fit-submit t =
+      rw (
+        t .lent .possible,
+        keys-right keys (r .n) .1 (t .lent .table),
+        le-ltb (length store) (storeLength (r .n)) (t .lent .storeRoom),
+        le-ltb (length out) (outLength (r .n)) (t .lent .outRoom),
+        t .first,
+        eq-eqb (length value) valueLength (t .sizedValue),
+        eq-eqb (length signature) signatureLength (t .sizedSignature),
+        t .checked,
+      )
+
+  pub submit-not-refused : (submit checks keys r store value signature out .refusal ≡ 0) ↔ SubmitFit checks keys r store value signature out
+  unfolding submit resultBy
+  submit-not-refused = (submit-fit, fit-submit)
+
+pub record StepFit (checks : Checks) (keys : List ℕ) (r : Record) (store bytes out : List ℕ) : Type 0 where
+  -- 4 to 7
+  pub lent : Lent keys r store out
+  -- 9: the bytes are a SUBMIT, a NOTICE or a FULL
+  pub forStep : isForStep (read (r .n) bytes) ≡ true
+  -- 10, 11, 12, 14: the round is the record's, every seat is below n, entry seats rise, every signature checks
+  pub message : Taken checks (r .n) (r .round) (read (r .n) bytes)
+  -- 13: no SUBMIT before the own submit
+  pub timely : early r (read (r .n) bytes) ≡ false
+
+pub step-not-refused : (checks : Checks) (keys : List ℕ) (r : Record) (store bytes out : List ℕ)
+    → (step checks keys r store bytes out .refusal ≡ 0) ↔ StepFit checks keys r store bytes out
+unfolding step resultBy stepConditions recordConditions formConditions signatureConditions
+step-not-refused checks keys r store bytes out = (
+  λ e.
+      let t = step-taken checks keys r store (read (r .n) bytes) out e in
+      record { lent = lent-of keys r store out _ e; forStep = t .1; message = t .2; timely = t .3 },
+  λ t. step-unrefused checks keys r store (read (r .n) bytes) out (t .lent .possible) (keys-right keys (r .n) .1 (t .lent .table)) (t .lent .storeRoom) (t .lent .outRoom) (t .forStep) (t .timely) (t .message),
+)
+
+-- a message as document 01 lays it out
+pub message-not-refused : (checks : Checks) (keys : List ℕ) (r : Record) (store out : List ℕ) (m : Message) → Lent keys r store out → WellFormed (r .n) m → isForStep m ≡ true → Taken checks (r .n) (r .round) m
+    → early r m ≡ false → step checks keys r store (render m) out .refusal ≡ 0
+message-not-refused checks keys r store out m lent formed forStep taken timely =
+    let reads = sym (read-render (r .n) m formed) in
+    step-not-refused checks keys r store (render m) out .1
+    (record {
+      lent = lent;
+      forStep = subst (λ (x : Message). isForStep x ≡ true) reads forStep;
+      message = subst (Taken checks (r .n) (r .round)) reads taken;
+      timely = subst (λ (x : Message). early r x ≡ false) reads timely;
+    })
+
+-- ---- the evidence check, and evidence from two certificates
+
+-- what both are given beside messages
+pub record Outside (n round : ℕ) (keys : List ℕ) : Type 0 where
+  -- 1: n is 1 to 32
+  pub some : 1 ≤ n
+  pub most : n ≤ mostSeats
+  -- 3: the round is 1,023 at most
+  pub inTime : round ≤ lastRound
+  -- 5
+  pub table : Table n keys
+
+pub record EvidenceFit (checks : Checks) (n round : ℕ) (keys bytes : List ℕ) : Type 0 where
+  -- 1, 3, 5
+  pub outside : Outside n round keys
+  -- 9: the bytes are an EVIDENCE
+  pub isOne : isEvidence (read n bytes) ≡ true
+  -- 10, 11, 12, 14
+  pub message : Taken checks n round (read n bytes)
+  -- 15: the lower value comes first
+  pub conflict : notLowerFirst (read n bytes) ≡ false
+
+outside-of : (n round : ℕ) (keys : List ℕ) (rest : List (ℕ × Bool)) → lowest (outsideConditions n round keys ++ rest) ≡ 0 → Outside n round keys
+unfolding outsideConditions wrongSize wrongRound
+outside-of n round keys rest e =
+    let a = lowest-zero 0 _ _ e in
+    let b = lowest-zero 2 _ _ (a .1) in
+    let c = lowest-zero 4 _ _ (b .1) in
+    let sized = or-false-both (eqb n 0) (ltb mostSeats n) (a .0) in
+    let nonzero = eqb-false n 0 (sized .0) in
+    record { some = omega arith; most = ltb-false mostSeats n (sized .1); inTime = ltb-false lastRound round (b .0); table = keys-right keys n .0 (c .0) }
+
+pub evidence-not-refused : (checks : Checks) (n round : ℕ) (keys bytes : List ℕ) → (evidenceCheck checks n round keys bytes .number ≡ 0) ↔ EvidenceFit checks n round keys bytes
+unfolding evidenceCheck checkedBy evidenceConditions outsideConditions formConditions signatureConditions
+evidence-not-refused checks n round keys bytes = (
+  λ e. let t = evidence-checked checks n round keys (read n bytes) e in record { outside = outside-of n round keys _ e; isOne = t .0; message = t .1; conflict = t .2 },
+  λ t.
+      let o = t .outside in
+      evidence-unrefused checks n 0 round keys (read n bytes) (record { some = o .some; most = o .most; inside = o .some; early = o .inTime }) (keys-right keys n .1 (o .table)) (t .isOne) (t .message) (t .conflict),
+)
+
+pub record MakingFit (checks : Checks) (n round : ℕ) (keys a b out : List ℕ) : Type 0 where
+  -- 1, 3, 5
+  pub outside : Outside n round keys
+  -- 7: "68 + 2,906 × k for evidence from two certificates"
+  pub outRoom : evidenceOutLength n ≤ length out
+  -- 9: the bytes of either are a FULL
+  pub firstFull : isFull (read n a) ≡ true
+  pub secondFull : isFull (read n b) ≡ true
+  -- 10, 11, 12, 14
+  pub first : Taken checks n round (read n a)
+  pub second : Taken checks n round (read n b)
+  -- 15: their values differ
+  pub conflict : certificateIn (read n a) .value ≢ certificateIn (read n b) .value
+
+module _ (checks : Checks) (n round : ℕ) (keys a b out : List ℕ) where
+  making-fit : lowest (makingConditions checks n round keys (read n a) (read n b) out) ≡ 0 → MakingFit checks n round keys a b out
+  unfolding makingConditions twoConditions outsideConditions formConditions signatureConditions shortOut
+  making-fit e =
+      let t = making-taken checks n round keys (read n a) (read n b) out e in
+      let p = lowest-zero 0 _ _ e in
+      let q = lowest-zero 2 _ _ (p .1) in
+      let r = lowest-zero 4 _ _ (q .1) in
+      let s = lowest-zero 6 _ _ (r .1) in
+      record {
+        outside = outside-of n round keys _ e;
+        outRoom = ltb-false (length out) (evidenceOutLength n) (s .0);
+        firstFull = t .fullA;
+        secondFull = t .fullB;
+        first = t .takenA;
+        second = t .takenB;
+        conflict = t .different;
+      }
+
+  fit-making : MakingFit checks n round keys a b out → lowest (makingConditions checks n round keys (read n a) (read n b) out) ≡ 0
+  unfolding makingConditions twoConditions outsideConditions formConditions signatureConditions shortOut equalValues lowest
+  fit-making t =
+      let o = t .outside in
+      let x = of-taken checks n round (read n a) (t .first) in
+      let y = of-taken checks n round (read n b) (t .second) in
+      rw (
+        size-right n (o .some) (o .most),
+        round-right round (o .inTime),
+        keys-right keys n .1 (o .table),
+        le-ltb (length out) (evidenceOutLength n) (t .outRoom),
+        t .firstFull,
+        x .0,
+        x .1,
+        x .2,
+        x .3,
+        t .secondFull,
+        y .0,
+        y .1,
+        y .2,
+        y .3,
+        same-false (certificateIn (read n a) .value) (certificateIn (read n b) .value) (t .conflict),
+      )
+
+  pub making-not-refused : (making checks n round keys a b out .refusal ≡ 0) ↔ MakingFit checks n round keys a b out
+  unfolding making makingBy
+  making-not-refused = (making-fit, fit-making)
+
+-- ---- the premises can be met
+
+-- a unit just opened takes a NOTICE: a step that refused all, with 9 or with any number, would not be this one
+pub first-notice-taken : (checks : Checks) (n seat round : ℕ) (keys store out : List ℕ) (sender : ℕ) (value : List ℕ) → OpeningFit n seat round keys → storeLength n ≤ length store → outLength n ≤ length out
+    → sender < n → length value ≡ valueLength → step checks keys (fresh n seat round) store (render (Notice round sender value)) out .refusal ≡ 0
+unfolding fresh roundOf seatsOf entrySeats signed rising early isForStep
+first-notice-taken checks n seat round keys store out sender value fit room outRoom inside sized =
+    message-not-refused checks keys (fresh n seat round) store out (Notice round sender value)
+    (record {
+      possible = possible checks Any (fresh n seat round) store (fresh-sound checks Any n seat round store (fit .range)) (fresh-settled n seat round (fit .range .some));
+      table = fit .table;
+      storeRoom = room;
+      outRoom = outRoom;
+    })
+    (let e = fit .range .early in omega arith, sized) refl
+    (record { inRound = refl; inside = each-one (λ s. s < n) sender inside; rises = refl; checked = λ s d. absurd (List·Memᴰ·not-nil d) }) refl
