@@ -1,6 +1,6 @@
 -- A message that a step turns back as early or for a signature is one that the machine discards: nothing changes and nothing is sent.
 -- Assumes nothing.
-use Prim.Native.Nat.{ℕ}
+use Prim.Native.Nat.{ℕ, _<_}
 use mathlib.Core.Path.{_≡_, refl, sym, ap, _∙_}
 use mathlib.Core.Bool.{Bool, true, false, cond, not, _&&_, and-true, and-false, true≢false, false≢true}
 use mathlib.Core.List.{List, [], _∷_}
@@ -9,15 +9,19 @@ use mathlib.Core.Option.{Option, none, some}
 use native.Mathlib.Omega.{arith}
 use lib.Dec.{leb}
 use lib.ListN.{length}
-use borrow.Author.Tests.{not-true}
+use borrow.Author.Tests.{le-ltb, not-true}
 use Rattle.quorum.specs.Quorum.{k}
 use Rattle.refusal.specs.Refusal.{lowest}
-use Rattle.protocol.specs.Message.{Entry, Message, Submit, Notice, Full, Evidence, Garbled, Signed, signedEntries, signed}
-use Rattle.protocol.specs.Refusals.{Checks, every, early, badSignature, formConditions, signatureConditions, recordConditions, stepConditions}
+use Rattle.protocol.specs.Layout.{storeLength, outLength}
+use Rattle.protocol.specs.Message.{Entry, Message, Submit, Notice, Full, Evidence, Garbled, Signed, signedEntries, signed, roundOf, entrySeats, seatsOf}
+use Rattle.protocol.specs.Refusals.{Checks, every, shortStore, shortOut, isForStep, rising, early, badSignature, formConditions, signatureConditions, recordConditions, stepConditions}
 use Rattle.protocol.specs.declared.Record.{Record}
+use Rattle.round.specs.Round.{Each}
+use Rattle.claims.specs.Unrefused.{of-taken}
+use Rattle.claims.specs.NotRefused.{Lent, keys-right}
 use Rattle.paper.specs.Machine.{FullCertificate, Machine, Reaction, isSome, isOwn, isFrom, distinct, isFullCertificate, isCollected, uponSubmitDelivered, uponFullDelivered, addCollected, obtain, uponEvent, uponRules, react}
 use Rattle.paper.specs.Memory.{kept}
-use Rattle.paper.specs.Events.{delivered, reactTo}
+use Rattle.paper.specs.Events.{delivered, isDelivered, reactTo}
 use Rattle.paper.specs.Rules.{AtRest, rest-quiet}
 
 -- ---- what a refusal number says
@@ -55,6 +59,28 @@ module _ (checks : Checks) (keys : List ℕ) (r : Record) (store : List ℕ) (m 
       last-held 14 (badSignature checks m) (λ q. omega arith)
       (lowest-other 13 14 (early r m) ((14, badSignature checks m) ∷ []) (λ q. omega arith)
       (past-form 14 (λ q. omega arith) (λ q. omega arith) (λ q. omega arith) (λ q. omega arith) (λ q. omega arith) (λ q. omega arith) (λ q. omega arith) (λ q. omega arith) e))
+
+  -- where nothing but these two can be refused, the message is delivered
+  pub fit-delivered : Lent keys r store out → isForStep m ≡ true → roundOf m ≡ r .round → Each (λ s. s < r .n) (seatsOf m) → rising (entrySeats m) ≡ true → isDelivered (lowest (stepConditions checks keys r store m out)) ≡ true
+  unfolding stepConditions recordConditions formConditions signatureConditions shortStore shortOut lowest isDelivered
+  fit-delivered lent for-step in-round inside rises =
+      let form = of-taken (λ s v g. true) (r .n) (r .round) m (record { inRound = in-round; inside = inside; rises = rises; checked = λ s d. refl }) in
+      rw (
+        lent .possible,
+        keys-right keys (r .n) .1 (lent .table),
+        le-ltb (length store) (storeLength (r .n)) (lent .storeRoom),
+        le-ltb (length out) (outLength (r .n)) (lent .outRoom),
+        for-step,
+        form .0,
+        form .1,
+        form .2,
+      )
+      (either (early r m) (badSignature checks m))
+    where
+      either : (a b : Bool) → isDelivered (cond a 13 (cond b 14 0)) ≡ true
+      either true b = refl
+      either false true = refl
+      either false false = refl
 
 -- ---- what the machine does with such a message
 

@@ -1,15 +1,17 @@
 -- The calls of a list as the machine's events, and what it does at each of them.
 -- Assumes nothing.
-use Prim.Native.Nat.{ℕ}
+use Prim.Native.Nat.{ℕ, _≤_, _<_}
 use mathlib.Core.Path.{_≡_}
-use mathlib.Core.Bool.{Bool, cond, _||_}
+use mathlib.Core.Bool.{Bool, true, false, cond, _||_}
 use mathlib.Core.List.{List, [], _∷_, _++_, List·Memᴰ}
 use mathlib.Core.Option.{Option, none, some}
 use lib.Dec.{eqb}
+use lib.ListN.{length}
 use Rattle.refusal.specs.Refusal.{unrefused}
-use Rattle.protocol.specs.Message.{Message, Submit, Notice, Full, Evidence, Garbled, read}
-use Rattle.protocol.specs.Refusals.{Checks}
-use Rattle.round.specs.Round.{Setting, Call, BySubmit, ByStep, ByThinEntry, Called, resultOf, writtenIn, Are}
+use Rattle.protocol.specs.Layout.{valueLength, signatureLength, storeLength, outLength}
+use Rattle.protocol.specs.Message.{Message, Submit, Notice, Full, Evidence, Garbled, read, roundOf, entrySeats, seatsOf}
+use Rattle.protocol.specs.Refusals.{Checks, isForStep, rising}
+use Rattle.round.specs.Round.{Setting, Each, Call, BySubmit, ByStep, ByThinEntry, IsStep, Called, resultOf, writtenIn, Are}
 use Rattle.paper.specs.Machine.{Machine, Event, Submitted, SubmitDelivered, NoticeDelivered, FullDelivered, Action, Reaction, react, SaysEach}
 use Rattle.paper.specs.Memory.{Keeps}
 
@@ -68,3 +70,27 @@ module _ (S : Setting) (seat : ℕ) where
 -- an event that a call of a list brings, and that isn't refused
 abbrev pub TakenIn : Setting → List Called → Event → Type 0
 TakenIn S ts e = (t : Called) × List·Memᴰ t ts × (resultOf S t .refusal ≡ 0) × (eventOf (S .n) 0 (t .given) ≡ some e)
+
+-- ---- which calls are events
+
+-- a submit for which document 01 has no refusal
+pub record FitSubmit (S : Setting) (seat : ℕ) (c : Called) (value signature : List ℕ) : Type 0 where
+  pub out : List ℕ
+  pub isSubmit : c .given ≡ BySubmit value signature out
+  pub storeRoom : storeLength (S .n) ≤ length (c .store)
+  pub outRoom : outLength (S .n) ≤ length out
+  pub first : c .unit .own .submitted ≡ false
+  pub sizedValue : length value ≡ valueLength
+  pub sizedSignature : length signature ≡ signatureLength
+  pub checked : S .checks seat value signature ≡ true
+
+-- a step for which document 01 has none but early (13) and signature (14)
+pub record FitStep (S : Setting) (c : Called) (bytes : List ℕ) : Type 0 where
+  pub out : List ℕ
+  pub isStep : IsStep (c .given) bytes out
+  pub storeRoom : storeLength (S .n) ≤ length (c .store)
+  pub outRoom : outLength (S .n) ≤ length out
+  pub forStep : isForStep (read (S .n) bytes) ≡ true
+  pub inRound : roundOf (read (S .n) bytes) ≡ S .round
+  pub inside : Each (λ s. s < S .n) (seatsOf (read (S .n) bytes))
+  pub rises : rising (entrySeats (read (S .n) bytes)) ≡ true

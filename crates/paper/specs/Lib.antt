@@ -25,4 +25,5 @@ pub mod Calls
 pub mod Discards
 pub mod Along
 pub mod Claim
+pub mod Happens
 pub mod Guard
