@@ -4,7 +4,7 @@
 -- Assumes nothing.
 use Prim.Native.Nat.{ℕ, zero, suc, _+_, _*_, _≤_, _<_}
 use mathlib.Core.Path.{_≡_, refl, sym, subst}
-use mathlib.Core.Bool.{Bool, true, false, not, _&&_}
+use mathlib.Core.Bool.{Bool, true, false, not, _&&_, _||_}
 use mathlib.Core.List.{List, _++_, List·Memᴰ·not-nil}
 use mathlib.Core.Logic.{_≢_, _↔_}
 use native.Mathlib.Omega.{arith}
@@ -17,6 +17,10 @@ use Rattle.octets.specs.StringLaws.{same-false}
 use Rattle.quorum.specs.Quorum.{mostSeats}
 use Rattle.refusal.specs.Refusal.{lowest}
 use Rattle.refusal.specs.Laws.{lowest-zero}
+use Rattle.rfc8554.specs.Ots.{knownOts}
+use Rattle.rfc8554.specs.Tree.{knownLms}
+use Rattle.rfc8554.specs.Verify.{lmsTypeOf, otsTypeOf, valid}
+use Rattle.rfc8554.specs.Calls.{signatureBytes, treeBytes, messageLimit, lengthIsnt, keyRefused, checkSignature, makeKeyRefusal, makeKey, signRefusal, sign}
 use Rattle.protocol.specs.Layout.{valueLength, signatureLength, keyLength, keyAt, storeLength, outLength, evidenceOutLength}
 use Rattle.protocol.specs.Message.{Message, Notice, render, read, signed, seatsOf, entrySeats, roundOf}
 use Rattle.protocol.specs.ReadLaws.{WellFormed, read-render}
@@ -281,6 +285,122 @@ module _ (checks : Checks) (n round : ℕ) (keys a b out : List ℕ) where
   pub making-not-refused : (making checks n round keys a b out .refusal ≡ 0) ↔ MakingFit checks n round keys a b out
   unfolding making makingBy
   making-not-refused = (making-fit, fit-making)
+
+-- ---- keys and signatures
+
+length-is : (n : ℕ) (xs : List ℕ) → lengthIsnt n xs ≡ false → length xs ≡ n
+length-is n xs e = eqb-true (length xs) n (not-false (eqb (length xs) n) e)
+
+pub record CheckFit (key message signature : List ℕ) : Type 0 where
+  -- 5: one key of 56 bytes, of types allowed
+  pub sizedKey : length key ≡ 56
+  pub knownTree : knownLms (lmsTypeOf key) ≡ true
+  pub knownChains : knownOts (otsTypeOf key) ≡ true
+  -- 9: the message isn't too long to check
+  pub checkable : length message ≤ messageLimit
+  -- 14: RFC 8554 accepts it
+  pub accepted : valid key message signature ≡ true
+
+module _ (key message signature : List ℕ) where
+  check-fit : checkSignature key message signature ≡ 0 → CheckFit key message signature
+  unfolding checkSignature keyRefused
+  check-fit e =
+      let a = lowest-zero 4 _ _ e in
+      let b = lowest-zero 8 _ _ (a .1) in
+      let c = lowest-zero 13 _ _ (b .1) in
+      let types = or-false-both (lengthIsnt 56 key || not (knownLms (lmsTypeOf key))) (not (knownOts (otsTypeOf key))) (a .0) in
+      let tree = or-false-both (lengthIsnt 56 key) (not (knownLms (lmsTypeOf key))) (types .0) in
+      record {
+        sizedKey = length-is 56 key (tree .0);
+        knownTree = not-false (knownLms (lmsTypeOf key)) (tree .1);
+        knownChains = not-false (knownOts (otsTypeOf key)) (types .1);
+        checkable = ltb-false messageLimit (length message) (b .0);
+        accepted = not-false (valid key message signature) (c .0);
+      }
+
+  fit-check : CheckFit key message signature → checkSignature key message signature ≡ 0
+  unfolding checkSignature keyRefused lowest
+  fit-check t = rw (eq-eqb (length key) 56 (t .sizedKey), t .knownTree, t .knownChains, le-ltb messageLimit (length message) (t .checkable), t .accepted)
+
+  pub check-not-refused : (checkSignature key message signature ≡ 0) ↔ CheckFit key message signature
+  check-not-refused = (check-fit, fit-check)
+
+pub record MakeKeyFit (seed I tree out : List ℕ) : Type 0 where
+  -- 7: "56 for the key maker's public key"
+  pub outRoom : 56 ≤ length out
+  -- 16
+  pub sizedSeed : length seed ≡ 32
+  pub sizedIdentifier : length I ≡ 16
+  pub sizedTree : length tree ≡ treeBytes
+
+module _ (seed I tree out : List ℕ) where
+  make-key-fit : makeKeyRefusal seed I tree out ≡ 0 → MakeKeyFit seed I tree out
+  unfolding makeKeyRefusal
+  make-key-fit e =
+      let a = lowest-zero 6 _ _ e in
+      let b = lowest-zero 15 _ _ (a .1) in
+      let lengths = or-false-both (lengthIsnt 32 seed || lengthIsnt 16 I) (lengthIsnt treeBytes tree) (b .0) in
+      let secrets = or-false-both (lengthIsnt 32 seed) (lengthIsnt 16 I) (lengths .0) in
+      record { outRoom = ltb-false (length out) 56 (a .0); sizedSeed = length-is 32 seed (secrets .0); sizedIdentifier = length-is 16 I (secrets .1); sizedTree = length-is treeBytes tree (lengths .1) }
+
+  fit-make-key : MakeKeyFit seed I tree out → makeKeyRefusal seed I tree out ≡ 0
+  unfolding makeKeyRefusal lowest
+  fit-make-key t = rw (le-ltb (length out) 56 (t .outRoom), eq-eqb (length seed) 32 (t .sizedSeed), eq-eqb (length I) 16 (t .sizedIdentifier), eq-eqb (length tree) treeBytes (t .sizedTree))
+
+  pub make-key-not-refused : (makeKey seed I tree out .refusal ≡ 0) ↔ MakeKeyFit seed I tree out
+  unfolding makeKey
+  make-key-not-refused = (make-key-fit, fit-make-key)
+
+pub record SignFit (leaf : ℕ) (message seed I C tree out : List ℕ) : Type 0 where
+  -- 3: the leaf is 1,023 at most
+  pub inTime : leaf ≤ lastRound
+  -- 7: "1,452 for the signer"
+  pub outRoom : signatureBytes ≤ length out
+  -- 9: the message isn't too long to sign
+  pub signable : length message ≤ messageLimit
+  -- 16
+  pub sizedSeed : length seed ≡ 32
+  pub sizedIdentifier : length I ≡ 16
+  pub sizedRandomizer : length C ≡ 32
+  pub sizedTree : length tree ≡ treeBytes
+
+module _ (leaf : ℕ) (message seed I C tree out : List ℕ) where
+  sign-fit : signRefusal leaf message seed I C tree out ≡ 0 → SignFit leaf message seed I C tree out
+  unfolding signRefusal
+  sign-fit e =
+      let a = lowest-zero 2 _ _ e in
+      let b = lowest-zero 6 _ _ (a .1) in
+      let c = lowest-zero 8 _ _ (b .1) in
+      let d = lowest-zero 15 _ _ (c .1) in
+      let lengths = or-false-both (lengthIsnt 32 seed || lengthIsnt 16 I || lengthIsnt 32 C) (lengthIsnt treeBytes tree) (d .0) in
+      let secrets = or-false-both (lengthIsnt 32 seed || lengthIsnt 16 I) (lengthIsnt 32 C) (lengths .0) in
+      let first = or-false-both (lengthIsnt 32 seed) (lengthIsnt 16 I) (secrets .0) in
+      record {
+        inTime = ltb-false lastRound leaf (a .0);
+        outRoom = ltb-false (length out) signatureBytes (b .0);
+        signable = ltb-false messageLimit (length message) (c .0);
+        sizedSeed = length-is 32 seed (first .0);
+        sizedIdentifier = length-is 16 I (first .1);
+        sizedRandomizer = length-is 32 C (secrets .1);
+        sizedTree = length-is treeBytes tree (lengths .1);
+      }
+
+  fit-sign : SignFit leaf message seed I C tree out → signRefusal leaf message seed I C tree out ≡ 0
+  unfolding signRefusal lowest
+  fit-sign t =
+      rw (
+        le-ltb lastRound leaf (t .inTime),
+        le-ltb (length out) signatureBytes (t .outRoom),
+        le-ltb messageLimit (length message) (t .signable),
+        eq-eqb (length seed) 32 (t .sizedSeed),
+        eq-eqb (length I) 16 (t .sizedIdentifier),
+        eq-eqb (length C) 32 (t .sizedRandomizer),
+        eq-eqb (length tree) treeBytes (t .sizedTree),
+      )
+
+  pub sign-not-refused : (sign leaf message seed I C tree out .refusal ≡ 0) ↔ SignFit leaf message seed I C tree out
+  unfolding sign
+  sign-not-refused = (sign-fit, fit-sign)
 
 -- ---- the premises can be met
 
