@@ -1,4 +1,5 @@
--- The claim: over any list of calls from an opening, the engine does exactly what the paper's machine does.
+-- The claim: over any list of calls from an opening, the engine does exactly what the paper's machine does. (Which calls are the
+-- machine's events is in `Happens`.)
 -- Assumes nothing.
 use Prim.Native.Nat.{ℕ, _≤_, _<_}
 use mathlib.Core.Path.{_≡_}
@@ -61,7 +62,8 @@ module _ (S : Setting) (u : Honest) (opened : IsOpened S u) where
         λ a. let w = both .1 a in record { call = w .0; inList = w .1; stands = w .2 },
       )
 
-  -- Everything in it was received: in a call of the list that isn't refused, so also of the list that ends with the call that sends it.
+  -- Everything that is sent was received, by a call of the list that isn't refused. The list is any, so that of what a call sends it says
+  -- that it was received by then.
   pub sends-what-it-received : Each (Received (u .seat) Took) actions
   sends-what-it-received a d = along .1 a d .0
 

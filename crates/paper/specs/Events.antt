@@ -73,24 +73,36 @@ TakenIn S ts e = (t : Called) × List·Memᴰ t ts × (resultOf S t .refusal ≡
 
 -- ---- which calls are events
 
--- a submit for which document 01 has no refusal
+-- a submit that document 01 has no refusal for, by number: in a list every record is possible (4), and the key table was looked at in
+-- the opening (5)
 pub record FitSubmit (S : Setting) (seat : ℕ) (c : Called) (value signature : List ℕ) : Type 0 where
   pub out : List ℕ
   pub isSubmit : c .given ≡ BySubmit value signature out
+  -- 6
   pub storeRoom : storeLength (S .n) ≤ length (c .store)
+  -- 7
   pub outRoom : outLength (S .n) ≤ length out
+  -- 8
   pub first : c .unit .own .submitted ≡ false
+  -- 9
   pub sizedValue : length value ≡ valueLength
   pub sizedSignature : length signature ≡ signatureLength
+  -- 14
   pub checked : S .checks seat value signature ≡ true
 
--- a step for which document 01 has none but early (13) and signature (14)
+-- a step that document 01 has no refusal for, but early (13) and signature (14)
 pub record FitStep (S : Setting) (c : Called) (bytes : List ℕ) : Type 0 where
   pub out : List ℕ
   pub isStep : IsStep (c .given) bytes out
+  -- 6
   pub storeRoom : storeLength (S .n) ≤ length (c .store)
+  -- 7
   pub outRoom : outLength (S .n) ≤ length out
+  -- 9: a SUBMIT, a NOTICE or a FULL
   pub forStep : isForStep (read (S .n) bytes) ≡ true
+  -- 10
   pub inRound : roundOf (read (S .n) bytes) ≡ S .round
+  -- 11
   pub inside : Each (λ s. s < S .n) (seatsOf (read (S .n) bytes))
+  -- 12
   pub rises : rising (entrySeats (read (S .n) bytes)) ≡ true

@@ -2,8 +2,8 @@
 --
 -- To read, in this order: `Machine` has the paper's Algorithm 2 as an abstract machine that forgets nothing, and what its actions are on
 -- the air; `Memory` what a unit's record and store keep of it; `Events` the calls of a list as its events, with what the claim says;
--- `Received` where everything that is sent comes from. The claims are in `Claim`. `Guard` has runs that show that they say something;
--- docs/PAPER.md has the paper's lines beside the definitions.
+-- `Received` where everything that is sent comes from. The claims are in `Claim`, and in `Happens` that no call is passed over that should
+-- be an event. `Guard` has runs that show that they say something; docs/PAPER.md has the paper's lines beside the definitions.
 --
 -- `Conflicts` says which two certificates are found, `Rules` that no rule is left to do after an event, and `Remembers` that the machine
 -- forgets nothing. `Mirror` has what holds between two events, `Parts` and `Calls` show it of the parts of a call and of a whole one,
