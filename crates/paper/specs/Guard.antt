@@ -1,16 +1,22 @@
 -- That the claim says something: what the machine does over small runs, computed.
 -- Assumes nothing.
-use Prim.Native.Nat.{ℕ}
-use mathlib.Core.Path.{_≡_, refl}
+use Prim.Native.Nat.{ℕ, _<_}
+use mathlib.Core.Path.{_≡_, refl, ap}
 use mathlib.Core.Bool.{Bool, true}
 use mathlib.Core.List.{List, [], _∷_}
+use native.Mathlib.Omega.{arith}
 use lib.Dec.{eqb}
-use lib.ListN.{getD}
+use lib.ListN.{getD, replicate}
 use Rattle.octets.specs.Strings.{same}
-use Rattle.quorum.specs.Quorum.{t0, k}
-use Rattle.protocol.specs.Message.{Entry}
+use Rattle.quorum.specs.Quorum.{t0, k, bit, union, shared, with, seats}
+use Rattle.protocol.specs.Values.{isLower}
+use Rattle.protocol.specs.Message.{Entry, Full, Evidence}
+use Rattle.protocol.specs.Certificate.{setOf, signatureOf, certificateOf, entriesOf, fullOf, pairsOf, orderedEvidence, evidenceOf}
 use Rattle.protocol.specs.Refusals.{every}
-use Rattle.paper.specs.Machine.{FullCertificate, Machine, init, Event, Submitted, SubmitDelivered, NoticeDelivered, FullDelivered, Action, BroadcastSubmit, ConfirmAndNotice, BroadcastFull, Detect, act, isSome, isOwn, ownValue, isFrom, distinct, other, pairOr, conflict, isFullCertificate, ownFull, isCollected, uponSubmitDelivered, uponSubmit, uponNoticeDelivered, obtain, uponFullDelivered, confirming, uponQuorum, sending, uponNoticesConflict, detecting, uponFullsConflict, uponEvent, uponRules, react}
+use Rattle.round.specs.Round.{Each}
+use Rattle.claims.specs.Lists.{each-one, each-cons}
+use Rattle.paper.specs.Machine.{FullCertificate, Machine, init, Event, Submitted, SubmitDelivered, NoticeDelivered, FullDelivered, Action, BroadcastSubmit, ConfirmAndNotice, BroadcastFull, Detect, act, isSome, isOwn, ownValue, isFrom, distinct, other, pairOr, conflict, isFullCertificate, ownFull, isCollected, uponSubmitDelivered, uponSubmit, uponNoticeDelivered, obtain, uponFullDelivered, confirming, uponQuorum, sending, uponNoticesConflict, detecting, uponFullsConflict, uponEvent, uponRules, react, Says}
+use Rattle.paper.specs.Spoken.{spoken, Formed, spoken-says}
 
 -- a toy for the signature check: a signature is its seat
 abbrev toy : ℕ → List ℕ → List ℕ → Bool
@@ -102,3 +108,42 @@ hears-before-submitting = refl
 one-seat : does 1 init (Submitted seven (0 ∷ []) ∷ []) ≡ (BroadcastSubmit seven (0 ∷ []) ∷ ConfirmAndNotice seven ∷ []) ∷ []
 unfolding unfolded
 one-seat = refl
+
+-- ---- what is sent
+
+abbrev long : ℕ → List ℕ
+long b = replicate 32 b
+
+abbrev signedBy : ℕ → ℕ → Entry
+signedBy b seat = record { seat = seat; signature = seat ∷ b ∷ [] }
+
+abbrev three : ℕ → ℕ → ℕ → ℕ → FullCertificate
+three b s t u = record { value = long b; entries = signedBy b s ∷ signedBy b t ∷ signedBy b u ∷ [] }
+
+below : (b s t u : ℕ) → s < 4 → t < 4 → u < 4 → Each (λ (e : Entry). e .seat < 4) (three b s t u .entries)
+below b s t u h i j =
+    let P : Entry → Type 0 = λ e. e .seat < 4 in
+    each-cons P (signedBy b s) (signedBy b t ∷ signedBy b u ∷ []) h (each-cons P (signedBy b t) (signedBy b u ∷ []) i (each-one P (signedBy b u) j))
+
+formed : (b s t u : ℕ) → s < 4 → t < 4 → u < 4 → distinct (three b s t u .entries) ≡ true → Formed 4 (three b s t u)
+formed b s t u h i j d = record { sized = refl; below = below b s t u h i j; apart = d }
+
+-- every definition of what is sent, open
+unfoldedSent : Bool
+unfolding bit union shared with seats isLower setOf signatureOf certificateOf entriesOf fullOf pairsOf orderedEvidence evidenceOf distinct isFrom spoken
+unfoldedSent = true
+
+-- a certificate whose entries came in another order is sent with seats rising
+full-in-order : Says 5 0 (BroadcastFull (three 7 0 3 2)) (Full 5 0 (long 7) (signedBy 7 0 ∷ signedBy 7 2 ∷ signedBy 7 3 ∷ []))
+unfolding unfoldedSent
+full-in-order = spoken-says 4 5 0 (BroadcastFull (three 7 0 3 2)) (formed 7 0 3 2 (omega arith) (omega arith) (omega arith) refl)
+
+-- the evidence of two certificates has the seats of both, with the signature over the lower value first
+evidence-of-both : Says 5 0 (Detect (three 9 1 2 3) (three 7 0 3 2)) (Evidence 5 (long 7) (long 9) (record { seat = 2; lower = 2 ∷ 7 ∷ []; higher = 2 ∷ 9 ∷ [] } ∷ record { seat = 3; lower = 3 ∷ 7 ∷ []; higher = 3 ∷ 9 ∷ [] } ∷ []))
+unfolding unfoldedSent
+evidence-of-both =
+    spoken-says 4 5 0 (Detect (three 9 1 2 3) (three 7 0 3 2)) (
+      formed 9 1 2 3 (omega arith) (omega arith) (omega arith) refl,
+      formed 7 0 3 2 (omega arith) (omega arith) (omega arith) refl,
+      λ e. let first = ap (λ (v : List ℕ). getD v 0 0) e in omega arith,
+    )
