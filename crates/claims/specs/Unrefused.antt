@@ -201,7 +201,7 @@ taken-of checks n round m a b c d = record {
   checked = every-each (λ (s : Signed). checks (s .seat) (s .value) (s .signature)) (signed m) (not-false (every (λ (s : Signed). checks (s .seat) (s .value) (s .signature)) (signed m)) d);
 }
 
-of-taken : (checks : Checks) (n round : ℕ) (m : Message) → Taken checks n round m → (otherRound round m ≡ false) × (stranger n m ≡ false) × (disorder m ≡ false) × (badSignature checks m ≡ false)
+pub of-taken : (checks : Checks) (n round : ℕ) (m : Message) → Taken checks n round m → (otherRound round m ≡ false) × (stranger n m ≡ false) × (disorder m ≡ false) × (badSignature checks m ≡ false)
 unfolding otherRound stranger disorder badSignature
 of-taken checks n round m t = (
   rw (eq-eqb (roundOf m) round (t .inRound)),
