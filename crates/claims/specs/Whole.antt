@@ -33,7 +33,7 @@ pub record Stays (r r′ : Record) : Type 0 where
 stays-trans : (r r′ r″ : Record) → Stays r r′ → Stays r′ r″ → Stays r r″
 stays-trans r r′ r″ a b = record { own = b .own ∙ a .own; confirmed = b .confirmed ∙ a .confirmed }
 
-reply-stays : (s : State) → Stays (s .unit) (reply s .unit)
+pub reply-stays : (s : State) → Stays (s .unit) (reply s .unit)
 unfolding reply sendFull write
 reply-stays s =
     cond-elim (λ x. Stays (s .unit) (x .unit)) (owesFull (s .unit)) (sendFull s) s (λ e. record { own = refl; confirmed = refl }) (λ e. record { own = refl; confirmed = refl })
@@ -62,7 +62,7 @@ hear-stays : (value : List ℕ) (s : State) → Stays (s .unit) (hear value s .u
 unfolding hear
 hear-stays value s = record { own = refl; confirmed = refl }
 
-hearing-stays : (c : Certificate) (s : State) → Stays (s .unit) (hearCertificate c s .unit)
+pub hearing-stays : (c : Certificate) (s : State) → Stays (s .unit) (hearCertificate c s .unit)
 unfolding hearCertificate
 hearing-stays c s =
     let heard = hear (c .value) s in

@@ -1,7 +1,16 @@
--- Small runs, computed: of whole calls (`Runs`), and of lists of calls, which show that the claims of demand 3 say something
--- (`Guard`). `Toy` has what they are given, `Tests` what of a list can be computed. `Marked` has document 01's marked cases.
+-- Runs of the definitions, which show that the claims say something.
+--
+-- Deduced: a round that double signers split, so that demand 3's premises hold and its conclusions follow. `Split` has the round over any
+-- fleet and any signature check, `SplitProof` the proof; `MadeKeys` has keys and signatures of our key maker and signer, and `Fleets` the
+-- round with these under RFC 8554's check, for any fleet, and of 4 and 7 seats.
+--
+-- Computed: whole calls (`Runs`) and a forged signature (`Guard`), both with a toy for the signature check (`Toy`). `Marked` has
+-- document 01's marked cases.
 pub mod Marked
 pub mod Toy
 pub mod Runs
-pub mod Tests
 pub mod Guard
+pub mod Split
+pub mod SplitProof
+pub mod MadeKeys
+pub mod Fleets
