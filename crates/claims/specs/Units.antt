@@ -16,13 +16,14 @@ use Rattle.protocol.specs.Calls.{openedBy, opening}
 use Rattle.protocol.specs.declared.Record.{Record}
 use Rattle.round.specs.Round.{Setting, IsOpened, Each, Relation, Call, BySubmit, ByStep, ByThinEntry, Honest, Called, resultOf, writtenIn, Are, StandsIn, listOf, Writes}
 use Rattle.round.specs.Demand1.{Kind, SUBMIT, NOTICE, FULL, EVIDENCE, isOf, worth, writtenOver}
-use Rattle.claims.specs.Lists.{worth-le-one, worth-true, true-of-worth, count-pos, count-member, each-nil, each-append}
+use Rattle.reading.specs.Lists.{worth-le-one, worth-true, true-of-worth, count-pos, count-member, each-nil, each-append}
 use Rattle.claims.specs.Sound.{flagOf, Grows, InRange, Settled, Pairs, Sound, Good}
 use Rattle.claims.specs.Certificates.{sized-entries, sized-pairs}
 use Rattle.claims.specs.Parts.{grows-trans, good-grows}
-use Rattle.claims.specs.Reading.{are-unique}
+use Rattle.reading.specs.Reading.{are-unique}
 use Rattle.claims.specs.Unrefused.{opening-range}
-use Rattle.claims.specs.Journey.{messages, allMessages, all-member, member-all, lastOf, written-is, WorthyGiven, Worthy, At, Journey, journey, fresh-sound, fresh-settled}
+use Rattle.reading.specs.Messages.{messages, allMessages, all-member, member-all, written-is}
+use Rattle.claims.specs.Journey.{lastOf, WorthyGiven, Worthy, At, Journey, journey, fresh-sound, fresh-settled}
 
 -- ---- messages that a unit writes are laid out as document 01 says
 

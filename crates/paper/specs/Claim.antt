@@ -21,11 +21,11 @@ use Rattle.protocol.specs.Step.{State, stepped}
 use Rattle.protocol.specs.Calls.{resultBy, opening, openedBy}
 use Rattle.protocol.specs.declared.Record.{Record}
 use Rattle.round.specs.Round.{Setting, IsOpened, Each, Call, BySubmit, ByStep, ByThinEntry, Honest, Called, outcome, resultOf, listFrom, writtenIn, Are, StandsIn, listOf, Writes}
-use Rattle.claims.specs.Lists.{cond-elim, or-true-either, each-nil}
+use Rattle.reading.specs.Lists.{cond-elim, or-true-either, each-nil}
 use Rattle.claims.specs.Parts.{k-pos}
-use Rattle.claims.specs.Reading.{read-laid}
+use Rattle.reading.specs.Reading.{read-laid}
 use Rattle.claims.specs.Unrefused.{submit-taken, step-taken, brings}
-use Rattle.claims.specs.Journey.{refusalOf, cameTo, outcome-is, messages}
+use Rattle.reading.specs.Messages.{refusalOf, cameTo, outcome-is, messages}
 use Rattle.claims.specs.Units.{Any, any-worthy, opened-range, written-are}
 use Rattle.paper.specs.Machine.{Machine, init, Event, Action, Reaction, isSome, ownValue, conflict, uponEvent, react, spoken}
 use Rattle.paper.specs.Memory.{seatsIn, noticesOf, firstOf, guiltyOf, kept}

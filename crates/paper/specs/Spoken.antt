@@ -11,8 +11,8 @@ use Rattle.protocol.specs.Message.{Entry, Message, entrySeats}
 use Rattle.protocol.specs.Certificate.{setOf, certificateOf, fullOf, orderedEvidence, evidenceOf}
 use Rattle.protocol.specs.Laws.{in-set}
 use Rattle.round.specs.Round.{Are, StandsIn}
-use Rattle.claims.specs.Reading.{are-unique}
-use Rattle.claims.specs.Lists.{cond-elim}
+use Rattle.reading.specs.Reading.{are-unique}
+use Rattle.reading.specs.Lists.{cond-elim}
 use Rattle.claims.specs.Certificates.{entry-seats, pair-seats}
 use Rattle.paper.specs.Machine.{FullCertificate, Action, BroadcastFull, Detect, spoken}
 

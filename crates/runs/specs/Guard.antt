@@ -12,8 +12,8 @@ use Rattle.protocol.specs.Refusals.{every}
 use Rattle.round.specs.Round.{Setting, IsOpened, Call, BySubmit, ByStep, ByThinEntry, InHand, Honest, outcome, listFrom, Family, Delivered, Submits, WritesEvidence, Names}
 use Rattle.round.specs.Demand3.{NoneForged, NoneBlamed, Blames, ReachedOthers}
 use Rattle.round.specs.Demand1.{isSubmit, isNotice}
-use Rattle.claims.specs.Journey.{refusalOf, cameTo, allMessages}
-use Rattle.runs.specs.Toy.{unfolded, toy, layout, sign, keys, submitBy, fullBy}
+use Rattle.reading.specs.Messages.{refusalOf, cameTo, allMessages}
+use Rattle.trials.specs.Toy.{unfolded, toy, layout, sign, keys, submitBy, fullBy}
 use Rattle.runs.specs.Tests.{found, isNoticeOf, isEvidenceOn, isStepWith, isSubmitOf, signsOnly, signsOnly-says, submits as submits′, submits-says, confirms, blames as blamesSeat, reached, haveReached, confirms-says, haveReached-says, blames-says}
 use Rattle.claims.specs.Safe.{safe-delivered}
 use Rattle.claims.specs.Blamed.{blamed}

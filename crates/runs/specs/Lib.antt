@@ -1,7 +1,6 @@
 -- Small runs, computed: of whole calls (`Runs`), and of lists of calls, which show that the claims of demand 3 say something
--- (`Guard`). `Toy` has what they are given, `Tests` what of a list can be computed. `Marked` has document 01's marked cases.
+-- (`Guard`). `Tests` has what of a list can be computed. `Marked` has document 01's marked cases.
 pub mod Marked
-pub mod Toy
 pub mod Runs
 pub mod Tests
 pub mod Guard

@@ -18,8 +18,8 @@ use Rattle.protocol.specs.Calls.{opening}
 use Rattle.protocol.specs.declared.Record.{Record}
 use Rattle.round.specs.Round.{Setting, IsOpened, Call, BySubmit, ByStep, ByThinEntry, IsStep, Honest, Called, outcome, resultOf, listFrom, listOf, Submits, Writes, Confirms, Reached, HaveReached, WritesEvidence, Names}
 use Rattle.round.specs.Demand1.{isNotice}
-use Rattle.claims.specs.Lists.{and-true-both, or-true-either, every-each}
-use Rattle.claims.specs.Journey.{messages, allMessages, all-member, member-all}
+use Rattle.reading.specs.Lists.{and-true-both, or-true-either, every-each}
+use Rattle.reading.specs.Messages.{messages, allMessages, all-member, member-all}
 use Rattle.claims.specs.Units.{Any, any-worthy, written-are, stands-message}
 
 -- one of a list passes a test
