@@ -9,11 +9,15 @@ use lib.Seq.{take-append-seam}
 use Rattle.octets.specs.Octets.{patch}
 use Rattle.refusal.specs.Refusal.{lowest, unrefused}
 use Rattle.protocol.specs.Message.{Message, renderAll, read}
+use Rattle.protocol.specs.Laws.{all-append}
+use Rattle.protocol.specs.ReadLaws.{WellFormed}
 use Rattle.protocol.specs.Refusals.{submitConditions, stepConditions}
 use Rattle.protocol.specs.Step.{State, submitted, stepped}
 use Rattle.protocol.specs.Calls.{Result, resultBy, start, outAfter, submit, step, answer}
 use Rattle.protocol.specs.declared.Record.{Record}
-use Rattle.round.specs.Round.{Call, BySubmit, ByStep, ByThinEntry, IsStep, Setting, Called, outcome, resultOf, counted, writtenIn, outOf}
+use Rattle.round.specs.Round.{Each, Are, Call, BySubmit, ByStep, ByThinEntry, IsStep, Setting, Called, outcome, resultOf, counted, writtenIn, outOf}
+use Rattle.round.specs.Demand1.{writtenOver}
+use Rattle.reading.specs.Lists.{each-nil, each-append}
 
 -- its refusal number, and what it comes to where nothing is refused
 unfoldable pub refusalOf : Setting → Call → Record → List ℕ → ℕ
@@ -88,3 +92,14 @@ unfolding answer resultBy
 written-is S t =
     counted-written (resultOf S t .written) (outOf (t .given)) ∙ ap (λ (x : Result). x .written) (outcome-is S (t .given) (t .unit) (t .store))
     ∙ unrefused-render (refusalOf S (t .given) (t .unit) (t .store)) (cameTo (t .given) (t .unit) (t .store) .written)
+
+-- what the calls of a list write, one after another, are the messages of each
+pub over-are : (S : Setting) (n : ℕ) (ts : List Called) → Each (λ t. Are n (writtenIn S t) (messages S t)) ts → Are n (writtenOver S ts) (allMessages S ts)
+unfolding writtenOver allMessages renderAll
+over-are S n [] h = (each-nil (WellFormed n), refl)
+over-are S n (t ∷ ts) h =
+    let a = h t (List·Memᴰ·head refl) in
+    let b = over-are S n ts (λ x d. h x (List·Memᴰ·tail d)) in (
+      each-append (WellFormed n) (messages S t) (allMessages S ts) (a .0) (b .0),
+      rw (a .1, b .1) (sym (all-append (messages S t) (allMessages S ts))),
+    )

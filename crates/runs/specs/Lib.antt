@@ -4,3 +4,4 @@ pub mod Marked
 pub mod Runs
 pub mod Tests
 pub mod Guard
+pub mod Trials

@@ -8,7 +8,7 @@ use mathlib.Core.List.{List, [], _∷_, List·Memᴰ, List·Memᴰ·head, List·
 use mathlib.Core.Logic.{inl, inr, ⊎-elim}
 use lib.Dec.{eqb, leb, ltb}
 use lib.ListN.{length}
-use borrow.Author.Tests.{eqb-true, eq-eqb, leb-true, le-leb, ltb-true, not-true}
+use borrow.Author.Tests.{eqb-true, eq-eqb, leb-true, le-leb, ltb-true}
 use Rattle.octets.specs.Strings.{same}
 use Rattle.octets.specs.StringLaws.{same-true}
 use Rattle.quorum.specs.Quorum.{t0, k, size}
@@ -18,12 +18,12 @@ use Rattle.protocol.specs.Laws.{Sized, SizedPairs}
 use Rattle.protocol.specs.ReadLaws.{WellFormed, read-render}
 use Rattle.protocol.specs.Refusals.{every, isFull, isEvidence}
 use Rattle.protocol.specs.Calls.{opening, evidenceCheck}
-use Rattle.round.specs.Round.{Each, Setting, InHand, Call, BySubmit, ByStep, ByThinEntry, IsStep, Honest, Called, outOf, resultOf, listOf, Writes, Submits, Confirms, StepGiven, Reached, HaveReached, writtenIn, WritesEvidence, Delivered, AcceptedFrom, Names, IsOpened, Family}
-use Rattle.round.specs.Demand1.{isNotice}
-use Rattle.round.specs.Demand3.{NoneForged, ReachedOthers, Blames}
+use Rattle.round.specs.Round.{Each, Are, Setting, Call, BySubmit, ByStep, ByThinEntry, IsStep, Honest, Called, outOf, resultOf, listOf, Writes, Submits, Confirms, Reached, HaveReached, writtenIn, WritesEvidence, Names, IsOpened}
+use Rattle.round.specs.Demand1.{isNotice, writtenOver}
+use Rattle.round.specs.Demand3.{Blames}
 use Rattle.reading.specs.Lists.{and-true-both, and-false-either, or-true-either, or-false-both, every-each}
 use Rattle.reading.specs.Reading.{are-unique}
-use Rattle.reading.specs.Messages.{messages, allMessages, all-member, member-all, written-is}
+use Rattle.reading.specs.Messages.{messages, allMessages, all-member, member-all, written-is, over-are}
 
 -- ---- one of a list
 
@@ -165,12 +165,12 @@ signedIn n (BySubmit value signature out) = []
 signedIn n (ByStep bytes out) = signed (read n bytes)
 signedIn n (ByThinEntry bytes out) = signed (read n bytes)
 
-given-signed : (n : ℕ) (c : Call) (bytes out : List ℕ) → IsStep c bytes out → signedIn n c ≡ signed (read n bytes)
+pub given-signed : (n : ℕ) (c : Call) (bytes out : List ℕ) → IsStep c bytes out → signedIn n c ≡ signed (read n bytes)
 unfolding signedIn
 given-signed n c bytes out (inl e) = ap (signedIn n) e
 given-signed n c bytes out (inr e) = ap (signedIn n) e
 
-signed-given : (n : ℕ) (c : Call) (s : Signed) → List·Memᴰ s (signedIn n c) → (bytes : List ℕ) × (out : List ℕ) × IsStep c bytes out × List·Memᴰ s (signed (read n bytes))
+pub signed-given : (n : ℕ) (c : Call) (s : Signed) → List·Memᴰ s (signedIn n c) → (bytes : List ℕ) × (out : List ℕ) × IsStep c bytes out × List·Memᴰ s (signed (read n bytes))
 unfolding signedIn
 signed-given n (BySubmit value signature out) s d = absurd (List·Memᴰ·not-nil d)
 signed-given n (ByStep bytes out) s d = (bytes, out, inl refl, d)
@@ -179,7 +179,7 @@ signed-given n (ByThinEntry bytes out) s d = (bytes, out, inr refl, d)
 unfoldable pub sameSigned : Signed → Signed → Bool
 sameSigned s z = eqb (s .seat) (z .seat) && (same (s .value) (z .value) && same (s .signature) (z .signature))
 
-same-signed : (s z : Signed) → sameSigned s z ≡ true → s ≡ z
+pub same-signed : (s z : Signed) → sameSigned s z ≡ true → s ≡ z
 unfolding sameSigned
 same-signed s z e =
     let a = and-true-both (eqb (s .seat) (z .seat)) (same (s .value) (z .value) && same (s .signature) (z .signature)) e in
@@ -287,6 +287,11 @@ module _ (S : Setting) where
         let formed : Each (WellFormed n) (messages S c) = λ x e. all-formed x (all-member S (listOf S u) c x (w .inList) e) in
         all-member S (listOf S u) c m (w .inList)
         (subst (λ ms. List·Memᴰ m ms) (are-unique n (writtenIn S c) (w .stands .0) (messages S c) (w .stands .1) (formed, written-is S c)) (w .stands .2))
+
+    -- and all of them
+    pub all-are : Are n (writtenOver S (listOf S u)) (all u)
+    unfolding all
+    all-are = over-are S n (listOf S u) (λ c d. (λ m e. all-formed m (all-member S (listOf S u) c m d e), written-is S c))
 
     pub confirms-says : (layout : List ℕ) → confirms u layout ≡ true → Confirms S u layout
     unfolding confirms
