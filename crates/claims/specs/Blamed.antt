@@ -24,13 +24,14 @@ use Rattle.protocol.specs.declared.Record.{Record}
 use Rattle.round.specs.Round.{Setting, IsOpened, Each, Honest, Called, resultOf, listOf, Writes, Confirms, Reached, Accepted, Names, Family}
 use Rattle.round.specs.Demand3.{Blames, ReachedOthers}
 use Rattle.round.specs.Demand1.{NOTICE, FULL, EVIDENCE, isNotice}
-use Rattle.claims.specs.Lists.{and-false-either, each-nil, each-one}
+use Rattle.reading.specs.Lists.{and-false-either, each-nil, each-one}
 use Rattle.claims.specs.Sound.{Heard, Held, Grows, Settled, Entries, Pairs, Sound, Said}
 use Rattle.claims.specs.Certificates.{sized-entries}
 use Rattle.claims.specs.Parts.{other-heard}
 use Rattle.claims.specs.Whole.{notice-heard, full-held}
 use Rattle.claims.specs.Unrefused.{possible, Taken, step-unrefused, full-taken}
-use Rattle.claims.specs.Journey.{Worthy, At, step-is, result-came}
+use Rattle.reading.specs.Messages.{step-is, result-came}
+use Rattle.claims.specs.Journey.{Worthy, At}
 use Rattle.claims.specs.Units.{Any, any-worthy, startOf, endOf, opened-range, opened-keys, start-n, start-round, trip, stop, end-n, end-seat, end-round, written-flag, flag-written, writes-good}
 use Rattle.claims.specs.Safe.{evidence-cases}
 use Rattle.claims.specs.Made.{evidence-accepted}

@@ -20,7 +20,7 @@ use Rattle.protocol.specs.Certificate.{Certificate, setOf, signatureOf, certifi
 use Rattle.protocol.specs.Laws.{lower-other, in-set, set-seats, Sized, SizedPairs}
 use Rattle.protocol.specs.Refusals.{Checks, rising}
 use Rattle.round.specs.Round.{Each, Relation}
-use Rattle.claims.specs.Lists.{cond-elim, each-map, rising-first, rising-of-rises}
+use Rattle.reading.specs.Lists.{cond-elim, each-map, rising-first, rising-of-rises}
 use Rattle.claims.specs.Sound.{Kept, Certifies, Entries, Pairs}
 
 -- ---- sets and lists of seats

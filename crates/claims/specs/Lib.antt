@@ -7,13 +7,11 @@
 -- `Sound` has what holds of record and store all along a list; `Parts` and `Whole` show it of the parts of a step and of a whole
 -- one, `Journey` and `Units` of a list. The other files have the laws that these stand on.
 
-pub mod Lists
 pub mod Slots
 pub mod Sound
 pub mod Certificates
 pub mod Parts
 pub mod Whole
-pub mod Reading
 pub mod Unrefused
 pub mod Journey
 pub mod Units

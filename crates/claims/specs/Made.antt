@@ -16,7 +16,7 @@ use Rattle.protocol.specs.Calls.{makingBy, making, checkedBy, evidenceCheck}
 use Rattle.round.specs.Round.{Setting, InHand, makingOf, Accepted}
 use Rattle.claims.specs.Sound.{InRange, Certifies, Pairs}
 use Rattle.claims.specs.Certificates.{evidence-elim, evidence-names}
-use Rattle.claims.specs.Reading.{read-laid}
+use Rattle.reading.specs.Reading.{read-laid}
 use Rattle.claims.specs.Unrefused.{Taken, MakingTaken, making-taken, evidence-unrefused, evidence-taken}
 use Rattle.claims.specs.Units.{Any, pairs-formed}
 use Rattle.claims.specs.Safe.{conditions, evidenceFrom, making-bytes, certifies-in}

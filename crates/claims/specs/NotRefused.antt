@@ -29,7 +29,7 @@ use Rattle.protocol.specs.Record.{lastRound, wrongSize, wrongSeat, wrongRound, 
 use Rattle.protocol.specs.Refusals.{Checks, every, keyAllowed, keysAllowed, wrongKeys, shortStore, shortOut, said, isForStep, isFull, isEvidence, wrongLengths, rising, early, badSignature, notLowerFirst, equalValues, formConditions, signatureConditions, outsideConditions, recordConditions, openingConditions, submitConditions, stepConditions, evidenceConditions, twoConditions, makingConditions}
 use Rattle.protocol.specs.Calls.{openedBy, opening, resultBy, submit, step, makingBy, making, checkedBy, evidenceCheck}
 use Rattle.protocol.specs.declared.Record.{Record}
-use Rattle.claims.specs.Lists.{and-true-both, or-false-both, each-one}
+use Rattle.reading.specs.Lists.{and-true-both, or-false-both, each-one}
 use Rattle.claims.specs.Sound.{InRange}
 use Rattle.claims.specs.Unrefused.{size-right, round-right, possible, Taken, of-taken, opening-range, submit-taken, step-taken, step-unrefused, evidence-checked, evidence-unrefused, making-taken}
 use Rattle.claims.specs.Journey.{fresh-sound, fresh-settled}

@@ -28,7 +28,7 @@ use Rattle.protocol.specs.declared.Notices.{Notices}
 use Rattle.protocol.specs.declared.Record.{Record}
 use Rattle.round.specs.Round.{Each, Relation}
 use Rattle.round.specs.Demand1.{Kind, SUBMIT, NOTICE, FULL, EVIDENCE, isOf, isSubmit, isNotice, worth}
-use Rattle.claims.specs.Lists.{cond-elim, and-true-both, and-false-either, each-one, each-append, count-append, count-one}
+use Rattle.reading.specs.Lists.{cond-elim, and-true-both, and-false-either, each-one, each-append, count-append, count-one}
 use Rattle.claims.specs.Slots.{keep-length, slot-keep-same, slot-keep-other, keepEach-length, slot-keepEach-other, slot-keepEach-same}
 use Rattle.claims.specs.Sound.{flagOf, Heard, Held, Grows, Room, Kept, Certifies, Pairs, Collection, Holding, Sound, Said, Good, Leads}
 use Rattle.claims.specs.Certificates.{entries-of, evidence-elim}

@@ -18,12 +18,13 @@ use Rattle.protocol.specs.Calls.{makingBy, making, made, checkedBy, evidenceChe
 use Rattle.protocol.specs.declared.Record.{Record}
 use Rattle.round.specs.Round.{Setting, IsOpened, Each, Relation, EachSigned, Call, BySubmit, ByStep, ByThinEntry, InHand, Honest, IsStep, Called, resultOf, StandsIn, listOf, Submits, WritesEvidence, makingOf, MakesEvidence, Names, AcceptedFrom, Family, Delivered}
 use Rattle.round.specs.Demand3.{Takes, NoneForged, NoneBlamed}
-use Rattle.claims.specs.Lists.{each-nil, each-one}
+use Rattle.reading.specs.Lists.{each-nil, each-one}
 use Rattle.claims.specs.Sound.{Certifies, Pairs, Good}
 use Rattle.claims.specs.Certificates.{certifies-of, evidence-elim}
-use Rattle.claims.specs.Reading.{Laid, read-laid, are-unique}
+use Rattle.reading.specs.Reading.{Laid, read-laid, are-unique}
 use Rattle.claims.specs.Unrefused.{Taken, signed-pairs, evidence-checked, making-taken, entries-taken}
-use Rattle.claims.specs.Journey.{refusalOf, cameTo, WorthyGiven, Worthy, At, counted-written, unrefused-result, submit-value}
+use Rattle.reading.specs.Messages.{refusalOf, cameTo, counted-written, unrefused-result}
+use Rattle.claims.specs.Journey.{WorthyGiven, Worthy, At, submit-value}
 use Rattle.claims.specs.Units.{Any, any-worthy, startOf, endOf, start-n, start-seat, stop, writes-good, pairs-formed}
 
 -- a value isn't lower than itself

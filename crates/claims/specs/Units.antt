@@ -2,13 +2,12 @@
 -- Assumes nothing.
 use mathlib.Core.Path.{_≡_, refl, sym, ap, subst, _∙_}
 use mathlib.Core.Bool.{true, false}
-use mathlib.Core.List.{List, [], _∷_, List·Memᴰ, List·Memᴰ·head, List·Memᴰ·tail}
+use mathlib.Core.List.{List, List·Memᴰ}
 use Prim.Native.Nat.{ℕ, _≤_}
 use native.Mathlib.Omega.{arith}
 use Rattle.quorum.specs.Quorum.{k}
 use Rattle.refusal.specs.Refusal.{unrefused}
-use Rattle.protocol.specs.Message.{Pair, Message, Submit, Notice, Full, Evidence, Garbled, renderAll}
-use Rattle.protocol.specs.Laws.{all-append}
+use Rattle.protocol.specs.Message.{Pair, Message, Submit, Notice, Full, Evidence, Garbled}
 use Rattle.protocol.specs.ReadLaws.{WellFormed}
 use Rattle.protocol.specs.Record.{fresh, lastRound}
 use Rattle.protocol.specs.Refusals.{Checks, wrongKeys}
@@ -16,13 +15,14 @@ use Rattle.protocol.specs.Calls.{openedBy, opening}
 use Rattle.protocol.specs.declared.Record.{Record}
 use Rattle.round.specs.Round.{Setting, IsOpened, Each, Relation, Call, BySubmit, ByStep, ByThinEntry, Honest, Called, resultOf, writtenIn, Are, StandsIn, listOf, Writes}
 use Rattle.round.specs.Demand1.{Kind, SUBMIT, NOTICE, FULL, EVIDENCE, isOf, worth, writtenOver}
-use Rattle.claims.specs.Lists.{worth-le-one, worth-true, true-of-worth, count-pos, count-member, each-nil, each-append}
+use Rattle.reading.specs.Lists.{worth-le-one, worth-true, true-of-worth, count-pos, count-member}
 use Rattle.claims.specs.Sound.{flagOf, Grows, InRange, Settled, Pairs, Sound, Good}
 use Rattle.claims.specs.Certificates.{sized-entries, sized-pairs}
 use Rattle.claims.specs.Parts.{grows-trans, good-grows}
-use Rattle.claims.specs.Reading.{are-unique}
+use Rattle.reading.specs.Reading.{are-unique}
 use Rattle.claims.specs.Unrefused.{opening-range}
-use Rattle.claims.specs.Journey.{messages, allMessages, all-member, member-all, lastOf, written-is, WorthyGiven, Worthy, At, Journey, journey, fresh-sound, fresh-settled}
+use Rattle.reading.specs.Messages.{messages, allMessages, all-member, member-all, written-is, over-are}
+use Rattle.claims.specs.Journey.{lastOf, WorthyGiven, Worthy, At, Journey, journey, fresh-sound, fresh-settled}
 
 -- ---- messages that a unit writes are laid out as document 01 says
 
@@ -169,15 +169,5 @@ module _ (S : Setting) (u : Honest) (opened : IsOpened S u) where
     writes-good m h = stands-good (h .call) (h .inList) m (h .stands)
 
   -- all that the list writes
-  over-are : (xs : List Called) → Each (λ t. Are n (writtenIn S t) (messages S t)) xs → Are n (writtenOver S xs) (allMessages S xs)
-  unfolding writtenOver allMessages renderAll
-  over-are [] h = (each-nil (WellFormed n), refl)
-  over-are (t ∷ xs) h =
-      let a = h t (List·Memᴰ·head refl) in
-      let b = over-are xs (λ x d. h x (List·Memᴰ·tail d)) in (
-        each-append (WellFormed n) (messages S t) (allMessages S xs) (a .0) (b .0),
-        rw (a .1, b .1) (sym (all-append (messages S t) (allMessages S xs))),
-      )
-
   pub all-are : Are n (writtenOver S ts) (allMessages S ts)
-  all-are = over-are ts (λ t d. written-are Any (any-worthy S ts) t d)
+  all-are = over-are S n ts (λ t d. written-are Any (any-worthy S ts) t d)

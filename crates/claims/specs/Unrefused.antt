@@ -23,10 +23,10 @@ use Rattle.protocol.specs.Record.{lastRound, wrongSize, wrongSeat, wrongRound, 
 use Rattle.protocol.specs.Refusals.{Checks, every, wrongKeys, shortStore, shortOut, said, isForStep, isFull, isEvidence, wrongLengths, otherRound, stranger, rising, disorder, early, badSignature, notLowerFirst, formConditions, signatureConditions, outsideConditions, recordConditions, openingConditions, submitConditions, stepConditions, evidenceConditions, equalValues, twoConditions, makingConditions}
 use Rattle.protocol.specs.declared.Record.{Record}
 use Rattle.round.specs.Round.{Each, Relation, EachSigned}
-use Rattle.claims.specs.Lists.{and-true-both, or-false-both, or-true-either, each-nil, each-cons, each-map, every-each, each-every}
+use Rattle.reading.specs.Lists.{and-true-both, or-false-both, or-true-either, each-nil, each-cons, each-map, every-each, each-every}
 use Rattle.claims.specs.Sound.{InRange, Settled, Kept, Entries, Pairs, Sound}
 use Rattle.claims.specs.Whole.{Brings}
-use Rattle.claims.specs.Reading.{Laid}
+use Rattle.reading.specs.Reading.{Laid}
 
 -- ---- ranges
 

@@ -22,11 +22,11 @@ use Rattle.protocol.specs.Step.{State, stepped}
 use Rattle.protocol.specs.Calls.{Result, resultBy}
 use Rattle.protocol.specs.declared.Record.{Record}
 use Rattle.round.specs.Round.{Setting, Each, Call, BySubmit, ByStep, ByThinEntry, Called, outcome, resultOf, listFrom, writtenIn, Are, StandsIn}
-use Rattle.claims.specs.Lists.{cond-elim, or-true-either, each-nil, each-append}
+use Rattle.reading.specs.Lists.{cond-elim, or-true-either, each-nil, each-append}
 use Rattle.claims.specs.Parts.{k-pos}
-use Rattle.claims.specs.Reading.{Laid, read-laid}
+use Rattle.reading.specs.Reading.{Laid, read-laid}
 use Rattle.claims.specs.Unrefused.{submit-taken, Taken, step-taken, brings}
-use Rattle.claims.specs.Journey.{refusalOf, cameTo, outcome-is, messages}
+use Rattle.reading.specs.Messages.{refusalOf, cameTo, outcome-is, messages}
 use Rattle.claims.specs.Units.{Any}
 use Rattle.paper.specs.Machine.{FullCertificate, Machine, init, Event, Submitted, SubmitDelivered, NoticeDelivered, FullDelivered, Action, Reaction, isSome, ownValue, distinct, conflict, uponEvent, react, Says}
 use Rattle.paper.specs.Memory.{seatsIn, noticesOf, firstOf, guiltyOf, kept, firstEntries, Keeps}

@@ -17,7 +17,7 @@ use Rattle.protocol.specs.Values.{unset}
 use Rattle.protocol.specs.Message.{Entry, Pair, Full, Evidence}
 use Rattle.protocol.specs.Refusals.{Checks, every, isFull, isEvidence}
 use Rattle.round.specs.Round.{Each}
-use Rattle.claims.specs.Lists.{cond-elim, and-true-both, each-nil, each-one, each-append}
+use Rattle.reading.specs.Lists.{cond-elim, and-true-both, each-nil, each-one, each-append}
 use Rattle.claims.specs.Parts.{k-pos}
 use Rattle.paper.specs.Machine.{FullCertificate, Machine, init, Event, Submitted, SubmitDelivered, NoticeDelivered, FullDelivered, Action, BroadcastSubmit, ConfirmAndNotice, BroadcastFull, Detect, Reaction, act, setValue, setConfirmed, addCollected, isSome, isOwn, ownValue, isFrom, distinct, conflict, valueOfFull, isFullCertificate, ownFull, isCollected, uponSubmitDelivered, uponSubmit, uponNoticeDelivered, obtain, uponFullDelivered, confirming, uponQuorum, sending, uponNoticesConflict, detecting, uponFullsConflict, uponEvent, uponRules, react, SaysConflict, Says}
 use Rattle.paper.specs.Conflicts.{some-none, conflict-found}

@@ -21,7 +21,7 @@ use Rattle.protocol.specs.Message.{Entry, Message, Submit, Notice, Full, Eviden
 use Rattle.protocol.specs.Certificate.{slot, keep, signatureOf, certificateOf, certificateIn}
 use Rattle.protocol.specs.Refusals.{Checks}
 use Rattle.protocol.specs.Step.{State, write, collect, keepValue, submitOwn, isWanted, hearSubmit, hear, reply, confirmIfComplete, submitted, stepped}
-use Rattle.claims.specs.Lists.{each-one, each-append, each-every}
+use Rattle.reading.specs.Lists.{each-one, each-append, each-every}
 use Rattle.claims.specs.Slots.{keep-length, slot-keep-same, slot-keep-other}
 use Rattle.claims.specs.Sound.{Entries}
 use Rattle.claims.specs.Certificates.{certifies-of}

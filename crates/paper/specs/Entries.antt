@@ -18,7 +18,7 @@ use Rattle.protocol.specs.Certificate.{setOf, signatureOf, entriesOf, fullOf, p
 use Rattle.protocol.specs.Laws.{in-set, set-snoc}
 use Rattle.protocol.specs.Refusals.{rising}
 use Rattle.round.specs.Round.{Each}
-use Rattle.claims.specs.Lists.{cond-elim, and-true-both, or-false-both, each-nil, each-cons, each-map, rising-first}
+use Rattle.reading.specs.Lists.{cond-elim, and-true-both, or-false-both, each-nil, each-cons, each-map, rising-first}
 use Rattle.claims.specs.Certificates.{set-below}
 use Rattle.paper.specs.Machine.{isFrom, distinct}
 use Rattle.paper.specs.Memory.{seatsIn}

@@ -25,7 +25,7 @@ use Rattle.protocol.specs.Step.{State, write, noticesWith, hear, otherHeard, ow
 use Rattle.protocol.specs.declared.Notices.{Notices}
 use Rattle.protocol.specs.declared.Record.{Record}
 use Rattle.round.specs.Round.{Each}
-use Rattle.claims.specs.Lists.{cond-elim, each-one, each-append}
+use Rattle.reading.specs.Lists.{cond-elim, each-one, each-append}
 use Rattle.claims.specs.Parts.{k-pos, in-below}
 use Rattle.claims.specs.Slots.{slot-keepEach-other, slot-keepEach-same}
 use Rattle.paper.specs.Machine.{FullCertificate, Machine, Action, ConfirmAndNotice, BroadcastFull, Detect, Reaction, act, setConfirmed, addNoticed, addObtained, setSent, isSome, ownValue, other, pairOr, conflict, valueOfNotice, valueOfFull, ownFull, uponNoticeDelivered, obtain, confirming, uponQuorum, sending, uponNoticesConflict, detecting, uponFullsConflict, uponRules}

@@ -8,7 +8,7 @@ use lib.Dec.{leb}
 use lib.ListN.{length}
 use Rattle.quorum.specs.Quorum.{k}
 use Rattle.protocol.specs.Refusals.{Checks}
-use Rattle.claims.specs.Lists.{cond-elim}
+use Rattle.reading.specs.Lists.{cond-elim}
 use Rattle.paper.specs.Machine.{FullCertificate, Machine, Detect, Reaction, act, setDetected, isSome, conflict, valueOfNotice, valueOfFull, uponNoticeDelivered, obtain, confirming, uponQuorum, sending, uponNoticesConflict, detecting, uponFullsConflict, uponRules}
 use Rattle.paper.specs.Conflicts.{some-none}
 

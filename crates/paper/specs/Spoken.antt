@@ -16,8 +16,8 @@ use Rattle.protocol.specs.Certificate.{Certificate, certificateOf, entryOf, ent
 use Rattle.protocol.specs.Laws.{lower-other, in-set}
 use Rattle.protocol.specs.Refusals.{rising}
 use Rattle.round.specs.Round.{Each, Are, StandsIn}
-use Rattle.claims.specs.Reading.{are-unique}
-use Rattle.claims.specs.Lists.{cond-elim, rising-first}
+use Rattle.reading.specs.Reading.{are-unique}
+use Rattle.reading.specs.Lists.{cond-elim, rising-first}
 use Rattle.claims.specs.Certificates.{entry-seats, pair-seats, seats-rising}
 use Rattle.paper.specs.Machine.{FullCertificate, Action, BroadcastSubmit, ConfirmAndNotice, BroadcastFull, Detect, distinct, InOrder, PairOf, SaysConflict, Says, SaysEach}
 use Rattle.paper.specs.Memory.{seatsIn}

@@ -15,7 +15,7 @@ use Rattle.quorum.specs.Quorum.{t0, k, bit, In, shared, seats}
 use Rattle.protocol.specs.Layout.{valueLength, storeLength, outLength}
 use Rattle.protocol.specs.Message.{byteAt}
 use Rattle.protocol.specs.Record.{lastRound}
-use Rattle.claims.specs.Lists.{each-nil}
+use Rattle.reading.specs.Lists.{each-nil}
 use Rattle.claims.specs.Certificates.{seats-in-set}
 use Rattle.claims.specs.Parts.{in-below}
 use Rattle.claims.specs.Claim.{setting}

@@ -15,11 +15,11 @@ use Rattle.protocol.specs.ReadLaws.{read-render}
 use Rattle.protocol.specs.Refusals.{isEvidence}
 use Rattle.round.specs.Round.{Setting, IsOpened, Call, BySubmit, ByStep, Honest, outcome, listFrom, listOf, Family, Delivered, Writes, WritesEvidence, Names}
 use Rattle.round.specs.Demand3.{NoneForged}
-use Rattle.claims.specs.Lists.{and-true-both, or-true-either}
-use Rattle.claims.specs.Journey.{refusalOf, cameTo, messages, allMessages, member-all}
+use Rattle.reading.specs.Lists.{and-true-both, or-true-either}
+use Rattle.reading.specs.Messages.{refusalOf, cameTo, messages, allMessages, member-all}
 use Rattle.claims.specs.Units.{Any, any-worthy, written-are}
 use Rattle.claims.specs.Claim.{demand-3-any}
-use Rattle.runs.specs.Toy.{unfolded, toy, layout, sign, keys, fullBy}
+use Rattle.trials.specs.Toy.{unfolded, toy, layout, sign, keys, fullBy}
 
 -- ---- what of a list can be computed
 

@@ -4,13 +4,13 @@
 -- fleet and any signature check, `SplitProof` the proof; `MadeKeys` has keys and signatures of our key maker and signer, and `Fleets` the
 -- round with these under RFC 8554's check, for any fleet, and of 4 and 7 seats.
 --
--- Computed: whole calls (`Runs`) and a forged signature (`Guard`), both with a toy for the signature check (`Toy`). `Marked` has
--- document 01's marked cases.
+-- Computed, with a toy for the signature check: whole calls (`Runs`) and a forged signature (`Guard`). `Trials` ties the trials of edits to the claims.
+-- `Marked` has document 01's marked cases.
 pub mod Marked
-pub mod Toy
 pub mod Runs
 pub mod Guard
 pub mod Split
 pub mod SplitProof
 pub mod MadeKeys
 pub mod Fleets
+pub mod Trials

@@ -12,7 +12,7 @@ use Rattle.protocol.specs.declared.Record.{Record}
 use Rattle.protocol.specs.Record.{withOwn, withNotices, withFirst, withSent, withGuilty, fresh, zeros, impossible}
 use Rattle.protocol.specs.Step.{submitted}
 use Rattle.protocol.specs.Calls.{opening, Result, submit, step, making, made, evidenceCheck, lowerCertificate}
-use Rattle.runs.specs.Toy.{unfolded, toy, layout, sign, keys, submitBy, entryBy, fullBy}
+use Rattle.trials.specs.Toy.{unfolded, toy, layout, sign, keys, submitBy, entryBy, fullBy}
 
 -- ---- what the runs are given
 

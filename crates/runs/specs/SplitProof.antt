@@ -27,14 +27,15 @@ use Rattle.protocol.specs.declared.Record.{Record}
 use Rattle.round.specs.Round.{Setting, Call, ByStep, ByThinEntry, IsStep, Honest, Called, Each, Relation, EachSigned, outcome, listFrom, listOf, IsOpened, Family, Writes, Submits, Confirms, StepGiven, Reached, MadeFrom, Delivered, MakesEvidence, makingOf}
 use Rattle.round.specs.Demand1.{SUBMIT, NOTICE, isNotice, isOf}
 use Rattle.round.specs.Demand3.{NoneForged, ReachedOthers}
-use Rattle.claims.specs.Lists.{cond-elim, and-false-either, worth-le-one, worth-true, true-of-worth, count-nil, each-nil, each-cons, each-one, each-append, each-map, rising-first}
+use Rattle.reading.specs.Lists.{cond-elim, and-false-either, worth-le-one, worth-true, true-of-worth, count-nil, each-nil, each-cons, each-one, each-append, each-map, rising-first}
 use Rattle.claims.specs.Sound.{Settled, Kept, Certifies, Entries, Sound, Said}
 use Rattle.claims.specs.Certificates.{set-size, seats-rising, sized-entries, entry-seats, entries-of, evidence-elim}
 use Rattle.claims.specs.Parts.{in-below}
 use Rattle.claims.specs.Whole.{reply-stays, hearing-stays, Done, submitted-done, submitted-value, stepped-done}
-use Rattle.claims.specs.Reading.{Laid, read-laid}
+use Rattle.reading.specs.Reading.{Laid, read-laid}
 use Rattle.claims.specs.Unrefused.{size-right, round-right, possible, Taken, of-taken, step-unrefused, entries-signed, full-taken, brings, making-taken}
-use Rattle.claims.specs.Journey.{refusalOf, cameTo, outcome-is, step-is, lastOf, WorthyGiven, Worthy}
+use Rattle.reading.specs.Messages.{refusalOf, cameTo, outcome-is, step-is}
+use Rattle.claims.specs.Journey.{lastOf, WorthyGiven, Worthy}
 use Rattle.claims.specs.Units.{Any, any-worthy, startOf, endOf, start-n, start-seat, start-round, start-flag, start-sound, start-settled, stop, end-n, end-seat, end-round, flag-written, writes-good, pairs-formed}
 use Rattle.claims.specs.Safe.{conditions, evidenceFrom, making-bytes, certifies-in, submits-end}
 use Rattle.claims.specs.Made.{Accuses, made-accepted}

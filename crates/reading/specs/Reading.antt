@@ -18,7 +18,7 @@ use Rattle.protocol.specs.Message.{Entry, Pair, Message, Submit, Notice, Full, 
 use Rattle.protocol.specs.Laws.{length-submit, length-notice, length-full, length-evidence}
 use Rattle.protocol.specs.ReadLaws.{WellFormed, read-render}
 use Rattle.round.specs.Round.{Each, Are}
-use Rattle.claims.specs.Lists.{cond-elim, and-true-both, each-nil, each-one, each-append}
+use Rattle.reading.specs.Lists.{cond-elim, and-true-both, each-nil, each-one, each-append}
 
 -- ---- what bytes are read as
 

@@ -1,0 +1,4 @@
+pub mod Toy
+pub mod Tests
+pub mod Trial
+pub mod Trials

@@ -1,0 +1,333 @@
+-- What of a round can be computed: tests on lists of calls, each with what it says of the words of `Round` and `Demand3`. Nothing
+-- here stands on a proof of the claims, so that it holds where a definition is edited too.
+-- Assumes nothing.
+use Prim.Native.Nat.{ℕ, _+_, _≤_}
+use mathlib.Core.Path.{_≡_, refl, sym, ap, subst, _∙_}
+use mathlib.Core.Bool.{Bool, true, false, not, _&&_, _||_, true≢false, false≢true}
+use mathlib.Core.List.{List, [], _∷_, List·Memᴰ, List·Memᴰ·head, List·Memᴰ·tail, List·Memᴰ·not-nil, List·Memᴰ·cases-cons}
+use mathlib.Core.Logic.{inl, inr, ⊎-elim}
+use lib.Dec.{eqb, leb, ltb}
+use lib.ListN.{length}
+use borrow.Author.Tests.{eqb-true, eq-eqb, leb-true, le-leb, ltb-true}
+use Rattle.octets.specs.Strings.{same}
+use Rattle.octets.specs.StringLaws.{same-true}
+use Rattle.quorum.specs.Quorum.{t0, k, size}
+use Rattle.protocol.specs.Layout.{valueLength, signatureLength, storeLength, outLength}
+use Rattle.protocol.specs.Message.{Entry, Pair, Message, Submit, Notice, Full, Evidence, Garbled, Signed, render, read, signed, entrySeats}
+use Rattle.protocol.specs.Laws.{Sized, SizedPairs}
+use Rattle.protocol.specs.ReadLaws.{WellFormed, read-render}
+use Rattle.protocol.specs.Refusals.{every, isFull, isEvidence}
+use Rattle.protocol.specs.Calls.{opening, evidenceCheck}
+use Rattle.round.specs.Round.{Each, Are, Setting, Call, BySubmit, ByStep, ByThinEntry, IsStep, Honest, Called, outOf, resultOf, listOf, Writes, Submits, Confirms, Reached, HaveReached, writtenIn, WritesEvidence, Names, IsOpened}
+use Rattle.round.specs.Demand1.{isNotice, writtenOver}
+use Rattle.round.specs.Demand3.{Blames}
+use Rattle.reading.specs.Lists.{and-true-both, and-false-either, or-true-either, or-false-both, every-each}
+use Rattle.reading.specs.Reading.{are-unique}
+use Rattle.reading.specs.Messages.{messages, allMessages, all-member, member-all, written-is, over-are}
+
+-- ---- one of a list
+
+unfoldable pub found {ℓ} : {A : Type ℓ} → (A → Bool) → List A → Bool
+found test [] = false
+found test (x ∷ xs) = test x || found test xs
+
+pub found-one {ℓ} : {A : Type ℓ} (test : A → Bool) (xs : List A) → found test xs ≡ true → (x : A) × List·Memᴰ x xs × (test x ≡ true)
+unfolding found
+found-one test [] e = absurd (false≢true e)
+found-one test (x ∷ xs) e =
+    ⊎-elim (λ p. (x, List·Memᴰ·head refl, p)) (λ p. let r = found-one test xs p in (r .0, List·Memᴰ·tail (r .1), r .2)) (or-true-either (test x) (found test xs) e)
+
+pub found-none {ℓ} : {A : Type ℓ} (test : A → Bool) (xs : List A) → found test xs ≡ false → Each (λ x. test x ≡ false) xs
+unfolding found
+found-none test [] e x d = absurd (List·Memᴰ·not-nil d)
+found-none test (y ∷ xs) e x d =
+    let both = or-false-both (test y) (found test xs) e in
+    ⊎-elim (λ q. subst (λ z. test z ≡ false) (sym q) (both .0)) (λ q. found-none test xs (both .1) x q) (List·Memᴰ·cases-cons d)
+
+pub every-false {ℓ} : {A : Type ℓ} (test : A → Bool) (xs : List A) → every test xs ≡ false → (x : A) × List·Memᴰ x xs × (test x ≡ false)
+unfolding every
+every-false test [] e = absurd (true≢false e)
+every-false test (x ∷ xs) e =
+    ⊎-elim (λ p. (x, List·Memᴰ·head refl, p)) (λ p. let r = every-false test xs p in (r .0, List·Memᴰ·tail (r .1), r .2)) (and-false-either (test x) (every test xs) e)
+
+-- ---- messages
+
+-- each operand has its length
+unfoldable pub entrySized : Entry → Bool
+entrySized e = eqb (length (e .signature)) signatureLength
+
+unfoldable pub pairSized : Pair → Bool
+pairSized p = eqb (length (p .lower)) signatureLength && eqb (length (p .higher)) signatureLength
+
+unfoldable pub wellFormed : ℕ → Message → Bool
+wellFormed n (Submit ρ seat value signature) = ltb ρ 65536 && (eqb (length value) valueLength && eqb (length signature) signatureLength)
+wellFormed n (Notice ρ seat value) = ltb ρ 65536 && eqb (length value) valueLength
+wellFormed n (Full ρ sender value es) = ltb ρ 65536 && (eqb (length value) valueLength && (eqb (length es) (k n) && every entrySized es))
+wellFormed n (Evidence ρ lower higher ps) =
+    ltb ρ 65536 && (eqb (length lower) valueLength && (eqb (length higher) valueLength && (leb 1 (length ps) && (leb (length ps) n && every pairSized ps))))
+wellFormed n Garbled = false
+
+sized-says : (es : List Entry) → every entrySized es ≡ true → Sized es
+unfolding every entrySized
+sized-says [] h = tt
+sized-says (e ∷ es) h =
+    let both = and-true-both (entrySized e) (every entrySized es) h in
+    (eqb-true (length (e .signature)) signatureLength (both .0), sized-says es (both .1))
+
+sizedPairs-says : (ps : List Pair) → every pairSized ps ≡ true → SizedPairs ps
+unfolding every pairSized
+sizedPairs-says [] h = tt
+sizedPairs-says (p ∷ ps) h =
+    let both = and-true-both (pairSized p) (every pairSized ps) h in
+    let two = and-true-both (eqb (length (p .lower)) signatureLength) (eqb (length (p .higher)) signatureLength) (both .0) in
+    (eqb-true (length (p .lower)) signatureLength (two .0), eqb-true (length (p .higher)) signatureLength (two .1), sizedPairs-says ps (both .1))
+
+wellFormed-says : (n : ℕ) (m : Message) → wellFormed n m ≡ true → WellFormed n m
+unfolding wellFormed
+wellFormed-says n (Submit ρ seat value signature) h =
+    let a = and-true-both (ltb ρ 65536) (eqb (length value) valueLength && eqb (length signature) signatureLength) h in
+    let b = and-true-both (eqb (length value) valueLength) (eqb (length signature) signatureLength) (a .1) in
+    (ltb-true ρ 65536 (a .0), eqb-true (length value) valueLength (b .0), eqb-true (length signature) signatureLength (b .1))
+wellFormed-says n (Notice ρ seat value) h =
+    let a = and-true-both (ltb ρ 65536) (eqb (length value) valueLength) h in
+    (ltb-true ρ 65536 (a .0), eqb-true (length value) valueLength (a .1))
+wellFormed-says n (Full ρ sender value es) h =
+    let a = and-true-both (ltb ρ 65536) (eqb (length value) valueLength && (eqb (length es) (k n) && every entrySized es)) h in
+    let b = and-true-both (eqb (length value) valueLength) (eqb (length es) (k n) && every entrySized es) (a .1) in
+    let c = and-true-both (eqb (length es) (k n)) (every entrySized es) (b .1) in
+    (ltb-true ρ 65536 (a .0), eqb-true (length value) valueLength (b .0), eqb-true (length es) (k n) (c .0), sized-says es (c .1))
+wellFormed-says n (Evidence ρ lower higher ps) h =
+    let rest = leb 1 (length ps) && (leb (length ps) n && every pairSized ps) in
+    let a = and-true-both (ltb ρ 65536) (eqb (length lower) valueLength && (eqb (length higher) valueLength && rest)) h in
+    let b = and-true-both (eqb (length lower) valueLength) (eqb (length higher) valueLength && rest) (a .1) in
+    let c = and-true-both (eqb (length higher) valueLength) rest (b .1) in
+    let d = and-true-both (leb 1 (length ps)) (leb (length ps) n && every pairSized ps) (c .1) in
+    let e = and-true-both (leb (length ps) n) (every pairSized ps) (d .1) in (
+      ltb-true ρ 65536 (a .0),
+      eqb-true (length lower) valueLength (b .0),
+      eqb-true (length higher) valueLength (c .0),
+      leb-true 1 (length ps) (d .0),
+      leb-true (length ps) n (e .0),
+      sizedPairs-says ps (e .1),
+    )
+wellFormed-says n Garbled h = absurd (false≢true h)
+
+unfoldable pub isNoticeOf : List ℕ → Message → Bool
+isNoticeOf layout (Submit ρ seat value signature) = false
+isNoticeOf layout (Notice ρ seat value) = same value layout
+isNoticeOf layout (Full ρ sender value es) = false
+isNoticeOf layout (Evidence ρ lower higher ps) = false
+isNoticeOf layout Garbled = false
+
+notice-of : (layout : List ℕ) (m : Message) → isNoticeOf layout m ≡ true → (ρ seat : ℕ) × (m ≡ Notice ρ seat layout)
+unfolding isNoticeOf
+notice-of layout (Submit ρ seat value signature) e = absurd (false≢true e)
+notice-of layout (Notice ρ seat value) e = (ρ, seat, ap (Notice ρ seat) (same-true value layout e))
+notice-of layout (Full ρ sender value es) e = absurd (false≢true e)
+notice-of layout (Evidence ρ lower higher ps) e = absurd (false≢true e)
+notice-of layout Garbled e = absurd (false≢true e)
+
+unfoldable pub isEvidenceOn : ℕ → Message → Bool
+isEvidenceOn seat m = isEvidence m && found (eqb seat) (entrySeats m)
+
+pub found-seat : (seat : ℕ) (seats : List ℕ) → found (eqb seat) seats ≡ true → List·Memᴰ seat seats
+found-seat seat seats e =
+    let g = found-one (eqb seat) seats e in
+    subst (λ s. List·Memᴰ s seats) (sym (eqb-true seat (g .0) (g .2))) (g .1)
+
+-- ---- calls
+
+unfoldable pub isStepOf : List ℕ → Call → Bool
+isStepOf bytes (BySubmit value signature out) = false
+isStepOf bytes (ByStep b out) = same b bytes
+isStepOf bytes (ByThinEntry b out) = same b bytes
+
+unfoldable pub isSubmitOf : List ℕ → Call → Bool
+isSubmitOf layout (BySubmit value signature out) = same value layout
+isSubmitOf layout (ByStep bytes out) = false
+isSubmitOf layout (ByThinEntry bytes out) = false
+
+step-of : (bytes : List ℕ) (c : Call) → isStepOf bytes c ≡ true → IsStep c bytes (outOf c)
+unfolding isStepOf
+step-of bytes (BySubmit value signature out) e = absurd (false≢true e)
+step-of bytes (ByStep b out) e = inl (ap (λ x. ByStep x out) (same-true b bytes e))
+step-of bytes (ByThinEntry b out) e = inr (ap (λ x. ByThinEntry x out) (same-true b bytes e))
+
+submit-of : (layout : List ℕ) (c : Call) → isSubmitOf layout c ≡ true → (signature : List ℕ) × (out : List ℕ) × (c ≡ BySubmit layout signature out)
+unfolding isSubmitOf
+submit-of layout (BySubmit value signature out) e = (signature, out, ap (λ v. BySubmit v signature out) (same-true value layout e))
+submit-of layout (ByStep bytes out) e = absurd (false≢true e)
+submit-of layout (ByThinEntry bytes out) e = absurd (false≢true e)
+
+-- the signatures in what a step is given
+unfoldable pub signedIn : ℕ → Call → List Signed
+signedIn n (BySubmit value signature out) = []
+signedIn n (ByStep bytes out) = signed (read n bytes)
+signedIn n (ByThinEntry bytes out) = signed (read n bytes)
+
+pub given-signed : (n : ℕ) (c : Call) (bytes out : List ℕ) → IsStep c bytes out → signedIn n c ≡ signed (read n bytes)
+unfolding signedIn
+given-signed n c bytes out (inl e) = ap (signedIn n) e
+given-signed n c bytes out (inr e) = ap (signedIn n) e
+
+pub signed-given : (n : ℕ) (c : Call) (s : Signed) → List·Memᴰ s (signedIn n c) → (bytes : List ℕ) × (out : List ℕ) × IsStep c bytes out × List·Memᴰ s (signed (read n bytes))
+unfolding signedIn
+signed-given n (BySubmit value signature out) s d = absurd (List·Memᴰ·not-nil d)
+signed-given n (ByStep bytes out) s d = (bytes, out, inl refl, d)
+signed-given n (ByThinEntry bytes out) s d = (bytes, out, inr refl, d)
+
+unfoldable pub sameSigned : Signed → Signed → Bool
+sameSigned s z = eqb (s .seat) (z .seat) && (same (s .value) (z .value) && same (s .signature) (z .signature))
+
+pub same-signed : (s z : Signed) → sameSigned s z ≡ true → s ≡ z
+unfolding sameSigned
+same-signed s z e =
+    let a = and-true-both (eqb (s .seat) (z .seat)) (same (s .value) (z .value) && same (s .signature) (z .signature)) e in
+    let b = and-true-both (same (s .value) (z .value)) (same (s .signature) (z .signature)) (a .1) in
+    ap (λ (x : ℕ). record { seat = x; value = s .value; signature = s .signature }) (eqb-true (s .seat) (z .seat) (a .0))
+    ∙ ap (λ (x : List ℕ). record { seat = z .seat; value = x; signature = s .signature }) (same-true (s .value) (z .value) (b .0))
+    ∙ ap (λ (x : List ℕ). record { seat = z .seat; value = z .value; signature = x }) (same-true (s .signature) (z .signature) (b .1))
+
+-- ---- an honest unit
+
+module _ (S : Setting) where
+  open Setting S using (n, round, keys, checks)
+
+  unfoldable pub isOpened : Honest → Bool
+  isOpened u = eqb (opening n (u .seat) round keys .number) 0
+
+  pub isOpened-says : (u : Honest) → isOpened u ≡ true → IsOpened S u
+  unfolding isOpened
+  isOpened-says u e = eqb-true (opening n (u .seat) round keys .number) 0 e
+
+  -- the messages that its list writes
+  unfoldable pub all : Honest → List Message
+  all u = allMessages S (listOf S u)
+
+  unfoldable pub formed : Honest → Bool
+  formed u = every (wellFormed n) (all u)
+
+  unfoldable pub submits : Honest → List ℕ → Bool
+  submits u layout = found (λ (c : Called). isSubmitOf layout (c .given) && eqb (resultOf S c .refusal) 0) (listOf S u)
+
+  pub submits-says : (u : Honest) (layout : List ℕ) → submits u layout ≡ true → Submits S u layout
+  unfolding submits
+  submits-says u layout e =
+      let f = found-one (λ (c : Called). isSubmitOf layout (c .given) && eqb (resultOf S c .refusal) 0) (listOf S u) e in
+      let c = f .0 in
+      let both = and-true-both (isSubmitOf layout (c .given)) (eqb (resultOf S c .refusal) 0) (f .2) in
+      let s = submit-of layout (c .given) (both .0) in
+      record { call = c; inList = f .1; signature = s .0; out = s .1; carries = s .2; unrefused = eqb-true (resultOf S c .refusal) 0 (both .1) }
+
+  -- "with store and out of the stated lengths or more"
+  abbrev storeAsked : ℕ
+  storeAsked = storeLength n
+
+  abbrev outAsked : ℕ
+  outAsked = outLength n
+
+  unfoldable pub reached : Honest → List ℕ → Bool
+  reached u bytes =
+      found (λ (c : Called). isStepOf bytes (c .given) && (leb storeAsked (length (c .store)) && leb outAsked (length (outOf (c .given))))) (listOf S u)
+
+  reached-says : (u : Honest) (bytes : List ℕ) → reached u bytes ≡ true → Reached S u bytes
+  unfolding reached
+  reached-says u bytes e =
+      let f = found-one (λ (c : Called). isStepOf bytes (c .given) && (leb storeAsked (length (c .store)) && leb outAsked (length (outOf (c .given))))) (listOf S u) e in
+      let c = f .0 in
+      let a = and-true-both (isStepOf bytes (c .given)) (leb storeAsked (length (c .store)) && leb outAsked (length (outOf (c .given)))) (f .2) in
+      let b = and-true-both (leb storeAsked (length (c .store))) (leb outAsked (length (outOf (c .given)))) (a .1) in
+      record {
+        step = record { call = c; inList = f .1; out = outOf (c .given); isStep = step-of bytes (c .given) (a .0) };
+        storeRoom = leb-true storeAsked (length (c .store)) (b .0);
+        outRoom = leb-true outAsked (length (outOf (c .given))) (b .1);
+      }
+
+  unfoldable pub confirms : Honest → List ℕ → Bool
+  confirms u layout = found (isNoticeOf layout) (all u)
+
+  -- "the notice and full certificate of each"
+  unfoldable pub mustReach : Message → Bool
+  mustReach m = isNotice m || isFull m
+
+  unfoldable pub haveReached : Honest → Honest → Bool
+  haveReached u other = every (λ (m : Message). not (mustReach m) || reached other (render m)) (all u)
+
+  -- "at least t0 + 1 seats"
+  abbrev seatsOwed : ℕ
+  seatsOwed = t0 n + 1
+
+  unfoldable pub blamesIn : Message → Bool
+  blamesIn m =
+      let answer = evidenceCheck checks n round keys (render m) in
+      isEvidence m && (eqb (answer .number) 0 && leb seatsOwed (size (answer .mask)))
+
+  unfoldable pub blames : Honest → Bool
+  blames u = found blamesIn (all u)
+
+  unfoldable pub accuses : Honest → ℕ → Bool
+  accuses u seat = found (isEvidenceOn seat) (all u)
+
+  -- where each of its messages is well-formed, what its list writes are these
+  module _ (u : Honest) (f : formed u ≡ true) where
+    all-formed : Each (WellFormed n) (all u)
+    unfolding formed
+    all-formed m d = wellFormed-says n m (every-each (wellFormed n) (all u) f m d)
+
+    member-writes : (m : Message) → List·Memᴰ m (all u) → Writes S u m
+    unfolding all
+    member-writes m d =
+        let h = member-all S (listOf S u) m d in
+        record { call = h .0; inList = h .1; stands = (messages S (h .0), (λ x e. all-formed x (all-member S (listOf S u) (h .0) x (h .1) e), written-is S (h .0)), h .2) }
+
+    writes-member : (m : Message) → Writes S u m → List·Memᴰ m (all u)
+    unfolding all
+    writes-member m w =
+        let c = w .call in
+        let formed : Each (WellFormed n) (messages S c) = λ x e. all-formed x (all-member S (listOf S u) c x (w .inList) e) in
+        all-member S (listOf S u) c m (w .inList)
+        (subst (λ ms. List·Memᴰ m ms) (are-unique n (writtenIn S c) (w .stands .0) (messages S c) (w .stands .1) (formed, written-is S c)) (w .stands .2))
+
+    -- and all of them
+    pub all-are : Are n (writtenOver S (listOf S u)) (all u)
+    unfolding all
+    all-are = over-are S n (listOf S u) (λ c d. (λ m e. all-formed m (all-member S (listOf S u) c m d e), written-is S c))
+
+    pub confirms-says : (layout : List ℕ) → confirms u layout ≡ true → Confirms S u layout
+    unfolding confirms
+    confirms-says layout e =
+        let g = found-one (isNoticeOf layout) (all u) e in
+        let s = notice-of layout (g .0) (g .2) in
+        (s .0, s .1, member-writes (Notice (s .0) (s .1) layout) (subst (λ m. List·Memᴰ m (all u)) (s .2) (g .1)))
+
+    pub haveReached-says : (other : Honest) → haveReached u other ≡ true → HaveReached S u other
+    unfolding haveReached mustReach isNotice isFull
+    haveReached-says other e =
+        let each = every-each (λ (m : Message). not (mustReach m) || reached other (render m)) (all u) e in
+        record {
+          notice = λ ρ seat layout w. reached-says other (render (Notice ρ seat layout)) (each (Notice ρ seat layout) (writes-member (Notice ρ seat layout) w));
+          full = λ ρ sender layout es w. reached-says other (render (Full ρ sender layout es)) (each (Full ρ sender layout es) (writes-member (Full ρ sender layout es) w));
+        }
+
+    -- no evidence that it wrote is accepted and names enough
+    pub blames-not : blames u ≡ false → Blames S u → ⊥
+    unfolding blames blamesIn
+    blames-not e b =
+        let m = b .written .message in
+        let answer = evidenceCheck checks n round keys (render m) in
+        let d = writes-member m (b .written .writes) in
+        let number : answer .number ≡ 0 = subst (λ bytes. evidenceCheck checks n round keys bytes .number ≡ 0) (b .written .bytes) (b .accepted) in
+        let mask : answer .mask ≡ b .seats = subst (λ bytes. evidenceCheck checks n round keys bytes .mask ≡ b .seats) (b .written .bytes) (b .answered) in
+        let enough : leb seatsOwed (size (answer .mask)) ≡ true = le-leb seatsOwed (size (answer .mask)) (subst (λ s. seatsOwed ≤ size s) (sym mask) (b .enough)) in
+        true≢false (sym (rw (b .written .kind, eq-eqb (answer .number) 0 number, enough)) ∙ found-none blamesIn (all u) e m d)
+
+    pub accuses-says : (seat : ℕ) → accuses u seat ≡ true → (evidence : List ℕ) × WritesEvidence S u evidence × Names S evidence seat
+    unfolding accuses isEvidenceOn
+    accuses-says seat e =
+        let g = found-one (isEvidenceOn seat) (all u) e in
+        let m = g .0 in
+        let both = and-true-both (isEvidence m) (found (eqb seat) (entrySeats m)) (g .2) in (
+          render m,
+          record { message = m; kind = both .0; bytes = refl; writes = member-writes m (g .1) },
+          subst (λ x. List·Memᴰ seat (entrySeats x)) (sym (read-render n m (all-formed m (g .1)))) (found-seat seat (entrySeats m) (both .1)),
+        )

@@ -1,0 +1,229 @@
+-- A trial of a claim: a run, and from two computed answers, that the claim's premises hold there and that its conclusion doesn't,
+-- the proof that the claim is false.
+-- Assumes nothing.
+use Prim.Native.Nat.{ℕ}
+use mathlib.Core.Path.{_≡_, refl, sym, ap, subst, _∙_}
+use mathlib.Core.Bool.{Bool, true, false, not, _&&_, _||_, true≢false}
+use mathlib.Core.List.{List, List·Memᴰ}
+use mathlib.Core.Logic.{inl, ⊎-elim, _≢_}
+use lib.Dec.{eqb, leb}
+use borrow.Author.Tests.{eqb-true, eqb-false, eq-eqb, le-leb, not-true, not-false}
+use Rattle.octets.specs.Strings.{same}
+use Rattle.octets.specs.StringLaws.{same-refl}
+use Rattle.protocol.specs.Message.{Signed, read, signed, entrySeats}
+use Rattle.protocol.specs.Record.{impossible}
+use Rattle.protocol.specs.Refusals.{every}
+use Rattle.protocol.specs.Calls.{evidenceCheck}
+use Rattle.round.specs.Round.{Setting, InHand, Honest, Called, IsOpened, Family, resultOf, listOf, StepGiven, MadeFrom, Delivered, AcceptedFrom, Names}
+use Rattle.round.specs.Demand1.{Kind, SUBMIT, NOTICE, FULL, EVIDENCE, isOf, count, AtMostOne}
+use Rattle.round.specs.Demand3.{NoneForged, NoneBlamed, ReachedOthers, Demand3}
+use Rattle.reading.specs.Lists.{and-true-both, or-true-either, every-each}
+use Rattle.trials.specs.Tests.{found, found-one, every-false, found-seat, signedIn, given-signed, signed-given, sameSigned, same-signed, isOpened, isOpened-says, all, formed, submits, submits-says, confirms, confirms-says, haveReached, haveReached-says, blames, blames-not, accuses, accuses-says, all-are}
+
+pub record Trial {ℓ} (claim : Type ℓ) : Type ℓ where
+  pub premises : Bool
+  pub conclusion : Bool
+  pub refutes : premises ≡ true → conclusion ≡ false → claim → ⊥
+
+abbrev pub claimOf {ℓ} : {C : Type ℓ} → Trial C → Type ℓ
+claimOf {C = C} t = C
+
+-- what the run answers: do the claim's premises hold, and does its conclusion?
+abbrev pub answer {ℓ} : {C : Type ℓ} → Trial C → Bool × Bool
+answer t = (t .premises, t .conclusion)
+
+pub refuted {ℓ} : {C : Type ℓ} (t : Trial C) → answer t ≡ (true, false) → C → ⊥
+refuted t e = t .refutes (ap (λ (p : Bool × Bool). p .0) e) (ap (λ (p : Bool × Bool). p .1) e)
+
+-- ---- demand 1: one boat
+
+module _ (S : Setting) (u : Honest) where
+  open Setting S using (n)
+
+  abbrev pub once : Kind → Bool
+  once κ = leb (count (isOf κ) (all S u)) 1
+
+  -- at most one of each message
+  unfoldable pub onceEach : Trial (IsOpened S u → AtMostOne S u)
+  onceEach = record {
+    premises = isOpened S u && formed S u;
+    conclusion = once SUBMIT && (once NOTICE && (once FULL && once EVIDENCE));
+    refutes = λ p c claim.
+        let both = and-true-both (isOpened S u) (formed S u) p in
+        let one : (κ : Kind) → once κ ≡ true = λ κ. le-leb (count (isOf κ) (all S u)) 1 (claim (isOpened-says S u (both .0)) (all S u) (all-are S u (both .1)) κ) in
+        true≢false (sym (rw (one SUBMIT, one NOTICE, one FULL, one EVIDENCE)) ∙ c);
+  }
+
+  -- no record that comes out of a call is impossible
+  abbrev pub possible : Called → Bool
+  possible c = not (impossible (resultOf S c .unit))
+
+  unfoldable pub possibleEach : Trial (IsOpened S u → (c : Called) → List·Memᴰ c (listOf S u) → impossible (resultOf S c .unit) ≡ false)
+  possibleEach = record {
+    premises = isOpened S u;
+    conclusion = every possible (listOf S u);
+    refutes = λ p c claim.
+        let f = every-false possible (listOf S u) c in
+        true≢false (sym (not-false (impossible (resultOf S (f .0) .unit)) (f .2)) ∙ claim (isOpened-says S u p) (f .0) (f .1));
+  }
+
+-- ---- demand 3: some boats
+
+-- all of them, each with a place of its own
+pub record Crew (I : Type 0) : Type 0 where
+  pub everyone : List I
+  pub complete : (i : I) → List·Memᴰ i everyone
+  pub place : I → ℕ
+  pub at : ℕ → I
+  pub at-place : (i : I) → at (place i) ≡ i
+
+module _ (S : Setting) {I : Type 0} (crew : Crew I) (boat : I → Honest) where
+  open Setting S using (n, round, keys, checks)
+
+  abbrev pub alike : I → I → Bool
+  alike i j = eqb (crew .place i) (crew .place j)
+
+  alike-same : (i j : I) → alike i j ≡ true → i ≡ j
+  alike-same i j e = sym (crew .at-place i) ∙ ap (crew .at) (eqb-true (crew .place i) (crew .place j) e) ∙ crew .at-place j
+
+  abbrev pub each : (I → Bool) → Bool
+  each test = every test (crew .everyone)
+
+  each-says : (test : I → Bool) → each test ≡ true → (i : I) → test i ≡ true
+  each-says test e i = every-each test (crew .everyone) e i (crew .complete i)
+
+  abbrev pub someone : (I → Bool) → Bool
+  someone test = found test (crew .everyone)
+
+  -- "openings not refused, and each its own seat"; and what each writes is well-formed messages
+  abbrev pub apart : I → I → Bool
+  apart i j = alike i j || not (eqb (boat i .seat) (boat j .seat))
+
+  abbrev pub family : Bool
+  family = each (λ i. isOpened S (boat i)) && (each (λ i. each (apart i)) && each (λ i. formed S (boat i)))
+
+  pub family-says : family ≡ true → Family S boat × ((i : I) → formed S (boat i) ≡ true)
+  family-says e =
+      let a = and-true-both (each (λ i. isOpened S (boat i))) (each (λ i. each (apart i)) && each (λ i. formed S (boat i))) e in
+      let b = and-true-both (each (λ i. each (apart i))) (each (λ i. formed S (boat i))) (a .1) in (
+        record {
+          opened = λ i. isOpened-says S (boat i) (each-says (λ l. isOpened S (boat l)) (a .0) i);
+          apart = λ i j other same.
+              ⊎-elim (λ q. other (alike-same i j q)) (λ q. eqb-false (boat i .seat) (boat j .seat) (not-true (eqb (boat i .seat) (boat j .seat)) q) same)
+              (or-true-either (alike i j) (not (eqb (boat i .seat) (boat j .seat))) (each-says (apart i) (each-says (λ l. each (apart l)) (b .0) i) j));
+        },
+        each-says (λ i. formed S (boat i)) (b .1),
+      )
+
+  -- ---- accountability
+
+  abbrev pub reachedOthers : I → Bool
+  reachedOthers i = each (λ l. alike l i || haveReached S (boat i) (boat l))
+
+  pub reachedOthers-says : (i : I) → formed S (boat i) ≡ true → reachedOthers i ≡ true → ReachedOthers S boat i
+  reachedOthers-says i f e l other =
+      ⊎-elim (λ q. absurd (other (alike-same l i q))) (λ q. haveReached-says S (boat i) f (boat l) q)
+      (or-true-either (alike l i) (haveReached S (boat i) (boat l)) (each-says (λ x. alike x i || haveReached S (boat i) (boat x)) e l))
+
+  -- two boats confirm two layouts: does every boat blame?
+  unfoldable pub accountability : I → I → List ℕ → List ℕ → Trial (Family S boat → Demand3 S boat)
+  accountability i j a b = record {
+    premises = family && (not (same a b) && (confirms S (boat i) a && (confirms S (boat j) b && (reachedOthers i && reachedOthers j))));
+    conclusion = each (λ l. blames S (boat l));
+    refutes = λ p c claim.
+        let q = and-true-both family (not (same a b) && (confirms S (boat i) a && (confirms S (boat j) b && (reachedOthers i && reachedOthers j)))) p in
+        let r = and-true-both (not (same a b)) (confirms S (boat i) a && (confirms S (boat j) b && (reachedOthers i && reachedOthers j))) (q .1) in
+        let s = and-true-both (confirms S (boat i) a) (confirms S (boat j) b && (reachedOthers i && reachedOthers j)) (r .1) in
+        let t = and-true-both (confirms S (boat j) b) (reachedOthers i && reachedOthers j) (s .1) in
+        let u = and-true-both (reachedOthers i) (reachedOthers j) (t .1) in
+        let known = family-says (q .0) in
+        let formed = known .1 in
+        let different : a ≢ b = λ e. true≢false (sym (subst (λ x. same a x ≡ true) e (same-refl a)) ∙ not-true (same a b) (r .0)) in
+        let l = every-false (λ l. blames S (boat l)) (crew .everyone) c in
+        blames-not S (boat (l .0)) (formed (l .0)) (l .2)
+        (claim (known .0) .accountability i j a b different (confirms-says S (boat i) (formed i) a (s .0)) (confirms-says S (boat j) (formed j) b (t .0))
+        (reachedOthers-says i (formed i) (u .0)) (reachedOthers-says j (formed j) (u .1)) (l .0));
+  }
+
+  -- ---- safety
+
+  -- none of its signatures is forged: of the seat, over a layout that it didn't submit, and yet it checks
+  abbrev pub genuine : I → Signed → Bool
+  genuine i s = not (eqb (s .seat) (boat i .seat)) || (submits S (boat i) (s .value) || not (checks (s .seat) (s .value) (s .signature)))
+
+  abbrev pub noneForged : Bool
+  noneForged = each (λ i. each (λ j. every (λ (c : Called). every (genuine i) (signedIn n (c .given))) (listOf S (boat j))))
+
+  -- no evidence is made from certificates in hand
+  abbrev pub noneInHand : Bool
+  noneInHand = each (λ i. every (λ (h : InHand). false) (boat i .inHand))
+
+  pub noneForged-says : noneForged ≡ true → noneInHand ≡ true → NoneForged S boat (Delivered S boat)
+  noneForged-says e empty i layout signature d never = ⊎-elim stepped made (d .given)
+    where
+      s : Signed
+      s = record { seat = boat i .seat; value = layout; signature = signature }
+
+      stepped : StepGiven S (boat (d .to)) (d .bytes) → checks (boat i .seat) layout signature ≡ false
+      stepped g =
+          let c = g .call in
+          let mine = each-says (λ j. every (λ (x : Called). every (genuine i) (signedIn n (x .given))) (listOf S (boat j))) (each-says (λ l. each (λ j. every (λ (x : Called). every (genuine l) (signedIn n (x .given))) (listOf S (boat j)))) e i) (d .to) in
+          let here = every-each (λ (x : Called). every (genuine i) (signedIn n (x .given))) (listOf S (boat (d .to))) mine c (g .inList) in
+          let m : List·Memᴰ s (signedIn n (c .given)) = subst (λ l. List·Memᴰ s l) (sym (given-signed n (c .given) (d .bytes) (g .out) (g .isStep))) (d .stands) in
+          let test = every-each (genuine i) (signedIn n (c .given)) here s m in
+          ⊎-elim (λ q. absurd (true≢false (sym (eq-eqb (boat i .seat) (boat i .seat) refl) ∙ not-true (eqb (boat i .seat) (boat i .seat)) q)))
+          (λ q. ⊎-elim (λ p. absurd (never (submits-says S (boat i) layout p))) (λ p. not-true (checks (boat i .seat) layout signature) p) (or-true-either (submits S (boat i) layout) (not (checks (boat i .seat) layout signature)) q))
+          (or-true-either (not (eqb (boat i .seat) (boat i .seat))) (submits S (boat i) layout || not (checks (boat i .seat) layout signature)) test)
+
+      made : MadeFrom S (boat (d .to)) (d .bytes) → checks (boat i .seat) layout signature ≡ false
+      made h = absurd (true≢false (sym (every-each (λ (x : InHand). false) (boat (d .to) .inHand) (each-says (λ l. every (λ (x : InHand). false) (boat l .inHand)) empty (d .to)) (h .hand) (h .has))))
+
+  -- a signature stands in what a step in a list is given
+  abbrev pub delivered : Signed → Bool
+  delivered s = someone (λ i. found (λ (c : Called). found (sameSigned s) (signedIn n (c .given))) (listOf S (boat i)))
+
+  delivered-says : (s : Signed) → delivered s ≡ true → Delivered S boat (s .seat) (s .value) (s .signature)
+  delivered-says s e =
+      let i = found-one (λ i. found (λ (c : Called). found (sameSigned s) (signedIn n (c .given))) (listOf S (boat i))) (crew .everyone) e in
+      let c = found-one (λ (c : Called). found (sameSigned s) (signedIn n (c .given))) (listOf S (boat (i .0))) (i .2) in
+      let z = found-one (sameSigned s) (signedIn n (c .0 .given)) (c .2) in
+      let g = signed-given n (c .0 .given) s (subst (λ x. List·Memᴰ x (signedIn n (c .0 .given))) (sym (same-signed s (z .0) (z .2))) (z .1)) in
+      record { to = i .0; bytes = g .0; given = inl (record { call = c .0; inList = c .1; out = g .1; isStep = g .2 }); stands = g .3 }
+
+  -- evidence is accepted from delivered signatures, and names the boat's seat
+  abbrev pub framed : I → List ℕ → Bool
+  framed i evidence =
+      eqb (evidenceCheck checks n round keys evidence .number) 0
+      && (every delivered (signed (read n evidence)) && found (eqb (boat i .seat)) (entrySeats (read n evidence)))
+
+  pub framed-says : (i : I) (evidence : List ℕ) → framed i evidence ≡ true → AcceptedFrom S (Delivered S boat) evidence × Names S evidence (boat i .seat)
+  framed-says i evidence e =
+      let m = read n evidence in
+      let number = evidenceCheck checks n round keys evidence .number in
+      let a = and-true-both (eqb number 0) (every delivered (signed m) && found (eqb (boat i .seat)) (entrySeats m)) e in
+      let b = and-true-both (every delivered (signed m)) (found (eqb (boat i .seat)) (entrySeats m)) (a .1) in
+      ((eqb-true number 0 (a .0), λ s d. delivered-says s (every-each delivered (signed m) (b .0) s d)), found-seat (boat i .seat) (entrySeats m) (b .1))
+
+  -- no signature is forged: is no boat's seat in evidence that a boat writes, nor in any of these, accepted from delivered ones?
+  unfoldable pub safety : List (List ℕ) → Trial (Family S boat → Demand3 S boat)
+  safety tried = record {
+    premises = family && (noneForged && noneInHand);
+    conclusion = each (λ i. not (someone (λ j. accuses S (boat j) (boat i .seat)) || found (framed i) tried));
+    refutes = λ p c claim.
+        let a = and-true-both family (noneForged && noneInHand) p in
+        let b = and-true-both noneForged noneInHand (a .1) in
+        let known = family-says (a .0) in
+        let none : NoneBlamed S boat (Delivered S boat) = claim (known .0) .safety (noneForged-says (b .0) (b .1)) in
+        let l = every-false (λ i. not (someone (λ j. accuses S (boat j) (boat i .seat)) || found (framed i) tried)) (crew .everyone) c in
+        let i = l .0 in
+        ⊎-elim
+        (λ q.
+        let j = found-one (λ j. accuses S (boat j) (boat i .seat)) (crew .everyone) q in
+        let w = accuses-says S (boat (j .0)) (known .1 (j .0)) (boat i .seat) (j .2) in
+        none .written i (j .0) (w .0) (w .1) (w .2))
+        (λ q.
+        let e = found-one (framed i) tried q in
+        let w = framed-says i (e .0) (e .2) in
+        none .accepted i (e .0) (w .0) (w .1))
+        (or-true-either (someone (λ j. accuses S (boat j) (boat i .seat))) (found (framed i) tried) (not-false (someone (λ j. accuses S (boat j) (boat i .seat)) || found (framed i) tried) (l .2)));
+  }

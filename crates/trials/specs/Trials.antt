@@ -1,0 +1,216 @@
+-- The runs on which edits of definitions are tried: four seats, two or three boats with short lists of calls, and a toy for the
+-- signature check. A run may give a boat what another has written, so that it goes as the definitions say, edited or not.
+-- Assumes nothing.
+use Prim.Native.Nat.{ℕ, zero, suc}
+use mathlib.Core.Path.{_≡_, refl}
+use mathlib.Core.Bool.{Bool, true, false, cond}
+use mathlib.Core.List.{List, [], _∷_, _++_, map, List·Memᴰ, List·Memᴰ·head, List·Memᴰ·tail}
+use lib.ListN.{replicate}
+use Rattle.protocol.specs.Message.{Entry, Pair, Message, Submit, Notice, Full, Evidence, Garbled, render, byteAt}
+use Rattle.round.specs.Round.{Setting, Call, BySubmit, ByStep, Called, Honest, IsOpened, Family, outcome, resultOf, listFrom, listOf}
+use Rattle.round.specs.Demand1.{isSubmit, isNotice, worth, count, AtMostOne}
+use Rattle.round.specs.Demand3.{Demand3}
+use Rattle.protocol.specs.Record.{impossible}
+use Rattle.protocol.specs.Refusals.{isFull}
+use Rattle.reading.specs.Messages.{refusalOf, cameTo, allMessages}
+use Rattle.trials.specs.Toy.{unfolded, toy, layout, sign, keys, submitBy, entryBy, fullBy}
+use Rattle.trials.specs.Tests.{found, entrySized, pairSized, wellFormed, isNoticeOf, isEvidenceOn, isStepOf, isSubmitOf, signedIn, sameSigned, isOpened, all, formed, submits, reached, confirms, mustReach, haveReached, blamesIn, blames, accuses}
+use Rattle.trials.specs.Trial.{Trial, onceEach, possibleEach, Crew, accountability, safety}
+
+-- ---- what the runs are given
+
+abbrev pub four : Setting
+four = record { n = 4; round = 5; keys = keys 4; checks = toy }
+
+abbrev pub room : List ℕ
+room = replicate 14709 0
+
+abbrev pub says : ℕ → ℕ → Call
+says seat b = BySubmit (layout b) (sign seat b) room
+
+abbrev pub hears : Message → Call
+hears m = ByStep (render m) room
+
+abbrev pub boatAt : ℕ → List Call → Honest
+boatAt seat calls = record { seat = seat; store = replicate 11616 1; calls = calls; inHand = [] }
+
+-- those of a list that pass a test
+unfoldable pub those {ℓ} : {A : Type ℓ} → (A → Bool) → List A → List A
+those test [] = []
+those test (x ∷ xs) = cond (test x) (x ∷ those test xs) (those test xs)
+
+-- the NOTICE and FULL that a boat has written
+unfoldable pub sentBy : Honest → List Message
+sentBy u = those (mustReach four) (all four u)
+
+-- ---- two boats, and three
+
+abbrev pub ofTwo {ℓ} : {A : Type ℓ} → A → A → Bool → A
+ofTwo a b false = a
+ofTwo a b true = b
+
+pub data Three : Type 0 where
+  Zeroth First Second : Three
+
+abbrev pub ofThree {ℓ} : {A : Type ℓ} → A → A → A → Three → A
+ofThree a b c Zeroth = a
+ofThree a b c First = b
+ofThree a b c Second = c
+
+abbrev pub atTwo : ℕ → Bool
+atTwo zero = false
+atTwo (suc i) = true
+
+pub two-complete : (i : Bool) → List·Memᴰ i (false ∷ true ∷ [])
+two-complete false = List·Memᴰ·head refl
+two-complete true = List·Memᴰ·tail (List·Memᴰ·head refl)
+
+pub two-at : (i : Bool) → atTwo (ofTwo 0 1 i) ≡ i
+two-at false = refl
+two-at true = refl
+
+unfoldable pub two : Crew Bool
+two = record { everyone = false ∷ true ∷ []; complete = two-complete; place = ofTwo 0 1; at = atTwo; at-place = two-at }
+
+abbrev pub atThree : ℕ → Three
+atThree zero = Zeroth
+atThree (suc zero) = First
+atThree (suc (suc i)) = Second
+
+pub three-complete : (i : Three) → List·Memᴰ i (Zeroth ∷ First ∷ Second ∷ [])
+three-complete Zeroth = List·Memᴰ·head refl
+three-complete First = List·Memᴰ·tail (List·Memᴰ·head refl)
+three-complete Second = List·Memᴰ·tail (List·Memᴰ·tail (List·Memᴰ·head refl))
+
+pub three-at : (i : Three) → atThree (ofThree 0 1 2 i) ≡ i
+three-at Zeroth = refl
+three-at First = refl
+three-at Second = refl
+
+unfoldable pub three : Crew Three
+three = record { everyone = Zeroth ∷ First ∷ Second ∷ []; complete = three-complete; place = ofThree 0 1 2; at = atThree; at-place = three-at }
+
+-- ---- accountability: seats 2 and 3 sign twice, and seats 0 and 1 confirm different layouts
+
+-- a boat hears a NOTICE of the other's layout, submits its own and collects what seats 2 and 3 signed
+abbrev pub noticed : ℕ → ℕ → ℕ → ℕ → Honest
+noticed seat b other c = boatAt seat (hears (Notice 5 other (layout c)) ∷ says seat b ∷ hears (submitBy 2 b) ∷ hears (submitBy 3 b) ∷ [])
+
+-- then what the other has written comes
+abbrev pub then : Honest → List Call → Honest
+then u more = record { seat = u .seat; store = u .store; calls = u .calls ++ more; inHand = [] }
+
+abbrev pub seven : Honest
+seven = noticed 0 7 1 9
+
+abbrev pub nine : Honest
+nine = noticed 1 9 0 7
+
+abbrev pub divided : Bool → Honest
+divided = ofTwo (then seven (map hears (sentBy nine))) (then nine (map hears (sentBy seven)))
+
+unfoldable pub dividedBoats : Trial (Family four divided → Demand3 four divided)
+dividedBoats = accountability four two divided false true (layout 7) (layout 9)
+
+-- a third boat that has submitted nothing gets what both have written
+abbrev pub witnessed : Three → Honest
+witnessed = ofThree (divided false) (divided true) (boatAt 2 (map hears (sentBy seven ++ sentBy nine)))
+
+unfoldable pub witnessedBoats : Trial (Family four witnessed → Demand3 four witnessed)
+witnessedBoats = accountability four three witnessed Zeroth First (layout 7) (layout 9)
+
+-- a third boat's store is a byte short
+abbrev pub shortStored : Three → Honest
+shortStored = ofThree (divided false) (divided true) (record { seat = 2; store = replicate 11615 1; calls = map hears (sentBy seven ++ sentBy nine); inHand = [] })
+
+unfoldable pub shortStoredBoats : Trial (Family four shortStored → Demand3 four shortStored)
+shortStoredBoats = accountability four three shortStored Zeroth First (layout 7) (layout 9)
+
+-- one boat's out is a byte short when the other's NOTICE and FULL come
+abbrev pub shortOuted : Bool → Honest
+shortOuted = ofTwo (divided false) (then nine (map (λ m. ByStep (render m) (replicate 14708 0)) (sentBy seven)))
+
+unfoldable pub shortOutedBoats : Trial (Family four shortOuted → Demand3 four shortOuted)
+shortOutedBoats = accountability four two shortOuted false true (layout 7) (layout 9)
+
+-- neither hears the other's NOTICE, and what FULL either writes comes
+abbrev pub confirming : ℕ → ℕ → Honest
+confirming seat b = boatAt seat (says seat b ∷ hears (submitBy 2 b) ∷ hears (submitBy 3 b) ∷ [])
+
+abbrev pub unheard : Bool → Honest
+unheard = ofTwo (then (confirming 0 7) (map hears (those isFull (all four (confirming 1 9))))) (then (confirming 1 9) (map hears (those isFull (all four (confirming 0 7)))))
+
+unfoldable pub unheardBoats : Trial (Family four unheard → Demand3 four unheard)
+unheardBoats = accountability four two unheard false true (layout 7) (layout 9)
+
+-- ---- safety: seat 0 submits the layout 7 and nobody forges
+
+-- a certificate of the layout 9 with a signature of seat 0 that doesn't check comes after one of the layout 7
+abbrev pub unsigned : Bool → Honest
+unsigned = ofTwo (boatAt 0 (says 0 7 ∷ [])) (boatAt 1 (hears (fullBy 7 0 2 3) ∷ hears (Full 5 2 (layout 9) (entryBy 7 0 ∷ entryBy 9 2 ∷ entryBy 9 3 ∷ [])) ∷ []))
+
+unfoldable pub unsignedBoats : Trial (Family four unsigned → Demand3 four unsigned)
+unsignedBoats = safety four two unsigned []
+
+-- seats 2 and 3 make a certificate with each SUBMIT that seat 0 writes
+unfoldable pub certified : Message → List Call
+certified (Submit ρ seat value signature) =
+    hears (Full ρ 2 value (record { seat = seat; signature = signature } ∷ entryBy (byteAt value 0) 2 ∷ entryBy (byteAt value 0) 3 ∷ [])) ∷ []
+certified (Notice ρ seat value) = []
+certified (Full ρ sender value entries) = []
+certified (Evidence ρ lower higher entries) = []
+certified Garbled = []
+
+unfoldable pub certifiedEach : List Message → List Call
+certifiedEach [] = []
+certifiedEach (m ∷ ms) = certified m ++ certifiedEach ms
+
+abbrev pub submitting : Honest
+submitting = boatAt 0 (says 0 7 ∷ says 0 9 ∷ [])
+
+abbrev pub twice : Bool → Honest
+twice = ofTwo submitting (boatAt 1 (certifiedEach (all four submitting)))
+
+unfoldable pub twiceBoats : Trial (Family four twice → Demand3 four twice)
+twiceBoats = safety four two twice []
+
+-- seat 0 holds a certificate of seats 1, 2 and 3, and confirms with seats 2 and 3
+abbrev pub holding : Bool → Honest
+holding = ofTwo (boatAt 0 (hears (fullBy 9 1 2 3) ∷ says 0 7 ∷ hears (submitBy 2 7) ∷ hears (submitBy 3 7) ∷ [])) (boatAt 1 (says 1 9 ∷ []))
+
+unfoldable pub holdingBoats : Trial (Family four holding → Demand3 four holding)
+holdingBoats = safety four two holding []
+
+-- seat 0's SUBMIT is heard, and one of another layout with the same signature; evidence of both, and of the first twice
+abbrev pub heardTwice : Bool → Honest
+heardTwice = ofTwo (boatAt 0 (says 0 7 ∷ [])) (boatAt 1 (hears (submitBy 0 7) ∷ hears (Submit 5 0 (layout 9) (sign 0 7)) ∷ []))
+
+abbrev pub framing : ℕ → ℕ → List ℕ
+framing b c = render (Evidence 5 (layout b) (layout c) (record { seat = 0; lower = sign 0 7; higher = sign 0 7 } ∷ []))
+
+unfoldable pub unsignedEvidence : Trial (Family four heardTwice → Demand3 four heardTwice)
+unsignedEvidence = safety four two heardTwice (framing 7 9 ∷ [])
+
+unfoldable pub equalEvidence : Trial (Family four heardTwice → Demand3 four heardTwice)
+equalEvidence = safety four two heardTwice (framing 7 7 ∷ [])
+
+-- ---- demand 1: one boat
+
+-- a boat that confirmed hears another layout's NOTICE twice
+abbrev pub answering : Honest
+answering = then seven (hears (Notice 5 1 (layout 9)) ∷ [])
+
+unfoldable pub answeringBoat : Trial (IsOpened four answering → AtMostOne four answering)
+answeringBoat = onceEach four answering
+
+-- a boat hears two certificates that share two seats of three
+abbrev pub sharing : Honest
+sharing = boatAt 0 (hears (fullBy 7 0 1 2) ∷ hears (fullBy 9 1 2 3) ∷ [])
+
+unfoldable pub sharingBoat : Trial (IsOpened four sharing → (c : Called) → List·Memᴰ c (listOf four sharing) → impossible (resultOf four c .unit) ≡ false)
+sharingBoat = possibleEach four sharing
+
+-- every definition of a run, open
+unfoldable pub unfoldedTrials : Bool
+unfolding unfolded outcome listFrom isSubmit isNotice worth count refusalOf cameTo allMessages found entrySized pairSized wellFormed isNoticeOf isEvidenceOn isStepOf isSubmitOf signedIn sameSigned isOpened all formed submits reached confirms mustReach haveReached blamesIn blames accuses onceEach possibleEach accountability safety those sentBy certified certifiedEach two three
+unfoldedTrials = true
