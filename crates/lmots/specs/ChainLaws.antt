@@ -8,10 +8,10 @@ use lib.ListN.{length, getD}
 use lib.Seq.{take-all}
 use Rattle.octets.specs.Octets.{be, words, bytes}
 use Rattle.octets.specs.Laws.{as-four, as-eight, be-four, length-bytes, bytes-append}
-use Rattle.sha256.specs.Constants.{initial}
-use Rattle.sha256.specs.Fips.{compress, pad, sha256}
-use Rattle.sha256.specs.Pieces.{oneBlock}
-use Rattle.sha256.specs.Laws.{one-block, pad-55}
+use Rattle.fips180.specs.Constants.{initial}
+use Rattle.fips180.specs.Fips.{compress, pad, sha256}
+use Rattle.fips180.specs.Pieces.{oneBlock}
+use Rattle.fips180.specs.Laws.{one-block, pad-55}
 use Rattle.rfc8554.specs.Ots.{chainInput, chain}
 use Rattle.rfc8554.specs.OtsLaws.{length-chainInput}
 use Rattle.lmots.specs.Pieces.{across}

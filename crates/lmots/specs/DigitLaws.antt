@@ -9,7 +9,7 @@ use lib.ListN.{length, getD, set}
 use Rattle.octets.specs.Octets.{patch, be}
 use Rattle.octets.specs.Laws.{length-be, length-patch}
 use Rattle.octets.specs.WriteLaws.{pieces, stores-two}
-use Rattle.sha256.specs.Fips.{sha256}
+use Rattle.fips180.specs.Fips.{sha256}
 use Rattle.rfc8554.specs.Ots.{coef, digits, chains, leftShift, dMesg, sum, checksum, withChecksum, messageInput, digested}
 use Rattle.rfc8554.specs.OtsLaws.{coef-eight, coef-four-high, coef-four-low}
 use Rattle.lmots.specs.Pieces.{front}

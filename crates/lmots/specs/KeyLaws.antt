@@ -11,7 +11,7 @@ use Rattle.octets.specs.Octets.{part, patch, bytes}
 use Rattle.octets.specs.Strings.{joined}
 use Rattle.octets.specs.Laws.{take-patch, take-rest}
 use Rattle.octets.specs.StringLaws.{length-joined, joined-same, part-patch, part-joined}
-use Rattle.sha256.specs.Fips.{sha256}
+use Rattle.fips180.specs.Fips.{sha256}
 use Rattle.rfc8554.specs.Ots.{coef, chains, otsLength, candidate, dPblc, chain, start, keyInput, digested, signed, completed}
 use Rattle.rfc8554.specs.OtsLaws.{length-start, length-completed}
 use Rattle.lmots.specs.Pieces.{front}

@@ -5,7 +5,7 @@ use mathlib.Core.List.{List, [], _∷_}
 use Prim.Native.Nat.{ℕ, _+_, _*_, _/_, _%_, _≤_, _<_}
 use lib.ListN.{length, getD}
 use Rattle.octets.specs.Octets.{bytes}
-use Rattle.sha256.specs.Constants.{initial}
+use Rattle.fips180.specs.Constants.{initial}
 use Rattle.lanes.specs.Rows.{column, Common}
 use Rattle.rfc8554.specs.Ots.{H, chain, chainInput}
 use Rattle.lmots.specs.Pieces.{across}

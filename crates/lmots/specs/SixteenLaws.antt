@@ -7,8 +7,8 @@ use native.Mathlib.Nat.{eq-or-lt-of-le}
 use native.Mathlib.Omega.{arith}
 use lib.ListN.{length, getD, set, length-set}
 use Rattle.octets.specs.Octets.{bytes}
-use Rattle.sha256.specs.Constants.{initial}
-use Rattle.sha256.specs.Fips.{compress, pad, sha256}
+use Rattle.fips180.specs.Constants.{initial}
+use Rattle.fips180.specs.Fips.{compress, pad, sha256}
 use Rattle.lanes.specs.Rows.{column, Same, Alike, Common, Compressed}
 use Rattle.lanes.specs.Laws.{below, above, there, length-column, getD-column, common-alike}
 use Rattle.rfc8554.specs.Ots.{chain, chainInput}

@@ -2,13 +2,13 @@
 ghost use mathlib.Core.Path.{_≡_};
 ghost use Prim.Native.Nat.{_+_, _<_, _≤_};
 ghost use Rattle.octets.specs.Octets.{bytes};
-ghost use Rattle.sha256.specs.Constants.{constants};
-ghost use Rattle.sha256.specs.Fips.{pad};
+ghost use Rattle.fips180.specs.Constants.{constants};
+ghost use Rattle.fips180.specs.Fips.{pad};
 ghost use Rattle.rfc8554.specs.Ots.{chainInput};
 ghost use Rattle.rfc8554.specs.Ots as Ots;
 ghost use Rattle.lmots.specs.Pieces as Pieces;
-use sha256::block::compress;
 use sha256::constants::initial_value;
+use sha256_block::compress;
 
 // The last three bytes of a word and the first of the next.
 pub fn across(a: u32, b: u32) -> u32

@@ -2,7 +2,7 @@
 ghost use mathlib.Core.Path.{_≡_};
 ghost use Prim.Native.Nat.{ℕ, _<_, _≤_};
 ghost use lib.ListN.{length, getD};
-ghost use Rattle.sha256.specs.Constants.{constants};
+ghost use Rattle.fips180.specs.Constants.{constants};
 ghost use Rattle.lmots.specs.Sixteen.{Slid, Placed, Numbered, Ready, Stepped, Walked, AllWalked};
 use crate::chain::across;
 use sha256::constants::initial_value;

@@ -5,7 +5,7 @@ ghost use Prim.Native.Nat.{ℕ, _+_, _-_, _*_, _<_, _≤_};
 ghost use lib.ListN.{length, take, getD};
 ghost use Rattle.octets.specs.Octets.{part, bytes};
 ghost use Rattle.octets.specs.Strings.{joined};
-ghost use Rattle.sha256.specs.Constants.{constants};
+ghost use Rattle.fips180.specs.Constants.{constants};
 ghost use Rattle.lanes.specs.Rows.{column};
 ghost use Rattle.lmots.specs.Turns.{Ordered, Scattered, Moved, ended};
 use crate::chain::chain;

@@ -4,8 +4,8 @@ ghost use mathlib.Core.List.{_++_};
 ghost use Prim.Native.Nat.{_+_, _≤_};
 ghost use lib.ListN.{length};
 ghost use Rattle.octets.specs.Octets.{bytes, part};
-ghost use Rattle.sha256.specs.Constants.{constants};
-ghost use Rattle.sha256.specs.Fips as Fips;
+ghost use Rattle.fips180.specs.Constants.{constants};
+ghost use Rattle.fips180.specs.Fips as Fips;
 ghost use Rattle.rfc8554.specs.Tree.{leafInput, innerInput};
 ghost use Rattle.lms.specs.Pieces.{overChildren};
 

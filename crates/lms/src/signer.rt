@@ -5,7 +5,7 @@ ghost use Prim.Native.Nat.{_+_, _≤_, _<_};
 ghost use lib.ListN.{length};
 ghost use Rattle.octets.specs.Octets.{be, bytes, patch};
 ghost use Rattle.octets.specs.Strings.{joined};
-ghost use Rattle.sha256.specs.Constants.{constants};
+ghost use Rattle.fips180.specs.Constants.{constants};
 ghost use Rattle.rfc8554.specs.Ots.{digested, signed};
 ghost use Rattle.rfc8554.specs.Tree as Tree;
 ghost use Rattle.rfc8554.specs.Tree.{path, lmsSignature};

@@ -3,7 +3,7 @@ ghost use mathlib.Core.Path.{_≡_};
 ghost use Prim.Native.Nat.{_+_, _*_, _≤_, _<_};
 ghost use lib.ListN.{length};
 ghost use Rattle.octets.specs.Octets.{bytes, patch};
-ghost use Rattle.sha256.specs.Constants.{constants};
+ghost use Rattle.fips180.specs.Constants.{constants};
 ghost use Rattle.rfc8554.specs.Tree.{nodes, publicKey, treeFilled};
 ghost use Rattle.rfc8554.specs.Calls.{treeBytes};
 ghost use Rattle.lms.specs.Pieces.{leafOver, innerPut, innersPut};
