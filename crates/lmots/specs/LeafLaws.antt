@@ -17,9 +17,9 @@ use Rattle.fips180.specs.Laws.{length-sha256}
 use Rattle.lanes.specs.Rows.{column}
 use Rattle.rfc8554.specs.Ots.{H, chainInput, chain, start, keyInput, chainEnd, chains, otsKey, dPblc}
 use Rattle.lmots.specs.Leaves.{string, Put}
-use Rattle.lmots.specs.Pieces.{front}
-use Rattle.lmots.specs.Sixteen.{Walked}
-use Rattle.lmots.specs.TurnLaws.{written-next}
+use Rattle.lmots_digits.specs.Pieces.{front}
+use Rattle.lmots_chains.specs.Sixteen.{Walked}
+use Rattle.lmots_turns.specs.TurnLaws.{written-next}
 
 -- ---- lanes
 

@@ -187,7 +187,7 @@ pub fn verified(k: &[u32; 64], key: &[u8], message: &[u8], signature: &[u8]) -> 
     if signature_refused(lms, ots, signature) {
         return false;
     }
-    let id = lmots::words::four(key, 8);
+    let id = lmots_digits::words::four(key, 8);
     let root = root_candidate(k, id, lms, ots, message, signature);
     octets::same(&root, node::bytes_at(key, 24, 32))
 }

@@ -124,8 +124,8 @@ pub extern "C" fn probe_signed(q: u32, id: &[u8], seed: &[u8], digits: &[u8], ou
         return refusal::GARBLED;
     }
     let k = sha256::constants::round_constants();
-    let i = lmots::words::four(id, 0);
-    let s = lmots::words::eight(seed, 0);
+    let i = lmots_digits::words::four(id, 0);
+    let s = lmots_digits::words::eight(seed, 0);
     lmots::key::write_signed(&k, i, q, s, digits, out, 0);
     0
 }
