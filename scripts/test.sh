@@ -7,7 +7,8 @@ cd "$(dirname "$0")/.."
 
 log=$(mktemp)
 trap 'rm -f "$log"' EXIT
-rt ci | tee "$log"
+# four jobs on two cores: rt waits for each whole batch, and a prover takes 2 GB at most
+RT_JOBS=4 rt ci | tee "$log"
 verdict=$(tail -n 1 "$log")
 
 scripts/mutations.sh

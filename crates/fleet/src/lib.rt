@@ -4,7 +4,7 @@ ghost use mathlib.Core.Path.{_≡_};
 ghost use mathlib.Core.Bool.{false};
 ghost use Prim.Native.Nat.{_≤_, _<_};
 ghost use lib.ListN.{length};
-ghost use Rattle.sha256.specs.Constants.{constants};
+ghost use Rattle.fips180.specs.Constants.{constants};
 ghost use Rattle.rfc8554.specs.Calls.{checks};
 ghost use Rattle.protocol.specs.Layout.{signatureLength};
 ghost use Rattle.protocol.specs.Record.{wrongSize, wrongSeat, wrongRound};

@@ -10,9 +10,9 @@ use lib.Bits.{bitXor}
 use lib.ListN.{length, getD, set, length-append, length-set, List·getD-append}
 use lib.Seq.{getD-set-same, getD-set-other, getD-at, ext-getD}
 use Rattle.octets.specs.Laws.{as-eight}
-use Rattle.sha256.specs.Constants.{constants}
-use Rattle.sha256.specs.Forms.{maj-any}
-use Rattle.sha256.specs.Fips as Fips
+use Rattle.fips180.specs.Constants.{constants}
+use Rattle.fips180.specs.Forms.{maj-any}
+use Rattle.fips180.specs.Fips as Fips
 use Rattle.lanes.specs.Rows.{column, Same, Alike, scheduledAt, shareAt, Shares, Resumed, Common, eight, State, place, temp1At, temp2At, roundAt, Kept, Rounded, Compressed}
 
 -- ---- words of a list, by index

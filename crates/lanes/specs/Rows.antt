@@ -6,8 +6,8 @@ use mathlib.Core.List.{List, [], _∷_, _++_}
 use Prim.Native.Nat.{ℕ, zero, suc, _+_, _-_, _*_, _≤_, _<_}
 use lib.Bits.{bitAnd, bitXor}
 use lib.ListN.{getD, set}
-use Rattle.sha256.specs.Constants.{constants}
-use Rattle.sha256.specs.Fips as Fips
+use Rattle.fips180.specs.Constants.{constants}
+use Rattle.fips180.specs.Fips as Fips
 
 -- the first n words of lane l
 unfoldable pub column : ℕ → ℕ → List ℕ → List ℕ

@@ -10,14 +10,14 @@ ghost use Prim.Native.Nat.{ℕ, _+_, _-_, _*_, _<_, _≤_};
 ghost use lib.Bits.{bitAnd, bitXor};
 ghost use mathlib.Core.List.{List};
 ghost use lib.ListN.{length, getD};
-ghost use Rattle.sha256.specs.Constants.{constants};
-ghost use Rattle.sha256.specs.Fips as Fips;
+ghost use Rattle.fips180.specs.Constants.{constants};
+ghost use Rattle.fips180.specs.Fips as Fips;
 ghost use Rattle.lanes.specs.Rows.{column, place, State, Same, Kept, Rounded, Resumed, Common, Compressed, Shares, shareAt, scheduledAt, temp1At, temp2At, roundAt};
-use sha256::block::temp1;
-use sha256::functions::add;
-use sha256::functions::big_sigma0;
-use sha256::functions::small_sigma0;
-use sha256::functions::small_sigma1;
+use sha256_words::add;
+use sha256_words::big_sigma0;
+use sha256_words::small_sigma0;
+use sha256_words::small_sigma1;
+use sha256_words::temp1;
 
 // The words of one block, in every lane.
 pub fn spread(m: [u32; 16], w: &mut [u32; 1024])

@@ -11,12 +11,12 @@ use Rattle.octets.specs.Octets.{part, patch, bytes}
 use Rattle.octets.specs.Strings.{joined}
 use Rattle.octets.specs.Laws.{take-patch, take-rest}
 use Rattle.octets.specs.StringLaws.{length-joined, joined-same, part-patch, part-joined}
-use Rattle.sha256.specs.Fips.{sha256}
+use Rattle.fips180.specs.Fips.{sha256}
 use Rattle.rfc8554.specs.Ots.{coef, chains, otsLength, candidate, dPblc, chain, start, keyInput, digested, signed, completed}
 use Rattle.rfc8554.specs.OtsLaws.{length-start, length-completed}
-use Rattle.lmots.specs.Pieces.{front}
-use Rattle.lmots.specs.Turns.{Ordered, ended}
-use Rattle.lmots.specs.TurnLaws.{all-set, written-next}
+use Rattle.lmots_digits.specs.Pieces.{front}
+use Rattle.lmots_turns.specs.Turns.{Ordered, ended}
+use Rattle.lmots_turns.specs.TurnLaws.{all-set, written-next}
 
 -- a signature's values
 pub length-values : (w : ℕ) → otsLength w ≡ 36 + 32 * chains w

@@ -12,14 +12,14 @@ use Rattle.octets.specs.Laws.{length-patch, length-bytes}
 use Rattle.octets.specs.Strings.{joined}
 use Rattle.octets.specs.StringLaws.{length-joined, joined-same}
 use Rattle.octets.specs.WriteLaws.{part-add, part-own, part-before, part-after, patch-whole}
-use Rattle.sha256.specs.Fips.{sha256}
-use Rattle.sha256.specs.Laws.{length-sha256}
+use Rattle.fips180.specs.Fips.{sha256}
+use Rattle.fips180.specs.Laws.{length-sha256}
 use Rattle.lanes.specs.Rows.{column}
 use Rattle.rfc8554.specs.Ots.{H, chainInput, chain, start, keyInput, chainEnd, chains, otsKey, dPblc}
 use Rattle.lmots.specs.Leaves.{string, Put}
-use Rattle.lmots.specs.Pieces.{front}
-use Rattle.lmots.specs.Sixteen.{Walked}
-use Rattle.lmots.specs.TurnLaws.{written-next}
+use Rattle.lmots_digits.specs.Pieces.{front}
+use Rattle.lmots_chains.specs.Sixteen.{Walked}
+use Rattle.lmots_turns.specs.TurnLaws.{written-next}
 
 -- ---- lanes
 

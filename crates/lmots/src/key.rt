@@ -5,17 +5,17 @@ ghost use Prim.Native.Nat.{ℕ, _+_, _-_, _*_, _^_, _<_, _≤_};
 ghost use lib.ListN.{length, take, getD};
 ghost use Rattle.octets.specs.Octets.{patch, bytes};
 ghost use Rattle.octets.specs.Strings.{joined};
-ghost use Rattle.sha256.specs.Constants.{constants};
+ghost use Rattle.fips180.specs.Constants.{constants};
 ghost use Rattle.rfc8554.specs.Ots.{dPblc};
 ghost use Rattle.rfc8554.specs.Ots as Ots;
-ghost use Rattle.lmots.specs.Pieces as Pieces;
-use crate::chain::start;
-use crate::digits::coef;
-use crate::digits::front;
-use crate::digits::message_digits;
-use crate::digits::most;
-use crate::turns::run;
-use crate::words::put_eight;
+ghost use Rattle.lmots_digits.specs.Pieces as Pieces;
+use lmots_chains::chain::start;
+use lmots_digits::digits::coef;
+use lmots_digits::digits::front;
+use lmots_digits::digits::message_digits;
+use lmots_digits::digits::most;
+use lmots_digits::words::put_eight;
+use lmots_turns::run;
 
 // How many chains a key of width w has.
 fn count(w: u32) -> usize

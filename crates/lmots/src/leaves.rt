@@ -6,18 +6,18 @@ ghost use Prim.Native.Nat.{ℕ, _+_, _*_, _<_, _≤_};
 ghost use lib.ListN.{length, getD};
 ghost use Rattle.octets.specs.Octets.{part, bytes};
 ghost use Rattle.octets.specs.Strings.{joined};
-ghost use Rattle.sha256.specs.Constants.{constants};
-ghost use Rattle.sha256.specs.Fips as Fips;
+ghost use Rattle.fips180.specs.Constants.{constants};
+ghost use Rattle.fips180.specs.Fips as Fips;
 ghost use Rattle.lanes.specs.Rows.{column};
 ghost use Rattle.rfc8554.specs.Ots.{dPblc};
 ghost use Rattle.rfc8554.specs.Ots as Ots;
-ghost use Rattle.lmots.specs.Pieces as Pieces;
+ghost use Rattle.lmots_digits.specs.Pieces as Pieces;
 ghost use Rattle.lmots.specs.Leaves.{Put, string};
-use crate::digits::front;
-use crate::sixteen::steps;
-use crate::turns::lane;
-use crate::turns::put_lane;
-use crate::words::put_eight;
+use lmots_chains::sixteen::steps;
+use lmots_digits::digits::front;
+use lmots_digits::words::put_eight;
+use lmots_turns::lane;
+use lmots_turns::put_lane;
 
 // One value in every lane.
 fn put_all(y: [u32; 8], v: &mut [u32; 128])

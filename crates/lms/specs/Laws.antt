@@ -8,8 +8,8 @@ use lib.ListN.{length, take, drop}
 use lib.Pow.{shr-shr}
 use Rattle.octets.specs.Octets.{part, patch, be, wordAt}
 use Rattle.octets.specs.StringLaws.{number-part-four}
-use Rattle.sha256.specs.Fips.{sha256}
-use Rattle.sha256.specs.Laws.{length-sha256}
+use Rattle.fips180.specs.Fips.{sha256}
+use Rattle.fips180.specs.Laws.{length-sha256}
 use Rattle.rfc8554.specs.Ots.{H, width, otsLength, candidate}
 use Rattle.rfc8554.specs.Tree.{height, leafInput, innerInput, dIntr}
 use Rattle.rfc8554.specs.Verify.{leafOf, otsPart, turn, climbed, rootCandidate}

@@ -3,7 +3,7 @@ ghost use mathlib.Core.Path.{_≡_};
 ghost use Prim.Native.Nat.{_+_, _*_, _≤_, _<_};
 ghost use lib.ListN.{length};
 ghost use Rattle.octets.specs.Octets.{patch};
-ghost use Rattle.sha256.specs.Constants.{constants};
+ghost use Rattle.fips180.specs.Constants.{constants};
 ghost use Rattle.rfc8554.specs.Verify.{lmsTypeOf, otsTypeOf};
 ghost use Rattle.rfc8554.specs.Calls as Calls;
 ghost use Rattle.rfc8554.specs.Calls.{makeKeyRefusal, makeKey, signRefusal, signatureBytes, signedBytes, seatKey, checks, checkSignature};

@@ -4,8 +4,8 @@ ghost use mathlib.Core.List.{_++_};
 ghost use Prim.Native.Nat.{_+_, _≤_};
 ghost use lib.ListN.{length};
 ghost use Rattle.octets.specs.Octets.{bytes, part};
-ghost use Rattle.sha256.specs.Constants.{constants};
-ghost use Rattle.sha256.specs.Fips as Fips;
+ghost use Rattle.fips180.specs.Constants.{constants};
+ghost use Rattle.fips180.specs.Fips as Fips;
 ghost use Rattle.rfc8554.specs.Tree.{leafInput, innerInput};
 ghost use Rattle.lms.specs.Pieces.{overChildren};
 
@@ -28,7 +28,7 @@ pub fn leaf(k: &[u32; 64], id: [u32; 4], r: u32, key: &[u8]) -> [u8; 32]
     requires { ⌜ now k ≡ constants ⌝ }
     ensures { λ n. ⌜ n ≡ Fips.sha256 (leafInput (bytes id) r (now (key .entry))) ⌝ }
 {
-    let p = lmots::digits::front(id, r, LEAF);
+    let p = lmots_digits::digits::front(id, r, LEAF);
     sha256::hash::sha256_two(k, &p, key)
 }
 
@@ -37,7 +37,7 @@ pub fn inner(k: &[u32; 64], id: [u32; 4], r: u32, children: &[u8]) -> [u8; 32]
     requires { ⌜ now k ≡ constants ⌝ }
     ensures { λ n. ⌜ n ≡ Fips.sha256 (overChildren (bytes id) r (now (children .entry))) ⌝ }
 {
-    let p = lmots::digits::front(id, r, INNER);
+    let p = lmots_digits::digits::front(id, r, INNER);
     sha256::hash::sha256_two(k, &p, children)
 }
 

@@ -5,7 +5,7 @@ ghost use Prim.Native.Nat.{_+_, _≤_, _<_};
 ghost use lib.ListN.{length};
 ghost use Rattle.octets.specs.Octets.{be, bytes, patch};
 ghost use Rattle.octets.specs.Strings.{joined};
-ghost use Rattle.sha256.specs.Constants.{constants};
+ghost use Rattle.fips180.specs.Constants.{constants};
 ghost use Rattle.rfc8554.specs.Ots.{digested, signed};
 ghost use Rattle.rfc8554.specs.Tree as Tree;
 ghost use Rattle.rfc8554.specs.Tree.{path, lmsSignature};
@@ -84,7 +84,7 @@ fn write_values(
     requires { ⌜ (now k ≡ constants) × (length (now randomizer) ≡ 32) × (1128 ≤ length (now out)) ⌝ }
     ensures { λ _. ⌜ now (out .exit) ≡ patch 40 (joined (signed (bytes id) leaf 8 (bytes seed) (digested (bytes id) leaf 8 (now (randomizer .entry)) (now (message .entry)))) 34) (now (out .entry)) ⌝ }
 {
-    let digits = lmots::digits::message_digits(k, id, leaf, 8, randomizer, message);
+    let digits = lmots_digits::digits::message_digits(k, id, leaf, 8, randomizer, message);
     lmots::key::write_signed(k, id, leaf, seed, &digits, out, 40);
 }
 
@@ -102,8 +102,8 @@ pub fn write_signature(
     ensures { λ _. ⌜ now (out .exit) ≡ patch 0 (lmsSignature 6 4 (now (id .entry)) leaf (now (seed .entry)) (now (randomizer .entry)) (now (message .entry)) (now (tree .entry))) (now (out .entry)) ⌝ }
 {
     let k = sha256::constants::round_constants();
-    let id_words = lmots::words::four(id, 0);
-    let seed_words = lmots::words::eight(seed, 0);
+    let id_words = lmots_digits::words::four(id, 0);
+    let seed_words = lmots_digits::words::eight(seed, 0);
     write_head(leaf, randomizer, out);
     write_values(&k, id_words, seed_words, leaf, randomizer, message, out);
     write_tail(tree, leaf, out);

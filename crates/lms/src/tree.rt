@@ -3,7 +3,7 @@ ghost use mathlib.Core.Path.{_≡_};
 ghost use Prim.Native.Nat.{_+_, _*_, _≤_, _<_};
 ghost use lib.ListN.{length};
 ghost use Rattle.octets.specs.Octets.{bytes, patch};
-ghost use Rattle.sha256.specs.Constants.{constants};
+ghost use Rattle.fips180.specs.Constants.{constants};
 ghost use Rattle.rfc8554.specs.Tree.{nodes, publicKey, treeFilled};
 ghost use Rattle.rfc8554.specs.Calls.{treeBytes};
 ghost use Rattle.lms.specs.Pieces.{leafOver, innerPut, innersPut};
@@ -84,8 +84,8 @@ pub fn make(seed: &[u8], id: &[u8], tree: &mut [u8], out: &mut [u8])
     ensures { λ _. ⌜ (now (tree .exit) ≡ treeFilled (now (id .entry)) (now (seed .entry)) (now (tree .entry))) × (now (out .exit) ≡ patch 0 (publicKey 6 4 (now (id .entry)) (now (seed .entry))) (now (out .entry))) ⌝ }
 {
     let k = sha256::constants::round_constants();
-    let id_words = lmots::words::four(id, 0);
-    let seed_words = lmots::words::eight(seed, 0);
+    let id_words = lmots_digits::words::four(id, 0);
+    let seed_words = lmots_digits::words::eight(seed, 0);
     fill(&k, id_words, seed_words, tree);
     write_key(id, node::bytes_at(tree, 32, 32), out);
 }

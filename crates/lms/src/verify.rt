@@ -5,8 +5,8 @@ ghost use mathlib.Core.Logic.{_⊎_};
 ghost use Prim.Native.Nat.{_+_, _*_, _^_, _≤_, _<_};
 ghost use lib.ListN.{length};
 ghost use Rattle.octets.specs.Octets.{bytes};
-ghost use Rattle.sha256.specs.Constants.{constants};
-ghost use Rattle.sha256.specs.Fips as Fips;
+ghost use Rattle.fips180.specs.Constants.{constants};
+ghost use Rattle.fips180.specs.Fips as Fips;
 ghost use Rattle.rfc8554.specs.Ots as Ots;
 ghost use Rattle.rfc8554.specs.Ots.{knownOts, otsLength, candidate};
 ghost use Rattle.rfc8554.specs.Tree as Tree;
@@ -187,7 +187,7 @@ pub fn verified(k: &[u32; 64], key: &[u8], message: &[u8], signature: &[u8]) -> 
     if signature_refused(lms, ots, signature) {
         return false;
     }
-    let id = lmots::words::four(key, 8);
+    let id = lmots_digits::words::four(key, 8);
     let root = root_candidate(k, id, lms, ots, message, signature);
     octets::same(&root, node::bytes_at(key, 24, 32))
 }

@@ -8,7 +8,7 @@ use Rattle.octets.specs.Octets.{patch, part, words, bytes}
 use Rattle.octets.specs.StringLaws.{patch-nothing, part-all}
 use Rattle.octets.specs.Strings.{joined}
 use Rattle.refusal.specs.Refusal.{lowest, unrefused}
-use Rattle.sha256.specs.Fips.{sha256}
+use Rattle.fips180.specs.Fips.{sha256}
 use Rattle.rfc8554.specs.Ots.{signed}
 use Rattle.probes.specs.Probes.{digestRefusal, digestWritten, compressRefusal, repeated, compressWritten, signedRefusal, signedWritten, copyRefusal, copyWritten}
 

@@ -9,7 +9,7 @@ use Rattle.octets.specs.Octets.{words, bytes}
 use Rattle.quorum.specs.Quorum.{mostSeats}
 use Rattle.refusal.specs.Refusal.{lowest, unrefused}
 use Rattle.octets.specs.Strings.{joined}
-use Rattle.sha256.specs.Fips.{compress, sha256}
+use Rattle.fips180.specs.Fips.{compress, sha256}
 use Rattle.rfc8554.specs.Ots.{signed}
 
 -- a threshold of n, and 0 where no fleet has n seats

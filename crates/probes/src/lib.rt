@@ -5,7 +5,7 @@ ghost use Prim.Native.Nat.{_≤_};
 ghost use lib.ListN.{length};
 ghost use Rattle.octets.specs.Octets.{patch, words};
 ghost use Rattle.quorum.specs.Quorum as Quorum;
-ghost use Rattle.sha256.specs.Constants.{constants};
+ghost use Rattle.fips180.specs.Constants.{constants};
 ghost use Rattle.rfc8554.specs.Calls.{checks};
 ghost use Rattle.protocol.specs.Calls.{lowerCertificate};
 ghost use Rattle.probes.specs.Probes.{ofFleet, digestRefusal, digestWritten, compressRefusal, compressWritten, repeated, signedRefusal, signedWritten, copyRefusal, copyWritten};
@@ -74,7 +74,7 @@ fn compress_times(k: &[u32; 64], h: [u32; 8], m: [u32; 16], count: u32) -> [u32;
     let mut s = h;
     let mut t = 0;
     while t < count {
-        let n = sha256::block::compress(k, s, m);
+        let n = sha256_block::compress(k, s, m);
         s = n;
         t += 1;
     }
@@ -124,8 +124,8 @@ pub extern "C" fn probe_signed(q: u32, id: &[u8], seed: &[u8], digits: &[u8], ou
         return refusal::GARBLED;
     }
     let k = sha256::constants::round_constants();
-    let i = lmots::words::four(id, 0);
-    let s = lmots::words::eight(seed, 0);
+    let i = lmots_digits::words::four(id, 0);
+    let s = lmots_digits::words::eight(seed, 0);
     lmots::key::write_signed(&k, i, q, s, digits, out, 0);
     0
 }

@@ -7,7 +7,7 @@ use lib.Bits.{bitAnd}
 use lib.Dec.{eqb, ltb}
 use lib.ListN.{length, getD}
 use Rattle.octets.specs.Octets.{part, be, number}
-use Rattle.sha256.specs.Fips.{sha256}
+use Rattle.fips180.specs.Fips.{sha256}
 use Rattle.octets.specs.Strings.{joined}
 
 -- ---- notation (section 3)

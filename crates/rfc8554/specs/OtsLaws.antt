@@ -8,7 +8,7 @@ use lib.Bits.{and-comm, and-mask, and-le-l}
 use lib.ListN.{length, getD, length-append}
 use Rattle.octets.specs.Octets.{part}
 use Rattle.octets.specs.Laws.{length-be, length-part}
-use Rattle.sha256.specs.Laws.{length-sha256}
+use Rattle.fips180.specs.Laws.{length-sha256}
 use Rattle.rfc8554.specs.Ots.{H, u32str, coef, width, chains, otsLength, chainInput, chain, start, keyInput, chainEnd, otsKey, sum, withChecksum, messageInput, digested, signed, otsSignature, completed, candidate}
 use Rattle.octets.specs.StringLaws.{part-skip, part-left, part-front, part-between, length-joined, part-joined, joined-same}
 

@@ -11,7 +11,7 @@ use lib.ListN.{length, length-append}
 use borrow.Author.Tests.{le-leb, lt-leb}
 use Rattle.octets.specs.Octets.{part, patch}
 use Rattle.octets.specs.Laws.{length-be, length-patch}
-use Rattle.sha256.specs.Laws.{length-sha256}
+use Rattle.fips180.specs.Laws.{length-sha256}
 use Rattle.octets.specs.Strings.{joined}
 use Rattle.rfc8554.specs.Ots.{H, otsKey}
 use Rattle.rfc8554.specs.Tree.{leafInput, innerInput, node, T, nodes, treeFilled}

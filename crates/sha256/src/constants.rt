@@ -1,6 +1,6 @@
 // The constants of FIPS 180-4.
 ghost use mathlib.Core.Path.{_≡_};
-ghost use Rattle.sha256.specs.Constants.{constants, initial};
+ghost use Rattle.fips180.specs.Constants.{constants, initial};
 
 const ROUND: [u32; 64] = [
     0x428a2f98,

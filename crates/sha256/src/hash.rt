@@ -4,12 +4,12 @@ ghost use mathlib.Core.List.{_++_};
 ghost use Prim.Native.Nat.{_+_, _%_, _<_, _≤_};
 ghost use lib.ListN.{length, take};
 ghost use Rattle.octets.specs.Octets.{part, words, bytes};
-ghost use Rattle.sha256.specs.Constants.{constants};
-ghost use Rattle.sha256.specs.Fips.{padding, absorbed};
-ghost use Rattle.sha256.specs.Fips as Fips;
-ghost use Rattle.sha256.specs.Pieces.{ended, oneBlock};
-use crate::block::compress;
+ghost use Rattle.fips180.specs.Constants.{constants};
+ghost use Rattle.fips180.specs.Fips.{padding, absorbed};
+ghost use Rattle.fips180.specs.Fips as Fips;
+ghost use Rattle.fips180.specs.Pieces.{ended, oneBlock};
 use crate::constants::initial_value;
+use sha256_block::compress;
 
 // The sixteen words of the block at index `at`.
 pub fn block_words(m: &[u8], at: usize) -> [u32; 16]

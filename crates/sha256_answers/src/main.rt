@@ -3,7 +3,7 @@
 ghost use mathlib.Core.Path.{_≡_};
 ghost use Prim.Native.Nat.{_≤_};
 ghost use lib.ListN.{length};
-ghost use Rattle.sha256.specs.Constants.{constants};
+ghost use Rattle.fips180.specs.Constants.{constants};
 use libc::STDOUT_FILENO;
 use sha256::hash;
 

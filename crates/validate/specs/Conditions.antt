@@ -8,7 +8,7 @@ use native.Mathlib.Decide.{ℕ-discrete}
 use borrow.Author.Tests.{not-false, ltb-false}
 use Rattle.refusal.specs.Refusal.{lowest}
 use Rattle.refusal.specs.Laws.{lowest-zero, lowest-first}
-use Rattle.sha256.specs.Constants.{constants}
+use Rattle.fips180.specs.Constants.{constants}
 use Rattle.quorum.specs.Quorum.{mostSeats}
 use Rattle.protocol.specs.Message.{Message}
 use Rattle.protocol.specs.Record.{wrongSize, wrongRound}

@@ -5,7 +5,7 @@ use native.Mathlib.Numerals.{add-one}
 use native.Mathlib.Omega.{arith}
 use borrow.Author.Needs.{needs}
 use lib.ListN.{length}
-use Rattle.sha256.specs.Fips.{compress}
+use Rattle.fips180.specs.Fips.{compress}
 use Rattle.probes.specs.Probes.{repeated}
 use Rattle.probes.proofs.compress_times.Statement.{statement}
 use Rattle.probes.proofs.compress_times.Tie as tie

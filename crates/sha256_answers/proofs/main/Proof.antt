@@ -4,7 +4,7 @@ use Prim.Native.Nat.{_-_, _≤_}
 use native.Mathlib.Omega.{arith}
 use borrow.Author.Needs.{needs}
 use lib.ListN.{length}
-use Rattle.sha256.specs.Constants.{constants}
+use Rattle.fips180.specs.Constants.{constants}
 use Rattle.sha256_answers.proofs.main.Statement.{statement}
 use Rattle.sha256_answers.proofs.main.Tie as tie
 

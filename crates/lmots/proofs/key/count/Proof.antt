@@ -1,7 +1,7 @@
 -- `lmots::key::count` meets its contract.
 use native.Mathlib.Omega.{arith}
 use Rattle.rfc8554.specs.Ots.{chains}
-use Rattle.lmots.specs.DigitLaws.{narrow}
+use Rattle.lmots_digits.specs.DigitLaws.{narrow}
 use Rattle.lmots.proofs.key.count.Statement.{statement}
 use Rattle.lmots.proofs.key.count.Tie as tie
 

@@ -5,9 +5,9 @@ use native.Mathlib.Omega.{arith}
 use borrow.Author.Needs.{needs}
 use lib.ListN.{length, getD, length-set, getD-replicate}
 use Rattle.rfc8554.specs.Ots.{coef}
-use Rattle.lmots.specs.DigitLaws.{chain-place}
+use Rattle.lmots_digits.specs.DigitLaws.{chain-place}
 use Rattle.lmots.specs.KeyLaws.{chains-le, digit-more}
-use Rattle.lmots.specs.TurnLaws.{fill-next}
+use Rattle.lmots_turns.specs.TurnLaws.{fill-next}
 use Rattle.lmots.proofs.key.digit_places.Statement.{statement}
 use Rattle.lmots.proofs.key.digit_places.Tie as tie
 

@@ -7,7 +7,7 @@ use lib.ListN.{length, getD}
 use Rattle.octets.specs.Octets.{part, bytes}
 use Rattle.octets.specs.Laws.{length-patch}
 use Rattle.rfc8554.specs.Ots.{dPblc}
-use Rattle.lmots.specs.Pieces.{front}
+use Rattle.lmots_digits.specs.Pieces.{front}
 use Rattle.lmots.specs.LeafLaws.{fronts-turn}
 use Rattle.lmots.proofs.leaves.put_fronts.Statement.{statement}
 use Rattle.lmots.proofs.leaves.put_fronts.Tie as tie

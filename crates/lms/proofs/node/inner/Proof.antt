@@ -1,7 +1,7 @@
 -- `lms::node::inner` meets its contract.
 use borrow.Author.Needs.{needs}
 use denote.Ref.{now}
-use Rattle.lmots.specs.Pieces.{front}
+use Rattle.lmots_digits.specs.Pieces.{front}
 use Rattle.lms.specs.Laws.{prefixed}
 use Rattle.lms.specs.Pieces.{overChildren}
 use Rattle.lms.proofs.node.inner.Statement.{statement}

@@ -1,6 +1,6 @@
 -- `sha256::constants::initial_value` meets its contract.
 use mathlib.Core.Path.{refl}
-use Rattle.sha256.specs.Constants.{initial}
+use Rattle.fips180.specs.Constants.{initial}
 use Rattle.sha256.proofs.constants.initial_value.Statement.{statement}
 use Rattle.sha256.proofs.constants.initial_value.Tie as tie
 

@@ -1,6 +1,6 @@
 -- `sha256::constants::round_constants` meets its contract.
 use mathlib.Core.Path.{refl}
-use Rattle.sha256.specs.Constants.{constants}
+use Rattle.fips180.specs.Constants.{constants}
 use Rattle.sha256.proofs.constants.round_constants.Statement.{statement}
 use Rattle.sha256.proofs.constants.round_constants.Tie as tie
 

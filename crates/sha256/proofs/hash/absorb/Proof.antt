@@ -5,8 +5,8 @@ use native.Mathlib.Omega.{arith}
 use borrow.Author.Needs.{needs}
 use lib.ListN.{length}
 use denote.Ref.{now}
-use Rattle.sha256.specs.Fips.{hashed, absorbed}
-use Rattle.sha256.specs.Laws.{hashed-turn}
+use Rattle.fips180.specs.Fips.{hashed, absorbed}
+use Rattle.fips180.specs.Laws.{hashed-turn}
 use Rattle.sha256.proofs.hash.absorb.Statement.{statement}
 use Rattle.sha256.proofs.hash.absorb.Tie as tie
 

@@ -4,8 +4,8 @@ use native.Mathlib.Omega.{arith}
 use borrow.Author.Needs.{needs}
 use lib.ListN.{length, length-take}
 use denote.Ref.{now}
-use Rattle.sha256.specs.Fips.{padding}
-use Rattle.sha256.specs.Laws.{long-ends}
+use Rattle.fips180.specs.Fips.{padding}
+use Rattle.fips180.specs.Laws.{long-ends}
 use Rattle.sha256.proofs.hash.finish_long.Statement.{statement}
 use Rattle.sha256.proofs.hash.finish_long.Tie as tie
 

@@ -3,7 +3,7 @@ use native.Mathlib.Omega.{arith}
 use lib.Seq.{take-all}
 use denote.Ref.{now}
 use Rattle.octets.specs.Octets.{part}
-use Rattle.sha256.specs.Pieces.{oneBlock}
+use Rattle.fips180.specs.Pieces.{oneBlock}
 use borrow.Author.Needs.{needs}
 use Rattle.sha256.proofs.hash.one_block.Statement.{statement}
 use Rattle.sha256.proofs.hash.one_block.Tie as tie

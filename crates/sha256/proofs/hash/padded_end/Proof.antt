@@ -1,7 +1,7 @@
 -- `sha256::hash::padded_end` meets its contract.
 use borrow.Author.Needs.{needs}
 use borrow.Author.Tests.{lt-ltb, le-ltb}
-use Rattle.sha256.specs.Pieces.{ended}
+use Rattle.fips180.specs.Pieces.{ended}
 use Rattle.sha256.proofs.hash.padded_end.Statement.{statement}
 use Rattle.sha256.proofs.hash.padded_end.Tie as tie
 

@@ -4,8 +4,8 @@ use borrow.Author.Needs.{needs}
 use lib.ListN.{length}
 use denote.Ref.{now}
 use Rattle.octets.specs.Laws.{take-rest}
-use Rattle.sha256.specs.Pieces.{leftover}
-use Rattle.sha256.specs.Laws.{sha256-ends-two}
+use Rattle.fips180.specs.Pieces.{leftover}
+use Rattle.fips180.specs.Laws.{sha256-ends-two}
 use Rattle.sha256.proofs.hash.sha256_two.Statement.{statement}
 use Rattle.sha256.proofs.hash.sha256_two.Tie as tie
 

@@ -1,0 +1,21 @@
+-- What the code's pieces compute on the way to a digest.
+use Prim.Native.Nat.{ℕ, _*_, _/_}
+use mathlib.Core.Bool.{cond}
+use mathlib.Core.List.{List}
+use lib.Dec.{ltb}
+use lib.ListN.{length, drop}
+use Rattle.octets.specs.Octets.{words, bytes}
+use Rattle.fips180.specs.Constants.{initial}
+use Rattle.fips180.specs.Fips.{compress}
+
+-- the bytes of m after its whole blocks
+unfoldable pub leftover : List ℕ → List ℕ
+leftover m = drop (length m / 64 * 64) m
+
+-- where the padding ends that follows a tail of n bytes
+unfoldable pub ended : ℕ → ℕ
+ended n = cond (ltb n 56) 64 128
+
+-- the digest of a message whose padded form is the one block b
+unfoldable pub oneBlock : List ℕ → List ℕ
+oneBlock b = bytes (compress initial (words 16 b))

@@ -1,0 +1,64 @@
+-- Sixteen chains side by side, each of the leaf that its lane has: what the lanes' blocks hold.
+use mathlib.Core.Path.{_≡_}
+use mathlib.Core.Logic.{_⊎_}
+use mathlib.Core.List.{List, [], _∷_}
+use Prim.Native.Nat.{ℕ, _+_, _*_, _/_, _%_, _≤_, _<_}
+use lib.ListN.{length, getD}
+use Rattle.octets.specs.Octets.{bytes}
+use Rattle.fips180.specs.Constants.{initial}
+use Rattle.lanes.specs.Rows.{column, Common}
+use Rattle.rfc8554.specs.Ots.{H, chain, chainInput}
+use Rattle.lmots_chains.specs.Pieces.{across}
+
+-- words 6 to 12 of the blocks z, of which n are written, for the values v; the others are those of w
+pub record Slid (n : ℕ) (v w z : List ℕ) : Type 0 where
+  pub long : length z ≡ 1024
+  pub new : (i : ℕ) → i < n → getD z (i + 96) 0 ≡ across (getD v i 0) (getD v (i + 16) 0)
+  pub old : (i : ℕ) → (i < 96) ⊎ (208 ≤ i) → getD z i 0 ≡ getD w i 0
+
+-- words 5 and 13 of the blocks z, of which those of n lanes are written, for the places and values; the others are those of w
+pub record Placed (n : ℕ) (places : List ℕ) (t : ℕ) (v w z : List ℕ) : Type 0 where
+  pub long : length z ≡ 1024
+  pub fifth : (l : ℕ) → l < n → getD z (l + 80) 0 ≡ getD places l 0 + 256 * t + getD v l 0 / 16777216 % 256
+  pub last : (l : ℕ) → l < n → getD z (l + 208) 0 ≡ getD v (l + 112) 0 % 16777216 * 256 + 128
+  pub low : (i : ℕ) → i < 80 → getD z i 0 ≡ getD w i 0
+  pub high : (i : ℕ) → 224 ≤ i → getD z i 0 ≡ getD w i 0
+
+-- word 4 of the blocks z, of which those of n lanes are written, for the leaves' numbers; the others are those of w
+pub record Numbered (n : ℕ) (leaves w z : List ℕ) : Type 0 where
+  pub long : length z ≡ 1024
+  pub new : (l : ℕ) → l < n → getD z (l + 64) 0 ≡ getD leaves l 0
+  pub low : (i : ℕ) → i < 64 → getD z i 0 ≡ getD w i 0
+  pub high : (i : ℕ) → 80 ≤ i → getD z i 0 ≡ getD w i 0
+
+-- the first five words of a leaf's blocks
+unfoldable pub five : List ℕ → ℕ → List ℕ
+five id q = getD id 0 0 ∷ getD id 1 0 ∷ getD id 2 0 ∷ getD id 3 0 ∷ q ∷ []
+
+-- blocks of the lanes' leaves, and what is made for them
+pub record Ready (id leaves w x s : List ℕ) : Type 0 where
+  pub long : length id ≡ 4
+  pub words : (i : ℕ) → getD id i 0 < 4294967296
+  pub numbers : (l : ℕ) → getD leaves l 0 < 4294967296
+  pub front : (l r : ℕ) → l < 16 → r < 5 → getD w (16 * r + l) 0 ≡ getD (five id (getD leaves l 0)) r 0
+  pub zero : (l : ℕ) → l < 16 → getD w (224 + l) 0 ≡ 0
+  pub bits : (l : ℕ) → l < 16 → getD w (240 + l) 0 ≡ 440
+  pub common : Common initial w x s
+
+-- a step of every chain, for leaves for which w, x and s are ready
+unfoldable pub Stepped : List ℕ → ℕ → List ℕ → List ℕ → List ℕ → List ℕ → List ℕ → List ℕ → List ℕ → Type 0
+Stepped places t w x s v w′ s′ v′ =
+    (id leaves : List ℕ) → Ready id leaves w x s
+    → Ready id leaves w′ x s′
+    × ((l i j : ℕ) → l < 16 → i < 65536 → j + t < 256 → getD places l 0 ≡ i * 65536 + j * 256
+    → bytes (column l 8 v′) ≡ H (chainInput (bytes id) (getD leaves l 0) i (j + t) (bytes (column l 8 v))))
+
+-- every lane has come t places on from v₀ to v
+unfoldable pub Walked : List ℕ → List ℕ → List ℕ → ℕ → List ℕ → List ℕ → Type 0
+Walked id leaves places t v₀ v =
+    (l i j : ℕ) → l < 16 → i < 65536 → j + t ≤ 256 → getD places l 0 ≡ i * 65536 + j * 256
+    → bytes (column l 8 v) ≡ chain (bytes id) (getD leaves l 0) i j t (bytes (column l 8 v₀))
+
+-- the same, for all leaves for which w, x and s were ready
+unfoldable pub AllWalked : List ℕ → ℕ → List ℕ → List ℕ → List ℕ → List ℕ → List ℕ → List ℕ → List ℕ → Type 0
+AllWalked places t w₀ x s₀ v₀ w s v = (id leaves : List ℕ) → Ready id leaves w₀ x s₀ → Ready id leaves w x s × Walked id leaves places t v₀ v

@@ -1,0 +1,50 @@
+-- `lmots_digits::digits::prefix` meets its contract.
+use mathlib.Core.Path.{_≡_, ap, _∙_}
+use mathlib.Core.List.{List, _++_}
+use Prim.Native.Nat.{ℕ}
+use native.Mathlib.Omega.{arith}
+use denote.Ref.{now}
+use lib.ListN.{length, replicate}
+use Rattle.octets.specs.WriteLaws.{pieces}
+use borrow.Author.Needs.{needs}
+use Rattle.lmots_digits.proofs.digits.prefix.Statement.{statement}
+use Rattle.lmots_digits.proofs.digits.prefix.Tie as tie
+
+front-requires : tie.Need-front-requires
+front-requires c κs = search needs
+
+slice-aggregate-copy : tie.Need-slice-aggregate-copy
+slice-aggregate-copy c = search needs
+
+slice-aggregate-copy-2 : tie.Need-slice-aggregate-copy-2
+slice-aggregate-copy-2 c = search needs
+
+copy-requires : tie.Need-copy-requires
+copy-requires c κs = search needs
+
+slice-aggregate-copy-3 : tie.Need-slice-aggregate-copy-3
+slice-aggregate-copy-3 c = search needs
+
+copy-requires-2 : tie.Need-copy-requires-2
+copy-requires-2 c κs = search needs
+
+returns : tie.Need-returns
+returns c =
+    let start = c .before .before .before .before .before .before .before .before .before in
+    let front = c .before .before .before .before .before .before .before .front .result in
+    let s = now (start .args .c) in
+    let n : length front ≡ 22 = search needs in
+    pieces 22 front s (replicate 54 0) (c .before .before .before .before .copy .last .0) (c .before .copy2 .last .0) (c .before .before .before .before .copy .ensures) (omega arith) (omega arith) (c .before .copy2 .ensures)
+    ∙ ap (λ (l : List ℕ). l ++ s) (c .before .before .before .before .before .before .before .front .ensures)
+
+pub prefix-spec : {M : Type 1} → statement M
+prefix-spec =
+    tie.close
+    (tie.spec
+    front-requires
+    slice-aggregate-copy
+    slice-aggregate-copy-2
+    copy-requires
+    slice-aggregate-copy-3
+    copy-requires-2
+    returns)
