@@ -5,7 +5,7 @@ use mathlib.Core.Path.{_≡_, ap, _∙_}
 use mathlib.Core.List.{List, List·Memᴰ}
 use mathlib.Core.Logic.{_≢_}
 use Prim.Native.Nat.{ℕ}
-use Rattle.rfc8554.specs.Calls.{checks}
+use Rattle.protocol.specs.Signatures.{checks}
 use Rattle.protocol.specs.Refusals.{Checks}
 use Rattle.protocol.specs.Calls.{Result, opening}
 use Rattle.protocol.specs.declared.Record.{Record}

@@ -5,7 +5,7 @@ ghost use lib.ListN.{length};
 ghost use Rattle.quorum.specs.Quorum.{mostSeats};
 ghost use Rattle.refusal.specs.Refusal.{lowest};
 ghost use Rattle.sha256.specs.Constants.{constants};
-ghost use Rattle.rfc8554.specs.Calls.{checks};
+ghost use Rattle.protocol.specs.Signatures.{checks};
 ghost use Rattle.protocol.specs.Values.{isLower};
 ghost use Rattle.protocol.specs.Layout.{evidenceOutLength};
 ghost use Rattle.protocol.specs.Message.{read, render};

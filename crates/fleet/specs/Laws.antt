@@ -12,7 +12,7 @@ use lib.ListN.{length}
 use borrow.Author.Tests.{eq-eqb, ne-eqb, eqb-true, eqb-false, ltb-false}
 use Rattle.octets.specs.Octets.{part, number, wordAt}
 use Rattle.octets.specs.StringLaws.{part-part, number-part-four}
-use Rattle.rfc8554.specs.Calls.{signatureBytes, seatKey}
+use Rattle.protocol.specs.Signatures.{signatureBytes, seatKey}
 use Rattle.rfc8554.specs.Verify.{lmsTypeOf, otsTypeOf}
 use Rattle.protocol.specs.Layout.{signatureLength}
 use Rattle.quorum.specs.Quorum.{mostSeats}

@@ -14,8 +14,8 @@ use Rattle.rfc8554.specs.Ots.{u32At, knownOts, width, otsLength}
 use Rattle.rfc8554.specs.Tree.{knownLms, height}
 use Rattle.rfc8554.specs.Verify.{lmsTypeOf, otsTypeOf, leafOf, sigTypeOf, rootCandidate, signatureLength, signatureInvalid, valid}
 use Rattle.rfc8554.specs.VerifyLaws.{otsInvalid-inside}
-use Rattle.rfc8554.specs.Calls.{keyRefused}
-use Rattle.rfc8554.specs.CallLaws.{keyInvalid-keyRefused}
+use Rattle.protocol.specs.Signatures.{keyRefused}
+use Rattle.protocol.specs.SignatureLaws.{keyInvalid-keyRefused}
 
 -- ---- a key
 

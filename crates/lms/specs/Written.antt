@@ -14,7 +14,7 @@ use Rattle.rfc8554.specs.OtsLaws.{length-signed}
 use Rattle.rfc8554.specs.Tree.{height, T, publicKey, treeFilled, sibling, path, lmsSignature}
 use Rattle.rfc8554.specs.TreeLaws.{part-treeFilled}
 use Rattle.rfc8554.specs.VerifyLaws.{sibling-within, ancestor-within}
-use Rattle.rfc8554.specs.Calls.{treeBytes, signedBytes}
+use Rattle.protocol.specs.Signatures.{treeBytes, signedBytes}
 
 -- ---- writes in a row
 

@@ -5,8 +5,8 @@ ghost use lib.ListN.{length};
 ghost use Rattle.octets.specs.Octets.{patch};
 ghost use Rattle.sha256.specs.Constants.{constants};
 ghost use Rattle.rfc8554.specs.Verify.{lmsTypeOf, otsTypeOf};
-ghost use Rattle.rfc8554.specs.Calls as Calls;
-ghost use Rattle.rfc8554.specs.Calls.{makeKeyRefusal, makeKey, signRefusal, signatureBytes, signedBytes, seatKey, checks, checkSignature};
+ghost use Rattle.protocol.specs.Signatures as signatures;
+ghost use Rattle.protocol.specs.Signatures.{makeKeyRefusal, makeKey, signRefusal, signatureBytes, signedBytes, seatKey, checks, checkSignature};
 use crate::node;
 use crate::signer;
 use crate::tree::make;
@@ -105,9 +105,9 @@ pub fn sign(
     message: &[u8],
     out: &mut [u8],
 ) -> Written
-    ensures number { λ r. ⌜ r .number ≡ Calls.sign leaf (now (message .entry)) (now (seed .entry)) (now (identifier .entry)) (now (randomizer .entry)) (now (tree .entry)) (now (out .entry)) .refusal ⌝ }
-    ensures written { λ r. ⌜ r .written ≡ length (Calls.sign leaf (now (message .entry)) (now (seed .entry)) (now (identifier .entry)) (now (randomizer .entry)) (now (tree .entry)) (now (out .entry)) .written) ⌝ }
-    ensures out { λ _. ⌜ now (out .exit) ≡ patch 0 (Calls.sign leaf (now (message .entry)) (now (seed .entry)) (now (identifier .entry)) (now (randomizer .entry)) (now (tree .entry)) (now (out .entry)) .written) (now (out .entry)) ⌝ }
+    ensures number { λ r. ⌜ r .number ≡ signatures.sign leaf (now (message .entry)) (now (seed .entry)) (now (identifier .entry)) (now (randomizer .entry)) (now (tree .entry)) (now (out .entry)) .refusal ⌝ }
+    ensures written { λ r. ⌜ r .written ≡ length (signatures.sign leaf (now (message .entry)) (now (seed .entry)) (now (identifier .entry)) (now (randomizer .entry)) (now (tree .entry)) (now (out .entry)) .written) ⌝ }
+    ensures out { λ _. ⌜ now (out .exit) ≡ patch 0 (signatures.sign leaf (now (message .entry)) (now (seed .entry)) (now (identifier .entry)) (now (randomizer .entry)) (now (tree .entry)) (now (out .entry)) .written) (now (out .entry)) ⌝ }
 {
     let n = sign_refusal(leaf, seed, identifier, randomizer, tree, message, out);
     if n != 0 {

@@ -9,7 +9,7 @@ ghost use Rattle.sha256.specs.Constants.{constants};
 ghost use Rattle.rfc8554.specs.Ots.{digested, signed};
 ghost use Rattle.rfc8554.specs.Tree as Tree;
 ghost use Rattle.rfc8554.specs.Tree.{path, lmsSignature};
-ghost use Rattle.rfc8554.specs.Calls.{treeBytes};
+ghost use Rattle.protocol.specs.Signatures.{treeBytes};
 use crate::node;
 
 // The types of the keys and signatures that are made.

@@ -5,7 +5,7 @@ ghost use lib.ListN.{length};
 ghost use Rattle.octets.specs.Octets.{bytes, patch};
 ghost use Rattle.sha256.specs.Constants.{constants};
 ghost use Rattle.rfc8554.specs.Tree.{nodes, publicKey, treeFilled};
-ghost use Rattle.rfc8554.specs.Calls.{treeBytes};
+ghost use Rattle.protocol.specs.Signatures.{treeBytes};
 ghost use Rattle.lms.specs.Pieces.{leafOver, innerPut, innersPut};
 use crate::node;
 use crate::signer::write_key;

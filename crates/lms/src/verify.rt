@@ -12,7 +12,7 @@ ghost use Rattle.rfc8554.specs.Ots.{knownOts, otsLength, candidate};
 ghost use Rattle.rfc8554.specs.Tree as Tree;
 ghost use Rattle.rfc8554.specs.Tree.{knownLms, leafInput};
 ghost use Rattle.rfc8554.specs.Verify.{leafOf, otsPart, turn, climbed, rootCandidate, signatureLength, signatureInvalid, valid};
-ghost use Rattle.rfc8554.specs.Calls.{keyRefused};
+ghost use Rattle.protocol.specs.Signatures.{keyRefused};
 use crate::node;
 
 // ---- parameters

@@ -1,8 +1,9 @@
--- The confirmer of document 01 as definitions, from bytes up to calls.
+-- Document 01 as definitions, from bytes up to calls.
 --
 -- `Layout` has lengths and places, `Values` how values compare, `Message` the commands on the air, `Certificate` what FULL and
 -- EVIDENCE are made from, `Record` what a unit keeps, `Refusals` what each call turns back, `Step` what a submit and a step do,
--- and `Calls` each call as a whole.
+-- `Signatures` the calls on keys and signatures and a seat's signature in a round, and `Calls` each other call as a whole.
+-- `SignatureClaim`: what the signer makes, the check takes.
 pub mod Layout
 pub mod Values
 pub mod Message
@@ -10,7 +11,10 @@ pub mod Certificate
 pub mod Record
 pub mod Refusals
 pub mod Step
+pub mod Signatures
 pub mod Calls
 pub mod Laws
 pub mod StepLaws
 pub mod ReadLaws
+pub mod SignatureLaws
+pub mod SignatureClaim

@@ -3,7 +3,7 @@ use mathlib.Core.Path.{_≡_, sym, _∙_}
 use Prim.Native.Nat.{ℕ}
 use denote.Ref.{now}
 use Rattle.refusal.specs.Refusal.{lowest}
-use Rattle.rfc8554.specs.Calls.{checks}
+use Rattle.protocol.specs.Signatures.{checks}
 use Rattle.protocol.specs.Message.{Message, read}
 use Rattle.protocol.specs.Refusals.{Checks}
 use Rattle.evidence.specs.Certificates.{certificateConditions, certificate-formed, first-refused, second-refused, values-refused, two-right}

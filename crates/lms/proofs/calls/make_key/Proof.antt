@@ -3,8 +3,8 @@ use mathlib.Core.Path.{refl, sym}
 use borrow.Author.Needs.{needs}
 use denote.Ref.{now}
 use Rattle.octets.specs.StringLaws.{patch-nothing}
-use Rattle.rfc8554.specs.CallLaws.{makeKey-unrefused}
-use Rattle.rfc8554.specs.Calls.{treeBytes}
+use Rattle.protocol.specs.SignatureLaws.{makeKey-unrefused}
+use Rattle.protocol.specs.Signatures.{treeBytes}
 use Rattle.rfc8554.specs.VerifyLaws.{length-publicKey}
 use Rattle.lms.specs.Called.{key-refused, key-room}
 use Rattle.lms.proofs.calls.make_key.Statement.{statement}

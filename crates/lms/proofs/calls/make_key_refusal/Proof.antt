@@ -1,7 +1,7 @@
 -- `lms::calls::make_key_refusal` meets its contract.
 use borrow.Author.Tests.{lt-ltb, le-ltb, eq-eqb, ne-eqb}
 use Rattle.refusal.specs.Refusal.{lowest}
-use Rattle.rfc8554.specs.Calls.{makeKeyRefusal, treeBytes}
+use Rattle.protocol.specs.Signatures.{makeKeyRefusal, treeBytes}
 use Rattle.lms.proofs.calls.make_key_refusal.Statement.{statement}
 use Rattle.lms.proofs.calls.make_key_refusal.Tie as tie
 

@@ -2,7 +2,7 @@
 use native.Mathlib.Omega.{arith}
 use borrow.Author.Needs.{needs}
 use denote.Ref.{now}
-use Rattle.rfc8554.specs.Calls.{signatureBytes, seatKey}
+use Rattle.protocol.specs.Signatures.{signatureBytes, seatKey}
 use Rattle.lms.specs.Called.{length-seatKey, seat-key, leaf-differs, leaf-agrees}
 use Rattle.lms.proofs.calls.seat_checks.Statement.{statement}
 use Rattle.lms.proofs.calls.seat_checks.Tie as tie

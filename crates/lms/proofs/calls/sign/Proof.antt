@@ -4,8 +4,8 @@ use native.Mathlib.Omega.{arith}
 use borrow.Author.Needs.{needs}
 use denote.Ref.{now}
 use Rattle.octets.specs.StringLaws.{patch-nothing}
-use Rattle.rfc8554.specs.CallLaws.{sign-unrefused, length-lmsSignature-six-four}
-use Rattle.rfc8554.specs.Calls.{signatureBytes, treeBytes, messageLimit}
+use Rattle.protocol.specs.SignatureLaws.{sign-unrefused, length-lmsSignature-six-four}
+use Rattle.protocol.specs.Signatures.{signatureBytes, treeBytes, messageLimit}
 use Rattle.lms.specs.Called.{signer-refused, signer-room}
 use Rattle.lms.proofs.calls.sign.Statement.{statement}
 use Rattle.lms.proofs.calls.sign.Tie as tie

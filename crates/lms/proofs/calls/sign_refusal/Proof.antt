@@ -1,7 +1,7 @@
 -- `lms::calls::sign_refusal` meets its contract.
 use borrow.Author.Tests.{lt-ltb, le-ltb, eq-eqb, ne-eqb}
 use Rattle.refusal.specs.Refusal.{lowest}
-use Rattle.rfc8554.specs.Calls.{signRefusal, treeBytes, messageLimit, signatureBytes}
+use Rattle.protocol.specs.Signatures.{signRefusal, treeBytes, messageLimit, signatureBytes}
 use Rattle.lms.proofs.calls.sign_refusal.Statement.{statement}
 use Rattle.lms.proofs.calls.sign_refusal.Tie as tie
 

@@ -10,7 +10,7 @@ use Rattle.octets.specs.Laws.{length-part}
 use Rattle.octets.specs.Strings.{joined}
 use Rattle.octets.specs.Octets.{patch}
 use Rattle.octets.specs.WriteLaws.{patch-none}
-use Rattle.rfc8554.specs.Calls.{treeBytes}
+use Rattle.protocol.specs.Signatures.{treeBytes}
 use Rattle.rfc8554.specs.Tree.{path}
 use Rattle.lms.specs.Written.{way-within, path-turn}
 use Rattle.lms.specs.Laws.{half-turn}

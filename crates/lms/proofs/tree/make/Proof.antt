@@ -4,7 +4,7 @@ use borrow.Author.Needs.{needs}
 use denote.Ref.{now}
 use Rattle.octets.specs.Laws.{length-part}
 use Rattle.octets.specs.Octets.{bytes}
-use Rattle.rfc8554.specs.Calls.{treeBytes}
+use Rattle.protocol.specs.Signatures.{treeBytes}
 use Rattle.lms.specs.Written.{whole-string, key-written}
 use Rattle.lms.proofs.tree.make.Statement.{statement}
 use Rattle.lms.proofs.tree.make.Tie as tie

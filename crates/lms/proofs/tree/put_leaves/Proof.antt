@@ -7,7 +7,7 @@ use denote.Ref.{now}
 use Rattle.octets.specs.Octets.{patch, bytes}
 use Rattle.octets.specs.Strings.{joined}
 use Rattle.octets.specs.WriteLaws.{patch-none}
-use Rattle.rfc8554.specs.Calls.{treeBytes}
+use Rattle.protocol.specs.Signatures.{treeBytes}
 use Rattle.rfc8554.specs.Tree.{nodes}
 use Rattle.lms.specs.Filled.{leaves-turn}
 use Rattle.lms.proofs.tree.put_leaves.Statement.{statement}

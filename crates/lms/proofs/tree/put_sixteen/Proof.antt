@@ -8,7 +8,7 @@ use lib.ListN.{length}
 use Rattle.octets.specs.Octets.{patch, bytes}
 use Rattle.octets.specs.Strings.{joined}
 use Rattle.octets.specs.WriteLaws.{patch-none}
-use Rattle.rfc8554.specs.Calls.{treeBytes}
+use Rattle.protocol.specs.Signatures.{treeBytes}
 use Rattle.lms.specs.Filled.{sixteen-turn, sixteen-done}
 use Rattle.lms.specs.Pieces.{leafAt}
 use Rattle.lms.proofs.tree.put_sixteen.Statement.{statement}

@@ -8,13 +8,13 @@ use native.Mathlib.Omega.{arith}
 use lib.ListN.{length}
 use borrow.Author.Tests.{le-ltb, eq-eqb}
 use Rattle.refusal.specs.Refusal.{lowest}
 use Rattle.rfc8554.specs.Ots.{knownOts, width}
 use Rattle.rfc8554.specs.Tree.{knownLms, height, publicKey, treeFilled, lmsSignature}
 use Rattle.rfc8554.specs.Verify.{valid}
-use Rattle.rfc8554.specs.Calls.{messageLimit, keyRefused, checkSignature, makeKey, sign, signedBytes, seatKey, checks}
+use Rattle.protocol.specs.Signatures.{messageLimit, keyRefused, checkSignature, makeKey, sign, signedBytes, seatKey, checks}
 use Rattle.rfc8554.specs.TreeLaws.{length-treeFilled, part-treeFilled}
 use Rattle.rfc8554.specs.VerifyLaws.{leaf-lmsSignature, keyInvalid-publicKey, valid-lmsSignature}
-use Rattle.rfc8554.specs.CallLaws.{keyInvalid-keyRefused, length-signedBytes, makeKey-unrefused, sign-unrefused}
+use Rattle.protocol.specs.SignatureLaws.{keyInvalid-keyRefused, length-signedBytes, makeKey-unrefused, sign-unrefused}
 
 module _
     (seed I C : List ℕ) (seed-length : length seed ≡ 32) (I-length : length I ≡ 16) (C-length : length C ≡ 32)
