@@ -10,11 +10,11 @@ ghost use Rattle.protocol.specs.Values.{isLower};
 ghost use Rattle.protocol.specs.Layout.{evidenceOutLength};
 ghost use Rattle.protocol.specs.Message.{read, render};
 ghost use Rattle.protocol.specs.Certificate.{certificateIn, evidenceOf};
-ghost use Rattle.protocol.specs.Refusals.{isFull, equalValues, twoConditions};
+ghost use Rattle.protocol.specs.Refusals.{isFull, equalValues, certificateConditions, twoConditions};
 ghost use Rattle.wire.specs.Writing.{Wrote};
 ghost use Rattle.validate.specs.Conditions.{Given, Formed};
 ghost use Rattle.evidence.specs.Kinds.{onlyFull};
-ghost use Rattle.evidence.specs.Certificates.{certificateConditions, Conflict};
+ghost use Rattle.evidence.specs.Certificates.{Conflict};
 use wire::read::Kind;
 use wire::sources::Source;
 

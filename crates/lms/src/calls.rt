@@ -6,7 +6,8 @@ ghost use Rattle.octets.specs.Octets.{patch};
 ghost use Rattle.sha256.specs.Constants.{constants};
 ghost use Rattle.rfc8554.specs.Verify.{lmsTypeOf, otsTypeOf};
 ghost use Rattle.protocol.specs.Signatures as signatures;
-ghost use Rattle.protocol.specs.Signatures.{makeKeyRefusal, makeKey, signRefusal, signatureBytes, signedBytes, seatKey, checks, checkSignature};
+ghost use Rattle.protocol.specs.Layout.{signatureLength};
+ghost use Rattle.protocol.specs.Signatures.{makeKeyRefusal, makeKey, signRefusal, signedBytes, seatKey, checks, checkSignature};
 use crate::node;
 use crate::signer;
 use crate::tree::make;
@@ -160,7 +161,7 @@ pub fn seat_checks(
     value: &[u8],
     signature: &[u8],
 ) -> bool
-    requires { ⌜ (now k ≡ constants) × (length (now value) ≡ 32) × (length (now signature) ≡ signatureBytes) × (round ≤ 65535) × (seat < 256) ⌝ }
+    requires { ⌜ (now k ≡ constants) × (length (now value) ≡ 32) × (length (now signature) ≡ signatureLength) × (round ≤ 65535) × (seat < 256) ⌝ }
     requires { ⌜ (56 * (seat + 1) ≤ length (now keys)) × (lmsTypeOf (seatKey (now keys) seat) ≡ 6) × (otsTypeOf (seatKey (now keys) seat) ≡ 4) ⌝ }
     ensures { λ r. ⌜ r ≡ checks (now (keys .entry)) round seat (now (value .entry)) (now (signature .entry)) ⌝ }
 {
