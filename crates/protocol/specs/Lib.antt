@@ -17,5 +17,6 @@ pub mod Calls
 pub mod Laws
 pub mod StepLaws
 pub mod ReadLaws
+pub mod Order
 pub mod SignatureLaws
 pub mod SignatureClaim
