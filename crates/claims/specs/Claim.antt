@@ -6,13 +6,13 @@
 -- 3. `protocol/specs/Calls`: what an opening, a submit, a step, a making of evidence and the evidence check do; with the files of
 --    `protocol/specs` that it is put together from (`Step`, `Refusals`, `Record`, `Certificate`, `Message`, `Layout`, `Values`, and
 --    `WellFormed` in `ReadLaws`), and `quorum/specs/Quorum`: t0, k, sets of seats and their sizes.
--- 4. `rfc8554/specs/Calls: checks`: the signature check, with `Verify`, `Tree` and `Ots` beside it, and `sha256/specs/Fips`.
+-- 4. `protocol/specs/Signatures: checks`: the signature check, by `rfc8554/specs`' `Verify`, `Tree` and `Ots`, and `fips180/specs/Fips`.
 -- 5. `as-promised`, in this file: the lists are those that the contracts of the code come to.
 -- Assumes nothing.
 use mathlib.Core.Path.{_≡_, refl, ap, _∙_}
 use mathlib.Core.List.{List, [], _∷_, map, List·Memᴰ, List·Memᴰ·head, List·Memᴰ·tail}
 use Prim.Native.Nat.{ℕ}
-use Rattle.rfc8554.specs.Calls.{checks}
+use Rattle.protocol.specs.Signatures.{checks}
 use Rattle.protocol.specs.Calls.{Result, submit, step, opening}
 use Rattle.protocol.specs.declared.Record.{Record}
 use Rattle.round.specs.Round.{Setting, Call, BySubmit, ByStep, ByThinEntry, Honest, Called, outcome, resultOf, listFrom, listOf, IsOpened, Family}

@@ -20,13 +20,13 @@ use Rattle.refusal.specs.Laws.{lowest-zero}
 use Rattle.rfc8554.specs.Ots.{knownOts}
 use Rattle.rfc8554.specs.Tree.{knownLms}
 use Rattle.rfc8554.specs.Verify.{lmsTypeOf, otsTypeOf, valid}
-use Rattle.rfc8554.specs.Calls.{signatureBytes, treeBytes, messageLimit, lengthIsnt, keyRefused, checkSignature, makeKeyRefusal, makeKey, signRefusal, sign}
-use Rattle.protocol.specs.Layout.{valueLength, signatureLength, keyLength, keyAt, storeLength, outLength, evidenceOutLength}
+use Rattle.protocol.specs.Layout.{valueLength, signatureLength, treeLength, messageLimit, keyLength, keyAt, storeLength, outLength, evidenceOutLength}
 use Rattle.protocol.specs.Message.{Message, Notice, render, read, signed, seatsOf, entrySeats, roundOf}
 use Rattle.protocol.specs.ReadLaws.{WellFormed, read-render}
 use Rattle.protocol.specs.Certificate.{certificateIn}
 use Rattle.protocol.specs.Record.{lastRound, wrongSize, wrongSeat, wrongRound, impossible, fresh}
-use Rattle.protocol.specs.Refusals.{Checks, every, keyAllowed, keysAllowed, wrongKeys, shortStore, shortOut, said, isForStep, isFull, isEvidence, wrongLengths, rising, early, badSignature, notLowerFirst, equalValues, formConditions, signatureConditions, outsideConditions, recordConditions, openingConditions, submitConditions, stepConditions, evidenceConditions, twoConditions, makingConditions}
+use Rattle.protocol.specs.Refusals.{Checks, every, lengthIsnt, wrongKey, certificateConditions, checkConditions, makeKeyConditions, signConditions, keyAllowed, keysAllowed, wrongKeys, shortStore, shortOut, said, isForStep, isFull, isEvidence, wrongLengths, rising, early, badSignature, notLowerFirst, equalValues, formConditions, signatureConditions, outsideConditions, recordConditions, openingConditions, submitConditions, stepConditions, evidenceConditions, twoConditions, makingConditions}
+use Rattle.protocol.specs.Signatures.{checkSignature, makeKeyRefusal, makeKey, signRefusal, sign}
 use Rattle.protocol.specs.Calls.{openedBy, opening, resultBy, submit, step, makingBy, making, checkedBy, evidenceCheck}
 use Rattle.protocol.specs.declared.Record.{Record}
 use Rattle.reading.specs.Lists.{and-true-both, or-false-both, each-one}
@@ -241,7 +241,7 @@ pub record MakingFit (checks : Checks) (n round : ℕ) (keys a b out : List ℕ)
 
 module _ (checks : Checks) (n round : ℕ) (keys a b out : List ℕ) where
   making-fit : lowest (makingConditions checks n round keys (read n a) (read n b) out) ≡ 0 → MakingFit checks n round keys a b out
-  unfolding makingConditions twoConditions outsideConditions formConditions signatureConditions shortOut
+  unfolding makingConditions twoConditions certificateConditions outsideConditions formConditions signatureConditions shortOut
   making-fit e =
       let t = making-taken checks n round keys (read n a) (read n b) out e in
       let p = lowest-zero 0 _ _ e in
@@ -259,7 +259,7 @@ module _ (checks : Checks) (n round : ℕ) (keys a b out : List ℕ) where
       }
 
   fit-making : MakingFit checks n round keys a b out → lowest (makingConditions checks n round keys (read n a) (read n b) out) ≡ 0
-  unfolding makingConditions twoConditions outsideConditions formConditions signatureConditions shortOut equalValues lowest
+  unfolding makingConditions twoConditions certificateConditions outsideConditions formConditions signatureConditions shortOut equalValues lowest
   fit-making t =
       let o = t .outside in
       let x = of-taken checks n round (read n a) (t .first) in
@@ -293,7 +293,7 @@ length-is n xs e = eqb-true (length xs) n (not-false (eqb (length xs) n) e)
 
 pub record CheckFit (key message signature : List ℕ) : Type 0 where
   -- 5: one key of 56 bytes, of types allowed
-  pub sizedKey : length key ≡ 56
+  pub sizedKey : length key ≡ keyLength
   pub knownTree : knownLms (lmsTypeOf key) ≡ true
   pub knownChains : knownOts (otsTypeOf key) ≡ true
   -- 9: the message isn't too long to check
@@ -303,7 +303,7 @@ pub record CheckFit (key message signature : List ℕ) : Type 0 where
 
 module _ (key message signature : List ℕ) where
   check-fit : checkSignature key message signature ≡ 0 → CheckFit key message signature
-  unfolding checkSignature keyRefused
+  unfolding checkSignature checkConditions wrongKey
   check-fit e =
       let a = lowest-zero 4 _ _ e in
       let b = lowest-zero 8 _ _ (a .1) in
@@ -319,7 +319,7 @@ module _ (key message signature : List ℕ) where
       }
 
   fit-check : CheckFit key message signature → checkSignature key message signature ≡ 0
-  unfolding checkSignature keyRefused lowest
+  unfolding checkSignature checkConditions wrongKey lowest
   fit-check t = rw (eq-eqb (length key) 56 (t .sizedKey), t .knownTree, t .knownChains, le-ltb messageLimit (length message) (t .checkable), t .accepted)
 
   pub check-not-refused : (checkSignature key message signature ≡ 0) ↔ CheckFit key message signature
@@ -327,25 +327,25 @@ module _ (key message signature : List ℕ) where
 
 pub record MakeKeyFit (seed I tree out : List ℕ) : Type 0 where
   -- 7: "56 for the key maker's public key"
-  pub outRoom : 56 ≤ length out
+  pub outRoom : keyLength ≤ length out
   -- 16
   pub sizedSeed : length seed ≡ 32
   pub sizedIdentifier : length I ≡ 16
-  pub sizedTree : length tree ≡ treeBytes
+  pub sizedTree : length tree ≡ treeLength
 
 module _ (seed I tree out : List ℕ) where
   make-key-fit : makeKeyRefusal seed I tree out ≡ 0 → MakeKeyFit seed I tree out
-  unfolding makeKeyRefusal
+  unfolding makeKeyRefusal makeKeyConditions shortOut
   make-key-fit e =
       let a = lowest-zero 6 _ _ e in
       let b = lowest-zero 15 _ _ (a .1) in
-      let lengths = or-false-both (lengthIsnt 32 seed || lengthIsnt 16 I) (lengthIsnt treeBytes tree) (b .0) in
+      let lengths = or-false-both (lengthIsnt 32 seed || lengthIsnt 16 I) (lengthIsnt treeLength tree) (b .0) in
       let secrets = or-false-both (lengthIsnt 32 seed) (lengthIsnt 16 I) (lengths .0) in
-      record { outRoom = ltb-false (length out) 56 (a .0); sizedSeed = length-is 32 seed (secrets .0); sizedIdentifier = length-is 16 I (secrets .1); sizedTree = length-is treeBytes tree (lengths .1) }
+      record { outRoom = ltb-false (length out) 56 (a .0); sizedSeed = length-is 32 seed (secrets .0); sizedIdentifier = length-is 16 I (secrets .1); sizedTree = length-is treeLength tree (lengths .1) }
 
   fit-make-key : MakeKeyFit seed I tree out → makeKeyRefusal seed I tree out ≡ 0
-  unfolding makeKeyRefusal lowest
-  fit-make-key t = rw (le-ltb (length out) 56 (t .outRoom), eq-eqb (length seed) 32 (t .sizedSeed), eq-eqb (length I) 16 (t .sizedIdentifier), eq-eqb (length tree) treeBytes (t .sizedTree))
+  unfolding makeKeyRefusal makeKeyConditions shortOut lowest
+  fit-make-key t = rw (le-ltb (length out) 56 (t .outRoom), eq-eqb (length seed) 32 (t .sizedSeed), eq-eqb (length I) 16 (t .sizedIdentifier), eq-eqb (length tree) treeLength (t .sizedTree))
 
   pub make-key-not-refused : (makeKey seed I tree out .refusal ≡ 0) ↔ MakeKeyFit seed I tree out
   unfolding makeKey
@@ -355,47 +355,47 @@ pub record SignFit (leaf : ℕ) (message seed I C tree out : List ℕ) : Type 0 
   -- 3: the leaf is 1,023 at most
   pub inTime : leaf ≤ lastRound
   -- 7: "1,452 for the signer"
-  pub outRoom : signatureBytes ≤ length out
+  pub outRoom : signatureLength ≤ length out
   -- 9: the message isn't too long to sign
   pub signable : length message ≤ messageLimit
   -- 16
   pub sizedSeed : length seed ≡ 32
   pub sizedIdentifier : length I ≡ 16
   pub sizedRandomizer : length C ≡ 32
-  pub sizedTree : length tree ≡ treeBytes
+  pub sizedTree : length tree ≡ treeLength
 
 module _ (leaf : ℕ) (message seed I C tree out : List ℕ) where
   sign-fit : signRefusal leaf message seed I C tree out ≡ 0 → SignFit leaf message seed I C tree out
-  unfolding signRefusal
+  unfolding signRefusal signConditions wrongRound shortOut
   sign-fit e =
       let a = lowest-zero 2 _ _ e in
       let b = lowest-zero 6 _ _ (a .1) in
       let c = lowest-zero 8 _ _ (b .1) in
       let d = lowest-zero 15 _ _ (c .1) in
-      let lengths = or-false-both (lengthIsnt 32 seed || lengthIsnt 16 I || lengthIsnt 32 C) (lengthIsnt treeBytes tree) (d .0) in
+      let lengths = or-false-both (lengthIsnt 32 seed || lengthIsnt 16 I || lengthIsnt 32 C) (lengthIsnt treeLength tree) (d .0) in
       let secrets = or-false-both (lengthIsnt 32 seed || lengthIsnt 16 I) (lengthIsnt 32 C) (lengths .0) in
       let first = or-false-both (lengthIsnt 32 seed) (lengthIsnt 16 I) (secrets .0) in
       record {
         inTime = ltb-false lastRound leaf (a .0);
-        outRoom = ltb-false (length out) signatureBytes (b .0);
+        outRoom = ltb-false (length out) signatureLength (b .0);
         signable = ltb-false messageLimit (length message) (c .0);
         sizedSeed = length-is 32 seed (first .0);
         sizedIdentifier = length-is 16 I (first .1);
         sizedRandomizer = length-is 32 C (secrets .1);
-        sizedTree = length-is treeBytes tree (lengths .1);
+        sizedTree = length-is treeLength tree (lengths .1);
       }
 
   fit-sign : SignFit leaf message seed I C tree out → signRefusal leaf message seed I C tree out ≡ 0
-  unfolding signRefusal lowest
+  unfolding signRefusal signConditions wrongRound shortOut lowest
   fit-sign t =
       rw (
         le-ltb lastRound leaf (t .inTime),
-        le-ltb (length out) signatureBytes (t .outRoom),
+        le-ltb (length out) signatureLength (t .outRoom),
         le-ltb messageLimit (length message) (t .signable),
         eq-eqb (length seed) 32 (t .sizedSeed),
         eq-eqb (length I) 16 (t .sizedIdentifier),
         eq-eqb (length C) 32 (t .sizedRandomizer),
-        eq-eqb (length tree) treeBytes (t .sizedTree),
+        eq-eqb (length tree) treeLength (t .sizedTree),
       )
 
   pub sign-not-refused : (sign leaf message seed I C tree out .refusal ≡ 0) ↔ SignFit leaf message seed I C tree out

@@ -1,7 +1,7 @@
 // Submit and step as whole calls: what is turned back, then the phases.
 ghost use mathlib.Core.Path.{_≡_};
 ghost use Prim.Native.Nat.{_^_, _<_};
-ghost use Rattle.rfc8554.specs.Calls.{checks};
+ghost use Rattle.protocol.specs.Signatures.{checks};
 ghost use Rattle.protocol.specs.Calls as calls;
 ghost use Rattle.confirmer.specs.Returns.{answered};
 use crate::refusals::message_refusal;

@@ -7,12 +7,8 @@ use Prim.Native.Nat.{ℕ}
 use Rattle.refusal.specs.Refusal.{lowest}
 use Rattle.refusal.specs.Laws.{lowest-zero}
 use Rattle.protocol.specs.Message.{Message}
-use Rattle.protocol.specs.Refusals.{Checks, Condition, isFull, badSignature, equalValues, formConditions, signatureConditions, twoConditions}
+use Rattle.protocol.specs.Refusals.{Checks, Condition, isFull, badSignature, equalValues, formConditions, signatureConditions, certificateConditions, twoConditions}
 use Rattle.validate.specs.Conditions.{Formed, refused-first, passed-first, form-passed, form-later}
-
--- "the first one's 9 to 14 come before the second's": those of one certificate
-unfoldable pub certificateConditions : Checks → ℕ → ℕ → Message → List Condition
-certificateConditions checks n round m = formConditions n round (isFull m) m ++ signatureConditions checks m
 
 -- ---- one
 

@@ -3,7 +3,7 @@ ghost use mathlib.Core.Path.{_≡_};
 ghost use mathlib.Core.List.{[]};
 ghost use Prim.Native.Nat.{_≤_};
 ghost use Rattle.quorum.specs.Quorum.{mostSeats};
-ghost use Rattle.rfc8554.specs.Calls.{checks};
+ghost use Rattle.protocol.specs.Signatures.{checks};
 ghost use Rattle.protocol.specs.Layout.{evidenceOutLength};
 ghost use Rattle.protocol.specs.Message.{read};
 ghost use Rattle.protocol.specs.Refusals.{isEvidence, notLowerFirst, shortOut};

@@ -12,9 +12,8 @@ use lib.ListN.{length}
 use borrow.Author.Tests.{eq-eqb, ne-eqb, eqb-true, eqb-false, ltb-false}
 use Rattle.octets.specs.Octets.{part, number, wordAt}
 use Rattle.octets.specs.StringLaws.{part-part, number-part-four}
-use Rattle.rfc8554.specs.Calls.{signatureBytes, seatKey}
+use Rattle.protocol.specs.Signatures.{seatKey}
 use Rattle.rfc8554.specs.Verify.{lmsTypeOf, otsTypeOf}
-use Rattle.protocol.specs.Layout.{signatureLength}
 use Rattle.quorum.specs.Quorum.{mostSeats}
 use Rattle.protocol.specs.Record.{wrongSize}
 use Rattle.protocol.specs.Refusals.{keyAllowed, keysAllowed, wrongKeys}
@@ -103,11 +102,6 @@ seat-key n keys seat e h =
     let ots : number (part 4 4 (part (56 * seat) 56 keys)) ≡ 4 =
     ap number (part-part 4 4 (56 * seat) 56 keys (omega arith)) ∙ number-part-four (56 * seat + 4) keys (omega arith) ∙ types .1 in
     (room, lms, ots)
-
--- the two crates' names for a signature's length
-pub same-length : signatureLength ≡ signatureBytes
-unfolding signatureLength signatureBytes
-same-length = refl
 
 -- ---- a size that isn't refused
 

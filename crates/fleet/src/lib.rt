@@ -5,7 +5,7 @@ ghost use mathlib.Core.Bool.{false};
 ghost use Prim.Native.Nat.{_≤_, _<_};
 ghost use lib.ListN.{length};
 ghost use Rattle.fips180.specs.Constants.{constants};
-ghost use Rattle.rfc8554.specs.Calls.{checks};
+ghost use Rattle.protocol.specs.Signatures.{checks};
 ghost use Rattle.protocol.specs.Layout.{signatureLength};
 ghost use Rattle.protocol.specs.Record.{wrongSize, wrongSeat, wrongRound};
 ghost use Rattle.protocol.specs.Refusals.{wrongKeys};

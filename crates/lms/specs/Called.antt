@@ -14,8 +14,11 @@ use Rattle.refusal.specs.Laws.{lowest-zero}
 use Rattle.rfc8554.specs.Ots.{knownOts}
 use Rattle.rfc8554.specs.Tree.{knownLms}
 use Rattle.rfc8554.specs.Verify.{lmsTypeOf, otsTypeOf, leafOf, valid}
-use Rattle.rfc8554.specs.Calls.{signatureBytes, treeBytes, messageLimit, keyRefused, checkSignature, makeKeyRefusal, makeKey, signRefusal, sign, signedBytes, seatKey, checks}
-use Rattle.rfc8554.specs.CallLaws.{makeKey-refused, sign-refused}
+use Rattle.protocol.specs.Layout.{signatureLength, treeLength, messageLimit}
+use Rattle.protocol.specs.Record.{wrongRound}
+use Rattle.protocol.specs.Refusals.{wrongKey, shortOut, checkConditions, makeKeyConditions, signConditions}
+use Rattle.protocol.specs.Signatures.{checkSignature, makeKeyRefusal, makeKey, signRefusal, sign, signedBytes, seatKey, checks}
+use Rattle.protocol.specs.SignatureLaws.{makeKey-refused, sign-refused}
 
 neither : (a b : Bool) → (a || b) ≡ false → (a ≡ false) × (b ≡ false)
 neither true b e = absurd (false≢true (sym e))
@@ -32,8 +35,8 @@ module _ (seed I tree out : List ℕ) (n : ℕ) (e : n ≡ makeKeyRefusal seed I
       go (suc m) f d = makeKey-refused seed I tree out m (sym f)
 
   -- what isn't refused has the lengths that the code needs
-  pub key-room : n ≡ 0 → (length seed ≡ 32) × (length I ≡ 16) × (length tree ≡ treeBytes) × (56 ≤ length out)
-  unfolding makeKeyRefusal
+  pub key-room : n ≡ 0 → (length seed ≡ 32) × (length I ≡ 16) × (length tree ≡ treeLength) × (56 ≤ length out)
+  unfolding makeKeyRefusal makeKeyConditions shortOut
   key-room z =
       let first = lowest-zero 6 _ _ (sym e ∙ z) in
       let parts = neither _ _ (lowest-zero 15 _ [] (first .1) .0) in
@@ -52,9 +55,9 @@ module _ (leaf : ℕ) (message seed I C tree out : List ℕ) (n : ℕ) (e : n �
       go (suc m) f d = sign-refused leaf message seed I C tree out m (sym f)
 
   pub signer-room : n ≡ 0
-      → (leaf ≤ 1023) × (signatureBytes ≤ length out) × (length message ≤ messageLimit) × (length seed ≡ 32) × (length I ≡ 16)
-      × (length C ≡ 32) × (length tree ≡ treeBytes)
-  unfolding signRefusal
+      → (leaf ≤ 1023) × (signatureLength ≤ length out) × (length message ≤ messageLimit) × (length seed ≡ 32) × (length I ≡ 16)
+      × (length C ≡ 32) × (length tree ≡ treeLength)
+  unfolding signRefusal signConditions shortOut wrongRound
   signer-room z =
       let first = lowest-zero 2 _ _ (sym e ∙ z) in
       let second = lowest-zero 6 _ _ (first .1) in
@@ -73,22 +76,22 @@ module _ (leaf : ℕ) (message seed I C tree out : List ℕ) (n : ℕ) (e : n �
 
 -- ---- the check
 
-module _ (key message s : List ℕ) (b : Bool) (e : b ≡ keyRefused key) where
+module _ (key message s : List ℕ) (b : Bool) (e : b ≡ wrongKey key) where
   pub check-key : b ≡ true → 5 ≡ checkSignature key message s
-  unfolding checkSignature lowest
+  unfolding checkSignature checkConditions lowest
   check-key t = rw (← e, t)
 
   pub check-message : b ≡ false → 65535 < length message → 9 ≡ checkSignature key message s
-  unfolding checkSignature lowest messageLimit
+  unfolding checkSignature checkConditions lowest messageLimit
   check-message t h = rw (← e, t, lt-ltb 65535 (length message) h)
 
   module _ (t : b ≡ false) (h : length message ≤ 65535) (r : Bool) (f : r ≡ valid key message s) where
     pub check-valid : r ≡ true → 0 ≡ checkSignature key message s
-    unfolding checkSignature lowest messageLimit
+    unfolding checkSignature checkConditions lowest messageLimit
     check-valid g = rw (← e, t, le-ltb 65535 (length message) h, ← f, g)
 
     pub check-invalid : r ≡ false → 14 ≡ checkSignature key message s
-    unfolding checkSignature lowest messageLimit
+    unfolding checkSignature checkConditions lowest messageLimit
     check-invalid g = rw (← e, t, le-ltb 65535 (length message) h, ← f, g)
 
 -- ---- a seat's signature
@@ -98,8 +101,8 @@ module _ (keys : List ℕ) (seat : ℕ) (h : 56 * (seat + 1) ≤ length keys) wh
   unfolding seatKey
   length-seatKey = length-part (56 * seat) 56 keys (omega arith)
 
-  pub seat-key : lmsTypeOf (seatKey keys seat) ≡ 6 → otsTypeOf (seatKey keys seat) ≡ 4 → keyRefused (seatKey keys seat) ≡ false
-  unfolding keyRefused knownLms knownOts
+  pub seat-key : lmsTypeOf (seatKey keys seat) ≡ 6 → otsTypeOf (seatKey keys seat) ≡ 4 → wrongKey (seatKey keys seat) ≡ false
+  unfolding wrongKey knownLms knownOts
   seat-key e f = rw (length-seatKey, e, f)
 
 module _ (keys : List ℕ) (round seat : ℕ) (value s : List ℕ) (h : 4 ≤ length s) (q : ℕ) (e : q ≡ wordAt s 0) where

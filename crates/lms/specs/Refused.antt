@@ -14,26 +14,26 @@ use Rattle.rfc8554.specs.Ots.{u32At, knownOts, width, otsLength}
 use Rattle.rfc8554.specs.Tree.{knownLms, height}
 use Rattle.rfc8554.specs.Verify.{lmsTypeOf, otsTypeOf, leafOf, sigTypeOf, rootCandidate, signatureLength, signatureInvalid, valid}
 use Rattle.rfc8554.specs.VerifyLaws.{otsInvalid-inside}
-use Rattle.rfc8554.specs.Calls.{keyRefused}
-use Rattle.rfc8554.specs.CallLaws.{keyInvalid-keyRefused}
+use Rattle.protocol.specs.Refusals.{wrongKey}
+use Rattle.protocol.specs.SignatureLaws.{keyInvalid-wrongKey}
 
 -- ---- a key
 
 module _ (key : List ℕ) where
-  pub key-length : (length key ≡ 56 → ⊥) → true ≡ keyRefused key
-  unfolding keyRefused
+  pub key-length : (length key ≡ 56 → ⊥) → true ≡ wrongKey key
+  unfolding wrongKey
   key-length n = rw (ne-eqb (length key) 56 n)
 
   module _ (l : length key ≡ 56) (x : ℕ) (e : x ≡ wordAt key 0) where
     lms-type : lmsTypeOf key ≡ x
     lms-type = number-part-four 0 key (omega arith) ∙ sym e
 
-    pub key-lms : (b : Bool) → b ≡ knownLms x → b ≡ false → true ≡ keyRefused key
-    unfolding keyRefused
+    pub key-lms : (b : Bool) → b ≡ knownLms x → b ≡ false → true ≡ wrongKey key
+    unfolding wrongKey
     key-lms b f n = rw (eq-eqb (length key) 56 l, lms-type, ← f, n)
 
-    pub key-types : (y : ℕ) → y ≡ wordAt key 4 → (a b : Bool) → a ≡ knownLms x → a ≡ true → b ≡ knownOts y → not b ≡ keyRefused key
-    unfolding keyRefused
+    pub key-types : (y : ℕ) → y ≡ wordAt key 4 → (a b : Bool) → a ≡ knownLms x → a ≡ true → b ≡ knownOts y → not b ≡ wrongKey key
+    unfolding wrongKey
     key-types y f a b g t k =
         let ots-type : otsTypeOf key ≡ y = number-part-four 4 key (omega arith) ∙ sym f in
         rw (eq-eqb (length key) 56 l, lms-type, ots-type, ← g, t, ← k)
@@ -101,15 +101,15 @@ module _ (lms ots : ℕ) (s : List ℕ) where
 
 -- ---- the whole check
 
-pub key-fits : (key : List ℕ) → keyRefused key ≡ false → length key ≡ 56
-unfolding keyRefused
+pub key-fits : (key : List ℕ) → wrongKey key ≡ false → length key ≡ 56
+unfolding wrongKey
 key-fits key known = go (eqb (length key) 56) refl
   where
     go : (b : Bool) → eqb (length key) 56 ≡ b → length key ≡ 56
     go true p = eqb-true _ _ p
     go false p = absurd (false≢true (sym (rw p at known)))
 
-module _ (key message s : List ℕ) (l : length key ≡ 56) (known : keyRefused key ≡ false) where
+module _ (key message s : List ℕ) (l : length key ≡ 56) (known : wrongKey key ≡ false) where
   module _ (x y : ℕ) (e : x ≡ wordAt key 0) (f : y ≡ wordAt key 4) where
     key-field : lmsTypeOf key ≡ x
     key-field = number-part-four 0 key (omega arith) ∙ sym e
@@ -119,11 +119,11 @@ module _ (key message s : List ℕ) (l : length key ≡ 56) (known : keyRefused 
 
     pub signature-turned-back : (b : Bool) → b ≡ signatureInvalid x y s → b ≡ true → false ≡ valid key message s
     unfolding valid
-    signature-turned-back b g t = rw (keyInvalid-keyRefused key, known, key-field, key-field-ots, ← g, t)
+    signature-turned-back b g t = rw (keyInvalid-wrongKey key, known, key-field, key-field-ots, ← g, t)
 
     pub signature-compared : (b : Bool) → b ≡ signatureInvalid x y s → b ≡ false
         → (I root last : List ℕ) (r : Bool) → I ≡ part 8 16 key → root ≡ rootCandidate (height x) (width y) I message s
         → last ≡ part 24 32 key → r ≡ same root last → r ≡ valid key message s
     unfolding valid
     signature-compared b g t I root last r i j k l =
-        l ∙ rw (keyInvalid-keyRefused key, known, key-field, key-field-ots, ← g, t, j, i, k)
+        l ∙ rw (keyInvalid-wrongKey key, known, key-field, key-field-ots, ← g, t, j, i, k)

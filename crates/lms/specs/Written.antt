@@ -14,7 +14,8 @@ use Rattle.rfc8554.specs.OtsLaws.{length-signed}
 use Rattle.rfc8554.specs.Tree.{height, T, publicKey, treeFilled, sibling, path, lmsSignature}
 use Rattle.rfc8554.specs.TreeLaws.{part-treeFilled}
 use Rattle.rfc8554.specs.VerifyLaws.{sibling-within, ancestor-within}
-use Rattle.rfc8554.specs.Calls.{treeBytes, signedBytes}
+use Rattle.protocol.specs.Layout.{treeLength}
+use Rattle.protocol.specs.Signatures.{signedBytes}
 
 -- ---- writes in a row
 
@@ -29,13 +30,13 @@ module _ (at : ℕ) (a b c xs p q r : List ℕ) (i j : ℕ) (h : at ≤ length x
 
 -- ---- the path of a leaf r of 1,024
 
-module _ (tree : List ℕ) (r : ℕ) (t : length tree ≡ treeBytes) (k : 1024 ≤ r) (l : r < 2048) where
+module _ (tree : List ℕ) (r : ℕ) (t : length tree ≡ treeLength) (k : 1024 ≤ r) (l : r < 2048) where
   -- the node x, less than ten levels above the leaf, is below the root
   pub way-within : (x i : ℕ) → x ≡ r / 2 ^ i → i < 10 → (1 < x) × (x < 2048)
   way-within x i e h = rw e (ancestor-within 10 r i k l h)
 
   length-path : (i : ℕ) → i < 10 → length (path tree r i) ≡ 32
-  unfolding path treeBytes
+  unfolding path treeLength
   length-path i h =
       let within = way-within (r / 2 ^ i) i refl h in
       length-part _ 32 tree (omega (arith, sibling-within 1024 (r / 2 ^ i) (within .0) (within .1) .1))
@@ -76,10 +77,10 @@ pub whole-string : (xs ws : List ℕ) (n : ℕ) → length xs ≡ n → ws ≡ p
 whole-string xs ws n e f = f ∙ part-all xs n e
 
 -- what the key maker leaves: the tree, and the key with the root that is read from it
-pub key-written : (I I′ seed seed′ before tree root out new : List ℕ) → length before ≡ treeBytes → I′ ≡ I → seed′ ≡ seed
+pub key-written : (I I′ seed seed′ before tree root out new : List ℕ) → length before ≡ treeLength → I′ ≡ I → seed′ ≡ seed
     → tree ≡ treeFilled I′ seed′ before → root ≡ part 32 32 tree → new ≡ patch 0 (be 4 6 ++ be 4 4 ++ I ++ root) out
     → (tree ≡ treeFilled I seed before) × (new ≡ patch 0 (publicKey 6 4 I seed) out)
-unfolding publicKey height width treeBytes
+unfolding publicKey height width treeLength
 key-written I I′ seed seed′ before tree root out new t d e u v w =
     let filled : tree ≡ treeFilled I seed before = rw (d, e) at u in
     let top : root ≡ T 10 8 I seed 1 = v ∙ rw filled (part-treeFilled I seed before t 1 (omega arith) (omega arith)) in

@@ -5,8 +5,9 @@ ghost use lib.ListN.{length};
 ghost use Rattle.octets.specs.Octets.{patch};
 ghost use Rattle.fips180.specs.Constants.{constants};
 ghost use Rattle.rfc8554.specs.Verify.{lmsTypeOf, otsTypeOf};
-ghost use Rattle.rfc8554.specs.Calls as Calls;
-ghost use Rattle.rfc8554.specs.Calls.{makeKeyRefusal, makeKey, signRefusal, signatureBytes, signedBytes, seatKey, checks, checkSignature};
+ghost use Rattle.protocol.specs.Signatures as signatures;
+ghost use Rattle.protocol.specs.Layout.{signatureLength};
+ghost use Rattle.protocol.specs.Signatures.{makeKeyRefusal, makeKey, signRefusal, signedBytes, seatKey, checks, checkSignature};
 use crate::node;
 use crate::signer;
 use crate::tree::make;
@@ -105,9 +106,9 @@ pub fn sign(
     message: &[u8],
     out: &mut [u8],
 ) -> Written
-    ensures number { λ r. ⌜ r .number ≡ Calls.sign leaf (now (message .entry)) (now (seed .entry)) (now (identifier .entry)) (now (randomizer .entry)) (now (tree .entry)) (now (out .entry)) .refusal ⌝ }
-    ensures written { λ r. ⌜ r .written ≡ length (Calls.sign leaf (now (message .entry)) (now (seed .entry)) (now (identifier .entry)) (now (randomizer .entry)) (now (tree .entry)) (now (out .entry)) .written) ⌝ }
-    ensures out { λ _. ⌜ now (out .exit) ≡ patch 0 (Calls.sign leaf (now (message .entry)) (now (seed .entry)) (now (identifier .entry)) (now (randomizer .entry)) (now (tree .entry)) (now (out .entry)) .written) (now (out .entry)) ⌝ }
+    ensures number { λ r. ⌜ r .number ≡ signatures.sign leaf (now (message .entry)) (now (seed .entry)) (now (identifier .entry)) (now (randomizer .entry)) (now (tree .entry)) (now (out .entry)) .refusal ⌝ }
+    ensures written { λ r. ⌜ r .written ≡ length (signatures.sign leaf (now (message .entry)) (now (seed .entry)) (now (identifier .entry)) (now (randomizer .entry)) (now (tree .entry)) (now (out .entry)) .written) ⌝ }
+    ensures out { λ _. ⌜ now (out .exit) ≡ patch 0 (signatures.sign leaf (now (message .entry)) (now (seed .entry)) (now (identifier .entry)) (now (randomizer .entry)) (now (tree .entry)) (now (out .entry)) .written) (now (out .entry)) ⌝ }
 {
     let n = sign_refusal(leaf, seed, identifier, randomizer, tree, message, out);
     if n != 0 {
@@ -160,7 +161,7 @@ pub fn seat_checks(
     value: &[u8],
     signature: &[u8],
 ) -> bool
-    requires { ⌜ (now k ≡ constants) × (length (now value) ≡ 32) × (length (now signature) ≡ signatureBytes) × (round ≤ 65535) × (seat < 256) ⌝ }
+    requires { ⌜ (now k ≡ constants) × (length (now value) ≡ 32) × (length (now signature) ≡ signatureLength) × (round ≤ 65535) × (seat < 256) ⌝ }
     requires { ⌜ (56 * (seat + 1) ≤ length (now keys)) × (lmsTypeOf (seatKey (now keys) seat) ≡ 6) × (otsTypeOf (seatKey (now keys) seat) ≡ 4) ⌝ }
     ensures { λ r. ⌜ r ≡ checks (now (keys .entry)) round seat (now (value .entry)) (now (signature .entry)) ⌝ }
 {

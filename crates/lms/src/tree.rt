@@ -5,14 +5,14 @@ ghost use lib.ListN.{length};
 ghost use Rattle.octets.specs.Octets.{bytes, patch};
 ghost use Rattle.fips180.specs.Constants.{constants};
 ghost use Rattle.rfc8554.specs.Tree.{nodes, publicKey, treeFilled};
-ghost use Rattle.rfc8554.specs.Calls.{treeBytes};
+ghost use Rattle.protocol.specs.Layout.{treeLength};
 ghost use Rattle.lms.specs.Pieces.{leafOver, innerPut, innersPut};
 use crate::node;
 use crate::signer::write_key;
 
 // Writes the leaf of number q, over its LM-OTS key.
 fn put_leaf(k: &[u32; 64], id: [u32; 4], q: u32, key: &[u8], tree: &mut [u8])
-    requires { ⌜ (now k ≡ constants) × (q < 1024) × (length (now tree) ≡ treeBytes) ⌝ }
+    requires { ⌜ (now k ≡ constants) × (q < 1024) × (length (now tree) ≡ treeLength) ⌝ }
     ensures { λ _. ⌜ now (tree .exit) ≡ patch (32 * (1024 + q)) (leafOver (bytes id) q (now (key .entry))) (now (tree .entry)) ⌝ }
 {
     let r = 1024 + q;
@@ -23,7 +23,7 @@ fn put_leaf(k: &[u32; 64], id: [u32; 4], q: u32, key: &[u8], tree: &mut [u8])
 
 // Writes sixteen leaves, from number q on.
 fn put_sixteen(k: &[u32; 64], id: [u32; 4], seed: [u32; 8], q: u32, tree: &mut [u8])
-    requires { ⌜ (now k ≡ constants) × (q + 16 ≤ 1024) × (length (now tree) ≡ treeBytes) ⌝ }
+    requires { ⌜ (now k ≡ constants) × (q + 16 ≤ 1024) × (length (now tree) ≡ treeLength) ⌝ }
     ensures { λ _. ⌜ now (tree .exit) ≡ patch (32 * (1024 + q)) (nodes 10 8 (bytes id) (bytes seed) (1024 + q) 16) (now (tree .entry)) ⌝ }
 {
     let keys = lmots::leaves::ots_keys(k, id, q, seed);
@@ -37,7 +37,7 @@ fn put_sixteen(k: &[u32; 64], id: [u32; 4], seed: [u32; 8], q: u32, tree: &mut [
 
 // Writes all leaves.
 fn put_leaves(k: &[u32; 64], id: [u32; 4], seed: [u32; 8], tree: &mut [u8])
-    requires { ⌜ (now k ≡ constants) × (length (now tree) ≡ treeBytes) ⌝ }
+    requires { ⌜ (now k ≡ constants) × (length (now tree) ≡ treeLength) ⌝ }
     ensures { λ _. ⌜ now (tree .exit) ≡ patch (32 * 1024) (nodes 10 8 (bytes id) (bytes seed) 1024 1024) (now (tree .entry)) ⌝ }
 {
     let mut n = 0;
@@ -49,7 +49,7 @@ fn put_leaves(k: &[u32; 64], id: [u32; 4], seed: [u32; 8], tree: &mut [u8])
 
 // Writes the inner node r, over its children in the buffer.
 fn put_inner(k: &[u32; 64], id: [u32; 4], r: u32, tree: &mut [u8])
-    requires { ⌜ (now k ≡ constants) × (r < 1024) × (length (now tree) ≡ treeBytes) ⌝ }
+    requires { ⌜ (now k ≡ constants) × (r < 1024) × (length (now tree) ≡ treeLength) ⌝ }
     ensures { λ _. ⌜ now (tree .exit) ≡ innerPut (bytes id) r (now (tree .entry)) ⌝ }
 {
     let place = r as usize;
@@ -59,7 +59,7 @@ fn put_inner(k: &[u32; 64], id: [u32; 4], r: u32, tree: &mut [u8])
 
 // Writes the inner nodes, from the last one up to the root, over the leaves in the buffer.
 fn put_inners(k: &[u32; 64], id: [u32; 4], tree: &mut [u8])
-    requires { ⌜ (now k ≡ constants) × (length (now tree) ≡ treeBytes) ⌝ }
+    requires { ⌜ (now k ≡ constants) × (length (now tree) ≡ treeLength) ⌝ }
     ensures { λ _. ⌜ now (tree .exit) ≡ innersPut (bytes id) 1023 (now (tree .entry)) ⌝ }
 {
     let mut t = 0;
@@ -71,7 +71,7 @@ fn put_inners(k: &[u32; 64], id: [u32; 4], tree: &mut [u8])
 
 // Writes all nodes: the leaves, then the inner nodes.
 fn fill(k: &[u32; 64], id: [u32; 4], seed: [u32; 8], tree: &mut [u8])
-    requires { ⌜ (now k ≡ constants) × (length (now tree) ≡ treeBytes) ⌝ }
+    requires { ⌜ (now k ≡ constants) × (length (now tree) ≡ treeLength) ⌝ }
     ensures { λ _. ⌜ now (tree .exit) ≡ treeFilled (bytes id) (bytes seed) (now (tree .entry)) ⌝ }
 {
     put_leaves(k, id, seed, tree);
@@ -80,7 +80,7 @@ fn fill(k: &[u32; 64], id: [u32; 4], seed: [u32; 8], tree: &mut [u8])
 
 // Makes a key: all nodes, and the public key.
 pub fn make(seed: &[u8], id: &[u8], tree: &mut [u8], out: &mut [u8])
-    requires { ⌜ (length (now seed) ≡ 32) × (length (now id) ≡ 16) × (length (now tree) ≡ treeBytes) × (56 ≤ length (now out)) ⌝ }
+    requires { ⌜ (length (now seed) ≡ 32) × (length (now id) ≡ 16) × (length (now tree) ≡ treeLength) × (56 ≤ length (now out)) ⌝ }
     ensures { λ _. ⌜ (now (tree .exit) ≡ treeFilled (now (id .entry)) (now (seed .entry)) (now (tree .entry))) × (now (out .exit) ≡ patch 0 (publicKey 6 4 (now (id .entry)) (now (seed .entry))) (now (out .entry))) ⌝ }
 {
     let k = sha256::constants::round_constants();

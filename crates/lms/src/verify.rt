@@ -12,7 +12,7 @@ ghost use Rattle.rfc8554.specs.Ots.{knownOts, otsLength, candidate};
 ghost use Rattle.rfc8554.specs.Tree as Tree;
 ghost use Rattle.rfc8554.specs.Tree.{knownLms, leafInput};
 ghost use Rattle.rfc8554.specs.Verify.{leafOf, otsPart, turn, climbed, rootCandidate, signatureLength, signatureInvalid, valid};
-ghost use Rattle.rfc8554.specs.Calls.{keyRefused};
+ghost use Rattle.protocol.specs.Refusals.{wrongKey};
 use crate::node;
 
 // ---- parameters
@@ -67,7 +67,7 @@ fn known_ots(ots: u32) -> bool
 
 // Whether these are not the 56 bytes of a key of known types.
 pub fn key_refused(key: &[u8]) -> bool
-    ensures { λ r. ⌜ r ≡ keyRefused (now (key .entry)) ⌝ }
+    ensures { λ r. ⌜ r ≡ wrongKey (now (key .entry)) ⌝ }
 {
     if key.len() != 56 {
         return true;
@@ -179,7 +179,7 @@ fn root_candidate(
 
 // Whether RFC 8554 accepts the signature of the message under a key of known types.
 pub fn verified(k: &[u32; 64], key: &[u8], message: &[u8], signature: &[u8]) -> bool
-    requires { ⌜ (now k ≡ constants) × (length (now key) ≡ 56) × (keyRefused (now key) ≡ false) ⌝ }
+    requires { ⌜ (now k ≡ constants) × (length (now key) ≡ 56) × (wrongKey (now key) ≡ false) ⌝ }
     ensures { λ r. ⌜ r ≡ valid (now (key .entry)) (now (message .entry)) (now (signature .entry)) ⌝ }
 {
     let lms = octets::word_at(key, 0);

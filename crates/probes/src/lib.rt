@@ -6,7 +6,7 @@ ghost use lib.ListN.{length};
 ghost use Rattle.octets.specs.Octets.{patch, words};
 ghost use Rattle.quorum.specs.Quorum as Quorum;
 ghost use Rattle.fips180.specs.Constants.{constants};
-ghost use Rattle.rfc8554.specs.Calls.{checks};
+ghost use Rattle.protocol.specs.Signatures.{checks};
 ghost use Rattle.protocol.specs.Calls.{lowerCertificate};
 ghost use Rattle.probes.specs.Probes.{ofFleet, digestRefusal, digestWritten, compressRefusal, compressWritten, repeated, signedRefusal, signedWritten, copyRefusal, copyWritten};
 

@@ -18,6 +18,14 @@ keyLength = 56
 abbrev pub keyAt : ℕ → ℕ
 keyAt seat = keyLength * seat
 
+-- "a tree of 65,536 bytes"
+unfoldable pub treeLength : ℕ
+treeLength = 65536
+
+-- "a message of up to 65,535 bytes"
+unfoldable pub messageLimit : ℕ
+messageLimit = 65535
+
 -- ---- commands
 
 -- SUBMIT: "In all 1,488."

@@ -1,16 +1,22 @@
--- The confirmer of document 01 as definitions, from bytes up to calls.
+-- Document 01 as definitions, from bytes up to calls.
 --
 -- `Layout` has lengths and places, `Values` how values compare, `Message` the commands on the air, `Certificate` what FULL and
--- EVIDENCE are made from, `Record` what a unit keeps, `Refusals` what each call turns back, `Step` what a submit and a step do,
--- and `Calls` each call as a whole.
+-- EVIDENCE are made from, `Record` what a unit keeps, `Conditions` and `Refusals` what each call turns back, `Step` what a submit
+-- and a step do, `Signatures` a seat's signature and the calls on keys and signatures, and `Calls` each other call as a whole.
+-- `SignatureClaim`: what the signer makes, the check takes.
 pub mod Layout
 pub mod Values
 pub mod Message
 pub mod Certificate
 pub mod Record
+pub mod Conditions
 pub mod Refusals
 pub mod Step
+pub mod Signatures
 pub mod Calls
 pub mod Laws
 pub mod StepLaws
 pub mod ReadLaws
+pub mod Order
+pub mod SignatureLaws
+pub mod SignatureClaim

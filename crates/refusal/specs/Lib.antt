@@ -1,3 +1,4 @@
--- Refusals by number: `Refusal` has the definitions, `Laws` what follows from them.
+-- Refusals by number: `Refusal` has the definitions, `Lowest` and `Laws` what follows from them.
 pub mod Refusal
+pub mod Lowest
 pub mod Laws

@@ -16,9 +16,9 @@ use Rattle.octets.specs.StringLaws.{number-part-four, length-joined, part-joine
 use Rattle.rfc8554.specs.Tree.{publicKey, treeFilled}
 use Rattle.rfc8554.specs.TreeLaws.{length-treeFilled}
 use Rattle.rfc8554.specs.VerifyLaws.{length-publicKey, lmsType-publicKey, otsType-publicKey}
-use Rattle.rfc8554.specs.Calls.{Made, Signed, signatureBytes, makeKey, sign, signedBytes, seatKey, checks}
-use Rattle.rfc8554.specs.CallLaws.{length-signedBytes, length-lmsSignature-six-four, makeKey-unrefused, sign-unrefused}
-use Rattle.rfc8554.specs.Claim.{made-signature-checks}
+use Rattle.protocol.specs.Signatures.{Made, Signed, makeKey, sign, signedBytes, seatKey, checks}
+use Rattle.protocol.specs.SignatureLaws.{length-signedBytes, length-lmsSignature-six-four, makeKey-unrefused, sign-unrefused}
+use Rattle.protocol.specs.SignatureClaim.{made-signature-checks}
 use Rattle.protocol.specs.Layout.{valueLength, signatureLength}
 use Rattle.protocol.specs.Refusals.{keyAllowed, keysAllowed, wrongKeys}
 
@@ -98,7 +98,7 @@ module _ (M : Material) where
 
     module _ (round : ℕ) (early : round ≤ 1023) (layout : Bool → List ℕ) (layouts : (side : Bool) → length (layout side) ≡ valueLength) where
       pub signature-sized : (side : Bool) (s : ℕ) → length (madeSignature round layout side s) ≡ signatureLength
-      unfolding signatureLength signatureBytes
+      unfolding signatureLength
       signature-sized side s =
           let id = M .identifier s in
           let message = signedBytes round s (layout side) in

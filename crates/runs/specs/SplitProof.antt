@@ -20,7 +20,7 @@ use Rattle.protocol.specs.ReadLaws.{WellFormed, read-render}
 use Rattle.protocol.specs.Laws.{in-set, set-seats}
 use Rattle.protocol.specs.Certificate.{setOf, ownCertificate, certificateOf, certificateIn, entryOf, entriesOf, fullOf}
 use Rattle.protocol.specs.Record.{wrongSeat}
-use Rattle.protocol.specs.Refusals.{shortStore, shortOut, said, wrongLengths, isForStep, isFull, isEvidence, rising, early, every, badSignature, equalValues, formConditions, signatureConditions, outsideConditions, recordConditions, openingConditions, submitConditions, stepConditions, twoConditions, makingConditions}
+use Rattle.protocol.specs.Refusals.{shortStore, shortOut, said, wrongLengths, isForStep, isFull, isEvidence, rising, early, every, badSignature, equalValues, certificateConditions, formConditions, signatureConditions, outsideConditions, recordConditions, openingConditions, submitConditions, stepConditions, twoConditions, makingConditions}
 use Rattle.protocol.specs.Step.{State, write, collect, isWanted, hearSubmit, reply, isComplete, confirm, hearOwn, confirmIfComplete, submitted, stepped}
 use Rattle.protocol.specs.Calls.{Result, resultBy, start, openedBy, opening, makingBy, making}
 use Rattle.protocol.specs.declared.Record.{Record}
@@ -633,7 +633,7 @@ module _ (S : Setting) {I : Type 0} (P : Plan I) (z : Splits S P) where
   making-room = let r = z .outRoom in omega arith
 
   making-passes : lowest (conditions S (inHand S P)) ≡ 0
-  unfolding makingConditions twoConditions outsideConditions formConditions signatureConditions shortOut equalValues isFull certificateIn certificateOf fullOf lowest
+  unfolding makingConditions twoConditions certificateConditions outsideConditions formConditions signatureConditions shortOut equalValues isFull certificateIn certificateOf fullOf lowest
   making-passes =
       let a = of-taken checks n round (fullBy S P false) (full-sent false .taken) in
       let b = of-taken checks n round (fullBy S P true) (full-sent true .taken) in

@@ -6,7 +6,7 @@ ghost use Prim.Native.Nat.{_≤_};
 ghost use Rattle.quorum.specs.Quorum.{mostSeats};
 ghost use Rattle.refusal.specs.Refusal.{lowest};
 ghost use Rattle.fips180.specs.Constants.{constants};
-ghost use Rattle.rfc8554.specs.Calls.{checks};
+ghost use Rattle.protocol.specs.Signatures.{checks};
 ghost use Rattle.protocol.specs.Message.{read};
 ghost use Rattle.protocol.specs.Refusals.{wrongKeys, stranger, badSignature, outsideConditions, formConditions};
 ghost use Rattle.wire.specs.Reading.{kindOf};

@@ -2,7 +2,7 @@
 ghost use mathlib.Core.Path.{_≡_};
 ghost use Prim.Native.Nat.{_+_, _≤_, _<_};
 ghost use lib.ListN.{length};
-ghost use Rattle.rfc8554.specs.Calls.{checks};
+ghost use Rattle.protocol.specs.Signatures.{checks};
 ghost use Rattle.protocol.specs.Layout.{valueLength, signatureLength, evidenceEntryLength};
 ghost use Rattle.protocol.specs.Message.{byteAt, readValue, readSignature, readPair, read};
 ghost use Rattle.protocol.specs.Refusals.{badSignature};

@@ -6,7 +6,7 @@ use mathlib.Core.Bool.{Bool}
 use mathlib.Core.List.{List, [], _∷_, _++_}
 use lib.ListN.{replicate}
 use Rattle.protocol.specs.Message.{Notice, render}
-use Rattle.rfc8554.specs.Calls.{checks}
+use Rattle.protocol.specs.Signatures.{checks}
 use Rattle.trials.specs.Toy.{unfolded, toy, layout, sign, keys}
 use Rattle.yard.specs.Line.{decimalIn, decimal, line}
 use Rattle.yard.specs.Commands.{openingLength, misframedOpening, opened, callLength, misframedCall, turn}

@@ -1,7 +1,7 @@
 // The commands of the yard's program.
 ghost use mathlib.Core.Path.{_≡_};
 ghost use Prim.Native.Nat.{_<_, _≤_};
-ghost use Rattle.rfc8554.specs.Calls.{checks};
+ghost use Rattle.protocol.specs.Signatures.{checks};
 ghost use Rattle.protocol.specs.Message.{byteAt};
 ghost use Rattle.protocol.specs.Calls.{outAfter};
 ghost use Rattle.yard.specs.Commands.{twoAt, keysOf, openingLength, longestOpening, misframedOpening, refusedOpening, opened, callLength, longestCall, misframedCall, turn, told};

@@ -3,7 +3,7 @@ ghost use mathlib.Core.Path.{_≡_};
 ghost use lib.ListN.{length};
 ghost use Rattle.octets.specs.Octets.{patch};
 ghost use Rattle.protocol.specs.Calls as calls;
-ghost use Rattle.rfc8554.specs.Calls.{checkSignature, makeKey, sign, checks};
+ghost use Rattle.protocol.specs.Signatures.{checkSignature, makeKey, sign, checks};
 use lms::calls::Written;
 use protocol::Checked;
 use protocol::Made;

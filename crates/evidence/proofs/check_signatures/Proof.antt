@@ -1,7 +1,7 @@
 -- `evidence::check_signatures` meets its contract.
 use mathlib.Core.Path.{sym, _∙_}
 use denote.Ref.{now}
-use Rattle.rfc8554.specs.Calls.{checks}
+use Rattle.protocol.specs.Signatures.{checks}
 use Rattle.fleet.specs.Laws.{size-most, size-some}
 use Rattle.validate.specs.Conditions.{round-in}
 use Rattle.evidence.specs.Returns.{signature-refused, order-refused, accepted, formed-taken}

@@ -4,7 +4,7 @@ use mathlib.Core.Bool.{false}
 use mathlib.Core.List.{List}
 use Prim.Native.Nat.{ℕ}
 use denote.Ref.{now}
-use Rattle.rfc8554.specs.Calls.{checks}
+use Rattle.protocol.specs.Signatures.{checks}
 use Rattle.fleet.specs.Laws.{size-most, size-some}
 use Rattle.protocol.specs.Layout.{evidenceOutLength}
 use Rattle.protocol.specs.Message.{read}

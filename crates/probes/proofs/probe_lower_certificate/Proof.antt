@@ -2,7 +2,7 @@
 use mathlib.Core.List.{List}
 use Prim.Native.Nat.{ℕ}
 use denote.Ref.{now}
-use Rattle.rfc8554.specs.Calls.{checks}
+use Rattle.protocol.specs.Signatures.{checks}
 use Rattle.protocol.specs.Calls.{lowerCertificate}
 use Rattle.probes.specs.Laws.{copy-short, copy-fits}
 use borrow.Author.Needs.{needs}

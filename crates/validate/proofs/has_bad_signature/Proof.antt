@@ -1,6 +1,6 @@
 -- `validate::has_bad_signature` meets its contract.
 use denote.Ref.{now}
-use Rattle.rfc8554.specs.Calls.{checks}
+use Rattle.protocol.specs.Signatures.{checks}
 use Rattle.validate.specs.Entries.{submit-taken, full-taken, evidence-taken, notice-none, garbled-none}
 use borrow.Author.Needs.{needs}
 use Rattle.validate.proofs.has_bad_signature.Statement.{statement}

@@ -2,7 +2,7 @@
 use mathlib.Core.Path.{sym, _∙_}
 use denote.Ref.{now}
 use lib.Seq.{length-take-le}
-use Rattle.rfc8554.specs.Calls.{checks}
+use Rattle.protocol.specs.Signatures.{checks}
 use Rattle.protocol.specs.Calls.{submit}
 use Rattle.protocol.specs.Step.{submitted}
 use Rattle.confirmer.specs.Refused.{given, given-ready, ownConditions, own-unrefused, right-lengths}

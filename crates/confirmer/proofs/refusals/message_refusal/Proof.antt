@@ -1,7 +1,7 @@
 -- `confirmer::refusals::message_refusal` meets its contract.
 use mathlib.Core.Path.{sym, _∙_}
 use denote.Ref.{now}
-use Rattle.rfc8554.specs.Calls.{checks}
+use Rattle.protocol.specs.Signatures.{checks}
 use Rattle.protocol.specs.Message.{read}
 use Rattle.confirmer.specs.Refused.{message-garbled, message-formed, message-early, message-bad, message-passed}
 use borrow.Author.Needs.{needs}

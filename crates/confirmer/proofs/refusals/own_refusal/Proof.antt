@@ -2,7 +2,7 @@
 use mathlib.Core.Path.{sym, _∙_}
 use denote.Ref.{now}
 use borrow.Author.Tests.{not-true, not-false}
-use Rattle.rfc8554.specs.Calls.{checks}
+use Rattle.protocol.specs.Signatures.{checks}
 use Rattle.protocol.specs.Refusals.{said}
 use Rattle.confirmer.specs.Refused.{right-lengths, own-said, own-lengths, own-bad, own-passed}
 use borrow.Author.Needs.{needs}

@@ -3,10 +3,10 @@ use mathlib.Core.Path.{_≡_, sym, _∙_}
 use Prim.Native.Nat.{ℕ}
 use denote.Ref.{now}
 use Rattle.refusal.specs.Refusal.{lowest}
-use Rattle.rfc8554.specs.Calls.{checks}
+use Rattle.protocol.specs.Signatures.{checks}
 use Rattle.protocol.specs.Message.{Message, read}
-use Rattle.protocol.specs.Refusals.{Checks}
-use Rattle.evidence.specs.Certificates.{certificateConditions, certificate-formed, first-refused, second-refused, values-refused, two-right}
+use Rattle.protocol.specs.Refusals.{Checks, certificateConditions}
+use Rattle.evidence.specs.Certificates.{certificate-formed, first-refused, second-refused, values-refused, two-right}
 use borrow.Author.Needs.{needs}
 use Rattle.evidence.proofs.certificates.two_refusal.Statement.{statement}
 use Rattle.evidence.proofs.certificates.two_refusal.Tie as tie

@@ -3,8 +3,8 @@ use mathlib.Core.Path.{refl, sym}
 use borrow.Author.Needs.{needs}
 use denote.Ref.{now}
 use Rattle.octets.specs.StringLaws.{patch-nothing}
-use Rattle.rfc8554.specs.CallLaws.{makeKey-unrefused}
-use Rattle.rfc8554.specs.Calls.{treeBytes}
+use Rattle.protocol.specs.SignatureLaws.{makeKey-unrefused}
+use Rattle.protocol.specs.Layout.{treeLength}
 use Rattle.rfc8554.specs.VerifyLaws.{length-publicKey}
 use Rattle.lms.specs.Called.{key-refused, key-room}
 use Rattle.lms.proofs.calls.make_key.Statement.{statement}
@@ -39,7 +39,7 @@ same-length-4 : tie.Need-same-length-4
 same-length-4 c = search needs
 
 returns-2 : tie.Need-returns-2
-unfolding treeBytes
+unfolding treeLength
 returns-2 c =
     let args = c .before .before .before .before .before .before .before .before .before .before .before .before .before .before .before .args in
     let room = key-room (now (args .seed)) (now (args .identifier)) (now (args .tree)) (now (args .out)) (c .before .before .before .before .before .before .before .before .make-key-refusal .result) (c .before .before .before .before .before .before .before .before .make-key-refusal .ensures) (c .before .before .before .before .before .before .before .if1 .left) in

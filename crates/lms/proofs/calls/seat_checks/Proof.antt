@@ -2,17 +2,18 @@
 use native.Mathlib.Omega.{arith}
 use borrow.Author.Needs.{needs}
 use denote.Ref.{now}
-use Rattle.rfc8554.specs.Calls.{signatureBytes, seatKey}
+use Rattle.protocol.specs.Layout.{signatureLength}
+use Rattle.protocol.specs.Signatures.{seatKey}
 use Rattle.lms.specs.Called.{length-seatKey, seat-key, leaf-differs, leaf-agrees}
 use Rattle.lms.proofs.calls.seat_checks.Statement.{statement}
 use Rattle.lms.proofs.calls.seat_checks.Tie as tie
 
 word-at-requires : tie.Need-word-at-requires
-unfolding signatureBytes
+unfolding signatureLength
 word-at-requires c κs = omega arith
 
 returns : tie.Need-returns
-unfolding signatureBytes
+unfolding signatureLength
 returns c =
     let args = c .before .before .before .before .before .args in
     leaf-differs (now (args .keys)) (args .round) (args .seat) (now (args .value)) (now (args .signature)) (omega arith) (c .before .word-at .result)
@@ -39,7 +40,7 @@ verified-requires c κs =
     (start .pre .0 .0, rw (c .before .before .bytes-at .ensures) (length-seatKey keys seat (start .pre .1 .0)), rw (c .before .before .bytes-at .ensures) (seat-key keys seat (start .pre .1 .0) (start .pre .1 .1) (start .pre .1 .2)))
 
 returns-2 : tie.Need-returns-2
-unfolding signatureBytes
+unfolding signatureLength
 returns-2 c =
     let word = c .before .before .before .before .before in
     let args = word .before .before .before .before .args in

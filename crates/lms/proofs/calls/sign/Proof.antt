@@ -4,8 +4,8 @@ use native.Mathlib.Omega.{arith}
 use borrow.Author.Needs.{needs}
 use denote.Ref.{now}
 use Rattle.octets.specs.StringLaws.{patch-nothing}
-use Rattle.rfc8554.specs.CallLaws.{sign-unrefused, length-lmsSignature-six-four}
-use Rattle.rfc8554.specs.Calls.{signatureBytes, treeBytes, messageLimit}
+use Rattle.protocol.specs.SignatureLaws.{sign-unrefused, length-lmsSignature-six-four}
+use Rattle.protocol.specs.Layout.{signatureLength, treeLength, messageLimit}
 use Rattle.lms.specs.Called.{signer-refused, signer-room}
 use Rattle.lms.proofs.calls.sign.Statement.{statement}
 use Rattle.lms.proofs.calls.sign.Tie as tie
@@ -24,7 +24,7 @@ returns c =
     (refl, (refl, sym (patch-nothing (now (args .out)))))
 
 write-signature-requires : tie.Need-write-signature-requires
-unfolding signatureBytes
+unfolding signatureLength
 write-signature-requires c κs =
     let args = c .before .before .before .before .before .before .before .before .before .before .args in
     let room = signer-room (args .leaf) (now (args .message)) (now (args .seed)) (now (args .identifier)) (now (args .randomizer)) (now (args .tree)) (now (args .out)) (c .before .before .sign-refusal .result) (c .before .before .sign-refusal .ensures) (c .before .if1 .left) in
@@ -34,7 +34,7 @@ same-length-2 : tie.Need-same-length-2
 same-length-2 c = search needs
 
 returns-2 : tie.Need-returns-2
-unfolding signatureBytes treeBytes messageLimit
+unfolding signatureLength treeLength messageLimit
 returns-2 c =
     let args = c .before .before .before .before .before .before .before .before .before .before .before .before .before .args in
     let room = signer-room (args .leaf) (now (args .message)) (now (args .seed)) (now (args .identifier)) (now (args .randomizer)) (now (args .tree)) (now (args .out)) (c .before .before .before .before .before .sign-refusal .result) (c .before .before .before .before .before .sign-refusal .ensures) (c .before .before .before .before .if1 .left) in

@@ -10,7 +10,7 @@ use Rattle.octets.specs.Laws.{length-part}
 use Rattle.octets.specs.Strings.{joined}
 use Rattle.octets.specs.Octets.{patch}
 use Rattle.octets.specs.WriteLaws.{patch-none}
-use Rattle.rfc8554.specs.Calls.{treeBytes}
+use Rattle.protocol.specs.Layout.{treeLength}
 use Rattle.rfc8554.specs.Tree.{path}
 use Rattle.lms.specs.Written.{way-within, path-turn}
 use Rattle.lms.specs.Laws.{half-turn}
@@ -42,7 +42,7 @@ mul-from : tie.Need-mul-from Inv-loop μ-loop
 mul-from c = omega arith
 
 bytes-at-requires : tie.Need-bytes-at-requires Inv-loop μ-loop
-unfolding treeBytes
+unfolding treeLength
 bytes-at-requires c κs = omega arith
 
 mul-copy : tie.Need-mul-copy Inv-loop μ-loop
@@ -52,7 +52,7 @@ add-copy : tie.Need-add-copy Inv-loop μ-loop
 add-copy c = omega arith
 
 copy-requires : tie.Need-copy-requires Inv-loop μ-loop
-unfolding treeBytes
+unfolding treeLength
 copy-requires c κs =
     let tree = now (c .before .before .before .before .before .before .before .args .tree) in
     let s = c .before .before .sibling .result in

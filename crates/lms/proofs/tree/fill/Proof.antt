@@ -2,7 +2,7 @@
 use borrow.Author.Needs.{needs}
 use denote.Ref.{now}
 use Rattle.octets.specs.Octets.{bytes}
-use Rattle.rfc8554.specs.Calls.{treeBytes}
+use Rattle.protocol.specs.Layout.{treeLength}
 use Rattle.lms.specs.Filled.{tree-filled}
 use Rattle.lms.proofs.tree.fill.Statement.{statement}
 use Rattle.lms.proofs.tree.fill.Tie as tie
@@ -17,7 +17,7 @@ same-length : tie.Need-same-length
 same-length c = search needs
 
 returns : tie.Need-returns
-unfolding treeBytes
+unfolding treeLength
 returns c =
     let start = c .before .before .before .before .before .before .before .before .before in
     let args = start .args in

@@ -4,7 +4,7 @@ use borrow.Author.Needs.{needs}
 use denote.Ref.{now}
 use Rattle.octets.specs.Laws.{length-part}
 use Rattle.octets.specs.Octets.{bytes}
-use Rattle.rfc8554.specs.Calls.{treeBytes}
+use Rattle.protocol.specs.Layout.{treeLength}
 use Rattle.lms.specs.Written.{whole-string, key-written}
 use Rattle.lms.proofs.tree.make.Statement.{statement}
 use Rattle.lms.proofs.tree.make.Tie as tie
@@ -22,11 +22,11 @@ fill-requires : tie.Need-fill-requires
 fill-requires c κs = search needs
 
 bytes-at-requires : tie.Need-bytes-at-requires
-unfolding treeBytes
+unfolding treeLength
 bytes-at-requires c κs = omega arith
 
 write-key-requires : tie.Need-write-key-requires
-unfolding treeBytes
+unfolding treeLength
 write-key-requires c κs =
     let start = c .before .before .before .before .before .before .before .before .before .before .before .before .before .before .before in
     (start .pre .1, rw (c .before .bytes-at .ensures) (length-part 32 32 (c .before .before .before .before .before .fill .last .1 .1 .1 .0) (omega arith)), omega arith)

@@ -3,7 +3,7 @@ use native.Mathlib.Omega.{arith}
 use borrow.Author.Needs.{needs}
 use denote.Ref.{now}
 use Rattle.octets.specs.Octets.{bytes}
-use Rattle.rfc8554.specs.Calls.{treeBytes}
+use Rattle.protocol.specs.Layout.{treeLength}
 use Rattle.lms.specs.Filled.{inner-put}
 use Rattle.lms.proofs.tree.put_inner.Statement.{statement}
 use Rattle.lms.proofs.tree.put_inner.Tie as tie
@@ -12,7 +12,7 @@ mul-bytes-at : tie.Need-mul-bytes-at
 mul-bytes-at c = search needs
 
 bytes-at-requires : tie.Need-bytes-at-requires
-unfolding treeBytes
+unfolding treeLength
 bytes-at-requires c κs = omega arith
 
 inner-requires : tie.Need-inner-requires
@@ -25,7 +25,7 @@ slice-aggregate-copy : tie.Need-slice-aggregate-copy
 slice-aggregate-copy c = search needs
 
 copy-requires : tie.Need-copy-requires
-unfolding treeBytes
+unfolding treeLength
 copy-requires c κs = omega arith
 
 same-length : tie.Need-same-length

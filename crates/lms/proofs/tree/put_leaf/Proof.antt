@@ -3,7 +3,7 @@ use native.Mathlib.Omega.{arith}
 use borrow.Author.Needs.{needs}
 use denote.Ref.{now}
 use Rattle.octets.specs.Octets.{bytes}
-use Rattle.rfc8554.specs.Calls.{treeBytes}
+use Rattle.protocol.specs.Layout.{treeLength}
 use Rattle.lms.specs.Laws.{leaf-put}
 use Rattle.lms.proofs.tree.put_leaf.Statement.{statement}
 use Rattle.lms.proofs.tree.put_leaf.Tie as tie
@@ -24,7 +24,7 @@ slice-aggregate-copy : tie.Need-slice-aggregate-copy
 slice-aggregate-copy c = search needs
 
 copy-requires : tie.Need-copy-requires
-unfolding treeBytes
+unfolding treeLength
 copy-requires c κs = omega arith
 
 same-length : tie.Need-same-length

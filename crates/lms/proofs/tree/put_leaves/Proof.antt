@@ -7,7 +7,7 @@ use denote.Ref.{now}
 use Rattle.octets.specs.Octets.{patch, bytes}
 use Rattle.octets.specs.Strings.{joined}
 use Rattle.octets.specs.WriteLaws.{patch-none}
-use Rattle.rfc8554.specs.Calls.{treeBytes}
+use Rattle.protocol.specs.Layout.{treeLength}
 use Rattle.rfc8554.specs.Tree.{nodes}
 use Rattle.lms.specs.Filled.{leaves-turn}
 use Rattle.lms.proofs.tree.put_leaves.Statement.{statement}
@@ -36,7 +36,7 @@ loop-less : tie.Need-loop-less Inv-loop μ-loop
 loop-less c = omega arith
 
 loop-again : tie.Need-loop-again Inv-loop μ-loop
-unfolding treeBytes
+unfolding treeLength
 loop-again c =
     let loop = c .before .before .before .before .before .loop in
     let args = c .before .before .before .before .before .before .before .args in

@@ -8,7 +8,7 @@ use lib.ListN.{length}
 use Rattle.octets.specs.Octets.{patch, bytes}
 use Rattle.octets.specs.Strings.{joined}
 use Rattle.octets.specs.WriteLaws.{patch-none}
-use Rattle.rfc8554.specs.Calls.{treeBytes}
+use Rattle.protocol.specs.Layout.{treeLength}
 use Rattle.lms.specs.Filled.{sixteen-turn, sixteen-done}
 use Rattle.lms.specs.Pieces.{leafAt}
 use Rattle.lms.proofs.tree.put_sixteen.Statement.{statement}
@@ -53,7 +53,7 @@ loop-less : tie.Need-loop-less Inv-loop μ-loop
 loop-less c = omega arith
 
 loop-again : tie.Need-loop-again Inv-loop μ-loop
-unfolding treeBytes
+unfolding treeLength
 loop-again c =
     let loop = c .before .before .before .before .before .before .before .loop in
     let keys = c .before .before .before .before .before .before .before .before .ots-keys in

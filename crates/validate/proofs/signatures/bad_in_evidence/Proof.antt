@@ -5,7 +5,7 @@ use Prim.Native.Nat.{_-_, _≤_, _<_}
 use native.Mathlib.Omega.{arith}
 use borrow.Author.Tests.{not-true, not-false}
 use denote.Ref.{now}
-use Rattle.rfc8554.specs.Calls.{checks}
+use Rattle.protocol.specs.Signatures.{checks}
 use Rattle.protocol.specs.Layout.{evidenceLength, evidenceEntryAt, evidenceEntryLength}
 use Rattle.protocol.specs.Message.{byteAt}
 use Rattle.validate.specs.Signatures.{pairCheck, eachBelow, each-none, each-turn}

@@ -1,7 +1,7 @@
 -- `validate::signatures::bad_in_submit` meets its contract.
 use native.Mathlib.Omega.{arith}
 use denote.Ref.{now}
-use Rattle.rfc8554.specs.Calls.{checks}
+use Rattle.protocol.specs.Signatures.{checks}
 use Rattle.protocol.specs.Layout.{signatureLength, submitLength}
 use Rattle.validate.specs.Entries.{submit-signature}
 use Rattle.validate.proofs.signatures.bad_in_submit.Statement.{statement}

@@ -1,7 +1,7 @@
 -- `validate::signatures::entry_checks` meets its contract.
 use mathlib.Core.Path.{sym, _∙_}
 use denote.Ref.{now}
-use Rattle.rfc8554.specs.Calls.{checks}
+use Rattle.protocol.specs.Signatures.{checks}
 use Rattle.validate.specs.Signatures.{entry-checked}
 use Rattle.validate.specs.Entries.{entry-is, entry-fits, entry-not-end}
 use borrow.Author.Needs.{needs}

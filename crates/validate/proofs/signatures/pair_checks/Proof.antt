@@ -2,7 +2,7 @@
 use native.Mathlib.Omega.{arith}
 use borrow.Author.Tests.{not-true, not-false}
 use denote.Ref.{now}
-use Rattle.rfc8554.specs.Calls.{checks}
+use Rattle.protocol.specs.Signatures.{checks}
 use Rattle.protocol.specs.Layout.{signatureLength, evidenceEntryLength}
 use Rattle.validate.specs.Signatures.{pair-low, pair-both}
 use borrow.Author.Needs.{needs}

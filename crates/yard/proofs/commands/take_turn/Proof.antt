@@ -1,7 +1,7 @@
 -- `yard::commands::take_turn` meets its contract.
 use mathlib.Core.Path.{refl, sym, _∙_}
 use denote.Ref.{now}
-use Rattle.rfc8554.specs.Calls.{checks}
+use Rattle.protocol.specs.Signatures.{checks}
 use Rattle.yard.specs.TurnLaws.{message-whole, submit-whole, turn-misframed, turn-message, turn-submit}
 use borrow.Author.Needs.{needs}
 use Rattle.yard.proofs.commands.take_turn.Statement.{statement}

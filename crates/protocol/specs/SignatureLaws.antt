@@ -10,19 +10,22 @@ use lib.ListN.{length, length-append}
 use borrow.Author.Tests.{le-ltb, eqb-true, not-false}
 use Rattle.octets.specs.Laws.{length-be, length-part}
 use Rattle.refusal.specs.Refusal.{lowest, unrefused}
 use Rattle.rfc8554.specs.Ots.{chains, otsLength, knownOts, width}
 use Rattle.rfc8554.specs.Tree.{knownLms, height, publicKey, treeFilled, path, lmsSignature}
-use Rattle.rfc8554.specs.Verify.{lmsTypeOf, otsTypeOf, leafOf, signatureLength, keyInvalid}
-use Rattle.rfc8554.specs.Calls.{signatureBytes, treeBytes, messageLimit, keyRefused, checkSignature, makeKeyRefusal, makeKey, signRefusal, sign, signedBytes}
+use Rattle.rfc8554.specs.Verify.{lmsTypeOf, otsTypeOf, leafOf, signatureLength as lengthOfTypes, keyInvalid}
+use Rattle.protocol.specs.Layout.{signatureLength, treeLength, messageLimit}
+use Rattle.protocol.specs.Record.{wrongRound}
+use Rattle.protocol.specs.Refusals.{shortOut, wrongKey, checkConditions, makeKeyConditions, signConditions}
+use Rattle.protocol.specs.Signatures.{checkSignature, makeKeyRefusal, makeKey, signRefusal, sign, signedBytes}
 use Rattle.refusal.specs.Laws.{lowest-zero}
 use Rattle.rfc8554.specs.VerifyLaws.{sibling-within, ancestor-within, length-lmsSignature, valid-fits}
 
 -- ---- the check
 
 -- number 5 is what Algorithm 6 rejects of a key
-pub keyInvalid-keyRefused : (key : List ℕ) → keyInvalid key ≡ keyRefused key
-unfolding keyInvalid keyRefused
-keyInvalid-keyRefused key = go (eqb (length key) 56) refl
+pub keyInvalid-wrongKey : (key : List ℕ) → keyInvalid key ≡ wrongKey key
+unfolding keyInvalid wrongKey
+keyInvalid-wrongKey key = go (eqb (length key) 56) refl
   where
     go : (b : Bool) → eqb (length key) 56 ≡ b
         → (ltb (length key) 8 || not (knownLms (lmsTypeOf key)) || not (knownOts (otsTypeOf key)) || not (eqb (length key) 56))
@@ -32,15 +35,15 @@ keyInvalid-keyRefused key = go (eqb (length key) 56) refl
 
 -- an accepted signature has exactly the length of its types, and its leaf stands in the tree
 pub accepted-fits : (key message signature : List ℕ) → checkSignature key message signature ≡ 0
-    → (length signature ≡ signatureLength (height (lmsTypeOf key)) (width (otsTypeOf key)))
+    → (length signature ≡ lengthOfTypes (height (lmsTypeOf key)) (width (otsTypeOf key)))
     × (leafOf signature < 2 ^ height (lmsTypeOf key))
-unfolding checkSignature
+unfolding checkSignature checkConditions
 accepted-fits key message signature e =
     let late = lowest-zero 8 _ _ (lowest-zero 4 _ _ e .1) .1 in
     valid-fits key message signature (not-false _ (lowest-zero 13 _ [] late .0))
 
-pub length-six-four : signatureLength (height 6) (width 4) ≡ signatureBytes
-unfolding signatureLength otsLength chains height width signatureBytes
+pub length-six-four : lengthOfTypes (height 6) (width 4) ≡ signatureLength
+unfolding lengthOfTypes otsLength chains height width signatureLength
 length-six-four = refl
 
 pub length-signedBytes : (round seat : ℕ) (value : List ℕ) → length value ≡ 32 → length (signedBytes round seat value) ≡ 36
@@ -57,7 +60,7 @@ module _ (I : List ℕ) (leaf : ℕ) (seed C message tree : List ℕ) (l : leaf 
       let beside = sibling-within 1024 _ (within .0) (within .1) in
       length-part _ 32 tree (omega (arith, beside .1))
 
-  pub length-lmsSignature-six-four : length (lmsSignature 6 4 I leaf seed C message tree) ≡ signatureBytes
+  pub length-lmsSignature-six-four : length (lmsSignature 6 4 I leaf seed C message tree) ≡ signatureLength
   length-lmsSignature-six-four = length-lmsSignature 6 4 I leaf seed C message tree c length-path ∙ length-six-four
 
 -- ---- the key maker and the signer: a refusal writes nothing, and keeps the tree
@@ -76,7 +79,7 @@ sign-refused leaf message seed I C tree out n e = rw e
 
 module _ (seed I tree out : List ℕ) (s : length seed ≡ 32) (i : length I ≡ 16) (t : length tree ≡ 65536) where
   makeKeyRefusal-zero : 56 ≤ length out → makeKeyRefusal seed I tree out ≡ 0
-  unfolding makeKeyRefusal lowest treeBytes
+  unfolding makeKeyRefusal makeKeyConditions shortOut lowest treeLength
   makeKeyRefusal-zero o = rw (le-ltb (length out) 56 o, s, i, t)
 
   pub makeKey-unrefused : 56 ≤ length out
@@ -86,7 +89,7 @@ module _ (seed I tree out : List ℕ) (s : length seed ≡ 32) (i : length I ≡
 
   module _ (leaf : ℕ) (message C : List ℕ) (l : leaf ≤ 1023) (m : length message ≤ 65535) (c : length C ≡ 32) where
     signRefusal-zero : 1452 ≤ length out → signRefusal leaf message seed I C tree out ≡ 0
-    unfolding signRefusal lowest treeBytes messageLimit signatureBytes
+    unfolding signRefusal signConditions wrongRound shortOut lowest treeLength messageLimit signatureLength
     signRefusal-zero o = rw (le-ltb 1023 leaf l, le-ltb (length out) 1452 o, le-ltb 65535 (length message) m, s, i, c, t)
 
     pub sign-unrefused : 1452 ≤ length out

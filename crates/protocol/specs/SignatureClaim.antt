@@ -8,13 +8,15 @@ use native.Mathlib.Omega.{arith}
 use lib.ListN.{length}
 use borrow.Author.Tests.{le-ltb, eq-eqb}
 use Rattle.refusal.specs.Refusal.{lowest}
 use Rattle.rfc8554.specs.Ots.{knownOts, width}
 use Rattle.rfc8554.specs.Tree.{knownLms, height, publicKey, treeFilled, lmsSignature}
 use Rattle.rfc8554.specs.Verify.{valid}
-use Rattle.rfc8554.specs.Calls.{messageLimit, keyRefused, checkSignature, makeKey, sign, signedBytes, seatKey, checks}
+use Rattle.protocol.specs.Layout.{messageLimit}
+use Rattle.protocol.specs.Refusals.{wrongKey, checkConditions}
+use Rattle.protocol.specs.Signatures.{checkSignature, makeKey, sign, signedBytes, seatKey, checks}
 use Rattle.rfc8554.specs.TreeLaws.{length-treeFilled, part-treeFilled}
 use Rattle.rfc8554.specs.VerifyLaws.{leaf-lmsSignature, keyInvalid-publicKey, valid-lmsSignature}
-use Rattle.rfc8554.specs.CallLaws.{keyInvalid-keyRefused, length-signedBytes, makeKey-unrefused, sign-unrefused}
+use Rattle.protocol.specs.SignatureLaws.{keyInvalid-wrongKey, length-signedBytes, makeKey-unrefused, sign-unrefused}
 
 module _
     (seed I C : List ℕ) (seed-length : length seed ≡ 32) (I-length : length I ≡ 16) (C-length : length C ≡ 32)
@@ -38,15 +40,15 @@ module _
         valid-lmsSignature 6 4 I seed refl refl I-length leaf C message (treeFilled I seed tree) C-length (omega arith)
         (λ r low high. part-treeFilled I seed tree tree-length r (omega arith) high)
 
-    made-key-allowed : keyRefused (publicKey 6 4 I seed) ≡ false
+    made-key-allowed : wrongKey (publicKey 6 4 I seed) ≡ false
     unfolding knownLms knownOts
-    made-key-allowed = sym (keyInvalid-keyRefused (publicKey 6 4 I seed)) ∙ keyInvalid-publicKey 6 4 I seed refl refl I-length
+    made-key-allowed = sym (keyInvalid-wrongKey (publicKey 6 4 I seed)) ∙ keyInvalid-publicKey 6 4 I seed refl refl I-length
 
     pub made-signature-accepted : (message : List ℕ) → length message ≤ 65535
         → checkSignature ((makeKey seed I tree keyOut) .written) message
         ((sign leaf message seed I C ((makeKey seed I tree keyOut) .tree) out) .written)
         ≡ 0
-    unfolding checkSignature lowest messageLimit
+    unfolding checkSignature checkConditions lowest messageLimit
     made-signature-accepted message short =
         rw
         (made-key, made-signature message short, made-key-allowed, le-ltb 65535 (length message) short, made-valid message)

@@ -1,0 +1,65 @@
+-- A seat's signature in a round, and the calls of document 01 on keys and signatures, each a function from what it is given to
+-- what it leaves.
+use Prim.Native.Nat.{ℕ}
+use mathlib.Core.Bool.{Bool, _&&_}
+use mathlib.Core.List.{List, [], _∷_, _++_}
+use lib.Dec.{eqb}
+use Rattle.octets.specs.Octets.{part}
+use Rattle.refusal.specs.Refusal.{lowest, unrefused}
+use Rattle.rfc8554.specs.Ots.{u8str, u16str}
+use Rattle.rfc8554.specs.Tree.{publicKey, treeFilled, lmsSignature}
+use Rattle.rfc8554.specs.Verify.{leafOf, valid}
+use Rattle.protocol.specs.Layout.{keyLength, keyAt}
+use Rattle.protocol.specs.Refusals.{checkConditions, makeKeyConditions, signConditions}
+
+-- ---- a seat's signature in a round
+
+-- "A seat signs 36 bytes: 0x01, round (2), seat (1), value (32)."
+unfoldable pub signedBytes : ℕ → ℕ → List ℕ → List ℕ
+signedBytes round seat value = 0x01 ∷ u16str round ++ u8str seat ++ value
+
+-- the seat's key in the key table
+unfoldable pub seatKey : List ℕ → ℕ → List ℕ
+seatKey keys seat = part (keyAt seat) keyLength keys
+
+-- "RFC 8554 accepts it under that seat's key for the 36 bytes of the round, that seat and that layout, and its leaf is
+-- the round"
+unfoldable pub checks : List ℕ → ℕ → ℕ → List ℕ → List ℕ → Bool
+checks keys round seat value signature =
+    valid (seatKey keys seat) (signedBytes round seat value) signature && eqb (leafOf signature) round
+
+-- ---- the stand-alone check: key, message, signature
+
+unfoldable pub checkSignature : List ℕ → List ℕ → List ℕ → ℕ
+checkSignature key message signature = lowest (checkConditions key message signature)
+
+-- ---- the key maker, for types 6 and 4: the public key is written, and the tree filled
+
+pub record Made : Type 0 where
+  pub refusal : ℕ
+  pub written : List ℕ
+  pub tree : List ℕ
+
+unfoldable pub makeKeyRefusal : List ℕ → List ℕ → List ℕ → List ℕ → ℕ
+makeKeyRefusal seed I tree out = lowest (makeKeyConditions seed I tree out)
+
+-- seed, I, tree, out
+unfoldable pub makeKey : List ℕ → List ℕ → List ℕ → List ℕ → Made
+makeKey seed I tree out =
+    let n = makeKeyRefusal seed I tree out in
+    record { refusal = n; written = unrefused n (publicKey 6 4 I seed) []; tree = unrefused n (treeFilled I seed tree) tree }
+
+-- ---- the signer, for types 6 and 4: the path is read from the tree as it is lent
+
+pub record Signed : Type 0 where
+  pub refusal : ℕ
+  pub written : List ℕ
+
+unfoldable pub signRefusal : ℕ → List ℕ → List ℕ → List ℕ → List ℕ → List ℕ → List ℕ → ℕ
+signRefusal leaf message seed I C tree out = lowest (signConditions leaf message seed I C tree out)
+
+-- leaf, message, seed, I, randomizer, tree, out
+unfoldable pub sign : ℕ → List ℕ → List ℕ → List ℕ → List ℕ → List ℕ → List ℕ → Signed
+sign leaf message seed I C tree out =
+    let n = signRefusal leaf message seed I C tree out in
+    record { refusal = n; written = unrefused n (lmsSignature 6 4 I leaf seed C message tree) [] }
