@@ -15,8 +15,8 @@ use Rattle.protocol.specs.Message.{Message, Submit, read, readSubmit, readNotic
 use Rattle.protocol.specs.Record.{impossible}
 use Rattle.protocol.specs.Refusals.{Checks, Condition, every, wrongKeys, shortStore, shortOut, said, wrongLengths, isForStep, otherRound, stranger, disorder, early, badSignature, formConditions, signatureConditions, recordConditions}
 use Rattle.protocol.specs.declared.Record.{Record}
-use Rattle.wire.specs.Reading.{kindOf, tag}
-use Rattle.wire.specs.KindLaws.{read-as}
+use Rattle.wire.specs.Reading.{kindOf}
+use Rattle.wire.specs.KindLaws.{read-as, tag}
 use Rattle.wire.specs.declared.read.Kind.{Kind}
 use Rattle.wire.specs.declared.read.Kind.the-variants as kind
 use Rattle.validate.specs.Conditions.{Formed, form-passed, form-later, refused-first}

@@ -17,8 +17,8 @@ use Rattle.protocol.specs.Refusals.{stranger, disorder, every, isFull}
 use Rattle.protocol.specs.Step.{noticesWith, hear, reply, hearCertificate, submitOwn, hearSubmit, confirmIfComplete, submitted, stepped}
 use Rattle.protocol.specs.StepLaws.{reply-after, confirmIfComplete-after}
 use Rattle.protocol.specs.declared.Record.{Record}
-use Rattle.wire.specs.Reading.{kindOf, tag}
-use Rattle.wire.specs.KindLaws.{read-as}
+use Rattle.wire.specs.Reading.{kindOf}
+use Rattle.wire.specs.KindLaws.{read-as, tag}
 use Rattle.wire.specs.StoreLaws.{length-signature}
 use Rattle.wire.specs.Sources.{certificateFrom}
 use Rattle.wire.specs.SourceLaws.{inFull, full-length, full-certificate}

@@ -1,26 +1,27 @@
 -- What a message with no stranger in it says of its bytes, kind by kind, and of its signatures.
 -- Assumes nothing.
 use mathlib.Core.Path.{_≡_, refl, sym, ap, _∙_}
-use mathlib.Core.Bool.{Bool, true, false, not, _&&_, and-eq-true-iff}
-use mathlib.Core.List.{List}
-use Prim.Native.Nat.{ℕ, suc, _+_, _-_, _*_, _≤_, _<_}
+use mathlib.Core.Bool.{Bool, true, false, not, _&&_, and-eq-true-iff, false≢true}
+use mathlib.Core.List.{List, [], _∷_}
+use Prim.Native.Nat.{ℕ, _+_, _*_, _≤_, _<_}
+use native.Mathlib.Decide.{decLt}
 use native.Mathlib.Omega.{arith}
 use lib.Dec.{leb, ltb, eqb}
 use lib.ListN.{length}
-use borrow.Author.Tests.{leb-true, le-leb, ltb-true, eqb-true, not-false}
+use borrow.Author.Tests.{leb-true, le-leb, lt-ltb, le-ltb, ltb-true, eqb-true, not-false}
 use Rattle.quorum.specs.Quorum.{k}
 use Rattle.protocol.specs.Layout.{valueLength, signatureLength, submitLength, fullEntryLength, fullEntryAt, fullLength, evidenceEntryLength, evidenceEntryAt, evidenceLength}
-use Rattle.protocol.specs.Message.{byteAt, readValue, readSignature, entryCommands, pairCommands, fitsFull, fitsEvidence, read, readSubmit, readNotice, readFull, readEvidence, seatsOf, signed}
+use Rattle.protocol.specs.Message.{Entry, byteAt, readEntry, readValue, readSignature, entryCommands, pairCommands, fitsFull, fitsEvidence, read, readSubmit, readNotice, readFull, readEvidence, seatsOf, signed}
 use Rattle.protocol.specs.Refusals.{Checks, every, stranger, badSignature}
 use Rattle.wire.specs.Reading.{kindOf, column}
 use Rattle.wire.specs.KindLaws.{read-as}
 use Rattle.wire.specs.SourceLaws.{full-length}
 use Rattle.wire.specs.MessageLaws.{submit-length, evidence-length, known-entries, full-column, evidence-column}
 use Rattle.wire.specs.ColumnLaws.{below-read}
-use Rattle.validate.specs.Signatures.{entryCheck, pairCheck, eachBelow, submit-bad, full-bad, evidence-bad, each-not}
-use Rattle.wire.specs.Walk.{stepAt, entryAt}
-use Rattle.wire.specs.declared.cursor.Cursor.{Cursor}
-use Rattle.wire.specs.declared.cursor.Step.the-variants as step
+use Rattle.validate.specs.Signatures.{entryCheck, pairCheck, eachBelow, submit-bad, full-bad, evidence-bad, each-none, each-turn, each-not, entry-checked}
+use Rattle.wire.specs.Answers.{entryOf, entryAt, Found}
+use Rattle.wire.specs.declared.reader.Step.{Step}
+use Rattle.wire.specs.declared.reader.Step.the-variants as step
 use Rattle.wire.specs.declared.read.Kind.{Kind}
 use Rattle.wire.specs.declared.read.Kind.the-variants as kind
 
@@ -101,31 +102,56 @@ module _ (n : ℕ) (bytes : List ℕ) (t : Kind) (e : t ≡ kindOf (read n bytes
 
 -- ---- the entries of FULL, as a reader finds them
 
-module _ (n : ℕ) (bytes : List ℕ) (h : FullTaken n bytes) (t : ℕ) (l : t < byteAt bytes 36) where
-  found : (left : ℕ) × (entryAt t bytes ≡ stepAt (fullEntryAt t) (suc left) bytes)
+-- the seat is one of n, and the signature lies in the message
+abbrev pub Fits : ℕ → List ℕ → Step → Type 0
+Fits n bytes (step.Entry seat at) = (seat < n) × (at + signatureLength ≤ length bytes)
+Fits n bytes step.End = Unit {0}
+
+-- an entry was found, and its signature checks over the message's value
+unfoldable pub foundChecks : Checks → List ℕ → Step → Bool
+foundChecks checks bytes (step.Entry seat at) = checks seat (readValue 4 bytes) (readSignature at bytes)
+foundChecks checks bytes step.End = false
+
+unfoldable pub isEntry : Step → Bool
+isEntry (step.Entry seat at) = true
+isEntry step.End = false
+
+-- what a match on a step tells
+module _ (s : Step) (n : ℕ) (bytes : List ℕ) where
+  module _ (seat at : ℕ) (e : s ≡ step.Entry seat at) where
+    pub fits-entry : Fits n bytes s → (seat < n) × (at + signatureLength ≤ length bytes)
+    fits-entry f = rw e at f
+
+    pub checks-entry : (checks : Checks) (r : Bool) → r ≡ checks seat (readValue 4 bytes) (readSignature at bytes) → r ≡ foundChecks checks bytes s
+    unfolding foundChecks
+    checks-entry checks r q = rw e q
+
+  pub checks-end : s ≡ step.End → (checks : Checks) → false ≡ foundChecks checks bytes s
+  unfolding foundChecks
+  checks-end e checks = rw e
+
+headSeat : List Entry → ℕ
+headSeat [] = 0
+headSeat (e ∷ es) = e .seat
+
+ne-nil : {e : Entry} → e ∷ [] ≡ [] → ⊥
+ne-nil q = let z : _≡_ {A = ℕ} 1 0 = ap length q in omega arith
+
+module _ (n : ℕ) (bytes : List ℕ) (h : FullTaken n bytes) where
+  -- there is an entry below k, and none at k
+  entry-below : (t : ℕ) → t < k n → entryAt t bytes ≡ readEntry (fullEntryAt t) bytes ∷ []
   unfolding entryAt fullLength
-  found =
-      let left : k n - t ≡ suc (k n - t - 1) = omega (arith, h .count) in
-      (k n - t - 1, rw (h .count, le-leb (fullEntryAt (k n)) (length bytes) (omega (arith, h .size))) (ap (λ (j : ℕ). stepAt (fullEntryAt t) j bytes) left))
+  entry-below t l = rw (h .count, le-leb (fullEntryAt (k n)) (length bytes) (omega (arith, h .size)), lt-ltb t (k n) l)
 
-  pub entry-is : (seat signature : ℕ) (rest : Cursor) → entryAt t bytes ≡ step.Entry seat signature rest
-      → (seat ≡ byteAt bytes (fullEntryAt t + 1)) × (signature ≡ fullEntryAt t + 2)
-  entry-is seat signature rest e =
-      let f = found .1 in
-      (cc, cc)
+  entry-past : (t : ℕ) → k n ≤ t → entryAt t bytes ≡ []
+  unfolding entryAt fullLength
+  entry-past t l = rw (h .count, le-leb (fullEntryAt (k n)) (length bytes) (omega (arith, h .size)), le-ltb t (k n) l)
 
-  -- its seat is known, and value and signature lie in the message
-  pub entry-fits : (seat signature : ℕ) → (seat ≡ byteAt bytes (fullEntryAt t + 1)) × (signature ≡ fullEntryAt t + 2)
-      → (seat < n) × (4 + valueLength ≤ length bytes) × (signature + signatureLength ≤ length bytes)
-  unfolding fullLength fullEntryAt fullEntryLength signatureLength
-  entry-fits seat signature e =
-      let inside : t < k n = omega (arith, h .count) in
-      (rw (e .0) (h .known t inside), omega (arith, h .size), omega (arith, h .size, e .1))
-
-  pub entry-not-end : entryAt t bytes ≡ step.End → ⊥
-  entry-not-end e =
-      let f = found .1 in
-      let z : _≡_ {A = ℕ} 0 1 = cc in omega arith
+-- what a reader has come to that found s at index t: all entries before it check
+pub record Walked (checks : Checks) (n : ℕ) (bytes : List ℕ) (t : ℕ) (s : Step) : Type 0 where
+  pub within : t ≤ k n
+  pub found : Found t bytes s
+  pub before : eachBelow (entryCheck checks bytes) t ≡ true
 
 -- ---- its signatures, as the code checks them
 
@@ -158,3 +184,59 @@ module _ (checks : Checks) (n : ℕ) (bytes : List ℕ) where
   pub garbled-none : (t : Kind) → t ≡ kindOf (read n bytes) → t ≡ kind.Garbled → false ≡ badSignature checks (read n bytes)
   unfolding badSignature signed every
   garbled-none t e g = rw (read-as kind.Garbled n bytes (sym g ∙ e) .0)
+
+-- ---- FULL's signatures, as a reader goes through them
+
+module _ (checks : Checks) (n : ℕ) (bytes : List ℕ) (h : FullTaken n bytes) where
+  pub walk-starts : (s : Step) → Found 0 bytes s → Walked checks n bytes 0 s
+  walk-starts s f = record { within = omega arith; found = f; before = each-none (entryCheck checks bytes) }
+
+  module _ (t : ℕ) where
+    -- what is found: an entry below k, and none at k
+    found-entry : (seat at : ℕ) → Walked checks n bytes t (step.Entry seat at) → (t < k n) × (seat ≡ byteAt bytes (fullEntryAt t + 1)) × (at ≡ fullEntryAt t + 2)
+    unfolding entryOf readEntry headSeat
+    found-entry seat at w = go (decLt t (k n))
+      where
+        go : Dec (t < k n) → (t < k n) × (seat ≡ byteAt bytes (fullEntryAt t + 1)) × (at ≡ fullEntryAt t + 2)
+        go (yes l) =
+            let same = w .found .0 ∙ entry-below n bytes h t l in
+            (l, ap (λ (es : List Entry). headSeat es) same, w .found .1)
+        go (no l) = absurd (ne-nil (w .found .0 ∙ entry-past n bytes h t (omega arith)))
+
+    found-end : Walked checks n bytes t step.End → t ≡ k n
+    unfolding entryOf
+    found-end w = go (decLt t (k n))
+      where
+        go : Dec (t < k n) → t ≡ k n
+        go (yes l) = absurd (ne-nil (sym (w .found .0 ∙ entry-below n bytes h t l)))
+        go (no l) = let m = w .within in omega arith
+
+    -- its seat is one of n, and its signature lies in the message
+    pub walk-fits : (s : Step) → Walked checks n bytes t s → Fits n bytes s
+    unfolding fullLength fullEntryAt fullEntryLength signatureLength
+    walk-fits step.End w = tt
+    walk-fits (step.Entry seat at) w =
+        let is = found-entry seat at w in
+        (rw (is .1) (h .known t (is .0)), omega (arith, is .0, is .2, h .size))
+
+    -- it checks, and the reader is moved on
+    pub walk-on : (s : Step) → Walked checks n bytes t s → foundChecks checks bytes s ≡ true → (t < k n) × ((s′ : Step) → Found (t + 1) bytes s′ → Walked checks n bytes (t + 1) s′)
+    unfolding foundChecks
+    walk-on step.End w e = absurd (false≢true e)
+    walk-on (step.Entry seat at) w e =
+        let is = found-entry seat at w in (
+          is .0,
+          λ s′ f. record {
+            within = omega (arith, is .0);
+            found = f;
+            before = each-turn (entryCheck checks bytes) t (w .before) (sym (entry-checked checks bytes t seat at true (is .1) (is .2) (sym e)));
+          },
+        )
+
+    -- it doesn't, or there is none: the reader stands before an entry where a signature is bad
+    pub walk-ends : (s : Step) → Walked checks n bytes t s → foundChecks checks bytes s ≡ false → isEntry s ≡ badSignature checks (read n bytes)
+    unfolding foundChecks isEntry
+    walk-ends step.End w e = full-all checks n bytes h (rw (← found-end w) (w .before))
+    walk-ends (step.Entry seat at) w e =
+        let is = found-entry seat at w in
+        full-not checks n bytes h t (is .0) (sym (entry-checked checks bytes t seat at false (is .1) (is .2) (sym e)))

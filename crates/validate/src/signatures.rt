@@ -7,9 +7,9 @@ ghost use Rattle.protocol.specs.Layout.{valueLength, signatureLength, evidenceE
 ghost use Rattle.protocol.specs.Message.{byteAt, readValue, readSignature, readPair, read};
 ghost use Rattle.protocol.specs.Refusals.{badSignature};
 ghost use Rattle.validate.specs.Conditions.{Ready};
-ghost use Rattle.validate.specs.Entries.{SubmitTaken, FullTaken, EvidenceTaken};
-ghost use Rattle.validate.specs.Signatures.{entryCheck, pairChecks};
-use wire::cursor::Step;
+ghost use Rattle.validate.specs.Entries.{SubmitTaken, FullTaken, EvidenceTaken, Fits, foundChecks, isEntry};
+ghost use Rattle.validate.specs.Signatures.{pairChecks};
+use wire::reader::Step;
 
 // Whether the signature at index `at` checks for a seat over the value at index `value`.
 fn signed_at(
@@ -39,36 +39,42 @@ pub fn bad_in_submit(k: &[u32; 64], n: u32, round: u32, keys: &[u8], m: &[u8]) -
     !signed_at(k, n, round, keys, m, seat, 4, 36)
 }
 
-// Whether the signature of FULL's entry of index t checks.
-fn entry_checks(k: &[u32; 64], n: u32, round: u32, keys: &[u8], m: &[u8], t: usize) -> bool
-    requires { ⌜ Ready (now k) n round (now keys) × FullTaken n (now m) × (t < byteAt (now m) 36) ⌝ }
-    ensures { λ r. ⌜ r ≡ entryCheck (checks (now (keys .entry)) round) (now (m .entry)) t ⌝ }
+// Whether a reader found an entry of FULL whose signature checks.
+fn found_checks(k: &[u32; 64], n: u32, round: u32, keys: &[u8], m: &[u8], found: Step) -> bool
+    requires { ⌜ Ready (now k) n round (now keys) × (4 + valueLength ≤ length (now m)) × Fits n (now m) found ⌝ }
+    ensures { λ r. ⌜ r ≡ foundChecks (checks (now (keys .entry)) round) (now (m .entry)) found ⌝ }
 {
-    let found = wire::reader::read_entry(m, t);
     match found {
-        Step::Entry {
-            seat,
-            signature,
-            rest: _,
-        } => signed_at(k, n, round, keys, m, seat, 4, signature),
-        Step::End => true,
+        Step::Entry { seat, signature } => signed_at(k, n, round, keys, m, seat, 4, signature),
+        Step::End => false,
     }
 }
 
-// Whether one of FULL's signatures doesn't check.
+// Whether a reader found an entry.
+fn is_entry(found: Step) -> bool
+    ensures { λ r. ⌜ r ≡ isEntry found ⌝ }
+{
+    match found {
+        Step::Entry {
+            seat: _,
+            signature: _,
+        } => true,
+        Step::End => false,
+    }
+}
+
+// Whether one of FULL's signatures doesn't check: a reader is moved on while they do, and stands then before an entry or at the end.
 pub fn bad_in_full(k: &[u32; 64], n: u32, round: u32, keys: &[u8], m: &[u8]) -> bool
-    requires { ⌜ Ready (now k) n round (now keys) × (1 ≤ n) × FullTaken n (now m) ⌝ }
+    requires { ⌜ Ready (now k) n round (now keys) × FullTaken n (now m) ⌝ }
     ensures { λ r. ⌜ r ≡ badSignature (checks (now (keys .entry)) round) (read n (now (m .entry))) ⌝ }
 {
-    let count = quorum::k(n) as usize;
-    let mut t = 0;
-    while t < count {
-        if !entry_checks(k, n, round, keys, m, t) {
-            return true;
-        }
-        t += 1;
+    let mut reader = wire::reader::open(m);
+    let mut found = wire::reader::entry(reader);
+    while found_checks(k, n, round, keys, m, found) {
+        reader = wire::reader::advance(reader);
+        found = wire::reader::entry(reader);
     }
-    false
+    is_entry(found)
 }
 
 // Whether both signatures of the entry of EVIDENCE at index `at` check, over the lower value and the higher.

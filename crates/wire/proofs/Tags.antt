@@ -2,7 +2,7 @@
 -- Assumes nothing.
 use mathlib.Core.Path.{_≡_, refl}
 use denote.Enum.Declared.{tagOf}
-use Rattle.wire.specs.Reading.{tag}
+use Rattle.wire.specs.KindLaws.{tag}
 use Rattle.wire.specs.declared.read.Kind.{Kind}
 use Rattle.wire.specs.declared.read.Kind.the-variants as kind
 use Rattle.wire.proofs.read.Kind.{the-type}

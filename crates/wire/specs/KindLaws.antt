@@ -1,39 +1,65 @@
 -- What a message is, and what its bytes then say.
 -- Assumes nothing.
-use mathlib.Core.Path.{_≡_, refl, _∙_}
-use mathlib.Core.Bool.{Bool, true, false}
+use mathlib.Core.Path.{_≡_, refl, ap, _∙_}
+use mathlib.Core.Bool.{Bool, true, false, cond}
 use mathlib.Core.List.{List}
 use Prim.Native.Nat.{ℕ}
-use Rattle.protocol.specs.Message.{Message, Garbled, readSubmit, readNotice, readFull, readEvidence, fitsSubmit, fitsNotice, fitsFull, fitsEvidence, read}
+use lib.Dec.{eqb}
+use Rattle.protocol.specs.Message.{Message, Submit, Notice, Full, Evidence, Garbled, render, readSubmit, readNotice, readFull, readEvidence, fitsSubmit, fitsNotice, fitsFull, fitsEvidence, read}
 use Rattle.wire.specs.Reading.{kindOf}
+use Rattle.wire.specs.Answers.{commandOf, command}
 use Rattle.wire.specs.declared.read.Kind.{Kind}
 use Rattle.wire.specs.declared.read.Kind.the-variants as kind
 
--- ---- the kind, by the tests in their order: t is what a test answered
+-- ---- its command, by the tests in their order: t is what a test answered
 
 module _ (n : ℕ) (bytes : List ℕ) where
-  pub told-submit : (t : Bool) → t ≡ fitsSubmit bytes → t ≡ true → kind.Submit ≡ kindOf (read n bytes)
-  unfolding kindOf read readSubmit
+  pub told-submit : (t : Bool) → t ≡ fitsSubmit bytes → t ≡ true → commandOf kind.Submit ≡ command (read n bytes)
+  unfolding commandOf command render read readSubmit
   told-submit t a h = rw (← a, h)
 
   module _ (s : Bool) (a : s ≡ fitsSubmit bytes) (no-submit : s ≡ false) where
-    pub told-notice : (t : Bool) → t ≡ fitsNotice bytes → t ≡ true → kind.Notice ≡ kindOf (read n bytes)
-    unfolding kindOf read readNotice
+    pub told-notice : (t : Bool) → t ≡ fitsNotice bytes → t ≡ true → commandOf kind.Notice ≡ command (read n bytes)
+    unfolding commandOf command render read readNotice
     told-notice t b h = rw (← a, no-submit, ← b, h)
 
     module _ (u : Bool) (b : u ≡ fitsNotice bytes) (no-notice : u ≡ false) where
-      pub told-full : (t : Bool) → t ≡ fitsFull n bytes → t ≡ true → kind.Full ≡ kindOf (read n bytes)
-      unfolding kindOf read readFull
+      pub told-full : (t : Bool) → t ≡ fitsFull n bytes → t ≡ true → commandOf kind.Full ≡ command (read n bytes)
+      unfolding commandOf command render read readFull
       told-full t c h = rw (← a, no-submit, ← b, no-notice, ← c, h)
 
       module _ (v : Bool) (c : v ≡ fitsFull n bytes) (no-full : v ≡ false) where
-        pub told-evidence : (t : Bool) → t ≡ fitsEvidence n bytes → t ≡ true → kind.Evidence ≡ kindOf (read n bytes)
-        unfolding kindOf read readEvidence
+        pub told-evidence : (t : Bool) → t ≡ fitsEvidence n bytes → t ≡ true → commandOf kind.Evidence ≡ command (read n bytes)
+        unfolding commandOf command render read readEvidence
         told-evidence t d h = rw (← a, no-submit, ← b, no-notice, ← c, no-full, ← d, h)
 
-        pub told-garbled : (t : Bool) → t ≡ fitsEvidence n bytes → t ≡ false → kind.Garbled ≡ kindOf (read n bytes)
-        unfolding kindOf read
+        pub told-garbled : (t : Bool) → t ≡ fitsEvidence n bytes → t ≡ false → commandOf kind.Garbled ≡ command (read n bytes)
+        unfolding commandOf command render read
         told-garbled t d h = rw (← a, no-submit, ← b, no-notice, ← c, no-full, ← d, h)
+
+-- ---- a kind is known by its command
+
+kindWith : ℕ → Kind
+kindWith c = cond (eqb c 0x01) kind.Submit (cond (eqb c 0x02) kind.Notice (cond (eqb c 0x03) kind.Full (cond (eqb c 0x05) kind.Evidence kind.Garbled)))
+
+with-own : (k : Kind) → k ≡ kindWith (commandOf k)
+unfolding kindWith commandOf
+with-own kind.Submit = refl
+with-own kind.Notice = refl
+with-own kind.Full = refl
+with-own kind.Evidence = refl
+with-own kind.Garbled = refl
+
+kind-with : (m : Message) → kindWith (command m) ≡ kindOf m
+unfolding kindWith command render kindOf
+kind-with (Submit round seat value signature) = refl
+kind-with (Notice round seat value) = refl
+kind-with (Full round sender value entries) = refl
+kind-with (Evidence round lower higher entries) = refl
+kind-with Garbled = refl
+
+pub kind-told : (k : Kind) (m : Message) → commandOf k ≡ command m → k ≡ kindOf m
+kind-told k m e = with-own k ∙ ap kindWith e ∙ kind-with m
 
 -- ---- what bytes of a kind say, and the test they pass
 
@@ -62,3 +88,11 @@ read-as k n bytes e = go (fitsSubmit bytes) refl (fitsNotice bytes) refl (fitsFu
     go false p false q true r d s = let h : k ≡ kind.Full = e ∙ rw (p, q, r) in rw (h, p, q, r) (refl, refl)
     go false p false q false r true s = let h : k ≡ kind.Evidence = e ∙ rw (p, q, r, s) in rw (h, p, q, r, s) (refl, refl)
     go false p false q false r false s = let h : k ≡ kind.Garbled = e ∙ rw (p, q, r, s) in rw (h, p, q, r, s) (refl, refl)
+
+-- the number that the compiler gives each kind, for proofs about a `match`
+abbrev pub tag : Kind → ℕ
+tag kind.Submit = 0
+tag kind.Notice = 1
+tag kind.Full = 2
+tag kind.Evidence = 3
+tag kind.Garbled = 4

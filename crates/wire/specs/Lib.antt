@@ -2,7 +2,7 @@
 pub mod Writing
 pub mod Sources
 pub mod Reading
-pub mod Walk
+pub mod Answers
 pub mod StringLaws
 pub mod MaskLaws
 pub mod SeatLaws
@@ -11,7 +11,7 @@ pub mod ColumnLaws
 pub mod FormLaws
 pub mod KindLaws
 pub mod MessageLaws
-pub mod WalkLaws
+pub mod StepLaws
 pub mod RoundTrip
 pub mod StoreLaws
 pub mod WriteLaws

@@ -15,8 +15,8 @@ use Rattle.protocol.specs.Layout.{submitLength, noticeLength, fullEntryLength, 
 use Rattle.protocol.specs.Message.{Entry, Pair, Message, Submit, Notice, Full, Evidence, Garbled, byteAt, readRound, readEntry, readEntries, readPair, readPairs, readSubmit, readNotice, readFull, readEvidence, fitsSubmit, fitsNotice, fitsEvidence, read, roundOf, entrySeats, seatsOf, pairCommands}
 use Rattle.protocol.specs.Refusals.{every, rising, otherRound, stranger, disorder}
 use Rattle.protocol.specs.Laws.{every-append}
-use Rattle.wire.specs.Reading.{kindOf, column, sendersOf, tag}
-use Rattle.wire.specs.KindLaws.{read-as}
+use Rattle.wire.specs.Reading.{kindOf, column, sendersOf}
+use Rattle.wire.specs.KindLaws.{read-as, tag}
 use Rattle.wire.specs.SourceLaws.{full-length}
 use Rattle.wire.specs.declared.read.Kind.{Kind}
 use Rattle.wire.specs.declared.read.Kind.the-variants as kind

@@ -35,11 +35,3 @@ sendersOf (Notice round seat value) = seat ∷ []
 sendersOf (Full round sender value entries) = sender ∷ []
 sendersOf (Evidence round lower higher entries) = []
 sendersOf Garbled = []
-
--- the kinds, numbered
-abbrev pub tag : Kind → ℕ
-tag kind.Submit = 0
-tag kind.Notice = 1
-tag kind.Full = 2
-tag kind.Evidence = 3
-tag kind.Garbled = 4

@@ -1,13 +1,11 @@
 -- Laws of slots and of signatures kept.
 -- Assumes nothing.
 use mathlib.Core.Path.{_≡_, refl, sym, ap, _∙_}
-use mathlib.Core.List.{List, _++_}
+use mathlib.Core.List.{List}
 use Prim.Native.Nat.{ℕ, zero, suc, _+_, _*_, _≤_, _<_}
 use native.Mathlib.Omega.{arith}
-use lib.ListN.{length, take, drop, getD, set, length-append, List·getD-append}
-use lib.Seq.{paste, length-take-le, getD-take}
-use Rattle.octets.specs.Octets.{part}
-use Rattle.octets.specs.Laws.{length-part, getD-part, paste-turn, length-patch}
+use lib.ListN.{length}
+use Rattle.octets.specs.Laws.{length-part, length-patch}
 use Rattle.octets.specs.WriteLaws.{part-before}
 use Rattle.quorum.specs.Quorum.{bit, In, seats}
 use Rattle.quorum.specs.Laws.{seats-in, seats-out}
@@ -31,24 +29,6 @@ length-signature at bytes h = length-part at signatureLength bytes h
 pub length-slot : (n bank : ℕ) (store : List ℕ) (seat : ℕ) → bank < 2 → seat < n → storeLength n ≤ length store → length (slot n bank store seat) ≡ signatureLength
 unfolding slot
 length-slot n bank store seat b h r = length-part (slotAt n bank seat) signatureLength store (omega (arith, slot-fits n bank seat b h))
-
--- ---- a copy within the store
-
--- one turn: what is read lies before what was written
-pub within-turn : (from to i : ℕ) (xs out : List ℕ) → out ≡ paste xs to (readSignature from xs) i
-    → i < signatureLength → from + signatureLength ≤ to → to + signatureLength ≤ length xs
-    → set out (to + i) (getD out (from + i) 0) ≡ paste xs to (readSignature from xs) (i + 1)
-unfolding readSignature
-within-turn from to i xs out e h a b =
-    let ws = part from signatureLength xs in
-    let l : length ws ≡ signatureLength = length-part from signatureLength xs (omega arith) in
-    let head : length (take to xs) ≡ to = length-take-le to xs (omega arith) in
-    let read : getD out (from + i) 0 ≡ getD ws i 0 =
-    rw e (List·getD-append (take to xs ++ take i ws) (drop (to + i) xs) 0 (from + i) (simp (length-append, head) (omega arith))
-    ∙ List·getD-append (take to xs) (take i ws) 0 (from + i) (omega arith)
-    ∙ getD-take to xs (from + i) 0 (omega arith)
-    ∙ sym (getD-part from signatureLength xs i h)) in
-    rw read (paste-turn to ws xs out i e (omega arith) (omega arith))
 
 -- ---- a certificate held
 

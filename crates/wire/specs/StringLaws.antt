@@ -2,21 +2,18 @@
 -- Assumes nothing.
 use mathlib.Core.Path.{_≡_, refl, sym, _∙_}
 use mathlib.Core.Bool.{true, false}
-use mathlib.Core.List.{List, [], _∷_, append-nil}
-use Prim.Native.Nat.{ℕ, _+_, _-_, _≤_, _<_}
-use native.Mathlib.Nat.{zero-add}
+use mathlib.Core.List.{List, [], _∷_}
+use Prim.Native.Nat.{ℕ, _+_, _≤_, _<_}
 use native.Mathlib.Numerals.{add-one}
 use native.Mathlib.Omega.{arith}
-use lib.ListN.{length, take, drop, getD, length-drop, drop-of-length-le}
+use lib.ListN.{length, take, drop, getD, drop-of-length-le}
 use lib.Seq.{drop-cons, drop-drop}
 use borrow.Rule.Slice.PartMut.{putMid}
 use borrow.Author.Tests.{lt-ltb, le-ltb, eq-eqb, ne-eqb}
 use Rattle.octets.specs.Octets.{part, patch}
-use Rattle.octets.specs.Laws.{take-rest, length-part}
+use Rattle.octets.specs.Laws.{length-part}
 use Rattle.octets.specs.WriteLaws.{patch-all}
-use Rattle.protocol.specs.Layout.{valueLength}
 use Rattle.protocol.specs.Values.{isLower}
-use Rattle.protocol.specs.Message.{readValue}
 
 -- ---- values compared byte by byte
 
@@ -62,19 +59,15 @@ lower-short xs ys i hy h = sym (rw (drop-of-length-le ys {i = i} hy) (nothing-be
 
 -- ---- what is written
 
--- a value copied out of a message
-pub value-copied : (at : ℕ) (bytes zeros value : List ℕ) → at + valueLength ≤ length bytes → length zeros ≡ valueLength
-    → value ≡ patch 0 (take (at + valueLength - at) (drop at bytes)) zeros → value ≡ readValue at bytes
-unfolding readValue part
-value-copied at bytes zeros value h z e =
-    let n : at + valueLength - at ≡ valueLength = omega arith in
-    let l = length-part at valueLength bytes h in
-    e ∙ rw n (patch-all (part at valueLength bytes) zeros (omega arith))
+-- n bytes copied out of a message
+pub part-copied : (at n : ℕ) (bytes zeros copy : List ℕ) → at + n ≤ length bytes → length zeros ≡ n → copy ≡ patch 0 (part at n bytes) zeros → copy ≡ part at n bytes
+part-copied at n bytes zeros copy h z e =
+    let l = length-part at n bytes h in
+    e ∙ patch-all (part at n bytes) zeros (omega arith)
 
--- the part from `at` on, lent and written from its start, is back in its place
-pub patch-part : (at : ℕ) (ws xs ys : List ℕ) → at ≤ length xs → ys ≡ patch 0 ws (take (length xs - at) (drop at xs))
-    → putMid at (length xs - at) xs ys ≡ patch at ws xs
+-- the part of ws's length at `at`, lent and written whole, is back in its place
+pub patch-part : (at k : ℕ) (ws xs ys : List ℕ) → k ≡ length ws → at + length ws ≤ length xs → ys ≡ patch 0 ws (part at k xs) → putMid at k xs ys ≡ patch at ws xs
 unfolding patch
-patch-part at ws xs ys h e =
-    let none : drop (length xs - at) (drop at xs) ≡ [] = drop-of-length-le (drop at xs) {i = length xs - at} (simp length-drop (omega arith)) in
-    rw (none, append-nil, e, zero-add, take-rest at xs, drop-drop (length ws) at xs)
+patch-part at k ws xs ys w h e =
+    let l = length-part at k xs (omega arith) in
+    rw (e ∙ patch-all ws (part at k xs) (omega arith), drop-drop k at xs, w)

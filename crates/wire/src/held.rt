@@ -1,42 +1,28 @@
 // Certificates held: their signatures, seat by seat, in the second bank of the store.
 ghost use mathlib.Core.Path.{_≡_};
-ghost use Prim.Native.Nat.{_+_, _<_, _≤_};
+ghost use Prim.Native.Nat.{_<_, _≤_};
 ghost use lib.ListN.{length};
-ghost use Rattle.octets.specs.Octets.{patch};
 ghost use Rattle.quorum.specs.Quorum.{mostSeats, seats};
-ghost use Rattle.protocol.specs.Layout.{signatureLength, storeLength, collectedBank, firstBank};
-ghost use Rattle.protocol.specs.Message.{readSignature};
+ghost use Rattle.protocol.specs.Layout.{storeLength, collectedBank, firstBank};
 ghost use Rattle.protocol.specs.Certificate.{slot, keep, keepEach};
 ghost use Rattle.wire.specs.Sources.{Readable, signatureFrom};
 use crate::slots::COLLECTED;
 use crate::slots::FIRST;
-use crate::slots::SIGNATURE;
 use crate::slots::keep;
+use crate::slots::signature_copy;
 use crate::slots::slot_at;
 use crate::sources::Source;
 use crate::sources::signature_of;
 use quorum::Mask;
 
-// Copies a signature within the store, to a place past it.
-fn copy_within(store: &mut [u8], from: usize, to: usize)
-    requires { ⌜ (from + signatureLength ≤ to) × (to + signatureLength ≤ length (now store)) ⌝ }
-    ensures { λ _. ⌜ now (store .exit) ≡ patch to (readSignature from (now (store .entry))) (now (store .entry)) ⌝ }
-{
-    let mut i = 0;
-    while i < SIGNATURE {
-        store[to + i] = store[from + i];
-        i += 1;
-    }
-}
-
-// Copies a seat's collected signature into its slot for the first certificate.
+// Copies a seat's collected signature into its slot for the first certificate. It leaves the store in between: two slots of one
+// store can't be lent at the same time.
 fn hold_collected(store: &mut [u8], n: u32, seat: u32)
     requires { ⌜ (n ≤ mostSeats) × (seat < n) × (storeLength n ≤ length (now store)) ⌝ }
     ensures { λ _. ⌜ now (store .exit) ≡ keep n firstBank seat (slot n collectedBank (now (store .entry)) seat) (now (store .entry)) ⌝ }
 {
-    let from = slot_at(n, COLLECTED, seat);
-    let to = slot_at(n, FIRST, seat);
-    copy_within(store, from, to);
+    let signature = signature_copy(store, slot_at(n, COLLECTED, seat));
+    keep(store, n, FIRST, seat, &signature);
 }
 
 // Holds the unit's own certificate: the signatures of its seats are copied from the first bank to the second.

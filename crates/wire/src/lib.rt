@@ -1,6 +1,5 @@
 // Messages on the air and signatures in the store: bytes written, read and walked (document 01, "Commands on the air" and
 // "A unit's record and store").
-pub mod cursor;
 pub mod held;
 pub mod read;
 pub mod reader;

@@ -9,6 +9,7 @@ ghost use Rattle.protocol.specs.Message.{byteAt, readRound, fitsSubmit, fitsNot
 ghost use Rattle.protocol.specs.Certificate.{setOf};
 ghost use Rattle.protocol.specs.Refusals.{every, rising, otherRound, stranger, disorder};
 ghost use Rattle.wire.specs.Reading.{kindOf, bytesOf, Inside, sendersOf};
+ghost use Rattle.wire.specs.Answers.{commandOf, command};
 use octets::wide;
 use quorum::Mask;
 
@@ -192,7 +193,7 @@ fn is_evidence(n: u32, m: &[u8]) -> bool
 // What the bytes of a message are in a fleet of n seats.
 pub fn classify(n: u32, m: &[u8]) -> Kind
     requires { ⌜ (1 ≤ n) × (n ≤ mostSeats) ⌝ }
-    ensures { λ r. ⌜ r ≡ kindOf (read n (now (m .entry))) ⌝ }
+    ensures { λ r. ⌜ commandOf r ≡ command (read n (now (m .entry))) ⌝ }
 {
     if is_submit(m) {
         return Kind::Submit;

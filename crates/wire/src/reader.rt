@@ -1,9 +1,8 @@
 // A reader over one certificate: it carries the bytes of a FULL and the next entry. The functions over it are thin: `entry_at` does the
-// work on the bytes and a number, by the cursor.
+// work on the bytes and an index.
 ghost use mathlib.Core.Path.{_≡_};
-ghost use Rattle.wire.specs.Walk.{entryAt};
-use crate::cursor::Cursor;
-use crate::cursor::Step;
+ghost use Prim.Native.Nat.{_+_, _<_, _^_};
+ghost use Rattle.wire.specs.Answers.{Found};
 use crate::read::number_at;
 
 pub struct Reader<'a> {
@@ -11,44 +10,54 @@ pub struct Reader<'a> {
     pub next: usize,
 }
 
+// What a reader finds: the seat of an entry and where its signature starts, or the end.
+pub enum Step {
+    Entry { seat: u32, signature: usize },
+    End,
+}
+
 // The entry at an index of a FULL, counted from 0, or the end where it has no such entry.
 fn entry_at(full: &[u8], next: usize) -> Step
-    ensures { λ r. ⌜ r ≡ entryAt next (now (full .entry)) ⌝ }
+    ensures { λ s. ⌜ Found next (now (full .entry)) s ⌝ }
 {
     if full.len() < 37 {
         return Step::End;
     }
-    let count = number_at(full, 36);
-    if full.len() < 37 + 1454 * (count as usize) {
+    let count = number_at(full, 36) as usize;
+    if full.len() < 37 + 1454 * count {
         return Step::End;
     }
-    if (count as usize) <= next {
+    if count <= next {
         return Step::End;
     }
-    let cursor = Cursor {
-        at: 37 + 1454 * next,
-        left: count - (next as u32),
-    };
-    cursor.next(full)
+    let at = 37 + 1454 * next;
+    Step::Entry {
+        seat: number_at(full, at + 1),
+        signature: at + 2,
+    }
 }
 
-// A reader before an entry.
-pub fn open<'a>(full: &'a [u8], next: usize) -> Reader<'a>
-    ensures { λ r. ⌜ (r .full ≡ full .entry) × (r .next ≡ next) ⌝ }
+// A reader before the first entry.
+pub fn open<'a>(full: &'a [u8]) -> Reader<'a>
+    ensures { λ r. ⌜ (r .full ≡ full .entry) × (r .next ≡ 0) ⌝ }
 {
-    Reader { full, next }
+    Reader { full, next: 0 }
 }
 
 // The next entry.
 pub fn entry<'a>(r: Reader<'a>) -> Step
-    ensures { λ s. ⌜ s ≡ entryAt (r .entry .next) (now (r .entry .full)) ⌝ }
+    ensures { λ s. ⌜ Found (r .entry .next) (now (r .entry .full)) s ⌝ }
 {
     entry_at(r.full, r.next)
 }
 
-// The entry at an index, by a reader: what a caller with the bytes and a number uses.
-pub fn read_entry(full: &[u8], next: usize) -> Step
-    ensures { λ r. ⌜ r ≡ entryAt next (now (full .entry)) ⌝ }
+// The reader moved on by one entry.
+pub fn advance<'a>(r: Reader<'a>) -> Reader<'a>
+    requires { ⌜ r .next + 1 < 2 ^ 64 ⌝ }
+    ensures { λ q. ⌜ (q .full ≡ r .entry .full) × (q .next ≡ r .entry .next + 1) ⌝ }
 {
-    entry(open(full, next))
+    Reader {
+        full: r.full,
+        next: r.next + 1,
+    }
 }

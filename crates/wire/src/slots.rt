@@ -31,11 +31,21 @@ pub fn signature_at(m: &[u8], at: usize) -> &[u8]
     &m[at..at + SIGNATURE]
 }
 
+// A copy of the signature that stands at index `at`.
+pub fn signature_copy(m: &[u8], at: usize) -> [u8; 1452]
+    requires { ⌜ at + signatureLength ≤ length (now m) ⌝ }
+    ensures { λ r. ⌜ r ≡ readSignature at (now (m .entry)) ⌝ }
+{
+    let mut signature = [0u8; 1452];
+    octets::copy(&mut signature, 0, signature_at(m, at));
+    signature
+}
+
 // A signature is copied into its seat's slot, and only that slot is written.
 pub fn keep(store: &mut [u8], n: u32, bank: u32, seat: u32, signature: &[u8])
     requires { ⌜ (n ≤ mostSeats) × (bank < 2) × (seat < n) × (storeLength n ≤ length (now store)) × (length (now signature) ≡ signatureLength) ⌝ }
     ensures { λ _. ⌜ now (store .exit) ≡ keep n bank seat (now (signature .entry)) (now (store .entry)) ⌝ }
 {
     let at = slot_at(n, bank, seat);
-    octets::copy(&mut store[at..], 0, signature);
+    octets::copy(&mut store[at..at + SIGNATURE], 0, signature);
 }

@@ -7,6 +7,7 @@ use Rattle.protocol.specs.Signatures.{checks}
 use Rattle.fleet.specs.Laws.{size-most, size-some}
 use Rattle.protocol.specs.Message.{read}
 use Rattle.protocol.specs.Refusals.{Checks, isEvidence}
+use Rattle.wire.specs.KindLaws.{kind-told}
 use Rattle.validate.specs.Conditions.{Given, outside-passed}
 use Rattle.evidence.specs.Kinds.{evidence-told}
 use Rattle.evidence.specs.Returns.{outside-refused, form-refused, form-right}
@@ -50,7 +51,7 @@ taken-is c =
     let s = started (after-outside c .before) in
     let kind = c .before .before .classify in
     let taken = c .before .is-evidence in
-    evidence-told (read (n s) (m s)) (kind .result) (kind .ensures) (taken .result) (taken .ensures)
+    evidence-told (read (n s) (m s)) (kind .result) (kind-told _ _ (kind .ensures)) (taken .result) (taken .ensures)
 
 outside-refusal-requires : tie.Need-outside-refusal-requires
 outside-refusal-requires c κs = search needs
@@ -73,7 +74,7 @@ form-refusal-requires : tie.Need-form-refusal-requires
 form-refusal-requires c κs =
     let passed = c .before .before in
     let s = started (passed .before) in
-    (size-some (n s) (given passed .size), size-most (n s) (given passed .size), c .before .classify .ensures)
+    (size-some (n s) (given passed .size), size-most (n s) (given passed .size), kind-told _ _ (c .before .classify .ensures))
 
 returns-2 : tie.Need-returns-2
 returns-2 c =
@@ -88,7 +89,7 @@ check-signatures-requires c κs =
     let passed = after-outside (c .before) in
     let s = started (passed .before) in
     let right = form-right (check s) (n s) (round s) (keys s) (m s) (given passed) (form .result) (c .before .before .is-evidence .result) (taken-is (c .before)) (form .ensures) (c .if2 .left) in
-    (c .before .before .before .classify .ensures, given passed, right)
+    (kind-told _ _ (c .before .before .before .classify .ensures), given passed, right)
 
 returns-3 : tie.Need-returns-3
 returns-3 c = search needs

@@ -27,7 +27,7 @@ bad-in-full-requires c κs =
     let start = c .before .before .before .before in
     let args = start .args in
     let pre = start .pre in
-    (record { words = pre .0; size = pre .2; table = pre .3; turn = pre .4 }, pre .1, full-taken (args .n) (now (args .m)) (args .kind) (pre .5) (pre .6) (c .enum-told3 .given .1))
+    (record { words = pre .0; size = pre .2; table = pre .3; turn = pre .4 }, full-taken (args .n) (now (args .m)) (args .kind) (pre .5) (pre .6) (c .enum-told3 .given .1))
 
 enum-told-4 : tie.Need-enum-told-4
 enum-told-4 c = search needs

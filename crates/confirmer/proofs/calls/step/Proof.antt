@@ -6,6 +6,7 @@ use Rattle.protocol.specs.Signatures.{checks}
 use Rattle.protocol.specs.Calls.{step}
 use Rattle.protocol.specs.Message.{read}
 use Rattle.protocol.specs.Step.{stepped}
+use Rattle.wire.specs.KindLaws.{kind-told}
 use Rattle.confirmer.specs.Refused.{given, given-ready, messageConditions, message-unrefused}
 use Rattle.confirmer.specs.Returns.{room-within, part-ready, end-small, refused-given, refused-rest, does, step-is}
 use borrow.Author.Needs.{needs}
@@ -56,7 +57,7 @@ message-refusal-requires c κs =
     let out = now (args .out) in
     let first = c .before .before .record-refusal in
     let g = given keys (args .r) store out (first .result) (first .ensures) (c .before .if1 .left) in
-    (given-ready keys (args .r) store out g .possible .range, g .table, c .classify .ensures)
+    (given-ready keys (args .r) store out g .possible .range, g .table, kind-told _ _ (c .classify .ensures))
 
 turned-back-requires-2 : tie.Need-turned-back-requires-2
 turned-back-requires-2 c κs = search needs
@@ -129,7 +130,7 @@ step-phase-requires c κs =
     let room = c .before .before .out-length in
     let later = c .before .before .before .before .message-refusal in
     let sound = message-unrefused check (args .r) m (later .result) (later .ensures) (c .before .before .before .if2 .left) in
-    (part-ready keys (args .r) store out (room .result) (room .ensures) g, c .before .before .before .before .before .classify .ensures, sound .0, sound .1)
+    (part-ready keys (args .r) store out (room .result) (room .ensures) g, kind-told _ _ (c .before .before .before .before .before .classify .ensures), sound .0, sound .1)
 
 done-requires : tie.Need-done-requires
 done-requires c κs =

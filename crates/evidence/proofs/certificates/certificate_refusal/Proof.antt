@@ -6,6 +6,7 @@ use Rattle.protocol.specs.Signatures.{checks}
 use Rattle.fleet.specs.Laws.{size-most, size-some}
 use Rattle.protocol.specs.Message.{Message, read}
 use Rattle.protocol.specs.Refusals.{Checks, isFull}
+use Rattle.wire.specs.KindLaws.{kind-told}
 use Rattle.validate.specs.Conditions.{Formed, round-in}
 use Rattle.evidence.specs.Kinds.{full-told}
 use Rattle.evidence.specs.Certificates.{form-refused, form-right, signature-refused, certificate-right}
@@ -35,7 +36,7 @@ taken-is : (c : tie.After-form-refusal) → c .before .is-full .result ≡ isFul
 taken-is c =
     let kind = c .before .before .classify in
     let taken = c .before .is-full in
-    full-told (m (started c)) (kind .result) (taken .result) (kind .ensures) (taken .ensures)
+    full-told (m (started c)) (kind .result) (taken .result) (kind-told _ _ (kind .ensures)) (taken .ensures)
 
 -- its form is right
 formed : (c : tie.Else1) → let s = started (c .before) in Formed (n s) (round s) (isFull (m s)) (m s)
@@ -57,7 +58,7 @@ form-refusal-requires : tie.Need-form-refusal-requires
 form-refusal-requires c κs =
     let start = c .before .before .before .before in
     let size = start .pre .1 .size in
-    (size-some (n start) size, size-most (n start) size, c .before .classify .ensures)
+    (size-some (n start) size, size-most (n start) size, kind-told _ _ (c .before .classify .ensures))
 
 returns : tie.Need-returns
 returns c =
@@ -69,7 +70,7 @@ has-bad-signature-requires : tie.Need-has-bad-signature-requires
 has-bad-signature-requires c κs =
     let s = started (c .before) in
     let given = s .pre .1 in
-    (s .pre .0, size-some (n s) (given .size), size-most (n s) (given .size), given .table, round-in (round s) (given .turn), c .before .before .before .classify .ensures, formed c .known)
+    (s .pre .0, size-some (n s) (given .size), size-most (n s) (given .size), given .table, round-in (round s) (given .turn), kind-told _ _ (c .before .before .before .classify .ensures), formed c .known)
 
 returns-2 : tie.Need-returns-2
 returns-2 c =

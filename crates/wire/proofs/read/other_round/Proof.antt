@@ -5,7 +5,7 @@ use Prim.Native.Nat.{ℕ}
 use native.Mathlib.Omega.{arith}
 use borrow.Author.Needs.{needs}
 use denote.Ref.{now}
-use Rattle.wire.specs.Reading.{tag}
+use Rattle.wire.specs.KindLaws.{tag}
 use Rattle.wire.specs.MessageLaws.{long-enough, round-told, round-garbled}
 use Rattle.wire.proofs.Tags.{tags}
 use Rattle.wire.proofs.read.other_round.Statement.{statement}

@@ -1,8 +1,12 @@
 -- `wire::values::value_at` meets its contract.
-use mathlib.Core.Path.{refl}
+use mathlib.Core.Path.{_≡_, refl}
+use Prim.Native.Nat.{_+_, _-_}
+use native.Mathlib.Omega.{arith}
 use borrow.Author.Needs.{needs}
 use denote.Ref.{now}
-use Rattle.wire.specs.StringLaws.{value-copied}
+use Rattle.octets.specs.Octets.{part}
+use Rattle.protocol.specs.Message.{readValue}
+use Rattle.wire.specs.StringLaws.{part-copied}
 use Rattle.wire.proofs.values.value_at.Statement.{statement}
 use Rattle.wire.proofs.values.value_at.Tie as tie
 
@@ -25,9 +29,12 @@ copy-requires : tie.Need-copy-requires
 copy-requires c κs = search needs
 
 returns : tie.Need-returns
+unfolding readValue part
 returns c =
     let start = c .before .before .before .before .before in
-    value-copied (start .args .at) (now (start .args .m)) _ (c .before .copy .last .0) (start .pre) refl (c .before .copy .ensures)
+    let at = start .args .at in
+    let n : at + 32 - at ≡ 32 = omega arith in
+    part-copied at 32 (now (start .args .m)) _ (c .before .copy .last .0) (start .pre) refl (rw n at (c .before .copy .ensures))
 
 pub value-at-spec : {M : Type 1} → statement M
 value-at-spec =
