@@ -160,7 +160,7 @@ gathered-whole size told (b ∷ rest) =
 -- ---- the run
 
 -- a call looks at no byte of the out buffer
-turn-out : (checks : List ℕ → ℕ → Checks) (keys : List ℕ) (r : Record) (store out out′ bytes : List ℕ) → length out ≡ length out′
+pub turn-out : (checks : List ℕ → ℕ → Checks) (keys : List ℕ) (r : Record) (store out out′ bytes : List ℕ) → length out ≡ length out′
     → turn checks keys r store out bytes ≡ turn checks keys r store out′ bytes
 unfolding turn submit step submitConditions stepConditions recordConditions shortOut
 turn-out checks keys r store out out′ bytes e = rw e
@@ -186,7 +186,7 @@ module _ (checks : List ℕ → ℕ → Checks) (outs : ℕ → List ℕ) (long 
   ran-none zero keys r store = refl
   ran-none (suc turns) keys r store = rw (turn-none checks keys r store (outs turns))
 
-  ran-printed : (turns count : ℕ) (keys : List ℕ) (r : Record) (store input : List ℕ) → length input ≤ turns → length input ≤ count
+  pub ran-printed : (turns count : ℕ) (keys : List ℕ) (r : Record) (store input : List ℕ) → length input ≤ turns → length input ≤ count
       → ran checks outs turns keys r store input ≡ printed checks count keys r store input
   unfolding ran printed
   ran-printed zero count keys r store [] h l = sym (printed-none count keys r store)

@@ -26,9 +26,9 @@ use Rattle.yard.specs.declared.commands.Turn.{Turn}
 -- ---- a whole command has its operands
 
 module _ (bytes : List ℕ) (m : misframedCall bytes ≡ false) where
-  whole : callLength bytes ≤ length bytes
+  pub call-whole : callLength bytes ≤ length bytes
   unfolding misframedCall
-  whole = ltb-false (length bytes) (callLength bytes) (or-false (ltb (length bytes) (callLength bytes)) (not (isMessage bytes || isSubmit bytes)) m .0)
+  call-whole = ltb-false (length bytes) (callLength bytes) (or-false (ltb (length bytes) (callLength bytes)) (not (isMessage bytes || isSubmit bytes)) m .0)
 
   known : (isMessage bytes || isSubmit bytes) ≡ true
   unfolding misframedCall
@@ -37,13 +37,13 @@ module _ (bytes : List ℕ) (m : misframedCall bytes ≡ false) where
   module _ (b : ℕ) (e : b ≡ byteAt bytes 0) where
     pub message-whole : b ≡ 0x11 → 3 ≤ length bytes
     unfolding callLength
-    message-whole h = omega (arith, rw (← e, eq-eqb b 0x11 h) at whole)
+    message-whole h = omega (arith, rw (← e, eq-eqb b 0x11 h) at call-whole)
 
     pub submit-whole : (b ≡ 0x11 → ⊥) → 33 ≤ length bytes
     unfolding callLength
     submit-whole h =
         let s : eqb b 0x12 ≡ true = rw (← e, ne-eqb b 0x11 h) at known in
-        omega (arith, rw (← e, ne-eqb b 0x11 h, s) at whole)
+        omega (arith, rw (← e, ne-eqb b 0x11 h, s) at call-whole)
 
 -- ---- the line
 

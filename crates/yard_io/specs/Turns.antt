@@ -2,15 +2,15 @@
 -- Assumes nothing.
 use mathlib.Core.Path.{_≡_}
 use mathlib.Core.Bool.{Bool, true, false}
-use mathlib.Core.List.{List}
-use Prim.Native.Nat.{ℕ, _≤_}
-use lib.ListN.{take}
+use mathlib.Core.List.{List, []}
+use Prim.Native.Nat.{ℕ}
+use lib.ListN.{length, take}
 use Rattle.rfc8554.specs.Calls.{checks}
 use Rattle.protocol.specs.Calls.{outAfter}
 use Rattle.protocol.specs.declared.Record.{Record}
 use Rattle.yard.specs.Line.{Fits}
-use Rattle.yard.specs.Commands.{told, keysOf, openingLength, yardStore, yardOut, begun, callLength, turn}
-use Rattle.yard.specs.Program.{gathered}
+use Rattle.yard.specs.Commands.{told, keysOf, yardStore, yardOut, begun, turn}
+use Rattle.yard.specs.Course.{Reached, begins, follows, Ran, stops, goes}
 use Rattle.yard_io.specs.Reading.{Command}
 use Rattle.yard_io.specs.declared.Taken.{Taken}
 
@@ -28,40 +28,46 @@ pub record Later (keys : List ℕ) (r : Record) (store out : List ℕ) (t : Take
   pub stored : store′ ≡ turn checks keys r store out (take (t .have) input) .store
   pub written : out′ ≡ outAfter (turn checks keys r store out (take (t .have) input) .written) out
 
--- ---- one after another
+-- ---- one after another: what was read and printed is some input and its lines
 
--- The record, store and out that commands lead to, from those at first, and whether the last one ends the program. What the
--- commands were is not known, only that each is one, and that none follows one that ends.
-pub data Reached (keys : List ℕ) (r₀ : Record) (store₀ out₀ : List ℕ) : Bool → Record → List ℕ → List ℕ → Type 0 where
-  begins : Reached keys r₀ store₀ out₀ false r₀ store₀ out₀
-  follows : {r : Record} {store out : List ℕ} → Reached keys r₀ store₀ out₀ false r store out → (bytes : List ℕ) → gathered callLength bytes ≡ bytes
-      → Reached keys r₀ store₀ out₀ (turn checks keys r store out bytes .ends) (turn checks keys r store out bytes .unit) (turn checks keys r store out bytes .store)
-      (outAfter (turn checks keys r store out bytes .written) out)
+-- so many commands after the first, of which the last ends the program or not: record, store and out before and after
+pub record Turns (ends : Bool) (keys : List ℕ) (r : Record) (store out : List ℕ) (last : Record) (store′ out′ : List ℕ) : Type 0 where
+  pub input : List ℕ
+  pub lines : List ℕ
+  pub reached : Reached checks keys r store out input lines ends last store′ out′
 
--- the commands after the first: what is left at the end
-pub record Calls (keys : List ℕ) (r : Record) (store out : List ℕ) (last : Record) (store′ out′ : List ℕ) : Type 0 where
+-- all of them
+pub record AfterCalls (keys : List ℕ) (r : Record) (store out : List ℕ) (last : Record) (store′ out′ : List ℕ) : Type 0 where
   pub ends : Bool
-  pub reached : Reached keys r store out ends last store′ out′
+  pub turns : Turns ends keys r store out last store′ out′
 
--- the whole program: an opening ends it, or the commands after it lead to the last record
-pub data Ran : Record → Type 0 where
-  stops : (bytes : List ℕ) → gathered openingLength bytes ≡ bytes → begun bytes .ends ≡ true → Ran (begun bytes .unit)
-  goes : {last : Record} {store out : List ℕ} (bytes : List ℕ) → gathered openingLength bytes ≡ bytes → begun bytes .ends ≡ false
-      → Calls (keysOf bytes) (begun bytes .unit) (begun bytes .store) yardOut last store out → Ran last
+-- the whole program, which leaves its last record
+pub record AfterRun (last : Record) : Type 0 where
+  pub input : List ℕ
+  pub lines : List ℕ
+  pub ends : Bool
+  pub ran : Ran checks input lines ends last
 
 -- ---- laws
 
-pub next-reached : {keys store₀ out₀ store out input store′ out′ : List ℕ} {r₀ r : Record} {t : Taken}
-    → Reached keys r₀ store₀ out₀ false r store out → Later keys r store out t input store′ out′ → Reached keys r₀ store₀ out₀ (t .turn .ends) (t .turn .unit) store′ out′
+pub turns-none : {keys store out : List ℕ} {r : Record} → Turns false keys r store out r store out
+turns-none = record { input = []; lines = []; reached = begins }
+
+pub turns-more : {keys store₀ out₀ store out input store′ out′ : List ℕ} {r₀ r : Record} {t : Taken}
+    → Turns false keys r₀ store₀ out₀ r store out → length out ≡ length out₀ → Later keys r store out t input store′ out′
+    → Turns (t .turn .ends) keys r₀ store₀ out₀ (t .turn .unit) store′ out′
 unfolding told
-next-reached {input = input} {t = t} h l = rw (l .answer, l .stored, l .written) (follows h (take (t .have) input) (l .command .alone))
+turns-more {input = input} {t = t} h e l =
+    rw (l .answer, l .stored, l .written) (record { input = _; lines = _; reached = follows (h .reached) e (take (t .have) input) (l .command .alone) })
 
 module _ {t : Taken} {input : List ℕ} (f : First t input) where
-  pub first-stops : t .turn .ends ≡ true → Ran (t .turn .unit)
+  pub first-stops : t .turn .ends ≡ true → AfterRun (t .turn .unit)
   unfolding told
-  first-stops h = rw (f .answer) (stops (take (t .have) input) (f .command .alone) (rw (f .answer) at h))
+  first-stops h =
+      rw (f .answer) (record { input = _; lines = _; ends = _; ran = stops (take (t .have) input) (f .command .alone) (rw (f .answer) at h) })
 
   pub first-goes : {keys store out store′ out′ : List ℕ} {last : Record} → t .turn .ends ≡ false → keys ≡ keysOf (take (t .have) input) → store ≡ yardStore → out ≡ yardOut
-      → Calls keys (t .turn .unit) store out last store′ out′ → Ran last
+      → AfterCalls keys (t .turn .unit) store out last store′ out′ → AfterRun last
   unfolding told begun
-  first-goes h k s o c = goes (take (t .have) input) (f .command .alone) (rw (f .answer) at h) (rw (k, s, o, f .answer) at c)
+  first-goes h k s o c =
+      record { input = _; lines = _; ends = _; ran = goes (take (t .have) input) (f .command .alone) (rw (f .answer) at h) (rw (k, s, o, f .answer) at (c .turns .reached)) }

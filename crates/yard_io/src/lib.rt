@@ -7,7 +7,7 @@ ghost use lib.ListN.{length};
 ghost use Rattle.yard.specs.Line.{Fits};
 ghost use Rattle.yard.specs.Commands.{longestOpening, longestCall};
 ghost use Rattle.yard_io.specs.Reading.{room, sizeOf, ReadOn, Command};
-ghost use Rattle.yard_io.specs.Turns.{First, Later, Calls, Ran};
+ghost use Rattle.yard_io.specs.Turns.{First, Later, AfterCalls, AfterRun};
 use libc::STDIN_FILENO;
 use libc::STDOUT_FILENO;
 use protocol::Record;
@@ -99,7 +99,7 @@ fn command_space() -> [u8; 65538]
 // The commands after the first, and the record at the end. A proved loop has to end, and nothing says that the input does:
 // the loop counts its turns down from a number that no input uses up, since each turn takes a byte at least.
 fn run_calls(unit: Record, keys: &[u8], store: &mut [u8], out: &mut [u8]) -> Record
-    ensures { λ r. ⌜ Calls (now (keys .entry)) unit (now (store .entry)) (now (out .entry)) r (now (store .exit)) (now (out .exit)) ⌝ }
+    ensures { λ r. ⌜ AfterCalls (now (keys .entry)) unit (now (store .entry)) (now (out .entry)) r (now (store .exit)) (now (out .exit)) ⌝ }
 {
     let mut input = command_space();
     let mut r = unit;
@@ -120,7 +120,7 @@ fn run_calls(unit: Record, keys: &[u8], store: &mut [u8], out: &mut [u8]) -> Rec
 
 // The whole program, and the record at its end.
 pub fn run() -> Record
-    ensures { λ r. ⌜ Ran r ⌝ }
+    ensures { λ r. ⌜ AfterRun r ⌝ }
 {
     let mut opening = [0u8; 397];
     let first = first_turn(&mut opening);
