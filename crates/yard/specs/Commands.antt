@@ -4,20 +4,41 @@ use Prim.Native.Nat.{ℕ, _+_, _*_}
 use mathlib.Core.Bool.{Bool, true, false, not, _||_, cond}
 use mathlib.Core.List.{List, []}
 use lib.Dec.{ltb, eqb}
-use lib.ListN.{length, drop}
+use lib.ListN.{length, drop, replicate}
 use Rattle.octets.specs.Octets.{part}
-use Rattle.protocol.specs.Layout.{valueLength, signatureLength, keyLength}
+use Rattle.protocol.specs.Layout.{valueLength, signatureLength, keyLength, storeLength, outLength}
 use Rattle.protocol.specs.Message.{byteAt}
 use Rattle.protocol.specs.Record.{zeros}
 use Rattle.protocol.specs.Refusals.{Checks}
-use Rattle.protocol.specs.Calls.{Result, opening, submit, step, answer}
+use Rattle.protocol.specs.Calls.{Result, opening, submit, step}
 use Rattle.protocol.specs.declared.Record.{Record}
 use Rattle.protocol.specs.declared.Opened.{Opened}
+use Rattle.protocol.specs.declared.Stepped.{Stepped}
+use Rattle.yard.specs.Line.{line, inSpace}
 use Rattle.yard.specs.declared.commands.Turn.{Turn}
 
 -- a number of two bytes
 abbrev pub twoAt : List ℕ → ℕ → ℕ
 twoAt bytes i = byteAt bytes i * 256 + byteAt bytes (i + 1)
+
+-- ---- what a command comes to
+
+-- whether the program ends with it, the record and store after it, the bytes written to `out`, and the line printed
+pub record Outcome : Type 0 where
+  pub ends : Bool
+  pub unit : Record
+  pub store : List ℕ
+  pub written : List ℕ
+  pub line : List ℕ
+
+-- "Per call it prints refusal number or 0, a space, bytes written, newline"; where the input has ended there is no call, and
+-- nothing is printed
+unfoldable pub lineFor : List ℕ → ℕ → ℕ → List ℕ
+lineFor bytes number written = cond (eqb (length bytes) 0) [] (line number written)
+
+-- what code answers: not the buffers, which are lent to it
+unfoldable pub told : Outcome → Turn
+told o = record { ends = o .ends; unit = o .unit; line = inSpace (o .line) }
 
 -- ---- the first command: "0x10 (n 1, seat 1, round 2, then n keys)", "for n up to 7"
 
@@ -56,6 +77,19 @@ opened bytes =
     (cond (tooMany bytes) (refusedOpening 1)
     (opening (byteAt bytes 1) (byteAt bytes 2) (twoAt bytes 3) (keysOf bytes)))
 
+-- the store at first, and an out buffer: of the lengths for 7 seats
+unfoldable pub yardStore : List ℕ
+yardStore = replicate (storeLength mostYardSeats) 0
+
+unfoldable pub yardOut : List ℕ
+yardOut = replicate (outLength mostYardSeats) 0
+
+-- "A refused opening ends it"
+unfoldable pub begun : List ℕ → Outcome
+begun bytes =
+    let o = opened bytes in
+    record { ends = not (eqb (o .number) 0); unit = o .unit; store = yardStore; written = []; line = lineFor bytes (o .number) 0 }
+
 -- ---- each later one: "0x11 (length 2, message) or 0x12 (value 32, signature 1,452)"
 
 abbrev pub isMessage : List ℕ → Bool
@@ -75,27 +109,22 @@ longestCall = 65538
 unfoldable pub misframedCall : List ℕ → Bool
 misframedCall bytes = ltb (length bytes) (callLength bytes) || not (isMessage bytes || isSubmit bytes)
 
--- what it comes to, and whether it ends the program
-pub record Outcome : Type 0 where
-  pub ends : Bool
-  pub result : Result
-
 -- "prints `9 0` and ends it"
-abbrev pub endedBy : Record → List ℕ → Outcome
-endedBy r store = record { ends = true; result = record { refusal = 9; unit = r; store = store; written = [] } }
+abbrev pub endedBy : Record → List ℕ → List ℕ → Outcome
+endedBy r store bytes = record { ends = true; unit = r; store = store; written = []; line = lineFor bytes 9 0 }
 
 -- a call of the confirmer, refused or not
 abbrev pub goesOn : Result → Outcome
-goesOn result = record { ends = false; result = result }
+goesOn a = record { ends = false; unit = a .unit; store = a .store; written = a .written; line = line (a .refusal) (length (a .written)) }
+
+-- the same, as code answers it
+unfoldable pub toldCall : Stepped → Turn
+toldCall a = record { ends = false; unit = a .unit; line = inSpace (line (a .number) (a .written)) }
 
 -- with the signature check under a key table in a round: key table, record, store, out, and the command's bytes
 unfoldable pub turn : (List ℕ → ℕ → Checks) → List ℕ → Record → List ℕ → List ℕ → List ℕ → Outcome
 turn checks keys r store out bytes =
-    cond (misframedCall bytes) (endedBy r store)
+    cond (misframedCall bytes) (endedBy r store bytes)
     (cond (isMessage bytes)
     (goesOn (step (checks keys (r .round)) keys r store (drop 3 bytes) out))
     (goesOn (submit (checks keys (r .round)) keys r store (part 1 valueLength bytes) (drop (1 + valueLength) bytes) out)))
-
--- the answer of either
-unfoldable pub told : Outcome → Turn
-told o = record { ends = o .ends; answer = answer (o .result) }

@@ -9,12 +9,12 @@ use Rattle.protocol.specs.Message.{Notice, render}
 use Rattle.protocol.specs.Signatures.{checks}
 use Rattle.trials.specs.Toy.{unfolded, toy, layout, sign, keys}
 use Rattle.yard.specs.Line.{decimalIn, decimal, line}
-use Rattle.yard.specs.Commands.{openingLength, misframedOpening, opened, callLength, misframedCall, turn}
-use Rattle.yard.specs.Yard.{yardStore, yardOut, printed, yard}
+use Rattle.yard.specs.Commands.{lineFor, openingLength, misframedOpening, opened, yardStore, yardOut, begun, callLength, misframedCall, turn}
+use Rattle.yard.specs.Yard.{printed, yard}
 
 -- every definition of the yard, open
 unfoldable unfoldedYard : Bool
-unfolding unfolded decimalIn decimal line openingLength misframedOpening opened callLength misframedCall turn yardStore yardOut printed yard
+unfolding unfolded decimalIn decimal line lineFor openingLength misframedOpening opened yardStore yardOut begun callLength misframedCall turn printed yard
 unfoldedYard = unfolded
 
 -- a number of one digit, a space, `0` and newline

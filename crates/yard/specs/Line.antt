@@ -1,6 +1,6 @@
 -- What the yard's program prints for a call, in ASCII.
 -- Assumes nothing.
-use Prim.Native.Nat.{ℕ, zero, suc, _+_, _/_, _%_}
+use Prim.Native.Nat.{ℕ, zero, suc, _+_, _/_, _%_, _≤_}
 use mathlib.Core.Bool.{cond}
 use mathlib.Core.List.{List, [], _∷_, _++_}
 use lib.Dec.{ltb}
@@ -29,6 +29,10 @@ line number written = decimal number ++ (32 ∷ []) ++ decimal written ++ (10 �
 abbrev pub lineLimit : ℕ
 lineLimit = 22
 
--- the line in a space of that length, zeros after it, with its own length
-unfoldable pub lineWhole : ℕ → ℕ → Line
-lineWhole number written = record { text = patch 0 (line number written) (replicate lineLimit 0); length = length (line number written) }
+-- bytes to print, in a space of that length with zeros after them, and their number
+unfoldable pub inSpace : List ℕ → Line
+inSpace bytes = record { text = patch 0 bytes (replicate lineLimit 0); length = length bytes }
+
+-- a line that lies in its space
+abbrev pub Fits : Line → Type 0
+Fits l = l .length ≤ length (l .text)

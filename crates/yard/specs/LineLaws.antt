@@ -13,7 +13,7 @@ use lib.Seq.{set-split}
 use borrow.Author.Tests.{lt-ltb, le-ltb}
 use Rattle.octets.specs.Octets.{patch}
 use Rattle.octets.specs.Laws.{patch-patch, length-patch}
-use Rattle.yard.specs.Line.{digit, decimalIn, decimal, line, lineLimit, lineWhole}
+use Rattle.yard.specs.Line.{digit, decimalIn, decimal, line, lineLimit, inSpace}
 
 -- ---- digits
 
@@ -126,13 +126,9 @@ module _ (number written : ℕ) (small : number < 4294967296) (little : written 
         omega (arith, text-fits (decimal number ++ (32 ∷ []) ++ decimal written) text at 1 h (simp length-append (omega (arith, first, second))))
 
   pub line-whole : (text : List ℕ) (at : ℕ) → Text (decimal number ++ (32 ∷ []) ++ decimal written ++ (10 ∷ [])) text at
-      → record { text = text; length = at } ≡ lineWhole number written
-  unfolding lineWhole line
-  line-whole text at h = rw (h .held, h .next)
-
-  -- and it lies in its space
-  pub line-fits : lineWhole number written .length ≤ length (lineWhole number written .text)
-  unfolding lineWhole line
-  line-fits =
-      let size : length (decimal number ++ (32 ∷ []) ++ decimal written ++ (10 ∷ [])) ≤ lineLimit = simp length-append (omega (arith, first, second)) in
-      rw (length-patch 0 (decimal number ++ (32 ∷ []) ++ decimal written ++ (10 ∷ [])) (replicate lineLimit 0) (rw length-replicate (omega arith)), length-replicate) size
+      → (record { text = text; length = at } ≡ inSpace (line number written)) × (at ≤ length text)
+  unfolding inSpace line
+  line-whole text at h =
+      let us = decimal number ++ (32 ∷ []) ++ decimal written ++ (10 ∷ []) in
+      let size : length us ≤ lineLimit = simp length-append (omega (arith, first, second)) in
+      (rw (h .held, h .next), omega (arith, text-fits us text at 0 h (omega arith)))

@@ -1,7 +1,7 @@
 -- What the program comes to, as it reads command by command into fixed buffers: the output that `yard` gives for the whole
 -- input.
 -- Assumes nothing.
-use mathlib.Core.Path.{_≡_, refl}
+use mathlib.Core.Path.{_≡_, refl, sym, _∙_}
 use mathlib.Core.Bool.{Bool, true, false, cond}
 use mathlib.Core.List.{List, [], _∷_, _++_}
 use Prim.Native.Nat.{ℕ, zero, suc, _+_, _*_, _≤_, _<_}
@@ -9,16 +9,15 @@ use native.Mathlib.Omega.{arith}
 use native.Mathlib.Decide.{decLt, decLe}
 use lib.Dec.{eqb, ltb, leb}
 use lib.ListN.{length, take, drop, length-take, length-drop}
-use lib.Seq.{getD-take, take-all}
+use lib.Seq.{getD-take, take-all, take-nil}
 use borrow.Author.Tests.{ne-eqb, lt-ltb, le-ltb, le-leb, lt-leb}
 use Rattle.protocol.specs.Layout.{signatureLength}
 use Rattle.protocol.specs.Message.{byteAt}
 use Rattle.protocol.specs.Refusals.{Checks, shortOut, recordConditions, submitConditions, stepConditions}
 use Rattle.protocol.specs.Calls.{submit, step}
 use Rattle.protocol.specs.declared.Record.{Record}
-use Rattle.yard.specs.Line.{line}
-use Rattle.yard.specs.Commands.{twoAt, isOpening, isMessage, isSubmit, tooMany, keysOf, openingLength, opened, callLength, turn}
-use Rattle.yard.specs.Yard.{yardStore, yardOut, lineOf, printed, yard}
+use Rattle.yard.specs.Commands.{lineFor, twoAt, isOpening, tooMany, keysOf, openingLength, yardOut, begun, isMessage, isSubmit, callLength, misframedCall, endedBy, turn}
+use Rattle.yard.specs.Yard.{printed, yard}
 
 -- Reads go on until so many bytes are there or the input ends: what is there then, of the input, where some were there before.
 unfoldable pub readOn : List ℕ → ℕ → List ℕ → List ℕ
@@ -39,14 +38,13 @@ module _ (checks : List ℕ → ℕ → Checks) (outs : ℕ → List ℕ) where
   ran (suc turns) keys r store input =
       let bytes = gathered callLength input in
       let o = turn checks keys r store (outs turns) bytes in
-      cond (eqb (length bytes) 0) [] (lineOf o ++ cond (o .ends) [] (ran turns keys (o .result .unit) (o .result .store) (drop (length bytes) input)))
+      o .line ++ cond (o .ends) [] (ran turns keys (o .unit) (o .store) (drop (length bytes) input))
 
   unfoldable pub program : ℕ → List ℕ → List ℕ
   program turns input =
       let bytes = gathered openingLength input in
-      let o = opened bytes in
-      cond (eqb (length bytes) 0) []
-      (line (o .number) 0 ++ cond (eqb (o .number) 0) (ran turns (keysOf bytes) (o .unit) yardStore (drop (length bytes) input)) [])
+      let o = begun bytes in
+      o .line ++ cond (o .ends) [] (ran turns (keysOf bytes) (o .unit) (o .store) (drop (length bytes) input))
 
 -- ---- a command's length is told by its first bytes
 
@@ -69,7 +67,7 @@ module _ (m : ℕ) (input : List ℕ) (some : 0 < m) where
       (cond-by (isOpening input) (5 + cond (tooMany (take m input)) 0 (56 * byteAt (take m input) 1)) (5 + cond (tooMany input) 0 (56 * byteAt input 1)) 1
       (λ e. rw (getD-take m input 1 0 (omega (arith, h e)))))
 
-pub call-some : (input : List ℕ) → 1 ≤ callLength input
+call-some : (input : List ℕ) → 1 ≤ callLength input
 unfolding callLength
 call-some input = go (isMessage input) (isSubmit input)
   where
@@ -78,7 +76,7 @@ call-some input = go (isMessage input) (isSubmit input)
     go false true = omega arith
     go false false = omega arith
 
-pub opening-some : (input : List ℕ) → 1 ≤ openingLength input
+opening-some : (input : List ℕ) → 1 ≤ openingLength input
 unfolding openingLength
 opening-some input = go (isOpening input)
   where
@@ -122,41 +120,47 @@ read-more input n m h = go (decLe m (length (take n input)))
         rw (le-leb m (length (take n input)) l, same)
     go (no l) = rw (lt-leb m (length (take n input)) (omega arith))
 
--- where the first byte tells of no more than the whole input does, and of enough to know the rest
-gathered-whole : (size : List ℕ → ℕ) (b : ℕ) (rest : List ℕ) → 1 ≤ size (b ∷ []) → size (b ∷ []) ≤ size (b ∷ rest)
-    → size (take (size (b ∷ [])) (b ∷ rest)) ≡ size (b ∷ rest) → gathered size (b ∷ rest) ≡ take (size (b ∷ rest)) (b ∷ rest)
+-- the first byte tells of no more than the whole input does, and of enough to know the rest
+pub record Tells (size : List ℕ → ℕ) : Type 0 where
+  pub some : (input : List ℕ) → 1 ≤ size input
+  pub grows : (b : ℕ) (rest : List ℕ) → size (b ∷ []) ≤ size (b ∷ rest)
+  pub tells : (b : ℕ) (rest : List ℕ) → size (take (size (b ∷ [])) (b ∷ rest)) ≡ size (b ∷ rest)
+
+pub call-tells : Tells callLength
+call-tells = record {
+  some = call-some;
+  grows = call-grows;
+  tells = λ b rest. call-start (callLength (b ∷ [])) (b ∷ rest) (call-some (b ∷ [])) (λ e. call-first b e);
+}
+
+pub opening-tells : Tells openingLength
+opening-tells = record {
+  some = opening-some;
+  grows = opening-grows;
+  tells = λ b rest. opening-start (openingLength (b ∷ [])) (b ∷ rest) (opening-some (b ∷ [])) (λ e. omega (arith, opening-first b e));
+}
+
+-- so that reading in three goes comes to the whole command, or to what the input has of it
+pub gathered-whole : (size : List ℕ → ℕ) → Tells size → (input : List ℕ) → gathered size input ≡ take (size input) input
 unfolding gathered
-gathered-whole size b rest some grows tells =
-    rw (read-more (b ∷ rest) 1 (size (b ∷ [])) some) (go (size (b ∷ [])) refl (decLt (length (take (size (b ∷ [])) (b ∷ rest))) (size (b ∷ []))))
+gathered-whole size told [] = sym (take-nil (size []))
+gathered-whole size told (b ∷ rest) =
+    rw (read-more (b ∷ rest) 1 (size (b ∷ [])) (told .some (b ∷ []))) (go (size (b ∷ [])) refl (decLt (length (take (size (b ∷ [])) (b ∷ rest))) (size (b ∷ []))))
   where
     go : (first : ℕ) → first ≡ size (b ∷ []) → Dec (length (take first (b ∷ rest)) < first)
         → cond (ltb (length (take first (b ∷ rest))) first) (take first (b ∷ rest)) (readOn (take first (b ∷ rest)) (size (take first (b ∷ rest))) (b ∷ rest))
         ≡ take (size (b ∷ rest)) (b ∷ rest)
     go first e (yes l) =
         let ended : length (b ∷ rest) ≤ first = omega (arith, length-take first (b ∷ rest)) in
-        rw (lt-ltb (length (take first (b ∷ rest))) first l, take-all first (b ∷ rest) ended, take-all (size (b ∷ rest)) (b ∷ rest) (omega arith))
+        rw (lt-ltb (length (take first (b ∷ rest))) first l, take-all first (b ∷ rest) ended, take-all (size (b ∷ rest)) (b ∷ rest) (omega (arith, told .grows b rest)))
     go first e (no l) =
-        rw (le-ltb (length (take first (b ∷ rest))) first (omega arith), e, tells)
-        (read-more (b ∷ rest) (size (b ∷ [])) (size (b ∷ rest)) grows)
-
-gathered-nothing : (size : List ℕ → ℕ) → gathered size [] ≡ []
-unfolding gathered
-gathered-nothing size = refl
-
-pub gathered-call : (b : ℕ) (rest : List ℕ) → gathered callLength (b ∷ rest) ≡ take (callLength (b ∷ rest)) (b ∷ rest)
-gathered-call b rest =
-    gathered-whole callLength b rest (call-some (b ∷ [])) (call-grows b rest)
-    (call-start (callLength (b ∷ [])) (b ∷ rest) (call-some (b ∷ [])) (λ e. call-first b e))
-
-pub gathered-opening : (b : ℕ) (rest : List ℕ) → gathered openingLength (b ∷ rest) ≡ take (openingLength (b ∷ rest)) (b ∷ rest)
-gathered-opening b rest =
-    gathered-whole openingLength b rest (opening-some (b ∷ [])) (opening-grows b rest)
-    (opening-start (openingLength (b ∷ [])) (b ∷ rest) (opening-some (b ∷ [])) (λ e. omega (arith, opening-first b e)))
+        rw (le-ltb (length (take first (b ∷ rest))) first (omega arith), e, told .tells b rest)
+        (read-more (b ∷ rest) (size (b ∷ [])) (size (b ∷ rest)) (told .grows b rest))
 
 -- ---- the run
 
 -- a call looks at no byte of the out buffer
-turn-out : (checks : List ℕ → ℕ → Checks) (keys : List ℕ) (r : Record) (store out out′ bytes : List ℕ) → length out ≡ length out′
+pub turn-out : (checks : List ℕ → ℕ → Checks) (keys : List ℕ) (r : Record) (store out out′ bytes : List ℕ) → length out ≡ length out′
     → turn checks keys r store out bytes ≡ turn checks keys r store out′ bytes
 unfolding turn submit step submitConditions stepConditions recordConditions shortOut
 turn-out checks keys r store out out′ bytes e = rw e
@@ -166,44 +170,51 @@ drop-taken zero xs = refl
 drop-taken (suc n) [] = refl
 drop-taken (suc n) (x ∷ xs) = drop-taken n xs
 
-taken-some : (n b : ℕ) (rest : List ℕ) → 1 ≤ n → eqb (length (take n (b ∷ rest))) 0 ≡ false
-taken-some n b rest h = ne-eqb (length (take n (b ∷ rest))) 0 (λ e. omega (arith, length-take n (b ∷ rest)))
+-- where the input has ended
+turn-none : (checks : List ℕ → ℕ → Checks) (keys : List ℕ) (r : Record) (store out : List ℕ) → turn checks keys r store out [] ≡ endedBy r store []
+unfolding turn misframedCall callLength
+turn-none checks keys r store out = refl
 
 module _ (checks : List ℕ → ℕ → Checks) (outs : ℕ → List ℕ) (long : (i : ℕ) → length (outs i) ≡ length yardOut) where
-  ran-printed : (turns count : ℕ) (keys : List ℕ) (r : Record) (store input : List ℕ) → length input ≤ turns → length input ≤ count
+  printed-none : (count : ℕ) (keys : List ℕ) (r : Record) (store : List ℕ) → printed checks count keys r store [] ≡ []
+  unfolding printed lineFor
+  printed-none zero keys r store = refl
+  printed-none (suc count) keys r store = rw (take-nil (callLength []), turn-none checks keys r store yardOut)
+
+  ran-none : (turns : ℕ) (keys : List ℕ) (r : Record) (store : List ℕ) → ran checks outs turns keys r store [] ≡ []
+  unfolding ran gathered lineFor
+  ran-none zero keys r store = refl
+  ran-none (suc turns) keys r store = rw (turn-none checks keys r store (outs turns))
+
+  pub ran-printed : (turns count : ℕ) (keys : List ℕ) (r : Record) (store input : List ℕ) → length input ≤ turns → length input ≤ count
       → ran checks outs turns keys r store input ≡ printed checks count keys r store input
   unfolding ran printed
-  ran-printed zero zero keys r store input h l = refl
-  ran-printed zero (suc count) keys r store [] h l = refl
-  ran-printed zero (suc count) keys r store (b ∷ rest) h l = absurd (omega arith)
-  ran-printed (suc turns) zero keys r store [] h l = rw gathered-nothing
+  ran-printed zero count keys r store [] h l = sym (printed-none count keys r store)
+  ran-printed zero count keys r store (b ∷ rest) h l = absurd (omega arith)
+  ran-printed (suc turns) zero keys r store [] h l = ran-none (suc turns) keys r store
   ran-printed (suc turns) zero keys r store (b ∷ rest) h l = absurd (omega arith)
-  ran-printed (suc turns) (suc count) keys r store [] h l = rw gathered-nothing
+  ran-printed (suc turns) (suc count) keys r store [] h l = ran-none (suc turns) keys r store ∙ sym (printed-none (suc count) keys r store)
   ran-printed (suc turns) (suc count) keys r store (b ∷ rest) h l =
       let input = b ∷ rest in
       let size = callLength input in
       let o = turn checks keys r store yardOut (take size input) in
       let less : length (drop size input) ≤ length rest = rw length-drop (omega (arith, call-some input)) in
       rw (
-        gathered-call b rest,
-        taken-some size b rest (call-some input),
+        gathered-whole callLength call-tells input,
         drop-taken size input,
         turn-out checks keys r store (outs turns) yardOut (take size input) (long turns),
-        ran-printed turns count keys (o .result .unit) (o .result .store) (drop size input) (omega arith) (omega arith),
+        ran-printed turns count keys (o .unit) (o .store) (drop size input) (omega arith) (omega arith),
       )
 
   -- turns for as many commands as the input has bytes are enough
   pub program-is-yard : (turns : ℕ) (input : List ℕ) → length input ≤ turns → program checks outs turns input ≡ yard checks input
   unfolding program yard
-  program-is-yard turns [] h = rw gathered-nothing
-  program-is-yard turns (b ∷ rest) h =
-      let input = b ∷ rest in
+  program-is-yard turns input h =
       let size = openingLength input in
       let bytes = take size input in
       let less : length (drop size input) ≤ length input = rw length-drop (omega arith) in
       rw (
-        gathered-opening b rest,
-        taken-some size b rest (opening-some input),
+        gathered-whole openingLength opening-tells input,
         drop-taken size input,
-        ran-printed turns (length input) (keysOf bytes) (opened bytes .unit) yardStore (drop size input) (omega arith) (omega arith),
+        ran-printed turns (length input) (keysOf bytes) (begun bytes .unit) (begun bytes .store) (drop size input) (omega arith) (omega arith),
       )

@@ -4,16 +4,21 @@ ghost use Prim.Native.Nat.{_<_, _≤_};
 ghost use Rattle.protocol.specs.Signatures.{checks};
 ghost use Rattle.protocol.specs.Message.{byteAt};
 ghost use Rattle.protocol.specs.Calls.{outAfter};
-ghost use Rattle.yard.specs.Commands.{twoAt, keysOf, openingLength, longestOpening, misframedOpening, refusedOpening, opened, callLength, longestCall, misframedCall, turn, told};
+ghost use Rattle.yard.specs.Line.{inSpace, Fits};
+ghost use Rattle.yard.specs.Commands.{lineFor, told, twoAt, keysOf, openingLength, longestOpening, misframedOpening, refusedOpening, opened, begun, callLength, longestCall, misframedCall, toldCall, turn};
+use crate::line::Line;
+use crate::line::line_of;
+use crate::line::no_line;
 use octets::wide;
 use protocol::Opened;
 use protocol::Record;
 use protocol::Stepped;
 
-// What a command after the first comes to: whether it ends the program, and the answer of its call.
+// What a command comes to: whether the program ends with it, the record after it, and the line to print.
 pub struct Turn {
     pub ends: bool,
-    pub answer: Stepped,
+    pub unit: Record,
+    pub line: Line,
 }
 
 // The byte at index i, 0 past the end.
@@ -32,6 +37,16 @@ fn two_at(bytes: &[u8], i: usize) -> u32
     ensures { λ r. ⌜ (r ≡ twoAt (now (bytes .entry)) i) × (r < 65536) ⌝ }
 {
     byte_at(bytes, i) * 256 + byte_at(bytes, i + 1)
+}
+
+// The line for a command, of which there are no bytes where the input has ended.
+fn line_for(bytes: &[u8], number: u32, written: u32) -> Line
+    ensures { λ r. ⌜ (r ≡ inSpace (lineFor (now (bytes .entry)) number written)) × Fits r ⌝ }
+{
+    if bytes.len() == 0 {
+        return no_line();
+    }
+    line_of(number, written)
 }
 
 // The length of the first command, by the bytes at its start: after 5 bytes it is known.
@@ -93,7 +108,7 @@ fn refused_opening(number: u32) -> Opened
 }
 
 // The first command, with as many of its bytes as the input has.
-pub fn open(bytes: &[u8]) -> Opened
+fn open(bytes: &[u8]) -> Opened
     ensures { λ r. ⌜ r ≡ opened (now (bytes .entry)) ⌝ }
 {
     if is_misframed_opening(bytes) {
@@ -106,6 +121,20 @@ pub fn open(bytes: &[u8]) -> Opened
     let seat = byte_at(bytes, 2);
     let round = two_at(bytes, 3);
     confirmer::opening::open(n, seat, round, keys_of(bytes))
+}
+
+// The first command as a turn.
+pub fn begin(bytes: &[u8]) -> Turn
+    ensures { λ t. ⌜ (t ≡ told (begun (now (bytes .entry)))) × Fits (t .line) ⌝ }
+{
+    let o = open(bytes);
+    let line = line_for(bytes, o.number, 0);
+    let unit = o.unit;
+    Turn {
+        ends: o.number != 0,
+        unit,
+        line,
+    }
 }
 
 // Whether a command after the first is short, or no call.
@@ -122,30 +151,37 @@ fn is_misframed_call(bytes: &[u8]) -> bool
     command != 0x12
 }
 
+// The turn of a call of the confirmer, refused or not.
+fn goes_on(answer: Stepped) -> Turn
+    ensures { λ t. ⌜ (t ≡ toldCall answer) × Fits (t .line) ⌝ }
+{
+    let line = line_of(answer.number, answer.written);
+    let unit = answer.unit;
+    Turn {
+        ends: false,
+        unit,
+        line,
+    }
+}
+
 // A command after the first, with as many of its bytes as the input has.
 pub fn take_turn(r: Record, keys: &[u8], store: &mut [u8], out: &mut [u8], bytes: &[u8]) -> Turn
-    ensures answer { λ t. ⌜ t ≡ told (turn checks (now (keys .entry)) r (now (store .entry)) (now (out .entry)) (now (bytes .entry))) ⌝ }
-    ensures store { λ _. ⌜ now (store .exit) ≡ turn checks (now (keys .entry)) r (now (store .entry)) (now (out .entry)) (now (bytes .entry)) .result .store ⌝ }
-    ensures out { λ _. ⌜ now (out .exit) ≡ outAfter (turn checks (now (keys .entry)) r (now (store .entry)) (now (out .entry)) (now (bytes .entry)) .result .written) (now (out .entry)) ⌝ }
+    ensures answer { λ t. ⌜ (t ≡ told (turn checks (now (keys .entry)) r (now (store .entry)) (now (out .entry)) (now (bytes .entry)))) × Fits (t .line) ⌝ }
+    ensures store { λ _. ⌜ now (store .exit) ≡ turn checks (now (keys .entry)) r (now (store .entry)) (now (out .entry)) (now (bytes .entry)) .store ⌝ }
+    ensures out { λ _. ⌜ now (out .exit) ≡ outAfter (turn checks (now (keys .entry)) r (now (store .entry)) (now (out .entry)) (now (bytes .entry)) .written) (now (out .entry)) ⌝ }
 {
     if is_misframed_call(bytes) {
-        let answer = Stepped {
-            number: refusal::GARBLED,
-            written: 0,
+        let line = line_for(bytes, refusal::GARBLED, 0);
+        return Turn {
+            ends: true,
             unit: r,
+            line,
         };
-        return Turn { ends: true, answer };
     }
     if byte_at(bytes, 0) == 0x11 {
         let answer = confirmer::calls::step(r, keys, store, &bytes[3..], out);
-        return Turn {
-            ends: false,
-            answer,
-        };
+        return goes_on(answer);
     }
     let answer = confirmer::calls::submit(r, keys, store, &bytes[1..33], &bytes[33..], out);
-    Turn {
-        ends: false,
-        answer,
-    }
+    goes_on(answer)
 }

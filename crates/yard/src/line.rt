@@ -4,7 +4,7 @@ ghost use mathlib.Core.List.{[], _∷_};
 ghost use Prim.Native.Nat.{_+_, _<_, _≤_};
 ghost use lib.ListN.{length};
 ghost use Rattle.octets.specs.Octets.{patch};
-ghost use Rattle.yard.specs.Line.{decimal, lineWhole};
+ghost use Rattle.yard.specs.Line.{decimal, line, inSpace, Fits};
 
 // A line at the start of `text`.
 pub struct Line {
@@ -35,7 +35,7 @@ fn put_decimal(out: &mut [u8], at: usize, x: u32) -> usize
 
 // The refusal number or 0, a space, the bytes written, and a newline.
 pub fn line_of(number: u32, written: u32) -> Line
-    ensures { λ r. ⌜ r ≡ lineWhole number written ⌝ }
+    ensures { λ r. ⌜ (r ≡ inSpace (line number written)) × Fits r ⌝ }
 {
     let mut text = [0u8; 22];
     let number_end = put_decimal(&mut text, 0, number);
@@ -43,4 +43,12 @@ pub fn line_of(number: u32, written: u32) -> Line
     let end = put_decimal(&mut text, start, written);
     let length = put_byte(&mut text, end, b'\n');
     Line { text, length }
+}
+
+// Nothing to print.
+pub fn no_line() -> Line
+    ensures { λ r. ⌜ (r ≡ inSpace []) × Fits r ⌝ }
+{
+    let text = [0u8; 22];
+    Line { text, length: 0 }
 }

@@ -1,7 +1,7 @@
 // The yard's buffers at first, of the lengths for its seven seats.
 ghost use mathlib.Core.Path.{_≡_};
 ghost use lib.ListN.{length};
-ghost use Rattle.yard.specs.Yard.{yardStore, yardOut};
+ghost use Rattle.yard.specs.Commands.{yardStore, yardOut};
 
 pub fn new_store() -> [u8; 20328]
     ensures { λ r. ⌜ (r ≡ yardStore) × (20328 ≡ length r) ⌝ }

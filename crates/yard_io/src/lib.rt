@@ -1,19 +1,24 @@
 // The yard's program (document 01): it reads commands from standard input, and prints a line for each call to standard output.
-// What a command is and does is in the crate `yard`; here is only what reads and prints, which no contract can speak of.
+// What a command is and does, and its line, is in the crate `yard`; here is what reads and prints. What was read stands in a
+// buffer, and the contracts speak of it there.
 ghost use mathlib.Core.Path.{_≡_};
 ghost use Prim.Native.Nat.{_≤_};
 ghost use lib.ListN.{length};
-ghost use Rattle.yard.specs.Commands.{longestCall};
-ghost use Rattle.yard_io.specs.Room.{room};
+ghost use Rattle.yard.specs.Line.{Fits};
+ghost use Rattle.yard.specs.Commands.{longestOpening, longestCall};
+ghost use Rattle.yard_io.specs.Reading.{room, sizeOf, ReadOn, Command};
+ghost use Rattle.yard_io.specs.Turns.{First, Later, AfterCalls, AfterRun};
 use libc::STDIN_FILENO;
 use libc::STDOUT_FILENO;
 use protocol::Record;
 use yard::commands;
+use yard::commands::Turn;
+use yard::line::Line;
 
 // Reads on from index `have` until there are `to` bytes or the input ends, and answers how many there are.
 fn read_on(space: &mut [u8], have: usize, to: usize) -> usize
     requires { ⌜ (have ≤ length (now space)) × (to ≤ length (now space)) ⌝ }
-    ensures { λ r. ⌜ (have ≤ r) × (r ≤ length (now (space .exit))) ⌝ }
+    ensures { λ r. ⌜ ReadOn have to r (now (space .entry)) (now (space .exit)) ⌝ }
 {
     if to <= have {
         return have;
@@ -23,7 +28,7 @@ fn read_on(space: &mut [u8], have: usize, to: usize) -> usize
 
 // The length of a command, the first or a later one, as far as the bytes at its start tell it.
 fn told_length(first: bool, bytes: &[u8]) -> usize
-    ensures { λ r. ⌜ r ≤ room first ⌝ }
+    ensures { λ r. ⌜ (r ≡ sizeOf first (now (bytes .entry))) × (r ≤ room first) ⌝ }
 {
     if first {
         return commands::opening_length(bytes);
@@ -35,7 +40,7 @@ fn told_length(first: bool, bytes: &[u8]) -> usize
 // length, then the rest.
 fn read_command(first: bool, space: &mut [u8]) -> usize
     requires { ⌜ room first ≤ length (now space) ⌝ }
-    ensures { λ r. ⌜ r ≤ length (now (space .exit)) ⌝ }
+    ensures { λ r. ⌜ Command first r (now (space .exit)) ⌝ }
 {
     let one = read_on(space, 0, 1);
     if one == 0 {
@@ -50,38 +55,38 @@ fn read_command(first: bool, space: &mut [u8]) -> usize
     read_on(space, have, whole)
 }
 
-fn print_line(number: u32, written: u32) {
-    let line = yard::line::line_of(number, written);
+// A command that was read, by its number of bytes, and what it came to.
+struct Taken {
+    have: usize,
+    turn: Turn,
+}
+
+// Reads the first command, and does it.
+fn first_turn(input: &mut [u8]) -> Taken
+    requires { ⌜ longestOpening ≤ length (now input) ⌝ }
+    ensures { λ t. ⌜ First t (now (input .exit)) ⌝ }
+{
+    let have = read_command(true, input);
+    let turn = commands::begin(&input[..have]);
+    Taken { have, turn }
+}
+
+// Reads a command after the first, and does it.
+fn next_turn(unit: Record, keys: &[u8], store: &mut [u8], out: &mut [u8], input: &mut [u8]) -> Taken
+    requires { ⌜ longestCall ≤ length (now input) ⌝ }
+    ensures { λ t. ⌜ Later (now (keys .entry)) unit (now (store .entry)) (now (out .entry)) t (now (input .exit)) (now (store .exit)) (now (out .exit)) ⌝ }
+{
+    let have = read_command(false, input);
+    let turn = commands::take_turn(unit, keys, store, out, &input[..have]);
+    Taken { have, turn }
+}
+
+fn print(line: Line)
+    requires { ⌜ Fits line ⌝ }
+{
     let text = line.text;
     let end = line.length;
     io::write_all(STDOUT_FILENO, &text[..end]);
-}
-
-// The record after a turn, and whether another one follows.
-struct Next {
-    goes_on: bool,
-    unit: Record,
-}
-
-// Reads and does one command after the first, and prints its line.
-fn turn(unit: Record, keys: &[u8], store: &mut [u8], out: &mut [u8], input: &mut [u8]) -> Next
-    requires { ⌜ longestCall ≤ length (now input) ⌝ }
-{
-    let have = read_command(false, input);
-    if have == 0 {
-        return Next {
-            goes_on: false,
-            unit,
-        };
-    }
-    let t = commands::take_turn(unit, keys, store, out, &input[..have]);
-    let answer = t.answer;
-    print_line(answer.number, answer.written);
-    let next = answer.unit;
-    Next {
-        goes_on: !t.ends,
-        unit: next,
-    }
 }
 
 // Room for the longest command after the first.
@@ -91,36 +96,48 @@ fn command_space() -> [u8; 65538]
     [0; 65538]
 }
 
-// The commands after the first. A proved loop has to end, and nothing says that the input does: the loop counts its turns
-// down from a number that no input uses up, since each turn takes a byte at least.
-fn run_calls(unit: Record, keys: &[u8]) {
-    let mut store = yard::space::new_store();
-    let mut out = yard::space::new_out();
+// The commands after the first, and the record at the end. A proved loop has to end, and nothing says that the input does:
+// the loop counts its turns down from a number that no input uses up, since each turn takes a byte at least.
+fn run_calls(unit: Record, keys: &[u8], store: &mut [u8], out: &mut [u8]) -> Record
+    ensures { λ r. ⌜ AfterCalls (now (keys .entry)) unit (now (store .entry)) (now (out .entry)) r (now (store .exit)) (now (out .exit)) ⌝ }
+{
     let mut input = command_space();
     let mut r = unit;
     let mut turns = u64::MAX;
     while 0 < turns {
-        let next = turn(r, keys, &mut store, &mut out, &mut input);
-        if !next.goes_on {
-            return;
+        let next = next_turn(r, keys, store, out, &mut input);
+        let turn = next.turn;
+        let line = turn.line;
+        print(line);
+        r = turn.unit;
+        if turn.ends {
+            return r;
         }
-        r = next.unit;
         turns -= 1;
     }
+    r
 }
 
-// The whole program.
-pub fn run() {
+// The whole program, and the record at its end.
+pub fn run() -> Record
+    ensures { λ r. ⌜ AfterRun r ⌝ }
+{
     let mut opening = [0u8; 397];
-    let have = read_command(true, &mut opening);
-    if have == 0 {
-        return;
+    let first = first_turn(&mut opening);
+    let turn = first.turn;
+    let line = turn.line;
+    print(line);
+    let unit = turn.unit;
+    if turn.ends {
+        return unit;
     }
-    let bytes = &opening[..have];
-    let o = commands::open(bytes);
-    print_line(o.number, 0);
-    if o.number == 0 {
-        let unit = o.unit;
-        run_calls(unit, commands::keys_of(bytes));
-    }
+    let have = first.have;
+    let mut store = yard::space::new_store();
+    let mut out = yard::space::new_out();
+    run_calls(
+        unit,
+        commands::keys_of(&opening[..have]),
+        &mut store,
+        &mut out,
+    )
 }

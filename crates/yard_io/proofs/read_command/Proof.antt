@@ -2,7 +2,7 @@
 use native.Mathlib.Omega.{arith}
 use denote.Ref.{now}
 use lib.ListN.{length, length-take}
-use Rattle.yard_io.specs.Room.{room-some}
+use Rattle.yard_io.specs.Reading.{room-some, command-none, command-short, command-whole}
 use borrow.Author.Needs.{needs}
 use Rattle.yard_io.proofs.read_command.Statement.{statement}
 use Rattle.yard_io.proofs.read_command.Tie as tie
@@ -14,7 +14,7 @@ same-length : tie.Need-same-length
 same-length c = search needs
 
 returns : tie.Need-returns
-returns c = search needs
+returns c = command-none (c .before .before .before .before .before .before .args .first)
 
 slice-reshare-prefix-told-length : tie.Need-slice-reshare-prefix-told-length
 slice-reshare-prefix-told-length c = search needs
@@ -32,7 +32,11 @@ same-length-2 : tie.Need-same-length-2
 same-length-2 c = search needs
 
 returns-2 : tie.Need-returns-2
-returns-2 c = search needs
+returns-2 c =
+    let again = c .before .before .before in
+    let told = again .before .before in
+    let read = told .before .before .before .before .before in
+    command-short (read .before .before .before .args .first) (omega arith) (told .told-length .ensures .0) (again .read-on2 .ensures) (c .if2 .taken)
 
 slice-reshare-prefix-told-length-2 : tie.Need-slice-reshare-prefix-told-length-2
 slice-reshare-prefix-told-length-2 c = search needs
@@ -50,7 +54,14 @@ same-length-3 : tie.Need-same-length-3
 same-length-3 c = search needs
 
 returns-3 : tie.Need-returns-3
-returns-3 c = search needs
+returns-3 c =
+    let last = c .before .before in
+    let sized = last .before .before in
+    let again = sized .before .before .before .before .before in
+    let told = again .before .before in
+    let read = told .before .before .before .before .before in
+    command-whole (read .before .before .before .args .first) (omega arith) (told .told-length .ensures .0) (again .read-on2 .ensures)
+    (sized .before .before .if2 .left) (sized .told-length2 .ensures .0) (last .read-on3 .ensures)
 
 pub read-command-spec : {M : Type 1} → statement M
 read-command-spec =

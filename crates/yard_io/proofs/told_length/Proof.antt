@@ -7,13 +7,13 @@ opening-length-requires : tie.Need-opening-length-requires
 opening-length-requires c κs = search needs
 
 returns : tie.Need-returns
-returns c = rw (c .before .if1 .taken) (c .opening-length .ensures .1)
+returns c = rw (c .before .if1 .taken) (c .opening-length .ensures)
 
 call-length-requires : tie.Need-call-length-requires
 call-length-requires c κs = search needs
 
 returns-2 : tie.Need-returns-2
-returns-2 c = rw (c .before .if1 .left) (c .call-length .ensures .1)
+returns-2 c = rw (c .before .if1 .left) (c .call-length .ensures)
 
 pub told-length-spec : {M : Type 1} → statement M
 told-length-spec =

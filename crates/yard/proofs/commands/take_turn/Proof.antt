@@ -10,11 +10,16 @@ use Rattle.yard.proofs.commands.take_turn.Tie as tie
 is-misframed-call-requires : tie.Need-is-misframed-call-requires
 is-misframed-call-requires c κs = search needs
 
+line-for-requires : tie.Need-line-for-requires
+line-for-requires c κs = search needs
+
 returns : tie.Need-returns
 returns c =
-    let framed = c .before in
+    let tested = c .before in
+    let framed = tested .before in
     let args = framed .before .before .before .before .before .args in
-    turn-misframed checks (now (args .keys)) (args .r) (now (args .store)) (now (args .out)) (now (args .bytes)) (sym (framed .is-misframed-call .ensures) ∙ c .if1 .taken)
+    turn-misframed checks (now (args .keys)) (args .r) (now (args .store)) (now (args .out)) (now (args .bytes)) (sym (framed .is-misframed-call .ensures) ∙ tested .if1 .taken)
+    (c .line-for .result) (c .line-for .ensures)
 
 byte-at-requires : tie.Need-byte-at-requires
 byte-at-requires c κs = search needs
@@ -39,6 +44,9 @@ part-step-end c = search needs
 step-requires : tie.Need-step-requires
 step-requires c κs = search needs
 
+goes-on-requires : tie.Need-goes-on-requires
+goes-on-requires c κs = search needs
+
 same-length : tie.Need-same-length
 same-length c = search needs
 
@@ -47,15 +55,15 @@ same-length-2 c = search needs
 
 returns-2 : tie.Need-returns-2
 returns-2 c =
-    let tested = c .before .before .before .before .before .before .before .before .before .before in
+    let called = c .before .before .before .before .before in
+    let branched = called .before .before .before .before in
+    let read = branched .before in
+    let tested = read .before in
     let framed = tested .before in
-    let start = framed .before .before .before .before .before in
-    let args = start .args in
+    let args = framed .before .before .before .before .before .args in
     let m = sym (framed .is-misframed-call .ensures) ∙ tested .if1 .left in
-    let read = c .before .before .before .before .before .before .before .before .before in
-    let called = c .before .before .before .before in
     turn-message checks (now (args .keys)) (args .r) (now (args .store)) (now (args .out)) (now (args .bytes)) m (read .byte-at .result) (read .byte-at .ensures .0)
-    (called .step .result) (called .step .last .1 .1 .0) (called .step .last .1 .1 .1 .1 .0) (c .before .before .before .before .before .before .before .before .if2 .taken) _ refl
+    (called .step .result) (c .goes-on .result) (c .goes-on .ensures) (called .step .last .1 .1 .0) (called .step .last .1 .1 .1 .1 .0) (branched .if2 .taken) _ refl
     (called .step .ensures .0) (called .step .ensures .1 .0) (called .step .ensures .1 .1)
 
 sub-submit : tie.Need-sub-submit
@@ -87,6 +95,9 @@ part-submit-end-2 c = search needs
 submit-requires : tie.Need-submit-requires
 submit-requires c κs = search needs
 
+goes-on-requires-2 : tie.Need-goes-on-requires-2
+goes-on-requires-2 c κs = search needs
+
 same-length-3 : tie.Need-same-length-3
 same-length-3 c = search needs
 
@@ -95,15 +106,15 @@ same-length-4 c = search needs
 
 returns-3 : tie.Need-returns-3
 returns-3 c =
-    let tested = c .before .before .before .before .before .before .before .before .before .before .before in
+    let called = c .before .before .before .before .before in
+    let branched = called .before .before .before .before .before in
+    let read = branched .before in
+    let tested = read .before in
     let framed = tested .before in
-    let start = framed .before .before .before .before .before in
-    let args = start .args in
+    let args = framed .before .before .before .before .before .args in
     let m = sym (framed .is-misframed-call .ensures) ∙ tested .if1 .left in
-    let read = c .before .before .before .before .before .before .before .before .before .before in
-    let called = c .before .before .before .before in
     turn-submit checks (now (args .keys)) (args .r) (now (args .store)) (now (args .out)) (now (args .bytes)) m (read .byte-at .result) (read .byte-at .ensures .0)
-    (called .submit .result) (called .submit .last .1 .1 .0) (called .submit .last .1 .1 .1 .1 .1 .0) (c .before .before .before .before .before .before .before .before .before .if2 .left) _ _ refl refl
+    (called .submit .result) (c .goes-on2 .result) (c .goes-on2 .ensures) (called .submit .last .1 .1 .0) (called .submit .last .1 .1 .1 .1 .1 .0) (branched .if2 .left) _ _ refl refl
     (called .submit .ensures .0) (called .submit .ensures .1 .0) (called .submit .ensures .1 .1)
 
 pub take-turn-spec : {M : Type 1} → statement M
@@ -111,12 +122,14 @@ take-turn-spec =
     tie.close
     (tie.spec
     is-misframed-call-requires
+    line-for-requires
     returns
     byte-at-requires
     sub-step
     part-step-start
     part-step-end
     step-requires
+    goes-on-requires
     same-length
     same-length-2
     returns-2
@@ -127,6 +140,7 @@ take-turn-spec =
     part-submit-start-2
     part-submit-end-2
     submit-requires
+    goes-on-requires-2
     same-length-3
     same-length-4
     returns-3)

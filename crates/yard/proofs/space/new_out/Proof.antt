@@ -2,7 +2,7 @@
 use mathlib.Core.Path.{refl}
 use Rattle.quorum.specs.Quorum.{t0, k}
 use Rattle.protocol.specs.Layout.{outLength}
-use Rattle.yard.specs.Yard.{yardOut}
+use Rattle.yard.specs.Commands.{yardOut}
 use Rattle.yard.proofs.space.new_out.Statement.{statement}
 use Rattle.yard.proofs.space.new_out.Tie as tie
 

@@ -1,7 +1,7 @@
 -- `yard::space::new_store` meets its contract.
 use mathlib.Core.Path.{refl}
 use Rattle.protocol.specs.Layout.{storeLength}
-use Rattle.yard.specs.Yard.{yardStore}
+use Rattle.yard.specs.Commands.{yardStore}
 use Rattle.yard.proofs.space.new_store.Statement.{statement}
 use Rattle.yard.proofs.space.new_store.Tie as tie
 

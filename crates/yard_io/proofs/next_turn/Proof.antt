@@ -1,18 +1,12 @@
--- `yard_io::turn` meets its contract.
+-- `yard_io::next_turn` meets its contract.
 use native.Mathlib.Omega.{arith}
 use lib.ListN.{length-take}
 use borrow.Author.Needs.{needs}
-use Rattle.yard_io.proofs.turn.Statement.{statement}
-use Rattle.yard_io.proofs.turn.Tie as tie
+use Rattle.yard_io.proofs.next_turn.Statement.{statement}
+use Rattle.yard_io.proofs.next_turn.Tie as tie
 
 read-command-requires : tie.Need-read-command-requires
 read-command-requires c κs = search needs
-
-same-length : tie.Need-same-length
-same-length c = search needs
-
-returns : tie.Need-returns
-returns c = search needs
 
 slice-reshare-prefix-take-turn : tie.Need-slice-reshare-prefix-take-turn
 slice-reshare-prefix-take-turn c = search needs
@@ -23,8 +17,8 @@ slice-aggregate-take-turn c = simp length-take (omega arith)
 take-turn-requires : tie.Need-take-turn-requires
 take-turn-requires c κs = search needs
 
-print-line-requires : tie.Need-print-line-requires
-print-line-requires c κs = search needs
+same-length : tie.Need-same-length
+same-length c = search needs
 
 same-length-2 : tie.Need-same-length-2
 same-length-2 c = search needs
@@ -32,24 +26,18 @@ same-length-2 c = search needs
 same-length-3 : tie.Need-same-length-3
 same-length-3 c = search needs
 
-same-length-4 : tie.Need-same-length-4
-same-length-4 c = search needs
+returns : tie.Need-returns
+returns c = search needs
 
-returns-2 : tie.Need-returns-2
-returns-2 c = search needs
-
-pub turn-spec : {M : Type 1} → statement M
-turn-spec =
+pub next-turn-spec : {M : Type 1} → statement M
+next-turn-spec =
     tie.close
     (tie.spec
     read-command-requires
-    same-length
-    returns
     slice-reshare-prefix-take-turn
     slice-aggregate-take-turn
     take-turn-requires
-    print-line-requires
+    same-length
     same-length-2
     same-length-3
-    same-length-4
-    returns-2)
+    returns)

@@ -1,0 +1,21 @@
+-- `yard::commands::begin` meets its contract.
+use denote.Ref.{now}
+use borrow.Author.Needs.{needs}
+use Rattle.yard.specs.TurnLaws.{begun-told}
+use Rattle.yard.proofs.commands.begin.Statement.{statement}
+use Rattle.yard.proofs.commands.begin.Tie as tie
+
+open-requires : tie.Need-open-requires
+open-requires c κs = search needs
+
+line-for-requires : tie.Need-line-for-requires
+line-for-requires c κs = search needs
+
+returns : tie.Need-returns
+returns c =
+    let lined = c .before .before in
+    let opened = lined .before in
+    (begun-told (now (opened .before .before .args .bytes)) (opened .«open» .result) (lined .line-for .result) (opened .«open» .ensures) (lined .line-for .ensures .0), lined .line-for .ensures .1)
+
+pub begin-spec : {M : Type 1} → statement M
+begin-spec = tie.close (tie.spec open-requires line-for-requires returns)

@@ -1,0 +1,15 @@
+-- `yard::commands::goes_on` meets its contract.
+use borrow.Author.Needs.{needs}
+use Rattle.yard.specs.Commands.{toldCall}
+use Rattle.yard.proofs.commands.goes_on.Statement.{statement}
+use Rattle.yard.proofs.commands.goes_on.Tie as tie
+
+line-of-requires : tie.Need-line-of-requires
+line-of-requires c κs = search needs
+
+returns : tie.Need-returns
+unfolding toldCall
+returns c = (rw (c .before .line-of .ensures .0), c .before .line-of .ensures .1)
+
+pub goes-on-spec : {M : Type 1} → statement M
+goes-on-spec = tie.close (tie.spec line-of-requires returns)

@@ -1,0 +1,35 @@
+-- `yard_io::first_turn` meets its contract.
+use native.Mathlib.Omega.{arith}
+use lib.ListN.{length-take}
+use borrow.Author.Needs.{needs}
+use Rattle.yard_io.proofs.first_turn.Statement.{statement}
+use Rattle.yard_io.proofs.first_turn.Tie as tie
+
+read-command-requires : tie.Need-read-command-requires
+read-command-requires c κs = search needs
+
+slice-reshare-prefix-begin : tie.Need-slice-reshare-prefix-begin
+slice-reshare-prefix-begin c = search needs
+
+slice-aggregate-begin : tie.Need-slice-aggregate-begin
+slice-aggregate-begin c = simp length-take (omega arith)
+
+begin-requires : tie.Need-begin-requires
+begin-requires c κs = search needs
+
+same-length : tie.Need-same-length
+same-length c = search needs
+
+returns : tie.Need-returns
+returns c = search needs
+
+pub first-turn-spec : {M : Type 1} → statement M
+first-turn-spec =
+    tie.close
+    (tie.spec
+    read-command-requires
+    slice-reshare-prefix-begin
+    slice-aggregate-begin
+    begin-requires
+    same-length
+    returns)

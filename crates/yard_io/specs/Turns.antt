@@ -1,0 +1,73 @@
+-- What the program makes of the commands that it reads.
+-- Assumes nothing.
+use mathlib.Core.Path.{_≡_}
+use mathlib.Core.Bool.{Bool, true, false}
+use mathlib.Core.List.{List, []}
+use Prim.Native.Nat.{ℕ}
+use lib.ListN.{length, take}
+use Rattle.protocol.specs.Signatures.{checks}
+use Rattle.protocol.specs.Calls.{outAfter}
+use Rattle.protocol.specs.declared.Record.{Record}
+use Rattle.yard.specs.Line.{Fits}
+use Rattle.yard.specs.Commands.{told, keysOf, yardStore, yardOut, begun, turn}
+use Rattle.yard.specs.Course.{Reached, begins, follows, Ran, stops, goes}
+use Rattle.yard_io.specs.Reading.{Command}
+use Rattle.yard_io.specs.declared.Taken.{Taken}
+
+-- the first command, read into a buffer and done
+pub record First (t : Taken) (input : List ℕ) : Type 0 where
+  pub command : Command true (t .have) input
+  pub answer : t .turn ≡ told (begun (take (t .have) input))
+  pub fits : Fits (t .turn .line)
+
+-- a later one: key table, record, store and out before; the buffers after
+pub record Later (keys : List ℕ) (r : Record) (store out : List ℕ) (t : Taken) (input store′ out′ : List ℕ) : Type 0 where
+  pub command : Command false (t .have) input
+  pub answer : t .turn ≡ told (turn checks keys r store out (take (t .have) input))
+  pub fits : Fits (t .turn .line)
+  pub stored : store′ ≡ turn checks keys r store out (take (t .have) input) .store
+  pub written : out′ ≡ outAfter (turn checks keys r store out (take (t .have) input) .written) out
+
+-- ---- one after another: what was read and printed is some input and its lines
+
+-- so many commands after the first, of which the last ends the program or not: record, store and out before and after
+pub record Turns (ends : Bool) (keys : List ℕ) (r : Record) (store out : List ℕ) (last : Record) (store′ out′ : List ℕ) : Type 0 where
+  pub input : List ℕ
+  pub lines : List ℕ
+  pub reached : Reached checks keys r store out input lines ends last store′ out′
+
+-- all of them
+pub record AfterCalls (keys : List ℕ) (r : Record) (store out : List ℕ) (last : Record) (store′ out′ : List ℕ) : Type 0 where
+  pub ends : Bool
+  pub turns : Turns ends keys r store out last store′ out′
+
+-- the whole program, which leaves its last record
+pub record AfterRun (last : Record) : Type 0 where
+  pub input : List ℕ
+  pub lines : List ℕ
+  pub ends : Bool
+  pub ran : Ran checks input lines ends last
+
+-- ---- laws
+
+pub turns-none : {keys store out : List ℕ} {r : Record} → Turns false keys r store out r store out
+turns-none = record { input = []; lines = []; reached = begins }
+
+pub turns-more : {keys store₀ out₀ store out input store′ out′ : List ℕ} {r₀ r : Record} {t : Taken}
+    → Turns false keys r₀ store₀ out₀ r store out → length out ≡ length out₀ → Later keys r store out t input store′ out′
+    → Turns (t .turn .ends) keys r₀ store₀ out₀ (t .turn .unit) store′ out′
+unfolding told
+turns-more {input = input} {t = t} h e l =
+    rw (l .answer, l .stored, l .written) (record { input = _; lines = _; reached = follows (h .reached) e (take (t .have) input) (l .command .alone) })
+
+module _ {t : Taken} {input : List ℕ} (f : First t input) where
+  pub first-stops : t .turn .ends ≡ true → AfterRun (t .turn .unit)
+  unfolding told
+  first-stops h =
+      rw (f .answer) (record { input = _; lines = _; ends = _; ran = stops (take (t .have) input) (f .command .alone) (rw (f .answer) at h) })
+
+  pub first-goes : {keys store out store′ out′ : List ℕ} {last : Record} → t .turn .ends ≡ false → keys ≡ keysOf (take (t .have) input) → store ≡ yardStore → out ≡ yardOut
+      → AfterCalls keys (t .turn .unit) store out last store′ out′ → AfterRun last
+  unfolding told begun
+  first-goes h k s o c =
+      record { input = _; lines = _; ends = _; ran = goes (take (t .have) input) (f .command .alone) (rw (f .answer) at h) (rw (k, s, o, f .answer) at (c .turns .reached)) }
