@@ -26,13 +26,13 @@ answered number written unit = record { number = number; written = written; unit
 
 -- a call leaves what its definition says: the answer, the store, and out after what it was
 abbrev pub Leaves : Result → Stepped → List ℕ → List ℕ → List ℕ → Type 0
-Leaves result a store out out′ = (a ≡ answer result) × ((store ≡ result .store) × (out′ ≡ outAfter (result .written) out))
+Leaves result a store out out′ = (a ≡ answer result) × (store ≡ result .store) × (out′ ≡ outAfter (result .written) out)
 
 -- "A refusal returns its number and 0 bytes written; record, store, tree and out keep every byte."
 keeps : (number : ℕ) (s : State) (r : Record) (store out : List ℕ) → (number ≡ 0 → ⊥) → Leaves (resultBy number s r store) (answered number 0 r) store out out
 unfolding resultBy unrefused answer outAfter patch
 keeps zero s r store out h = absurd (h refl)
-keeps (suc n) s r store out h = (refl, (refl, sym (take-append-drop 0 out)))
+keeps (suc n) s r store out h = (refl, refl, sym (take-append-drop 0 out))
 
 -- the part of out that the phases are lent
 module _ (keys : List ℕ) (r : Record) (store out : List ℕ) (room : ℕ) (stated : room ≡ outLength (r .n)) (g : Given keys r store out) where
@@ -72,7 +72,7 @@ module _ (f : State → State) (r : Record) (store out : List ℕ) (room : ℕ) 
   unfolding resultBy unrefused answer
   leaves =
       let ends : end ≡ length bytes = did .wrote .ends ∙ zero-add (length bytes) in
-      (rw (ends, did .kept .recorded), (did .kept .stored, joined))
+      (rw (ends, did .kept .recorded), did .kept .stored, joined)
 
 -- the bytes written are counted by 32 bits
 pub end-small : (f : State → State) (keys : List ℕ) (r : Record) (store out : List ℕ) (room : ℕ) → room ≡ outLength (r .n) → Given keys r store out

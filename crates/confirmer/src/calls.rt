@@ -39,7 +39,7 @@ fn done(p: Phase) -> Stepped
     }
 }
 
-// Submit.
+// "Submit: the own signature is checked like any other, the value kept, the signature collected, SUBMIT written."
 pub fn submit(
     r: Record,
     keys: &[u8],
@@ -48,9 +48,12 @@ pub fn submit(
     signature: &[u8],
     out: &mut [u8],
 ) -> Stepped
-    ensures answer { λ a. ⌜ a ≡ calls.answer (calls.submit (checks (now (keys .entry)) (r .round)) (now (keys .entry)) r (now (store .entry)) (now (value .entry)) (now (signature .entry)) (now (out .entry))) ⌝ }
-    ensures store { λ _. ⌜ now (store .exit) ≡ calls.submit (checks (now (keys .entry)) (r .round)) (now (keys .entry)) r (now (store .entry)) (now (value .entry)) (now (signature .entry)) (now (out .entry)) .store ⌝ }
-    ensures out { λ _. ⌜ now (out .exit) ≡ calls.outAfter (calls.submit (checks (now (keys .entry)) (r .round)) (now (keys .entry)) r (now (store .entry)) (now (value .entry)) (now (signature .entry)) (now (out .entry)) .written) (now (out .entry)) ⌝ }
+    ensures { λ a.
+        let result = calls.submit (checks (now (keys .entry)) (r .round)) (now (keys .entry)) r
+        (now (store .entry)) (now (value .entry)) (now (signature .entry)) (now (out .entry)) in
+        ⌜ (a ≡ calls.answer result)
+        × (now (store .exit) ≡ result .store)
+        × (now (out .exit) ≡ calls.outAfter (result .written) (now (out .entry))) ⌝ }
 {
     let given = record_refusal(r, keys, store, out);
     if given != 0 {
@@ -65,11 +68,14 @@ pub fn submit(
     done(p)
 }
 
-// A step.
+// A step: a SUBMIT, NOTICE or FULL heard.
 pub fn step(r: Record, keys: &[u8], store: &mut [u8], message: &[u8], out: &mut [u8]) -> Stepped
-    ensures answer { λ a. ⌜ a ≡ calls.answer (calls.step (checks (now (keys .entry)) (r .round)) (now (keys .entry)) r (now (store .entry)) (now (message .entry)) (now (out .entry))) ⌝ }
-    ensures store { λ _. ⌜ now (store .exit) ≡ calls.step (checks (now (keys .entry)) (r .round)) (now (keys .entry)) r (now (store .entry)) (now (message .entry)) (now (out .entry)) .store ⌝ }
-    ensures out { λ _. ⌜ now (out .exit) ≡ calls.outAfter (calls.step (checks (now (keys .entry)) (r .round)) (now (keys .entry)) r (now (store .entry)) (now (message .entry)) (now (out .entry)) .written) (now (out .entry)) ⌝ }
+    ensures { λ a.
+        let result = calls.step (checks (now (keys .entry)) (r .round)) (now (keys .entry)) r
+        (now (store .entry)) (now (message .entry)) (now (out .entry)) in
+        ⌜ (a ≡ calls.answer result)
+        × (now (store .exit) ≡ result .store)
+        × (now (out .exit) ≡ calls.outAfter (result .written) (now (out .entry))) ⌝ }
 {
     let given = record_refusal(r, keys, store, out);
     if given != 0 {

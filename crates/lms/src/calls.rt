@@ -41,10 +41,12 @@ fn make_key_refusal(seed: &[u8], identifier: &[u8], tree: &[u8], out: &[u8]) -> 
 
 // Makes a key of types 6 and 4: fills the tree, and writes the public key.
 pub fn make_key(seed: &[u8], identifier: &[u8], tree: &mut [u8], out: &mut [u8]) -> Written
-    ensures number { λ r. ⌜ r .number ≡ makeKey (now (seed .entry)) (now (identifier .entry)) (now (tree .entry)) (now (out .entry)) .refusal ⌝ }
-    ensures written { λ r. ⌜ r .written ≡ length (makeKey (now (seed .entry)) (now (identifier .entry)) (now (tree .entry)) (now (out .entry)) .written) ⌝ }
-    ensures tree { λ _. ⌜ now (tree .exit) ≡ makeKey (now (seed .entry)) (now (identifier .entry)) (now (tree .entry)) (now (out .entry)) .tree ⌝ }
-    ensures out { λ _. ⌜ now (out .exit) ≡ patch 0 (makeKey (now (seed .entry)) (now (identifier .entry)) (now (tree .entry)) (now (out .entry)) .written) (now (out .entry)) ⌝ }
+    ensures { λ r.
+        let result = makeKey (now (seed .entry)) (now (identifier .entry)) (now (tree .entry)) (now (out .entry)) in
+        ⌜ (r .number ≡ result .refusal)
+        × (r .written ≡ length (result .written))
+        × (now (tree .exit) ≡ result .tree)
+        × (now (out .exit) ≡ patch 0 (result .written) (now (out .entry))) ⌝ }
 {
     let n = make_key_refusal(seed, identifier, tree, out);
     if n != 0 {
@@ -106,9 +108,12 @@ pub fn sign(
     message: &[u8],
     out: &mut [u8],
 ) -> Written
-    ensures number { λ r. ⌜ r .number ≡ signatures.sign leaf (now (message .entry)) (now (seed .entry)) (now (identifier .entry)) (now (randomizer .entry)) (now (tree .entry)) (now (out .entry)) .refusal ⌝ }
-    ensures written { λ r. ⌜ r .written ≡ length (signatures.sign leaf (now (message .entry)) (now (seed .entry)) (now (identifier .entry)) (now (randomizer .entry)) (now (tree .entry)) (now (out .entry)) .written) ⌝ }
-    ensures out { λ _. ⌜ now (out .exit) ≡ patch 0 (signatures.sign leaf (now (message .entry)) (now (seed .entry)) (now (identifier .entry)) (now (randomizer .entry)) (now (tree .entry)) (now (out .entry)) .written) (now (out .entry)) ⌝ }
+    ensures { λ r.
+        let result = signatures.sign leaf (now (message .entry))
+        (now (seed .entry)) (now (identifier .entry)) (now (randomizer .entry)) (now (tree .entry)) (now (out .entry)) in
+        ⌜ (r .number ≡ result .refusal)
+        × (r .written ≡ length (result .written))
+        × (now (out .exit) ≡ patch 0 (result .written) (now (out .entry))) ⌝ }
 {
     let n = sign_refusal(leaf, seed, identifier, randomizer, tree, message, out);
     if n != 0 {

@@ -140,8 +140,10 @@ pub extern "C" fn probe_lower_certificate<'a>(
     second: &'a [u8],
     out: &mut [u8],
 ) -> u32
-    ensures { λ r. ⌜ r ≡ copyRefusal (lowerCertificate (checks (now (keys .entry)) round) n round (now (keys .entry)) (now (first .entry)) (now (second .entry))) (now (out .entry)) ⌝ }
-    ensures { λ _. ⌜ now (out .exit) ≡ patch 0 (copyWritten (lowerCertificate (checks (now (keys .entry)) round) n round (now (keys .entry)) (now (first .entry)) (now (second .entry))) (now (out .entry))) (now (out .entry)) ⌝ }
+    ensures { λ r.
+        let lower = lowerCertificate (checks (now (keys .entry)) round) n round (now (keys .entry)) (now (first .entry)) (now (second .entry)) in
+        ⌜ (r ≡ copyRefusal lower (now (out .entry)))
+        × (now (out .exit) ≡ patch 0 (copyWritten lower (now (out .entry))) (now (out .entry))) ⌝ }
 {
     let lower = evidence::lower_certificate(n, round, keys, first, second);
     if out.len() < lower.len() {

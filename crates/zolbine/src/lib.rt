@@ -11,6 +11,7 @@ use protocol::Opened;
 use protocol::Record;
 use protocol::Stepped;
 
+// The stand-alone check of a signature: 0, or what is turned back.
 #[no_mangle]
 pub extern "C" fn zolbine_check_signature(key: &[u8], message: &[u8], signature: &[u8]) -> u32
     ensures { λ r. ⌜ r ≡ checkSignature (now (key .entry)) (now (message .entry)) (now (signature .entry)) ⌝ }
@@ -18,6 +19,7 @@ pub extern "C" fn zolbine_check_signature(key: &[u8], message: &[u8], signature:
     lms::calls::check_signature(key, message, signature)
 }
 
+// The key maker: fills the tree and writes the public key.
 #[no_mangle]
 pub extern "C" fn zolbine_make_key(
     seed: &[u8],
@@ -25,14 +27,17 @@ pub extern "C" fn zolbine_make_key(
     tree: &mut [u8],
     out: &mut [u8],
 ) -> Written
-    ensures number { λ r. ⌜ r .number ≡ makeKey (now (seed .entry)) (now (identifier .entry)) (now (tree .entry)) (now (out .entry)) .refusal ⌝ }
-    ensures written { λ r. ⌜ r .written ≡ length (makeKey (now (seed .entry)) (now (identifier .entry)) (now (tree .entry)) (now (out .entry)) .written) ⌝ }
-    ensures tree { λ _. ⌜ now (tree .exit) ≡ makeKey (now (seed .entry)) (now (identifier .entry)) (now (tree .entry)) (now (out .entry)) .tree ⌝ }
-    ensures out { λ _. ⌜ now (out .exit) ≡ patch 0 (makeKey (now (seed .entry)) (now (identifier .entry)) (now (tree .entry)) (now (out .entry)) .written) (now (out .entry)) ⌝ }
+    ensures { λ r.
+        let result = makeKey (now (seed .entry)) (now (identifier .entry)) (now (tree .entry)) (now (out .entry)) in
+        ⌜ (r .number ≡ result .refusal)
+        × (r .written ≡ length (result .written))
+        × (now (tree .exit) ≡ result .tree)
+        × (now (out .exit) ≡ patch 0 (result .written) (now (out .entry))) ⌝ }
 {
     lms::calls::make_key(seed, identifier, tree, out)
 }
 
+// The signer: writes the signature of a message with a leaf of the tree.
 #[no_mangle]
 pub extern "C" fn zolbine_sign(
     leaf: u32,
@@ -43,13 +48,17 @@ pub extern "C" fn zolbine_sign(
     message: &[u8],
     out: &mut [u8],
 ) -> Written
-    ensures number { λ r. ⌜ r .number ≡ sign leaf (now (message .entry)) (now (seed .entry)) (now (identifier .entry)) (now (randomizer .entry)) (now (tree .entry)) (now (out .entry)) .refusal ⌝ }
-    ensures written { λ r. ⌜ r .written ≡ length (sign leaf (now (message .entry)) (now (seed .entry)) (now (identifier .entry)) (now (randomizer .entry)) (now (tree .entry)) (now (out .entry)) .written) ⌝ }
-    ensures out { λ _. ⌜ now (out .exit) ≡ patch 0 (sign leaf (now (message .entry)) (now (seed .entry)) (now (identifier .entry)) (now (randomizer .entry)) (now (tree .entry)) (now (out .entry)) .written) (now (out .entry)) ⌝ }
+    ensures { λ r.
+        let result = sign leaf (now (message .entry))
+        (now (seed .entry)) (now (identifier .entry)) (now (randomizer .entry)) (now (tree .entry)) (now (out .entry)) in
+        ⌜ (r .number ≡ result .refusal)
+        × (r .written ≡ length (result .written))
+        × (now (out .exit) ≡ patch 0 (result .written) (now (out .entry))) ⌝ }
 {
     lms::calls::sign(leaf, seed, identifier, randomizer, tree, message, out)
 }
 
+// "The evidence check answers the mask of the seats named, 0 with a refusal."
 #[no_mangle]
 pub extern "C" fn zolbine_check_evidence(
     n: u32,
@@ -62,6 +71,7 @@ pub extern "C" fn zolbine_check_evidence(
     evidence::check_evidence(n, round, keys, evidence)
 }
 
+// "Evidence can be made from two certificates in hand, given in either order, by the same rules."
 #[no_mangle]
 pub extern "C" fn zolbine_make_evidence(
     n: u32,
@@ -71,12 +81,17 @@ pub extern "C" fn zolbine_make_evidence(
     second: &[u8],
     out: &mut [u8],
 ) -> Made
-    ensures answer { λ r. ⌜ r ≡ calls.made (calls.making (checks (now (keys .entry)) round) n round (now (keys .entry)) (now (first .entry)) (now (second .entry)) (now (out .entry))) ⌝ }
-    ensures out { λ _. ⌜ now (out .exit) ≡ calls.outAfter (calls.making (checks (now (keys .entry)) round) n round (now (keys .entry)) (now (first .entry)) (now (second .entry)) (now (out .entry)) .written) (now (out .entry)) ⌝ }
+    ensures { λ r.
+        let result = calls.making (checks (now (keys .entry)) round) n round (now (keys .entry))
+        (now (first .entry)) (now (second .entry)) (now (out .entry)) in
+        ⌜ (r ≡ calls.made result)
+        × (now (out .exit) ≡ calls.outAfter (result .written) (now (out .entry))) ⌝ }
 {
     evidence::make_evidence(n, round, keys, first, second, out)
 }
 
+// "Opening takes n, seat, round and key table and gives the record with nothing else set; a refused opening gives a record of
+// zeros."
 #[no_mangle]
 pub extern "C" fn zolbine_open(n: u32, seat: u32, round: u32, keys: &[u8]) -> Opened
     ensures { λ r. ⌜ r ≡ calls.opening n seat round (now (keys .entry)) ⌝ }
@@ -84,6 +99,7 @@ pub extern "C" fn zolbine_open(n: u32, seat: u32, round: u32, keys: &[u8]) -> Op
     confirmer::opening::open(n, seat, round, keys)
 }
 
+// "Submit: the own signature is checked like any other, the value kept, the signature collected, SUBMIT written."
 #[no_mangle]
 pub extern "C" fn zolbine_submit(
     unit: Record,
@@ -93,13 +109,17 @@ pub extern "C" fn zolbine_submit(
     signature: &[u8],
     out: &mut [u8],
 ) -> Stepped
-    ensures answer { λ r. ⌜ r ≡ calls.answer (calls.submit (checks (now (keys .entry)) (unit .round)) (now (keys .entry)) unit (now (store .entry)) (now (value .entry)) (now (signature .entry)) (now (out .entry))) ⌝ }
-    ensures store { λ _. ⌜ now (store .exit) ≡ calls.submit (checks (now (keys .entry)) (unit .round)) (now (keys .entry)) unit (now (store .entry)) (now (value .entry)) (now (signature .entry)) (now (out .entry)) .store ⌝ }
-    ensures out { λ _. ⌜ now (out .exit) ≡ calls.outAfter (calls.submit (checks (now (keys .entry)) (unit .round)) (now (keys .entry)) unit (now (store .entry)) (now (value .entry)) (now (signature .entry)) (now (out .entry)) .written) (now (out .entry)) ⌝ }
+    ensures { λ r.
+        let result = calls.submit (checks (now (keys .entry)) (unit .round)) (now (keys .entry)) unit
+        (now (store .entry)) (now (value .entry)) (now (signature .entry)) (now (out .entry)) in
+        ⌜ (r ≡ calls.answer result)
+        × (now (store .exit) ≡ result .store)
+        × (now (out .exit) ≡ calls.outAfter (result .written) (now (out .entry))) ⌝ }
 {
     confirmer::calls::submit(unit, keys, store, value, signature, out)
 }
 
+// A step, by value: a SUBMIT, NOTICE or FULL heard.
 #[no_mangle]
 pub extern "C" fn zolbine_step(
     unit: Record,
@@ -108,9 +128,12 @@ pub extern "C" fn zolbine_step(
     message: &[u8],
     out: &mut [u8],
 ) -> Stepped
-    ensures answer { λ r. ⌜ r ≡ calls.answer (calls.step (checks (now (keys .entry)) (unit .round)) (now (keys .entry)) unit (now (store .entry)) (now (message .entry)) (now (out .entry))) ⌝ }
-    ensures store { λ _. ⌜ now (store .exit) ≡ calls.step (checks (now (keys .entry)) (unit .round)) (now (keys .entry)) unit (now (store .entry)) (now (message .entry)) (now (out .entry)) .store ⌝ }
-    ensures out { λ _. ⌜ now (out .exit) ≡ calls.outAfter (calls.step (checks (now (keys .entry)) (unit .round)) (now (keys .entry)) unit (now (store .entry)) (now (message .entry)) (now (out .entry)) .written) (now (out .entry)) ⌝ }
+    ensures { λ r.
+        let result = calls.step (checks (now (keys .entry)) (unit .round)) (now (keys .entry)) unit
+        (now (store .entry)) (now (message .entry)) (now (out .entry)) in
+        ⌜ (r ≡ calls.answer result)
+        × (now (store .exit) ≡ result .store)
+        × (now (out .exit) ≡ calls.outAfter (result .written) (now (out .entry))) ⌝ }
 {
     confirmer::calls::step(unit, keys, store, message, out)
 }
@@ -124,11 +147,14 @@ pub extern "C" fn zolbine_step_lent(
     message: &[u8],
     out: &mut [u8],
 ) -> Made
-    ensures number { λ r. ⌜ r .number ≡ calls.step (checks (now (keys .entry)) (now (unit .entry) .round)) (now (keys .entry)) (now (unit .entry)) (now (store .entry)) (now (message .entry)) (now (out .entry)) .refusal ⌝ }
-    ensures written { λ r. ⌜ r .written ≡ length (calls.step (checks (now (keys .entry)) (now (unit .entry) .round)) (now (keys .entry)) (now (unit .entry)) (now (store .entry)) (now (message .entry)) (now (out .entry)) .written) ⌝ }
-    ensures unit { λ _. ⌜ now (unit .exit) ≡ calls.step (checks (now (keys .entry)) (now (unit .entry) .round)) (now (keys .entry)) (now (unit .entry)) (now (store .entry)) (now (message .entry)) (now (out .entry)) .unit ⌝ }
-    ensures store { λ _. ⌜ now (store .exit) ≡ calls.step (checks (now (keys .entry)) (now (unit .entry) .round)) (now (keys .entry)) (now (unit .entry)) (now (store .entry)) (now (message .entry)) (now (out .entry)) .store ⌝ }
-    ensures out { λ _. ⌜ now (out .exit) ≡ calls.outAfter (calls.step (checks (now (keys .entry)) (now (unit .entry) .round)) (now (keys .entry)) (now (unit .entry)) (now (store .entry)) (now (message .entry)) (now (out .entry)) .written) (now (out .entry)) ⌝ }
+    ensures { λ r.
+        let result = calls.step (checks (now (keys .entry)) (now (unit .entry) .round)) (now (keys .entry))
+        (now (unit .entry)) (now (store .entry)) (now (message .entry)) (now (out .entry)) in
+        ⌜ (r .number ≡ result .refusal)
+        × (r .written ≡ length (result .written))
+        × (now (unit .exit) ≡ result .unit)
+        × (now (store .exit) ≡ result .store)
+        × (now (out .exit) ≡ calls.outAfter (result .written) (now (out .entry))) ⌝ }
 {
     let a = confirmer::calls::step(*unit, keys, store, message, out);
     *unit = a.unit;

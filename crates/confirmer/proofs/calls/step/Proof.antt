@@ -36,7 +36,7 @@ returns c =
     let m = read (args .r .n) bytes in
     let first = c .before .before .record-refusal in
     let left = refused-given keys (args .r) store out (messageConditions check (args .r) m) (stepped m) (step check keys (args .r) store bytes out) (step-is check keys (args .r) store bytes out) (first .result) (first .ensures) (c .before .if1 .taken) in
-    (c .turned-back .ensures ∙ left .0, left .1)
+    (c .turned-back .ensures ∙ left .0, left .1, left .2)
 
 classify-requires : tie.Need-classify-requires
 classify-requires c κs =
@@ -81,7 +81,7 @@ returns-2 c =
     let g = given keys (args .r) store out (first .result) (first .ensures) (c .before .before .before .before .if1 .left) in
     let later = c .before .before .message-refusal in
     let left = refused-rest keys (args .r) store out (messageConditions check (args .r) m) (stepped m) (step check keys (args .r) store bytes out) (step-is check keys (args .r) store bytes out) g (later .result) (later .ensures) (c .before .if2 .taken) in
-    (c .turned-back2 .ensures ∙ left .0, left .1)
+    (c .turned-back2 .ensures ∙ left .0, left .1, left .2)
 
 out-length-requires : tie.Need-out-length-requires
 out-length-requires c κs =
@@ -168,7 +168,7 @@ returns-3 c =
     let did = c .before .before .before .before .before .step-phase in
     let later = c .before .before .before .before .before .before .before .before .before .before .message-refusal in
     let left = does keys (args .r) store out (messageConditions check (args .r) m) (stepped m) (step check keys (args .r) store bytes out) (step-is check keys (args .r) store bytes out) g (later .result) (later .ensures) (c .before .before .before .before .before .before .before .before .before .if2 .left) (room .result) (room .ensures) (did .result .unit) (did .last .1 .0) (did .last .1 .1 .0) (did .result .at) (did .ensures) (did .kept .1 .1 .0) in
-    (c .done .ensures ∙ left .0, left .1)
+    (c .done .ensures ∙ left .0, left .1, left .2)
 
 pub step-spec : {M : Type 1} → statement M
 step-spec =

@@ -34,7 +34,7 @@ returns c =
     let signature = now (args .signature) in
     let first = c .before .before .record-refusal in
     let left = refused-given keys (args .r) store out (ownConditions check (args .r) value signature) (submitted value signature) (submit check keys (args .r) store value signature out) (submit-is check keys (args .r) store value signature out) (first .result) (first .ensures) (c .before .if1 .taken) in
-    (c .turned-back .ensures ∙ left .0, left .1)
+    (c .turned-back .ensures ∙ left .0, left .1, left .2)
 
 own-refusal-requires : tie.Need-own-refusal-requires
 own-refusal-requires c κs =
@@ -68,7 +68,7 @@ returns-2 c =
     let g = given keys (args .r) store out (first .result) (first .ensures) (c .before .before .before .if1 .left) in
     let later = c .before .before .own-refusal in
     let left = refused-rest keys (args .r) store out (ownConditions check (args .r) value signature) (submitted value signature) (submit check keys (args .r) store value signature out) (submit-is check keys (args .r) store value signature out) g (later .result) (later .ensures) (c .before .if2 .taken) in
-    (c .turned-back2 .ensures ∙ left .0, left .1)
+    (c .turned-back2 .ensures ∙ left .0, left .1, left .2)
 
 out-length-requires : tie.Need-out-length-requires
 out-length-requires c κs =
@@ -156,7 +156,7 @@ returns-3 c =
     let did = c .before .before .before .before .before .submit-phase in
     let later = c .before .before .before .before .before .before .before .before .before .before .own-refusal in
     let left = does keys (args .r) store out (ownConditions check (args .r) value signature) (submitted value signature) (submit check keys (args .r) store value signature out) (submit-is check keys (args .r) store value signature out) g (later .result) (later .ensures) (c .before .before .before .before .before .before .before .before .before .if2 .left) (room .result) (room .ensures) (did .result .unit) (did .last .1 .0) (did .last .1 .1 .0) (did .result .at) (did .ensures) (did .kept .1 .1 .0) in
-    (c .done .ensures ∙ left .0, left .1)
+    (c .done .ensures ∙ left .0, left .1, left .2)
 
 pub submit-spec : {M : Type 1} → statement M
 submit-spec =

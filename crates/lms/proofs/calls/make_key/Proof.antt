@@ -24,7 +24,7 @@ returns c =
     let args = c .before .before .before .before .before .before .before .before .args in
     rw
     (key-refused (now (args .seed)) (now (args .identifier)) (now (args .tree)) (now (args .out)) (c .before .make-key-refusal .result) (c .before .make-key-refusal .ensures) (c .if1 .taken))
-    (refl, (refl, (refl, sym (patch-nothing (now (args .out))))))
+    (refl, refl, refl, sym (patch-nothing (now (args .out))))
 
 make-requires : tie.Need-make-requires
 make-requires c κs =
@@ -44,7 +44,7 @@ returns-2 c =
     let args = c .before .before .before .before .before .before .before .before .before .before .before .before .before .before .before .args in
     let room = key-room (now (args .seed)) (now (args .identifier)) (now (args .tree)) (now (args .out)) (c .before .before .before .before .before .before .before .before .make-key-refusal .result) (c .before .before .before .before .before .before .before .before .make-key-refusal .ensures) (c .before .before .before .before .before .before .before .if1 .left) in
     rw (makeKey-unrefused (now (args .seed)) (now (args .identifier)) (now (args .tree)) (now (args .out)) (room .0) (room .1) (room .2) (room .3))
-    (refl, (sym (length-publicKey 6 4 (now (args .identifier)) (now (args .seed)) (room .1)), (c .before .before .before .before .make .ensures .0, c .before .before .before .before .make .ensures .1)))
+    (refl, sym (length-publicKey 6 4 (now (args .identifier)) (now (args .seed)) (room .1)), c .before .before .before .before .make .ensures .0, c .before .before .before .before .make .ensures .1)
 
 pub make-key-spec : {M : Type 1} → statement M
 make-key-spec =

@@ -21,7 +21,7 @@ returns c =
     let args = c .before .before .before .before .before .before .before .before .before .args in
     rw
     (signer-refused (args .leaf) (now (args .message)) (now (args .seed)) (now (args .identifier)) (now (args .randomizer)) (now (args .tree)) (now (args .out)) (c .before .sign-refusal .result) (c .before .sign-refusal .ensures) (c .if1 .taken))
-    (refl, (refl, sym (patch-nothing (now (args .out)))))
+    (refl, refl, sym (patch-nothing (now (args .out))))
 
 write-signature-requires : tie.Need-write-signature-requires
 unfolding signatureLength
@@ -40,7 +40,7 @@ returns-2 c =
     let room = signer-room (args .leaf) (now (args .message)) (now (args .seed)) (now (args .identifier)) (now (args .randomizer)) (now (args .tree)) (now (args .out)) (c .before .before .before .before .before .sign-refusal .result) (c .before .before .before .before .before .sign-refusal .ensures) (c .before .before .before .before .if1 .left) in
     rw
     (sign-unrefused (now (args .seed)) (now (args .identifier)) (now (args .tree)) (now (args .out)) (room .3) (room .4) (room .6) (args .leaf) (now (args .message)) (now (args .randomizer)) (room .0) (room .2) (room .5) (room .1))
-    (refl, (sym (length-lmsSignature-six-four (now (args .identifier)) (args .leaf) (now (args .seed)) (now (args .randomizer)) (now (args .message)) (now (args .tree)) (room .0) (room .5) (room .6)), c .before .before .write-signature .ensures))
+    (refl, sym (length-lmsSignature-six-four (now (args .identifier)) (args .leaf) (now (args .seed)) (now (args .randomizer)) (now (args .message)) (now (args .tree)) (room .0) (room .5) (room .6)), c .before .before .write-signature .ensures)
 
 pub sign-spec : {M : Type 1} → statement M
 sign-spec =

@@ -64,7 +64,7 @@ returns-2 c =
     let m = sym (framed .is-misframed-call .ensures) ∙ tested .if1 .left in
     turn-message checks (now (args .keys)) (args .r) (now (args .store)) (now (args .out)) (now (args .bytes)) m (read .byte-at .result) (read .byte-at .ensures .0)
     (called .step .result) (c .goes-on .result) (c .goes-on .ensures) (called .step .last .1 .1 .0) (called .step .last .1 .1 .1 .1 .0) (branched .if2 .taken) _ refl
-    (called .step .ensures .0) (called .step .ensures .1 .0) (called .step .ensures .1 .1)
+    (called .step .ensures .0) (called .step .ensures .1) (called .step .ensures .2)
 
 sub-submit : tie.Need-sub-submit
 sub-submit c = search needs
@@ -115,7 +115,7 @@ returns-3 c =
     let m = sym (framed .is-misframed-call .ensures) ∙ tested .if1 .left in
     turn-submit checks (now (args .keys)) (args .r) (now (args .store)) (now (args .out)) (now (args .bytes)) m (read .byte-at .result) (read .byte-at .ensures .0)
     (called .submit .result) (c .goes-on2 .result) (c .goes-on2 .ensures) (called .submit .last .1 .1 .0) (called .submit .last .1 .1 .1 .1 .1 .0) (branched .if2 .left) _ _ refl refl
-    (called .submit .ensures .0) (called .submit .ensures .1 .0) (called .submit .ensures .1 .1)
+    (called .submit .ensures .0) (called .submit .ensures .1) (called .submit .ensures .2)
 
 pub take-turn-spec : {M : Type 1} → statement M
 take-turn-spec =
