@@ -54,10 +54,6 @@ test e t x =
     let a = root e p 7 in
     leb ((a * 2 ^ 32 + x) ^ e) (p * (2 ^ 32) ^ e) && ltb (p * (2 ^ 32) ^ e) ((a * 2 ^ 32 + x + 1) ^ e) && ltb x (2 ^ 32)
 
-sixty-four : length primes ≡ 64
-unfolding primes primesBelow prime divided
-sixty-four = refl
-
 constants-pass : T (every (test 3) 0 constants)
 unfolding test constants
 constants-pass = tt
@@ -91,6 +87,13 @@ test-says e t x h =
       above = ltb→lt (p * (2 ^ 32) ^ e) ((y + 1) ^ e) (both-right first second low);
       bits = ltb→lt x (2 ^ 32) (both-right (first && second) third h);
     }
+
+-- ---- the rule holds
+
+-- "the first sixty-four prime numbers", found and not listed, and a constant for each; eight words of the initial hash value
+pub sixty-four : (length primes ≡ 64) × (length constants ≡ 64) × (length initial ≡ 8)
+unfolding primes primesBelow prime divided constants initial
+sixty-four = (refl, refl, refl)
 
 pub constants-rule : (t : ℕ) → t < length constants → FirstBits 3 (getD primes t 0) (getD constants t 0)
 constants-rule t h = test-says 3 t (getD constants t 0) (at (test 3) constants constants-pass t h)
