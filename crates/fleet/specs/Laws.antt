@@ -1,6 +1,6 @@
 -- The key table: a loop over its keys, and what a table that isn't refused says of each key.
 use mathlib.Core.Path.{_≡_, refl, sym, ap, _∙_}
-use mathlib.Core.Bool.{Bool, true, false, not, _&&_, _||_, and-false, false≢true}
+use mathlib.Core.Bool.{Bool, true, false, not, _||_, and-false, false≢true}
 use mathlib.Core.List.{List}
 use mathlib.Core.Logic.{⊎-elim}
 use Prim.Native.Nat.{ℕ, zero, suc, _+_, _*_, _≤_, _<_}
@@ -15,6 +15,7 @@ use Rattle.octets.specs.StringLaws.{part-part, number-part-four}
 use Rattle.protocol.specs.Signatures.{seatKey}
 use Rattle.rfc8554.specs.Verify.{lmsTypeOf, otsTypeOf}
 use Rattle.quorum.specs.Quorum.{mostSeats}
+use Rattle.refusal.specs.Lowest.{both-true}
 use Rattle.protocol.specs.Record.{wrongSize}
 use Rattle.protocol.specs.Refusals.{keyAllowed, keysAllowed, wrongKeys}
 
@@ -68,10 +69,6 @@ allowed-at seat n keys h e = go (keyAllowed seat keys) refl
     go true p = p
     go false p = absurd (false≢true (sym (not-allowed-later seat n keys h p) ∙ e))
 
-both : (a b : Bool) → (a && b) ≡ true → (a ≡ true) × (b ≡ true)
-both true b e = (refl, e)
-both false b e = absurd (false≢true e)
-
 neither : (a b : Bool) → (not a || not b) ≡ false → (a ≡ true) × (b ≡ true)
 neither true true e = (refl, refl)
 neither true false e = absurd (false≢true (sym e))
@@ -84,7 +81,7 @@ keys-say n keys e =
     let p = neither (eqb (length keys) (56 * n)) (keysAllowed n keys) e in (
       eqb-true (length keys) (56 * n) (p .0),
       λ seat h.
-          let q = both (eqb (wordAt keys (56 * seat)) 6) (eqb (wordAt keys (56 * seat + 4)) 4) (allowed-at seat n keys h (p .1)) in
+          let q = both-true (eqb (wordAt keys (56 * seat)) 6) (eqb (wordAt keys (56 * seat + 4)) 4) (allowed-at seat n keys h (p .1)) in
           (eqb-true (wordAt keys (56 * seat)) 6 (q .0), eqb-true (wordAt keys (56 * seat + 4)) 4 (q .1)),
     )
 

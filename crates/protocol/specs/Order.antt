@@ -3,10 +3,10 @@
 -- Assumes nothing.
 use Prim.Native.Nat.{ℕ}
 use mathlib.Core.Path.{_≡_, refl, ap, _∙_}
-use mathlib.Core.Bool.{Bool, true, false, _&&_, false≢true}
+use mathlib.Core.Bool.{true}
 use mathlib.Core.List.{List, [], _∷_, _++_, map}
 use Rattle.refusal.specs.Refusal.{lowest}
-use Rattle.refusal.specs.Lowest.{numbers, riseFrom, rise, Lowest, lowest-is, _before_, lowest-before}
+use Rattle.refusal.specs.Lowest.{numbers, riseFrom, rise, both-true, Lowest, lowest-is, _before_, lowest-before}
 use Rattle.protocol.specs.Layout.{outLength, evidenceOutLength}
 use Rattle.protocol.specs.Message.{Message, read}
 use Rattle.protocol.specs.Refusals.{Condition, Checks, every, SIZE, SEAT, ROUND, RECORD, KEYS, STORE, OUT, SAID, GARBLED, OTHER-ROUND, STRANGER, DISORDER, EARLY, SIGNATURE, NO-CONFLICT-IN, NO-CONFLICT-BETWEEN, KEY-MATERIAL, outsideConditions, recordConditions, formConditions, signatureConditions, certificateConditions, twoConditions, openingConditions, submitConditions, stepConditions, evidenceConditions, makingConditions, lowerConditions, checkConditions, makeKeyConditions, signConditions}
@@ -22,16 +22,12 @@ unfoldable pub EachFound : List (List Condition) → Type 0
 EachFound [] = Unit
 EachFound (conditions ∷ rest) = Found conditions × EachFound rest
 
-each-of : (conditions : List Condition) (rest : List (List Condition)) (b : Bool) → rise (numbers conditions) ≡ b → (b && every rise (map numbers rest)) ≡ true
-    → (every rise (map numbers rest) ≡ true → EachFound rest) → EachFound (conditions ∷ rest)
-unfolding EachFound
-each-of conditions rest true p e later = (lowest-is conditions p, later e)
-each-of conditions rest false p e later = absurd (false≢true e)
-
 each : (lists : List (List Condition)) → every rise (map numbers lists) ≡ true → EachFound lists
 unfolding every EachFound
 each [] e = tt
-each (conditions ∷ rest) e = each-of conditions rest (rise (numbers conditions)) refl e (each rest)
+each (conditions ∷ rest) e =
+    let p = both-true (rise (numbers conditions)) (every rise (map numbers rest)) e in
+    (lowest-is conditions (p .0), each rest (p .1))
 
 module _
     (n seat round leaf : ℕ) (keys store value signature out key message seed I C tree bytes first second : List ℕ) (checks : Checks)

@@ -1,22 +1,52 @@
--- What the signer makes, the check takes: for every seed, identifier, randomizer, leaf and message, and whatever the
--- tree's buffer held before.
+-- "Signatures are RFC 8554's: what the signer writes with one seed, identifier and the tree our key maker made of them is
+-- accepted, and nothing is accepted that the standard rejects."
 use mathlib.Core.Path.{_≡_, refl, sym, _∙_}
-use mathlib.Core.Bool.{true, false}
-use mathlib.Core.List.{List}
+use mathlib.Core.Logic.{_↔_}
+use mathlib.Core.Bool.{true, false, not}
+use mathlib.Core.List.{List, [], _∷_}
 use Prim.Native.Nat.{ℕ, _≤_}
 use native.Mathlib.Omega.{arith}
+use lib.Dec.{eqb}
 use lib.ListN.{length}
-use borrow.Author.Tests.{le-ltb, eq-eqb}
+use borrow.Author.Tests.{le-ltb, ltb-false, eq-eqb, eqb-true, not-false}
 use Rattle.refusal.specs.Refusal.{lowest}
+use Rattle.refusal.specs.Laws.{lowest-zero}
+use Rattle.refusal.specs.Lowest.{both-true}
 use Rattle.rfc8554.specs.Ots.{knownOts, width}
 use Rattle.rfc8554.specs.Tree.{knownLms, height, publicKey, treeFilled, lmsSignature}
-use Rattle.rfc8554.specs.Verify.{valid}
+use Rattle.rfc8554.specs.Verify.{leafOf, valid}
 use Rattle.protocol.specs.Layout.{messageLimit}
-use Rattle.protocol.specs.Refusals.{wrongKey, checkConditions}
+use Rattle.protocol.specs.Refusals.{wrongKey, tooLong, GARBLED-LONG, SIGNATURE-ALONE, checkConditions}
 use Rattle.protocol.specs.Signatures.{checkSignature, makeKey, sign, signedBytes, seatKey, checks}
 use Rattle.rfc8554.specs.TreeLaws.{length-treeFilled, part-treeFilled}
 use Rattle.rfc8554.specs.VerifyLaws.{leaf-lmsSignature, keyInvalid-publicKey, valid-lmsSignature}
-use Rattle.protocol.specs.SignatureLaws.{keyInvalid-wrongKey, length-signedBytes, makeKey-unrefused, sign-unrefused}
+use Rattle.protocol.specs.SignatureLaws.{keyInvalid-wrongKey, valid-key, length-signedBytes, makeKey-unrefused, sign-unrefused}
+
+-- ---- "nothing is accepted that the standard rejects"
+
+-- the stand-alone check answers 0 exactly where RFC 8554's verification says VALID, of messages that aren't too long
+pub accepted-exactly : (key message signature : List ℕ)
+    → (checkSignature key message signature ≡ 0) ↔ ((valid key message signature ≡ true) × (length message ≤ messageLimit))
+unfolding checkSignature checkConditions lowest
+accepted-exactly key message signature = (accepted, λ v. rw (valid-key key message signature (v .0), le-ltb messageLimit (length message) (v .1), v .0))
+  where
+    accepted : checkSignature key message signature ≡ 0 → (valid key message signature ≡ true) × (length message ≤ messageLimit)
+    accepted e =
+        let key-right = lowest-zero 4 (wrongKey key) (GARBLED-LONG message ∷ SIGNATURE-ALONE key message signature ∷ []) e in
+        let message-right = lowest-zero 8 (tooLong message) (SIGNATURE-ALONE key message signature ∷ []) (key-right .1) in
+        let signature-right = lowest-zero 13 (not (valid key message signature)) [] (message-right .1) in
+        (not-false (valid key message signature) (signature-right .0), ltb-false messageLimit (length message) (message-right .0))
+
+-- a seat's signature checks exactly where the verification says VALID under the seat's key for its 36 bytes, and the leaf is the round
+pub checks-exactly : (keys : List ℕ) (round seat : ℕ) (value signature : List ℕ)
+    → (checks keys round seat value signature ≡ true)
+    ↔ ((valid (seatKey keys seat) (signedBytes round seat value) signature ≡ true) × (leafOf signature ≡ round))
+unfolding checks
+checks-exactly keys round seat value signature =
+    (λ e. let both = both-true (valid (seatKey keys seat) (signedBytes round seat value) signature) (eqb (leafOf signature) round) e in (both .0, eqb-true (leafOf signature) round (both .1)), λ v. rw (v .0, eq-eqb (leafOf signature) round (v .1)))
+
+-- ---- "what the signer writes .. is accepted": for every seed, identifier, randomizer, leaf and message, and whatever the tree's
+-- buffer held before
 
 module _
     (seed I C : List ℕ) (seed-length : length seed ≡ 32) (I-length : length I ≡ 16) (C-length : length C ≡ 32)

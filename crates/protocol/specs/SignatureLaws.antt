@@ -1,7 +1,7 @@
 -- What follows from the definitions of the calls: what an accepted signature is like, and what a call leaves, refused
 -- or not.
-use mathlib.Core.Path.{_≡_, refl, _∙_}
-use mathlib.Core.Bool.{Bool, true, false, not, _||_, or-true, or-false}
+use mathlib.Core.Path.{_≡_, refl, sym, _∙_}
+use mathlib.Core.Bool.{Bool, true, false, not, _&&_, _||_, or-true, or-false, false≢true}
 use mathlib.Core.List.{List, []}
 use Prim.Native.Nat.{ℕ, suc, _+_, _^_, _≤_, _<_}
 use native.Mathlib.Omega.{arith}
@@ -12,7 +12,7 @@ use Rattle.octets.specs.Laws.{length-be, length-part}
 use Rattle.refusal.specs.Refusal.{lowest, unrefused}
 use Rattle.rfc8554.specs.Ots.{chains, otsLength, knownOts, width}
 use Rattle.rfc8554.specs.Tree.{knownLms, height, publicKey, treeFilled, path, lmsSignature}
-use Rattle.rfc8554.specs.Verify.{lmsTypeOf, otsTypeOf, leafOf, signatureLength as lengthOfTypes, keyInvalid}
+use Rattle.rfc8554.specs.Verify.{lmsTypeOf, otsTypeOf, leafOf, signatureLength as lengthOfTypes, keyInvalid, valid}
 use Rattle.protocol.specs.Layout.{signatureLength, treeLength, messageLimit}
 use Rattle.protocol.specs.Record.{wrongRound}
 use Rattle.protocol.specs.Refusals.{shortOut, wrongKey, checkConditions, makeKeyConditions, signConditions}
@@ -32,6 +32,15 @@ keyInvalid-wrongKey key = go (eqb (length key) 56) refl
         ≡ (not (eqb (length key) 56) || not (knownLms (lmsTypeOf key)) || not (knownOts (otsTypeOf key)))
     go true e = rw (e, eqb-true (length key) 56 e, or-false)
     go false e = rw (e, or-true)
+
+first-false : (a b c : Bool) → (not a && b && c) ≡ true → a ≡ false
+first-false true b c e = absurd (false≢true e)
+first-false false b c e = refl
+
+-- nothing is valid under a key that the check turns back
+pub valid-key : (key message signature : List ℕ) → valid key message signature ≡ true → wrongKey key ≡ false
+unfolding valid
+valid-key key message signature e = sym (keyInvalid-wrongKey key) ∙ first-false (keyInvalid key) _ _ e
 
 -- an accepted signature has exactly the length of its types, and its leaf stands in the tree
 pub accepted-fits : (key message signature : List ℕ) → checkSignature key message signature ≡ 0

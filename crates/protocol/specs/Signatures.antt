@@ -35,7 +35,7 @@ checkSignature key message signature = lowest (checkConditions key message signa
 
 -- ---- the key maker, for types 6 and 4: the public key is written, and the tree filled
 
-pub record Made : Type 0 where
+pub record MadeKey : Type 0 where
   pub refusal : ℕ
   pub written : List ℕ
   pub tree : List ℕ
@@ -44,14 +44,14 @@ unfoldable pub makeKeyRefusal : List ℕ → List ℕ → List ℕ → List ℕ 
 makeKeyRefusal seed I tree out = lowest (makeKeyConditions seed I tree out)
 
 -- seed, I, tree, out
-unfoldable pub makeKey : List ℕ → List ℕ → List ℕ → List ℕ → Made
+unfoldable pub makeKey : List ℕ → List ℕ → List ℕ → List ℕ → MadeKey
 makeKey seed I tree out =
     let n = makeKeyRefusal seed I tree out in
     record { refusal = n; written = unrefused n (publicKey 6 4 I seed) []; tree = unrefused n (treeFilled I seed tree) tree }
 
 -- ---- the signer, for types 6 and 4: the path is read from the tree as it is lent
 
-pub record Signed : Type 0 where
+pub record MadeSignature : Type 0 where
   pub refusal : ℕ
   pub written : List ℕ
 
@@ -59,7 +59,7 @@ unfoldable pub signRefusal : ℕ → List ℕ → List ℕ → List ℕ → List
 signRefusal leaf message seed I C tree out = lowest (signConditions leaf message seed I C tree out)
 
 -- leaf, message, seed, I, randomizer, tree, out
-unfoldable pub sign : ℕ → List ℕ → List ℕ → List ℕ → List ℕ → List ℕ → List ℕ → Signed
+unfoldable pub sign : ℕ → List ℕ → List ℕ → List ℕ → List ℕ → List ℕ → List ℕ → MadeSignature
 sign leaf message seed I C tree out =
     let n = signRefusal leaf message seed I C tree out in
     record { refusal = n; written = unrefused n (lmsSignature 6 4 I leaf seed C message tree) [] }

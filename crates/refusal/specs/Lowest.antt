@@ -34,13 +34,13 @@ pub record Lowest (n : ℕ) (conditions : List (ℕ × Bool)) : Type 0 where
   pub least : (m : ℕ) → Holds m conditions → n ≤ m
   pub none : n ≡ 0 → (m : ℕ) → Holds m conditions → ⊥
 
-both : (a b : Bool) → (a && b) ≡ true → (a ≡ true) × (b ≡ true)
-both true b e = (refl, e)
-both false b e = absurd (false≢true e)
+pub both-true : (a b : Bool) → (a && b) ≡ true → (a ≡ true) × (b ≡ true)
+both-true true b e = (refl, e)
+both-true false b e = absurd (false≢true e)
 
 rises : (m n : ℕ) (rest : List ℕ) → riseFrom m (n ∷ rest) ≡ true → (m < n) × (riseFrom n rest ≡ true)
 unfolding riseFrom
-rises m n rest e = let p = both (ltb m n) (riseFrom n rest) e in (ltb-true m n (p .0), p .1)
+rises m n rest e = let p = both-true (ltb m n) (riseFrom n rest) e in (ltb-true m n (p .0), p .1)
 
 -- in a list that rises from m, every number whose condition holds is above m
 above : (m : ℕ) (xs : List (ℕ × Bool)) → riseFrom m (numbers xs) ≡ true → (n : ℕ) → Holds n xs → m < n
