@@ -108,8 +108,11 @@ pub fn make_evidence(
     second: &[u8],
     out: &mut [u8],
 ) -> Made
-    ensures answer { λ r. ⌜ r ≡ made (making (checks (now (keys .entry)) round) n round (now (keys .entry)) (now (first .entry)) (now (second .entry)) (now (out .entry))) ⌝ }
-    ensures out { λ _. ⌜ now (out .exit) ≡ outAfter (making (checks (now (keys .entry)) round) n round (now (keys .entry)) (now (first .entry)) (now (second .entry)) (now (out .entry)) .written) (now (out .entry)) ⌝ }
+    ensures { λ r.
+        let result = making (checks (now (keys .entry)) round) n round (now (keys .entry))
+        (now (first .entry)) (now (second .entry)) (now (out .entry)) in
+        ⌜ (r ≡ made result)
+        × (now (out .exit) ≡ outAfter (result .written) (now (out .entry))) ⌝ }
 {
     let outside = validate::outside_refusal(n, round, keys);
     if outside != 0 {
