@@ -54,7 +54,7 @@ abbrev pub SAID : Record → Condition
 SAID r = (8, said r)
 
 -- 9, garbled: "wrong command, length (of submit's value or signature too), count or entry command; a message too long to check
--- or sign"
+-- or sign": a message that the call doesn't take; submit's value and signature; a message of bytes
 abbrev pub GARBLED : Bool → Condition
 GARBLED taken = (9, not taken)
 
