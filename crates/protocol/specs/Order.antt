@@ -8,7 +8,7 @@ use mathlib.Core.List.{List, [], _∷_, _++_, map}
 use Rattle.refusal.specs.Refusal.{lowest}
 use Rattle.refusal.specs.Lowest.{numbers, riseFrom, rise, both-true, Lowest, lowest-is, _before_, lowest-before}
 use Rattle.protocol.specs.Layout.{outLength, evidenceOutLength}
-use Rattle.protocol.specs.Message.{Message, read}
+use Rattle.protocol.specs.Message.{read}
 use Rattle.protocol.specs.Refusals.{Condition, Checks, every, SIZE, SEAT, ROUND, RECORD, KEYS, STORE, OUT, SAID, GARBLED, OTHER-ROUND, STRANGER, DISORDER, EARLY, SIGNATURE, NO-CONFLICT-IN, NO-CONFLICT-BETWEEN, KEY-MATERIAL, outsideConditions, recordConditions, formConditions, signatureConditions, certificateConditions, twoConditions, openingConditions, submitConditions, stepConditions, evidenceConditions, makingConditions, lowerConditions, checkConditions, makeKeyConditions, signConditions}
 use Rattle.protocol.specs.Signatures.{checkSignature, makeKeyRefusal, makeKey, signRefusal, sign}
 use Rattle.protocol.specs.Calls as calls
