@@ -55,8 +55,8 @@ apply() {
             close(path)
         }
         /^file: / { put(); file = substr($0, 7); old = ""; new = "" }
-        /^old: / { old = substr($0, 6) }
-        /^new:/ { new = substr($0, 6) }
+        /^old: / { old = old (old == "" ? "" : "\n") substr($0, 6) }
+        /^new: / { new = new (new == "" ? "" : "\n") substr($0, 6) }
         END { if (!failed) put() }' "$1"
 }
 
