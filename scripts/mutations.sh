@@ -1,50 +1,137 @@
 #!/usr/bin/env bash
-# Tries each edit of mutations/ on a copy of the repository: with it, `protocol` must still be proved and `claims` must not.
-# Needs the crates below proved in target/, as `rt check claims` leaves them.
+# Tries each edit of mutations/ on a copy of the repository: on its run the checker must prove that the claim which it names is
+# false. An edit of mutations/harmless/ must be found harmless. Needs the crates below `trials` proved in target/.
+# Logs: target/mutations/NAME.log
 set -euo pipefail
 cd "$(dirname "$0")/.."
 
+# the crates below one, by crates.txt
+below=
+find_below() {
+    local name
+    for name in $(sed -n "s/^$1: *//p" crates.txt); do
+        case " $below " in *" $name "*) continue ;; esac
+        find_below "$name"
+        below="$below $name"
+    done
+}
+find_below trials
+
+logs=target/mutations
 work=$(mktemp -d)
 trap 'rm -rf "$work"' EXIT
-mkdir "$work/copy"
-cp -R crates crates.txt "$work/copy/"
-mkdir "$work/copy/target"
-for part in target/*; do
-    [ "$part" = target/must-fail ] || cp -R "$part" "$work/copy/target/"
-done
+mkdir -p "$logs"
+
+field() { sed -n "s/^$1: //p" "$2"; }
+
+# a copy of what the trials stand on, with what is proved of it
+copy() {
+    mkdir -p "$1/crates"
+    cp crates.txt "$1/"
+    local name kind part
+    for name in $below trials; do cp -R "crates/$name" "$1/crates/"; done
+    for name in $below; do
+        for kind in log stamp obj rlib; do
+            mkdir -p "$1/target/$kind"
+            for part in "target/$kind/$name" "target/$kind/$name".*; do
+                [ ! -e "$part" ] || cp -R "$part" "$1/target/$kind/"
+            done
+        done
+    done
+}
+
+# the edit's texts, each of which stands once in its file, are put into the copy
+apply() {
+    LC_ALL=C awk -v root="$2" '
+        function put(    path, text, line, at, rest) {
+            if (file == "") return
+            path = root "/" file
+            while ((getline line < path) > 0) text = text line "\n"
+            close(path)
+            at = index(text, old)
+            rest = substr(text, at + length(old))
+            if (old == "" || !at || index(rest, old)) { print "its old text does not stand once in " file; failed = 1; exit 1 }
+            printf "%s%s%s", substr(text, 1, at - 1), new, rest > path
+            close(path)
+        }
+        /^file: / { put(); file = substr($0, 7); old = ""; new = "" }
+        /^old: / { old = old (old == "" ? "" : "\n") substr($0, 6) }
+        /^new: / { new = new (new == "" ? "" : "\n") substr($0, 6) }
+        END { if (!failed) put() }' "$1"
+}
+
+# the run's answer, and what follows of the claim where its premises hold and its conclusion does not
+assert() {
+    cat >"$2/crates/trials/specs/Verdict.antt" <<ANTT
+-- Assumes nothing.
+use mathlib.Core.Path.{_≡_, refl}
+use mathlib.Core.Bool.{true, false}
+use Rattle.trials.specs.Trial.{claimOf, answer, refuted}
+use Rattle.trials.specs.Trials.{unfoldedTrials, $1}
+
+verdict : answer $1 ≡ (true, $3)
+unfolding unfoldedTrials $1
+verdict = refl
+ANTT
+    [ "$3" = true ] || cat >>"$2/crates/trials/specs/Verdict.antt" <<ANTT
+
+claim-fails : claimOf $1 → ⊥
+claim-fails = refuted $1 verdict
+ANTT
+}
+
+# is the answer proved with the edit? 0: yes. 1: no, and for nothing else than the answer. 2: the edit shows nothing
+proved() {
+    local edit=$1 answer=$2 label status=0
+    label=$(basename "$edit" .edit)
+    local log="$logs/$label.log" at="$work/$label.$answer"
+    copy "$at"
+    if ! apply "$edit" "$at" >"$log"; then
+        echo "mutation $label: $(cat "$log")"
+        return 2
+    fi
+    assert "$(field run "$edit")" "$at" "$answer"
+    echo "pub mod Verdict" >>"$at/crates/trials/specs/Lib.antt"
+    (cd "$at" && rt check trials) >"$log" 2>&1 || status=$?
+    rm -rf "$at"
+    [ "$status" -ne 0 ] || return 0
+    if grep ': error: ' "$log" | grep -qv '/Verdict.antt:' || ! grep -q '/Verdict.antt:[0-9:]* error: `verdict`' "$log"; then
+        echo "mutation $label: an error that is not the answer's, so that the edit shows nothing ($log)"
+        tail -n 20 "$log"
+        return 2
+    fi
+    return 1
+}
 
 tried=0
 for edit in mutations/*.edit; do
     label=$(basename "$edit" .edit)
-    file=$(sed -n 's/^file: //p' "$edit")
-    OLD=$(sed -n 's/^old: //p' "$edit") NEW=$(sed -n 's/^new: //p' "$edit") awk '
-        { text = text $0 "\n" }
-        END {
-            old = ENVIRON["OLD"]
-            at = index(text, old)
-            rest = substr(text, at + length(old))
-            if (old == "" || !at || index(rest, old)) exit 1
-            printf "%s%s%s", substr(text, 1, at - 1), ENVIRON["NEW"], rest
-        }' "$file" >"$work/copy/$file" || { echo "mutation $label: its old text doesn't stand once in $file"; exit 1; }
-    if ! (cd "$work/copy" && rt check protocol) >"$work/log" 2>&1; then
-        echo "mutation $label: crate protocol is refused, so that this shows nothing of the claims"
-        tail -n 20 "$work/log"
+    status=0
+    proved "$edit" false || status=$?
+    if [ "$status" -eq 1 ]; then
+        echo "mutation $label: NOT REFUTED: on the run $(field run "$edit") the premises fail or the conclusion holds ($logs/$label.log)"
+    fi
+    [ "$status" -eq 0 ] || exit 1
+    echo "mutation $label: $(field claim "$edit"): proved false on the run $(field run "$edit")"
+    tried=$((tried + 1))
+done
+
+harmless=0
+for edit in mutations/harmless/*.edit; do
+    label=$(basename "$edit" .edit)
+    status=0
+    proved "$edit" false || status=$?
+    if [ "$status" -ne 1 ]; then
+        [ "$status" -ne 0 ] || echo "harmless edit $label: REFUTES $(field claim "$edit")"
         exit 1
     fi
     status=0
-    (cd "$work/copy" && rt check claims) >"$work/log" 2>&1 || status=$?
-    if [ "$status" -ne 1 ] || ! grep -q '^rt: claims NOT PROVED' "$work/log"; then
-        echo "mutation $label: NOT REFUSED (exit $status)"
-        tail -n 20 "$work/log"
+    proved "$edit" true || status=$?
+    if [ "$status" -ne 0 ]; then
+        [ "$status" -ne 1 ] || echo "harmless edit $label: the run $(field run "$edit") has another answer"
         exit 1
     fi
-    if grep -q 'is not in scope\|parse error' "$work/log"; then
-        echo "mutation $label: refused for its words and not for what it says"
-        exit 1
-    fi
-    first=$(grep -m 1 -o 'specs/[A-Za-z]*.antt:[0-9]*:[0-9]*: error: `[^`]*`' "$work/log" | sed 's/: error: / /; s/`//g')
-    echo "mutation $label: the claims' proof is refused, as it must be (first at $first)"
-    tried=$((tried + 1))
-    cp "$file" "$work/copy/$file"
+    echo "harmless edit $label: refutes nothing, as it must be"
+    harmless=$((harmless + 1))
 done
-echo "$tried mutations refused"
+echo "$tried mutations, each refuted by its run; $harmless harmless edit found harmless"

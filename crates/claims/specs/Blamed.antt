@@ -8,7 +8,6 @@ use mathlib.Core.List.{List}
 use mathlib.Core.Logic.{⊎-elim, _≢_, _↔_}
 use Prim.Native.Nat.{ℕ, _≤_, _<_}
 use native.Mathlib.Omega.{arith}
-use native.Mathlib.Decide.{ℕ-discrete}
 use lib.ListN.{length}
 use borrow.Author.Tests.{ne-eqb, not-false}
 use Rattle.quorum.specs.Quorum.{In}
@@ -21,7 +20,7 @@ use Rattle.protocol.specs.Refusals.{wrongKeys, isForStep, isFull, isEvidence, r
 use Rattle.protocol.specs.Step.{State, otherHeard, owesFull, stepped}
 use Rattle.protocol.specs.Calls.{start, checkedBy, evidenceCheck}
 use Rattle.protocol.specs.declared.Record.{Record}
-use Rattle.round.specs.Round.{Setting, IsOpened, Each, Honest, Called, resultOf, listOf, Writes, Confirms, Reached, Accepted, Names, Family}
+use Rattle.round.specs.Round.{Setting, IsOpened, Each, Honest, Called, resultOf, listOf, Writes, Confirms, Reached, Accepted, Names}
 use Rattle.round.specs.Demand3.{Blames, ReachedOthers}
 use Rattle.round.specs.Demand1.{NOTICE, FULL, EVIDENCE, isNotice}
 use Rattle.reading.specs.Lists.{and-false-either, each-nil, each-one}
@@ -200,19 +199,19 @@ module _ (S : Setting) where
 
   -- ---- all of them
 
-  module _ {I : Type 0} (boat : I → Honest) (family : Family S boat) where
+  module _ {I : Type 0} (boat : I → Honest) (opened : (i : I) → IsOpened S (boat i)) where
     abbrev endAt : I → Record
-    endAt i = end (boat i) (family .opened i)
+    endAt i = end (boat i) (opened i)
 
     settled : (i : I) → Settled (endAt i)
-    settled i = trip S (boat i) (family .opened i) Any (any (boat i) (family .opened i)) .settled
+    settled i = trip S (boat i) (opened i) Any (any (boat i) (opened i)) .settled
 
     confirmed : (i : I) (value : List ℕ) → Confirms S (boat i) value
         → (endAt i .confirmed ≡ true) × (endAt i .own .value ≡ value) × (length value ≡ valueLength) × Writes S (boat i) (Notice round (boat i .seat) value)
-    confirmed i value c = confirms-end (boat i) (family .opened i) value c
+    confirmed i value c = confirms-end (boat i) (opened i) value c
 
     inside : (i : I) → boat i .seat < n
-    inside i = opened-range S (boat i) (family .opened i) .inside
+    inside i = opened-range S (boat i) (opened i) .inside
 
     -- of two units that confirmed different layouts, each has sent its FULL
     each-sent : (i j : I) (a b : List ℕ) → a ≢ b → Confirms S (boat i) a → Confirms S (boat j) b → ReachedOthers S boat j → endAt i .sent ≡ true
@@ -220,31 +219,26 @@ module _ (S : Setting) where
         let x = confirmed i a ca in
         let y = confirmed j b cb in
         let other : i ≢ j = λ e. different (sym (x .1) ∙ ap (λ l. endAt l .own .value) e ∙ y .1) in
-        let heard = reached-heard (boat i) (family .opened i) (boat j .seat) b (inside j) (y .2) (reached i other .notice round (boat j .seat) b (y .3)) in
+        let heard = reached-heard (boat i) (opened i) (boat j .seat) b (inside j) (y .2) (reached i other .notice round (boat j .seat) b (y .3)) in
         sent-of (endAt i) (settled i .owes) (x .0) (other-heard b (endAt i) heard (λ e. different (sym (x .1) ∙ sym e)))
 
     -- and every unit has held a certificate of its layout, or compared one
     each-held : (i : I) (a : List ℕ) → Confirms S (boat i) a → endAt i .sent ≡ true → ReachedOthers S boat i → (l : I) → (Held a (endAt l) → ⊥) → ⊥
-    each-held i a ca sent reached l never = go (ℕ-discrete (boat l .seat) (boat i .seat))
-      where
-        go : Dec (boat l .seat ≡ boat i .seat) → ⊥
-        go (yes e) =
-            let x = confirmed i a ca in
-            let own : Held a (endAt i) = subst (λ v. Held v (endAt i)) (x .1) (settled i .holds (x .0)) in
-            family .apart l i (λ q. never (subst (λ o. Held a (endAt o)) (sym q) own)) e
-        go (no d) =
-            let x = confirmed i a ca in
-            let f = subst (WroteFull (boat i) (family .opened i)) (x .1) (sent-full (boat i) (family .opened i) sent) in
-            never (reached-held (boat l) (family .opened l) (boat i .seat) a (f .0) (inside i) (f .1) (reached l (λ q. d (ap (λ o. boat o .seat) q)) .full round (boat i .seat) a (f .0) (f .2)))
+    each-held i a ca sent reached l never =
+        let x = confirmed i a ca in
+        let own : Held a (endAt i) = subst (λ v. Held v (endAt i)) (x .1) (settled i .holds (x .0)) in
+        let other : l ≢ i = λ q. never (subst (λ o. Held a (endAt o)) (sym q) own) in
+        let f = subst (WroteFull (boat i) (opened i)) (x .1) (sent-full (boat i) (opened i) sent) in
+        never (reached-held (boat l) (opened l) (boat i .seat) a (f .0) (inside i) (f .1) (reached l other .full round (boat i .seat) a (f .0) (f .2)))
 
 -- ---- the claim
 
-pub blamed : (S : Setting) {I : Type 0} (boat : I → Honest) → Family S boat
+pub blamed : (S : Setting) {I : Type 0} (boat : I → Honest) → ((i : I) → IsOpened S (boat i))
     → (i j : I) (a b : List ℕ) → a ≢ b → Confirms S (boat i) a → Confirms S (boat j) b
     → ReachedOthers S boat i → ReachedOthers S boat j → (l : I) → Blames S (boat l)
-blamed S boat family i j a b different ca cb ri rj l =
-    let sent-a = each-sent S boat family i j a b different ca cb rj in
-    let sent-b = each-sent S boat family j i b a (λ e. different (sym e)) cb ca ri in
-    let held-a = each-held S boat family i a ca sent-a ri l in
-    let held-b = each-held S boat family j b cb sent-b rj l in
-    guilty-blames S (boat l) (family .opened l) (λ g. held-a (λ x. held-b (λ y. both-held a b (endAt S boat family l) different x y g)))
+blamed S boat opened i j a b different ca cb ri rj l =
+    let sent-a = each-sent S boat opened i j a b different ca cb rj in
+    let sent-b = each-sent S boat opened j i b a (λ e. different (sym e)) cb ca ri in
+    let held-a = each-held S boat opened i a ca sent-a ri l in
+    let held-b = each-held S boat opened j b cb sent-b rj l in
+    guilty-blames S (boat l) (opened l) (λ g. held-a (λ x. held-b (λ y. both-held a b (endAt S boat opened l) different x y g)))

@@ -23,9 +23,13 @@ use Rattle.claims.specs.Blamed.{blamed}
 
 -- ---- the claim
 
+-- beyond the demand: nothing hangs on "each alone in its seat"
+pub wherever-seated : (S : Setting) {I : Type 0} (boat : I → Honest) → ((i : I) → IsOpened S (boat i)) → Demand3 S boat
+wherever-seated S boat opened = record { safety = safe-delivered S boat opened; accountability = blamed S boat opened; safety-however = safe S boat opened }
+
 -- "let some units be honest: each alone in its seat and opened once": `Family`. For any signature check:
 pub demand-3-any : (S : Setting) {I : Type 0} (boat : I → Honest) → Family S boat → Demand3 S boat
-demand-3-any S boat family = record { safety = safe-delivered S boat family; accountability = blamed S boat family; safety-however = safe S boat family }
+demand-3-any S boat family = wherever-seated S boat (family .opened)
 
 -- "In one round and under one key table", and "A signature checks for a seat over a layout when RFC 8554 accepts it under that
 -- seat's key for the 36 bytes of the round, that seat and that layout, and its leaf is the round."

@@ -16,7 +16,7 @@ use Rattle.protocol.specs.Certificate.{certificateIn, evidenceOf}
 use Rattle.protocol.specs.Refusals.{Checks, isFull, isEvidence, notLowerFirst, makingConditions}
 use Rattle.protocol.specs.Calls.{makingBy, making, made, checkedBy, evidenceCheck}
 use Rattle.protocol.specs.declared.Record.{Record}
-use Rattle.round.specs.Round.{Setting, IsOpened, Each, Relation, EachSigned, Call, BySubmit, ByStep, ByThinEntry, InHand, Honest, IsStep, Called, resultOf, StandsIn, listOf, Submits, WritesEvidence, makingOf, MakesEvidence, Names, AcceptedFrom, Family, Delivered}
+use Rattle.round.specs.Round.{Setting, IsOpened, Each, Relation, EachSigned, Call, BySubmit, ByStep, ByThinEntry, InHand, Honest, IsStep, Called, resultOf, StandsIn, listOf, Submits, WritesEvidence, makingOf, MakesEvidence, Names, AcceptedFrom, Delivered}
 use Rattle.round.specs.Demand3.{Takes, NoneForged, NoneBlamed}
 use Rattle.reading.specs.Lists.{each-nil, each-one}
 use Rattle.claims.specs.Sound.{Certifies, Pairs, Good}
@@ -83,7 +83,7 @@ module _ (S : Setting) where
         let v = submit-value S Any value (s .signature) (s .out) (t .unit) (t .store) (at .sound) zero tt in
         at .before .said (ap (λ (r : Record). r .own .submitted) came ∙ v .0) .1 ∙ ap (λ (r : Record). r .own .value) came ∙ v .1
 
-  module _ {I : Type 0} (boat : I → Honest) (family : Family S boat) (R : Relation) (takes : Takes S boat R) (none : NoneForged S boat R) where
+  module _ {I : Type 0} (boat : I → Honest) (opened : (i : I) → IsOpened S (boat i)) (R : Relation) (takes : Takes S boat R) (none : NoneForged S boat R) where
     -- ---- what a unit keeps
 
     -- a signature that a unit keeps was delivered, or is its own over what it submitted
@@ -91,15 +91,15 @@ module _ (S : Setting) where
     Backed j seat value signature = R seat value signature ⊎ ((seat ≡ boat j .seat) × Submits S (boat j) value)
 
     module _ (j : I) (t : Called) (d : List·Memᴰ t (listOf S (boat j))) where
-      abbrev at : At S Any (startOf S (boat j) (family .opened j)) t (endOf S (boat j) (family .opened j))
-      at = stop S (boat j) (family .opened j) Any (any-worthy S (listOf S (boat j))) t d
+      abbrev at : At S Any (startOf S (boat j) (opened j)) t (endOf S (boat j) (opened j))
+      at = stop S (boat j) (opened j) Any (any-worthy S (listOf S (boat j))) t d
 
       stepped-backed : (bytes out : List ℕ) → IsStep (t .given) bytes out → resultOf S t .refusal ≡ 0 → EachSigned (Backed j) (read (t .unit .n) bytes)
       stepped-backed bytes out e q =
-          rw (at .since .n ∙ start-n S (boat j) (family .opened j)) (λ s m. inl (takes .steps j bytes (record { call = t; inList = d; out = out; isStep = e }) q s m))
+          rw (at .since .n ∙ start-n S (boat j) (opened j)) (λ s m. inl (takes .steps j bytes (record { call = t; inList = d; out = out; isStep = e }) q s m))
 
       given-backed : (c : Call) → t .given ≡ c → resultOf S t .refusal ≡ 0 → WorthyGiven S (Backed j) c (t .unit)
-      given-backed (BySubmit value signature out) e q = inr (at .since .seat ∙ start-seat S (boat j) (family .opened j), record { call = t; inList = d; signature = signature; out = out; carries = e; unrefused = q })
+      given-backed (BySubmit value signature out) e q = inr (at .since .seat ∙ start-seat S (boat j) (opened j), record { call = t; inList = d; signature = signature; out = out; carries = e; unrefused = q })
       given-backed (ByStep bytes out) e q = stepped-backed bytes out (inl e) q
       given-backed (ByThinEntry bytes out) e q = stepped-backed bytes out (inr e) q
 
@@ -108,15 +108,15 @@ module _ (S : Setting) where
 
     -- ---- an honest seat
 
-    -- it did submit what a kept signature of it stands over
-    submitted-of : (i j : I) (value signature : List ℕ) → checks (boat i .seat) value signature ≡ true → Backed j (boat i .seat) value signature → (Submits S (boat i) value → ⊥) → ⊥
-    submitted-of i j value signature c (inl r) never = true≢false (sym c ∙ none i value signature r never)
-    submitted-of i j value signature c (inr s) never = family .apart i j (λ e. never (subst (λ l. Submits S (boat l) value) (sym e) (s .1))) (s .0)
+    -- it did submit what a delivered signature of it stands over, and what it keeps itself
+    submitted-of : (i : I) (value signature : List ℕ) → checks (boat i .seat) value signature ≡ true → Backed i (boat i .seat) value signature → (Submits S (boat i) value → ⊥) → ⊥
+    submitted-of i value signature c (inl r) never = true≢false (sym c ∙ none i value signature r never)
+    submitted-of i value signature c (inr s) never = never (s .1)
 
     -- and it submitted one layout alone
     one-layout : (i : I) (lower higher : List ℕ) → isLower lower higher ≡ true → ((Submits S (boat i) lower → ⊥) → ⊥) → ((Submits S (boat i) higher → ⊥) → ⊥) → ⊥
     one-layout i lower higher l a b =
-        a (λ s. b (λ s′. lower-differs lower higher l (sym (submits-end (boat i) (family .opened i) lower s) ∙ submits-end (boat i) (family .opened i) higher s′)))
+        a (λ s. b (λ s′. lower-differs lower higher l (sym (submits-end (boat i) (opened i) lower s) ∙ submits-end (boat i) (opened i) higher s′)))
 
     -- so it is in no entry whose two signatures check and are backed
     abbrev Both : I → List ℕ → List ℕ → Pair → Type 0
@@ -124,13 +124,23 @@ module _ (S : Setting) where
         (checks (p .seat) lower (p .lower) ≡ true) × Backed j (p .seat) lower (p .lower)
         × (checks (p .seat) higher (p .higher) ≡ true) × Backed j (p .seat) higher (p .higher)
 
+    not-both : (i : I) (lower higher : List ℕ) (p : Pair) → isLower lower higher ≡ true → boat i .seat ≡ p .seat → Both i lower higher p → ⊥
+    not-both i lower higher p l e h =
+        let b : (checks (boat i .seat) lower (p .lower) ≡ true) × Backed i (boat i .seat) lower (p .lower) × (checks (boat i .seat) higher (p .higher) ≡ true) × Backed i (boat i .seat) higher (p .higher) =
+        subst (λ s. (checks s lower (p .lower) ≡ true) × Backed i s lower (p .lower) × (checks s higher (p .higher) ≡ true) × Backed i s higher (p .higher)) (sym e) h in
+        one-layout i lower higher l (submitted-of i lower (p .lower) (b .0) (b .1)) (submitted-of i higher (p .higher) (b .2) (b .3))
+
+    -- a signature of another's list is delivered, or of its own seat
+    unnamed-at : (i j : I) (lower higher : List ℕ) (p : Pair) → isLower lower higher ≡ true → boat i .seat ≡ p .seat → checks (p .seat) lower (p .lower) ≡ true → Backed j (p .seat) lower (p .lower) → checks (p .seat) higher (p .higher) ≡ true → Backed j (p .seat) higher (p .higher) → ⊥
+    unnamed-at i j lower higher p l e c (inl a) d (inl b) = not-both i lower higher p l e (c, inl a, d, inl b)
+    unnamed-at i j lower higher p l e c (inr a) d b = not-both j lower higher p l (sym (a .0)) (c, inr a, d, b)
+    unnamed-at i j lower higher p l e c (inl a) d (inr b) = not-both j lower higher p l (sym (b .0)) (c, inl a, d, inr b)
+
     unnamed : (i j : I) (lower higher : List ℕ) (ps : List Pair) → isLower lower higher ≡ true → Each (Both j lower higher) ps → List·Memᴰ (boat i .seat) (map (λ (p : Pair). p .seat) ps) → ⊥
     unnamed i j lower higher ps l h d =
         let m = Memᴰ·of-map (λ (p : Pair). p .seat) ps d in
-        let p = m .0 in
-        let b : (checks (boat i .seat) lower (p .lower) ≡ true) × Backed j (boat i .seat) lower (p .lower) × (checks (boat i .seat) higher (p .higher) ≡ true) × Backed j (boat i .seat) higher (p .higher) =
-        subst (λ s. (checks s lower (p .lower) ≡ true) × Backed j s lower (p .lower) × (checks s higher (p .higher) ≡ true) × Backed j s higher (p .higher)) (m .2) (h p (m .1)) in
-        one-layout i lower higher l (submitted-of i j lower (p .lower) (b .0) (b .1)) (submitted-of i j higher (p .higher) (b .2) (b .3))
+        let b = h (m .0) (m .1) in
+        unnamed-at i j lower higher (m .0) l (sym (m .2)) (b .0) (b .1) (b .2) (b .3)
 
     kept-both : (j : I) (W : Relation) (size : ℕ) (lower higher : List ℕ) (ps : List Pair) → ((s : ℕ) (v g : List ℕ) → W s v g → Backed j s v g) → Pairs checks W size lower higher ps → Each (Both j lower higher) ps
     kept-both j W size lower higher ps f z p d =
@@ -146,8 +156,8 @@ module _ (S : Setting) where
     written-safe i j evidence w d =
         let m = w .message in
         let stands = w .writes .stands in
-        let end = endOf S (boat j) (family .opened j) in
-        let good = writes-good S (boat j) (family .opened j) (Backed j) (backed j) m (w .writes) in
+        let end = endOf S (boat j) (opened j) in
+        let good = writes-good S (boat j) (opened j) (Backed j) (backed j) m (w .writes) in
         evidence-cases (λ x. Good checks (Backed j) end x → List·Memᴰ (boat i .seat) (entrySeats x) → ⊥) m (w .kind)
         (λ ρ lower higher ps g e. unnamed i j lower higher ps (g .1 .ordered) (kept-both j (Backed j) (end .n) lower higher ps (λ s v h b. b) (g .1)) e)
         good (named-in m evidence (boat i .seat) (stands .1 .0 m (stands .2)) (w .bytes) d)
@@ -201,18 +211,18 @@ module _ (S : Setting) where
 -- ---- the claim
 
 -- for every relation that holds at least of the signatures that calls took
-pub safe : (S : Setting) {I : Type 0} (boat : I → Honest) → Family S boat
+pub safe : (S : Setting) {I : Type 0} (boat : I → Honest) → ((i : I) → IsOpened S (boat i))
     → (R : Relation) → Takes S boat R → NoneForged S boat R → NoneBlamed S boat R
-safe S boat family R takes none = record {
-  written = written-safe S boat family R takes none;
-  made = made-safe S boat family R takes none;
-  accepted = accepted-safe S boat family R takes none;
+safe S boat opened R takes none = record {
+  written = written-safe S boat opened R takes none;
+  made = made-safe S boat opened R takes none;
+  accepted = accepted-safe S boat opened R takes none;
 }
 
 -- and for the signatures that document 01 calls delivered
-pub safe-delivered : (S : Setting) {I : Type 0} (boat : I → Honest) → Family S boat
+pub safe-delivered : (S : Setting) {I : Type 0} (boat : I → Honest) → ((i : I) → IsOpened S (boat i))
     → NoneForged S boat (Delivered S boat) → NoneBlamed S boat (Delivered S boat)
-safe-delivered S boat family none = safe S boat family (Delivered S boat) takes none
+safe-delivered S boat opened none = safe S boat opened (Delivered S boat) takes none
   where
     takes : Takes S boat (Delivered S boat)
     takes = record {
