@@ -21,7 +21,7 @@ use Rattle.claims.specs.Parts.{in-below}
 use Rattle.claims.specs.Claim.{setting}
 use Rattle.runs.specs.Split.{Role, Fleet, Fits, Plan, Split}
 use Rattle.runs.specs.SplitProof.{split}
-use Rattle.runs.specs.MadeKeys.{Material, Stated, madeKeys, madeSignature, keys-right, signature-sized, signature-checks}
+use Rattle.runs.specs.MadeKeys.{Material, Stated, madeKeys, madeSignature, made-table, signature-sized, signature-checks}
 
 -- a leader's role: it hears all who sign its layout
 abbrev leading : ℕ → ℕ → Bool → ℕ → Role
@@ -133,7 +133,7 @@ module _ (round : ℕ) (layout : Bool → List ℕ) (M : Material) (store out : 
         (record {
           fits = fits;
           early = early;
-          table = keys-right M stated n;
+          table = made-table M stated n;
           storeRoom = storeRoom;
           outRoom = outRoom;
           layouts = layouts;
