@@ -4,12 +4,11 @@
 -- Assumes nothing.
 use Prim.Native.Nat.{ℕ, _≤_}
 use mathlib.Core.Path.{_≡_, refl, sym, ap, _∙_}
-use mathlib.Core.Bool.{Bool, true, false, cond}
+use mathlib.Core.Bool.{Bool, true, false}
 use mathlib.Core.List.{List, []}
 use mathlib.Core.Logic.{_≢_}
 use native.Mathlib.Omega.{arith}
 use lib.Count.{ones}
-use lib.Dec.{eqb}
 use lib.ListN.{length, replicate, length-replicate}
 use Rattle.quorum.specs.Quorum.{t0, k, bit, In, shared, seats}
 use Rattle.protocol.specs.Layout.{valueLength, storeLength, outLength}
@@ -19,9 +18,10 @@ use Rattle.reading.specs.Lists.{each-nil}
 use Rattle.claims.specs.Certificates.{seats-in-set}
 use Rattle.claims.specs.Parts.{in-below}
 use Rattle.claims.specs.Claim.{setting}
+use Rattle.trials.specs.Trials.{atTwo, Three, Zeroth, First, Second, atThree}
 use Rattle.runs.specs.Split.{Role, Fleet, Fits, Plan, Split}
 use Rattle.runs.specs.SplitProof.{split}
-use Rattle.runs.specs.MadeKeys.{Material, Stated, madeKeys, madeSignature, keys-right, signature-sized, signature-checks}
+use Rattle.runs.specs.MadeKeys.{Material, Stated, madeKeys, madeSignature, made-table, signature-sized, signature-checks}
 
 -- a leader's role: it hears all who sign its layout
 abbrev leading : ℕ → ℕ → Bool → ℕ → Role
@@ -47,7 +47,7 @@ fits-4 = record {
   most = omega arith;
   below = λ side. elim side [ false ↦ omega arith | true ↦ omega arith ];
   enough = λ side. elim side [ false ↦ refl | true ↦ refl ];
-  apart = apart;
+  apart = λ i j d e. d (sym (at i) ∙ ap atTwo e ∙ at j);
   signs = λ i. elim i [ false ↦ refl | true ↦ refl ];
   once = λ i. elim i [ false ↦ refl | true ↦ refl ];
   hearsSigners = λ i. elim i [ false ↦ seats-in-set 4 0b1101 | true ↦ seats-in-set 4 0b1110 ];
@@ -55,11 +55,9 @@ fits-4 = record {
   hearsAll = λ side. elim side [ false ↦ refl | true ↦ refl ];
 }
   where
-    apart : (i j : Bool) → i ≢ j → roleOf4 i .seat ≢ roleOf4 j .seat
-    apart false false d e = d refl
-    apart false true d e = omega arith
-    apart true false d e = omega arith
-    apart true true d e = d refl
+    at : (i : Bool) → atTwo (roleOf4 i .seat) ≡ i
+    at false = refl
+    at true = refl
 
 -- the double signers, whom the evidence names
 pub twice-of-4 : shared (signersOf4 false) (signersOf4 true) ≡ 0b1100
@@ -69,21 +67,18 @@ twice-of-4 = refl
 -- ---- a fleet of 7: seats 4, 5 and 6 sign both layouts, and beside the leaders a third honest unit submits, which hears no other's
 -- SUBMIT. A split takes n − 2 t0 double signers or more, so that 2 t0 units at most are honest: with less than 7 seats there is no third.
 
-pub data Three : Type 0 where
-  leader₀ leader₁ third : Three
-
 abbrev pub signersOf7 : Bool → ℕ
 signersOf7 false = 0b1110101
 signersOf7 true = 0b1111010
 
 abbrev pub roleOf7 : Three → Role
-roleOf7 leader₀ = leading 7 0 false 0b1110101
-roleOf7 leader₁ = leading 7 1 true 0b1111010
-roleOf7 third = record { seat = 2; side = false; hears = [] }
+roleOf7 Zeroth = leading 7 0 false 0b1110101
+roleOf7 First = leading 7 1 true 0b1111010
+roleOf7 Second = record { seat = 2; side = false; hears = [] }
 
 abbrev leaderOf7 : Bool → Three
-leaderOf7 false = leader₀
-leaderOf7 true = leader₁
+leaderOf7 false = Zeroth
+leaderOf7 true = First
 
 abbrev pub fleetOf7 : Fleet Three
 fleetOf7 = record { signers = signersOf7; role = roleOf7; leader = leaderOf7 }
@@ -95,25 +90,18 @@ fits-7 = record {
   most = omega arith;
   below = λ side. elim side [ false ↦ omega arith | true ↦ omega arith ];
   enough = λ side. elim side [ false ↦ refl | true ↦ refl ];
-  apart = apart;
-  signs = λ i. elim i [ leader₀ ↦ refl | leader₁ ↦ refl | third ↦ refl ];
-  once = λ i. elim i [ leader₀ ↦ refl | leader₁ ↦ refl | third ↦ refl ];
-  hearsSigners = λ i. elim i [ leader₀ ↦ seats-in-set 7 0b1110101 | leader₁ ↦ seats-in-set 7 0b1111010 | third ↦ each-nil (λ s. In s 0b1110101) ];
+  apart = λ i j d e. d (sym (at i) ∙ ap atThree e ∙ at j);
+  signs = λ i. elim i [ Zeroth ↦ refl | First ↦ refl | Second ↦ refl ];
+  once = λ i. elim i [ Zeroth ↦ refl | First ↦ refl | Second ↦ refl ];
+  hearsSigners = λ i. elim i [ Zeroth ↦ seats-in-set 7 0b1110101 | First ↦ seats-in-set 7 0b1111010 | Second ↦ each-nil (λ s. In s 0b1110101) ];
   leads = λ side. elim side [ false ↦ refl | true ↦ refl ];
   hearsAll = λ side. elim side [ false ↦ refl | true ↦ refl ];
 }
   where
-    -- the unit of a seat
-    at : ℕ → Three
-    at seat = cond (eqb seat 0) leader₀ (cond (eqb seat 1) leader₁ third)
-
-    same : (i : Three) → at (roleOf7 i .seat) ≡ i
-    same leader₀ = refl
-    same leader₁ = refl
-    same third = refl
-
-    apart : (i j : Three) → i ≢ j → roleOf7 i .seat ≢ roleOf7 j .seat
-    apart i j d e = d (sym (same i) ∙ ap at e ∙ same j)
+    at : (i : Three) → atThree (roleOf7 i .seat) ≡ i
+    at Zeroth = refl
+    at First = refl
+    at Second = refl
 
 pub twice-of-7 : shared (signersOf7 false) (signersOf7 true) ≡ 0b1110000
 unfolding shared
@@ -133,7 +121,7 @@ module _ (round : ℕ) (layout : Bool → List ℕ) (M : Material) (store out : 
         (record {
           fits = fits;
           early = early;
-          table = keys-right M stated n;
+          table = made-table M stated n;
           storeRoom = storeRoom;
           outRoom = outRoom;
           layouts = layouts;

@@ -1,14 +1,13 @@
 -- A fleet whose keys our key maker made and whose signatures our signer made, from any seeds, identifiers and randomizers: its key
 -- table isn't refused, and RFC 8554 accepts every signature. Deduced; no hash is computed.
 -- Assumes nothing.
-use Prim.Native.Nat.{ℕ, zero, suc, _+_, _*_, _≤_, _<_}
-use mathlib.Core.Path.{_≡_, refl, sym, ap, _∙_}
-use mathlib.Core.Bool.{Bool, true, false}
+use Prim.Native.Nat.{ℕ, _+_, _*_, _≤_, _<_}
+use mathlib.Core.Path.{_≡_, sym, ap, _∙_}
+use mathlib.Core.Bool.{Bool, true}
 use mathlib.Core.List.{List}
 use native.Mathlib.Nat.{add-zero}
 use native.Mathlib.Omega.{arith}
 use lib.ListN.{length}
-use borrow.Author.Tests.{eq-eqb}
 use Rattle.octets.specs.Octets.{part, number, wordAt}
 use Rattle.octets.specs.Laws.{wordAt-part}
 use Rattle.octets.specs.Strings.{joined}
@@ -20,7 +19,7 @@ use Rattle.protocol.specs.Signatures.{Made, Signed, makeKey, sign, signedBytes,
 use Rattle.protocol.specs.SignatureLaws.{length-signedBytes, length-lmsSignature-six-four, makeKey-unrefused, sign-unrefused}
 use Rattle.protocol.specs.SignatureClaim.{made-signature-checks}
 use Rattle.protocol.specs.Layout.{valueLength, signatureLength}
-use Rattle.protocol.specs.Refusals.{keyAllowed, keysAllowed, wrongKeys}
+use Rattle.claims.specs.NotRefused.{Table}
 
 -- what key maker and signer are given: seed, identifier and tree of each seat, its randomizer for each layout, and the outs
 pub record Material : Type 0 where
@@ -77,22 +76,14 @@ module _ (M : Material) where
         let sized : length key ≡ 56 = length-publicKey 6 4 (M .identifier s) (M .seed s) (f .identifiers s) in
         sym (wordAt-part (56 * s) 56 at (madeKeys n) l) ∙ ap (λ (x : List ℕ). wordAt x at) (seat-key n s h ∙ written-is s) ∙ sym (number-part-four at key (omega arith))
 
-    key-allowed : (n s : ℕ) → s < n → keyAllowed s (madeKeys n) ≡ true
-    unfolding keyAllowed
-    key-allowed n s h =
-        let lms = ap (wordAt (madeKeys n)) (sym (add-zero (56 * s))) ∙ key-word n s 0 h (omega arith) ∙ lmsType-publicKey 6 4 (M .identifier s) (M .seed s) (f .identifiers s) (omega arith) in
-        let ots = key-word n s 4 h (omega arith) ∙ otsType-publicKey 6 4 (M .identifier s) (M .seed s) (f .identifiers s) (omega arith) in
-        rw (eq-eqb (wordAt (madeKeys n) (56 * s)) 6 lms, eq-eqb (wordAt (madeKeys n) (56 * s + 4)) 4 ots)
-
-    keys-allowed : (n t : ℕ) → t ≤ n → keysAllowed t (madeKeys n) ≡ true
-    unfolding keysAllowed
-    keys-allowed n zero h = refl
-    keys-allowed n (suc t) h = rw (keys-allowed n t (omega arith), key-allowed n t h)
-
-    pub keys-right : (n : ℕ) → wrongKeys n (madeKeys n) ≡ false
-    unfolding wrongKeys
-    keys-right n =
-        rw (length-joined 56 (λ i. madeKey i .written) n (λ i l. key-length i), eq-eqb (56 * n) (56 * n) refl, keys-allowed n n (omega arith))
+    pub made-table : (n : ℕ) → Table n (madeKeys n)
+    made-table n = record {
+      sized = length-joined 56 (λ i. madeKey i .written) n (λ i l. key-length i);
+      types = λ s h. (
+        ap (wordAt (madeKeys n)) (sym (add-zero (56 * s))) ∙ key-word n s 0 h (omega arith) ∙ lmsType-publicKey 6 4 (M .identifier s) (M .seed s) (f .identifiers s) (omega arith),
+        key-word n s 4 h (omega arith) ∙ otsType-publicKey 6 4 (M .identifier s) (M .seed s) (f .identifiers s) (omega arith),
+      );
+    }
 
     -- ---- the signatures
 

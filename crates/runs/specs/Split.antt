@@ -12,10 +12,11 @@ use Rattle.protocol.specs.Layout.{valueLength, signatureLength, storeLength, ou
 use Rattle.protocol.specs.Message.{Message, Submit, Notice, render}
 use Rattle.protocol.specs.Certificate.{Certificate, fullOf}
 use Rattle.protocol.specs.Record.{lastRound}
-use Rattle.protocol.specs.Refusals.{wrongKeys, isFull}
+use Rattle.protocol.specs.Refusals.{isFull}
 use Rattle.protocol.specs.Calls.{evidenceCheck}
 use Rattle.round.specs.Round.{Setting, Call, BySubmit, ByStep, ByThinEntry, InHand, Honest, Each, Family, Confirms, Delivered, MakesEvidence, makingOf}
 use Rattle.round.specs.Demand3.{NoneForged, NoneBlamed, ReachedOthers, Blames}
+use Rattle.claims.specs.NotRefused.{Table}
 use Rattle.claims.specs.Made.{Accuses}
 
 -- what an honest unit does: it submits one of the two layouts, and hears the SUBMITs of these seats for it
@@ -100,7 +101,7 @@ module _ (S : Setting) {I : Type 0} (P : Plan I) where
     pub fits : Fits n fleet
     -- round, key table and buffers that aren't refused
     pub early : round ≤ lastRound
-    pub table : wrongKeys n keys ≡ false
+    pub table : Table n keys
     pub storeRoom : storeLength n ≤ length store
     pub outRoom : outLength n ≤ length out
     -- two layouts, and for each the signatures of those who sign it, which check

@@ -4,25 +4,24 @@ use Prim.Native.Nat.{ℕ, _≤_, _<_}
 use mathlib.Core.Path.{_≡_, refl, sym, ap, ap₂, subst, subst₂, _∙_}
 use mathlib.Core.Bool.{Bool, true, false, not, _&&_, true≢false, false≢true}
 use mathlib.Core.List.{List, [], _∷_, _++_, map, append-nil, List·Memᴰ, List·Memᴰ·head, List·Memᴰ·tail, List·Memᴰ·not-nil, List·Memᴰ·cases-cons, List·Memᴰ·eq-of-singleton, Memᴰ·map, Memᴰ·append-right}
-use mathlib.Core.Logic.{_⊎_, inl, inr, ⊎-elim}
+use mathlib.Core.Logic.{_⊎_, inl, inr, ⊎-elim, _≢_}
 use native.Mathlib.Omega.{arith}
 use native.Mathlib.Decide.{ℕ-discrete}
 use lib.ListN.{length, length-map}
-use borrow.Author.Tests.{lt-leb, le-ltb, eq-eqb, not-false}
+use borrow.Author.Tests.{not-false}
 use Rattle.octets.specs.Strings.{same}
-use Rattle.octets.specs.StringLaws.{same-refl, same-false}
+use Rattle.octets.specs.StringLaws.{same-refl}
 use Rattle.quorum.specs.Quorum.{k, bit, In, has, size, shared, with, seats}
 use Rattle.quorum.specs.Laws.{bit-cases, has-true, bit-with-same, bit-with-other, bit-shared, same-seats, shared-comm, size-shared-le, size-with-new, mem-seats}
 use Rattle.refusal.specs.Refusal.{lowest, unrefused}
-use Rattle.protocol.specs.Layout.{signatureLength, storeLength, outLength, evidenceEntryLength, evidenceEntryAt, evidenceLength, evidenceOutLength}
+use Rattle.protocol.specs.Layout.{storeLength, outLength, evidenceEntryLength, evidenceEntryAt, evidenceLength, evidenceOutLength}
 use Rattle.protocol.specs.Message.{Entry, Message, Submit, Notice, Full, Evidence, Garbled, Signed, render, renderAll, read, roundOf, entrySeats, seatsOf, signed}
 use Rattle.protocol.specs.ReadLaws.{WellFormed, read-render}
 use Rattle.protocol.specs.Laws.{in-set, set-seats}
 use Rattle.protocol.specs.Certificate.{setOf, ownCertificate, certificateOf, certificateIn, entryOf, entriesOf, fullOf}
-use Rattle.protocol.specs.Record.{wrongSeat}
-use Rattle.protocol.specs.Refusals.{shortStore, shortOut, said, wrongLengths, isForStep, isFull, isEvidence, rising, early, every, badSignature, equalValues, certificateConditions, formConditions, signatureConditions, outsideConditions, recordConditions, openingConditions, submitConditions, stepConditions, twoConditions, makingConditions}
+use Rattle.protocol.specs.Refusals.{isForStep, isFull, isEvidence, rising, early}
 use Rattle.protocol.specs.Step.{State, write, collect, isWanted, hearSubmit, reply, isComplete, confirm, hearOwn, confirmIfComplete, submitted, stepped}
-use Rattle.protocol.specs.Calls.{Result, resultBy, start, openedBy, opening, makingBy, making}
+use Rattle.protocol.specs.Calls.{Result, resultBy, start, submit, step, makingBy, making}
 use Rattle.protocol.specs.declared.Record.{Record}
 use Rattle.round.specs.Round.{Setting, Call, ByStep, ByThinEntry, IsStep, Honest, Called, Each, Relation, EachSigned, outcome, listFrom, listOf, IsOpened, Family, Writes, Submits, Confirms, StepGiven, Reached, MadeFrom, Delivered, MakesEvidence, makingOf}
 use Rattle.round.specs.Demand1.{SUBMIT, NOTICE, isNotice, isOf}
@@ -33,10 +32,11 @@ use Rattle.claims.specs.Certificates.{set-size, seats-rising, sized-entries, en
 use Rattle.claims.specs.Parts.{in-below}
 use Rattle.claims.specs.Whole.{reply-stays, hearing-stays, Done, submitted-done, submitted-value, stepped-done}
 use Rattle.reading.specs.Reading.{Laid, read-laid}
-use Rattle.claims.specs.Unrefused.{size-right, round-right, possible, Taken, of-taken, step-unrefused, entries-signed, full-taken, brings, making-taken}
 use Rattle.reading.specs.Messages.{refusalOf, cameTo, outcome-is, step-is}
+use Rattle.claims.specs.Unrefused.{possible, Taken, entries-signed, full-taken, brings, making-taken}
 use Rattle.claims.specs.Journey.{lastOf, WorthyGiven, Worthy}
 use Rattle.claims.specs.Units.{Any, any-worthy, startOf, endOf, start-n, start-seat, start-round, start-flag, start-sound, start-settled, stop, end-n, end-seat, end-round, flag-written, writes-good, pairs-formed}
+use Rattle.claims.specs.NotRefused.{opening-not-refused, submit-not-refused, message-not-refused, making-not-refused}
 use Rattle.claims.specs.Safe.{conditions, evidenceFrom, making-bytes, certifies-in, submits-end}
 use Rattle.claims.specs.Made.{Accuses, made-accepted}
 use Rattle.claims.specs.Claim.{demand-3-any}
@@ -234,9 +234,9 @@ module _ (S : Setting) {I : Type 0} (P : Plan I) (z : Splits S P) where
   -- ---- the units
 
   opened : (i : I) → IsOpened S (boat S P i)
-  unfolding opening openedBy openingConditions wrongSeat lowest
   opened i =
-      rw (size-right n (z .fits .some) (z .fits .most), lt-leb n (role i .seat) (inside (role i .side) (role i .seat) (z .fits .signs i)), round-right round (z .early), z .table)
+      opening-not-refused n (role i .seat) round keys .1
+      (record { range = record { some = z .fits .some; most = z .fits .most; inside = inside (role i .side) (role i .seat) (z .fits .signs i); early = z .early }; table = z .table })
 
   family : Family S (boat S P)
   family = record { opened = opened; apart = z .fits .apart }
@@ -297,14 +297,16 @@ module _ (S : Setting) {I : Type 0} (P : Plan I) (z : Splits S P) where
       timely : early r m ≡ false
       timely = said-timely r m (y .submitted)
 
-      passes : lowest (stepConditions checks keys r s m out) ≡ 0
+      passes : refusalOf S (given S P m) r s ≡ 0
+      unfolding step resultBy
       passes =
-          step-unrefused checks keys r s m out (possible checks W r s (y .sound) (y .settled)) (rw (y .size-is) (z .table)) roomy (rw (y .size-is) (z .outRoom)) (x .forStep) timely taken-here
+          step-is S (given S P m) (render m) out r s (given-step m) .0
+          ∙ message-not-refused checks keys r s out m
+          (record { possible = possible checks W r s (y .sound) (y .settled); table = rw (y .size-is) (z .table); storeRoom = roomy; outRoom = rw (y .size-is) (z .outRoom) })
+          (rw (y .size-is) (x .formed)) (x .forStep) taken-here timely
 
       leaves : outcome S (given S P m) r s ≡ resultBy 0 t r s
-      leaves =
-          let is = step-is S (given S P m) (render m) out r s (given-step m) in
-          outcome-is S (given S P m) r s ∙ rw (is .0, is .1, reads, passes)
+      leaves = outcome-is S (given S P m) r s ∙ rw (passes, step-is S (given S P m) (render m) out r s (given-step m) .1, reads)
 
       done : Done checks W (start r s) t
       done = stepped-done checks W (start r s) (y .sound) roomy (y .settled) m (brings checks W r m taken-here timely (subst (Laid (r .n)) reads (read-laid (r .n) (render m))) (x .worthy))
@@ -436,27 +438,29 @@ module _ (S : Setting) {I : Type 0} (P : Plan I) (z : Splits S P) where
     start-room : storeLength (start-record .n) ≤ length store
     start-room = rw (start-n S u (opened i)) (z .storeRoom)
 
-    submit-passes : lowest (submitConditions checks keys start-record store (layout side) (signature side (role i .seat)) out) ≡ 0
-    unfolding submitConditions recordConditions signatureConditions shortStore shortOut said wrongLengths badSignature signed every lowest
+    submit-passes : refusalOf S (ownSubmit S P i) start-record store ≡ 0
+    unfolding refusalOf submit resultBy
     submit-passes =
-        rw (
-          possible checks W start-record store (start-sound S u (opened i) W) (start-settled S u (opened i)),
-          start-n S u (opened i),
-          z .table,
-          le-ltb (length store) (storeLength n) (z .storeRoom),
-          le-ltb (length out) (outLength n) (z .outRoom),
-          unsaid,
-          z .layouts side,
-          own-kept .sized,
-          eq-eqb signatureLength signatureLength refl,
-          own-kept .checked,
-        )
+        let same = start-n S u (opened i) in
+        submit-not-refused checks keys start-record store (layout side) (signature side (role i .seat)) out .1
+        (record {
+          lent = record {
+            possible = possible checks W start-record store (start-sound S u (opened i) W) (start-settled S u (opened i));
+            table = rw same (z .table);
+            storeRoom = start-room;
+            outRoom = rw same (z .outRoom);
+          };
+          first = unsaid;
+          sizedValue = z .layouts side;
+          sizedSignature = own-kept .sized;
+          checked = own-kept .checked;
+        })
 
     abbrev submitted-state : State
     submitted-state = submitted (layout side) (signature side (role i .seat)) (start start-record store)
 
     submit-leaves : outcome S (ownSubmit S P i) start-record store ≡ resultBy 0 submitted-state start-record store
-    unfolding refusalOf cameTo
+    unfolding cameTo
     submit-leaves = outcome-is S (ownSubmit S P i) start-record store ∙ rw submit-passes
 
     submit-ready : Ready (submitted-state .unit) (submitted-state .store)
@@ -632,35 +636,30 @@ module _ (S : Setting) {I : Type 0} (P : Plan I) (z : Splits S P) where
   unfolding evidenceOutLength evidenceLength evidenceEntryAt evidenceEntryLength outLength
   making-room = let r = z .outRoom in omega arith
 
-  making-passes : lowest (conditions S (inHand S P)) ≡ 0
-  unfolding makingConditions twoConditions certificateConditions outsideConditions formConditions signatureConditions shortOut equalValues isFull certificateIn certificateOf fullOf lowest
-  making-passes =
-      let a = of-taken checks n round (fullBy S P false) (full-sent false .taken) in
-      let b = of-taken checks n round (fullBy S P true) (full-sent true .taken) in
-      rw (
-        read-render n (fullBy S P false) (full-sent false .formed),
-        read-render n (fullBy S P true) (full-sent true .formed),
-        size-right n (z .fits .some) (z .fits .most),
-        round-right round (z .early),
-        z .table,
-        le-ltb (length out) (evidenceOutLength n) making-room,
-        a .0,
-        a .1,
-        a .2,
-        a .3,
-        b .0,
-        b .1,
-        b .2,
-        b .3,
-        same-false (layout false) (layout true) (z .different),
-      )
+  fulls-differ : certificateIn (fullBy S P false) .value ≢ certificateIn (fullBy S P true) .value
+  unfolding fullOf certificateIn certificateOf
+  fulls-differ = z .different
 
-  making-number : making checks n round keys (inHand S P .a) (inHand S P .b) out .refusal ≡ 0
-  unfolding making makingBy
-  making-number = making-passes
+  is-full : (b : Bool) → isFull (fullBy S P b) ≡ true
+  unfolding fullOf isFull
+  is-full b = refl
+
+  making-passes : making checks n round keys (inHand S P .a) (inHand S P .b) out .refusal ≡ 0
+  making-passes =
+      let reads : (b : Bool) → fullBy S P b ≡ read n (render (fullBy S P b)) = λ b. sym (read-render n (fullBy S P b) (full-sent b .formed)) in
+      making-not-refused checks n round keys (inHand S P .a) (inHand S P .b) out .1
+      (record {
+        outside = record { some = z .fits .some; most = z .fits .most; inTime = z .early; table = z .table };
+        outRoom = making-room;
+        firstFull = subst (λ m. isFull m ≡ true) (reads false) (is-full false);
+        secondFull = subst (λ m. isFull m ≡ true) (reads true) (is-full true);
+        first = subst (Taken checks n round) (reads false) (full-sent false .taken);
+        second = subst (Taken checks n round) (reads true) (full-sent true .taken);
+        conflict = subst₂ (λ a b. certificateIn a .value ≢ certificateIn b .value) (reads false) (reads true) fulls-differ;
+      })
 
   accuses : Accuses S (inHand S P .a) (inHand S P .b) (makingOf S (inHand S P))
-  accuses = made-accepted S (inHand S P) making-number
+  accuses = made-accepted S (inHand S P) making-passes
 
   full-signers : (b : Bool) → certificateIn (read n (render (fullBy S P b))) .seats ≡ signers b
   unfolding fullOf certificateIn certificateOf
@@ -668,13 +667,14 @@ module _ (S : Setting) {I : Type 0} (P : Plan I) (z : Splits S P) where
 
   -- it is one EVIDENCE
   made : (i : I) → MakesEvidence S (boat S P i) (makingOf S (inHand S P))
-  unfolding unrefused renderAll isEvidence
+  unfolding making makingBy unrefused renderAll isEvidence
   made i =
       let h = inHand S P in
-      let t = making-taken checks n round keys (read n (h .a)) (read n (h .b)) out making-passes in
+      let zero : lowest (conditions S h) ≡ 0 = making-passes in
+      let t = making-taken checks n round keys (read n (h .a)) (read n (h .b)) out zero in
       let ca = certifies-in checks Any n round (read n (h .a)) (t .fullA) (t .takenA) (read-laid n (h .a)) (λ s d. tt) in
       let cb = certifies-in checks Any n round (read n (h .b)) (t .fullB) (t .takenB) (read-laid n (h .b)) (λ s d. tt) in
-      let bytes : makingOf S h ≡ render (evidenceFrom S h) = making-bytes S h ∙ rw making-passes in
+      let bytes : makingOf S h ≡ render (evidenceFrom S h) = making-bytes S h ∙ rw zero in
       evidence-elim checks Any (λ m. makingOf S h ≡ render m → MakesEvidence S (boat S P i) (makingOf S h)) n round (certificateIn (read n (h .a))) (certificateIn (read n (h .b))) (z .fits .some) ca cb (t .different)
       (λ lower higher ps y is.
       let m = Evidence round lower higher ps in
