@@ -10,7 +10,7 @@ use native.Mathlib.Decide.{decLt, decLe}
 use lib.Dec.{eqb, ltb, leb}
 use lib.ListN.{length, take, drop, length-take, length-drop}
 use lib.Seq.{getD-take, take-all, take-nil}
-use borrow.Author.Tests.{ne-eqb, lt-ltb, le-ltb, le-leb, lt-leb}
+use borrow.Author.Tests.{lt-ltb, le-ltb, le-leb, lt-leb}
 use Rattle.protocol.specs.Layout.{signatureLength}
 use Rattle.protocol.specs.Message.{byteAt}
 use Rattle.protocol.specs.Refusals.{Checks, shortOut, recordConditions, submitConditions, stepConditions}

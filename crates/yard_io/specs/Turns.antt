@@ -30,7 +30,7 @@ pub record Later (keys : List ℕ) (r : Record) (store out : List ℕ) (t : Take
 
 -- ---- one after another: what was read and printed is some input and its lines
 
--- so many commands after the first, of which the last ends the program or not: record, store and out before and after
+-- some commands after the first, the last of which ends the program or not: record, store and out before and after
 pub record Turns (ends : Bool) (keys : List ℕ) (r : Record) (store out : List ℕ) (last : Record) (store′ out′ : List ℕ) : Type 0 where
   pub input : List ℕ
   pub lines : List ℕ

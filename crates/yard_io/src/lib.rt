@@ -81,6 +81,7 @@ fn next_turn(unit: Record, keys: &[u8], store: &mut [u8], out: &mut [u8], input:
     Taken { have, turn }
 }
 
+// Prints a line.
 fn print(line: Line)
     requires { ⌜ Fits line ⌝ }
 {
