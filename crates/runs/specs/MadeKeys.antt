@@ -15,7 +15,7 @@ use Rattle.octets.specs.StringLaws.{number-part-four, length-joined, part-joine
 use Rattle.rfc8554.specs.Tree.{publicKey, treeFilled}
 use Rattle.rfc8554.specs.TreeLaws.{length-treeFilled}
 use Rattle.rfc8554.specs.VerifyLaws.{length-publicKey, lmsType-publicKey, otsType-publicKey}
-use Rattle.protocol.specs.Signatures.{Made, Signed, makeKey, sign, signedBytes, seatKey, checks}
+use Rattle.protocol.specs.Signatures.{MadeKey, MadeSignature, makeKey, sign, signedBytes, seatKey, checks}
 use Rattle.protocol.specs.SignatureLaws.{length-signedBytes, length-lmsSignature-six-four, makeKey-unrefused, sign-unrefused}
 use Rattle.protocol.specs.SignatureClaim.{made-signature-checks}
 use Rattle.protocol.specs.Layout.{valueLength, signatureLength}
@@ -41,7 +41,7 @@ pub record Stated (M : Material) : Type 0 where
 
 module _ (M : Material) where
   -- the key of a seat, with its tree, and the table of n seats
-  abbrev pub madeKey : ℕ → Made
+  abbrev pub madeKey : ℕ → MadeKey
   madeKey s = makeKey (M .seed s) (M .identifier s) (M .tree s) (M .keyOut)
 
   abbrev pub madeKeys : ℕ → List ℕ
@@ -57,7 +57,7 @@ module _ (M : Material) where
     key-is s = makeKey-unrefused (M .seed s) (M .identifier s) (M .tree s) (M .keyOut) (f .seeds s) (f .identifiers s) (f .trees s) (f .keyRoom)
 
     written-is : (s : ℕ) → madeKey s .written ≡ publicKey 6 4 (M .identifier s) (M .seed s)
-    written-is s = ap (λ (m : Made). m .written) (key-is s)
+    written-is s = ap (λ (m : MadeKey). m .written) (key-is s)
 
     key-length : (s : ℕ) → length (madeKey s .written) ≡ 56
     key-length s = ap length (written-is s) ∙ length-publicKey 6 4 (M .identifier s) (M .seed s) (f .identifiers s)
@@ -96,8 +96,8 @@ module _ (M : Material) where
           let tree = treeFilled id (M .seed s) (M .tree s) in
           let filled = length-treeFilled id (M .seed s) (M .tree s) (f .trees s) in
           let short : length message ≤ 65535 = rw (length-signedBytes round s (layout side) (layouts side)) (omega arith) in
-          ap (λ (m : Made). length (sign round message (M .seed s) id (M .randomizer side s) (m .tree) (M .signOut) .written)) (key-is s)
-          ∙ ap (λ (g : Signed). length (g .written)) (sign-unrefused (M .seed s) id tree (M .signOut) (f .seeds s) (f .identifiers s) filled round message (M .randomizer side s) early short (f .randomizers side s) (f .signRoom))
+          ap (λ (m : MadeKey). length (sign round message (M .seed s) id (M .randomizer side s) (m .tree) (M .signOut) .written)) (key-is s)
+          ∙ ap (λ (g : MadeSignature). length (g .written)) (sign-unrefused (M .seed s) id tree (M .signOut) (f .seeds s) (f .identifiers s) filled round message (M .randomizer side s) early short (f .randomizers side s) (f .signRoom))
           ∙ length-lmsSignature-six-four id round (M .seed s) (M .randomizer side s) message tree early (f .randomizers side s) filled
 
       pub signature-checks : (n : ℕ) (side : Bool) (s : ℕ) → s < n → checks (madeKeys n) round s (layout side) (madeSignature round layout side s) ≡ true
