@@ -1,7 +1,7 @@
 #!/usr/bin/env bash
 # Tries each edit of mutations/ on a copy of the repository: on its run the checker must prove that the claim which it names is
 # false. An edit of mutations/harmless/ must be found harmless. Needs the crates below `trials` proved in target/.
-# Logs: target/mutations/NAME.log
+# Logs: target/mutations/NAME.log. With an edit as argument: that one alone.
 set -euo pipefail
 cd "$(dirname "$0")/.."
 
@@ -103,35 +103,46 @@ proved() {
     return 1
 }
 
-tried=0
-for edit in mutations/*.edit; do
-    label=$(basename "$edit" .edit)
-    status=0
-    proved "$edit" false || status=$?
-    if [ "$status" -eq 1 ]; then
-        echo "mutation $label: NOT REFUTED: on the run $(field run "$edit") the premises fail or the conclusion holds ($logs/$label.log)"
-    fi
-    [ "$status" -eq 0 ] || exit 1
-    echo "mutation $label: $(field claim "$edit"): proved false on the run $(field run "$edit")"
-    tried=$((tried + 1))
-done
+# an edit that must make its claim false
+refutes() {
+    local label status=0
+    label=$(basename "$1" .edit)
+    proved "$1" false || status=$?
+    case $status in
+    0) echo "mutation $label: $(field claim "$1"): proved false on the run $(field run "$1")" ;;
+    1) echo "mutation $label: NOT REFUTED: on the run $(field run "$1") the premises fail or the conclusion holds ($logs/$label.log)" ;;
+    esac
+    return "$status"
+}
 
-harmless=0
-for edit in mutations/harmless/*.edit; do
-    label=$(basename "$edit" .edit)
+# an edit that must leave it as it is: the script refuses it, and the run's answer is that of the definitions as they stand
+harmless() {
+    local label status=0
+    label=$(basename "$1" .edit)
+    proved "$1" false || status=$?
+    [ "$status" -ne 0 ] || echo "harmless edit $label: REFUTES $(field claim "$1")"
+    [ "$status" -eq 1 ] || return 1
     status=0
-    proved "$edit" false || status=$?
-    if [ "$status" -ne 1 ]; then
-        [ "$status" -ne 0 ] || echo "harmless edit $label: REFUTES $(field claim "$edit")"
+    proved "$1" true || status=$?
+    case $status in
+    0) echo "harmless edit $label: refutes nothing, as it must be" ;;
+    1) echo "harmless edit $label: the run $(field run "$1") has another answer ($logs/$label.log)" ;;
+    esac
+    return "$status"
+}
+
+case "${1:-}" in
+mutations/harmless/*) harmless "$1" ;;
+mutations/*) refutes "$1" ;;
+*)
+    # two at a time
+    if ! printf '%s\n' mutations/*.edit mutations/harmless/*.edit | xargs -n 1 -P 2 scripts/mutations.sh; then
+        echo "mutations: FAILED"
         exit 1
     fi
-    status=0
-    proved "$edit" true || status=$?
-    if [ "$status" -ne 0 ]; then
-        [ "$status" -ne 1 ] || echo "harmless edit $label: the run $(field run "$edit") has another answer"
-        exit 1
-    fi
-    echo "harmless edit $label: refutes nothing, as it must be"
-    harmless=$((harmless + 1))
-done
-echo "$tried mutations, each refuted by its run; $harmless harmless edit found harmless"
+    set -- mutations/*.edit
+    tried=$#
+    set -- mutations/harmless/*.edit
+    echo "$tried mutations, each refuted by its run; harmless edits found harmless: $#"
+    ;;
+esac
