@@ -5,11 +5,15 @@ use mathlib.Core.Path.{_≡_, refl}
 use mathlib.Core.Bool.{true, false}
 use Rattle.claims.specs.Once.{at-most-one, none-impossible}
 use Rattle.trials.specs.Trial.{claimOf, answer}
-use Rattle.trials.specs.Trials.{unfoldedTrials, four, answering, sharing, dividedBoats, witnessedBoats, shortStoredBoats, shortOutedBoats, unheardBoats, unsignedBoats, twiceBoats, holdingBoats, unsignedEvidence, equalEvidence, answeringBoat, sharingBoat}
+use Rattle.trials.specs.Trials.{unfoldedTrials, four, answering, sharing, dividedBoats, forewarnedBoats, witnessedBoats, shortStoredBoats, shortOutedBoats, unheardBoats, unsignedBoats, twiceBoats, holdingBoats, unsignedEvidence, equalEvidence, answeringBoat, sharingBoat}
 
 divided : answer dividedBoats ≡ (true, true)
 unfolding unfoldedTrials dividedBoats
 divided = refl
+
+forewarned : answer forewarnedBoats ≡ (true, true)
+unfolding unfoldedTrials forewarnedBoats
+forewarned = refl
 
 witnessed : answer witnessedBoats ≡ (true, true)
 unfolding unfoldedTrials witnessedBoats

@@ -112,6 +112,13 @@ divided = ofTwo (then seven (map hears (sentBy nine))) (then nine (map hears (se
 unfoldable pub dividedBoats : Trial (Family four divided → Demand3 four divided)
 dividedBoats = accountability four two divided false true (layout 7) (layout 9)
 
+-- the NOTICE that each hears before it submits is all that it hears of the other's; what FULL the other writes comes after
+abbrev pub forewarned : Bool → Honest
+forewarned = ofTwo (then seven (map hears (those isFull (all four nine)))) (then nine (map hears (those isFull (all four seven))))
+
+unfoldable pub forewarnedBoats : Trial (Family four forewarned → Demand3 four forewarned)
+forewarnedBoats = accountability four two forewarned false true (layout 7) (layout 9)
+
 -- a third boat that has submitted nothing gets what both have written
 abbrev pub witnessed : Three → Honest
 witnessed = ofThree (divided false) (divided true) (boatAt 2 (map hears (sentBy seven ++ sentBy nine)))
