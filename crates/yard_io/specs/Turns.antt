@@ -1,6 +1,6 @@
 -- What the program makes of the commands that it reads.
 -- Assumes nothing.
-use mathlib.Core.Path.{_≡_}
+use mathlib.Core.Path.{_≡_, sym, _∙_}
 use mathlib.Core.Bool.{Bool, true, false}
 use mathlib.Core.List.{List, []}
 use Prim.Native.Nat.{ℕ}
@@ -8,8 +8,7 @@ use lib.ListN.{length, take}
 use Rattle.protocol.specs.Signatures.{checks}
 use Rattle.protocol.specs.Calls.{outAfter}
 use Rattle.protocol.specs.declared.Record.{Record}
-use Rattle.yard.specs.Line.{Fits}
-use Rattle.yard.specs.Commands.{told, keysOf, yardStore, yardOut, begun, turn}
+use Rattle.yard.specs.Commands.{keysOf, yardStore, yardOut, begun, turn}
 use Rattle.yard.specs.Course.{Reached, begins, follows, Ran, stops, goes}
 use Rattle.yard_io.specs.Reading.{Command}
 use Rattle.yard_io.specs.declared.Taken.{Taken}
@@ -17,14 +16,14 @@ use Rattle.yard_io.specs.declared.Taken.{Taken}
 -- the first command, read into a buffer and done
 pub record First (t : Taken) (input : List ℕ) : Type 0 where
   pub command : Command true (t .have) input
-  pub answer : t .turn ≡ told (begun (take (t .have) input))
-  pub fits : Fits (t .turn .line)
+  pub ends : t .ends ≡ begun (take (t .have) input) .ends
+  pub unit : t .unit ≡ begun (take (t .have) input) .unit
 
 -- a later one: key table, record, store and out before; the buffers after
 pub record Later (keys : List ℕ) (r : Record) (store out : List ℕ) (t : Taken) (input store′ out′ : List ℕ) : Type 0 where
   pub command : Command false (t .have) input
-  pub answer : t .turn ≡ told (turn checks keys r store out (take (t .have) input))
-  pub fits : Fits (t .turn .line)
+  pub ends : t .ends ≡ turn checks keys r store out (take (t .have) input) .ends
+  pub unit : t .unit ≡ turn checks keys r store out (take (t .have) input) .unit
   pub stored : store′ ≡ turn checks keys r store out (take (t .have) input) .store
   pub written : out′ ≡ outAfter (turn checks keys r store out (take (t .have) input) .written) out
 
@@ -55,19 +54,17 @@ turns-none = record { input = []; lines = []; reached = begins }
 
 pub turns-more : {keys store₀ out₀ store out input store′ out′ : List ℕ} {r₀ r : Record} {t : Taken}
     → Turns false keys r₀ store₀ out₀ r store out → length out ≡ length out₀ → Later keys r store out t input store′ out′
-    → Turns (t .turn .ends) keys r₀ store₀ out₀ (t .turn .unit) store′ out′
-unfolding told
+    → Turns (t .ends) keys r₀ store₀ out₀ (t .unit) store′ out′
 turns-more {input = input} {t = t} h e l =
-    rw (l .answer, l .stored, l .written) (record { input = _; lines = _; reached = follows (h .reached) e (take (t .have) input) (l .command .alone) })
+    rw (l .ends, l .unit, l .stored, l .written) (record { input = _; lines = _; reached = follows (h .reached) e (take (t .have) input) (l .command .alone) })
 
 module _ {t : Taken} {input : List ℕ} (f : First t input) where
-  pub first-stops : t .turn .ends ≡ true → AfterRun (t .turn .unit)
-  unfolding told
+  pub first-stops : t .ends ≡ true → AfterRun (t .unit)
   first-stops h =
-      rw (f .answer) (record { input = _; lines = _; ends = _; ran = stops (take (t .have) input) (f .command .alone) (rw (f .answer) at h) })
+      rw (f .unit) (record { input = _; lines = _; ends = _; ran = stops (take (t .have) input) (f .command .alone) (sym (f .ends) ∙ h) })
 
-  pub first-goes : {keys store out store′ out′ : List ℕ} {last : Record} → t .turn .ends ≡ false → keys ≡ keysOf (take (t .have) input) → store ≡ yardStore → out ≡ yardOut
-      → AfterCalls keys (t .turn .unit) store out last store′ out′ → AfterRun last
-  unfolding told begun
+  pub first-goes : {keys store out store′ out′ : List ℕ} {last : Record} → t .ends ≡ false → keys ≡ keysOf (take (t .have) input) → store ≡ yardStore → out ≡ yardOut
+      → AfterCalls keys (t .unit) store out last store′ out′ → AfterRun last
+  unfolding begun
   first-goes h k s o c =
-      record { input = _; lines = _; ends = _; ran = goes (take (t .have) input) (f .command .alone) (rw (f .answer) at h) (rw (k, s, o, f .answer) at (c .turns .reached)) }
+      record { input = _; lines = _; ends = _; ran = goes (take (t .have) input) (f .command .alone) (sym (f .ends) ∙ h) (rw (k, s, o, f .unit) at (c .turns .reached)) }

@@ -12,7 +12,6 @@ use libc::STDIN_FILENO;
 use libc::STDOUT_FILENO;
 use protocol::Record;
 use yard::commands;
-use yard::commands::Turn;
 use yard::line::Line;
 
 // Reads on from index `have` until there are `to` bytes or the input ends, and answers how many there are.
@@ -55,32 +54,6 @@ fn read_command(first: bool, space: &mut [u8]) -> usize
     read_on(space, have, whole)
 }
 
-// A command that was read, by its number of bytes, and what it came to.
-struct Taken {
-    have: usize,
-    turn: Turn,
-}
-
-// Reads the first command, and does it.
-fn first_turn(input: &mut [u8]) -> Taken
-    requires { ⌜ longestOpening ≤ length (now input) ⌝ }
-    ensures { λ t. ⌜ First t (now (input .exit)) ⌝ }
-{
-    let have = read_command(true, input);
-    let turn = commands::begin(&input[..have]);
-    Taken { have, turn }
-}
-
-// Reads a command after the first, and does it.
-fn next_turn(unit: Record, keys: &[u8], store: &mut [u8], out: &mut [u8], input: &mut [u8]) -> Taken
-    requires { ⌜ longestCall ≤ length (now input) ⌝ }
-    ensures { λ t. ⌜ Later (now (keys .entry)) unit (now (store .entry)) (now (out .entry)) t (now (input .exit)) (now (store .exit)) (now (out .exit)) ⌝ }
-{
-    let have = read_command(false, input);
-    let turn = commands::take_turn(unit, keys, store, out, &input[..have]);
-    Taken { have, turn }
-}
-
 // Prints a line.
 fn print(line: Line)
     requires { ⌜ Fits line ⌝ }
@@ -88,6 +61,47 @@ fn print(line: Line)
     let text = line.text;
     let end = line.length;
     io::write_all(STDOUT_FILENO, &text[..end]);
+}
+
+// A command that was read: its number of bytes, whether the program ends with it, and the record after it.
+struct Taken {
+    have: usize,
+    ends: bool,
+    unit: Record,
+}
+
+// Reads the first command, does it, and prints its line.
+fn first_turn(input: &mut [u8]) -> Taken
+    requires { ⌜ longestOpening ≤ length (now input) ⌝ }
+    ensures { λ t. ⌜ First t (now (input .exit)) ⌝ }
+{
+    let have = read_command(true, input);
+    let turn = commands::begin(&input[..have]);
+    let line = turn.line;
+    print(line);
+    let unit = turn.unit;
+    Taken {
+        have,
+        ends: turn.ends,
+        unit,
+    }
+}
+
+// Reads a command after the first, does it, and prints its line.
+fn next_turn(unit: Record, keys: &[u8], store: &mut [u8], out: &mut [u8], input: &mut [u8]) -> Taken
+    requires { ⌜ longestCall ≤ length (now input) ⌝ }
+    ensures { λ t. ⌜ Later (now (keys .entry)) unit (now (store .entry)) (now (out .entry)) t (now (input .exit)) (now (store .exit)) (now (out .exit)) ⌝ }
+{
+    let have = read_command(false, input);
+    let turn = commands::take_turn(unit, keys, store, out, &input[..have]);
+    let line = turn.line;
+    print(line);
+    let stepped = turn.unit;
+    Taken {
+        have,
+        ends: turn.ends,
+        unit: stepped,
+    }
 }
 
 // Room for the longest command after the first.
@@ -107,11 +121,8 @@ fn run_calls(unit: Record, keys: &[u8], store: &mut [u8], out: &mut [u8]) -> Rec
     let mut turns = u64::MAX;
     while 0 < turns {
         let next = next_turn(r, keys, store, out, &mut input);
-        let turn = next.turn;
-        let line = turn.line;
-        print(line);
-        r = turn.unit;
-        if turn.ends {
+        r = next.unit;
+        if next.ends {
             return r;
         }
         turns -= 1;
@@ -125,11 +136,8 @@ pub fn run() -> Record
 {
     let mut opening = [0u8; 397];
     let first = first_turn(&mut opening);
-    let turn = first.turn;
-    let line = turn.line;
-    print(line);
-    let unit = turn.unit;
-    if turn.ends {
+    let unit = first.unit;
+    if first.ends {
         return unit;
     }
     let have = first.have;

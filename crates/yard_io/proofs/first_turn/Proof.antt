@@ -1,6 +1,7 @@
 -- `yard_io::first_turn` meets its contract.
 use native.Mathlib.Omega.{arith}
 use lib.ListN.{length-take}
+use Rattle.yard.specs.Commands.{told}
 use borrow.Author.Needs.{needs}
 use Rattle.yard_io.proofs.first_turn.Statement.{statement}
 use Rattle.yard_io.proofs.first_turn.Tie as tie
@@ -17,11 +18,18 @@ slice-aggregate-begin c = simp length-take (omega arith)
 begin-requires : tie.Need-begin-requires
 begin-requires c κs = search needs
 
+print-requires : tie.Need-print-requires
+print-requires c κs = search needs
+
 same-length : tie.Need-same-length
 same-length c = search needs
 
 returns : tie.Need-returns
-returns c = search needs
+unfolding told
+returns c =
+    let done = c .before .before .before in
+    let said = done .begin .ensures .0 in
+    record { command = done .before .before .before .before .read-command .ensures; ends = rw said; unit = rw said }
 
 pub first-turn-spec : {M : Type 1} → statement M
 first-turn-spec =
@@ -31,5 +39,6 @@ first-turn-spec =
     slice-reshare-prefix-begin
     slice-aggregate-begin
     begin-requires
+    print-requires
     same-length
     returns)

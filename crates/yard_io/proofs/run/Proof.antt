@@ -12,11 +12,8 @@ slice-aggregate-first-turn c = search needs
 first-turn-requires : tie.Need-first-turn-requires
 first-turn-requires c κs = search needs
 
-print-requires : tie.Need-print-requires
-print-requires c κs = search needs
-
 returns : tie.Need-returns
-returns c = first-stops (c .before .before .before .before .before .before .first-turn .ensures) (c .if1 .taken)
+returns c = first-stops (c .before .before .before .first-turn .ensures) (c .if1 .taken)
 
 new-store-requires : tie.Need-new-store-requires
 new-store-requires c κs = search needs
@@ -48,7 +45,7 @@ returns-2 c =
     let keyed = called .before .before .before in
     let lent = keyed .before .before in
     let tested = lent .before .before in
-    let read = tested .before .before .before .before .before .before in
+    let read = tested .before .before .before in
     first-goes (read .first-turn .ensures) (tested .if1 .left) (keyed .keys-of .ensures) (lent .before .new-store .ensures .0) (lent .new-out .ensures .0) (called .run-calls .ensures)
 
 pub run-spec : {M : Type 1} → statement M
@@ -57,7 +54,6 @@ run-spec =
     (tie.spec
     slice-aggregate-first-turn
     first-turn-requires
-    print-requires
     returns
     new-store-requires
     new-out-requires

@@ -26,9 +26,6 @@ slice-aggregate-next-turn c = search needs
 next-turn-requires : tie.Need-next-turn-requires Inv-loop μ-loop
 next-turn-requires c κs = search needs
 
-print-requires : tie.Need-print-requires Inv-loop μ-loop
-print-requires c κs = search needs
-
 same-length : tie.Need-same-length Inv-loop μ-loop
 same-length c = search needs
 
@@ -37,7 +34,7 @@ same-length-2 c = search needs
 
 returns : tie.Need-returns Inv-loop μ-loop
 returns c =
-    let taken = c .before .before .before .before .before .before .before .before .before .before in
+    let taken = c .before .before .before .before .before .before .before in
     let inv = taken .before .before .before .before .before .loop .inv in
     let turns = turns-more (inv .0) (inv .3) (taken .next-turn .ensures) in
     record { ends = _; turns = turns }
@@ -50,7 +47,7 @@ loop-less c = search needs
 
 loop-again : tie.Need-loop-again Inv-loop μ-loop
 loop-again c =
-    let taken = c .before .before .before .before .before .before .before .before .before .before in
+    let taken = c .before .before .before .before .before .before .before in
     let inv = taken .before .before .before .before .before .loop .inv in
     let turns = turns-more (inv .0) (inv .3) (taken .next-turn .ensures) in
     (rw (c .if1 .left) at turns, search needs, search needs, search needs)
@@ -74,7 +71,6 @@ run-calls-spec =
     loop-holds
     slice-aggregate-next-turn
     next-turn-requires
-    print-requires
     same-length
     same-length-2
     returns
