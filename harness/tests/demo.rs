@@ -1,13 +1,127 @@
-//! The demonstration over the proved code is word for word the expected one.
+//! The demonstration over the proved code: word for word the held screens, as promised for every option, and an error where a
+//! call answers otherwise.
 #![cfg(feature = "zolbine")]
 
+use std::sync::OnceLock;
+
+use harness::confirmer::{Engine, EvidenceCheck};
 use harness::demo::options::Options;
-use harness::demo::{told_by, Calls};
+use harness::demo::{boats, told_by, Boat, Calls, Told};
 use harness::library::Library;
+use harness::parallel;
+use harness::reference::record::{Opened, Record, Stepped, Verdict};
+
+const LIBRARY: Calls = Calls { signatures: &Library, engine: &Library, evidence: &Library };
+
+/// Ten boats; a smaller fleet has the first of them.
+fn fleet() -> &'static [Boat] {
+    static BOATS: OnceLock<Vec<Boat>> = OnceLock::new();
+    BOATS.get_or_init(|| boats(LIBRARY, 10, 1))
+}
+
+fn run(calls: Calls, flags: &str) -> Told {
+    let words: Vec<String> = flags.split_whitespace().map(str::to_string).collect();
+    let options = Options::parse(&words).unwrap();
+    told_by(calls, &fleet()[..options.n as usize], &options)
+}
+
+/// A held file is what `demo` prints with its flags.
+#[test]
+fn five_sets_of_screens() {
+    for (flags, held) in [
+        ("", include_str!("../data/demo/seven.txt")),
+        ("--double-signers 2", include_str!("../data/demo/two_double_signers.txt")),
+        ("--lost-link 0-2 --lost-link 1-2", include_str!("../data/demo/lost_links.txt")),
+        ("--forged 5 --early 3", include_str!("../data/demo/forged_and_early.txt")),
+        ("--boats 10 --double-signers 5", include_str!("../data/demo/ten.txt")),
+    ] {
+        let Told { text, faults } = run(LIBRARY, flags);
+        assert_eq!(text, held, "{flags}");
+        assert!(faults.is_empty(), "{flags}: {faults:?}");
+        assert!(text.lines().all(|line| line.len() < 80), "{flags}: a line is wider than a screen");
+    }
+}
 
 #[test]
-fn a_fleet_of_seven() {
-    let calls = Calls { signatures: &Library, engine: &Library, evidence: &Library };
-    let told = told_by(calls, Options::parse(&[]).unwrap());
-    assert_eq!(told, include_str!("../data/demo.txt"));
+fn all_is_as_promised_for_any_number_of_double_signers() {
+    let fleets = [2, 3, 4, 5, 7].into_iter().flat_map(|n| (0..=n - 2).map(move |double| (n, double)));
+    let radios = ["", "--lost-link 0-1 --forged 1", "--early 0 --lost-link 1-0"];
+    let cases: Vec<String> = fleets
+        .flat_map(|(n, double)| radios.map(|radio| format!("--boats {n} --double-signers {double} {radio}")))
+        .collect();
+    parallel::map(&cases, |flags| {
+        let faults = run(LIBRARY, flags).faults;
+        assert!(faults.is_empty(), "{flags}: {faults:?}");
+    });
+}
+
+/// A boat that hears nobody at first.
+#[test]
+fn all_is_as_promised_after_a_lost_boat() {
+    let links: String = (1..7).map(|seat| format!(" --lost-link 0-{seat}")).collect();
+    for double in [0, 2, 3, 5] {
+        let faults = run(LIBRARY, &format!("--double-signers {double}{links} --forged 0 --early 4")).faults;
+        assert!(faults.is_empty(), "{double}: {faults:?}");
+    }
+}
+
+/// A check of evidence with another verdict.
+struct Verdicts(fn(Verdict) -> Verdict);
+
+impl EvidenceCheck for Verdicts {
+    fn check_evidence(&self, n: u32, round: u32, keys: &[u8], evidence: &[u8]) -> Verdict {
+        self.0(Library.check_evidence(n, round, keys, evidence))
+    }
+}
+
+#[test]
+fn evidence_counts_by_the_checks_verdict_alone() {
+    let refused = Verdicts(|_| Verdict { number: 14, mask: 0 });
+    let honest_named = Verdicts(|verdict| Verdict { mask: verdict.mask | 1, ..verdict });
+    let too_few = Verdicts(|verdict| Verdict { mask: verdict.mask & (verdict.mask - 1), ..verdict });
+    for (check, told) in [
+        (refused, "0 of 4 honest boats hold evidence"),
+        (honest_named, "HONEST BOATS ARE NAMED: boat 0."),
+        (too_few, "0 of 4 honest boats hold evidence"),
+    ] {
+        let Told { text, faults } = run(Calls { evidence: &check, ..LIBRARY }, "");
+        assert!(text.contains(told), "{text}");
+        assert_eq!(faults.len(), 8, "each EVIDENCE, and each honest boat: {faults:?}");
+    }
+}
+
+/// A step with another answer.
+struct Steps(fn(Stepped) -> Stepped);
+
+impl Engine for Steps {
+    fn open(&self, n: u32, seat: u32, round: u32, keys: &[u8]) -> Opened {
+        Library.open(n, seat, round, keys)
+    }
+
+    fn submit(
+        &self,
+        record: Record,
+        keys: &[u8],
+        store: &mut [u8],
+        value: &[u8],
+        signature: &[u8],
+        out: &mut [u8],
+    ) -> Stepped {
+        Library.submit(record, keys, store, value, signature, out)
+    }
+
+    fn step(&self, record: Record, keys: &[u8], store: &mut [u8], message: &[u8], out: &mut [u8]) -> Stepped {
+        self.0(Library.step(record, keys, store, message, out))
+    }
+}
+
+#[test]
+fn an_engine_that_answers_otherwise_is_told() {
+    let silent = Steps(|stepped| Stepped { written: 0, ..stepped });
+    let takes_all = Steps(|stepped| Stepped { number: 0, ..stepped });
+    let unconfirmed = Steps(|stepped| Stepped { record: Record { confirmed: false, ..stepped.record }, ..stepped });
+    for (engine, flags) in [(silent, ""), (takes_all, "--forged 1"), (unconfirmed, "--double-signers 2")] {
+        let faults = run(Calls { engine: &engine, ..LIBRARY }, flags).faults;
+        assert!(!faults.is_empty(), "{flags}");
+    }
 }

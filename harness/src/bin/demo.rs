@@ -3,11 +3,15 @@
 use std::process::exit;
 
 use harness::demo::options::{Options, USAGE};
-use harness::demo::{told_by, Calls};
+use harness::demo::{boats, told_by, Calls};
 use harness::library;
 
 fn main() {
     let words: Vec<String> = std::env::args().skip(1).collect();
+    if words.iter().any(|word| word == "--help" || word == "-h") {
+        print!("{USAGE}");
+        return;
+    }
     let options = Options::parse(&words).unwrap_or_else(|error| {
         eprintln!("demo: {error}\n\n{USAGE}");
         exit(2);
@@ -17,5 +21,11 @@ fn main() {
         eprintln!("demo: it runs on the proved code, which `make demo` links");
         exit(1);
     };
-    print!("{}", told_by(Calls { signatures, engine, evidence }, options));
+    let calls = Calls { signatures, engine, evidence };
+    let told = told_by(calls, &boats(calls, options.n, options.seed), &options);
+    print!("{}", told.text);
+    for fault in &told.faults {
+        eprintln!("demo: NOT AS PROMISED: {fault}");
+    }
+    exit(i32::from(!told.faults.is_empty()));
 }

@@ -4,7 +4,7 @@ use super::Calls;
 use crate::reference::calls::{Written, SIGNATURE, TREE};
 use crate::reference::engine::out_length;
 use crate::reference::lms::{IDENTIFIER, N, PUBLIC_KEY};
-use crate::reference::messages::{signed_bytes, Value};
+use crate::reference::messages::{signed_bytes, Submit, Value};
 use crate::reference::record::{Record, Stepped};
 use crate::reference::store;
 use crate::rng::Rng;
@@ -27,16 +27,21 @@ impl Boat {
         Boat { seat, public, seed, identifier, tree }
     }
 
-    /// The signature over a layout in a round, with the leaf of the round. The randomizer follows from seed and layout,
-    /// where a display takes 32 fresh random bytes.
-    pub fn sign(&self, calls: Calls, round: u32, value: &Value) -> Vec<u8> {
-        let message = signed_bytes(round, self.seat, value);
+    /// The boat's SUBMIT of a layout in a round.
+    pub fn submit(&self, calls: Calls, round: u32, value: &Value) -> Submit {
+        self.submit_as(self.seat, calls, round, value)
+    }
+
+    /// A SUBMIT in the name of any seat, signed with this boat's key under the leaf of the round. The randomizer follows
+    /// from seed and layout, where a display takes 32 fresh random bytes.
+    pub fn submit_as(&self, seat: u32, calls: Calls, round: u32, value: &Value) -> Submit {
+        let message = signed_bytes(round, seat, value);
         let randomizer = Rng::new(u64::from(round), &format!("{:02x?}{:02x?}", self.seed, value)).bytes(N);
         let mut signature = vec![0; SIGNATURE];
         let Boat { seed, identifier, tree, .. } = self;
         let answer = calls.signatures.sign(round, seed, identifier, &randomizer, tree, &message, &mut signature);
         assert_eq!(answer, Written { number: 0, written: SIGNATURE as u32 });
-        signature
+        Submit { round, seat, value: *value, signature }
     }
 }
 
@@ -49,6 +54,14 @@ pub struct Unit<'a> {
     out: Vec<u8>,
 }
 
+/// What came of a call: a refusal's number or 0, the record before and after it, and the bytes to send.
+pub struct Answer {
+    pub number: u32,
+    pub before: Record,
+    pub after: Record,
+    pub written: Vec<u8>,
+}
+
 impl<'a> Unit<'a> {
     pub fn open(calls: Calls<'a>, n: u32, seat: u32, round: u32, keys: &'a [u8]) -> Unit<'a> {
         let opened = calls.engine.open(n, seat, round, keys);
@@ -56,22 +69,21 @@ impl<'a> Unit<'a> {
         Unit { calls, keys, record: opened.record, store: vec![0; store::length(n)], out: vec![0; out_length(n)] }
     }
 
-    /// What the unit sends.
-    pub fn submit(&mut self, value: &Value, signature: &[u8]) -> Vec<u8> {
+    pub fn submit(&mut self, own: &Submit) -> Answer {
         let Unit { calls, keys, record, store, out } = self;
-        let answer = calls.engine.submit(*record, keys, store, value, signature, out);
+        let answer = calls.engine.submit(*record, keys, store, &own.value, &own.signature, out);
         self.taken(answer)
     }
 
-    pub fn hear(&mut self, message: &[u8]) -> Vec<u8> {
+    pub fn hear(&mut self, message: &[u8]) -> Answer {
         let Unit { calls, keys, record, store, out } = self;
         let answer = calls.engine.step(*record, keys, store, message, out);
         self.taken(answer)
     }
 
-    fn taken(&mut self, answer: Stepped) -> Vec<u8> {
-        assert_eq!(answer.number, 0, "boat {} refuses a message of the demonstration", self.record.seat);
-        self.record = answer.record;
-        self.out[..answer.written as usize].to_vec()
+    fn taken(&mut self, answer: Stepped) -> Answer {
+        let before = std::mem::replace(&mut self.record, answer.record);
+        let written = self.out[..answer.written as usize].to_vec();
+        Answer { number: answer.number, before, after: answer.record, written }
     }
 }

@@ -1,63 +1,110 @@
 //! The demonstration's numbers, from flags or by default, and what is wrong with numbers that make no sense.
 
 use crate::fleet::fewest_to_split;
-use crate::reference::quorum::{k, t0};
 
-#[derive(Clone, Copy, Debug, PartialEq, Eq)]
+#[derive(Clone, Debug, PartialEq, Eq)]
 pub struct Options {
     /// Boats in the fleet.
     pub n: u32,
     /// How many of them sign both layouts.
     pub double_signers: u32,
+    /// Pairs of boats that don't hear each other at first.
+    pub lost_links: Vec<(u32, u32)>,
+    /// The boat in whose name somebody else sends a SUBMIT.
+    pub forged: Option<u32>,
+    /// The boat that submits before all others.
+    pub early: Option<u32>,
     /// Keys, layouts and randomizers follow from it.
     pub seed: u64,
 }
 
 pub const USAGE: &str = "\
-demo [--n BOATS] [--double-signers BOATS] [--seed NUMBER]
-  --n               boats in the fleet, 4 to 32 (7)
-  --double-signers  boats that sign two layouts (as few as can split the fleet)
-  --seed            keys and layouts follow from it, so a run can be repeated (1)";
+demo [--boats N] [--double-signers N] [--lost-link SEAT-SEAT].. [--forged SEAT]
+     [--early SEAT] [--seed NUMBER]
+
+  --boats N            boats in the fleet, 2 to 32; without it 7
+  --double-signers N   boats that sign two layouts in round 2, the last seats;
+                       from 0 up to all boats but two; without it as few as can
+                       split the fleet
+  --lost-link 0-3      boats 0 and 3 don't hear each other at first; may be given
+                       more than once
+  --forged SEAT        somebody sends a SUBMIT in the name of this boat, without
+                       its key
+  --early SEAT         this boat sends its SUBMIT before the others have signed
+  --seed NUMBER        keys and layouts follow from it, so that a run can be
+                       repeated; without it 1
+  --help               this page
+
+From make, in quotes:  make demo DEMO=\"--double-signers 2 --lost-link 0-3\"
+Try first:
+  --double-signers 2                 two double signers can't split seven boats
+  --lost-link 0-2 --lost-link 1-2    a radio link that comes back late
+  --forged 5 --early 3               a forged signature, and a boat ahead of time
+  --boats 10 --double-signers 5      a larger fleet
+";
+
+const FLAGS: [&str; 6] = ["--boats", "--double-signers", "--lost-link", "--forged", "--early", "--seed"];
 
 impl Options {
     pub fn parse(words: &[String]) -> Result<Options, String> {
         let (mut n, mut double_signers, mut seed) = (7, None, 1);
+        let (mut lost_links, mut forged, mut early) = (Vec::new(), None, None);
         for pair in words.chunks(2) {
             let flag = pair[0].as_str();
-            if !["--n", "--double-signers", "--seed"].contains(&flag) {
+            if !FLAGS.contains(&flag) {
                 return Err(format!("{flag}: no such flag"));
             }
             let word = pair.get(1).ok_or_else(|| format!("{flag} needs a number"))?;
-            let number: u64 = word.parse().map_err(|_| format!("{flag} {word}: not a number"))?;
-            let boats = || u32::try_from(number).map_err(|_| format!("{flag} {number}: no such number of boats"));
+            let number = || word.parse::<u32>().map_err(|_| format!("{flag} {word}: not a number that fits"));
             match flag {
-                "--n" => n = boats()?,
-                "--double-signers" => double_signers = Some(boats()?),
-                _ => seed = number,
+                "--boats" => n = number()?,
+                "--double-signers" => double_signers = Some(number()?),
+                "--lost-link" => lost_links.push(link(word)?),
+                "--forged" => forged = Some(number()?),
+                "--early" => early = Some(number()?),
+                _ => seed = word.parse().map_err(|_| format!("{flag} {word}: not a number that fits"))?,
             }
         }
-        if !(4..=32).contains(&n) {
-            return Err(format!(
-                "--n {n}: a fleet has at most 32 boats, and one of less than 4 can't be split while two boats are honest"
-            ));
+        if !(2..=32).contains(&n) {
+            return Err(format!("--boats {n}: a fleet has 2 to 32 boats"));
         }
-        Options { n, double_signers: double_signers.unwrap_or(fewest_to_split(n)), seed }.tested()
+        let double_signers = double_signers.unwrap_or(fewest_to_split(n).min(n - 2));
+        Options { n, double_signers, lost_links, forged, early, seed }.tested()
     }
 
     fn tested(self) -> Result<Options, String> {
         let Options { n, double_signers, .. } = self;
-        let told = format!("--double-signers {double_signers}");
-        if double_signers < fewest_to_split(n) {
-            let (k, shared) = (k(n), t0(n) + 1);
+        if double_signers > n - 2 {
             return Err(format!(
-                "{told}: too few to split {n} boats, which takes {} at least: any two sets of {k} boats share {shared}",
-                fewest_to_split(n)
+                "--double-signers {double_signers}: of {n} boats two at least must be honest, so {} at most",
+                n - 2
             ));
         }
-        if double_signers + 2 > n {
-            return Err(format!("{told}: of {n} boats two at least must be honest, to disagree"));
+        let stranger = |&seat: &u32| seat >= n;
+        let no_seat = |flag: &str, word: String| Err(format!("{flag} {word}: the seats are 0 to {}", n - 1));
+        if let Some((one, other)) = self.lost_links.iter().find(|(one, other)| stranger(one) || stranger(other)) {
+            return no_seat("--lost-link", format!("{one}-{other}"));
+        }
+        for (flag, seat) in [("--forged", self.forged), ("--early", self.early)] {
+            if let Some(seat) = seat.filter(stranger) {
+                return no_seat(flag, seat.to_string());
+            }
         }
         Ok(self)
+    }
+
+    /// Whether two boats hear each other from the start.
+    pub fn linked(&self, one: u32, other: u32) -> bool {
+        !self.lost_links.iter().any(|&link| link == (one, other) || link == (other, one))
+    }
+}
+
+/// `0-3`.
+fn link(word: &str) -> Result<(u32, u32), String> {
+    let ends = word.split_once('-').and_then(|(one, other)| Some((one.parse().ok()?, other.parse().ok()?)));
+    match ends {
+        Some((one, other)) if one != other => Ok((one, other)),
+        _ => Err(format!("--lost-link {word}: a link is between two boats, as 0-3")),
     }
 }
 
@@ -69,27 +116,46 @@ mod tests {
         Options::parse(&line.split_whitespace().map(str::to_string).collect::<Vec<_>>())
     }
 
+    fn plain(n: u32, double_signers: u32, seed: u64) -> Options {
+        Options { n, double_signers, lost_links: vec![], forged: None, early: None, seed }
+    }
+
     #[test]
     fn flags_and_defaults() {
-        assert_eq!(parse(""), Ok(Options { n: 7, double_signers: 3, seed: 1 }));
-        assert_eq!(parse("--n 32 --seed 9"), Ok(Options { n: 32, double_signers: 12, seed: 9 }));
-        assert_eq!(parse("--double-signers 5 --n 8"), Ok(Options { n: 8, double_signers: 5, seed: 1 }));
-        assert!((4..=32).all(|n| parse(&format!("--n {n}")).is_ok()));
+        assert_eq!(parse(""), Ok(plain(7, 3, 1)));
+        assert_eq!(parse("--boats 32 --seed 9"), Ok(plain(32, 12, 9)));
+        assert_eq!(parse("--double-signers 5 --boats 8"), Ok(plain(8, 5, 1)));
+        assert_eq!(parse("--double-signers 0"), Ok(plain(7, 0, 1)));
+        assert!((2..=32).all(|n| parse(&format!("--boats {n}")).is_ok()));
+        let radio = parse("--lost-link 0-3 --forged 6 --early 0 --lost-link 5-4").unwrap();
+        assert_eq!(
+            radio,
+            Options { lost_links: vec![(0, 3), (5, 4)], forged: Some(6), early: Some(0), ..plain(7, 3, 1) }
+        );
+        assert_eq!([(3, 0), (4, 5), (0, 4)].map(|(one, other)| radio.linked(one, other)), [false, false, true]);
     }
 
     #[test]
     fn numbers_that_make_no_sense_are_told() {
         for (line, told) in [
-            ("--n 0", "--n 0: a fleet has at most 32 boats"),
-            ("--n 3", "--n 3: a fleet has at most 32 boats"),
-            ("--n 33", "--n 33: a fleet has at most 32 boats"),
-            ("--n 4294967300", "--n 4294967300: no such number of boats"),
-            ("--n seven", "--n seven: not a number"),
-            ("--n", "--n needs a number"),
-            ("--seed -1", "--seed -1: not a number"),
-            ("--double-signers 2", "--double-signers 2: too few to split 7 boats, which takes 3 at least"),
-            ("--double-signers 6", "--double-signers 6: of 7 boats two at least must be honest"),
-            ("--boats 7", "--boats: no such flag"),
+            ("--boats 0", "--boats 0: a fleet has 2 to 32 boats"),
+            ("--boats 33", "--boats 33: a fleet has 2 to 32 boats"),
+            ("--boats 4294967300", "--boats 4294967300: not a number that fits"),
+            ("--boats seven", "--boats seven: not a number that fits"),
+            ("--boats", "--boats needs a number"),
+            ("--seed -1", "--seed -1: not a number that fits"),
+            ("--double-signers 6", "--double-signers 6: of 7 boats two at least must be honest, so 5 at most"),
+            (
+                "--double-signers 1 --boats 2",
+                "--double-signers 1: of 2 boats two at least must be honest, so 0 at most",
+            ),
+            ("--double-signers 4294967295", "--double-signers 4294967295: of 7 boats two at least"),
+            ("--lost-link 0-7", "--lost-link 0-7: the seats are 0 to 6"),
+            ("--lost-link 3-3", "--lost-link 3-3: a link is between two boats, as 0-3"),
+            ("--lost-link 3", "--lost-link 3: a link is between two boats, as 0-3"),
+            ("--forged 7", "--forged 7: the seats are 0 to 6"),
+            ("--early 7", "--early 7: the seats are 0 to 6"),
+            ("--n 7", "--n: no such flag"),
         ] {
             let error = parse(line).unwrap_err();
             assert!(error.starts_with(told), "{line}: {error}");

@@ -1,0 +1,285 @@
+//! A round played over the calls: what each unit is given, what came of it, and what is lost on the way.
+
+use std::collections::BTreeMap;
+
+use super::boat::{Answer, Boat, Unit};
+use super::options::Options;
+use super::Calls;
+use crate::air;
+use crate::parallel;
+use crate::reference::messages::{Submit, Value, EVIDENCE, FULL, NOTICE};
+use crate::reference::record::{Record, Verdict};
+
+/// The two layouts of the demonstration.
+#[derive(Clone, Copy, PartialEq, Eq, PartialOrd, Ord)]
+pub struct Layout {
+    pub name: char,
+    pub value: Value,
+}
+
+/// Honest boats that sign one layout.
+pub struct Side {
+    pub layout: Layout,
+    pub honest: Vec<u32>,
+}
+
+pub struct Fleet<'a> {
+    pub calls: Calls<'a>,
+    pub options: &'a Options,
+    pub boats: &'a [Boat],
+    pub keys: Vec<u8>,
+    pub layouts: [Layout; 2],
+}
+
+/// A message on the air.
+#[derive(Clone)]
+pub struct Sent {
+    pub from: u32,
+    pub bytes: Vec<u8>,
+    pub forged: bool,
+}
+
+#[derive(Clone)]
+pub enum Given {
+    /// The own layout and signature.
+    Own,
+    Message(Sent),
+    /// A message that came too early, given again.
+    PutBy(Sent),
+}
+
+pub struct Event {
+    pub seat: u32,
+    pub given: Given,
+    /// None where the message was lost.
+    pub answer: Option<Answer>,
+}
+
+/// A part of a round, and the units' records at its end.
+pub struct Stage {
+    pub events: Vec<Event>,
+    pub records: Vec<Record>,
+}
+
+/// A round as it was played.
+pub struct Played {
+    pub number: u32,
+    pub sides: Vec<Side>,
+    pub double: Vec<u32>,
+    pub submits: Stage,
+    pub notices: Stage,
+    pub fulls: Stage,
+    /// What was lost is sent again, and what it calls forth.
+    pub late: Stage,
+    /// What the check says of each EVIDENCE.
+    pub evidence: Vec<(Sent, Verdict)>,
+    /// Every message of the round, heard a second time.
+    pub again: Stage,
+}
+
+impl Stage {
+    pub fn of(&self, seat: u32) -> impl Iterator<Item = &Event> {
+        self.events.iter().filter(move |event| event.seat == seat)
+    }
+
+    pub fn record(&self, seat: u32) -> &Record {
+        self.records.iter().find(|record| record.seat == seat).expect("a unit's seat")
+    }
+
+    /// The messages that the units wrote.
+    pub fn sent(&self) -> Vec<Sent> {
+        self.events.iter().flat_map(Event::sent).collect()
+    }
+}
+
+impl Event {
+    pub fn message(&self) -> Option<&Sent> {
+        match &self.given {
+            Given::Own => None,
+            Given::Message(sent) | Given::PutBy(sent) => Some(sent),
+        }
+    }
+
+    fn sent(&self) -> Vec<Sent> {
+        let written = self.answer.iter().flat_map(|answer| air::messages(&answer.written));
+        written.map(|bytes| Sent { from: self.seat, bytes, forged: false }).collect()
+    }
+}
+
+impl Played {
+    /// The parts in which messages of the round are heard for the first time.
+    pub fn stages(&self) -> [&Stage; 4] {
+        [&self.submits, &self.notices, &self.fulls, &self.late]
+    }
+
+    pub fn honest(&self) -> Vec<u32> {
+        self.sides.iter().flat_map(|side| side.honest.clone()).collect()
+    }
+}
+
+impl Fleet<'_> {
+    pub fn play(&self, number: u32, sides: Vec<Side>, double: Vec<u32>) -> Played {
+        let mut air = Air::new(self, number, &sides, &double);
+        let submits = air.submits(&sides);
+        let notices = air.broadcast(of_command(submits.sent(), NOTICE));
+        let fulls = air.broadcast(of_command(notices.sent(), FULL));
+        let late = air.late(fulls.sent());
+        let said = [&submits, &notices, &fulls, &late].into_iter().flat_map(Stage::sent).collect();
+        let check = |sent: Sent| {
+            let verdict = self.calls.evidence.check_evidence(self.options.n, number, &self.keys, &sent.bytes);
+            (sent, verdict)
+        };
+        let evidence = of_command(said, EVIDENCE).into_iter().map(check).collect();
+        let again = air.again([&submits, &notices, &fulls, &late]);
+        Played { number, sides, double, submits, notices, fulls, late, evidence, again }
+    }
+}
+
+fn of_command(messages: Vec<Sent>, command: u8) -> Vec<Sent> {
+    messages.into_iter().filter(|sent| sent.bytes[0] == command).collect()
+}
+
+/// The units, and what is between them.
+struct Air<'a> {
+    fleet: &'a Fleet<'a>,
+    units: Vec<Unit<'a>>,
+    /// Each boat's SUBMIT of each layout that it signs.
+    signed: BTreeMap<(u32, Layout), Submit>,
+    /// The SUBMIT in the name of `forged`, for each layout.
+    forged: BTreeMap<Layout, Sent>,
+    /// What didn't reach a seat.
+    lost: Vec<(u32, Sent)>,
+    /// Whether every link holds.
+    whole: bool,
+}
+
+impl<'a> Air<'a> {
+    fn new(fleet: &'a Fleet<'a>, number: u32, sides: &[Side], double: &[u32]) -> Air<'a> {
+        let Fleet { calls, options, boats, keys, .. } = fleet;
+        let open = |&seat: &u32| Unit::open(*calls, options.n, seat, number, keys);
+        let signs = |side: &Side| {
+            let layout = side.layout;
+            side.honest.iter().chain(double).map(|&seat| (seat, layout)).collect::<Vec<_>>()
+        };
+        let pairs: Vec<(u32, Layout)> = sides.iter().flat_map(signs).collect();
+        let submits =
+            parallel::map(&pairs, |(seat, layout)| boats[*seat as usize].submit(*calls, number, &layout.value));
+        let forge = |side: &Side| {
+            let seat = options.forged?;
+            let forger = &boats[((seat + 1) % options.n) as usize];
+            let bytes = forger.submit_as(seat, *calls, number, &side.layout.value).write();
+            Some((side.layout, Sent { from: seat, bytes, forged: true }))
+        };
+        Air {
+            fleet,
+            units: sides.iter().flat_map(|side| &side.honest).map(open).collect(),
+            signed: pairs.into_iter().zip(submits).collect(),
+            forged: sides.iter().filter_map(forge).collect(),
+            lost: Vec::new(),
+            whole: false,
+        }
+    }
+
+    /// Every boat signs, and hears the others' SUBMITs: the early one first, then the forged one, then by seat.
+    fn submits(&mut self, sides: &[Side]) -> Stage {
+        let mut events = Vec::new();
+        for side in sides {
+            for &seat in &side.honest {
+                events.extend(self.submits_to(seat, side.layout));
+            }
+        }
+        self.stage(events)
+    }
+
+    fn submits_to(&mut self, seat: u32, own: Layout) -> Vec<Event> {
+        let options = self.fleet.options;
+        let early = options.early.filter(|&early| early != seat && options.linked(early, seat));
+        let mut events = Vec::new();
+        if let Some(from) = early {
+            events.push(self.give(seat, Given::Message(self.shown_to(own, from))));
+        }
+        events.push(self.give(seat, Given::Own));
+        if let Some(from) = early {
+            events.push(self.give(seat, Given::PutBy(self.shown_to(own, from))));
+        }
+        if let Some(forged) = self.forged.get(&own) {
+            events.push(self.give(seat, Given::Message(forged.clone())));
+        }
+        for from in (0..options.n).filter(|&from| from != seat && Some(from) != early) {
+            events.push(self.send(self.shown_to(own, from), seat));
+        }
+        events
+    }
+
+    /// The SUBMIT of a boat that reaches a unit with such a layout: a double signer shows that very layout.
+    fn shown_to(&self, own: Layout, from: u32) -> Sent {
+        let signed = self.signed.get(&(from, own));
+        let other = || self.signed.iter().find(|((seat, _), _)| *seat == from).map(|(_, submit)| submit);
+        let submit = signed.or_else(other).expect("each boat signs a layout");
+        Sent { from, bytes: submit.write(), forged: false }
+    }
+
+    /// Each message to every unit but its sender's.
+    fn broadcast(&mut self, messages: Vec<Sent>) -> Stage {
+        let seats: Vec<u32> = self.units.iter().map(|unit| unit.record.seat).collect();
+        let mut events = Vec::new();
+        for sent in messages {
+            for &seat in seats.iter().filter(|&&seat| seat != sent.from) {
+                events.push(self.send(sent.clone(), seat));
+            }
+        }
+        self.stage(events)
+    }
+
+    /// The links are back: what was lost reaches its boats, and the answers go round until all is said. Evidence is for the
+    /// check, and not for a unit.
+    fn late(&mut self, unheard: Vec<Sent>) -> Stage {
+        self.whole = true;
+        let mut events: Vec<Event> = Vec::new();
+        for (seat, sent) in std::mem::take(&mut self.lost) {
+            events.push(self.give(seat, Given::Message(sent)));
+        }
+        let mut messages: Vec<Sent> = unheard.into_iter().chain(events.iter().flat_map(Event::sent)).collect();
+        while !messages.is_empty() {
+            messages.retain(|sent| sent.bytes[0] != EVIDENCE);
+            let answers = self.broadcast(messages).events;
+            messages = answers.iter().flat_map(Event::sent).collect();
+            events.extend(answers);
+        }
+        self.stage(events)
+    }
+
+    /// Each message that a unit has heard, once more.
+    fn again(&mut self, stages: [&Stage; 4]) -> Stage {
+        let heard = stages.into_iter().flat_map(|stage| &stage.events).filter(|event| event.answer.is_some());
+        let heard: Vec<(u32, Given)> =
+            heard.filter(|event| event.message().is_some()).map(|event| (event.seat, event.given.clone())).collect();
+        let events = heard.into_iter().map(|(seat, given)| self.give(seat, given)).collect();
+        self.stage(events)
+    }
+
+    fn send(&mut self, sent: Sent, seat: u32) -> Event {
+        if self.whole || self.fleet.options.linked(sent.from, seat) {
+            return self.give(seat, Given::Message(sent));
+        }
+        self.lost.push((seat, sent.clone()));
+        Event { seat, given: Given::Message(sent), answer: None }
+    }
+
+    fn give(&mut self, seat: u32, given: Given) -> Event {
+        let unit = self.units.iter_mut().find(|unit| unit.record.seat == seat).expect("a unit's seat");
+        let answer = match &given {
+            Given::Own => {
+                let own =
+                    self.signed.iter().find(|((signer, _), _)| *signer == seat).expect("each boat signs a layout");
+                unit.submit(own.1)
+            }
+            Given::Message(sent) | Given::PutBy(sent) => unit.hear(&sent.bytes),
+        };
+        Event { seat, given, answer: Some(answer) }
+    }
+
+    fn stage(&self, events: Vec<Event>) -> Stage {
+        Stage { events, records: self.units.iter().map(|unit| unit.record).collect() }
+    }
+}

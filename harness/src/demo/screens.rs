@@ -1,0 +1,488 @@
+//! The demonstration's screens: the text of each, from the rounds as they were played.
+
+mod mates;
+
+use super::boat::Answer;
+use super::expected::{holds, is_split};
+use super::options::Options;
+use super::round::{Event, Given, Layout, Played, Sent, Side, Stage};
+use super::words::{and, boats, boats_of, capital, count, picture, thousands};
+use crate::air;
+use crate::fleet::fewest_to_split;
+use crate::reference::quorum::k;
+use crate::reference::record::Record;
+use crate::reference::seats::{list, mask, size};
+
+/// The text under way.
+pub struct Screens<'a> {
+    options: &'a Options,
+    layouts: [Layout; 2],
+    /// The signatures that confirm.
+    k: u32,
+    /// The fewest boats that two sets of k share.
+    shared: u32,
+    text: String,
+}
+
+/// Columns of a line of prose.
+const WIDTH: usize = 79;
+
+impl<'a> Screens<'a> {
+    pub fn of(options: &'a Options, layouts: [Layout; 2], sound: &Played, apart: &Played) -> String {
+        let (k, shared) = (k(options.n), fewest_to_split(options.n));
+        let mut screens = Screens { options, layouts, k, shared, text: String::new() };
+        screens.introduction();
+        screens.sound(sound);
+        screens.apart(apart);
+        screens.mates(sound, apart);
+        screens.text
+    }
+
+    fn line(&mut self, line: impl AsRef<str>) {
+        self.text.push_str(line.as_ref());
+        self.text.push('\n');
+    }
+
+    fn heading(&mut self, title: &str) {
+        self.line(format!("\n\n{title}\n"));
+    }
+
+    /// Prose, in lines of the width.
+    fn prose(&mut self, words: &str) {
+        for line in lines(words, WIDTH) {
+            self.line(line);
+        }
+    }
+
+    /// Rows of two columns.
+    fn rows(&mut self, rows: &[(String, String)]) {
+        let width = rows.iter().map(|(left, _)| left.len()).max().unwrap_or_default();
+        for (left, right) in rows {
+            self.line(format!("  {left:width$}  {right}").trim_end());
+        }
+    }
+
+    fn name(&self, value: &[u8]) -> char {
+        self.layouts.iter().find(|layout| layout.value == value).map_or('?', |layout| layout.name)
+    }
+
+    fn introduction(&mut self) {
+        let Options { n, .. } = *self.options;
+        let (k, shared, last) = (self.k, self.shared, n - 1);
+        self.prose(&format!(
+            "A fleet of {n} boats is to shoot its gear by one layout. Each boat has a seat, 0 to {last}. In a round every boat \
+             signs the layout that it means to shoot by, once, and tells the others. When a boat has {k} signatures for its own \
+             layout, its own among them, its display says CONFIRMED. Only then does its gear go out."
+        ));
+        self.line("");
+        self.prose(&format!(
+            "Why {k} of {n}? Take any {k} boats that sign layout A and any {k} that sign layout B: {shared} boats or more stand \
+             in both."
+        ));
+        self.line("");
+        let from_to = |first: u32, end: u32| mask(&(first..end).collect::<Vec<_>>());
+        self.text += &picture(n, [from_to(0, k), from_to(n - k, n)]);
+        self.line("");
+        self.prose(&format!(
+            "So two mates can see different layouts confirmed only if {shared} boats sign both. Such a boat is a double signer. \
+             {} can't do it. {shared} can, and nothing prevents that; but their own signatures then show who they are, and \
+             never name an honest boat.",
+            count(shared - 1, "double signer"),
+        ));
+        self.line("");
+        self.line("The boats tell each other four things:\n");
+        let told = format!("the {k} signatures that I confirmed it by");
+        self.rows(
+            &[
+                ("SUBMIT", "my layout, with my signature"),
+                ("NOTICE", "I have confirmed this layout"),
+                ("FULL", &told),
+                ("EVIDENCE", "boats that signed two layouts, with both signatures of each"),
+            ]
+            .map(|(name, means)| (name.to_string(), means.to_string())),
+        );
+    }
+
+    fn sound(&mut self, played: &Played) {
+        self.heading("ROUND 1: A SOUND FLEET");
+        self.prose("Every boat signs layout A and sends its SUBMIT to all others.");
+        self.radio();
+        self.message_by_message(played, 0);
+        self.collected(played);
+        self.line("");
+        self.notices(played);
+        self.late(played);
+        self.line("");
+        let confirmed = played.late.records.iter().filter(|record| record.confirmed).count();
+        let mates = if confirmed as u32 == self.options.n { " Every mate may shoot." } else { "" };
+        self.line(format!("{confirmed} of {} boats have confirmed layout A.{mates}", self.options.n));
+        self.silence(played);
+    }
+
+    fn apart(&mut self, played: &Played) {
+        self.heading(&match played.double.len() {
+            0 => "ROUND 2: THE MATES WANT DIFFERENT LAYOUTS".to_string(),
+            1 => "ROUND 2: 1 BOAT SIGNS TWO LAYOUTS".to_string(),
+            double => format!("ROUND 2: {double} BOATS SIGN TWO LAYOUTS"),
+        });
+        self.who_signs_what(played);
+        self.radio();
+        for side in 0..2 {
+            self.message_by_message(played, side);
+        }
+        self.collected(played);
+        if is_split(&played.submits.records) {
+            self.line("");
+            self.prose(
+                "Mates see different layouts confirmed and would shoot gear across each other. The next messages show whose \
+                 fault it is.",
+            );
+        }
+        self.line("");
+        self.notices(played);
+        self.fulls(played);
+        self.late(played);
+        self.evidence(played);
+        self.outcome(played);
+        self.silence(played);
+    }
+
+    fn who_signs_what(&mut self, played: &Played) {
+        let signs = |seats: &[u32]| if seats.len() == 1 { "signs" } else { "sign" };
+        let [left, right] = [0, 1].map(|side| &played.sides[side].honest);
+        let mut story = format!(
+            "{} {} layout A and {} {} layout B, each boat one layout, as the rule says.",
+            capital(&boats(left)),
+            signs(left),
+            boats(right),
+            signs(right)
+        );
+        match played.double.len() {
+            0 => story += " Nobody signs both.",
+            double => {
+                story += &format!(
+                    " {} {} both, against the rule. {} the SUBMIT for A to {} and the one for B to {}.",
+                    capital(&boats(&played.double)),
+                    signs(&played.double),
+                    if double == 1 { "It sends" } else { "They send" },
+                    boats(left),
+                    boats(right)
+                )
+            }
+        }
+        self.prose(&story);
+        self.line("");
+        let signers = [left, right].map(|side| mask(side) | mask(&played.double));
+        self.text += &picture(self.options.n, signers);
+    }
+
+    /// What the options do to messages.
+    fn radio(&mut self) {
+        let Options { lost_links, forged, early, .. } = self.options;
+        let mut told = Vec::new();
+        if !lost_links.is_empty() {
+            let links: Vec<String> = lost_links.iter().map(|(one, other)| format!("{one}-{other}")).collect();
+            let (link, are) = if links.len() == 1 { ("link", "is") } else { ("links", "are") };
+            told.push(format!("The {link} {} {are} down for now: those boats don't hear each other.", and(&links)));
+        }
+        if let Some(seat) = early {
+            told.push(format!(
+                "Boat {seat} is early: its SUBMIT comes before the others have signed. They refuse it for now, put it by, and take \
+                 it after their own."
+            ));
+        }
+        if let Some(seat) = forged {
+            told.push(format!("Somebody without the key of boat {seat} sends a SUBMIT in its name."));
+        }
+        for told in told {
+            self.line("");
+            self.prose(&told);
+        }
+    }
+
+    /// One boat of a side, with each SUBMIT that it hears.
+    fn message_by_message(&mut self, played: &Played, side: usize) {
+        let Options { early, forged, .. } = *self.options;
+        let honest = &played.sides[side].honest;
+        let plain = honest.iter().find(|&&seat| Some(seat) != early && Some(seat) != forged);
+        let Some(&seat) = plain.or(honest.first()) else { return };
+        self.line(format!("\nBoat {seat}, message by message:\n"));
+        let rows: Vec<_> = played.submits.of(seat).map(|event| (self.given(event), self.came_of(event))).collect();
+        self.rows(&rows);
+    }
+
+    fn given(&self, event: &Event) -> String {
+        let told = |sent: &Sent| {
+            format!("{} of boat {} for {}", air::name(&sent.bytes), sent.from, self.name(&sent.bytes[4..36]))
+        };
+        match &event.given {
+            Given::Own => {
+                let value = event.answer.as_ref().map_or([0; 32], |answer| answer.after.own.value);
+                format!("signs {} itself", self.name(&value))
+            }
+            Given::Message(sent) if event.answer.is_none() => told(sent),
+            Given::Message(sent) if sent.forged => format!("hears {}, forged", told(sent)),
+            Given::Message(sent) => format!("hears {}", told(sent)),
+            Given::PutBy(sent) => format!("put by: {}", told(sent)),
+        }
+    }
+
+    /// What came of a SUBMIT.
+    fn came_of(&self, event: &Event) -> String {
+        let Some(Answer { number, before, after, written }) = &event.answer else {
+            return "lost: the link is down".to_string();
+        };
+        let value = event.message().map(|sent| &sent.bytes[4..36]);
+        match number {
+            0 if after.own.collected != before.own.collected => {
+                let signatures = format!("{} of {}", size(after.own.collected), self.k);
+                let confirms = after.confirmed && !before.confirmed;
+                match confirms {
+                    true => format!("{signatures}: CONFIRMED, sends {}", messages(written)),
+                    false => signatures,
+                }
+            }
+            0 if value.is_some_and(|value| value != before.own.value) => "not its layout: doesn't count".to_string(),
+            0 if before.confirmed => format!("not needed: it has its {}", self.k),
+            0 => "heard before".to_string(),
+            13 => "refused (13, early): put by".to_string(),
+            14 => "refused (14, signature): doesn't count".to_string(),
+            number => format!("refused ({number})"),
+        }
+    }
+
+    /// Each boat with the signatures that it has collected.
+    fn collected(&mut self, played: &Played) {
+        self.line(format!("\nEach boat counts its own signature first, then others as they come, up to {}:\n", self.k));
+        let row = |record: &Record| {
+            let signed = format!("{} signed by {}", self.name(&record.own.value), boats_of(record.own.collected));
+            let outcome = match record.confirmed {
+                true => "CONFIRMED, sends NOTICE".to_string(),
+                false => format!("{} of {}, waits", size(record.own.collected), self.k),
+            };
+            (format!("boat {}", record.seat), format!("{signed}: {outcome}"))
+        };
+        let rows: Vec<_> = played.submits.records.iter().map(row).collect();
+        self.rows(&rows);
+    }
+
+    /// What the boats answer to the notices.
+    fn notices(&mut self, played: &Played) {
+        let notices = &played.notices;
+        if notices.events.is_empty() {
+            return self.prose("Nobody has confirmed a layout, so there is no NOTICE.");
+        }
+        let heard: Vec<Vec<u8>> = notices.events.iter().filter_map(Event::message).map(value).collect();
+        if heard.iter().all(|value| *value == heard[0]) && played.sides.len() == 1 {
+            let name = self.name(&heard[0]);
+            return self.prose(&format!("The NOTICEs go round. All say {name}, so nobody has to answer."));
+        }
+        self.prose(
+            "The NOTICEs go round. A boat that has confirmed a layout, and hears that another one is confirmed, shows the \
+             signatures that it confirmed by:",
+        );
+        self.line("");
+        let rows: Vec<_> = notices
+            .records
+            .iter()
+            .map(|record| (format!("boat {}", record.seat), self.noticed(notices, record)))
+            .collect();
+        self.rows(&rows);
+    }
+
+    fn noticed(&self, notices: &Stage, record: &Record) -> String {
+        let own = self.name(&record.own.value);
+        let heard: Vec<&Event> = notices.of(record.seat).filter(|event| event.answer.is_some()).collect();
+        let other = heard.iter().find(|event| event.message().is_some_and(|sent| value(sent) != record.own.value));
+        let status = match record.confirmed {
+            true => format!("has confirmed {own}"),
+            false => format!("has {} of {} for {own}", size(record.own.collected), self.k),
+        };
+        match other.and_then(|event| Some((event.message()?, event.answer.as_ref()?))) {
+            Some((sent, answer)) => {
+                let (from, name) = (sent.from, self.name(&value(sent)));
+                let answers = match answer.written.is_empty() {
+                    true => "still waits".to_string(),
+                    false => format!("sends {}", messages(&answer.written)),
+                };
+                format!("{status}, hears NOTICE of boat {from} for {name}: {answers}")
+            }
+            None if heard.is_empty() => format!("{status}, hears no NOTICE"),
+            None => format!("{status}, hears only of {own}: nothing to answer"),
+        }
+    }
+
+    /// What the boats find in the full certificates.
+    fn fulls(&mut self, played: &Played) {
+        if played.fulls.events.is_empty() {
+            return;
+        }
+        self.line("");
+        self.prose(
+            "The FULLs go round. A boat compares the boats that signed the one layout with those that signed the other. Who \
+             stands in both is a double signer:",
+        );
+        self.line("");
+        let mut rows = Vec::new();
+        for side in &played.sides {
+            for (place, &seat) in side.honest.iter().enumerate() {
+                rows.extend(self.compared(&played.fulls, seat, place == 0));
+            }
+        }
+        self.rows(&rows);
+    }
+
+    /// A boat's rows, at length or in one line.
+    fn compared(&self, fulls: &Stage, seat: u32, at_length: bool) -> Vec<(String, String)> {
+        let boat = format!("boat {seat}");
+        let wrote = |event: &&Event| event.answer.as_ref().is_some_and(|answer| !answer.written.is_empty());
+        let found = fulls.of(seat).find(wrote).and_then(|event| Some((event.message()?, event.answer.as_ref()?)));
+        let Some((sent, Answer { before, after, written, .. })) = found else {
+            return vec![(boat, "hears no FULL for another layout".to_string())];
+        };
+        let guilty = boats_of(after.guilty);
+        let (from, sends) = (sent.from, messages(written));
+        if !at_length {
+            return vec![(boat, format!("hears FULL of boat {from}: {guilty} signed both, sends {sends}"))];
+        }
+        let signers = sent.bytes[37..].chunks(1454).map(|entry| u32::from(entry[1])).collect::<Vec<_>>();
+        let (held, name) = (self.name(&before.first.value), self.name(&value(sent)));
+        vec![
+            (boat, format!("has {held} signed by {}", boats_of(before.first.seats))),
+            (String::new(), format!("hears FULL of boat {from}: {name} signed by {}", boats(&signers))),
+            (String::new(), format!("{guilty} signed both: sends {sends}")),
+        ]
+    }
+
+    /// What comes of the messages that were lost at first.
+    fn late(&mut self, played: &Played) {
+        if self.options.lost_links.is_empty() {
+            return;
+        }
+        self.line("");
+        let links = if self.options.lost_links.len() == 1 { "The link is" } else { "The links are" };
+        let wrote = |event: &&Event| event.answer.as_ref().is_some_and(|answer| !answer.written.is_empty());
+        let row = |event: &Event| {
+            let answer = event.answer.as_ref().expect("an answer that was written");
+            let confirms = if answer.after.confirmed && !answer.before.confirmed { "CONFIRMED, " } else { "" };
+            let heard = self.given(event);
+            (format!("boat {}", event.seat), format!("{heard}: {confirms}sends {}", messages(&answer.written)))
+        };
+        let rows: Vec<_> = played.late.events.iter().filter(wrote).map(row).collect();
+        if rows.is_empty() {
+            return self
+                .prose(&format!("{links} back. What was lost is sent again. No boat needs it, so nobody answers."));
+        }
+        self.prose(&format!("{links} back. What was lost is sent again, and these boats answer:"));
+        self.line("");
+        self.rows(&rows);
+    }
+
+    /// The check of each EVIDENCE.
+    fn evidence(&mut self, played: &Played) {
+        if played.evidence.is_empty() {
+            return;
+        }
+        self.line("");
+        self.prose("Each EVIDENCE is checked, as anyone can who has the fleet's public keys:");
+        self.line("");
+        let row = |(sent, verdict): &(Sent, crate::reference::record::Verdict)| {
+            let told = match verdict.number {
+                0 => format!("accepted: {} signed twice", boats_of(verdict.mask)),
+                number => format!("REFUSED ({number})"),
+            };
+            (format!("EVIDENCE of boat {}, {} bytes", sent.from, thousands(sent.bytes.len())), told)
+        };
+        let rows: Vec<_> = played.evidence.iter().map(row).collect();
+        self.rows(&rows);
+    }
+
+    /// Who has confirmed, and who holds evidence.
+    fn outcome(&mut self, played: &Played) {
+        self.line("");
+        let sides: Vec<String> = played.sides.iter().map(|side| self.has_confirmed(played, side)).collect();
+        self.prose(&sides.join(" "));
+        match is_split(&played.late.records) {
+            true => self.blame(played),
+            false => self.lesson(),
+        }
+    }
+
+    fn has_confirmed(&self, played: &Played, side: &Side) -> String {
+        let has = |seat: &&u32| played.late.record(**seat).confirmed;
+        let confirmed: Vec<u32> = side.honest.iter().filter(has).copied().collect();
+        let (name, verb) = (side.layout.name, if confirmed.len() == 1 { "has" } else { "have" });
+        match confirmed.is_empty() {
+            true => format!("Nobody has confirmed {name}."),
+            false => format!("{} {verb} confirmed {name}.", capital(&boats(&confirmed))),
+        }
+    }
+
+    /// What the check accepted, by its masks.
+    fn blame(&mut self, played: &Played) {
+        let n = self.options.n;
+        let honest = played.honest();
+        let held = honest.iter().filter(|&&seat| holds(n, played, seat)).count();
+        let named = played.evidence.iter().fold(0, |named, (_, verdict)| named | verdict.mask);
+        let fewest = played.evidence.iter().map(|(_, verdict)| size(verdict.mask)).min().unwrap_or_default();
+        let blamed = match named & mask(&honest) {
+            0 => "No honest boat is named.".to_string(),
+            blamed => format!("HONEST BOATS ARE NAMED: {}.", boats_of(blamed)),
+        };
+        let mut told = format!(
+            "{held} of {} honest boats hold evidence that the check accepts. Each names at least {} ({} promised): {}. {blamed}",
+            honest.len(),
+            count(fewest, "boat"),
+            self.shared,
+            boats_of(named),
+        );
+        let unnamed = list(mask(&played.double) & !named);
+        if !unnamed.is_empty() {
+            let (who, stand) =
+                (capital(&boats(&unnamed)), if unnamed.len() == 1 { "doesn't stand" } else { "don't stand" });
+            told += &format!(" {who} signed both too, but {stand} in both sets of {} signatures.", self.k);
+        }
+        self.prose(&told);
+    }
+
+    /// Why the fleet isn't split.
+    fn lesson(&mut self) {
+        let Options { n, double_signers, .. } = *self.options;
+        if double_signers == 0 {
+            return self.line("No two mates see different layouts confirmed.");
+        }
+        self.prose(&format!(
+            "No two mates see different layouts confirmed: {} can't split {n} boats. It takes {}. Nobody holds evidence, for it is \
+             found only where two layouts are confirmed.",
+            count(double_signers, "double signer"),
+            self.shared,
+        ));
+    }
+
+    fn silence(&mut self, played: &Played) {
+        let answers = played.again.sent().len() as u32;
+        let silence = if answers == 0 { " Silence." } else { "" };
+        self.line(format!("All messages of the round are heard a second time: {}.{silence}", count(answers, "answer")));
+    }
+}
+
+/// Words in lines of at most a width.
+fn lines(words: &str, width: usize) -> Vec<String> {
+    let mut lines: Vec<String> = Vec::new();
+    for word in words.split_whitespace() {
+        match lines.last_mut() {
+            Some(line) if line.len() + 1 + word.len() <= width => *line += &format!(" {word}"),
+            _ => lines.push(word.to_string()),
+        }
+    }
+    lines
+}
+
+fn value(sent: &Sent) -> Vec<u8> {
+    sent.bytes[4..36].to_vec()
+}
+
+/// The names of the messages that a call wrote.
+fn messages(written: &[u8]) -> String {
+    and(&air::messages(written).iter().map(|message| air::name(message)).collect::<Vec<_>>())
+}

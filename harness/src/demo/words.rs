@@ -1,0 +1,129 @@
+//! Seats, counts and pictures as a person writes them.
+
+use crate::reference::seats::{contains, list, size};
+
+/// Seats as a person lists them: `0 and 4 to 6`.
+pub fn seats(seats: &[u32]) -> String {
+    let mut runs: Vec<(u32, u32)> = Vec::new();
+    for &seat in seats {
+        match runs.last_mut() {
+            Some((_, last)) if *last + 1 == seat => *last = seat,
+            _ => runs.push((seat, seat)),
+        }
+    }
+    and(&runs.into_iter().flat_map(run).collect::<Vec<_>>())
+}
+
+fn run((first, last): (u32, u32)) -> Vec<String> {
+    match last - first {
+        0 => vec![first.to_string()],
+        1 => vec![first.to_string(), last.to_string()],
+        _ => vec![format!("{first} to {last}")],
+    }
+}
+
+/// `boat 3`, `boats 3 and 4`.
+pub fn boats(of: &[u32]) -> String {
+    format!("boat{} {}", if of.len() == 1 { "" } else { "s" }, seats(of))
+}
+
+/// The same at the start of a sentence.
+pub fn capital(words: &str) -> String {
+    words.chars().take(1).flat_map(char::to_uppercase).chain(words.chars().skip(1)).collect()
+}
+
+/// `1 boat`, `2 boats`.
+pub fn count(number: u32, what: &str) -> String {
+    format!("{number} {what}{}", if number == 1 { "" } else { "s" })
+}
+
+/// `8,786`.
+pub fn thousands(number: usize) -> String {
+    let digits = number.to_string();
+    let parts = digits.as_bytes().rchunks(3).rev().map(String::from_utf8_lossy);
+    parts.collect::<Vec<_>>().join(",")
+}
+
+/// `NOTICE, FULL and EVIDENCE`.
+pub fn and(words: &[impl AsRef<str>]) -> String {
+    let words: Vec<&str> = words.iter().map(AsRef::as_ref).collect();
+    match words.split_last() {
+        Some((last, rest)) if !rest.is_empty() => format!("{} and {last}", rest.join(", ")),
+        _ => words.concat(),
+    }
+}
+
+/// The signers of two layouts as rows of letters over n boats, and below them who stands in both.
+pub fn picture(n: u32, signers: [u32; 2]) -> String {
+    let wide = n <= 16;
+    let row = |title: &str, cell: &dyn Fn(u32) -> String, end: String| {
+        let cells: String = (0..n).map(|seat| format!("{:>1$}", cell(seat), if wide { 3 } else { 1 })).collect();
+        format!("    {title:7}{cells}   {end}").trim_end().to_string() + "\n"
+    };
+    let letters = |mask: u32, signs: &'static str, not: &'static str| {
+        move |seat: u32| (if contains(mask, seat) { signs } else { not }).to_string()
+    };
+    let ones = |seat: u32| if wide { seat.to_string() } else { (seat % 10).to_string() };
+    let tens = |seat: u32| if seat.is_multiple_of(10) { (seat / 10).to_string() } else { " ".to_string() };
+    let [a, b] = signers;
+    let rows = [
+        row("boat", &ones, String::new()),
+        row("for A", &letters(a, "A", "."), count(size(a), "boat")),
+        row("for B", &letters(b, "B", "."), count(size(b), "boat")),
+        row("both", &letters(a & b, "^", " "), count(size(a & b), "boat")),
+    ];
+    let above = if wide { String::new() } else { row("", &tens, String::new()) };
+    above + &rows.concat()
+}
+
+/// The seats of a mask, as [`boats`] tells them.
+pub fn boats_of(mask: u32) -> String {
+    boats(&list(mask))
+}
+
+#[cfg(test)]
+mod tests {
+    use super::*;
+
+    #[test]
+    fn seats_stand_in_runs() {
+        for (given, told) in [
+            (vec![], ""),
+            (vec![3], "3"),
+            (vec![0, 1], "0 and 1"),
+            (vec![4, 5, 6], "4 to 6"),
+            (vec![0, 2, 4, 5, 6, 9], "0, 2, 4 to 6 and 9"),
+        ] {
+            assert_eq!(seats(&given), told);
+        }
+        assert_eq!([boats(&[3]), boats(&[3, 4])], ["boat 3", "boats 3 and 4"]);
+        assert_eq!(capital("boat 3"), "Boat 3");
+        assert_eq!([count(1, "boat"), count(0, "boat")], ["1 boat", "0 boats"]);
+        assert_eq!([and(&["A"]), and(&["A", "B", "C"])], ["A", "A, B and C"]);
+    }
+
+    #[test]
+    fn pictures() {
+        let rows = |rows: &[&str]| rows.iter().map(|row| format!("{row}\n")).collect::<String>();
+        let four = [
+            "    boat     0  1  2  3",
+            "    for A    A  A  A  .   3 boats",
+            "    for B    .  B  B  B   3 boats",
+            "    both        ^  ^      2 boats",
+        ];
+        assert_eq!(picture(4, [7, 14]), rows(&four));
+        let seventeen = [
+            "           0         1",
+            "    boat   01234567890123456",
+            "    for A  AAA..............   3 boats",
+            "    for B  ..BBBBBBBBBBBBBBB   15 boats",
+            "    both     ^                 1 boat",
+        ];
+        assert_eq!(picture(17, [7, 0x1fffc]), rows(&seventeen));
+    }
+
+    #[test]
+    fn thousands_are_parted() {
+        assert_eq!([36, 8786, 93_060, 1_000_000].map(thousands), ["36", "8,786", "93,060", "1,000,000"]);
+    }
+}
