@@ -146,7 +146,8 @@ fn nothing<'a>(m: &'a [u8]) -> &'a [u8]
 }
 
 // Of two certificates that conflict, the one with the lower value, as the whole of the buffer lent; a part of length 0 where
-// the call or either certificate is refused or they don't conflict.
+// the call or either certificate is refused or they don't conflict. Of which buffer that is a part is free: document 01 says its
+// length alone.
 pub fn lower_certificate<'a>(
     n: u32,
     round: u32,

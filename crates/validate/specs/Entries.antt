@@ -10,7 +10,7 @@ use lib.Dec.{leb, ltb, eqb}
 use lib.ListN.{length}
 use borrow.Author.Tests.{leb-true, le-leb, lt-ltb, le-ltb, ltb-true, eqb-true, not-false}
 use Rattle.quorum.specs.Quorum.{k}
-use Rattle.protocol.specs.Layout.{valueLength, signatureLength, submitLength, fullEntryLength, fullEntryAt, fullLength, evidenceEntryLength, evidenceEntryAt, evidenceLength}
+use Rattle.protocol.specs.Layout.{signatureLength, submitLength, fullEntryLength, fullEntryAt, fullLength, evidenceEntryLength, evidenceEntryAt, evidenceLength}
 use Rattle.protocol.specs.Message.{Entry, byteAt, readEntry, readValue, readSignature, entryCommands, pairCommands, fitsFull, fitsEvidence, read, readSubmit, readNotice, readFull, readEvidence, seatsOf, signed}
 use Rattle.protocol.specs.Refusals.{Checks, every, stranger, badSignature}
 use Rattle.wire.specs.Reading.{kindOf, column}
@@ -162,10 +162,10 @@ module _ (checks : Checks) (n : ℕ) (bytes : List ℕ) where
 
   -- one of FULL's doesn't check, or all do
   module _ (h : FullTaken n bytes) where
-    pub full-not : (t : ℕ) → t < k n → entryCheck checks bytes t ≡ false → true ≡ badSignature checks (read n bytes)
+    full-not : (t : ℕ) → t < k n → entryCheck checks bytes t ≡ false → true ≡ badSignature checks (read n bytes)
     full-not t l e = rw (h .says, full-bad checks bytes n, each-not (entryCheck checks bytes) t (k n) l e)
 
-    pub full-all : eachBelow (entryCheck checks bytes) (k n) ≡ true → false ≡ badSignature checks (read n bytes)
+    full-all : eachBelow (entryCheck checks bytes) (k n) ≡ true → false ≡ badSignature checks (read n bytes)
     full-all e = rw (h .says, full-bad checks bytes n, e)
 
   -- of EVIDENCE's
