@@ -1,5 +1,5 @@
 #!/usr/bin/env python3
-"""Writes crates/vectors/stdin and stdout from the files of vectors/: the records for the program, and what the files say of each.
+"""Writes crates/lms_vectors/stdin and stdout from the files of vectors/: the records for the program, and what the files say of each.
 
 A record starts with C (check) or K (make a key, then sign). Every operand has its length before it, in two bytes. C: name, key,
 message, signature. K: name, seed, identifier, a byte with the number of records to sign, and for each name, leaf, randomizer, message.
@@ -52,5 +52,5 @@ for (seed, identifier, key), signed in keys.items():
             operand(part)
         stdout.append(f"{name} {signature}")
 
-(root / "crates/vectors/stdin").write_bytes(stdin)
-(root / "crates/vectors/stdout").write_text("\n".join(stdout) + "\n")
+(root / "crates/lms_vectors/stdin").write_bytes(stdin)
+(root / "crates/lms_vectors/stdout").write_text("\n".join(stdout) + "\n")

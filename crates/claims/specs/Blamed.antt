@@ -11,7 +11,7 @@ use native.Mathlib.Omega.{arith}
 use lib.ListN.{length}
 use borrow.Author.Tests.{ne-eqb, not-false}
 use Rattle.quorum.specs.Quorum.{In}
-use Rattle.refusal.specs.Refusal.{lowest, unrefused}
+use Rattle.refusal.specs.Refusal.{firstOf, unrefused}
 use Rattle.protocol.specs.Layout.{valueLength, storeLength, outLength}
 use Rattle.protocol.specs.Message.{Entry, Message, Submit, Notice, Full, Evidence, Garbled, render, read, roundOf, entrySeats, seatsOf, signed}
 use Rattle.protocol.specs.Laws.{in-set}
@@ -96,7 +96,7 @@ module _ (S : Setting) where
       reads : read (t .unit .n) (render m) ≡ m
       reads = rw size-is (read-render n m formed)
 
-      unrefused-here : lowest (stepConditions checks keys (t .unit) (t .store) m out) ≡ 0
+      unrefused-here : firstOf (stepConditions checks keys (t .unit) (t .store) m out) ≡ 0
       unrefused-here =
           step-unrefused checks keys (t .unit) (t .store) m out (possible checks Any (t .unit) (t .store) (at .sound) (at .settled)) (subst (λ i. wrongKeys i keys ≡ false) (sym size-is) (opened-keys S u opened)) room (subst (λ i. outLength i ≤ length out) (sym size-is) (h .outRoom)) forStep (timely (t .unit))
           (subst₂ (λ i ρ. Taken checks i ρ m) (sym size-is) (sym round-is) taken)

@@ -21,7 +21,7 @@ use Rattle.protocol.specs.Laws.{lower-other, in-set, set-seats, Sized, SizedPai
 use Rattle.protocol.specs.Refusals.{Checks, rising}
 use Rattle.round.specs.Round.{Each, Relation}
 use Rattle.reading.specs.Lists.{cond-elim, each-map, rising-first, rising-of-rises}
-use Rattle.claims.specs.Sound.{Kept, Certifies, Entries, Pairs}
+use Rattle.claims.specs.Sound.{Changed, Certifies, Entries, Pairs}
 
 -- ---- sets and lists of seats
 
@@ -80,16 +80,16 @@ module _ (checks : Checks) (W : Relation) where
     many = length-map (seats n (c .seats)) (entryOf c) ∙ length-seats n (c .seats) (z .below) ∙ z .enough;
     rise = ap rising (entry-seats n c) ∙ seats-rising n (c .seats);
     below = each-map (λ (e : Entry). e .seat < n) (entryOf c) (seats n (c .seats)) (seats-below n (c .seats));
-    kept = each-map (λ (e : Entry). Kept checks W (e .seat) (c .value) (e .signature)) (entryOf c) (seats n (c .seats)) (λ s d. z .kept s (seats-in-set n (c .seats) s d));
+    kept = each-map (λ (e : Entry). Changed checks W (e .seat) (c .value) (e .signature)) (entryOf c) (seats n (c .seats)) (λ s d. z .kept s (seats-in-set n (c .seats) s d));
   }
 
   -- a FULL's certificate
-  signature-kept : (value : List ℕ) (es : List Entry) (s : ℕ) → Each (λ (e : Entry). Kept checks W (e .seat) value (e .signature)) es → List·Memᴰ s (map (λ (e : Entry). e .seat) es) → Kept checks W s value (signatureOf es s)
+  signature-kept : (value : List ℕ) (es : List Entry) (s : ℕ) → Each (λ (e : Entry). Changed checks W (e .seat) value (e .signature)) es → List·Memᴰ s (map (λ (e : Entry). e .seat) es) → Changed checks W s value (signatureOf es s)
   unfolding signatureOf
   signature-kept value [] s h d = absurd (List·Memᴰ·not-nil d)
   signature-kept value (e ∷ es) s h d =
-      cond-elim (λ g. Kept checks W s value g) (eqb (e .seat) s) (e .signature) (signatureOf es s)
-      (λ q. subst (λ t. Kept checks W t value (e .signature)) (eqb-true (e .seat) s q) (h e (List·Memᴰ·head refl)))
+      cond-elim (λ g. Changed checks W s value g) (eqb (e .seat) s) (e .signature) (signatureOf es s)
+      (λ q. subst (λ t. Changed checks W t value (e .signature)) (eqb-true (e .seat) s q) (h e (List·Memᴰ·head refl)))
       (λ q. ⊎-elim (λ p. absurd (eqb-false (e .seat) s q (sym p))) (λ t. signature-kept value es s (λ x m. h x (List·Memᴰ·tail m)) t) (List·Memᴰ·cases-cons d))
 
   pub certifies-of : (n : ℕ) (value : List ℕ) (es : List Entry) → Entries checks W n value es → Certifies checks W n (certificateOf value es)
@@ -122,8 +122,8 @@ module _ (checks : Checks) (W : Relation) where
         few = omega arith;
         rise = ap rising (pair-seats n c d) ∙ seats-rising n both;
         below = each-map (λ (p : Pair). p .seat < n) pair (seats n both) (seats-below n both);
-        lows = each-map (λ (p : Pair). Kept checks W (p .seat) (c .value) (p .lower)) pair (seats n both) (λ s m. y .kept s (in-shared s (c .seats) (d .seats) .0 (seats-in-set n both s m) .0));
-        highs = each-map (λ (p : Pair). Kept checks W (p .seat) (d .value) (p .higher)) pair (seats n both) (λ s m. z .kept s (in-shared s (c .seats) (d .seats) .0 (seats-in-set n both s m) .1));
+        lows = each-map (λ (p : Pair). Changed checks W (p .seat) (c .value) (p .lower)) pair (seats n both) (λ s m. y .kept s (in-shared s (c .seats) (d .seats) .0 (seats-in-set n both s m) .0));
+        highs = each-map (λ (p : Pair). Changed checks W (p .seat) (d .value) (p .higher)) pair (seats n both) (λ s m. z .kept s (in-shared s (c .seats) (d .seats) .0 (seats-in-set n both s m) .1));
       }
 
   -- in either order

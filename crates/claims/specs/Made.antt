@@ -7,7 +7,7 @@ use mathlib.Core.List.{List}
 use Prim.Native.Nat.{ℕ, _+_, _≤_}
 use native.Mathlib.Omega.{arith}
 use Rattle.quorum.specs.Quorum.{t0, size, shared}
-use Rattle.refusal.specs.Refusal.{lowest, unrefused}
+use Rattle.refusal.specs.Refusal.{firstOf, unrefused}
 use Rattle.protocol.specs.Message.{Pair, Message, Evidence, render, read, entrySeats}
 use Rattle.protocol.specs.ReadLaws.{read-render}
 use Rattle.protocol.specs.Certificate.{setOf, certificateIn}
@@ -56,7 +56,7 @@ module _ (S : Setting) where
 module _ (S : Setting) (h : InHand) (unrefused-making : making (S .checks) (S .n) (S .round) (S .keys) (h .a) (h .b) (h .out) .refusal ≡ 0) where
   open Setting S using (n, round, keys, checks)
 
-  zero : lowest (conditions S h) ≡ 0
+  zero : firstOf (conditions S h) ≡ 0
   unfolding making makingBy
   zero = unrefused-making
 

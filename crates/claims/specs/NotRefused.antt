@@ -15,8 +15,8 @@ use borrow.Author.Tests.{ltb-false, le-ltb, lt-leb, eqb-true, eqb-false, eq-eqb,
 use Rattle.octets.specs.Octets.{wordAt}
 use Rattle.octets.specs.StringLaws.{same-false}
 use Rattle.quorum.specs.Quorum.{mostSeats}
-use Rattle.refusal.specs.Refusal.{lowest}
-use Rattle.refusal.specs.Laws.{lowest-zero}
+use Rattle.refusal.specs.Refusal.{firstOf}
+use Rattle.refusal.specs.Laws.{firstOf-zero}
 use Rattle.rfc8554.specs.Ots.{knownOts}
 use Rattle.rfc8554.specs.Tree.{knownLms}
 use Rattle.rfc8554.specs.Verify.{lmsTypeOf, otsTypeOf, valid}
@@ -87,7 +87,7 @@ pub record OpeningFit (n seat round : ℕ) (keys : List ℕ) : Type 0 where
   pub table : Table n keys
 
 pub opening-not-refused : (n seat round : ℕ) (keys : List ℕ) → (opening n seat round keys .number ≡ 0) ↔ OpeningFit n seat round keys
-unfolding opening openedBy openingConditions wrongSeat lowest
+unfolding opening openedBy openingConditions wrongSeat firstOf
 opening-not-refused n seat round keys = (
   λ e. let r = opening-range n seat round keys e in record { range = r .0; table = keys-right keys n .0 (r .1) },
   λ t. rw (size-right n (t .range .some) (t .range .most), lt-leb n seat (t .range .inside), round-right round (t .range .early), keys-right keys n .1 (t .table)),
@@ -106,13 +106,13 @@ pub record Lent (keys : List ℕ) (r : Record) (store out : List ℕ) : Type 0 w
   -- 7: "Out buffer: 1,629 + 4,360 × k bytes or more"
   pub outRoom : outLength (r .n) ≤ length out
 
-lent-of : (keys : List ℕ) (r : Record) (store out : List ℕ) (rest : List (ℕ × Bool)) → lowest (recordConditions keys r store out ++ rest) ≡ 0 → Lent keys r store out
+lent-of : (keys : List ℕ) (r : Record) (store out : List ℕ) (rest : List (ℕ × Bool)) → firstOf (recordConditions keys r store out ++ rest) ≡ 0 → Lent keys r store out
 unfolding recordConditions shortStore shortOut
 lent-of keys r store out rest e =
-    let a = lowest-zero 3 _ _ e in
-    let b = lowest-zero 4 _ _ (a .1) in
-    let c = lowest-zero 5 _ _ (b .1) in
-    let d = lowest-zero 6 _ _ (c .1) in
+    let a = firstOf-zero 3 _ _ e in
+    let b = firstOf-zero 4 _ _ (a .1) in
+    let c = firstOf-zero 5 _ _ (b .1) in
+    let d = firstOf-zero 6 _ _ (c .1) in
     record { possible = a .0; table = keys-right keys (r .n) .0 (b .0); storeRoom = ltb-false (length store) (storeLength (r .n)) (c .0); outRoom = ltb-false (length out) (outLength (r .n)) (d .0) }
 
 pub record SubmitFit (checks : Checks) (keys : List ℕ) (r : Record) (store value signature out : List ℕ) : Type 0 where
@@ -127,14 +127,14 @@ pub record SubmitFit (checks : Checks) (keys : List ℕ) (r : Record) (store val
   pub checked : checks (r .seat) value signature ≡ true
 
 module _ (checks : Checks) (keys : List ℕ) (r : Record) (store value signature out : List ℕ) where
-  submit-fit : lowest (submitConditions checks keys r store value signature out) ≡ 0 → SubmitFit checks keys r store value signature out
+  submit-fit : firstOf (submitConditions checks keys r store value signature out) ≡ 0 → SubmitFit checks keys r store value signature out
   unfolding submitConditions recordConditions signatureConditions
   submit-fit e =
       let t = submit-taken checks keys r store value signature out e in
       record { lent = lent-of keys r store out _ e; first = t .unsaid; sizedValue = t .sizedValue; sizedSignature = t .sized; checked = t .checked }
 
-  fit-submit : SubmitFit checks keys r store value signature out → lowest (submitConditions checks keys r store value signature out) ≡ 0
-  unfolding submitConditions recordConditions signatureConditions shortStore shortOut said wrongLengths badSignature signed every lowest
+  fit-submit : SubmitFit checks keys r store value signature out → firstOf (submitConditions checks keys r store value signature out) ≡ 0
+  unfolding submitConditions recordConditions signatureConditions shortStore shortOut said wrongLengths badSignature signed every firstOf
   fit-submit t =
       rw (
         t .lent .possible,
@@ -206,12 +206,12 @@ pub record EvidenceFit (checks : Checks) (n round : ℕ) (keys bytes : List ℕ)
   -- 15: the lower value comes first
   pub conflict : notLowerFirst (read n bytes) ≡ false
 
-outside-of : (n round : ℕ) (keys : List ℕ) (rest : List (ℕ × Bool)) → lowest (outsideConditions n round keys ++ rest) ≡ 0 → Outside n round keys
+outside-of : (n round : ℕ) (keys : List ℕ) (rest : List (ℕ × Bool)) → firstOf (outsideConditions n round keys ++ rest) ≡ 0 → Outside n round keys
 unfolding outsideConditions wrongSize wrongRound
 outside-of n round keys rest e =
-    let a = lowest-zero 0 _ _ e in
-    let b = lowest-zero 2 _ _ (a .1) in
-    let c = lowest-zero 4 _ _ (b .1) in
+    let a = firstOf-zero 0 _ _ e in
+    let b = firstOf-zero 2 _ _ (a .1) in
+    let c = firstOf-zero 4 _ _ (b .1) in
     let sized = or-false-both (eqb n 0) (ltb mostSeats n) (a .0) in
     let nonzero = eqb-false n 0 (sized .0) in
     record { some = omega arith; most = ltb-false mostSeats n (sized .1); inTime = ltb-false lastRound round (b .0); table = keys-right keys n .0 (c .0) }
@@ -240,14 +240,14 @@ pub record MakingFit (checks : Checks) (n round : ℕ) (keys a b out : List ℕ)
   pub conflict : certificateIn (read n a) .value ≢ certificateIn (read n b) .value
 
 module _ (checks : Checks) (n round : ℕ) (keys a b out : List ℕ) where
-  making-fit : lowest (makingConditions checks n round keys (read n a) (read n b) out) ≡ 0 → MakingFit checks n round keys a b out
+  making-fit : firstOf (makingConditions checks n round keys (read n a) (read n b) out) ≡ 0 → MakingFit checks n round keys a b out
   unfolding makingConditions twoConditions certificateConditions outsideConditions formConditions signatureConditions shortOut
   making-fit e =
       let t = making-taken checks n round keys (read n a) (read n b) out e in
-      let p = lowest-zero 0 _ _ e in
-      let q = lowest-zero 2 _ _ (p .1) in
-      let r = lowest-zero 4 _ _ (q .1) in
-      let s = lowest-zero 6 _ _ (r .1) in
+      let p = firstOf-zero 0 _ _ e in
+      let q = firstOf-zero 2 _ _ (p .1) in
+      let r = firstOf-zero 4 _ _ (q .1) in
+      let s = firstOf-zero 6 _ _ (r .1) in
       record {
         outside = outside-of n round keys _ e;
         outRoom = ltb-false (length out) (evidenceOutLength n) (s .0);
@@ -258,8 +258,8 @@ module _ (checks : Checks) (n round : ℕ) (keys a b out : List ℕ) where
         conflict = t .different;
       }
 
-  fit-making : MakingFit checks n round keys a b out → lowest (makingConditions checks n round keys (read n a) (read n b) out) ≡ 0
-  unfolding makingConditions twoConditions certificateConditions outsideConditions formConditions signatureConditions shortOut equalValues lowest
+  fit-making : MakingFit checks n round keys a b out → firstOf (makingConditions checks n round keys (read n a) (read n b) out) ≡ 0
+  unfolding makingConditions twoConditions certificateConditions outsideConditions formConditions signatureConditions shortOut equalValues firstOf
   fit-making t =
       let o = t .outside in
       let x = of-taken checks n round (read n a) (t .first) in
@@ -305,9 +305,9 @@ module _ (key message signature : List ℕ) where
   check-fit : checkSignature key message signature ≡ 0 → CheckFit key message signature
   unfolding checkSignature checkConditions wrongKey
   check-fit e =
-      let a = lowest-zero 4 _ _ e in
-      let b = lowest-zero 8 _ _ (a .1) in
-      let c = lowest-zero 13 _ _ (b .1) in
+      let a = firstOf-zero 4 _ _ e in
+      let b = firstOf-zero 8 _ _ (a .1) in
+      let c = firstOf-zero 13 _ _ (b .1) in
       let types = or-false-both (lengthIsnt 56 key || not (knownLms (lmsTypeOf key))) (not (knownOts (otsTypeOf key))) (a .0) in
       let tree = or-false-both (lengthIsnt 56 key) (not (knownLms (lmsTypeOf key))) (types .0) in
       record {
@@ -319,7 +319,7 @@ module _ (key message signature : List ℕ) where
       }
 
   fit-check : CheckFit key message signature → checkSignature key message signature ≡ 0
-  unfolding checkSignature checkConditions wrongKey lowest
+  unfolding checkSignature checkConditions wrongKey firstOf
   fit-check t = rw (eq-eqb (length key) 56 (t .sizedKey), t .knownTree, t .knownChains, le-ltb messageLimit (length message) (t .checkable), t .accepted)
 
   pub check-not-refused : (checkSignature key message signature ≡ 0) ↔ CheckFit key message signature
@@ -337,14 +337,14 @@ module _ (seed I tree out : List ℕ) where
   make-key-fit : makeKeyRefusal seed I tree out ≡ 0 → MakeKeyFit seed I tree out
   unfolding makeKeyRefusal makeKeyConditions shortOut
   make-key-fit e =
-      let a = lowest-zero 6 _ _ e in
-      let b = lowest-zero 15 _ _ (a .1) in
+      let a = firstOf-zero 6 _ _ e in
+      let b = firstOf-zero 15 _ _ (a .1) in
       let lengths = or-false-both (lengthIsnt 32 seed || lengthIsnt 16 I) (lengthIsnt treeLength tree) (b .0) in
       let secrets = or-false-both (lengthIsnt 32 seed) (lengthIsnt 16 I) (lengths .0) in
       record { outRoom = ltb-false (length out) 56 (a .0); sizedSeed = length-is 32 seed (secrets .0); sizedIdentifier = length-is 16 I (secrets .1); sizedTree = length-is treeLength tree (lengths .1) }
 
   fit-make-key : MakeKeyFit seed I tree out → makeKeyRefusal seed I tree out ≡ 0
-  unfolding makeKeyRefusal makeKeyConditions shortOut lowest
+  unfolding makeKeyRefusal makeKeyConditions shortOut firstOf
   fit-make-key t = rw (le-ltb (length out) 56 (t .outRoom), eq-eqb (length seed) 32 (t .sizedSeed), eq-eqb (length I) 16 (t .sizedIdentifier), eq-eqb (length tree) treeLength (t .sizedTree))
 
   pub make-key-not-refused : (makeKey seed I tree out .refusal ≡ 0) ↔ MakeKeyFit seed I tree out
@@ -368,10 +368,10 @@ module _ (leaf : ℕ) (message seed I C tree out : List ℕ) where
   sign-fit : signRefusal leaf message seed I C tree out ≡ 0 → SignFit leaf message seed I C tree out
   unfolding signRefusal signConditions wrongRound shortOut
   sign-fit e =
-      let a = lowest-zero 2 _ _ e in
-      let b = lowest-zero 6 _ _ (a .1) in
-      let c = lowest-zero 8 _ _ (b .1) in
-      let d = lowest-zero 15 _ _ (c .1) in
+      let a = firstOf-zero 2 _ _ e in
+      let b = firstOf-zero 6 _ _ (a .1) in
+      let c = firstOf-zero 8 _ _ (b .1) in
+      let d = firstOf-zero 15 _ _ (c .1) in
       let lengths = or-false-both (lengthIsnt 32 seed || lengthIsnt 16 I || lengthIsnt 32 C) (lengthIsnt treeLength tree) (d .0) in
       let secrets = or-false-both (lengthIsnt 32 seed || lengthIsnt 16 I) (lengthIsnt 32 C) (lengths .0) in
       let first = or-false-both (lengthIsnt 32 seed) (lengthIsnt 16 I) (secrets .0) in
@@ -386,7 +386,7 @@ module _ (leaf : ℕ) (message seed I C tree out : List ℕ) where
       }
 
   fit-sign : SignFit leaf message seed I C tree out → signRefusal leaf message seed I C tree out ≡ 0
-  unfolding signRefusal signConditions wrongRound shortOut lowest
+  unfolding signRefusal signConditions wrongRound shortOut firstOf
   fit-sign t =
       rw (
         le-ltb lastRound leaf (t .inTime),

@@ -19,18 +19,18 @@ use Rattle.quorum.specs.Laws.{bit-empty, bit-with-other, bit-with-same, has-fal
 use Rattle.protocol.specs.Layout.{valueLength, signatureLength, storeLength, collectedBank, firstBank}
 use Rattle.protocol.specs.Values.{unset}
 use Rattle.protocol.specs.Message.{Pair, Message, Submit, Notice, Full, Evidence, Garbled}
-use Rattle.protocol.specs.Certificate.{Certificate, slot, keep, keepEach, ownCertificate, firstCertificate, fullOf, evidenceOf}
+use Rattle.protocol.specs.Certificate.{Certificate, slot, fill, fillEach, ownCertificate, firstCertificate, fullOf, evidenceOf}
 use Rattle.protocol.specs.Record.{noneHeard, oneHeard, holds}
 use Rattle.protocol.specs.Refusals.{Checks, isFull, isEvidence}
-use Rattle.protocol.specs.Step.{State, write, collect, keepValue, submitOwn, isWanted, noticesWith, hear, otherHeard, owesFull, sendFull, reply, hold, blame, blames, holdOrBlame}
+use Rattle.protocol.specs.Step.{State, write, collect, setValue, submitOwn, isWanted, noticesWith, hear, otherHeard, owesFull, sendFull, reply, hold, blame, blames, holdOrBlame}
 use Rattle.protocol.specs.declared.Own.{Own}
 use Rattle.protocol.specs.declared.Notices.{Notices}
 use Rattle.protocol.specs.declared.Record.{Record}
 use Rattle.round.specs.Round.{Each, Relation}
 use Rattle.round.specs.Demand1.{Kind, SUBMIT, NOTICE, FULL, EVIDENCE, isOf, isSubmit, isNotice, worth}
 use Rattle.reading.specs.Lists.{cond-elim, and-true-both, and-false-either, each-one, each-append, count-append, count-one}
-use Rattle.claims.specs.Slots.{keep-length, slot-keep-same, slot-keep-other, keepEach-length, slot-keepEach-other, slot-keepEach-same}
-use Rattle.claims.specs.Sound.{flagOf, Heard, Held, Grows, Room, Kept, Certifies, Pairs, Collection, Holding, Sound, Said, Good, Leads}
+use Rattle.claims.specs.Slots.{fill-length, slot-fill-same, slot-fill-other, fillEach-length, slot-fillEach-other, slot-fillEach-same}
+use Rattle.claims.specs.Sound.{flagOf, Heard, Held, Grows, Room, Changed, Certifies, Pairs, Collection, Holding, Sound, Said, Good, Leads}
 use Rattle.claims.specs.Certificates.{entries-of, evidence-elim}
 
 -- ---- records that go on
@@ -155,8 +155,8 @@ module _ (checks : Checks) (W : Relation) where
 
   -- a new seat's signature over the value
   pub collection-with : (n seat : ℕ) (own : Own) (signature store : List ℕ) → seat < n → storeLength n ≤ length store → bit seat (own .collected) ≡ 0
-      → size (own .collected) < k n → Kept checks W seat (own .value) signature → Collection checks W n own store
-      → Collection checks W n (record { submitted = own .submitted; value = own .value; collected = with seat (own .collected) }) (keep n collectedBank seat signature store)
+      → size (own .collected) < k n → Changed checks W seat (own .value) signature → Collection checks W n own store
+      → Collection checks W n (record { submitted = own .submitted; value = own .value; collected = with seat (own .collected) }) (fill n collectedBank seat signature store)
   collection-with n seat own signature store inside room new few g z = record {
     sized = z .sized;
     below = with-lt n seat (own .collected) inside (z .below);
@@ -164,20 +164,20 @@ module _ (checks : Checks) (W : Relation) where
     kept = λ s i. go s i (ℕ-discrete s seat);
   }
     where
-      go : (s : ℕ) → In s (with seat (own .collected)) → Dec (s ≡ seat) → Kept checks W s (own .value) (slot n collectedBank (keep n collectedBank seat signature store) s)
-      go s i (yes e) = rw (e, slot-keep-same n collectedBank seat signature store (omega arith) inside room (g .sized)) g
+      go : (s : ℕ) → In s (with seat (own .collected)) → Dec (s ≡ seat) → Changed checks W s (own .value) (slot n collectedBank (fill n collectedBank seat signature store) s)
+      go s i (yes e) = rw (e, slot-fill-same n collectedBank seat signature store (omega arith) inside room (g .sized)) g
       go s i (no d) =
-          rw (slot-keep-other n collectedBank seat signature store (omega arith) inside room (g .sized) collectedBank s (λ q. d (omega arith)))
+          rw (slot-fill-other n collectedBank seat signature store (omega arith) inside room (g .sized) collectedBank s (λ q. d (omega arith)))
           (z .kept s (sym (bit-with-other s seat (own .collected) d) ∙ i))
 
   -- the first certificate's bank is as it was
   pub holding-beside : (n seat guilty : ℕ) (r : Record) (signature store : List ℕ) → seat < n → storeLength n ≤ length store → length signature ≡ signatureLength
-      → Holding checks W n (r .first) guilty store → Holding checks W n (r .first) guilty (keep n collectedBank seat signature store)
+      → Holding checks W n (r .first) guilty store → Holding checks W n (r .first) guilty (fill n collectedBank seat signature store)
   holding-beside n seat guilty r signature store inside room sized z = record {
     sized = z .sized;
     below = z .below;
     enough = z .enough;
-    kept = λ s i. rw (slot-keep-other n collectedBank seat signature store (omega arith) inside room sized firstBank s (λ q. omega arith)) (z .kept s i);
+    kept = λ s i. rw (slot-fill-other n collectedBank seat signature store (omega arith) inside room sized firstBank s (λ q. omega arith)) (z .kept s i);
     guiltyBelow = z .guiltyBelow;
     guiltyWithin = z .guiltyWithin;
     unheld = z .unheld;
@@ -186,7 +186,7 @@ module _ (checks : Checks) (W : Relation) where
   module _ (seat : ℕ) (value signature : List ℕ) (s : State) (z : Sound checks W (s .unit) (s .store)) (room : Room s) where
     -- "the value is the own one and the seat is new, its signature is collected"
     pub collect-leads : isWanted seat value (s .unit) ≡ true → s .unit .own .submitted ≡ true → (size (s .unit .own .collected) ≡ k (s .unit .n) → s .unit .confirmed ≡ true)
-        → seat < s .unit .n → Kept checks W seat value signature → Leads checks W s (collect seat signature s)
+        → seat < s .unit .n → Changed checks W seat value signature → Leads checks W s (collect seat signature s)
     unfolding collect isWanted
     collect-leads wanted submitted complete inside g =
         let r = s .unit in
@@ -196,7 +196,7 @@ module _ (checks : Checks) (W : Relation) where
         let own : value ≡ r .own .value = same-true value (r .own .value) (front .1) in
         let new : bit seat (r .own .collected) ≡ 0 = has-false seat (r .own .collected) .0 (not-true (has seat (r .own .collected)) (both .1)) in
         let few : size (r .own .collected) ≢ k (r .n) = λ e. true≢false (sym (complete e) ∙ unconfirmed) in
-        let kept : Kept checks W seat (r .own .value) signature = subst (λ (v : List ℕ). Kept checks W seat v signature) own g in
+        let kept : Changed checks W seat (r .own .value) signature = subst (λ (v : List ℕ). Changed checks W seat v signature) own g in
         let at-most : size (r .own .collected) ≤ k (r .n) = z .own .collection .few in
         leads-quiet s (collect seat signature s)
         (record {
@@ -210,7 +210,7 @@ module _ (checks : Checks) (W : Relation) where
           first = holding-beside (r .n) seat (r .guilty) r signature (s .store) inside room (g .sized) (z .first);
           flags = record { full = λ e. absurd (true≢false (sym e ∙ unconfirmed)); confirmed = z .flags .confirmed };
         })
-        (keep-length (r .n) collectedBank seat signature (s .store) (omega arith) inside room (g .sized))
+        (fill-length (r .n) collectedBank seat signature (s .store) (omega arith) inside room (g .sized))
         (record { n = refl; seat = refl; round = refl; said = λ e. (e, refl); heard = λ v h. h; held = λ v h. h })
         refl
         (same-flags r (collect seat signature s .unit) refl refl refl refl)
@@ -222,8 +222,8 @@ module _ (checks : Checks) (W : Relation) where
   -- ---- submit
 
   module _ (value signature : List ℕ) (s : State) (z : Sound checks W (s .unit) (s .store)) (room : Room s) where
-    pub submitOwn-leads : s .unit .own .submitted ≡ false → length value ≡ valueLength → Kept checks W (s .unit .seat) value signature → Leads checks W s (submitOwn value signature s)
-    unfolding submitOwn write collect keepValue isSubmit isNotice isFull isEvidence worth
+    pub submitOwn-leads : s .unit .own .submitted ≡ false → length value ≡ valueLength → Changed checks W (s .unit .seat) value signature → Leads checks W s (submitOwn value signature s)
+    unfolding submitOwn write collect setValue isSubmit isNotice isFull isEvidence worth
     submitOwn-leads unsaid sized g =
         let r = s .unit in
         let empty : r .own .collected ≡ 0 = z .own .unsaid unsaid .0 in
@@ -249,7 +249,7 @@ module _ (checks : Checks) (W : Relation) where
           first = holding-beside (r .n) (r .seat) (r .guilty) r signature (s .store) (z .range .inside) room (g .sized) (z .first);
           flags = record { full = λ e. absurd (let f = z .flags .full e in omega arith); confirmed = z .flags .confirmed };
         })
-        (keep-length (r .n) collectedBank (r .seat) signature (s .store) (omega arith) (z .range .inside) room (g .sized))
+        (fill-length (r .n) collectedBank (r .seat) signature (s .store) (omega arith) (z .range .inside) room (g .sized))
         (record { n = refl; seat = refl; round = refl; said = λ e. absurd (true≢false (sym e ∙ unsaid)); heard = λ v h. h; held = λ v h. h })
         refl
         (record { ofRound = refl; ofSeat = refl; ofValue = refl; submitted = refl; sized = sized }, g)
@@ -379,7 +379,7 @@ module _ (checks : Checks) (W : Relation) where
     hold-leads empty =
         let r = s .unit in
         let innocent : r .guilty ≡ 0 = z .first .unheld empty .1 in
-        let store = keepEach (r .n) firstBank (c .signature) (seats (r .n) (c .seats)) (s .store) in
+        let store = fillEach (r .n) firstBank (c .signature) (seats (r .n) (c .seats)) (s .store) in
         leads-quiet s (hold c s)
         (record {
           range = z .range;
@@ -388,7 +388,7 @@ module _ (checks : Checks) (W : Relation) where
               sized = z .own .collection .sized;
               below = z .own .collection .below;
               few = z .own .collection .few;
-              kept = λ t i. rw (slot-keepEach-other (r .n) firstBank (c .signature) (omega arith) (seats (r .n) (c .seats)) (s .store) collectedBank t certificate-fit room (λ u d q. let l = in-below (r .n) t (r .own .collected) (z .own .collection .below) i in omega arith)) (z .own .collection .kept t i);
+              kept = λ t i. rw (slot-fillEach-other (r .n) firstBank (c .signature) (omega arith) (seats (r .n) (c .seats)) (s .store) collectedBank t certificate-fit room (λ u d q. let l = in-below (r .n) t (r .own .collected) (z .own .collection .below) i in omega arith)) (z .own .collection .kept t i);
             };
             unsaid = z .own .unsaid;
             said = z .own .said;
@@ -398,14 +398,14 @@ module _ (checks : Checks) (W : Relation) where
             sized = y .sized;
             below = y .below;
             enough = inr (y .enough);
-            kept = λ t i. rw (slot-keepEach-same (r .n) firstBank (c .signature) (omega arith) (seats (r .n) (c .seats)) (s .store) t certificate-fit room (mem-seats (r .n) t (c .seats) .1 (in-below (r .n) t (c .seats) (y .below) i, i))) (y .kept t i);
+            kept = λ t i. rw (slot-fillEach-same (r .n) firstBank (c .signature) (omega arith) (seats (r .n) (c .seats)) (s .store) t certificate-fit room (mem-seats (r .n) t (c .seats) .1 (in-below (r .n) t (c .seats) (y .below) i, i))) (y .kept t i);
             guiltyBelow = z .first .guiltyBelow;
             guiltyWithin = rw innocent (shared-none (c .seats));
             unheld = λ e. absurd (certificate-some e);
           };
           flags = z .flags;
         })
-        (keepEach-length (r .n) firstBank (c .signature) (omega arith) (seats (r .n) (c .seats)) (s .store) certificate-fit room)
+        (fillEach-length (r .n) firstBank (c .signature) (omega arith) (seats (r .n) (c .seats)) (s .store) certificate-fit room)
         (record { n = refl; seat = refl; round = refl; said = λ e. (e, refl); heard = λ v h. h; held = λ v h. absurd (h .0 empty) })
         refl
         (same-flags r (hold c s .unit) refl refl refl refl)

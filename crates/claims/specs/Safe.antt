@@ -8,7 +8,7 @@ use mathlib.Core.Logic.{_⊎_, inl, inr, _≢_}
 use Prim.Native.Nat.{ℕ, zero, suc}
 use native.Mathlib.Omega.{arith}
 use borrow.Author.Tests.{le-ltb, eq-eqb, not-false}
-use Rattle.refusal.specs.Refusal.{lowest, unrefused}
+use Rattle.refusal.specs.Refusal.{firstOf, unrefused}
 use Rattle.protocol.specs.Values.{isLower}
 use Rattle.protocol.specs.Message.{Pair, Message, Submit, Notice, Full, Evidence, Garbled, render, renderAll, read, signed, entrySeats}
 use Rattle.protocol.specs.ReadLaws.{WellFormed, read-render}
@@ -65,7 +65,7 @@ module _ (S : Setting) where
   abbrev pub evidenceFrom : InHand → Message
   evidenceFrom h = evidenceOf n round (certificateIn (read n (h .a))) (certificateIn (read n (h .b)))
 
-  pub making-bytes : (h : InHand) → makingOf S h ≡ unrefused (lowest (conditions h)) (render (evidenceFrom h)) []
+  pub making-bytes : (h : InHand) → makingOf S h ≡ unrefused (firstOf (conditions h)) (render (evidenceFrom h)) []
   unfolding making makingBy made
   making-bytes h = counted-written (making checks n round keys (h .a) (h .b) (h .out) .written) (h .out)
 
@@ -162,15 +162,15 @@ module _ (S : Setting) where
         (λ ρ lower higher ps g e. unnamed i j lower higher ps (g .1 .ordered) (kept-both j (Backed j) (end .n) lower higher ps (λ s v h b. b) (g .1)) e)
         good (named-in m evidence (boat i .seat) (stands .1 .0 m (stands .2)) (w .bytes) d)
 
-    making-refused : (h : InHand) (q : ℕ) → lowest (conditions h) ≡ suc q → makingOf S h ≡ renderAll []
+    making-refused : (h : InHand) (q : ℕ) → firstOf (conditions h) ≡ suc q → makingOf S h ≡ renderAll []
     unfolding unrefused renderAll
     making-refused h q e = making-bytes h ∙ rw e
 
-    making-number : (h : InHand) → lowest (conditions h) ≡ 0 → making checks n round keys (h .a) (h .b) (h .out) .refusal ≡ 0
+    making-number : (h : InHand) → firstOf (conditions h) ≡ 0 → making checks n round keys (h .a) (h .b) (h .out) .refusal ≡ 0
     unfolding making makingBy
     making-number h e = e
 
-    making-unnamed : (i j : I) (h : InHand) (m : Message) → List·Memᴰ h (boat j .inHand) → lowest (conditions h) ≡ 0 → StandsIn n m (makingOf S h) → List·Memᴰ (boat i .seat) (entrySeats m) → ⊥
+    making-unnamed : (i j : I) (h : InHand) (m : Message) → List·Memᴰ h (boat j .inHand) → firstOf (conditions h) ≡ 0 → StandsIn n m (makingOf S h) → List·Memᴰ (boat i .seat) (entrySeats m) → ⊥
     unfolding unrefused renderAll entrySeats
     making-unnamed i j h m d e stands named =
         let a = read n (h .a) in
@@ -189,12 +189,12 @@ module _ (S : Setting) where
         bytes
 
     made-safe : (i j : I) (evidence : List ℕ) → MakesEvidence S (boat j) evidence → Names S evidence (boat i .seat) → ⊥
-    made-safe i j evidence w d = go (lowest (conditions h)) refl
+    made-safe i j evidence w d = go (firstOf (conditions h)) refl
       where
         h : InHand
         h = w .hand
 
-        go : (q : ℕ) → lowest (conditions h) ≡ q → ⊥
+        go : (q : ℕ) → firstOf (conditions h) ≡ q → ⊥
         go zero e = making-unnamed i j h (w .message) (w .has) e (w .stands) (named-in (w .message) evidence (boat i .seat) (w .stands .1 .0 (w .message) (w .stands .2)) (w .bytes) d)
         go (suc q) e =
             List·Memᴰ·not-nil (subst (λ ms. List·Memᴰ (w .message) ms) (are-unique n (makingOf S h) (w .stands .0) [] (w .stands .1) (each-nil (WellFormed n), making-refused h q e)) (w .stands .2))

@@ -13,7 +13,7 @@ use Rattle.octets.specs.Octets.{part, patch}
 use Rattle.octets.specs.Laws.{length-patch, drop-patch}
 use Rattle.octets.specs.StringLaws.{part-left, part-all, part-patch}
 use Rattle.protocol.specs.Layout.{signatureLength, storeLength, slotAt}
-use Rattle.protocol.specs.Certificate.{slot, keep, keepEach}
+use Rattle.protocol.specs.Certificate.{slot, fill, fillEach}
 use Rattle.protocol.specs.Laws.{slot-fits}
 use Rattle.round.specs.Round.{Each}
 
@@ -38,28 +38,28 @@ module _ (n bank seat : ℕ) (signature store : List ℕ) (b : bank < 2) (s : se
   fits : slotAt n bank seat + signatureLength ≤ length store
   fits = omega (arith, slot-fits n bank seat b s)
 
-  pub keep-length : length (keep n bank seat signature store) ≡ length store
-  unfolding keep
-  keep-length = length-patch (slotAt n bank seat) signature store (let f = fits in omega arith)
+  pub fill-length : length (fill n bank seat signature store) ≡ length store
+  unfolding fill
+  fill-length = length-patch (slotAt n bank seat) signature store (let f = fits in omega arith)
 
-  pub slot-keep-same : slot n bank (keep n bank seat signature store) seat ≡ signature
-  unfolding keep slot
-  slot-keep-same =
+  pub slot-fill-same : slot n bank (fill n bank seat signature store) seat ≡ signature
+  unfolding fill slot
+  slot-fill-same =
       let f = fits in
       ap (λ (at : ℕ). part at signatureLength (patch (slotAt n bank seat) signature store)) (sym (add-zero (slotAt n bank seat)))
       ∙ part-patch (slotAt n bank seat) 0 signatureLength signature store (omega arith) (omega arith)
       ∙ part-all signature signatureLength sized
 
-  pub slot-keep-other : (bank′ seat′ : ℕ) → n * bank + seat ≢ n * bank′ + seat′ → slot n bank′ (keep n bank seat signature store) seat′ ≡ slot n bank′ store seat′
-  unfolding keep slot slotAt signatureLength
-  slot-keep-other bank′ seat′ d = go (decLt (n * bank + seat) (n * bank′ + seat′))
+  pub slot-fill-other : (bank′ seat′ : ℕ) → n * bank + seat ≢ n * bank′ + seat′ → slot n bank′ (fill n bank seat signature store) seat′ ≡ slot n bank′ store seat′
+  unfolding fill slot slotAt signatureLength
+  slot-fill-other bank′ seat′ d = go (decLt (n * bank + seat) (n * bank′ + seat′))
     where
-      go : Dec (n * bank + seat < n * bank′ + seat′) → slot n bank′ (keep n bank seat signature store) seat′ ≡ slot n bank′ store seat′
+      go : Dec (n * bank + seat < n * bank′ + seat′) → slot n bank′ (fill n bank seat signature store) seat′ ≡ slot n bank′ store seat′
       go (yes l) =
           let f = fits in
           let gap = (n * bank′ + seat′) - (n * bank + seat) - 1 in
           let at : slotAt n bank seat + length signature + signatureLength * gap ≡ slotAt n bank′ seat′ = omega arith in
-          ap (λ (i : ℕ). part i signatureLength (keep n bank seat signature store)) (sym at)
+          ap (λ (i : ℕ). part i signatureLength (fill n bank seat signature store)) (sym at)
           ∙ part-after (slotAt n bank seat) (signatureLength * gap) signatureLength signature store (omega arith)
           ∙ ap (λ (i : ℕ). part i signatureLength store) at
       go (no l) =
@@ -72,50 +72,50 @@ module _ (n bank : ℕ) (f : ℕ → List ℕ) (b : bank < 2) where
   abbrev Fit : List ℕ → Type 0
   Fit xs = Each (λ s. (s < n) × (length (f s) ≡ signatureLength)) xs
 
-  pub keepEach-length : (xs store : List ℕ) → Fit xs → storeLength n ≤ length store → length (keepEach n bank f xs store) ≡ length store
-  unfolding keepEach
-  keepEach-length [] store fit room = refl
-  keepEach-length (x ∷ xs) store fit room =
+  pub fillEach-length : (xs store : List ℕ) → Fit xs → storeLength n ≤ length store → length (fillEach n bank f xs store) ≡ length store
+  unfolding fillEach
+  fillEach-length [] store fit room = refl
+  fillEach-length (x ∷ xs) store fit room =
       let h = fit x (List·Memᴰ·head refl) in
-      let l = keep-length n bank x (f x) store b (h .0) room (h .1) in
-      keepEach-length xs (keep n bank x (f x) store) (λ s d. fit s (List·Memᴰ·tail d)) (omega arith) ∙ l
+      let l = fill-length n bank x (f x) store b (h .0) room (h .1) in
+      fillEach-length xs (fill n bank x (f x) store) (λ s d. fit s (List·Memᴰ·tail d)) (omega arith) ∙ l
 
   -- a slot that isn't among them
-  pub slot-keepEach-other : (xs store : List ℕ) (bank′ seat′ : ℕ) → Fit xs → storeLength n ≤ length store → Each (λ s. n * bank + s ≢ n * bank′ + seat′) xs
-      → slot n bank′ (keepEach n bank f xs store) seat′ ≡ slot n bank′ store seat′
-  unfolding keepEach
-  slot-keepEach-other [] store bank′ seat′ fit room other = refl
-  slot-keepEach-other (x ∷ xs) store bank′ seat′ fit room other =
+  pub slot-fillEach-other : (xs store : List ℕ) (bank′ seat′ : ℕ) → Fit xs → storeLength n ≤ length store → Each (λ s. n * bank + s ≢ n * bank′ + seat′) xs
+      → slot n bank′ (fillEach n bank f xs store) seat′ ≡ slot n bank′ store seat′
+  unfolding fillEach
+  slot-fillEach-other [] store bank′ seat′ fit room other = refl
+  slot-fillEach-other (x ∷ xs) store bank′ seat′ fit room other =
       let h = fit x (List·Memᴰ·head refl) in
-      let l = keep-length n bank x (f x) store b (h .0) room (h .1) in
-      slot-keepEach-other xs (keep n bank x (f x) store) bank′ seat′ (λ s d. fit s (List·Memᴰ·tail d)) (omega arith) (λ s d. other s (List·Memᴰ·tail d))
-      ∙ slot-keep-other n bank x (f x) store b (h .0) room (h .1) bank′ seat′ (other x (List·Memᴰ·head refl))
+      let l = fill-length n bank x (f x) store b (h .0) room (h .1) in
+      slot-fillEach-other xs (fill n bank x (f x) store) bank′ seat′ (λ s d. fit s (List·Memᴰ·tail d)) (omega arith) (λ s d. other s (List·Memᴰ·tail d))
+      ∙ slot-fill-other n bank x (f x) store b (h .0) room (h .1) bank′ seat′ (other x (List·Memᴰ·head refl))
 
   -- a slot that has its signature keeps it
-  slot-keepEach-still : (xs store : List ℕ) (seat : ℕ) → Fit xs → storeLength n ≤ length store → slot n bank store seat ≡ f seat → slot n bank (keepEach n bank f xs store) seat ≡ f seat
-  unfolding keepEach
-  slot-keepEach-still [] store seat fit room e = e
-  slot-keepEach-still (x ∷ xs) store seat fit room e =
+  slot-fillEach-still : (xs store : List ℕ) (seat : ℕ) → Fit xs → storeLength n ≤ length store → slot n bank store seat ≡ f seat → slot n bank (fillEach n bank f xs store) seat ≡ f seat
+  unfolding fillEach
+  slot-fillEach-still [] store seat fit room e = e
+  slot-fillEach-still (x ∷ xs) store seat fit room e =
       let h = fit x (List·Memᴰ·head refl) in
-      let l = keep-length n bank x (f x) store b (h .0) room (h .1) in
-      slot-keepEach-still xs (keep n bank x (f x) store) seat (λ s d. fit s (List·Memᴰ·tail d)) (omega arith) (go (ℕ-discrete x seat))
+      let l = fill-length n bank x (f x) store b (h .0) room (h .1) in
+      slot-fillEach-still xs (fill n bank x (f x) store) seat (λ s d. fit s (List·Memᴰ·tail d)) (omega arith) (go (ℕ-discrete x seat))
     where
-      go : Dec (x ≡ seat) → slot n bank (keep n bank x (f x) store) seat ≡ f seat
+      go : Dec (x ≡ seat) → slot n bank (fill n bank x (f x) store) seat ≡ f seat
       go (yes q) =
           let h = fit x (List·Memᴰ·head refl) in
-          rw (← q) (slot-keep-same n bank x (f x) store b (h .0) room (h .1))
+          rw (← q) (slot-fill-same n bank x (f x) store b (h .0) room (h .1))
       go (no q) =
           let h = fit x (List·Memᴰ·head refl) in
-          slot-keep-other n bank x (f x) store b (h .0) room (h .1) bank seat (λ p. q (omega arith)) ∙ e
+          slot-fill-other n bank x (f x) store b (h .0) room (h .1) bank seat (λ p. q (omega arith)) ∙ e
 
-  pub slot-keepEach-same : (xs store : List ℕ) (seat : ℕ) → Fit xs → storeLength n ≤ length store → List·Memᴰ seat xs → slot n bank (keepEach n bank f xs store) seat ≡ f seat
-  unfolding keepEach
-  slot-keepEach-same [] store seat fit room d = absurd (List·Memᴰ·not-nil d)
-  slot-keepEach-same (x ∷ xs) store seat fit room d =
+  pub slot-fillEach-same : (xs store : List ℕ) (seat : ℕ) → Fit xs → storeLength n ≤ length store → List·Memᴰ seat xs → slot n bank (fillEach n bank f xs store) seat ≡ f seat
+  unfolding fillEach
+  slot-fillEach-same [] store seat fit room d = absurd (List·Memᴰ·not-nil d)
+  slot-fillEach-same (x ∷ xs) store seat fit room d =
       let h = fit x (List·Memᴰ·head refl) in
-      let l = keep-length n bank x (f x) store b (h .0) room (h .1) in
+      let l = fill-length n bank x (f x) store b (h .0) room (h .1) in
       let fit′ : Fit xs = λ s e. fit s (List·Memᴰ·tail e) in
       ⊎-elim
-      (λ q. slot-keepEach-still xs (keep n bank x (f x) store) seat fit′ (omega arith) (rw q (slot-keep-same n bank x (f x) store b (h .0) room (h .1))))
-      (λ t. slot-keepEach-same xs (keep n bank x (f x) store) seat fit′ (omega arith) t)
+      (λ q. slot-fillEach-still xs (fill n bank x (f x) store) seat fit′ (omega arith) (rw q (slot-fill-same n bank x (f x) store b (h .0) room (h .1))))
+      (λ t. slot-fillEach-same xs (fill n bank x (f x) store) seat fit′ (omega arith) t)
       (List·Memᴰ·cases-cons d)

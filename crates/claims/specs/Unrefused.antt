@@ -13,8 +13,8 @@ use Rattle.octets.specs.Strings.{same}
 use Rattle.octets.specs.StringLaws.{same-refl}
 use Rattle.quorum.specs.Quorum.{mostSeats, k, has, size, shared}
 use Rattle.quorum.specs.Laws.{has-true, outside-false, size-empty}
-use Rattle.refusal.specs.Refusal.{lowest}
-use Rattle.refusal.specs.Laws.{lowest-zero}
+use Rattle.refusal.specs.Refusal.{firstOf}
+use Rattle.refusal.specs.Laws.{firstOf-zero}
 use Rattle.protocol.specs.Layout.{valueLength, signatureLength, storeLength, outLength}
 use Rattle.protocol.specs.Values.{unset}
 use Rattle.protocol.specs.Message.{Entry, Pair, Message, Submit, Notice, Full, Evidence, Garbled, Signed, signedEntries, signedPairs, signed, roundOf, entrySeats, seatsOf}
@@ -24,7 +24,7 @@ use Rattle.protocol.specs.Refusals.{Checks, every, wrongKeys, shortStore, short
 use Rattle.protocol.specs.declared.Record.{Record}
 use Rattle.round.specs.Round.{Each, Relation, EachSigned}
 use Rattle.reading.specs.Lists.{and-true-both, or-false-both, or-true-either, each-nil, each-cons, each-map, every-each, each-every}
-use Rattle.claims.specs.Sound.{InRange, Settled, Kept, Entries, Pairs, Sound}
+use Rattle.claims.specs.Sound.{InRange, Settled, Changed, Entries, Pairs, Sound}
 use Rattle.claims.specs.Whole.{Brings}
 use Rattle.reading.specs.Reading.{Laid}
 
@@ -104,13 +104,13 @@ module _ (checks : Checks) (W : Relation) (r : Record) (store : List ℕ) (z : S
 
 -- ---- an opening that isn't refused
 
-pub opening-range : (n seat round : ℕ) (keys : List ℕ) → lowest (openingConditions n seat round keys) ≡ 0 → InRange n seat round × (wrongKeys n keys ≡ false)
+pub opening-range : (n seat round : ℕ) (keys : List ℕ) → firstOf (openingConditions n seat round keys) ≡ 0 → InRange n seat round × (wrongKeys n keys ≡ false)
 unfolding openingConditions wrongSize wrongSeat wrongRound
 opening-range n seat round keys e =
-    let a = lowest-zero 0 _ _ e in
-    let b = lowest-zero 1 _ _ (a .1) in
-    let c = lowest-zero 2 _ _ (b .1) in
-    let d = lowest-zero 4 _ _ (c .1) in
+    let a = firstOf-zero 0 _ _ e in
+    let b = firstOf-zero 1 _ _ (a .1) in
+    let c = firstOf-zero 2 _ _ (b .1) in
+    let d = firstOf-zero 4 _ _ (c .1) in
     let s = or-false-both (eqb n 0) (ltb mostSeats n) (a .0) in
     let nonzero = eqb-false n 0 (s .0) in (
       record { some = omega arith; most = ltb-false mostSeats n (s .1); inside = leb-false n seat (b .0); early = ltb-false lastRound round (c .0) },
@@ -126,16 +126,16 @@ pub record SubmitTaken (checks : Checks) (r : Record) (store value signature : L
   pub sized : length signature ≡ signatureLength
   pub checked : checks (r .seat) value signature ≡ true
 
-pub submit-taken : (checks : Checks) (keys : List ℕ) (r : Record) (store value signature out : List ℕ) → lowest (submitConditions checks keys r store value signature out) ≡ 0 → SubmitTaken checks r store value signature
+pub submit-taken : (checks : Checks) (keys : List ℕ) (r : Record) (store value signature out : List ℕ) → firstOf (submitConditions checks keys r store value signature out) ≡ 0 → SubmitTaken checks r store value signature
 unfolding submitConditions recordConditions signatureConditions shortStore said wrongLengths badSignature signed every
 submit-taken checks keys r store value signature out e =
-    let a = lowest-zero 3 _ _ e in
-    let b = lowest-zero 4 _ _ (a .1) in
-    let c = lowest-zero 5 _ _ (b .1) in
-    let d = lowest-zero 6 _ _ (c .1) in
-    let f = lowest-zero 7 _ _ (d .1) in
-    let g = lowest-zero 8 _ _ (f .1) in
-    let h = lowest-zero 13 _ _ (g .1) in
+    let a = firstOf-zero 3 _ _ e in
+    let b = firstOf-zero 4 _ _ (a .1) in
+    let c = firstOf-zero 5 _ _ (b .1) in
+    let d = firstOf-zero 6 _ _ (c .1) in
+    let f = firstOf-zero 7 _ _ (d .1) in
+    let g = firstOf-zero 8 _ _ (f .1) in
+    let h = firstOf-zero 13 _ _ (g .1) in
     let lengths = or-false-both (not (eqb (length value) valueLength)) (not (eqb (length signature) signatureLength)) (g .0) in
     record {
       room = ltb-false (length store) (storeLength (r .n)) (c .0);
@@ -211,51 +211,51 @@ of-taken checks n round m t = (
 )
 
 -- a step's
-pub step-taken : (checks : Checks) (keys : List ℕ) (r : Record) (store : List ℕ) (m : Message) (out : List ℕ) → lowest (stepConditions checks keys r store m out) ≡ 0
+pub step-taken : (checks : Checks) (keys : List ℕ) (r : Record) (store : List ℕ) (m : Message) (out : List ℕ) → firstOf (stepConditions checks keys r store m out) ≡ 0
     → (storeLength (r .n) ≤ length store) × (isForStep m ≡ true) × Taken checks (r .n) (r .round) m × (early r m ≡ false)
 unfolding stepConditions recordConditions formConditions signatureConditions shortStore
 step-taken checks keys r store m out e =
-    let a = lowest-zero 3 _ _ e in
-    let b = lowest-zero 4 _ _ (a .1) in
-    let c = lowest-zero 5 _ _ (b .1) in
-    let d = lowest-zero 6 _ _ (c .1) in
-    let f = lowest-zero 8 _ _ (d .1) in
-    let g = lowest-zero 9 _ _ (f .1) in
-    let h = lowest-zero 10 _ _ (g .1) in
-    let i = lowest-zero 11 _ _ (h .1) in
-    let j = lowest-zero 12 _ _ (i .1) in
-    let l = lowest-zero 13 _ _ (j .1) in
+    let a = firstOf-zero 3 _ _ e in
+    let b = firstOf-zero 4 _ _ (a .1) in
+    let c = firstOf-zero 5 _ _ (b .1) in
+    let d = firstOf-zero 6 _ _ (c .1) in
+    let f = firstOf-zero 8 _ _ (d .1) in
+    let g = firstOf-zero 9 _ _ (f .1) in
+    let h = firstOf-zero 10 _ _ (g .1) in
+    let i = firstOf-zero 11 _ _ (h .1) in
+    let j = firstOf-zero 12 _ _ (i .1) in
+    let l = firstOf-zero 13 _ _ (j .1) in
     (ltb-false (length store) (storeLength (r .n)) (c .0), not-false (isForStep m) (f .0), taken-of checks (r .n) (r .round) m (g .0) (h .0) (i .0) (l .0), j .0)
 
 pub step-unrefused : (checks : Checks) (keys : List ℕ) (r : Record) (store : List ℕ) (m : Message) (out : List ℕ) → impossible r ≡ false → wrongKeys (r .n) keys ≡ false
     → storeLength (r .n) ≤ length store → outLength (r .n) ≤ length out → isForStep m ≡ true → early r m ≡ false → Taken checks (r .n) (r .round) m
-    → lowest (stepConditions checks keys r store m out) ≡ 0
-unfolding stepConditions recordConditions formConditions signatureConditions shortStore shortOut lowest
+    → firstOf (stepConditions checks keys r store m out) ≡ 0
+unfolding stepConditions recordConditions formConditions signatureConditions shortStore shortOut firstOf
 step-unrefused checks keys r store m out a b c d f g t =
     let h = of-taken checks (r .n) (r .round) m t in
     rw (a, b, le-ltb (length store) (storeLength (r .n)) c, le-ltb (length out) (outLength (r .n)) d, f, h .0, h .1, h .2, g, h .3)
 
 pub evidence-unrefused : (checks : Checks) (n seat round : ℕ) (keys : List ℕ) (m : Message) → InRange n seat round → wrongKeys n keys ≡ false → isEvidence m ≡ true
-    → Taken checks n round m → notLowerFirst m ≡ false → lowest (evidenceConditions checks n round keys m) ≡ 0
-unfolding evidenceConditions outsideConditions formConditions signatureConditions lowest
+    → Taken checks n round m → notLowerFirst m ≡ false → firstOf (evidenceConditions checks n round keys m) ≡ 0
+unfolding evidenceConditions outsideConditions formConditions signatureConditions firstOf
 evidence-unrefused checks n seat round keys m range b f t low =
     let h = of-taken checks n round m t in
     rw (size-right n (range .some) (range .most), round-right round (range .early), b, f, h .0, h .1, h .2, h .3, low)
 
 -- the evidence check's
-pub evidence-checked : (checks : Checks) (n round : ℕ) (keys : List ℕ) (m : Message) → lowest (evidenceConditions checks n round keys m) ≡ 0
+pub evidence-checked : (checks : Checks) (n round : ℕ) (keys : List ℕ) (m : Message) → firstOf (evidenceConditions checks n round keys m) ≡ 0
     → (isEvidence m ≡ true) × Taken checks n round m × (notLowerFirst m ≡ false)
 unfolding evidenceConditions outsideConditions formConditions signatureConditions
 evidence-checked checks n round keys m e =
-    let a = lowest-zero 0 _ _ e in
-    let b = lowest-zero 2 _ _ (a .1) in
-    let c = lowest-zero 4 _ _ (b .1) in
-    let f = lowest-zero 8 _ _ (c .1) in
-    let g = lowest-zero 9 _ _ (f .1) in
-    let h = lowest-zero 10 _ _ (g .1) in
-    let i = lowest-zero 11 _ _ (h .1) in
-    let l = lowest-zero 13 _ _ (i .1) in
-    let o = lowest-zero 14 _ _ (l .1) in
+    let a = firstOf-zero 0 _ _ e in
+    let b = firstOf-zero 2 _ _ (a .1) in
+    let c = firstOf-zero 4 _ _ (b .1) in
+    let f = firstOf-zero 8 _ _ (c .1) in
+    let g = firstOf-zero 9 _ _ (f .1) in
+    let h = firstOf-zero 10 _ _ (g .1) in
+    let i = firstOf-zero 11 _ _ (h .1) in
+    let l = firstOf-zero 13 _ _ (i .1) in
+    let o = firstOf-zero 14 _ _ (l .1) in
     (not-false (isEvidence m) (f .0), taken-of checks n round m (g .0) (h .0) (i .0) (l .0), o .0)
 
 -- a making's: two certificates of different values
@@ -270,24 +270,24 @@ pub record MakingTaken (checks : Checks) (n round : ℕ) (keys : List ℕ) (a b 
   pub takenB : Taken checks n round b
   pub different : certificateIn a .value ≢ certificateIn b .value
 
-pub making-taken : (checks : Checks) (n round : ℕ) (keys : List ℕ) (a b : Message) (out : List ℕ) → lowest (makingConditions checks n round keys a b out) ≡ 0 → MakingTaken checks n round keys a b
+pub making-taken : (checks : Checks) (n round : ℕ) (keys : List ℕ) (a b : Message) (out : List ℕ) → firstOf (makingConditions checks n round keys a b out) ≡ 0 → MakingTaken checks n round keys a b
 unfolding makingConditions twoConditions certificateConditions outsideConditions formConditions signatureConditions equalValues wrongSize wrongRound
 making-taken checks n round keys a b out e =
-    let p = lowest-zero 0 _ _ e in
-    let q = lowest-zero 2 _ _ (p .1) in
-    let r = lowest-zero 4 _ _ (q .1) in
-    let s = lowest-zero 6 _ _ (r .1) in
-    let f = lowest-zero 8 _ _ (s .1) in
-    let g = lowest-zero 9 _ _ (f .1) in
-    let h = lowest-zero 10 _ _ (g .1) in
-    let i = lowest-zero 11 _ _ (h .1) in
-    let l = lowest-zero 13 _ _ (i .1) in
-    let f′ = lowest-zero 8 _ _ (l .1) in
-    let g′ = lowest-zero 9 _ _ (f′ .1) in
-    let h′ = lowest-zero 10 _ _ (g′ .1) in
-    let i′ = lowest-zero 11 _ _ (h′ .1) in
-    let l′ = lowest-zero 13 _ _ (i′ .1) in
-    let o = lowest-zero 14 _ _ (l′ .1) in
+    let p = firstOf-zero 0 _ _ e in
+    let q = firstOf-zero 2 _ _ (p .1) in
+    let r = firstOf-zero 4 _ _ (q .1) in
+    let s = firstOf-zero 6 _ _ (r .1) in
+    let f = firstOf-zero 8 _ _ (s .1) in
+    let g = firstOf-zero 9 _ _ (f .1) in
+    let h = firstOf-zero 10 _ _ (g .1) in
+    let i = firstOf-zero 11 _ _ (h .1) in
+    let l = firstOf-zero 13 _ _ (i .1) in
+    let f′ = firstOf-zero 8 _ _ (l .1) in
+    let g′ = firstOf-zero 9 _ _ (f′ .1) in
+    let h′ = firstOf-zero 10 _ _ (g′ .1) in
+    let i′ = firstOf-zero 11 _ _ (h′ .1) in
+    let l′ = firstOf-zero 13 _ _ (i′ .1) in
+    let o = firstOf-zero 14 _ _ (l′ .1) in
     let sized = or-false-both (eqb n 0) (ltb mostSeats n) (p .0) in
     let nonzero = eqb-false n 0 (sized .0) in
     record {
@@ -306,7 +306,7 @@ making-taken checks n round keys a b out e =
 
 module _ (checks : Checks) (W : Relation) where
   entries-kept : (value : List ℕ) (es : List Entry) → EachSigned (λ s v g. checks s v g ≡ true) (Full 0 0 value es) → EachSigned W (Full 0 0 value es) → Each (λ (e : Entry). length (e .signature) ≡ signatureLength) es
-      → Each (λ (e : Entry). Kept checks W (e .seat) value (e .signature)) es
+      → Each (λ (e : Entry). Changed checks W (e .seat) value (e .signature)) es
   unfolding signed
   entries-kept value es c w l e d = record {
     checked = signed-entries (λ s v g. checks s v g ≡ true) value es c e d;

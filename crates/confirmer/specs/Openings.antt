@@ -2,7 +2,7 @@
 use mathlib.Core.Path.{_≡_, refl}
 use mathlib.Core.List.{List}
 use Prim.Native.Nat.{ℕ, zero, suc}
-use Rattle.refusal.specs.Refusal.{lowest, unrefused}
+use Rattle.refusal.specs.Refusal.{firstOf, unrefused}
 use Rattle.protocol.specs.Record.{fresh, zeros}
 use Rattle.protocol.specs.Refusals.{openingConditions}
 use Rattle.protocol.specs.Calls.{openedBy, opening}
@@ -17,7 +17,7 @@ unfolding openedBy unrefused zeros
 refused-gives-zeros zero r h = absurd (h refl)
 refused-gives-zeros (suc n) r h = refl
 
-module _ (n seat round : ℕ) (keys : List ℕ) (number : ℕ) (unit : Record) (e : number ≡ lowest (openingConditions n seat round keys)) where
+module _ (n seat round : ℕ) (keys : List ℕ) (number : ℕ) (unit : Record) (e : number ≡ firstOf (openingConditions n seat round keys)) where
   pub open-opened : number ≡ 0 → unit ≡ fresh n seat round → answered number unit ≡ opening n seat round keys
   unfolding opening openedBy unrefused
   open-opened z u = rw (← e, z, u)

@@ -8,8 +8,8 @@ use native.Mathlib.Omega.{arith}
 use lib.Dec.{eqb}
 use lib.ListN.{length}
 use borrow.Author.Tests.{eqb-true, eq-eqb, ne-eqb, ltb-false, not-false}
-use Rattle.refusal.specs.Refusal.{lowest}
-use Rattle.refusal.specs.Laws.{lowest-zero}
+use Rattle.refusal.specs.Refusal.{firstOf}
+use Rattle.refusal.specs.Laws.{firstOf-zero}
 use Rattle.protocol.specs.Layout.{valueLength, signatureLength, storeLength, outLength}
 use Rattle.protocol.specs.Message.{Message, Submit, read, readSubmit, readNotice, readEvidence, readFull, signed}
 use Rattle.protocol.specs.Record.{impossible}
@@ -20,8 +20,8 @@ use Rattle.wire.specs.KindLaws.{read-as, tag}
 use Rattle.wire.specs.declared.read.Kind.{Kind}
 use Rattle.wire.specs.declared.read.Kind.the-variants as kind
 use Rattle.validate.specs.Conditions.{Formed, form-passed, form-later, refused-first}
-use Rattle.phases.specs.Records.{or-false}
-use Rattle.phases.specs.Possible.{Ready, possible}
+use Rattle.steps.specs.Records.{or-false}
+use Rattle.steps.specs.Possible.{Ready, possible}
 
 -- ---- the record, the key table, the store and out
 
@@ -33,13 +33,13 @@ module _ (keys : List ℕ) (r : Record) (store out : List ℕ) where
     pub slots : shortStore (r .n) store ≡ false
     pub room : shortOut (outLength (r .n)) out ≡ false
 
-  pub given : (number : ℕ) → number ≡ lowest (recordConditions keys r store out) → number ≡ 0 → Given
+  pub given : (number : ℕ) → number ≡ firstOf (recordConditions keys r store out) → number ≡ 0 → Given
   unfolding recordConditions
   given number e z =
-      let a = lowest-zero 3 (impossible r) ((5, wrongKeys (r .n) keys) ∷ (6, shortStore (r .n) store) ∷ (7, shortOut (outLength (r .n)) out) ∷ []) (sym e ∙ z) in
-      let b = lowest-zero 4 (wrongKeys (r .n) keys) ((6, shortStore (r .n) store) ∷ (7, shortOut (outLength (r .n)) out) ∷ []) (a .1) in
-      let c = lowest-zero 5 (shortStore (r .n) store) ((7, shortOut (outLength (r .n)) out) ∷ []) (b .1) in
-      let d = lowest-zero 6 (shortOut (outLength (r .n)) out) [] (c .1) in
+      let a = firstOf-zero 3 (impossible r) ((5, wrongKeys (r .n) keys) ∷ (6, shortStore (r .n) store) ∷ (7, shortOut (outLength (r .n)) out) ∷ []) (sym e ∙ z) in
+      let b = firstOf-zero 4 (wrongKeys (r .n) keys) ((6, shortStore (r .n) store) ∷ (7, shortOut (outLength (r .n)) out) ∷ []) (a .1) in
+      let c = firstOf-zero 5 (shortStore (r .n) store) ((7, shortOut (outLength (r .n)) out) ∷ []) (b .1) in
+      let d = firstOf-zero 6 (shortOut (outLength (r .n)) out) [] (c .1) in
       record { sound = a .0; table = b .0; slots = c .0; room = d .0 }
 
   pub given-ready : Given → Ready r store out
@@ -52,8 +52,8 @@ module _ (keys : List ℕ) (r : Record) (store out : List ℕ) where
       }
 
   -- and the conditions after them decide
-  pub given-later : Given → (rest : List Condition) → lowest (recordConditions keys r store out ++ rest) ≡ lowest rest
-  unfolding recordConditions lowest
+  pub given-later : Given → (rest : List Condition) → firstOf (recordConditions keys r store out ++ rest) ≡ firstOf rest
+  unfolding recordConditions firstOf
   given-later g rest = rw (g .sound, g .table, g .slots, g .room)
 
 -- ---- the own submission
@@ -64,32 +64,32 @@ ownConditions checks r value signature = (8, said r) ∷ (9, wrongLengths value 
 
 module _ (checks : Checks) (r : Record) (value signature : List ℕ) where
   abbrev own : ℕ
-  own = lowest (ownConditions checks r value signature)
+  own = firstOf (ownConditions checks r value signature)
 
   pub own-said : said r ≡ true → 8 ≡ own
-  unfolding ownConditions lowest
+  unfolding ownConditions firstOf
   own-said s = rw s
 
   module _ (new : said r ≡ false) where
     pub own-lengths : wrongLengths value signature ≡ true → 9 ≡ own
-    unfolding ownConditions lowest
+    unfolding ownConditions firstOf
     own-lengths l = rw (new, l)
 
     module _ (long : wrongLengths value signature ≡ false) where
       pub own-bad : checks (r .seat) value signature ≡ false → 14 ≡ own
-      unfolding ownConditions signatureConditions badSignature signed every lowest
+      unfolding ownConditions signatureConditions badSignature signed every firstOf
       own-bad b = rw (new, long, b)
 
       pub own-passed : checks (r .seat) value signature ≡ true → 0 ≡ own
-      unfolding ownConditions signatureConditions badSignature signed every lowest
+      unfolding ownConditions signatureConditions badSignature signed every firstOf
       own-passed b = rw (new, long, b)
 
   pub own-unrefused : (number : ℕ) → number ≡ own → number ≡ 0 → (said r ≡ false) × (wrongLengths value signature ≡ false)
   unfolding ownConditions
   own-unrefused number e z =
       let tail = signatureConditions checks (Submit (r .round) (r .seat) value signature) in
-      let s = lowest-zero 7 (said r) ((9, wrongLengths value signature) ∷ tail) (sym e ∙ z) in
-      (s .0, lowest-zero 8 (wrongLengths value signature) tail (s .1) .0)
+      let s = firstOf-zero 7 (said r) ((9, wrongLengths value signature) ∷ tail) (sym e ∙ z) in
+      (s .0, firstOf-zero 8 (wrongLengths value signature) tail (s .1) .0)
 
 module _ (value signature : List ℕ) where
   pub right-lengths : wrongLengths value signature ≡ false → (length value ≡ valueLength) × (length signature ≡ signatureLength)
@@ -114,10 +114,10 @@ messageConditions checks r m = formConditions (r .n) (r .round) (isForStep m) m 
 
 module _ (checks : Checks) (r : Record) (m : Message) where
   abbrev heard : ℕ
-  heard = lowest (messageConditions checks r m)
+  heard = firstOf (messageConditions checks r m)
 
-  module _ (taken : Bool) (told : taken ≡ isForStep m) (number : ℕ) (e : number ≡ lowest (formConditions (r .n) (r .round) taken m)) where
-    form : number ≡ lowest (formConditions (r .n) (r .round) (isForStep m) m)
+  module _ (taken : Bool) (told : taken ≡ isForStep m) (number : ℕ) (e : number ≡ firstOf (formConditions (r .n) (r .round) taken m)) where
+    form : number ≡ firstOf (formConditions (r .n) (r .round) (isForStep m) m)
     form = rw (← told) e
 
     pub message-garbled : (number ≡ 0 → ⊥) → number ≡ heard
@@ -128,31 +128,31 @@ module _ (checks : Checks) (r : Record) (m : Message) where
     message-formed z = form-passed (r .n) (r .round) number (isForStep m) m form z
 
   module _ (f : Formed (r .n) (r .round) (isForStep m) m) where
-    later : heard ≡ lowest ((13, early r m) ∷ signatureConditions checks m)
+    later : heard ≡ firstOf ((13, early r m) ∷ signatureConditions checks m)
     unfolding messageConditions
     later = form-later (r .n) (r .round) (isForStep m) m f ((13, early r m) ∷ signatureConditions checks m)
 
     pub message-early : early r m ≡ true → 13 ≡ heard
-    unfolding lowest
+    unfolding firstOf
     message-early b = sym (later ∙ rw b)
 
     module _ (due : early r m ≡ false) where
       pub message-bad : badSignature checks m ≡ true → 14 ≡ heard
-      unfolding signatureConditions lowest
+      unfolding signatureConditions firstOf
       message-bad b = sym (later ∙ rw (due, b))
 
       pub message-passed : badSignature checks m ≡ false → 0 ≡ heard
-      unfolding signatureConditions lowest
+      unfolding signatureConditions firstOf
       message-passed b = sym (later ∙ rw (due, b))
 
   pub message-unrefused : (number : ℕ) → number ≡ heard → number ≡ 0 → (stranger (r .n) m ≡ false) × (disorder m ≡ false)
   unfolding messageConditions formConditions
   message-unrefused number e z =
       let tail : List Condition = (13, early r m) ∷ signatureConditions checks m in
-      let a = lowest-zero 8 (not (isForStep m)) ((10, otherRound (r .round) m) ∷ (11, stranger (r .n) m) ∷ (12, disorder m) ∷ tail) (sym e ∙ z) in
-      let b = lowest-zero 9 (otherRound (r .round) m) ((11, stranger (r .n) m) ∷ (12, disorder m) ∷ tail) (a .1) in
-      let c = lowest-zero 10 (stranger (r .n) m) ((12, disorder m) ∷ tail) (b .1) in
-      (c .0, lowest-zero 11 (disorder m) tail (c .1) .0)
+      let a = firstOf-zero 8 (not (isForStep m)) ((10, otherRound (r .round) m) ∷ (11, stranger (r .n) m) ∷ (12, disorder m) ∷ tail) (sym e ∙ z) in
+      let b = firstOf-zero 9 (otherRound (r .round) m) ((11, stranger (r .n) m) ∷ (12, disorder m) ∷ tail) (a .1) in
+      let c = firstOf-zero 10 (stranger (r .n) m) ((12, disorder m) ∷ tail) (b .1) in
+      (c .0, firstOf-zero 11 (disorder m) tail (c .1) .0)
 
 -- by what it is
 module _ (n : ℕ) (m : List ℕ) where

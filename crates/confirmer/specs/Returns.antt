@@ -8,7 +8,7 @@ use lib.ListN.{length, take, drop, length-append, take-append-drop}
 use lib.Seq.{drop-append-le, length-take-le}
 use Rattle.octets.specs.Octets.{patch}
 use Rattle.quorum.specs.Quorum.{k}
-use Rattle.refusal.specs.Refusal.{lowest, unrefused}
+use Rattle.refusal.specs.Refusal.{firstOf, unrefused}
 use Rattle.protocol.specs.Layout.{outLength}
 use Rattle.protocol.specs.Message.{read, renderAll}
 use Rattle.protocol.specs.Refusals.{Checks, Condition, recordConditions, formConditions, submitConditions, stepConditions}
@@ -17,8 +17,8 @@ use Rattle.protocol.specs.Calls.{outAfter, Result, resultBy, start, submit, ste
 use Rattle.protocol.specs.declared.Record.{Record}
 use Rattle.protocol.specs.declared.Stepped.{Stepped}
 use Rattle.validate.specs.Conditions.{refused-first}
-use Rattle.phases.specs.Phases.{Did}
-use Rattle.phases.specs.Possible.{Ready}
+use Rattle.steps.specs.Phases.{Did}
+use Rattle.steps.specs.Possible.{Ready}
 use Rattle.confirmer.specs.Refused.{Given, given-ready, given-later, ownConditions, messageConditions}
 
 abbrev pub answered : ℕ → ℕ → Record → Stepped
@@ -84,11 +84,11 @@ end-small f keys r store out room stated g unit store′ out′ end did long =
 
 -- a call by what is turned back of its record, table, store and out, and of the rest
 module _ (keys : List ℕ) (r : Record) (store out : List ℕ) (rest : List Condition) (f : State → State) (result : Result)
-    (is : result ≡ resultBy (lowest (recordConditions keys r store out ++ rest)) (f (start r store)) r store) where
-  pub refused-given : (number : ℕ) → number ≡ lowest (recordConditions keys r store out) → (number ≡ 0 → ⊥) → Leaves result (answered number 0 r) store out out
+    (is : result ≡ resultBy (firstOf (recordConditions keys r store out ++ rest)) (f (start r store)) r store) where
+  pub refused-given : (number : ℕ) → number ≡ firstOf (recordConditions keys r store out) → (number ≡ 0 → ⊥) → Leaves result (answered number 0 r) store out out
   refused-given number e h = rw (is, refused-first (recordConditions keys r store out) rest number e h) (keeps number (f (start r store)) r store out h)
 
-  module _ (g : Given keys r store out) (number : ℕ) (e : number ≡ lowest rest) where
+  module _ (g : Given keys r store out) (number : ℕ) (e : number ≡ firstOf rest) where
     pub refused-rest : (number ≡ 0 → ⊥) → Leaves result (answered number 0 r) store out out
     refused-rest h = rw (is, given-later keys r store out g rest, ← e) (keeps number (f (start r store)) r store out h)
 
@@ -101,12 +101,12 @@ module _ (keys : List ℕ) (r : Record) (store out : List ℕ) (rest : List Cond
 
 pub submit-is : (checks : Checks) (keys : List ℕ) (r : Record) (store value signature out : List ℕ)
     → submit checks keys r store value signature out
-    ≡ resultBy (lowest (recordConditions keys r store out ++ ownConditions checks r value signature)) (submitted value signature (start r store)) r store
+    ≡ resultBy (firstOf (recordConditions keys r store out ++ ownConditions checks r value signature)) (submitted value signature (start r store)) r store
 unfolding submit submitConditions recordConditions ownConditions
 submit-is checks keys r store value signature out = refl
 
 pub step-is : (checks : Checks) (keys : List ℕ) (r : Record) (store bytes out : List ℕ)
     → step checks keys r store bytes out
-    ≡ resultBy (lowest (recordConditions keys r store out ++ messageConditions checks r (read (r .n) bytes))) (stepped (read (r .n) bytes) (start r store)) r store
+    ≡ resultBy (firstOf (recordConditions keys r store out ++ messageConditions checks r (read (r .n) bytes))) (stepped (read (r .n) bytes) (start r store)) r store
 unfolding step stepConditions recordConditions formConditions messageConditions
 step-is checks keys r store bytes out = refl

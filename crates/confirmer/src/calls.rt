@@ -8,9 +8,9 @@ use crate::refusals::message_refusal;
 use crate::refusals::out_length;
 use crate::refusals::own_refusal;
 use crate::refusals::record_refusal;
-use phases::steps::Phase;
-use phases::steps::step_phase;
-use phases::steps::submit_phase;
+use steps::steps::Phase;
+use steps::steps::step_phase;
+use steps::steps::submit_phase;
 use protocol::Record;
 use protocol::Stepped;
 

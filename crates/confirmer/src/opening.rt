@@ -1,6 +1,6 @@
 // Opening: the record of a unit with nothing set.
 ghost use mathlib.Core.Path.{_≡_};
-ghost use Rattle.refusal.specs.Refusal.{lowest};
+ghost use Rattle.refusal.specs.Refusal.{firstOf};
 ghost use Rattle.protocol.specs.Refusals.{openingConditions};
 ghost use Rattle.protocol.specs.Record as Records;
 ghost use Rattle.protocol.specs.Calls.{opening};
@@ -40,7 +40,7 @@ fn fresh(n: u32, seat: u32, round: u32) -> Record
 
 // What opening turns back.
 fn refused(n: u32, seat: u32, round: u32, keys: &[u8]) -> u32
-    ensures { λ r. ⌜ r ≡ lowest (openingConditions n seat round (now (keys .entry))) ⌝ }
+    ensures { λ r. ⌜ r ≡ firstOf (openingConditions n seat round (now (keys .entry))) ⌝ }
 {
     if fleet::wrong_size(n) {
         return refusal::SIZE;

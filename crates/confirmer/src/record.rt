@@ -4,9 +4,9 @@ ghost use mathlib.Core.Bool.{_&&_, _||_};
 ghost use Rattle.octets.specs.Strings.{same};
 ghost use Rattle.protocol.specs.Record.{outOfRange, wrongHeard, namesStranger, wrongCollected, wrongFirst, lacksFirst, wrongGuilty, wrongSent, wrongUnset, impossible};
 ghost use Rattle.protocol.specs.Values.{unset};
-ghost use Rattle.phases.specs.Records.{InRange};
-use phases::bools::both;
-use phases::bools::either;
+ghost use Rattle.steps.specs.Records.{InRange};
+use steps::bools::both;
+use steps::bools::either;
 use protocol::Record;
 
 // Whether a value is 32 zero bytes.

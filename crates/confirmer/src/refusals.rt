@@ -3,14 +3,14 @@
 ghost use mathlib.Core.Path.{_≡_};
 ghost use mathlib.Core.Bool.{false};
 ghost use Prim.Native.Nat.{_≤_};
-ghost use Rattle.refusal.specs.Refusal.{lowest};
+ghost use Rattle.refusal.specs.Refusal.{firstOf};
 ghost use Rattle.quorum.specs.Quorum.{mostSeats};
 ghost use Rattle.protocol.specs.Signatures.{checks};
 ghost use Rattle.protocol.specs.Layout.{outLength};
 ghost use Rattle.protocol.specs.Message.{read};
 ghost use Rattle.protocol.specs.Refusals.{shortStore, shortOut, wrongLengths, wrongKeys, isForStep, early, recordConditions};
 ghost use Rattle.wire.specs.Reading.{kindOf};
-ghost use Rattle.phases.specs.Records.{InRange};
+ghost use Rattle.steps.specs.Records.{InRange};
 ghost use Rattle.confirmer.specs.Refused.{ownConditions, messageConditions};
 use crate::record::is_impossible;
 use protocol::Record;
@@ -42,7 +42,7 @@ fn short_out(n: u32, out: &[u8]) -> bool
 
 // Of the record, the key table, the store and `out`: 4, 5, 6, 7.
 pub fn record_refusal(r: Record, keys: &[u8], store: &[u8], out: &[u8]) -> u32
-    ensures { λ b. ⌜ b ≡ lowest (recordConditions (now (keys .entry)) r (now (store .entry)) (now (out .entry))) ⌝ }
+    ensures { λ b. ⌜ b ≡ firstOf (recordConditions (now (keys .entry)) r (now (store .entry)) (now (out .entry))) ⌝ }
 {
     if is_impossible(r) {
         return refusal::RECORD;
@@ -72,7 +72,7 @@ fn wrong_lengths(value: &[u8], signature: &[u8]) -> bool
 // Of the own submission: 8, 9, 14.
 pub fn own_refusal(r: Record, keys: &[u8], value: &[u8], signature: &[u8]) -> u32
     requires { ⌜ InRange r × (wrongKeys (r .n) (now keys) ≡ false) ⌝ }
-    ensures { λ b. ⌜ b ≡ lowest (ownConditions (checks (now (keys .entry)) (r .round)) r (now (value .entry)) (now (signature .entry))) ⌝ }
+    ensures { λ b. ⌜ b ≡ firstOf (ownConditions (checks (now (keys .entry)) (r .round)) r (now (value .entry)) (now (signature .entry))) ⌝ }
 {
     if r.own.submitted {
         return refusal::SAID;
@@ -112,7 +112,7 @@ fn is_early(r: Record, kind: Kind, m: &[u8]) -> bool
 // Of the message that a step is given: 9 to 14.
 pub fn message_refusal(r: Record, keys: &[u8], kind: Kind, m: &[u8]) -> u32
     requires { ⌜ InRange r × (wrongKeys (r .n) (now keys) ≡ false) × (kind ≡ kindOf (read (r .n) (now m))) ⌝ }
-    ensures { λ b. ⌜ b ≡ lowest (messageConditions (checks (now (keys .entry)) (r .round)) r (read (r .n) (now (m .entry)))) ⌝ }
+    ensures { λ b. ⌜ b ≡ firstOf (messageConditions (checks (now (keys .entry)) (r .round)) r (read (r .n) (now (m .entry)))) ⌝ }
 {
     let taken = is_for_step(r.n, kind, m);
     let form = validate::form_refusal(r.n, r.round, taken, kind, m);

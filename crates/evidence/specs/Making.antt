@@ -11,7 +11,7 @@ use Rattle.octets.specs.Strings.{same}
 use Rattle.octets.specs.StringLaws.{patch-nothing}
 use Rattle.quorum.specs.Quorum.{k, size, shared}
 use Rattle.quorum.specs.Laws.{size-shared-le}
-use Rattle.refusal.specs.Refusal.{lowest, unrefused}
+use Rattle.refusal.specs.Refusal.{firstOf, unrefused}
 use Rattle.protocol.specs.Values.{isLower}
 use Rattle.protocol.specs.Layout.{valueLength, fullLength, fullEntryAt, evidenceLength, evidenceEntryAt, evidenceEntryLength, evidenceOutLength}
 use Rattle.protocol.specs.Message.{Message, render, read, readValue, entrySeats}
@@ -100,27 +100,27 @@ module _ (checks : Checks) (n round : ℕ) (keys a b out : List ℕ) where
   Makes number written after =
       (answered number written ≡ made (making checks n round keys a b out)) × (after ≡ outAfter (making checks n round keys a b out .written) out)
 
-  by-number : (number : ℕ) → lowest (outside ++ ((7, short) ∷ two)) ≡ number → (number ≡ 0 → ⊥) → Makes number 0 out
+  by-number : (number : ℕ) → firstOf (outside ++ ((7, short) ∷ two)) ≡ number → (number ≡ 0 → ⊥) → Makes number 0 out
   unfolding making
   by-number number e h = rw (making-in-order, e) (refused-by number (evidenceOf n round (certificateIn (read n a)) (certificateIn (read n b))) out h)
 
-  pub making-outside : (number : ℕ) → number ≡ lowest (outsideConditions n round keys) → (number ≡ 0 → ⊥) → Makes number 0 out
+  pub making-outside : (number : ℕ) → number ≡ firstOf (outsideConditions n round keys) → (number ≡ 0 → ⊥) → Makes number 0 out
   making-outside number e h = by-number number (refused-first outside ((7, short) ∷ two) number e h) h
 
   module _ (g : Given n round keys) where
     pub making-short : shortOut (evidenceOutLength n) out ≡ true → Makes 7 0 out
-    unfolding lowest
+    unfolding firstOf
     making-short l = by-number 7 (outside-later n round keys g ((7, short) ∷ two) ∙ rw l) (λ z. omega arith)
 
     module _ (room : shortOut (evidenceOutLength n) out ≡ false) where
-      roomy : lowest (outside ++ ((7, short) ∷ two)) ≡ lowest two
-      unfolding lowest
+      roomy : firstOf (outside ++ ((7, short) ∷ two)) ≡ firstOf two
+      unfolding firstOf
       roomy = outside-later n round keys g ((7, short) ∷ two) ∙ rw room
 
-      pub making-refused : (number : ℕ) → number ≡ lowest (twoConditions checks n round (read n a) (read n b)) → (number ≡ 0 → ⊥) → Makes number 0 out
+      pub making-refused : (number : ℕ) → number ≡ firstOf (twoConditions checks n round (read n a) (read n b)) → (number ≡ 0 → ⊥) → Makes number 0 out
       making-refused number e h = by-number number (roomy ∙ sym e) h
 
-      pub making-done : (number : ℕ) → number ≡ lowest (twoConditions checks n round (read n a) (read n b)) → number ≡ 0 → (after : List ℕ) (end : ℕ)
+      pub making-done : (number : ℕ) → number ≡ firstOf (twoConditions checks n round (read n a) (read n b)) → number ≡ 0 → (after : List ℕ) (end : ℕ)
           → Wrote 0 (render (evidenceOf n round (certificateIn (read n a)) (certificateIn (read n b)))) out after end → Makes 0 end after
       unfolding making made makingBy unrefused outAfter
       making-done number e z after end w =
@@ -145,7 +145,7 @@ module _ (checks : Checks) (n round : ℕ) (keys a b : List ℕ) where
 
   -- the lowest of the call's numbers
   abbrev pub lowerNumber : ℕ
-  lowerNumber = lowest (lowerConditions checks n round keys (read n a) (read n b))
+  lowerNumber = firstOf (lowerConditions checks n round keys (read n a) (read n b))
 
   -- a refusal hands back no byte
   abbrev Nothing : Type 0
@@ -155,11 +155,11 @@ module _ (checks : Checks) (n round : ℕ) (keys a b : List ℕ) where
   unfolding lowerCertificate
   nothing-of number e h = (rw e (no-part number (lowerOf n a b) h), λ z. h (sym e ∙ z))
 
-  pub lower-outside : (number : ℕ) → number ≡ lowest (outsideConditions n round keys) → (number ≡ 0 → ⊥) → Nothing
+  pub lower-outside : (number : ℕ) → number ≡ firstOf (outsideConditions n round keys) → (number ≡ 0 → ⊥) → Nothing
   unfolding lowerConditions
   lower-outside number e h = nothing-of number (refused-first (outsideConditions n round keys) both number e h) h
 
-  module _ (g : Given n round keys) (number : ℕ) (e : number ≡ lowest (twoConditions checks n round (read n a) (read n b))) where
+  module _ (g : Given n round keys) (number : ℕ) (e : number ≡ firstOf (twoConditions checks n round (read n a) (read n b))) where
     is-number : lowerNumber ≡ number
     unfolding lowerConditions
     is-number = outside-later n round keys g both ∙ sym e

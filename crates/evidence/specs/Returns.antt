@@ -4,7 +4,7 @@ use mathlib.Core.Path.{_≡_, refl, _∙_}
 use mathlib.Core.Bool.{Bool, true, false, not}
 use mathlib.Core.List.{List, [], _∷_, _++_, append-assoc}
 use Prim.Native.Nat.{ℕ, zero, suc}
-use Rattle.refusal.specs.Refusal.{lowest, unrefused}
+use Rattle.refusal.specs.Refusal.{firstOf, unrefused}
 use Rattle.protocol.specs.Values.{isLower}
 use Rattle.protocol.specs.Message.{Message, readValue, read, readEvidence, entrySeats}
 use Rattle.protocol.specs.Certificate.{setOf}
@@ -43,42 +43,42 @@ module _ (checks : Checks) (n round : ℕ) (keys bytes : List ℕ) where
   unfolding evidenceConditions
   in-order = simp append-assoc
 
-  refused : (number : ℕ) → lowest (outside ++ (form ++ last)) ≡ number → (number ≡ 0 → ⊥) → answered number 0 ≡ evidenceCheck checks n round keys bytes
+  refused : (number : ℕ) → firstOf (outside ++ (form ++ last)) ≡ number → (number ≡ 0 → ⊥) → answered number 0 ≡ evidenceCheck checks n round keys bytes
   unfolding evidenceCheck
   refused number e h = rw (in-order, e) (refused-by number m h)
 
   -- of what is given
-  pub outside-refused : (number : ℕ) → number ≡ lowest (outsideConditions n round keys) → (number ≡ 0 → ⊥)
+  pub outside-refused : (number : ℕ) → number ≡ firstOf (outsideConditions n round keys) → (number ≡ 0 → ⊥)
       → answered number 0 ≡ evidenceCheck checks n round keys bytes
   outside-refused number e h = refused number (refused-first outside (form ++ last) number e h) h
 
   module _ (g : Given n round keys) where
     -- of the message's form
-    pub form-refused : (number : ℕ) (taken : Bool) → taken ≡ isEvidence m → number ≡ lowest (formConditions n round taken m) → (number ≡ 0 → ⊥)
+    pub form-refused : (number : ℕ) (taken : Bool) → taken ≡ isEvidence m → number ≡ firstOf (formConditions n round taken m) → (number ≡ 0 → ⊥)
         → answered number 0 ≡ evidenceCheck checks n round keys bytes
     form-refused number taken t e h =
         refused number (outside-later n round keys g (form ++ last) ∙ refused-first form last number (rw t at e) h) h
 
-    pub form-right : (number : ℕ) (taken : Bool) → taken ≡ isEvidence m → number ≡ lowest (formConditions n round taken m) → number ≡ 0
+    pub form-right : (number : ℕ) (taken : Bool) → taken ≡ isEvidence m → number ≡ firstOf (formConditions n round taken m) → number ≡ 0
         → Formed n round (isEvidence m) m
     form-right number taken t e z = form-passed n round number (isEvidence m) m (rw t at e) z
 
     -- of its signatures, its values, and nothing
     module _ (f : Formed n round (isEvidence m) m) where
-      passed : lowest (outside ++ (form ++ last)) ≡ lowest last
+      passed : firstOf (outside ++ (form ++ last)) ≡ firstOf last
       passed = outside-later n round keys g (form ++ last) ∙ form-later n round (isEvidence m) m f last
 
       pub signature-refused : badSignature checks m ≡ true → answered 14 0 ≡ evidenceCheck checks n round keys bytes
-      unfolding evidenceCheck signatureConditions lowest checkedBy unrefused
+      unfolding evidenceCheck signatureConditions firstOf checkedBy unrefused
       signature-refused b = rw (in-order, passed, b)
 
       pub order-refused : badSignature checks m ≡ false → notLowerFirst m ≡ true → answered 15 0 ≡ evidenceCheck checks n round keys bytes
-      unfolding evidenceCheck signatureConditions lowest checkedBy unrefused
+      unfolding evidenceCheck signatureConditions firstOf checkedBy unrefused
       order-refused b o = rw (in-order, passed, b, o)
 
       pub accepted : badSignature checks m ≡ false → notLowerFirst m ≡ false → (mask : ℕ) → mask ≡ setOf (entrySeats m)
           → answered 0 mask ≡ evidenceCheck checks n round keys bytes
-      unfolding evidenceCheck signatureConditions lowest checkedBy unrefused
+      unfolding evidenceCheck signatureConditions firstOf checkedBy unrefused
       accepted b o mask e = rw (in-order, passed, b, o, e)
 
 -- ---- what a message of the right form says

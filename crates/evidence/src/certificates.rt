@@ -3,7 +3,7 @@ ghost use mathlib.Core.Path.{_≡_};
 ghost use Prim.Native.Nat.{_≤_};
 ghost use lib.ListN.{length};
 ghost use Rattle.quorum.specs.Quorum.{mostSeats};
-ghost use Rattle.refusal.specs.Refusal.{lowest};
+ghost use Rattle.refusal.specs.Refusal.{firstOf};
 ghost use Rattle.fips180.specs.Constants.{constants};
 ghost use Rattle.protocol.specs.Signatures.{checks};
 ghost use Rattle.protocol.specs.Values.{isLower};
@@ -34,7 +34,7 @@ fn is_full(kind: Kind) -> bool
 // What is turned back of one certificate: 9 to 14. Its signatures are checked after everything cheaper.
 fn certificate_refusal(k: &[u32; 64], n: u32, round: u32, keys: &[u8], m: &[u8]) -> u32
     requires { ⌜ (now k ≡ constants) × Given n round (now keys) ⌝ }
-    ensures { λ r. ⌜ r ≡ lowest (certificateConditions (checks (now (keys .entry)) round) n round (read n (now (m .entry)))) ⌝ }
+    ensures { λ r. ⌜ r ≡ firstOf (certificateConditions (checks (now (keys .entry)) round) n round (read n (now (m .entry)))) ⌝ }
 {
     let kind = wire::read::classify(n, m);
     let taken = is_full(kind);
@@ -71,7 +71,7 @@ pub fn first_is_lower(n: u32, round: u32, first: &[u8], second: &[u8]) -> bool
 // What is turned back of two certificates: the first's 9 to 14, the second's, and 15.
 pub fn two_refusal(n: u32, round: u32, keys: &[u8], first: &[u8], second: &[u8]) -> u32
     requires { ⌜ Given n round (now keys) ⌝ }
-    ensures { λ r. ⌜ r ≡ lowest (twoConditions (checks (now (keys .entry)) round) n round (read n (now (first .entry))) (read n (now (second .entry)))) ⌝ }
+    ensures { λ r. ⌜ r ≡ firstOf (twoConditions (checks (now (keys .entry)) round) n round (read n (now (first .entry))) (read n (now (second .entry)))) ⌝ }
 {
     let k = sha256::constants::round_constants();
     let a = certificate_refusal(&k, n, round, keys, first);

@@ -14,7 +14,7 @@ use Rattle.octets.specs.StringLaws.{length-joined, joined-same}
 use Rattle.octets.specs.WriteLaws.{part-add, part-own, part-before, part-after, patch-whole}
 use Rattle.fips180.specs.Fips.{sha256}
 use Rattle.fips180.specs.Laws.{length-sha256}
-use Rattle.lanes.specs.Rows.{column}
+use Rattle.sha256_lanes.specs.Rows.{column}
 use Rattle.rfc8554.specs.Ots.{H, chainInput, chain, start, keyInput, chainEnd, chains, otsKey, dPblc}
 use Rattle.lmots.specs.Leaves.{string, Put}
 use Rattle.lmots_digits.specs.Pieces.{front}

@@ -5,7 +5,7 @@ use Prim.Native.Nat.{ℕ, _+_, _*_, _≤_, _<_}
 use lib.ListN.{length}
 use Rattle.octets.specs.Octets.{part, bytes}
 use Rattle.octets.specs.Strings.{joined}
-use Rattle.lanes.specs.Rows.{column}
+use Rattle.sha256_lanes.specs.Rows.{column}
 use Rattle.rfc8554.specs.Ots.{keyInput, chainEnd}
 
 -- what is hashed to the key of leaf q, up to the end of n chains

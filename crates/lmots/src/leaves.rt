@@ -8,7 +8,7 @@ ghost use Rattle.octets.specs.Octets.{part, bytes};
 ghost use Rattle.octets.specs.Strings.{joined};
 ghost use Rattle.fips180.specs.Constants.{constants};
 ghost use Rattle.fips180.specs.Fips as Fips;
-ghost use Rattle.lanes.specs.Rows.{column};
+ghost use Rattle.sha256_lanes.specs.Rows.{column};
 ghost use Rattle.rfc8554.specs.Ots.{dPblc};
 ghost use Rattle.rfc8554.specs.Ots as Ots;
 ghost use Rattle.lmots_digits.specs.Pieces as Pieces;

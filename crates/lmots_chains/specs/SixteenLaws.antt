@@ -9,8 +9,8 @@ use lib.ListN.{length, getD, set, length-set}
 use Rattle.octets.specs.Octets.{bytes}
 use Rattle.fips180.specs.Constants.{initial}
 use Rattle.fips180.specs.Fips.{compress, pad, sha256}
-use Rattle.lanes.specs.Rows.{column, Same, Alike, Common, Compressed}
-use Rattle.lanes.specs.Laws.{below, above, there, length-column, getD-column, common-alike}
+use Rattle.sha256_lanes.specs.Rows.{column, Same, Alike, Common, Compressed}
+use Rattle.sha256_lanes.specs.Laws.{below, above, there, length-column, getD-column, common-alike}
 use Rattle.rfc8554.specs.Ots.{chain, chainInput}
 use Rattle.lmots_chains.specs.ChainLaws.{prepared, compressed, chain-turn}
 use Rattle.lmots_chains.specs.Pieces.{across}

@@ -62,7 +62,7 @@ fn step(
 {
     put_places(places, t, v, w);
     put_values(v, w);
-    lanes::compress(k, w, x, s, v);
+    sha256_lanes::compress(k, w, x, s, v);
 }
 
 // What is the same in every step of a leaf's chains: the blocks' words around place and value, and what comes of them.
@@ -78,7 +78,7 @@ fn prepare(
     ensures { λ _. ⌜ (length (now (w .exit)) ≡ 1024) × (length (now (x .exit)) ≡ 96) × (length (now (s .exit)) ≡ 3264) × Ready id leaves (now (w .exit)) (now (x .exit)) (now (s .exit)) ⌝ }
 {
     let h = initial_value();
-    lanes::spread(
+    sha256_lanes::spread(
         [
             id[0],
             id[1],
@@ -100,7 +100,7 @@ fn prepare(
         w,
     );
     put_numbers(leaves, w);
-    lanes::begin(k, h, w, x, s);
+    sha256_lanes::begin(k, h, w, x, s);
 }
 
 // Steps of every chain, for leaves for which w, x and s are ready.

@@ -15,8 +15,8 @@ use Rattle.octets.specs.Strings.{joined}
 use Rattle.octets.specs.Laws.{length-part, length-patch, take-patch, length-bytes}
 use Rattle.octets.specs.StringLaws.{length-joined, joined-same}
 use Rattle.octets.specs.WriteLaws.{part-own, part-before, part-after, joined-written}
-use Rattle.lanes.specs.Rows.{column}
-use Rattle.lanes.specs.Laws.{Apart, other, below, there, length-column, getD-column, column-same}
+use Rattle.sha256_lanes.specs.Rows.{column}
+use Rattle.sha256_lanes.specs.Laws.{Apart, other, below, there, length-column, getD-column, column-same}
 use Rattle.rfc8554.specs.Ots.{chain}
 use Rattle.rfc8554.specs.OtsLaws.{chain-add, length-chain}
 use Rattle.lmots_chains.specs.Sixteen.{Walked}

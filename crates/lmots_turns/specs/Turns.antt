@@ -5,7 +5,7 @@ use mathlib.Core.List.{List}
 use Prim.Native.Nat.{ℕ, _+_, _-_, _*_, _≤_, _<_}
 use lib.ListN.{getD}
 use Rattle.octets.specs.Octets.{part, bytes}
-use Rattle.lanes.specs.Rows.{column}
+use Rattle.sha256_lanes.specs.Rows.{column}
 use Rattle.rfc8554.specs.Ots.{chain}
 
 -- no place is past its end, and every end is a place

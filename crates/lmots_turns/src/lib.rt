@@ -6,7 +6,7 @@ ghost use lib.ListN.{length, take, getD};
 ghost use Rattle.octets.specs.Octets.{part, bytes};
 ghost use Rattle.octets.specs.Strings.{joined};
 ghost use Rattle.fips180.specs.Constants.{constants};
-ghost use Rattle.lanes.specs.Rows.{column};
+ghost use Rattle.sha256_lanes.specs.Rows.{column};
 ghost use Rattle.lmots_turns.specs.Turns.{Ordered, Scattered, Moved, ended};
 use lmots_chains::chain::chain;
 use lmots_chains::sixteen::steps;

@@ -9,8 +9,8 @@ use lib.ListN.{length}
 use Rattle.octets.specs.Octets.{part, wordAt}
 use Rattle.octets.specs.Laws.{length-part}
 use Rattle.octets.specs.StringLaws.{number-part-four}
-use Rattle.refusal.specs.Refusal.{lowest}
-use Rattle.refusal.specs.Laws.{lowest-zero}
+use Rattle.refusal.specs.Refusal.{firstOf}
+use Rattle.refusal.specs.Laws.{firstOf-zero}
 use Rattle.rfc8554.specs.Ots.{knownOts}
 use Rattle.rfc8554.specs.Tree.{knownLms}
 use Rattle.rfc8554.specs.Verify.{lmsTypeOf, otsTypeOf, leafOf, valid}
@@ -38,8 +38,8 @@ module _ (seed I tree out : List ℕ) (n : ℕ) (e : n ≡ makeKeyRefusal seed I
   pub key-room : n ≡ 0 → (length seed ≡ 32) × (length I ≡ 16) × (length tree ≡ treeLength) × (56 ≤ length out)
   unfolding makeKeyRefusal makeKeyConditions shortOut
   key-room z =
-      let first = lowest-zero 6 _ _ (sym e ∙ z) in
-      let parts = neither _ _ (lowest-zero 15 _ [] (first .1) .0) in
+      let first = firstOf-zero 6 _ _ (sym e ∙ z) in
+      let parts = neither _ _ (firstOf-zero 15 _ [] (first .1) .0) in
       let two = neither _ _ (parts .0) in
       (eqb-true _ _ (not-false _ (two .0)), eqb-true _ _ (not-false _ (two .1)), eqb-true _ _ (not-false _ (parts .1)), ltb-false _ _ (first .0))
 
@@ -59,10 +59,10 @@ module _ (leaf : ℕ) (message seed I C tree out : List ℕ) (n : ℕ) (e : n �
       × (length C ≡ 32) × (length tree ≡ treeLength)
   unfolding signRefusal signConditions shortOut wrongRound
   signer-room z =
-      let first = lowest-zero 2 _ _ (sym e ∙ z) in
-      let second = lowest-zero 6 _ _ (first .1) in
-      let third = lowest-zero 8 _ _ (second .1) in
-      let four = neither _ _ (lowest-zero 15 _ [] (third .1) .0) in
+      let first = firstOf-zero 2 _ _ (sym e ∙ z) in
+      let second = firstOf-zero 6 _ _ (first .1) in
+      let third = firstOf-zero 8 _ _ (second .1) in
+      let four = neither _ _ (firstOf-zero 15 _ [] (third .1) .0) in
       let three = neither _ _ (four .0) in
       let two = neither _ _ (three .0) in (
         ltb-false _ _ (first .0),
@@ -78,20 +78,20 @@ module _ (leaf : ℕ) (message seed I C tree out : List ℕ) (n : ℕ) (e : n �
 
 module _ (key message s : List ℕ) (b : Bool) (e : b ≡ wrongKey key) where
   pub check-key : b ≡ true → 5 ≡ checkSignature key message s
-  unfolding checkSignature checkConditions lowest
+  unfolding checkSignature checkConditions firstOf
   check-key t = rw (← e, t)
 
   pub check-message : b ≡ false → 65535 < length message → 9 ≡ checkSignature key message s
-  unfolding checkSignature checkConditions lowest messageLimit
+  unfolding checkSignature checkConditions firstOf messageLimit
   check-message t h = rw (← e, t, lt-ltb 65535 (length message) h)
 
   module _ (t : b ≡ false) (h : length message ≤ 65535) (r : Bool) (f : r ≡ valid key message s) where
     pub check-valid : r ≡ true → 0 ≡ checkSignature key message s
-    unfolding checkSignature checkConditions lowest messageLimit
+    unfolding checkSignature checkConditions firstOf messageLimit
     check-valid g = rw (← e, t, le-ltb 65535 (length message) h, ← f, g)
 
     pub check-invalid : r ≡ false → 14 ≡ checkSignature key message s
-    unfolding checkSignature checkConditions lowest messageLimit
+    unfolding checkSignature checkConditions firstOf messageLimit
     check-invalid g = rw (← e, t, le-ltb 65535 (length message) h, ← f, g)
 
 -- ---- a seat's signature

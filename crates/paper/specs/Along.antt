@@ -12,7 +12,7 @@ use lib.ListN.{length, take}
 use borrow.Author.Tests.{eqb-true, lt-leb}
 use Rattle.quorum.specs.Quorum.{k, bit, In}
 use Rattle.quorum.specs.Laws.{bit-empty, has-true, size-empty}
-use Rattle.refusal.specs.Refusal.{lowest, unrefused}
+use Rattle.refusal.specs.Refusal.{firstOf, unrefused}
 use Rattle.protocol.specs.Layout.{signatureLength, collectedBank, firstBank}
 use Rattle.protocol.specs.Message.{Entry, Message, Submit, Notice, Full, Evidence, Garbled, read, entrySeats, seatsOf}
 use Rattle.protocol.specs.Certificate.{slot, signatureOf}
@@ -58,7 +58,7 @@ module _ (S : Setting) (seat : ℕ) (some-seats : 1 ≤ S .n) (inside : seat < S
   unfolding reactTo
   none-quiet m = refl
 
-  step-comes : (bytes out : List ℕ) (m : Machine) (store : List ℕ) → Mirrors n store m → lowest (stepConditions checks keys (kept n seat round m) store (read n bytes) out) ≡ 0
+  step-comes : (bytes out : List ℕ) (m : Machine) (store : List ℕ) → Mirrors n store m → firstOf (stepConditions checks keys (kept n seat round m) store (read n bytes) out) ≡ 0
       → Comes n seat round (stepped (read n bytes) (at n seat round (record { machine = m; actions = [] }) store)) (reactTo checks n seat (delivered (read n bytes)) m)
   unfolding kept
   step-comes bytes out m store z q =
@@ -78,7 +78,7 @@ module _ (S : Setting) (seat : ℕ) (some-seats : 1 ≤ S .n) (inside : seat < S
 
   -- ---- a call that is
 
-  step-quiet : (bytes out : List ℕ) (m : Machine) (store : List ℕ) → AtRest n m → (refusal : ℕ) → refusal ≢ 0 → lowest (stepConditions checks keys (kept n seat round m) store (read n bytes) out) ≡ refusal
+  step-quiet : (bytes out : List ℕ) (m : Machine) (store : List ℕ) → AtRest n m → (refusal : ℕ) → refusal ≢ 0 → firstOf (stepConditions checks keys (kept n seat round m) store (read n bytes) out) ≡ refusal
       → reactTo checks n seat (cond (isDelivered refusal) (delivered (read n bytes)) none) m ≡ record { machine = m; actions = [] }
   unfolding isDelivered
   step-quiet bytes out m store rest refusal d q =

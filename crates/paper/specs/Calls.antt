@@ -18,11 +18,11 @@ use Rattle.quorum.specs.Quorum.{k, bit, In, has, size, with}
 use Rattle.quorum.specs.Laws.{bit-with-other, has-false, size-with-new}
 use Rattle.protocol.specs.Layout.{signatureLength, storeLength, collectedBank, firstBank}
 use Rattle.protocol.specs.Message.{Entry, Message, Submit, Notice, Full, Evidence, Garbled}
-use Rattle.protocol.specs.Certificate.{slot, keep, signatureOf, certificateOf, certificateIn}
+use Rattle.protocol.specs.Certificate.{slot, fill, signatureOf, certificateOf, certificateIn}
 use Rattle.protocol.specs.Refusals.{Checks}
-use Rattle.protocol.specs.Step.{State, write, collect, keepValue, submitOwn, isWanted, hearSubmit, hear, reply, confirmIfComplete, submitted, stepped}
+use Rattle.protocol.specs.Step.{State, write, collect, setValue, submitOwn, isWanted, hearSubmit, hear, reply, confirmIfComplete, submitted, stepped}
 use Rattle.reading.specs.Lists.{each-one, each-append, each-every}
-use Rattle.claims.specs.Slots.{keep-length, slot-keep-same, slot-keep-other}
+use Rattle.claims.specs.Slots.{fill-length, slot-fill-same, slot-fill-other}
 use Rattle.claims.specs.Sound.{Entries}
 use Rattle.claims.specs.Certificates.{certifies-of}
 use Rattle.claims.specs.Parts.{k-pos}
@@ -88,10 +88,10 @@ module _ (n seat round : ℕ) where
       all-after : take (k n) (before ++ e ∷ []) ≡ before ++ e ∷ []
       all-after = take-all (k n) (before ++ e ∷ []) (omega (arith, length-append before (e ∷ [])))
 
-      collect-is : (store : List ℕ) → collect s g (at n seat round x store) ≡ at n seat round (addCollected e x) (keep n collectedBank s g store)
+      collect-is : (store : List ℕ) → collect s g (at n seat round x store) ≡ at n seat round (addCollected e x) (fill n collectedBank s g store)
       unfolding collect kept
       collect-is store =
-          ap (λ (mask : ℕ). collecting-to mask (keep n collectedBank s g store)) (ap (λ (es : List Entry). with s (seatsIn es)) all-before ∙ sym (seats-more before e) ∙ ap seatsIn (sym all-after))
+          ap (λ (mask : ℕ). collecting-to mask (fill n collectedBank s g store)) (ap (λ (es : List Entry). with s (seatsIn es)) all-before ∙ sym (seats-more before e) ∙ ap seatsIn (sym all-after))
 
       collect-collecting : s < n → length g ≡ signatureLength → isFrom s before ≡ false → x .machine .value ≢ none → Collecting n (x .machine .value) before → Collecting n (x .machine .value) (before ++ e ∷ [])
       collect-collecting inside sized new said z =
@@ -108,22 +108,22 @@ module _ (n seat round : ℕ) where
 
       module _ (store : List ℕ) (room : storeLength n ≤ length store) (inside : s < n) (sized : length g ≡ signatureLength) (new : isFrom s before ≡ false) where
         slot-after : ((t : ℕ) → In t (seatsIn before) → slot n collectedBank store t ≡ signatureOf before t) → (t : ℕ) → In t (with s (seatsIn before)) → Dec (t ≡ s)
-            → slot n collectedBank (keep n collectedBank s g store) t ≡ signatureOf (before ++ e ∷ []) t
-        slot-after own t i (yes q) = rw q (slot-keep-same n collectedBank s g store (omega arith) inside room sized ∙ sym (signature-new s g before new))
+            → slot n collectedBank (fill n collectedBank s g store) t ≡ signatureOf (before ++ e ∷ []) t
+        slot-after own t i (yes q) = rw q (slot-fill-same n collectedBank s g store (omega arith) inside room sized ∙ sym (signature-new s g before new))
         slot-after own t i (no d) =
-            slot-keep-other n collectedBank s g store (omega arith) inside room sized collectedBank t (λ q. d (omega arith))
+            slot-fill-other n collectedBank s g store (omega arith) inside room sized collectedBank t (λ q. d (omega arith))
             ∙ own t (sym (bit-with-other t s (seatsIn before) d) ∙ i)
             ∙ sym (signature-old t before e (λ q. d (sym q)))
 
-        collect-stored : Stored n store before (x .machine .obtained) → Stored n (keep n collectedBank s g store) (before ++ e ∷ []) (x .machine .obtained)
+        collect-stored : Stored n store before (x .machine .obtained) → Stored n (fill n collectedBank s g store) (before ++ e ∷ []) (x .machine .obtained)
         collect-stored z =
             let own : (t : ℕ) → In t (seatsIn before) → slot n collectedBank store t ≡ signatureOf before t =
             subst (λ (es : List Entry). (t : ℕ) → In t (seatsIn es) → slot n collectedBank store t ≡ signatureOf es t) all-before (z .own) in
-            let after : (t : ℕ) → In t (seatsIn (before ++ e ∷ [])) → slot n collectedBank (keep n collectedBank s g store) t ≡ signatureOf (before ++ e ∷ []) t =
+            let after : (t : ℕ) → In t (seatsIn (before ++ e ∷ [])) → slot n collectedBank (fill n collectedBank s g store) t ≡ signatureOf (before ++ e ∷ []) t =
             λ t i. slot-after own t (subst (In t) (seats-more before e) i) (ℕ-discrete t s) in
             record {
-              own = subst (λ (es : List Entry). (t : ℕ) → In t (seatsIn es) → slot n collectedBank (keep n collectedBank s g store) t ≡ signatureOf es t) (sym all-after) after;
-              first = λ t i. slot-keep-other n collectedBank s g store (omega arith) inside room sized firstBank t (λ q. omega arith) ∙ z .first t i;
+              own = subst (λ (es : List Entry). (t : ℕ) → In t (seatsIn es) → slot n collectedBank (fill n collectedBank s g store) t ≡ signatureOf es t) (sym all-after) after;
+              first = λ t i. slot-fill-other n collectedBank s g store (omega arith) inside room sized firstBank t (λ q. omega arith) ∙ z .first t i;
             }
 
     -- one after the first k: the machine has it, and the record is as it was
@@ -180,7 +180,7 @@ module _ (n seat round : ℕ) where
       unfolding hearSubmit uponSubmitDelivered
       both few new p q =
           let unconfirmed : m .confirmed ≡ false = z .resting .complete ∙ lt-leb (k n) (length (m .collected)) few in
-          let a = confirm-is n seat round checks some-seats (addCollected (e s g x) x) (keep n collectedBank s g store) (subst (λ (l : ℕ). storeLength n ≤ l) (sym (keep-length n collectedBank s g store (omega arith) inside room sized)) room)
+          let a = confirm-is n seat round checks some-seats (addCollected (e s g x) x) (fill n collectedBank s g store) (subst (λ (l : ℕ). storeLength n ≤ l) (sym (fill-length n collectedBank s g store (omega arith) inside room sized)) room)
           (collect-collecting s g x few inside sized new (some-is (m .value) said) (z .collecting)) (z .obtaining) (collect-stored s g x few store room inside sized new (z .stored)) (λ h. absurd (true≢false (sym h ∙ unconfirmed))) in
           subst (Comes n seat round (confirmIfComplete (hearSubmit s v g (at n seat round x store)))) (ap (λ (b : Bool). uponRules checks n seat (cond b (addCollected (e s g x) x) x)) (sym q))
           (record {
@@ -250,17 +250,17 @@ module _ (n seat round : ℕ) where
       collecting-own =
           record { unsaid = λ h. absurd (some-none v (some v) refl h); below = z .collecting .below; sized = z .collecting .sized; counted = z .collecting .counted }
 
-      own-is-kept : submitOwn v g (at n seat round x store) ≡ at n seat round (addCollected (e seat g x) (act (BroadcastSubmit v g) (setValue v x))) (keep n collectedBank seat g store)
-      unfolding submitOwn keepValue kept isSome ownValue spoken act
+      own-is-kept : submitOwn v g (at n seat round x store) ≡ at n seat round (addCollected (e seat g x) (act (BroadcastSubmit v g) (setValue v x))) (fill n collectedBank seat g store)
+      unfolding submitOwn setValue kept isSome ownValue spoken act
       own-is-kept =
           ap (λ (s : State). write (Submit round seat v g) s) (collect-is seat g (setValue v x) few store)
-          ∙ write-is n seat round (BroadcastSubmit v g) (addCollected (e seat g x) (setValue v x)) (keep n collectedBank seat g store)
+          ∙ write-is n seat round (BroadcastSubmit v g) (addCollected (e seat g x) (setValue v x)) (fill n collectedBank seat g store)
 
       pub submit-is : Comes n seat round (submitted v g (at n seat round x store)) (uponRules checks n seat (uponSubmit checks n seat v g x))
       unfolding submitted uponSubmit uponSubmitDelivered act
       submit-is =
           let y = act (BroadcastSubmit v g) (setValue v x) in
-          let a = confirm-is n seat round checks some-seats (addCollected (e seat g x) y) (keep n collectedBank seat g store) (subst (λ (l : ℕ). storeLength n ≤ l) (sym (keep-length n collectedBank seat g store (omega arith) inside room sized)) room)
+          let a = confirm-is n seat round checks some-seats (addCollected (e seat g x) y) (fill n collectedBank seat g store) (subst (λ (l : ℕ). storeLength n ≤ l) (sym (fill-length n collectedBank seat g store (omega arith) inside room sized)) room)
           (collect-collecting seat g (setValue v x) few inside sized new-seat (λ h. some-none v (some v) refl h) collecting-own) (z .obtaining) (collect-stored seat g (setValue v x) few store room inside sized new-seat (z .stored)) (λ h. absurd (true≢false (sym h ∙ unconfirmed))) in
           subst (Comes n seat round (submitted v g (at n seat round x store))) (ap (λ (b : Bool). uponRules checks n seat (cond b (addCollected (e seat g x) y) y)) (sym own-collected))
           (record { store = a .store; is = ap confirmIfComplete own-is-kept ∙ a .is; mirrors = a .mirrors })

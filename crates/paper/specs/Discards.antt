@@ -11,7 +11,7 @@ use lib.Dec.{leb}
 use lib.ListN.{length}
 use borrow.Author.Tests.{le-ltb, not-true}
 use Rattle.quorum.specs.Quorum.{k}
-use Rattle.refusal.specs.Refusal.{lowest}
+use Rattle.refusal.specs.Refusal.{firstOf}
 use Rattle.protocol.specs.Layout.{storeLength, outLength}
 use Rattle.protocol.specs.Message.{Entry, Message, Submit, Notice, Full, Evidence, Garbled, Signed, signedEntries, signed, roundOf, entrySeats, seatsOf}
 use Rattle.protocol.specs.Refusals.{Checks, every, shortStore, shortOut, isForStep, rising, early, badSignature, formConditions, signatureConditions, recordConditions, stepConditions}
@@ -27,42 +27,42 @@ use Rattle.paper.specs.Rules.{AtRest, rest-quiet}
 -- ---- what a refusal number says
 
 -- a number that is another one is passed over
-lowest-other : (i j : ℕ) (b : Bool) (rest : List (ℕ × Bool)) → i ≢ j → lowest ((i, b) ∷ rest) ≡ j → lowest rest ≡ j
-unfolding lowest
-lowest-other i j true rest d e = absurd (d e)
-lowest-other i j false rest d e = e
+firstOf-other : (i j : ℕ) (b : Bool) (rest : List (ℕ × Bool)) → i ≢ j → firstOf ((i, b) ∷ rest) ≡ j → firstOf rest ≡ j
+unfolding firstOf
+firstOf-other i j true rest d e = absurd (d e)
+firstOf-other i j false rest d e = e
 
-last-held : (i : ℕ) (b : Bool) → i ≢ 0 → lowest ((i, b) ∷ []) ≡ i → b ≡ true
-unfolding lowest
+last-held : (i : ℕ) (b : Bool) → i ≢ 0 → firstOf ((i, b) ∷ []) ≡ i → b ≡ true
+unfolding firstOf
 last-held i true d e = refl
 last-held i false d e = absurd (d (sym e))
 
-before-last : (i j : ℕ) (a b : Bool) → j ≢ 0 → i ≢ j → lowest ((i, b) ∷ (j, a) ∷ []) ≡ i → i ≢ 0 → b ≡ true
-unfolding lowest
+before-last : (i j : ℕ) (a b : Bool) → j ≢ 0 → i ≢ j → firstOf ((i, b) ∷ (j, a) ∷ []) ≡ i → i ≢ 0 → b ≡ true
+unfolding firstOf
 before-last i j a true p q e r = refl
 before-last i j true false p q e r = absurd (q (sym e))
 before-last i j false false p q e r = absurd (r (sym e))
 
 module _ (checks : Checks) (keys : List ℕ) (r : Record) (store : List ℕ) (m : Message) (out : List ℕ) where
-  past-form : (j : ℕ) → 12 ≢ j → 11 ≢ j → 10 ≢ j → 9 ≢ j → 7 ≢ j → 6 ≢ j → 5 ≢ j → 4 ≢ j → lowest (stepConditions checks keys r store m out) ≡ j → lowest ((13, early r m) ∷ (14, badSignature checks m) ∷ []) ≡ j
+  past-form : (j : ℕ) → 12 ≢ j → 11 ≢ j → 10 ≢ j → 9 ≢ j → 7 ≢ j → 6 ≢ j → 5 ≢ j → 4 ≢ j → firstOf (stepConditions checks keys r store m out) ≡ j → firstOf ((13, early r m) ∷ (14, badSignature checks m) ∷ []) ≡ j
   unfolding stepConditions recordConditions formConditions signatureConditions
   past-form j l i h g d c b a e =
-      lowest-other 12 j _ _ l (lowest-other 11 j _ _ i (lowest-other 10 j _ _ h (lowest-other 9 j _ _ g (lowest-other 7 j _ _ d (lowest-other 6 j _ _ c (lowest-other 5 j _ _ b (lowest-other 4 j _ _ a e)))))))
+      firstOf-other 12 j _ _ l (firstOf-other 11 j _ _ i (firstOf-other 10 j _ _ h (firstOf-other 9 j _ _ g (firstOf-other 7 j _ _ d (firstOf-other 6 j _ _ c (firstOf-other 5 j _ _ b (firstOf-other 4 j _ _ a e)))))))
 
-  pub refused-early : lowest (stepConditions checks keys r store m out) ≡ 13 → early r m ≡ true
+  pub refused-early : firstOf (stepConditions checks keys r store m out) ≡ 13 → early r m ≡ true
   refused-early e =
       before-last 13 14 (badSignature checks m) (early r m) (λ q. omega arith) (λ q. omega arith)
       (past-form 13 (λ q. omega arith) (λ q. omega arith) (λ q. omega arith) (λ q. omega arith) (λ q. omega arith) (λ q. omega arith) (λ q. omega arith) (λ q. omega arith) e) (λ q. omega arith)
 
-  pub refused-signature : lowest (stepConditions checks keys r store m out) ≡ 14 → badSignature checks m ≡ true
+  pub refused-signature : firstOf (stepConditions checks keys r store m out) ≡ 14 → badSignature checks m ≡ true
   refused-signature e =
       last-held 14 (badSignature checks m) (λ q. omega arith)
-      (lowest-other 13 14 (early r m) ((14, badSignature checks m) ∷ []) (λ q. omega arith)
+      (firstOf-other 13 14 (early r m) ((14, badSignature checks m) ∷ []) (λ q. omega arith)
       (past-form 14 (λ q. omega arith) (λ q. omega arith) (λ q. omega arith) (λ q. omega arith) (λ q. omega arith) (λ q. omega arith) (λ q. omega arith) (λ q. omega arith) e))
 
   -- where nothing but these two can be refused, the message is delivered
-  pub fit-delivered : Lent keys r store out → isForStep m ≡ true → roundOf m ≡ r .round → Each (λ s. s < r .n) (seatsOf m) → rising (entrySeats m) ≡ true → isDelivered (lowest (stepConditions checks keys r store m out)) ≡ true
-  unfolding stepConditions recordConditions formConditions signatureConditions shortStore shortOut lowest isDelivered
+  pub fit-delivered : Lent keys r store out → isForStep m ≡ true → roundOf m ≡ r .round → Each (λ s. s < r .n) (seatsOf m) → rising (entrySeats m) ≡ true → isDelivered (firstOf (stepConditions checks keys r store m out)) ≡ true
+  unfolding stepConditions recordConditions formConditions signatureConditions shortStore shortOut firstOf isDelivered
   fit-delivered lent for-step in-round inside rises =
       let form = of-taken (λ s v g. true) (r .n) (r .round) m (record { inRound = in-round; inside = inside; rises = rises; checked = λ s d. refl }) in
       rw (

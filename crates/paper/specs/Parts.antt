@@ -18,7 +18,7 @@ use Rattle.quorum.specs.Quorum.{k, In, size, shared, seats}
 use Rattle.quorum.specs.Laws.{size-empty, mem-seats, k-of-n-share}
 use Rattle.protocol.specs.Layout.{signatureLength, storeLength, collectedBank, firstBank}
 use Rattle.protocol.specs.Message.{Entry, Message}
-use Rattle.protocol.specs.Certificate.{Certificate, slot, keepEach, ownCertificate, firstCertificate, signatureOf, certificateOf}
+use Rattle.protocol.specs.Certificate.{Certificate, slot, fillEach, ownCertificate, firstCertificate, signatureOf, certificateOf}
 use Rattle.protocol.specs.Record.{noneHeard, oneHeard, holds}
 use Rattle.protocol.specs.Refusals.{Checks}
 use Rattle.protocol.specs.Step.{State, write, noticesWith, hear, otherHeard, owesFull, sendFull, reply, hold, blame, blames, holdOrBlame, hearCertificate, isComplete, confirm, hearOwn, confirmIfComplete}
@@ -27,7 +27,7 @@ use Rattle.protocol.specs.declared.Record.{Record}
 use Rattle.round.specs.Round.{Each}
 use Rattle.reading.specs.Lists.{cond-elim, each-one, each-append}
 use Rattle.claims.specs.Parts.{k-pos, in-below}
-use Rattle.claims.specs.Slots.{slot-keepEach-other, slot-keepEach-same}
+use Rattle.claims.specs.Slots.{slot-fillEach-other, slot-fillEach-same}
 use Rattle.paper.specs.Machine.{FullCertificate, Machine, Action, ConfirmAndNotice, BroadcastFull, Detect, Reaction, act, setConfirmed, addNoticed, addObtained, setSent, isSome, ownValue, other, pairOr, conflict, valueOfNotice, valueOfFull, ownFull, uponNoticeDelivered, obtain, confirming, uponQuorum, sending, uponNoticesConflict, detecting, uponFullsConflict, uponRules}
 use Rattle.paper.specs.Memory.{seatsIn, noticesOf, firstOf, guiltyOf, kept, firstEntries}
 use Rattle.paper.specs.Conflicts.{same-sym, some-none, other-none, other-more, other-still, conflict-head, head-none}
@@ -170,18 +170,18 @@ module _ (n seat round : ℕ) where
 
         -- "The first is held."
         hold-mirror : (detected : Option (FullCertificate × FullCertificate)) → Mirror n store value confirmed collected noticed [] detected
-            → Mirror n (keepEach n firstBank signature (seats n (seatsIn (q .entries))) store) value confirmed collected noticed (q ∷ []) detected
+            → Mirror n (fillEach n firstBank signature (seats n (seatsIn (q .entries))) store) value confirmed collected noticed (q ∷ []) detected
         unfolding firstOf firstEntries conflict other pairOr
         hold-mirror detected z = record {
           collecting = z .collecting;
           obtaining = record { quorums = each-one (Quorum n) q y; agreed = λ e. refl; guilty = z .obtaining .guilty };
           stored = record {
             own = λ s i.
-                slot-keepEach-other n firstBank signature (omega arith) (seats n (seatsIn (q .entries))) store collectedBank s fit room
+                slot-fillEach-other n firstBank signature (omega arith) (seats n (seatsIn (q .entries))) store collectedBank s fit room
                 (λ u d p. let l = in-below n s (seatsIn (take (k n) collected)) (taken-below n collected (z .collecting .below)) i in omega arith)
                 ∙ z .stored .own s i;
             first = λ s i.
-                slot-keepEach-same n firstBank signature (omega arith) (seats n (seatsIn (q .entries))) store s fit room (mem-seats n s (seatsIn (q .entries)) .1 (in-below n s (seatsIn (q .entries)) (y .below) i, i))
+                slot-fillEach-same n firstBank signature (omega arith) (seats n (seatsIn (q .entries))) store s fit room (mem-seats n s (seatsIn (q .entries)) .1 (in-below n s (seatsIn (q .entries)) (y .below) i, i))
                 ∙ agree s i;
           };
           resting = z .resting;
@@ -273,7 +273,7 @@ module _ (n seat round : ℕ) where
         unfolding holdOrBlame hold holds kept firstOf conflict other pairOr
         hold-comes detected z =
             subst (Comes (holdOrBlame c (at (with-certificates [] detected) store))) (sym (fulls-quiet checks n seat (with-certificates (q ∷ []) detected) (λ h. refl)))
-            (record { store = keepEach n firstBank signature (seats n (seatsIn (q .entries))) store; is = refl; mirrors = hold-mirror detected z })
+            (record { store = fillEach n firstBank signature (seats n (seatsIn (q .entries))) store; is = refl; mirrors = hold-mirror detected z })
 
         hold-is : (obtained : List FullCertificate) (detected : Option (FullCertificate × FullCertificate)) → Mirror n store value confirmed collected noticed obtained detected
             → Comes (holdOrBlame c (at (with-certificates obtained detected) store)) (uponFullsConflict checks n seat (addObtained q (with-certificates obtained detected)))

@@ -7,7 +7,7 @@ use borrow.Author.Tests.{lt-ltb, le-ltb, eq-eqb, ne-eqb}
 use Rattle.octets.specs.Octets.{patch, part, words, bytes}
 use Rattle.octets.specs.StringLaws.{patch-nothing, part-all}
 use Rattle.octets.specs.Strings.{joined}
-use Rattle.refusal.specs.Refusal.{lowest, unrefused}
+use Rattle.refusal.specs.Refusal.{firstOf, unrefused}
 use Rattle.fips180.specs.Fips.{sha256}
 use Rattle.rfc8554.specs.Ots.{signed}
 use Rattle.probes.specs.Probes.{digestRefusal, digestWritten, compressRefusal, repeated, compressWritten, signedRefusal, signedWritten, copyRefusal, copyWritten}
@@ -16,37 +16,37 @@ use Rattle.probes.specs.Probes.{digestRefusal, digestWritten, compressRe
 
 pub digest-short : (message out : List ℕ) → length out < 32
     → (7 ≡ digestRefusal out) × (out ≡ patch 0 (digestWritten message out) out)
-unfolding digestRefusal digestWritten lowest unrefused
+unfolding digestRefusal digestWritten firstOf unrefused
 digest-short message out h = (rw (lt-ltb (length out) 32 h), rw (lt-ltb (length out) 32 h) (sym (patch-nothing out)))
 
 pub digest-fits : (message out d last : List ℕ) → 32 ≤ length out → d ≡ sha256 message → last ≡ patch 0 d out
     → (0 ≡ digestRefusal out) × (last ≡ patch 0 (digestWritten message out) out)
-unfolding digestRefusal digestWritten lowest unrefused
+unfolding digestRefusal digestWritten firstOf unrefused
 digest-fits message out d last h e p = (rw (le-ltb (length out) 32 h), rw (le-ltb (length out) 32 h, ← e) p)
 
 pub compress-short : (count : ℕ) (state block out : List ℕ) → length out < 32
     → (7 ≡ compressRefusal state block out) × (out ≡ patch 0 (compressWritten count state block out) out)
-unfolding compressRefusal compressWritten lowest unrefused
+unfolding compressRefusal compressWritten firstOf unrefused
 compress-short count state block out h = (rw (lt-ltb (length out) 32 h), rw (lt-ltb (length out) 32 h) (sym (patch-nothing out)))
 
 -- a state or a block of another length
 
 pub state-garbled : (count : ℕ) (state block out : List ℕ) → 32 ≤ length out → (length state ≡ 32 → ⊥)
     → (9 ≡ compressRefusal state block out) × (out ≡ patch 0 (compressWritten count state block out) out)
-unfolding compressRefusal compressWritten lowest unrefused
+unfolding compressRefusal compressWritten firstOf unrefused
 state-garbled count state block out h e =
     (rw (le-ltb (length out) 32 h, ne-eqb (length state) 32 e), rw (le-ltb (length out) 32 h, ne-eqb (length state) 32 e) (sym (patch-nothing out)))
 
 pub block-garbled : (count : ℕ) (state block out : List ℕ) → 32 ≤ length out → length state ≡ 32 → (length block ≡ 64 → ⊥)
     → (9 ≡ compressRefusal state block out) × (out ≡ patch 0 (compressWritten count state block out) out)
-unfolding compressRefusal compressWritten lowest unrefused
+unfolding compressRefusal compressWritten firstOf unrefused
 block-garbled count state block out h e f =
     (rw (le-ltb (length out) 32 h, eq-eqb (length state) 32 e, ne-eqb (length block) 64 f), rw (le-ltb (length out) 32 h, eq-eqb (length state) 32 e, ne-eqb (length block) 64 f) (sym (patch-nothing out)))
 
 pub compress-fits : (count : ℕ) (state block out h m s d last : List ℕ) → 32 ≤ length out → length state ≡ 32 → length block ≡ 64
     → h ≡ words 8 state → m ≡ words 16 (part 0 64 block) → s ≡ repeated h m count → d ≡ bytes s → last ≡ patch 0 d out
     → (0 ≡ compressRefusal state block out) × (last ≡ patch 0 (compressWritten count state block out) out)
-unfolding compressRefusal compressWritten lowest unrefused
+unfolding compressRefusal compressWritten firstOf unrefused
 compress-fits count state block out h m s d last room e f p q r t u = (
   rw (le-ltb (length out) 32 room, eq-eqb (length state) 32 e, eq-eqb (length block) 64 f),
   rw (le-ltb (length out) 32 room, eq-eqb (length state) 32 e, eq-eqb (length block) 64 f)
@@ -58,17 +58,17 @@ compress-fits count state block out h m s d last room e f p q r t u = (
 module _ (q : ℕ) (id seed digits out : List ℕ) where
   pub signed-short : length out < 1088
       → (7 ≡ signedRefusal id seed digits out) × (out ≡ patch 0 (signedWritten q id seed digits out) out)
-  unfolding signedRefusal signedWritten lowest unrefused
+  unfolding signedRefusal signedWritten firstOf unrefused
   signed-short h = (rw (lt-ltb (length out) 1088 h), rw (lt-ltb (length out) 1088 h) (sym (patch-nothing out)))
 
   pub id-garbled : 1088 ≤ length out → (length id ≡ 16 → ⊥)
       → (9 ≡ signedRefusal id seed digits out) × (out ≡ patch 0 (signedWritten q id seed digits out) out)
-  unfolding signedRefusal signedWritten lowest unrefused
+  unfolding signedRefusal signedWritten firstOf unrefused
   id-garbled h e = (rw (le-ltb (length out) 1088 h, ne-eqb (length id) 16 e), rw (le-ltb (length out) 1088 h, ne-eqb (length id) 16 e) (sym (patch-nothing out)))
 
   pub seed-garbled : 1088 ≤ length out → length id ≡ 16 → (length seed ≡ 32 → ⊥)
       → (9 ≡ signedRefusal id seed digits out) × (out ≡ patch 0 (signedWritten q id seed digits out) out)
-  unfolding signedRefusal signedWritten lowest unrefused
+  unfolding signedRefusal signedWritten firstOf unrefused
   seed-garbled h e f = (
     rw (le-ltb (length out) 1088 h, eq-eqb (length id) 16 e, ne-eqb (length seed) 32 f),
     rw (le-ltb (length out) 1088 h, eq-eqb (length id) 16 e, ne-eqb (length seed) 32 f) (sym (patch-nothing out)),
@@ -76,7 +76,7 @@ module _ (q : ℕ) (id seed digits out : List ℕ) where
 
   pub digits-garbled : 1088 ≤ length out → length id ≡ 16 → length seed ≡ 32 → (length digits ≡ 34 → ⊥)
       → (9 ≡ signedRefusal id seed digits out) × (out ≡ patch 0 (signedWritten q id seed digits out) out)
-  unfolding signedRefusal signedWritten lowest unrefused
+  unfolding signedRefusal signedWritten firstOf unrefused
   digits-garbled h e f g = (
     rw (le-ltb (length out) 1088 h, eq-eqb (length id) 16 e, eq-eqb (length seed) 32 f, ne-eqb (length digits) 34 g),
     rw (le-ltb (length out) 1088 h, eq-eqb (length id) 16 e, eq-eqb (length seed) 32 f, ne-eqb (length digits) 34 g) (sym (patch-nothing out)),
@@ -85,7 +85,7 @@ module _ (q : ℕ) (id seed digits out : List ℕ) where
   pub signed-fits : (i s last : List ℕ) → 1088 ≤ length out → length id ≡ 16 → length seed ≡ 32 → length digits ≡ 34
       → bytes i ≡ part 0 16 id → bytes s ≡ part 0 32 seed → last ≡ patch 0 (joined (signed (bytes i) q 8 (bytes s) digits) 34) out
       → (0 ≡ signedRefusal id seed digits out) × (last ≡ patch 0 (signedWritten q id seed digits out) out)
-  unfolding signedRefusal signedWritten lowest unrefused
+  unfolding signedRefusal signedWritten firstOf unrefused
   signed-fits i s last h e f g p r u = (
     rw (le-ltb (length out) 1088 h, eq-eqb (length id) 16 e, eq-eqb (length seed) 32 f, eq-eqb (length digits) 34 g),
     rw (le-ltb (length out) 1088 h, eq-eqb (length id) 16 e, eq-eqb (length seed) 32 f, eq-eqb (length digits) 34 g)
@@ -97,14 +97,14 @@ module _ (q : ℕ) (id seed digits out : List ℕ) where
 module _ (handed out : List ℕ) where
   pub copy-short : (part : List ℕ) → part ≡ handed → length out < length part
       → (7 ≡ copyRefusal handed out) × (out ≡ patch 0 (copyWritten handed out) out)
-  unfolding copyRefusal copyWritten lowest unrefused
+  unfolding copyRefusal copyWritten firstOf unrefused
   copy-short part e h =
       let short : length out < length handed = rw e at h in
       (rw (lt-ltb (length out) (length handed) short), rw (lt-ltb (length out) (length handed) short) (sym (patch-nothing out)))
 
   pub copy-fits : (part last : List ℕ) → part ≡ handed → length part ≤ length out → last ≡ patch 0 part out
       → (0 ≡ copyRefusal handed out) × (last ≡ patch 0 (copyWritten handed out) out)
-  unfolding copyRefusal copyWritten lowest unrefused
+  unfolding copyRefusal copyWritten firstOf unrefused
   copy-fits part last e h p =
       let room : length handed ≤ length out = rw e at h in
       (rw (le-ltb (length out) (length handed) room), rw (le-ltb (length out) (length handed) room, ← e) p)

@@ -7,7 +7,7 @@ use lib.Dec.{eqb, leb, ltb}
 use lib.ListN.{length}
 use Rattle.octets.specs.Octets.{words, bytes}
 use Rattle.quorum.specs.Quorum.{mostSeats}
-use Rattle.refusal.specs.Refusal.{lowest, unrefused}
+use Rattle.refusal.specs.Refusal.{firstOf, unrefused}
 use Rattle.octets.specs.Strings.{joined}
 use Rattle.fips180.specs.Fips.{compress, sha256}
 use Rattle.rfc8554.specs.Ots.{signed}
@@ -18,7 +18,7 @@ ofFleet f n = cond (leb 1 n && leb n mostSeats) (f n) 0
 
 -- an out buffer of less than a digest's length is refused as 7
 unfoldable pub digestRefusal : List ℕ → ℕ
-digestRefusal out = lowest ((7, ltb (length out) 32) ∷ [])
+digestRefusal out = firstOf ((7, ltb (length out) 32) ∷ [])
 
 unfoldable pub digestWritten : List ℕ → List ℕ → List ℕ
 digestWritten message out = unrefused (digestRefusal out) (sha256 message) []
@@ -26,7 +26,7 @@ digestWritten message out = unrefused (digestRefusal out) (sha256 message) []
 -- and a state of other than 32 bytes, or a block of other than 64, as 9
 unfoldable pub compressRefusal : List ℕ → List ℕ → List ℕ → ℕ
 compressRefusal state block out =
-    lowest ((7, ltb (length out) 32) ∷ (9, not (eqb (length state) 32) || not (eqb (length block) 64)) ∷ [])
+    firstOf ((7, ltb (length out) 32) ∷ (9, not (eqb (length state) 32) || not (eqb (length block) 64)) ∷ [])
 
 -- the hash value h after the same block, count times
 unfoldable pub repeated : List ℕ → List ℕ → ℕ → List ℕ
@@ -40,7 +40,7 @@ compressWritten count state block out =
 -- an out buffer too short for the values of a signature is refused as 7, and an identifier, seed or digits of another length as 9
 unfoldable pub signedRefusal : List ℕ → List ℕ → List ℕ → List ℕ → ℕ
 signedRefusal id seed digits out =
-    lowest
+    firstOf
     ((7, ltb (length out) 1088)
     ∷ (9, not (eqb (length id) 16) || (not (eqb (length seed) 32) || not (eqb (length digits) 34)))
     ∷ [])
@@ -50,7 +50,7 @@ signedWritten q id seed digits out = unrefused (signedRefusal id seed digits out
 
 -- an out buffer too short for a copy of what is handed back is refused as 7
 unfoldable pub copyRefusal : List ℕ → List ℕ → ℕ
-copyRefusal handed out = lowest ((7, ltb (length out) (length handed)) ∷ [])
+copyRefusal handed out = firstOf ((7, ltb (length out) (length handed)) ∷ [])
 
 unfoldable pub copyWritten : List ℕ → List ℕ → List ℕ
 copyWritten handed out = unrefused (copyRefusal handed out) handed []

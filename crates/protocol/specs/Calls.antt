@@ -6,7 +6,7 @@ use mathlib.Core.Bool.{cond}
 use mathlib.Core.List.{List, []}
 use lib.ListN.{length}
 use Rattle.octets.specs.Octets.{patch}
-use Rattle.refusal.specs.Refusal.{lowest, unrefused}
+use Rattle.refusal.specs.Refusal.{firstOf, unrefused}
 use Rattle.protocol.specs.Values.{isLower}
 use Rattle.protocol.specs.Message.{Message, read, render, renderAll, entrySeats}
 use Rattle.protocol.specs.Certificate.{certificateIn, setOf, evidenceOf}
@@ -31,7 +31,7 @@ openedBy refusal r = record { number = refusal; unit = unrefused refusal r zeros
 
 -- "Opening takes n, seat, round and key table"
 unfoldable pub opening : ℕ → ℕ → ℕ → List ℕ → Opened
-opening n seat round keys = openedBy (lowest (openingConditions n seat round keys)) (fresh n seat round)
+opening n seat round keys = openedBy (firstOf (openingConditions n seat round keys)) (fresh n seat round)
 
 -- ---- submit and step
 
@@ -58,12 +58,12 @@ start r store = record { unit = r; store = store; written = [] }
 -- submit: key table, record, store, value, signature, out
 unfoldable pub submit : Checks → List ℕ → Record → List ℕ → List ℕ → List ℕ → List ℕ → Result
 submit checks keys r store value signature out =
-    resultBy (lowest (submitConditions checks keys r store value signature out)) (submitted value signature (start r store)) r store
+    resultBy (firstOf (submitConditions checks keys r store value signature out)) (submitted value signature (start r store)) r store
 
 -- a step, by value or through the thin entry: key table, record, store, message, out
 unfoldable pub step : Checks → List ℕ → Record → List ℕ → List ℕ → List ℕ → Result
 step checks keys r store bytes out =
-    resultBy (lowest (stepConditions checks keys r store (read (r .n) bytes) out)) (stepped (read (r .n) bytes) (start r store)) r store
+    resultBy (firstOf (stepConditions checks keys r store (read (r .n) bytes) out)) (stepped (read (r .n) bytes) (start r store)) r store
 
 -- the answer of either
 unfoldable pub answer : Result → Stepped
@@ -83,7 +83,7 @@ makingBy refusal m = record { refusal = refusal; written = unrefused refusal (re
 -- certificates, out
 unfoldable pub making : Checks → ℕ → ℕ → List ℕ → List ℕ → List ℕ → List ℕ → Making
 making checks n round keys a b out =
-    makingBy (lowest (makingConditions checks n round keys (read n a) (read n b) out)) (evidenceOf n round (certificateIn (read n a)) (certificateIn (read n b)))
+    makingBy (firstOf (makingConditions checks n round keys (read n a) (read n b) out)) (evidenceOf n round (certificateIn (read n a)) (certificateIn (read n b)))
 
 -- its answer
 unfoldable pub made : Making → Made
@@ -97,7 +97,7 @@ checkedBy refusal m = record { number = refusal; mask = unrefused refusal (setOf
 
 -- n, round, key table, evidence
 unfoldable pub evidenceCheck : Checks → ℕ → ℕ → List ℕ → List ℕ → Checked
-evidenceCheck checks n round keys bytes = checkedBy (lowest (evidenceConditions checks n round keys (read n bytes))) (read n bytes)
+evidenceCheck checks n round keys bytes = checkedBy (firstOf (evidenceConditions checks n round keys (read n bytes))) (read n bytes)
 
 -- ---- the lower certificate
 
@@ -109,4 +109,4 @@ lowerOf n a b = cond (isLower (certificateIn (read n a) .value) (certificateIn (
 -- it; where the call or either certificate is refused or they don't conflict, the part has length 0.": n, round, key table,
 -- the certificates. Their lengths are exact, so that the part is the whole of one.
 unfoldable pub lowerCertificate : Checks → ℕ → ℕ → List ℕ → List ℕ → List ℕ → List ℕ
-lowerCertificate checks n round keys a b = unrefused (lowest (lowerConditions checks n round keys (read n a) (read n b))) (lowerOf n a b) []
+lowerCertificate checks n round keys a b = unrefused (firstOf (lowerConditions checks n round keys (read n a) (read n b))) (lowerOf n a b) []

@@ -24,13 +24,13 @@ unfoldable pub slot : ℕ → ℕ → List ℕ → ℕ → List ℕ
 slot n bank store seat = part (slotAt n bank seat) signatureLength store
 
 -- "A signature is copied into its seat's slot, and only that slot is written."
-unfoldable pub keep : ℕ → ℕ → ℕ → List ℕ → List ℕ → List ℕ
-keep n bank seat signature store = patch (slotAt n bank seat) signature store
+unfoldable pub fill : ℕ → ℕ → ℕ → List ℕ → List ℕ → List ℕ
+fill n bank seat signature store = patch (slotAt n bank seat) signature store
 
 -- the signatures of several seats, one after another
-unfoldable pub keepEach : ℕ → ℕ → (ℕ → List ℕ) → List ℕ → List ℕ → List ℕ
-keepEach n bank signature [] store = store
-keepEach n bank signature (seat ∷ rest) store = keepEach n bank signature rest (keep n bank seat (signature seat) store)
+unfoldable pub fillEach : ℕ → ℕ → (ℕ → List ℕ) → List ℕ → List ℕ → List ℕ
+fillEach n bank signature [] store = store
+fillEach n bank signature (seat ∷ rest) store = fillEach n bank signature rest (fill n bank seat (signature seat) store)
 
 -- ---- makers
 

@@ -17,7 +17,7 @@ use Rattle.quorum.specs.Laws.{bit-cases, bit-empty, bit-one-same, bit-one-other
 use Rattle.protocol.specs.Layout.{signatureLength, valueLength, submitLength, noticeLength, fullEntryLength, fullEntryAt, evidenceEntryLength, evidenceEntryAt, storeLength, slotAt}
 use Rattle.protocol.specs.Values.{isLower}
 use Rattle.protocol.specs.Message.{Entry, Pair, Message, Submit, Notice, Full, Evidence, renderEntry, renderEntries, renderPair, renderPairs, render, renderAll}
-use Rattle.protocol.specs.Certificate.{keep, keepEach, setOf}
+use Rattle.protocol.specs.Certificate.{fill, fillEach, setOf}
 use Rattle.protocol.specs.Refusals.{every, rising}
 
 -- ---- values
@@ -93,10 +93,10 @@ set-seats n m l = same-seats (setOf (seats n m)) m (λ s. go s (bit-cases s m) (
     go s (inr i) (inl y) = absurd (omega (arith, in-set s (seats n m) .1 (mem-seats n s m .1 (below s i (decLt s n), i))))
     go s (inr i) (inr j) = omega arith
 
-pub keep-snoc : (n bank : ℕ) (f : ℕ → List ℕ) (xs : List ℕ) (s : ℕ) (store : List ℕ) → keepEach n bank f (xs ++ s ∷ []) store ≡ keep n bank s (f s) (keepEach n bank f xs store)
-unfolding keepEach
-keep-snoc n bank f [] s store = refl
-keep-snoc n bank f (x ∷ xs) s store = keep-snoc n bank f xs s (keep n bank x (f x) store)
+pub fill-snoc : (n bank : ℕ) (f : ℕ → List ℕ) (xs : List ℕ) (s : ℕ) (store : List ℕ) → fillEach n bank f (xs ++ s ∷ []) store ≡ fill n bank s (f s) (fillEach n bank f xs store)
+unfolding fillEach
+fill-snoc n bank f [] s store = refl
+fill-snoc n bank f (x ∷ xs) s store = fill-snoc n bank f xs s (fill n bank x (f x) store)
 
 pub entries-append : (xs ys : List Entry) → renderEntries (xs ++ ys) ≡ renderEntries xs ++ renderEntries ys
 unfolding renderEntries

@@ -5,8 +5,8 @@ use Prim.Native.Nat.{ℕ}
 use mathlib.Core.Path.{_≡_, refl, ap, _∙_}
 use mathlib.Core.Bool.{true}
 use mathlib.Core.List.{List, [], _∷_, _++_, map}
-use Rattle.refusal.specs.Refusal.{lowest}
-use Rattle.refusal.specs.Lowest.{numbers, riseFrom, rise, both-true, Lowest, lowest-is, _before_, lowest-before}
+use Rattle.refusal.specs.Refusal.{firstOf}
+use Rattle.refusal.specs.Lowest.{numbers, riseFrom, rise, both-true, Lowest, firstOf-is, _before_, firstOf-before}
 use Rattle.protocol.specs.Layout.{outLength, evidenceOutLength}
 use Rattle.protocol.specs.Message.{read}
 use Rattle.protocol.specs.Refusals.{Condition, Checks, every, SIZE, SEAT, ROUND, RECORD, KEYS, STORE, OUT, SAID, GARBLED, OTHER-ROUND, STRANGER, DISORDER, EARLY, SIGNATURE, NO-CONFLICT-IN, NO-CONFLICT-BETWEEN, KEY-MATERIAL, outsideConditions, recordConditions, formConditions, signatureConditions, certificateConditions, twoConditions, openingConditions, submitConditions, stepConditions, evidenceConditions, makingConditions, lowerConditions, checkConditions, makeKeyConditions, signConditions}
@@ -16,7 +16,7 @@ use Rattle.protocol.specs.declared.Record.{Record}
 
 -- `lowest` finds the lowest number
 abbrev pub Found : List Condition → Type 0
-Found conditions = Lowest (lowest conditions) conditions
+Found conditions = Lowest (firstOf conditions) conditions
 
 unfoldable pub EachFound : List (List Condition) → Type 0
 EachFound [] = Unit
@@ -27,7 +27,7 @@ unfolding every EachFound
 each [] e = tt
 each (conditions ∷ rest) e =
     let p = both-true (rise (numbers conditions)) (every rise (map numbers rest)) e in
-    (lowest-is conditions (p .0), each rest (p .1))
+    (firstOf-is conditions (p .0), each rest (p .1))
 
 module _
     (n seat round leaf : ℕ) (keys store value signature out key message seed I C tree bytes first second : List ℕ) (checks : Checks)
@@ -92,16 +92,16 @@ module _
       pub check : Lowest (checkSignature key message signature) (checkConditions key message signature)
       pub key-maker : Lowest (makeKey seed I tree out .refusal) (makeKeyConditions seed I tree out)
       pub signer : Lowest (sign leaf message seed I C tree out .refusal) (signConditions leaf message seed I C tree out)
-      pub making : calls.making checks n round keys first second out .refusal ≡ (lowest making-given before lowest of-first before lowest of-second before lowest of-both)
-      pub lower : lowest (lowerConditions checks n round keys (read n first) (read n second)) ≡ (lowest lower-given before lowest of-first before lowest of-second before lowest of-both)
+      pub making : calls.making checks n round keys first second out .refusal ≡ (firstOf making-given before firstOf of-first before firstOf of-second before firstOf of-both)
+      pub lower : firstOf (lowerConditions checks n round keys (read n first) (read n second)) ≡ (firstOf lower-given before firstOf of-first before firstOf of-second before firstOf of-both)
       pub parts : Found making-given × Found lower-given × Found of-first × Found of-second
 
     two-before : (given : List Condition) → rise (numbers given) ≡ true
-        → lowest (given ++ twoConditions checks n round (read n first) (read n second)) ≡ (lowest given before lowest of-first before lowest of-second before lowest of-both)
+        → firstOf (given ++ twoConditions checks n round (read n first) (read n second)) ≡ (firstOf given before firstOf of-first before firstOf of-second before firstOf of-both)
     unfolding twoConditions certificateConditions formConditions signatureConditions rise riseFrom numbers
     two-before given e =
-        lowest-before given _ e
-        ∙ ap (λ later. lowest given before later) (lowest-before of-first (of-second ++ of-both) refl ∙ ap (λ later. lowest of-first before later) (lowest-before of-second of-both refl))
+        firstOf-before given _ e
+        ∙ ap (λ later. firstOf given before later) (firstOf-before of-first (of-second ++ of-both) refl ∙ ap (λ later. firstOf of-first before later) (firstOf-before of-second of-both refl))
 
     pub answers : Answers
     unfolding EachFound calls.opening calls.openedBy calls.submit calls.step calls.resultBy calls.evidenceCheck calls.checkedBy calls.making calls.makingBy checkSignature makeKey makeKeyRefusal sign signRefusal makingConditions lowerConditions outsideConditions rise riseFrom numbers

@@ -9,8 +9,8 @@ use native.Mathlib.Omega.{arith}
 use lib.Dec.{eqb}
 use lib.ListN.{length}
 use borrow.Author.Tests.{le-ltb, ltb-false, eq-eqb, eqb-true, not-false}
-use Rattle.refusal.specs.Refusal.{lowest}
-use Rattle.refusal.specs.Laws.{lowest-zero}
+use Rattle.refusal.specs.Refusal.{firstOf}
+use Rattle.refusal.specs.Laws.{firstOf-zero}
 use Rattle.refusal.specs.Lowest.{both-true}
 use Rattle.rfc8554.specs.Ots.{knownOts, width}
 use Rattle.rfc8554.specs.Tree.{knownLms, height, publicKey, treeFilled, lmsSignature}
@@ -27,14 +27,14 @@ use Rattle.protocol.specs.SignatureLaws.{keyInvalid-wrongKey, valid-key,
 -- the stand-alone check answers 0 exactly where RFC 8554's verification says VALID, of messages that aren't too long
 pub accepted-exactly : (key message signature : List ℕ)
     → (checkSignature key message signature ≡ 0) ↔ ((valid key message signature ≡ true) × (length message ≤ messageLimit))
-unfolding checkSignature checkConditions lowest
+unfolding checkSignature checkConditions firstOf
 accepted-exactly key message signature = (accepted, λ v. rw (valid-key key message signature (v .0), le-ltb messageLimit (length message) (v .1), v .0))
   where
     accepted : checkSignature key message signature ≡ 0 → (valid key message signature ≡ true) × (length message ≤ messageLimit)
     accepted e =
-        let key-right = lowest-zero 4 (wrongKey key) (GARBLED-LONG message ∷ SIGNATURE-ALONE key message signature ∷ []) e in
-        let message-right = lowest-zero 8 (tooLong message) (SIGNATURE-ALONE key message signature ∷ []) (key-right .1) in
-        let signature-right = lowest-zero 13 (not (valid key message signature)) [] (message-right .1) in
+        let key-right = firstOf-zero 4 (wrongKey key) (GARBLED-LONG message ∷ SIGNATURE-ALONE key message signature ∷ []) e in
+        let message-right = firstOf-zero 8 (tooLong message) (SIGNATURE-ALONE key message signature ∷ []) (key-right .1) in
+        let signature-right = firstOf-zero 13 (not (valid key message signature)) [] (message-right .1) in
         (not-false (valid key message signature) (signature-right .0), ltb-false messageLimit (length message) (message-right .0))
 
 -- a seat's signature checks exactly where the verification says VALID under the seat's key for its 36 bytes, and the leaf is the round
@@ -78,7 +78,7 @@ module _
         → checkSignature ((makeKey seed I tree keyOut) .written) message
         ((sign leaf message seed I C ((makeKey seed I tree keyOut) .tree) out) .written)
         ≡ 0
-    unfolding checkSignature checkConditions lowest messageLimit
+    unfolding checkSignature checkConditions firstOf messageLimit
     made-signature-accepted message short =
         rw
         (made-key, made-signature message short, made-key-allowed, le-ltb 65535 (length message) short, made-valid message)

@@ -9,7 +9,7 @@ use lib.Dec.{eqb, ltb}
 use lib.ListN.{length, length-append}
 use borrow.Author.Tests.{le-ltb, eqb-true, not-false}
 use Rattle.octets.specs.Laws.{length-be, length-part}
-use Rattle.refusal.specs.Refusal.{lowest, unrefused}
+use Rattle.refusal.specs.Refusal.{firstOf, unrefused}
 use Rattle.rfc8554.specs.Ots.{chains, otsLength, knownOts, width}
 use Rattle.rfc8554.specs.Tree.{knownLms, height, publicKey, treeFilled, path, lmsSignature}
 use Rattle.rfc8554.specs.Verify.{lmsTypeOf, otsTypeOf, leafOf, signatureLength as lengthOfTypes, keyInvalid, valid}
@@ -17,7 +17,7 @@ use Rattle.protocol.specs.Layout.{signatureLength, treeLength, messageLi
 use Rattle.protocol.specs.Record.{wrongRound}
 use Rattle.protocol.specs.Refusals.{shortOut, wrongKey, checkConditions, makeKeyConditions, signConditions}
 use Rattle.protocol.specs.Signatures.{checkSignature, makeKeyRefusal, makeKey, signRefusal, sign, signedBytes}
-use Rattle.refusal.specs.Laws.{lowest-zero}
+use Rattle.refusal.specs.Laws.{firstOf-zero}
 use Rattle.rfc8554.specs.VerifyLaws.{sibling-within, ancestor-within, length-lmsSignature, valid-fits}
 
 -- ---- the check
@@ -48,8 +48,8 @@ pub accepted-fits : (key message signature : List ℕ) → checkSignature key me
     × (leafOf signature < 2 ^ height (lmsTypeOf key))
 unfolding checkSignature checkConditions
 accepted-fits key message signature e =
-    let late = lowest-zero 8 _ _ (lowest-zero 4 _ _ e .1) .1 in
-    valid-fits key message signature (not-false _ (lowest-zero 13 _ [] late .0))
+    let late = firstOf-zero 8 _ _ (firstOf-zero 4 _ _ e .1) .1 in
+    valid-fits key message signature (not-false _ (firstOf-zero 13 _ [] late .0))
 
 pub length-six-four : lengthOfTypes (height 6) (width 4) ≡ signatureLength
 unfolding lengthOfTypes otsLength chains height width signatureLength
@@ -88,7 +88,7 @@ sign-refused leaf message seed I C tree out n e = rw e
 
 module _ (seed I tree out : List ℕ) (s : length seed ≡ 32) (i : length I ≡ 16) (t : length tree ≡ 65536) where
   makeKeyRefusal-zero : 56 ≤ length out → makeKeyRefusal seed I tree out ≡ 0
-  unfolding makeKeyRefusal makeKeyConditions shortOut lowest treeLength
+  unfolding makeKeyRefusal makeKeyConditions shortOut firstOf treeLength
   makeKeyRefusal-zero o = rw (le-ltb (length out) 56 o, s, i, t)
 
   pub makeKey-unrefused : 56 ≤ length out
@@ -98,7 +98,7 @@ module _ (seed I tree out : List ℕ) (s : length seed ≡ 32) (i : length I ≡
 
   module _ (leaf : ℕ) (message C : List ℕ) (l : leaf ≤ 1023) (m : length message ≤ 65535) (c : length C ≡ 32) where
     signRefusal-zero : 1452 ≤ length out → signRefusal leaf message seed I C tree out ≡ 0
-    unfolding signRefusal signConditions wrongRound shortOut lowest treeLength messageLimit signatureLength
+    unfolding signRefusal signConditions wrongRound shortOut firstOf treeLength messageLimit signatureLength
     signRefusal-zero o = rw (le-ltb 1023 leaf l, le-ltb (length out) 1452 o, le-ltb 65535 (length message) m, s, i, c, t)
 
     pub sign-unrefused : 1452 ≤ length out

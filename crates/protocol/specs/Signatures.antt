@@ -5,7 +5,7 @@ use mathlib.Core.Bool.{Bool, _&&_}
 use mathlib.Core.List.{List, [], _∷_, _++_}
 use lib.Dec.{eqb}
 use Rattle.octets.specs.Octets.{part}
-use Rattle.refusal.specs.Refusal.{lowest, unrefused}
+use Rattle.refusal.specs.Refusal.{firstOf, unrefused}
 use Rattle.rfc8554.specs.Ots.{u8str, u16str}
 use Rattle.rfc8554.specs.Tree.{publicKey, treeFilled, lmsSignature}
 use Rattle.rfc8554.specs.Verify.{leafOf, valid}
@@ -31,7 +31,7 @@ checks keys round seat value signature =
 -- ---- the stand-alone check: key, message, signature
 
 unfoldable pub checkSignature : List ℕ → List ℕ → List ℕ → ℕ
-checkSignature key message signature = lowest (checkConditions key message signature)
+checkSignature key message signature = firstOf (checkConditions key message signature)
 
 -- ---- the key maker, for types 6 and 4: the public key is written, and the tree filled
 
@@ -41,7 +41,7 @@ pub record MadeKey : Type 0 where
   pub tree : List ℕ
 
 unfoldable pub makeKeyRefusal : List ℕ → List ℕ → List ℕ → List ℕ → ℕ
-makeKeyRefusal seed I tree out = lowest (makeKeyConditions seed I tree out)
+makeKeyRefusal seed I tree out = firstOf (makeKeyConditions seed I tree out)
 
 -- seed, I, tree, out
 unfoldable pub makeKey : List ℕ → List ℕ → List ℕ → List ℕ → MadeKey
@@ -56,7 +56,7 @@ pub record MadeSignature : Type 0 where
   pub written : List ℕ
 
 unfoldable pub signRefusal : ℕ → List ℕ → List ℕ → List ℕ → List ℕ → List ℕ → List ℕ → ℕ
-signRefusal leaf message seed I C tree out = lowest (signConditions leaf message seed I C tree out)
+signRefusal leaf message seed I C tree out = firstOf (signConditions leaf message seed I C tree out)
 
 -- leaf, message, seed, I, randomizer, tree, out
 unfoldable pub sign : ℕ → List ℕ → List ℕ → List ℕ → List ℕ → List ℕ → List ℕ → MadeSignature

@@ -8,7 +8,7 @@ use Rattle.quorum.specs.Quorum.{k, has, size, shared, with, seats}
 use Rattle.protocol.specs.Layout.{collectedBank, firstBank}
 use Rattle.octets.specs.Strings.{same}
 use Rattle.protocol.specs.Message.{Message, Submit, Notice, Full, Evidence, Garbled}
-use Rattle.protocol.specs.Certificate.{Certificate, keep, keepEach, ownCertificate, firstCertificate, certificateIn, fullOf, evidenceOf}
+use Rattle.protocol.specs.Certificate.{Certificate, fill, fillEach, ownCertificate, firstCertificate, certificateIn, fullOf, evidenceOf}
 use Rattle.protocol.specs.Record.{withOwn, withConfirmed, withNotices, withFirst, withSent, withGuilty, noneHeard, oneHeard, holds}
 use Rattle.protocol.specs.declared.Notices.{Notices}
 use Rattle.protocol.specs.declared.Record.{Record}
@@ -36,18 +36,18 @@ collect seat signature s = record {
     value = s .unit .own .value;
     collected = with seat (s .unit .own .collected);
   });
-  store = keep (s .unit .n) collectedBank seat signature (s .store);
+  store = fill (s .unit .n) collectedBank seat signature (s .store);
   written = s .written;
 }
 
 -- "the value kept"
-unfoldable pub keepValue : List ℕ → State → State
-keepValue value s = withUnit s (withOwn (s .unit) (record { submitted = true; value = value; collected = s .unit .own .collected }))
+unfoldable pub setValue : List ℕ → State → State
+setValue value s = withUnit s (withOwn (s .unit) (record { submitted = true; value = value; collected = s .unit .own .collected }))
 
 -- "Submit: the own signature is checked like any other, the value kept, the signature collected, SUBMIT written."
 unfoldable pub submitOwn : List ℕ → List ℕ → State → State
 submitOwn value signature s =
-    write (Submit (s .unit .round) (s .unit .seat) value signature) (collect (s .unit .seat) signature (keepValue value s))
+    write (Submit (s .unit .round) (s .unit .seat) value signature) (collect (s .unit .seat) signature (setValue value s))
 
 -- "SUBMIT heard: if not confirmed, the value is the own one and the seat is new, its signature is collected. Otherwise
 -- nothing changes."
@@ -95,7 +95,7 @@ reply s = cond (owesFull (s .unit)) (sendFull s) s
 unfoldable pub hold : Certificate → State → State
 hold c s = record {
   unit = withFirst (s .unit) (record { value = c .value; seats = c .seats });
-  store = keepEach (s .unit .n) firstBank (c .signature) (seats (s .unit .n) (c .seats)) (s .store);
+  store = fillEach (s .unit .n) firstBank (c .signature) (seats (s .unit .n) (c .seats)) (s .store);
   written = s .written;
 }
 

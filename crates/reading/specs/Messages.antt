@@ -7,7 +7,7 @@ use Prim.Native.Nat.{ℕ, zero, suc, _+_}
 use lib.ListN.{length, drop}
 use lib.Seq.{take-append-seam}
 use Rattle.octets.specs.Octets.{patch}
-use Rattle.refusal.specs.Refusal.{lowest, unrefused}
+use Rattle.refusal.specs.Refusal.{firstOf, unrefused}
 use Rattle.protocol.specs.Message.{Message, renderAll, read}
 use Rattle.protocol.specs.Laws.{all-append}
 use Rattle.protocol.specs.ReadLaws.{WellFormed}
@@ -21,9 +21,9 @@ use Rattle.reading.specs.Lists.{each-nil, each-append}
 
 -- its refusal number, and what it comes to where nothing is refused
 unfoldable pub refusalOf : Setting → Call → Record → List ℕ → ℕ
-refusalOf S (BySubmit value signature out) r store = lowest (submitConditions (S .checks) (S .keys) r store value signature out)
-refusalOf S (ByStep bytes out) r store = lowest (stepConditions (S .checks) (S .keys) r store (read (r .n) bytes) out)
-refusalOf S (ByThinEntry bytes out) r store = lowest (stepConditions (S .checks) (S .keys) r store (read (r .n) bytes) out)
+refusalOf S (BySubmit value signature out) r store = firstOf (submitConditions (S .checks) (S .keys) r store value signature out)
+refusalOf S (ByStep bytes out) r store = firstOf (stepConditions (S .checks) (S .keys) r store (read (r .n) bytes) out)
+refusalOf S (ByThinEntry bytes out) r store = firstOf (stepConditions (S .checks) (S .keys) r store (read (r .n) bytes) out)
 
 unfoldable pub cameTo : Call → Record → List ℕ → State
 cameTo (BySubmit value signature out) r store = submitted value signature (start r store)
@@ -38,7 +38,7 @@ outcome-is S (ByThinEntry bytes out) r store = refl
 
 -- by value or through the thin entry
 pub step-is : (S : Setting) (c : Call) (bytes out : List ℕ) (r : Record) (store : List ℕ) → IsStep c bytes out
-    → (refusalOf S c r store ≡ lowest (stepConditions (S .checks) (S .keys) r store (read (r .n) bytes) out)) × (cameTo c r store ≡ stepped (read (r .n) bytes) (start r store))
+    → (refusalOf S c r store ≡ firstOf (stepConditions (S .checks) (S .keys) r store (read (r .n) bytes) out)) × (cameTo c r store ≡ stepped (read (r .n) bytes) (start r store))
 unfolding refusalOf cameTo
 step-is S c bytes out r store (inl e) = (ap (λ x. refusalOf S x r store) e, ap (λ x. cameTo x r store) e)
 step-is S c bytes out r store (inr e) = (ap (λ x. refusalOf S x r store) e, ap (λ x. cameTo x r store) e)

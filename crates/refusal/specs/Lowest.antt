@@ -7,7 +7,7 @@ use Prim.Native.Nat.{ℕ, zero, suc, _≤_, _<_}
 use native.Mathlib.Omega.{arith}
 use lib.Dec.{ltb}
 use borrow.Author.Tests.{ltb-true}
-use Rattle.refusal.specs.Refusal.{lowest}
+use Rattle.refusal.specs.Refusal.{firstOf}
 
 -- the numbers, in the order of the list
 unfoldable pub numbers : List (ℕ × Bool) → List ℕ
@@ -69,15 +69,15 @@ first-passed n l xs rest =
     later k (inl h) = absurd (false≢true (h .1))
     later k (inr h) = h
 
-from : (m : ℕ) (xs : List (ℕ × Bool)) → riseFrom m (numbers xs) ≡ true → Lowest (lowest xs) xs
-unfolding numbers Holds lowest
+from : (m : ℕ) (xs : List (ℕ × Bool)) → riseFrom m (numbers xs) ≡ true → Lowest (firstOf xs) xs
+unfolding numbers Holds firstOf
 from m [] e = record { holds = λ h. absurd (h refl); least = λ n h. absurd h; none = λ z n h. h }
 from m ((n, true) ∷ xs) e = first-holds m n xs e
-from m ((n, false) ∷ xs) e = first-passed n (lowest xs) xs (from n xs (rises m n (numbers xs) e .1))
+from m ((n, false) ∷ xs) e = first-passed n (firstOf xs) xs (from n xs (rises m n (numbers xs) e .1))
 
-pub lowest-is : (xs : List (ℕ × Bool)) → rise (numbers xs) ≡ true → Lowest (lowest xs) xs
+pub firstOf-is : (xs : List (ℕ × Bool)) → rise (numbers xs) ≡ true → Lowest (firstOf xs) xs
 unfolding rise
-lowest-is xs e = from 0 xs e
+firstOf-is xs e = from 0 xs e
 
 infixr 20 _before_
 -- one number before another: the first, where it isn't 0
@@ -86,15 +86,15 @@ zero before n = n
 suc m before n = suc m
 
 -- of a list that rises and what comes after it
-pub lowest-before : (xs ys : List (ℕ × Bool)) → rise (numbers xs) ≡ true → lowest (xs ++ ys) ≡ (lowest xs before lowest ys)
-unfolding rise numbers lowest _before_
-lowest-before xs ys e = go 0 xs e
+pub firstOf-before : (xs ys : List (ℕ × Bool)) → rise (numbers xs) ≡ true → firstOf (xs ++ ys) ≡ (firstOf xs before firstOf ys)
+unfolding rise numbers firstOf _before_
+firstOf-before xs ys e = go 0 xs e
   where
-    go : (m : ℕ) (xs : List (ℕ × Bool)) → riseFrom m (numbers xs) ≡ true → lowest (xs ++ ys) ≡ (lowest xs before lowest ys)
+    go : (m : ℕ) (xs : List (ℕ × Bool)) → riseFrom m (numbers xs) ≡ true → firstOf (xs ++ ys) ≡ (firstOf xs before firstOf ys)
     go m [] e = refl
     go m ((n, true) ∷ xs) e = at-first n (rises m n (numbers xs) e .0)
       where
-        at-first : (n : ℕ) → m < n → n ≡ (n before lowest ys)
+        at-first : (n : ℕ) → m < n → n ≡ (n before firstOf ys)
         at-first zero h = absurd (omega arith)
         at-first (suc n) h = refl
     go m ((n, false) ∷ xs) e = go n xs (rises m n (numbers xs) e .1)

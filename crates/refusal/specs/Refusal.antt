@@ -5,9 +5,9 @@ use mathlib.Core.Bool.{Bool, cond}
 use mathlib.Core.List.{List, [], _∷_}
 
 -- of numbers in rising order, each with its condition, the first whose condition holds; 0 where none does
-unfoldable pub lowest : List (ℕ × Bool) → ℕ
-lowest [] = 0
-lowest (c ∷ rest) = cond (c .1) (c .0) (lowest rest)
+unfoldable pub firstOf : List (ℕ × Bool) → ℕ
+firstOf [] = 0
+firstOf (c ∷ rest) = cond (c .1) (c .0) (firstOf rest)
 
 -- what a call leaves, by its refusal number: the new where nothing is refused, else the old
 unfoldable pub unrefused {ℓ} : {A : Type ℓ} → ℕ → A → A → A

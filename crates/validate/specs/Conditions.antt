@@ -6,8 +6,8 @@ use mathlib.Core.List.{List, [], _∷_, _++_}
 use Prim.Native.Nat.{ℕ, _≤_}
 use native.Mathlib.Decide.{ℕ-discrete}
 use borrow.Author.Tests.{not-false, ltb-false}
-use Rattle.refusal.specs.Refusal.{lowest}
-use Rattle.refusal.specs.Laws.{lowest-zero, lowest-first}
+use Rattle.refusal.specs.Refusal.{firstOf}
+use Rattle.refusal.specs.Laws.{firstOf-zero, firstOf-front}
 use Rattle.fips180.specs.Constants.{constants}
 use Rattle.quorum.specs.Quorum.{mostSeats}
 use Rattle.protocol.specs.Message.{Message}
@@ -40,41 +40,41 @@ round-in round e = ltb-false 1023 round e
 
 module _ (n round number : ℕ) where
   -- nothing is turned back by the first conditions: each test is false
-  pub outside-passed : (keys : List ℕ) → number ≡ lowest (outsideConditions n round keys) → number ≡ 0 → Given n round keys
+  pub outside-passed : (keys : List ℕ) → number ≡ firstOf (outsideConditions n round keys) → number ≡ 0 → Given n round keys
   unfolding outsideConditions
   outside-passed keys e z =
-      let a = lowest-zero 0 (wrongSize n) ((3, wrongRound round) ∷ (5, wrongKeys n keys) ∷ []) (sym e ∙ z) in
-      let b = lowest-zero 2 (wrongRound round) ((5, wrongKeys n keys) ∷ []) (a .1) in
-      let d = lowest-zero 4 (wrongKeys n keys) [] (b .1) in
+      let a = firstOf-zero 0 (wrongSize n) ((3, wrongRound round) ∷ (5, wrongKeys n keys) ∷ []) (sym e ∙ z) in
+      let b = firstOf-zero 2 (wrongRound round) ((5, wrongKeys n keys) ∷ []) (a .1) in
+      let d = firstOf-zero 4 (wrongKeys n keys) [] (b .1) in
       record { size = a .0; turn = b .0; table = d .0 }
 
-  pub form-passed : (taken : Bool) (m : Message) → number ≡ lowest (formConditions n round taken m) → number ≡ 0 → Formed n round taken m
+  pub form-passed : (taken : Bool) (m : Message) → number ≡ firstOf (formConditions n round taken m) → number ≡ 0 → Formed n round taken m
   unfolding formConditions
   form-passed taken m e z =
-      let a = lowest-zero 8 (not taken) ((10, otherRound round m) ∷ (11, stranger n m) ∷ (12, disorder m) ∷ []) (sym e ∙ z) in
-      let b = lowest-zero 9 (otherRound round m) ((11, stranger n m) ∷ (12, disorder m) ∷ []) (a .1) in
-      let d = lowest-zero 10 (stranger n m) ((12, disorder m) ∷ []) (b .1) in
-      let o = lowest-zero 11 (disorder m) [] (d .1) in
+      let a = firstOf-zero 8 (not taken) ((10, otherRound round m) ∷ (11, stranger n m) ∷ (12, disorder m) ∷ []) (sym e ∙ z) in
+      let b = firstOf-zero 9 (otherRound round m) ((11, stranger n m) ∷ (12, disorder m) ∷ []) (a .1) in
+      let d = firstOf-zero 10 (stranger n m) ((12, disorder m) ∷ []) (b .1) in
+      let o = firstOf-zero 11 (disorder m) [] (d .1) in
       record { is = not-false taken (a .0); same = b .0; known = d .0; ordered = o .0 }
 
 module _ (n round : ℕ) where
   -- the lowest is then that of the later ones
-  pub outside-later : (keys : List ℕ) → Given n round keys → (rest : List Condition) → lowest (outsideConditions n round keys ++ rest) ≡ lowest rest
-  unfolding outsideConditions lowest
+  pub outside-later : (keys : List ℕ) → Given n round keys → (rest : List Condition) → firstOf (outsideConditions n round keys ++ rest) ≡ firstOf rest
+  unfolding outsideConditions firstOf
   outside-later keys g rest = rw (g .size, g .turn, g .table)
 
-  pub form-later : (taken : Bool) (m : Message) → Formed n round taken m → (rest : List Condition) → lowest (formConditions n round taken m ++ rest) ≡ lowest rest
-  unfolding formConditions lowest
+  pub form-later : (taken : Bool) (m : Message) → Formed n round taken m → (rest : List Condition) → firstOf (formConditions n round taken m ++ rest) ≡ firstOf rest
+  unfolding formConditions firstOf
   form-later taken m f rest = rw (f .is, f .same, f .known, f .ordered)
 
 -- what the first conditions turn back is the call's refusal
-pub refused-first : (xs rest : List Condition) (number : ℕ) → number ≡ lowest xs → (number ≡ 0 → ⊥) → lowest (xs ++ rest) ≡ number
-refused-first xs rest number e h = lowest-first xs rest (λ z. h (e ∙ z)) ∙ sym e
+pub refused-first : (xs rest : List Condition) (number : ℕ) → number ≡ firstOf xs → (number ≡ 0 → ⊥) → firstOf (xs ++ rest) ≡ number
+refused-first xs rest number e h = firstOf-front xs rest (λ z. h (e ∙ z)) ∙ sym e
 
 -- where nothing is turned back, the first conditions turn back nothing
-pub passed-first : (xs rest : List Condition) → lowest (xs ++ rest) ≡ 0 → lowest xs ≡ 0
-passed-first xs rest e = go (ℕ-discrete (lowest xs) 0)
+pub passed-first : (xs rest : List Condition) → firstOf (xs ++ rest) ≡ 0 → firstOf xs ≡ 0
+passed-first xs rest e = go (ℕ-discrete (firstOf xs) 0)
   where
-    go : Dec (lowest xs ≡ 0) → lowest xs ≡ 0
+    go : Dec (firstOf xs ≡ 0) → firstOf xs ≡ 0
     go (yes z) = z
-    go (no d) = absurd (d (sym (lowest-first xs rest d) ∙ e))
+    go (no d) = absurd (d (sym (firstOf-front xs rest d) ∙ e))

@@ -4,7 +4,7 @@ ghost use mathlib.Core.Path.{_≡_};
 ghost use mathlib.Core.Bool.{false};
 ghost use Prim.Native.Nat.{_≤_};
 ghost use Rattle.quorum.specs.Quorum.{mostSeats};
-ghost use Rattle.refusal.specs.Refusal.{lowest};
+ghost use Rattle.refusal.specs.Refusal.{firstOf};
 ghost use Rattle.fips180.specs.Constants.{constants};
 ghost use Rattle.protocol.specs.Signatures.{checks};
 ghost use Rattle.protocol.specs.Message.{read};
@@ -19,7 +19,7 @@ pub mod signatures;
 
 // What is turned back of the number of seats, the round and the key table: 1, 3, 5.
 pub fn outside_refusal(n: u32, round: u32, keys: &[u8]) -> u32
-    ensures { λ r. ⌜ r ≡ lowest (outsideConditions n round (now (keys .entry))) ⌝ }
+    ensures { λ r. ⌜ r ≡ firstOf (outsideConditions n round (now (keys .entry))) ⌝ }
 {
     if fleet::wrong_size(n) {
         return refusal::SIZE;
@@ -36,7 +36,7 @@ pub fn outside_refusal(n: u32, round: u32, keys: &[u8]) -> u32
 // What is turned back of a message's form, where `taken` says whether the call takes its command: 9, 10, 11, 12.
 pub fn form_refusal(n: u32, round: u32, taken: bool, kind: Kind, m: &[u8]) -> u32
     requires { ⌜ (1 ≤ n) × (n ≤ mostSeats) × (kind ≡ kindOf (read n (now m))) ⌝ }
-    ensures { λ r. ⌜ r ≡ lowest (formConditions n round taken (read n (now (m .entry)))) ⌝ }
+    ensures { λ r. ⌜ r ≡ firstOf (formConditions n round taken (read n (now (m .entry)))) ⌝ }
 {
     if !taken {
         return refusal::GARBLED;

@@ -11,8 +11,8 @@ use Rattle.quorum.specs.Quorum.{bit, In, seats}
 use Rattle.quorum.specs.Laws.{seats-in, seats-out}
 use Rattle.protocol.specs.Layout.{signatureLength, storeLength, collectedBank, firstBank, slotAt}
 use Rattle.protocol.specs.Message.{readSignature}
-use Rattle.protocol.specs.Certificate.{slot, keep, keepEach}
-use Rattle.protocol.specs.Laws.{slot-fits, keep-snoc}
+use Rattle.protocol.specs.Certificate.{slot, fill, fillEach}
+use Rattle.protocol.specs.Laws.{slot-fits, fill-snoc}
 
 -- ---- places
 
@@ -37,11 +37,11 @@ length-slot n bank store seat b h r = length-part (slotAt n bank seat) signature
 pub record Holding (n m : ℕ) (f : ℕ → List ℕ) (before : List ℕ) (s : ℕ) (store : List ℕ) : Type 0 where
   pub below : s ≤ n
   pub long : length store ≡ length before
-  pub kept : store ≡ keepEach n firstBank f (seats s m) before
+  pub kept : store ≡ fillEach n firstBank f (seats s m) before
   pub others : (t : ℕ) → t < n → slot n collectedBank store t ≡ slot n collectedBank before t
 
 pub holding-none : (n m : ℕ) (f : ℕ → List ℕ) (before : List ℕ) → Holding n m f before 0 before
-unfolding keepEach seats
+unfolding fillEach seats
 holding-none n m f before = record { below = omega arith; long = refl; kept = refl; others = λ t h. refl }
 
 pub holding-skip : (n m : ℕ) (f : ℕ → List ℕ) (before : List ℕ) (s : ℕ) (store : List ℕ)
@@ -54,31 +54,31 @@ pub banks-apart : (n s t : ℕ) → t < n → slotAt n collectedBank t + signatu
 unfolding slotAt signatureLength
 banks-apart n s t h = omega arith
 
-pub holding-keep : (n m : ℕ) (f : ℕ → List ℕ) (before : List ℕ) (s : ℕ) (store after : List ℕ)
+pub holding-fill : (n m : ℕ) (f : ℕ → List ℕ) (before : List ℕ) (s : ℕ) (store after : List ℕ)
     → Holding n m f before s store → s < n → In s m → storeLength n ≤ length before → length (f s) ≡ signatureLength
-    → after ≡ keep n firstBank s (f s) store → Holding n m f before (s + 1) after
-unfolding keep slot
-holding-keep n m f before s store after h l i r g e =
+    → after ≡ fill n firstBank s (f s) store → Holding n m f before (s + 1) after
+unfolding fill slot
+holding-fill n m f before s store after h l i r g e =
     let room = slot-fits n firstBank s (omega arith) l in
     let long : length store ≡ length before = h .long in
     record {
       below = omega arith;
       long = rw e (length-patch (slotAt n firstBank s) (f s) store (omega arith) ∙ long);
-      kept = e ∙ rw (seats-in s m i, keep-snoc n firstBank f (seats s m) s before, ← h .kept);
+      kept = e ∙ rw (seats-in s m i, fill-snoc n firstBank f (seats s m) s before, ← h .kept);
       others = λ t k. rw e (part-before (slotAt n collectedBank t) signatureLength (slotAt n firstBank s) (f s) store (banks-apart n s t k) (omega arith) ∙ h .others t k);
     }
 
 -- the same where the signature is one of the first bank, which is still as it was
 pub holding-own : (n m : ℕ) (before : List ℕ) (s : ℕ) (store after : List ℕ)
     → Holding n m (slot n collectedBank before) before s store → s < n → In s m → storeLength n ≤ length before
-    → after ≡ keep n firstBank s (slot n collectedBank store s) store → Holding n m (slot n collectedBank before) before (s + 1) after
+    → after ≡ fill n firstBank s (slot n collectedBank store s) store → Holding n m (slot n collectedBank before) before (s + 1) after
 holding-own n m before s store after h l i r e =
-    holding-keep n m (slot n collectedBank before) before s store after h l i r (length-slot n collectedBank before s (omega arith) l r)
-    (e ∙ ap (λ (g : List ℕ). keep n firstBank s g store) (h .others s l))
+    holding-fill n m (slot n collectedBank before) before s store after h l i r (length-slot n collectedBank before s (omega arith) l r)
+    (e ∙ ap (λ (g : List ℕ). fill n firstBank s g store) (h .others s l))
 
 -- the same where g is the signature
 pub holding-signature : (n m : ℕ) (f : ℕ → List ℕ) (before : List ℕ) (s : ℕ) (store after : List ℕ)
     → Holding n m f before s store → s < n → In s m → storeLength n ≤ length before
-    → (g : List ℕ) → (g ≡ f s) × (length g ≡ signatureLength) → after ≡ keep n firstBank s g store → Holding n m f before (s + 1) after
+    → (g : List ℕ) → (g ≡ f s) × (length g ≡ signatureLength) → after ≡ fill n firstBank s g store → Holding n m f before (s + 1) after
 holding-signature n m f before s store after h l i r g q e =
-    holding-keep n m f before s store after h l i r (ap length (sym (q .0)) ∙ q .1) (e ∙ ap (λ (x : List ℕ). keep n firstBank s x store) (q .0))
+    holding-fill n m f before s store after h l i r (ap length (sym (q .0)) ∙ q .1) (e ∙ ap (λ (x : List ℕ). fill n firstBank s x store) (q .0))

@@ -4,7 +4,7 @@ ghost use Prim.Native.Nat.{_+_, _<_, _≤_};
 ghost use lib.ListN.{length};
 ghost use Rattle.quorum.specs.Quorum.{mostSeats};
 ghost use Rattle.protocol.specs.Layout.{signatureLength, storeLength, slotAt};
-ghost use Rattle.protocol.specs.Certificate.{keep};
+ghost use Rattle.protocol.specs.Certificate.{fill};
 ghost use Rattle.protocol.specs.Message.{readSignature};
 
 // The bytes of a signature.
@@ -42,9 +42,9 @@ pub fn signature_copy(m: &[u8], at: usize) -> [u8; 1452]
 }
 
 // A signature is copied into its seat's slot, and only that slot is written.
-pub fn keep(store: &mut [u8], n: u32, bank: u32, seat: u32, signature: &[u8])
+pub fn fill(store: &mut [u8], n: u32, bank: u32, seat: u32, signature: &[u8])
     requires { ⌜ (n ≤ mostSeats) × (bank < 2) × (seat < n) × (storeLength n ≤ length (now store)) × (length (now signature) ≡ signatureLength) ⌝ }
-    ensures { λ _. ⌜ now (store .exit) ≡ keep n bank seat (now (signature .entry)) (now (store .entry)) ⌝ }
+    ensures { λ _. ⌜ now (store .exit) ≡ fill n bank seat (now (signature .entry)) (now (store .entry)) ⌝ }
 {
     let at = slot_at(n, bank, seat);
     octets::copy(&mut store[at..at + SIGNATURE], 0, signature);

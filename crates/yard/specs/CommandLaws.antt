@@ -9,7 +9,7 @@ use lib.Dec.{eqb}
 use lib.ListN.{length, take, drop, drop-of-length-le, List·getD-eq-default}
 use borrow.Author.Tests.{eq-eqb, ne-eqb, lt-ltb, le-ltb}
 use Rattle.octets.specs.Laws.{take-rest}
-use Rattle.refusal.specs.Refusal.{lowest, unrefused}
+use Rattle.refusal.specs.Refusal.{firstOf, unrefused}
 use Rattle.protocol.specs.Layout.{signatureLength}
 use Rattle.protocol.specs.Message.{byteAt}
 use Rattle.protocol.specs.Record.{wrongSize}
@@ -98,5 +98,5 @@ module _ (bytes : List ℕ) where
 
 -- an opening of no seats gives a record of zeros
 pub opening-none : (keys : List ℕ) (o : Opened) (number : ℕ) → o ≡ opening 0 0 0 keys → record { number = number; unit = o .unit } ≡ refusedOpening number
-unfolding opening openedBy openingConditions lowest wrongSize unrefused
+unfolding opening openedBy openingConditions firstOf wrongSize unrefused
 opening-none keys o number e = rw e

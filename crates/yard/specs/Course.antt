@@ -14,7 +14,7 @@ use Rattle.protocol.specs.Refusals.{Checks}
 use Rattle.protocol.specs.Calls.{outAfter}
 use Rattle.protocol.specs.declared.Record.{Record}
 use Rattle.protocol.specs.declared.Opened.{Opened}
-use Rattle.phases.specs.Records.{or-false}
+use Rattle.steps.specs.Records.{or-false}
 use Rattle.yard.specs.Commands.{Outcome, isOpening, keysOf, openingLength, misframedOpening, refusedOpening, opened, yardOut, begun, callLength, misframedCall, endedBy, turn}
 use Rattle.yard.specs.Yard.{printed, yard}
 use Rattle.yard.specs.TurnLaws.{call-whole}

@@ -16,7 +16,7 @@ use Rattle.protocol.specs.Refusals.{Checks}
 use Rattle.protocol.specs.Calls.{outAfter, submit, step, answer}
 use Rattle.protocol.specs.declared.Record.{Record}
 use Rattle.protocol.specs.declared.Stepped.{Stepped}
-use Rattle.phases.specs.Records.{or-false}
+use Rattle.steps.specs.Records.{or-false}
 use Rattle.protocol.specs.declared.Opened.{Opened}
 use Rattle.yard.specs.Line.{line, inSpace, Fits}
 use Rattle.yard.specs.Commands.{Outcome, lineFor, told, opened, begun, isMessage, isSubmit, callLength, misframedCall, toldCall, turn}

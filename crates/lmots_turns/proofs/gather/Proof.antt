@@ -5,7 +5,7 @@ use native.Mathlib.Omega.{arith}
 use denote.Ref.{now}
 use lib.ListN.{length, getD}
 use Rattle.octets.specs.Octets.{part, bytes}
-use Rattle.lanes.specs.Rows.{column}
+use Rattle.sha256_lanes.specs.Rows.{column}
 use Rattle.lmots_turns.specs.TurnLaws.{gather-turn}
 use Rattle.lmots_turns.proofs.gather.Statement.{statement}
 use Rattle.lmots_turns.proofs.gather.Tie as tie

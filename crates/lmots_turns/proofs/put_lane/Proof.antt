@@ -5,7 +5,7 @@ use native.Mathlib.Omega.{arith}
 use borrow.Author.Needs.{needs}
 use denote.Ref.{now}
 use lib.ListN.{length, getD, length-set}
-use Rattle.lanes.specs.Rows.{column}
+use Rattle.sha256_lanes.specs.Rows.{column}
 use Rattle.lmots_turns.specs.TurnLaws.{lane-turn, lane-others, lane-done}
 use Rattle.lmots_turns.proofs.put_lane.Statement.{statement}
 use Rattle.lmots_turns.proofs.put_lane.Tie as tie

@@ -2,7 +2,7 @@
 use mathlib.Core.Path.{_≡_, sym, _∙_}
 use mathlib.Core.Bool.{true, false, not}
 use denote.Ref.{now}
-use Rattle.refusal.specs.Refusal.{lowest}
+use Rattle.refusal.specs.Refusal.{firstOf}
 use Rattle.protocol.specs.Message.{read}
 use Rattle.protocol.specs.Refusals.{otherRound, stranger, disorder, formConditions}
 use borrow.Author.Needs.{needs}
@@ -10,7 +10,7 @@ use Rattle.validate.proofs.form_refusal.Statement.{statement}
 use Rattle.validate.proofs.form_refusal.Tie as tie
 
 returns : tie.Need-returns
-unfolding formConditions lowest
+unfolding formConditions firstOf
 returns c =
     let args = c .before .before .args in
     let m = read (args .n) (now (args .m)) in
@@ -21,7 +21,7 @@ other-round-requires : tie.Need-other-round-requires
 other-round-requires c κs = search needs
 
 returns-2 : tie.Need-returns-2
-unfolding formConditions lowest
+unfolding formConditions firstOf
 returns-2 c =
     let args = c .before .before .before .before .args in
     let m = read (args .n) (now (args .m)) in
@@ -33,7 +33,7 @@ is-stranger-requires : tie.Need-is-stranger-requires
 is-stranger-requires c κs = search needs
 
 returns-3 : tie.Need-returns-3
-unfolding formConditions lowest
+unfolding formConditions firstOf
 returns-3 c =
     let args = c .before .before .before .before .before .before .args in
     let m = read (args .n) (now (args .m)) in
@@ -46,7 +46,7 @@ is-disordered-requires : tie.Need-is-disordered-requires
 is-disordered-requires c κs = search needs
 
 returns-4 : tie.Need-returns-4
-unfolding formConditions lowest
+unfolding formConditions firstOf
 returns-4 c =
     let args = c .before .before .before .before .before .before .before .before .args in
     let m = read (args .n) (now (args .m)) in
@@ -57,7 +57,7 @@ returns-4 c =
     rw (t0, t1, t2, t3)
 
 returns-5 : tie.Need-returns-5
-unfolding formConditions lowest
+unfolding formConditions firstOf
 returns-5 c =
     let args = c .before .before .before .before .before .before .before .before .args in
     let m = read (args .n) (now (args .m)) in

@@ -2,7 +2,7 @@
 use mathlib.Core.Path.{_≡_, sym, _∙_}
 use mathlib.Core.Bool.{true, false}
 use denote.Ref.{now}
-use Rattle.refusal.specs.Refusal.{lowest}
+use Rattle.refusal.specs.Refusal.{firstOf}
 use Rattle.protocol.specs.Record.{wrongSize, wrongSeat, wrongRound}
 use Rattle.protocol.specs.Refusals.{wrongKeys, openingConditions}
 use Rattle.fleet.specs.Laws.{size-most}
@@ -14,7 +14,7 @@ wrong-size-requires : tie.Need-wrong-size-requires
 wrong-size-requires c κs = search needs
 
 returns : tie.Need-returns
-unfolding openingConditions lowest
+unfolding openingConditions firstOf
 returns c =
     let args = c .before .before .before .args in
     let t0 : wrongSize (args .n) ≡ true = sym (c .before .wrong-size .ensures) ∙ c .if1 .taken in
@@ -24,7 +24,7 @@ wrong-seat-requires : tie.Need-wrong-seat-requires
 wrong-seat-requires c κs = search needs
 
 returns-2 : tie.Need-returns-2
-unfolding openingConditions lowest
+unfolding openingConditions firstOf
 returns-2 c =
     let args = c .before .before .before .before .before .args in
     let t0 : wrongSize (args .n) ≡ false = sym (c .before .before .before .wrong-size .ensures) ∙ c .before .before .if1 .left in
@@ -35,7 +35,7 @@ wrong-round-requires : tie.Need-wrong-round-requires
 wrong-round-requires c κs = search needs
 
 returns-3 : tie.Need-returns-3
-unfolding openingConditions lowest
+unfolding openingConditions firstOf
 returns-3 c =
     let args = c .before .before .before .before .before .before .before .args in
     let t0 : wrongSize (args .n) ≡ false = sym (c .before .before .before .before .before .wrong-size .ensures) ∙ c .before .before .before .before .if1 .left in
@@ -50,7 +50,7 @@ wrong-keys-requires c κs =
     size-most (sized .before .before .before .args .n) right
 
 returns-4 : tie.Need-returns-4
-unfolding openingConditions lowest
+unfolding openingConditions firstOf
 returns-4 c =
     let args = c .before .before .before .before .before .before .before .before .before .args in
     let t0 : wrongSize (args .n) ≡ false = sym (c .before .before .before .before .before .before .before .wrong-size .ensures) ∙ c .before .before .before .before .before .before .if1 .left in
@@ -60,7 +60,7 @@ returns-4 c =
     rw (t0, t1, t2, t3)
 
 returns-5 : tie.Need-returns-5
-unfolding openingConditions lowest
+unfolding openingConditions firstOf
 returns-5 c =
     let args = c .before .before .before .before .before .before .before .before .before .args in
     let t0 : wrongSize (args .n) ≡ false = sym (c .before .before .before .before .before .before .before .wrong-size .ensures) ∙ c .before .before .before .before .before .before .if1 .left in

@@ -1,6 +1,6 @@
 -- `confirmer::record::is_impossible` meets its contract.
 use mathlib.Core.Path.{sym, _∙_}
-use Rattle.phases.specs.Records.{in-range}
+use Rattle.steps.specs.Records.{in-range}
 use Rattle.confirmer.specs.Impossible.{impossible-range, impossible-parts}
 use borrow.Author.Needs.{needs}
 use Rattle.confirmer.proofs.record.is_impossible.Statement.{statement}

@@ -2,11 +2,11 @@
 use mathlib.Core.Path.{_≡_, sym, _∙_}
 use mathlib.Core.Bool.{true, false}
 use denote.Ref.{now}
-use Rattle.refusal.specs.Refusal.{lowest}
+use Rattle.refusal.specs.Refusal.{firstOf}
 use Rattle.protocol.specs.Layout.{outLength}
 use Rattle.protocol.specs.Record.{impossible}
 use Rattle.protocol.specs.Refusals.{wrongKeys, shortStore, shortOut, recordConditions}
-use Rattle.phases.specs.Possible.{possible}
+use Rattle.steps.specs.Possible.{possible}
 use borrow.Author.Needs.{needs}
 use Rattle.confirmer.proofs.refusals.record_refusal.Statement.{statement}
 use Rattle.confirmer.proofs.refusals.record_refusal.Tie as tie
@@ -15,7 +15,7 @@ is-impossible-requires : tie.Need-is-impossible-requires
 is-impossible-requires c κs = search needs
 
 returns : tie.Need-returns
-unfolding recordConditions lowest
+unfolding recordConditions firstOf
 returns c =
     let args = c .before .before .before .before .before .args in
     let t0 : impossible (args .r) ≡ true = sym (c .before .is-impossible .ensures) ∙ c .if1 .taken in
@@ -28,7 +28,7 @@ wrong-keys-requires c κs =
     possible (args .r) sound .range .most
 
 returns-2 : tie.Need-returns-2
-unfolding recordConditions lowest
+unfolding recordConditions firstOf
 returns-2 c =
     let args = c .before .before .before .before .before .before .before .args in
     let t0 : impossible (args .r) ≡ false = sym (c .before .before .before .is-impossible .ensures) ∙ c .before .before .if1 .left in
@@ -42,7 +42,7 @@ short-store-requires c κs =
     possible (args .r) sound .range .most
 
 returns-3 : tie.Need-returns-3
-unfolding recordConditions lowest
+unfolding recordConditions firstOf
 returns-3 c =
     let args = c .before .before .before .before .before .before .before .before .before .args in
     let t0 : impossible (args .r) ≡ false = sym (c .before .before .before .before .before .is-impossible .ensures) ∙ c .before .before .before .before .if1 .left in
@@ -57,7 +57,7 @@ short-out-requires c κs =
     (possible (args .r) sound .range .some, possible (args .r) sound .range .most)
 
 returns-4 : tie.Need-returns-4
-unfolding recordConditions lowest
+unfolding recordConditions firstOf
 returns-4 c =
     let args = c .before .before .before .before .before .before .before .before .before .before .before .args in
     let t0 : impossible (args .r) ≡ false = sym (c .before .before .before .before .before .before .before .is-impossible .ensures) ∙ c .before .before .before .before .before .before .if1 .left in
@@ -67,7 +67,7 @@ returns-4 c =
     rw (t0, t1, t2, t3)
 
 returns-5 : tie.Need-returns-5
-unfolding recordConditions lowest
+unfolding recordConditions firstOf
 returns-5 c =
     let args = c .before .before .before .before .before .before .before .before .before .before .before .args in
     let t0 : impossible (args .r) ≡ false = sym (c .before .before .before .before .before .before .before .is-impossible .ensures) ∙ c .before .before .before .before .before .before .if1 .left in

@@ -2,7 +2,7 @@
 use mathlib.Core.Path.{_≡_, sym, _∙_}
 use Prim.Native.Nat.{ℕ}
 use denote.Ref.{now}
-use Rattle.refusal.specs.Refusal.{lowest}
+use Rattle.refusal.specs.Refusal.{firstOf}
 use Rattle.protocol.specs.Signatures.{checks}
 use Rattle.protocol.specs.Message.{Message, read}
 use Rattle.protocol.specs.Refusals.{Checks, certificateConditions}
@@ -30,7 +30,7 @@ module _ (start : tie.Start) where
 
   -- nothing is turned back of a certificate
   abbrev Right : Message → Type 0
-  Right m = lowest (certificateConditions check n round m) ≡ 0
+  Right m = firstOf (certificateConditions check n round m) ≡ 0
 
 -- once the first has passed
 abbrev started : tie.Else1 → tie.Start

@@ -3,7 +3,7 @@ use mathlib.Core.Path.{_≡_}
 use Prim.Native.Nat.{ℕ, _-_, _<_, _≤_}
 use native.Mathlib.Omega.{arith}
 use lib.ListN.{length}
-use Rattle.lanes.specs.Rows.{column}
+use Rattle.sha256_lanes.specs.Rows.{column}
 use Rattle.lmots.specs.LeafLaws.{filled-turn}
 use Rattle.lmots.proofs.leaves.put_all.Statement.{statement}
 use Rattle.lmots.proofs.leaves.put_all.Tie as tie

@@ -5,7 +5,7 @@ use Prim.Native.Nat.{ℕ}
 use lib.ListN.{length, getD}
 use mir.Syntax.{w32}
 use mir.Val.{Fits}
-use Rattle.lanes.specs.Rows.{Common}
+use Rattle.sha256_lanes.specs.Rows.{Common}
 use Rattle.lmots_chains.specs.SixteenLaws.{unnumbered, no-place, ready-by}
 use borrow.Author.Needs.{needs}
 use Rattle.lmots_chains.proofs.sixteen.prepare.Statement.{statement}

@@ -29,8 +29,8 @@ signature-of-requires c κs =
     let has = c .before .before .has in
     (start .pre .0, omega arith, test-in (at-loop .loop .s) (start .args .source .seats) (has .result) (has .ensures) (c .before .if1 .taken), start .pre .2)
 
-keep-requires : tie.Need-keep-requires Inv-loop μ-loop
-keep-requires c κs =
+fill-requires : tie.Need-fill-requires Inv-loop μ-loop
+fill-requires c κs =
     let start = c .before .before .before .before .before .before .before .before in
     (start .pre .0, omega arith, omega arith, omega (arith, start .pre .1), c .signature-of .ensures .1)
 
@@ -74,7 +74,7 @@ hold-spec =
     loop-holds
     has-requires
     signature-of-requires
-    keep-requires
+    fill-requires
     add-s
     loop-less
     loop-again

@@ -2,7 +2,7 @@
 use borrow.Author.Needs.{needs}
 use Rattle.protocol.specs.Layout.{signatureLength}
 use Rattle.protocol.specs.Message.{readSignature}
-use Rattle.protocol.specs.Certificate.{slot, keep}
+use Rattle.protocol.specs.Certificate.{slot, fill}
 use Rattle.wire.proofs.held.hold_collected.Statement.{statement}
 use Rattle.wire.proofs.held.hold_collected.Tie as tie
 
@@ -12,18 +12,18 @@ slot-at-requires c κs = search needs
 signature-copy-requires : tie.Need-signature-copy-requires
 signature-copy-requires c κs = search needs
 
-slice-aggregate-keep : tie.Need-slice-aggregate-keep
-slice-aggregate-keep c = search needs
+slice-aggregate-fill : tie.Need-slice-aggregate-fill
+slice-aggregate-fill c = search needs
 
-keep-requires : tie.Need-keep-requires
+fill-requires : tie.Need-fill-requires
 unfolding signatureLength
-keep-requires c κs = search needs
+fill-requires c κs = search needs
 
 same-length : tie.Need-same-length
 same-length c = search needs
 
 returns : tie.Need-returns
-unfolding slot keep readSignature
+unfolding slot fill readSignature
 returns c = cc
 
 pub hold-collected-spec : {M : Type 1} → statement M
@@ -32,7 +32,7 @@ hold-collected-spec =
     (tie.spec
     slot-at-requires
     signature-copy-requires
-    slice-aggregate-keep
-    keep-requires
+    slice-aggregate-fill
+    fill-requires
     same-length
     returns)

@@ -1,0 +1,52 @@
+-- `sha256_lanes::begin` meets its contract.
+use denote.Ref.{now}
+use Rattle.sha256_lanes.specs.Laws.{common-by}
+use borrow.Author.Needs.{needs}
+use Rattle.sha256_lanes.proofs.begin.Statement.{statement}
+use Rattle.sha256_lanes.proofs.begin.Tie as tie
+
+shares-requires : tie.Need-shares-requires
+shares-requires c κs = search needs
+
+start-requires : tie.Need-start-requires
+start-requires c κs = search needs
+
+rounds-requires : tie.Need-rounds-requires
+rounds-requires c κs = search needs
+
+rounds-requires-2 : tie.Need-rounds-requires-2
+rounds-requires-2 c κs = search needs
+
+keep-requires : tie.Need-keep-requires
+keep-requires c κs = search needs
+
+returns : tie.Need-returns
+returns c =
+    let kept = c .keep .ensures in
+    let six = c .before .before .before .rounds2 in
+    let five = c .before .before .before .before .before .rounds in
+    let started = c .before .before .before .before .before .before .before .start in
+    let shared = c .before .before .before .before .before .before .before .before .before .shares in
+    let start = c .before .before .before .before .before .before .before .before .before .before .before in
+    let args = start .args in
+    let x = shared .last .1 .0 in
+    let y = c .keep .last .1 .0 in
+    let s = started .last .1 .0 in
+    let u = five .last .1 .1 .0 in
+    let r = six .last .1 .1 .0 in (
+      kept .0 .0,
+      six .ensures .0 .0,
+      common-by (args .h) (now (args .w)) x y s u r (shared .ensures .1) (start .pre .4) (started .ensures .1) (five .ensures .0 .1) (five .ensures .1)
+          (six .ensures .0 .1) (six .ensures .1) (kept .0 .1) (kept .1),
+    )
+
+pub begin-spec : {M : Type 1} → statement M
+begin-spec =
+    tie.close
+    (tie.spec
+    shares-requires
+    start-requires
+    rounds-requires
+    rounds-requires-2
+    keep-requires
+    returns)

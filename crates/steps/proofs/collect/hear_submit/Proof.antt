@@ -1,0 +1,32 @@
+-- `steps::collect::hear_submit` meets its contract.
+use mathlib.Core.Path.{sym, _∙_}
+use denote.Ref.{now}
+use Rattle.steps.specs.Collecting.{wanted, unwanted}
+use borrow.Author.Needs.{needs}
+use Rattle.steps.proofs.collect.hear_submit.Statement.{statement}
+use Rattle.steps.proofs.collect.hear_submit.Tie as tie
+
+is-wanted-requires : tie.Need-is-wanted-requires
+is-wanted-requires c κs = search needs
+
+collect-requires : tie.Need-collect-requires
+collect-requires c κs = search needs
+
+same-length : tie.Need-same-length
+same-length c = search needs
+
+returns : tie.Need-returns
+returns c =
+    let args = c .before .before .before .before .before .before .before .before .args in
+    let done = c .before .before .collect in
+    let chosen = c .before .before .before .before in
+    wanted (args .r) (now (args .store)) (args .seat) (args .value) (now (args .signature)) (done .result) (done .last .1 .0) (sym (chosen .before .is-wanted .ensures) ∙ chosen .if1 .taken) (done .ensures)
+
+returns-2 : tie.Need-returns-2
+returns-2 c =
+    let args = c .before .before .before .before .args in
+    unwanted (args .r) (now (args .store)) (args .seat) (args .value) (now (args .signature)) (sym (c .before .is-wanted .ensures) ∙ c .if1 .left)
+
+pub hear-submit-spec : {M : Type 1} → statement M
+hear-submit-spec =
+    tie.close (tie.spec is-wanted-requires collect-requires same-length returns returns-2)

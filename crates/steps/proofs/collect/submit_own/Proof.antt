@@ -1,0 +1,54 @@
+-- `steps::collect::submit_own` meets its contract.
+use native.Mathlib.Omega.{arith}
+use denote.Ref.{now}
+use Rattle.steps.specs.Collecting.{kept-fits, own-submitted}
+use borrow.Author.Needs.{needs}
+use Rattle.steps.proofs.collect.submit_own.Statement.{statement}
+use Rattle.steps.proofs.collect.submit_own.Tie as tie
+
+value-at-requires : tie.Need-value-at-requires
+value-at-requires c κs = search needs
+
+set-value-requires : tie.Need-set-value-requires
+set-value-requires c κs = search needs
+
+collect-requires : tie.Need-collect-requires
+collect-requires c κs =
+    let start = c .before .before .before .before .before .before .before in
+    let kept = c .before .set-value in
+    let fits = kept-fits (start .args .r) (c .before .before .value-at .result) (kept .result) (kept .ensures) (now (start .args .store)) (start .pre .0) in
+    (fits .0, fits .1, start .pre .2)
+
+write-submit-requires : tie.Need-write-submit-requires
+write-submit-requires c κs = search needs
+
+same-length : tie.Need-same-length
+same-length c = search needs
+
+same-length-2 : tie.Need-same-length-2
+same-length-2 c = search needs
+
+returns : tie.Need-returns
+returns c =
+    let start = c .before .before .before .before .before .before .before .before .before .before .before .before .before .before in
+    let args = start .args in
+    let wrote = c .before .before .write-submit in
+    let gathered = c .before .before .before .before .before .before .collect in
+    let kept = c .before .before .before .before .before .before .before .before .set-value in
+    let read = c .before .before .before .before .before .before .before .before .before .value-at in (
+      own-submitted (args .r) (read .result) (kept .result) (kept .ensures) (now (args .value)) (now (args .signature)) (now (args .store)) (now (args .out)) (start .pre .1) (read .ensures)
+          (gathered .result) (gathered .last .1 .0) (wrote .last .0) (wrote .result) (gathered .ensures) (wrote .ensures .0),
+      omega (arith, wrote .ensures .1),
+    )
+
+pub submit-own-spec : {M : Type 1} → statement M
+submit-own-spec =
+    tie.close
+    (tie.spec
+    value-at-requires
+    set-value-requires
+    collect-requires
+    write-submit-requires
+    same-length
+    same-length-2
+    returns)

@@ -1,0 +1,36 @@
+-- `steps::confirm::confirm` meets its contract.
+use Rattle.steps.specs.Phases.{saying}
+use Rattle.protocol.specs.Step.{confirm, write}
+use Rattle.protocol.specs.Message.{Notice}
+use Rattle.protocol.specs.Record.{withConfirmed}
+use mathlib.Core.Path.{refl}
+use denote.Ref.{now}
+use borrow.Author.Needs.{needs}
+use Rattle.steps.proofs.confirm.confirm.Statement.{statement}
+use Rattle.steps.proofs.confirm.confirm.Tie as tie
+
+slice-aggregate-write-notice : tie.Need-slice-aggregate-write-notice
+slice-aggregate-write-notice c = search needs
+
+write-notice-requires : tie.Need-write-notice-requires
+write-notice-requires c κs = search needs
+
+same-length : tie.Need-same-length
+same-length c = search needs
+
+returns : tie.Need-returns
+unfolding confirm write
+returns c =
+    let start = c .before .before .before .before .before .before .before in
+    let args = start .args in
+    let r = args .r in
+    let wrote = c .before .before .write-notice in (
+      λ store.
+          saying confirm r store (Notice (r .round) (r .seat) (r .own .value)) (now (args .out)) (args .at) (withConfirmed r) store (wrote .last .0) (wrote .result) refl
+          (record { recorded = refl; stored = refl }) (wrote .ensures .0),
+      wrote .ensures .1,
+    )
+
+pub confirm-spec : {M : Type 1} → statement M
+confirm-spec =
+    tie.close (tie.spec slice-aggregate-write-notice write-notice-requires same-length returns)

@@ -1,0 +1,36 @@
+-- `steps::reply::reply` meets its contract.
+use mathlib.Core.Path.{sym, _∙_}
+use native.Mathlib.Omega.{arith}
+use denote.Ref.{now}
+use Rattle.steps.specs.Certificates.{replied, silent}
+use borrow.Author.Needs.{needs}
+use Rattle.steps.proofs.reply.reply.Statement.{statement}
+use Rattle.steps.proofs.reply.reply.Tie as tie
+
+owes-full-requires : tie.Need-owes-full-requires
+owes-full-requires c κs = search needs
+
+send-full-requires : tie.Need-send-full-requires
+send-full-requires c κs = search needs
+
+same-length : tie.Need-same-length
+same-length c = search needs
+
+returns : tie.Need-returns
+returns c =
+    let start = c .before .before .before .before .before .before .before .before in
+    let sent = c .before .before .send-full in
+    let owed = sym (c .before .before .before .before .before .owes-full .ensures) ∙ c .before .before .before .before .if1 .taken in (
+      replied (start .args .r) (now (start .args .store)) (now (start .args .out)) (start .args .at) (sent .result .unit) (now (start .args .store)) (sent .last .1 .1 .0) (sent .result .at) owed (sent .ensures .0),
+      sent .ensures .1,
+    )
+
+returns-2 : tie.Need-returns-2
+returns-2 c =
+    let start = c .before .before .before .before in
+    let owed = sym (c .before .owes-full .ensures) ∙ c .if1 .left in
+    (silent (start .args .r) (now (start .args .store)) (now (start .args .out)) (start .args .at) owed, omega arith)
+
+pub reply-spec : {M : Type 1} → statement M
+reply-spec =
+    tie.close (tie.spec owes-full-requires send-full-requires same-length returns returns-2)

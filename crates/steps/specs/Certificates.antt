@@ -1,0 +1,170 @@
+-- The returns of replying, holding and blaming, over plain values.
+use mathlib.Core.Path.{_≡_, refl, subst, _∙_}
+use mathlib.Core.Bool.{Bool, true, false, cond, not, _&&_, false≢true}
+use mathlib.Core.List.{List}
+use Prim.Native.Nat.{ℕ, _+_, _^_, _≤_, _<_}
+use native.Mathlib.Omega.{arith}
+use lib.Dec.{eqb}
+use lib.ListN.{length}
+use borrow.Author.Tests.{eq-eqb, ne-eqb}
+use Rattle.octets.specs.Strings.{same}
+use Rattle.quorum.specs.Quorum.{k, size, shared}
+use Rattle.quorum.specs.Laws.{size-shared-le}
+use Rattle.protocol.specs.Layout.{collectedBank, firstBank, storeLength, fullEntryLength, fullEntryAt, fullLength, evidenceEntryLength, evidenceEntryAt, evidenceLength}
+use Rattle.protocol.specs.Message.{render}
+use Rattle.protocol.specs.Calls.{start}
+use Rattle.protocol.specs.Certificate.{Certificate, ownCertificate, firstCertificate, fullOf, evidenceOf}
+use Rattle.protocol.specs.Record.{withNotices, withSent, withGuilty, holds}
+use Rattle.protocol.specs.Step.{write, noticesWith, hear, owesFull, sendFull, reply, hold, blame, blames, holdOrBlame, hearCertificate, hearOwn}
+use Rattle.protocol.specs.StepLaws.{reply-after, holdOrBlame-after}
+use Rattle.protocol.specs.declared.Notices.{Notices}
+use Rattle.protocol.specs.declared.Record.{Record}
+use Rattle.wire.specs.Sources.{Readable, signatureFrom, certificateFrom}
+use Rattle.wire.specs.Writing.{Wrote}
+use Rattle.wire.specs.declared.sources.Source.{Source}
+use Rattle.steps.specs.Phases.{Changed, Did, Fits, fits-like, likewise, quietly, saying, next}
+
+-- ---- sources and room
+
+-- seats whose signatures are in a bank of the store
+abbrev pub inBank : ℕ → ℕ → Source
+inBank bank seats = record { full = false; bank = bank; seats = seats }
+
+pub readable-bank : (n bank seats : ℕ) (store : List ℕ) → bank < 2 → seats < 2 ^ n → storeLength n ≤ length store → Readable n (inBank bank seats) store
+readable-bank n bank seats store b s l = record { inside = s; entries = λ e. absurd (false≢true e); slots = λ _. (b, l) }
+
+pub full-bound : (n size : ℕ) → size ≤ k n → fullEntryAt size ≤ fullLength n
+unfolding fullLength fullEntryAt fullEntryLength
+full-bound n size h = omega arith
+
+-- EVIDENCE has an entry for each seat that is in both, so at most k
+pub evidence-bound : (n a b : ℕ) → size a ≤ k n → evidenceLength (size (shared a b)) ≤ evidenceLength (k n)
+unfolding evidenceLength evidenceEntryAt evidenceEntryLength
+evidence-bound n a b h = omega (arith, size-shared-le a b)
+
+-- ---- messages written
+
+module _ (r : Record) (store out : List ℕ) (at : ℕ) (out′ : List ℕ) (end : ℕ) where
+  pub full-sent : Wrote at (render (fullOf (r .n) (r .round) (r .seat) (certificateFrom (r .n) (inBank collectedBank (r .own .collected)) (r .own .value) store))) out out′ end
+      → Did sendFull r store out at (withSent r) store out′ end
+  unfolding sendFull write ownCertificate signatureFrom
+  full-sent w =
+      saying sendFull r store (fullOf (r .n) (r .round) (r .seat) (ownCertificate r store)) out at (withSent r) store out′ end refl
+      (record { recorded = refl; stored = refl }) w
+
+  pub evidence-sent : (c : Certificate) (guilty : ℕ) → guilty ≡ shared (r .first .seats) (c .seats)
+      → Wrote at (render (evidenceOf (r .n) (r .round) (certificateFrom (r .n) (inBank firstBank (r .first .seats)) (r .first .value) store) c)) out out′ end
+      → Did (blame c) r store out at (withGuilty r guilty) store out′ end
+  unfolding blame write firstCertificate signatureFrom
+  evidence-sent c guilty e w =
+      saying (blame c) r store (evidenceOf (r .n) (r .round) (firstCertificate r store) c) out at (withGuilty r guilty) store out′ end refl
+      (record { recorded = rw e; stored = refl }) w
+
+-- ---- one way or the other
+
+module _ (r : Record) (store out : List ℕ) (at : ℕ) where
+  nothing-done : Did (λ s. s) r store out at r store out at
+  nothing-done = quietly (λ s. s) r store out at r store refl (record { recorded = refl; stored = refl })
+
+  pub replied : (unit : Record) (store′ out′ : List ℕ) (end : ℕ) → owesFull r ≡ true → Did sendFull r store out at unit store′ out′ end → Did reply r store out at unit store′ out′ end
+  unfolding reply
+  replied unit store′ out′ end e d = likewise sendFull r store reply out at unit store′ out′ end (rw e) d
+
+  pub silent : owesFull r ≡ false → Did reply r store out at r store out at
+  unfolding reply
+  silent e = likewise (λ s. s) r store reply out at r store out at (rw e) nothing-done
+
+  module _ (c : Certificate) where
+    pub first-held : (unit : Record) (store′ : List ℕ) → r .first .seats ≡ 0 → Changed (hold c) r store unit store′ → Did (holdOrBlame c) r store out at unit store′ out at
+    unfolding holdOrBlame holds hold
+    first-held unit store′ e h =
+        likewise (hold c) r store (holdOrBlame c) out at unit store′ out at (rw (eq-eqb (r .first .seats) 0 e)) (quietly (hold c) r store out at unit store′ refl h)
+
+    module _ (some : r .first .seats ≡ 0 → ⊥) (b : Bool) (tested : b ≡ (not (same (c .value) (r .first .value)) && eqb (r .guilty) 0)) where
+      pub blamed : (unit : Record) (store′ out′ : List ℕ) (end : ℕ) → b ≡ true → Did (blame c) r store out at unit store′ out′ end → Did (holdOrBlame c) r store out at unit store′ out′ end
+      unfolding holdOrBlame holds blames
+      blamed unit store′ out′ end e d =
+          likewise (blame c) r store (holdOrBlame c) out at unit store′ out′ end (rw (ne-eqb (r .first .seats) 0 some, ← tested, e)) d
+
+      pub not-blamed : b ≡ false → Did (holdOrBlame c) r store out at r store out at
+      unfolding holdOrBlame holds blames
+      not-blamed e = likewise (λ s. s) r store (holdOrBlame c) out at r store out at (rw (ne-eqb (r .first .seats) 0 some, ← tested, e)) nothing-done
+
+-- ---- hearing and replying
+
+reply-leaves : (r : Record) (store : List ℕ) → reply (start r store) .unit ≡ cond (owesFull r) (withSent r) r
+unfolding reply sendFull write
+reply-leaves r store = go (owesFull r)
+  where
+    go : (b : Bool) → cond b (sendFull (start r store)) (start r store) .unit ≡ cond b (withSent r) r
+    go true = refl
+    go false = refl
+
+-- n, seat, what is collected and what is held are as they were
+record Alike (r u : Record) : Type 0 where
+  n : u .n ≡ r .n
+  seat : u .seat ≡ r .seat
+  own : u .own ≡ r .own
+  first : u .first ≡ r .first
+
+fits-alike : (r u : Record) (store : List ℕ) → Alike r u → Fits r store → Fits u store
+fits-alike r u store a h = fits-like r u store store h (a .n) (a .seat) (rw (a .own)) (rw (a .first)) refl
+
+module _ (r : Record) (store : List ℕ) (notices : Notices) (u : Record) (heard : u ≡ withNotices r notices) where
+  heard-alike : Alike r u
+  heard-alike = record { n = rw heard; seat = rw heard; own = rw heard; first = rw heard }
+
+  pub heard-fits : Fits r store → Fits u store
+  heard-fits h = fits-alike r u store heard-alike h
+
+  pub heard-room : (at more L : ℕ) → at + fullLength (r .n) + more ≤ L → at + fullLength (u .n) ≤ L
+  heard-room at more L h = rw (heard-alike .n) (omega arith)
+
+  module _ (v : Record) (store′ : List ℕ) (done : Changed reply u store v store′) where
+    replied-alike : Alike r v
+    replied-alike = rw (done .recorded ∙ reply-leaves u store) (go (owesFull u))
+      where
+        go : (b : Bool) → Alike r (cond b (withSent u) u)
+        go true = record { n = heard-alike .n; seat = heard-alike .seat; own = heard-alike .own; first = heard-alike .first }
+        go false = heard-alike
+
+    pub replied-n : v .n ≡ r .n
+    replied-n = replied-alike .n
+
+    pub replied-fits : Fits r store → Fits v store
+    replied-fits h = fits-alike r v store replied-alike h
+
+    pub replied-own : ownCertificate v store ≡ ownCertificate r store
+    unfolding ownCertificate
+    replied-own = rw (replied-alike .n, replied-alike .own)
+
+    pub replied-room : (at a L : ℕ) → a ≤ at + fullLength (u .n) → at + fullLength (r .n) + evidenceLength (k (r .n)) ≤ L → a + evidenceLength (k (v .n)) ≤ L
+    replied-room at a L e h =
+        let f : a ≤ at + fullLength (r .n) = rw (heard-alike .n) at e in
+        rw replied-n (omega arith)
+
+-- a certificate heard, from its three phases
+module _ (r : Record) (store out : List ℕ) (at : ℕ) (room : at ≤ length out) (u v : Record) (out′ : List ℕ) (a : ℕ) (w : Record) (store″ out″ : List ℕ) (e : ℕ) where
+  certificate-heard : (c : Certificate) → u ≡ withNotices r (noticesWith (c .value) r) → Did reply u store out at v store out′ a → Did (holdOrBlame c) v store out′ a w store″ out″ e
+      → Did (hearCertificate c) r store out at w store″ out″ e
+  unfolding hearCertificate hear
+  certificate-heard c heard replied held =
+      let first = quietly (hear (c .value)) r store out at u store refl (record { recorded = heard; stored = refl }) in
+      let second = next (hear (c .value)) reply reply-after r store out at u store out at v store out′ a room first replied in
+      next (λ s. reply (hear (c .value) s)) (holdOrBlame c) (holdOrBlame-after c) r store out at v store out′ a w store″ out″ e room second held
+
+  pub own-heard : u ≡ withNotices r (noticesWith (r .own .value) r) → Did reply u store out at v store out′ a → Did (holdOrBlame (ownCertificate v store)) v store out′ a w store″ out″ e
+      → Did hearOwn r store out at w store″ out″ e
+  unfolding hearOwn ownCertificate
+  own-heard heard replied held =
+      let same = replied-own r store (noticesWith (r .own .value) r) u heard v store (replied .kept) in
+      likewise (hearCertificate (ownCertificate r store)) r store hearOwn out at w store″ out″ e refl
+      (certificate-heard (ownCertificate r store) heard replied (rw same at held))
+
+  pub source-heard : (source : Source) (value m : List ℕ) → u ≡ withNotices r (noticesWith value r) → Did reply u store out at v store out′ a
+      → Did (holdOrBlame (certificateFrom (v .n) source value m)) v store out′ a w store″ out″ e
+      → Did (hearCertificate (certificateFrom (r .n) source value m)) r store out at w store″ out″ e
+  source-heard source value m heard replied held =
+      let same = replied-n r store (noticesWith value r) u heard v store (replied .kept) in
+      certificate-heard (certificateFrom (r .n) source value m) heard replied
+      (subst (λ (n : ℕ). Did (holdOrBlame (certificateFrom n source value m)) v store out′ a w store″ out″ e) same held)

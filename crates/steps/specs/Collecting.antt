@@ -1,0 +1,113 @@
+-- The returns of collecting, over plain values, and the room that a collected signature leaves.
+use mathlib.Core.Path.{_≡_, refl, sym, _∙_}
+use mathlib.Core.Bool.{Bool, true, false, cond, not, _&&_, and-eq-true-iff, false≢true}
+use mathlib.Core.List.{List, []}
+use Prim.Native.Nat.{ℕ, _+_, _≤_, _<_}
+use native.Mathlib.Omega.{arith}
+use native.Mathlib.Decide.{ℕ-discrete}
+use lib.ListN.{length}
+use borrow.Author.Tests.{not-true}
+use Rattle.octets.specs.Strings.{same}
+use Rattle.octets.specs.StringLaws.{part-all}
+use Rattle.quorum.specs.Quorum.{t0, k, has, size, with}
+use Rattle.quorum.specs.Laws.{has-false, with-lt, size-with-new, bit-empty, size-empty}
+use Rattle.protocol.specs.Layout.{valueLength}
+use Rattle.protocol.specs.Message.{Submit, render, readValue}
+use Rattle.protocol.specs.Calls.{start}
+use Rattle.protocol.specs.Refusals.{said}
+use Rattle.protocol.specs.Step.{write, setValue, collect, submitOwn, isWanted, hearSubmit}
+use Rattle.protocol.specs.declared.Record.{Record}
+use Rattle.wire.specs.Writing.{Wrote}
+use Rattle.steps.specs.Phases.{Changed, Did, Fits, fits-like, likewise-kept, saying}
+use Rattle.steps.specs.Possible.{Possible}
+
+-- ---- submit
+
+module _ (r : Record) (value : List ℕ) (u : Record) (kept : u ≡ setValue value (start r []) .unit) where
+  pub kept-fits : (store : List ℕ) → Fits r store → Fits u store × (r .seat < u .n)
+  unfolding setValue
+  kept-fits store h = (fits-like r u store store h (rw kept) (rw kept) (rw kept) (rw kept) refl, rw kept (h .seated))
+
+  pub own-submitted : (given signature store out : List ℕ) → length given ≡ valueLength → value ≡ readValue 0 given
+      → (v : Record) (store′ out′ : List ℕ) (end : ℕ) → Changed (collect (r .seat) signature) u store v store′
+      → Wrote 0 (render (Submit (r .round) (r .seat) given signature)) out out′ end
+      → Did (submitOwn given signature) r store out 0 v store′ out′ end
+  unfolding submitOwn write collect setValue readValue
+  own-submitted given signature store out l e v store′ out′ end c w =
+      let whole : value ≡ given = e ∙ part-all given valueLength l in
+      saying (submitOwn given signature) r store (Submit (r .round) (r .seat) given signature) out 0 v store′ out′ end refl
+      (record { recorded = c .recorded ∙ rw (kept, whole); stored = c .stored ∙ rw kept }) w
+
+-- ---- SUBMIT heard
+
+module _ (r : Record) (store : List ℕ) (seat : ℕ) (value signature : List ℕ) where
+  pub wanted : (u : Record) (store′ : List ℕ) → isWanted seat value r ≡ true → Changed (collect seat signature) r store u store′ → Changed (hearSubmit seat value signature) r store u store′
+  unfolding hearSubmit
+  wanted u store′ e c = likewise-kept (collect seat signature) r store (hearSubmit seat value signature) u store′ (rw e) c
+
+  pub unwanted : isWanted seat value r ≡ false → Changed (hearSubmit seat value signature) r store r store
+  unfolding hearSubmit
+  unwanted e = record { recorded = rw e; stored = rw e }
+
+  pub hearSubmit-quiet : hearSubmit seat value signature (start r store) .written ≡ []
+  unfolding hearSubmit collect
+  hearSubmit-quiet = go (isWanted seat value r)
+    where
+      go : (b : Bool) → cond b (collect seat signature (start r store)) (start r store) .written ≡ []
+      go true = refl
+      go false = refl
+
+-- ---- room for one more
+
+fits-with : (r u : Record) (store store′ : List ℕ) (seat : ℕ) → Fits r store → seat < r .n → size (with seat (r .own .collected)) ≤ k (r .n)
+    → u .n ≡ r .n → u .seat ≡ r .seat → u .own .collected ≡ with seat (r .own .collected) → u .first .seats ≡ r .first .seats → length store′ ≡ length store → Fits u store′
+fits-with r u store store′ seat h l few n own collected first long =
+    record {
+      some = rw n (h .some);
+      most = rw n (h .most);
+      seated = rw (n, own) (h .seated);
+      collected = rw (n, collected) (with-lt (r .n) seat (r .own .collected) l (h .collected));
+      few = rw (n, collected) few;
+      first = rw (n, first) (h .first);
+      held = rw (n, first) (h .held);
+      slots = rw (n, long) (h .slots);
+    }
+
+k-some : (n : ℕ) → 1 ≤ n → 1 ≤ k n
+unfolding k t0
+k-some n h = omega arith
+
+-- before confirming there are less than k, and a seat that is wanted is new
+one-more : (r : Record) → Possible r → (seat : ℕ) (value : List ℕ) → isWanted seat value r ≡ true → size (with seat (r .own .collected)) ≤ k (r .n)
+unfolding isWanted
+one-more r possible seat value e =
+    let a = and-eq-true-iff (not (r .confirmed) && same value (r .own .value)) (not (has seat (r .own .collected))) .0 e in
+    let b = and-eq-true-iff (not (r .confirmed)) (same value (r .own .value)) .0 (a .0) in
+    let new = has-false seat (r .own .collected) .0 (not-true (has seat (r .own .collected)) (a .1)) in
+    go (not-true (r .confirmed) (b .0)) (size-with-new seat (r .own .collected) new) (ℕ-discrete (size (r .own .collected)) (k (r .n)))
+  where
+    go : r .confirmed ≡ false → size (with seat (r .own .collected)) ≡ size (r .own .collected) + 1 → Dec (size (r .own .collected) ≡ k (r .n)) → size (with seat (r .own .collected)) ≤ k (r .n)
+    go before more (yes full) = absurd (false≢true (sym before ∙ possible .complete full))
+    go before more (no short) = omega (arith, possible .few)
+
+module _ (r : Record) (possible : Possible r) (store : List ℕ) (fits : Fits r store) (u : Record) (store′ : List ℕ) (long : length store′ ≡ length store) where
+  -- nothing was collected before the submission
+  pub submitted-fits : (value signature : List ℕ) → said r ≡ false → Changed (submitOwn value signature) r store u store′ → Fits u store′ × (u .n ≡ r .n)
+  unfolding said submitOwn write collect setValue
+  submitted-fits value signature e done =
+      let none : r .own .collected ≡ 0 = possible .unsaid e in
+      let one : size (with (r .seat) (r .own .collected)) ≤ k (r .n) =
+      rw none (omega (arith, size-with-new (r .seat) 0 (bit-empty (r .seat)), size-empty, k-some (r .n) (fits .some))) in
+      (fits-with r u store store′ (r .seat) fits (fits .seated) one (rw (done .recorded)) (rw (done .recorded)) (rw (done .recorded)) (rw (done .recorded)) long, rw (done .recorded))
+
+  pub heard-submit-fits : (seat : ℕ) (value signature : List ℕ) → seat < r .n → Changed (hearSubmit seat value signature) r store u store′ → Fits u store′ × (u .n ≡ r .n)
+  unfolding hearSubmit collect
+  heard-submit-fits seat value signature l done = go (isWanted seat value r) refl
+    where
+      go : (b : Bool) → isWanted seat value r ≡ b → Fits u store′ × (u .n ≡ r .n)
+      go true e =
+          let same : u ≡ collect seat signature (start r store) .unit = done .recorded ∙ rw e in
+          (fits-with r u store store′ seat fits l (one-more r possible seat value e) (rw same) (rw same) (rw same) (rw same) long, rw same)
+      go false e =
+          let same : u ≡ r = done .recorded ∙ rw e in
+          (fits-like r u store store′ fits (rw same) (rw same) (rw same) (rw same) long, rw same)

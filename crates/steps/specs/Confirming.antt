@@ -1,0 +1,37 @@
+-- The returns of confirming, over plain values.
+use mathlib.Core.Path.{_≡_, refl}
+use mathlib.Core.Bool.{true, false}
+use mathlib.Core.List.{List}
+use Prim.Native.Nat.{ℕ, _+_, _≤_}
+use native.Mathlib.Omega.{arith}
+use lib.ListN.{length}
+use Rattle.quorum.specs.Quorum.{k}
+use Rattle.protocol.specs.Layout.{noticeLength, fullLength, evidenceLength}
+use Rattle.protocol.specs.Step.{write, confirm, reply, hearOwn, isComplete, confirmIfComplete}
+use Rattle.protocol.specs.StepLaws.{hearOwn-after}
+use Rattle.protocol.specs.declared.Record.{Record}
+use Rattle.steps.specs.Phases.{Changed, Did, Fits, fits-like, likewise, next}
+
+module _ (r : Record) (store : List ℕ) (u : Record) (done : Changed confirm r store u store) where
+  pub confirmed-fits : Fits r store → Fits u store
+  unfolding confirm write
+  confirmed-fits h = fits-like r u store store h (rw (done .recorded)) (rw (done .recorded)) (rw (done .recorded)) (rw (done .recorded)) refl
+
+  pub confirmed-room : (at a L : ℕ) → a ≡ at + noticeLength → at + noticeLength + fullLength (r .n) + evidenceLength (k (r .n)) ≤ L
+      → a + fullLength (u .n) + evidenceLength (k (u .n)) ≤ L
+  unfolding confirm write
+  confirmed-room at a L e h =
+      let n : u .n ≡ r .n = rw (done .recorded) in
+      rw n (omega arith)
+
+module _ (r : Record) (store out : List ℕ) (at : ℕ) (v : Record) (store″ out″ : List ℕ) (e : ℕ) where
+  pub completed : (u : Record) (out′ : List ℕ) (a : ℕ) → at ≤ length out → isComplete r ≡ true → Did confirm r store out at u store out′ a → Did hearOwn u store out′ a v store″ out″ e
+      → Did confirmIfComplete r store out at v store″ out″ e
+  unfolding confirmIfComplete
+  completed u out′ a room complete first second =
+      likewise (λ s. hearOwn (confirm s)) r store confirmIfComplete out at v store″ out″ e (rw complete)
+      (next confirm hearOwn hearOwn-after r store out at u store out′ a v store″ out″ e room first second)
+
+  pub incomplete : isComplete r ≡ false → Did reply r store out at v store″ out″ e → Did confirmIfComplete r store out at v store″ out″ e
+  unfolding confirmIfComplete
+  incomplete short d = likewise reply r store confirmIfComplete out at v store″ out″ e (rw short) d

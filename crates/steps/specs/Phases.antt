@@ -1,0 +1,91 @@
+-- What a phase of submit and step leaves, and how two in a row are one.
+use mathlib.Core.Path.{_≡_, sym, ap, _∙_}
+use mathlib.Core.List.{List, [], _∷_, append-nil}
+use Prim.Native.Nat.{ℕ, _^_, _≤_, _<_}
+use native.Mathlib.Nat.{add-zero}
+use lib.ListN.{length, take-append-drop}
+use Rattle.octets.specs.Octets.{patch}
+use Rattle.quorum.specs.Quorum.{mostSeats, k, size}
+use Rattle.protocol.specs.Layout.{storeLength}
+use Rattle.protocol.specs.Message.{Message, render, renderAll}
+use Rattle.protocol.specs.Calls.{start}
+use Rattle.protocol.specs.Step.{State}
+use Rattle.protocol.specs.StepLaws.{after}
+use Rattle.protocol.specs.Laws.{all-append}
+use Rattle.protocol.specs.declared.Record.{Record}
+use Rattle.wire.specs.Writing.{Wrote}
+use Rattle.wire.specs.WriteLaws.{then}
+
+-- the phase f leaves this record and this store
+pub record Changed (f : State → State) (r : Record) (store : List ℕ) (unit : Record) (store′ : List ℕ) : Type 0 where
+  pub recorded : unit ≡ f (start r store) .unit
+  pub stored : store′ ≡ f (start r store) .store
+
+-- and has written its messages from index `at` of out on, up to `end`
+pub record Did (f : State → State) (r : Record) (store out : List ℕ) (at : ℕ) (unit : Record) (store′ out′ : List ℕ) (end : ℕ) : Type 0 where
+  pub kept : Changed f r store unit store′
+  pub wrote : Wrote at (renderAll (f (start r store) .written)) out out′ end
+
+-- what every phase finds, and leaves: n and the seat are in range, the masks name seats below n, each of them at most k, and the
+-- store has a slot for every seat
+pub record Fits (r : Record) (store : List ℕ) : Type 0 where
+  pub some : 1 ≤ r .n
+  pub most : r .n ≤ mostSeats
+  pub seated : r .seat < r .n
+  pub collected : r .own .collected < 2 ^ r .n
+  pub few : size (r .own .collected) ≤ k (r .n)
+  pub first : r .first .seats < 2 ^ r .n
+  pub held : size (r .first .seats) ≤ k (r .n)
+  pub slots : storeLength (r .n) ≤ length store
+
+-- a record and a store that are alike in this
+pub fits-like : (r u : Record) (store store′ : List ℕ) → Fits r store → u .n ≡ r .n → u .seat ≡ r .seat → u .own .collected ≡ r .own .collected
+    → u .first .seats ≡ r .first .seats → length store′ ≡ length store → Fits u store′
+fits-like r u store store′ h n seat collected first long =
+    record {
+      some = rw n (h .some);
+      most = rw n (h .most);
+      seated = rw (n, seat) (h .seated);
+      collected = rw (n, collected) (h .collected);
+      few = rw (n, collected) (h .few);
+      first = rw (n, first) (h .first);
+      held = rw (n, first) (h .held);
+      slots = rw (n, long) (h .slots);
+    }
+
+module _ (f : State → State) (r : Record) (store : List ℕ) where
+  -- a phase that writes nothing
+  pub quietly : (out : List ℕ) (at : ℕ) (unit : Record) (store′ : List ℕ) → f (start r store) .written ≡ [] → Changed f r store unit store′ → Did f r store out at unit store′ out at
+  unfolding renderAll patch
+  quietly out at unit store′ e k = record { kept = k; wrote = rw e (record { ends = sym (add-zero at); wrote = rw add-zero (sym (take-append-drop at out)) }) }
+
+  -- a phase that does there what f does
+  pub likewise-kept : (g : State → State) (unit : Record) (store′ : List ℕ) → f (start r store) ≡ g (start r store) → Changed f r store unit store′ → Changed g r store unit store′
+  likewise-kept g unit store′ e k = record { recorded = k .recorded ∙ rw e; stored = k .stored ∙ rw e }
+
+  pub likewise : (g : State → State) (out : List ℕ) (at : ℕ) (unit : Record) (store′ out′ : List ℕ) (end : ℕ) → f (start r store) ≡ g (start r store)
+      → Did f r store out at unit store′ out′ end → Did g r store out at unit store′ out′ end
+  likewise g out at unit store′ out′ end e d =
+      record { kept = likewise-kept g unit store′ e (d .kept); wrote = rw (← e) (d .wrote) }
+
+  -- a phase that writes one message
+  pub saying : (m : Message) (out : List ℕ) (at : ℕ) (unit : Record) (store′ out′ : List ℕ) (end : ℕ) → f (start r store) .written ≡ m ∷ []
+      → Changed f r store unit store′ → Wrote at (render m) out out′ end → Did f r store out at unit store′ out′ end
+  unfolding renderAll
+  saying m out at unit store′ out′ end e k w = record { kept = k; wrote = rw (e, append-nil) w }
+
+-- one phase after another, where the second only adds to the messages
+pub next : (f g : State → State) → ((ms : List Message) (s : State) → g (after ms s) ≡ after ms (g s))
+    → (r : Record) (store out : List ℕ) (at : ℕ) (u : Record) (store′ out′ : List ℕ) (a : ℕ) (v : Record) (store″ out″ : List ℕ) (e : ℕ)
+    → at ≤ length out → Did f r store out at u store′ out′ a → Did g u store′ out′ a v store″ out″ e
+    → Did (λ s. g (f s)) r store out at v store″ out″ e
+next f g adds r store out at u store′ out′ a v store″ out″ e room d h =
+    let s = f (start r store) in
+    let t = g (start u store′) in
+    let whole : s ≡ after (s .written) (start (s .unit) (s .store)) = rw append-nil in
+    let same : start (s .unit) (s .store) ≡ start u store′ = rw (d .kept .recorded, d .kept .stored) in
+    let both : g s ≡ after (s .written) t = ap g whole ∙ adds (s .written) (start (s .unit) (s .store)) ∙ ap (λ (x : State). after (s .written) (g x)) same in
+    record {
+      kept = record { recorded = h .kept .recorded ∙ rw both; stored = h .kept .stored ∙ rw both };
+      wrote = rw (both, all-append) (then at a e (renderAll (s .written)) (renderAll (t .written)) out out′ out″ room (d .wrote) (h .wrote));
+    }

@@ -1,0 +1,127 @@
+-- Submit and the steps from their phases, over plain values.
+use mathlib.Core.Path.{_≡_, refl}
+use mathlib.Core.Bool.{true, false, and-eq-true-iff}
+use mathlib.Core.List.{List}
+use mathlib.Core.Logic.{_⊎_, ⊎-elim}
+use Prim.Native.Nat.{ℕ, _+_, _≤_, _<_}
+use native.Mathlib.Omega.{arith}
+use lib.Dec.{ltb, eqb}
+use lib.ListN.{length}
+use borrow.Author.Tests.{eqb-true, ltb-true, not-false}
+use Rattle.quorum.specs.Quorum.{k}
+use Rattle.protocol.specs.Layout.{signatureLength, submitLength, noticeLength, fullEntryLength, fullEntryAt, fullLength, evidenceEntryLength, evidenceEntryAt, evidenceLength, outLength}
+use Rattle.protocol.specs.Message.{byteAt, read, readSubmit, readNotice, readFull, readEvidence, readValue, readSignature, fitsSubmit, fitsNotice, fitsFull, seatsOf, entrySeats}
+use Rattle.protocol.specs.Certificate.{setOf}
+use Rattle.protocol.specs.Record.{withNotices}
+use Rattle.protocol.specs.Refusals.{stranger, disorder, every, isFull}
+use Rattle.protocol.specs.Step.{noticesWith, hear, reply, hearCertificate, submitOwn, hearSubmit, confirmIfComplete, submitted, stepped}
+use Rattle.protocol.specs.StepLaws.{reply-after, confirmIfComplete-after}
+use Rattle.protocol.specs.declared.Record.{Record}
+use Rattle.wire.specs.Reading.{kindOf}
+use Rattle.wire.specs.KindLaws.{read-as, tag}
+use Rattle.wire.specs.StoreLaws.{length-signature}
+use Rattle.wire.specs.Sources.{certificateFrom}
+use Rattle.wire.specs.SourceLaws.{inFull, full-length, full-certificate}
+use Rattle.wire.specs.declared.read.Kind.{Kind}
+use Rattle.wire.specs.declared.read.Kind.the-variants as kind
+use Rattle.steps.specs.Phases.{Changed, Did, likewise, quietly, next}
+use Rattle.steps.specs.Collecting.{hearSubmit-quiet}
+
+-- ---- room for all four messages
+
+pub all-fits : (n L : ℕ) → outLength n ≤ L → submitLength + noticeLength + fullLength n + evidenceLength (k n) ≤ L
+unfolding outLength submitLength noticeLength fullLength fullEntryAt fullEntryLength evidenceLength evidenceEntryAt evidenceEntryLength
+all-fits n L h = omega arith
+
+-- what is left of it after at most a SUBMIT
+pub rest-fits : (n m at L : ℕ) → m ≡ n → at ≤ submitLength → outLength n ≤ L → at + noticeLength + fullLength m + evidenceLength (k m) ≤ L
+rest-fits n m at L e h room = rw e (omega (arith, all-fits n L room))
+
+-- ---- what the message says
+
+module _ (n : ℕ) (m : List ℕ) where
+  module _ (e : kind.Submit ≡ kindOf (read n m)) where
+    is-submit : (read n m ≡ readSubmit m) × (fitsSubmit m ≡ true)
+    is-submit = read-as kind.Submit n m e
+
+    pub submit-length : length m ≡ 36 + signatureLength
+    unfolding fitsSubmit submitLength signatureLength
+    submit-length = eqb-true (length m) submitLength (and-eq-true-iff (eqb (length m) submitLength) (eqb (byteAt m 0) 0x01) .0 (is-submit .1) .0)
+
+    pub submit-signature : (g : List ℕ) → g ≡ readSignature 36 m → length g ≡ signatureLength
+    submit-signature g q = rw q (length-signature 36 m (omega (arith, submit-length)))
+
+    pub submit-seat : (s : ℕ) → s ≡ byteAt m 3 → stranger n (read n m) ≡ false → s < n
+    unfolding stranger seatsOf every readSubmit
+    submit-seat s q h =
+        let known = not-false _ (rw (is-submit .0) at h) in
+        rw q (ltb-true (byteAt m 3) n (and-eq-true-iff (ltb (byteAt m 3) n) true .0 known .0))
+
+  module _ (e : kind.Notice ≡ kindOf (read n m)) where
+    is-notice : (read n m ≡ readNotice m) × (fitsNotice m ≡ true)
+    is-notice = read-as kind.Notice n m e
+
+    pub notice-length : length m ≡ 36
+    unfolding fitsNotice noticeLength
+    notice-length = eqb-true (length m) noticeLength (and-eq-true-iff (eqb (length m) noticeLength) (eqb (byteAt m 0) 0x02) .0 (is-notice .1) .0)
+
+  module _ (e : kind.Full ≡ kindOf (read n m)) where
+    is-full : (read n m ≡ readFull n m) × (fitsFull n m ≡ true)
+    is-full = read-as kind.Full n m e
+
+    pub full-long : 36 ≤ length m
+    unfolding fullLength fullEntryAt
+    full-long = omega (arith, full-length n m (is-full .1))
+
+    pub full-said : isFull (read n m) ≡ true
+    unfolding isFull readFull
+    full-said = rw (is-full .0)
+
+-- ---- the calls
+
+module _ (r : Record) (store out : List ℕ) (u : Record) (store′ out′ : List ℕ) (a : ℕ) (v : Record) (store″ out″ : List ℕ) (e : ℕ) where
+  pub submit-done : (value signature : List ℕ) → Did (submitOwn value signature) r store out 0 u store′ out′ a → Did confirmIfComplete u store′ out′ a v store″ out″ e
+      → Did (submitted value signature) r store out 0 v store″ out″ e
+  unfolding submitted
+  submit-done value signature first second =
+      next (submitOwn value signature) confirmIfComplete confirmIfComplete-after r store out 0 u store′ out′ a v store″ out″ e (omega arith) first second
+
+module _ (r : Record) (store out : List ℕ) (m : List ℕ) (u : Record) (v : Record) (store″ out″ : List ℕ) (e : ℕ) where
+  pub submit-heard : (seat : ℕ) (value signature store′ : List ℕ) → kind.Submit ≡ kindOf (read (r .n) m) → seat ≡ byteAt m 3 → value ≡ readValue 4 m → signature ≡ readSignature 36 m
+      → Changed (hearSubmit seat value signature) r store u store′ → Did confirmIfComplete u store′ out 0 v store″ out″ e → Did (stepped (read (r .n) m)) r store out 0 v store″ out″ e
+  unfolding stepped readSubmit
+  submit-heard seat value signature store′ said at-seat at-value at-signature first second =
+      let f = hearSubmit seat value signature in
+      let quiet = quietly f r store out 0 u store′ (hearSubmit-quiet r store seat value signature) first in
+      rw (is-submit (r .n) m said .0, ← at-seat, ← at-value, ← at-signature)
+      (next f confirmIfComplete confirmIfComplete-after r store out 0 u store′ out 0 v store″ out″ e (omega arith) quiet second)
+
+  pub notice-heard : (value : List ℕ) → kind.Notice ≡ kindOf (read (r .n) m) → value ≡ readValue 4 m → u ≡ withNotices r (noticesWith value r) → Did reply u store out 0 v store″ out″ e
+      → Did (stepped (read (r .n) m)) r store out 0 v store″ out″ e
+  unfolding stepped readNotice hear
+  notice-heard value said at-value first second =
+      let f = hear value in
+      let quiet = quietly f r store out 0 u store refl (record { recorded = first; stored = refl }) in
+      rw (is-notice (r .n) m said .0, ← at-value) (next f reply reply-after r store out 0 u store out 0 v store″ out″ e (omega arith) quiet second)
+
+  pub full-heard : (seats : ℕ) (value : List ℕ) → kind.Full ≡ kindOf (read (r .n) m) → stranger (r .n) (read (r .n) m) ≡ false → disorder (read (r .n) m) ≡ false
+      → seats ≡ setOf (entrySeats (read (r .n) m)) → value ≡ readValue 4 m → Did (hearCertificate (certificateFrom (r .n) (inFull seats) value m)) r store out 0 v store″ out″ e
+      → Did (stepped (read (r .n) m)) r store out 0 v store″ out″ e
+  unfolding stepped readFull
+  full-heard seats value said known ordered set at-value d =
+      likewise (hearCertificate (certificateFrom (r .n) (inFull seats) value m)) r store (stepped (read (r .n) m)) out 0 v store″ out″ e
+      (rw (full-certificate (r .n) m (full-said (r .n) m said) known ordered seats set value at-value, is-full (r .n) m said .0)) d
+
+-- what no step takes changes nothing
+pub nothing-heard : (t : Kind) (r : Record) (store out m : List ℕ) → t ≡ kindOf (read (r .n) m) → (tag t ≡ 3) ⊎ (tag t ≡ 4)
+    → Did (stepped (read (r .n) m)) r store out 0 r store out 0
+unfolding stepped readEvidence
+nothing-heard kind.Submit r store out m e h = absurd (⊎-elim (λ a. omega arith) (λ a. omega arith) h)
+nothing-heard kind.Notice r store out m e h = absurd (⊎-elim (λ a. omega arith) (λ a. omega arith) h)
+nothing-heard kind.Full r store out m e h = absurd (⊎-elim (λ a. omega arith) (λ a. omega arith) h)
+nothing-heard kind.Evidence r store out m e h =
+    let same = read-as kind.Evidence (r .n) m e .0 in
+    quietly (stepped (read (r .n) m)) r store out 0 r store (rw same) (record { recorded = rw same; stored = rw same })
+nothing-heard kind.Garbled r store out m e h =
+    let same = read-as kind.Garbled (r .n) m e .0 in
+    quietly (stepped (read (r .n) m)) r store out 0 r store (rw same) (record { recorded = rw same; stored = rw same })

@@ -1,0 +1,98 @@
+// Signatures over the own value, collected.
+ghost use mathlib.Core.Path.{_≡_};
+ghost use Prim.Native.Nat.{_+_, _<_, _≤_};
+ghost use lib.ListN.{length};
+ghost use Rattle.quorum.specs.Quorum.{mostSeats};
+ghost use mathlib.Core.List.{[]};
+ghost use Rattle.protocol.specs.Calls.{start};
+ghost use Rattle.protocol.specs.Record.{withOwn};
+ghost use Rattle.protocol.specs.Layout.{signatureLength, submitLength, valueLength};
+ghost use Rattle.protocol.specs.Step.{isWanted, setValue, collect, submitOwn, hearSubmit};
+ghost use Rattle.steps.specs.Phases.{Did, Changed, Fits};
+use crate::bools::both;
+use crate::steps::Phase;
+use protocol::Own;
+use protocol::Record;
+use wire::slots::COLLECTED;
+
+// The record with its own part set anew.
+fn with_own(r: Record, own: Own) -> Record
+    ensures { λ u. ⌜ u ≡ withOwn r own ⌝ }
+{
+    let mut u = r;
+    u.own = own;
+    u
+}
+
+// A seat's signature over the own value is collected.
+fn collect(r: Record, store: &mut [u8], seat: u32, signature: &[u8]) -> Record
+    requires { ⌜ Fits r (now store) × (seat < r .n) × (length (now signature) ≡ signatureLength) ⌝ }
+    ensures { λ u. ⌜ Changed (collect seat (now (signature .entry))) r (now (store .entry)) u (now (store .exit)) ⌝ }
+{
+    let value = r.own.value;
+    let collected = quorum::with(r.own.collected, seat);
+    wire::slots::fill(store, r.n, COLLECTED, seat, signature);
+    let own = Own {
+        submitted: r.own.submitted,
+        value,
+        collected,
+    };
+    with_own(r, own)
+}
+
+// The own value is kept.
+fn set_value(r: Record, value: [u8; 32]) -> Record
+    ensures { λ u. ⌜ u ≡ setValue value (start r []) .unit ⌝ }
+{
+    let own = Own {
+        submitted: true,
+        value,
+        collected: r.own.collected,
+    };
+    with_own(r, own)
+}
+
+// Submit: the value is kept, the own signature collected, SUBMIT written from the start of `out`.
+pub fn submit_own(
+    r: Record,
+    store: &mut [u8],
+    out: &mut [u8],
+    value: &[u8],
+    signature: &[u8],
+) -> Phase
+    requires { ⌜ Fits r (now store) × (length (now value) ≡ valueLength) × (length (now signature) ≡ signatureLength) × (submitLength ≤ length (now out)) ⌝ }
+    ensures { λ p. ⌜ Did (submitOwn (now (value .entry)) (now (signature .entry))) r (now (store .entry)) (now (out .entry)) 0 (p .unit) (now (store .exit)) (now (out .exit)) (p .at) × (p .at ≡ submitLength) ⌝ }
+{
+    let kept = set_value(r, wire::values::value_at(value, 0));
+    let unit = collect(kept, store, r.seat, signature);
+    let at = wire::write::write_submit(out, 0, r.round, r.seat, value, signature);
+    Phase { unit, at }
+}
+
+// Not confirmed, the value is the own one and the seat is new.
+fn is_wanted(r: Record, seat: u32, value: [u8; 32]) -> bool
+    requires { ⌜ seat < mostSeats ⌝ }
+    ensures { λ b. ⌜ b ≡ isWanted seat value r ⌝ }
+{
+    let own = r.own.value;
+    let same = octets::same(&value, &own);
+    let has = quorum::has(r.own.collected, seat);
+    both(both(!r.confirmed, same), !has)
+}
+
+// SUBMIT heard: its signature is collected where it is wanted.
+pub fn hear_submit(
+    r: Record,
+    store: &mut [u8],
+    seat: u32,
+    value: [u8; 32],
+    signature: &[u8],
+) -> Record
+    requires { ⌜ Fits r (now store) × (seat < r .n) × (length (now signature) ≡ signatureLength) ⌝ }
+    ensures { λ u. ⌜ Changed (hearSubmit seat value (now (signature .entry))) r (now (store .entry)) u (now (store .exit)) ⌝ }
+{
+    if is_wanted(r, seat, value) {
+        return collect(r, store, seat, signature);
+    }
+    r
+}

@@ -1,0 +1,94 @@
+// What a submit and a step do once nothing is refused (document 01, "Steps"): phases one after another.
+ghost use mathlib.Core.Path.{_≡_};
+ghost use mathlib.Core.Bool.{false};
+ghost use lib.ListN.{length};
+ghost use Rattle.protocol.specs.Layout.{valueLength, signatureLength};
+ghost use Rattle.protocol.specs.Message.{read};
+ghost use Rattle.protocol.specs.Refusals.{said, stranger, disorder};
+ghost use Rattle.protocol.specs.Step.{submitted, stepped};
+ghost use Rattle.wire.specs.Reading.{kindOf};
+ghost use Rattle.wire.specs.declared.read.Kind.the-variants as kind;
+ghost use Rattle.steps.specs.Phases.{Did};
+ghost use Rattle.steps.specs.Possible.{Ready};
+use crate::certificate::hear_certificate;
+use crate::collect::hear_submit;
+use crate::collect::submit_own;
+use crate::confirm::confirm_if_complete;
+use crate::hear::hear;
+use crate::reply::reply;
+use protocol::Record;
+use wire::read::Kind;
+use wire::sources::Source;
+
+// What a phase comes to: the record, and the next place in `out`.
+pub struct Phase {
+    pub unit: Record,
+    pub at: usize,
+}
+
+// A submit.
+pub fn submit_phase(
+    r: Record,
+    store: &mut [u8],
+    out: &mut [u8],
+    value: &[u8],
+    signature: &[u8],
+) -> Phase
+    requires { ⌜ Ready r (now store) (now out) × (said r ≡ false) × (length (now value) ≡ valueLength) × (length (now signature) ≡ signatureLength) ⌝ }
+    ensures { λ p. ⌜ Did (submitted (now (value .entry)) (now (signature .entry))) r (now (store .entry)) (now (out .entry)) 0 (p .unit) (now (store .exit)) (now (out .exit)) (p .at) ⌝ }
+{
+    let p = submit_own(r, store, out, value, signature);
+    let unit = p.unit;
+    let at = p.at;
+    confirm_if_complete(unit, store, out, at)
+}
+
+// A SUBMIT heard.
+pub fn step_submit(r: Record, store: &mut [u8], out: &mut [u8], message: &[u8]) -> Phase
+    requires { ⌜ Ready r (now store) (now out) × (kind.Submit ≡ kindOf (read (r .n) (now message))) × (stranger (r .n) (read (r .n) (now message)) ≡ false) ⌝ }
+    ensures { λ p. ⌜ Did (stepped (read (r .n) (now (message .entry)))) r (now (store .entry)) (now (out .entry)) 0 (p .unit) (now (store .exit)) (now (out .exit)) (p .at) ⌝ }
+{
+    let value = wire::values::value_at(message, 4);
+    let signature = wire::slots::signature_at(message, 36);
+    let seat = wire::read::number_at(message, 3);
+    let unit = hear_submit(r, store, seat, value, signature);
+    confirm_if_complete(unit, store, out, 0)
+}
+
+// A NOTICE heard.
+pub fn step_notice(r: Record, store: &[u8], out: &mut [u8], message: &[u8]) -> Phase
+    requires { ⌜ Ready r (now store) (now out) × (kind.Notice ≡ kindOf (read (r .n) (now message))) ⌝ }
+    ensures { λ p. ⌜ Did (stepped (read (r .n) (now (message .entry)))) r (now (store .entry)) (now (out .entry)) 0 (p .unit) (now (store .entry)) (now (out .exit)) (p .at) ⌝ }
+{
+    let value = wire::values::value_at(message, 4);
+    let unit = hear(r, value);
+    reply(unit, store, out, 0)
+}
+
+// A FULL heard.
+pub fn step_full(r: Record, store: &mut [u8], out: &mut [u8], message: &[u8]) -> Phase
+    requires { ⌜ Ready r (now store) (now out) × (kind.Full ≡ kindOf (read (r .n) (now message))) × (stranger (r .n) (read (r .n) (now message)) ≡ false) × (disorder (read (r .n) (now message)) ≡ false) ⌝ }
+    ensures { λ p. ⌜ Did (stepped (read (r .n) (now (message .entry)))) r (now (store .entry)) (now (out .entry)) 0 (p .unit) (now (store .exit)) (now (out .exit)) (p .at) ⌝ }
+{
+    let value = wire::values::value_at(message, 4);
+    let seats = wire::read::entry_set(r.n, Kind::Full, message);
+    let source = Source {
+        full: true,
+        bank: 0,
+        seats,
+    };
+    hear_certificate(r, store, out, 0, value, source, message)
+}
+
+// A step, by what the message is.
+pub fn step_phase(r: Record, store: &mut [u8], out: &mut [u8], kind: Kind, message: &[u8]) -> Phase
+    requires { ⌜ Ready r (now store) (now out) × (kind ≡ kindOf (read (r .n) (now message))) × (stranger (r .n) (read (r .n) (now message)) ≡ false) × (disorder (read (r .n) (now message)) ≡ false) ⌝ }
+    ensures { λ p. ⌜ Did (stepped (read (r .n) (now (message .entry)))) r (now (store .entry)) (now (out .entry)) 0 (p .unit) (now (store .exit)) (now (out .exit)) (p .at) ⌝ }
+{
+    match kind {
+        Kind::Submit => step_submit(r, store, out, message),
+        Kind::Notice => step_notice(r, store, out, message),
+        Kind::Full => step_full(r, store, out, message),
+        Kind::Evidence | Kind::Garbled => Phase { unit: r, at: 0 },
+    }
+}
