@@ -22,7 +22,7 @@ use Rattle.protocol.specs.Message.{Pair, Message, Submit, Notice, Full, Evidenc
 use Rattle.protocol.specs.Certificate.{Certificate, slot, fill, fillEach, ownCertificate, firstCertificate, fullOf, evidenceOf}
 use Rattle.protocol.specs.Record.{noneHeard, oneHeard, holds}
 use Rattle.protocol.specs.Refusals.{Checks, isFull, isEvidence}
-use Rattle.protocol.specs.Step.{State, write, collect, setValue, submitOwn, isWanted, noticesWith, hear, otherHeard, owesFull, sendFull, reply, hold, blame, blames, holdOrBlame}
+use Rattle.protocol.specs.Step.{State, write, collect, setOwnValue, submitOwn, isWanted, noticesWith, hear, otherHeard, owesFull, sendFull, reply, hold, blame, blames, holdOrBlame}
 use Rattle.protocol.specs.declared.Own.{Own}
 use Rattle.protocol.specs.declared.Notices.{Notices}
 use Rattle.protocol.specs.declared.Record.{Record}
@@ -223,7 +223,7 @@ module _ (checks : Checks) (W : Relation) where
 
   module _ (value signature : List ℕ) (s : State) (z : Sound checks W (s .unit) (s .store)) (room : Room s) where
     pub submitOwn-leads : s .unit .own .submitted ≡ false → length value ≡ valueLength → Changed checks W (s .unit .seat) value signature → Leads checks W s (submitOwn value signature s)
-    unfolding submitOwn write collect setValue isSubmit isNotice isFull isEvidence worth
+    unfolding submitOwn write collect setOwnValue isSubmit isNotice isFull isEvidence worth
     submitOwn-leads unsaid sized g =
         let r = s .unit in
         let empty : r .own .collected ≡ 0 = z .own .unsaid unsaid .0 in

@@ -15,7 +15,7 @@ use Rattle.protocol.specs.Message.{Entry, Message, Submit, Notice, Full, Eviden
 use Rattle.protocol.specs.Certificate.{Certificate, ownCertificate, certificateOf, certificateIn}
 use Rattle.protocol.specs.Record.{noneHeard, oneHeard, holds}
 use Rattle.protocol.specs.Refusals.{Checks, isFull, isEvidence}
-use Rattle.protocol.specs.Step.{State, write, collect, setValue, submitOwn, isWanted, hearSubmit, hear, otherHeard, owesFull, sendFull, reply, hold, blame, blames, holdOrBlame, hearCertificate, isComplete, confirm, hearOwn, confirmIfComplete, submitted, stepped}
+use Rattle.protocol.specs.Step.{State, write, collect, setOwnValue, submitOwn, isWanted, hearSubmit, hear, otherHeard, owesFull, sendFull, reply, hold, blame, blames, holdOrBlame, hearCertificate, isComplete, confirm, hearOwn, confirmIfComplete, submitted, stepped}
 use Rattle.protocol.specs.declared.Record.{Record}
 use Rattle.round.specs.Round.{Relation}
 use Rattle.round.specs.Demand1.{Kind, SUBMIT, NOTICE, FULL, EVIDENCE, isOf, isSubmit, isNotice, worth}
@@ -74,7 +74,7 @@ unfolding hearCertificate
 hearing-owes c s = holdOrBlame-quiet c (reply (hear (c .value) s)) .owes ∙ reply-owes (hear (c .value) s)
 
 submitOwn-confirmed : (value signature : List ℕ) (s : State) → submitOwn value signature s .unit .confirmed ≡ s .unit .confirmed
-unfolding submitOwn write collect setValue
+unfolding submitOwn write collect setOwnValue
 submitOwn-confirmed value signature s = refl
 
 collect-held : (seat : ℕ) (signature : List ℕ) (s : State) → (s .unit .confirmed ≡ true → Held (s .unit .own .value) (s .unit))
@@ -209,7 +209,7 @@ module _ (checks : Checks) (W : Relation) where
 
     -- "the value kept"
     pub submitted-value : (submitted value signature s .unit .own .submitted ≡ true) × (submitted value signature s .unit .own .value ≡ value)
-    unfolding submitOwn write collect setValue
+    unfolding submitOwn write collect setOwnValue
     submitted-value = own-done .leads .grows .said refl
 
   -- what a message brings that a step doesn't refuse

@@ -29,7 +29,7 @@ use Rattle.claims.specs.Unrefused.{submit-taken, Taken, step-taken, brings}
 use Rattle.reading.specs.Messages.{refusalOf, cameTo, outcome-is, messages}
 use Rattle.claims.specs.Units.{Any}
 use Rattle.paper.specs.Machine.{FullCertificate, Machine, init, Event, Submitted, SubmitDelivered, NoticeDelivered, FullDelivered, Action, Reaction, isSome, ownValue, distinct, conflict, uponEvent, react, Says}
-use Rattle.paper.specs.Memory.{seatsIn, noticesOf, firstOf, guiltyOf, kept, firstEntries, Keeps}
+use Rattle.paper.specs.Memory.{seatsIn, noticesOf, heldFirst, guiltyOf, kept, firstEntries, Keeps}
 use Rattle.paper.specs.Events.{delivered, isDelivered, eventOf, reactTo, reaction, DoesAs, actionsOver, TakenIn}
 use Rattle.paper.specs.Conflicts.{some-none}
 use Rattle.paper.specs.Entries.{seats-none, from-seats, from-member, signature-is, distinct-take}
@@ -190,7 +190,7 @@ module _ (S : Setting) (seat : ℕ) (some-seats : 1 ≤ S .n) (inside : seat < S
     -- ---- what record and store keep
 
     keeps : (m : Machine) (r : Record) (store : List ℕ) → r ≡ kept n seat round m → Mirrors n store m → Has m → Keeps n seat round m r store
-    unfolding firstOf firstEntries
+    unfolding heldFirst firstEntries
     keeps m r store e z b = record {
       unit = e;
       collected = slots (slot n collectedBank store) (take (k n) (m .collected)) (distinct-take (k n) (m .collected) (b .collection .apart)) (z .stored .own);
@@ -200,7 +200,7 @@ module _ (S : Setting) (seat : ℕ) (some-seats : 1 ≤ S .n) (inside : seat < S
         slots : (f : ℕ → List ℕ) (es : List Entry) → distinct es ≡ true → ((s : ℕ) → In s (seatsIn es) → f s ≡ signatureOf es s) → Each (λ (x : Entry). f (x .seat) ≡ x .signature) es
         slots f es apart h x d = h (x .seat) (has-true (x .seat) (seatsIn es) .0 (sym (from-seats (x .seat) es) ∙ from-member x es d)) ∙ signature-is es apart x d
 
-        firsts : (cs : List FullCertificate) → Each (λ (c : FullCertificate). Formed n c × Obtained seat Happened c) cs → ((s : ℕ) → In s (firstOf cs .seats) → slot n firstBank store s ≡ signatureOf (firstEntries cs) s)
+        firsts : (cs : List FullCertificate) → Each (λ (c : FullCertificate). Formed n c × Obtained seat Happened c) cs → ((s : ℕ) → In s (heldFirst cs .seats) → slot n firstBank store s ≡ signatureOf (firstEntries cs) s)
             → Each (λ (x : Entry). slot n firstBank store (x .seat) ≡ x .signature) (firstEntries cs)
         firsts [] f h = each-nil (λ (x : Entry). slot n firstBank store (x .seat) ≡ x .signature)
         firsts (c ∷ cs) f h = slots (slot n firstBank store) (c .entries) (f c (List·Memᴰ·head refl) .0 .apart) h
@@ -240,11 +240,11 @@ module _ (S : Setting) (seat : ℕ) (some-seats : 1 ≤ S .n) (inside : seat < S
   -- ---- the opening
 
   pub init-kept : fresh n seat round ≡ kept n seat round init
-  unfolding fresh kept init isSome ownValue noticesOf firstOf guiltyOf
+  unfolding fresh kept init isSome ownValue noticesOf heldFirst guiltyOf
   init-kept = rw (take-none (k n), seats-none)
 
   pub init-mirrors : (store : List ℕ) → Mirrors n store init
-  unfolding init conflict firstOf
+  unfolding init conflict heldFirst
   init-mirrors store = record {
     collecting = record {
       unsaid = λ e. refl;

@@ -20,7 +20,7 @@ use Rattle.protocol.specs.Layout.{signatureLength, storeLength, collectedBank, 
 use Rattle.protocol.specs.Message.{Entry, Message, Submit, Notice, Full, Evidence, Garbled}
 use Rattle.protocol.specs.Certificate.{slot, fill, signatureOf, certificateOf, certificateIn}
 use Rattle.protocol.specs.Refusals.{Checks}
-use Rattle.protocol.specs.Step.{State, write, collect, setValue, submitOwn, isWanted, hearSubmit, hear, reply, confirmIfComplete, submitted, stepped}
+use Rattle.protocol.specs.Step.{State, write, collect, setOwnValue, submitOwn, isWanted, hearSubmit, hear, reply, confirmIfComplete, submitted, stepped}
 use Rattle.reading.specs.Lists.{each-one, each-append, each-every}
 use Rattle.claims.specs.Slots.{fill-length, slot-fill-same, slot-fill-other}
 use Rattle.claims.specs.Sound.{Entries}
@@ -29,7 +29,7 @@ use Rattle.claims.specs.Parts.{k-pos}
 use Rattle.claims.specs.Whole.{Brings}
 use Rattle.claims.specs.Units.{Any}
 use Rattle.paper.specs.Machine.{FullCertificate, Machine, BroadcastSubmit, Reaction, act, setValue, addCollected, addNoticed, isSome, isOwn, ownValue, isFrom, isFullCertificate, isCollected, uponSubmitDelivered, uponSubmit, uponNoticeDelivered, obtain, uponFullDelivered, confirming, uponQuorum, uponNoticesConflict, uponFullsConflict, uponEvent, uponRules, react}
-use Rattle.paper.specs.Memory.{seatsIn, noticesOf, firstOf, guiltyOf, kept}
+use Rattle.paper.specs.Memory.{seatsIn, noticesOf, heldFirst, guiltyOf, kept}
 use Rattle.paper.specs.Events.{delivered, reactTo}
 use Rattle.paper.specs.Conflicts.{some-none}
 use Rattle.paper.specs.Entries.{seats-more, from-seats, signature-new, signature-old, rising-distinct}
@@ -72,7 +72,7 @@ module _ (n seat round : ℕ) where
         own = record { submitted = isSome (x .machine .value); value = ownValue (x .machine .value); collected = mask };
         confirmed = x .machine .confirmed;
         notices = noticesOf (x .machine .noticed);
-        first = firstOf (x .machine .obtained);
+        first = heldFirst (x .machine .obtained);
         sent = x .machine .sent;
         guilty = guiltyOf (x .machine .detected);
       };
@@ -251,7 +251,7 @@ module _ (n seat round : ℕ) where
           record { unsaid = λ h. absurd (some-none v (some v) refl h); below = z .collecting .below; sized = z .collecting .sized; counted = z .collecting .counted }
 
       own-is-kept : submitOwn v g (at n seat round x store) ≡ at n seat round (addCollected (e seat g x) (act (BroadcastSubmit v g) (setValue v x))) (fill n collectedBank seat g store)
-      unfolding submitOwn setValue kept isSome ownValue spoken act
+      unfolding submitOwn setOwnValue kept isSome ownValue spoken act
       own-is-kept =
           ap (λ (s : State). write (Submit round seat v g) s) (collect-is seat g (setValue v x) few store)
           ∙ write-is n seat round (BroadcastSubmit v g) (addCollected (e seat g x) (setValue v x)) (fill n collectedBank seat g store)

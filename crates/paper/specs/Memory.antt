@@ -27,9 +27,9 @@ noticesOf [] = record { heard = 0; value = unset }
 noticesOf (v ∷ vs) = record { heard = cond (isSome (other valueOfNotice v vs)) 2 1; value = v }
 
 -- of all certificates, "the first certificate held (value and seats)"
-unfoldable pub firstOf : List FullCertificate → First
-firstOf [] = record { value = unset; seats = 0 }
-firstOf (c ∷ cs) = record { value = c .value; seats = seatsIn (c .entries) }
+unfoldable pub heldFirst : List FullCertificate → First
+heldFirst [] = record { value = unset; seats = 0 }
+heldFirst (c ∷ cs) = record { value = c .value; seats = seatsIn (c .entries) }
 
 -- of the two that were detected, "the shared seats"
 unfoldable pub guiltyOf : Option (FullCertificate × FullCertificate) → ℕ
@@ -45,7 +45,7 @@ kept n seat round m = record {
   own = record { submitted = isSome (m .value); value = ownValue (m .value); collected = seatsIn (take (k n) (m .collected)) };
   confirmed = m .confirmed;
   notices = noticesOf (m .noticed);
-  first = firstOf (m .obtained);
+  first = heldFirst (m .obtained);
   sent = m .sent;
   guilty = guiltyOf (m .detected);
 }

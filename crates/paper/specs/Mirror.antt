@@ -14,7 +14,7 @@ use Rattle.protocol.specs.Message.{Entry}
 use Rattle.protocol.specs.Certificate.{slot, signatureOf}
 use Rattle.round.specs.Round.{Each}
 use Rattle.paper.specs.Machine.{FullCertificate, Machine, ownValue, conflict, valueOfFull}
-use Rattle.paper.specs.Memory.{seatsIn, firstOf, guiltyOf, firstEntries}
+use Rattle.paper.specs.Memory.{seatsIn, heldFirst, guiltyOf, firstEntries}
 
 -- the signatures collected: nothing before the own submission, and of the first k each from a seat of its own
 pub record Collecting (n : ℕ) (value : Option (List ℕ)) (collected : List Entry) : Type 0 where
@@ -38,7 +38,7 @@ pub record Obtaining (n : ℕ) (obtained : List FullCertificate) (detected : Opt
 -- the store has the signatures of the first k, and those of the first certificate
 pub record Stored (n : ℕ) (store : List ℕ) (collected : List Entry) (obtained : List FullCertificate) : Type 0 where
   pub own : (s : ℕ) → In s (seatsIn (take (k n) collected)) → slot n collectedBank store s ≡ signatureOf (take (k n) collected) s
-  pub first : (s : ℕ) → In s (firstOf obtained .seats) → slot n firstBank store s ≡ signatureOf (firstEntries obtained) s
+  pub first : (s : ℕ) → In s (heldFirst obtained .seats) → slot n firstBank store s ≡ signatureOf (firstEntries obtained) s
 
 -- the rule of line 25 is done, and its own value is among those noticed
 pub record Resting (n : ℕ) (value : Option (List ℕ)) (confirmed : Bool) (collected : List Entry) (noticed : List (List ℕ)) : Type 0 where

@@ -29,7 +29,7 @@ use Rattle.reading.specs.Lists.{cond-elim, each-one, each-append}
 use Rattle.claims.specs.Parts.{k-pos, in-below}
 use Rattle.claims.specs.Slots.{slot-fillEach-other, slot-fillEach-same}
 use Rattle.paper.specs.Machine.{FullCertificate, Machine, Action, ConfirmAndNotice, BroadcastFull, Detect, Reaction, act, setConfirmed, addNoticed, addObtained, setSent, isSome, ownValue, other, pairOr, conflict, valueOfNotice, valueOfFull, ownFull, uponNoticeDelivered, obtain, confirming, uponQuorum, sending, uponNoticesConflict, detecting, uponFullsConflict, uponRules}
-use Rattle.paper.specs.Memory.{seatsIn, noticesOf, firstOf, guiltyOf, kept, firstEntries}
+use Rattle.paper.specs.Memory.{seatsIn, noticesOf, heldFirst, guiltyOf, kept, firstEntries}
 use Rattle.paper.specs.Conflicts.{same-sym, some-none, other-none, other-more, other-still, conflict-head, head-none}
 use Rattle.paper.specs.Entries.{seats-below, signature-each, full-same, evidence-same, each-take}
 use Rattle.paper.specs.Spoken.{spoken}
@@ -107,7 +107,7 @@ module _ (n seat round : ℕ) where
           own = record { submitted = isSome (x .machine .value); value = ownValue (x .machine .value); collected = seatsIn (take (k n) (x .machine .collected)) };
           confirmed = x .machine .confirmed;
           notices = y;
-          first = firstOf (x .machine .obtained);
+          first = heldFirst (x .machine .obtained);
           sent = x .machine .sent;
           guilty = guiltyOf (x .machine .detected);
         };
@@ -171,7 +171,7 @@ module _ (n seat round : ℕ) where
         -- "The first is held."
         hold-mirror : (detected : Option (FullCertificate × FullCertificate)) → Mirror n store value confirmed collected noticed [] detected
             → Mirror n (fillEach n firstBank signature (seats n (seatsIn (q .entries))) store) value confirmed collected noticed (q ∷ []) detected
-        unfolding firstOf firstEntries conflict other pairOr
+        unfolding heldFirst firstEntries conflict other pairOr
         hold-mirror detected z = record {
           collecting = z .collecting;
           obtaining = record { quorums = each-one (Quorum n) q y; agreed = λ e. refl; guilty = z .obtaining .guilty };
@@ -191,7 +191,7 @@ module _ (n seat round : ℕ) where
         more-mirror : (f : FullCertificate) (rest : List FullCertificate) (old new : Option (FullCertificate × FullCertificate)) → Mirror n store value confirmed collected noticed (f ∷ rest) old
             → (new ≡ none → conflict valueOfFull (f ∷ (rest ++ q ∷ [])) ≡ none) → ((p : FullCertificate × FullCertificate) → new ≡ some p → guiltyOf (some p) ≢ 0)
             → Mirror n store value confirmed collected noticed (f ∷ (rest ++ q ∷ [])) new
-        unfolding firstOf firstEntries
+        unfolding heldFirst firstEntries
         more-mirror f rest old new z agreed guilty = record {
           collecting = z .collecting;
           obtaining = record { quorums = each-append (Quorum n) (f ∷ rest) (q ∷ []) (z .obtaining .quorums) (each-one (Quorum n) q y); agreed = agreed; guilty = guilty };
@@ -201,12 +201,12 @@ module _ (n seat round : ℕ) where
 
         module _ (f : FullCertificate) (rest : List FullCertificate) where
           held : (detected : Option (FullCertificate × FullCertificate)) → Mirror n store value confirmed collected noticed (f ∷ rest) detected → holds (kept n seat round (with-certificates (f ∷ rest) detected .machine)) ≡ true
-          unfolding holds kept firstOf
+          unfolding holds kept heldFirst
           held detected z = rw (ne-eqb (seatsIn (f .entries)) 0 (quorum-some f (z .obtaining .quorums f (List·Memᴰ·head refl))))
 
           -- the first stays the first
           still : (detected : Option (FullCertificate × FullCertificate)) → at (with-certificates (f ∷ rest) detected) store ≡ at (with-certificates (f ∷ (rest ++ q ∷ [])) detected) store
-          unfolding kept firstOf
+          unfolding kept heldFirst
           still detected = refl
 
           quiet-is : (detected : Option (FullCertificate × FullCertificate)) → Mirror n store value confirmed collected noticed (f ∷ rest) detected → blames c (kept n seat round (with-certificates (f ∷ rest) detected .machine)) ≡ false
@@ -216,17 +216,17 @@ module _ (n seat round : ℕ) where
 
           -- while guilty seats are empty, one with another value is blamed
           blames-is : blames c (kept n seat round (with-certificates (f ∷ rest) none .machine)) ≡ not (same (f .value) (q .value))
-          unfolding blames kept firstOf guiltyOf
+          unfolding blames kept heldFirst guiltyOf
           blames-is = and-true (not (same (q .value) (f .value))) ∙ ap not (same-sym (q .value) (f .value))
 
           -- and after that none is
           blames-none : (p : FullCertificate × FullCertificate) → guiltyOf (some p) ≢ 0 → blames c (kept n seat round (with-certificates (f ∷ rest) (some p) .machine)) ≡ false
-          unfolding blames kept firstOf
+          unfolding blames kept heldFirst
           blames-none p g = rw (ne-eqb (guiltyOf (some p)) 0 g) (and-false (not (same (q .value) (f .value))))
 
           blame-is : ((s : ℕ) → In s (seatsIn (f .entries)) → slot n firstBank store s ≡ signatureOf (f .entries) s)
               → blame c (at (with-certificates (f ∷ rest) none) store) ≡ at (act (Detect f q) (with-certificates (f ∷ (rest ++ q ∷ [])) (some (f, q)))) store
-          unfolding blame firstCertificate kept firstOf guiltyOf spoken certificateOf seatsIn
+          unfolding blame firstCertificate kept heldFirst guiltyOf spoken certificateOf seatsIn
           blame-is first =
               ap (λ (m : Message). write m (at (with-certificates (f ∷ (rest ++ q ∷ [])) (some (f, q))) store))
               (evidence-same n round (f .value) (q .value) (seatsIn (f .entries)) (seatsIn (q .entries)) (slot n firstBank store) (signatureOf (f .entries)) signature (signatureOf (q .entries)) first agree)
@@ -248,7 +248,7 @@ module _ (n seat round : ℕ) where
 
           blame-comes : Mirror n store value confirmed collected noticed (f ∷ rest) none → (b : Bool) → same (f .value) (q .value) ≡ b
               → Comes (holdOrBlame c (at (with-certificates (f ∷ rest) none) store)) (uponFullsConflict checks n seat (with-certificates (f ∷ (rest ++ q ∷ [])) none))
-          unfolding uponFullsConflict isSome detecting pairOr holdOrBlame act firstOf firstEntries
+          unfolding uponFullsConflict isSome detecting pairOr holdOrBlame act heldFirst firstEntries
           blame-comes z true e =
               let none-found : conflict valueOfFull (f ∷ (rest ++ q ∷ [])) ≡ none = more-conflict z ∙ ap (λ (b : Bool). pairOr f (cond b none (some q)) none) e in
               subst (Comes (holdOrBlame c (at (with-certificates (f ∷ rest) none) store))) (sym (fulls-quiet checks n seat (with-certificates (f ∷ (rest ++ q ∷ [])) none) (λ h. none-found)))
@@ -270,7 +270,7 @@ module _ (n seat round : ℕ) where
 
         hold-comes : (detected : Option (FullCertificate × FullCertificate)) → Mirror n store value confirmed collected noticed [] detected
             → Comes (holdOrBlame c (at (with-certificates [] detected) store)) (uponFullsConflict checks n seat (with-certificates (q ∷ []) detected))
-        unfolding holdOrBlame hold holds kept firstOf conflict other pairOr
+        unfolding holdOrBlame hold holds kept heldFirst conflict other pairOr
         hold-comes detected z =
             subst (Comes (holdOrBlame c (at (with-certificates [] detected) store))) (sym (fulls-quiet checks n seat (with-certificates (q ∷ []) detected) (λ h. refl)))
             (record { store = fillEach n firstBank signature (seats n (seatsIn (q .entries))) store; is = refl; mirrors = hold-mirror detected z })

@@ -41,13 +41,13 @@ collect seat signature s = record {
 }
 
 -- "the value kept"
-unfoldable pub setValue : List ℕ → State → State
-setValue value s = withUnit s (withOwn (s .unit) (record { submitted = true; value = value; collected = s .unit .own .collected }))
+unfoldable pub setOwnValue : List ℕ → State → State
+setOwnValue value s = withUnit s (withOwn (s .unit) (record { submitted = true; value = value; collected = s .unit .own .collected }))
 
 -- "Submit: the own signature is checked like any other, the value kept, the signature collected, SUBMIT written."
 unfoldable pub submitOwn : List ℕ → List ℕ → State → State
 submitOwn value signature s =
-    write (Submit (s .unit .round) (s .unit .seat) value signature) (collect (s .unit .seat) signature (setValue value s))
+    write (Submit (s .unit .round) (s .unit .seat) value signature) (collect (s .unit .seat) signature (setOwnValue value s))
 
 -- "SUBMIT heard: if not confirmed, the value is the own one and the seat is new, its signature is collected. Otherwise
 -- nothing changes."

@@ -8,7 +8,7 @@ use Prim.Native.Nat.{ℕ}
 use Rattle.protocol.specs.Message.{Message}
 use Rattle.protocol.specs.Certificate.{Certificate, ownCertificate}
 use Rattle.protocol.specs.Record.{holds}
-use Rattle.protocol.specs.Step.{State, write, collect, setValue, submitOwn, isWanted, hearSubmit, hear, owesFull, sendFull, reply, hold, blame, blames, holdOrBlame, hearCertificate, isComplete, confirm, hearOwn, confirmIfComplete}
+use Rattle.protocol.specs.Step.{State, write, collect, setOwnValue, submitOwn, isWanted, hearSubmit, hear, owesFull, sendFull, reply, hold, blame, blames, holdOrBlame, hearCertificate, isComplete, confirm, hearOwn, confirmIfComplete}
 
 -- a state with messages written before its own
 abbrev pub after : List Message → State → State
@@ -27,7 +27,7 @@ unfolding collect
 collect-after seat signature ms s = refl
 
 pub submitOwn-after : (value signature : List ℕ) (ms : List Message) (s : State) → submitOwn value signature (after ms s) ≡ after ms (submitOwn value signature s)
-unfolding submitOwn write collect setValue
+unfolding submitOwn write collect setOwnValue
 submitOwn-after value signature ms s = rw append-assoc
 
 pub hearSubmit-after : (seat : ℕ) (value signature : List ℕ) (ms : List Message) (s : State) → hearSubmit seat value signature (after ms s) ≡ after ms (hearSubmit seat value signature s)

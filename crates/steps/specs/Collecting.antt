@@ -15,7 +15,7 @@ use Rattle.protocol.specs.Layout.{valueLength}
 use Rattle.protocol.specs.Message.{Submit, render, readValue}
 use Rattle.protocol.specs.Calls.{start}
 use Rattle.protocol.specs.Refusals.{said}
-use Rattle.protocol.specs.Step.{write, setValue, collect, submitOwn, isWanted, hearSubmit}
+use Rattle.protocol.specs.Step.{write, setOwnValue, collect, submitOwn, isWanted, hearSubmit}
 use Rattle.protocol.specs.declared.Record.{Record}
 use Rattle.wire.specs.Writing.{Wrote}
 use Rattle.steps.specs.Phases.{Changed, Did, Fits, fits-like, likewise-kept, saying}
@@ -23,16 +23,16 @@ use Rattle.steps.specs.Possible.{Possible}
 
 -- ---- submit
 
-module _ (r : Record) (value : List ℕ) (u : Record) (kept : u ≡ setValue value (start r []) .unit) where
+module _ (r : Record) (value : List ℕ) (u : Record) (kept : u ≡ setOwnValue value (start r []) .unit) where
   pub kept-fits : (store : List ℕ) → Fits r store → Fits u store × (r .seat < u .n)
-  unfolding setValue
+  unfolding setOwnValue
   kept-fits store h = (fits-like r u store store h (rw kept) (rw kept) (rw kept) (rw kept) refl, rw kept (h .seated))
 
   pub own-submitted : (given signature store out : List ℕ) → length given ≡ valueLength → value ≡ readValue 0 given
       → (v : Record) (store′ out′ : List ℕ) (end : ℕ) → Changed (collect (r .seat) signature) u store v store′
       → Wrote 0 (render (Submit (r .round) (r .seat) given signature)) out out′ end
       → Did (submitOwn given signature) r store out 0 v store′ out′ end
-  unfolding submitOwn write collect setValue readValue
+  unfolding submitOwn write collect setOwnValue readValue
   own-submitted given signature store out l e v store′ out′ end c w =
       let whole : value ≡ given = e ∙ part-all given valueLength l in
       saying (submitOwn given signature) r store (Submit (r .round) (r .seat) given signature) out 0 v store′ out′ end refl
@@ -93,7 +93,7 @@ one-more r possible seat value e =
 module _ (r : Record) (possible : Possible r) (store : List ℕ) (fits : Fits r store) (u : Record) (store′ : List ℕ) (long : length store′ ≡ length store) where
   -- nothing was collected before the submission
   pub submitted-fits : (value signature : List ℕ) → said r ≡ false → Changed (submitOwn value signature) r store u store′ → Fits u store′ × (u .n ≡ r .n)
-  unfolding said submitOwn write collect setValue
+  unfolding said submitOwn write collect setOwnValue
   submitted-fits value signature e done =
       let none : r .own .collected ≡ 0 = possible .unsaid e in
       let one : size (with (r .seat) (r .own .collected)) ≤ k (r .n) =

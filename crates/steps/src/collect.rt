@@ -7,7 +7,7 @@ ghost use mathlib.Core.List.{[]};
 ghost use Rattle.protocol.specs.Calls.{start};
 ghost use Rattle.protocol.specs.Record.{withOwn};
 ghost use Rattle.protocol.specs.Layout.{signatureLength, submitLength, valueLength};
-ghost use Rattle.protocol.specs.Step.{isWanted, setValue, collect, submitOwn, hearSubmit};
+ghost use Rattle.protocol.specs.Step.{isWanted, setOwnValue, collect, submitOwn, hearSubmit};
 ghost use Rattle.steps.specs.Phases.{Did, Changed, Fits};
 use crate::bools::both;
 use crate::steps::Phase;
@@ -41,8 +41,8 @@ fn collect(r: Record, store: &mut [u8], seat: u32, signature: &[u8]) -> Record
 }
 
 // The own value is kept.
-fn set_value(r: Record, value: [u8; 32]) -> Record
-    ensures { λ u. ⌜ u ≡ setValue value (start r []) .unit ⌝ }
+fn set_own_value(r: Record, value: [u8; 32]) -> Record
+    ensures { λ u. ⌜ u ≡ setOwnValue value (start r []) .unit ⌝ }
 {
     let own = Own {
         submitted: true,
@@ -63,7 +63,7 @@ pub fn submit_own(
     requires { ⌜ Fits r (now store) × (length (now value) ≡ valueLength) × (length (now signature) ≡ signatureLength) × (submitLength ≤ length (now out)) ⌝ }
     ensures { λ p. ⌜ Did (submitOwn (now (value .entry)) (now (signature .entry))) r (now (store .entry)) (now (out .entry)) 0 (p .unit) (now (store .exit)) (now (out .exit)) (p .at) × (p .at ≡ submitLength) ⌝ }
 {
-    let kept = set_value(r, wire::values::value_at(value, 0));
+    let kept = set_own_value(r, wire::values::value_at(value, 0));
     let unit = collect(kept, store, r.seat, signature);
     let at = wire::write::write_submit(out, 0, r.round, r.seat, value, signature);
     Phase { unit, at }

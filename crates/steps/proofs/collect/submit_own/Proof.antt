@@ -9,13 +9,13 @@ use Rattle.steps.proofs.collect.submit_own.Tie as tie
 value-at-requires : tie.Need-value-at-requires
 value-at-requires c κs = search needs
 
-set-value-requires : tie.Need-set-value-requires
-set-value-requires c κs = search needs
+set-own-value-requires : tie.Need-set-own-value-requires
+set-own-value-requires c κs = search needs
 
 collect-requires : tie.Need-collect-requires
 collect-requires c κs =
     let start = c .before .before .before .before .before .before .before in
-    let kept = c .before .set-value in
+    let kept = c .before .set-own-value in
     let fits = kept-fits (start .args .r) (c .before .before .value-at .result) (kept .result) (kept .ensures) (now (start .args .store)) (start .pre .0) in
     (fits .0, fits .1, start .pre .2)
 
@@ -34,7 +34,7 @@ returns c =
     let args = start .args in
     let wrote = c .before .before .write-submit in
     let gathered = c .before .before .before .before .before .before .collect in
-    let kept = c .before .before .before .before .before .before .before .before .set-value in
+    let kept = c .before .before .before .before .before .before .before .before .set-own-value in
     let read = c .before .before .before .before .before .before .before .before .before .value-at in (
       own-submitted (args .r) (read .result) (kept .result) (kept .ensures) (now (args .value)) (now (args .signature)) (now (args .store)) (now (args .out)) (start .pre .1) (read .ensures)
           (gathered .result) (gathered .last .1 .0) (wrote .last .0) (wrote .result) (gathered .ensures) (wrote .ensures .0),
@@ -46,7 +46,7 @@ submit-own-spec =
     tie.close
     (tie.spec
     value-at-requires
-    set-value-requires
+    set-own-value-requires
     collect-requires
     write-submit-requires
     same-length
