@@ -6,6 +6,7 @@ use mathlib.Core.Bool.{Bool, not, _&&_, and-assoc, and-true}
 use mathlib.Core.List.{List, [], _∷_, _++_, append-assoc, List·Memᴰ, List·Memᴰ·head, List·Memᴰ·tail, List·Memᴰ·not-nil, List·Memᴰ·cases-cons}
 use mathlib.Core.Logic.{_⊎_, inl, inr, ⊎-elim, _↔_}
 use Prim.Native.Nat.{ℕ, zero, suc, _+_, _*_, _^_, _≤_, _<_}
+use native.Mathlib.Nat.{mul-le-mul-left}
 use native.Mathlib.Omega.{arith}
 use native.Mathlib.Decide.{decLt, ℕ-discrete}
 use lib.Dec.{ltb}
@@ -14,9 +15,10 @@ use borrow.Author.Tests.{eq-eqb, ne-eqb, lt-ltb, le-ltb}
 use Rattle.octets.specs.Laws.{length-be}
 use Rattle.quorum.specs.Quorum.{In, bit, with, union, one, seats}
 use Rattle.quorum.specs.Laws.{bit-cases, bit-empty, bit-one-same, bit-one-other, bit-outside, bit-union, in-union, same-seats, mem-seats}
-use Rattle.protocol.specs.Layout.{signatureLength, valueLength, submitLength, noticeLength, fullEntryLength, fullEntryAt, evidenceEntryLength, evidenceEntryAt, storeLength, slotAt}
+use Rattle.protocol.specs.Layout.{signatureLength, valueLength, submitLength, noticeLength, fullEntryLength, fullEntryAt, evidenceEntryLength, evidenceEntryAt, banks, lengthOfBanks, banksBefore, slotLengthIn, slotLength, storeLength, slotAt}
 use Rattle.protocol.specs.Values.{isLower}
-use Rattle.protocol.specs.Message.{Entry, Pair, Message, Submit, Notice, Full, Evidence, renderEntry, renderEntries, renderPair, renderPairs, render, renderAll}
+use Rattle.protocol.specs.Message.{Entry, Pair, Message, Submit, Notice, Full, Evidence, fullForm, evidenceForm, render, renderAll}
+use Rattle.protocol.specs.EntriesLaws.{Sized, length-entries}
 use Rattle.protocol.specs.Certificate.{fill, fillEach, setOf}
 use Rattle.protocol.specs.Refusals.{every, rising}
 
@@ -98,31 +100,12 @@ unfolding fillEach
 fill-snoc n bank f [] s store = refl
 fill-snoc n bank f (x ∷ xs) s store = fill-snoc n bank f xs s (fill n bank x (f x) store)
 
-pub entries-append : (xs ys : List Entry) → renderEntries (xs ++ ys) ≡ renderEntries xs ++ renderEntries ys
-unfolding renderEntries
-entries-append [] ys = refl
-entries-append (x ∷ xs) ys = rw (entries-append xs ys) (sym (append-assoc (renderEntry x) (renderEntries xs) (renderEntries ys)))
-
-pub pairs-append : (xs ys : List Pair) → renderPairs (xs ++ ys) ≡ renderPairs xs ++ renderPairs ys
-unfolding renderPairs
-pairs-append [] ys = refl
-pairs-append (x ∷ xs) ys = rw (pairs-append xs ys) (sym (append-assoc (renderPair x) (renderPairs xs) (renderPairs ys)))
-
 pub all-append : (xs ys : List Message) → renderAll (xs ++ ys) ≡ renderAll xs ++ renderAll ys
 unfolding renderAll
 all-append [] ys = refl
 all-append (x ∷ xs) ys = rw (all-append xs ys) (sym (append-assoc (render x) (renderAll xs) (renderAll ys)))
 
 -- ---- lengths
-
--- a FULL's entries, and an EVIDENCE's, with signatures of the right length
-abbrev pub Sized : List Entry → Type 0
-Sized [] = Unit {0}
-Sized (e ∷ es) = (length (e .signature) ≡ signatureLength) × Sized es
-
-abbrev pub SizedPairs : List Pair → Type 0
-SizedPairs [] = Unit {0}
-SizedPairs (p ∷ ps) = (length (p .lower) ≡ signatureLength) × (length (p .higher) ≡ signatureLength) × SizedPairs ps
 
 pub length-submit : (round seat : ℕ) (value signature : List ℕ) → length value ≡ valueLength → length signature ≡ signatureLength → length (render (Submit round seat value signature)) ≡ submitLength
 unfolding render submitLength signatureLength
@@ -132,37 +115,29 @@ pub length-notice : (round seat : ℕ) (value : List ℕ) → length value ≡ v
 unfolding render noticeLength
 length-notice round seat value v = simp (length-append, length-be) (omega arith)
 
-pub length-entry : (e : Entry) → length (e .signature) ≡ signatureLength → length (renderEntry e) ≡ fullEntryLength
-unfolding renderEntry fullEntryLength signatureLength
-length-entry e h = omega arith
+pub length-full : (round sender : ℕ) (value : List ℕ) (es : List Entry) → length value ≡ valueLength → Sized fullForm es → length (render (Full round sender value es)) ≡ fullEntryAt (length es)
+unfolding render fullForm fullEntryAt fullEntryLength
+length-full round sender value es v h = simp (length-append, length-be) (omega (arith, length-entries fullForm es h))
 
-pub length-entries : (es : List Entry) → Sized es → length (renderEntries es) ≡ fullEntryLength * length es
-unfolding renderEntries renderEntry fullEntryLength signatureLength
-length-entries [] h = refl
-length-entries (e ∷ es) h = simp length-append (omega (arith, length-entries es (h .1)))
-
-pub length-full : (round sender : ℕ) (value : List ℕ) (es : List Entry) → length value ≡ valueLength → Sized es → length (render (Full round sender value es)) ≡ fullEntryAt (length es)
-unfolding render fullEntryAt
-length-full round sender value es v h = simp (length-append, length-be) (omega (arith, length-entries es h))
-
-pub length-pair : (p : Pair) → length (p .lower) ≡ signatureLength → length (p .higher) ≡ signatureLength → length (renderPair p) ≡ evidenceEntryLength
-unfolding renderPair evidenceEntryLength signatureLength
-length-pair p l h = simp length-append (omega arith)
-
-pub length-pairs : (ps : List Pair) → SizedPairs ps → length (renderPairs ps) ≡ evidenceEntryLength * length ps
-unfolding renderPairs renderPair evidenceEntryLength signatureLength
-length-pairs [] h = refl
-length-pairs (p ∷ ps) h = simp length-append (omega (arith, length-pairs ps (h .2)))
-
-pub length-evidence : (round : ℕ) (lower higher : List ℕ) (ps : List Pair) → length lower ≡ valueLength → length higher ≡ valueLength → SizedPairs ps → length (render (Evidence round lower higher ps)) ≡ evidenceEntryAt (length ps)
-unfolding render evidenceEntryAt
-length-evidence round lower higher ps l g h = simp (length-append, length-be) (omega (arith, length-pairs ps h))
+pub length-evidence : (round : ℕ) (lower higher : List ℕ) (ps : List Pair) → length lower ≡ valueLength → length higher ≡ valueLength → Sized (evidenceForm lower higher) ps
+    → length (render (Evidence round lower higher ps)) ≡ evidenceEntryAt (length ps)
+unfolding render evidenceForm evidenceEntryAt evidenceEntryLength
+length-evidence round lower higher ps l g h = simp (length-append, length-be) (omega (arith, length-entries (evidenceForm lower higher) ps h))
 
 -- ---- slots
 
--- the slot of a seat in either bank lies in a store of the stated length
-pub slot-fits : (n bank seat : ℕ) → bank < 2 → seat < n → slotAt n bank seat + signatureLength ≤ storeLength n
-unfolding slotAt storeLength signatureLength
-slot-fits n zero seat b h = omega arith
-slot-fits n (suc zero) seat b h = omega arith
-slot-fits n (suc (suc bank)) seat b h = absurd (omega arith)
+-- the slot of a seat lies in a store of the stated length, in every bank of a list
+slots-fit : (n bank seat : ℕ) (list : List ℕ) → bank < length list → seat < n
+    → lengthOfBanks (banksBefore bank list) * n + slotLengthIn bank list * seat + slotLengthIn bank list ≤ lengthOfBanks list * n
+unfolding lengthOfBanks banksBefore slotLengthIn
+slots-fit n bank seat [] b h = absurd (omega arith)
+slots-fit n zero seat (slot ∷ rest) b h =
+    let room : slot * suc seat ≤ slot * n = mul-le-mul-left slot (omega arith) in
+    omega arith
+slots-fit n (suc bank) seat (slot ∷ rest) b h =
+    let later = slots-fit n bank seat rest (omega arith) h in
+    omega arith
+
+pub slot-fits : (n bank seat : ℕ) → bank < length banks → seat < n → slotAt n bank seat + slotLength bank ≤ storeLength n
+unfolding slotAt slotLength storeLength
+slot-fits n bank seat b h = slots-fit n bank seat banks b h

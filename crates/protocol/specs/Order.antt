@@ -9,7 +9,7 @@ use Rattle.refusal.specs.Refusal.{firstOf}
 use Rattle.refusal.specs.Lowest.{numbers, riseFrom, rise, both-true, Lowest, firstOf-is, _before_, firstOf-before}
 use Rattle.protocol.specs.Layout.{outLength, evidenceOutLength}
 use Rattle.protocol.specs.Message.{read}
-use Rattle.protocol.specs.Refusals.{Condition, Checks, every, SIZE, SEAT, ROUND, RECORD, KEYS, STORE, OUT, SAID, GARBLED, OTHER-ROUND, STRANGER, DISORDER, EARLY, SIGNATURE, NO-CONFLICT-IN, NO-CONFLICT-BETWEEN, KEY-MATERIAL, outsideConditions, recordConditions, formConditions, signatureConditions, certificateConditions, twoConditions, openingConditions, submitConditions, stepConditions, evidenceConditions, makingConditions, lowerConditions, checkConditions, makeKeyConditions, signConditions}
+use Rattle.protocol.specs.Refusals.{Condition, Checks, every, SIZE, SEAT, ROUND, RECORD, KEYS, STORE, OUT, SAID, GARBLED, OTHER-ROUND, STRANGER, DISORDER, EARLY, early, SIGNATURE, NO-CONFLICT-IN, NO-CONFLICT-BETWEEN, KEY-MATERIAL, outsideConditions, recordConditions, messageConditions, certificateConditions, twoConditions, openingConditions, submitConditions, stepConditions, evidenceConditions, makingConditions, lowerConditions, checkConditions, makeKeyConditions, signConditions}
 use Rattle.protocol.specs.Signatures.{checkSignature, makeKeyRefusal, makeKey, signRefusal, sign}
 use Rattle.protocol.specs.Calls as calls
 use Rattle.protocol.specs.declared.Record.{Record}
@@ -38,7 +38,7 @@ module _
     table =
         let m = read n bytes in
         SIZE n ∷ SEAT n seat ∷ ROUND round ∷ RECORD r ∷ KEYS n keys ∷ STORE n store ∷ OUT (outLength n) out ∷ SAID r ∷ GARBLED true
-        ∷ OTHER-ROUND round m ∷ STRANGER n m ∷ DISORDER m ∷ EARLY r m ∷ SIGNATURE checks m ∷ NO-CONFLICT-IN m ∷ KEY-MATERIAL seed I tree
+        ∷ OTHER-ROUND round m ∷ STRANGER n m ∷ DISORDER m ∷ EARLY (early r m) ∷ SIGNATURE checks m ∷ NO-CONFLICT-IN m ∷ KEY-MATERIAL seed I tree
         ∷ []
 
     pub table-numbers : numbers table ≡ 1 ∷ 2 ∷ 3 ∷ 4 ∷ 5 ∷ 6 ∷ 7 ∷ 8 ∷ 9 ∷ 10 ∷ 11 ∷ 12 ∷ 13 ∷ 14 ∷ 15 ∷ 16 ∷ []
@@ -79,7 +79,7 @@ module _
 
     -- computed: a list's numbers don't hang on its conditions
     pub lists-rise : every rise (map numbers lists) ≡ true
-    unfolding every rise riseFrom numbers openingConditions submitConditions stepConditions evidenceConditions checkConditions makeKeyConditions signConditions outsideConditions recordConditions formConditions signatureConditions certificateConditions
+    unfolding every rise riseFrom numbers openingConditions submitConditions stepConditions evidenceConditions checkConditions makeKeyConditions signConditions outsideConditions recordConditions messageConditions certificateConditions
     lists-rise = refl
 
     -- each call answers the lowest number of its list whose condition holds, or 0; over two certificates that of the call's own,
@@ -98,7 +98,7 @@ module _
 
     two-before : (given : List Condition) → rise (numbers given) ≡ true
         → firstOf (given ++ twoConditions checks n round (read n first) (read n second)) ≡ (firstOf given before firstOf of-first before firstOf of-second before firstOf of-both)
-    unfolding twoConditions certificateConditions formConditions signatureConditions rise riseFrom numbers
+    unfolding twoConditions certificateConditions messageConditions rise riseFrom numbers
     two-before given e =
         firstOf-before given _ e
         ∙ ap (λ later. firstOf given before later) (firstOf-before of-first (of-second ++ of-both) refl ∙ ap (λ later. firstOf of-first before later) (firstOf-before of-second of-both refl))
