@@ -13,9 +13,9 @@ use borrow.Author.Tests.{ne-eqb, not-false}
 use Rattle.quorum.specs.Quorum.{In}
 use Rattle.refusal.specs.Refusal.{firstOf, unrefused}
 use Rattle.protocol.specs.Layout.{valueLength, storeLength, outLength}
-use Rattle.protocol.specs.Message.{Entry, Message, Submit, Notice, Full, Evidence, Garbled, render, read, roundOf, entrySeats, seatsOf, signed}
-use Rattle.protocol.specs.Laws.{in-set}
-use Rattle.protocol.specs.ReadLaws.{WellFormed, read-render}
+use Rattle.protocol.specs.Message.{Entry, Message, Submit, Notice, Full, Evidence, Garbled, render, read, roundOf, entrySeats, seatsOf, signed, WellFormed}
+use Rattle.protocol.specs.CertificateLaws.{in-set}
+use Rattle.protocol.specs.MessageLaws.{read-render}
 use Rattle.protocol.specs.Refusals.{wrongKeys, isForStep, isFull, isEvidence, rising, early, stepConditions}
 use Rattle.protocol.specs.Step.{State, otherHeard, owesFull, stepped}
 use Rattle.protocol.specs.Calls.{start, checkedBy, evidenceCheck}

@@ -17,7 +17,9 @@ use Rattle.protocol.specs.Layout.{signatureLength}
 use Rattle.protocol.specs.Values.{isLower}
 use Rattle.protocol.specs.Message.{Entry, Pair, Message, Evidence, entrySeats}
 use Rattle.protocol.specs.Certificate.{Certificate, setOf, signatureOf, certificateOf, entryOf, entriesOf, pairOf, pairsOf, orderedEvidence, evidenceOf}
-use Rattle.protocol.specs.Laws.{lower-other, in-set, set-seats, Sized, SizedPairs}
+use Rattle.protocol.specs.ValuesLaws.{lower-other}
+use Rattle.protocol.specs.CertificateLaws.{in-set, set-seats}
+use Rattle.protocol.specs.UNKNOWN.{Sized, SizedPairs}
 use Rattle.protocol.specs.Refusals.{Checks, rising}
 use Rattle.round.specs.Round.{Each, Relation}
 use Rattle.reading.specs.Lists.{cond-elim, each-map, rising-first, rising-of-rises}

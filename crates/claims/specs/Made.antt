@@ -9,7 +9,7 @@ use native.Mathlib.Omega.{arith}
 use Rattle.quorum.specs.Quorum.{t0, size, shared}
 use Rattle.refusal.specs.Refusal.{firstOf, unrefused}
 use Rattle.protocol.specs.Message.{Pair, Message, Evidence, render, read, entrySeats}
-use Rattle.protocol.specs.ReadLaws.{read-render}
+use Rattle.protocol.specs.MessageLaws.{read-render}
 use Rattle.protocol.specs.Certificate.{setOf, certificateIn}
 use Rattle.protocol.specs.Refusals.{wrongKeys, isEvidence, notLowerFirst}
 use Rattle.protocol.specs.Calls.{makingBy, making, checkedBy, evidenceCheck}

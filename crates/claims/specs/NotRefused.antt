@@ -21,8 +21,8 @@ use Rattle.rfc8554.specs.Ots.{knownOts}
 use Rattle.rfc8554.specs.Tree.{knownLms}
 use Rattle.rfc8554.specs.Verify.{lmsTypeOf, otsTypeOf, valid}
 use Rattle.protocol.specs.Layout.{valueLength, signatureLength, treeLength, messageLimit, keyLength, keyAt, storeLength, outLength, evidenceOutLength}
-use Rattle.protocol.specs.Message.{Message, Notice, render, read, signed, seatsOf, entrySeats, roundOf}
-use Rattle.protocol.specs.ReadLaws.{WellFormed, read-render}
+use Rattle.protocol.specs.Message.{Message, Notice, render, read, signed, seatsOf, entrySeats, roundOf, WellFormed}
+use Rattle.protocol.specs.MessageLaws.{read-render}
 use Rattle.protocol.specs.Certificate.{certificateIn}
 use Rattle.protocol.specs.Record.{lastRound, wrongSize, wrongSeat, wrongRound, impossible, fresh}
 use Rattle.protocol.specs.Refusals.{Checks, every, lengthIsnt, wrongKey, certificateConditions, checkConditions, makeKeyConditions, signConditions, keyAllowed, keysAllowed, wrongKeys, shortStore, shortOut, said, isForStep, isFull, isEvidence, wrongLengths, rising, early, badSignature, notLowerFirst, equalValues, formConditions, signatureConditions, outsideConditions, recordConditions, openingConditions, submitConditions, stepConditions, evidenceConditions, twoConditions, makingConditions}

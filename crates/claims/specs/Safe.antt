@@ -10,8 +10,8 @@ use native.Mathlib.Omega.{arith}
 use borrow.Author.Tests.{le-ltb, eq-eqb, not-false}
 use Rattle.refusal.specs.Refusal.{firstOf, unrefused}
 use Rattle.protocol.specs.Values.{isLower}
-use Rattle.protocol.specs.Message.{Pair, Message, Submit, Notice, Full, Evidence, Garbled, render, renderAll, read, signed, entrySeats}
-use Rattle.protocol.specs.ReadLaws.{WellFormed, read-render}
+use Rattle.protocol.specs.Message.{Pair, Message, Submit, Notice, Full, Evidence, Garbled, render, renderAll, read, signed, entrySeats, WellFormed}
+use Rattle.protocol.specs.MessageLaws.{read-render}
 use Rattle.protocol.specs.Certificate.{certificateIn, evidenceOf}
 use Rattle.protocol.specs.Refusals.{Checks, isFull, isEvidence, notLowerFirst, makingConditions}
 use Rattle.protocol.specs.Calls.{makingBy, making, made, checkedBy, evidenceCheck}

@@ -14,7 +14,7 @@ use Rattle.octets.specs.Laws.{length-patch, drop-patch}
 use Rattle.octets.specs.StringLaws.{part-left, part-all, part-patch}
 use Rattle.protocol.specs.Layout.{signatureLength, storeLength, slotAt}
 use Rattle.protocol.specs.Certificate.{slot, fill, fillEach}
-use Rattle.protocol.specs.Laws.{slot-fits}
+use Rattle.protocol.specs.LayoutLaws.{slot-fits}
 use Rattle.round.specs.Round.{Each}
 
 -- ---- parts that a write doesn't touch

@@ -7,8 +7,7 @@ use Prim.Native.Nat.{ℕ, _≤_}
 use native.Mathlib.Omega.{arith}
 use Rattle.quorum.specs.Quorum.{k}
 use Rattle.refusal.specs.Refusal.{unrefused}
-use Rattle.protocol.specs.Message.{Pair, Message, Submit, Notice, Full, Evidence, Garbled}
-use Rattle.protocol.specs.ReadLaws.{WellFormed}
+use Rattle.protocol.specs.Message.{Pair, Message, Submit, Notice, Full, Evidence, Garbled, WellFormed}
 use Rattle.protocol.specs.Record.{fresh, lastRound}
 use Rattle.protocol.specs.Refusals.{Checks, wrongKeys}
 use Rattle.protocol.specs.Calls.{openedBy, opening}

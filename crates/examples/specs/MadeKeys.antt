@@ -16,7 +16,7 @@ use Rattle.rfc8554.specs.Tree.{publicKey, treeFilled}
 use Rattle.rfc8554.specs.TreeLaws.{length-treeFilled}
 use Rattle.rfc8554.specs.VerifyLaws.{length-publicKey, lmsType-publicKey, otsType-publicKey}
 use Rattle.protocol.specs.Signatures.{MadeKey, MadeSignature, makeKey, sign, signedBytes, seatKey, checks}
-use Rattle.protocol.specs.SignatureLaws.{length-signedBytes, length-lmsSignature-six-four, makeKey-unrefused, sign-unrefused}
+use Rattle.protocol.specs.SignaturesLaws.{length-signedBytes, length-lmsSignature-six-four, makeKey-unrefused, sign-unrefused}
 use Rattle.protocol.specs.SignatureClaim.{made-signature-checks}
 use Rattle.protocol.specs.Layout.{valueLength, signatureLength}
 use Rattle.claims.specs.NotRefused.{Table}

@@ -15,9 +15,9 @@ use Rattle.quorum.specs.Quorum.{k, bit, In, has, size, shared, with, seats}
 use Rattle.quorum.specs.Laws.{bit-cases, has-true, bit-with-same, bit-with-other, bit-shared, same-seats, shared-comm, size-shared-le, size-with-new, mem-seats}
 use Rattle.refusal.specs.Refusal.{firstOf, unrefused}
 use Rattle.protocol.specs.Layout.{storeLength, outLength, evidenceEntryLength, evidenceEntryAt, evidenceLength, evidenceOutLength}
-use Rattle.protocol.specs.Message.{Entry, Message, Submit, Notice, Full, Evidence, Garbled, Signed, render, renderAll, read, roundOf, entrySeats, seatsOf, signed}
-use Rattle.protocol.specs.ReadLaws.{WellFormed, read-render}
-use Rattle.protocol.specs.Laws.{in-set, set-seats}
+use Rattle.protocol.specs.Message.{Entry, Message, Submit, Notice, Full, Evidence, Garbled, Signed, render, renderAll, read, roundOf, entrySeats, seatsOf, signed, WellFormed}
+use Rattle.protocol.specs.MessageLaws.{read-render}
+use Rattle.protocol.specs.CertificateLaws.{in-set, set-seats}
 use Rattle.protocol.specs.Certificate.{setOf, ownCertificate, certificateOf, certificateIn, entryOf, entriesOf, fullOf}
 use Rattle.protocol.specs.Refusals.{isForStep, isFull, isEvidence, rising, early}
 use Rattle.protocol.specs.Step.{State, write, collect, isWanted, hearSubmit, reply, isComplete, confirm, hearOwn, confirmIfComplete, submitted, stepped}

@@ -15,7 +15,7 @@ use Rattle.quorum.specs.Laws.{bit-cases, bit-empty, bit-with-same, bit-with-oth
 use Rattle.protocol.specs.Values.{isLower}
 use Rattle.protocol.specs.Message.{Entry, Full, Evidence}
 use Rattle.protocol.specs.Certificate.{setOf, signatureOf, entriesOf, fullOf, pairsOf, orderedEvidence, evidenceOf}
-use Rattle.protocol.specs.Laws.{in-set, set-snoc}
+use Rattle.protocol.specs.CertificateLaws.{in-set, set-snoc}
 use Rattle.protocol.specs.Refusals.{rising}
 use Rattle.round.specs.Round.{Each}
 use Rattle.reading.specs.Lists.{cond-elim, and-true-both, or-false-both, each-nil, each-cons, each-map, rising-first}

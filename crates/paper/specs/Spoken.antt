@@ -13,7 +13,8 @@ use Rattle.protocol.specs.Layout.{valueLength}
 use Rattle.protocol.specs.Values.{isLower}
 use Rattle.protocol.specs.Message.{Entry, Pair, Message, Submit, Notice, Full, Evidence}
 use Rattle.protocol.specs.Certificate.{Certificate, certificateOf, entryOf, entriesOf, fullOf, pairOf, pairsOf, orderedEvidence, evidenceOf}
-use Rattle.protocol.specs.Laws.{lower-other, in-set}
+use Rattle.protocol.specs.ValuesLaws.{lower-other}
+use Rattle.protocol.specs.CertificateLaws.{in-set}
 use Rattle.protocol.specs.Refusals.{rising}
 use Rattle.round.specs.Round.{Each, Are, StandsIn}
 use Rattle.reading.specs.Reading.{are-unique}

@@ -14,9 +14,8 @@ use Rattle.octets.specs.Octets.{be}
 use Rattle.octets.specs.Laws.{length-be, length-part}
 use Rattle.quorum.specs.Quorum.{k}
 use Rattle.protocol.specs.Layout.{valueLength, signatureLength, submitLength, noticeLength, fullEntryLength, fullEntryAt, fullLength, evidenceEntryLength, evidenceEntryAt, evidenceLength}
-use Rattle.protocol.specs.Message.{Entry, Pair, Message, Submit, Notice, Full, Evidence, Garbled, render, renderPairs, renderAll, byteAt, readValue, readSignature, entryCommands, readEntry, readEntries, pairCommands, readPair, readPairs, fitsSubmit, fitsNotice, fitsFull, fitsEvidence, readSubmit, readNotice, readFull, readEvidence, read}
-use Rattle.protocol.specs.Laws.{length-submit, length-notice, length-full, length-evidence}
-use Rattle.protocol.specs.ReadLaws.{WellFormed, read-render}
+use Rattle.protocol.specs.Message.{Entry, Pair, Message, Submit, Notice, Full, Evidence, Garbled, render, renderPairs, renderAll, byteAt, readValue, readSignature, entryCommands, readEntry, readEntries, pairCommands, readPair, readPairs, fitsSubmit, fitsNotice, fitsFull, fitsEvidence, readSubmit, readNotice, readFull, readEvidence, read, WellFormed}
+use Rattle.protocol.specs.MessageLaws.{length-submit, length-notice, length-full, length-evidence, read-render}
 use Rattle.round.specs.Round.{Each, Are}
 use Rattle.reading.specs.Lists.{cond-elim, and-true-both, each-nil, each-one, each-append}
 

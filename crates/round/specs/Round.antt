@@ -7,8 +7,7 @@ use mathlib.Core.List.{List, [], _∷_, List·Memᴰ}
 use mathlib.Core.Logic.{_⊎_, _≢_}
 use lib.ListN.{length, take}
 use Rattle.protocol.specs.Layout.{storeLength, outLength}
-use Rattle.protocol.specs.Message.{Message, Notice, Full, Signed, Entry, render, renderAll, read, signed, entrySeats}
-use Rattle.protocol.specs.ReadLaws.{WellFormed}
+use Rattle.protocol.specs.Message.{Message, Notice, Full, Signed, Entry, render, renderAll, read, signed, entrySeats, WellFormed}
 use Rattle.protocol.specs.Refusals.{Checks, isEvidence}
 use Rattle.protocol.specs.Calls.{Result, outAfter, opening, submit, step, answer, making, made, evidenceCheck}
 use Rattle.protocol.specs.declared.Record.{Record}

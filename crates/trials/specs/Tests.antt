@@ -13,9 +13,9 @@ use Rattle.octets.specs.Strings.{same}
 use Rattle.octets.specs.StringLaws.{same-true}
 use Rattle.quorum.specs.Quorum.{t0, k, size}
 use Rattle.protocol.specs.Layout.{valueLength, signatureLength, storeLength, outLength}
-use Rattle.protocol.specs.Message.{Entry, Pair, Message, Submit, Notice, Full, Evidence, Garbled, Signed, render, read, signed, entrySeats}
-use Rattle.protocol.specs.Laws.{Sized, SizedPairs}
-use Rattle.protocol.specs.ReadLaws.{WellFormed, read-render}
+use Rattle.protocol.specs.Message.{Entry, Pair, Message, Submit, Notice, Full, Evidence, Garbled, Signed, render, read, signed, entrySeats, WellFormed}
+use Rattle.protocol.specs.UNKNOWN.{Sized, SizedPairs}
+use Rattle.protocol.specs.MessageLaws.{read-render}
 use Rattle.protocol.specs.Refusals.{every, isFull, isEvidence}
 use Rattle.protocol.specs.Calls.{opening, evidenceCheck}
 use Rattle.round.specs.Round.{Each, Are, Setting, Call, BySubmit, ByStep, ByThinEntry, IsStep, Honest, Called, outOf, resultOf, listOf, Writes, Submits, Confirms, Reached, HaveReached, writtenIn, WritesEvidence, Names, IsOpened}
