@@ -13,7 +13,7 @@ use Rattle.octets.specs.Octets.{be, part}
 use Rattle.octets.specs.Laws.{length-be}
 use Rattle.quorum.specs.Quorum.{k}
 use Rattle.protocol.specs.Layout.{valueLength, signatureLength, seatAt, valueAt, submitLength, noticeLength, fullCountAt, fullStart, fullEntryLength, fullEntryAt, fullLength, lowerAt, higherAt, evidenceCountAt, evidenceStart, evidenceEntryLength, evidenceEntryAt, evidenceLength}
-use Rattle.protocol.specs.Entries.{Form, Laid, renderEntries}
+use Rattle.protocol.specs.Entries.{Each, Form, Laid, renderEntries}
 use Rattle.protocol.specs.EntriesLaws.{Faithful, length-entries, commands-right, entries-read}
 use Rattle.protocol.specs.Message.{Entry, Pair, Message, Submit, Notice, Full, Evidence, Garbled, WellFormed, fullForm, evidenceForm, formOf, render, renderAll, byteAt, readRound, readValue, readSignature, fitsSubmit, fitsNotice, fitsFull, fitsEvidence, readSubmit, readNotice, readFull, readEvidence, read}
 
@@ -52,6 +52,19 @@ full-faithful seat bytes = (refl, refl)
 pub evidence-faithful : (lower higher : List ℕ) → Faithful (evidenceForm lower higher)
 unfolding evidenceForm
 evidence-faithful lower higher seat bytes = (refl, take-append-drop signatureLength bytes)
+
+-- a pair over the message's values, with signatures of their width, is as its form lays it out; and such a pair has these values
+pub pair-laid : (lower higher : List ℕ) (p : Pair) → p .lowerValue ≡ lower → p .higherValue ≡ higher → length (p .lower) ≡ signatureLength → length (p .higher) ≡ signatureLength
+    → (length (p .lower ++ p .higher) ≡ evidenceForm lower higher .held) × (evidenceForm lower higher .make (p .seat) (p .lower ++ p .higher) ≡ p)
+unfolding evidenceForm
+pair-laid lower higher p v w l h = (
+  simp length-append (omega arith),
+  rw (take-at (p .lower) (p .higher) signatureLength l, drop-at (p .lower) (p .higher) signatureLength l, ← v, ← w),
+)
+
+pub laid-values : (lower higher : List ℕ) (ps : List Pair) → Laid (evidenceForm lower higher) ps → Each (λ (p : Pair). (lower ≡ p .lowerValue) × (higher ≡ p .higherValue)) ps
+unfolding evidenceForm
+laid-values lower higher ps h p d = let made = h p d .1 in (ap (λ (x : Pair). x .lowerValue) made, ap (λ (x : Pair). x .higherValue) made)
 
 -- ---- SUBMIT and NOTICE
 

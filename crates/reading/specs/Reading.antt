@@ -6,18 +6,18 @@ use mathlib.Core.List.{List, [], _∷_, _++_, append-assoc, List·Memᴰ·head, 
 use Prim.Native.Nat.{ℕ, zero, suc, _+_, _*_, _≤_}
 use native.Mathlib.Nat.{mul-suc}
 use native.Mathlib.Omega.{arith}
-use lib.Dec.{eqb}
+use lib.Dec.{leb, eqb}
 use lib.ListN.{length, take, drop, getD, length-append}
 use lib.Seq.{take-at, drop-at, take-append-seam, getD-at}
 use borrow.Author.Tests.{eqb-true}
 use Rattle.octets.specs.Octets.{be, part}
 use Rattle.octets.specs.Laws.{length-be, length-part}
 use Rattle.quorum.specs.Quorum.{k}
-use Rattle.protocol.specs.Layout.{valueLength, signatureLength, entryLength, valueAt, submitSignatureAt, submitLength, noticeLength, fullCountAt, fullEntryLength, fullEntryAt, fullLength, evidenceCountAt, evidenceEntryAt, evidenceLength}
+use Rattle.protocol.specs.Layout.{valueLength, signatureLength, entryLength, valueAt, submitSignatureAt, submitLength, noticeLength, fullCountAt, fullEntryLength, fullEntryAt, fullLength, lowerAt, higherAt, evidenceCountAt, evidenceEntryLength, evidenceEntryAt, evidenceLength}
 use Rattle.protocol.specs.Entries.{Form, Laid, placeOf, renderEntries, entryCommands, readEntry, readEntries}
 use Rattle.protocol.specs.EntriesLaws.{Faithful, length-read}
-use Rattle.protocol.specs.Message.{Pair, Message, Submit, Notice, Full, Evidence, Garbled, WellFormed, fullForm, evidenceForm, render, renderAll, byteAt, readValue, readSignature, fitsSubmit, fitsNotice, fitsFull, fitsEvidence, readSubmit, readNotice, readFull, readEvidence, read}
-use Rattle.protocol.specs.MessageLaws.{length-submit, length-notice, length-full, length-evidence, full-faithful, read-render}
+use Rattle.protocol.specs.Message.{Pair, Message, Submit, Notice, Full, Evidence, Garbled, WellFormed, fullForm, evidenceForm, formOf, render, renderAll, byteAt, readValue, readSignature, fitsSubmit, fitsNotice, fitsFull, fitsEvidence, readSubmit, readNotice, readFull, readEvidence, read}
+use Rattle.protocol.specs.MessageLaws.{length-submit, length-notice, length-full, length-evidence, full-faithful, evidence-faithful, read-render}
 use Rattle.round.specs.Round.{Each, Are}
 use Rattle.reading.specs.Lists.{cond-elim, and-true-both, each-nil, each-one, each-append}
 
@@ -38,12 +38,12 @@ module _ {A : Type 0} (form : Form A) (faithful : Faithful form) (bytes : List �
       let more : entryLength (form .held) * suc t ≡ entryLength (form .held) * t + entryLength (form .held) = mul-suc (entryLength (form .held)) t in
       each-append _ (readEntries form t bytes) (readEntry form (placeOf form t) bytes ∷ []) (entries-laid t (omega arith)) (entry-laid (placeOf form t) (omega arith))
 
--- each operand of a message that a step takes has its width
+-- a message's operands have their widths
 abbrev pub Sized : ℕ → Message → Type 0
 Sized n (Submit ρ seat value signature) = (length value ≡ valueLength) × (length signature ≡ signatureLength)
 Sized n (Notice ρ seat value) = length value ≡ valueLength
 Sized n (Full ρ sender value es) = (length value ≡ valueLength) × (length es ≡ k n) × Laid fullForm es
-Sized n (Evidence ρ lower higher ps) = Unit {0}
+Sized n (Evidence ρ lower higher ps) = Laid (evidenceForm lower higher) ps
 Sized n Garbled = Unit {0}
 
 module _ (n : ℕ) (bytes : List ℕ) where
@@ -67,16 +67,21 @@ module _ (n : ℕ) (bytes : List ℕ) where
       let l = eqb-true (length bytes) (fullLength n) (and-true-both (eqb (length bytes) (fullLength n)) (eqb (byteAt bytes 0) 0x03) b .0) in
       (length-part valueAt valueLength bytes (omega arith), length-read fullForm (k n) bytes, entries-laid fullForm full-faithful bytes (k n) (omega arith))
 
-  evidence-sized : Sized n (cond (fitsEvidence n bytes) (readEvidence bytes) Garbled)
-  unfolding readEvidence
-  evidence-sized = cond-elim (Sized n) (fitsEvidence n bytes) (readEvidence bytes) Garbled (λ e. tt) (λ e. tt)
+  evidence-sized : fitsEvidence n bytes ≡ true → Sized n (readEvidence bytes)
+  unfolding fitsEvidence readEvidence evidenceLength evidenceEntryAt evidenceEntryLength evidenceForm placeOf
+  evidence-sized e =
+      let count = byteAt bytes evidenceCountAt in
+      let a = and-true-both (eqb (byteAt bytes 0) 0x05 && leb 1 count && leb count n && eqb (length bytes) (evidenceLength count)) (entryCommands (formOf bytes) count bytes) e .0 in
+      let l = eqb-true (length bytes) (evidenceLength count) (and-true-both (eqb (byteAt bytes 0) 0x05 && leb 1 count && leb count n) (eqb (length bytes) (evidenceLength count)) a .1) in
+      entries-laid (formOf bytes) (evidence-faithful (readValue lowerAt bytes) (readValue higherAt bytes)) bytes count (omega arith)
 
   pub read-sized : Sized n (read n bytes)
   unfolding read
   read-sized =
       cond-elim (Sized n) (fitsSubmit bytes) (readSubmit bytes) _ submit-sized
       (λ a. cond-elim (Sized n) (fitsNotice bytes) (readNotice bytes) _ notice-sized
-      (λ b. cond-elim (Sized n) (fitsFull n bytes) (readFull n bytes) _ full-sized (λ c. evidence-sized)))
+      (λ b. cond-elim (Sized n) (fitsFull n bytes) (readFull n bytes) _ full-sized
+      (λ c. cond-elim (Sized n) (fitsEvidence n bytes) (readEvidence bytes) Garbled evidence-sized (λ d. tt))))
 
 -- ---- where a message ends
 
