@@ -31,7 +31,7 @@ use Rattle.claims.specs.Sound.{Settled, Changed, Certifies, Entries, Sound, Sai
 use Rattle.claims.specs.Certificates.{set-size, seats-rising, sized-entries, entry-seats, entries-of, evidence-elim}
 use Rattle.claims.specs.Parts.{in-below}
 use Rattle.claims.specs.Whole.{reply-stays, hearing-stays, Done, submitted-done, submitted-value, stepped-done}
-use Rattle.reading.specs.Reading.{Laid, read-laid}
+use Rattle.reading.specs.Reading.{Sized, read-sized}
 use Rattle.reading.specs.Messages.{refusalOf, cameTo, outcome-is, step-is}
 use Rattle.claims.specs.Unrefused.{possible, Taken, entries-signed, full-taken, brings, making-taken}
 use Rattle.claims.specs.Journey.{lastOf, WorthyGiven, Worthy}
@@ -309,7 +309,7 @@ module _ (S : Setting) {I : Type 0} (P : Plan I) (z : Splits S P) where
       leaves = outcome-is S (given S P m) r s ∙ rw (passes, step-is S (given S P m) (render m) out r s (given-step m) .1, reads)
 
       done : Done checks W (start r s) t
-      done = stepped-done checks W (start r s) (y .sound) roomy (y .settled) m (brings checks W r m taken-here timely (subst (Laid (r .n)) reads (read-laid (r .n) (render m))) (x .worthy))
+      done = stepped-done checks W (start r s) (y .sound) roomy (y .settled) m (brings checks W r m taken-here timely (subst (Sized (r .n)) reads (read-sized (r .n) (render m))) (x .worthy))
 
       next : Ready (t .unit) (t .store)
       next =
@@ -672,8 +672,8 @@ module _ (S : Setting) {I : Type 0} (P : Plan I) (z : Splits S P) where
       let h = inHand S P in
       let zero : firstOf (conditions S h) ≡ 0 = making-passes in
       let t = making-taken checks n round keys (read n (h .a)) (read n (h .b)) out zero in
-      let ca = certifies-in checks Any n round (read n (h .a)) (t .fullA) (t .takenA) (read-laid n (h .a)) (λ s d. tt) in
-      let cb = certifies-in checks Any n round (read n (h .b)) (t .fullB) (t .takenB) (read-laid n (h .b)) (λ s d. tt) in
+      let ca = certifies-in checks Any n round (read n (h .a)) (t .fullA) (t .takenA) (read-sized n (h .a)) (λ s d. tt) in
+      let cb = certifies-in checks Any n round (read n (h .b)) (t .fullB) (t .takenB) (read-sized n (h .b)) (λ s d. tt) in
       let bytes : makingOf S h ≡ render (evidenceFrom S h) = making-bytes S h ∙ rw zero in
       evidence-elim checks Any (λ m. makingOf S h ≡ render m → MakesEvidence S (boat S P i) (makingOf S h)) n round (certificateIn (read n (h .a))) (certificateIn (read n (h .b))) (z .fits .some) ca cb (t .different)
       (λ lower higher ps y is.
