@@ -1,15 +1,18 @@
--- `wire::slots::keep` meets its contract.
+-- `store::slots::fill` meets its contract.
 use mathlib.Core.Path.{ap, _∙_}
 use Prim.Native.Nat.{ℕ, _+_, _-_}
 use native.Mathlib.Omega.{arith}
 use borrow.Author.Needs.{needs}
 use denote.Ref.{now}
 use Rattle.octets.specs.Octets.{part, patch}
-use Rattle.protocol.specs.Layout.{signatureLength}
+use Rattle.protocol.specs.Layout.{signatureLength, slotLength}
 use Rattle.protocol.specs.Certificate.{fill}
-use Rattle.wire.specs.StringLaws.{patch-part}
-use Rattle.wire.proofs.slots.fill.Statement.{statement}
-use Rattle.wire.proofs.slots.fill.Tie as tie
+use Rattle.store.specs.StoreLaws.{patch-part, slot-signature}
+use Rattle.store.proofs.slots.fill.Statement.{statement}
+use Rattle.store.proofs.slots.fill.Tie as tie
+
+abbrev started : tie.After-slot-at → tie.Start
+started c = c .before .before .before
 
 slot-at-requires : tie.Need-slot-at-requires
 slot-at-requires c κs = search needs
@@ -25,11 +28,11 @@ part-copy-start c = search needs
 
 part-copy-end : tie.Need-part-copy-end
 unfolding signatureLength
-part-copy-end c = omega arith
+part-copy-end c = omega (arith, slot-signature (started c .args .bank))
 
 copy-requires : tie.Need-copy-requires
 unfolding signatureLength
-copy-requires c κs = omega arith
+copy-requires c κs = omega (arith, slot-signature (started (c .before) .args .bank))
 
 same-length : tie.Need-same-length
 same-length c = search needs
@@ -37,11 +40,14 @@ same-length c = search needs
 returns : tie.Need-returns
 unfolding fill part signatureLength
 returns c =
-    let start = c .before .before .before .before .before .before .before in
-    let store = now (start .args .store) in
-    let signature = now (start .args .signature) in
-    let at = c .before .before .before .before .slot-at in
-    patch-part (at .result) (at .result + 1452 - at .result) signature store (c .before .before .copy .last .0) (omega arith) (omega arith) (c .before .before .copy .ensures)
+    let copied = c .before .before in
+    let slot = copied .before .before in
+    let args = started slot .args in
+    let store = now (args .store) in
+    let signature = now (args .signature) in
+    let at = slot .slot-at in
+    let width = slot-signature (args .bank) in
+    patch-part (at .result) (at .result + 1452 - at .result) signature store (copied .copy .last .0) (omega arith) (omega arith) (copied .copy .ensures)
     ∙ ap (λ (a : ℕ). patch a signature store) (at .ensures .0)
 
 pub fill-spec : {M : Type 1} → statement M

@@ -1,4 +1,4 @@
--- `wire::slots::signature_at` meets its contract.
+-- `store::slots::signature_at` meets its contract.
 use mathlib.Core.Path.{_≡_}
 use Prim.Native.Nat.{_+_, _-_}
 use native.Mathlib.Omega.{arith}
@@ -6,8 +6,8 @@ use borrow.Author.Needs.{needs}
 use Rattle.octets.specs.Octets.{part}
 use Rattle.protocol.specs.Layout.{signatureLength}
 use Rattle.protocol.specs.Message.{readSignature}
-use Rattle.wire.proofs.slots.signature_at.Statement.{statement}
-use Rattle.wire.proofs.slots.signature_at.Tie as tie
+use Rattle.store.proofs.slots.signature_at.Statement.{statement}
+use Rattle.store.proofs.slots.signature_at.Tie as tie
 
 add-result : tie.Need-add-result
 add-result c = search needs
@@ -25,7 +25,8 @@ part-result-end c = omega arith
 returns : tie.Need-returns
 unfolding readSignature part signatureLength
 returns c =
-    let n : c .before .args .at + 1452 - c .before .args .at ≡ 1452 = omega arith in
+    let at = c .before .args .at in
+    let n : at + 1452 - at ≡ 1452 = omega arith in
     rw n
 
 pub signature-at-spec : {M : Type 1} → statement M
