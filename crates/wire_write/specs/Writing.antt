@@ -5,9 +5,9 @@ use mathlib.Core.List.{List, [], _∷_, _++_}
 use Prim.Native.Nat.{ℕ, _+_}
 use lib.ListN.{length}
 use Rattle.octets.specs.Octets.{patch, be}
-use Rattle.protocol.specs.Message.{Entry, Pair, renderEntry, renderPair}
-use Rattle.wire.specs.Sources.{signatureFrom}
-use Rattle.wire.specs.declared.sources.Source.{Source}
+use Rattle.quorum.specs.Quorum.{In}
+use Rattle.protocol.specs.Message.{Entry, Pair}
+use Rattle.store.specs.declared.sources.Source.{Source}
 
 -- a buffer after `bytes` were written from index `at`: every other byte keeps what it held, and `end` is the place after them
 pub record Wrote (at : ℕ) (bytes before after : List ℕ) (end : ℕ) : Type 0 where
@@ -22,20 +22,13 @@ head command round seat value = command ∷ be 2 round ++ seat ∷ [] ++ value
 abbrev pub evidenceHead : ℕ → List ℕ → List ℕ → ℕ → List ℕ
 evidenceHead round lower higher count = 0x05 ∷ be 2 round ++ lower ++ higher ++ count ∷ []
 
+-- entries, as they are written: the bytes of a pair don't say its values
 abbrev pub entry : ℕ → List ℕ → Entry
 entry seat signature = record { seat = seat; signature = signature }
 
 abbrev pub pair : ℕ → List ℕ → List ℕ → Pair
-pair seat lower higher = record { seat = seat; lower = lower; higher = higher }
+pair seat lower higher = record { seat = seat; lowerValue = []; higherValue = []; lower = lower; higher = higher }
 
--- what is written for each seat of a list, one after another
-unfoldable pub gathered : (ℕ → List ℕ) → List ℕ → List ℕ
-gathered f [] = []
-gathered f (s ∷ l) = f s ++ gathered f l
-
--- what is written for a seat in FULL and in EVIDENCE
-unfoldable pub entryFor : ℕ → Source → List ℕ → ℕ → List ℕ
-entryFor n source bytes s = renderEntry (entry s (signatureFrom n source bytes s))
-
-unfoldable pub pairFor : ℕ → Source → List ℕ → Source → List ℕ → ℕ → List ℕ
-pairFor n low lows high highs s = renderPair (pair s (signatureFrom n low lows s) (signatureFrom n high highs s))
+-- every seat of a set is the certificate's
+abbrev pub Within : ℕ → Source → Type 0
+Within mask source = (s : ℕ) → In s mask → In s (source .seats)

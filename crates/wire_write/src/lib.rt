@@ -5,14 +5,16 @@ ghost use Prim.Native.Nat.{_+_, _*_, _<_, _≤_};
 ghost use lib.ListN.{length};
 ghost use Rattle.octets.specs.Octets.{be};
 ghost use Rattle.quorum.specs.Quorum.{mostSeats, seats, shared, size};
-ghost use Rattle.protocol.specs.Layout.{valueLength, signatureLength, submitLength, noticeLength, fullEntryLength, fullEntryAt, evidenceEntryLength, evidenceLength};
-ghost use Rattle.protocol.specs.Message.{Submit, Notice, render, renderEntry, renderEntries, renderPair, renderPairs};
+ghost use Rattle.protocol.specs.Layout.{valueLength, signatureLength, operandsAt, submitLength, noticeLength, fullEntryLength, fullEntryAt, evidenceStart, evidenceEntryLength, evidenceLength};
+ghost use Rattle.protocol.specs.Entries.{renderEntry, renderEntries};
+ghost use Rattle.protocol.specs.Message.{Submit, Notice, fullForm, evidenceForm, render};
 ghost use Rattle.protocol.specs.Certificate.{entriesOf, fullOf, pairsOf, orderedEvidence, evidenceOf};
-ghost use Rattle.wire.specs.Writing.{Wrote, head, evidenceHead, entry, pair};
-ghost use Rattle.wire.specs.Sources.{Readable, certificateFrom};
-use crate::sources::Source;
-use crate::sources::signature_of;
-use crate::values::lower;
+ghost use Rattle.store.specs.Sources.{Readable, certificateFrom};
+ghost use Rattle.wire_write.specs.Writing.{Wrote, Within, head, evidenceHead, entry, pair};
+use quorum::Mask;
+use store::sources::Source;
+use store::sources::signature_of;
+use wire::values::lower;
 
 // One byte.
 fn put_byte(out: &mut [u8], at: usize, b: u8) -> usize
@@ -34,7 +36,7 @@ fn put(out: &mut [u8], at: usize, src: &[u8]) -> usize
 
 // What every command starts with: its code and the round.
 fn put_command(out: &mut [u8], at: usize, command: u8, round: u32) -> usize
-    requires { ⌜ at + 3 ≤ length (now out) ⌝ }
+    requires { ⌜ at + operandsAt ≤ length (now out) ⌝ }
     ensures { λ r. ⌜ Wrote at (command ∷ be 2 round) (now (out .entry)) (now (out .exit)) r ⌝ }
 {
     out[at] = command;
@@ -89,7 +91,7 @@ fn put_tag(out: &mut [u8], at: usize, tag: u8, seat: u32) -> usize
 // An entry of FULL.
 fn write_entry(out: &mut [u8], at: usize, seat: u32, signature: &[u8]) -> usize
     requires { ⌜ (seat < 256) × (length (now signature) ≡ signatureLength) × (at + fullEntryLength ≤ length (now out)) ⌝ }
-    ensures { λ r. ⌜ Wrote at (renderEntry (entry seat (now (signature .entry)))) (now (out .entry)) (now (out .exit)) r ⌝ }
+    ensures { λ r. ⌜ Wrote at (renderEntry fullForm (entry seat (now (signature .entry)))) (now (out .entry)) (now (out .exit)) r ⌝ }
 {
     let a = put_tag(out, at, 4, seat);
     put(out, a, signature)
@@ -98,7 +100,7 @@ fn write_entry(out: &mut [u8], at: usize, seat: u32, signature: &[u8]) -> usize
 // An entry of EVIDENCE.
 fn write_pair(out: &mut [u8], at: usize, seat: u32, lower: &[u8], higher: &[u8]) -> usize
     requires { ⌜ (seat < 256) × (length (now lower) ≡ signatureLength) × (length (now higher) ≡ signatureLength) × (at + evidenceEntryLength ≤ length (now out)) ⌝ }
-    ensures { λ r. ⌜ Wrote at (renderPair (pair seat (now (lower .entry)) (now (higher .entry)))) (now (out .entry)) (now (out .exit)) r ⌝ }
+    ensures { λ r. ⌜ Wrote at (renderEntry (evidenceForm [] []) (pair seat (now (lower .entry)) (now (higher .entry)))) (now (out .entry)) (now (out .exit)) r ⌝ }
 {
     let a = put_tag(out, at, 6, seat);
     let b = put(out, a, lower);
@@ -108,7 +110,7 @@ fn write_pair(out: &mut [u8], at: usize, seat: u32, lower: &[u8], higher: &[u8])
 // The entries of FULL for a certificate, rising.
 fn write_entries(out: &mut [u8], at: usize, n: u32, source: Source, m: &[u8]) -> usize
     requires { ⌜ (n ≤ mostSeats) × Readable n source (now m) × (at + fullEntryLength * length (seats n (source .seats)) ≤ length (now out)) ⌝ }
-    ensures { λ r. ⌜ Wrote at (renderEntries (entriesOf n (certificateFrom n source [] (now (m .entry))))) (now (out .entry)) (now (out .exit)) r × (r ≡ at + fullEntryLength * length (seats n (source .seats))) ⌝ }
+    ensures { λ r. ⌜ Wrote at (renderEntries fullForm (entriesOf n (certificateFrom n source [] (now (m .entry))))) (now (out .entry)) (now (out .exit)) r × (r ≡ at + fullEntryLength * length (seats n (source .seats))) ⌝ }
 {
     let mask = source.seats;
     let mut end = at;
@@ -142,20 +144,20 @@ pub fn write_full(
     write_entries(out, b, n, source, m)
 }
 
-// The entries of EVIDENCE for the seats that two certificates share, rising.
+// The entries of EVIDENCE for the seats of a set, rising. Both certificates have these seats.
 fn write_pairs(
     out: &mut [u8],
     at: usize,
     n: u32,
+    mask: Mask,
     low: Source,
     lows: &[u8],
     high: Source,
     highs: &[u8],
 ) -> usize
-    requires { ⌜ (n ≤ mostSeats) × Readable n low (now lows) × Readable n high (now highs) × (at + evidenceEntryLength * length (seats n (shared (low .seats) (high .seats))) ≤ length (now out)) ⌝ }
-    ensures { λ r. ⌜ Wrote at (renderPairs (pairsOf n (certificateFrom n low [] (now (lows .entry))) (certificateFrom n high [] (now (highs .entry))))) (now (out .entry)) (now (out .exit)) r × (r ≡ at + evidenceEntryLength * length (seats n (shared (low .seats) (high .seats)))) ⌝ }
+    requires { ⌜ (n ≤ mostSeats) × Within mask low × Readable n low (now lows) × Within mask high × Readable n high (now highs) × (at + evidenceEntryLength * length (seats n mask) ≤ length (now out)) ⌝ }
+    ensures { λ r. ⌜ Wrote at (renderEntries (evidenceForm [] []) (pairsOf n mask (certificateFrom n low [] (now (lows .entry))) (certificateFrom n high [] (now (highs .entry))))) (now (out .entry)) (now (out .exit)) r × (r ≡ at + evidenceEntryLength * length (seats n mask)) ⌝ }
 {
-    let mask = quorum::shared(low.seats, high.seats);
     let mut end = at;
     let mut s = 0;
     while s < n {
@@ -182,8 +184,8 @@ fn write_evidence_head(
     higher: &[u8],
     count: u32,
 ) -> usize
-    requires { ⌜ (count < 256) × (length (now lower) ≡ valueLength) × (length (now higher) ≡ valueLength) × (at + 68 ≤ length (now out)) ⌝ }
-    ensures { λ r. ⌜ Wrote at (evidenceHead round (now (lower .entry)) (now (higher .entry)) count) (now (out .entry)) (now (out .exit)) r × (r ≡ at + 68) ⌝ }
+    requires { ⌜ (count < 256) × (length (now lower) ≡ valueLength) × (length (now higher) ≡ valueLength) × (at + evidenceStart ≤ length (now out)) ⌝ }
+    ensures { λ r. ⌜ Wrote at (evidenceHead round (now (lower .entry)) (now (higher .entry)) count) (now (out .entry)) (now (out .exit)) r × (r ≡ at + evidenceStart) ⌝ }
 {
     let a = put_command(out, at, 5, round);
     let b = put(out, a, lower);
@@ -207,9 +209,9 @@ fn write_ordered(
     requires { ⌜ (n ≤ mostSeats) × (length (now lower) ≡ valueLength) × Readable n low (now lows) × (length (now higher) ≡ valueLength) × Readable n high (now highs) × (at + evidenceLength (size (shared (low .seats) (high .seats))) ≤ length (now out)) ⌝ }
     ensures { λ r. ⌜ Wrote at (render (orderedEvidence n round (certificateFrom n low (now (lower .entry)) (now (lows .entry))) (certificateFrom n high (now (higher .entry)) (now (highs .entry))))) (now (out .entry)) (now (out .exit)) r × (r ≡ at + evidenceLength (size (shared (low .seats) (high .seats)))) ⌝ }
 {
-    let count = quorum::shared_count(low.seats, high.seats);
-    let a = write_evidence_head(out, at, round, lower, higher, count);
-    write_pairs(out, a, n, low, lows, high, highs)
+    let mask = quorum::shared(low.seats, high.seats);
+    let a = write_evidence_head(out, at, round, lower, higher, quorum::size(mask));
+    write_pairs(out, a, n, mask, low, lows, high, highs)
 }
 
 // EVIDENCE from two certificates, given in either order: values va and vb, signatures from ma and mb.
