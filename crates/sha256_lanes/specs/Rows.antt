@@ -76,8 +76,8 @@ roundAt k x n s =
     (Fips.add (temp1At k x n s) (temp2At n s))
 
 -- the working variables from index b on stay
-unfoldable pub Kept : ℕ → List ℕ → List ℕ → Type 0
-Kept b s r = (q : List ℕ) (m : ℕ) → b ≤ m → m < 1040 → State q m s → State q m r
+unfoldable pub Unchanged : ℕ → List ℕ → List ℕ → Type 0
+Unchanged b s r = (q : List ℕ) (m : ℕ) → b ≤ m → m < 1040 → State q m s → State q m r
 
 -- ---- every lane
 

@@ -7,7 +7,7 @@ use lib.ListN.{length}
 use Rattle.octets.specs.Octets.{patch, bytes}
 use Rattle.octets.specs.Strings.{joined}
 use Rattle.octets.specs.WriteLaws.{patch-none}
-use Rattle.lmots.specs.LeafLaws.{hash, keys-turn, keys-done}
+use Rattle.lmots.specs.LeafLaws.{hash, keys-next, keys-done}
 use Rattle.lmots.proofs.leaves.ots_keys.Statement.{statement}
 use Rattle.lmots.proofs.leaves.ots_keys.Tie as tie
 
@@ -59,7 +59,7 @@ loop-again c =
     let loop = c .before .before .before .before .before .before .before .loop in
     let hashed = c .before .before .before .before .hashed in
     let copied = c .before .copy in
-    (omega arith, loop .inv .1, omega arith, keys-turn _ _ (loop .out) (hashed .result) (copied .last .0) (loop .l) (hashed .ensures) (loop .inv .3) (copied .ensures))
+    (omega arith, loop .inv .1, omega arith, keys-next _ _ (loop .out) (hashed .result) (copied .last .0) (loop .l) (hashed .ensures) (loop .inv .3) (copied .ensures))
 
 returns : tie.Need-returns Inv-loop μ-loop
 returns c =

@@ -5,7 +5,7 @@ use native.Mathlib.Omega.{arith}
 use borrow.Author.Needs.{needs}
 use denote.Ref.{now}
 use Rattle.lmots.specs.Leaves.{Put}
-use Rattle.lmots.specs.LeafLaws.{put-none, put-turn}
+use Rattle.lmots.specs.LeafLaws.{put-none, put-next}
 use Rattle.lmots.proofs.leaves.put_ends.Statement.{statement}
 use Rattle.lmots.proofs.leaves.put_ends.Tie as tie
 
@@ -20,8 +20,8 @@ loop-holds c =
     let start = c .before in
     (omega arith, put-none (start .args .i) (now (start .args .v)) (now (start .args .z)) (start .pre .2))
 
-lane-requires : tie.Need-lane-requires Inv-loop μ-loop
-lane-requires c κs = (omega arith, c .before .before .before .pre .0)
+column-requires : tie.Need-column-requires Inv-loop μ-loop
+column-requires c κs = (omega arith, c .before .before .before .pre .0)
 
 mul-put-eight : tie.Need-mul-put-eight Inv-loop μ-loop
 mul-put-eight c = omega arith
@@ -49,10 +49,10 @@ loop-again c =
     let loop = c .before .before .before .before .before .before .loop in
     let start = c .before .before .before .before .before .before .before .before in
     let args = start .args in
-    let y = c .before .before .before .before .lane in
+    let y = c .before .before .before .before .column in
     let put = c .before .before .put-eight in (
       omega arith,
-      put-turn (loop .l) (args .i) (now (args .v)) (now (args .z)) (loop .z) (y .result) (put .last .0) (omega arith) (start .pre .1) (search needs) (y .ensures) (put .ensures) (loop .inv .1),
+      put-next (loop .l) (args .i) (now (args .v)) (now (args .z)) (loop .z) (y .result) (put .last .0) (omega arith) (start .pre .1) (search needs) (y .ensures) (put .ensures) (loop .inv .1),
     )
 
 same-length : tie.Need-same-length Inv-loop μ-loop
@@ -74,7 +74,7 @@ put-ends-spec =
     Inv-loop
     μ-loop
     loop-holds
-    lane-requires
+    column-requires
     mul-put-eight
     mul-put-eight-2
     add-put-eight

@@ -3,8 +3,8 @@ use mathlib.Core.Path.{_≡_, refl, subst}
 use Prim.Native.Nat.{ℕ, _-_, _≤_}
 use native.Mathlib.Omega.{arith}
 use denote.Ref.{now}
+use Rattle.sha256_lanes.specs.RowLaws.{two-none, two-next}
 use Rattle.lmots_chains.specs.Sixteen.{Placed}
-use Rattle.lmots_chains.specs.SixteenLaws.{placed-none, placed-turn}
 use Rattle.lmots_chains.proofs.sixteen.put_places.Statement.{statement}
 use Rattle.lmots_chains.proofs.sixteen.put_places.Tie as tie
 
@@ -15,7 +15,7 @@ abbrev μ-loop : tie.MeasureT-loop
 μ-loop places t v w₀ l₀ w l = 16 - l
 
 loop-holds : tie.Need-loop-holds Inv-loop μ-loop
-loop-holds c = (omega arith, placed-none (now (c .args .places)) (c .args .t) (now (c .args .v)) (now (c .args .w)) (c .pre .2))
+loop-holds c = (omega arith, two-none 80 208 16 _ _ (now (c .args .w)))
 
 mul-x : tie.Need-mul-x Inv-loop μ-loop
 mul-x c = omega arith
@@ -84,8 +84,11 @@ loop-less c = omega arith
 loop-again : tie.Need-loop-again Inv-loop μ-loop
 loop-again c =
     let at-loop = c .before .before .before .before in
-    let args = at-loop .before .args in
-    (omega arith, placed-turn (at-loop .loop .l) (now (args .places)) (args .t) (now (args .v)) (now (args .w)) (at-loop .loop .w) _ _ (omega arith) refl refl (at-loop .loop .inv .1))
+    let args = at-loop .before .args in (
+      omega arith,
+      two-next 80 208 16 _ _ (at-loop .loop .l) (now (args .w)) (at-loop .loop .w) _ _ _ _ (omega arith) (omega arith) (omega arith) (omega arith) (omega arith)
+          refl refl (at-loop .loop .inv .1),
+    )
 
 returns : tie.Need-returns Inv-loop μ-loop
 returns c =

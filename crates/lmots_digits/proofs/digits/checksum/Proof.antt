@@ -5,7 +5,7 @@ use native.Mathlib.Omega.{arith}
 use denote.Ref.{now}
 use Rattle.rfc8554.specs.Ots.{sum}
 use Rattle.rfc8554.specs.Ots as Ots
-use Rattle.lmots_digits.specs.DigitLaws.{narrow, digest-place, sum-turn, checksum-eight, checksum-four}
+use Rattle.lmots_digits.specs.DigitLaws.{narrow, digest-place, sum-next, checksum-eight, checksum-four}
 use Rattle.lmots_digits.proofs.digits.checksum.Statement.{statement}
 use Rattle.lmots_digits.proofs.digits.checksum.Tie as tie
 
@@ -46,7 +46,7 @@ loop-again : tie.Need-loop-again Inv-loop μ-loop
 loop-again c =
     let at-loop = c .before .before in
     let start = at-loop .before .before .before .before in
-    (omega arith, omega arith, sum-turn (start .args .w) (at-loop .before .most .result) (c .coef .result) (at-loop .loop .sum) (at-loop .loop .i) (now (start .args .digest)) (at-loop .loop .inv .2) (at-loop .before .most .ensures .0) (c .coef .ensures .0))
+    (omega arith, omega arith, sum-next (start .args .w) (at-loop .before .most .result) (c .coef .result) (at-loop .loop .sum) (at-loop .loop .i) (now (start .args .digest)) (at-loop .loop .inv .2) (at-loop .before .most .ensures .0) (c .coef .ensures .0))
 
 mul-result : tie.Need-mul-result Inv-loop μ-loop
 mul-result c = omega arith
