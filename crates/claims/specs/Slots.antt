@@ -10,7 +10,7 @@ use native.Mathlib.Decide.{decLt, ℕ-discrete}
 use lib.ListN.{length, take, drop, take-append-drop}
 use lib.Seq.{length-take-le, drop-drop}
 use Rattle.octets.specs.Octets.{part, patch}
-use Rattle.octets.specs.Laws.{length-patch, drop-patch}
+use Rattle.octets.specs.OctetLaws.{length-patch, drop-patch}
 use Rattle.octets.specs.StringLaws.{part-left, part-all, part-patch}
 use Rattle.protocol.specs.Layout.{signatureLength, storeLength, slotAt}
 use Rattle.protocol.specs.Certificate.{slot, fill, fillEach}

@@ -15,7 +15,7 @@ use borrow.Author.Tests.{leb-true, leb-false, eq-eqb, ne-eqb}
 use Rattle.octets.specs.Strings.{same}
 use Rattle.octets.specs.StringLaws.{same-refl}
 use Rattle.quorum.specs.Quorum.{k, In, size, shared, seats}
-use Rattle.quorum.specs.Laws.{size-empty, mem-seats, k-of-n-share}
+use Rattle.quorum.specs.QuorumLaws.{size-empty, mem-seats, k-of-n-share}
 use Rattle.protocol.specs.Layout.{signatureLength, storeLength, collectedBank, firstBank}
 use Rattle.protocol.specs.Message.{Entry, Message}
 use Rattle.protocol.specs.Certificate.{Certificate, slot, fillEach, ownCertificate, firstCertificate, signatureOf, certificateOf}

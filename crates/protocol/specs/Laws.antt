@@ -11,9 +11,9 @@ use native.Mathlib.Decide.{decLt, ℕ-discrete}
 use lib.Dec.{ltb}
 use lib.ListN.{length, length-append}
 use borrow.Author.Tests.{eq-eqb, ne-eqb, lt-ltb, le-ltb}
-use Rattle.octets.specs.Laws.{length-be}
+use Rattle.octets.specs.OctetLaws.{length-be}
 use Rattle.quorum.specs.Quorum.{In, bit, with, union, one, seats}
-use Rattle.quorum.specs.Laws.{bit-cases, bit-empty, bit-one-same, bit-one-other, bit-outside, bit-union, in-union, same-seats, mem-seats}
+use Rattle.quorum.specs.QuorumLaws.{bit-cases, bit-empty, bit-one-same, bit-one-other, bit-outside, bit-union, in-union, same-seats, mem-seats}
 use Rattle.protocol.specs.Layout.{signatureLength, valueLength, submitLength, noticeLength, fullEntryLength, fullEntryAt, evidenceEntryLength, evidenceEntryAt, storeLength, slotAt}
 use Rattle.protocol.specs.Values.{isLower}
 use Rattle.protocol.specs.Message.{Entry, Pair, Message, Submit, Notice, Full, Evidence, renderEntry, renderEntries, renderPair, renderPairs, render, renderAll}

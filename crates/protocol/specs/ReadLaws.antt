@@ -11,7 +11,7 @@ use lib.ListN.{length, take, drop, getD, length-append}
 use lib.Seq.{take-at, drop-at, take-all, take-length, take-suc, drop-cons, drop-drop, drop-nil, getD-drop, getD-at}
 use borrow.Author.Tests.{eq-eqb, le-leb}
 use Rattle.octets.specs.Octets.{be, part}
-use Rattle.octets.specs.Laws.{length-be}
+use Rattle.octets.specs.OctetLaws.{length-be}
 use Rattle.quorum.specs.Quorum.{k}
 use Rattle.protocol.specs.Layout.{valueLength, signatureLength, submitLength, noticeLength, fullEntryLength, fullEntryAt, fullLength, evidenceEntryLength, evidenceEntryAt, evidenceLength}
 use Rattle.protocol.specs.Message.{Entry, Pair, Message, Submit, Notice, Full, Evidence, Garbled, renderEntry, renderEntries, renderPair, renderPairs, render, byteAt, readRound, readValue, readSignature, entryCommands, readEntry, readEntries, pairCommands, readPair, readPairs, fitsSubmit, fitsNotice, fitsFull, fitsEvidence, readSubmit, readNotice, readFull, readEvidence, read}

@@ -5,7 +5,7 @@ use mathlib.Core.Bool.{Bool, true, false}
 use Prim.Native.Nat.{ℕ}
 use native.Mathlib.Omega.{arith}
 use Rattle.quorum.specs.Quorum.{bit, In, has, shared}
-use Rattle.quorum.specs.Laws.{has-true, has-false, same-seats, bit-shared}
+use Rattle.quorum.specs.QuorumLaws.{has-true, has-false, same-seats, bit-shared}
 
 -- what a test for a seat says, as a branch in code has it
 pub test-in : (s m : ℕ) (b : Bool) → b ≡ has s m → b ≡ true → In s m

@@ -12,7 +12,7 @@ use lib.ListN.{length, getD, length-append, length-map, List·getD-append}
 use lib.Seq.{getD-at}
 use borrow.Author.Tests.{eqb-true, eq-eqb, ne-eqb, not-false}
 use Rattle.quorum.specs.Quorum.{k, In, size, shared, all, seats}
-use Rattle.quorum.specs.Laws.{seat-at, length-seats}
+use Rattle.quorum.specs.QuorumLaws.{seat-at, length-seats}
 use Rattle.protocol.specs.Layout.{signatureLength, fullEntryLength, fullEntryAt, fullLength, slotAt}
 use Rattle.protocol.specs.Laws.{slot-fits}
 use Rattle.protocol.specs.Message.{Entry, Message, byteAt, read, readEntry, readEntries, readValue, readSignature, readFull, readSubmit, readNotice, readEvidence, fitsSubmit, fitsNotice, fitsFull, fitsEvidence, entryCommands, entrySeats, seatsOf, Garbled}

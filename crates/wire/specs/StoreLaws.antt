@@ -5,10 +5,10 @@ use mathlib.Core.List.{List}
 use Prim.Native.Nat.{ℕ, zero, suc, _+_, _*_, _≤_, _<_}
 use native.Mathlib.Omega.{arith}
 use lib.ListN.{length}
-use Rattle.octets.specs.Laws.{length-part, length-patch}
+use Rattle.octets.specs.OctetLaws.{length-part, length-patch}
 use Rattle.octets.specs.WriteLaws.{part-before}
 use Rattle.quorum.specs.Quorum.{bit, In, seats}
-use Rattle.quorum.specs.Laws.{seats-in, seats-out}
+use Rattle.quorum.specs.QuorumLaws.{seats-in, seats-out}
 use Rattle.protocol.specs.Layout.{signatureLength, storeLength, collectedBank, firstBank, slotAt}
 use Rattle.protocol.specs.Message.{readSignature}
 use Rattle.protocol.specs.Certificate.{slot, fill, fillEach}
