@@ -1,4 +1,4 @@
--- The chains of a key, of a signature and of a candidate, and what is hashed to a key.
+-- The chains of a key, of a signature and of a candidate, and the hash input of a key.
 use mathlib.Core.Path.{_≡_, sym, ap, _∙_}
 use mathlib.Core.List.{List, _++_}
 use mathlib.Core.Logic.{_⊎_, ⊎-elim}
@@ -83,7 +83,7 @@ completed-by I S sig places x z r q w n top l e h ls et f p k =
     ∙ ap (take 32) (drop-drop (32 * i) 36 sig)) in
     rw (zeros i 67 top (omega arith), f i a, et) (ap (chain I q i (coef w S i) (2 ^ w - 1 - coef w S i)) slot))
 
--- ---- what is hashed to a key
+-- ---- the hash input of a key
 
 pub front-taken : (n : ℕ) (ws zs a : List ℕ) → length ws ≡ n → a ≡ patch 0 ws zs → take n a ≡ ws
 front-taken n ws zs a l e = let k : n ≡ 0 + length ws = omega arith in rw (e, k) (take-patch 0 ws zs (omega arith))

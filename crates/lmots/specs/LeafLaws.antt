@@ -1,4 +1,4 @@
--- Sixteen leaves, one in each column: every string comes to be what is hashed to its leaf's key.
+-- Sixteen leaves, one in each column: every string comes to be the hash input of its leaf's key.
 use mathlib.Core.Path.{_≡_, refl, sym, ap, ap₂, _∙_}
 use mathlib.Core.List.{List, _++_, append-assoc, append-nil}
 use Prim.Native.Nat.{ℕ, _+_, _*_, _≤_, _<_}

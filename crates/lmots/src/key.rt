@@ -124,7 +124,7 @@ fn write_completed(
     octets::copy(out, at, &z[..end]);
 }
 
-// A buffer for what is hashed to a key of either width, with its front. Scratch: the bytes after it.
+// A buffer for the hash input of a key of either width, with its front. Scratch: the bytes after it.
 fn key_buffer(id: [u32; 4], q: u32) -> [u8; 2166]
     ensures { λ r. ⌜ take 22 r ≡ Pieces.front (bytes id) q dPblc ⌝ }
 {

@@ -1,5 +1,5 @@
 // The keys of sixteen leaves side by side (RFC 8554, section 4.3): each column has a leaf of its own, and all go through the same
-// chain together. What is hashed to the keys stands in sixteen strings of 1,110 bytes, one after the other in z.
+// chain together. The hash inputs of the keys stand in sixteen strings of 1,110 bytes, one after the other in z.
 ghost use mathlib.Core.Path.{_≡_};
 ghost use Prim.Native.Nat.{ℕ, _+_, _*_, _<_, _≤_};
 ghost use lib.ListN.{length, getD};

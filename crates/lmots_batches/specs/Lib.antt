@@ -1,3 +1,3 @@
--- What all chains of a leaf come to, in batches of sixteen (`Batches`), and the laws that the proofs cite (`BatchLaws`).
+-- All chains of a leaf in batches of sixteen: where they come to (`Batches`), and the laws (`BatchLaws`).
 pub mod Batches
 pub mod BatchLaws

@@ -34,7 +34,7 @@ Placed n places t v w z =
 unfoldable pub five : List ℕ → ℕ → List ℕ
 five id q = getD id 0 0 ∷ getD id 1 0 ∷ getD id 2 0 ∷ getD id 3 0 ∷ q ∷ []
 
--- blocks of the lanes' leaves, and what is made for them
+-- blocks of the lanes' leaves, with their common start
 pub record Ready (id leaves w x s : List ℕ) : Type 0 where
   pub long : length id ≡ 4
   pub words : (i : ℕ) → getD id i 0 < 4294967296

@@ -195,9 +195,9 @@ stepped-by places t w x s v y z w′ s′ v′ placed slid same done id leaves r
       (after id leaves places t w x s v y z w′ s′ v′ placed slid same done ready .1 l hl),
 )
 
--- ---- what is made once
+-- ---- made once
 
--- what the lanes' blocks hold before the leaves' numbers are written
+-- the lanes' blocks before the leaves' numbers are written
 unfoldable pub unnumbered : List ℕ → List ℕ
 unnumbered id = getD id 0 0 ∷ getD id 1 0 ∷ getD id 2 0 ∷ getD id 3 0 ∷ 0 ∷ 0 ∷ 0 ∷ 0 ∷ 0 ∷ 0 ∷ 0 ∷ 0 ∷ 0 ∷ 0 ∷ 0 ∷ 440 ∷ []
 

@@ -65,8 +65,8 @@ fn step(
     sha256_lanes::compress(k, w, x, s, v);
 }
 
-// What is the same in every step of a leaf's chains: the blocks' words around place and value, and what comes of them. Scratch: what
-// `Ready` does not name of w, x and s.
+// The same in every step of a leaf's chains: the blocks' words around place and value, with their common start. Scratch: what `Ready`
+// does not name of w, x and s.
 fn prepare(
     k: &[u32; 64],
     id: [u32; 4],

@@ -1,4 +1,4 @@
--- What the hashes begin with, as it is written piece by piece.
+-- The front of a hash input, written piece by piece.
 use mathlib.Core.Path.{_≡_, refl, sym, ap, _∙_}
 use mathlib.Core.List.{List, _++_, append-assoc, append-nil}
 use Prim.Native.Nat.{ℕ, _+_, _/_, _%_}

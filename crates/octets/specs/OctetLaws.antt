@@ -5,7 +5,6 @@ use Prim.Native.Nat.{ℕ, zero, suc, _+_, _-_, _*_, _/_, _%_, _≤_, _<_}
 use native.Mathlib.Nat.{add-assoc, sub-zero, zero-sub, suc-sub-suc, not-suc-le-zero, le-of-suc-le-suc}
 use native.Mathlib.Numerals.{add-one, add-two, add-three}
 use native.Mathlib.Omega.{arith}
-use lib.Dec.{lit<}
 use lib.ListN.{replicate, length, take, drop, getD, set, length-append, length-take, length-drop, drop-of-length-le}
 use lib.Seq.{drop-cons, take-all, take-suc, take-suc-set, paste, paste-suc, take-length, take-at, drop-at, sets-eq, drop-drop, getD-take, getD-drop}
 use Rattle.octets.specs.Octets.{part, patch, be, wordAt, words, bytes}
@@ -167,24 +166,3 @@ pub bytes-done : (out ws : List ℕ) (i : ℕ) → i ≡ length ws → length ou
 bytes-done out ws i e l h =
     let all : length out ≡ 4 * i = omega arith in
     sym (take-length out) ∙ ap (λ (n : ℕ). take n out) all ∙ h ∙ ap bytes (ap (λ (n : ℕ). take n ws) e ∙ take-length ws)
-
--- ---- every byte of a number and of a word is one
-
-byte-append : (xs ys : List ℕ) → ((i : ℕ) → getD xs i 0 < 256) → ((i : ℕ) → getD ys i 0 < 256) → (i : ℕ) → getD (xs ++ ys) i 0 < 256
-byte-append [] ys hx hy i = hy i
-byte-append (x ∷ xs) ys hx hy zero = hx zero
-byte-append (x ∷ xs) ys hx hy (suc i) = byte-append xs ys (λ j. hx (suc j)) hy i
-
-byte-be : (w n i : ℕ) → getD (be w n) i 0 < 256
-unfolding be
-byte-be zero n i = lit< tt
-byte-be (suc w) n i = byte-append (be w (n / 256)) (n % 256 ∷ []) (byte-be w (n / 256)) last i
-  where
-    last : (j : ℕ) → getD (n % 256 ∷ []) j 0 < 256
-    last zero = omega arith
-    last (suc j) = lit< tt
-
-pub byte-bytes : (ws : List ℕ) (i : ℕ) → getD (bytes ws) i 0 < 256
-unfolding bytes
-byte-bytes [] i = lit< tt
-byte-bytes (w ∷ ws) i = byte-append (be 4 w) (bytes ws) (byte-be 4 w) (byte-bytes ws) i

@@ -1,4 +1,4 @@
--- What follows from the definitions of LM-OTS: digits, lengths, and chains that go on where others stop.
+-- Laws of LM-OTS: digits, lengths, and chains that go on where others stop.
 use mathlib.Core.Path.{_≡_, sym, ap, _∙_}
 use mathlib.Core.List.{List, _++_}
 use Prim.Native.Nat.{ℕ, zero, suc, _+_, _-_, _*_, _/_, _%_, _^_, _≤_, _<_}
@@ -76,7 +76,7 @@ pub length-completed : (I : List ℕ) (q w : ℕ) (S signature : List ℕ) (i : 
 unfolding completed
 length-completed I q w S signature i h = length-chain I q i _ _ _ (length-part (36 + 32 * i) 32 signature (omega arith))
 
--- what is hashed, over an identifier of 16 bytes
+-- the hash input of a chain step, over an identifier of 16 bytes
 module _ (I : List ℕ) (e : length I ≡ 16) (q : ℕ) where
   -- 55 bytes
   pub length-chainInput : (i j : ℕ) (tmp : List ℕ) → length tmp ≡ 32 → length (chainInput I q i j tmp) ≡ 55

@@ -1,4 +1,4 @@
--- What follows from the definitions of the LMS tree: T[r] by the RFC's two equations, lengths, and the tree's buffer.
+-- Laws of the LMS tree: T[r] by the RFC's two equations, lengths, and the tree's buffer.
 use mathlib.Core.Path.{_≡_, refl, ap, _∙_}
 use mathlib.Core.Bool.{Bool, true, false, cond}
 use mathlib.Core.List.{List, _++_}

@@ -1,5 +1,5 @@
--- What follows from the definitions of verification: the fields of keys and signatures, and that Algorithm 6 takes what
--- the key maker and the signer of section 5 make.
+-- Laws of verification: the fields of keys and signatures, and that Algorithm 6 accepts what the key maker and the signer of
+-- section 5 make.
 use mathlib.Core.Path.{_≡_, refl, sym, ap, _∙_}
 use mathlib.Core.Bool.{Bool, true, false, not, cond, _&&_, _||_, or-true, false≢true}
 use mathlib.Core.List.{List, _++_}
@@ -151,7 +151,7 @@ module _ (lmsType otsType : ℕ) (I : List ℕ) (q : ℕ) (seed C message tree :
         length-before-path
         ∙ part-joined 32 _ _ each i h
 
--- ---- what is valid fits: the length is that of its types, and the leaf stands in the tree
+-- ---- a valid signature fits: the length is that of its types, and the leaf stands in the tree
 
 signatureInvalid-fits : (lmsType otsType : ℕ) (signature : List ℕ) → signatureInvalid lmsType otsType signature ≡ false
     → (length signature ≡ signatureLength (height lmsType) (width otsType)) × (leafOf signature < 2 ^ height lmsType)
@@ -183,7 +183,7 @@ valid-fits key message signature e =
     signatureInvalid-fits (lmsTypeOf key) (otsTypeOf key) signature
     (second-false (keyInvalid key) (signatureInvalid (lmsTypeOf key) (otsTypeOf key) signature) _ e)
 
--- ---- what is made is valid
+-- ---- a signature of section 5 is valid
 
 -- Algorithm 4b rejects nothing that Algorithm 6a has let through
 pub otsInvalid-inside : (h otsType : ℕ) (signature : List ℕ)

@@ -1,4 +1,4 @@
--- What follows for the lanes from the rows.
+-- Laws of lanes in rows.
 use mathlib.Core.Path.{_≡_, refl, sym, ap, ap₂, subst, _∙_}
 use mathlib.Core.Logic.{_⊎_, inl, inr, ⊎-elim}
 use mathlib.Core.List.{List, [], _∷_, _++_}
@@ -23,7 +23,7 @@ Apart i j = (i < j) ⊎ (j < i)
 moved : (d i n j m : ℕ) → j ≡ i + d → m ≡ n + d → Apart i n → Apart j m
 moved d i n j m p q h = ⊎-elim (λ a. inl (omega arith)) (λ a. inr (omega arith)) h
 
--- what is written at one index is not seen at another
+-- a word written at one index is not seen at another
 pub other : (xs : List ℕ) (i j x : ℕ) → Apart j i → getD (set xs i x) j 0 ≡ getD xs j 0
 other xs i j x h = getD-set-other xs i j x 0 (λ e. ⊎-elim (λ k. omega arith) (λ k. omega arith) h)
 
@@ -186,13 +186,13 @@ add-later a b c = ap (λ (y : ℕ). Fips.add y b) (add-nothing a c) ∙ sym (add
 add-across : (a b c d : ℕ) → Fips.add b (Fips.add a (Fips.add c d)) ≡ Fips.add (Fips.add (Fips.add a b) c) d
 add-across a b c d = add-group b a (Fips.add c d) ∙ ap (λ (y : ℕ). Fips.add y (Fips.add c d)) (add-swap b a) ∙ add-group (Fips.add a b) c d
 
--- ---- what is shared of the schedule
+-- ---- shares of the schedule
 
--- what words 0 to 2, 14 and 15 bring to words 16 and 17
+-- the share of words 0 to 2, 14 and 15 in words 16 and 17
 unfoldable pub firstShare : List ℕ → ℕ → ℕ
 firstShare w n = Fips.add (Fips.smallSigma1 (getD w (n + 224) 0)) (shareAt w n)
 
--- what words 2 to 4 bring to words 18 and 19
+-- the share of words 2 to 4 in words 18 and 19
 unfoldable pub nextShare : List ℕ → ℕ → ℕ
 nextShare w n = shareAt w (n + 32)
 
@@ -469,14 +469,14 @@ round-word k w q =
     let u = Fips.temp2 (getD q 0 0) (getD q 1 0) (getD q 2 0) in
     rw (add-later t w u, ← add-group d (Fips.add t 0) w, add-nothing t w)
 
--- what the rows of a and e are after round 5, but for its word
+-- the rows of a and e after round 5, but for its word
 unfoldable pub savedA : List ℕ → ℕ → ℕ
 savedA s l = getD s (928 + l) 0
 
 unfoldable pub savedE : List ℕ → ℕ → ℕ
 savedE s l = getD s (2016 + l) 0
 
--- what they are with it
+-- the same with its word
 unfoldable pub wordedA : List ℕ → List ℕ → ℕ → ℕ
 wordedA w x l = Fips.add (getD x (64 + l) 0) (getD w (80 + l) 0)
 

@@ -46,7 +46,7 @@ fn start(h: [u32; 8], s: &mut [u32; 3264])
     }
 }
 
-// What the words at n and n + 16 bring to the word at n + 256.
+// The share of the words at n and n + 16 in the word at n + 256.
 fn share_at(w: &[u32; 1024], n: usize) -> u32
     requires { ⌜ (n < 1008) × (length (now w) ≡ 1024) ⌝ }
     ensures { λ r. ⌜ r ≡ shareAt (now (w .entry)) n ⌝ }
@@ -54,7 +54,7 @@ fn share_at(w: &[u32; 1024], n: usize) -> u32
     add(small_sigma0(w[n + 16]), w[n])
 }
 
-// What words 0 to 4, 14 and 15 bring to words 16 to 19.
+// The shares of words 0 to 4, 14 and 15 in words 16 to 19.
 fn shares(w: &[u32; 1024], x: &mut [u32; 96])
     requires { ⌜ (length (now w) ≡ 1024) × (length (now x) ≡ 96) ⌝ }
     ensures { λ _. ⌜ (length (now (x .exit)) ≡ 96) × Shares (now (w .entry)) (now (x .exit)) ⌝ }
@@ -229,8 +229,8 @@ fn resume(w: &[u32; 1024], x: &[u32; 96], s: &mut [u32; 3264])
     }
 }
 
-// What compress goes on from, for blocks whose words 0 to 4, 14 and 15 are those in w, and for one hash value before them. Word 5 is
-// zero in w, so that round 5 is without it. Scratch: what `Common` does not name of s.
+// The common start of blocks whose words 0 to 4, 14 and 15 are those in w, after one hash value: `compress` goes on from it. Word 5
+// is zero in w, so that round 5 is without it. Scratch: what `Common` does not name of s.
 pub fn begin(k: &[u32; 64], h: [u32; 8], w: &[u32; 1024], x: &mut [u32; 96], s: &mut [u32; 3264])
     requires { ⌜ (now k ≡ constants) × (length (now w) ≡ 1024) × (length (now x) ≡ 96) × (length (now s) ≡ 3264) × ((l : ℕ) → l < 16 → getD (now w) (80 + l) 0 ≡ 0) ⌝ }
     ensures { λ _. ⌜ (length (now (x .exit)) ≡ 96) × (length (now (s .exit)) ≡ 3264) × Common h (now (w .entry)) (now (x .exit)) (now (s .exit)) ⌝ }
