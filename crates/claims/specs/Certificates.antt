@@ -12,7 +12,7 @@ use lib.ListN.{length, length-map}
 use lib.Pow.{pow-pos}
 use borrow.Author.Tests.{eqb-true, eqb-false}
 use Rattle.quorum.specs.Quorum.{t0, k, In, size, shared, seats}
-use Rattle.quorum.specs.Laws.{bit-cases, in-shared, shared-lt, shared-comm, with-lt, size-empty, size-shared-le, size-with-new, length-seats, mem-seats, seats-rise, k-of-n-share}
+use Rattle.quorum.specs.QuorumLaws.{bit-cases, in-shared, shared-lt, shared-comm, with-lt, size-empty, size-shared-le, size-with-new, length-seats, mem-seats, seats-rise, k-of-n-share}
 use Rattle.protocol.specs.Values.{isLower}
 use Rattle.protocol.specs.Message.{Entry, Pair, Message, Evidence, fullForm, evidenceForm, entrySeats}
 use Rattle.protocol.specs.Certificate.{Certificate, setOf, signatureOf, certificateOf, entryOf, entriesOf, pairOf, pairsOf, orderedEvidence, evidenceOf}

@@ -8,7 +8,7 @@ use mathlib.Core.Logic.{inl}
 use Prim.Native.Nat.{ℕ, zero, suc, _≤_}
 use native.Mathlib.Omega.{arith}
 use lib.Pow.{pow-pos}
-use Rattle.quorum.specs.Laws.{bit-empty, size-empty}
+use Rattle.quorum.specs.QuorumLaws.{bit-empty, size-empty}
 use Rattle.refusal.specs.Refusal.{unrefused}
 use Rattle.protocol.specs.Values.{unset}
 use Rattle.protocol.specs.Message.{Message, read}

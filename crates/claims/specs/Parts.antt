@@ -15,7 +15,7 @@ use borrow.Author.Tests.{eqb-true, eqb-false, ne-eqb, not-true, not-false}
 use Rattle.octets.specs.Strings.{same}
 use Rattle.octets.specs.StringLaws.{same-refl, same-true, same-false}
 use Rattle.quorum.specs.Quorum.{k, bit, In, has, size, shared, with, seats}
-use Rattle.quorum.specs.Laws.{bit-empty, bit-with-other, bit-with-same, has-false, bit-shared, same-seats, shared-lt, with-lt, size-empty, size-with-new, bit-outside, mem-seats, t0-is-third, k-of-n-share}
+use Rattle.quorum.specs.QuorumLaws.{bit-empty, bit-with-other, bit-with-same, has-false, bit-shared, same-seats, shared-lt, with-lt, size-empty, size-with-new, bit-outside, mem-seats, t0-is-third, k-of-n-share}
 use Rattle.protocol.specs.Layout.{valueLength, signatureLength, storeLength, collectedBank, firstBank}
 use Rattle.protocol.specs.Values.{unset}
 use Rattle.protocol.specs.Message.{Pair, Message, Submit, Notice, Full, Evidence, Garbled}

@@ -12,7 +12,7 @@ use borrow.Author.Tests.{ltb-true, ltb-false, lt-ltb, le-ltb, lt-leb, leb-false,
 use Rattle.octets.specs.Strings.{same}
 use Rattle.octets.specs.StringLaws.{same-refl}
 use Rattle.quorum.specs.Quorum.{mostSeats, k, has, size, shared}
-use Rattle.quorum.specs.Laws.{has-true, outside-false, size-empty}
+use Rattle.quorum.specs.QuorumLaws.{has-true, outside-false, size-empty}
 use Rattle.refusal.specs.Refusal.{firstOf}
 use Rattle.refusal.specs.Laws.{firstOf-zero}
 use Rattle.protocol.specs.Layout.{valueLength, signatureLength, storeLength, outLength}

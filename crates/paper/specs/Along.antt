@@ -11,7 +11,7 @@ use lib.Dec.{eqb}
 use lib.ListN.{length, take}
 use borrow.Author.Tests.{eqb-true, lt-leb}
 use Rattle.quorum.specs.Quorum.{k, bit, In}
-use Rattle.quorum.specs.Laws.{bit-empty, has-true, size-empty}
+use Rattle.quorum.specs.QuorumLaws.{bit-empty, has-true, size-empty}
 use Rattle.refusal.specs.Refusal.{firstOf, unrefused}
 use Rattle.protocol.specs.Layout.{signatureLength, collectedBank, firstBank}
 use Rattle.protocol.specs.Entries.{formSeats}

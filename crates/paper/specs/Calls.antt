@@ -15,7 +15,7 @@ use borrow.Author.Tests.{leb-true, leb-false, le-leb, lt-leb}
 use Rattle.octets.specs.Strings.{same}
 use Rattle.octets.specs.StringLaws.{same-refl}
 use Rattle.quorum.specs.Quorum.{k, bit, In, has, size, with}
-use Rattle.quorum.specs.Laws.{bit-with-other, has-false, size-with-new}
+use Rattle.quorum.specs.QuorumLaws.{bit-with-other, has-false, size-with-new}
 use Rattle.protocol.specs.Layout.{signatureLength, storeLength, collectedBank, firstBank}
 use Rattle.protocol.specs.LayoutLaws.{collected-bank, first-bank}
 use Rattle.protocol.specs.Entries.{Each, formSeats}

@@ -16,7 +16,7 @@ use borrow.Author.Tests.{leb-true, leb-false, eq-eqb, ne-eqb}
 use Rattle.octets.specs.Strings.{same}
 use Rattle.octets.specs.StringLaws.{same-refl}
 use Rattle.quorum.specs.Quorum.{k, In, size, shared, seats}
-use Rattle.quorum.specs.Laws.{size-empty, mem-seats, k-of-n-share}
+use Rattle.quorum.specs.QuorumLaws.{size-empty, mem-seats, k-of-n-share}
 use Rattle.protocol.specs.Layout.{signatureLength, storeLength, collectedBank, firstBank}
 use Rattle.protocol.specs.LayoutLaws.{collected-bank, first-bank}
 use Rattle.protocol.specs.Entries.{formSeats}

@@ -8,7 +8,7 @@ use native.Mathlib.Omega.{arith}
 use lib.Dec.{eqb, ltb}
 use lib.ListN.{length, length-append}
 use borrow.Author.Tests.{le-ltb, eqb-true, not-false}
-use Rattle.octets.specs.Laws.{length-be, length-part}
+use Rattle.octets.specs.OctetLaws.{length-be, length-part}
 use Rattle.refusal.specs.Refusal.{firstOf, unrefused}
 use Rattle.rfc8554.specs.Ots.{chains, otsLength, knownOts, width}
 use Rattle.rfc8554.specs.Tree.{knownLms, height, publicKey, treeFilled, path, lmsSignature}

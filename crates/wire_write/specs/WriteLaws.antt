@@ -10,10 +10,10 @@ use native.Mathlib.Omega.{arith}
 use lib.ListN.{length, take, drop, set, length-append, length-map, take-append-drop}
 use lib.Seq.{set-split, sets-eq}
 use Rattle.octets.specs.Octets.{patch, be}
-use Rattle.octets.specs.Laws.{length-be, patch-patch, length-patch}
+use Rattle.octets.specs.OctetLaws.{length-be, patch-patch, length-patch}
 use Rattle.octets.specs.StringLaws.{be-two}
 use Rattle.quorum.specs.Quorum.{bit, In, seats, size}
-use Rattle.quorum.specs.Laws.{seats-in, seats-out, length-seats}
+use Rattle.quorum.specs.QuorumLaws.{seats-in, seats-out, length-seats}
 use Rattle.protocol.specs.Layout.{valueLength, operandsAt, noticeLength, entryLength, evidenceStart}
 use Rattle.protocol.specs.Values.{isLower}
 use Rattle.protocol.specs.Entries.{Form, renderEntry, renderEntries}

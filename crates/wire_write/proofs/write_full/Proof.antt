@@ -4,7 +4,7 @@ use native.Mathlib.Omega.{arith}
 use borrow.Author.Needs.{needs}
 use denote.Ref.{now}
 use Rattle.quorum.specs.Quorum.{size, seats}
-use Rattle.quorum.specs.Laws.{size-le, length-seats}
+use Rattle.quorum.specs.QuorumLaws.{size-le, length-seats}
 use Rattle.protocol.specs.Layout.{noticeLength, fullEntryAt}
 use Rattle.wire.specs.WriteLaws.{full-written}
 use Rattle.wire.proofs.write.write_full.Statement.{statement}

@@ -4,7 +4,7 @@ use native.Mathlib.Omega.{arith}
 use borrow.Author.Needs.{needs}
 use denote.Ref.{now}
 use Rattle.quorum.specs.Quorum.{shared, seats}
-use Rattle.quorum.specs.Laws.{size-le, shared-lt, length-seats}
+use Rattle.quorum.specs.QuorumLaws.{size-le, shared-lt, length-seats}
 use Rattle.protocol.specs.Layout.{evidenceEntryAt, evidenceLength}
 use Rattle.wire.specs.WriteLaws.{evidence-written}
 use Rattle.wire.proofs.write.write_ordered.Statement.{statement}

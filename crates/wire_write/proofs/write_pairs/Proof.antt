@@ -5,7 +5,7 @@ use native.Mathlib.Omega.{arith}
 use borrow.Author.Needs.{needs}
 use denote.Ref.{now}
 use Rattle.quorum.specs.Quorum.{shared}
-use Rattle.quorum.specs.Laws.{in-shared}
+use Rattle.quorum.specs.QuorumLaws.{in-shared}
 use Rattle.protocol.specs.Layout.{evidenceEntryLength}
 use Rattle.wire.specs.Writing.{pairFor}
 use Rattle.wire.specs.MaskLaws.{shared-test-in, shared-test-out}
