@@ -3,8 +3,10 @@
 use super::refusals::{lengths, spoiled, Spoiler};
 use super::{equal, noise, progress, run};
 use crate::guarded::Guarded;
+use crate::memo::Memo;
 use crate::reference::calls::{self, TREE};
 use crate::reference::lms::{IDENTIFIER, N, PUBLIC_KEY};
+use crate::reference::record::Written;
 use crate::rng::{seed, Rng};
 use crate::subject::Calls;
 
@@ -19,9 +21,7 @@ struct Case {
 }
 
 fn compare(subject: &dyn Calls, case: &Case, rng: &mut Rng) -> Result<u32, String> {
-    let mut reference_tree = case.tree.clone();
-    let mut reference_out = case.out.clone();
-    let reference = calls::make_key(&case.seed, &case.identifier, &mut reference_tree, &mut reference_out);
+    let (reference, reference_tree, reference_out) = reference(case);
     let seed = Guarded::new(&case.seed, rng);
     let identifier = Guarded::new(&case.identifier, rng);
     let mut tree = Guarded::new(&case.tree, rng);
@@ -36,6 +36,20 @@ fn compare(subject: &dyn Calls, case: &Case, rng: &mut Rng) -> Result<u32, Strin
         out.expect("out", &reference_out)
     };
     told().map(|()| reference.number).map_err(|difference| format!("{}: {difference}", case.what))
+}
+
+/// The reference's answer, tree and out. A whole key takes long, so it is made once.
+fn reference(case: &Case) -> (Written, Vec<u8>, Vec<u8>) {
+    static WHOLE: Memo<[Vec<u8>; 4], (Written, Vec<u8>, Vec<u8>)> = Memo::new();
+    let Case { seed, identifier, tree, out, .. } = case;
+    let make = || {
+        let (mut tree, mut out) = (tree.clone(), out.clone());
+        (calls::make_key(seed, identifier, &mut tree, &mut out), tree, out)
+    };
+    match case.expected {
+        Some(0) => WHOLE.answer([seed, identifier, tree, out].map(Vec::clone), |_| make()),
+        _ => make(),
+    }
 }
 
 pub fn battery(subject: &dyn Calls) {

@@ -7,11 +7,9 @@ use crate::compare::messages;
 use crate::compare::refusals::{lengths, on_part, spoiled, spoiler, Spoiler};
 use crate::compare::{equal, long, noise, resized, run};
 use crate::fleet::{layouts, rounds, Fleet};
-use crate::reference::calls::SIGNATURE;
-use crate::reference::engine::out_length;
+use crate::reference::layout::{self, SIGNATURE};
 use crate::reference::messages::{Full, Notice, Submit, Value};
 use crate::reference::record::{First, Own, Record};
-use crate::reference::store;
 use crate::rng::{seed, Rng};
 
 pub fn battery(subject: Subject) {
@@ -67,7 +65,7 @@ impl Right {
         let (unsaid, said) = (opened(fleet, seat), submitted(fleet, seat, value));
         let own = Call::Submit { value: value.to_vec(), signature: fleet.signature(seat, &value, 0) };
         let mut base = |name, record, call| {
-            let (store, out) = (rng.bytes(store::length(fleet.n)), rng.bytes(out_length(fleet.n)));
+            let (store, out) = (rng.bytes(layout::store(fleet.n)), rng.bytes(layout::out(fleet.n)));
             Base { name, case: Case { record, keys: fleet.key_table(), store, call, out } }
         };
         [
@@ -179,9 +177,9 @@ fn shared_spoilers(fleet: Fleet) -> Vec<Spoiler<Case>> {
         spoilers.push(spoiler(4, what, move |case: &mut Case, _| spoil(&mut case.record)));
     }
     spoilers.extend(on_part(key_spoilers(n), |case: &mut Case| &mut case.keys));
-    let (store, out) = (store::length(n), out_length(n));
+    let (store, out) = (layout::store(n), layout::out(n));
     spoilers.extend(lengths(6, "store", &[0, 1, store / 2, store - 1], |case: &mut Case| &mut case.store));
-    let short = [0, 36, 1488, out - 2906, out - 1];
+    let short = [0, layout::NOTICE, layout::SUBMIT, out - layout::EVIDENCE_ENTRY, out - 1];
     spoilers.extend(lengths(7, "out", &short, |case: &mut Case| &mut case.out));
     spoilers
 }
