@@ -1,4 +1,4 @@
-//! Tests and measurements of the library from outside: a second implementation, foreign vectors, plain C.
+//! Tests and measurements of the library from outside: a second implementation, outside vectors, plain C.
 
 pub mod air;
 #[cfg(feature = "zolbine")]

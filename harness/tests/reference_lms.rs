@@ -98,6 +98,10 @@ fn keys_and_signatures_are_remade_from_their_seeds() {
     let mut keys: Vec<Key> = Vec::new();
     for (record, made) in remakable {
         assert!(record.accept);
+        // The calls remake those.
+        if made.types == Types::ENGINE {
+            continue;
+        }
         if !keys.iter().any(|key| key.public == record.key) {
             keys.push(Key::make(made.types, &made.identifier, &made.seed));
         }

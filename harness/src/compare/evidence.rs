@@ -2,7 +2,7 @@
 
 use super::arguments::{untouched, Arguments};
 use super::refusals::{on_part, spoiled};
-use super::{equal, flip_bit, messages, noise, resized, run};
+use super::{equal, flip_bit, long, messages, noise, resized, run};
 use crate::confirmer::EvidenceCheck;
 use crate::fleet::{layouts, rounds, some_seats, Fleet};
 use crate::guarded::Guarded;
@@ -78,7 +78,9 @@ pub fn battery(subject: &dyn EvidenceCheck) {
         let fleet = Fleet { n, round: *rng.pick(&rounds()) };
         cases.extend(right_ones(fleet, &mut rng));
         cases.extend(in_other_fleets(fleet, &mut rng));
-        cases.extend(refusals(fleet, &mut rng));
+        if long() || [1, 2, 3, 4, 7, 10, 31, 32].contains(&n) {
+            cases.extend(refusals(fleet, &mut rng));
+        }
     }
     cases.extend(every_byte(Fleet { n: 4, round: rounds()[2] }, &mut rng));
     run("check_evidence", &cases, |case, rng| compare(subject, case, rng));

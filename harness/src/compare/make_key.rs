@@ -1,7 +1,7 @@
 //! The key maker: whole trees and public keys byte by byte, and each refusal alone and with others.
 
 use super::refusals::{lengths, spoiled, Spoiler};
-use super::{equal, noise, progress, run};
+use super::{equal, long, noise, progress, run, sized};
 use crate::guarded::Guarded;
 use crate::memo::Memo;
 use crate::reference::calls::{self, TREE};
@@ -38,9 +38,12 @@ fn compare(subject: &dyn Calls, case: &Case, rng: &mut Rng) -> Result<u32, Strin
     told().map(|()| reference.number).map_err(|difference| format!("{}: {difference}", case.what))
 }
 
-/// The reference's answer, tree and out. A whole key takes long, so it is made once.
-fn reference(case: &Case) -> (Written, Vec<u8>, Vec<u8>) {
-    static WHOLE: Memo<[Vec<u8>; 4], (Written, Vec<u8>, Vec<u8>)> = Memo::new();
+/// An answer, and tree and out after it.
+type Made = (Written, Vec<u8>, Vec<u8>);
+
+/// What the reference comes to. A whole key takes long, so it is made once.
+fn reference(case: &Case) -> Made {
+    static WHOLE: Memo<[Vec<u8>; 4], Made> = Memo::new();
     let Case { seed, identifier, tree, out, .. } = case;
     let make = || {
         let (mut tree, mut out) = (tree.clone(), out.clone());
@@ -55,7 +58,6 @@ fn reference(case: &Case) -> (Written, Vec<u8>, Vec<u8>) {
 pub fn battery(subject: &dyn Calls) {
     let mut rng = Rng::new(seed(), "make_key");
     let mut cases = vec![
-        right("a random key", &mut rng),
         Case { out: rng.bytes(PUBLIC_KEY + 100), ..right("a random key, 100 bytes to spare", &mut rng) },
         Case {
             seed: vec![0xff; N],
@@ -65,7 +67,10 @@ pub fn battery(subject: &dyn Calls) {
             ..right("all bytes 255", &mut rng)
         },
     ];
-    progress("make_key: 3 whole keys");
+    if long() {
+        cases.push(right("a random key", &mut rng));
+    }
+    progress(&format!("make_key: {} whole keys", cases.len()));
     cases.extend(refusals(&mut rng));
     run("make_key", &cases, |case, rng| compare(subject, case, rng));
 }
@@ -115,6 +120,6 @@ fn spoilers() -> Vec<Spoiler<Case>> {
 }
 
 fn refusals(rng: &mut Rng) -> Vec<Case> {
-    let spoiled = spoiled(&spoilers(), 200, rng, |rng| right("", rng));
+    let spoiled = spoiled(&spoilers(), sized(200), rng, |rng| right("", rng));
     spoiled.into_iter().map(|wrong| Case { expected: Some(wrong.number()), what: wrong.what, ..wrong.case }).collect()
 }

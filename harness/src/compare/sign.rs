@@ -4,7 +4,7 @@ use crate::reference::layout::{SIGNATURE, SIGNED};
 use std::sync::{Arc, OnceLock};
 
 use super::refusals::{lengths, spoiled, spoiler, Spoiler};
-use super::{equal, keys, message_lengths, noise, run};
+use super::{equal, keys, message_lengths, noise, run, sized};
 use crate::guarded::Guarded;
 use crate::keys::Key;
 use crate::reference::calls::{self, MAX_LEAF, MAX_MESSAGE, TREE};
@@ -148,7 +148,7 @@ pub fn noise(subject: &dyn Calls, rng: &mut Rng) -> Result<u32, String> {
 /// The tree is read and never compared with the seed.
 fn any_tree(rng: &mut Rng) -> Vec<Case> {
     let mut cases = Vec::new();
-    for number in 0..20 {
+    for number in 0..sized(20) {
         let tree = Arc::new(rng.bytes(TREE));
         cases.extend((0..5).map(|_| any_operands(format!("random tree {number}"), &tree, rng)));
     }
@@ -194,6 +194,6 @@ fn spoilers() -> Vec<Spoiler<Case>> {
 
 fn refusals(rng: &mut Rng) -> Vec<Case> {
     let tree = Arc::new(rng.bytes(TREE));
-    let spoiled = spoiled(&spoilers(), 400, rng, |rng| any_operands("", &tree, rng));
+    let spoiled = spoiled(&spoilers(), sized(400), rng, |rng| any_operands("", &tree, rng));
     spoiled.into_iter().map(|wrong| Case { expected: Some(wrong.number()), what: wrong.what, ..wrong.case }).collect()
 }

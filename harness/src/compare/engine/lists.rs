@@ -31,13 +31,13 @@ struct Plan {
 /// How often a call came to a number, or wrote messages together.
 type Tally = BTreeMap<String, usize>;
 
-/// Thousands of calls for each n.
+/// Hundreds of calls for each n, ten thousand in the long battery.
 pub fn battery(subject: Subject) {
     let mut plans = Vec::new();
     for n in (1..=32).rev() {
         let (lists, calls) = match (n, long()) {
-            (1, false) => (120, 20),
-            (_, false) => (30, 50),
+            (1, false) => (60, 20),
+            (_, false) => (15, 50),
             (_, true) => (100, 100),
         };
         let plan = |list: usize| Plan {

@@ -1,7 +1,7 @@
 //! Records: states of a unit, possible ones that no list of calls reaches, and impossible ones, each cause alone.
 
 use super::{both, Call, Case, Subject};
-use crate::compare::{equal, long, noise, run};
+use crate::compare::{equal, long, noise, run, sized};
 use crate::fleet::{layouts, rounds, some_seats, Fleet};
 use crate::reference::impossible::causes;
 use crate::reference::layout::{self, SIGNATURE, VALUE};
@@ -284,9 +284,9 @@ pub fn battery(subject: Subject) {
             cases.push(("guilty strangers".to_string(), true, case(fleet, record, call, &mut rng)));
         }
         let (count, values) = match (n <= 7, long()) {
-            (true, _) => (300, &values[..]),
+            (true, _) => (sized(300), &values[..]),
             (false, true) => (100, &values[..3]),
-            (false, false) => (20, &values[..3]),
+            (false, false) => (10, &values[..3]),
         };
         for _ in 0..count {
             let record = any_possible(fleet, values, &mut rng);

@@ -5,7 +5,7 @@ use super::{both, Call, Case, Subject};
 use crate::compare::arguments::key_spoilers;
 use crate::compare::messages;
 use crate::compare::refusals::{lengths, on_part, spoiled, spoiler, Spoiler};
-use crate::compare::{equal, long, noise, resized, run};
+use crate::compare::{equal, long, noise, resized, run, sized};
 use crate::fleet::{layouts, rounds, Fleet};
 use crate::reference::layout::{self, SIGNATURE};
 use crate::reference::messages::{Full, Notice, Submit, Value};
@@ -21,7 +21,7 @@ pub fn battery(subject: Subject) {
         for (base, mut spoilers) in kinds(fleet, &mut rng) {
             spoilers.extend(shared_spoilers(fleet));
             cases.push((format!("n = {n}, {}", base.name), 0, base.case.clone()));
-            let spoiled = spoiled(&spoilers, 150, &mut rng, |_| base.case.clone());
+            let spoiled = spoiled(&spoilers, sized(150), &mut rng, |_| base.case.clone());
             cases.extend(
                 spoiled
                     .into_iter()
