@@ -119,6 +119,9 @@ pub fn keys() -> &'static [Key] {
     })
 }
 
+/// The length of a signature of the other height.
+const LOWER_TREE: usize = Types::of(5, 4).unwrap().signature();
+
 /// Message lengths around every edge of the padding (54 bytes go before the message), and the longest.
 fn message_lengths(rng: &mut Rng) -> Vec<usize> {
     let mut lengths: Vec<usize> = (0..=140).collect();

@@ -4,7 +4,7 @@ use crate::reference::layout::{SIGNATURE, SIGNED};
 use std::sync::{Arc, OnceLock};
 
 use super::refusals::{lengths, spoiled, spoiler, Spoiler};
-use super::{equal, keys, message_lengths, noise, run, sized};
+use super::{equal, keys, message_lengths, noise, run, sized, LOWER_TREE};
 use crate::guarded::Guarded;
 use crate::keys::Key;
 use crate::reference::calls::{self, MAX_LEAF, MAX_MESSAGE, TREE};
@@ -170,7 +170,7 @@ fn spoilers() -> Vec<Spoiler<Case>> {
     for leaf in [MAX_LEAF + 1, 1025, 2047, 2048, 65_535, 65_536, 65_541, 1 << 31, u32::MAX - 1023, u32::MAX] {
         spoilers.push(spoiler(3, format!("leaf {leaf}"), move |case: &mut Case, _| case.leaf = leaf));
     }
-    spoilers.extend(lengths(7, "out", &[0, 1, N - 1, PUBLIC_KEY, SIGNATURE - N, SIGNATURE - 1], |case: &mut Case| {
+    spoilers.extend(lengths(7, "out", &[0, 1, N - 1, PUBLIC_KEY, LOWER_TREE, SIGNATURE - 1], |case: &mut Case| {
         &mut case.out
     }));
     spoilers.extend(lengths(9, "message", &[MAX_MESSAGE + 1, MAX_MESSAGE + 2, 100_000], |case: &mut Case| {

@@ -5,7 +5,7 @@ use super::{both, Call, Case, Subject};
 use crate::compare::arguments::key_spoilers;
 use crate::compare::messages;
 use crate::compare::refusals::{lengths, on_part, spoiled, spoiler, Spoiler};
-use crate::compare::{equal, long, noise, resized, run, sized};
+use crate::compare::{equal, long, noise, resized, run, sized, LOWER_TREE};
 use crate::fleet::{layouts, rounds, Fleet};
 use crate::reference::layout::{self, SIGNATURE};
 use crate::reference::messages::{Full, Notice, Submit, Value};
@@ -149,7 +149,12 @@ fn own_spoilers(fleet: Fleet, seat: u32, value: Value) -> Vec<Spoiler<Case>> {
         case.record = submitted(fleet, seat, other);
     }));
     spoilers.extend(lengths(9, "value", &[0, 1, 31, 33, 64], value_of));
-    spoilers.extend(lengths(9, "signature", &[0, 1, 1292, SIGNATURE - 1, SIGNATURE + 1, 2 * SIGNATURE], signature_of));
+    spoilers.extend(lengths(
+        9,
+        "signature",
+        &[0, 1, LOWER_TREE, SIGNATURE - 1, SIGNATURE + 1, 2 * SIGNATURE],
+        signature_of,
+    ));
     for at in [0, 31] {
         spoilers.push(spoiler(14, format!("value changed at byte {at}"), move |case, _| value_of(case)[at] ^= 1));
     }
