@@ -35,7 +35,17 @@ enum {
     ZOLBINE_KEY_MATERIAL = 16  /* seed, identifier, randomizer or tree of another length */
 };
 
-/* Lengths in bytes. */
+/* Commands: the first byte of a message. docs/PROTOCOL.md has the bytes after it. */
+enum {
+    ZOLBINE_SUBMIT = 0x01,         /* a seat signs a value */
+    ZOLBINE_NOTICE = 0x02,         /* a seat has confirmed a value */
+    ZOLBINE_FULL = 0x03,           /* the signatures of k seats over one value */
+    ZOLBINE_FULL_ENTRY = 0x04,     /* first byte of an entry of a FULL */
+    ZOLBINE_EVIDENCE = 0x05,       /* seats that signed two values */
+    ZOLBINE_EVIDENCE_ENTRY = 0x06  /* first byte of an entry of an EVIDENCE */
+};
+
+/* Lengths in bytes, and the last leaf. In a message the command, a seat and a count have 1 byte, the round has 2. */
 enum {
     ZOLBINE_SEED_LEN = 32,
     ZOLBINE_IDENTIFIER_LEN = 16,
@@ -44,8 +54,32 @@ enum {
     ZOLBINE_TREE_LEN = 65536,
     ZOLBINE_SIGNATURE_LEN = 1452,
     ZOLBINE_MESSAGE_MAX = 65535,
-    ZOLBINE_LAST_LEAF = 1023
+    ZOLBINE_LAST_LEAF = 1023,
+    ZOLBINE_MOST_SEATS = 32,
+    ZOLBINE_VALUE_LEN = 32,
+    ZOLBINE_SIGNED_LEN = 1 + 2 + 1 + ZOLBINE_VALUE_LEN,              /* what a seat signs: 0x01, round, seat, value */
+    ZOLBINE_SUBMIT_LEN = ZOLBINE_SIGNED_LEN + ZOLBINE_SIGNATURE_LEN, /* the signed bytes, signature */
+    ZOLBINE_NOTICE_LEN = 1 + 2 + 1 + ZOLBINE_VALUE_LEN,              /* command, round, seat, value */
+    ZOLBINE_FULL_HEAD_LEN = 1 + 2 + 1 + ZOLBINE_VALUE_LEN + 1,       /* command, round, sender's seat, value, count */
+    ZOLBINE_FULL_ENTRY_LEN = 1 + 1 + ZOLBINE_SIGNATURE_LEN,          /* command, seat, signature */
+    ZOLBINE_EVIDENCE_HEAD_LEN = 1 + 2 + 2 * ZOLBINE_VALUE_LEN + 1,   /* command, round, two values, count */
+    ZOLBINE_EVIDENCE_ENTRY_LEN = 1 + 1 + 2 * ZOLBINE_SIGNATURE_LEN   /* command, seat, two signatures */
 };
+
+/* By n, the number of seats, from 1 to 32. More than t0 = n/3 rounded up, less one, double signers can split a fleet; k = n - t0
+ * seats confirm. A NOTICE, a SUBMIT and a FULL have one length in a fleet; that of an EVIDENCE goes by its count of entries, 1
+ * to n.
+ */
+#define ZOLBINE_T0(n) (((n) + 2) / 3 - 1)
+#define ZOLBINE_K(n) ((n) - ZOLBINE_T0(n))
+#define ZOLBINE_KEYS_LEN(n) ((size_t)ZOLBINE_KEY_LEN * (n))
+#define ZOLBINE_STORE_LEN(n) ((size_t)2 * ZOLBINE_SIGNATURE_LEN * (n))
+#define ZOLBINE_FULL_LEN(n) (ZOLBINE_FULL_HEAD_LEN + (size_t)ZOLBINE_FULL_ENTRY_LEN * ZOLBINE_K(n))
+#define ZOLBINE_EVIDENCE_LEN(count) (ZOLBINE_EVIDENCE_HEAD_LEN + (size_t)ZOLBINE_EVIDENCE_ENTRY_LEN * (count))
+/* out of zolbine_submit and of the steps has room for one message of each kind */
+#define ZOLBINE_OUT_LEN(n) (ZOLBINE_SUBMIT_LEN + ZOLBINE_NOTICE_LEN + ZOLBINE_FULL_LEN(n) + ZOLBINE_EVIDENCE_OUT_LEN(n))
+/* out of zolbine_make_evidence */
+#define ZOLBINE_EVIDENCE_OUT_LEN(n) ZOLBINE_EVIDENCE_LEN(ZOLBINE_K(n))
 
 struct zolbine_written {
     uint32_t number;  /* the refusal's number, or 0 */
