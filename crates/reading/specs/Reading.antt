@@ -95,7 +95,7 @@ module _ (n : ℕ) (bytes : List ℕ) where
 -- ---- where a message ends
 
 -- the length of the message that stands first, by its command and count
-unfoldable frameLength : ℕ → List ℕ → ℕ
+unfoldable pub frameLength : ℕ → List ℕ → ℕ
 frameLength n bytes =
     cond (eqb (byteAt bytes 0) 0x01) submitLength
     (cond (eqb (byteAt bytes 0) 0x02) noticeLength
@@ -109,7 +109,7 @@ evidence-counted ρ lower higher ps rest l h =
     ap (λ (b : List ℕ). getD b 67 0) (append-assoc (front ++ length ps ∷ []) (renderPairs ps) rest ∙ append-assoc front (length ps ∷ []) (renderPairs ps ++ rest))
     ∙ getD-at front (length ps) (renderPairs ps ++ rest) 0 67 (simp (length-append, length-be) (omega arith))
 
-frame-length : (n : ℕ) (m : Message) (rest : List ℕ) → WellFormed n m → frameLength n (render m ++ rest) ≡ length (render m)
+pub frame-length : (n : ℕ) (m : Message) (rest : List ℕ) → WellFormed n m → frameLength n (render m ++ rest) ≡ length (render m)
 unfolding frameLength render fullLength evidenceLength
 frame-length n (Submit ρ seat value signature) rest w = sym (length-submit ρ seat value signature (w .1) (w .2))
 frame-length n (Notice ρ seat value) rest w = sym (length-notice ρ seat value (w .1))
