@@ -6,7 +6,7 @@ set -euo pipefail
 cd "$(dirname "$0")/.."
 
 echo "zolbine: the gate. First every crate is proved and its edits are tried; then come the mutations, the archives and the" \
-    "harness. README.md has the times." >&2
+    "harness. On two cores: $(scripts/times.sh test)" >&2
 scripts/statements.sh
 
 log=$(mktemp)
