@@ -15,7 +15,8 @@ use Rattle.quorum.specs.Quorum.{k, bit, In, has, size, shared, with, seats}
 use Rattle.quorum.specs.Laws.{bit-cases, has-true, bit-with-same, bit-with-other, bit-shared, same-seats, shared-comm, size-shared-le, size-with-new, mem-seats}
 use Rattle.refusal.specs.Refusal.{firstOf, unrefused}
 use Rattle.protocol.specs.Layout.{storeLength, outLength, evidenceEntryLength, evidenceEntryAt, evidenceLength, evidenceOutLength}
-use Rattle.protocol.specs.Message.{Entry, Message, Submit, Notice, Full, Evidence, Garbled, Signed, render, renderAll, read, roundOf, entrySeats, seatsOf, signed, WellFormed}
+use Rattle.protocol.specs.Entries.{formSeats}
+use Rattle.protocol.specs.Message.{Entry, Message, Submit, Notice, Full, Evidence, Garbled, Signed, render, renderAll, read, roundOf, entrySeats, seatsOf, signed, WellFormed, fullForm}
 use Rattle.protocol.specs.MessageLaws.{read-render}
 use Rattle.protocol.specs.CertificateLaws.{in-set, set-seats}
 use Rattle.protocol.specs.Certificate.{setOf, ownCertificate, certificateOf, certificateIn, entryOf, entriesOf, fullOf}
@@ -28,7 +29,7 @@ use Rattle.round.specs.Demand1.{SUBMIT, NOTICE, isNotice, isOf}
 use Rattle.round.specs.Demand3.{NoneForged, ReachedOthers}
 use Rattle.reading.specs.Lists.{cond-elim, and-false-either, worth-le-one, worth-true, true-of-worth, count-nil, each-nil, each-cons, each-one, each-append, each-map, rising-first}
 use Rattle.claims.specs.Sound.{Settled, Changed, Certifies, Entries, Sound, Said}
-use Rattle.claims.specs.Certificates.{set-size, seats-rising, sized-entries, entry-seats, entries-of, evidence-elim}
+use Rattle.claims.specs.Certificates.{set-size, seats-rising, entries-laid, entry-seats, entries-of, evidence-elim}
 use Rattle.claims.specs.Parts.{in-below}
 use Rattle.claims.specs.Whole.{reply-stays, hearing-stays, Done, submitted-done, submitted-value, stepped-done}
 use Rattle.reading.specs.Reading.{Sized, read-sized}
@@ -208,7 +209,7 @@ module _ (S : Setting) {I : Type 0} (P : Plan I) (z : Splits S P) where
       let s = role (leader side) .seat in
       let es = entriesOf n (certificate S P side) in
       record {
-        formed = (short, z .layouts side, entries side .many, sized-entries es (λ e d. entries side .kept e d .sized));
+        formed = (short, z .layouts side, entries side .many, entries-laid checks W n (layout side) es (entries side));
         forStep = refl;
         taken = full-taken checks W n round s (layout side) es (inside side s (sender-in side)) (entries side);
         worthy = entries-signed W (layout side) es (λ e d. entries side .kept e d .worthy);
@@ -633,7 +634,7 @@ module _ (S : Setting) {I : Type 0} (P : Plan I) (z : Splits S P) where
   -- ---- evidence made from the two certificates
 
   making-room : evidenceOutLength n ≤ length out
-  unfolding evidenceOutLength evidenceLength evidenceEntryAt evidenceEntryLength outLength
+  unfolding evidenceOutLength outLength
   making-room = let r = z .outRoom in omega arith
 
   fulls-differ : certificateIn (fullBy S P false) .value ≢ certificateIn (fullBy S P true) .value
@@ -662,7 +663,7 @@ module _ (S : Setting) {I : Type 0} (P : Plan I) (z : Splits S P) where
   accuses = made-accepted S (inHand S P) making-passes
 
   full-signers : (b : Bool) → certificateIn (read n (render (fullBy S P b))) .seats ≡ signers b
-  unfolding fullOf certificateIn certificateOf
+  unfolding fullOf certificateIn certificateOf formSeats fullForm
   full-signers b = rw (read-render n (fullBy S P b) (full-sent b .formed), entry-seats n (certificate S P b)) (set-seats n (signers b) (z .fits .below b))
 
   -- it is one EVIDENCE
