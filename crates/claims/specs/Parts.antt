@@ -16,6 +16,7 @@ use Rattle.octets.specs.Strings.{same}
 use Rattle.octets.specs.StringLaws.{same-refl, same-true, same-false}
 use Rattle.quorum.specs.Quorum.{k, bit, In, has, size, shared, with, seats}
 use Rattle.quorum.specs.Laws.{bit-empty, bit-with-other, bit-with-same, has-false, bit-shared, same-seats, shared-lt, with-lt, size-empty, size-with-new, bit-outside, mem-seats, t0-is-third, k-of-n-share}
+use Rattle.refusal.specs.Laws.{both-true}
 use Rattle.protocol.specs.Layout.{valueLength, signatureLength, storeLength, collectedBank, firstBank}
 use Rattle.protocol.specs.Values.{unset}
 use Rattle.protocol.specs.Message.{Pair, Message, Submit, Notice, Full, Evidence, Garbled}
@@ -29,7 +30,7 @@ use Rattle.protocol.specs.declared.Notices.{Notices}
 use Rattle.protocol.specs.declared.Record.{Record}
 use Rattle.round.specs.Round.{Each, Relation}
 use Rattle.round.specs.Demand1.{Kind, SUBMIT, NOTICE, FULL, EVIDENCE, isOf, isSubmit, isNotice, worth}
-use Rattle.reading.specs.Lists.{cond-elim, and-true-both, and-false-either, each-one, each-append, count-append, count-one}
+use Rattle.reading.specs.Lists.{cond-elim, and-false-either, each-one, each-append, count-append, count-one}
 use Rattle.claims.specs.Slots.{fill-length, slot-fill-same, slot-fill-other, fillEach-length, slot-fillEach-other, slot-fillEach-same}
 use Rattle.claims.specs.Sound.{flagOf, Heard, Held, Grows, Room, Changed, Certifies, Pairs, Collection, Holding, Sound, Said, Good, Leads}
 use Rattle.claims.specs.Certificates.{entries-of, evidence-elim}
@@ -94,7 +95,7 @@ notices-elim P value r none other known =
     let v = r .notices .value in
     cond-elim P (eqb h 0) (record { heard = 1; value = value }) (cond (eqb h 1 && not (same value v)) (record { heard = 2; value = v }) (r .notices)) (λ e. none (eqb-true h 0 e))
     (λ z. cond-elim P (eqb h 1 && not (same value v)) (record { heard = 2; value = v }) (r .notices)
-    (λ e. let both = and-true-both (eqb h 1) (not (same value v)) e in
+    (λ e. let both = both-true (eqb h 1) (not (same value v)) e in
     other (eqb-true h 1 (both .0)) (λ q. true≢false (sym (same-refl v) ∙ subst (λ (u : List ℕ). same u v ≡ false) q (not-true (same value v) (both .1)))))
     (λ e. known (eqb-false h 0 z)
     (λ one. ⊎-elim (λ q. absurd (eqb-false h 1 q one)) (λ q. same-true value v (not-false (same value v) q)) (and-false-either (eqb h 1) (not (same value v)) e))))
@@ -192,8 +193,8 @@ module _ (checks : Checks) (W : Relation) where
     unfolding collect isWanted
     collect-leads wanted submitted complete inside g =
         let r = s .unit in
-        let both = and-true-both (not (r .confirmed) && same value (r .own .value)) (not (has seat (r .own .collected))) wanted in
-        let front = and-true-both (not (r .confirmed)) (same value (r .own .value)) (both .0) in
+        let both = both-true (not (r .confirmed) && same value (r .own .value)) (not (has seat (r .own .collected))) wanted in
+        let front = both-true (not (r .confirmed)) (same value (r .own .value)) (both .0) in
         let unconfirmed : r .confirmed ≡ false = not-true (r .confirmed) (front .0) in
         let own : value ≡ r .own .value = same-true value (r .own .value) (front .1) in
         let new : bit seat (r .own .collected) ≡ 0 = has-false seat (r .own .collected) .0 (not-true (has seat (r .own .collected)) (both .1)) in
@@ -331,7 +332,7 @@ module _ (checks : Checks) (W : Relation) where
     unfolding owesFull
     owes-parts e =
         let r = s .unit in
-        let front = and-true-both (r .confirmed) (not (r .sent)) (and-true-both (r .confirmed && not (r .sent)) (otherHeard r) e .0) in
+        let front = both-true (r .confirmed) (not (r .sent)) (both-true (r .confirmed && not (r .sent)) (otherHeard r) e .0) in
         (front .0, not-true (r .sent) (front .1))
 
     sendFull-leads : owesFull (s .unit) ≡ true → Leads checks W s (sendFull s)
@@ -464,7 +465,7 @@ module _ (checks : Checks) (W : Relation) where
         let same-value = same (c .value) (r .first .value) in
         cond-elim (λ x. Leads checks W s x) (not (eqb (r .first .seats) 0)) (cond (not same-value && eqb (r .guilty) 0) (blame c s) s) (hold c s)
         (λ held. cond-elim (λ x. Leads checks W s x) (not same-value && eqb (r .guilty) 0) (blame c s) s
-        (λ e. let both = and-true-both (not same-value) (eqb (r .guilty) 0) e in
+        (λ e. let both = both-true (not same-value) (eqb (r .guilty) 0) e in
         blame-leads (eqb-false (r .first .seats) 0 (not-true (eqb (r .first .seats) 0) held)) (λ q. true≢false (sym (same-refl (c .value)) ∙ subst (λ (v : List ℕ). same (c .value) v ≡ false) q (not-true same-value (both .0)))) (eqb-true (r .guilty) 0 (both .1)))
         (λ e. leads-refl s z))
         (λ empty. hold-leads (eqb-true (r .first .seats) 0 (not-false (eqb (r .first .seats) 0) empty)))

@@ -14,7 +14,7 @@ use Rattle.octets.specs.StringLaws.{same-refl}
 use Rattle.quorum.specs.Quorum.{mostSeats, k, has, size, shared}
 use Rattle.quorum.specs.Laws.{has-true, outside-false, size-empty}
 use Rattle.refusal.specs.Refusal.{firstOf}
-use Rattle.refusal.specs.Laws.{firstOf-zero}
+use Rattle.refusal.specs.Laws.{both-true, both-false, firstOf-zero}
 use Rattle.protocol.specs.Layout.{valueLength, signatureLength, storeLength, outLength}
 use Rattle.protocol.specs.Values.{unset}
 use Rattle.protocol.specs.Entries.{formSeats}
@@ -24,7 +24,7 @@ use Rattle.protocol.specs.Record.{lastRound, wrongSize, wrongSeat, wrongRound, 
 use Rattle.protocol.specs.Refusals.{Condition, Checks, every, wrongKeys, shortStore, shortOut, said, isForStep, isFull, isEvidence, wrongLengths, otherRound, stranger, rising, disorder, early, badSignature, notLowerFirst, NO-CONFLICT-IN, NO-CONFLICT-BETWEEN, messageConditions, outsideConditions, recordConditions, openingConditions, submitConditions, stepConditions, evidenceConditions, equalValues, certificateConditions, twoConditions, makingConditions}
 use Rattle.protocol.specs.declared.Record.{Record}
 use Rattle.round.specs.Round.{Each, Relation, EachSigned}
-use Rattle.reading.specs.Lists.{and-true-both, or-false-both, or-true-either, each-nil, each-cons, each-map, every-each, each-every}
+use Rattle.reading.specs.Lists.{or-true-either, each-nil, each-cons, each-map, every-each, each-every}
 use Rattle.claims.specs.Sound.{InRange, Settled, Changed, Entries, Pairs, Sound}
 use Rattle.claims.specs.Whole.{Brings}
 use Rattle.reading.specs.Reading.{Sized}
@@ -108,7 +108,7 @@ module _ (checks : Checks) (W : Relation) (r : Record) (store : List ℕ) (z : S
 some-of : (n : ℕ) → wrongSize n ≡ false → (1 ≤ n) × (n ≤ mostSeats)
 unfolding wrongSize
 some-of n e =
-    let s = or-false-both (eqb n 0) (ltb mostSeats n) e in
+    let s = both-false (eqb n 0) (ltb mostSeats n) e in
     let nonzero = eqb-false n 0 (s .0) in
     (omega arith, ltb-false mostSeats n (s .1))
 
@@ -162,13 +162,13 @@ submit-taken checks keys r store value signature out e =
     let f = firstOf-zero 7 _ _ (lent .1) in
     let g = firstOf-zero 8 _ _ (f .1) in
     let h = firstOf-zero 13 _ _ (g .1) in
-    let lengths = or-false-both (not (eqb (length value) valueLength)) (not (eqb (length signature) signatureLength)) (g .0) in
+    let lengths = both-false (not (eqb (length value) valueLength)) (not (eqb (length signature) signatureLength)) (g .0) in
     record {
       room = lent .0 .2;
       unsaid = f .0;
       sizedValue = eqb-true (length value) valueLength (not-false (eqb (length value) valueLength) (lengths .0));
       sized = eqb-true (length signature) signatureLength (not-false (eqb (length signature) signatureLength) (lengths .1));
-      checked = and-true-both (checks (r .seat) value signature) true (not-false (checks (r .seat) value signature && true) (h .0)) .0;
+      checked = both-true (checks (r .seat) value signature) true (not-false (checks (r .seat) value signature && true) (h .0)) .0;
     }
 
 -- ---- the signatures of a message, entry by entry
