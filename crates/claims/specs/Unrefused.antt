@@ -25,7 +25,7 @@ use Rattle.protocol.specs.Refusals.{Condition, Checks, every, wrongKeys, shortS
 use Rattle.protocol.specs.declared.Record.{Record}
 use Rattle.round.specs.Round.{Each, Relation, EachSigned}
 use Rattle.reading.specs.Lists.{or-true-either, each-nil, each-cons, each-map, every-each, each-every}
-use Rattle.claims.specs.Sound.{InRange, Settled, Changed, Entries, Pairs, Sound}
+use Rattle.claims.specs.Sound.{InRange, Settled, Attested, Entries, Pairs, Sound}
 use Rattle.claims.specs.Whole.{Brings}
 use Rattle.reading.specs.Reading.{Sized}
 
@@ -39,7 +39,7 @@ pub round-right : (round : ℕ) → round ≤ lastRound → wrongRound round ≡
 unfolding wrongRound
 round-right round h = le-ltb lastRound round h
 
--- ---- no record that keeps the invariant is impossible
+-- ---- no record for which the invariant holds is impossible
 
 implied : (a b : Bool) → (a ≡ true → b ≡ true) → (a && not b) ≡ false
 implied true b h = rw (h refl)
@@ -328,10 +328,10 @@ making-taken checks n round keys a b out e =
 -- ---- what it brings
 
 module _ (checks : Checks) (W : Relation) where
-  entries-kept : (value : List ℕ) (es : List Entry) → EachSigned (λ s v g. checks s v g ≡ true) (Full 0 0 value es) → EachSigned W (Full 0 0 value es) → Each (λ (e : Entry). length (e .signature) ≡ signatureLength) es
-      → Each (λ (e : Entry). Changed checks W (e .seat) value (e .signature)) es
+  entries-attested : (value : List ℕ) (es : List Entry) → EachSigned (λ s v g. checks s v g ≡ true) (Full 0 0 value es) → EachSigned W (Full 0 0 value es) → Each (λ (e : Entry). length (e .signature) ≡ signatureLength) es
+      → Each (λ (e : Entry). Attested checks W (e .seat) value (e .signature)) es
   unfolding signed
-  entries-kept value es c w l e d = record {
+  entries-attested value es c w l e d = record {
     checked = signed-entries (λ s v g. checks s v g ≡ true) value es c e d;
     sized = l e d;
     worthy = signed-entries W value es w e d;
@@ -345,7 +345,7 @@ module _ (checks : Checks) (W : Relation) where
     many = l .1;
     rise = t .rises;
     below = λ e d. t .inside (e .seat) (List·Memᴰ·tail (Memᴰ·map (λ (x : Entry). x .seat) d));
-    kept = entries-kept value es (t .checked) w (λ e d. l .2 e d .0);
+    attested = entries-attested value es (t .checked) w (λ e d. l .2 e d .0);
   }
 
   -- a FULL that a unit wrote, to another
@@ -355,7 +355,7 @@ module _ (checks : Checks) (W : Relation) where
     inRound = refl;
     inside = each-cons (λ s. s < n) sender (map (λ (e : Entry). e .seat) es) l (each-map (λ s. s < n) (λ (e : Entry). e .seat) es (z .below));
     rises = z .rise;
-    checked = entries-signed (λ s v g. checks s v g ≡ true) value es (λ e d. z .kept e d .checked);
+    checked = entries-signed (λ s v g. checks s v g ≡ true) value es (λ e d. z .attested e d .checked);
   }
 
   pub evidence-taken : (n ρ : ℕ) (lower higher : List ℕ) (ps : List Pair) → Pairs checks W n lower higher ps → Taken checks n ρ (Evidence ρ lower higher ps)

@@ -21,7 +21,7 @@ use Rattle.protocol.specs.declared.Record.{Record}
 use Rattle.round.specs.Round.{Relation}
 use Rattle.round.specs.Demand1.{Kind, SUBMIT, NOTICE, FULL, EVIDENCE, isOf, isSubmit, isNotice, worth}
 use Rattle.reading.specs.Lists.{cond-elim, and-false-either}
-use Rattle.claims.specs.Sound.{flagOf, Heard, Held, Grows, Room, Settled, Changed, Certifies, Entries, Sound, Leads}
+use Rattle.claims.specs.Sound.{flagOf, Heard, Held, Grows, Room, Settled, Attested, Certifies, Entries, Sound, Leads}
 use Rattle.claims.specs.Certificates.{certifies-of}
 use Rattle.claims.specs.Parts.{k-pos, room-leads, leads-trans, leads-writing, leads-refl, collect-leads, submitOwn-leads, hear-leads, hear-heard, reply-leads, holdOrBlame-leads, holdOrBlame-held, own-certifies, collected-submitted, confirmed-submitted}
 
@@ -193,7 +193,7 @@ module _ (checks : Checks) (W : Relation) where
 
   -- ---- submit and step
 
-  module _ (value signature : List ℕ) (s : State) (z : Sound checks W (s .unit) (s .store)) (room : Room s) (unsaid : s .unit .own .submitted ≡ false) (sized : length value ≡ valueLength) (g : Changed checks W (s .unit .seat) value signature) where
+  module _ (value signature : List ℕ) (s : State) (z : Sound checks W (s .unit) (s .store)) (room : Room s) (unsaid : s .unit .own .submitted ≡ false) (sized : length value ≡ valueLength) (g : Attested checks W (s .unit .seat) value signature) where
     own-leads : Leads checks W s (submitOwn value signature s)
     own-leads = submitOwn-leads checks W value signature s z room unsaid sized g
 
@@ -215,14 +215,14 @@ module _ (checks : Checks) (W : Relation) where
 
   -- what a message brings that a step doesn't refuse
   abbrev pub Brings : Record → Message → Type 0
-  Brings r (Submit ρ seat value signature) = (r .own .submitted ≡ true) × (seat < r .n) × Changed checks W seat value signature
+  Brings r (Submit ρ seat value signature) = (r .own .submitted ≡ true) × (seat < r .n) × Attested checks W seat value signature
   Brings r (Notice ρ seat value) = Unit {0}
   Brings r (Full ρ sender value entries) = Entries checks W (r .n) value entries
   Brings r (Evidence ρ lower higher entries) = Unit {0}
   Brings r Garbled = Unit {0}
 
   module _ (s : State) (z : Sound checks W (s .unit) (s .store)) (room : Room s) (e : Settled (s .unit)) where
-    hearSubmit-done : (seat : ℕ) (value signature : List ℕ) → s .unit .own .submitted ≡ true → seat < s .unit .n → Changed checks W seat value signature → Done s (confirmIfComplete (hearSubmit seat value signature s))
+    hearSubmit-done : (seat : ℕ) (value signature : List ℕ) → s .unit .own .submitted ≡ true → seat < s .unit .n → Attested checks W seat value signature → Done s (confirmIfComplete (hearSubmit seat value signature s))
     unfolding hearSubmit
     hearSubmit-done seat value signature submitted inside g =
         cond-elim (λ x. Done s (confirmIfComplete x)) (isWanted seat value (s .unit)) (collect seat signature s) s
