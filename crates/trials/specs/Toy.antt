@@ -1,6 +1,6 @@
 -- What the runs are given: every definition of a call, open, and a toy for the signature check.
 -- Assumes nothing.
-use Prim.Native.Nat.{ℕ, zero, suc}
+use Prim.Native.Nat.{ℕ, zero, suc, _-_}
 use mathlib.Core.Bool.{Bool, true, _&&_}
 use mathlib.Core.List.{List, [], _∷_, _++_}
 use lib.Count.{ones}
@@ -33,7 +33,7 @@ abbrev pub layout : ℕ → List ℕ
 layout b = replicate 32 b
 
 abbrev pub sign : ℕ → ℕ → List ℕ
-sign seat b = seat ∷ b ∷ replicate 1450 0
+sign seat b = seat ∷ b ∷ replicate (signatureLength - 2) 0
 
 abbrev pub keys : ℕ → List ℕ
 keys zero = []
