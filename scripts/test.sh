@@ -5,8 +5,8 @@
 set -euo pipefail
 cd "$(dirname "$0")/.."
 
-echo "zolbine: the gate takes about half an hour on two cores. First every crate is proved and its edits are tried, then come" \
-    "the mutations, the archives and the harness." >&2
+echo "zolbine: the gate. First every crate is proved and its edits are tried, then come the mutations, the archives and the" \
+    "harness. On two cores: $(scripts/times.sh test)" >&2
 log=$(mktemp)
 trap 'rm -f "$log"' EXIT
 # four jobs on two cores: rt waits for each whole batch, and a prover takes 2 GB at most
