@@ -2,8 +2,6 @@
 pub mod Reading
 pub mod Answers
 pub mod StringLaws
-pub mod MaskLaws
-pub mod SeatLaws
 pub mod WalkLaws
 pub mod EntriesLaws
 pub mod FormLaws

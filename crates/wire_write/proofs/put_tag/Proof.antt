@@ -1,0 +1,31 @@
+-- `wire_write::put_tag` meets its contract.
+use native.Mathlib.Omega.{arith}
+use borrow.Author.Needs.{needs}
+use denote.Ref.{now}
+use Rattle.wire_write.specs.WriteLaws.{then}
+use Rattle.wire_write.proofs.put_tag.Statement.{statement}
+use Rattle.wire_write.proofs.put_tag.Tie as tie
+
+put-byte-requires : tie.Need-put-byte-requires
+put-byte-requires c κs = search needs
+
+cast-put-byte : tie.Need-cast-put-byte
+cast-put-byte c = search needs
+
+put-byte-requires-2 : tie.Need-put-byte-requires-2
+put-byte-requires-2 c κs = search needs
+
+same-length : tie.Need-same-length
+same-length c = search needs
+
+returns : tie.Need-returns
+returns c =
+    let second = c .before .before in
+    let first = second .before .before .before .before in
+    let start = first .before .before .before in
+    then (start .args .at) (first .put-byte .result) (second .put-byte2 .result) _ _ (now (start .args .out)) (first .put-byte .last .0) (second .put-byte2 .last .0) (omega (arith, start .pre))
+    (first .put-byte .ensures) (second .put-byte2 .ensures)
+
+pub put-tag-spec : {M : Type 1} → statement M
+put-tag-spec =
+    tie.close (tie.spec put-byte-requires cast-put-byte put-byte-requires-2 same-length returns)

@@ -1,0 +1,33 @@
+-- `wire_write::write_entry` meets its contract.
+use native.Mathlib.Omega.{arith}
+use borrow.Author.Needs.{needs}
+use denote.Ref.{now}
+use Rattle.protocol.specs.Layout.{signatureLength, fullEntryLength}
+use Rattle.protocol.specs.Entries.{renderEntry}
+use Rattle.protocol.specs.Message.{fullForm}
+use Rattle.wire_write.specs.WriteLaws.{then}
+use Rattle.wire_write.proofs.write_entry.Statement.{statement}
+use Rattle.wire_write.proofs.write_entry.Tie as tie
+
+put-tag-requires : tie.Need-put-tag-requires
+unfolding signatureLength fullEntryLength
+put-tag-requires c κs = omega arith
+
+put-requires : tie.Need-put-requires
+unfolding signatureLength fullEntryLength
+put-requires c κs = omega arith
+
+same-length : tie.Need-same-length
+same-length c = search needs
+
+returns : tie.Need-returns
+unfolding renderEntry fullForm
+returns c =
+    let second = c .before .before in
+    let first = second .before .before .before .before in
+    let start = first .before .before .before .before in
+    then (start .args .at) (first .put-tag .result) (second .put .result) _ (now (start .args .signature)) (now (start .args .out)) (first .put-tag .last .0) (second .put .last .0) (omega (arith, start .pre))
+    (first .put-tag .ensures) (second .put .ensures)
+
+pub write-entry-spec : {M : Type 1} → statement M
+write-entry-spec = tie.close (tie.spec put-tag-requires put-requires same-length returns)

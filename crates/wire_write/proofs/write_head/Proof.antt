@@ -1,0 +1,64 @@
+-- `wire_write::write_head` meets its contract.
+use mathlib.Core.Path.{ap, _∙_}
+use Prim.Native.Nat.{ℕ, _+_}
+use native.Mathlib.Omega.{arith}
+use borrow.Author.Needs.{needs}
+use denote.Ref.{now}
+use Rattle.protocol.specs.Layout.{noticeLength}
+use Rattle.wire_write.specs.WriteLaws.{then, length-command, length-head}
+use Rattle.wire_write.proofs.write_head.Statement.{statement}
+use Rattle.wire_write.proofs.write_head.Tie as tie
+
+abbrev started : tie.After-put-command → tie.Start
+started c = c .before .before .before .before
+
+abbrev commanded : tie.After-put-byte → tie.After-put-command
+commanded c = c .before .before .before .before
+
+put-command-requires : tie.Need-put-command-requires
+unfolding noticeLength
+put-command-requires c κs = omega arith
+
+cast-put-byte : tie.Need-cast-put-byte
+cast-put-byte c = search needs
+
+put-byte-requires : tie.Need-put-byte-requires
+unfolding noticeLength
+put-byte-requires c κs =
+    let start = started (c .before .before .before) in
+    omega (arith, length-command (start .args .command) (start .args .round), start .pre)
+
+put-requires : tie.Need-put-requires
+unfolding noticeLength
+put-requires c κs =
+    let command = commanded (c .before .before .before) in
+    let start = started command in
+    omega (arith, length-command (start .args .command) (start .args .round), start .pre, command .put-command)
+
+same-length : tie.Need-same-length
+same-length c = search needs
+
+returns : tie.Need-returns
+returns c =
+    let last = c .before .before in
+    let byte = last .before .before .before .before in
+    let command = commanded byte in
+    let start = started command in
+    let args = start .args in
+    let out = now (args .out) in
+    let wrote =
+    then (args .at) (byte .put-byte .result) (last .put .result) _ (now (args .value)) out (byte .put-byte .last .0) (last .put .last .0) (omega (arith, start .pre))
+    (then (args .at) (command .put-command .result) (byte .put-byte .result) _ _ out (command .put-command .last .0) (byte .put-byte .last .0) (omega (arith, start .pre)) (command .put-command .ensures) (byte .put-byte .ensures))
+    (last .put .ensures) in
+    (wrote, wrote .ends ∙ ap (λ (l : ℕ). args .at + l) (length-head (args .command) (args .round) (args .seat) (now (args .value)) (start .pre .1)))
+
+pub write-head-spec : {M : Type 1} → statement M
+write-head-spec =
+    tie.close
+    (tie.spec
+    put-command-requires
+    cast-put-byte
+    put-byte-requires
+    put-requires
+    same-length
+    returns)
