@@ -160,12 +160,12 @@ module _ (checks : List ℕ → ℕ → Checks) (keys : List ℕ) (r : Record) (
 
   abbrev Promised : Answer → List ℕ → List ℕ → Type 0
   Promised t store′ out′ =
-      ((t ≡ told outcome) × Fits (t .line)) × ((store′ ≡ outcome .store) × (out′ ≡ outAfter (outcome .written) out))
+      ((t ≡ told outcome) × Fits (t .line)) × (store′ ≡ outcome .store) × (out′ ≡ outAfter (outcome .written) out)
 
   pub called-misframed : misframedCall bytes ≡ true → (line′ : Line) → (line′ ≡ inSpace (lineFor bytes 9 0)) × Fits line′
       → Promised (record { ends = true; unit = r; line = line′ }) store out
   unfolding called told outAfter
-  called-misframed m line′ e = rw m ((rw (e .0), e .1), (refl, sym (patch-nothing out)))
+  called-misframed m line′ e = rw m ((rw (e .0), e .1), refl, sym (patch-nothing out))
 
   module _ (m : misframedCall bytes ≡ false) (b : ℕ) (e : b ≡ byteAt bytes 0) (a : Stepped) (t : Answer) (f : (t ≡ toldCall a) × Fits (t .line))
       (store′ out′ : List ℕ) where
@@ -175,7 +175,7 @@ module _ (checks : List ℕ → ℕ → Checks) (keys : List ℕ) (r : Record) (
         → out′ ≡ outAfter (step (checks keys (r .round)) keys r store message out .written) out
         → Promised t store′ out′
     unfolding called told toldCall answer
-    called-message h message w p q s = rw (m, ← e, eq-eqb b 0x11 h, q, s, w, take-rest messageAt bytes) ((rw (f .0, p, w, take-rest messageAt bytes), f .1), (refl, refl))
+    called-message h message w p q s = rw (m, ← e, eq-eqb b 0x11 h, q, s, w, take-rest messageAt bytes) ((rw (f .0, p, w, take-rest messageAt bytes), f .1), refl, refl)
 
     pub called-submit : (b ≡ 0x11 → ⊥) → (value signature : List ℕ) → value ≡ take valueLength (drop ownValueAt bytes) → signature ≡ take (length bytes - ownSignatureAt) (drop ownSignatureAt bytes)
         → a ≡ answer (submit (checks keys (r .round)) keys r store value signature out)
@@ -184,4 +184,4 @@ module _ (checks : List ℕ → ℕ → Checks) (keys : List ℕ) (r : Record) (
         → Promised t store′ out′
     unfolding called told toldCall answer part
     called-submit h value signature v w p q s =
-        rw (m, ← e, ne-eqb b 0x11 h, q, s, v, w, take-rest ownSignatureAt bytes) ((rw (f .0, p, v, w, take-rest ownSignatureAt bytes), f .1), (refl, refl))
+        rw (m, ← e, ne-eqb b 0x11 h, q, s, v, w, take-rest ownSignatureAt bytes) ((rw (f .0, p, v, w, take-rest ownSignatureAt bytes), f .1), refl, refl)

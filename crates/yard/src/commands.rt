@@ -166,10 +166,18 @@ fn goes_on(answer: Stepped) -> Answer
 }
 
 // Answer of a later command, from the bytes that the input has of it.
-pub fn take_command(r: Record, keys: &[u8], store: &mut [u8], out: &mut [u8], bytes: &[u8]) -> Answer
-    ensures answer { λ t. ⌜ (t ≡ told (called checks (now (keys .entry)) r (now (store .entry)) (now (out .entry)) (now (bytes .entry)))) × Fits (t .line) ⌝ }
-    ensures store { λ _. ⌜ now (store .exit) ≡ called checks (now (keys .entry)) r (now (store .entry)) (now (out .entry)) (now (bytes .entry)) .store ⌝ }
-    ensures out { λ _. ⌜ now (out .exit) ≡ outAfter (called checks (now (keys .entry)) r (now (store .entry)) (now (out .entry)) (now (bytes .entry)) .written) (now (out .entry)) ⌝ }
+pub fn take_command(
+    r: Record,
+    keys: &[u8],
+    store: &mut [u8],
+    out: &mut [u8],
+    bytes: &[u8],
+) -> Answer
+    ensures { λ t.
+        let o = called checks (now (keys .entry)) r (now (store .entry)) (now (out .entry)) (now (bytes .entry)) in
+        ⌜ ((t ≡ told o) × Fits (t .line))
+        × (now (store .exit) ≡ o .store)
+        × (now (out .exit) ≡ outAfter (o .written) (now (out .entry))) ⌝ }
 {
     if is_misframed_call(bytes) {
         let line = line_for(bytes, refusal::GARBLED, 0);

@@ -2,14 +2,13 @@
 // definition.
 ghost use mathlib.Core.Path.{_≡_};
 ghost use lib.ListN.{length};
-ghost use Rattle.protocol.specs.Layout.{storeLength, outLength};
-ghost use Rattle.yard.specs.Commands.{mostYardSeats, longestOpening, longestCall, yardStore, yardOut};
+ghost use Rattle.yard.specs.Commands.{longestOpening, longestCall, yardStore, yardOut};
 
 // The yard's most seats.
 pub(crate) const MOST_SEATS: usize = 7;
 
 // The bytes of a value, a key and a signature.
-pub(crate) const VALUE: usize = 32;
+const VALUE: usize = 32;
 
 pub(crate) const KEY: usize = 56;
 
@@ -50,13 +49,13 @@ pub fn new_call() -> [u8; CALL]
 }
 
 pub fn new_store() -> [u8; STORE]
-    ensures { λ r. ⌜ (r ≡ yardStore) × (storeLength mostYardSeats ≡ length r) ⌝ }
+    ensures { λ r. ⌜ r ≡ yardStore ⌝ }
 {
     [0; STORE]
 }
 
 pub fn new_out() -> [u8; OUT]
-    ensures { λ r. ⌜ (r ≡ yardOut) × (outLength mostYardSeats ≡ length r) ⌝ }
+    ensures { λ r. ⌜ r ≡ yardOut ⌝ }
 {
     [0; OUT]
 }

@@ -8,7 +8,7 @@ use Rattle.yard.proofs.space.new_out.Tie as tie
 
 returns : tie.Need-returns
 unfolding yardOut outLength k t0
-returns c = (refl, refl)
+returns c = refl
 
 pub new-out-spec : {M : Type 1} → statement M
 new-out-spec = tie.close (tie.spec returns)

@@ -7,7 +7,7 @@ use Rattle.yard.proofs.space.new_store.Tie as tie
 
 returns : tie.Need-returns
 unfolding yardStore storeLength
-returns c = (refl, refl)
+returns c = refl
 
 pub new-store-spec : {M : Type 1} → statement M
 new-store-spec = tie.close (tie.spec returns)
