@@ -10,8 +10,9 @@ use native.Mathlib.Omega.{arith}
 use borrow.Author.Tests.{le-ltb, eq-eqb, not-false}
 use Rattle.refusal.specs.Refusal.{firstOf, unrefused}
 use Rattle.protocol.specs.Values.{isLower}
-use Rattle.protocol.specs.Message.{Pair, Message, Submit, Notice, Full, Evidence, Garbled, render, renderAll, read, signed, entrySeats}
-use Rattle.protocol.specs.ReadLaws.{WellFormed, read-render}
+use Rattle.protocol.specs.Entries.{formSeats}
+use Rattle.protocol.specs.Message.{Pair, Message, Submit, Notice, Full, Evidence, Garbled, evidenceForm, render, renderAll, read, signed, entrySeats, WellFormed}
+use Rattle.protocol.specs.MessageLaws.{laid-values, read-render}
 use Rattle.protocol.specs.Certificate.{certificateIn, evidenceOf}
 use Rattle.protocol.specs.Refusals.{Checks, isFull, isEvidence, notLowerFirst, makingConditions}
 use Rattle.protocol.specs.Calls.{makingBy, making, made, checkedBy, evidenceCheck}
@@ -21,7 +22,7 @@ use Rattle.round.specs.Demand3.{Takes, NoneForged, NoneBlamed}
 use Rattle.reading.specs.Lists.{each-nil, each-one}
 use Rattle.claims.specs.Sound.{Certifies, Pairs, Good}
 use Rattle.claims.specs.Certificates.{certifies-of, evidence-elim}
-use Rattle.reading.specs.Reading.{Laid, read-laid, are-unique}
+use Rattle.reading.specs.Reading.{Sized, read-sized, are-unique}
 use Rattle.claims.specs.Unrefused.{Taken, signed-pairs, evidence-checked, making-taken, entries-taken}
 use Rattle.reading.specs.Messages.{refusalOf, cameTo, counted-written, unrefused-result}
 use Rattle.claims.specs.Journey.{WorthyGiven, Worthy, At, submit-value}
@@ -46,7 +47,7 @@ evidence-cases P (Evidence ρ lower higher ps) e f = f ρ lower higher ps
 evidence-cases P Garbled e f = absurd (false≢true e)
 
 -- the certificate of a FULL that a making takes
-pub certifies-in : (checks : Checks) (R : Relation) (n round : ℕ) (m : Message) → isFull m ≡ true → Taken checks n round m → Laid n m → EachSigned R m → Certifies checks R n (certificateIn m)
+pub certifies-in : (checks : Checks) (R : Relation) (n round : ℕ) (m : Message) → isFull m ≡ true → Taken checks n round m → Sized n m → EachSigned R m → Certifies checks R n (certificateIn m)
 unfolding isFull certificateIn
 certifies-in checks R n round (Submit ρ seat value signature) e t l w = absurd (false≢true e)
 certifies-in checks R n round (Notice ρ seat value) e t l w = absurd (false≢true e)
@@ -84,9 +85,9 @@ module _ (S : Setting) where
         at .before .said (ap (λ (r : Record). r .own .submitted) came ∙ v .0) .1 ∙ ap (λ (r : Record). r .own .value) came ∙ v .1
 
   module _ {I : Type 0} (boat : I → Honest) (opened : (i : I) → IsOpened S (boat i)) (R : Relation) (takes : Takes S boat R) (none : NoneForged S boat R) where
-    -- ---- what a unit keeps
+    -- ---- what a unit has stored
 
-    -- a signature that a unit keeps was delivered, or is its own over what it submitted
+    -- a signature that a unit has stored was delivered, or is its own over what it submitted
     abbrev Backed : I → Relation
     Backed j seat value signature = R seat value signature ⊎ ((seat ≡ boat j .seat) × Submits S (boat j) value)
 
@@ -108,7 +109,7 @@ module _ (S : Setting) where
 
     -- ---- an honest seat
 
-    -- it did submit what a delivered signature of it stands over, and what it keeps itself
+    -- it did submit what a delivered signature of it stands over, and what it has stored itself
     submitted-of : (i : I) (value signature : List ℕ) → checks (boat i .seat) value signature ≡ true → Backed i (boat i .seat) value signature → (Submits S (boat i) value → ⊥) → ⊥
     submitted-of i value signature c (inl r) never = true≢false (sym c ∙ none i value signature r never)
     submitted-of i value signature c (inr s) never = never (s .1)
@@ -142,8 +143,8 @@ module _ (S : Setting) where
         let b = h (m .0) (m .1) in
         unnamed-at i j lower higher (m .0) l (sym (m .2)) (b .0) (b .1) (b .2) (b .3)
 
-    kept-both : (j : I) (W : Relation) (size : ℕ) (lower higher : List ℕ) (ps : List Pair) → ((s : ℕ) (v g : List ℕ) → W s v g → Backed j s v g) → Pairs checks W size lower higher ps → Each (Both j lower higher) ps
-    kept-both j W size lower higher ps f z p d =
+    backed-both : (j : I) (W : Relation) (size : ℕ) (lower higher : List ℕ) (ps : List Pair) → ((s : ℕ) (v g : List ℕ) → W s v g → Backed j s v g) → Pairs checks W size lower higher ps → Each (Both j lower higher) ps
+    backed-both j W size lower higher ps f z p d =
         (z .lows p d .checked, f (p .seat) lower (p .lower) (z .lows p d .worthy), z .highs p d .checked, f (p .seat) higher (p .higher) (z .highs p d .worthy))
 
     -- ---- the three kinds of evidence
@@ -152,14 +153,14 @@ module _ (S : Setting) where
     named-in m evidence seat w e d = subst (λ x. List·Memᴰ seat (entrySeats x)) (ap (read n) e ∙ read-render n m w) d
 
     written-safe : (i j : I) (evidence : List ℕ) → WritesEvidence S (boat j) evidence → Names S evidence (boat i .seat) → ⊥
-    unfolding entrySeats
+    unfolding entrySeats formSeats evidenceForm
     written-safe i j evidence w d =
         let m = w .message in
         let stands = w .writes .stands in
         let end = endOf S (boat j) (opened j) in
         let good = writes-good S (boat j) (opened j) (Backed j) (backed j) m (w .writes) in
         evidence-cases (λ x. Good checks (Backed j) end x → List·Memᴰ (boat i .seat) (entrySeats x) → ⊥) m (w .kind)
-        (λ ρ lower higher ps g e. unnamed i j lower higher ps (g .1 .ordered) (kept-both j (Backed j) (end .n) lower higher ps (λ s v h b. b) (g .1)) e)
+        (λ ρ lower higher ps g e. unnamed i j lower higher ps (g .1 .ordered) (backed-both j (Backed j) (end .n) lower higher ps (λ s v h b. b) (g .1)) e)
         good (named-in m evidence (boat i .seat) (stands .1 .0 m (stands .2)) (w .bytes) d)
 
     making-refused : (h : InHand) (q : ℕ) → firstOf (conditions h) ≡ suc q → makingOf S h ≡ renderAll []
@@ -171,21 +172,21 @@ module _ (S : Setting) where
     making-number h e = e
 
     making-unnamed : (i j : I) (h : InHand) (m : Message) → List·Memᴰ h (boat j .inHand) → firstOf (conditions h) ≡ 0 → StandsIn n m (makingOf S h) → List·Memᴰ (boat i .seat) (entrySeats m) → ⊥
-    unfolding unrefused renderAll entrySeats
+    unfolding unrefused renderAll entrySeats formSeats evidenceForm
     making-unnamed i j h m d e stands named =
         let a = read n (h .a) in
         let b = read n (h .b) in
         let t = making-taken checks n round keys a b (h .out) e in
         let r = takes .makings j h d (making-number h e) in
-        let ca = certifies-in checks R n round a (t .fullA) (t .takenA) (read-laid n (h .a)) (r .0) in
-        let cb = certifies-in checks R n round b (t .fullB) (t .takenB) (read-laid n (h .b)) (r .1) in
+        let ca = certifies-in checks R n round a (t .fullA) (t .takenA) (read-sized n (h .a)) (r .0) in
+        let cb = certifies-in checks R n round b (t .fullB) (t .takenB) (read-sized n (h .b)) (r .1) in
         let bytes : makingOf S h ≡ render (evidenceFrom h) = making-bytes h ∙ rw e in
         evidence-elim checks R (λ x. makingOf S h ≡ render x → ⊥) n round (certificateIn a) (certificateIn b) (t .some) ca cb (t .different)
         (λ lower higher ps z is.
         let x = Evidence round lower higher ps in
         let only = are-unique n (makingOf S h) (stands .0) (x ∷ []) (stands .1) (each-one (WellFormed n) x (pairs-formed checks R n round lower higher ps (t .early) z), is ∙ sym (append-nil (render x))) in
         let same : m ≡ x = List·Memᴰ·eq-of-singleton (subst (λ ms. List·Memᴰ m ms) only (stands .2)) in
-        unnamed i j lower higher ps (z .ordered) (kept-both j R n lower higher ps (λ s v g w. inl w) z) (subst (λ y. List·Memᴰ (boat i .seat) (entrySeats y)) same named))
+        unnamed i j lower higher ps (z .ordered) (backed-both j R n lower higher ps (λ s v g w. inl w) z) (subst (λ y. List·Memᴰ (boat i .seat) (entrySeats y)) same named))
         bytes
 
     made-safe : (i j : I) (evidence : List ℕ) → MakesEvidence S (boat j) evidence → Names S evidence (boat i .seat) → ⊥
@@ -200,13 +201,18 @@ module _ (S : Setting) where
             List·Memᴰ·not-nil (subst (λ ms. List·Memᴰ (w .message) ms) (are-unique n (makingOf S h) (w .stands .0) [] (w .stands .1) (each-nil (WellFormed n), making-refused h q e)) (w .stands .2))
 
     accepted-safe : (i : I) (evidence : List ℕ) → AcceptedFrom S R evidence → Names S evidence (boat i .seat) → ⊥
-    unfolding evidenceCheck checkedBy entrySeats notLowerFirst signed
+    unfolding evidenceCheck checkedBy entrySeats formSeats evidenceForm notLowerFirst signed
     accepted-safe i evidence a d =
         let t = evidence-checked checks n round keys (read n evidence) (a .0) in
-        evidence-cases (λ x. Taken checks n round x → notLowerFirst x ≡ false → EachSigned R x → List·Memᴰ (boat i .seat) (entrySeats x) → ⊥) (read n evidence) (t .0)
-        (λ ρ lower higher ps taken low r e. unnamed i i lower higher ps (not-false (isLower lower higher) low)
-        (λ p m. let c = signed-pairs (λ s v g. checks s v g ≡ true) lower higher ps (taken .checked) p m in let b = signed-pairs R lower higher ps r p m in (c .0, inl (b .0), c .1, inl (b .1))) e)
-        (t .1) (t .2) (a .1) d
+        evidence-cases (λ x. Taken checks n round x → notLowerFirst x ≡ false → Sized n x → EachSigned R x → List·Memᴰ (boat i .seat) (entrySeats x) → ⊥) (read n evidence) (t .0)
+        (λ ρ lower higher ps taken low sized r e.
+        let own = laid-values lower higher ps sized in
+        unnamed i i lower higher ps (not-false (isLower lower higher) low)
+        (λ p m.
+        let c = signed-pairs (λ s v g. checks s v g ≡ true) lower higher ps own (taken .checked) p m in
+        let b = signed-pairs R lower higher ps own r p m in
+        (c .0, inl (b .0), c .1, inl (b .1))) e)
+        (t .1) (t .2) (read-sized n evidence) (a .1) d
 
 -- ---- the claim
 

@@ -8,11 +8,11 @@ use crate::refusals::message_refusal;
 use crate::refusals::out_length;
 use crate::refusals::own_refusal;
 use crate::refusals::record_refusal;
+use protocol::Record;
+use protocol::Stepped;
 use steps::steps::Phase;
 use steps::steps::step_phase;
 use steps::steps::submit_phase;
-use protocol::Record;
-use protocol::Stepped;
 
 // What a call answers that is turned back: its number, no byte written, and the record as it was.
 fn turned_back(number: u32, r: Record) -> Stepped

@@ -5,9 +5,9 @@ ghost use Rattle.octets.specs.Strings.{same};
 ghost use Rattle.protocol.specs.Record.{outOfRange, wrongHeard, namesStranger, wrongCollected, wrongFirst, lacksFirst, wrongGuilty, wrongSent, wrongUnset, impossible};
 ghost use Rattle.protocol.specs.Values.{unset};
 ghost use Rattle.steps.specs.Records.{InRange};
+use protocol::Record;
 use steps::bools::both;
 use steps::bools::either;
-use protocol::Record;
 
 // Whether a value is 32 zero bytes.
 fn is_unset(value: [u8; 32]) -> bool

@@ -14,13 +14,13 @@ use Rattle.quorum.specs.Quorum.{k}
 use Rattle.refusal.specs.Refusal.{firstOf}
 use Rattle.protocol.specs.Layout.{storeLength, outLength}
 use Rattle.protocol.specs.Message.{Entry, Message, Submit, Notice, Full, Evidence, Garbled, Signed, signedEntries, signed, roundOf, entrySeats, seatsOf}
-use Rattle.protocol.specs.Refusals.{Checks, every, shortStore, shortOut, isForStep, rising, early, badSignature, formConditions, signatureConditions, recordConditions, stepConditions}
+use Rattle.protocol.specs.Refusals.{Checks, every, shortStore, shortOut, isForStep, rising, early, badSignature, messageConditions, recordConditions, stepConditions}
 use Rattle.protocol.specs.declared.Record.{Record}
 use Rattle.round.specs.Round.{Each}
 use Rattle.claims.specs.Unrefused.{of-taken}
 use Rattle.claims.specs.NotRefused.{Lent, keys-right}
 use Rattle.paper.specs.Machine.{FullCertificate, Machine, Reaction, isSome, isOwn, isFrom, distinct, isFullCertificate, isCollected, uponSubmitDelivered, uponFullDelivered, addCollected, obtain, uponEvent, uponRules, react}
-use Rattle.paper.specs.Memory.{kept}
+use Rattle.paper.specs.Memory.{recordOf}
 use Rattle.paper.specs.Events.{delivered, isDelivered, reactTo}
 use Rattle.paper.specs.Rules.{AtRest, rest-quiet}
 
@@ -45,7 +45,7 @@ before-last i j false false p q e r = absurd (r (sym e))
 
 module _ (checks : Checks) (keys : List ℕ) (r : Record) (store : List ℕ) (m : Message) (out : List ℕ) where
   past-form : (j : ℕ) → 12 ≢ j → 11 ≢ j → 10 ≢ j → 9 ≢ j → 7 ≢ j → 6 ≢ j → 5 ≢ j → 4 ≢ j → firstOf (stepConditions checks keys r store m out) ≡ j → firstOf ((13, early r m) ∷ (14, badSignature checks m) ∷ []) ≡ j
-  unfolding stepConditions recordConditions formConditions signatureConditions
+  unfolding stepConditions recordConditions messageConditions
   past-form j l i h g d c b a e =
       firstOf-other 12 j _ _ l (firstOf-other 11 j _ _ i (firstOf-other 10 j _ _ h (firstOf-other 9 j _ _ g (firstOf-other 7 j _ _ d (firstOf-other 6 j _ _ c (firstOf-other 5 j _ _ b (firstOf-other 4 j _ _ a e)))))))
 
@@ -62,7 +62,7 @@ module _ (checks : Checks) (keys : List ℕ) (r : Record) (store : List ℕ) (m 
 
   -- where nothing but these two can be refused, the message is delivered
   pub fit-delivered : Lent keys r store out → isForStep m ≡ true → roundOf m ≡ r .round → Each (λ s. s < r .n) (seatsOf m) → rising (entrySeats m) ≡ true → isDelivered (firstOf (stepConditions checks keys r store m out)) ≡ true
-  unfolding stepConditions recordConditions formConditions signatureConditions shortStore shortOut firstOf isDelivered
+  unfolding stepConditions recordConditions messageConditions shortStore shortOut firstOf isDelivered
   fit-delivered lent for-step in-round inside rises =
       let form = of-taken (λ s v g. true) (r .n) (r .round) m (record { inRound = in-round; inside = inside; rises = rises; checked = λ s d. refl }) in
       rw (
@@ -108,8 +108,8 @@ module _ (checks : Checks) (n round : ℕ) (keys : List ℕ) (seat : ℕ) (m : M
   not-obtained c e = ap (λ (b : Bool). uponRules checks n seat (cond b (obtain checks n seat c still) still)) e ∙ rest-quiet checks n seat still rest
 
   -- "SUBMIT heard before the own submit": value_i is ⊥, and no value is the own one
-  pub early-discarded : (msg : Message) → early (kept n seat round m) msg ≡ true → reactTo checks n seat (delivered msg) m ≡ still
-  unfolding early kept delivered reactTo react uponEvent isCollected
+  pub early-discarded : (msg : Message) → early (recordOf n seat round m) msg ≡ true → reactTo checks n seat (delivered msg) m ≡ still
+  unfolding early recordOf delivered reactTo react uponEvent isCollected
   early-discarded (Submit ρ s v g) e =
       not-collected s v g
       (ap (λ (b : Bool). checks s v g && b && not (isFrom s (m .collected))) (unsaid-own v (m .value) (not-true (isSome (m .value)) e))

@@ -7,9 +7,10 @@ use mathlib.Core.List.{List, [], _∷_, map}
 use lib.Dec.{eqb}
 use Rattle.octets.specs.Octets.{part, patch}
 use Rattle.quorum.specs.Quorum.{shared, with, seats}
-use Rattle.protocol.specs.Layout.{signatureLength, collectedBank, firstBank, slotAt}
+use Rattle.protocol.specs.Layout.{collectedBank, firstBank, slotLength, slotAt}
 use Rattle.protocol.specs.Values.{isLower}
-use Rattle.protocol.specs.Message.{Entry, Pair, Message, Submit, Notice, Full, Evidence, Garbled}
+use Rattle.protocol.specs.Entries.{formSeats}
+use Rattle.protocol.specs.Message.{Entry, Pair, Message, Submit, Notice, Full, Evidence, Garbled, fullForm}
 use Rattle.protocol.specs.declared.Record.{Record}
 
 pub record Certificate : Type 0 where
@@ -19,9 +20,9 @@ pub record Certificate : Type 0 where
 
 -- ---- the store
 
--- the signature in the slot of a seat
+-- what stands in the slot of a seat
 unfoldable pub slot : ℕ → ℕ → List ℕ → ℕ → List ℕ
-slot n bank store seat = part (slotAt n bank seat) signatureLength store
+slot n bank store seat = part (slotAt n bank seat) (slotLength bank) store
 
 -- "A signature is copied into its seat's slot, and only that slot is written."
 unfoldable pub fill : ℕ → ℕ → ℕ → List ℕ → List ℕ → List ℕ
@@ -53,7 +54,7 @@ signatureOf (e ∷ es) seat = cond (eqb (e .seat) seat) (e .signature) (signatur
 
 unfoldable pub certificateOf : List ℕ → List Entry → Certificate
 certificateOf value entries =
-    record { value = value; seats = setOf (map (λ (e : Entry). e .seat) entries); signature = signatureOf entries }
+    record { value = value; seats = setOf (formSeats fullForm entries); signature = signatureOf entries }
 
 -- the certificate in a message; no other command has one
 unfoldable pub certificateIn : Message → Certificate
@@ -74,15 +75,17 @@ entriesOf n c = map (entryOf c) (seats n (c .seats))
 unfoldable pub fullOf : ℕ → ℕ → ℕ → Certificate → Message
 fullOf n round sender c = Full round sender (c .value) (entriesOf n c)
 
--- the seats that two certificates share, each with its two signatures
+-- a seat's two signatures, each with its value
 abbrev pub pairOf : Certificate → Certificate → ℕ → Pair
-pairOf low high seat = record { seat = seat; lower = low .signature seat; higher = high .signature seat }
+pairOf low high seat =
+    record { seat = seat; lowerValue = low .value; higherValue = high .value; lower = low .signature seat; higher = high .signature seat }
 
-unfoldable pub pairsOf : ℕ → Certificate → Certificate → List Pair
-pairsOf n low high = map (pairOf low high) (seats n (shared (low .seats) (high .seats)))
+-- of the seats of a set
+unfoldable pub pairsOf : ℕ → ℕ → Certificate → Certificate → List Pair
+pairsOf n mask low high = map (pairOf low high) (seats n mask)
 
 unfoldable pub orderedEvidence : ℕ → ℕ → Certificate → Certificate → Message
-orderedEvidence n round low high = Evidence round (low .value) (high .value) (pairsOf n low high)
+orderedEvidence n round low high = Evidence round (low .value) (high .value) (pairsOf n (shared (low .seats) (high .seats)) low high)
 
 -- two certificates of different values, in either order
 unfoldable pub evidenceOf : ℕ → ℕ → Certificate → Certificate → Message

@@ -1,7 +1,11 @@
--- Lengths and places in bytes (document 01, "Signatures", "Commands on the air" and "A unit's record and store").
+-- Lengths and places in bytes (document 01, "Signatures", "Commands on the air" and "A unit's record and store"). Each is made of its
+-- parts; document 01's figures follow from them, in `Figures`.
 -- Assumes nothing.
-use Prim.Native.Nat.{ℕ, _+_, _*_}
+use Prim.Native.Nat.{ℕ, zero, suc, _+_, _*_}
+use mathlib.Core.List.{List, [], _∷_}
 use Rattle.quorum.specs.Quorum.{k}
+
+-- ---- the parts
 
 -- "a value is 32 bytes"
 abbrev pub valueLength : ℕ
@@ -26,57 +30,125 @@ treeLength = 65536
 unfoldable pub messageLimit : ℕ
 messageLimit = 65535
 
--- ---- commands
+-- ---- commands: "Each starts with a one-byte command, then operands of fixed widths", "round 2" first of them
 
--- SUBMIT: "In all 1,488."
-unfoldable pub submitLength : ℕ
-submitLength = 1488
+abbrev pub roundAt : ℕ
+roundAt = 1
 
--- NOTICE: "In all 36."
+-- where what comes after the round starts
+abbrev pub operandsAt : ℕ
+operandsAt = roundAt + 2
+
+-- SUBMIT, NOTICE and FULL: "round 2, seat 1, value 32"
+abbrev pub seatAt : ℕ
+seatAt = operandsAt
+
+abbrev pub valueAt : ℕ
+valueAt = seatAt + 1
+
+-- NOTICE ends with its value
 unfoldable pub noticeLength : ℕ
-noticeLength = 36
+noticeLength = valueAt + valueLength
 
--- FULL: "k entries: 0x04, seat 1, signature 1,452. In all 37 + 1,454 × k."
+-- SUBMIT: ".., value 32, signature 1,452"
+abbrev pub submitSignatureAt : ℕ
+submitSignatureAt = valueAt + valueLength
+
+unfoldable pub submitLength : ℕ
+submitLength = submitSignatureAt + signatureLength
+
+-- ---- lists of entries: each entry has a command, a seat, and what it holds
+
+-- an entry that holds `held` bytes
+abbrev pub entryLength : ℕ → ℕ
+entryLength held = 2 + held
+
+-- where the entry of an index stands, counted from 0, in a list that starts at `start`
+abbrev pub entryAt : ℕ → ℕ → ℕ → ℕ
+entryAt start length i = start + length * i
+
+-- FULL: ".., value 32, count 1 (always k), then k entries: 0x04, seat 1, signature 1,452"
+abbrev pub fullCountAt : ℕ
+fullCountAt = valueAt + valueLength
+
+abbrev pub fullStart : ℕ
+fullStart = fullCountAt + 1
+
 unfoldable pub fullEntryLength : ℕ
-fullEntryLength = 1454
+fullEntryLength = entryLength signatureLength
 
 unfoldable pub fullEntryAt : ℕ → ℕ
-fullEntryAt i = 37 + fullEntryLength * i
+fullEntryAt i = entryAt fullStart fullEntryLength i
 
 unfoldable pub fullLength : ℕ → ℕ
 fullLength n = fullEntryAt (k n)
 
--- EVIDENCE: "entries: 0x06, seat 1, the signature over the lower value, the signature over the higher. In all 68 + 2,906 × count."
+-- EVIDENCE: "round 2, lower value 32, higher value 32, count 1 (1 to n), then entries: 0x06, seat 1, the signature over the lower
+-- value, the signature over the higher"
+abbrev pub lowerAt : ℕ
+lowerAt = operandsAt
+
+abbrev pub higherAt : ℕ
+higherAt = lowerAt + valueLength
+
+abbrev pub evidenceCountAt : ℕ
+evidenceCountAt = higherAt + valueLength
+
+abbrev pub evidenceStart : ℕ
+evidenceStart = evidenceCountAt + 1
+
 unfoldable pub evidenceEntryLength : ℕ
-evidenceEntryLength = 2906
+evidenceEntryLength = entryLength (signatureLength + signatureLength)
 
 unfoldable pub evidenceEntryAt : ℕ → ℕ
-evidenceEntryAt i = 68 + evidenceEntryLength * i
+evidenceEntryAt i = entryAt evidenceStart evidenceEntryLength i
 
 unfoldable pub evidenceLength : ℕ → ℕ
 evidenceLength count = evidenceEntryAt count
 
--- ---- store and out buffer
+-- ---- the store: "n slots of 1,452 for collected signatures, then n for the first certificate, each by seat"
 
--- "The store has 2,904 × n bytes or more"
-unfoldable pub storeLength : ℕ → ℕ
-storeLength n = 2904 * n
+-- the banks one after another, each by the length of its slots
+unfoldable pub banks : List ℕ
+banks = signatureLength ∷ signatureLength ∷ []
 
--- "n slots of 1,452 for collected signatures, then n for the first certificate, each by seat": two banks of n slots
 abbrev pub collectedBank : ℕ
 collectedBank = 0
 
 abbrev pub firstBank : ℕ
 firstBank = 1
 
+-- the bytes that the banks of a list have for one seat
+unfoldable pub lengthOfBanks : List ℕ → ℕ
+lengthOfBanks [] = 0
+lengthOfBanks (slot ∷ rest) = slot + lengthOfBanks rest
+
+-- the banks before one, and the length of its slots
+unfoldable pub banksBefore : ℕ → List ℕ → List ℕ
+banksBefore bank [] = []
+banksBefore zero (slot ∷ rest) = []
+banksBefore (suc bank) (slot ∷ rest) = slot ∷ banksBefore bank rest
+
+unfoldable pub slotLengthIn : ℕ → List ℕ → ℕ
+slotLengthIn bank [] = 0
+slotLengthIn zero (slot ∷ rest) = slot
+slotLengthIn (suc bank) (slot ∷ rest) = slotLengthIn bank rest
+
+unfoldable pub slotLength : ℕ → ℕ
+slotLength bank = slotLengthIn bank banks
+
+unfoldable pub storeLength : ℕ → ℕ
+storeLength n = lengthOfBanks banks * n
+
 -- where the slot of a seat in a bank starts
 unfoldable pub slotAt : ℕ → ℕ → ℕ → ℕ
-slotAt n bank seat = signatureLength * (n * bank + seat)
+slotAt n bank seat = lengthOfBanks (banksBefore bank banks) * n + slotLength bank * seat
 
--- "Out buffer: 1,629 + 4,360 × k bytes or more for every submit and step"
+-- ---- out: "in the order SUBMIT, NOTICE, FULL, EVIDENCE", room for one of each
+
 unfoldable pub outLength : ℕ → ℕ
-outLength n = 1629 + 4360 * k n
+outLength n = submitLength + noticeLength + fullLength n + evidenceLength (k n)
 
--- "68 + 2,906 × k for evidence from two certificates"
+-- evidence from two certificates: room for all seats that they can share
 unfoldable pub evidenceOutLength : ℕ → ℕ
 evidenceOutLength n = evidenceLength (k n)

@@ -1,13 +1,16 @@
 -- The commands on the air: what a message says, the bytes it is written as, and what bytes say.
 -- Assumes nothing.
-use Prim.Native.Nat.{ℕ, zero, suc, _+_, _*_}
-use mathlib.Core.Bool.{Bool, true, cond, _&&_}
-use mathlib.Core.List.{List, [], _∷_, _++_, map}
+use Prim.Native.Nat.{ℕ, _+_, _*_, _≤_, _<_}
+use mathlib.Core.Path.{_≡_}
+use mathlib.Core.Bool.{Bool, cond, _&&_}
+use mathlib.Core.List.{List, [], _∷_, _++_}
 use lib.Dec.{leb, eqb}
-use lib.ListN.{length, getD}
+use lib.ListN.{length, take, drop}
 use Rattle.octets.specs.Octets.{part, be}
 use Rattle.quorum.specs.Quorum.{k}
-use Rattle.protocol.specs.Layout.{valueLength, signatureLength, submitLength, noticeLength, fullEntryAt, fullLength, evidenceEntryAt, evidenceLength}
+use Rattle.protocol.specs.Layout.{valueLength, signatureLength, roundAt, seatAt, valueAt, submitSignatureAt, submitLength, noticeLength, fullCountAt, fullStart, fullLength, lowerAt, higherAt, evidenceCountAt, evidenceStart, evidenceLength}
+pub use Rattle.protocol.specs.Entries.{byteAt}
+use Rattle.protocol.specs.Entries.{Form, Laid, renderEntries, entryCommands, readEntries, formSeats}
 
 -- ---- what a message says
 
@@ -16,9 +19,11 @@ pub record Entry : Type 0 where
   pub seat : ℕ
   pub signature : List ℕ
 
--- an entry of EVIDENCE: "0x06, seat 1, the signature over the lower value, the signature over the higher"
+-- an entry of EVIDENCE: "0x06, seat 1, the signature over the lower value, the signature over the higher", with the two values
 pub record Pair : Type 0 where
   pub seat : ℕ
+  pub lowerValue : List ℕ
+  pub higherValue : List ℕ
   pub lower : List ℕ
   pub higher : List ℕ
 
@@ -34,29 +39,49 @@ pub data Message : Type 0 where
   Evidence : (round : ℕ) (lower higher : List ℕ) (entries : List Pair) → Message
   Garbled : Message
 
+-- ---- the lists of entries
+
+-- FULL's: "0x04, seat 1, signature 1,452"
+unfoldable pub fullForm : Form Entry
+fullForm = record {
+  start = fullStart;
+  command = 0x04;
+  held = signatureLength;
+  seat = λ (e : Entry). e .seat;
+  bytes = λ (e : Entry). e .signature;
+  make = λ (seat : ℕ) (held : List ℕ). record { seat = seat; signature = held };
+}
+
+-- EVIDENCE's, over its two values: "0x06, seat 1, the signature over the lower value, the signature over the higher"
+unfoldable pub evidenceForm : List ℕ → List ℕ → Form Pair
+evidenceForm lower higher = record {
+  start = evidenceStart;
+  command = 0x06;
+  held = signatureLength + signatureLength;
+  seat = λ (p : Pair). p .seat;
+  bytes = λ (p : Pair). p .lower ++ p .higher;
+  make = λ (seat : ℕ) (held : List ℕ).
+      record { seat = seat; lowerValue = lower; higherValue = higher; lower = take signatureLength held; higher = drop signatureLength held };
+}
+
 -- ---- the bytes of a message
-
-unfoldable pub renderEntry : Entry → List ℕ
-renderEntry e = 0x04 ∷ e .seat ∷ [] ++ e .signature
-
-unfoldable pub renderEntries : List Entry → List ℕ
-renderEntries [] = []
-renderEntries (e ∷ es) = renderEntry e ++ renderEntries es
-
-unfoldable pub renderPair : Pair → List ℕ
-renderPair p = 0x06 ∷ p .seat ∷ [] ++ p .lower ++ p .higher
-
-unfoldable pub renderPairs : List Pair → List ℕ
-renderPairs [] = []
-renderPairs (p ∷ ps) = renderPair p ++ renderPairs ps
 
 -- "Each starts with a one-byte command, then operands of fixed widths"
 unfoldable pub render : Message → List ℕ
 render (Submit round seat value signature) = 0x01 ∷ be 2 round ++ seat ∷ [] ++ value ++ signature
 render (Notice round seat value) = 0x02 ∷ be 2 round ++ seat ∷ [] ++ value
-render (Full round sender value entries) = 0x03 ∷ be 2 round ++ sender ∷ [] ++ value ++ length entries ∷ [] ++ renderEntries entries
-render (Evidence round lower higher entries) = 0x05 ∷ be 2 round ++ lower ++ higher ++ length entries ∷ [] ++ renderPairs entries
+render (Full round sender value entries) = 0x03 ∷ be 2 round ++ sender ∷ [] ++ value ++ length entries ∷ [] ++ renderEntries fullForm entries
+render (Evidence round lower higher entries) = 0x05 ∷ be 2 round ++ lower ++ higher ++ length entries ∷ [] ++ renderEntries (evidenceForm lower higher) entries
 render Garbled = []
+
+-- a message that has bytes in a fleet of n seats: each operand has its width, the entries are as many as document 01 says
+abbrev pub WellFormed : ℕ → Message → Type 0
+WellFormed n (Submit round seat value signature) = (round < 65536) × (length value ≡ valueLength) × (length signature ≡ signatureLength)
+WellFormed n (Notice round seat value) = (round < 65536) × (length value ≡ valueLength)
+WellFormed n (Full round sender value es) = (round < 65536) × (length value ≡ valueLength) × (length es ≡ k n) × Laid fullForm es
+WellFormed n (Evidence round lower higher ps) =
+    (round < 65536) × (length lower ≡ valueLength) × (length higher ≡ valueLength) × (1 ≤ length ps) × (length ps ≤ n) × Laid (evidenceForm lower higher) ps
+WellFormed n Garbled = ⊥
 
 -- "Messages go to `out` one after another"
 unfoldable pub renderAll : List Message → List ℕ
@@ -65,12 +90,9 @@ renderAll (m ∷ ms) = render m ++ renderAll ms
 
 -- ---- what bytes say
 
-abbrev pub byteAt : List ℕ → ℕ → ℕ
-byteAt bytes i = getD bytes i 0
-
 -- the round, two bytes after the command
 unfoldable pub readRound : List ℕ → ℕ
-readRound bytes = byteAt bytes 1 * 256 + byteAt bytes 2
+readRound bytes = byteAt bytes roundAt * 256 + byteAt bytes (roundAt + 1)
 
 unfoldable pub readValue : ℕ → List ℕ → List ℕ
 readValue at bytes = part at valueLength bytes
@@ -78,33 +100,9 @@ readValue at bytes = part at valueLength bytes
 unfoldable pub readSignature : ℕ → List ℕ → List ℕ
 readSignature at bytes = part at signatureLength bytes
 
--- the first t entries of a FULL: their commands are right, and what they say
-unfoldable pub entryCommands : ℕ → List ℕ → Bool
-entryCommands zero bytes = true
-entryCommands (suc t) bytes = entryCommands t bytes && eqb (byteAt bytes (fullEntryAt t)) 0x04
-
-unfoldable pub readEntry : ℕ → List ℕ → Entry
-readEntry at bytes = record { seat = byteAt bytes (at + 1); signature = readSignature (at + 2) bytes }
-
-unfoldable pub readEntries : ℕ → List ℕ → List Entry
-readEntries zero bytes = []
-readEntries (suc t) bytes = readEntries t bytes ++ readEntry (fullEntryAt t) bytes ∷ []
-
--- the first t entries of an EVIDENCE
-unfoldable pub pairCommands : ℕ → List ℕ → Bool
-pairCommands zero bytes = true
-pairCommands (suc t) bytes = pairCommands t bytes && eqb (byteAt bytes (evidenceEntryAt t)) 0x06
-
-unfoldable pub readPair : ℕ → List ℕ → Pair
-readPair at bytes = record {
-  seat = byteAt bytes (at + 1);
-  lower = readSignature (at + 2) bytes;
-  higher = readSignature (at + 2 + signatureLength) bytes;
-}
-
-unfoldable pub readPairs : ℕ → List ℕ → List Pair
-readPairs zero bytes = []
-readPairs (suc t) bytes = readPairs t bytes ++ readPair (evidenceEntryAt t) bytes ∷ []
+-- EVIDENCE's entries, over the values that the bytes have
+abbrev pub formOf : List ℕ → Form Pair
+formOf bytes = evidenceForm (readValue lowerAt bytes) (readValue higherAt bytes)
 
 -- the bytes are those of a command: its code, length, count and entry commands are right. A byte past the end counts
 -- as 0, which is no command and no count.
@@ -115,27 +113,29 @@ unfoldable pub fitsNotice : List ℕ → Bool
 fitsNotice bytes = eqb (length bytes) noticeLength && eqb (byteAt bytes 0) 0x02
 
 unfoldable pub fitsFull : ℕ → List ℕ → Bool
-fitsFull n bytes = eqb (length bytes) (fullLength n) && eqb (byteAt bytes 0) 0x03 && eqb (byteAt bytes 36) (k n) && entryCommands (k n) bytes
+fitsFull n bytes = eqb (length bytes) (fullLength n) && eqb (byteAt bytes 0) 0x03 && eqb (byteAt bytes fullCountAt) (k n) && entryCommands fullForm (k n) bytes
 
 unfoldable pub fitsEvidence : ℕ → List ℕ → Bool
 fitsEvidence n bytes =
+    let count = byteAt bytes evidenceCountAt in
     eqb (byteAt bytes 0) 0x05
-    && leb 1 (byteAt bytes 67)
-    && leb (byteAt bytes 67) n
-    && eqb (length bytes) (evidenceLength (byteAt bytes 67))
-    && pairCommands (byteAt bytes 67) bytes
+    && leb 1 count
+    && leb count n
+    && eqb (length bytes) (evidenceLength count)
+    && entryCommands (formOf bytes) count bytes
 
 unfoldable pub readSubmit : List ℕ → Message
-readSubmit bytes = Submit (readRound bytes) (byteAt bytes 3) (readValue 4 bytes) (readSignature 36 bytes)
+readSubmit bytes = Submit (readRound bytes) (byteAt bytes seatAt) (readValue valueAt bytes) (readSignature submitSignatureAt bytes)
 
 unfoldable pub readNotice : List ℕ → Message
-readNotice bytes = Notice (readRound bytes) (byteAt bytes 3) (readValue 4 bytes)
+readNotice bytes = Notice (readRound bytes) (byteAt bytes seatAt) (readValue valueAt bytes)
 
 unfoldable pub readFull : ℕ → List ℕ → Message
-readFull n bytes = Full (readRound bytes) (byteAt bytes 3) (readValue 4 bytes) (readEntries (k n) bytes)
+readFull n bytes = Full (readRound bytes) (byteAt bytes seatAt) (readValue valueAt bytes) (readEntries fullForm (k n) bytes)
 
 unfoldable pub readEvidence : List ℕ → Message
-readEvidence bytes = Evidence (readRound bytes) (readValue 3 bytes) (readValue 35 bytes) (readPairs (byteAt bytes 67) bytes)
+readEvidence bytes =
+    Evidence (readRound bytes) (readValue lowerAt bytes) (readValue higherAt bytes) (readEntries (formOf bytes) (byteAt bytes evidenceCountAt) bytes)
 
 -- what the bytes of a message say in a fleet of n seats
 unfoldable pub read : ℕ → List ℕ → Message
@@ -159,8 +159,8 @@ roundOf Garbled = 0
 unfoldable pub entrySeats : Message → List ℕ
 entrySeats (Submit round seat value signature) = []
 entrySeats (Notice round seat value) = []
-entrySeats (Full round sender value entries) = map (λ (e : Entry). e .seat) entries
-entrySeats (Evidence round lower higher entries) = map (λ (p : Pair). p .seat) entries
+entrySeats (Full round sender value entries) = formSeats fullForm entries
+entrySeats (Evidence round lower higher entries) = formSeats (evidenceForm lower higher) entries
 entrySeats Garbled = []
 
 -- every seat: the sender's, where there is one, and those of the entries
@@ -181,17 +181,18 @@ unfoldable pub signedEntries : List ℕ → List Entry → List Signed
 signedEntries value [] = []
 signedEntries value (e ∷ es) = record { seat = e .seat; value = value; signature = e .signature } ∷ signedEntries value es
 
-unfoldable pub signedPairs : List ℕ → List ℕ → List Pair → List Signed
-signedPairs lower higher [] = []
-signedPairs lower higher (p ∷ ps) =
-    record { seat = p .seat; value = lower; signature = p .lower }
-    ∷ record { seat = p .seat; value = higher; signature = p .higher }
-    ∷ signedPairs lower higher ps
+-- a pair's two, over its own values
+unfoldable pub signedPairs : List Pair → List Signed
+signedPairs [] = []
+signedPairs (p ∷ ps) =
+    record { seat = p .seat; value = p .lowerValue; signature = p .lower }
+    ∷ record { seat = p .seat; value = p .higherValue; signature = p .higher }
+    ∷ signedPairs ps
 
 -- every signature, each with its seat and the value that it stands for
 unfoldable pub signed : Message → List Signed
 signed (Submit round seat value signature) = record { seat = seat; value = value; signature = signature } ∷ []
 signed (Notice round seat value) = []
 signed (Full round sender value entries) = signedEntries value entries
-signed (Evidence round lower higher entries) = signedPairs lower higher entries
+signed (Evidence round lower higher entries) = signedPairs entries
 signed Garbled = []

@@ -1,10 +1,10 @@
 -- "What is turned back" (document 01): the table's numbers, words and conditions in its order, and for each call the list of its
--- rows, in which the lowest number is sought. The conditions in full are in `Conditions` and `Record`; those of `Conditions`
+-- rows, of which the first that holds is answered. The conditions in full are in `Conditions` and `Record`; those of `Conditions`
 -- are passed on here.
 -- Assumes nothing.
 unfoldable pub use Rattle.protocol.specs.Conditions.{Checks, every, keyAllowed, keysAllowed, wrongKeys, lengthIsnt, wrongKey, shortStore, shortOut, said, isForStep, isFull, isEvidence, wrongLengths, tooLong, otherRound, stranger, rising, disorder, early, badSignature, notLowerFirst, equalValues, wrongMakerMaterial, wrongSignerMaterial}
 use Prim.Native.Nat.{ℕ}
-use mathlib.Core.Bool.{Bool, not}
+use mathlib.Core.Bool.{Bool, false, not}
 use mathlib.Core.List.{List, [], _∷_, _++_}
 use Rattle.rfc8554.specs.Verify.{valid}
 use Rattle.protocol.specs.Layout.{keyLength, signatureLength, outLength, evidenceOutLength}
@@ -77,8 +77,8 @@ abbrev pub DISORDER : Message → Condition
 DISORDER m = (12, disorder m)
 
 -- 13, early: "SUBMIT heard before the own submit"
-abbrev pub EARLY : Record → Message → Condition
-EARLY r m = (13, early r m)
+abbrev pub EARLY : Bool → Condition
+EARLY early = (13, early)
 
 -- 14, signature: "one doesn't check, or its leaf isn't the round"; in the stand-alone check "a signature whose length, types or
 -- leaf don't fit its key is 14"
@@ -112,17 +112,14 @@ outsideConditions n round keys = SIZE n ∷ ROUND round ∷ KEYS n keys ∷ []
 unfoldable pub recordConditions : List ℕ → Record → List ℕ → List ℕ → List Condition
 recordConditions keys r store out = RECORD r ∷ KEYS (r .n) keys ∷ STORE (r .n) store ∷ OUT (outLength (r .n)) out ∷ []
 
--- a message's form: it is garbled for the call where that doesn't take it
-unfoldable pub formConditions : ℕ → ℕ → Bool → Message → List Condition
-formConditions n round taken m = GARBLED taken ∷ OTHER-ROUND round m ∷ STRANGER n m ∷ DISORDER m ∷ []
+-- a message's 9 to 14, for any call: whether the call takes it (else it is garbled), and whether it comes early
+unfoldable pub messageConditions : Checks → ℕ → ℕ → Bool → Bool → Message → List Condition
+messageConditions checks n round taken early m =
+    GARBLED taken ∷ OTHER-ROUND round m ∷ STRANGER n m ∷ DISORDER m ∷ EARLY early ∷ SIGNATURE checks m ∷ []
 
--- a message's signatures
-unfoldable pub signatureConditions : Checks → Message → List Condition
-signatureConditions checks m = SIGNATURE checks m ∷ []
-
--- one certificate's 9 to 14; it is never early
+-- one certificate's; it is never early
 unfoldable pub certificateConditions : Checks → ℕ → ℕ → Message → List Condition
-certificateConditions checks n round m = formConditions n round (isFull m) m ++ signatureConditions checks m
+certificateConditions checks n round m = messageConditions checks n round (isFull m) false m
 
 -- "over two certificates, the first one's 9 to 14 come before the second's"; then 15
 unfoldable pub twoConditions : Checks → ℕ → ℕ → Message → Message → List Condition
@@ -139,24 +136,17 @@ openingConditions n seat round keys = SIZE n ∷ SEAT n seat ∷ ROUND round ∷
 unfoldable pub submitConditions : Checks → List ℕ → Record → List ℕ → List ℕ → List ℕ → List ℕ → List Condition
 submitConditions checks keys r store value signature out =
     recordConditions keys r store out
-    ++ SAID r ∷ GARBLED-OWN value signature ∷ []
-    ++ signatureConditions checks (Submit (r .round) (r .seat) value signature)
+    ++ SAID r ∷ GARBLED-OWN value signature ∷ SIGNATURE checks (Submit (r .round) (r .seat) value signature) ∷ []
 
 -- a step: 4, 5, 6, 7, 9, 10, 11, 12, 13, 14
 unfoldable pub stepConditions : Checks → List ℕ → Record → List ℕ → Message → List ℕ → List Condition
 stepConditions checks keys r store m out =
-    recordConditions keys r store out
-    ++ formConditions (r .n) (r .round) (isForStep m) m
-    ++ EARLY r m ∷ []
-    ++ signatureConditions checks m
+    recordConditions keys r store out ++ messageConditions checks (r .n) (r .round) (isForStep m) (early r m) m
 
 -- the evidence check: 1, 3, 5, 9, 10, 11, 12, 14, 15
 unfoldable pub evidenceConditions : Checks → ℕ → ℕ → List ℕ → Message → List Condition
 evidenceConditions checks n round keys m =
-    outsideConditions n round keys
-    ++ formConditions n round (isEvidence m) m
-    ++ signatureConditions checks m
-    ++ NO-CONFLICT-IN m ∷ []
+    outsideConditions n round keys ++ messageConditions checks n round (isEvidence m) false m ++ NO-CONFLICT-IN m ∷ []
 
 -- evidence from two certificates: 1, 3, 5, 7, then those of the two
 unfoldable pub makingConditions : Checks → ℕ → ℕ → List ℕ → Message → Message → List ℕ → List Condition

@@ -11,7 +11,7 @@ use lib.ListN.{length}
 use borrow.Author.Tests.{le-ltb, ltb-false, eq-eqb, eqb-true, not-false}
 use Rattle.refusal.specs.Refusal.{firstOf}
 use Rattle.refusal.specs.Laws.{firstOf-zero}
-use Rattle.refusal.specs.Lowest.{both-true}
+use Rattle.refusal.specs.Laws.{both-true}
 use Rattle.rfc8554.specs.Ots.{knownOts, width}
 use Rattle.rfc8554.specs.Tree.{knownLms, height, publicKey, treeFilled, lmsSignature}
 use Rattle.rfc8554.specs.Verify.{leafOf, valid}
@@ -20,7 +20,7 @@ use Rattle.protocol.specs.Refusals.{wrongKey, tooLong, GARBLED-LONG, SIG
 use Rattle.protocol.specs.Signatures.{checkSignature, makeKey, sign, signedBytes, seatKey, checks}
 use Rattle.rfc8554.specs.TreeLaws.{length-treeFilled, part-treeFilled}
 use Rattle.rfc8554.specs.VerifyLaws.{leaf-lmsSignature, keyInvalid-publicKey, valid-lmsSignature}
-use Rattle.protocol.specs.SignatureLaws.{keyInvalid-wrongKey, valid-key, length-signedBytes, makeKey-unrefused, sign-unrefused}
+use Rattle.protocol.specs.SignaturesLaws.{keyInvalid-wrongKey, valid-key, length-signedBytes, makeKey-unrefused, sign-unrefused}
 
 -- ---- "nothing is accepted that the standard rejects"
 

@@ -9,9 +9,10 @@ use lib.Dec.{ltb, eqb}
 use lib.ListN.{length, take, drop, drop-of-length-le, List·getD-eq-default}
 use borrow.Author.Tests.{eq-eqb, ne-eqb, lt-ltb, le-ltb, ltb-false, not-false}
 use Rattle.octets.specs.Octets.{part}
-use Rattle.octets.specs.Laws.{take-rest}
+use Rattle.octets.specs.OctetLaws.{take-rest}
 use Rattle.octets.specs.StringLaws.{patch-nothing}
 use Rattle.refusal.specs.Refusal.{firstOf, unrefused}
+use Rattle.refusal.specs.Laws.{both-false}
 use Rattle.protocol.specs.Layout.{valueLength, signatureLength, keyLength}
 use Rattle.protocol.specs.Message.{byteAt}
 use Rattle.protocol.specs.Record.{wrongSize}
@@ -20,7 +21,6 @@ use Rattle.protocol.specs.Calls.{outAfter, openedBy, opening, submit, step, ans
 use Rattle.protocol.specs.declared.Record.{Record}
 use Rattle.protocol.specs.declared.Opened.{Opened}
 use Rattle.protocol.specs.declared.Stepped.{Stepped}
-use Rattle.steps.specs.Records.{or-false}
 use Rattle.yard.specs.Line.{line, inSpace, Fits}
 use Rattle.yard.specs.Commands.{Outcome, lineFor, told, twoAt, isOpening, keysAt, keysOf, openingLength, misframedOpening, refusedOpening, opened, begun, isMessage, isSubmit, messageAt, ownValueAt, ownSignatureAt, callLength, misframedCall, toldCall, called}
 use Rattle.yard.specs.declared.line.Line.{Line}
@@ -114,16 +114,16 @@ opening-none keys o number e = rw e
 pub framed-opening : (bytes : List ℕ) → misframedOpening bytes ≡ false → openingLength bytes ≤ length bytes
 unfolding misframedOpening
 framed-opening bytes m =
-    ltb-false (length bytes) (openingLength bytes) (or-false (ltb (length bytes) (openingLength bytes)) (not (isOpening bytes)) m .0)
+    ltb-false (length bytes) (openingLength bytes) (both-false (ltb (length bytes) (openingLength bytes)) (not (isOpening bytes)) m .0)
 
 module _ (bytes : List ℕ) (m : misframedCall bytes ≡ false) where
   pub framed-call : callLength bytes ≤ length bytes
   unfolding misframedCall
-  framed-call = ltb-false (length bytes) (callLength bytes) (or-false (ltb (length bytes) (callLength bytes)) (not (isMessage bytes || isSubmit bytes)) m .0)
+  framed-call = ltb-false (length bytes) (callLength bytes) (both-false (ltb (length bytes) (callLength bytes)) (not (isMessage bytes || isSubmit bytes)) m .0)
 
   known : (isMessage bytes || isSubmit bytes) ≡ true
   unfolding misframedCall
-  known = not-false (isMessage bytes || isSubmit bytes) (or-false (ltb (length bytes) (callLength bytes)) (not (isMessage bytes || isSubmit bytes)) m .1)
+  known = not-false (isMessage bytes || isSubmit bytes) (both-false (ltb (length bytes) (callLength bytes)) (not (isMessage bytes || isSubmit bytes)) m .1)
 
   module _ (b : ℕ) (e : b ≡ byteAt bytes 0) where
     pub message-whole : b ≡ 0x11 → messageAt ≤ length bytes

@@ -7,12 +7,10 @@ ghost use Rattle.yard.specs.Commands.{longestOpening, longestCall, yardS
 // The yard's most seats.
 pub(crate) const MOST_SEATS: usize = 7;
 
-// The bytes of a value, a key and a signature.
+// The bytes of a value and of a key.
 const VALUE: usize = 32;
 
 pub(crate) const KEY: usize = 56;
-
-const SIGNATURE: usize = 1452;
 
 // The bytes before an opening's keys and before a message.
 pub(crate) const OPENING_HEAD: usize = 5;
@@ -22,7 +20,7 @@ pub(crate) const MESSAGE_HEAD: usize = 3;
 // Where a submit's signature starts, and where it ends.
 pub(crate) const SUBMIT_HEAD: usize = 1 + VALUE;
 
-pub(crate) const SUBMIT: usize = SUBMIT_HEAD + SIGNATURE;
+pub(crate) const SUBMIT: usize = SUBMIT_HEAD + layout::SIGNATURE;
 
 // The longest opening, and the longest later command.
 const OPENING: usize = OPENING_HEAD + KEY * MOST_SEATS;

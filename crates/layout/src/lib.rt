@@ -1,0 +1,202 @@
+// Lengths and places in bytes, each the one of protocol's `Layout`. No other code has these numbers.
+ghost use mathlib.Core.Path.{_≡_};
+ghost use Prim.Native.Nat.{_+_, _*_, _<_, _≤_, _^_};
+ghost use Rattle.quorum.specs.Quorum.{mostSeats};
+ghost use Rattle.protocol.specs.Layout as Layout;
+ghost use Rattle.layout.specs.Places.{full, evidence, bankOf};
+
+// The bytes of a signature, also as an array's length.
+pub const SIGNATURE: usize = 1452;
+
+// Those of NOTICE and SUBMIT.
+const NOTICE: usize = 36;
+
+const SUBMIT: usize = 1488;
+
+// The first entry of FULL and of EVIDENCE, and the bytes of one.
+const FULL_START: usize = 37;
+
+const FULL_ENTRY: usize = 1454;
+
+const EVIDENCE_START: usize = 68;
+
+const EVIDENCE_ENTRY: usize = 2906;
+
+pub fn signature_length() -> usize
+    ensures { λ r. ⌜ r ≡ Layout.signatureLength ⌝ }
+{
+    SIGNATURE
+}
+
+// ---- places in a message
+
+// The round, after the command.
+pub fn round_at() -> usize
+    ensures { λ r. ⌜ r ≡ Layout.roundAt ⌝ }
+{
+    1
+}
+
+// The sender's seat in SUBMIT, NOTICE and FULL.
+pub fn seat_at() -> usize
+    ensures { λ r. ⌜ r ≡ Layout.seatAt ⌝ }
+{
+    3
+}
+
+// The value in SUBMIT, NOTICE and FULL.
+pub fn value_at() -> usize
+    ensures { λ r. ⌜ r ≡ Layout.valueAt ⌝ }
+{
+    4
+}
+
+// The signature in SUBMIT.
+pub fn submit_signature_at() -> usize
+    ensures { λ r. ⌜ r ≡ Layout.submitSignatureAt ⌝ }
+{
+    36
+}
+
+// The lower value in EVIDENCE.
+pub fn lower_at() -> usize
+    ensures { λ r. ⌜ r ≡ Layout.lowerAt ⌝ }
+{
+    3
+}
+
+// The higher value in EVIDENCE.
+pub fn higher_at() -> usize
+    ensures { λ r. ⌜ r ≡ Layout.higherAt ⌝ }
+{
+    35
+}
+
+// The count in FULL.
+pub fn full_count_at() -> usize
+    ensures { λ r. ⌜ r ≡ Layout.fullCountAt ⌝ }
+{
+    36
+}
+
+// The count in EVIDENCE.
+pub fn evidence_count_at() -> usize
+    ensures { λ r. ⌜ r ≡ Layout.evidenceCountAt ⌝ }
+{
+    67
+}
+
+// ---- lists of entries
+
+// Where the entries of a message stand: the place of the first, the length of each, and how many there are.
+pub struct Entries {
+    pub start: usize,
+    pub length: usize,
+    pub count: usize,
+}
+
+// The entries of FULL.
+pub fn full_entries(count: usize) -> Entries
+    ensures { λ r. ⌜ r ≡ full count ⌝ }
+{
+    Entries {
+        start: FULL_START,
+        length: FULL_ENTRY,
+        count,
+    }
+}
+
+// The entries of EVIDENCE.
+pub fn evidence_entries(count: usize) -> Entries
+    ensures { λ r. ⌜ r ≡ evidence count ⌝ }
+{
+    Entries {
+        start: EVIDENCE_START,
+        length: EVIDENCE_ENTRY,
+        count,
+    }
+}
+
+// Where the entry of an index stands, counted from 0.
+pub fn entry_at(entries: Entries, i: usize) -> usize
+    requires { ⌜ Layout.entryAt (entries .start) (entries .length) i < 2 ^ 64 ⌝ }
+    ensures { λ r. ⌜ r ≡ Layout.entryAt (entries .start) (entries .length) i ⌝ }
+{
+    entries.start + entries.length * i
+}
+
+// ---- lengths of messages
+
+pub fn submit_length() -> usize
+    ensures { λ r. ⌜ r ≡ Layout.submitLength ⌝ }
+{
+    SUBMIT
+}
+
+pub fn notice_length() -> usize
+    ensures { λ r. ⌜ r ≡ Layout.noticeLength ⌝ }
+{
+    NOTICE
+}
+
+// FULL of a fleet of n seats.
+pub fn full_length(n: u32) -> usize
+    requires { ⌜ (1 ≤ n) × (n ≤ mostSeats) ⌝ }
+    ensures { λ r. ⌜ r ≡ Layout.fullLength n ⌝ }
+{
+    FULL_START + FULL_ENTRY * (quorum::k(n) as usize)
+}
+
+// EVIDENCE with a number of entries.
+pub fn evidence_length(count: usize) -> usize
+    requires { ⌜ count < 256 ⌝ }
+    ensures { λ r. ⌜ r ≡ Layout.evidenceLength count ⌝ }
+{
+    EVIDENCE_START + EVIDENCE_ENTRY * count
+}
+
+// ---- store and out
+
+// The banks of the store: signatures collected, and those of the first certificate.
+pub enum Bank {
+    Collected,
+    First,
+}
+
+pub fn store_length(n: u32) -> usize
+    requires { ⌜ n ≤ mostSeats ⌝ }
+    ensures { λ r. ⌜ r ≡ Layout.storeLength n ⌝ }
+{
+    2 * SIGNATURE * (n as usize)
+}
+
+// The slot of a seat in a bank.
+pub fn slot_at(n: u32, bank: Bank, seat: u32) -> usize
+    requires { ⌜ (n ≤ mostSeats) × (seat < n) ⌝ }
+    ensures { λ r. ⌜ (r ≡ Layout.slotAt n (bankOf bank) seat) × (r + Layout.slotLength (bankOf bank) ≤ Layout.storeLength n) ⌝ }
+{
+    let at = SIGNATURE * (seat as usize);
+    match bank {
+        Bank::Collected => at,
+        Bank::First => SIGNATURE * (n as usize) + at,
+    }
+}
+
+// out of a submit or a step in a fleet of n seats: SUBMIT, NOTICE, FULL and EVIDENCE.
+pub fn out_length(n: u32) -> usize
+    requires { ⌜ (1 ≤ n) × (n ≤ mostSeats) ⌝ }
+    ensures { λ r. ⌜ r ≡ Layout.outLength n ⌝ }
+{
+    let k = quorum::k(n) as usize;
+    let full = FULL_START + FULL_ENTRY * k;
+    let evidence = EVIDENCE_START + EVIDENCE_ENTRY * k;
+    SUBMIT + NOTICE + full + evidence
+}
+
+// out of evidence from two certificates.
+pub fn evidence_out_length(n: u32) -> usize
+    requires { ⌜ (1 ≤ n) × (n ≤ mostSeats) ⌝ }
+    ensures { λ r. ⌜ r ≡ Layout.evidenceOutLength n ⌝ }
+{
+    EVIDENCE_START + EVIDENCE_ENTRY * (quorum::k(n) as usize)
+}

@@ -1,0 +1,65 @@
+-- A list of entries in a message: each starts with a command and a seat, and holds something of a fixed width. FULL's and EVIDENCE's
+-- are such lists (`Message`).
+-- Assumes nothing.
+use Prim.Native.Nat.{ℕ, zero, suc, _+_}
+use mathlib.Core.Path.{_≡_}
+use mathlib.Core.Bool.{Bool, true, _&&_}
+use mathlib.Core.List.{List, [], _∷_, _++_, map, List·Memᴰ}
+use lib.Dec.{eqb}
+use lib.ListN.{length, getD}
+use Rattle.octets.specs.Octets.{part}
+use Rattle.protocol.specs.Layout.{entryLength, entryAt}
+
+abbrev pub byteAt : List ℕ → ℕ → ℕ
+byteAt bytes i = getD bytes i 0
+
+-- every one of a list
+abbrev pub Each {ℓ} : {A : Type ℓ} → (A → Type 0) → List A → Type ℓ
+Each {A = A} P xs = (x : A) → List·Memᴰ x xs → P x
+
+-- what a list's entries are: where the first stands in its message, their command, how many bytes each holds, its seat, the bytes that it
+-- holds, and the entry that a seat and such bytes make
+pub record Form (A : Type 0) : Type 0 where
+  pub start : ℕ
+  pub command : ℕ
+  pub held : ℕ
+  pub seat : A → ℕ
+  pub bytes : A → List ℕ
+  pub make : ℕ → List ℕ → A
+
+-- where the entry of an index stands, counted from 0
+unfoldable pub placeOf : {A : Type 0} → Form A → ℕ → ℕ
+placeOf form i = entryAt (form .start) (entryLength (form .held)) i
+
+-- entries as their form lays them out: each holds as many bytes as the form says, and is what its seat and these bytes make
+abbrev pub Laid : {A : Type 0} → Form A → List A → Type 0
+Laid {A = A} form es = Each (λ (e : A). (length (form .bytes e) ≡ form .held) × (form .make (form .seat e) (form .bytes e) ≡ e)) es
+
+-- ---- the bytes of entries
+
+unfoldable pub renderEntry : {A : Type 0} → Form A → A → List ℕ
+renderEntry form e = form .command ∷ form .seat e ∷ [] ++ form .bytes e
+
+unfoldable pub renderEntries : {A : Type 0} → Form A → List A → List ℕ
+renderEntries form [] = []
+renderEntries form (e ∷ es) = renderEntry form e ++ renderEntries form es
+
+-- ---- what bytes say
+
+-- the first t entries have their command
+unfoldable pub entryCommands : {A : Type 0} → Form A → ℕ → List ℕ → Bool
+entryCommands form zero bytes = true
+entryCommands form (suc t) bytes = entryCommands form t bytes && eqb (byteAt bytes (placeOf form t)) (form .command)
+
+-- the entry at a place
+unfoldable pub readEntry : {A : Type 0} → Form A → ℕ → List ℕ → A
+readEntry form at bytes = form .make (byteAt bytes (at + 1)) (part (at + 2) (form .held) bytes)
+
+-- the first t entries
+unfoldable pub readEntries : {A : Type 0} → Form A → ℕ → List ℕ → List A
+readEntries form zero bytes = []
+readEntries form (suc t) bytes = readEntries form t bytes ++ readEntry form (placeOf form t) bytes ∷ []
+
+-- the seats, in the order of the entries
+unfoldable pub formSeats : {A : Type 0} → Form A → List A → List ℕ
+formSeats form es = map (form .seat) es
