@@ -1,5 +1,5 @@
--- The layers below the library's calls, for measurement and comparison: thresholds, digests, compressions, chains; and what is handed
--- back as a copy.
+-- The layers below the library's calls, for measurement and comparison: thresholds, digests, compressions, chains, and a copy of the
+-- certificate handed back.
 use Prim.Native.Nat.{ℕ, zero, suc}
 use mathlib.Core.Bool.{not, cond, _&&_, _||_}
 use mathlib.Core.List.{List, [], _∷_}

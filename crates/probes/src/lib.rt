@@ -1,5 +1,5 @@
-// The layers below the library's calls, and the lower certificate as a copy, exported for measurement and comparison. It is no part of
-// what ships.
+// The layers below the library's calls, and a copy of the lower certificate, exported for measurement and comparison. The crate doesn't
+// ship.
 ghost use mathlib.Core.Path.{_≡_};
 ghost use Prim.Native.Nat.{_≤_};
 ghost use lib.ListN.{length};
@@ -10,6 +10,7 @@ ghost use Rattle.protocol.specs.Signatures.{checks};
 ghost use Rattle.protocol.specs.Calls.{lowerCertificate};
 ghost use Rattle.probes.specs.Probes.{ofFleet, digestRefusal, digestWritten, compressRefusal, compressWritten, repeated, signedRefusal, signedWritten, copyRefusal, copyWritten};
 
+// t0 of a fleet of n seats, 0 where there is none.
 #[no_mangle]
 pub extern "C" fn probe_t0(n: u32) -> u32
     ensures { λ r. ⌜ r ≡ ofFleet Quorum.t0 n ⌝ }
@@ -23,6 +24,7 @@ pub extern "C" fn probe_t0(n: u32) -> u32
     quorum::t0(n)
 }
 
+// k of a fleet of n seats, 0 where there is none.
 #[no_mangle]
 pub extern "C" fn probe_k(n: u32) -> u32
     ensures { λ r. ⌜ r ≡ ofFleet Quorum.k n ⌝ }
@@ -130,7 +132,7 @@ pub extern "C" fn probe_signed(q: u32, id: &[u8], seed: &[u8], digits: &[u8], ou
     0
 }
 
-// A copy of what is handed back as the lower of two certificates.
+// A copy of the lower of two certificates.
 #[no_mangle]
 pub extern "C" fn probe_lower_certificate<'a>(
     n: u32,

@@ -1,31 +1,39 @@
 -- The returns of the functions over commands, over plain values.
 -- Assumes nothing.
-use mathlib.Core.Path.{_≡_, sym}
-use mathlib.Core.Bool.{true, false, not}
-use mathlib.Core.List.{List}
+use mathlib.Core.Path.{_≡_, refl, sym}
+use mathlib.Core.Bool.{true, false, not, _||_}
+use mathlib.Core.List.{List, []}
 use Prim.Native.Nat.{ℕ, _+_, _*_, _-_, _≤_, _<_}
 use native.Mathlib.Omega.{arith}
-use lib.Dec.{eqb}
+use lib.Dec.{ltb, eqb}
 use lib.ListN.{length, take, drop, drop-of-length-le, List·getD-eq-default}
-use borrow.Author.Tests.{eq-eqb, ne-eqb, lt-ltb, le-ltb}
+use borrow.Author.Tests.{eq-eqb, ne-eqb, lt-ltb, le-ltb, ltb-false, not-false}
+use Rattle.octets.specs.Octets.{part}
 use Rattle.octets.specs.OctetLaws.{take-rest}
+use Rattle.octets.specs.StringLaws.{patch-nothing}
 use Rattle.refusal.specs.Refusal.{firstOf, unrefused}
-use Rattle.protocol.specs.Layout.{signatureLength}
+use Rattle.refusal.specs.Laws.{both-false}
+use Rattle.protocol.specs.Layout.{valueLength, signatureLength, keyLength}
 use Rattle.protocol.specs.Message.{byteAt}
 use Rattle.protocol.specs.Record.{wrongSize}
-use Rattle.protocol.specs.Refusals.{openingConditions}
-use Rattle.protocol.specs.Calls.{openedBy, opening}
+use Rattle.protocol.specs.Refusals.{Checks, openingConditions}
+use Rattle.protocol.specs.Calls.{outAfter, openedBy, opening, submit, step, answer}
+use Rattle.protocol.specs.declared.Record.{Record}
 use Rattle.protocol.specs.declared.Opened.{Opened}
-use Rattle.yard.specs.Commands.{twoAt, keysOf, openingLength, misframedOpening, refusedOpening, opened, callLength, misframedCall}
+use Rattle.protocol.specs.declared.Stepped.{Stepped}
+use Rattle.yard.specs.Line.{line, inSpace, Fits}
+use Rattle.yard.specs.Commands.{Outcome, lineFor, told, twoAt, isOpening, keysAt, keysOf, openingLength, misframedOpening, refusedOpening, opened, begun, isMessage, isSubmit, messageAt, ownValueAt, ownSignatureAt, callLength, misframedCall, toldCall, called}
+use Rattle.yard.specs.declared.line.Line.{Line}
+use Rattle.yard.specs.declared.commands.Answer.{Answer}
 
 pub past-end : (bytes : List ℕ) (i : ℕ) → length bytes ≤ i → 0 ≡ byteAt bytes i
 past-end bytes i h = sym (List·getD-eq-default bytes 0 h)
 
-pub keys-none : (bytes : List ℕ) → length bytes < 5 → take 0 bytes ≡ keysOf bytes
-keys-none bytes h = sym (drop-of-length-le bytes {i = 5} (omega arith))
+pub keys-none : (bytes : List ℕ) → length bytes < keysAt → take 0 bytes ≡ keysOf bytes
+keys-none bytes h = sym (drop-of-length-le bytes {i = keysAt} (omega arith))
 
-pub keys-rest : (bytes : List ℕ) → take (length bytes - 5) (drop 5 bytes) ≡ keysOf bytes
-keys-rest bytes = take-rest 5 bytes
+pub keys-rest : (bytes : List ℕ) → take (length bytes - keysAt) (drop keysAt bytes) ≡ keysOf bytes
+keys-rest bytes = take-rest keysAt bytes
 
 module _ (bytes : List ℕ) where
   -- ---- the first command
@@ -36,11 +44,11 @@ module _ (bytes : List ℕ) where
     opening-other h = rw (← e, ne-eqb b 0x10 h)
 
     module _ (h : b ≡ 0x10) (n : ℕ) (s : n ≡ byteAt bytes 1) where
-      pub opening-many : 7 < n → 5 ≡ openingLength bytes
+      pub opening-many : 7 < n → keysAt ≡ openingLength bytes
       unfolding openingLength
       opening-many l = rw (← e, ← s, eq-eqb b 0x10 h, lt-ltb 7 n l)
 
-      pub opening-few : n ≤ 7 → 5 + 56 * n ≡ openingLength bytes
+      pub opening-few : n ≤ 7 → keysAt + keyLength * n ≡ openingLength bytes
       unfolding openingLength
       opening-few l = rw (← e, ← s, eq-eqb b 0x10 h, le-ltb 7 n l)
 
@@ -70,12 +78,12 @@ module _ (bytes : List ℕ) where
   -- ---- each later one
 
   module _ (b : ℕ) (e : b ≡ byteAt bytes 0) where
-    pub call-message : (size : ℕ) → b ≡ 0x11 → size ≡ twoAt bytes 1 → 3 + size ≡ callLength bytes
+    pub call-message : (size : ℕ) → b ≡ 0x11 → size ≡ twoAt bytes 1 → messageAt + size ≡ callLength bytes
     unfolding callLength
     call-message size h s = rw (← e, ← s, eq-eqb b 0x11 h)
 
-    pub call-submit : (b ≡ 0x11 → ⊥) → b ≡ 0x12 → 1485 ≡ callLength bytes
-    unfolding callLength signatureLength
+    pub call-submit : (b ≡ 0x11 → ⊥) → b ≡ 0x12 → ownSignatureAt + signatureLength ≡ callLength bytes
+    unfolding callLength
     call-submit h s = rw (← e, ne-eqb b 0x11 h, eq-eqb b 0x12 s)
 
     pub call-other : (b ≡ 0x11 → ⊥) → (b ≡ 0x12 → ⊥) → 1 ≡ callLength bytes
@@ -100,3 +108,80 @@ module _ (bytes : List ℕ) where
 pub opening-none : (keys : List ℕ) (o : Opened) (number : ℕ) → o ≡ opening 0 0 0 keys → record { number = number; unit = o .unit } ≡ refusedOpening number
 unfolding opening openedBy openingConditions firstOf wrongSize unrefused
 opening-none keys o number e = rw e
+
+-- ---- a whole command has its operands
+
+pub framed-opening : (bytes : List ℕ) → misframedOpening bytes ≡ false → openingLength bytes ≤ length bytes
+unfolding misframedOpening
+framed-opening bytes m =
+    ltb-false (length bytes) (openingLength bytes) (both-false (ltb (length bytes) (openingLength bytes)) (not (isOpening bytes)) m .0)
+
+module _ (bytes : List ℕ) (m : misframedCall bytes ≡ false) where
+  pub framed-call : callLength bytes ≤ length bytes
+  unfolding misframedCall
+  framed-call = ltb-false (length bytes) (callLength bytes) (both-false (ltb (length bytes) (callLength bytes)) (not (isMessage bytes || isSubmit bytes)) m .0)
+
+  known : (isMessage bytes || isSubmit bytes) ≡ true
+  unfolding misframedCall
+  known = not-false (isMessage bytes || isSubmit bytes) (both-false (ltb (length bytes) (callLength bytes)) (not (isMessage bytes || isSubmit bytes)) m .1)
+
+  module _ (b : ℕ) (e : b ≡ byteAt bytes 0) where
+    pub message-whole : b ≡ 0x11 → messageAt ≤ length bytes
+    unfolding callLength
+    message-whole h = omega (arith, rw (← e, eq-eqb b 0x11 h) at framed-call)
+
+    pub submit-whole : (b ≡ 0x11 → ⊥) → ownSignatureAt ≤ length bytes
+    unfolding callLength
+    submit-whole h =
+        let s : eqb b 0x12 ≡ true = rw (← e, ne-eqb b 0x11 h) at known in
+        omega (arith, rw (← e, ne-eqb b 0x11 h, s) at framed-call)
+
+-- ---- the line
+
+module _ (bytes : List ℕ) (number written : ℕ) (line′ : Line) where
+  pub line-none : length bytes ≡ 0 → line′ ≡ inSpace [] → line′ ≡ inSpace (lineFor bytes number written)
+  unfolding lineFor
+  line-none h e = rw (h, e)
+
+  pub line-some : (length bytes ≡ 0 → ⊥) → line′ ≡ inSpace (line number written) → line′ ≡ inSpace (lineFor bytes number written)
+  unfolding lineFor
+  line-some h e = rw (ne-eqb (length bytes) 0 h, e)
+
+pub begun-told : (bytes : List ℕ) (o : Opened) (line′ : Line) → o ≡ opened bytes → line′ ≡ inSpace (lineFor bytes (o .number) 0)
+    → record { ends = not (eqb (o .number) 0); unit = o .unit; line = line′ } ≡ told (begun bytes)
+unfolding begun told
+begun-told bytes o line′ e f = rw (f, e)
+
+-- ---- the returns
+
+module _ (checks : List ℕ → ℕ → Checks) (keys : List ℕ) (r : Record) (store out bytes : List ℕ) where
+  abbrev outcome : Outcome
+  outcome = called checks keys r store out bytes
+
+  abbrev Promised : Answer → List ℕ → List ℕ → Type 0
+  Promised t store′ out′ =
+      ((t ≡ told outcome) × Fits (t .line)) × (store′ ≡ outcome .store) × (out′ ≡ outAfter (outcome .written) out)
+
+  pub called-misframed : misframedCall bytes ≡ true → (line′ : Line) → (line′ ≡ inSpace (lineFor bytes 9 0)) × Fits line′
+      → Promised (record { ends = true; unit = r; line = line′ }) store out
+  unfolding called told outAfter
+  called-misframed m line′ e = rw m ((rw (e .0), e .1), refl, sym (patch-nothing out))
+
+  module _ (m : misframedCall bytes ≡ false) (b : ℕ) (e : b ≡ byteAt bytes 0) (a : Stepped) (t : Answer) (f : (t ≡ toldCall a) × Fits (t .line))
+      (store′ out′ : List ℕ) where
+    pub called-message : b ≡ 0x11 → (message : List ℕ) → message ≡ take (length bytes - messageAt) (drop messageAt bytes)
+        → a ≡ answer (step (checks keys (r .round)) keys r store message out)
+        → store′ ≡ step (checks keys (r .round)) keys r store message out .store
+        → out′ ≡ outAfter (step (checks keys (r .round)) keys r store message out .written) out
+        → Promised t store′ out′
+    unfolding called told toldCall answer
+    called-message h message w p q s = rw (m, ← e, eq-eqb b 0x11 h, q, s, w, take-rest messageAt bytes) ((rw (f .0, p, w, take-rest messageAt bytes), f .1), refl, refl)
+
+    pub called-submit : (b ≡ 0x11 → ⊥) → (value signature : List ℕ) → value ≡ take valueLength (drop ownValueAt bytes) → signature ≡ take (length bytes - ownSignatureAt) (drop ownSignatureAt bytes)
+        → a ≡ answer (submit (checks keys (r .round)) keys r store value signature out)
+        → store′ ≡ submit (checks keys (r .round)) keys r store value signature out .store
+        → out′ ≡ outAfter (submit (checks keys (r .round)) keys r store value signature out .written) out
+        → Promised t store′ out′
+    unfolding called told toldCall answer part
+    called-submit h value signature v w p q s =
+        rw (m, ← e, ne-eqb b 0x11 h, q, s, v, w, take-rest ownSignatureAt bytes) ((rw (f .0, p, v, w, take-rest ownSignatureAt bytes), f .1), refl, refl)

@@ -15,7 +15,7 @@ use Rattle.protocol.specs.declared.Record.{Record}
 use Rattle.protocol.specs.declared.Opened.{Opened}
 use Rattle.protocol.specs.declared.Stepped.{Stepped}
 use Rattle.yard.specs.Line.{line, inSpace}
-use Rattle.yard.specs.declared.commands.Turn.{Turn}
+use Rattle.yard.specs.declared.commands.Answer.{Answer}
 
 -- a number of two bytes
 abbrev pub twoAt : List ℕ → ℕ → ℕ
@@ -23,7 +23,7 @@ twoAt bytes i = byteAt bytes i * 256 + byteAt bytes (i + 1)
 
 -- ---- what a command comes to
 
--- whether the program ends with it, the record and store after it, the bytes written to `out`, and the line printed
+-- whether the program ends with it, record and store after it, the bytes written to `out`, and the line printed
 pub record Outcome : Type 0 where
   pub ends : Bool
   pub unit : Record
@@ -36,8 +36,8 @@ pub record Outcome : Type 0 where
 unfoldable pub lineFor : List ℕ → ℕ → ℕ → List ℕ
 lineFor bytes number written = cond (eqb (length bytes) 0) [] (line number written)
 
--- what code answers: not the buffers, which are lent to it
-unfoldable pub told : Outcome → Turn
+-- the code's answer: all but the buffers, which are lent to it
+unfoldable pub told : Outcome → Answer
 told o = record { ends = o .ends; unit = o .unit; line = inSpace (o .line) }
 
 -- ---- the first command: "0x10 (n 1, seat 1, round 2, then n keys)", "for n up to 7"
@@ -51,17 +51,20 @@ isOpening bytes = eqb (byteAt bytes 0) 0x10
 abbrev pub tooMany : List ℕ → Bool
 tooMany bytes = ltb mostYardSeats (byteAt bytes 1)
 
+-- where its keys start
+abbrev pub keysAt : ℕ
+keysAt = 5
+
 abbrev pub keysOf : List ℕ → List ℕ
-keysOf bytes = drop 5 bytes
+keysOf bytes = drop keysAt bytes
 
--- its bytes, by those of its start; "n above 7 prints `1 0`, and n = 0 too; both need no keys". What isn't an opening is
--- known by its first byte.
+-- its length, as far as the bytes at its start tell it; "n above 7 prints `1 0`, and n = 0 too; both need no keys". One byte tells
+-- what is no opening.
 unfoldable pub openingLength : List ℕ → ℕ
-openingLength bytes = cond (isOpening bytes) (5 + cond (tooMany bytes) 0 (keyLength * byteAt bytes 1)) 1
+openingLength bytes = cond (isOpening bytes) (keysAt + cond (tooMany bytes) 0 (keyLength * byteAt bytes 1)) 1
 
--- 5 + 56 × 7 at most
 abbrev pub longestOpening : ℕ
-longestOpening = 397
+longestOpening = keysAt + keyLength * mostYardSeats
 
 -- "a short operand, a first command other than 0x10": over what the input has of the command
 unfoldable pub misframedOpening : List ℕ → Bool
@@ -77,7 +80,7 @@ opened bytes =
     (cond (tooMany bytes) (refusedOpening 1)
     (opening (byteAt bytes 1) (byteAt bytes 2) (twoAt bytes 3) (keysOf bytes)))
 
--- the store at first, and an out buffer: of the lengths for 7 seats
+-- the store at first, and an out buffer, of the lengths for 7 seats
 unfoldable pub yardStore : List ℕ
 yardStore = replicate (storeLength mostYardSeats) 0
 
@@ -98,12 +101,22 @@ isMessage bytes = eqb (byteAt bytes 0) 0x11
 abbrev pub isSubmit : List ℕ → Bool
 isSubmit bytes = eqb (byteAt bytes 0) 0x12
 
-unfoldable pub callLength : List ℕ → ℕ
-callLength bytes = cond (isMessage bytes) (3 + twoAt bytes 1) (cond (isSubmit bytes) (1 + valueLength + signatureLength) 1)
+-- where the message starts, and where value and signature do
+abbrev pub messageAt : ℕ
+messageAt = 3
 
--- 3 + 65,535 at most
+abbrev pub ownValueAt : ℕ
+ownValueAt = 1
+
+abbrev pub ownSignatureAt : ℕ
+ownSignatureAt = ownValueAt + valueLength
+
+-- its length, as far as the bytes at its start tell it
+unfoldable pub callLength : List ℕ → ℕ
+callLength bytes = cond (isMessage bytes) (messageAt + twoAt bytes 1) (cond (isSubmit bytes) (ownSignatureAt + signatureLength) 1)
+
 abbrev pub longestCall : ℕ
-longestCall = 65538
+longestCall = messageAt + 65535
 
 -- "An unknown command, a short operand, .. or a second 0x10"
 unfoldable pub misframedCall : List ℕ → Bool
@@ -117,14 +130,14 @@ endedBy r store bytes = record { ends = true; unit = r; store = store; written =
 abbrev pub goesOn : Result → Outcome
 goesOn a = record { ends = false; unit = a .unit; store = a .store; written = a .written; line = line (a .refusal) (length (a .written)) }
 
--- the same, as code answers it
-unfoldable pub toldCall : Stepped → Turn
+-- the same as the code's answer
+unfoldable pub toldCall : Stepped → Answer
 toldCall a = record { ends = false; unit = a .unit; line = inSpace (line (a .number) (a .written)) }
 
 -- with the signature check under a key table in a round: key table, record, store, out, and the command's bytes
-unfoldable pub turn : (List ℕ → ℕ → Checks) → List ℕ → Record → List ℕ → List ℕ → List ℕ → Outcome
-turn checks keys r store out bytes =
+unfoldable pub called : (List ℕ → ℕ → Checks) → List ℕ → Record → List ℕ → List ℕ → List ℕ → Outcome
+called checks keys r store out bytes =
     cond (misframedCall bytes) (endedBy r store bytes)
     (cond (isMessage bytes)
-    (goesOn (step (checks keys (r .round)) keys r store (drop 3 bytes) out))
-    (goesOn (submit (checks keys (r .round)) keys r store (part 1 valueLength bytes) (drop (1 + valueLength) bytes) out)))
+    (goesOn (step (checks keys (r .round)) keys r store (drop messageAt bytes) out))
+    (goesOn (submit (checks keys (r .round)) keys r store (part ownValueAt valueLength bytes) (drop ownSignatureAt bytes) out)))

@@ -9,12 +9,12 @@ use Rattle.protocol.specs.Message.{Notice, render}
 use Rattle.protocol.specs.Signatures.{checks}
 use Rattle.trials.specs.Toy.{unfolded, toy, layout, sign, keys}
 use Rattle.yard.specs.Line.{decimalIn, decimal, line}
-use Rattle.yard.specs.Commands.{lineFor, openingLength, misframedOpening, opened, yardStore, yardOut, begun, callLength, misframedCall, turn}
+use Rattle.yard.specs.Commands.{lineFor, openingLength, misframedOpening, opened, yardStore, yardOut, begun, callLength, misframedCall, called}
 use Rattle.yard.specs.Yard.{printed, yard}
 
 -- every definition of the yard, open
 unfoldable unfoldedYard : Bool
-unfolding unfolded decimalIn decimal line lineFor openingLength misframedOpening opened yardStore yardOut begun callLength misframedCall turn printed yard
+unfolding unfolded decimalIn decimal line lineFor openingLength misframedOpening opened yardStore yardOut begun callLength misframedCall called printed yard
 unfoldedYard = unfolded
 
 -- a number of one digit, a space, `0` and newline
@@ -40,7 +40,7 @@ no-seats : yard checks (0x10 ∷ 0 ∷ 0 ∷ 0 ∷ 5 ∷ []) ≡ short 1
 unfolding unfoldedYard
 no-seats = refl
 
--- a seat out of range is looked at once the keys are there
+-- a seat out of range is refused once the keys are there
 no-such-seat : yard checks (openingOf 1 1 5) ≡ short 2
 unfolding unfoldedYard
 no-such-seat = refl
@@ -75,7 +75,7 @@ second-opening : yard checks (openingOf 1 0 5 ++ openingOf 1 0 5) ≡ short 0 ++
 unfolding unfoldedYard
 second-opening = refl
 
--- a refused call goes on, and a unit alone confirms in its submit: SUBMIT and NOTICE are 1,524 bytes
+-- the program goes on after a refused call; a unit alone confirms in its submit, and SUBMIT and NOTICE are 1,524 bytes
 confirmed : yard (λ table round. toy) (openingOf 1 0 5 ++ 0x11 ∷ 0 ∷ 0 ∷ [] ++ 0x12 ∷ layout 7 ++ sign 0 7 ++ 0x11 ∷ 0 ∷ 36 ∷ render (Notice 5 0 (layout 7)))
     ≡ short 0 ++ short 9 ++ 48 ∷ 32 ∷ 49 ∷ 53 ∷ 50 ∷ 52 ∷ 10 ∷ [] ++ short 0
 unfolding unfoldedYard

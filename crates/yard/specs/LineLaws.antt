@@ -29,17 +29,17 @@ decimal-bound (suc m) (suc k) x h l = go (decLt x 10) (λ s. decimal-bound m k (
     go (yes s) rest = rw (lt-ltb x 10 s)
     go (no s) rest = rw (le-ltb x 10 (omega arith), rest (omega arith))
 
-pub decimal-small : (x : ℕ) → x < 10 → decimal x ≡ digit x ∷ []
+decimal-small : (x : ℕ) → x < 10 → decimal x ≡ digit x ∷ []
 unfolding decimal decimalIn
 decimal-small zero h = refl
 decimal-small (suc x) h = rw (lt-ltb (suc x) 10 h)
 
-pub decimal-more : (x : ℕ) → 10 ≤ x → decimal x ≡ decimal (x / 10) ++ (digit (x % 10) ∷ [])
+decimal-more : (x : ℕ) → 10 ≤ x → decimal x ≡ decimal (x / 10) ++ (digit (x % 10) ∷ [])
 unfolding decimal decimalIn
 decimal-more zero h = absurd (omega arith)
 decimal-more (suc x) h = rw (le-ltb (suc x) 10 h, decimal-bound x (suc x / 10) (suc x / 10) (omega arith) (omega arith))
 
-pub length-decimal : (k x : ℕ) → x < 10 ^ suc k → length (decimal x) ≤ suc k
+length-decimal : (k x : ℕ) → x < 10 ^ suc k → length (decimal x) ≤ suc k
 length-decimal zero x h = rw (decimal-small x (omega arith)) (omega arith)
 length-decimal (suc k) x h = go (decLt x 10) (length-decimal k (x / 10) (div-lt-iff-lt-mul {k = 10} (lit< tt) .1 (rw pow-suc at h)))
   where
@@ -97,7 +97,7 @@ text-then us vs text text′ at end h e s =
       next = rw length-append (omega (arith, h .next));
     }
 
-pub text-fits : (us text : List ℕ) (at size : ℕ) → Text us text at → length us + size ≤ lineLimit → at + size ≤ length text
+text-fits : (us text : List ℕ) (at size : ℕ) → Text us text at → length us + size ≤ lineLimit → at + size ≤ length text
 text-fits us text at size h l =
     let long : length text ≡ lineLimit = rw (h .held, length-patch 0 us (replicate lineLimit 0) (rw length-replicate (omega arith)), length-replicate) in
     omega (arith, h .next)

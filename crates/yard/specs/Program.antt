@@ -1,5 +1,4 @@
--- What the program comes to, as it reads command by command into fixed buffers: the output that `yard` gives for the whole
--- input.
+-- The program's output, as it reads command by command into fixed buffers, is the one that `yard` gives for the whole input.
 -- Assumes nothing.
 use mathlib.Core.Path.{_≡_, refl, sym, _∙_}
 use mathlib.Core.Bool.{Bool, true, false, cond}
@@ -11,20 +10,20 @@ use lib.Dec.{eqb, ltb, leb}
 use lib.ListN.{length, take, drop, length-take, length-drop}
 use lib.Seq.{getD-take, take-all, take-nil}
 use borrow.Author.Tests.{lt-ltb, le-ltb, le-leb, lt-leb}
-use Rattle.protocol.specs.Layout.{signatureLength}
+use Rattle.protocol.specs.Layout.{signatureLength, keyLength}
 use Rattle.protocol.specs.Message.{byteAt}
 use Rattle.protocol.specs.Refusals.{Checks, shortOut, recordConditions, submitConditions, stepConditions}
 use Rattle.protocol.specs.Calls.{submit, step}
 use Rattle.protocol.specs.declared.Record.{Record}
-use Rattle.yard.specs.Commands.{lineFor, twoAt, isOpening, tooMany, keysOf, openingLength, yardOut, begun, isMessage, isSubmit, callLength, misframedCall, endedBy, turn}
+use Rattle.yard.specs.Commands.{lineFor, twoAt, isOpening, tooMany, keysAt, keysOf, openingLength, yardOut, begun, isMessage, isSubmit, messageAt, ownSignatureAt, callLength, misframedCall, endedBy, called}
 use Rattle.yard.specs.Yard.{printed, yard}
 
--- Reads go on until so many bytes are there or the input ends: what is there then, of the input, where some were there before.
+-- The bytes of the input that are there after reading on to so many, or to its end, where some were there before.
 unfoldable pub readOn : List ℕ → ℕ → List ℕ → List ℕ
 readOn have to input = cond (leb to (length have)) have (take to input)
 
 -- A command's bytes as they are read, where `size` is its length as far as its start tells it: one byte, then as many as that
--- one tells of, then as many as those tell of; none where the input has ended.
+-- one tells, then as many as those tell; none where the input has ended.
 unfoldable pub gathered : (List ℕ → ℕ) → List ℕ → List ℕ
 gathered size [] = []
 gathered size (b ∷ rest) =
@@ -32,19 +31,19 @@ gathered size (b ∷ rest) =
     cond (ltb (length have) (size (b ∷ []))) have (readOn have (size have) (b ∷ rest))
 
 module _ (checks : List ℕ → ℕ → Checks) (outs : ℕ → List ℕ) where
-  -- the loop over the commands after the first, of at most so many turns; each turn finds some bytes in the out buffer
+  -- the loop over the later commands, at most so many; each finds some bytes in the out buffer
   unfoldable pub ran : ℕ → List ℕ → Record → List ℕ → List ℕ → List ℕ
   ran zero keys r store input = []
-  ran (suc turns) keys r store input =
+  ran (suc limit) keys r store input =
       let bytes = gathered callLength input in
-      let o = turn checks keys r store (outs turns) bytes in
-      o .line ++ cond (o .ends) [] (ran turns keys (o .unit) (o .store) (drop (length bytes) input))
+      let o = called checks keys r store (outs limit) bytes in
+      o .line ++ cond (o .ends) [] (ran limit keys (o .unit) (o .store) (drop (length bytes) input))
 
   unfoldable pub program : ℕ → List ℕ → List ℕ
-  program turns input =
+  program limit input =
       let bytes = gathered openingLength input in
       let o = begun bytes in
-      o .line ++ cond (o .ends) [] (ran turns (keysOf bytes) (o .unit) (o .store) (drop (length bytes) input))
+      o .line ++ cond (o .ends) [] (ran limit (keysOf bytes) (o .unit) (o .store) (drop (length bytes) input))
 
 -- ---- a command's length is told by its first bytes
 
@@ -53,25 +52,25 @@ cond-by true x y z h = h refl
 cond-by false x y z h = refl
 
 module _ (m : ℕ) (input : List ℕ) (some : 0 < m) where
-  call-start : (isMessage input ≡ true → 3 ≤ m) → callLength (take m input) ≡ callLength input
+  call-start : (isMessage input ≡ true → messageAt ≤ m) → callLength (take m input) ≡ callLength input
   unfolding callLength
   call-start h =
       rw (getD-take m input 0 0 some)
-      (cond-by (isMessage input) (3 + twoAt (take m input) 1) (3 + twoAt input 1) _
+      (cond-by (isMessage input) (messageAt + twoAt (take m input) 1) (messageAt + twoAt input 1) _
       (λ e. rw (getD-take m input 1 0 (omega (arith, h e)), getD-take m input 2 0 (omega (arith, h e)))))
 
   opening-start : (isOpening input ≡ true → 2 ≤ m) → openingLength (take m input) ≡ openingLength input
   unfolding openingLength
   opening-start h =
       rw (getD-take m input 0 0 some)
-      (cond-by (isOpening input) (5 + cond (tooMany (take m input)) 0 (56 * byteAt (take m input) 1)) (5 + cond (tooMany input) 0 (56 * byteAt input 1)) 1
+      (cond-by (isOpening input) (keysAt + cond (tooMany (take m input)) 0 (keyLength * byteAt (take m input) 1)) (keysAt + cond (tooMany input) 0 (keyLength * byteAt input 1)) 1
       (λ e. rw (getD-take m input 1 0 (omega (arith, h e)))))
 
 call-some : (input : List ℕ) → 1 ≤ callLength input
 unfolding callLength
 call-some input = go (isMessage input) (isSubmit input)
   where
-    go : (b c : Bool) → 1 ≤ cond b (3 + twoAt input 1) (cond c (1 + 32 + signatureLength) 1)
+    go : (b c : Bool) → 1 ≤ cond b (messageAt + twoAt input 1) (cond c (ownSignatureAt + signatureLength) 1)
     go true c = omega arith
     go false true = omega arith
     go false false = omega arith
@@ -80,12 +79,12 @@ opening-some : (input : List ℕ) → 1 ≤ openingLength input
 unfolding openingLength
 opening-some input = go (isOpening input)
   where
-    go : (b : Bool) → 1 ≤ cond b (5 + cond (tooMany input) 0 (56 * byteAt input 1)) 1
+    go : (b : Bool) → 1 ≤ cond b (keysAt + cond (tooMany input) 0 (keyLength * byteAt input 1)) 1
     go true = omega arith
     go false = omega arith
 
 -- the length that a message's first byte tells
-call-first : (b : ℕ) → eqb b 0x11 ≡ true → 3 ≤ callLength (b ∷ [])
+call-first : (b : ℕ) → eqb b 0x11 ≡ true → messageAt ≤ callLength (b ∷ [])
 unfolding callLength
 call-first b e = rw e (omega arith)
 
@@ -93,7 +92,7 @@ call-grows : (b : ℕ) (rest : List ℕ) → callLength (b ∷ []) ≤ callLengt
 unfolding callLength
 call-grows b rest = go (eqb b 0x11) (eqb b 0x12)
   where
-    go : (m s : Bool) → cond m 3 (cond s (1 + 32 + signatureLength) 1) ≤ cond m (3 + twoAt (b ∷ rest) 1) (cond s (1 + 32 + signatureLength) 1)
+    go : (m s : Bool) → cond m messageAt (cond s (ownSignatureAt + signatureLength) 1) ≤ cond m (messageAt + twoAt (b ∷ rest) 1) (cond s (ownSignatureAt + signatureLength) 1)
     go true s = omega arith
     go false true = omega arith
     go false false = omega arith
@@ -102,11 +101,11 @@ opening-grows : (b : ℕ) (rest : List ℕ) → openingLength (b ∷ []) ≤ ope
 unfolding openingLength
 opening-grows b rest = go (eqb b 0x10)
   where
-    go : (o : Bool) → cond o 5 1 ≤ cond o (5 + cond (tooMany (b ∷ rest)) 0 (56 * byteAt (b ∷ rest) 1)) 1
+    go : (o : Bool) → cond o keysAt 1 ≤ cond o (keysAt + cond (tooMany (b ∷ rest)) 0 (keyLength * byteAt (b ∷ rest) 1)) 1
     go true = omega arith
     go false = omega arith
 
-opening-first : (b : ℕ) → eqb b 0x10 ≡ true → 5 ≤ openingLength (b ∷ [])
+opening-first : (b : ℕ) → eqb b 0x10 ≡ true → keysAt ≤ openingLength (b ∷ [])
 unfolding openingLength
 opening-first b e = rw e (omega arith)
 
@@ -140,7 +139,7 @@ opening-tells = record {
   tells = λ b rest. opening-start (openingLength (b ∷ [])) (b ∷ rest) (opening-some (b ∷ [])) (λ e. omega (arith, opening-first b e));
 }
 
--- so that reading in three goes comes to the whole command, or to what the input has of it
+-- reading in three parts comes to the whole command, or to what the input has of it
 pub gathered-whole : (size : List ℕ → ℕ) → Tells size → (input : List ℕ) → gathered size input ≡ take (size input) input
 unfolding gathered
 gathered-whole size told [] = sym (take-nil (size []))
@@ -160,10 +159,10 @@ gathered-whole size told (b ∷ rest) =
 -- ---- the run
 
 -- a call looks at no byte of the out buffer
-pub turn-out : (checks : List ℕ → ℕ → Checks) (keys : List ℕ) (r : Record) (store out out′ bytes : List ℕ) → length out ≡ length out′
-    → turn checks keys r store out bytes ≡ turn checks keys r store out′ bytes
-unfolding turn submit step submitConditions stepConditions recordConditions shortOut
-turn-out checks keys r store out out′ bytes e = rw e
+pub called-out : (checks : List ℕ → ℕ → Checks) (keys : List ℕ) (r : Record) (store out out′ bytes : List ℕ) → length out ≡ length out′
+    → called checks keys r store out bytes ≡ called checks keys r store out′ bytes
+unfolding called submit step submitConditions stepConditions recordConditions shortOut
+called-out checks keys r store out out′ bytes e = rw e
 
 drop-taken : (n : ℕ) (xs : List ℕ) → drop (length (take n xs)) xs ≡ drop n xs
 drop-taken zero xs = refl
@@ -171,50 +170,50 @@ drop-taken (suc n) [] = refl
 drop-taken (suc n) (x ∷ xs) = drop-taken n xs
 
 -- where the input has ended
-turn-none : (checks : List ℕ → ℕ → Checks) (keys : List ℕ) (r : Record) (store out : List ℕ) → turn checks keys r store out [] ≡ endedBy r store []
-unfolding turn misframedCall callLength
-turn-none checks keys r store out = refl
+called-none : (checks : List ℕ → ℕ → Checks) (keys : List ℕ) (r : Record) (store out : List ℕ) → called checks keys r store out [] ≡ endedBy r store []
+unfolding called misframedCall callLength
+called-none checks keys r store out = refl
 
 module _ (checks : List ℕ → ℕ → Checks) (outs : ℕ → List ℕ) (long : (i : ℕ) → length (outs i) ≡ length yardOut) where
   printed-none : (count : ℕ) (keys : List ℕ) (r : Record) (store : List ℕ) → printed checks count keys r store [] ≡ []
   unfolding printed lineFor
   printed-none zero keys r store = refl
-  printed-none (suc count) keys r store = rw (take-nil (callLength []), turn-none checks keys r store yardOut)
+  printed-none (suc count) keys r store = rw (take-nil (callLength []), called-none checks keys r store yardOut)
 
-  ran-none : (turns : ℕ) (keys : List ℕ) (r : Record) (store : List ℕ) → ran checks outs turns keys r store [] ≡ []
+  ran-none : (limit : ℕ) (keys : List ℕ) (r : Record) (store : List ℕ) → ran checks outs limit keys r store [] ≡ []
   unfolding ran gathered lineFor
   ran-none zero keys r store = refl
-  ran-none (suc turns) keys r store = rw (turn-none checks keys r store (outs turns))
+  ran-none (suc limit) keys r store = rw (called-none checks keys r store (outs limit))
 
-  pub ran-printed : (turns count : ℕ) (keys : List ℕ) (r : Record) (store input : List ℕ) → length input ≤ turns → length input ≤ count
-      → ran checks outs turns keys r store input ≡ printed checks count keys r store input
+  pub ran-printed : (limit count : ℕ) (keys : List ℕ) (r : Record) (store input : List ℕ) → length input ≤ limit → length input ≤ count
+      → ran checks outs limit keys r store input ≡ printed checks count keys r store input
   unfolding ran printed
   ran-printed zero count keys r store [] h l = sym (printed-none count keys r store)
   ran-printed zero count keys r store (b ∷ rest) h l = absurd (omega arith)
-  ran-printed (suc turns) zero keys r store [] h l = ran-none (suc turns) keys r store
-  ran-printed (suc turns) zero keys r store (b ∷ rest) h l = absurd (omega arith)
-  ran-printed (suc turns) (suc count) keys r store [] h l = ran-none (suc turns) keys r store ∙ sym (printed-none (suc count) keys r store)
-  ran-printed (suc turns) (suc count) keys r store (b ∷ rest) h l =
+  ran-printed (suc limit) zero keys r store [] h l = ran-none (suc limit) keys r store
+  ran-printed (suc limit) zero keys r store (b ∷ rest) h l = absurd (omega arith)
+  ran-printed (suc limit) (suc count) keys r store [] h l = ran-none (suc limit) keys r store ∙ sym (printed-none (suc count) keys r store)
+  ran-printed (suc limit) (suc count) keys r store (b ∷ rest) h l =
       let input = b ∷ rest in
       let size = callLength input in
-      let o = turn checks keys r store yardOut (take size input) in
+      let o = called checks keys r store yardOut (take size input) in
       let less : length (drop size input) ≤ length rest = rw length-drop (omega (arith, call-some input)) in
       rw (
         gathered-whole callLength call-tells input,
         drop-taken size input,
-        turn-out checks keys r store (outs turns) yardOut (take size input) (long turns),
-        ran-printed turns count keys (o .unit) (o .store) (drop size input) (omega arith) (omega arith),
+        called-out checks keys r store (outs limit) yardOut (take size input) (long limit),
+        ran-printed limit count keys (o .unit) (o .store) (drop size input) (omega arith) (omega arith),
       )
 
-  -- turns for as many commands as the input has bytes are enough
-  pub program-is-yard : (turns : ℕ) (input : List ℕ) → length input ≤ turns → program checks outs turns input ≡ yard checks input
+  -- a limit of as many commands as the input has bytes is enough
+  pub program-is-yard : (limit : ℕ) (input : List ℕ) → length input ≤ limit → program checks outs limit input ≡ yard checks input
   unfolding program yard
-  program-is-yard turns input h =
+  program-is-yard limit input h =
       let size = openingLength input in
       let bytes = take size input in
       let less : length (drop size input) ≤ length input = rw length-drop (omega arith) in
       rw (
         gathered-whole openingLength opening-tells input,
         drop-taken size input,
-        ran-printed turns (length input) (keysOf bytes) (begun bytes .unit) (begun bytes .store) (drop size input) (omega arith) (omega arith),
+        ran-printed limit (length input) (keysOf bytes) (begun bytes .unit) (begun bytes .store) (drop size input) (omega arith) (omega arith),
       )

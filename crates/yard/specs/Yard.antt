@@ -6,18 +6,18 @@ use mathlib.Core.List.{List, [], _++_}
 use lib.ListN.{length, take, drop}
 use Rattle.protocol.specs.Refusals.{Checks}
 use Rattle.protocol.specs.declared.Record.{Record}
-use Rattle.yard.specs.Commands.{keysOf, openingLength, yardOut, begun, callLength, turn}
+use Rattle.yard.specs.Commands.{keysOf, openingLength, yardOut, begun, callLength, called}
 
 module _ (checks : List ℕ → ℕ → Checks) where
-  -- what is printed for at most so many commands of what is left of the input: key table, record, store, input
+  -- what is printed for the rest of the input, at most so many commands: key table, record, store, input
   unfoldable pub printed : ℕ → List ℕ → Record → List ℕ → List ℕ → List ℕ
   printed zero keys r store input = []
   printed (suc count) keys r store input =
       let size = callLength input in
-      let o = turn checks keys r store yardOut (take size input) in
+      let o = called checks keys r store yardOut (take size input) in
       o .line ++ cond (o .ends) [] (printed count keys (o .unit) (o .store) (drop size input))
 
-  -- each command has a byte at least, so there are at most as many as there are bytes
+  -- each command has a byte at least, so an input has at most as many commands as bytes
   unfoldable pub yard : List ℕ → List ℕ
   yard input =
       let size = openingLength input in

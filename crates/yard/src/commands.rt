@@ -5,17 +5,18 @@ ghost use Rattle.protocol.specs.Signatures.{checks};
 ghost use Rattle.protocol.specs.Message.{byteAt};
 ghost use Rattle.protocol.specs.Calls.{outAfter};
 ghost use Rattle.yard.specs.Line.{inSpace, Fits};
-ghost use Rattle.yard.specs.Commands.{lineFor, told, twoAt, keysOf, openingLength, longestOpening, misframedOpening, refusedOpening, opened, begun, callLength, longestCall, misframedCall, toldCall, turn};
+ghost use Rattle.yard.specs.Commands.{lineFor, told, twoAt, keysOf, openingLength, longestOpening, misframedOpening, refusedOpening, opened, begun, callLength, longestCall, misframedCall, toldCall, called};
 use crate::line::Line;
 use crate::line::line_of;
 use crate::line::no_line;
+use crate::space;
 use octets::wide;
 use protocol::Opened;
 use protocol::Record;
 use protocol::Stepped;
 
-// What a command comes to: whether the program ends with it, the record after it, and the line to print.
-pub struct Turn {
+// Answer of a command: whether the program ends with it, the record after it, and the line to print.
+pub struct Answer {
     pub ends: bool,
     pub unit: Record,
     pub line: Line,
@@ -39,7 +40,7 @@ fn two_at(bytes: &[u8], i: usize) -> u32
     byte_at(bytes, i) * 256 + byte_at(bytes, i + 1)
 }
 
-// The line for a command, of which there are no bytes where the input has ended.
+// The line for a command: none for no bytes, where the input has ended.
 fn line_for(bytes: &[u8], number: u32, written: u32) -> Line
     ensures { λ r. ⌜ (r ≡ inSpace (lineFor (now (bytes .entry)) number written)) × Fits r ⌝ }
 {
@@ -49,30 +50,30 @@ fn line_for(bytes: &[u8], number: u32, written: u32) -> Line
     line_of(number, written)
 }
 
-// The length of the first command, by the bytes at its start: after 5 bytes it is known.
+// The length of the first command, as far as the bytes at its start tell it: five tell it whole.
 pub fn opening_length(bytes: &[u8]) -> usize
     ensures { λ r. ⌜ (r ≡ openingLength (now (bytes .entry))) × (r ≤ longestOpening) ⌝ }
 {
     if byte_at(bytes, 0) != 0x10 {
         return 1;
     }
-    let n = byte_at(bytes, 1);
-    if 7 < n {
-        return 5;
+    let n = byte_at(bytes, 1) as usize;
+    if space::MOST_SEATS < n {
+        return space::OPENING_HEAD;
     }
-    (5 + 56 * n) as usize
+    space::OPENING_HEAD + space::KEY * n
 }
 
-// The length of a command after the first, by the bytes at its start: after 3 bytes it is known.
+// The length of a later command, as far as the bytes at its start tell it: three tell it whole.
 pub fn call_length(bytes: &[u8]) -> usize
     ensures { λ r. ⌜ (r ≡ callLength (now (bytes .entry))) × (r ≤ longestCall) ⌝ }
 {
     let command = byte_at(bytes, 0);
     if command == 0x11 {
-        return (3 + two_at(bytes, 1)) as usize;
+        return space::MESSAGE_HEAD + two_at(bytes, 1) as usize;
     }
     if command == 0x12 {
-        return 1485;
+        return space::SUBMIT;
     }
     1
 }
@@ -81,10 +82,10 @@ pub fn call_length(bytes: &[u8]) -> usize
 pub fn keys_of(bytes: &[u8]) -> &[u8]
     ensures { λ r. ⌜ now r ≡ keysOf (now (bytes .entry)) ⌝ }
 {
-    if bytes.len() < 5 {
+    if bytes.len() < space::OPENING_HEAD {
         return &bytes[..0];
     }
-    &bytes[5..]
+    &bytes[space::OPENING_HEAD..]
 }
 
 // Whether the first command is short, or no opening.
@@ -97,7 +98,7 @@ fn is_misframed_opening(bytes: &[u8]) -> bool
     byte_at(bytes, 0) != 0x10
 }
 
-// An opening turned back: a record of zeros, as one of no seats gives.
+// A refused opening, with its record of zeros: the opening of no seats gives that one.
 fn refused_opening(number: u32) -> Opened
     ensures { λ r. ⌜ r ≡ refusedOpening number ⌝ }
 {
@@ -107,7 +108,7 @@ fn refused_opening(number: u32) -> Opened
     Opened { number, unit }
 }
 
-// The first command, with as many of its bytes as the input has.
+// The opening, from the bytes that the input has of it.
 fn open(bytes: &[u8]) -> Opened
     ensures { λ r. ⌜ r ≡ opened (now (bytes .entry)) ⌝ }
 {
@@ -115,7 +116,7 @@ fn open(bytes: &[u8]) -> Opened
         return refused_opening(refusal::GARBLED);
     }
     let n = byte_at(bytes, 1);
-    if 7 < n {
+    if space::MOST_SEATS < n as usize {
         return refused_opening(refusal::SIZE);
     }
     let seat = byte_at(bytes, 2);
@@ -123,21 +124,21 @@ fn open(bytes: &[u8]) -> Opened
     confirmer::opening::open(n, seat, round, keys_of(bytes))
 }
 
-// The first command as a turn.
-pub fn begin(bytes: &[u8]) -> Turn
+// Answer of the first command.
+pub fn begin(bytes: &[u8]) -> Answer
     ensures { λ t. ⌜ (t ≡ told (begun (now (bytes .entry)))) × Fits (t .line) ⌝ }
 {
     let o = open(bytes);
     let line = line_for(bytes, o.number, 0);
     let unit = o.unit;
-    Turn {
+    Answer {
         ends: o.number != 0,
         unit,
         line,
     }
 }
 
-// Whether a command after the first is short, or no call.
+// Whether a later command is short, or no call.
 fn is_misframed_call(bytes: &[u8]) -> bool
     ensures { λ r. ⌜ r ≡ misframedCall (now (bytes .entry)) ⌝ }
 {
@@ -151,37 +152,52 @@ fn is_misframed_call(bytes: &[u8]) -> bool
     command != 0x12
 }
 
-// The turn of a call of the confirmer, refused or not.
-fn goes_on(answer: Stepped) -> Turn
+// Answer of a call of the confirmer, refused or not.
+fn goes_on(answer: Stepped) -> Answer
     ensures { λ t. ⌜ (t ≡ toldCall answer) × Fits (t .line) ⌝ }
 {
     let line = line_of(answer.number, answer.written);
     let unit = answer.unit;
-    Turn {
+    Answer {
         ends: false,
         unit,
         line,
     }
 }
 
-// A command after the first, with as many of its bytes as the input has.
-pub fn take_turn(r: Record, keys: &[u8], store: &mut [u8], out: &mut [u8], bytes: &[u8]) -> Turn
-    ensures answer { λ t. ⌜ (t ≡ told (turn checks (now (keys .entry)) r (now (store .entry)) (now (out .entry)) (now (bytes .entry)))) × Fits (t .line) ⌝ }
-    ensures store { λ _. ⌜ now (store .exit) ≡ turn checks (now (keys .entry)) r (now (store .entry)) (now (out .entry)) (now (bytes .entry)) .store ⌝ }
-    ensures out { λ _. ⌜ now (out .exit) ≡ outAfter (turn checks (now (keys .entry)) r (now (store .entry)) (now (out .entry)) (now (bytes .entry)) .written) (now (out .entry)) ⌝ }
+// Answer of a later command, from the bytes that the input has of it.
+pub fn take_command(
+    r: Record,
+    keys: &[u8],
+    store: &mut [u8],
+    out: &mut [u8],
+    bytes: &[u8],
+) -> Answer
+    ensures { λ t.
+        let o = called checks (now (keys .entry)) r (now (store .entry)) (now (out .entry)) (now (bytes .entry)) in
+        ⌜ ((t ≡ told o) × Fits (t .line))
+        × (now (store .exit) ≡ o .store)
+        × (now (out .exit) ≡ outAfter (o .written) (now (out .entry))) ⌝ }
 {
     if is_misframed_call(bytes) {
         let line = line_for(bytes, refusal::GARBLED, 0);
-        return Turn {
+        return Answer {
             ends: true,
             unit: r,
             line,
         };
     }
     if byte_at(bytes, 0) == 0x11 {
-        let answer = confirmer::calls::step(r, keys, store, &bytes[3..], out);
+        let answer = confirmer::calls::step(r, keys, store, &bytes[space::MESSAGE_HEAD..], out);
         return goes_on(answer);
     }
-    let answer = confirmer::calls::submit(r, keys, store, &bytes[1..33], &bytes[33..], out);
+    let answer = confirmer::calls::submit(
+        r,
+        keys,
+        store,
+        &bytes[1..space::SUBMIT_HEAD],
+        &bytes[space::SUBMIT_HEAD..],
+        out,
+    );
     goes_on(answer)
 }

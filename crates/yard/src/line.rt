@@ -6,7 +6,7 @@ ghost use lib.ListN.{length};
 ghost use Rattle.octets.specs.Octets.{patch};
 ghost use Rattle.yard.specs.Line.{decimal, line, inSpace, Fits};
 
-// A line at the start of `text`.
+// A line: the first `length` bytes of `text`.
 pub struct Line {
     pub text: [u8; 22],
     pub length: usize,
@@ -34,7 +34,7 @@ fn put_decimal(out: &mut [u8], at: usize, x: u32) -> usize
 }
 
 // The refusal number or 0, a space, the bytes written, and a newline.
-pub fn line_of(number: u32, written: u32) -> Line
+pub(crate) fn line_of(number: u32, written: u32) -> Line
     ensures { λ r. ⌜ (r ≡ inSpace (line number written)) × Fits r ⌝ }
 {
     let mut text = [0u8; 22];
@@ -46,7 +46,7 @@ pub fn line_of(number: u32, written: u32) -> Line
 }
 
 // Nothing to print.
-pub fn no_line() -> Line
+pub(crate) fn no_line() -> Line
     ensures { λ r. ⌜ (r ≡ inSpace []) × Fits r ⌝ }
 {
     let text = [0u8; 22];

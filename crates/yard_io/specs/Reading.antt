@@ -24,12 +24,12 @@ sizeOf false bytes = callLength bytes
 
 -- ---- what is left in the buffer
 
--- reading on from index `have` to index `to`, where r bytes are there then: those below `have` stay
+-- reading on from index `have` to index `to`, after which r bytes are there: those below `have` stay
 pub record ReadOn (have to r : ℕ) (before after : List ℕ) : Type 0 where
   pub more : have ≤ r
   pub most : r ≤ have + (to - have)
   pub there : r ≤ length after
-  pub kept : take have after ≡ take have before
+  pub stays : take have after ≡ take have before
 
 -- a command of so many bytes at the start of a buffer: whole or as far as the input has it, and nothing after it
 pub record Command (first : Bool) (have : ℕ) (buffer : List ℕ) : Type 0 where
@@ -73,7 +73,7 @@ module _ (first : Bool) where
 
   module _ {one start have : ℕ} {s₁ s₂ : List ℕ} (only : one ≡ 1) (told : start ≡ sizeOf first (take one s₁)) (second : ReadOn one start have s₁ s₂) where
     same : take 1 s₂ ≡ take 1 s₁
-    same = rw (← only) (second .kept)
+    same = rw (← only) (second .stays)
 
     first-told : start ≡ sizeOf first (take 1 s₂)
     first-told = told ∙ ap (λ (n : ℕ). sizeOf first (take n s₁)) only ∙ ap (sizeOf first) (sym same)
@@ -89,9 +89,9 @@ module _ (first : Bool) where
         let some = tells first .some (take 1 s₂) in
         let at-start : have ≡ start = omega (arith, second .most, first-told) in
         let there : have ≡ sizeOf first (take 1 s₃) =
-        at-start ∙ first-told ∙ ap (sizeOf first) (take-less 1 have s₂ s₃ (omega (arith, second .more)) (sym (third .kept))) in
+        at-start ∙ first-told ∙ ap (sizeOf first) (take-less 1 have s₂ s₃ (omega (arith, second .more)) (sym (third .stays))) in
         let size : sizeOf first (take r s₃) ≡ whole =
-        tells-take (sizeOf first) (tells first) have r s₃ there (third .more) ∙ ap (sizeOf first) (third .kept) ∙ sym length-told in
+        tells-take (sizeOf first) (tells first) have r s₃ there (third .more) ∙ ap (sizeOf first) (third .stays) ∙ sym length-told in
         record {
           there = third .there;
           alone = own (sizeOf first) (tells first) r s₃

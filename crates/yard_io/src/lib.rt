@@ -1,20 +1,19 @@
-// The yard's program (document 01): it reads commands from standard input, and prints a line for each call to standard output.
-// What a command is and does, and its line, is in the crate `yard`; here is what reads and prints. What was read stands in a
-// buffer, and the contracts speak of it there.
+// The yard's program (document 01, "The yard's program"): its reading and printing. What a command does, and its line, is in the
+// crate `yard`. What was read stands in a buffer, and the contracts speak of it there.
 ghost use mathlib.Core.Path.{_≡_};
 ghost use Prim.Native.Nat.{_≤_};
 ghost use lib.ListN.{length};
 ghost use Rattle.yard.specs.Line.{Fits};
 ghost use Rattle.yard.specs.Commands.{longestOpening, longestCall};
 ghost use Rattle.yard_io.specs.Reading.{room, sizeOf, ReadOn, Command};
-ghost use Rattle.yard_io.specs.Turns.{First, Later, AfterCalls, AfterRun};
+ghost use Rattle.yard_io.specs.Run.{First, Later, AfterCalls, AfterRun};
 use libc::STDIN_FILENO;
 use libc::STDOUT_FILENO;
 use protocol::Record;
 use yard::commands;
 use yard::line::Line;
 
-// Reads on from index `have` until there are `to` bytes or the input ends, and answers how many there are.
+// Reads on from index `have` until there are `to` bytes or the input ends, and answers their number.
 fn read_on(space: &mut [u8], have: usize, to: usize) -> usize
     requires { ⌜ (have ≤ length (now space)) × (to ≤ length (now space)) ⌝ }
     ensures { λ r. ⌜ ReadOn have to r (now (space .entry)) (now (space .exit)) ⌝ }
@@ -35,7 +34,7 @@ fn told_length(first: bool, bytes: &[u8]) -> usize
     commands::call_length(bytes)
 }
 
-// Reads a command, or what the input has of it, and answers how many bytes it has: one byte first, then those that tell its
+// Reads a command, or what the input has of it, and answers the number of its bytes: one byte first, then those that tell its
 // length, then the rest.
 fn read_command(first: bool, space: &mut [u8]) -> usize
     requires { ⌜ room first ≤ length (now space) ⌝ }
@@ -71,61 +70,60 @@ struct Taken {
 }
 
 // Reads the first command, does it, and prints its line.
-fn first_turn(input: &mut [u8]) -> Taken
+fn first_command(input: &mut [u8]) -> Taken
     requires { ⌜ longestOpening ≤ length (now input) ⌝ }
     ensures { λ t. ⌜ First t (now (input .exit)) ⌝ }
 {
     let have = read_command(true, input);
-    let turn = commands::begin(&input[..have]);
-    let line = turn.line;
+    let answer = commands::begin(&input[..have]);
+    let line = answer.line;
     print(line);
-    let unit = turn.unit;
+    let unit = answer.unit;
     Taken {
         have,
-        ends: turn.ends,
+        ends: answer.ends,
         unit,
     }
 }
 
-// Reads a command after the first, does it, and prints its line.
-fn next_turn(unit: Record, keys: &[u8], store: &mut [u8], out: &mut [u8], input: &mut [u8]) -> Taken
+// Reads a later command, does it, and prints its line.
+fn next_command(
+    unit: Record,
+    keys: &[u8],
+    store: &mut [u8],
+    out: &mut [u8],
+    input: &mut [u8],
+) -> Taken
     requires { ⌜ longestCall ≤ length (now input) ⌝ }
     ensures { λ t. ⌜ Later (now (keys .entry)) unit (now (store .entry)) (now (out .entry)) t (now (input .exit)) (now (store .exit)) (now (out .exit)) ⌝ }
 {
     let have = read_command(false, input);
-    let turn = commands::take_turn(unit, keys, store, out, &input[..have]);
-    let line = turn.line;
+    let answer = commands::take_command(unit, keys, store, out, &input[..have]);
+    let line = answer.line;
     print(line);
-    let stepped = turn.unit;
+    let stepped = answer.unit;
     Taken {
         have,
-        ends: turn.ends,
+        ends: answer.ends,
         unit: stepped,
     }
 }
 
-// Room for the longest command after the first.
-fn command_space() -> [u8; 65538]
-    ensures { λ r. ⌜ longestCall ≡ length r ⌝ }
-{
-    [0; 65538]
-}
-
-// The commands after the first, and the record at the end. A proved loop has to end, and nothing says that the input does:
-// the loop counts its turns down from a number that no input uses up, since each turn takes a byte at least.
+// The later commands, and the record at the end. A proved loop has to end, and nothing says that the input does. So the loop
+// counts down from a number that no input uses up: each command takes a byte at least.
 fn run_calls(unit: Record, keys: &[u8], store: &mut [u8], out: &mut [u8]) -> Record
     ensures { λ r. ⌜ AfterCalls (now (keys .entry)) unit (now (store .entry)) (now (out .entry)) r (now (store .exit)) (now (out .exit)) ⌝ }
 {
-    let mut input = command_space();
+    let mut input = yard::space::new_call();
     let mut r = unit;
-    let mut turns = u64::MAX;
-    while 0 < turns {
-        let next = next_turn(r, keys, store, out, &mut input);
+    let mut limit = u64::MAX;
+    while 0 < limit {
+        let next = next_command(r, keys, store, out, &mut input);
         r = next.unit;
         if next.ends {
             return r;
         }
-        turns -= 1;
+        limit -= 1;
     }
     r
 }
@@ -134,8 +132,8 @@ fn run_calls(unit: Record, keys: &[u8], store: &mut [u8], out: &mut [u8]) -> Rec
 pub fn run() -> Record
     ensures { λ r. ⌜ AfterRun r ⌝ }
 {
-    let mut opening = [0u8; 397];
-    let first = first_turn(&mut opening);
+    let mut opening = yard::space::new_opening();
+    let first = first_command(&mut opening);
     let unit = first.unit;
     if first.ends {
         return unit;

@@ -1,6 +1,7 @@
 -- `probes::eight_words` meets its contract.
 use mathlib.Core.Path.{_≡_, refl}
-use Prim.Native.Nat.{_-_, _≤_}
+use mathlib.Core.List.{List}
+use Prim.Native.Nat.{ℕ, _-_, _≤_}
 use native.Mathlib.Omega.{arith}
 use lib.ListN.{length, take, length-set}
 use denote.Ref.{now}
@@ -14,6 +15,9 @@ Inv-loop s w₀ t₀ w t = (t ≤ 8) × (length w ≡ 8) × (take t w ≡ words 
 
 abbrev μ-loop : tie.MeasureT-loop
 μ-loop s w₀ t₀ w t = 8 - t
+
+abbrev bytes : tie.At-loop Inv-loop μ-loop → List ℕ
+bytes c = now (c .before .before .args .s)
 
 loop-holds : tie.Need-loop-holds Inv-loop μ-loop
 unfolding words
@@ -40,15 +44,12 @@ loop-less c = omega arith
 loop-again : tie.Need-loop-again Inv-loop μ-loop
 loop-again c =
     let at-loop = c .before .before in
-    let t = at-loop .loop .t in
-    let s = now (at-loop .before .before .args .s) in
-    (omega arith, simp length-set (at-loop .loop .inv .1), words-next (at-loop .loop .w) s t (c .word-at .result) (at-loop .loop .inv .2) (omega arith) (c .word-at .ensures))
+    (omega arith, simp length-set (at-loop .loop .inv .1), words-next (at-loop .loop .w) (bytes at-loop) (at-loop .loop .t) (c .word-at .result) (at-loop .loop .inv .2) (omega arith) (c .word-at .ensures))
 
 returns : tie.Need-returns Inv-loop μ-loop
 returns c =
     let at-loop = c .before in
-    let s = now (at-loop .before .before .args .s) in
-    filled (at-loop .loop .w) (λ t. words t s) (at-loop .loop .t) 8 (omega arith) (at-loop .loop .inv .1) (at-loop .loop .inv .2)
+    filled (at-loop .loop .w) (λ t. words t (bytes at-loop)) (at-loop .loop .t) 8 (omega arith) (at-loop .loop .inv .1) (at-loop .loop .inv .2)
 
 pub eight-words-spec : {M : Type 1} → statement M
 eight-words-spec =

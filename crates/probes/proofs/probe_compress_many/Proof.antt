@@ -1,24 +1,47 @@
 -- `probes::probe_compress_many` meets its contract.
+use mathlib.Core.List.{List}
+use Prim.Native.Nat.{ℕ}
 use denote.Ref.{now}
 use Rattle.probes.specs.Laws.{compress-short, state-garbled, block-garbled, compress-fits}
 use borrow.Author.Needs.{needs}
 use Rattle.probes.proofs.probe_compress_many.Statement.{statement}
 use Rattle.probes.proofs.probe_compress_many.Tie as tie
 
+-- what the probe is given
+module _ (c : tie.After-slice-known) where
+  abbrev start : tie.Start
+  start = c .before .before .before
+
+  abbrev count : ℕ
+  count = start .args .count
+
+  abbrev state : List ℕ
+  state = now (start .args .state)
+
+  abbrev block : List ℕ
+  block = now (start .args .block)
+
+  abbrev out : List ℕ
+  out = now (start .args .out)
+
+-- after the tests of out and of the state
+abbrev given : tie.Else2 → tie.After-slice-known
+given c = c .before .before
+
 returns : tie.Need-returns
-returns c =
-    let args = c .before .before .before .before .args in
-    compress-short (args .count) (now (args .state)) (now (args .block)) (now (args .out)) (c .if1 .taken)
+returns c = let s = c .before in compress-short (count s) (state s) (block s) (out s) (c .if1 .taken)
 
 returns-2 : tie.Need-returns-2
 returns-2 c =
-    let args = c .before .before .before .before .before .args in
-    state-garbled (args .count) (now (args .state)) (now (args .block)) (now (args .out)) (c .before .if1 .left) (c .if2 .taken)
+    let fits = c .before in
+    let s = fits .before in
+    state-garbled (count s) (state s) (block s) (out s) (fits .if1 .left) (c .if2 .taken)
 
 returns-3 : tie.Need-returns-3
 returns-3 c =
-    let args = c .before .before .before .before .before .before .args in
-    block-garbled (args .count) (now (args .state)) (now (args .block)) (now (args .out)) (c .before .before .if1 .left) (c .before .if2 .left) (c .if3 .taken)
+    let right = c .before in
+    let s = given right in
+    block-garbled (count s) (state s) (block s) (out s) (right .before .if1 .left) (right .if2 .left) (c .if3 .taken)
 
 round-constants-requires : tie.Need-round-constants-requires
 round-constants-requires c κs = search needs
@@ -46,14 +69,17 @@ same-length c = search needs
 
 returns-4 : tie.Need-returns-4
 returns-4 c =
-    let digesting = c .before .before .before .before .before in
-    let turning = digesting .before in
-    let blocks = turning .before .before in
-    let tests = blocks .before .before .before in
-    let args = tests .before .before .before .before .before .before .args in
-    compress-fits (args .count) (now (args .state)) (now (args .block)) (now (args .out)) (blocks .before .eight-words .result) (blocks .block-words .result)
-    (turning .compress-times .result) (digesting .digest .result) (c .before .before .copy .last .0) (tests .before .before .if1 .left) (tests .before .if2 .left) (tests .if3 .left)
-    (blocks .before .eight-words .ensures) (blocks .block-words .ensures) (turning .compress-times .ensures) (digesting .digest .ensures) (c .before .before .copy .ensures)
+    let copied = c .before .before in
+    let digested = copied .before .before .before in
+    let repeated = digested .before in
+    let words = repeated .before .before in
+    let first = words .before in
+    let tested = first .before .before in
+    let right = tested .before in
+    let s = given right in
+    compress-fits (count s) (state s) (block s) (out s) (first .eight-words .result) (words .block-words .result)
+    (repeated .compress-times .result) (digested .digest .result) (copied .copy .last .0) (right .before .if1 .left) (right .if2 .left) (tested .if3 .left)
+    (first .eight-words .ensures) (words .block-words .ensures) (repeated .compress-times .ensures) (digested .digest .ensures) (copied .copy .ensures)
 
 pub probe-compress-many-spec : {M : Type 1} → statement M
 probe-compress-many-spec =

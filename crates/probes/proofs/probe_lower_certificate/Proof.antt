@@ -12,18 +12,24 @@ use Rattle.probes.proofs.probe_lower_certificate.Tie as tie
 lower-certificate-requires : tie.Need-lower-certificate-requires
 lower-certificate-requires c κs = search needs
 
--- what is handed back, by its definition
-abbrev handed : tie.Start → List ℕ
-handed start =
-    let args = start .args in
-    let keys = now (args .keys) in
-    lowerCertificate (checks keys (args .round)) (args .n) (args .round) keys (now (args .first)) (now (args .second))
+module _ (c : tie.After-lower-certificate) where
+  abbrev start : tie.Start
+  start = c .before .before .before .before .before
+
+  abbrev out : List ℕ
+  out = now (start .args .out)
+
+  -- what is handed back, by its definition
+  abbrev handed : List ℕ
+  handed =
+      let args = start .args in
+      let keys = now (args .keys) in
+      lowerCertificate (checks keys (args .round)) (args .n) (args .round) keys (now (args .first)) (now (args .second))
 
 returns : tie.Need-returns
 returns c =
-    let lower = c .before .lower-certificate in
-    let start = c .before .before .before .before .before .before in
-    copy-short (handed start) (now (start .args .out)) (now (lower .result)) (lower .ensures .0) (c .if1 .taken)
+    let lower = c .before in
+    copy-short (handed lower) (out lower) (now (lower .lower-certificate .result)) (lower .lower-certificate .ensures .0) (c .if1 .taken)
 
 copy-requires : tie.Need-copy-requires
 copy-requires c κs = search needs
@@ -33,11 +39,10 @@ same-length c = search needs
 
 returns-2 : tie.Need-returns-2
 returns-2 c =
-    let copied = c .before .before .copy in
-    let tested = c .before .before .before .before in
-    let lower = tested .before .lower-certificate in
-    let start = tested .before .before .before .before .before .before in
-    copy-fits (handed start) (now (start .args .out)) (now (lower .result)) (copied .last .0) (lower .ensures .0) (tested .if1 .left) (copied .ensures)
+    let copied = c .before .before in
+    let fits = copied .before .before in
+    let lower = fits .before in
+    copy-fits (handed lower) (out lower) (now (lower .lower-certificate .result)) (copied .copy .last .0) (lower .lower-certificate .ensures .0) (fits .if1 .left) (copied .copy .ensures)
 
 pub probe-lower-certificate-spec : {M : Type 1} → statement M
 probe-lower-certificate-spec =

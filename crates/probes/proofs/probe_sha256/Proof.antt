@@ -5,9 +5,12 @@ use borrow.Author.Needs.{needs}
 use Rattle.probes.proofs.probe_sha256.Statement.{statement}
 use Rattle.probes.proofs.probe_sha256.Tie as tie
 
+abbrev start : tie.After-slice-known → tie.Start
+start c = c .before .before
+
 returns : tie.Need-returns
 returns c =
-    let args = c .before .before .before .args in
+    let args = start (c .before) .args in
     digest-short (now (args .message)) (now (args .out)) (c .if1 .taken)
 
 round-constants-requires : tie.Need-round-constants-requires
@@ -27,10 +30,11 @@ same-length c = search needs
 
 returns-2 : tie.Need-returns-2
 returns-2 c =
-    let digesting = c .before .before .before .before .before in
-    let tested = digesting .before .before .before in
-    let args = tested .before .before .before .args in
-    digest-fits (now (args .message)) (now (args .out)) (digesting .sha256 .result) (c .before .before .copy .last .0) (tested .if1 .left) (digesting .sha256 .ensures) (c .before .before .copy .ensures)
+    let copied = c .before .before in
+    let hashed = copied .before .before .before in
+    let fits = hashed .before .before .before in
+    let args = start (fits .before) .args in
+    digest-fits (now (args .message)) (now (args .out)) (hashed .sha256 .result) (copied .copy .last .0) (fits .if1 .left) (hashed .sha256 .ensures) (copied .copy .ensures)
 
 pub probe-sha256-spec : {M : Type 1} → statement M
 probe-sha256-spec =

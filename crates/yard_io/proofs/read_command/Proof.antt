@@ -1,5 +1,7 @@
 -- `yard_io::read_command` meets its contract.
 use native.Mathlib.Omega.{arith}
+use mathlib.Core.Path.{_≡_}
+use mathlib.Core.Bool.{Bool}
 use denote.Ref.{now}
 use lib.ListN.{length, length-take}
 use Rattle.yard_io.specs.Reading.{room-some, command-none, command-short, command-whole}
@@ -7,14 +9,32 @@ use borrow.Author.Needs.{needs}
 use Rattle.yard_io.proofs.read_command.Statement.{statement}
 use Rattle.yard_io.proofs.read_command.Tie as tie
 
+-- whether it is the first command; what the reads before a point gave
+abbrev first : tie.After-read-on → Bool
+first c = c .before .before .before .args .first
+
+abbrev one : tie.Else1 → tie.After-read-on
+one c = c .before .before .before
+
+only : (c : tie.Else1) → one c .read-on .result ≡ 1
+only c = omega arith
+
+abbrev begun : tie.After-told-length → tie.Else1
+begun c = c .before .before
+
+abbrev start : tie.After-read-on2 → tie.After-told-length
+start c = c .before .before
+
 read-on-requires : tie.Need-read-on-requires
-read-on-requires c κs = (search needs, room-some (c .before .before .args .first) (length (now (c .before .before .args .space))) (c .before .before .pre))
+read-on-requires c κs =
+    let begin = c .before .before in
+    (search needs, room-some (begin .args .first) (length (now (begin .args .space))) (begin .pre))
 
 same-length : tie.Need-same-length
 same-length c = search needs
 
 returns : tie.Need-returns
-returns c = command-none (c .before .before .before .before .before .before .args .first)
+returns c = command-none (first (c .before .before .before))
 
 slice-reshare-prefix-told-length : tie.Need-slice-reshare-prefix-told-length
 slice-reshare-prefix-told-length c = search needs
@@ -33,10 +53,10 @@ same-length-2 c = search needs
 
 returns-2 : tie.Need-returns-2
 returns-2 c =
-    let again = c .before .before .before in
-    let told = again .before .before in
-    let read = told .before .before .before .before .before in
-    command-short (read .before .before .before .args .first) (omega arith) (told .told-length .ensures .0) (again .read-on2 .ensures) (c .if2 .taken)
+    let more = c .before .before .before in
+    let told = start more in
+    let some = begun told in
+    command-short (first (one some)) (only some) (told .told-length .ensures .0) (more .read-on2 .ensures) (c .if2 .taken)
 
 slice-reshare-prefix-told-length-2 : tie.Need-slice-reshare-prefix-told-length-2
 slice-reshare-prefix-told-length-2 c = search needs
@@ -57,11 +77,12 @@ returns-3 : tie.Need-returns-3
 returns-3 c =
     let last = c .before .before in
     let sized = last .before .before in
-    let again = sized .before .before .before .before .before in
-    let told = again .before .before in
-    let read = told .before .before .before .before .before in
-    command-whole (read .before .before .before .args .first) (omega arith) (told .told-length .ensures .0) (again .read-on2 .ensures)
-    (sized .before .before .if2 .left) (sized .told-length2 .ensures .0) (last .read-on3 .ensures)
+    let whole = sized .before .before in
+    let more = whole .before .before .before in
+    let told = start more in
+    let some = begun told in
+    command-whole (first (one some)) (only some) (told .told-length .ensures .0) (more .read-on2 .ensures)
+    (whole .if2 .left) (sized .told-length2 .ensures .0) (last .read-on3 .ensures)
 
 pub read-command-spec : {M : Type 1} → statement M
 read-command-spec =

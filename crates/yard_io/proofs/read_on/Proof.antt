@@ -34,7 +34,7 @@ returns-2 c =
       more = search needs;
       most = search needs;
       there = search needs;
-      kept = take-put (args .have) (args .to - args .have) (now (args .space)) (c .before .before .read-full .last .1 .0) (search needs);
+      stays = take-put (args .have) (args .to - args .have) (now (args .space)) (c .before .before .read-full .last .1 .0) (search needs);
     }
 
 pub read-on-spec : {M : Type 1} → statement M

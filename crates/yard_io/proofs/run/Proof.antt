@@ -1,19 +1,25 @@
 -- `yard_io::run` meets its contract.
 use native.Mathlib.Omega.{arith}
 use lib.ListN.{length-take}
-use Rattle.yard_io.specs.Turns.{first-stops, first-goes}
+use Rattle.yard_io.specs.Run.{first-stops, first-goes}
 use borrow.Author.Needs.{needs}
 use Rattle.yard_io.proofs.run.Statement.{statement}
 use Rattle.yard_io.proofs.run.Tie as tie
 
-slice-aggregate-first-turn : tie.Need-slice-aggregate-first-turn
-slice-aggregate-first-turn c = search needs
+abbrev first : tie.After-unit → tie.After-first-command
+first c = c .before .before
 
-first-turn-requires : tie.Need-first-turn-requires
-first-turn-requires c κs = search needs
+new-opening-requires : tie.Need-new-opening-requires
+new-opening-requires c κs = search needs
+
+slice-aggregate-first-command : tie.Need-slice-aggregate-first-command
+slice-aggregate-first-command c = search needs
+
+first-command-requires : tie.Need-first-command-requires
+first-command-requires c κs = search needs
 
 returns : tie.Need-returns
-returns c = first-stops (c .before .before .before .first-turn .ensures) (c .if1 .taken)
+returns c = first-stops (first (c .before) .first-command .ensures) (c .if1 .taken)
 
 new-store-requires : tie.Need-new-store-requires
 new-store-requires c κs = search needs
@@ -43,17 +49,18 @@ returns-2 : tie.Need-returns-2
 returns-2 c =
     let called = c .before .before in
     let keyed = called .before .before .before in
-    let lent = keyed .before .before in
-    let tested = lent .before .before in
-    let read = tested .before .before .before in
-    first-goes (read .first-turn .ensures) (tested .if1 .left) (keyed .keys-of .ensures) (lent .before .new-store .ensures .0) (lent .new-out .ensures .0) (called .run-calls .ensures)
+    let out = keyed .before .before in
+    let store = out .before in
+    let goes = store .before in
+    first-goes (first (goes .before) .first-command .ensures) (goes .if1 .left) (keyed .keys-of .ensures) (store .new-store .ensures) (out .new-out .ensures) (called .run-calls .ensures)
 
 pub run-spec : {M : Type 1} → statement M
 run-spec =
     tie.close
     (tie.spec
-    slice-aggregate-first-turn
-    first-turn-requires
+    new-opening-requires
+    slice-aggregate-first-command
+    first-command-requires
     returns
     new-store-requires
     new-out-requires

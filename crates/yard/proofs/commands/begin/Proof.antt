@@ -1,7 +1,7 @@
 -- `yard::commands::begin` meets its contract.
 use denote.Ref.{now}
 use borrow.Author.Needs.{needs}
-use Rattle.yard.specs.TurnLaws.{begun-told}
+use Rattle.yard.specs.CommandLaws.{begun-told}
 use Rattle.yard.proofs.commands.begin.Statement.{statement}
 use Rattle.yard.proofs.commands.begin.Tie as tie
 
@@ -15,7 +15,8 @@ returns : tie.Need-returns
 returns c =
     let lined = c .before .before in
     let opened = lined .before in
-    (begun-told (now (opened .before .before .args .bytes)) (opened .«open» .result) (lined .line-for .result) (opened .«open» .ensures) (lined .line-for .ensures .0), lined .line-for .ensures .1)
+    let start = opened .before .before in
+    (begun-told (now (start .args .bytes)) (opened .«open» .result) (lined .line-for .result) (opened .«open» .ensures) (lined .line-for .ensures .0), lined .line-for .ensures .1)
 
 pub begin-spec : {M : Type 1} → statement M
 begin-spec = tie.close (tie.spec open-requires line-for-requires returns)

@@ -15,7 +15,9 @@ returns : tie.Need-returns
 returns c = search needs
 
 returns-2 : tie.Need-returns-2
-returns-2 c = (past-end (now (c .before .before .args .bytes)) (c .before .before .args .i) (search needs), search needs)
+returns-2 c =
+    let args = c .before .before .args in
+    (past-end (now (args .bytes)) (args .i) (search needs), search needs)
 
 pub byte-at-spec : {M : Type 1} → statement M
 byte-at-spec = tie.close (tie.spec shared-slice-read-wide wide-requires returns returns-2)

@@ -9,7 +9,7 @@ line-of-requires c κs = search needs
 
 returns : tie.Need-returns
 unfolding toldCall
-returns c = (rw (c .before .line-of .ensures .0), c .before .line-of .ensures .1)
+returns c = let told = c .before .line-of .ensures in (rw (told .0), told .1)
 
 pub goes-on-spec : {M : Type 1} → statement M
 goes-on-spec = tie.close (tie.spec line-of-requires returns)

@@ -1,15 +1,20 @@
 -- `yard::commands::keys_of` meets its contract.
+use Prim.Native.Nat.{ℕ}
+use mathlib.Core.List.{List}
 use denote.Ref.{now}
 use Rattle.yard.specs.CommandLaws.{keys-none, keys-rest}
 use borrow.Author.Needs.{needs}
 use Rattle.yard.proofs.commands.keys_of.Statement.{statement}
 use Rattle.yard.proofs.commands.keys_of.Tie as tie
 
+abbrev bytes : tie.Start → List ℕ
+bytes s = now (s .args .bytes)
+
 slice-aggregate-result : tie.Need-slice-aggregate-result
 slice-aggregate-result c = search needs
 
 returns : tie.Need-returns
-returns c = keys-none (now (c .before .before .args .bytes)) (search needs)
+returns c = keys-none (bytes (c .before .before)) (search needs)
 
 sub-result : tie.Need-sub-result
 sub-result c = search needs
@@ -21,7 +26,7 @@ part-result-end : tie.Need-part-result-end
 part-result-end c = search needs
 
 returns-2 : tie.Need-returns-2
-returns-2 c = keys-rest (now (c .before .before .args .bytes))
+returns-2 c = keys-rest (bytes (c .before .before))
 
 pub keys-of-spec : {M : Type 1} → statement M
 keys-of-spec =

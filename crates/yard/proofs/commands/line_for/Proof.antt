@@ -1,25 +1,30 @@
 -- `yard::commands::line_for` meets its contract.
 use denote.Ref.{now}
 use borrow.Author.Needs.{needs}
-use Rattle.yard.specs.TurnLaws.{line-none, line-some}
+use Rattle.yard.specs.CommandLaws.{line-none, line-some}
 use Rattle.yard.proofs.commands.line_for.Statement.{statement}
 use Rattle.yard.proofs.commands.line_for.Tie as tie
+
+abbrev start : tie.After-shared-slice-known → tie.Start
+start c = c .before
 
 no-line-requires : tie.Need-no-line-requires
 no-line-requires c κs = search needs
 
 returns : tie.Need-returns
 returns c =
-    let args = c .before .before .before .args in
-    (line-none (now (args .bytes)) (args .number) (args .written) (c .no-line .result) (c .before .if1 .taken) (c .no-line .ensures .0), c .no-line .ensures .1)
+    let empty = c .before in
+    let s = start (empty .before) in
+    (line-none (now (s .args .bytes)) (s .args .number) (s .args .written) (c .no-line .result) (empty .if1 .taken) (c .no-line .ensures .0), c .no-line .ensures .1)
 
 line-of-requires : tie.Need-line-of-requires
 line-of-requires c κs = search needs
 
 returns-2 : tie.Need-returns-2
 returns-2 c =
-    let args = c .before .before .before .args in
-    (line-some (now (args .bytes)) (args .number) (args .written) (c .line-of .result) (c .before .if1 .left) (c .line-of .ensures .0), c .line-of .ensures .1)
+    let some = c .before in
+    let s = start (some .before) in
+    (line-some (now (s .args .bytes)) (s .args .number) (s .args .written) (c .line-of .result) (some .if1 .left) (c .line-of .ensures .0), c .line-of .ensures .1)
 
 pub line-for-spec : {M : Type 1} → statement M
 line-for-spec = tie.close (tie.spec no-line-requires returns line-of-requires returns-2)

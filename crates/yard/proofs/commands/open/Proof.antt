@@ -1,9 +1,24 @@
 -- `yard::commands::open` meets its contract.
+use mathlib.Core.Path.{_≡_, sym, _∙_}
+use mathlib.Core.Bool.{false}
+use mathlib.Core.List.{List}
+use Prim.Native.Nat.{ℕ}
 use denote.Ref.{now}
+use Rattle.yard.specs.Commands.{misframedOpening}
 use Rattle.yard.specs.CommandLaws.{open-misframed, open-many, open-few}
 use borrow.Author.Needs.{needs}
 use Rattle.yard.proofs.commands.open.Statement.{statement}
 use Rattle.yard.proofs.commands.open.Tie as tie
+
+abbrev bytes : tie.After-is-misframed-opening → List ℕ
+bytes framed = now (framed .before .before .args .bytes)
+
+-- a whole opening, and its number of seats
+whole : (c : tie.Else1) → misframedOpening (bytes (c .before)) ≡ false
+whole c = sym (c .before .is-misframed-opening .ensures) ∙ c .if1 .left
+
+abbrev started : tie.After-byte-at → List ℕ
+started c = bytes (c .before .before)
 
 is-misframed-opening-requires : tie.Need-is-misframed-opening-requires
 is-misframed-opening-requires c κs = search needs
@@ -13,20 +28,24 @@ refused-opening-requires c κs = search needs
 
 returns : tie.Need-returns
 returns c =
-    let framed = c .before .before in
-    open-misframed (now (framed .before .before .args .bytes)) (c .refused-opening .result) (rw (← framed .is-misframed-opening .ensures) (c .before .if1 .taken)) (c .refused-opening .ensures)
+    let misframed = c .before in
+    let framed = misframed .before in
+    open-misframed (bytes framed) (c .refused-opening .result) (sym (framed .is-misframed-opening .ensures) ∙ misframed .if1 .taken) (c .refused-opening .ensures)
 
 byte-at-requires : tie.Need-byte-at-requires
 byte-at-requires c κs = search needs
+
+cast-if2 : tie.Need-cast-if2
+cast-if2 c = search needs
 
 refused-opening-requires-2 : tie.Need-refused-opening-requires-2
 refused-opening-requires-2 c κs = search needs
 
 returns-2 : tie.Need-returns-2
 returns-2 c =
-    let read = c .before .before in
-    let framed = read .before .before in
-    open-many (now (framed .before .before .args .bytes)) (c .refused-opening2 .result) (rw (← framed .is-misframed-opening .ensures) (read .before .if1 .left)) (read .byte-at .result) (read .byte-at .ensures .0) (c .before .if2 .taken) (c .refused-opening2 .ensures)
+    let many = c .before in
+    let seats = many .before in
+    open-many (started seats) (c .refused-opening2 .result) (whole (seats .before)) (seats .byte-at .result) (seats .byte-at .ensures .0) (many .if2 .taken) (c .refused-opening2 .ensures)
 
 byte-at-requires-2 : tie.Need-byte-at-requires-2
 byte-at-requires-2 c κs = search needs
@@ -42,11 +61,13 @@ open-requires c κs = search needs
 
 returns-3 : tie.Need-returns-3
 returns-3 c =
-    let seated = c .before .before .before in
-    let read = seated .before .before in
-    let framed = read .before .before in
-    open-few (now (framed .before .before .args .bytes)) (c .«open» .result) (rw (← framed .is-misframed-opening .ensures) (read .before .if1 .left)) (read .byte-at .result) (read .byte-at .ensures .0) (seated .before .if2 .left)
-    (seated .byte-at2 .result) (c .before .before .two-at .result) _ (seated .byte-at2 .ensures .0) (c .before .before .two-at .ensures .0) (c .before .keys-of .ensures) (c .«open» .ensures)
+    let keyed = c .before in
+    let timed = keyed .before in
+    let seated = timed .before in
+    let few = seated .before in
+    let seats = few .before in
+    open-few (started seats) (c .«open» .result) (whole (seats .before)) (seats .byte-at .result) (seats .byte-at .ensures .0) (few .if2 .left)
+    (seated .byte-at2 .result) (timed .two-at .result) _ (seated .byte-at2 .ensures .0) (timed .two-at .ensures .0) (keyed .keys-of .ensures) (c .«open» .ensures)
 
 pub open-spec : {M : Type 1} → statement M
 open-spec =
@@ -56,6 +77,7 @@ open-spec =
     refused-opening-requires
     returns
     byte-at-requires
+    cast-if2
     refused-opening-requires-2
     returns-2
     byte-at-requires-2

@@ -11,7 +11,9 @@ open-requires : tie.Need-open-requires
 open-requires c κs = search needs
 
 returns : tie.Need-returns
-returns c = opening-none _ (c .before .«open» .result) (c .before .before .before .args .number) (c .before .«open» .ensures)
+returns c =
+    let opened = c .before in
+    opening-none _ (opened .«open» .result) (opened .before .before .args .number) (opened .«open» .ensures)
 
 pub refused-opening-spec : {M : Type 1} → statement M
 refused-opening-spec = tie.close (tie.spec slice-aggregate-open open-requires returns)

@@ -2,151 +2,114 @@
 use denote.Ref.{now}
 use native.Mathlib.Omega.{arith}
 use borrow.Author.Needs.{needs}
+use mathlib.Core.List.{List}
 use Rattle.yard.specs.LineLaws.{one-digit, wrote-one, front-fits, last-fits, wrote-last}
 use Prim.Native.Nat.{ℕ, _<_}
 use borrow.Fn.Kinds.{In}
 use borrow.Fn.PlainCycle.{Measures, is, falls, and}
 use Rattle.yard.proofs.line.put_decimal.Reads as put-decimal
 use Rattle.yard.proofs.line.put_decimal.Kinds as put-decimal-kinds
-use Rattle.yard.proofs.line.+put_decimal.Lts-put_decimal as put-decimal-lts
+use Rattle.yard.proofs.line.+put_decimal.Lts-put_decimal as lts
 use Rattle.yard.proofs.line.put_byte.Reads as put-byte-reads
 use Rattle.yard.proofs.line.+put_decimal.{statement}
 use Rattle.yard.proofs.line.+put_decimal.Tie.{close}
 
-abbrev μ-put-decimal : Measures 1 put-decimal-kinds.ps ℕ
-μ-put-decimal κs a = a .1 .1 .0
+abbrev μ : Measures 1 put-decimal-kinds.ps ℕ
+μ κs a = a .1 .1 .0
 
-abbrev put-decimal-at : ℕ → In 1 put-decimal-kinds.ps
-put-decimal-at t =
-    and 1 put-decimal-kinds.ps (is 1 put-decimal-kinds.ps μ-put-decimal t) put-decimal.Pre
+module _ (t : ℕ) where
+  -- at a number t, with what is known of the calls: of its own, for a number below t
+  abbrev Pre : In 1 put-decimal-kinds.ps
+  Pre = and 1 put-decimal-kinds.ps (is 1 put-decimal-kinds.ps μ t) put-decimal.Pre
 
-abbrev put-decimal-below : ℕ → In 1 put-decimal-kinds.ps
-put-decimal-below t =
-    and 1 put-decimal-kinds.ps (falls 1 put-decimal-kinds.ps _<_ μ-put-decimal t) put-decimal.Pre
+  abbrev calls : lts.Claims
+  calls = (
+    put-byte-reads.Asked,
+    put-byte-reads.Learnt,
+    and 1 put-decimal-kinds.ps (falls 1 put-decimal-kinds.ps _<_ μ t) put-decimal.Pre,
+    put-decimal.Post,
+  )
 
-put-decimal-add-put-byte : (t : ℕ) → put-decimal-lts.Need-add-put-byte (
-  put-byte-reads.Asked,
-  put-byte-reads.Learnt,
-  put-decimal-below t,
-  put-decimal.Post,
-) (put-decimal-at t) put-decimal.Post
-put-decimal-add-put-byte t c = omega arith
+  abbrev Start : Type 0
+  Start = lts.Start calls Pre put-decimal.Post
 
-put-decimal-cast-put-byte : (t : ℕ) → put-decimal-lts.Need-cast-put-byte (
-  put-byte-reads.Asked,
-  put-byte-reads.Learnt,
-  put-decimal-below t,
-  put-decimal.Post,
-) (put-decimal-at t) put-decimal.Post
-put-decimal-cast-put-byte t c = omega arith
+  abbrev out : Start → List ℕ
+  out s = now (s .args .out)
 
-put-decimal-put-byte-requires : (t : ℕ) → put-decimal-lts.Need-put-byte-requires (
-  put-byte-reads.Asked,
-  put-byte-reads.Learnt,
-  put-decimal-below t,
-  put-decimal.Post,
-) (put-decimal-at t) put-decimal.Post
-put-decimal-put-byte-requires t c κs =
-    let args = c .before .before .before .args in
-    one-digit (now (args .out)) (args .at) (args .x) (c .before .before .before .pre .1) (c .before .if1 .taken)
+  -- one digit, or more
+  abbrev few : lts.Then1 calls Pre put-decimal.Post → Start
+  few c = c .before .before
 
-put-decimal-same-length : (t : ℕ) → put-decimal-lts.Need-same-length (
-  put-byte-reads.Asked,
-  put-byte-reads.Learnt,
-  put-decimal-below t,
-  put-decimal.Post,
-) (put-decimal-at t) put-decimal.Post
-put-decimal-same-length t c = search needs
+  abbrev many : lts.Else1 calls Pre put-decimal.Post → Start
+  many c = c .before .before
 
-put-decimal-returns : (t : ℕ) → put-decimal-lts.Need-returns (
-  put-byte-reads.Asked,
-  put-byte-reads.Learnt,
-  put-decimal-below t,
-  put-decimal.Post,
-) (put-decimal-at t) put-decimal.Post
-put-decimal-returns t c =
-    let put = c .before .before in
-    let tested = put .before .before in
-    let args = tested .before .before .args in
-    wrote-one (now (args .out)) (args .at) (args .x) (tested .before .before .pre .1) (put .put-byte .last .0) (put .put-byte .result) (tested .if1 .taken) (put .put-byte .ensures .0) (put .put-byte .ensures .1)
+  -- more than one, where all but the last are written
+  abbrev tested : lts.After-put-decimal calls Pre put-decimal.Post → lts.Else1 calls Pre put-decimal.Post
+  tested c = c .before .before
 
-put-decimal-put-decimal-requires : (t : ℕ) → put-decimal-lts.Need-put-decimal-requires (
-  put-byte-reads.Asked,
-  put-byte-reads.Learnt,
-  put-decimal-below t,
-  put-decimal.Post,
-) (put-decimal-at t) put-decimal.Post
-put-decimal-put-decimal-requires t c κs =
-    let args = c .before .before .before .args in
-    (omega (arith, c .before .before .before .pre .0), front-fits (now (args .out)) (args .at) (args .x) (c .before .before .before .pre .1) (c .before .if1 .left))
+  add-put-byte : lts.Need-add-put-byte calls Pre put-decimal.Post
+  add-put-byte c = omega arith
 
-put-decimal-add-put-byte-2 : (t : ℕ) → put-decimal-lts.Need-add-put-byte-2 (
-  put-byte-reads.Asked,
-  put-byte-reads.Learnt,
-  put-decimal-below t,
-  put-decimal.Post,
-) (put-decimal-at t) put-decimal.Post
-put-decimal-add-put-byte-2 t c = omega arith
+  cast-put-byte : lts.Need-cast-put-byte calls Pre put-decimal.Post
+  cast-put-byte c = omega arith
 
-put-decimal-cast-put-byte-2 : (t : ℕ) → put-decimal-lts.Need-cast-put-byte-2 (
-  put-byte-reads.Asked,
-  put-byte-reads.Learnt,
-  put-decimal-below t,
-  put-decimal.Post,
-) (put-decimal-at t) put-decimal.Post
-put-decimal-cast-put-byte-2 t c = omega arith
+  put-byte-requires : lts.Need-put-byte-requires calls Pre put-decimal.Post
+  put-byte-requires c κs =
+      let s = few (c .before) in
+      one-digit (out s) (s .args .at) (s .args .x) (s .pre .1) (c .before .if1 .taken)
 
-put-decimal-put-byte-requires-2 : (t : ℕ) → put-decimal-lts.Need-put-byte-requires-2 (
-  put-byte-reads.Asked,
-  put-byte-reads.Learnt,
-  put-decimal-below t,
-  put-decimal.Post,
-) (put-decimal-at t) put-decimal.Post
-put-decimal-put-byte-requires-2 t c κs =
-    let front = c .before .before .before in
-    let start = front .before .before .before .before in
-    let args = start .args in
-    last-fits (now (args .out)) (args .at) (args .x) (start .pre .1) (front .before .before .if1 .left) (front .put-decimal .last .0) (front .put-decimal .result) (front .put-decimal .ensures .0) (front .put-decimal .ensures .1)
+  same-length : lts.Need-same-length calls Pre put-decimal.Post
+  same-length c = search needs
 
-put-decimal-same-length-2 : (t : ℕ) → put-decimal-lts.Need-same-length-2 (
-  put-byte-reads.Asked,
-  put-byte-reads.Learnt,
-  put-decimal-below t,
-  put-decimal.Post,
-) (put-decimal-at t) put-decimal.Post
-put-decimal-same-length-2 t c = search needs
+  returns : lts.Need-returns calls Pre put-decimal.Post
+  returns c =
+      let put = c .before .before in
+      let one = put .before .before in
+      let s = few one in
+      wrote-one (out s) (s .args .at) (s .args .x) (s .pre .1) (put .put-byte .last .0) (put .put-byte .result) (one .if1 .taken) (put .put-byte .ensures .0) (put .put-byte .ensures .1)
 
-put-decimal-returns-2 : (t : ℕ) → put-decimal-lts.Need-returns-2 (
-  put-byte-reads.Asked,
-  put-byte-reads.Learnt,
-  put-decimal-below t,
-  put-decimal.Post,
-) (put-decimal-at t) put-decimal.Post
-put-decimal-returns-2 t c =
-    let put = c .before .before in
-    let front = put .before .before .before .before in
-    let start = front .before .before .before .before in
-    let args = start .args in
-    wrote-last (now (args .out)) (args .at) (args .x) (start .pre .1) (front .before .before .if1 .left) (front .put-decimal .last .0) (front .put-decimal .result) (front .put-decimal .ensures .0) (front .put-decimal .ensures .1)
-    (put .put-byte2 .last .0) (put .put-byte2 .result) (put .put-byte2 .ensures .0) (put .put-byte2 .ensures .1)
+  put-decimal-requires : lts.Need-put-decimal-requires calls Pre put-decimal.Post
+  put-decimal-requires c κs =
+      let s = many (c .before) in
+      (omega (arith, s .pre .0), front-fits (out s) (s .args .at) (s .args .x) (s .pre .1) (c .before .if1 .left))
+
+  add-put-byte-2 : lts.Need-add-put-byte-2 calls Pre put-decimal.Post
+  add-put-byte-2 c = omega arith
+
+  cast-put-byte-2 : lts.Need-cast-put-byte-2 calls Pre put-decimal.Post
+  cast-put-byte-2 c = omega arith
+
+  put-byte-requires-2 : lts.Need-put-byte-requires-2 calls Pre put-decimal.Post
+  put-byte-requires-2 c κs =
+      let front = c .before .before .before in
+      let more = tested front in
+      let s = many more in
+      last-fits (out s) (s .args .at) (s .args .x) (s .pre .1) (more .if1 .left) (front .put-decimal .last .0) (front .put-decimal .result) (front .put-decimal .ensures .0) (front .put-decimal .ensures .1)
+
+  same-length-2 : lts.Need-same-length-2 calls Pre put-decimal.Post
+  same-length-2 c = search needs
+
+  returns-2 : lts.Need-returns-2 calls Pre put-decimal.Post
+  returns-2 c =
+      let put = c .before .before in
+      let front = put .before .before .before .before in
+      let more = tested front in
+      let s = many more in
+      wrote-last (out s) (s .args .at) (s .args .x) (s .pre .1) (more .if1 .left) (front .put-decimal .last .0) (front .put-decimal .result) (front .put-decimal .ensures .0) (front .put-decimal .ensures .1)
+      (put .put-byte2 .last .0) (put .put-byte2 .result) (put .put-byte2 .ensures .0) (put .put-byte2 .ensures .1)
 
 pub +put-decimal-spec : {M : Type 1} → statement M
-+put-decimal-spec = close μ-put-decimal λ t. put-decimal-lts.spec (
-  put-byte-reads.Asked,
-  put-byte-reads.Learnt,
-  put-decimal-below t,
-  put-decimal.Post,
-)
-    (put-decimal-at t)
++put-decimal-spec = close μ λ t. lts.spec (calls t)
+    (Pre t)
     put-decimal.Post
-    (put-decimal-add-put-byte t)
-    (put-decimal-cast-put-byte t)
-    (put-decimal-put-byte-requires t)
-    (put-decimal-same-length t)
-    (put-decimal-returns t)
-    (put-decimal-put-decimal-requires t)
-    (put-decimal-add-put-byte-2 t)
-    (put-decimal-cast-put-byte-2 t)
-    (put-decimal-put-byte-requires-2 t)
-    (put-decimal-same-length-2 t)
-    (put-decimal-returns-2 t)
+    (add-put-byte t)
+    (cast-put-byte t)
+    (put-byte-requires t)
+    (same-length t)
+    (returns t)
+    (put-decimal-requires t)
+    (add-put-byte-2 t)
+    (cast-put-byte-2 t)
+    (put-byte-requires-2 t)
+    (same-length-2 t)
+    (returns-2 t)

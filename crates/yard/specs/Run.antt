@@ -1,33 +1,31 @@
--- The program's course, turn by turn: what it has read, printed and kept. Its lines are those that `yard` gives for what it has
--- read.
+-- A run of the program, command by command: what it has read and printed, with record and buffers. Its lines are those that
+-- `yard` gives for what it has read.
 -- Assumes nothing.
 use mathlib.Core.Path.{_≡_, refl, sym, ap, _∙_}
 use mathlib.Core.Bool.{Bool, true, false, not, cond}
 use mathlib.Core.List.{List, [], _∷_, _++_, append-assoc, append-nil}
 use Prim.Native.Nat.{ℕ, suc, _≤_}
 use native.Mathlib.Omega.{arith}
-use lib.Dec.{ltb, eqb}
+use lib.Dec.{eqb}
 use lib.ListN.{length, take, drop, length-append, length-take}
 use lib.Seq.{take-append-le, take-append-seam, drop-append-seam}
-use borrow.Author.Tests.{ltb-false}
 use Rattle.protocol.specs.Refusals.{Checks}
 use Rattle.protocol.specs.Calls.{outAfter}
 use Rattle.protocol.specs.declared.Record.{Record}
 use Rattle.protocol.specs.declared.Opened.{Opened}
-use Rattle.steps.specs.Records.{or-false}
-use Rattle.yard.specs.Commands.{Outcome, isOpening, keysOf, openingLength, misframedOpening, refusedOpening, opened, yardOut, begun, callLength, misframedCall, endedBy, turn}
+use Rattle.yard.specs.Commands.{Outcome, keysOf, openingLength, misframedOpening, refusedOpening, opened, yardOut, begun, callLength, misframedCall, endedBy, called}
 use Rattle.yard.specs.Yard.{printed, yard}
-use Rattle.yard.specs.TurnLaws.{call-whole}
-use Rattle.yard.specs.Program.{gathered, Tells, call-tells, opening-tells, gathered-whole, turn-out, ran-printed}
+use Rattle.yard.specs.CommandLaws.{framed-opening, framed-call}
+use Rattle.yard.specs.Program.{gathered, Tells, call-tells, opening-tells, gathered-whole, called-out, ran-printed}
 
--- Commands after the first, one after another: their bytes, their lines, whether the last one ends the program, and the record,
--- store and out after it, from those at first. None follows one that ends.
+-- Later commands, one after another, from a first record, store and out: their bytes, their lines, whether the last one ends the
+-- program, and record, store and out after it. None follows one that ends.
 pub data Reached (checks : List ℕ → ℕ → Checks) (keys : List ℕ) (r₀ : Record) (store₀ out₀ : List ℕ) : List ℕ → List ℕ → Bool → Record → List ℕ → List ℕ → Type 0 where
   begins : Reached checks keys r₀ store₀ out₀ [] [] false r₀ store₀ out₀
   follows : {input lines : List ℕ} {r : Record} {store out : List ℕ} → Reached checks keys r₀ store₀ out₀ input lines false r store out
       → length out ≡ length out₀ → (bytes : List ℕ) → gathered callLength bytes ≡ bytes
-      → Reached checks keys r₀ store₀ out₀ (input ++ bytes) (lines ++ turn checks keys r store out bytes .line) (turn checks keys r store out bytes .ends)
-      (turn checks keys r store out bytes .unit) (turn checks keys r store out bytes .store) (outAfter (turn checks keys r store out bytes .written) out)
+      → Reached checks keys r₀ store₀ out₀ (input ++ bytes) (lines ++ called checks keys r store out bytes .line) (called checks keys r store out bytes .ends)
+      (called checks keys r store out bytes .unit) (called checks keys r store out bytes .store) (outAfter (called checks keys r store out bytes .written) out)
 
 -- The whole program: its input, its lines, whether it came to an end, and the last record. It ends with the opening, or goes on
 -- from there.
@@ -59,19 +57,17 @@ module _ (size : List ℕ → ℕ) (t : Tells size) where
   dropped-rest bytes rest e = rw (size-rest bytes rest e) (drop-append-seam bytes rest)
 
 whole-call : (checks : List ℕ → ℕ → Checks) (keys : List ℕ) (r : Record) (store out bytes : List ℕ) → gathered callLength bytes ≡ bytes
-    → turn checks keys r store out bytes .ends ≡ false → length bytes ≡ callLength bytes
-unfolding turn
-whole-call checks keys r store out bytes g h = size-own callLength call-tells bytes g (call-whole bytes (framed (misframedCall bytes) _ h))
+    → called checks keys r store out bytes .ends ≡ false → length bytes ≡ callLength bytes
+unfolding called
+whole-call checks keys r store out bytes g h = size-own callLength call-tells bytes g (framed-call bytes (framed (misframedCall bytes) _ h))
   where
     framed : (b : Bool) (o : Outcome) → cond b (endedBy r store bytes) o .ends ≡ false → b ≡ false
     framed true o e = e
     framed false o e = refl
 
 whole-opening : (bytes : List ℕ) → gathered openingLength bytes ≡ bytes → begun bytes .ends ≡ false → length bytes ≡ openingLength bytes
-unfolding begun opened misframedOpening
-whole-opening bytes g h =
-    size-own openingLength opening-tells bytes g
-    (ltb-false (length bytes) (openingLength bytes) (or-false (ltb (length bytes) (openingLength bytes)) (not (isOpening bytes)) (framed _ _ h) .0))
+unfolding begun opened
+whole-opening bytes g h = size-own openingLength opening-tells bytes g (framed-opening bytes (framed (misframedOpening bytes) _ h))
   where
     framed : (b : Bool) (o : Opened) → not (eqb (cond b (refusedOpening 9) o .number) 0) ≡ false → b ≡ false
     framed true o e = e
@@ -86,29 +82,31 @@ module _ (checks : List ℕ → ℕ → Checks) where
       sym (ran-printed checks (λ i. yardOut) (λ i. refl) m m keys r store input h h) ∙ ran-printed checks (λ i. yardOut) (λ i. refl) m n keys r store input h l
 
   module _ (keys : List ℕ) (r : Record) (store out bytes : List ℕ) (long : length out ≡ length yardOut) where
-    printed-turn : (n : ℕ) (input rest : List ℕ) → take (callLength input) input ≡ bytes → drop (callLength input) input ≡ rest
+    abbrev o : Outcome
+    o = called checks keys r store out bytes
+
+    printed-call : (n : ℕ) (input rest : List ℕ) → take (callLength input) input ≡ bytes → drop (callLength input) input ≡ rest
         → printed checks (suc n) keys r store input
-        ≡ turn checks keys r store out bytes .line
-        ++ cond (turn checks keys r store out bytes .ends) [] (printed checks n keys (turn checks keys r store out bytes .unit) (turn checks keys r store out bytes .store) rest)
+        ≡ o .line ++ cond (o .ends) [] (printed checks n keys (o .unit) (o .store) rest)
     unfolding printed
-    printed-turn n input rest t d = rw (t, d, turn-out checks keys r store out yardOut bytes long)
+    printed-call n input rest t d = rw (t, d, called-out checks keys r store out yardOut bytes long)
 
     module _ (g : gathered callLength bytes ≡ bytes) where
-      printed-on : turn checks keys r store out bytes .ends ≡ false → (rest : List ℕ)
+      printed-on : o .ends ≡ false → (rest : List ℕ)
           → printed checks (length (bytes ++ rest)) keys r store (bytes ++ rest)
-          ≡ turn checks keys r store out bytes .line ++ printed checks (length rest) keys (turn checks keys r store out bytes .unit) (turn checks keys r store out bytes .store) rest
+          ≡ o .line ++ printed checks (length rest) keys (o .unit) (o .store) rest
       printed-on h rest =
           let whole = whole-call checks keys r store out bytes g h in
           let size = length (bytes ++ rest) in
           let enough : length rest ≤ size = rw length-append (omega arith) in
           printed-enough size (suc size) keys r store (bytes ++ rest) (omega arith) (omega arith)
-          ∙ printed-turn size (bytes ++ rest) rest (taken-rest callLength call-tells bytes rest whole) (dropped-rest callLength call-tells bytes rest whole)
-          ∙ rw (h, printed-enough size (length rest) keys (turn checks keys r store out bytes .unit) (turn checks keys r store out bytes .store) rest enough (omega arith))
+          ∙ printed-call size (bytes ++ rest) rest (taken-rest callLength call-tells bytes rest whole) (dropped-rest callLength call-tells bytes rest whole)
+          ∙ rw (h, printed-enough size (length rest) keys (o .unit) (o .store) rest enough (omega arith))
 
-      printed-last : turn checks keys r store out bytes .ends ≡ true → printed checks (length bytes) keys r store bytes ≡ turn checks keys r store out bytes .line
+      printed-last : o .ends ≡ true → printed checks (length bytes) keys r store bytes ≡ o .line
       printed-last h =
           printed-enough (length bytes) (suc (length bytes)) keys r store bytes (omega arith) (omega arith)
-          ∙ printed-turn (length bytes) bytes _ (taken-own callLength call-tells bytes g) refl
+          ∙ printed-call (length bytes) bytes _ (taken-own callLength call-tells bytes g) refl
           ∙ rw (h, append-nil)
 
   module _ (keys : List ℕ) (r₀ : Record) (store₀ out₀ : List ℕ) (long : length out₀ ≡ length yardOut) where
@@ -117,7 +115,7 @@ module _ (checks : List ℕ → ℕ → Checks) where
     reached-prints begins h rest = refl
     reached-prints (follows {input = input} {lines = lines} {r = r} {store = store} {out = out} before l bytes g) h rest =
         rw (append-assoc input bytes rest, reached-prints before refl (bytes ++ rest), printed-on keys r store out bytes (l ∙ long) g h rest)
-        (sym (append-assoc lines (turn checks keys r store out bytes .line) _))
+        (sym (append-assoc lines (called checks keys r store out bytes .line) _))
 
     ended-prints : {input lines : List ℕ} {e : Bool} {r : Record} {store out : List ℕ} → Reached checks keys r₀ store₀ out₀ input lines e r store out → e ≡ true
         → printed checks (length input) keys r₀ store₀ input ≡ lines

@@ -1,10 +1,10 @@
--- `yard_io::first_turn` meets its contract.
+-- `yard_io::first_command` meets its contract.
 use native.Mathlib.Omega.{arith}
 use lib.ListN.{length-take}
 use Rattle.yard.specs.Commands.{told}
 use borrow.Author.Needs.{needs}
-use Rattle.yard_io.proofs.first_turn.Statement.{statement}
-use Rattle.yard_io.proofs.first_turn.Tie as tie
+use Rattle.yard_io.proofs.first_command.Statement.{statement}
+use Rattle.yard_io.proofs.first_command.Tie as tie
 
 read-command-requires : tie.Need-read-command-requires
 read-command-requires c κs = search needs
@@ -31,8 +31,8 @@ returns c =
     let said = done .begin .ensures .0 in
     record { command = done .before .before .before .before .read-command .ensures; ends = rw said; unit = rw said }
 
-pub first-turn-spec : {M : Type 1} → statement M
-first-turn-spec =
+pub first-command-spec : {M : Type 1} → statement M
+first-command-spec =
     tie.close
     (tie.spec
     read-command-requires

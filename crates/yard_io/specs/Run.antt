@@ -8,8 +8,8 @@ use lib.ListN.{length, take}
 use Rattle.protocol.specs.Signatures.{checks}
 use Rattle.protocol.specs.Calls.{outAfter}
 use Rattle.protocol.specs.declared.Record.{Record}
-use Rattle.yard.specs.Commands.{keysOf, yardStore, yardOut, begun, turn}
-use Rattle.yard.specs.Course.{Reached, begins, follows, Ran, stops, goes}
+use Rattle.yard.specs.Commands.{keysOf, yardStore, yardOut, begun, called}
+use Rattle.yard.specs.Run.{Reached, begins, follows, Ran, stops, goes}
 use Rattle.yard_io.specs.Reading.{Command}
 use Rattle.yard_io.specs.declared.Taken.{Taken}
 
@@ -22,15 +22,15 @@ pub record First (t : Taken) (input : List ℕ) : Type 0 where
 -- a later one: key table, record, store and out before; the buffers after
 pub record Later (keys : List ℕ) (r : Record) (store out : List ℕ) (t : Taken) (input store′ out′ : List ℕ) : Type 0 where
   pub command : Command false (t .have) input
-  pub ends : t .ends ≡ turn checks keys r store out (take (t .have) input) .ends
-  pub unit : t .unit ≡ turn checks keys r store out (take (t .have) input) .unit
-  pub stored : store′ ≡ turn checks keys r store out (take (t .have) input) .store
-  pub written : out′ ≡ outAfter (turn checks keys r store out (take (t .have) input) .written) out
+  pub ends : t .ends ≡ called checks keys r store out (take (t .have) input) .ends
+  pub unit : t .unit ≡ called checks keys r store out (take (t .have) input) .unit
+  pub stored : store′ ≡ called checks keys r store out (take (t .have) input) .store
+  pub written : out′ ≡ outAfter (called checks keys r store out (take (t .have) input) .written) out
 
 -- ---- one after another: what was read and printed is some input and its lines
 
--- some commands after the first, the last of which ends the program or not: record, store and out before and after
-pub record Turns (ends : Bool) (keys : List ℕ) (r : Record) (store out : List ℕ) (last : Record) (store′ out′ : List ℕ) : Type 0 where
+-- some later commands, the last of which ends the program or not: record, store and out before and after
+pub record Commands (ends : Bool) (keys : List ℕ) (r : Record) (store out : List ℕ) (last : Record) (store′ out′ : List ℕ) : Type 0 where
   pub input : List ℕ
   pub lines : List ℕ
   pub reached : Reached checks keys r store out input lines ends last store′ out′
@@ -38,9 +38,9 @@ pub record Turns (ends : Bool) (keys : List ℕ) (r : Record) (store out : List 
 -- all of them
 pub record AfterCalls (keys : List ℕ) (r : Record) (store out : List ℕ) (last : Record) (store′ out′ : List ℕ) : Type 0 where
   pub ends : Bool
-  pub turns : Turns ends keys r store out last store′ out′
+  pub commands : Commands ends keys r store out last store′ out′
 
--- the whole program, which leaves its last record
+-- the whole program, with its last record
 pub record AfterRun (last : Record) : Type 0 where
   pub input : List ℕ
   pub lines : List ℕ
@@ -49,14 +49,19 @@ pub record AfterRun (last : Record) : Type 0 where
 
 -- ---- laws
 
-pub turns-none : {keys store out : List ℕ} {r : Record} → Turns false keys r store out r store out
-turns-none = record { input = []; lines = []; reached = begins }
+pub commands-none : {keys store out : List ℕ} {r : Record} → Commands false keys r store out r store out
+commands-none = record { input = []; lines = []; reached = begins }
 
-pub turns-more : {keys store₀ out₀ store out input store′ out′ : List ℕ} {r₀ r : Record} {t : Taken}
-    → Turns false keys r₀ store₀ out₀ r store out → length out ≡ length out₀ → Later keys r store out t input store′ out′
-    → Turns (t .ends) keys r₀ store₀ out₀ (t .unit) store′ out′
-turns-more {input = input} {t = t} h e l =
+pub commands-more : {keys store₀ out₀ store out input store′ out′ : List ℕ} {r₀ r : Record} {t : Taken}
+    → Commands false keys r₀ store₀ out₀ r store out → length out ≡ length out₀ → Later keys r store out t input store′ out′
+    → Commands (t .ends) keys r₀ store₀ out₀ (t .unit) store′ out′
+commands-more {input = input} {t = t} h e l =
     rw (l .ends, l .unit, l .stored, l .written) (record { input = _; lines = _; reached = follows (h .reached) e (take (t .have) input) (l .command .alone) })
+
+pub commands-on : {keys store₀ out₀ store out input store′ out′ : List ℕ} {r₀ r : Record} {t : Taken}
+    → t .ends ≡ false → Commands false keys r₀ store₀ out₀ r store out → length out ≡ length out₀ → Later keys r store out t input store′ out′
+    → Commands false keys r₀ store₀ out₀ (t .unit) store′ out′
+commands-on e h l m = rw e at (commands-more h l m)
 
 module _ {t : Taken} {input : List ℕ} (f : First t input) where
   pub first-stops : t .ends ≡ true → AfterRun (t .unit)
@@ -67,4 +72,4 @@ module _ {t : Taken} {input : List ℕ} (f : First t input) where
       → AfterCalls keys (t .unit) store out last store′ out′ → AfterRun last
   unfolding begun
   first-goes h k s o c =
-      record { input = _; lines = _; ends = _; ran = goes (take (t .have) input) (f .command .alone) (sym (f .ends) ∙ h) (rw (k, s, o, f .unit) at (c .turns .reached)) }
+      record { input = _; lines = _; ends = _; ran = goes (take (t .have) input) (f .command .alone) (sym (f .ends) ∙ h) (rw (k, s, o, f .unit) at (c .commands .reached)) }
