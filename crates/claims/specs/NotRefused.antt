@@ -4,14 +4,14 @@
 -- Assumes nothing.
 use Prim.Native.Nat.{ℕ, zero, suc, _+_, _*_, _≤_, _<_}
 use mathlib.Core.Path.{_≡_, refl, sym, subst, _∙_}
-use mathlib.Core.Bool.{Bool, true, false, not, _&&_, _||_}
+use mathlib.Core.Bool.{true, false, not, _&&_, _||_}
 use mathlib.Core.List.{List, [], _∷_, _++_, List·Memᴰ·not-nil}
 use mathlib.Core.Logic.{_≢_, _↔_}
 use native.Mathlib.Omega.{arith}
 use native.Mathlib.Decide.{ℕ-discrete}
-use lib.Dec.{ltb, eqb}
+use lib.Dec.{eqb}
 use lib.ListN.{length}
-use borrow.Author.Tests.{ltb-false, le-ltb, lt-leb, eqb-true, eqb-false, eq-eqb, not-false}
+use borrow.Author.Tests.{ltb-false, le-ltb, lt-leb, eqb-true, eq-eqb, not-false}
 use Rattle.octets.specs.Octets.{wordAt}
 use Rattle.octets.specs.StringLaws.{same-false}
 use Rattle.quorum.specs.Quorum.{mostSeats}
@@ -24,7 +24,7 @@ use Rattle.protocol.specs.Layout.{valueLength, signatureLength, treeLength, mes
 use Rattle.protocol.specs.Message.{Message, Notice, render, read, signed, seatsOf, entrySeats, roundOf, WellFormed}
 use Rattle.protocol.specs.MessageLaws.{read-render}
 use Rattle.protocol.specs.Certificate.{certificateIn}
-use Rattle.protocol.specs.Record.{lastRound, wrongSize, wrongSeat, wrongRound, impossible, fresh}
+use Rattle.protocol.specs.Record.{lastRound, wrongSeat, wrongRound, impossible, fresh}
 use Rattle.protocol.specs.Refusals.{Condition, NO-CONFLICT-BETWEEN, Checks, every, lengthIsnt, wrongKey, certificateConditions, checkConditions, makeKeyConditions, signConditions, keyAllowed, keysAllowed, wrongKeys, shortStore, shortOut, said, isForStep, isFull, isEvidence, wrongLengths, rising, early, badSignature, notLowerFirst, equalValues, messageConditions, outsideConditions, recordConditions, openingConditions, submitConditions, stepConditions, evidenceConditions, twoConditions, makingConditions}
 use Rattle.protocol.specs.Signatures.{checkSignature, makeKeyRefusal, makeKey, signRefusal, sign}
 use Rattle.protocol.specs.Calls.{openedBy, opening, resultBy, submit, step, makingBy, making, checkedBy, evidenceCheck}

@@ -6,16 +6,16 @@ use mathlib.Core.List.{List, [], _∷_, _++_, append-assoc}
 use Prim.Native.Nat.{ℕ, _+_, _*_, _/_, _%_, _≤_, _<_}
 use native.Mathlib.Omega.{arith}
 use lib.Dec.{eqb}
-use lib.ListN.{length, take, drop, getD, length-append, take-append-drop}
-use lib.Seq.{take-at, drop-at, take-all, take-length, drop-drop, getD-drop, getD-at}
+use lib.ListN.{length, drop, getD, length-append, take-append-drop}
+use lib.Seq.{take-at, drop-at, take-all, take-length, drop-drop, getD-drop}
 use borrow.Author.Tests.{eq-eqb, le-leb}
 use Rattle.octets.specs.Octets.{be, part}
 use Rattle.octets.specs.Laws.{length-be}
 use Rattle.quorum.specs.Quorum.{k}
-use Rattle.protocol.specs.Layout.{valueLength, signatureLength, seatAt, valueAt, submitLength, noticeLength, fullCountAt, fullStart, fullEntryLength, fullEntryAt, fullLength, lowerAt, higherAt, evidenceCountAt, evidenceStart, evidenceEntryLength, evidenceEntryAt, evidenceLength}
+use Rattle.protocol.specs.Layout.{valueLength, signatureLength, valueAt, submitLength, noticeLength, fullCountAt, fullEntryLength, fullEntryAt, fullLength, lowerAt, higherAt, evidenceCountAt, evidenceEntryLength, evidenceEntryAt, evidenceLength}
 use Rattle.protocol.specs.Entries.{Each, Form, Laid, renderEntries}
 use Rattle.protocol.specs.EntriesLaws.{Faithful, length-entries, commands-right, entries-read}
-use Rattle.protocol.specs.Message.{Entry, Pair, Message, Submit, Notice, Full, Evidence, Garbled, WellFormed, fullForm, evidenceForm, formOf, render, renderAll, byteAt, readRound, readValue, readSignature, fitsSubmit, fitsNotice, fitsFull, fitsEvidence, readSubmit, readNotice, readFull, readEvidence, read}
+use Rattle.protocol.specs.Message.{Entry, Pair, Message, Submit, Notice, Full, Evidence, Garbled, WellFormed, fullForm, evidenceForm, render, renderAll, byteAt, readRound, readValue, readSignature, fitsSubmit, fitsNotice, fitsFull, fitsEvidence, readSubmit, readNotice, readFull, readEvidence, read}
 
 -- ---- messages one after another
 
