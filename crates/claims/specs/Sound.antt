@@ -53,6 +53,10 @@ flagOf EVIDENCE r = not (eqb (r .guilty) 0)
 abbrev pub Counts : Record → List Message → Record → Type 0
 Counts r ms r′ = (κ : Kind) → count (isOf κ) ms + worth (flagOf κ r) ≡ worth (flagOf κ r′)
 
+-- every signature is worth something
+abbrev pub Any : Relation
+Any seat value signature = Unit {0}
+
 -- ---- n, seat and round
 
 pub record InRange (n seat round : ℕ) : Type 0 where

@@ -10,8 +10,8 @@ use Rattle.refusal.specs.Refusal.{unrefused}
 use Rattle.protocol.specs.Message.{Entry, Pair, Message, Full, Evidence}
 use Rattle.protocol.specs.Calls.{opening, openedBy}
 use Rattle.round.specs.Round.{Setting, IsOpened, Each, Honest, listOf, Writes}
-use Rattle.claims.specs.Sound.{InRange}
-use Rattle.claims.specs.Units.{Any, any-worthy, opened-range, written-are}
+use Rattle.claims.specs.Sound.{Any, InRange}
+use Rattle.claims.specs.Units.{any-worthy, opened-range, written-are}
 use Rattle.paper.specs.Machine.{init, Event, Action, Says}
 use Rattle.paper.specs.Memory.{recordOf}
 use Rattle.paper.specs.Events.{DoesAs, actionsOver, TakenIn}
