@@ -74,7 +74,7 @@ module _ (S : Setting) where
     abbrev end : Record
     end = endOf S u opened
 
-    -- what reaches the unit, and isn't refused there for what it is, is taken
+    -- a message that reaches the unit, with no cause of a refusal in itself, is taken
     module _ (m : Message) (formed : WellFormed n m) (forStep : isForStep m ≡ true) (timely : (r : Record) → early r m ≡ false) (taken : Taken checks n round m) (h : Reached S u (render m)) where
       abbrev t : Called
       t = h .step .call

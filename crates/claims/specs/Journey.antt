@@ -34,7 +34,7 @@ lastOf S r store (c ∷ cs) = lastOf S (outcome S c r store .unit) (outcome S c 
 module _ (S : Setting) (W : Relation) where
   open Setting S using (keys, checks)
 
-  -- what the signatures are worth that a call takes
+  -- worth of the signatures that a call takes
   abbrev pub WorthyGiven : Call → Record → Type 0
   WorthyGiven (BySubmit value signature out) r = W (r .seat) value signature
   WorthyGiven (ByStep bytes out) r = EachSigned W (read (r .n) bytes)
@@ -132,5 +132,3 @@ module _ (S : Setting) (W : Relation) where
         counts = λ κ. let x = a .counts κ in let y = rest .counts κ in omega (arith, count-append (isOf κ) (messages S t) (allMessages S ts));
         settled = rest .settled;
       }
-
--- ---- an honest unit's list

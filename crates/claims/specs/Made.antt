@@ -1,5 +1,5 @@
--- What making evidence from two certificates in hand makes, where it isn't refused: evidence that the check accepts, and that names
--- exactly the seats which the two share, t0 + 1 or more. For all inputs, and for any signature check.
+-- Evidence made from two certificates in hand, where the call isn't refused: the check accepts it, and it names exactly the seats that
+-- the two share, t0 + 1 or more. For all inputs, and for any signature check.
 -- Assumes nothing.
 use mathlib.Core.Path.{_≡_, refl, subst, _∙_}
 use mathlib.Core.List.{List}

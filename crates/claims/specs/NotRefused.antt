@@ -1,6 +1,6 @@
 -- When a call is not refused (demand 1: "for a cause in the table and for no other"): just where none of its numbers has a cause. Each
 -- record has what a call asks, number by number in the table's words. The claims are both ways, and over every record, possible or not,
--- every message and every buffer. So nothing meets them that refuses anything else, or all; the last claim shows it of a step.
+-- every message and every buffer. So a call that refuses anything else, or all, doesn't meet them; the last claim shows it of a step.
 -- Assumes nothing.
 use Prim.Native.Nat.{ℕ, zero, suc, _+_, _*_, _≤_, _<_}
 use mathlib.Core.Path.{_≡_, refl, sym, subst, _∙_}

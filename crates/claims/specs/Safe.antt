@@ -110,7 +110,7 @@ module _ (S : Setting) where
 
     -- ---- an honest seat
 
-    -- it did submit what a delivered signature of it stands over, and what it has stored itself
+    -- it submitted the layout of a signature of its own that was delivered, or that it has stored itself
     submitted-of : (i : I) (value signature : List ℕ) → checks (boat i .seat) value signature ≡ true → Backed i (boat i .seat) value signature → (Submits S (boat i) value → ⊥) → ⊥
     submitted-of i value signature c (inl r) never = true≢false (sym c ∙ none i value signature r never)
     submitted-of i value signature c (inr s) never = never (s .1)

@@ -1,4 +1,4 @@
--- What it says that a call isn't refused, and when it isn't.
+-- Records that aren't impossible, messages that aren't refused, and what such a message brings.
 -- Assumes nothing.
 use mathlib.Core.Path.{_≡_, refl, ap, _∙_}
 use mathlib.Core.Bool.{Bool, true, false, not, _&&_, _||_, false≢true}

@@ -54,7 +54,7 @@ module _ (S : Setting) (u : Honest) (opened : IsOpened S u) where
   pub does-as-the-paper : DoesAs S (u .seat) init (listOf S u)
   does-as-the-paper = along .0
 
-  -- So over the list as a whole: a message is written (as demand 3's claim says it) just where the machine does what is sent as it.
+  -- So over the list as a whole: a message is written (as demand 3's claim says it) just where the machine does the action that is sent so.
   pub writes-what-the-paper-does : (m : Message) → Writes S u m ↔ ((a : Action) × List·Memᴰ a actions × Says round (u .seat) a m)
   writes-what-the-paper-does m =
       let both = over-list S (u .seat) m init (listOf S u) does-as-the-paper (λ a d. along .1 a d .1) in (

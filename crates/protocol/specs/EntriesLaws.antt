@@ -1,4 +1,4 @@
--- Lists of entries, whatever they hold: their lengths, what is read of entries written, and what is written of entries read.
+-- Lists of entries of any form: lengths; entries written and read back; entries read and written back.
 -- Assumes nothing.
 use mathlib.Core.Path.{_≡_, refl, sym, ap₂, _∙_}
 use mathlib.Core.Bool.{true, and-eq-true-iff}
@@ -45,7 +45,7 @@ module _ {A : Type 0} (form : Form A) where
 
   -- ---- entries written are read back the same
 
-  -- the entries from the one at index t on
+  -- the entries from index t on
   entries-drop : (t : ℕ) (es : List A) → Laid form es → drop (entryLength (form .held) * t) (renderEntries form es) ≡ renderEntries form (drop t es)
   unfolding renderEntries
   entries-drop zero es h = rw mul-zero
@@ -94,9 +94,9 @@ module _ {A : Type 0} (form : Form A) where
     entries-read zero l = refl
     entries-read (suc t) l = rw (entries-read t (omega arith), entry-read t l) (sym (take-suc es t (form .make 0 []) l))
 
-  -- ---- entries read are written back as the bytes that they were
+  -- ---- entries read are written back the same
 
-  -- an entry made has the seat and the bytes that it was made from
+  -- an entry has the seat and the bytes that it was made of
   abbrev pub Faithful : Type 0
   Faithful = (seat : ℕ) (bytes : List ℕ) → (form .seat (form .make seat bytes) ≡ seat) × (form .bytes (form .make seat bytes) ≡ bytes)
 

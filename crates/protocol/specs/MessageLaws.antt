@@ -53,7 +53,7 @@ pub evidence-faithful : (lower higher : List ℕ) → Faithful (evidenceForm low
 unfolding evidenceForm
 evidence-faithful lower higher seat bytes = (refl, take-append-drop signatureLength bytes)
 
--- a pair over the message's values, with signatures of their width, is as its form lays it out; and such a pair has these values
+-- a pair of the form: its values are the message's, and its signatures have their length
 pub pair-laid : (lower higher : List ℕ) (p : Pair) → p .lowerValue ≡ lower → p .higherValue ≡ higher → length (p .lower) ≡ signatureLength → length (p .higher) ≡ signatureLength
     → (length (p .lower ++ p .higher) ≡ evidenceForm lower higher .held) × (evidenceForm lower higher .make (p .seat) (p .lower ++ p .higher) ≡ p)
 unfolding evidenceForm

@@ -1,4 +1,4 @@
--- Tests and lists: what the laws of the parts and of the lists of calls are put together from.
+-- Laws of tests and lists, for the laws of calls.
 -- Assumes nothing.
 use mathlib.Core.Path.{_≡_, refl, sym, subst}
 use mathlib.Core.Bool.{Bool, true, false, cond, _&&_, _||_}

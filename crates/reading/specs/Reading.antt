@@ -1,4 +1,5 @@
--- Bytes and messages: the operands of what bytes are read as have their widths, and bytes are messages one after another in one way only.
+-- Bytes and messages: the operands of a message that was read have their widths, and bytes are messages one after another in one way
+-- only.
 -- Assumes nothing.
 use mathlib.Core.Path.{_≡_, refl, sym, ap, ap₂, _∙_}
 use mathlib.Core.Bool.{true, cond, _&&_}
@@ -22,7 +23,7 @@ use Rattle.protocol.specs.MessageLaws.{length-submit, length-notice, length-ful
 use Rattle.round.specs.Round.{Each, Are}
 use Rattle.reading.specs.Lists.{cond-elim, each-nil, each-one, each-append}
 
--- ---- what bytes are read as
+-- ---- a message that was read
 
 module _ {A : Type 0} (form : Form A) (faithful : Faithful form) (bytes : List ℕ) where
   entry-laid : (at : ℕ) → at + entryLength (form .held) ≤ length bytes → Laid form (readEntry form at bytes ∷ [])
