@@ -1,6 +1,6 @@
 -- Lists of entries of any form: lengths; entries written and read back; entries read and written back.
 -- Assumes nothing.
-use mathlib.Core.Path.{_≡_, refl, sym, ap₂, _∙_}
+use mathlib.Core.Path.{_≡_, refl, sym, ap, ap₂, _∙_}
 use mathlib.Core.Bool.{true, and-eq-true-iff}
 use mathlib.Core.List.{List, [], _∷_, _++_, append-assoc, append-nil, List·Memᴰ·head, List·Memᴰ·tail}
 use Prim.Native.Nat.{ℕ, zero, suc, _+_, _*_, _≤_, _<_}
@@ -9,13 +9,17 @@ use native.Mathlib.Numerals.{add-one}
 use native.Mathlib.Omega.{arith}
 use lib.Dec.{eqb}
 use lib.ListN.{length, take, drop, getD, length-append}
-use lib.Seq.{take-at, drop-at, take-suc, drop-cons, drop-drop, drop-nil, getD-drop}
+use lib.Seq.{take-at, drop-at, take-suc, drop-cons, drop-drop, drop-nil, getD-drop, append-snoc, getD-at}
 use borrow.Author.Tests.{eqb-true, eq-eqb}
 use Rattle.octets.specs.Octets.{part}
 use Rattle.octets.specs.StringLaws.{part-suc}
 use Rattle.octets.specs.WriteLaws.{part-add}
 use Rattle.protocol.specs.Layout.{entryLength}
 use Rattle.protocol.specs.Entries.{Form, Laid, byteAt, placeOf, renderEntry, renderEntries, entryCommands, readEntry, readEntries}
+
+-- the count, a byte between what stands before it and the entries
+pub byte-after : (front : List ℕ) (b : ℕ) (rest : List ℕ) (at : ℕ) → length front ≡ at → byteAt (front ++ b ∷ [] ++ rest) at ≡ b
+byte-after front b rest at l = ap (λ (xs : List ℕ). getD xs at 0) (append-snoc front b rest) ∙ getD-at front b rest 0 at l
 
 module _ {A : Type 0} (form : Form A) where
   pub entries-append : (xs ys : List A) → renderEntries form (xs ++ ys) ≡ renderEntries form xs ++ renderEntries form ys
