@@ -16,22 +16,23 @@ use Rattle.protocol.specs.Layout.{valueLength, storeLength, outLength}
 use Rattle.protocol.specs.Message.{Entry, Message, Submit, Notice, Full, Evidence, Garbled, render, read, roundOf, entrySeats, seatsOf, signed, WellFormed}
 use Rattle.protocol.specs.CertificateLaws.{in-set}
 use Rattle.protocol.specs.MessageLaws.{read-render}
-use Rattle.protocol.specs.Refusals.{wrongKeys, isForStep, isFull, isEvidence, rising, early, stepConditions}
+use Rattle.protocol.specs.Refusals.{isForStep, isFull, isEvidence, rising, early, stepConditions}
 use Rattle.protocol.specs.Step.{State, otherHeard, owesFull, stepped}
-use Rattle.protocol.specs.Calls.{start, checkedBy, evidenceCheck}
+use Rattle.protocol.specs.Calls.{resultBy, step, start, checkedBy, evidenceCheck}
 use Rattle.protocol.specs.declared.Record.{Record}
 use Rattle.round.specs.Round.{Setting, IsOpened, Each, Honest, Called, resultOf, listOf, Writes, Confirms, Reached, Accepted, Names}
 use Rattle.round.specs.Demand3.{Blames, ReachedOthers}
 use Rattle.round.specs.Demand1.{NOTICE, FULL, EVIDENCE, isNotice}
 use Rattle.reading.specs.Lists.{and-false-either, each-nil, each-one}
-use Rattle.claims.specs.Sound.{Heard, Held, Grows, Settled, Entries, Pairs, Sound, Said}
+use Rattle.claims.specs.Sound.{Any, Heard, Held, Grows, Settled, Entries, Pairs, Sound, Said}
 use Rattle.claims.specs.Certificates.{entries-laid}
 use Rattle.claims.specs.Parts.{other-heard}
 use Rattle.claims.specs.Whole.{notice-heard, full-held}
-use Rattle.claims.specs.Unrefused.{possible, Taken, step-unrefused, full-taken}
+use Rattle.claims.specs.Unrefused.{possible, Taken, full-taken}
+use Rattle.claims.specs.NotRefused.{Table, message-not-refused}
 use Rattle.reading.specs.Messages.{step-is, result-came}
 use Rattle.claims.specs.Journey.{Worthy, At}
-use Rattle.claims.specs.Units.{Any, any-worthy, startOf, endOf, opened-range, opened-keys, start-n, start-round, trip, stop, end-n, end-seat, end-round, written-flag, flag-written, writes-good}
+use Rattle.claims.specs.Units.{any-worthy, startOf, endOf, opened-range, opened-fit, opened-outside, start-n, start-round, trip, stop, end-n, end-seat, end-round, written-flag, flag-written, writes-good}
 use Rattle.claims.specs.Safe.{evidence-cases}
 use Rattle.claims.specs.Made.{evidence-accepted}
 
@@ -73,7 +74,7 @@ module _ (S : Setting) where
     abbrev end : Record
     end = endOf S u opened
 
-    -- what reaches the unit, and isn't refused there for what it is, is taken
+    -- a message that reaches the unit, with no cause of a refusal in itself, is taken
     module _ (m : Message) (formed : WellFormed n m) (forStep : isForStep m ≡ true) (timely : (r : Record) → early r m ≡ false) (taken : Taken checks n round m) (h : Reached S u (render m)) where
       abbrev t : Called
       t = h .step .call
@@ -96,15 +97,22 @@ module _ (S : Setting) where
       reads : read (t .unit .n) (render m) ≡ m
       reads = rw size-is (read-render n m formed)
 
-      unrefused-here : firstOf (stepConditions checks keys (t .unit) (t .store) m out) ≡ 0
+      unrefused-here : firstOf (stepConditions checks keys (t .unit) (t .store) (read (t .unit .n) (render m)) out) ≡ 0
+      unfolding step resultBy
       unrefused-here =
-          step-unrefused checks keys (t .unit) (t .store) m out (possible checks Any (t .unit) (t .store) (at .sound) (at .settled)) (subst (λ i. wrongKeys i keys ≡ false) (sym size-is) (opened-keys S u opened)) room (subst (λ i. outLength i ≤ length out) (sym size-is) (h .outRoom)) forStep (timely (t .unit))
-          (subst₂ (λ i ρ. Taken checks i ρ m) (sym size-is) (sym round-is) taken)
+          message-not-refused checks keys (t .unit) (t .store) out m
+          (record {
+            possible = possible checks Any (t .unit) (t .store) (at .sound) (at .settled);
+            table = subst (λ i. Table i keys) (sym size-is) (opened-fit S u opened .table);
+            storeRoom = room;
+            outRoom = subst (λ i. outLength i ≤ length out) (sym size-is) (h .outRoom);
+          })
+          (subst (λ i. WellFormed i m) (sym size-is) formed) forStep (subst₂ (λ i ρ. Taken checks i ρ m) (sym size-is) (sym round-is) taken) (timely (t .unit))
 
       result-stepped : resultOf S t .unit ≡ stepped m (start (t .unit) (t .store)) .unit
       result-stepped =
           let is = step-is S (t .given) (render m) out (t .unit) (t .store) (h .step .isStep) in
-          result-came S t (is .0 ∙ rw reads unrefused-here) ∙ ap (λ (s : State). s .unit) (is .1) ∙ ap (λ x. stepped x (start (t .unit) (t .store)) .unit) reads
+          result-came S t (is .0 ∙ unrefused-here) ∙ ap (λ (s : State). s .unit) (is .1) ∙ ap (λ x. stepped x (start (t .unit) (t .store)) .unit) reads
 
       -- what the step comes to, and what grows, holds at the end
       pub reached-end : (P : Record → Type 0) → ((r r′ : Record) → Grows r r′ → P r → P r′)
@@ -184,7 +192,7 @@ module _ (S : Setting) where
         (λ ρ lower higher ps is w.
         let g = writes-good S u opened Any any (Evidence ρ lower higher ps) w in
         let pairs = subst (λ i. Pairs checks Any i lower higher ps) (end-n S u opened Any any) (g .1) in
-        let accept = evidence-accepted S (u .seat) (opened-range S u opened) (opened-keys S u opened) ρ lower higher ps (g .0 ∙ end-round S u opened Any any) pairs in
+        let accept = evidence-accepted S (opened-outside S u opened) ρ lower higher ps (g .0 ∙ end-round S u opened Any any) pairs in
         let evidence = render (Evidence ρ lower higher ps) in
         record {
           evidence = evidence;

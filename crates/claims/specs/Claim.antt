@@ -4,8 +4,8 @@
 -- 1. `demand-3`, in this file, and `Demand3` in `round/specs/Demand3`: the demand, sentence by sentence.
 -- 2. `round/specs/Round`: the words of the demand, beside document 01's "A round as a whole".
 -- 3. `protocol/specs/Calls`: what an opening, a submit, a step, a making of evidence and the evidence check do; with the files of
---    `protocol/specs` that it is put together from (`Step`, `Refusals`, `Record`, `Certificate`, `Message`, `Layout`, `Values`, and
---    `WellFormed` in `ReadLaws`), and `quorum/specs/Quorum`: t0, k, sets of seats and their sizes.
+--    `protocol/specs` that it is put together from (`Step`, `Refusals`, `Conditions`, `Record`, `Certificate`, `Message`, `Entries`,
+--    `Layout`, `Values`), and `quorum/specs/Quorum`: t0, k, sets of seats and their sizes.
 -- 4. `protocol/specs/Signatures: checks`: the signature check, by `rfc8554/specs`' `Verify`, `Tree` and `Ots`, and `fips180/specs/Fips`.
 -- 5. `as-promised`, in this file: the lists are those that the contracts of the code come to.
 -- Assumes nothing.
@@ -17,7 +17,8 @@ use Rattle.protocol.specs.Calls.{Result, submit, step, opening}
 use Rattle.protocol.specs.declared.Record.{Record}
 use Rattle.round.specs.Round.{Setting, Call, BySubmit, ByStep, ByThinEntry, Honest, Called, outcome, resultOf, listFrom, listOf, IsOpened, Family}
 use Rattle.round.specs.Demand3.{Demand3}
-use Rattle.claims.specs.Units.{Any, any-worthy, start-round, stop}
+use Rattle.claims.specs.Units.{any-worthy, start-round, stop}
+use Rattle.claims.specs.Sound.{Any}
 use Rattle.claims.specs.Safe.{safe, safe-delivered}
 use Rattle.claims.specs.Blamed.{blamed}
 

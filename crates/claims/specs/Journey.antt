@@ -2,30 +2,25 @@
 -- over the whole list a message is written just where its flag comes to be set.
 -- Assumes nothing.
 use mathlib.Core.Path.{_≡_, refl, ap, _∙_}
-use mathlib.Core.Bool.{true, false≢true}
+use mathlib.Core.Bool.{true}
 use mathlib.Core.List.{List, [], _∷_, List·Memᴰ·head, List·Memᴰ·tail}
-use mathlib.Core.Logic.{inl}
-use Prim.Native.Nat.{ℕ, zero, suc, _≤_}
+use Prim.Native.Nat.{ℕ, zero, suc}
 use native.Mathlib.Omega.{arith}
-use lib.Pow.{pow-pos}
-use Rattle.quorum.specs.QuorumLaws.{bit-empty, size-empty}
 use Rattle.refusal.specs.Refusal.{unrefused}
-use Rattle.protocol.specs.Values.{unset}
 use Rattle.protocol.specs.Message.{Message, read}
-use Rattle.protocol.specs.Record.{fresh}
-use Rattle.protocol.specs.Refusals.{Checks}
-use Rattle.protocol.specs.Step.{State, owesFull, submitted}
+use Rattle.protocol.specs.Step.{State, submitted}
 use Rattle.protocol.specs.Calls.{Result, resultBy, start}
 use Rattle.protocol.specs.declared.Record.{Record}
 use Rattle.round.specs.Round.{Each, Relation, EachSigned, Call, BySubmit, ByStep, ByThinEntry, Setting, Called, outcome, resultOf, listFrom}
 use Rattle.round.specs.Demand1.{isOf}
 use Rattle.reading.specs.Messages.{refusalOf, cameTo, outcome-is, messages, allMessages}
 use Rattle.reading.specs.Lists.{count-append, count-nil, each-nil, each-cons}
-use Rattle.claims.specs.Sound.{Grows, Counts, InRange, Settled, Sound, Good}
-use Rattle.claims.specs.Parts.{shared-none, grows-refl, grows-trans, k-pos}
+use Rattle.claims.specs.Sound.{Grows, Counts, Settled, Sound, Good}
+use Rattle.claims.specs.Parts.{grows-refl, grows-trans}
 use Rattle.claims.specs.Whole.{Done, submitted-done, submitted-value, stepped-done}
 use Rattle.reading.specs.Reading.{read-sized}
-use Rattle.claims.specs.Unrefused.{submit-taken, step-taken, brings}
+use Rattle.claims.specs.Unrefused.{brings}
+use Rattle.claims.specs.NotRefused.{submit-fit, step-fit}
 
 -- ---- the end of a list
 
@@ -39,7 +34,7 @@ lastOf S r store (c ∷ cs) = lastOf S (outcome S c r store .unit) (outcome S c 
 module _ (S : Setting) (W : Relation) where
   open Setting S using (keys, checks)
 
-  -- what the signatures are worth that a call takes
+  -- worth of the signatures that a call takes
   abbrev pub WorthyGiven : Call → Record → Type 0
   WorthyGiven (BySubmit value signature out) r = W (r .seat) value signature
   WorthyGiven (ByStep bytes out) r = EachSigned W (read (r .n) bytes)
@@ -51,24 +46,24 @@ module _ (S : Setting) (W : Relation) where
   done : (c : Call) (r : Record) (store : List ℕ) → Sound checks W r store → Settled r → refusalOf S c r store ≡ 0 → WorthyGiven c r → Done checks W (start r store) (cameTo c r store)
   unfolding refusalOf cameTo
   done (BySubmit value signature out) r store z e q w =
-      let t = submit-taken checks keys r store value signature out q in
-      submitted-done checks W value signature (start r store) z (t .room) (t .unsaid) (t .sizedValue) (record { checked = t .checked; sized = t .sized; worthy = w })
+      let t = submit-fit checks keys r store value signature out q in
+      submitted-done checks W value signature (start r store) z (t .lent .storeRoom) (t .first) (t .sizedValue) (record { checked = t .checked; sized = t .sizedSignature; worthy = w })
   done (ByStep bytes out) r store z e q w =
       let m = read (r .n) bytes in
-      let t = step-taken checks keys r store m out q in
-      stepped-done checks W (start r store) z (t .0) e m (brings checks W r m (t .2) (t .3) (read-sized (r .n) bytes) w)
+      let t = step-fit checks keys r store bytes out q in
+      stepped-done checks W (start r store) z (t .lent .storeRoom) e m (brings checks W r m (t .message) (t .timely) (read-sized (r .n) bytes) w)
   done (ByThinEntry bytes out) r store z e q w =
       let m = read (r .n) bytes in
-      let t = step-taken checks keys r store m out q in
-      stepped-done checks W (start r store) z (t .0) e m (brings checks W r m (t .2) (t .3) (read-sized (r .n) bytes) w)
+      let t = step-fit checks keys r store bytes out q in
+      stepped-done checks W (start r store) z (t .lent .storeRoom) e m (brings checks W r m (t .message) (t .timely) (read-sized (r .n) bytes) w)
 
   -- the value of a submit that isn't refused is the own one
   pub submit-value : (value signature out : List ℕ) (r : Record) (store : List ℕ) → Sound checks W r store → refusalOf S (BySubmit value signature out) r store ≡ 0 → W (r .seat) value signature
       → (cameTo (BySubmit value signature out) r store .unit .own .submitted ≡ true) × (cameTo (BySubmit value signature out) r store .unit .own .value ≡ value)
   unfolding refusalOf cameTo
   submit-value value signature out r store z q w =
-      let t = submit-taken checks keys r store value signature out q in
-      submitted-value checks W value signature (start r store) z (t .room) (t .unsaid) (t .sizedValue) (record { checked = t .checked; sized = t .sized; worthy = w })
+      let t = submit-fit checks keys r store value signature out q in
+      submitted-value checks W value signature (start r store) z (t .lent .storeRoom) (t .first) (t .sizedValue) (record { checked = t .checked; sized = t .sizedSignature; worthy = w })
 
   -- from the record and store that it gets to those that it leaves
   pub record Passed (r : Record) (store : List ℕ) (r′ : Record) (store′ : List ℕ) (ms : List Message) : Type 0 where
@@ -137,36 +132,3 @@ module _ (S : Setting) (W : Relation) where
         counts = λ κ. let x = a .counts κ in let y = rest .counts κ in omega (arith, count-append (isOf κ) (messages S t) (allMessages S ts));
         settled = rest .settled;
       }
-
--- ---- an honest unit's list
-
--- the record with nothing set, with any store
-pub fresh-sound : (checks : Checks) (W : Relation) (n seat round : ℕ) (store : List ℕ) → InRange n seat round → Sound checks W (fresh n seat round) store
-unfolding fresh unset
-fresh-sound checks W n seat round store range = record {
-  range = range;
-  own = record {
-    collection = record { sized = refl; below = pow-pos n; few = omega (arith, size-empty); attested = λ s i. absurd (omega (arith, bit-empty s)) };
-    unsaid = λ e. (refl, refl);
-    said = λ e. absurd (false≢true e);
-  };
-  heard = record { few = omega arith; unheard = λ e. refl };
-  first = record {
-    sized = refl;
-    below = pow-pos n;
-    enough = inl refl;
-    attested = λ s i. absurd (omega (arith, bit-empty s));
-    guiltyBelow = pow-pos n;
-    guiltyWithin = shared-none 0;
-    unheld = λ e. (refl, refl);
-  };
-  flags = record { full = λ e. absurd (false≢true e); confirmed = λ e. absurd (false≢true e) };
-}
-
-pub fresh-settled : (n seat round : ℕ) → 1 ≤ n → Settled (fresh n seat round)
-unfolding fresh owesFull
-fresh-settled n seat round some = record {
-  complete = λ e. absurd (omega (arith, size-empty, k-pos n some));
-  holds = λ e. absurd (false≢true e);
-  owes = refl;
-}

@@ -1,28 +1,27 @@
--- What making evidence from two certificates in hand makes, where it isn't refused: evidence that the check accepts, and that names
--- exactly the seats which the two share, t0 + 1 or more. For all inputs, and for any signature check.
+-- Evidence made from two certificates in hand, where the call isn't refused: the check accepts it, and it names exactly the seats that
+-- the two share, t0 + 1 or more. For all inputs, and for any signature check.
 -- Assumes nothing.
 use mathlib.Core.Path.{_≡_, refl, subst, _∙_}
-use mathlib.Core.Bool.{false}
 use mathlib.Core.List.{List}
 use Prim.Native.Nat.{ℕ, _+_, _≤_}
-use native.Mathlib.Omega.{arith}
 use Rattle.quorum.specs.Quorum.{t0, size, shared}
 use Rattle.refusal.specs.Refusal.{firstOf, unrefused}
 use Rattle.protocol.specs.Entries.{formSeats}
 use Rattle.protocol.specs.Message.{Pair, Message, Evidence, evidenceForm, render, read, entrySeats}
 use Rattle.protocol.specs.MessageLaws.{read-render}
 use Rattle.protocol.specs.Certificate.{setOf, certificateIn}
-use Rattle.protocol.specs.Refusals.{wrongKeys, isEvidence, notLowerFirst}
+use Rattle.protocol.specs.Refusals.{isEvidence, notLowerFirst}
 use Rattle.protocol.specs.Calls.{makingBy, making, checkedBy, evidenceCheck}
 use Rattle.round.specs.Round.{Setting, InHand, makingOf, Accepted}
-use Rattle.claims.specs.Sound.{InRange, Certifies, Pairs}
+use Rattle.claims.specs.Sound.{Any, Certifies, Pairs}
 use Rattle.claims.specs.Certificates.{evidence-elim, evidence-names}
 use Rattle.reading.specs.Reading.{read-sized}
-use Rattle.claims.specs.Unrefused.{Taken, MakingTaken, making-taken, evidence-unrefused, evidence-taken}
-use Rattle.claims.specs.Units.{Any, pairs-formed}
+use Rattle.claims.specs.Unrefused.{Taken, evidence-taken}
+use Rattle.claims.specs.NotRefused.{Outside, evidence-not-refused, MakingFit, making-fit}
+use Rattle.claims.specs.Units.{pairs-formed}
 use Rattle.claims.specs.Safe.{conditions, evidenceFrom, making-bytes, certifies-in}
 
-module _ (S : Setting) (seat : ℕ) (range : InRange (S .n) seat (S .round)) (table : wrongKeys (S .n) (S .keys) ≡ false) where
+module _ (S : Setting) (outside : Outside (S .n) (S .round) (S .keys)) where
   open Setting S using (n, round, keys, checks)
 
   -- evidence of t0 + 1 pairs or more is accepted, and what it is read as names its seats
@@ -32,10 +31,11 @@ module _ (S : Setting) (seat : ℕ) (range : InRange (S .n) seat (S .round)) (ta
   unfolding evidenceCheck checkedBy unrefused isEvidence notLowerFirst
   accepted-as ρ lower higher ps e z =
       let m = Evidence ρ lower higher ps in
-      let formed = pairs-formed checks Any n ρ lower higher ps (rw e (range .early)) z in
+      let formed = pairs-formed checks Any n ρ lower higher ps (rw e (outside .inTime)) z in
       let taken = subst (λ r. Taken checks n r m) e (evidence-taken checks Any n ρ lower higher ps z) in
-      let zero = evidence-unrefused checks n seat round keys m range table refl taken (rw (z .ordered)) in
-      rw (read-render n m formed, zero) (refl, refl)
+      let reads = read-render n m formed in
+      let zero = evidence-not-refused checks n round keys (render m) .1 (record { outside = outside; isOne = rw reads; message = rw reads taken; conflict = rw (reads, z .ordered) }) in
+      (zero, rw (zero, reads))
 
   pub evidence-accepted : (ρ : ℕ) (lower higher : List ℕ) (ps : List Pair) → ρ ≡ round → Pairs checks Any n lower higher ps
       → (evidenceCheck checks n round keys (render (Evidence ρ lower higher ps)) .number ≡ 0)
@@ -67,17 +67,14 @@ module _ (S : Setting) (h : InHand) (unrefused-making : making (S .checks) (S .n
   abbrev b : Message
   b = read n (h .b)
 
-  taken : MakingTaken checks n round keys a b
-  taken = making-taken checks n round keys a b (h .out) zero
+  taken : MakingFit checks n round keys (h .a) (h .b) (h .out)
+  taken = making-fit checks n round keys (h .a) (h .b) (h .out) zero
 
   first : Certifies checks Any n (certificateIn a)
-  first = certifies-in checks Any n round a (taken .fullA) (taken .takenA) (read-sized n (h .a)) (λ s m. tt)
+  first = certifies-in checks Any n round a (taken .firstFull) (taken .first) (read-sized n (h .a)) (λ s m. tt)
 
   second : Certifies checks Any n (certificateIn b)
-  second = certifies-in checks Any n round b (taken .fullB) (taken .takenB) (read-sized n (h .b)) (λ s m. tt)
-
-  range : InRange n 0 round
-  range = record { some = taken .some; most = taken .most; inside = (let s = taken .some in omega arith); early = taken .early }
+  second = certifies-in checks Any n round b (taken .secondFull) (taken .second) (read-sized n (h .b)) (λ s m. tt)
 
   -- the claim, of the bytes that the call's answer counts
   pub made-accepted : Accuses S (h .a) (h .b) (makingOf S h)
@@ -87,9 +84,9 @@ module _ (S : Setting) (h : InHand) (unrefused-making : making (S .checks) (S .n
       let c = certificateIn a in
       let d = certificateIn b in
       let named = evidence-names checks Any n round c d first second in
-      let accuses = evidence-elim checks Any (λ m. setOf (entrySeats m) ≡ shared (c .seats) (d .seats) → Accuses S (h .a) (h .b) (render m)) n round c d (taken .some) first second (taken .different)
+      let accuses = evidence-elim checks Any (λ m. setOf (entrySeats m) ≡ shared (c .seats) (d .seats) → Accuses S (h .a) (h .b) (render m)) n round c d (taken .outside .some) first second (taken .conflict)
       (λ lower higher ps z e.
-      let p = accepted-as S 0 range (taken .table) round lower higher ps refl z in
-      let q = evidence-accepted S 0 range (taken .table) round lower higher ps refl z in
+      let p = accepted-as S (taken .outside) round lower higher ps refl z in
+      let q = evidence-accepted S (taken .outside) round lower higher ps refl z in
       record { accepted = p .0; names = p .1 ∙ e; enough = q .1 }) in
       rw bytes (accuses named)

@@ -1,19 +1,20 @@
 -- When a call is not refused (demand 1: "for a cause in the table and for no other"): just where none of its numbers has a cause. Each
 -- record has what a call asks, number by number in the table's words. The claims are both ways, and over every record, possible or not,
--- every message and every buffer. So nothing meets them that refuses anything else, or all; the last claim shows it of a step.
+-- every message and every buffer. So a call that refuses anything else, or all, doesn't meet them; the last claim shows it of a step.
 -- Assumes nothing.
 use Prim.Native.Nat.{ℕ, zero, suc, _+_, _*_, _≤_, _<_}
 use mathlib.Core.Path.{_≡_, refl, sym, subst, _∙_}
-use mathlib.Core.Bool.{Bool, true, false, not, _&&_, _||_}
+use mathlib.Core.Bool.{true, false, not, _&&_, _||_, true≢false}
 use mathlib.Core.List.{List, [], _∷_, _++_, List·Memᴰ·not-nil}
 use mathlib.Core.Logic.{_≢_, _↔_}
 use native.Mathlib.Omega.{arith}
 use native.Mathlib.Decide.{ℕ-discrete}
 use lib.Dec.{ltb, eqb}
 use lib.ListN.{length}
-use borrow.Author.Tests.{ltb-false, le-ltb, lt-leb, eqb-true, eqb-false, eq-eqb, not-false}
+use borrow.Author.Tests.{ltb-false, le-ltb, lt-leb, leb-false, eqb-true, eqb-false, eq-eqb, not-false}
 use Rattle.octets.specs.Octets.{wordAt}
-use Rattle.octets.specs.StringLaws.{same-false}
+use Rattle.octets.specs.Strings.{same}
+use Rattle.octets.specs.StringLaws.{same-refl, same-false}
 use Rattle.quorum.specs.Quorum.{mostSeats}
 use Rattle.refusal.specs.Refusal.{firstOf}
 use Rattle.refusal.specs.Laws.{both-true, both-false, firstOf-zero}
@@ -25,15 +26,18 @@ use Rattle.protocol.specs.Message.{Message, Notice, render, read, signed, seats
 use Rattle.protocol.specs.MessageLaws.{read-render}
 use Rattle.protocol.specs.Certificate.{certificateIn}
 use Rattle.protocol.specs.Record.{lastRound, wrongSize, wrongSeat, wrongRound, impossible, fresh}
-use Rattle.protocol.specs.Refusals.{Condition, NO-CONFLICT-BETWEEN, Checks, every, lengthIsnt, wrongKey, certificateConditions, checkConditions, makeKeyConditions, signConditions, keyAllowed, keysAllowed, wrongKeys, shortStore, shortOut, said, isForStep, isFull, isEvidence, wrongLengths, rising, early, badSignature, notLowerFirst, equalValues, messageConditions, outsideConditions, recordConditions, openingConditions, submitConditions, stepConditions, evidenceConditions, twoConditions, makingConditions}
+use Rattle.protocol.specs.Refusals.{Condition, OUT, NO-CONFLICT-IN, NO-CONFLICT-BETWEEN, Checks, every, lengthIsnt, wrongKey, certificateConditions, checkConditions, makeKeyConditions, signConditions, keyAllowed, keysAllowed, wrongKeys, shortStore, shortOut, said, isForStep, isFull, isEvidence, wrongLengths, rising, early, badSignature, notLowerFirst, equalValues, messageConditions, outsideConditions, recordConditions, openingConditions, submitConditions, stepConditions, evidenceConditions, twoConditions, makingConditions}
 use Rattle.protocol.specs.Signatures.{checkSignature, makeKeyRefusal, makeKey, signRefusal, sign}
 use Rattle.protocol.specs.Calls.{openedBy, opening, resultBy, submit, step, makingBy, making, checkedBy, evidenceCheck}
 use Rattle.protocol.specs.declared.Record.{Record}
 use Rattle.reading.specs.Lists.{each-one}
-use Rattle.claims.specs.Sound.{InRange}
-use Rattle.claims.specs.Unrefused.{size-right, round-right, possible, Taken, opening-range, outside-passed, record-passed, message-passes, submit-taken, step-taken, step-unrefused, evidence-checked, evidence-unrefused, making-taken}
-use Rattle.claims.specs.Journey.{fresh-sound, fresh-settled}
-use Rattle.claims.specs.Units.{Any}
+use Rattle.claims.specs.Sound.{Any, InRange}
+use Rattle.claims.specs.Unrefused.{size-right, round-right, possible, fresh-sound, fresh-settled, Taken, message-taken, message-passes}
+
+-- ---- lengths
+
+length-is : (n : ℕ) (xs : List ℕ) → lengthIsnt n xs ≡ false → length xs ≡ n
+length-is n xs e = eqb-true (length xs) n (not-false (eqb (length xs) n) e)
 
 -- ---- 5: the key table
 
@@ -80,18 +84,38 @@ module _ (keys : List ℕ) where
 
 -- ---- the opening
 
+some-of : (n : ℕ) → wrongSize n ≡ false → (1 ≤ n) × (n ≤ mostSeats)
+unfolding wrongSize
+some-of n e =
+    let s = both-false (eqb n 0) (ltb mostSeats n) e in
+    let nonzero = eqb-false n 0 (s .0) in
+    (omega arith, ltb-false mostSeats n (s .1))
+
 pub record OpeningFit (n seat round : ℕ) (keys : List ℕ) : Type 0 where
   -- 1, 2, 3: n is 1 to 32, the own seat below n, the round 1,023 at most
   pub range : InRange n seat round
   -- 5
   pub table : Table n keys
 
-pub opening-not-refused : (n seat round : ℕ) (keys : List ℕ) → (opening n seat round keys .number ≡ 0) ↔ OpeningFit n seat round keys
-unfolding opening openedBy openingConditions wrongSeat firstOf
-opening-not-refused n seat round keys = (
-  λ e. let r = opening-range n seat round keys e in record { range = r .0; table = keys-right keys n .0 (r .1) },
-  λ t. rw (size-right n (t .range .some) (t .range .most), lt-leb n seat (t .range .inside), round-right round (t .range .early), keys-right keys n .1 (t .table)),
-)
+module _ (n seat round : ℕ) (keys : List ℕ) where
+  opening-fit : firstOf (openingConditions n seat round keys) ≡ 0 → OpeningFit n seat round keys
+  unfolding openingConditions wrongSeat wrongRound
+  opening-fit e =
+      let a = firstOf-zero 0 _ _ e in
+      let b = firstOf-zero 1 _ _ (a .1) in
+      let c = firstOf-zero 2 _ _ (b .1) in
+      let s = some-of n (a .0) in
+      record {
+        range = record { some = s .0; most = s .1; inside = leb-false n seat (b .0); early = ltb-false lastRound round (c .0) };
+        table = keys-right keys n .0 (firstOf-zero 4 _ _ (c .1) .0);
+      }
+
+  pub opening-not-refused : (opening n seat round keys .number ≡ 0) ↔ OpeningFit n seat round keys
+  unfolding opening openedBy openingConditions wrongSeat firstOf
+  opening-not-refused = (
+    opening-fit,
+    λ t. rw (size-right n (t .range .some) (t .range .most), lt-leb n seat (t .range .inside), round-right round (t .range .early), keys-right keys n .1 (t .table)),
+  )
 
 -- ---- submit and step
 
@@ -106,10 +130,22 @@ pub record Lent (keys : List ℕ) (r : Record) (store out : List ℕ) : Type 0 w
   -- 7: "Out buffer: 1,629 + 4,360 × k bytes or more"
   pub outRoom : outLength (r .n) ≤ length out
 
-lent-of : (keys : List ℕ) (r : Record) (store out : List ℕ) (rest : List Condition) → firstOf (recordConditions keys r store out ++ rest) ≡ 0 → Lent keys r store out
+-- and what is left of their lists
+lent-of : (keys : List ℕ) (r : Record) (store out : List ℕ) (rest : List Condition) → firstOf (recordConditions keys r store out ++ rest) ≡ 0 → Lent keys r store out × (firstOf rest ≡ 0)
+unfolding recordConditions shortStore shortOut
 lent-of keys r store out rest e =
-    let lent = record-passed keys r store out rest e .0 in
-    record { possible = lent .0; table = keys-right keys (r .n) .0 (lent .1); storeRoom = lent .2; outRoom = lent .3 }
+    let a = firstOf-zero 3 _ _ e in
+    let b = firstOf-zero 4 _ _ (a .1) in
+    let c = firstOf-zero 5 _ _ (b .1) in
+    let d = firstOf-zero 6 _ _ (c .1) in (
+      record { possible = a .0; table = keys-right keys (r .n) .0 (b .0); storeRoom = ltb-false (length store) (storeLength (r .n)) (c .0); outRoom = ltb-false (length out) (outLength (r .n)) (d .0) },
+      d .1,
+    )
+
+of-lent : (keys : List ℕ) (r : Record) (store out : List ℕ) (rest : List Condition) → Lent keys r store out → firstOf (recordConditions keys r store out ++ rest) ≡ firstOf rest
+unfolding recordConditions shortStore shortOut firstOf
+of-lent keys r store out rest t =
+    rw (t .possible, keys-right keys (r .n) .1 (t .table), le-ltb (length store) (storeLength (r .n)) (t .storeRoom), le-ltb (length out) (outLength (r .n)) (t .outRoom))
 
 pub record SubmitFit (checks : Checks) (keys : List ℕ) (r : Record) (store value signature out : List ℕ) : Type 0 where
   -- 4 to 7
@@ -123,25 +159,27 @@ pub record SubmitFit (checks : Checks) (keys : List ℕ) (r : Record) (store val
   pub checked : checks (r .seat) value signature ≡ true
 
 module _ (checks : Checks) (keys : List ℕ) (r : Record) (store value signature out : List ℕ) where
-  submit-fit : firstOf (submitConditions checks keys r store value signature out) ≡ 0 → SubmitFit checks keys r store value signature out
-  unfolding submitConditions
+  pub submit-fit : firstOf (submitConditions checks keys r store value signature out) ≡ 0 → SubmitFit checks keys r store value signature out
+  unfolding submitConditions said wrongLengths badSignature signed every
   submit-fit e =
-      let t = submit-taken checks keys r store value signature out e in
-      record { lent = lent-of keys r store out _ e; first = t .unsaid; sizedValue = t .sizedValue; sizedSignature = t .sized; checked = t .checked }
+      let lent = lent-of keys r store out _ e in
+      let f = firstOf-zero 7 _ _ (lent .1) in
+      let g = firstOf-zero 8 _ _ (f .1) in
+      let h = firstOf-zero 13 _ _ (g .1) in
+      let lengths = both-false (lengthIsnt valueLength value) (lengthIsnt signatureLength signature) (g .0) in
+      record {
+        lent = lent .0;
+        first = f .0;
+        sizedValue = length-is valueLength value (lengths .0);
+        sizedSignature = length-is signatureLength signature (lengths .1);
+        checked = both-true (checks (r .seat) value signature) true (not-false (checks (r .seat) value signature && true) (h .0)) .0;
+      }
 
   fit-submit : SubmitFit checks keys r store value signature out → firstOf (submitConditions checks keys r store value signature out) ≡ 0
-  unfolding submitConditions recordConditions shortStore shortOut said wrongLengths badSignature signed every firstOf
+  unfolding submitConditions said wrongLengths badSignature signed every firstOf
   fit-submit t =
-      rw (
-        t .lent .possible,
-        keys-right keys (r .n) .1 (t .lent .table),
-        le-ltb (length store) (storeLength (r .n)) (t .lent .storeRoom),
-        le-ltb (length out) (outLength (r .n)) (t .lent .outRoom),
-        t .first,
-        eq-eqb (length value) valueLength (t .sizedValue),
-        eq-eqb (length signature) signatureLength (t .sizedSignature),
-        t .checked,
-      )
+      of-lent keys r store out _ (t .lent)
+      ∙ rw (t .first, eq-eqb (length value) valueLength (t .sizedValue), eq-eqb (length signature) signatureLength (t .sizedSignature), t .checked)
 
   pub submit-not-refused : (submit checks keys r store value signature out .refusal ≡ 0) ↔ SubmitFit checks keys r store value signature out
   unfolding submit resultBy
@@ -157,15 +195,24 @@ pub record StepFit (checks : Checks) (keys : List ℕ) (r : Record) (store bytes
   -- 13: no SUBMIT before the own submit
   pub timely : early r (read (r .n) bytes) ≡ false
 
-pub step-not-refused : (checks : Checks) (keys : List ℕ) (r : Record) (store bytes out : List ℕ)
-    → (step checks keys r store bytes out .refusal ≡ 0) ↔ StepFit checks keys r store bytes out
-unfolding step resultBy stepConditions
-step-not-refused checks keys r store bytes out = (
-  λ e.
-      let t = step-taken checks keys r store (read (r .n) bytes) out e in
-      record { lent = lent-of keys r store out _ e; forStep = t .1; message = t .2; timely = t .3 },
-  λ t. step-unrefused checks keys r store (read (r .n) bytes) out (t .lent .possible) (keys-right keys (r .n) .1 (t .lent .table)) (t .lent .storeRoom) (t .lent .outRoom) (t .forStep) (t .timely) (t .message),
-)
+module _ (checks : Checks) (keys : List ℕ) (r : Record) (store bytes out : List ℕ) where
+  abbrev heard : Message
+  heard = read (r .n) bytes
+
+  pub step-fit : firstOf (stepConditions checks keys r store heard out) ≡ 0 → StepFit checks keys r store bytes out
+  unfolding stepConditions messageConditions
+  step-fit e =
+      let lent = lent-of keys r store out _ e in
+      let t = message-taken checks (r .n) (r .round) (isForStep heard) (early r heard) heard [] (lent .1) .0 in
+      record { lent = lent .0; forStep = t .0; message = t .1; timely = t .2 }
+
+  fit-step : StepFit checks keys r store bytes out → firstOf (stepConditions checks keys r store heard out) ≡ 0
+  unfolding stepConditions messageConditions firstOf
+  fit-step t = of-lent keys r store out _ (t .lent) ∙ message-passes checks (r .n) (r .round) (isForStep heard) (early r heard) heard [] (t .forStep) (t .message) (t .timely)
+
+  pub step-not-refused : (step checks keys r store bytes out .refusal ≡ 0) ↔ StepFit checks keys r store bytes out
+  unfolding step resultBy
+  step-not-refused = (step-fit, fit-step)
 
 -- a message as document 01 lays it out
 pub message-not-refused : (checks : Checks) (keys : List ℕ) (r : Record) (store out : List ℕ) (m : Message) → Lent keys r store out → WellFormed (r .n) m → isForStep m ≡ true → Taken checks (r .n) (r .round) m
@@ -202,19 +249,40 @@ pub record EvidenceFit (checks : Checks) (n round : ℕ) (keys bytes : List ℕ)
   -- 15: the lower value comes first
   pub conflict : notLowerFirst (read n bytes) ≡ false
 
-outside-of : (n round : ℕ) (keys : List ℕ) (rest : List Condition) → firstOf (outsideConditions n round keys ++ rest) ≡ 0 → Outside n round keys
+outside-of : (n round : ℕ) (keys : List ℕ) (rest : List Condition) → firstOf (outsideConditions n round keys ++ rest) ≡ 0 → Outside n round keys × (firstOf rest ≡ 0)
+unfolding outsideConditions wrongRound
 outside-of n round keys rest e =
-    let outside = outside-passed n round keys rest e .0 in
-    record { some = outside .0; most = outside .1; inTime = outside .2; table = keys-right keys n .0 (outside .3) }
+    let a = firstOf-zero 0 _ _ e in
+    let b = firstOf-zero 2 _ _ (a .1) in
+    let c = firstOf-zero 4 _ _ (b .1) in
+    let s = some-of n (a .0) in
+    (record { some = s .0; most = s .1; inTime = ltb-false lastRound round (b .0); table = keys-right keys n .0 (c .0) }, c .1)
 
-pub evidence-not-refused : (checks : Checks) (n round : ℕ) (keys bytes : List ℕ) → (evidenceCheck checks n round keys bytes .number ≡ 0) ↔ EvidenceFit checks n round keys bytes
-unfolding evidenceCheck checkedBy evidenceConditions outsideConditions
-evidence-not-refused checks n round keys bytes = (
-  λ e. let t = evidence-checked checks n round keys (read n bytes) e in record { outside = outside-of n round keys _ e; isOne = t .0; message = t .1; conflict = t .2 },
-  λ t.
-      let o = t .outside in
-      evidence-unrefused checks n 0 round keys (read n bytes) (record { some = o .some; most = o .most; inside = o .some; early = o .inTime }) (keys-right keys n .1 (o .table)) (t .isOne) (t .message) (t .conflict),
-)
+of-outside : (n round : ℕ) (keys : List ℕ) (rest : List Condition) → Outside n round keys → firstOf (outsideConditions n round keys ++ rest) ≡ firstOf rest
+unfolding outsideConditions firstOf
+of-outside n round keys rest t = rw (size-right n (t .some) (t .most), round-right round (t .inTime), keys-right keys n .1 (t .table))
+
+module _ (checks : Checks) (n round : ℕ) (keys bytes : List ℕ) where
+  abbrev given : Message
+  given = read n bytes
+
+  evidence-fit : firstOf (evidenceConditions checks n round keys given) ≡ 0 → EvidenceFit checks n round keys bytes
+  unfolding evidenceConditions outsideConditions messageConditions
+  evidence-fit e =
+      let outside = outside-of n round keys _ e in
+      let t = message-taken checks n round (isEvidence given) false given (NO-CONFLICT-IN given ∷ []) (outside .1) in
+      record { outside = outside .0; isOne = t .0 .0; message = t .0 .1; conflict = firstOf-zero 14 _ _ (t .1) .0 }
+
+  fit-evidence : EvidenceFit checks n round keys bytes → firstOf (evidenceConditions checks n round keys given) ≡ 0
+  unfolding evidenceConditions outsideConditions messageConditions firstOf
+  fit-evidence t =
+      of-outside n round keys (messageConditions checks n round (isEvidence given) false given ++ NO-CONFLICT-IN given ∷ []) (t .outside)
+      ∙ message-passes checks n round (isEvidence given) false given (NO-CONFLICT-IN given ∷ []) (t .isOne) (t .message) refl
+      ∙ rw (t .conflict)
+
+  pub evidence-not-refused : (evidenceCheck checks n round keys bytes .number ≡ 0) ↔ EvidenceFit checks n round keys bytes
+  unfolding evidenceCheck checkedBy
+  evidence-not-refused = (evidence-fit, fit-evidence)
 
 pub record MakingFit (checks : Checks) (n round : ℕ) (keys a b out : List ℕ) : Type 0 where
   -- 1, 3, 5
@@ -231,27 +299,31 @@ pub record MakingFit (checks : Checks) (n round : ℕ) (keys a b out : List ℕ)
   pub conflict : certificateIn (read n a) .value ≢ certificateIn (read n b) .value
 
 module _ (checks : Checks) (n round : ℕ) (keys a b out : List ℕ) where
-  making-fit : firstOf (makingConditions checks n round keys (read n a) (read n b) out) ≡ 0 → MakingFit checks n round keys a b out
-  unfolding makingConditions outsideConditions shortOut
+  abbrev conflict : List Condition
+  conflict = NO-CONFLICT-BETWEEN (read n a) (read n b) ∷ []
+
+  pub making-fit : firstOf (makingConditions checks n round keys (read n a) (read n b) out) ≡ 0 → MakingFit checks n round keys a b out
+  unfolding makingConditions twoConditions certificateConditions messageConditions outsideConditions shortOut equalValues
   making-fit e =
-      let t = making-taken checks n round keys (read n a) (read n b) out e in
-      let s = firstOf-zero 6 _ _ (outside-passed n round keys _ e .1) in
+      let outside = outside-of n round keys _ e in
+      let s = firstOf-zero 6 _ _ (outside .1) in
+      let t = message-taken checks n round (isFull (read n a)) false (read n a) (certificateConditions checks n round (read n b) ++ conflict) (s .1) in
+      let u = message-taken checks n round (isFull (read n b)) false (read n b) conflict (t .1) in
       record {
-        outside = outside-of n round keys _ e;
+        outside = outside .0;
         outRoom = ltb-false (length out) (evidenceOutLength n) (s .0);
-        firstFull = t .fullA;
-        secondFull = t .fullB;
-        first = t .takenA;
-        second = t .takenB;
-        conflict = t .different;
+        firstFull = t .0 .0;
+        secondFull = u .0 .0;
+        first = t .0 .1;
+        second = u .0 .1;
+        conflict = λ d. true≢false (sym (same-refl (certificateIn (read n b) .value)) ∙ subst (λ (v : List ℕ). same v (certificateIn (read n b) .value) ≡ false) d (firstOf-zero 14 _ _ (u .1) .0));
       }
 
   fit-making : MakingFit checks n round keys a b out → firstOf (makingConditions checks n round keys (read n a) (read n b) out) ≡ 0
   unfolding makingConditions twoConditions certificateConditions messageConditions outsideConditions shortOut equalValues firstOf
   fit-making t =
-      let o = t .outside in
-      let conflict = NO-CONFLICT-BETWEEN (read n a) (read n b) ∷ [] in
-      rw (size-right n (o .some) (o .most), round-right round (o .inTime), keys-right keys n .1 (o .table), le-ltb (length out) (evidenceOutLength n) (t .outRoom))
+      of-outside n round keys (OUT (evidenceOutLength n) out ∷ certificateConditions checks n round (read n a) ++ certificateConditions checks n round (read n b) ++ conflict) (t .outside)
+      ∙ rw (le-ltb (length out) (evidenceOutLength n) (t .outRoom))
       (message-passes checks n round (isFull (read n a)) false (read n a) (certificateConditions checks n round (read n b) ++ conflict) (t .firstFull) (t .first) refl
       ∙ message-passes checks n round (isFull (read n b)) false (read n b) conflict (t .secondFull) (t .second) refl
       ∙ rw (same-false (certificateIn (read n a) .value) (certificateIn (read n b) .value) (t .conflict)))
@@ -261,9 +333,6 @@ module _ (checks : Checks) (n round : ℕ) (keys a b out : List ℕ) where
   making-not-refused = (making-fit, fit-making)
 
 -- ---- keys and signatures
-
-length-is : (n : ℕ) (xs : List ℕ) → lengthIsnt n xs ≡ false → length xs ≡ n
-length-is n xs e = eqb-true (length xs) n (not-false (eqb (length xs) n) e)
 
 pub record CheckFit (key message signature : List ℕ) : Type 0 where
   -- 5: one key of 56 bytes, of types allowed

@@ -35,7 +35,7 @@ use Rattle.claims.specs.Slots.{fill-length, slot-fill-same, slot-fill-ot
 use Rattle.claims.specs.Sound.{flagOf, Heard, Held, Grows, Room, Attested, Certifies, Pairs, Collection, Holding, Sound, Said, Good, Leads}
 use Rattle.claims.specs.Certificates.{entries-of, evidence-elim}
 
--- ---- records that go on
+-- ---- growth of records
 
 pub grows-refl : (r : Record) → Grows r r
 grows-refl r = record { n = refl; seat = refl; round = refl; said = λ e. (e, refl); heard = λ v h. h; held = λ v h. h }

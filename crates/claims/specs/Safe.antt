@@ -20,13 +20,14 @@ use Rattle.protocol.specs.declared.Record.{Record}
 use Rattle.round.specs.Round.{Setting, IsOpened, Each, Relation, EachSigned, Call, BySubmit, ByStep, ByThinEntry, InHand, Honest, IsStep, Called, resultOf, StandsIn, listOf, Submits, WritesEvidence, makingOf, MakesEvidence, Names, AcceptedFrom, Delivered}
 use Rattle.round.specs.Demand3.{Takes, NoneForged, NoneBlamed}
 use Rattle.reading.specs.Lists.{each-nil, each-one}
-use Rattle.claims.specs.Sound.{Certifies, Pairs, Good}
+use Rattle.claims.specs.Sound.{Any, Certifies, Pairs, Good}
 use Rattle.claims.specs.Certificates.{certifies-of, evidence-elim}
 use Rattle.reading.specs.Reading.{Sized, read-sized, are-unique}
-use Rattle.claims.specs.Unrefused.{Taken, signed-pairs, evidence-checked, making-taken, entries-taken}
+use Rattle.claims.specs.Unrefused.{Taken, signed-pairs, entries-taken}
+use Rattle.claims.specs.NotRefused.{evidence-not-refused, making-fit}
 use Rattle.reading.specs.Messages.{refusalOf, cameTo, counted-written, unrefused-result}
 use Rattle.claims.specs.Journey.{WorthyGiven, Worthy, At, submit-value}
-use Rattle.claims.specs.Units.{Any, any-worthy, startOf, endOf, start-n, start-seat, stop, writes-good, pairs-formed}
+use Rattle.claims.specs.Units.{any-worthy, startOf, endOf, start-n, start-seat, stop, writes-good, pairs-formed}
 
 -- a value isn't lower than itself
 lower-self : (v : List ℕ) → isLower v v ≡ false
@@ -109,7 +110,7 @@ module _ (S : Setting) where
 
     -- ---- an honest seat
 
-    -- it did submit what a delivered signature of it stands over, and what it has stored itself
+    -- it submitted the layout of a signature of its own that was delivered, or that it has stored itself
     submitted-of : (i : I) (value signature : List ℕ) → checks (boat i .seat) value signature ≡ true → Backed i (boat i .seat) value signature → (Submits S (boat i) value → ⊥) → ⊥
     submitted-of i value signature c (inl r) never = true≢false (sym c ∙ none i value signature r never)
     submitted-of i value signature c (inr s) never = never (s .1)
@@ -176,15 +177,15 @@ module _ (S : Setting) where
     making-unnamed i j h m d e stands named =
         let a = read n (h .a) in
         let b = read n (h .b) in
-        let t = making-taken checks n round keys a b (h .out) e in
+        let t = making-fit checks n round keys (h .a) (h .b) (h .out) e in
         let r = takes .makings j h d (making-number h e) in
-        let ca = certifies-in checks R n round a (t .fullA) (t .takenA) (read-sized n (h .a)) (r .0) in
-        let cb = certifies-in checks R n round b (t .fullB) (t .takenB) (read-sized n (h .b)) (r .1) in
+        let ca = certifies-in checks R n round a (t .firstFull) (t .first) (read-sized n (h .a)) (r .0) in
+        let cb = certifies-in checks R n round b (t .secondFull) (t .second) (read-sized n (h .b)) (r .1) in
         let bytes : makingOf S h ≡ render (evidenceFrom h) = making-bytes h ∙ rw e in
-        evidence-elim checks R (λ x. makingOf S h ≡ render x → ⊥) n round (certificateIn a) (certificateIn b) (t .some) ca cb (t .different)
+        evidence-elim checks R (λ x. makingOf S h ≡ render x → ⊥) n round (certificateIn a) (certificateIn b) (t .outside .some) ca cb (t .conflict)
         (λ lower higher ps z is.
         let x = Evidence round lower higher ps in
-        let only = are-unique n (makingOf S h) (stands .0) (x ∷ []) (stands .1) (each-one (WellFormed n) x (pairs-formed checks R n round lower higher ps (t .early) z), is ∙ sym (append-nil (render x))) in
+        let only = are-unique n (makingOf S h) (stands .0) (x ∷ []) (stands .1) (each-one (WellFormed n) x (pairs-formed checks R n round lower higher ps (t .outside .inTime) z), is ∙ sym (append-nil (render x))) in
         let same : m ≡ x = List·Memᴰ·eq-of-singleton (subst (λ ms. List·Memᴰ m ms) only (stands .2)) in
         unnamed i j lower higher ps (z .ordered) (backed-both j R n lower higher ps (λ s v g w. inl w) z) (subst (λ y. List·Memᴰ (boat i .seat) (entrySeats y)) same named))
         bytes
@@ -203,8 +204,8 @@ module _ (S : Setting) where
     accepted-safe : (i : I) (evidence : List ℕ) → AcceptedFrom S R evidence → Names S evidence (boat i .seat) → ⊥
     unfolding evidenceCheck checkedBy entrySeats formSeats evidenceForm notLowerFirst signed
     accepted-safe i evidence a d =
-        let t = evidence-checked checks n round keys (read n evidence) (a .0) in
-        evidence-cases (λ x. Taken checks n round x → notLowerFirst x ≡ false → Sized n x → EachSigned R x → List·Memᴰ (boat i .seat) (entrySeats x) → ⊥) (read n evidence) (t .0)
+        let t = evidence-not-refused checks n round keys evidence .0 (a .0) in
+        evidence-cases (λ x. Taken checks n round x → notLowerFirst x ≡ false → Sized n x → EachSigned R x → List·Memᴰ (boat i .seat) (entrySeats x) → ⊥) (read n evidence) (t .isOne)
         (λ ρ lower higher ps taken low sized r e.
         let own = laid-values lower higher ps sized in
         unnamed i i lower higher ps (not-false (isLower lower higher) low)
@@ -212,7 +213,7 @@ module _ (S : Setting) where
         let c = signed-pairs (λ s v g. checks s v g ≡ true) lower higher ps own (taken .checked) p m in
         let b = signed-pairs R lower higher ps own r p m in
         (c .0, inl (b .0), c .1, inl (b .1))) e)
-        (t .1) (t .2) (read-sized n evidence) (a .1) d
+        (t .message) (t .conflict) (read-sized n evidence) (a .1) d
 
 -- ---- the claim
 

@@ -1,5 +1,5 @@
--- What holds of record and store all along a list of calls, with what a stored signature is worth as a parameter; and how a
--- record goes on from call to call.
+-- The invariant of record and store along a list of calls, with the worth of a stored signature as a parameter; and the growth of a
+-- record from call to call.
 -- Assumes nothing.
 use mathlib.Core.Path.{_≡_}
 use mathlib.Core.Bool.{Bool, true, false, not}
@@ -23,7 +23,7 @@ use Rattle.protocol.specs.declared.Record.{Record}
 use Rattle.round.specs.Round.{Each, Relation}
 use Rattle.round.specs.Demand1.{Kind, SUBMIT, NOTICE, FULL, EVIDENCE, isOf, worth, count}
 
--- ---- how a record goes on
+-- ---- growth of a record
 
 -- the value is among the notices heard, or two others are
 abbrev pub Heard : List ℕ → Record → Type 0
@@ -52,6 +52,10 @@ flagOf EVIDENCE r = not (eqb (r .guilty) 0)
 -- messages written, and the flag set: a message is written just where its flag comes to be set
 abbrev pub Counts : Record → List Message → Record → Type 0
 Counts r ms r′ = (κ : Kind) → count (isOf κ) ms + worth (flagOf κ r) ≡ worth (flagOf κ r′)
+
+-- every signature is worth something
+abbrev pub Any : Relation
+Any seat value signature = Unit {0}
 
 -- ---- n, seat and round
 

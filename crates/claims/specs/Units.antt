@@ -1,7 +1,7 @@
 -- An honest unit's list: it starts from the record with nothing set, and what its calls write are messages one after another.
 -- Assumes nothing.
 use mathlib.Core.Path.{_≡_, refl, sym, ap, subst, _∙_}
-use mathlib.Core.Bool.{true, false}
+use mathlib.Core.Bool.{true}
 use mathlib.Core.List.{List, List·Memᴰ}
 use Prim.Native.Nat.{ℕ, _≤_}
 use native.Mathlib.Omega.{arith}
@@ -9,19 +9,20 @@ use Rattle.quorum.specs.Quorum.{k}
 use Rattle.refusal.specs.Refusal.{unrefused}
 use Rattle.protocol.specs.Message.{Pair, Message, Submit, Notice, Full, Evidence, Garbled, WellFormed}
 use Rattle.protocol.specs.Record.{fresh, lastRound}
-use Rattle.protocol.specs.Refusals.{Checks, wrongKeys}
+use Rattle.protocol.specs.Refusals.{Checks}
 use Rattle.protocol.specs.Calls.{openedBy, opening}
 use Rattle.protocol.specs.declared.Record.{Record}
 use Rattle.round.specs.Round.{Setting, IsOpened, Each, Relation, Call, BySubmit, ByStep, ByThinEntry, Honest, Called, resultOf, writtenIn, Are, StandsIn, listOf, Writes}
 use Rattle.round.specs.Demand1.{Kind, SUBMIT, NOTICE, FULL, EVIDENCE, isOf, worth, writtenOver}
 use Rattle.reading.specs.Lists.{worth-le-one, worth-true, true-of-worth, count-pos, count-member}
-use Rattle.claims.specs.Sound.{flagOf, Grows, InRange, Settled, Pairs, Sound, Good}
+use Rattle.claims.specs.Sound.{Any, flagOf, Grows, InRange, Settled, Pairs, Sound, Good}
 use Rattle.claims.specs.Certificates.{entries-laid, pairs-laid}
 use Rattle.claims.specs.Parts.{grows-trans, good-grows}
 use Rattle.reading.specs.Reading.{are-unique}
-use Rattle.claims.specs.Unrefused.{opening-range}
+use Rattle.claims.specs.NotRefused.{OpeningFit, opening-not-refused, Outside}
 use Rattle.reading.specs.Messages.{messages, allMessages, all-member, member-all, written-is, over-are}
-use Rattle.claims.specs.Journey.{lastOf, WorthyGiven, Worthy, At, Journey, journey, fresh-sound, fresh-settled}
+use Rattle.claims.specs.Unrefused.{fresh-sound, fresh-settled}
+use Rattle.claims.specs.Journey.{lastOf, WorthyGiven, Worthy, At, Journey, journey}
 
 -- ---- messages that a unit writes are laid out as document 01 says
 
@@ -46,10 +47,6 @@ good-formed checks W r (Full ρ sender value es) range g =
     (rw (g .0 .ofRound) (let e = range .early in omega arith), g .0 .sized, g .1 .many, entries-laid checks W (r .n) value es (g .1))
 good-formed checks W r (Evidence ρ lower higher ps) range g = pairs-formed checks W (r .n) ρ lower higher ps (rw (g .0) (range .early)) (g .1)
 good-formed checks W r Garbled range g = absurd g
-
--- every signature is worth something
-abbrev pub Any : Relation
-Any seat value signature = Unit {0}
 
 any-given : (S : Setting) (c : Call) (r : Record) → WorthyGiven S Any c r
 any-given S (BySubmit value signature out) r = tt
@@ -80,13 +77,14 @@ module _ (S : Setting) (u : Honest) (opened : IsOpened S u) where
   abbrev ts : List Called
   ts = listOf S u
 
-  pub opened-range : InRange n (u .seat) round
-  unfolding opening openedBy
-  opened-range = opening-range n (u .seat) round keys opened .0
+  pub opened-fit : OpeningFit n (u .seat) round keys
+  opened-fit = opening-not-refused n (u .seat) round keys .0 opened
 
-  pub opened-keys : wrongKeys n keys ≡ false
-  unfolding opening openedBy
-  opened-keys = opening-range n (u .seat) round keys opened .1
+  pub opened-range : InRange n (u .seat) round
+  opened-range = opened-fit .range
+
+  pub opened-outside : Outside n round keys
+  opened-outside = record { some = opened-range .some; most = opened-range .most; inTime = opened-range .early; table = opened-fit .table }
 
   opened-fresh : startOf ≡ fresh n (u .seat) round
   unfolding opening openedBy unrefused

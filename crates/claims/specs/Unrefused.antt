@@ -1,31 +1,33 @@
--- What it says that a call isn't refused, and when it isn't.
+-- Records that aren't impossible, messages that aren't refused, and what such a message brings.
 -- Assumes nothing.
-use mathlib.Core.Path.{_≡_, refl, sym, ap, subst, _∙_}
-use mathlib.Core.Bool.{Bool, true, false, not, _&&_, _||_, true≢false}
+use mathlib.Core.Path.{_≡_, refl, ap, _∙_}
+use mathlib.Core.Bool.{Bool, true, false, not, _&&_, _||_, false≢true}
 use mathlib.Core.List.{List, [], _∷_, _++_, map, List·Memᴰ·head, List·Memᴰ·tail, Memᴰ·map}
-use mathlib.Core.Logic.{⊎-elim, _≢_}
+use mathlib.Core.Logic.{inl, ⊎-elim}
 use Prim.Native.Nat.{ℕ, _≤_, _<_}
 use native.Mathlib.Omega.{arith}
 use lib.Dec.{ltb, eqb}
 use lib.ListN.{length}
-use borrow.Author.Tests.{ltb-true, ltb-false, lt-ltb, le-ltb, lt-leb, leb-false, eqb-true, eqb-false, eq-eqb, ne-eqb, not-true, not-false}
+use lib.Pow.{pow-pos}
+use borrow.Author.Tests.{ltb-true, lt-ltb, le-ltb, lt-leb, eqb-true, eqb-false, eq-eqb, ne-eqb, not-true, not-false}
 use Rattle.octets.specs.Strings.{same}
 use Rattle.octets.specs.StringLaws.{same-refl}
 use Rattle.quorum.specs.Quorum.{mostSeats, k, has, size, shared}
-use Rattle.quorum.specs.QuorumLaws.{has-true, outside-false, size-empty}
+use Rattle.quorum.specs.QuorumLaws.{has-true, outside-false, bit-empty, size-empty}
 use Rattle.refusal.specs.Refusal.{firstOf}
-use Rattle.refusal.specs.Laws.{both-true, both-false, firstOf-zero}
-use Rattle.protocol.specs.Layout.{valueLength, signatureLength, storeLength, outLength}
+use Rattle.refusal.specs.Laws.{firstOf-zero}
+use Rattle.protocol.specs.Layout.{signatureLength}
 use Rattle.protocol.specs.Values.{unset}
 use Rattle.protocol.specs.Entries.{formSeats}
 use Rattle.protocol.specs.Message.{Entry, Pair, Message, Submit, Notice, Full, Evidence, Garbled, fullForm, evidenceForm, Signed, signedEntries, signedPairs, signed, roundOf, entrySeats, seatsOf}
-use Rattle.protocol.specs.Certificate.{certificateIn}
-use Rattle.protocol.specs.Record.{lastRound, wrongSize, wrongSeat, wrongRound, noneHeard, holds, outOfRange, wrongHeard, namesStranger, wrongCollected, wrongFirst, lacksFirst, wrongGuilty, wrongSent, wrongUnset, impossible}
-use Rattle.protocol.specs.Refusals.{Condition, Checks, every, wrongKeys, shortStore, shortOut, said, isForStep, isFull, isEvidence, wrongLengths, otherRound, stranger, rising, disorder, early, badSignature, notLowerFirst, NO-CONFLICT-IN, NO-CONFLICT-BETWEEN, messageConditions, outsideConditions, recordConditions, openingConditions, submitConditions, stepConditions, evidenceConditions, equalValues, certificateConditions, twoConditions, makingConditions}
+use Rattle.protocol.specs.Record.{fresh, lastRound, wrongSize, wrongSeat, wrongRound, noneHeard, holds, outOfRange, wrongHeard, namesStranger, wrongCollected, wrongFirst, lacksFirst, wrongGuilty, wrongSent, wrongUnset, impossible}
+use Rattle.protocol.specs.Refusals.{Condition, Checks, every, said, otherRound, stranger, rising, disorder, early, badSignature, messageConditions}
+use Rattle.protocol.specs.Step.{owesFull}
 use Rattle.protocol.specs.declared.Record.{Record}
 use Rattle.round.specs.Round.{Each, Relation, EachSigned}
 use Rattle.reading.specs.Lists.{or-true-either, each-nil, each-cons, each-map, every-each, each-every}
 use Rattle.claims.specs.Sound.{InRange, Settled, Attested, Entries, Pairs, Sound}
+use Rattle.claims.specs.Parts.{shared-none, k-pos}
 use Rattle.claims.specs.Whole.{Brings}
 use Rattle.reading.specs.Reading.{Sized}
 
@@ -103,73 +105,37 @@ module _ (checks : Checks) (W : Relation) (r : Record) (store : List ℕ) (z : S
   unfolding impossible
   possible = rw (in-range, heard-right, no-stranger, collected-right, first-right, first-there, guilty-right, sent-right, unset-right)
 
--- ---- an opening that isn't refused
+-- ---- nor is the one with nothing set, with any store
 
-some-of : (n : ℕ) → wrongSize n ≡ false → (1 ≤ n) × (n ≤ mostSeats)
-unfolding wrongSize
-some-of n e =
-    let s = both-false (eqb n 0) (ltb mostSeats n) e in
-    let nonzero = eqb-false n 0 (s .0) in
-    (omega arith, ltb-false mostSeats n (s .1))
+pub fresh-sound : (checks : Checks) (W : Relation) (n seat round : ℕ) (store : List ℕ) → InRange n seat round → Sound checks W (fresh n seat round) store
+unfolding fresh unset
+fresh-sound checks W n seat round store range = record {
+  range = range;
+  own = record {
+    collection = record { sized = refl; below = pow-pos n; few = omega (arith, size-empty); attested = λ s i. absurd (omega (arith, bit-empty s)) };
+    unsaid = λ e. (refl, refl);
+    said = λ e. absurd (false≢true e);
+  };
+  heard = record { few = omega arith; unheard = λ e. refl };
+  first = record {
+    sized = refl;
+    below = pow-pos n;
+    enough = inl refl;
+    attested = λ s i. absurd (omega (arith, bit-empty s));
+    guiltyBelow = pow-pos n;
+    guiltyWithin = shared-none 0;
+    unheld = λ e. (refl, refl);
+  };
+  flags = record { full = λ e. absurd (false≢true e); confirmed = λ e. absurd (false≢true e) };
+}
 
-pub opening-range : (n seat round : ℕ) (keys : List ℕ) → firstOf (openingConditions n seat round keys) ≡ 0 → InRange n seat round × (wrongKeys n keys ≡ false)
-unfolding openingConditions wrongSeat wrongRound
-opening-range n seat round keys e =
-    let a = firstOf-zero 0 _ _ e in
-    let b = firstOf-zero 1 _ _ (a .1) in
-    let c = firstOf-zero 2 _ _ (b .1) in
-    let d = firstOf-zero 4 _ _ (c .1) in
-    let s = some-of n (a .0) in
-    (record { some = s .0; most = s .1; inside = leb-false n seat (b .0); early = ltb-false lastRound round (c .0) }, d .0)
-
--- ---- what the lists of several calls start with, and what is left of them
-
--- n, round and key table
-pub outside-passed : (n round : ℕ) (keys : List ℕ) (rest : List Condition) → firstOf (outsideConditions n round keys ++ rest) ≡ 0
-    → ((1 ≤ n) × (n ≤ mostSeats) × (round ≤ lastRound) × (wrongKeys n keys ≡ false)) × (firstOf rest ≡ 0)
-unfolding outsideConditions wrongRound
-outside-passed n round keys rest e =
-    let a = firstOf-zero 0 _ _ e in
-    let b = firstOf-zero 2 _ _ (a .1) in
-    let c = firstOf-zero 4 _ _ (b .1) in
-    let s = some-of n (a .0) in
-    ((s .0, s .1, ltb-false lastRound round (b .0), c .0), c .1)
-
--- record, key table, store and out
-pub record-passed : (keys : List ℕ) (r : Record) (store out : List ℕ) (rest : List Condition) → firstOf (recordConditions keys r store out ++ rest) ≡ 0
-    → ((impossible r ≡ false) × (wrongKeys (r .n) keys ≡ false) × (storeLength (r .n) ≤ length store) × (outLength (r .n) ≤ length out)) × (firstOf rest ≡ 0)
-unfolding recordConditions shortStore shortOut
-record-passed keys r store out rest e =
-    let a = firstOf-zero 3 _ _ e in
-    let b = firstOf-zero 4 _ _ (a .1) in
-    let c = firstOf-zero 5 _ _ (b .1) in
-    let d = firstOf-zero 6 _ _ (c .1) in
-    ((a .0, b .0, ltb-false (length store) (storeLength (r .n)) (c .0), ltb-false (length out) (outLength (r .n)) (d .0)), d .1)
-
--- ---- a submit that isn't refused
-
-pub record SubmitTaken (checks : Checks) (r : Record) (store value signature : List ℕ) : Type 0 where
-  pub room : storeLength (r .n) ≤ length store
-  pub unsaid : r .own .submitted ≡ false
-  pub sizedValue : length value ≡ valueLength
-  pub sized : length signature ≡ signatureLength
-  pub checked : checks (r .seat) value signature ≡ true
-
-pub submit-taken : (checks : Checks) (keys : List ℕ) (r : Record) (store value signature out : List ℕ) → firstOf (submitConditions checks keys r store value signature out) ≡ 0 → SubmitTaken checks r store value signature
-unfolding submitConditions said wrongLengths badSignature signed every
-submit-taken checks keys r store value signature out e =
-    let lent = record-passed keys r store out _ e in
-    let f = firstOf-zero 7 _ _ (lent .1) in
-    let g = firstOf-zero 8 _ _ (f .1) in
-    let h = firstOf-zero 13 _ _ (g .1) in
-    let lengths = both-false (not (eqb (length value) valueLength)) (not (eqb (length signature) signatureLength)) (g .0) in
-    record {
-      room = lent .0 .2;
-      unsaid = f .0;
-      sizedValue = eqb-true (length value) valueLength (not-false (eqb (length value) valueLength) (lengths .0));
-      sized = eqb-true (length signature) signatureLength (not-false (eqb (length signature) signatureLength) (lengths .1));
-      checked = both-true (checks (r .seat) value signature) true (not-false (checks (r .seat) value signature && true) (h .0)) .0;
-    }
+pub fresh-settled : (n seat round : ℕ) → 1 ≤ n → Settled (fresh n seat round)
+unfolding fresh owesFull
+fresh-settled n seat round some = record {
+  complete = λ e. absurd (omega (arith, size-empty, k-pos n some));
+  holds = λ e. absurd (false≢true e);
+  owes = refl;
+}
 
 -- ---- the signatures of a message, entry by entry
 
@@ -261,69 +227,6 @@ module _ (checks : Checks) (n round : ℕ) (takes comes-early : Bool) (m : Messa
   message-passes f t g =
       let h = of-taken checks n round m t in
       rw (f, h .0, h .1, h .2, g, h .3)
-
--- a step's
-pub step-taken : (checks : Checks) (keys : List ℕ) (r : Record) (store : List ℕ) (m : Message) (out : List ℕ) → firstOf (stepConditions checks keys r store m out) ≡ 0
-    → (storeLength (r .n) ≤ length store) × (isForStep m ≡ true) × Taken checks (r .n) (r .round) m × (early r m ≡ false)
-unfolding stepConditions messageConditions
-step-taken checks keys r store m out e =
-    let lent = record-passed keys r store out _ e in
-    let t = message-taken checks (r .n) (r .round) (isForStep m) (early r m) m [] (lent .1) .0 in
-    (lent .0 .2, t .0, t .1, t .2)
-
-pub step-unrefused : (checks : Checks) (keys : List ℕ) (r : Record) (store : List ℕ) (m : Message) (out : List ℕ) → impossible r ≡ false → wrongKeys (r .n) keys ≡ false
-    → storeLength (r .n) ≤ length store → outLength (r .n) ≤ length out → isForStep m ≡ true → early r m ≡ false → Taken checks (r .n) (r .round) m
-    → firstOf (stepConditions checks keys r store m out) ≡ 0
-unfolding stepConditions recordConditions messageConditions shortStore shortOut firstOf
-step-unrefused checks keys r store m out a b c d f g t =
-    rw (a, b, le-ltb (length store) (storeLength (r .n)) c, le-ltb (length out) (outLength (r .n)) d)
-    (message-passes checks (r .n) (r .round) (isForStep m) (early r m) m [] f t g)
-
-pub evidence-unrefused : (checks : Checks) (n seat round : ℕ) (keys : List ℕ) (m : Message) → InRange n seat round → wrongKeys n keys ≡ false → isEvidence m ≡ true
-    → Taken checks n round m → notLowerFirst m ≡ false → firstOf (evidenceConditions checks n round keys m) ≡ 0
-unfolding evidenceConditions outsideConditions messageConditions firstOf
-evidence-unrefused checks n seat round keys m range b f t low =
-    rw (size-right n (range .some) (range .most), round-right round (range .early), b)
-    (message-passes checks n round (isEvidence m) false m (NO-CONFLICT-IN m ∷ []) f t refl ∙ rw low)
-
--- the evidence check's
-pub evidence-checked : (checks : Checks) (n round : ℕ) (keys : List ℕ) (m : Message) → firstOf (evidenceConditions checks n round keys m) ≡ 0
-    → (isEvidence m ≡ true) × Taken checks n round m × (notLowerFirst m ≡ false)
-unfolding evidenceConditions outsideConditions messageConditions
-evidence-checked checks n round keys m e =
-    let t = message-taken checks n round (isEvidence m) false m (NO-CONFLICT-IN m ∷ []) (outside-passed n round keys _ e .1) in
-    (t .0 .0, t .0 .1, firstOf-zero 14 _ _ (t .1) .0)
-
--- a making's: two certificates of different values
-pub record MakingTaken (checks : Checks) (n round : ℕ) (keys : List ℕ) (a b : Message) : Type 0 where
-  pub some : 1 ≤ n
-  pub most : n ≤ mostSeats
-  pub early : round ≤ lastRound
-  pub table : wrongKeys n keys ≡ false
-  pub fullA : isFull a ≡ true
-  pub takenA : Taken checks n round a
-  pub fullB : isFull b ≡ true
-  pub takenB : Taken checks n round b
-  pub different : certificateIn a .value ≢ certificateIn b .value
-
-pub making-taken : (checks : Checks) (n round : ℕ) (keys : List ℕ) (a b : Message) (out : List ℕ) → firstOf (makingConditions checks n round keys a b out) ≡ 0 → MakingTaken checks n round keys a b
-unfolding makingConditions twoConditions certificateConditions messageConditions outsideConditions equalValues
-making-taken checks n round keys a b out e =
-    let outside = outside-passed n round keys _ e in
-    let t = message-taken checks n round (isFull a) false a _ (firstOf-zero 6 _ _ (outside .1) .1) in
-    let u = message-taken checks n round (isFull b) false b (NO-CONFLICT-BETWEEN a b ∷ []) (t .1) in
-    let o = firstOf-zero 14 _ _ (u .1) in
-    record {
-      some = outside .0 .0;
-      most = outside .0 .1;
-      early = outside .0 .2;
-      table = outside .0 .3;
-      fullA = t .0 .0;
-      takenA = t .0 .1;
-      fullB = u .0 .0;
-      takenB = u .0 .1;
-      different = λ d. true≢false (sym (same-refl (certificateIn b .value)) ∙ subst (λ (v : List ℕ). same v (certificateIn b .value) ≡ false) d (o .0));
-    }
 
 -- ---- what it brings
 

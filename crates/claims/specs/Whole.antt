@@ -39,7 +39,7 @@ unfolding reply sendFull write
 reply-stays s =
     cond-elim (λ x. Stays (s .unit) (x .unit)) (owesFull (s .unit)) (sendFull s) s (λ e. record { own = refl; confirmed = refl }) (λ e. record { own = refl; confirmed = refl })
 
--- what FULL is owed for stays too
+-- the cause of FULL stays too
 pub record Quiet (r r′ : Record) : Type 0 where
   pub stays : Stays r r′
   pub owes : owesFull r′ ≡ owesFull r
@@ -213,7 +213,7 @@ module _ (checks : Checks) (W : Relation) where
     unfolding submitOwn write collect setOwnValue
     submitted-value = own-done .leads .grows .said refl
 
-  -- what a message brings that a step doesn't refuse
+  -- facts about a message that a step doesn't refuse
   abbrev pub Brings : Record → Message → Type 0
   Brings r (Submit ρ seat value signature) = (r .own .submitted ≡ true) × (seat < r .n) × Attested checks W seat value signature
   Brings r (Notice ρ seat value) = Unit {0}

@@ -14,7 +14,7 @@ use Rattle.octets.specs.StringLaws.{same-refl}
 use Rattle.quorum.specs.Quorum.{k, bit, In, has, size, shared, with, seats}
 use Rattle.quorum.specs.QuorumLaws.{bit-cases, has-true, bit-with-same, bit-with-other, bit-shared, same-seats, shared-comm, size-shared-le, size-with-new, mem-seats}
 use Rattle.refusal.specs.Refusal.{firstOf, unrefused}
-use Rattle.protocol.specs.Layout.{storeLength, outLength, evidenceEntryLength, evidenceEntryAt, evidenceLength, evidenceOutLength}
+use Rattle.protocol.specs.Layout.{storeLength, outLength, evidenceOutLength}
 use Rattle.protocol.specs.Entries.{formSeats}
 use Rattle.protocol.specs.Message.{Entry, Message, Submit, Notice, Full, Evidence, Garbled, Signed, render, renderAll, read, roundOf, entrySeats, seatsOf, signed, WellFormed, fullForm}
 use Rattle.protocol.specs.MessageLaws.{read-render}
@@ -28,16 +28,16 @@ use Rattle.round.specs.Round.{Setting, Call, ByStep, ByThinEntry, IsStep, Hones
 use Rattle.round.specs.Demand1.{SUBMIT, NOTICE, isNotice, isOf}
 use Rattle.round.specs.Demand3.{NoneForged, ReachedOthers}
 use Rattle.reading.specs.Lists.{cond-elim, and-false-either, worth-le-one, worth-true, true-of-worth, count-nil, each-nil, each-cons, each-one, each-append, each-map, rising-first}
-use Rattle.claims.specs.Sound.{Settled, Attested, Certifies, Entries, Sound, Said}
+use Rattle.claims.specs.Sound.{Any, Settled, Attested, Certifies, Entries, Sound, Said}
 use Rattle.claims.specs.Certificates.{set-size, seats-rising, entries-laid, entry-seats, entries-of, evidence-elim}
 use Rattle.claims.specs.Parts.{in-below}
 use Rattle.claims.specs.Whole.{reply-stays, hearing-stays, Done, submitted-done, submitted-value, stepped-done}
 use Rattle.reading.specs.Reading.{Sized, read-sized}
 use Rattle.reading.specs.Messages.{refusalOf, cameTo, outcome-is, step-is}
-use Rattle.claims.specs.Unrefused.{possible, Taken, entries-signed, full-taken, brings, making-taken}
+use Rattle.claims.specs.Unrefused.{possible, Taken, entries-signed, full-taken, brings}
 use Rattle.claims.specs.Journey.{lastOf, WorthyGiven, Worthy}
-use Rattle.claims.specs.Units.{Any, any-worthy, startOf, endOf, start-n, start-seat, start-round, start-flag, start-sound, start-settled, stop, end-n, end-seat, end-round, flag-written, writes-good, pairs-formed}
-use Rattle.claims.specs.NotRefused.{opening-not-refused, submit-not-refused, message-not-refused, making-not-refused}
+use Rattle.claims.specs.Units.{any-worthy, startOf, endOf, start-n, start-seat, start-round, start-flag, start-sound, start-settled, stop, end-n, end-seat, end-round, flag-written, writes-good, pairs-formed}
+use Rattle.claims.specs.NotRefused.{opening-not-refused, submit-not-refused, message-not-refused, making-not-refused, making-fit}
 use Rattle.claims.specs.Safe.{conditions, evidenceFrom, making-bytes, certifies-in, submits-end}
 use Rattle.claims.specs.Made.{Accuses, made-accepted}
 use Rattle.claims.specs.Claim.{demand-3-any}
@@ -672,11 +672,11 @@ module _ (S : Setting) {I : Type 0} (P : Plan I) (z : Splits S P) where
   made i =
       let h = inHand S P in
       let zero : firstOf (conditions S h) ≡ 0 = making-passes in
-      let t = making-taken checks n round keys (read n (h .a)) (read n (h .b)) out zero in
-      let ca = certifies-in checks Any n round (read n (h .a)) (t .fullA) (t .takenA) (read-sized n (h .a)) (λ s d. tt) in
-      let cb = certifies-in checks Any n round (read n (h .b)) (t .fullB) (t .takenB) (read-sized n (h .b)) (λ s d. tt) in
+      let t = making-fit checks n round keys (h .a) (h .b) out zero in
+      let ca = certifies-in checks Any n round (read n (h .a)) (t .firstFull) (t .first) (read-sized n (h .a)) (λ s d. tt) in
+      let cb = certifies-in checks Any n round (read n (h .b)) (t .secondFull) (t .second) (read-sized n (h .b)) (λ s d. tt) in
       let bytes : makingOf S h ≡ render (evidenceFrom S h) = making-bytes S h ∙ rw zero in
-      evidence-elim checks Any (λ m. makingOf S h ≡ render m → MakesEvidence S (boat S P i) (makingOf S h)) n round (certificateIn (read n (h .a))) (certificateIn (read n (h .b))) (z .fits .some) ca cb (t .different)
+      evidence-elim checks Any (λ m. makingOf S h ≡ render m → MakesEvidence S (boat S P i) (makingOf S h)) n round (certificateIn (read n (h .a))) (certificateIn (read n (h .b))) (z .fits .some) ca cb (t .conflict)
       (λ lower higher ps y is.
       let m = Evidence round lower higher ps in
       record {

@@ -24,11 +24,12 @@ use Rattle.protocol.specs.Calls.{Result, resultBy}
 use Rattle.protocol.specs.declared.Record.{Record}
 use Rattle.round.specs.Round.{Setting, Each, Call, BySubmit, ByStep, ByThinEntry, Called, outcome, resultOf, listFrom, writtenIn, Are, StandsIn}
 use Rattle.reading.specs.Lists.{cond-elim, or-true-either, each-nil, each-append}
+use Rattle.claims.specs.Sound.{Any}
 use Rattle.claims.specs.Parts.{k-pos}
 use Rattle.reading.specs.Reading.{Sized, read-sized}
-use Rattle.claims.specs.Unrefused.{submit-taken, Taken, step-taken, brings}
+use Rattle.claims.specs.Unrefused.{Taken, brings}
+use Rattle.claims.specs.NotRefused.{submit-fit, step-fit}
 use Rattle.reading.specs.Messages.{refusalOf, cameTo, outcome-is, messages}
-use Rattle.claims.specs.Units.{Any}
 use Rattle.paper.specs.Machine.{FullCertificate, Machine, init, Event, Submitted, SubmitDelivered, NoticeDelivered, FullDelivered, Action, Reaction, isSome, ownValue, distinct, conflict, uponEvent, react, Says}
 use Rattle.paper.specs.Memory.{seatsIn, noticesOf, heldFirst, guiltyOf, recordOf, firstEntries, Recorded}
 use Rattle.paper.specs.Events.{delivered, isDelivered, eventOf, reactTo, reaction, DoesAs, actionsOver, TakenIn}
@@ -65,15 +66,15 @@ module _ (S : Setting) (seat : ℕ) (some-seats : 1 ≤ S .n) (inside : seat < S
   step-comes bytes out m store z q =
       let r = recordOf n seat round m in
       let msg = read n bytes in
-      let t = step-taken checks keys r store msg out q in
-      step-is n seat round checks keys m store msg some-seats (t .0) z (brings checks Any r msg (t .2) (t .3) (read-sized n bytes) (λ s d. tt))
+      let t = step-fit checks keys r store bytes out q in
+      step-is n seat round checks keys m store msg some-seats (t .lent .storeRoom) z (brings checks Any r msg (t .message) (t .timely) (read-sized n bytes) (λ s d. tt))
 
   comes : (c : Call) (m : Machine) (store : List ℕ) → Mirrors n store m → refusalOf S c (recordOf n seat round m) store ≡ 0
       → Comes n seat round (cameTo c (recordOf n seat round m) store) (reactTo checks n seat (eventOf n 0 c) m)
   unfolding refusalOf cameTo eventOf isDelivered unrefused reactTo react uponEvent recordOf
   comes (BySubmit value signature out) m store z q =
-      let t = submit-taken checks keys (recordOf n seat round m) store value signature out q in
-      submit-is n seat round checks some-seats (record { machine = m; actions = [] }) store (t .room) z value signature (t .unsaid) inside (t .sized) (t .checked)
+      let t = submit-fit checks keys (recordOf n seat round m) store value signature out q in
+      submit-is n seat round checks some-seats (record { machine = m; actions = [] }) store (t .lent .storeRoom) z value signature (t .first) inside (t .sizedSignature) (t .checked)
   comes (ByStep bytes out) m store z q = step-comes bytes out m store z q
   comes (ByThinEntry bytes out) m store z q = step-comes bytes out m store z q
 
@@ -171,10 +172,10 @@ module _ (S : Setting) (seat : ℕ) (some-seats : 1 ≤ S .n) (inside : seat < S
         → Done (reactTo checks n seat (eventOf n 0 c) m)
     unfolding refusalOf eventOf isDelivered unrefused recordOf
     taken-good (BySubmit value signature out) m store q came z =
-        let t = submit-taken checks keys (recordOf n seat round m) store value signature out q in
-        react-is (Submitted value signature) m (react-good checks n seat Happened some-seats inside (Submitted value signature) m (came (Submitted value signature) refl) (none-is (m .value) (t .unsaid), t .sizedValue) z)
-    taken-good (ByStep bytes out) m store q came z = step-good (read n bytes) m (step-taken checks keys (recordOf n seat round m) store (read n bytes) out q .2) (read-sized n bytes) came z
-    taken-good (ByThinEntry bytes out) m store q came z = step-good (read n bytes) m (step-taken checks keys (recordOf n seat round m) store (read n bytes) out q .2) (read-sized n bytes) came z
+        let t = submit-fit checks keys (recordOf n seat round m) store value signature out q in
+        react-is (Submitted value signature) m (react-good checks n seat Happened some-seats inside (Submitted value signature) m (came (Submitted value signature) refl) (none-is (m .value) (t .first), t .sizedValue) z)
+    taken-good (ByStep bytes out) m store q came z = step-good (read n bytes) m (step-fit checks keys (recordOf n seat round m) store bytes out q .message) (read-sized n bytes) came z
+    taken-good (ByThinEntry bytes out) m store q came z = step-good (read n bytes) m (step-fit checks keys (recordOf n seat round m) store bytes out q .message) (read-sized n bytes) came z
 
     turn-good : (c : Call) (m : Machine) (store : List ℕ) → AtRest n m → Has m
         → let t : Called = record { given = c; unit = recordOf n seat round m; store = store } in List·Memᴰ t all → Done (reaction S seat t m)

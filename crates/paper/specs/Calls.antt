@@ -25,11 +25,10 @@ use Rattle.protocol.specs.Refusals.{Checks}
 use Rattle.protocol.specs.Step.{State, write, collect, setOwnValue, submitOwn, isWanted, hearSubmit, hear, reply, confirmIfComplete, submitted, stepped}
 use Rattle.reading.specs.Lists.{each-one, each-append, each-every}
 use Rattle.claims.specs.Slots.{fill-length, slot-fill-same, slot-fill-other}
-use Rattle.claims.specs.Sound.{Entries}
+use Rattle.claims.specs.Sound.{Any, Entries}
 use Rattle.claims.specs.Certificates.{certifies-of}
 use Rattle.claims.specs.Parts.{k-pos, in-below}
 use Rattle.claims.specs.Whole.{Brings}
-use Rattle.claims.specs.Units.{Any}
 use Rattle.paper.specs.Machine.{FullCertificate, Machine, BroadcastSubmit, Reaction, act, setValue, addCollected, addNoticed, isSome, isOwn, ownValue, isFrom, isFullCertificate, isCollected, uponSubmitDelivered, uponSubmit, uponNoticeDelivered, obtain, uponFullDelivered, confirming, uponQuorum, uponNoticesConflict, uponFullsConflict, uponEvent, uponRules, react}
 use Rattle.paper.specs.Memory.{seatsIn, noticesOf, heldFirst, guiltyOf, recordOf}
 use Rattle.paper.specs.Events.{delivered, reactTo}

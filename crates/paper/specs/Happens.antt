@@ -15,9 +15,10 @@ use Rattle.protocol.specs.Refusals.{isForStep, rising}
 use Rattle.protocol.specs.Calls.{resultBy, step}
 use Rattle.round.specs.Round.{Setting, IsOpened, Each, Call, BySubmit, ByStep, ByThinEntry, Honest, Called, outcome, resultOf, listOf}
 use Rattle.claims.specs.Unrefused.{possible}
-use Rattle.claims.specs.NotRefused.{Table, Lent, keys-right, submit-not-refused}
+use Rattle.claims.specs.NotRefused.{Table, Lent, submit-not-refused}
 use Rattle.claims.specs.Journey.{At}
-use Rattle.claims.specs.Units.{Any, any-worthy, startOf, endOf, opened-keys, start-n, start-seat, start-round, stop}
+use Rattle.claims.specs.Units.{any-worthy, startOf, endOf, opened-fit, start-n, start-seat, start-round, stop}
+use Rattle.claims.specs.Sound.{Any}
 use Rattle.paper.specs.Machine.{Event, Submitted}
 use Rattle.paper.specs.Events.{delivered, isDelivered, eventOf, FitSubmit, FitStep}
 use Rattle.paper.specs.Discards.{fit-delivered}
@@ -34,7 +35,7 @@ module _ (S : Setting) (u : Honest) (opened : IsOpened S u) (c : Called) (inList
   lent : (out : List ℕ) → storeLength n ≤ length (c .store) → outLength n ≤ length out → Lent keys (c .unit) (c .store) out
   lent out store-room out-room = record {
     possible = possible checks Any (c .unit) (c .store) (at .sound) (at .settled);
-    table = subst (λ i. Table i keys) (sym size-is) (keys-right keys n .0 (opened-keys S u opened));
+    table = subst (λ i. Table i keys) (sym size-is) (opened-fit S u opened .table);
     storeRoom = subst (λ i. storeLength i ≤ length (c .store)) (sym size-is) store-room;
     outRoom = subst (λ i. outLength i ≤ length out) (sym size-is) out-room;
   }

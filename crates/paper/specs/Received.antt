@@ -1,4 +1,4 @@
--- Where what the machine sends comes from: the value was submitted, and every signature was received for its seat over its value.
+-- The source of everything that the machine sends: the value was submitted, and every signature was received for its seat over its value.
 -- Assumes nothing.
 use Prim.Native.Nat.{ℕ}
 use mathlib.Core.Path.{_≡_}

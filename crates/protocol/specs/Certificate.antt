@@ -20,7 +20,7 @@ pub record Certificate : Type 0 where
 
 -- ---- the store
 
--- what stands in the slot of a seat
+-- content of a seat's slot
 unfoldable pub slot : ℕ → ℕ → List ℕ → ℕ → List ℕ
 slot n bank store seat = part (slotAt n bank seat) (slotLength bank) store
 

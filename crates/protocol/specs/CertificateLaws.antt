@@ -21,7 +21,7 @@ unfolding setOf
 set-snoc [] s = refl
 set-snoc (x ∷ xs) s = rw (set-snoc xs s) (with-with x s (setOf xs))
 
--- the set of a list of seats has the seats of the list, and a set is that of its own list
+-- the set of a list has the seats of the list, and a set is the set of the list of its seats
 in-one : (s t : ℕ) → In s (one t) → s ≡ t
 in-one s t h = go (ℕ-discrete s t)
   where

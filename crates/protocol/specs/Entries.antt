@@ -1,5 +1,5 @@
--- A list of entries in a message: each starts with a command and a seat, and holds something of a fixed width. FULL's and EVIDENCE's
--- are such lists (`Message`).
+-- A list of entries in a message. An entry is a command, a seat, and a fixed number of bytes. FULL's and EVIDENCE's are such lists
+-- (`Message`).
 -- Assumes nothing.
 use Prim.Native.Nat.{ℕ, zero, suc, _+_}
 use mathlib.Core.Path.{_≡_}
@@ -17,8 +17,8 @@ byteAt bytes i = getD bytes i 0
 abbrev pub Each {ℓ} : {A : Type ℓ} → (A → Type 0) → List A → Type ℓ
 Each {A = A} P xs = (x : A) → List·Memᴰ x xs → P x
 
--- what a list's entries are: where the first stands in its message, their command, how many bytes each holds, its seat, the bytes that it
--- holds, and the entry that a seat and such bytes make
+-- the form of a list: place of its first entry in the message; command of an entry, and number of bytes that it holds; an entry's seat and
+-- bytes, and the entry made of a seat and bytes
 pub record Form (A : Type 0) : Type 0 where
   pub start : ℕ
   pub command : ℕ
@@ -27,11 +27,11 @@ pub record Form (A : Type 0) : Type 0 where
   pub bytes : A → List ℕ
   pub make : ℕ → List ℕ → A
 
--- where the entry of an index stands, counted from 0
+-- place of an entry, by its index from 0
 unfoldable pub placeOf : {A : Type 0} → Form A → ℕ → ℕ
 placeOf form i = entryAt (form .start) (entryLength (form .held)) i
 
--- entries as their form lays them out: each holds as many bytes as the form says, and is what its seat and these bytes make
+-- entries of the form: each holds as many bytes as the form says, and is the one made of its seat and its bytes
 abbrev pub Laid : {A : Type 0} → Form A → List A → Type 0
 Laid {A = A} form es = Each (λ (e : A). (length (form .bytes e) ≡ form .held) × (form .make (form .seat e) (form .bytes e) ≡ e)) es
 
@@ -44,7 +44,7 @@ unfoldable pub renderEntries : {A : Type 0} → Form A → List A → List ℕ
 renderEntries form [] = []
 renderEntries form (e ∷ es) = renderEntry form e ++ renderEntries form es
 
--- ---- what bytes say
+-- ---- the entries in given bytes
 
 -- the first t entries have their command
 unfoldable pub entryCommands : {A : Type 0} → Form A → ℕ → List ℕ → Bool

@@ -1,6 +1,6 @@
--- Lists of entries, whatever they hold: their lengths, what is read of entries written, and what is written of entries read.
+-- Lists of entries of any form: lengths; entries written and read back; entries read and written back.
 -- Assumes nothing.
-use mathlib.Core.Path.{_≡_, refl, sym, ap₂, _∙_}
+use mathlib.Core.Path.{_≡_, refl, sym, ap, ap₂, _∙_}
 use mathlib.Core.Bool.{true, and-eq-true-iff}
 use mathlib.Core.List.{List, [], _∷_, _++_, append-assoc, append-nil, List·Memᴰ·head, List·Memᴰ·tail}
 use Prim.Native.Nat.{ℕ, zero, suc, _+_, _*_, _≤_, _<_}
@@ -9,13 +9,17 @@ use native.Mathlib.Numerals.{add-one}
 use native.Mathlib.Omega.{arith}
 use lib.Dec.{eqb}
 use lib.ListN.{length, take, drop, getD, length-append}
-use lib.Seq.{take-at, drop-at, take-suc, drop-cons, drop-drop, drop-nil, getD-drop}
+use lib.Seq.{take-at, drop-at, take-suc, drop-cons, drop-drop, drop-nil, getD-drop, append-snoc, getD-at}
 use borrow.Author.Tests.{eqb-true, eq-eqb}
 use Rattle.octets.specs.Octets.{part}
 use Rattle.octets.specs.StringLaws.{part-suc}
 use Rattle.octets.specs.WriteLaws.{part-add}
 use Rattle.protocol.specs.Layout.{entryLength}
 use Rattle.protocol.specs.Entries.{Form, Laid, byteAt, placeOf, renderEntry, renderEntries, entryCommands, readEntry, readEntries}
+
+-- the count, a byte between what stands before it and the entries
+pub byte-after : (front : List ℕ) (b : ℕ) (rest : List ℕ) (at : ℕ) → length front ≡ at → byteAt (front ++ b ∷ [] ++ rest) at ≡ b
+byte-after front b rest at l = ap (λ (xs : List ℕ). getD xs at 0) (append-snoc front b rest) ∙ getD-at front b rest 0 at l
 
 module _ {A : Type 0} (form : Form A) where
   pub entries-append : (xs ys : List A) → renderEntries form (xs ++ ys) ≡ renderEntries form xs ++ renderEntries form ys
@@ -45,7 +49,7 @@ module _ {A : Type 0} (form : Form A) where
 
   -- ---- entries written are read back the same
 
-  -- the entries from the one at index t on
+  -- the entries from index t on
   entries-drop : (t : ℕ) (es : List A) → Laid form es → drop (entryLength (form .held) * t) (renderEntries form es) ≡ renderEntries form (drop t es)
   unfolding renderEntries
   entries-drop zero es h = rw mul-zero
@@ -94,9 +98,9 @@ module _ {A : Type 0} (form : Form A) where
     entries-read zero l = refl
     entries-read (suc t) l = rw (entries-read t (omega arith), entry-read t l) (sym (take-suc es t (form .make 0 []) l))
 
-  -- ---- entries read are written back as the bytes that they were
+  -- ---- entries read are written back the same
 
-  -- an entry made has the seat and the bytes that it was made from
+  -- an entry has the seat and the bytes that it was made of
   abbrev pub Faithful : Type 0
   Faithful = (seat : ℕ) (bytes : List ℕ) → (form .seat (form .make seat bytes) ≡ seat) × (form .bytes (form .make seat bytes) ≡ bytes)
 

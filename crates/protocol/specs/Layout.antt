@@ -35,7 +35,7 @@ messageLimit = 65535
 abbrev pub roundAt : ℕ
 roundAt = 1
 
--- where what comes after the round starts
+-- place of the first operand after the round
 abbrev pub operandsAt : ℕ
 operandsAt = roundAt + 2
 
@@ -59,11 +59,11 @@ submitLength = submitSignatureAt + signatureLength
 
 -- ---- lists of entries: each entry has a command, a seat, and what it holds
 
--- an entry that holds `held` bytes
+-- length of an entry that holds `held` bytes
 abbrev pub entryLength : ℕ → ℕ
 entryLength held = 2 + held
 
--- where the entry of an index stands, counted from 0, in a list that starts at `start`
+-- place of an entry, by its index from 0, in a list that starts at `start`
 abbrev pub entryAt : ℕ → ℕ → ℕ → ℕ
 entryAt start length i = start + length * i
 
@@ -118,7 +118,7 @@ collectedBank = 0
 abbrev pub firstBank : ℕ
 firstBank = 1
 
--- the bytes that the banks of a list have for one seat
+-- bytes of all banks for one seat
 unfoldable pub lengthOfBanks : List ℕ → ℕ
 lengthOfBanks [] = 0
 lengthOfBanks (slot ∷ rest) = slot + lengthOfBanks rest
@@ -140,7 +140,7 @@ slotLength bank = slotLengthIn bank banks
 unfoldable pub storeLength : ℕ → ℕ
 storeLength n = lengthOfBanks banks * n
 
--- where the slot of a seat in a bank starts
+-- start of a seat's slot in a bank
 unfoldable pub slotAt : ℕ → ℕ → ℕ → ℕ
 slotAt n bank seat = lengthOfBanks (banksBefore bank banks) * n + slotLength bank * seat
 

@@ -10,7 +10,7 @@ use native.Mathlib.Decide.{decLt, ℕ-discrete}
 use lib.ListN.{length}
 use Rattle.protocol.specs.Layout.{signatureLength, banks, collectedBank, firstBank, lengthOfBanks, banksBefore, slotLengthIn, slotLength, storeLength, slotAt}
 
--- a bank of a list: where the slot of a seat starts, and where it ends
+-- start and end of a seat's slot, in a bank of a list of banks
 module _ (n : ℕ) where
   abbrev startIn : List ℕ → ℕ → ℕ → ℕ
   startIn list bank seat = lengthOfBanks (banksBefore bank list) * n + slotLengthIn bank list * seat

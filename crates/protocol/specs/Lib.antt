@@ -2,9 +2,9 @@
 --
 -- `Layout` has lengths and places (`Figures`: document 01's), `Values` how values compare, `Entries` lists of entries, `Message`
 -- the commands on the air, `Certificate` what FULL and EVIDENCE are made from, `Record` a unit's record, `Conditions` and `Refusals`
--- what each call turns back, `Step` what a submit and a step do, `Signatures` a seat's signature and the calls on keys and
--- signatures, and `Calls` each other call as a whole. Laws of `X` stand in `XLaws`. `SignatureClaim`: what the signer makes, the
--- check takes.
+-- the causes of a refusal (`Order`: their order), `Step` what a submit and a step do, `Signatures` a seat's signature and the calls
+-- on keys and signatures, and `Calls` each other call as a whole. `XLaws` has the laws of `X`. `SignatureClaim`: what the signer
+-- makes, the check takes.
 pub mod Layout
 pub mod LayoutLaws
 pub mod Figures

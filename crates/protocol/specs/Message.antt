@@ -1,4 +1,4 @@
--- The commands on the air: what a message says, the bytes it is written as, and what bytes say.
+-- The commands on the air: messages, their bytes, and the message in given bytes.
 -- Assumes nothing.
 use Prim.Native.Nat.{ℕ, _+_, _*_, _≤_, _<_}
 use mathlib.Core.Path.{_≡_}
@@ -12,7 +12,7 @@ use Rattle.protocol.specs.Layout.{valueLength, signatureLength, roundAt,
 pub use Rattle.protocol.specs.Entries.{byteAt}
 use Rattle.protocol.specs.Entries.{Form, Laid, renderEntries, entryCommands, readEntries, formSeats}
 
--- ---- what a message says
+-- ---- messages
 
 -- an entry of FULL: "0x04, seat 1, signature 1,452"
 pub record Entry : Type 0 where
@@ -74,7 +74,7 @@ render (Full round sender value entries) = 0x03 ∷ be 2 round ++ sender ∷ [] 
 render (Evidence round lower higher entries) = 0x05 ∷ be 2 round ++ lower ++ higher ++ length entries ∷ [] ++ renderEntries (evidenceForm lower higher) entries
 render Garbled = []
 
--- a message that has bytes in a fleet of n seats: each operand has its width, the entries are as many as document 01 says
+-- a message that can be written in a fleet of n seats: operands of their widths, and as many entries as document 01 says
 abbrev pub WellFormed : ℕ → Message → Type 0
 WellFormed n (Submit round seat value signature) = (round < 65536) × (length value ≡ valueLength) × (length signature ≡ signatureLength)
 WellFormed n (Notice round seat value) = (round < 65536) × (length value ≡ valueLength)
@@ -88,7 +88,7 @@ unfoldable pub renderAll : List Message → List ℕ
 renderAll [] = []
 renderAll (m ∷ ms) = render m ++ renderAll ms
 
--- ---- what bytes say
+-- ---- the message in given bytes
 
 -- the round, two bytes after the command
 unfoldable pub readRound : List ℕ → ℕ
@@ -100,7 +100,7 @@ readValue at bytes = part at valueLength bytes
 unfoldable pub readSignature : ℕ → List ℕ → List ℕ
 readSignature at bytes = part at signatureLength bytes
 
--- EVIDENCE's entries, over the values that the bytes have
+-- the form of EVIDENCE's entries in these bytes, over their two values
 abbrev pub formOf : List ℕ → Form Pair
 formOf bytes = evidenceForm (readValue lowerAt bytes) (readValue higherAt bytes)
 
@@ -137,7 +137,7 @@ unfoldable pub readEvidence : List ℕ → Message
 readEvidence bytes =
     Evidence (readRound bytes) (readValue lowerAt bytes) (readValue higherAt bytes) (readEntries (formOf bytes) (byteAt bytes evidenceCountAt) bytes)
 
--- what the bytes of a message say in a fleet of n seats
+-- the message in these bytes, in a fleet of n seats
 unfoldable pub read : ℕ → List ℕ → Message
 read n bytes =
     cond (fitsSubmit bytes) (readSubmit bytes)
@@ -171,7 +171,7 @@ seatsOf (Full round sender value entries) = sender ∷ entrySeats (Full round se
 seatsOf (Evidence round lower higher entries) = entrySeats (Evidence round lower higher entries)
 seatsOf Garbled = []
 
--- a signature, where a command puts a seat's over a value
+-- a signature in a message, with its seat and its value
 pub record Signed : Type 0 where
   pub seat : ℕ
   pub value : List ℕ
@@ -189,7 +189,7 @@ signedPairs (p ∷ ps) =
     ∷ record { seat = p .seat; value = p .higherValue; signature = p .higher }
     ∷ signedPairs ps
 
--- every signature, each with its seat and the value that it stands for
+-- every signature of a message
 unfoldable pub signed : Message → List Signed
 signed (Submit round seat value signature) = record { seat = seat; value = value; signature = signature } ∷ []
 signed (Notice round seat value) = []

@@ -6,16 +6,17 @@ use mathlib.Core.List.{List, [], _∷_, _++_, append-assoc}
 use Prim.Native.Nat.{ℕ, _+_, _*_, _/_, _%_, _≤_, _<_}
 use native.Mathlib.Omega.{arith}
 use lib.Dec.{eqb}
-use lib.ListN.{length, take, drop, getD, length-append, take-append-drop}
-use lib.Seq.{take-at, drop-at, take-all, take-length, drop-drop, getD-drop, getD-at}
+use lib.ListN.{length, drop, length-append, take-append-drop}
+use lib.Seq.{take-at, drop-at, take-all, take-length}
 use borrow.Author.Tests.{eq-eqb, le-leb}
 use Rattle.octets.specs.Octets.{be, part}
 use Rattle.octets.specs.OctetLaws.{length-be}
+use Rattle.octets.specs.StringLaws.{part-left, part-between}
 use Rattle.quorum.specs.Quorum.{k}
-use Rattle.protocol.specs.Layout.{valueLength, signatureLength, seatAt, valueAt, submitLength, noticeLength, fullCountAt, fullStart, fullEntryLength, fullEntryAt, fullLength, lowerAt, higherAt, evidenceCountAt, evidenceStart, evidenceEntryLength, evidenceEntryAt, evidenceLength}
+use Rattle.protocol.specs.Layout.{valueLength, signatureLength, valueAt, submitLength, noticeLength, fullCountAt, fullStart, fullEntryLength, fullEntryAt, fullLength, lowerAt, higherAt, evidenceCountAt, evidenceStart, evidenceEntryLength, evidenceEntryAt, evidenceLength}
 use Rattle.protocol.specs.Entries.{Each, Form, Laid, renderEntries}
-use Rattle.protocol.specs.EntriesLaws.{Faithful, length-entries, commands-right, entries-read}
-use Rattle.protocol.specs.Message.{Entry, Pair, Message, Submit, Notice, Full, Evidence, Garbled, WellFormed, fullForm, evidenceForm, formOf, render, renderAll, byteAt, readRound, readValue, readSignature, fitsSubmit, fitsNotice, fitsFull, fitsEvidence, readSubmit, readNotice, readFull, readEvidence, read}
+use Rattle.protocol.specs.EntriesLaws.{byte-after, Faithful, length-entries, commands-right, entries-read}
+use Rattle.protocol.specs.Message.{Entry, Pair, Message, Submit, Notice, Full, Evidence, Garbled, WellFormed, fullForm, evidenceForm, render, renderAll, byteAt, readRound, readValue, readSignature, fitsSubmit, fitsNotice, fitsFull, fitsEvidence, readSubmit, readNotice, readFull, readEvidence, read}
 
 -- ---- messages one after another
 
@@ -53,7 +54,7 @@ pub evidence-faithful : (lower higher : List ℕ) → Faithful (evidenceForm low
 unfolding evidenceForm
 evidence-faithful lower higher seat bytes = (refl, take-append-drop signatureLength bytes)
 
--- a pair over the message's values, with signatures of their width, is as its form lays it out; and such a pair has these values
+-- a pair of the form: its values are the message's, and its signatures have their length
 pub pair-laid : (lower higher : List ℕ) (p : Pair) → p .lowerValue ≡ lower → p .higherValue ≡ higher → length (p .lower) ≡ signatureLength → length (p .higher) ≡ signatureLength
     → (length (p .lower ++ p .higher) ≡ evidenceForm lower higher .held) × (evidenceForm lower higher .make (p .seat) (p .lower ++ p .higher) ≡ p)
 unfolding evidenceForm
@@ -115,27 +116,23 @@ module _ (n round sender : ℕ) (value : List ℕ) (es : List Entry) (h : round 
   abbrev full : List ℕ
   full = render (Full round sender value es)
 
-  -- what stands after the value
-  abbrev full-rest : List ℕ
-  full-rest = length es ∷ renderEntries fullForm es
-
-  full-after : drop valueAt full ≡ value ++ full-rest
-  unfolding render be
-  full-after = append-assoc value (length es ∷ []) (renderEntries fullForm es)
-
-  full-tail : drop fullCountAt full ≡ full-rest
-  full-tail = sym (drop-drop valueLength valueAt full) ∙ ap (drop valueLength) full-after ∙ drop-at value full-rest valueLength v
+  -- command, round and sender
+  abbrev full-head : List ℕ
+  full-head = 0x03 ∷ be 2 round ++ sender ∷ []
 
   full-count : byteAt full fullCountAt ≡ length es
-  full-count = sym (getD-drop fullCountAt full 0 0) ∙ ap (λ (l : List ℕ). getD l 0 0) full-tail
+  unfolding render
+  full-count = byte-after (full-head ++ value) (length es) (renderEntries fullForm es) fullCountAt (simp (length-append, length-be) (omega arith))
 
   full-entries : drop (fullForm .start) full ≡ renderEntries fullForm es
-  unfolding fullForm
-  full-entries = sym (drop-drop 1 fullCountAt full) ∙ ap (drop 1) full-tail
+  unfolding render fullForm
+  full-entries = drop-at (full-head ++ value ++ length es ∷ []) (renderEntries fullForm es) fullStart (simp (length-append, length-be) (omega arith))
 
   full-value : readValue valueAt full ≡ value
-  unfolding readValue part
-  full-value = rw (full-after, take-at value full-rest valueLength v)
+  unfolding readValue render
+  full-value =
+      part-left (full-head ++ value ++ length es ∷ []) (renderEntries fullForm es) valueAt valueLength (simp (length-append, length-be) (omega arith))
+      ∙ part-between full-head value (length es ∷ []) valueAt valueLength (simp (length-append, length-be) (omega arith)) v
 
   full-fits : fitsFull n full ≡ true
   unfolding fitsFull fullLength render
@@ -168,34 +165,33 @@ module _ (n round : ℕ) (lower higher : List ℕ) (ps : List Pair) (h : round <
   abbrev evidence : List ℕ
   evidence = render (Evidence round lower higher ps)
 
-  -- what stands after the values
-  abbrev evidence-rest : List ℕ
-  evidence-rest = length ps ∷ renderEntries form ps
+  -- command and round; up to the count
+  abbrev evidence-head : List ℕ
+  evidence-head = 0x05 ∷ be 2 round
 
-  evidence-after : drop lowerAt evidence ≡ lower ++ (higher ++ evidence-rest)
-  unfolding render be
-  evidence-after = append-assoc (lower ++ higher) (length ps ∷ []) (renderEntries form ps) ∙ append-assoc lower higher evidence-rest
-
-  evidence-behind : drop higherAt evidence ≡ higher ++ evidence-rest
-  evidence-behind = sym (drop-drop valueLength lowerAt evidence) ∙ ap (drop valueLength) evidence-after ∙ drop-at lower (higher ++ evidence-rest) valueLength v
-
-  evidence-tail : drop evidenceCountAt evidence ≡ evidence-rest
-  evidence-tail = sym (drop-drop valueLength higherAt evidence) ∙ ap (drop valueLength) evidence-behind ∙ drop-at higher evidence-rest valueLength w
+  abbrev evidence-front : List ℕ
+  evidence-front = evidence-head ++ lower ++ higher ++ length ps ∷ []
 
   evidence-count : byteAt evidence evidenceCountAt ≡ length ps
-  evidence-count = sym (getD-drop evidenceCountAt evidence 0 0) ∙ ap (λ (l : List ℕ). getD l 0 0) evidence-tail
+  unfolding render
+  evidence-count = byte-after (evidence-head ++ lower ++ higher) (length ps) (renderEntries form ps) evidenceCountAt (simp (length-append, length-be) (omega arith))
 
   evidence-entries : drop (form .start) evidence ≡ renderEntries form ps
-  unfolding evidenceForm
-  evidence-entries = sym (drop-drop 1 evidenceCountAt evidence) ∙ ap (drop 1) evidence-tail
+  unfolding render evidenceForm
+  evidence-entries = drop-at evidence-front (renderEntries form ps) evidenceStart (simp (length-append, length-be) (omega arith))
 
   evidence-lower : readValue lowerAt evidence ≡ lower
-  unfolding readValue part
-  evidence-lower = rw (evidence-after, take-at lower (higher ++ evidence-rest) valueLength v)
+  unfolding readValue render
+  evidence-lower =
+      part-left evidence-front (renderEntries form ps) lowerAt valueLength (simp (length-append, length-be) (omega arith))
+      ∙ part-left (evidence-head ++ lower ++ higher) (length ps ∷ []) lowerAt valueLength (simp (length-append, length-be) (omega arith))
+      ∙ part-between evidence-head lower higher lowerAt valueLength (simp length-be) v
 
   evidence-higher : readValue higherAt evidence ≡ higher
-  unfolding readValue part
-  evidence-higher = rw (evidence-behind, take-at higher evidence-rest valueLength w)
+  unfolding readValue render
+  evidence-higher =
+      part-left evidence-front (renderEntries form ps) higherAt valueLength (simp (length-append, length-be) (omega arith))
+      ∙ part-between (evidence-head ++ lower) higher (length ps ∷ []) higherAt valueLength (simp (length-append, length-be) (omega arith)) w
 
   evidence-fits : fitsEvidence n evidence ≡ true
   unfolding fitsEvidence evidenceLength render

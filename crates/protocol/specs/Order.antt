@@ -1,6 +1,6 @@
--- The order in which the table's numbers are looked at, and that every call answers the first number in it whose condition holds, "over
--- two certificates, the first one's 9 to 14 .. before the second's". The numbers rise in this order, so that it is what document 01
--- says: "The lowest number whose condition holds is returned".
+-- The order in which the table's numbers are looked at. Every call answers the first number in it whose condition holds; "over two
+-- certificates, the first one's 9 to 14 come before the second's". The numbers rise in this order, and so, as document 01 says, "The
+-- lowest number whose condition holds is returned".
 -- Assumes nothing.
 use Prim.Native.Nat.{ℕ}
 use mathlib.Core.Path.{_≡_, refl, ap, _∙_}
@@ -34,7 +34,7 @@ order-rises = refl
 abbrev pub FirstInOrder : ℕ → List Condition → Type 0
 FirstInOrder n conditions = n ≡ firstIn order (held conditions)
 
--- a list whose numbers follow the order: `firstOf` finds the first, which is the lowest
+-- in a list whose numbers follow the order, `firstOf` finds the first, and this is the lowest
 abbrev Follows : List Condition → Type 0
 Follows conditions = follows order (numbers conditions) ≡ true
 
@@ -46,7 +46,7 @@ finds-lowest conditions f = firstOf-lowest conditions (rise-in order (numbers co
 
 -- ---- every list
 
--- what holds of the number that `firstOf` finds, in each list
+-- a property of the number that `firstOf` finds, in each list
 module _ (Is : ℕ → List Condition → Type 0) where
   abbrev EachIs : List (List Condition) → Type 0
   EachIs [] = Unit {0}
@@ -114,8 +114,8 @@ module _
     unfolding every follows order numbers openingConditions submitConditions stepConditions evidenceConditions checkConditions makeKeyConditions signConditions outsideConditions recordConditions messageConditions certificateConditions
     lists-follow = refl
 
-    -- each call answers such a number of its list; over two certificates that of the call's own, before that of the first certificate,
-    -- before that of the second, before 15
+    -- each call answers the number with this property; over two certificates, that of the call's own conditions comes first, then that of
+    -- the first certificate, that of the second, and 15
     pub record Answers (Is : ℕ → List Condition → Type 0) : Type 0 where
       pub opening : Is (calls.opening n seat round keys .number) (openingConditions n seat round keys)
       pub submit : Is (calls.submit checks keys r store value signature out .refusal) (submitConditions checks keys r store value signature out)

@@ -13,7 +13,7 @@ use Rattle.protocol.specs.Record.{withOwn, withConfirmed, withNotices, w
 use Rattle.protocol.specs.declared.Notices.{Notices}
 use Rattle.protocol.specs.declared.Record.{Record}
 
--- what a call has come to: the record, the store, and the messages written so far
+-- state of a call: the record, the store, and the messages written so far
 pub record State : Type 0 where
   pub unit : Record
   pub store : List ℕ

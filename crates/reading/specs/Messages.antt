@@ -1,4 +1,4 @@
--- What a call in a list writes, as messages.
+-- The messages that a call in a list writes.
 -- Assumes nothing.
 use mathlib.Core.Path.{_≡_, refl, sym, ap, subst, _∙_}
 use mathlib.Core.List.{List, [], _∷_, _++_, List·Memᴰ, List·Memᴰ·head, List·Memᴰ·tail, List·Memᴰ·not-nil, List·Memᴰ·cases-cons, List·Memᴰ·append-cases, Memᴰ·append-left, Memᴰ·append-right}
@@ -18,7 +18,7 @@ use Rattle.round.specs.Round.{Each, Are, Call, BySubmit, ByStep, ByThinEntry, I
 use Rattle.round.specs.Demand1.{writtenOver}
 use Rattle.reading.specs.Lists.{each-nil, each-append}
 
--- its refusal number, and what it comes to where nothing is refused
+-- refusal number of a call, and its state at the end where nothing is refused
 unfoldable pub refusalOf : Setting → Call → Record → List ℕ → ℕ
 refusalOf S (BySubmit value signature out) r store = firstOf (submitConditions (S .checks) (S .keys) r store value signature out)
 refusalOf S (ByStep bytes out) r store = firstOf (stepConditions (S .checks) (S .keys) r store (read (r .n) bytes) out)
@@ -92,7 +92,7 @@ written-is S t =
     counted-written (resultOf S t .written) (outOf (t .given)) ∙ ap (λ (x : Result). x .written) (outcome-is S (t .given) (t .unit) (t .store))
     ∙ unrefused-render (refusalOf S (t .given) (t .unit) (t .store)) (cameTo (t .given) (t .unit) (t .store) .written)
 
--- what the calls of a list write, one after another, are the messages of each
+-- the bytes of the calls of a list, one after another, are the messages of each
 pub over-are : (S : Setting) (n : ℕ) (ts : List Called) → Each (λ t. Are n (writtenIn S t) (messages S t)) ts → Are n (writtenOver S ts) (allMessages S ts)
 unfolding writtenOver allMessages renderAll
 over-are S n [] h = (each-nil (WellFormed n), refl)

@@ -1,4 +1,5 @@
--- Bytes and messages: the operands of what bytes are read as have their widths, and bytes are messages one after another in one way only.
+-- Bytes and messages: the operands of a message that was read have their widths, and bytes are messages one after another in one way
+-- only.
 -- Assumes nothing.
 use mathlib.Core.Path.{_≡_, refl, sym, ap, ap₂, _∙_}
 use mathlib.Core.Bool.{true, cond, _&&_}
@@ -7,8 +8,8 @@ use Prim.Native.Nat.{ℕ, zero, suc, _+_, _*_, _≤_}
 use native.Mathlib.Nat.{mul-suc}
 use native.Mathlib.Omega.{arith}
 use lib.Dec.{leb, eqb}
-use lib.ListN.{length, take, drop, getD, length-append}
-use lib.Seq.{take-at, drop-at, take-append-seam, getD-at}
+use lib.ListN.{length, take, drop, length-append}
+use lib.Seq.{take-at, drop-at, take-append-seam}
 use borrow.Author.Tests.{eqb-true}
 use Rattle.octets.specs.Octets.{be, part}
 use Rattle.octets.specs.OctetLaws.{length-be, length-part}
@@ -16,13 +17,13 @@ use Rattle.quorum.specs.Quorum.{k}
 use Rattle.refusal.specs.Laws.{both-true}
 use Rattle.protocol.specs.Layout.{valueLength, signatureLength, entryLength, valueAt, submitSignatureAt, submitLength, noticeLength, fullCountAt, fullEntryLength, fullEntryAt, fullLength, lowerAt, higherAt, evidenceCountAt, evidenceEntryLength, evidenceEntryAt, evidenceLength}
 use Rattle.protocol.specs.Entries.{Form, Laid, placeOf, renderEntries, entryCommands, readEntry, readEntries}
-use Rattle.protocol.specs.EntriesLaws.{Faithful, length-read}
+use Rattle.protocol.specs.EntriesLaws.{byte-after, Faithful, length-read}
 use Rattle.protocol.specs.Message.{Pair, Message, Submit, Notice, Full, Evidence, Garbled, WellFormed, fullForm, evidenceForm, formOf, render, renderAll, byteAt, readValue, readSignature, fitsSubmit, fitsNotice, fitsFull, fitsEvidence, readSubmit, readNotice, readFull, readEvidence, read}
 use Rattle.protocol.specs.MessageLaws.{length-submit, length-notice, length-full, length-evidence, full-faithful, evidence-faithful, read-render}
 use Rattle.round.specs.Round.{Each, Are}
 use Rattle.reading.specs.Lists.{cond-elim, each-nil, each-one, each-append}
 
--- ---- what bytes are read as
+-- ---- a message that was read
 
 module _ {A : Type 0} (form : Form A) (faithful : Faithful form) (bytes : List ℕ) where
   entry-laid : (at : ℕ) → at + entryLength (form .held) ≤ length bytes → Laid form (readEntry form at bytes ∷ [])
@@ -99,8 +100,8 @@ unfolding render
 evidence-counted ρ lower higher ps rest l h =
     let front = 0x05 ∷ be 2 ρ ++ lower ++ higher in
     let entries = renderEntries (evidenceForm lower higher) ps in
-    ap (λ (b : List ℕ). getD b evidenceCountAt 0) (append-assoc (front ++ length ps ∷ []) entries rest ∙ append-assoc front (length ps ∷ []) (entries ++ rest))
-    ∙ getD-at front (length ps) (entries ++ rest) 0 evidenceCountAt (simp (length-append, length-be) (omega arith))
+    ap (λ (b : List ℕ). byteAt b evidenceCountAt) (append-assoc (front ++ length ps ∷ []) entries rest)
+    ∙ byte-after front (length ps) (entries ++ rest) evidenceCountAt (simp (length-append, length-be) (omega arith))
 
 pub frame-length : (n : ℕ) (m : Message) (rest : List ℕ) → WellFormed n m → frameLength n (render m ++ rest) ≡ length (render m)
 unfolding frameLength render fullLength evidenceLength

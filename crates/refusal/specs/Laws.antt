@@ -1,4 +1,4 @@
--- What the first row of a list whose condition holds says of the conditions.
+-- Laws of the refusal number: what it says of the conditions.
 use mathlib.Core.Path.{_≡_, refl}
 use mathlib.Core.Bool.{Bool, true, false, cond, _&&_, _||_, false≢true, true≢false}
 use mathlib.Core.List.{List, [], _∷_, _++_}
@@ -20,7 +20,7 @@ both-false false b e = (refl, e)
 
 -- ---- refusals
 
--- what isn't refused passes every test
+-- where nothing is refused, no condition holds
 pub firstOf-zero : (n : ℕ) (t : Bool) (rest : List (ℕ × Bool)) → firstOf ((suc n, t) ∷ rest) ≡ 0 → (t ≡ false) × (firstOf rest ≡ 0)
 unfolding firstOf
 firstOf-zero n true rest e = absurd (omega arith)
@@ -30,13 +30,13 @@ by-test : (b : Bool) (n old new : ℕ) → (cond b n old ≡ 0 → ⊥) → ((ol
 by-test true n old new h f = refl
 by-test false n old new h f = f h
 
--- what is turned back by the first conditions isn't changed by later ones
+-- a refusal by the first rows doesn't hang on the later ones
 pub firstOf-front : (xs ys : List (ℕ × Bool)) → (firstOf xs ≡ 0 → ⊥) → firstOf (xs ++ ys) ≡ firstOf xs
 unfolding firstOf
 firstOf-front [] ys h = absurd (h refl)
 firstOf-front (x ∷ xs) ys h = by-test (x .1) (x .0) (firstOf xs) (firstOf (xs ++ ys)) h (firstOf-front xs ys)
 
--- the first of some rows and others after them
+-- the first of some rows and of others after them
 pub firstOf-before : (xs ys : List (ℕ × Bool)) → nonzero (numbers xs) ≡ true → firstOf (xs ++ ys) ≡ (firstOf xs before firstOf ys)
 unfolding firstOf numbers nonzero _before_
 firstOf-before [] ys h = refl

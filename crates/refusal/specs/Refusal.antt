@@ -1,5 +1,5 @@
--- What a call turns back (document 01): a list of rows, each a number with its condition, of which the first that holds is returned;
--- and "A refusal returns its number and 0 bytes written; record, store, tree and out keep every byte."
+-- Refusals (document 01, "What is turned back"): a call has a list of rows, each a number with its condition, and answers the first
+-- that holds. "A refusal returns its number and 0 bytes written; record, store, tree and out keep every byte."
 use Prim.Native.Nat.{ℕ, zero, suc}
 use mathlib.Core.Bool.{Bool, true, cond, _&&_}
 use mathlib.Core.List.{List, [], _∷_}

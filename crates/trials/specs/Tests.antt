@@ -1,5 +1,5 @@
--- What of a round can be computed: tests on lists of calls, each with what it says of the words of `Round` and `Demand3`. Nothing
--- here stands on a proof of the claims, so that it holds where a definition is edited too.
+-- Tests of lists of calls that can be computed, each with its meaning in the words of `Round` and `Demand3`. Nothing here stands on a
+-- proof of the claims, so that it holds where a definition is edited too.
 -- Assumes nothing.
 use Prim.Native.Nat.{ℕ, _+_, _≤_}
 use mathlib.Core.Path.{_≡_, refl, sym, ap, subst, _∙_}

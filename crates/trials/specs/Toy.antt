@@ -1,4 +1,4 @@
--- What the runs are given: every definition of a call, open, and a toy for the signature check.
+-- For the runs: every definition of a call, open, and a toy for the signature check.
 -- Assumes nothing.
 use Prim.Native.Nat.{ℕ, zero, suc, _-_}
 use mathlib.Core.Bool.{Bool, true, _&&_}

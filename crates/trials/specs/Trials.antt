@@ -7,7 +7,7 @@ use mathlib.Core.Bool.{Bool, true, false, cond}
 use mathlib.Core.List.{List, [], _∷_, _++_, map, List·Memᴰ, List·Memᴰ·head, List·Memᴰ·tail}
 use lib.ListN.{replicate}
 use Rattle.protocol.specs.Layout.{storeLength, outLength}
-use Rattle.protocol.specs.Message.{Entry, Pair, Message, Submit, Notice, Full, Evidence, Garbled, render, byteAt}
+use Rattle.protocol.specs.Message.{Message, Submit, Notice, Full, Evidence, Garbled, render, byteAt}
 use Rattle.round.specs.Round.{Setting, Call, BySubmit, ByStep, Called, Honest, IsOpened, Family, outcome, resultOf, listFrom, listOf}
 use Rattle.round.specs.Demand1.{isSubmit, isNotice, worth, count, AtMostOne}
 use Rattle.round.specs.Demand3.{Demand3}
