@@ -3,9 +3,7 @@ pub mod Reading
 pub mod Answers
 pub mod StringLaws
 pub mod MaskLaws
-pub mod SeatLaws
 pub mod WalkLaws
-pub mod EntriesLaws
 pub mod FormLaws
 pub mod KindLaws
 pub mod MessageLaws
