@@ -3,7 +3,7 @@
 use mathlib.Core.Path.{_≡_, refl, sym, ap, _∙_}
 use mathlib.Core.Bool.{Bool, true, false, cond, and-eq-true-iff, false≢true}
 use mathlib.Core.Logic.{⊎-elim}
-use mathlib.Core.List.{List, [], _∷_, _++_, map}
+use mathlib.Core.List.{List, [], _∷_, _++_}
 use Prim.Native.Nat.{ℕ, zero, suc, _+_, _^_, _≤_, _<_}
 use native.Mathlib.Nat.{eq-or-lt-of-le, le-of-suc-le-suc}
 use native.Mathlib.Omega.{arith}
@@ -13,7 +13,7 @@ use lib.Seq.{getD-at}
 use borrow.Author.Tests.{eqb-true, eq-eqb, ne-eqb, not-false}
 use Rattle.quorum.specs.Quorum.{k, In, size, shared, all, seats}
 use Rattle.quorum.specs.QuorumLaws.{seat-at, length-seats}
-use Rattle.protocol.specs.Layout.{signatureLength, valueAt, seatAt, fullCountAt, fullEntryLength, fullEntryAt, fullLength, banks, storeLength, slotLength, slotAt}
+use Rattle.protocol.specs.Layout.{signatureLength, valueAt, seatAt, fullCountAt, fullEntryLength, fullEntryAt, fullLength, banks, storeLength, slotAt}
 use Rattle.protocol.specs.LayoutLaws.{slot-fits}
 use Rattle.protocol.specs.Entries.{Form, placeOf, readEntry, readEntries, entryCommands, formSeats}
 use Rattle.protocol.specs.Message.{Entry, Message, byteAt, read, fullForm, readValue, readSignature, readFull, readSubmit, readNotice, readEvidence, fitsSubmit, fitsNotice, fitsFull, fitsEvidence, entrySeats, seatsOf, Garbled}

@@ -1,7 +1,7 @@
 -- `wire_write::write_full` meets its contract.
-use mathlib.Core.Path.{_≡_, _∙_}
+use mathlib.Core.Path.{_∙_}
 use mathlib.Core.List.{_∷_, []}
-use Prim.Native.Nat.{_+_, _≤_}
+use Prim.Native.Nat.{_≤_}
 use native.Mathlib.Omega.{arith}
 use lib.ListN.{length}
 use borrow.Author.Needs.{needs}
@@ -24,8 +24,11 @@ abbrev started : tie.After-write-head → tie.Start
 started c = sized c .before .before .before .before
 
 -- what it starts with is written, then the count
+abbrev counting : tie.After-put-byte-arg → tie.After-write-head
+counting c = c .before .before .before
+
 abbrev headed : tie.After-put-byte → tie.After-write-head
-headed c = c .before .before .before .before
+headed c = counting (c .before)
 
 size-requires : tie.Need-size-requires
 size-requires c κs = search needs
@@ -36,15 +39,13 @@ write-head-requires c κs = omega arith
 
 cast-put-byte : tie.Need-cast-put-byte
 cast-put-byte c =
-    let first = c .before .before .before in
+    let first = counting c in
     let start = started first in
     omega (arith, start .pre .0, sized first .size .ensures, size-le (start .args .n) (start .args .source .seats) (start .pre .3 .inside))
 
 put-byte-requires : tie.Need-put-byte-requires
 unfolding noticeLength fullEntryAt
-put-byte-requires c κs =
-    let first = c .before .before .before in
-    omega (arith, started first .pre .4)
+put-byte-requires c κs = omega (arith, started (counting c) .pre .4)
 
 write-entries-requires : tie.Need-write-entries-requires
 unfolding noticeLength fullEntryAt

@@ -1,11 +1,11 @@
 -- `wire_write::write_pairs` meets its contract.
 use mathlib.Core.Path.{_≡_, sym, ap₂, _∙_}
 use mathlib.Core.Bool.{true, false}
-use mathlib.Core.List.{List, []}
+use mathlib.Core.List.{[]}
 use mathlib.Core.Logic.{⊎-elim}
-use Prim.Native.Nat.{ℕ, _+_, _-_}
+use Prim.Native.Nat.{_-_}
 use native.Mathlib.Omega.{arith}
-use lib.ListN.{length, length-append}
+use lib.ListN.{length-append}
 use denote.Ref.{now}
 use Rattle.quorum.specs.Quorum.{In, bit}
 use Rattle.quorum.specs.QuorumLaws.{has-true, has-false}

@@ -1,14 +1,10 @@
 -- `store::held::hold` meets its contract.
 use mathlib.Core.Path.{_≡_, sym, _∙_}
 use mathlib.Core.Logic.{⊎-elim}
-use mathlib.Core.List.{List}
-use Prim.Native.Nat.{ℕ, _-_, _<_, _≤_}
+use Prim.Native.Nat.{_-_, _<_}
 use native.Mathlib.Omega.{arith}
-use lib.ListN.{length}
 use denote.Ref.{now}
-use Rattle.quorum.specs.Quorum.{In}
 use Rattle.quorum.specs.QuorumLaws.{has-true, has-false}
-use Rattle.protocol.specs.Layout.{storeLength}
 use Rattle.store.specs.Sources.{bytesOf, signatureFrom}
 use Rattle.store.specs.StoreLaws.{Holding, holding-none, holding-skip, holding-fill}
 use Rattle.store.specs.SourceLaws.{same-signature, still-readable, length-signature-from}

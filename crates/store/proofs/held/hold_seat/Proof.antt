@@ -1,13 +1,8 @@
 -- `store::held::hold_seat` meets its contract.
-use mathlib.Core.Path.{_≡_, ap, _∙_}
-use mathlib.Core.List.{List}
-use Prim.Native.Nat.{ℕ}
+use mathlib.Core.Path.{_∙_}
 use borrow.Author.Needs.{needs}
-use denote.Ref.{now}
-use Rattle.protocol.specs.Layout.{signatureLength, firstBank}
-use Rattle.protocol.specs.Certificate.{fill}
+use Rattle.protocol.specs.Layout.{signatureLength}
 use Rattle.layout.specs.Places.{bankOf}
-use Rattle.store.specs.Sources.{bytesOf, Readable, signatureFrom}
 use Rattle.store.proofs.held.hold_seat.Statement.{statement}
 use Rattle.store.proofs.held.hold_seat.Tie as tie
 
@@ -37,7 +32,6 @@ unfolding bankOf
 returns c =
     let filled = c .before .before in
     let copied = filled .before .before .before in
-    let args = started (copied .before) .args in
     filled .fill .ensures ∙ rw (copied .signature-copy .ensures, copied .before .bytes-of .ensures)
 
 pub hold-seat-spec : {M : Type 1} → statement M

@@ -5,7 +5,7 @@ use native.Mathlib.Omega.{arith}
 use borrow.Author.Needs.{needs}
 use denote.Ref.{now}
 use Rattle.octets.specs.Octets.{part, patch}
-use Rattle.protocol.specs.Layout.{signatureLength, slotLength}
+use Rattle.protocol.specs.Layout.{signatureLength}
 use Rattle.protocol.specs.Certificate.{fill}
 use Rattle.store.specs.StoreLaws.{patch-part, slot-signature}
 use Rattle.store.proofs.slots.fill.Statement.{statement}

@@ -1,6 +1,6 @@
 -- `store::sources::entry_place` meets its contract.
 use mathlib.Core.Path.{_≡_, ap, _∙_}
-use Prim.Native.Nat.{ℕ, _+_, _*_}
+use Prim.Native.Nat.{ℕ}
 use native.Mathlib.Omega.{arith}
 use borrow.Author.Needs.{needs}
 use Rattle.quorum.specs.Quorum.{size, shared, all}
@@ -9,8 +9,11 @@ use Rattle.store.specs.Sources.{entryPlace}
 use Rattle.store.proofs.sources.entry_place.Statement.{statement}
 use Rattle.store.proofs.sources.entry_place.Tie as tie
 
+abbrev listed : tie.After-shared-count → tie.After-full-entries
+listed c = c .before .before
+
 abbrev started : tie.After-shared-count → tie.Start
-started c = c .before .before .before .before
+started c = listed c .before .before
 
 -- the seats below are counted
 counted : (c : tie.After-shared-count) → c .shared-count .result ≡ size (shared (started c .args .seats) (all (started c .args .seat)))
@@ -36,15 +39,15 @@ cast-entry-at c = search needs
 
 entry-at-requires : tie.Need-entry-at-requires
 unfolding fullEntryLength signatureLength
-entry-at-requires c κs = rw (c .before .before .full-entries .ensures) (omega arith)
+entry-at-requires c κs = rw (listed c .full-entries .ensures) (omega arith)
 
 add-result : tie.Need-add-result
 unfolding fullEntryLength signatureLength
-add-result c = rw (c .entry-at .ensures, c .before .before .before .full-entries .ensures) (omega arith)
+add-result c = rw (c .entry-at .ensures, listed (c .before) .full-entries .ensures) (omega arith)
 
 returns : tie.Need-returns
 unfolding entryPlace fullEntryAt fullEntryLength
-returns c = rw (c .entry-at .ensures, c .before .before .before .full-entries .ensures, counted (c .before))
+returns c = rw (c .entry-at .ensures, listed (c .before) .full-entries .ensures, counted (c .before))
 
 pub entry-place-spec : {M : Type 1} → statement M
 entry-place-spec =

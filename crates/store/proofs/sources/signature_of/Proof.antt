@@ -5,6 +5,13 @@ use Rattle.store.specs.SourceLaws.{entries-inside, slots-inside, entries
 use Rattle.store.proofs.sources.signature_of.Statement.{statement}
 use Rattle.store.proofs.sources.signature_of.Tie as tie
 
+-- the start of each arm
+abbrev in-entries : tie.After-enum-told → tie.Start
+in-entries c = c .before .before .before
+
+abbrev in-slots : tie.After-place → tie.Start
+in-slots c = c .before .before .before
+
 enum-told : tie.Need-enum-told
 enum-told c = search needs
 
@@ -14,7 +21,7 @@ entry-place-requires c κs = search needs
 signature-at-requires : tie.Need-signature-at-requires
 signature-at-requires c κs =
     let told = c .before in
-    let start = told .before .before .before in
+    let start = in-entries told in
     let args = start .args in
     entries-inside (args .n) (args .source) (now (args .bytes)) (start .pre .3) (args .seat) (start .pre .1) (c .entry-place .result) (start .pre .2) (told .enum-told .given .1) (c .entry-place .ensures)
 
@@ -27,7 +34,7 @@ slot-at-requires c κs = search needs
 signature-at-requires-2 : tie.Need-signature-at-requires-2
 signature-at-requires-2 c κs =
     let told = c .before .before in
-    let start = told .before .before .before in
+    let start = in-slots told in
     let args = start .args in
     slots-inside (args .n) (args .source) (now (args .bytes)) (start .pre .3) (args .seat) (start .pre .1) (c .slot-at .result) _ (told .place .given .1) (c .slot-at .ensures .0)
 
@@ -35,7 +42,7 @@ returns : tie.Need-returns
 returns c =
     let placed = c .before in
     let told = placed .before in
-    let start = told .before .before .before in
+    let start = in-entries told in
     let args = start .args in
     entries-signature (args .n) (args .source) (now (args .bytes)) (start .pre .3) (args .seat) (start .pre .1) (placed .entry-place .result) (start .pre .2) (told .enum-told .given .1) (placed .entry-place .ensures)
     (now (c .signature-at .result)) (c .signature-at .ensures)
@@ -44,7 +51,7 @@ returns-2 : tie.Need-returns-2
 returns-2 c =
     let placed = c .before in
     let told = placed .before .before in
-    let start = told .before .before .before in
+    let start = in-slots told in
     let args = start .args in
     slots-signature (args .n) (args .source) (now (args .bytes)) (start .pre .3) (args .seat) (start .pre .1) (placed .slot-at .result) _ (told .place .given .1) (placed .slot-at .ensures .0)
     (now (c .signature-at2 .result)) (c .signature-at2 .ensures)
