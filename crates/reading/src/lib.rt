@@ -1,1 +1,1 @@
-// What the bytes of a list of calls say; the laws are in specs/, and there is no code here.
+// The bytes and messages of a list of calls; the laws are in specs/, and there is no code here.
