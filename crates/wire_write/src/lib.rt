@@ -162,13 +162,9 @@ fn write_pairs(
     let mut s = 0;
     while s < n {
         if quorum::has(mask, s) {
-            end = write_pair(
-                out,
-                end,
-                s,
-                signature_of(low, n, s, lows),
-                signature_of(high, n, s, highs),
-            );
+            let lower = signature_of(low, n, s, lows);
+            let higher = signature_of(high, n, s, highs);
+            end = write_pair(out, end, s, lower, higher);
         }
         s += 1;
     }

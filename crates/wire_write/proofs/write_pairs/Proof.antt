@@ -51,14 +51,13 @@ has-requires c κs = omega arith
 
 signature-of-requires : tie.Need-signature-of-requires Inv-loop μ-loop
 signature-of-requires c κs =
-    let taken = c .before in
-    let at-loop = looped (taken .before) in
+    let at-loop = looped (c .before) in
     let pre = started at-loop .pre in
-    (pre .0, omega arith, pre .1 (at-loop .loop .s) (test-in (taken .before) (taken .if1 .taken)), pre .2)
+    (pre .0, omega arith, pre .1 (at-loop .loop .s) (test-in (c .before) (c .if1 .taken)), pre .2)
 
 signature-of-requires-2 : tie.Need-signature-of-requires-2 Inv-loop μ-loop
 signature-of-requires-2 c κs =
-    let taken = c .before .before in
+    let taken = c .before in
     let at-loop = looped (taken .before) in
     let pre = started at-loop .pre in
     (pre .0, omega arith, pre .3 (at-loop .loop .s) (test-in (taken .before) (taken .if1 .taken)), pre .4)
@@ -66,15 +65,16 @@ signature-of-requires-2 c κs =
 write-pair-requires : tie.Need-write-pair-requires Inv-loop μ-loop
 unfolding evidenceForm evidenceEntryLength
 write-pair-requires c κs =
-    let signed = c .before in
-    let taken = signed .before .before in
+    let second = c .before in
+    let first = second .before in
+    let taken = first .before in
     let at-loop = looped (taken .before) in
     let start = started at-loop in
     let args = start .args in
     let loop = at-loop .loop in (
       omega (arith, start .pre .0),
-      signed .signature-of .ensures .1,
-      c .signature-of2 .ensures .1,
+      first .signature-of .ensures .1,
+      second .signature-of2 .ensures .1,
       going-room form _ (args .n) (args .mask) (args .at) (now (args .out)) (loop .s) (loop .end) (loop .out) (loop .inv) (omega arith) (test-in (taken .before) (taken .if1 .taken)) (start .pre .5),
     )
 
@@ -96,8 +96,8 @@ loop-again c =
     let out = now (args .out) in
     ⊎-elim
     (λ w.
-    let lower = w .2 in
-    let higher = w .3 in
+    let lower = w .1 in
+    let higher = w .2 in
     let two = length-append (now (lower .result)) (now (higher .result)) in
     rw (w .7, w .8)
     (going-on form _ (args .n) (args .mask) (args .at) out s (loop .end) (loop .out) (loop .inv) (omega arith) (test-in tested (w .0 .taken)) (start .pre .5)
