@@ -17,6 +17,7 @@ pub mod MessageLaws
 pub mod Certificate
 pub mod CertificateLaws
 pub mod Record
+pub mod RecordLaws
 pub mod Conditions
 pub mod ConditionsLaws
 pub mod Refusals

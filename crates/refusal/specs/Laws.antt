@@ -1,8 +1,9 @@
 -- Laws of the refusal number: what it says of the conditions.
-use mathlib.Core.Path.{_≡_, refl}
+use mathlib.Core.Path.{_≡_, refl, sym, _∙_}
 use mathlib.Core.Bool.{Bool, true, false, cond, _&&_, _||_, false≢true, true≢false}
 use mathlib.Core.List.{List, [], _∷_, _++_}
 use Prim.Native.Nat.{ℕ, zero, suc, _≤_}
+use native.Mathlib.Decide.{ℕ-discrete}
 use native.Mathlib.Omega.{arith}
 use lib.Dec.{leb}
 use borrow.Author.Tests.{leb-true}
@@ -48,3 +49,24 @@ firstOf-before ((n, b) ∷ xs) ys h =
     at zero b l rest = absurd (omega arith)
     at (suc n) true l rest = refl
     at (suc n) false l rest = rest
+
+-- ---- some conditions, and others after them
+
+module _ (xs ys : List (ℕ × Bool)) where
+  module _ (number : ℕ) (e : number ≡ firstOf xs) where
+    -- a refusal by the first
+    pub refused-first : (number ≡ 0 → ⊥) → number ≡ firstOf (xs ++ ys)
+    refused-first h = e ∙ sym (firstOf-front xs ys (λ z. h (e ∙ z)))
+
+    -- and, where they refuse nothing, one by the others
+    pub refused-later : nonzero (numbers xs) ≡ true → number ≡ 0 → firstOf ys ≡ firstOf (xs ++ ys)
+    unfolding _before_
+    refused-later some z = sym (firstOf-before xs ys some ∙ rw (sym e ∙ z))
+
+  -- nothing is refused: nothing by the first
+  pub passed-first : firstOf (xs ++ ys) ≡ 0 → firstOf xs ≡ 0
+  passed-first e = go (ℕ-discrete (firstOf xs) 0)
+    where
+      go : Dec (firstOf xs ≡ 0) → firstOf xs ≡ 0
+      go (yes z) = z
+      go (no d) = absurd (d (sym (firstOf-front xs ys d) ∙ e))
