@@ -10,7 +10,7 @@ use lib.ListN.{length}
 use borrow.Author.Tests.{eqb-true, eqb-false, eq-eqb, ltb-false, leb-false}
 use Rattle.refusal.specs.Laws.{both-false}
 use Rattle.quorum.specs.Quorum.{mostSeats, k, has, size, outside}
-use Rattle.quorum.specs.Laws.{outside-false}
+use Rattle.quorum.specs.QuorumLaws.{outside-false}
 use Rattle.protocol.specs.Layout.{storeLength, outLength}
 use Rattle.protocol.specs.Record.{wrongSize, wrongSeat, lastRound, wrongRound, outOfRange, wrongHeard, namesStranger, wrongCollected, wrongFirst, lacksFirst, wrongGuilty, wrongSent, wrongUnset, impossible}
 use Rattle.protocol.specs.declared.Record.{Record}
