@@ -2,7 +2,6 @@
 pub mod Reading
 pub mod Answers
 pub mod StringLaws
-pub mod MaskLaws
 pub mod WalkLaws
 pub mod FormLaws
 pub mod KindLaws
