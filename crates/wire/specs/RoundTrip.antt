@@ -46,7 +46,7 @@ module _ (bytes : List ℕ) where
 -- ---- what a message starts with
 
 -- the command and the round
-start-back : (bytes : List ℕ) (command : ℕ) → 3 ≤ length bytes → ((i : ℕ) → byteAt bytes i < 256) → byteAt bytes 0 ≡ command → command ∷ be 2 (readRound bytes) ≡ part 0 3 bytes
+start-back : (bytes : List ℕ) (command : ℕ) → operandsAt ≤ length bytes → ((i : ℕ) → byteAt bytes i < 256) → byteAt bytes 0 ≡ command → command ∷ be 2 (readRound bytes) ≡ part 0 operandsAt bytes
 unfolding part readRound
 start-back [] command h b e = absurd (omega arith)
 start-back (x ∷ []) command h b e = absurd (omega arith)
@@ -59,13 +59,13 @@ start-back (x ∷ y ∷ z ∷ rest) command h b e =
     rw (be-two, high, low, e)
 
 -- SUBMIT, NOTICE and FULL go on with a seat and the value
-head-back : (bytes : List ℕ) (command : ℕ) → 36 ≤ length bytes → ((i : ℕ) → byteAt bytes i < 256) → byteAt bytes 0 ≡ command
-    → command ∷ be 2 (readRound bytes) ++ byteAt bytes seatAt ∷ [] ++ readValue valueAt bytes ≡ part 0 36 bytes
+head-back : (bytes : List ℕ) (command : ℕ) → valueAt + valueLength ≤ length bytes → ((i : ℕ) → byteAt bytes i < 256) → byteAt bytes 0 ≡ command
+    → command ∷ be 2 (readRound bytes) ++ byteAt bytes seatAt ∷ [] ++ readValue valueAt bytes ≡ part 0 (valueAt + valueLength) bytes
 unfolding readValue
 head-back bytes command h b e =
     let start = start-back bytes command (omega arith) b e in
-    let seat = append-parts bytes 0 3 1 4 (command ∷ be 2 (readRound bytes)) (byteAt bytes seatAt ∷ []) start (one-byte bytes 3 (byteAt bytes seatAt) (omega arith) refl) refl in
-    append-parts bytes 0 4 valueLength 36 (command ∷ be 2 (readRound bytes) ++ byteAt bytes seatAt ∷ []) (part 4 valueLength bytes) seat refl refl
+    let seat = append-parts bytes 0 operandsAt 1 valueAt (command ∷ be 2 (readRound bytes)) (byteAt bytes seatAt ∷ []) start (one-byte bytes seatAt (byteAt bytes seatAt) (omega arith) refl) refl in
+    append-parts bytes 0 valueAt valueLength (valueAt + valueLength) (command ∷ be 2 (readRound bytes) ++ byteAt bytes seatAt ∷ []) (part valueAt valueLength bytes) seat refl refl
 
 -- ---- each command
 
