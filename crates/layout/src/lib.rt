@@ -149,7 +149,7 @@ pub fn full_length(n: u32) -> usize
 
 // EVIDENCE with a number of entries.
 pub fn evidence_length(count: usize) -> usize
-    requires { ⌜ count < 256 ⌝ }
+    requires { ⌜ count < 2 ^ 32 ⌝ }
     ensures { λ r. ⌜ r ≡ Layout.evidenceLength count ⌝ }
 {
     EVIDENCE_START + EVIDENCE_ENTRY * count
@@ -182,21 +182,18 @@ pub fn slot_at(n: u32, bank: Bank, seat: u32) -> usize
     }
 }
 
-// out of a submit or a step in a fleet of n seats: SUBMIT, NOTICE, FULL and EVIDENCE.
-pub fn out_length(n: u32) -> usize
-    requires { ⌜ (1 ≤ n) × (n ≤ mostSeats) ⌝ }
-    ensures { λ r. ⌜ r ≡ Layout.outLength n ⌝ }
-{
-    let k = quorum::k(n) as usize;
-    let full = FULL_START + FULL_ENTRY * k;
-    let evidence = EVIDENCE_START + EVIDENCE_ENTRY * k;
-    SUBMIT + NOTICE + full + evidence
-}
-
 // out of evidence from two certificates.
 pub fn evidence_out_length(n: u32) -> usize
     requires { ⌜ (1 ≤ n) × (n ≤ mostSeats) ⌝ }
     ensures { λ r. ⌜ r ≡ Layout.evidenceOutLength n ⌝ }
 {
-    EVIDENCE_START + EVIDENCE_ENTRY * (quorum::k(n) as usize)
+    evidence_length(quorum::k(n) as usize)
+}
+
+// out of a submit or a step: SUBMIT, NOTICE, FULL and EVIDENCE.
+pub fn out_length(n: u32) -> usize
+    requires { ⌜ (1 ≤ n) × (n ≤ mostSeats) ⌝ }
+    ensures { λ r. ⌜ r ≡ Layout.outLength n ⌝ }
+{
+    SUBMIT + NOTICE + full_length(n) + evidence_out_length(n)
 }

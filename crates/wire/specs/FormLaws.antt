@@ -1,6 +1,6 @@
 -- The tests for each command: return by return, and what the bytes are that pass.
 -- Assumes nothing.
-use mathlib.Core.Path.{_≡_, refl, sym, _∙_}
+use mathlib.Core.Path.{_≡_, sym, _∙_}
 use mathlib.Core.Bool.{Bool, true, false, _&&_, and-false, and-eq-true-iff}
 use mathlib.Core.List.{List}
 use Prim.Native.Nat.{ℕ, _≤_, _<_}
@@ -9,23 +9,23 @@ use lib.Dec.{leb, eqb}
 use lib.ListN.{length, List·getD-eq-default}
 use borrow.Author.Tests.{le-leb, lt-leb, leb-true, eq-eqb, ne-eqb, eqb-true}
 use Rattle.quorum.specs.Quorum.{k}
-use Rattle.protocol.specs.Layout.{signatureLength, submitLength, noticeLength, fullCountAt, fullEntryLength, fullLength, evidenceCountAt, evidenceEntryLength, evidenceLength}
+use Rattle.protocol.specs.Layout.{submitLength, noticeLength, fullCountAt, fullEntryLength, fullLength, evidenceCountAt, evidenceEntryLength, evidenceLength}
 use Rattle.protocol.specs.Entries.{placeOf, entryCommands}
 use Rattle.protocol.specs.Message.{byteAt, fullForm, evidenceForm, formOf, fitsSubmit, fitsNotice, fitsFull, fitsEvidence}
 use Rattle.protocol.specs.Refusals.{every}
 use Rattle.layout.specs.Places.{full, evidence}
 use Rattle.wire.specs.Reading.{commandsIn}
-use Rattle.wire.specs.EntriesLaws.{commands-read}
+use Rattle.wire.specs.WalkLaws.{commands-walked}
 
 -- ---- the commands of entries
 
 full-commands : (t : ℕ) (bytes : List ℕ) → entryCommands fullForm t bytes ≡ every (λ (x : ℕ). eqb x 0x04) (commandsIn (full t) bytes)
 unfolding fullForm placeOf fullEntryLength
-full-commands t bytes = commands-read fullForm bytes t
+full-commands t bytes = commands-walked fullForm bytes t
 
 evidence-commands : (t : ℕ) (bytes : List ℕ) → entryCommands (formOf bytes) t bytes ≡ every (λ (x : ℕ). eqb x 0x06) (commandsIn (evidence t) bytes)
 unfolding evidenceForm placeOf evidenceEntryLength
-evidence-commands t bytes = commands-read (formOf bytes) bytes t
+evidence-commands t bytes = commands-walked (formOf bytes) bytes t
 
 -- ---- SUBMIT and NOTICE
 

@@ -11,31 +11,31 @@ use Rattle.wire.specs.Answers.{commandOf, command}
 use Rattle.wire.specs.declared.read.Kind.{Kind}
 use Rattle.wire.specs.declared.read.Kind.the-variants as kind
 
--- ---- its command, by the tests in their order: t is what a test answered
+-- ---- its command, by the tests in their order
 
 module _ (n : ℕ) (bytes : List ℕ) where
-  pub told-submit : (t : Bool) → t ≡ fitsSubmit bytes → t ≡ true → commandOf kind.Submit ≡ command (read n bytes)
+  pub told-submit : fitsSubmit bytes ≡ true → commandOf kind.Submit ≡ command (read n bytes)
   unfolding commandOf command render read readSubmit
-  told-submit t a h = rw (← a, h)
+  told-submit h = rw h
 
-  module _ (s : Bool) (a : s ≡ fitsSubmit bytes) (no-submit : s ≡ false) where
-    pub told-notice : (t : Bool) → t ≡ fitsNotice bytes → t ≡ true → commandOf kind.Notice ≡ command (read n bytes)
+  module _ (no-submit : fitsSubmit bytes ≡ false) where
+    pub told-notice : fitsNotice bytes ≡ true → commandOf kind.Notice ≡ command (read n bytes)
     unfolding commandOf command render read readNotice
-    told-notice t b h = rw (← a, no-submit, ← b, h)
+    told-notice h = rw (no-submit, h)
 
-    module _ (u : Bool) (b : u ≡ fitsNotice bytes) (no-notice : u ≡ false) where
-      pub told-full : (t : Bool) → t ≡ fitsFull n bytes → t ≡ true → commandOf kind.Full ≡ command (read n bytes)
+    module _ (no-notice : fitsNotice bytes ≡ false) where
+      pub told-full : fitsFull n bytes ≡ true → commandOf kind.Full ≡ command (read n bytes)
       unfolding commandOf command render read readFull
-      told-full t c h = rw (← a, no-submit, ← b, no-notice, ← c, h)
+      told-full h = rw (no-submit, no-notice, h)
 
-      module _ (v : Bool) (c : v ≡ fitsFull n bytes) (no-full : v ≡ false) where
-        pub told-evidence : (t : Bool) → t ≡ fitsEvidence n bytes → t ≡ true → commandOf kind.Evidence ≡ command (read n bytes)
+      module _ (no-full : fitsFull n bytes ≡ false) where
+        pub told-evidence : fitsEvidence n bytes ≡ true → commandOf kind.Evidence ≡ command (read n bytes)
         unfolding commandOf command render read readEvidence
-        told-evidence t d h = rw (← a, no-submit, ← b, no-notice, ← c, no-full, ← d, h)
+        told-evidence h = rw (no-submit, no-notice, no-full, h)
 
-        pub told-garbled : (t : Bool) → t ≡ fitsEvidence n bytes → t ≡ false → commandOf kind.Garbled ≡ command (read n bytes)
+        pub told-garbled : fitsEvidence n bytes ≡ false → commandOf kind.Garbled ≡ command (read n bytes)
         unfolding commandOf command render read
-        told-garbled t d h = rw (← a, no-submit, ← b, no-notice, ← c, no-full, ← d, h)
+        told-garbled h = rw (no-submit, no-notice, no-full, h)
 
 -- ---- a kind is known by its command
 

@@ -3,7 +3,6 @@ pub mod Reading
 pub mod Answers
 pub mod StringLaws
 pub mod WalkLaws
-pub mod EntriesLaws
 pub mod FormLaws
 pub mod KindLaws
 pub mod MessageLaws

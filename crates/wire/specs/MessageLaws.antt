@@ -11,15 +11,16 @@ use lib.Dec.{leb, ltb, eqb}
 use lib.ListN.{length}
 use borrow.Author.Tests.{ltb-true, lt-ltb, le-ltb, le-leb, lt-leb, ne-eqb, not-true, not-false}
 use Rattle.quorum.specs.Quorum.{k}
-use Rattle.protocol.specs.Layout.{valueLength, signatureLength, seatAt, valueAt, fullEntryLength, evidenceCountAt, evidenceEntryLength}
+use Rattle.protocol.specs.Layout.{valueLength, signatureLength, seatAt, valueAt, fullEntryLength, lowerAt, higherAt, evidenceCountAt, evidenceEntryLength}
 use Rattle.protocol.specs.Figures.{submit-figure, notice-figure, full-figure, evidence-figure}
 use Rattle.protocol.specs.Entries.{placeOf}
-use Rattle.protocol.specs.Message.{Message, Submit, Notice, Full, Evidence, Garbled, fullForm, evidenceForm, formOf, byteAt, readRound, readSubmit, readNotice, readFull, readEvidence, read, roundOf, entrySeats, seatsOf}
+use Rattle.protocol.specs.Message.{Message, Submit, Notice, Full, Evidence, Garbled, fullForm, evidenceForm, formOf, byteAt, readRound, readValue, readSubmit, readNotice, readFull, readEvidence, read, roundOf, entrySeats, seatsOf}
 use Rattle.protocol.specs.Refusals.{every, rising, otherRound, stranger, disorder}
-use Rattle.protocol.specs.Laws.{every-append}
+use Rattle.protocol.specs.ConditionsLaws.{every-append}
+use Rattle.protocol.specs.MessageLaws.{full-faithful, evidence-faithful}
 use Rattle.layout.specs.Places.{full, evidence}
 use Rattle.wire.specs.Reading.{kindOf, bytesAt, seatsIn, Inside, sendersOf}
-use Rattle.wire.specs.EntriesLaws.{seats-read}
+use Rattle.wire.specs.WalkLaws.{seats-walked}
 use Rattle.wire.specs.FormLaws.{submit-length, notice-length, full-fits, evidence-fits}
 use Rattle.wire.specs.KindLaws.{read-as, tag}
 use Rattle.wire.specs.declared.read.Kind.{Kind}
@@ -141,13 +142,13 @@ module _ (t : Kind) (n : ℕ) (bytes : List ℕ) (e : t ≡ kindOf (read n bytes
   unfolding entrySeats readFull fullForm placeOf fullEntryLength signatureLength
   full-seats g q =
       let r = read-as kind.Full n bytes (sym g ∙ e) in
-      (rw (r .0, q) (seats-read fullForm bytes (λ s held. refl) (k n)), omega (arith, full-fits n bytes (r .1) .size, full-figure n))
+      (rw (r .0, q) (seats-walked fullForm bytes full-faithful (k n)), omega (arith, full-fits n bytes (r .1) .size, full-figure n))
 
   pub evidence-seats : t ≡ kind.Evidence → count ≡ byteAt bytes evidenceCountAt → (seatsIn (evidence count) bytes ≡ entrySeats (read n bytes)) × Inside (evidence count) bytes
   unfolding entrySeats readEvidence evidenceForm placeOf evidenceEntryLength signatureLength
   evidence-seats g q =
       let r = read-as kind.Evidence n bytes (sym g ∙ e) in
-      (rw (r .0, q) (seats-read (formOf bytes) bytes (λ s held. refl) (byteAt bytes evidenceCountAt)), omega (arith, evidence-fits n bytes (r .1) .size, evidence-figure (byteAt bytes evidenceCountAt)))
+      (rw (r .0, q) (seats-walked (formOf bytes) bytes (evidence-faithful (readValue lowerAt bytes) (readValue higherAt bytes)) (byteAt bytes evidenceCountAt)), omega (arith, evidence-fits n bytes (r .1) .size, evidence-figure (byteAt bytes evidenceCountAt)))
 
 -- the others have no entries
 pub no-seats : (t : Kind) (n : ℕ) (bytes : List ℕ) → t ≡ kindOf (read n bytes) → (tag t ≡ 0) ⊎ ((tag t ≡ 1) ⊎ (tag t ≡ 4))

@@ -1,30 +1,52 @@
 -- What reads as a message is what writing that message gives. (That messages written are read back the same is a law of
 -- `protocol`.)
 -- Assumes nothing.
-use mathlib.Core.Path.{_≡_, refl, sym, ap, _∙_}
+use mathlib.Core.Path.{_≡_, refl, sym, ap, ap₂, _∙_}
 use mathlib.Core.Bool.{true}
 use mathlib.Core.List.{List, [], _∷_, _++_}
 use Prim.Native.Nat.{ℕ, _+_, _*_, _/_, _%_, _≤_, _<_}
 use native.Mathlib.Omega.{arith}
-use lib.ListN.{length, take-append-drop}
+use lib.ListN.{length}
 use Rattle.octets.specs.Octets.{part, be}
-use Rattle.octets.specs.StringLaws.{be-two, part-all}
+use Rattle.octets.specs.StringLaws.{be-two, part-suc, part-all}
+use Rattle.octets.specs.WriteLaws.{part-add}
 use Rattle.quorum.specs.Quorum.{k}
-use Rattle.protocol.specs.Layout.{valueLength, signatureLength, operandsAt, seatAt, valueAt, submitSignatureAt, submitLength, noticeLength, fullCountAt, fullStart, fullEntryLength, fullEntryAt, fullLength, lowerAt, higherAt, evidenceCountAt, evidenceStart, evidenceEntryLength, evidenceEntryAt, evidenceLength}
+use Rattle.protocol.specs.Layout.{valueLength, signatureLength, operandsAt, seatAt, valueAt, submitSignatureAt, submitLength, noticeLength, entryLength, fullCountAt, fullStart, fullEntryLength, fullEntryAt, fullLength, lowerAt, higherAt, evidenceCountAt, evidenceStart, evidenceEntryLength, evidenceEntryAt, evidenceLength}
 use Rattle.protocol.specs.Figures.{submit-figure, notice-figure, full-figure, evidence-figure}
-use Rattle.protocol.specs.Entries.{placeOf, readEntries}
+use Rattle.protocol.specs.Entries.{Form, placeOf, renderEntries, entryCommands, readEntries}
+use Rattle.protocol.specs.EntriesLaws.{Faithful, length-read, entries-back}
 use Rattle.protocol.specs.Message.{fullForm, evidenceForm, formOf, render, byteAt, readRound, readValue, readSignature, readSubmit, readNotice, readFull, readEvidence, fitsSubmit, fitsNotice, fitsFull, fitsEvidence, read}
+use Rattle.protocol.specs.MessageLaws.{full-faithful, evidence-faithful}
 use Rattle.wire.specs.Reading.{kindOf}
-use Rattle.wire.specs.EntriesLaws.{append-parts, one-byte, length-read, message-back}
 use Rattle.wire.specs.FormLaws.{submit-length, notice-length, full-fits, evidence-fits}
 use Rattle.wire.specs.KindLaws.{read-as}
 use Rattle.wire.specs.declared.read.Kind.{Kind}
 use Rattle.wire.specs.declared.read.Kind.the-variants as kind
 
+-- ---- parts one after another
+
+module _ (bytes : List ℕ) where
+  -- us and then vs, each a part of the bytes
+  append-parts : (at a b n : ℕ) (us vs : List ℕ) → us ≡ part at a bytes → vs ≡ part (at + a) b bytes → n ≡ a + b → us ++ vs ≡ part at n bytes
+  append-parts at a b n us vs e f q = ap₂ _++_ e f ∙ rw q (sym (part-add at a b bytes))
+
+  one-byte : (at b : ℕ) → at < length bytes → byteAt bytes at ≡ b → b ∷ [] ≡ part at 1 bytes
+  unfolding part
+  one-byte at b h e = sym (part-suc at 0 bytes h ∙ ap (λ (x : ℕ). x ∷ []) e)
+
+  -- what stands before the entries, and then the entries
+  entries-after : {A : Type 0} (form : Form A) → Faithful form → (front : List ℕ) (t : ℕ) → front ≡ part 0 (form .start) bytes → length bytes ≡ placeOf form t → entryCommands form t bytes ≡ true
+      → front ++ renderEntries form (readEntries form t bytes) ≡ bytes
+  unfolding placeOf
+  entries-after form faithful front t f l c =
+      let place : 0 + form .start ≡ form .start = omega arith in
+      append-parts 0 (form .start) (entryLength (form .held) * t) (placeOf form t) front (renderEntries form (readEntries form t bytes)) f (rw place (entries-back form faithful bytes t (omega arith) c)) refl
+      ∙ part-all bytes (placeOf form t) l
+
 -- ---- what a message starts with
 
 -- the command and the round
-start-back : (bytes : List ℕ) (command : ℕ) → 3 ≤ length bytes → ((i : ℕ) → byteAt bytes i < 256) → byteAt bytes 0 ≡ command → command ∷ be 2 (readRound bytes) ≡ part 0 3 bytes
+start-back : (bytes : List ℕ) (command : ℕ) → operandsAt ≤ length bytes → ((i : ℕ) → byteAt bytes i < 256) → byteAt bytes 0 ≡ command → command ∷ be 2 (readRound bytes) ≡ part 0 operandsAt bytes
 unfolding part readRound
 start-back [] command h b e = absurd (omega arith)
 start-back (x ∷ []) command h b e = absurd (omega arith)
@@ -37,13 +59,13 @@ start-back (x ∷ y ∷ z ∷ rest) command h b e =
     rw (be-two, high, low, e)
 
 -- SUBMIT, NOTICE and FULL go on with a seat and the value
-head-back : (bytes : List ℕ) (command : ℕ) → 36 ≤ length bytes → ((i : ℕ) → byteAt bytes i < 256) → byteAt bytes 0 ≡ command
-    → command ∷ be 2 (readRound bytes) ++ byteAt bytes seatAt ∷ [] ++ readValue valueAt bytes ≡ part 0 36 bytes
+head-back : (bytes : List ℕ) (command : ℕ) → valueAt + valueLength ≤ length bytes → ((i : ℕ) → byteAt bytes i < 256) → byteAt bytes 0 ≡ command
+    → command ∷ be 2 (readRound bytes) ++ byteAt bytes seatAt ∷ [] ++ readValue valueAt bytes ≡ part 0 (valueAt + valueLength) bytes
 unfolding readValue
 head-back bytes command h b e =
     let start = start-back bytes command (omega arith) b e in
-    let seat = append-parts bytes 0 3 1 4 (command ∷ be 2 (readRound bytes)) (byteAt bytes seatAt ∷ []) start (one-byte bytes 3 (byteAt bytes seatAt) (omega arith) refl) refl in
-    append-parts bytes 0 4 valueLength 36 (command ∷ be 2 (readRound bytes) ++ byteAt bytes seatAt ∷ []) (part 4 valueLength bytes) seat refl refl
+    let seat = append-parts bytes 0 operandsAt 1 valueAt (command ∷ be 2 (readRound bytes)) (byteAt bytes seatAt ∷ []) start (one-byte bytes seatAt (byteAt bytes seatAt) (omega arith) refl) refl in
+    append-parts bytes 0 valueAt valueLength (valueAt + valueLength) (command ∷ be 2 (readRound bytes) ++ byteAt bytes seatAt ∷ []) (part valueAt valueLength bytes) seat refl refl
 
 -- ---- each command
 
@@ -66,10 +88,10 @@ unfolding render readFull fullForm placeOf fullLength fullEntryAt fullEntryLengt
 full-back n bytes b h =
     let fits = full-fits n bytes h in
     let many = length (readEntries fullForm (k n) bytes) in
-    let count : byteAt bytes fullCountAt ≡ many = fits .count ∙ sym (length-read fullForm bytes (k n)) in
+    let count : byteAt bytes fullCountAt ≡ many = fits .count ∙ sym (length-read fullForm (k n) bytes) in
     let head = head-back bytes 0x03 (omega (arith, full-figure n)) b (fits .code) in
     let front = append-parts bytes 0 fullCountAt 1 fullStart (0x03 ∷ be 2 (readRound bytes) ++ byteAt bytes seatAt ∷ [] ++ readValue valueAt bytes) (many ∷ []) head (one-byte bytes fullCountAt many (omega (arith, full-figure n)) count) refl in
-    message-back fullForm bytes (λ s held. refl) (λ s held. refl) (0x03 ∷ be 2 (readRound bytes) ++ byteAt bytes seatAt ∷ [] ++ readValue valueAt bytes ++ many ∷ []) (k n) front (fits .size) (fits .commands)
+    entries-after bytes fullForm full-faithful (0x03 ∷ be 2 (readRound bytes) ++ byteAt bytes seatAt ∷ [] ++ readValue valueAt bytes ++ many ∷ []) (k n) front (fits .size) (fits .commands)
 
 evidence-back : (n : ℕ) (bytes : List ℕ) → ((i : ℕ) → byteAt bytes i < 256) → fitsEvidence n bytes ≡ true → render (readEvidence bytes) ≡ bytes
 unfolding render readEvidence readValue evidenceForm placeOf evidenceLength evidenceEntryAt evidenceEntryLength
@@ -83,8 +105,8 @@ evidence-back n bytes b h =
     let higher = append-parts bytes 0 higherAt valueLength evidenceCountAt (0x05 ∷ be 2 (readRound bytes) ++ part lowerAt valueLength bytes) (part higherAt valueLength bytes) lower refl refl in
     let front =
     append-parts bytes 0 evidenceCountAt 1 evidenceStart (0x05 ∷ be 2 (readRound bytes) ++ part lowerAt valueLength bytes ++ part higherAt valueLength bytes) (many ∷ []) higher
-    (one-byte bytes evidenceCountAt many (omega arith) (sym (length-read (formOf bytes) bytes counted))) refl in
-    message-back (formOf bytes) bytes (λ s held. refl) (λ s held. take-append-drop signatureLength held)
+    (one-byte bytes evidenceCountAt many (omega arith) (sym (length-read (formOf bytes) counted bytes))) refl in
+    entries-after bytes (formOf bytes) (evidence-faithful (readValue lowerAt bytes) (readValue higherAt bytes))
     (0x05 ∷ be 2 (readRound bytes) ++ part lowerAt valueLength bytes ++ part higherAt valueLength bytes ++ many ∷ []) counted front (fits .size) (fits .commands)
 
 -- ---- any message

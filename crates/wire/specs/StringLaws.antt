@@ -1,4 +1,4 @@
--- Laws of comparisons in a loop, and of bytes copied.
+-- Laws of comparisons in a loop, and of what is copied.
 -- Assumes nothing.
 use mathlib.Core.Path.{_≡_, refl, sym, _∙_}
 use mathlib.Core.Bool.{true, false}

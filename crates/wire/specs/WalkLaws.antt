@@ -1,21 +1,23 @@
--- Laws of walks over entries: a byte of each, at its place.
+-- Laws of walks over entries: a byte of each, at its place; and the walks that read a form's commands and seats.
 -- Assumes nothing.
-use mathlib.Core.Path.{_≡_, refl, sym, ap, subst, _∙_}
+use mathlib.Core.Path.{_≡_, refl, sym, ap, _∙_}
 use mathlib.Core.Bool.{Bool, true, false, _&&_, and-true, and-false, false≢true}
 use mathlib.Core.Logic.{_⊎_, inl, inr, ⊎-elim}
-use mathlib.Core.List.{List, [], _∷_, append-assoc}
+use mathlib.Core.List.{List, [], _∷_, append-assoc, map-append}
 use Prim.Native.Nat.{ℕ, zero, suc, _+_, _≤_, _<_}
 use native.Mathlib.Nat.{mul-suc, mul-le-mul-left, eq-or-lt-of-le, le-of-suc-le-suc}
 use native.Mathlib.Numerals.{add-one}
 use native.Mathlib.Omega.{arith}
-use lib.Dec.{ltb}
+use lib.Dec.{ltb, eqb}
 use lib.ListN.{length}
 use borrow.Author.Tests.{ltb-true, lt-ltb, le-ltb}
 use Rattle.quorum.specs.Quorum.{with}
-use Rattle.protocol.specs.Message.{byteAt}
+use Rattle.protocol.specs.Entries.{Form, byteAt, placeOf, entryCommands, readEntry, readEntries, formSeats}
+use Rattle.protocol.specs.EntriesLaws.{Faithful}
 use Rattle.protocol.specs.Certificate.{setOf}
 use Rattle.protocol.specs.Refusals.{every, rising}
-use Rattle.protocol.specs.Laws.{every-append, rising-snoc, set-snoc}
+use Rattle.protocol.specs.ConditionsLaws.{every-append, rising-snoc}
+use Rattle.protocol.specs.CertificateLaws.{set-snoc}
 use Rattle.layout.specs.declared.Entries.{Entries}
 use Rattle.wire.specs.Reading.{bytesAt, seatPlace, Inside}
 
@@ -27,7 +29,7 @@ module _ (place : ℕ → ℕ) (bytes : List ℕ) where
   -- ---- a test of every byte
 
   module _ (test : ℕ → Bool) where
-    pub every-step : (t : ℕ) → every test (bytesAt place (suc t) bytes) ≡ (every test (bytesAt place t bytes) && test (byteAt bytes (place t)))
+    every-step : (t : ℕ) → every test (bytesAt place (suc t) bytes) ≡ (every test (bytesAt place t bytes) && test (byteAt bytes (place t)))
     unfolding bytesAt every
     every-step t = every-append test (bytesAt place t bytes) (byteAt bytes (place t) ∷ []) ∙ rw and-true
 
@@ -124,3 +126,18 @@ module _ (place : ℕ → ℕ) (bytes : List ℕ) where
 
   pub gathered-all : (count mask t : ℕ) → Gathered count mask t → count ≤ t → mask ≡ setOf (bytesAt place count bytes)
   gathered-all count mask t h l = let q : t ≡ count = omega arith in h .1 ∙ rw q
+
+-- ---- the entries of a form
+
+module _ {A : Type 0} (form : Form A) (bytes : List ℕ) where
+  pub commands-walked : (t : ℕ) → entryCommands form t bytes ≡ every (λ (x : ℕ). eqb x (form .command)) (bytesAt (placeOf form) t bytes)
+  unfolding entryCommands bytesAt every
+  commands-walked zero = refl
+  commands-walked (suc t) = rw (commands-walked t) (sym (every-step (placeOf form) bytes (λ (x : ℕ). eqb x (form .command)) t))
+
+  pub seats-walked : Faithful form → (t : ℕ) → bytesAt (λ (i : ℕ). placeOf form i + 1) t bytes ≡ formSeats form (readEntries form t bytes)
+  unfolding bytesAt formSeats readEntries readEntry
+  seats-walked faithful zero = refl
+  seats-walked faithful (suc t) =
+      let last = readEntry form (placeOf form t) bytes in
+      rw (seats-walked faithful t, map-append (form .seat) (readEntries form t bytes) (last ∷ []), faithful _ _ .0)

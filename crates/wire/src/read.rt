@@ -34,12 +34,14 @@ pub fn number_at(m: &[u8], at: usize) -> u32
 }
 
 // The round, two bytes after the command.
-pub fn round_of(m: &[u8]) -> u32
+fn round_of(m: &[u8]) -> u32
     requires { ⌜ operandsAt ≤ length (now m) ⌝ }
     ensures { λ r. ⌜ r ≡ readRound (now (m .entry)) ⌝ }
 {
     let at = layout::round_at();
-    wide(m[at]) * 256 + wide(m[at + 1])
+    let high = wide(m[at]);
+    let low = wide(m[at + 1]);
+    high * 256 + low
 }
 
 // Whether the bytes are those of a SUBMIT: its code and its length.

@@ -3,10 +3,7 @@ use mathlib.Core.Path.{refl}
 use Rattle.protocol.specs.Layout.{evidenceEntryLength, signatureLength}
 use Rattle.layout.proofs.evidence_entries.Statement.{statement}
 use Rattle.layout.proofs.evidence_entries.Tie as tie
-use Rattle.layout.proofs.evidence_entries.Reads as reads
-use Rattle.layout.proofs.evidence_entries.Lts as lts
 
--- src/lib.rt:103:1
 returns : tie.Need-returns
 unfolding evidenceEntryLength signatureLength
 returns c = refl

@@ -4,18 +4,13 @@ use Rattle.protocol.specs.Figures.{evidence-figure}
 use borrow.Author.Needs.{needs}
 use Rattle.layout.proofs.evidence_length.Statement.{statement}
 use Rattle.layout.proofs.evidence_length.Tie as tie
-use Rattle.layout.proofs.evidence_length.Reads as reads
-use Rattle.layout.proofs.evidence_length.Lts as lts
 
--- src/lib.rt:148:22
 mul-result : tie.Need-mul-result
 mul-result c = search needs
 
--- src/lib.rt:148:5
 add-result : tie.Need-add-result
 add-result c = search needs
 
--- src/lib.rt:144:1
 returns : tie.Need-returns
 returns c = omega (arith, evidence-figure (c .args .count))
 

@@ -3,10 +3,7 @@ use mathlib.Core.Path.{refl}
 use Rattle.protocol.specs.Layout.{fullEntryLength, signatureLength}
 use Rattle.layout.proofs.full_entries.Statement.{statement}
 use Rattle.layout.proofs.full_entries.Tie as tie
-use Rattle.layout.proofs.full_entries.Reads as reads
-use Rattle.layout.proofs.full_entries.Lts as lts
 
--- src/lib.rt:92:1
 returns : tie.Need-returns
 unfolding fullEntryLength signatureLength
 returns c = refl

@@ -3,10 +3,7 @@ use mathlib.Core.Path.{refl}
 use Rattle.protocol.specs.Layout.{signatureLength}
 use Rattle.layout.proofs.signature_length.Statement.{statement}
 use Rattle.layout.proofs.signature_length.Tie as tie
-use Rattle.layout.proofs.signature_length.Reads as reads
-use Rattle.layout.proofs.signature_length.Lts as lts
 
--- src/lib.rt:11:1
 returns : tie.Need-returns
 unfolding signatureLength
 returns c = refl

@@ -5,35 +5,26 @@ use Rattle.layout.specs.Places.{bankOf}
 use borrow.Author.Needs.{needs}
 use Rattle.layout.proofs.slot_at.Statement.{statement}
 use Rattle.layout.proofs.slot_at.Tie as tie
-use Rattle.layout.proofs.slot_at.Reads as reads
-use Rattle.layout.proofs.slot_at.Lts as lts
 
--- src/lib.rt:158:14
 mul-at : tie.Need-mul-at
 mul-at c = search needs
 
--- src/lib.rt:160:28
 enum-told : tie.Need-enum-told
 enum-told c = search needs
 
--- src/lib.rt:161:37
 enum-told-2 : tie.Need-enum-told-2
 enum-told-2 c = search needs
 
--- src/lib.rt:161:24
 mul-result : tie.Need-mul-result
 mul-result c = search needs
 
--- src/lib.rt:161:24
 add-result : tie.Need-add-result
 add-result c = search needs
 
--- src/lib.rt:154:1
 returns : tie.Need-returns
 unfolding slotAt lengthOfBanks banksBefore banks slotLength slotLengthIn storeLength signatureLength bankOf
 returns c = let e = c .enum-told .given .1 in rw e (omega arith, omega arith)
 
--- src/lib.rt:154:1
 returns-2 : tie.Need-returns-2
 unfolding slotAt lengthOfBanks banksBefore banks slotLength slotLengthIn storeLength signatureLength bankOf
 returns-2 c = let e = c .enum-told2 .given .1 in rw e (omega arith, omega arith)

@@ -4,18 +4,13 @@ use Rattle.protocol.specs.Layout.{storeLength, lengthOfBanks, banks, signatureL
 use borrow.Author.Needs.{needs}
 use Rattle.layout.proofs.store_length.Statement.{statement}
 use Rattle.layout.proofs.store_length.Tie as tie
-use Rattle.layout.proofs.store_length.Reads as reads
-use Rattle.layout.proofs.store_length.Lts as lts
 
--- src/lib.rt:150:5
 mul-result : tie.Need-mul-result
 mul-result c = search needs
 
--- src/lib.rt:150:5
 mul-result-2 : tie.Need-mul-result-2
 mul-result-2 c = search needs
 
--- src/lib.rt:146:1
 returns : tie.Need-returns
 unfolding storeLength lengthOfBanks banks signatureLength
 returns c = omega arith

@@ -3,10 +3,7 @@ use mathlib.Core.Path.{refl}
 use Rattle.protocol.specs.Layout.{submitLength, signatureLength}
 use Rattle.layout.proofs.submit_length.Statement.{statement}
 use Rattle.layout.proofs.submit_length.Tie as tie
-use Rattle.layout.proofs.submit_length.Reads as reads
-use Rattle.layout.proofs.submit_length.Lts as lts
 
--- src/lib.rt:123:1
 returns : tie.Need-returns
 unfolding submitLength signatureLength
 returns c = refl

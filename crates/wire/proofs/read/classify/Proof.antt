@@ -1,60 +1,80 @@
 -- `wire::read::classify` meets its contract.
+use mathlib.Core.Path.{_≡_, sym, _∙_}
+use mathlib.Core.Bool.{false}
+use mathlib.Core.List.{List}
+use Prim.Native.Nat.{ℕ}
 use borrow.Author.Needs.{needs}
 use denote.Ref.{now}
+use Rattle.protocol.specs.Message.{fitsSubmit, fitsNotice, fitsFull}
 use Rattle.wire.specs.KindLaws.{told-submit, told-notice, told-full, told-evidence, told-garbled}
 use Rattle.wire.proofs.read.classify.Statement.{statement}
 use Rattle.wire.proofs.read.classify.Tie as tie
+
+abbrev start : tie.After-is-submit → tie.Start
+start c = c .before .before
+
+abbrev n : tie.After-is-submit → ℕ
+n c = start c .args .n
+
+abbrev bytes : tie.After-is-submit → List ℕ
+bytes c = now (start c .args .m)
+
+-- each test that fails
+no-submit : (c : tie.Else1) → fitsSubmit (bytes (c .before)) ≡ false
+no-submit c = sym (c .before .is-submit .ensures) ∙ c .if1 .left
+
+abbrev first : tie.After-is-notice → tie.After-is-submit
+first c = c .before .before
+
+no-notice : (c : tie.Else2) → fitsNotice (bytes (first (c .before))) ≡ false
+no-notice c = sym (c .before .is-notice .ensures) ∙ c .if2 .left
+
+abbrev second : tie.After-is-full → tie.After-is-notice
+second c = c .before .before
+
+no-full : (c : tie.Else3) → fitsFull (n (first (second (c .before)))) (bytes (first (second (c .before)))) ≡ false
+no-full c = sym (c .before .is-full .ensures) ∙ c .if3 .left
+
+abbrev third : tie.After-is-evidence → tie.After-is-full
+third c = c .before .before
 
 is-submit-requires : tie.Need-is-submit-requires
 is-submit-requires c κs = search needs
 
 returns : tie.Need-returns
-returns c =
-    let args = c .before .before .before .args in
-    told-submit (args .n) (now (args .m)) (c .before .is-submit .result) (c .before .is-submit .ensures) (c .if1 .taken)
+returns c = told-submit (n (c .before)) (bytes (c .before)) (sym (c .before .is-submit .ensures) ∙ c .if1 .taken)
 
 is-notice-requires : tie.Need-is-notice-requires
 is-notice-requires c κs = search needs
 
 returns-2 : tie.Need-returns-2
 returns-2 c =
-    let submit = c .before .before in
-    let args = submit .before .before .before .args in
-    told-notice (args .n) (now (args .m)) (submit .before .is-submit .result) (submit .before .is-submit .ensures) (submit .if1 .left) (c .before .is-notice .result) (c .before .is-notice .ensures) (c .if2 .taken)
+    let t = c .before in
+    told-notice (n (first t)) (bytes (first t)) (no-submit (t .before)) (sym (t .is-notice .ensures) ∙ c .if2 .taken)
 
 is-full-requires : tie.Need-is-full-requires
 is-full-requires c κs = search needs
 
 returns-3 : tie.Need-returns-3
 returns-3 c =
-    let notice = c .before .before in
-    let submit = notice .before .before in
-    let args = submit .before .before .before .args in
-    told-full (args .n) (now (args .m)) (submit .before .is-submit .result) (submit .before .is-submit .ensures) (submit .if1 .left)
-    (notice .before .is-notice .result) (notice .before .is-notice .ensures) (notice .if2 .left) (c .before .is-full .result) (c .before .is-full .ensures) (c .if3 .taken)
+    let t = c .before in
+    let s = second t in
+    told-full (n (first s)) (bytes (first s)) (no-submit (s .before)) (no-notice (t .before)) (sym (t .is-full .ensures) ∙ c .if3 .taken)
 
 is-evidence-requires : tie.Need-is-evidence-requires
 is-evidence-requires c κs = search needs
 
 returns-4 : tie.Need-returns-4
 returns-4 c =
-    let full = c .before .before in
-    let notice = full .before .before in
-    let submit = notice .before .before in
-    let args = submit .before .before .before .args in
-    told-evidence (args .n) (now (args .m)) (submit .before .is-submit .result) (submit .before .is-submit .ensures) (submit .if1 .left)
-    (notice .before .is-notice .result) (notice .before .is-notice .ensures) (notice .if2 .left) (full .before .is-full .result) (full .before .is-full .ensures) (full .if3 .left)
-    (c .before .is-evidence .result) (c .before .is-evidence .ensures) (c .if4 .taken)
+    let t = c .before in
+    let s = second (third t) in
+    told-evidence (n (first s)) (bytes (first s)) (no-submit (s .before)) (no-notice (third t .before)) (no-full (t .before)) (sym (t .is-evidence .ensures) ∙ c .if4 .taken)
 
 returns-5 : tie.Need-returns-5
 returns-5 c =
-    let full = c .before .before in
-    let notice = full .before .before in
-    let submit = notice .before .before in
-    let args = submit .before .before .before .args in
-    told-garbled (args .n) (now (args .m)) (submit .before .is-submit .result) (submit .before .is-submit .ensures) (submit .if1 .left)
-    (notice .before .is-notice .result) (notice .before .is-notice .ensures) (notice .if2 .left) (full .before .is-full .result) (full .before .is-full .ensures) (full .if3 .left)
-    (c .before .is-evidence .result) (c .before .is-evidence .ensures) (c .if4 .left)
+    let t = c .before in
+    let s = second (third t) in
+    told-garbled (n (first s)) (bytes (first s)) (no-submit (s .before)) (no-notice (third t .before)) (no-full (t .before)) (sym (t .is-evidence .ensures) ∙ c .if4 .left)
 
 pub classify-spec : {M : Type 1} → statement M
 classify-spec =

@@ -1,5 +1,5 @@
 -- `wire::read::entries_of` meets its contract.
-use mathlib.Core.Path.{_≡_, ap, _∙_}
+use mathlib.Core.Path.{ap, _∙_}
 use native.Mathlib.Omega.{arith}
 use borrow.Author.Needs.{needs}
 use denote.Ref.{now}
@@ -14,6 +14,9 @@ full-start c = c .before .before .before
 
 abbrev evidence-start : tie.After-evidence-count-at → tie.Start
 evidence-start c = c .before .before .before .before
+
+abbrev counted-at : tie.After-evidence-entries → tie.After-evidence-count-at
+counted-at c = c .before .before
 
 enum-told : tie.Need-enum-told
 enum-told c = search needs
@@ -49,16 +52,16 @@ full-entries-requires-2 c κs = search needs
 
 returns : tie.Need-returns
 returns c =
+    let k = c .before .k in
     let told = c .before .before in
     let s = full-start told in
-    let k = c .before .k in
     rw (c .full-entries .ensures) (full-seats (s .args .kind) (s .args .n) (now (s .args .m)) (s .pre .2) (k .result) (told .enum-told .given .1) (k .ensures))
 
 returns-2 : tie.Need-returns-2
 returns-2 c =
-    let at = c .before .before in
-    let s = evidence-start at in
     let number = c .before .number-at in
+    let at = counted-at c in
+    let s = evidence-start at in
     let count = number .ensures .0 ∙ ap (λ i. byteAt (now (s .args .m)) i) (at .evidence-count-at .ensures) in
     rw (c .evidence-entries .ensures) (evidence-seats (s .args .kind) (s .args .n) (now (s .args .m)) (s .pre .2) (number .result) (at .before .enum-told2 .given .1) count)
 

@@ -15,9 +15,9 @@ seats-rise-requires c κs = search needs
 
 returns : tie.Need-returns
 returns c =
-    let column = c .before in
-    let args = column .before .before .args in
-    disorder-told (read (args .n) (now (args .m))) (c .seats-rise .result) (seatsIn (column .entries-of .result) (now (args .m))) (column .entries-of .ensures .0) (c .seats-rise .ensures)
+    let found = c .before in
+    let args = found .before .before .args in
+    disorder-told (read (args .n) (now (args .m))) (c .seats-rise .result) (seatsIn (found .entries-of .result) (now (args .m))) (found .entries-of .ensures .0) (c .seats-rise .ensures)
 
 pub is-disordered-spec : {M : Type 1} → statement M
 is-disordered-spec = tie.close (tie.spec entries-of-requires seats-rise-requires returns)

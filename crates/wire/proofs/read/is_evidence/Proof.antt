@@ -1,8 +1,7 @@
 -- `wire::read::is_evidence` meets its contract.
-use mathlib.Core.Path.{_≡_, sym, ap, _∙_}
+use mathlib.Core.Path.{_≡_, ap, _∙_}
 use Prim.Native.Nat.{ℕ}
 use native.Mathlib.Omega.{arith}
-use lib.ListN.{length}
 use borrow.Author.Needs.{needs}
 use denote.Ref.{now}
 use Rattle.protocol.specs.Layout.{signatureLength, evidenceCountAt, evidenceEntryLength, evidenceLength}
@@ -86,7 +85,6 @@ returns-6 : tie.Need-returns-6
 returns-6 c =
     let made = c .before in
     let same = made .before in
-    let few = same .before .before in
     let read = counted (same .before) in
     let s = begun read in
     let count = count-read read in

@@ -17,29 +17,28 @@ use Rattle.wire.proofs.read.is_full.Tie as tie
 abbrev start : tie.After-full-length → tie.Start
 start c = c .before .before
 
--- the length is right
 abbrev begun : tie.Else1 → tie.Start
 begun c = start (c .before)
 
+-- the length is right
 long : (c : tie.Else1) → length (now (begun c .args .m)) ≡ fullLength (begun c .args .n)
 long c = c .if1 .left ∙ c .before .full-length .ensures
-
--- the code is right
-abbrev coded : tie.Then2 → tie.Else1
-coded c = c .before .before
 
 abbrev sized : tie.Else2 → tie.Else1
 sized c = c .before .before
 
 -- the count that is read
+abbrev k-told : tie.After-number-at → tie.After-k
+k-told c = c .before .before
+
 abbrev after-code : tie.After-number-at → tie.Else2
-after-code c = c .before .before .before
+after-code c = k-told c .before
 
 count-read : (c : tie.After-number-at) → c .number-at .result ≡ byteAt (now (begun (sized (after-code c)) .args .m)) fullCountAt
 count-read c = c .number-at .ensures .0 ∙ ap (λ (i : ℕ). byteAt (now (begun (sized (after-code c)) .args .m)) i) (c .before .full-count-at .ensures)
 
-k-read : (c : tie.After-number-at) → c .before .before .k .result ≡ k (begun (sized (after-code c)) .args .n)
-k-read c = c .before .before .k .ensures
+k-read : (c : tie.After-number-at) → k-told c .k .result ≡ k (begun (sized (after-code c)) .args .n)
+k-read c = k-told c .k .ensures
 
 full-length-requires : tie.Need-full-length-requires
 full-length-requires c κs = search needs
@@ -54,7 +53,7 @@ shared-slice-read-if2 : tie.Need-shared-slice-read-if2
 shared-slice-read-if2 c = omega (arith, long (c .before), full-figure (begun (c .before) .args .n))
 
 returns-2 : tie.Need-returns-2
-returns-2 c = let s = begun (coded c) in full-code (s .args .n) (now (s .args .m)) (c .if2 .taken)
+returns-2 c = let s = begun (c .before .before) in full-code (s .args .n) (now (s .args .m)) (c .if2 .taken)
 
 k-requires : tie.Need-k-requires
 k-requires c κs = search needs

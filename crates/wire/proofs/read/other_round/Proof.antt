@@ -14,27 +14,27 @@ use Rattle.wire.proofs.read.other_round.Tie as tie
 not-fourth : (t : ℕ) → (t ≡ 0) ⊎ ((t ≡ 1) ⊎ ((t ≡ 2) ⊎ (t ≡ 3))) → t ≡ 4 → ⊥
 not-fourth t some e = ⊎-elim (λ a. omega arith) (⊎-elim (λ a. omega arith) (⊎-elim (λ a. omega arith) (λ a. omega arith))) some
 
+abbrev start : tie.At-match-keys2 → tie.Start
+start c = c .before .before
+
+not-garbled : (c : tie.At-match-keys2) → tag (start c .args .kind) ≡ 4 → ⊥
+not-garbled c = let k = start c .args .kind in not-fourth (tag k) (rw (tags k) at (c .match .keys2))
+
 enum-told : tie.Need-enum-told
 enum-told c = search needs
 
 returns : tie.Need-returns
 returns c =
-    let start = c .before .before .before in
-    round-garbled (start .args .kind) (start .args .n) (now (start .args .m)) (start .pre) (c .enum-told .given .1) (start .args .round)
+    let s = c .before .before .before in
+    round-garbled (s .args .kind) (s .args .n) (now (s .args .m)) (s .pre) (c .enum-told .given .1) (s .args .round)
 
 round-of-requires : tie.Need-round-of-requires
-round-of-requires c κs =
-    let start = c .before .before in
-    let k = start .args .kind in
-    let some = rw (tags k) at (c .match .keys2) in
-    omega (arith, long-enough k (start .args .n) (now (start .args .m)) (start .pre) (not-fourth (tag k) some))
+round-of-requires c κs = let s = start c in omega (arith, long-enough (s .args .kind) (s .args .n) (now (s .args .m)) (s .pre) (not-garbled c))
 
 returns-2 : tie.Need-returns-2
 returns-2 c =
-    let start = c .before .before .before in
-    let k = start .args .kind in
-    let some = rw (tags k) at (c .before .match .keys2) in
-    round-told k (start .args .n) (now (start .args .m)) (start .pre) (not-fourth (tag k) some) (c .round-of .result) (start .args .round) (c .round-of .ensures)
+    let s = start (c .before) in
+    round-told (s .args .kind) (s .args .n) (now (s .args .m)) (s .pre) (not-garbled (c .before)) (c .round-of .result) (s .args .round) (c .round-of .ensures)
 
 pub other-round-spec : {M : Type 1} → statement M
 other-round-spec = tie.close (tie.spec enum-told returns round-of-requires returns-2)

@@ -16,9 +16,6 @@ shared-slice-read-wide c = search needs
 wide-requires : tie.Need-wide-requires
 wide-requires c κs = search needs
 
-mul-result : tie.Need-mul-result
-mul-result c = search needs
-
 add-wide : tie.Need-add-wide
 add-wide c = search needs
 
@@ -28,16 +25,20 @@ shared-slice-read-wide-2 c = search needs
 wide-requires-2 : tie.Need-wide-requires-2
 wide-requires-2 c κs = search needs
 
+mul-result : tie.Need-mul-result
+mul-result c = search needs
+
 add-result : tie.Need-add-result
 add-result c = search needs
 
 returns : tie.Need-returns
 unfolding readRound
 returns c =
-    let at = c .before .before .before .before in
-    let bytes = now (at .before .before .args .m) in
-    let high = c .before .before .wide .ensures .0 ∙ ap (λ (i : ℕ). byteAt bytes i) (at .round-at .ensures) in
-    let low = c .wide2 .ensures .0 ∙ ap (λ (i : ℕ). byteAt bytes (i + 1)) (at .round-at .ensures) in
+    let first = c .before .before in
+    let place = first .before .before in
+    let bytes = now (place .before .before .args .m) in
+    let high = first .wide .ensures .0 ∙ ap (λ (i : ℕ). byteAt bytes i) (place .round-at .ensures) in
+    let low = c .wide2 .ensures .0 ∙ ap (λ (i : ℕ). byteAt bytes (i + 1)) (place .round-at .ensures) in
     rw (high, low)
 
 pub round-of-spec : {M : Type 1} → statement M
@@ -47,9 +48,9 @@ round-of-spec =
     round-at-requires
     shared-slice-read-wide
     wide-requires
-    mul-result
     add-wide
     shared-slice-read-wide-2
     wide-requires-2
+    mul-result
     add-result
     returns)

@@ -16,12 +16,15 @@ use Rattle.wire.proofs.reader.entry_at.Tie as tie
 abbrev start : tie.After-full-count-at → tie.Start
 start c = c .before .before
 
+abbrev count-place : tie.After-number-at → tie.After-full-count-at
+count-place c = c .before .before
+
 abbrev begun : tie.After-number-at → tie.Start
-begun c = start (c .before .before)
+begun c = start (count-place c)
 
 -- the count that is read
 count-read : (c : tie.After-number-at) → c .number-at .result ≡ byteAt (now (begun c .args .full)) fullCountAt
-count-read c = c .number-at .ensures .0 ∙ ap (λ (i : ℕ). byteAt (now (begun c .args .full)) i) (c .before .before .full-count-at .ensures)
+count-read c = c .number-at .ensures .0 ∙ ap (λ (i : ℕ). byteAt (now (begun c .args .full)) i) (count-place c .full-count-at .ensures)
 
 abbrev counted : tie.After-entry-at → tie.After-number-at
 counted c = c .before .before
