@@ -15,6 +15,7 @@ use Rattle.quorum.specs.Quorum.{k, In, size, shared, all, seats}
 use Rattle.quorum.specs.QuorumLaws.{seat-at, length-seats}
 use Rattle.protocol.specs.Layout.{signatureLength, valueAt, seatAt, fullCountAt, fullEntryLength, fullEntryAt, fullLength, banks, storeLength, slotAt}
 use Rattle.protocol.specs.LayoutLaws.{slot-fits}
+use Rattle.protocol.specs.EntriesLaws.{length-read}
 use Rattle.protocol.specs.Entries.{Form, placeOf, readEntry, readEntries, entryCommands, formSeats}
 use Rattle.protocol.specs.Message.{Entry, Message, byteAt, read, fullForm, readValue, readSignature, readFull, readSubmit, readNotice, readEvidence, fitsSubmit, fitsNotice, fitsFull, fitsEvidence, entrySeats, seatsOf, Garbled}
 use Rattle.protocol.specs.Certificate.{slot, setOf, signatureOf, certificateOf, certificateIn}
@@ -52,16 +53,11 @@ full-length n bytes h =
 
 -- ---- entries
 
-pub length-entries-read : {A : Type 0} (form : Form A) (t : ℕ) (bytes : List ℕ) → length (readEntries form t bytes) ≡ t
-unfolding readEntries
-length-entries-read form zero bytes = refl
-length-entries-read form (suc t) bytes = simp (length-append, length-entries-read form t bytes) (omega arith)
-
-pub entry-read : {A : Type 0} (form : Form A) (t i : ℕ) (bytes : List ℕ) (d : A) → i < t → getD (readEntries form t bytes) i d ≡ readEntry form (placeOf form i) bytes
+entry-read : {A : Type 0} (form : Form A) (t i : ℕ) (bytes : List ℕ) (d : A) → i < t → getD (readEntries form t bytes) i d ≡ readEntry form (placeOf form i) bytes
 unfolding readEntries
 entry-read form zero i bytes d h = absurd (omega arith)
 entry-read form (suc t) i bytes d h =
-    let l = length-entries-read form t bytes in
+    let l = length-read form t bytes in
     ⊎-elim
     (λ (e : i ≡ t). rw e (getD-at (readEntries form t bytes) (readEntry form (placeOf form t) bytes) [] d t l))
     (λ (b : i < t). List·getD-append (readEntries form t bytes) (readEntry form (placeOf form t) bytes ∷ []) d i (omega arith) ∙ entry-read form t i bytes d b)
@@ -117,7 +113,7 @@ module _ (n : ℕ) (bytes : List ℕ) (mask : ℕ) (h : Sound n bytes mask) wher
 
   pub sound-many : length (seats n mask) ≡ k n
   unfolding formSeats
-  sound-many = ap length sound-seats ∙ length-map (entriesIn n bytes) (fullForm .seat) ∙ length-entries-read fullForm (k n) bytes
+  sound-many = ap length sound-seats ∙ length-map (entriesIn n bytes) (fullForm .seat) ∙ length-read fullForm (k n) bytes
 
   module _ (s : ℕ) (l : s < n) (i : In s mask) where
     entry-index : size (shared mask (all s)) < k n

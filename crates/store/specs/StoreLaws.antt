@@ -1,12 +1,10 @@
 -- Laws of slots, and of a certificate held.
 -- Assumes nothing.
 use mathlib.Core.Path.{_≡_, refl, sym, _∙_}
-use mathlib.Core.Logic.{_⊎_, inl, inr, ⊎-elim}
-use mathlib.Core.List.{List, [], _∷_}
-use Prim.Native.Nat.{ℕ, zero, suc, _+_, _*_, _≤_, _<_}
-use native.Mathlib.Nat.{mul-le-mul-left}
+use mathlib.Core.Logic.{⊎-elim}
+use mathlib.Core.List.{List}
+use Prim.Native.Nat.{ℕ, _+_, _≤_, _<_}
 use native.Mathlib.Omega.{arith}
-use native.Mathlib.Decide.{decLt}
 use lib.ListN.{length}
 use lib.Seq.{drop-drop}
 use borrow.Rule.Slice.PartMut.{putMid}
@@ -15,10 +13,10 @@ use Rattle.octets.specs.OctetLaws.{length-part, length-patch}
 use Rattle.octets.specs.WriteLaws.{part-before, part-after, patch-all}
 use Rattle.quorum.specs.Quorum.{bit, In, seats}
 use Rattle.quorum.specs.QuorumLaws.{seats-in, seats-out}
-use Rattle.protocol.specs.Layout.{signatureLength, banks, lengthOfBanks, banksBefore, slotLengthIn, slotLength, storeLength, slotAt, firstBank}
+use Rattle.protocol.specs.Layout.{signatureLength, banks, slotLength, storeLength, slotAt, firstBank}
 use Rattle.protocol.specs.Message.{readSignature}
 use Rattle.protocol.specs.Certificate.{slot, fill, fillEach}
-use Rattle.protocol.specs.LayoutLaws.{slot-fits}
+use Rattle.protocol.specs.LayoutLaws.{slot-fits, slots-apart, collected-bank, first-bank}
 use Rattle.protocol.specs.CertificateLaws.{fill-snoc}
 use Rattle.layout.specs.Places.{bankOf}
 use Rattle.layout.specs.declared.Bank.{Bank}
@@ -39,41 +37,14 @@ patch-part at k ws xs ys w h e =
 
 -- the banks of the code are in the list, and their slots hold signatures
 pub bank-listed : (b : Bank) → bankOf b < length banks
-unfolding bankOf banks
-bank-listed bank.Collected = omega arith
-bank-listed bank.First = omega arith
+unfolding bankOf
+bank-listed bank.Collected = collected-bank .0
+bank-listed bank.First = first-bank .0
 
 pub slot-signature : (b : Bank) → slotLength (bankOf b) ≡ signatureLength
-unfolding bankOf slotLength slotLengthIn banks
-slot-signature bank.Collected = refl
-slot-signature bank.First = refl
-
--- the slots of a bank end before the next bank starts
-banks-rise : (n low high seat : ℕ) (list : List ℕ) → low < high → high < length list → seat < n
-    → lengthOfBanks (banksBefore low list) * n + slotLengthIn low list * seat + slotLengthIn low list ≤ lengthOfBanks (banksBefore high list) * n
-unfolding lengthOfBanks banksBefore slotLengthIn
-banks-rise n low high seat [] l b h = absurd (omega arith)
-banks-rise n low zero seat (slot ∷ rest) l b h = absurd (omega arith)
-banks-rise n zero (suc high) seat (slot ∷ rest) l b h =
-    let room : slot * suc seat ≤ slot * n = mul-le-mul-left slot (omega arith) in
-    omega arith
-banks-rise n (suc low) (suc high) seat (slot ∷ rest) l b h =
-    let later = banks-rise n low high seat rest (omega arith) (omega arith) h in
-    omega arith
-
--- slots of two seats don't overlap, in whatever banks
-slots-apart : (n a b s t : ℕ) → a < length banks → b < length banks → s < n → t < n → s < t
-    → (slotAt n a s + slotLength a ≤ slotAt n b t) ⊎ (slotAt n b t + slotLength b ≤ slotAt n a s)
-unfolding slotAt slotLength
-slots-apart n a b s t x y h k l = go (decLt a b) (decLt b a)
-  where
-    go : Dec (a < b) → Dec (b < a) → (slotAt n a s + slotLength a ≤ slotAt n b t) ⊎ (slotAt n b t + slotLength b ≤ slotAt n a s)
-    go (yes p) q = inl (omega (arith, banks-rise n a b s banks p y h))
-    go (no p) (yes q) = inr (omega (arith, banks-rise n b a t banks q x k))
-    go (no p) (no q) =
-        let e : a ≡ b = omega arith in
-        let room : slotLengthIn b banks * suc s ≤ slotLengthIn b banks * t = mul-le-mul-left (slotLengthIn b banks) (omega arith) in
-        inl (rw e (omega arith))
+unfolding bankOf
+slot-signature bank.Collected = collected-bank .1
+slot-signature bank.First = first-bank .1
 
 -- a slot filled leaves those of later seats
 fill-leaves : (n a b s t : ℕ) (signature store : List ℕ) → a < length banks → b < length banks → s < n → t < n → s < t
@@ -83,7 +54,7 @@ fill-leaves n a b s t signature store x y h k l r g =
     ⊎-elim
     (λ p. part-after (slotAt n b t) (slotLength b) (slotAt n a s) signature store (omega arith) (omega (arith, slot-fits n a s x h)))
     (λ p. part-before (slotAt n b t) (slotLength b) (slotAt n a s) signature store p (omega (arith, slot-fits n a s x h)))
-    (slots-apart n a b s t x y h k l)
+    (slots-apart n a s b t x y h k (λ p q. omega arith))
 
 -- ---- a certificate held
 
