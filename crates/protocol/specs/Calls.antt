@@ -16,7 +16,7 @@ use Rattle.protocol.specs.Step.{State, submitted, stepped}
 use Rattle.protocol.specs.declared.Record.{Record}
 use Rattle.protocol.specs.declared.Opened.{Opened}
 use Rattle.protocol.specs.declared.Stepped.{Stepped}
-use Rattle.protocol.specs.declared.Made.{Made}
+use Rattle.protocol.specs.declared.Written.{Written}
 use Rattle.protocol.specs.declared.Checked.{Checked}
 
 -- "the answer gives the bytes written, and bytes beyond them keep what they held": out after any call
@@ -86,7 +86,7 @@ making checks n round keys a b out =
     makingBy (firstOf (makingConditions checks n round keys (read n a) (read n b) out)) (evidenceOf n round (certificateIn (read n a)) (certificateIn (read n b)))
 
 -- its answer
-unfoldable pub made : Making → Made
+unfoldable pub made : Making → Written
 made result = record { number = result .refusal; written = length (result .written) }
 
 -- ---- the evidence check

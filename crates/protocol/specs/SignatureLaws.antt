@@ -2,7 +2,7 @@
 -- or not.
 use mathlib.Core.Path.{_≡_, refl, sym, _∙_}
 use mathlib.Core.Bool.{Bool, true, false, not, _&&_, _||_, or-true, or-false, false≢true}
-use mathlib.Core.List.{List, []}
+use mathlib.Core.List.{List, [], _∷_}
 use Prim.Native.Nat.{ℕ, suc, _+_, _^_, _≤_, _<_}
 use native.Mathlib.Omega.{arith}
 use lib.Dec.{eqb, ltb}
@@ -16,11 +16,17 @@ use Rattle.rfc8554.specs.Verify.{lmsTypeOf, otsTypeOf, leafOf, signatureLength 
 use Rattle.protocol.specs.Layout.{signatureLength, treeLength, messageLimit}
 use Rattle.protocol.specs.Record.{wrongRound}
 use Rattle.protocol.specs.Refusals.{shortOut, wrongKey, checkConditions, makeKeyConditions, signConditions}
-use Rattle.protocol.specs.Signatures.{checkSignature, makeKeyRefusal, makeKey, signRefusal, sign, signedBytes}
+use Rattle.protocol.specs.Signatures.{signatureNumber, checkSignature, makeKeyRefusal, makeKey, signRefusal, sign, signedBytes}
 use Rattle.refusal.specs.Laws.{firstOf-zero}
 use Rattle.rfc8554.specs.VerifyLaws.{sibling-within, ancestor-within, length-lmsSignature, valid-fits}
 
 -- ---- the check
+
+-- a verdict is what row 14 says
+pub signature-row : (accepted : Bool) → signatureNumber accepted ≡ firstOf ((14, not accepted) ∷ [])
+unfolding signatureNumber firstOf
+signature-row true = refl
+signature-row false = refl
 
 -- number 5 is what Algorithm 6 rejects of a key
 pub keyInvalid-wrongKey : (key : List ℕ) → keyInvalid key ≡ wrongKey key

@@ -1,7 +1,7 @@
 -- A seat's signature in a round, and the calls of document 01 on keys and signatures, each a function from what it is given to
 -- what it leaves.
 use Prim.Native.Nat.{ℕ}
-use mathlib.Core.Bool.{Bool, _&&_}
+use mathlib.Core.Bool.{Bool, cond, _&&_}
 use mathlib.Core.List.{List, [], _∷_, _++_}
 use lib.Dec.{eqb}
 use Rattle.octets.specs.Octets.{part}
@@ -27,6 +27,10 @@ seatKey keys seat = part (keyAt seat) keyLength keys
 unfoldable pub checks : List ℕ → ℕ → ℕ → List ℕ → List ℕ → Bool
 checks keys round seat value signature =
     valid (seatKey keys seat) (signedBytes round seat value) signature && eqb (leafOf signature) round
+
+-- the refusal number of signatures that are accepted or not: "one doesn't check, or its leaf isn't the round" is 14
+unfoldable pub signatureNumber : Bool → ℕ
+signatureNumber accepted = cond accepted 0 14
 
 -- ---- the stand-alone check: key, message, signature
 

@@ -1,5 +1,7 @@
 // What a unit keeps, and what its calls answer (document 01, "A unit's record and store"). The definitions of
 // every call over these types are in specs/.
+ghost use mathlib.Core.Path.{_≡_};
+ghost use Rattle.protocol.specs.Signatures.{signatureNumber};
 use quorum::Mask;
 
 // What a unit has submitted: whether, its value, and the seats whose signatures over it are collected.
@@ -54,9 +56,9 @@ pub struct Stepped {
     pub unit: Record,
 }
 
-// What making evidence from two certificates answers: the refusal number or 0, and the bytes written.
+// Answer of the key maker, of the signer, and of evidence from two certificates: the refusal number or 0, and the bytes written.
 #[repr(C)]
-pub struct Made {
+pub struct Written {
     pub number: u32,
     pub written: u32,
 }
@@ -66,4 +68,21 @@ pub struct Made {
 pub struct Checked {
     pub number: u32,
     pub mask: Mask,
+}
+
+// Verdict on a signature, or on several: the refusal number or 0.
+pub struct Verdict {
+    pub number: u32,
+}
+
+// The verdict on signatures that are accepted or not.
+pub fn signature_verdict(accepted: bool) -> Verdict
+    ensures { λ v. ⌜ v .number ≡ signatureNumber accepted ⌝ }
+{
+    if accepted {
+        return Verdict { number: 0 };
+    }
+    Verdict {
+        number: refusal::SIGNATURE,
+    }
 }

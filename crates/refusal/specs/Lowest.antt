@@ -1,6 +1,6 @@
 -- "The lowest number whose condition holds is returned": the first of a list is the lowest where the list's numbers rise.
-use mathlib.Core.Path.{_≡_, refl}
-use mathlib.Core.Bool.{Bool, true, false, _&&_, false≢true}
+use mathlib.Core.Path.{_≡_, refl, sym}
+use mathlib.Core.Bool.{Bool, true, false, _&&_, _||_, false≢true}
 use mathlib.Core.List.{List, [], _∷_, _++_}
 use mathlib.Core.Logic.{_⊎_, inl, inr}
 use Prim.Native.Nat.{ℕ, zero, suc, _≤_, _<_}
@@ -37,6 +37,10 @@ pub record Lowest (n : ℕ) (conditions : List (ℕ × Bool)) : Type 0 where
 pub both-true : (a b : Bool) → (a && b) ≡ true → (a ≡ true) × (b ≡ true)
 both-true true b e = (refl, e)
 both-true false b e = absurd (false≢true e)
+
+pub both-false : (a b : Bool) → (a || b) ≡ false → (a ≡ false) × (b ≡ false)
+both-false true b e = absurd (false≢true (sym e))
+both-false false b e = (refl, e)
 
 rises : (m n : ℕ) (rest : List ℕ) → riseFrom m (n ∷ rest) ≡ true → (m < n) × (riseFrom n rest ≡ true)
 unfolding riseFrom

@@ -1,0 +1,111 @@
+-- Records that aren't impossible, and what follows for them (`Record` has the definition).
+-- Assumes nothing.
+use mathlib.Core.Path.{_≡_, refl, sym}
+use mathlib.Core.Bool.{Bool, true, false, not, _&&_, _||_, false≢true}
+use mathlib.Core.List.{List}
+use Prim.Native.Nat.{ℕ, _^_, _≤_, _<_}
+use native.Mathlib.Omega.{arith}
+use lib.Dec.{ltb, eqb}
+use lib.ListN.{length}
+use borrow.Author.Tests.{eqb-true, eqb-false, eq-eqb, ltb-false, leb-false}
+use Rattle.refusal.specs.Lowest.{both-false}
+use Rattle.quorum.specs.Quorum.{mostSeats, k, has, size, outside}
+use Rattle.quorum.specs.Laws.{outside-false}
+use Rattle.protocol.specs.Layout.{storeLength, outLength}
+use Rattle.protocol.specs.Record.{wrongSize, wrongSeat, lastRound, wrongRound, outOfRange, wrongHeard, namesStranger, wrongCollected, wrongFirst, lacksFirst, wrongGuilty, wrongSent, wrongUnset, impossible}
+use Rattle.protocol.specs.declared.Record.{Record}
+
+-- ---- ranges
+
+pub right-size : (n : ℕ) → wrongSize n ≡ false → (1 ≤ n) × (n ≤ mostSeats)
+unfolding wrongSize
+right-size n e =
+    let two = both-false (eqb n 0) (ltb mostSeats n) e in
+    let some : n ≡ 0 → ⊥ = eqb-false n 0 (two .0) in
+    (omega arith, ltb-false mostSeats n (two .1))
+
+pub right-round : (round : ℕ) → wrongRound round ≡ false → round ≤ lastRound
+unfolding wrongRound
+right-round round e = ltb-false lastRound round e
+
+-- n, seat and round are in range
+pub record InRange (r : Record) : Type 0 where
+  pub some : 1 ≤ r .n
+  pub most : r .n ≤ mostSeats
+  pub seated : r .seat < r .n
+  pub round : r .round ≤ lastRound
+
+pub in-range : (r : Record) → outOfRange r ≡ false → InRange r
+unfolding outOfRange wrongSeat
+in-range r e =
+    let a = both-false (wrongSize (r .n) || wrongSeat (r .n) (r .seat)) (wrongRound (r .round)) e in
+    let b = both-false (wrongSize (r .n)) (wrongSeat (r .n) (r .seat)) (a .0) in
+    let size = right-size (r .n) (b .0) in
+    record { some = size .0; most = size .1; seated = leb-false (r .n) (r .seat) (b .1); round = right-round (r .round) (a .1) }
+
+-- ---- possible records
+
+pub record Possible (r : Record) : Type 0 where
+  pub range : InRange r
+  -- the masks name seats below n
+  pub collected : r .own .collected < 2 ^ r .n
+  pub first : r .first .seats < 2 ^ r .n
+  -- nothing is collected before the submission, at most k are, and k are only where the unit has confirmed
+  pub unsaid : r .own .submitted ≡ false → r .own .collected ≡ 0
+  pub few : size (r .own .collected) ≤ k (r .n)
+  pub complete : size (r .own .collected) ≡ k (r .n) → r .confirmed ≡ true
+  -- the first certificate has none or k
+  pub held : size (r .first .seats) ≤ k (r .n)
+
+-- a call's record, store and out, where 4, 6 and 7 are not refused
+pub record Ready (r : Record) (store out : List ℕ) : Type 0 where
+  pub possible : Possible r
+  pub slots : storeLength (r .n) ≤ length store
+  pub room : outLength (r .n) ≤ length out
+
+-- ---- from the test
+
+then-so : (a b : Bool) → (a && not b) ≡ false → a ≡ true → b ≡ true
+then-so true true e h = refl
+then-so true false e h = absurd (false≢true (sym e))
+then-so false b e h = absurd (false≢true h)
+
+none-or-k : (s k : ℕ) → (not (eqb s 0) && not (eqb s k)) ≡ false → s ≤ k
+none-or-k s k e = go (eqb s 0) refl
+  where
+    go : (b : Bool) → eqb s 0 ≡ b → s ≤ k
+    go true h = omega (arith, eqb-true s 0 h)
+    go false h = omega (arith, eqb-true s k (then-so true (eqb s k) (rw h at e) refl))
+
+module _ (r : Record) (e : impossible r ≡ false) where
+  parts : (outOfRange r ≡ false) × (namesStranger r ≡ false) × (wrongCollected r ≡ false) × (wrongFirst r ≡ false)
+  unfolding impossible
+  parts =
+      let a = both-false _ (wrongUnset r) e .0 in
+      let b = both-false _ (wrongSent r) a .0 in
+      let c = both-false _ (wrongGuilty r) b .0 in
+      let d = both-false _ (lacksFirst r) c .0 in
+      let f = both-false _ (wrongFirst r) d in
+      let g = both-false _ (wrongCollected r) (f .0) in
+      let h = both-false _ (namesStranger r) (g .0) in
+      let i = both-false (outOfRange r) (wrongHeard r) (h .0) in
+      (i .0, h .1, g .1, f .1)
+
+  pub possible : Possible r
+  unfolding namesStranger wrongCollected wrongFirst
+  possible =
+      let masks = both-false _ (outside (r .n) (r .guilty)) (parts .1) in
+      let two = both-false (outside (r .n) (r .own .collected)) (outside (r .n) (r .first .seats)) (masks .0) in
+      let a = both-false _ (r .confirmed && not (eqb (size (r .own .collected)) (k (r .n)))) (parts .2) in
+      let b = both-false _ (eqb (size (r .own .collected)) (k (r .n)) && not (r .confirmed)) (a .0) in
+      let c = both-false _ (ltb (k (r .n)) (size (r .own .collected))) (b .0) in
+      let d = both-false (not (r .own .submitted) && not (eqb (r .own .collected) 0)) (r .own .submitted && not (has (r .seat) (r .own .collected))) (c .0) in
+      record {
+        range = in-range r (parts .0);
+        collected = outside-false (r .n) (r .own .collected) .0 (two .0);
+        first = outside-false (r .n) (r .first .seats) .0 (two .1);
+        unsaid = λ h. eqb-true (r .own .collected) 0 (then-so (not (r .own .submitted)) (eqb (r .own .collected) 0) (d .0) (rw h));
+        few = ltb-false (k (r .n)) (size (r .own .collected)) (c .1);
+        complete = λ h. then-so (eqb (size (r .own .collected)) (k (r .n))) (r .confirmed) (b .1) (eq-eqb (size (r .own .collected)) (k (r .n)) h);
+        held = none-or-k (size (r .first .seats)) (k (r .n)) (parts .3);
+      }
