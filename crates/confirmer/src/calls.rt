@@ -4,15 +4,14 @@ ghost use Prim.Native.Nat.{_^_, _<_};
 ghost use Rattle.protocol.specs.Signatures.{checks};
 ghost use Rattle.protocol.specs.Calls as calls;
 ghost use Rattle.confirmer.specs.Returns.{answered};
-use crate::refusals::message_refusal;
-use crate::refusals::out_length;
-use crate::refusals::own_refusal;
-use crate::refusals::record_refusal;
 use protocol::Record;
 use protocol::Stepped;
 use steps::steps::Phase;
 use steps::steps::step_phase;
 use steps::steps::submit_phase;
+use validate::calls::own_refusal;
+use validate::calls::record_refusal;
+use validate::calls::step_refusal;
 
 // What a call answers that is turned back: its number, no byte written, and the record as it was.
 fn turned_back(number: u32, r: Record) -> Stepped
@@ -59,11 +58,11 @@ pub fn submit(
     if given != 0 {
         return turned_back(given, r);
     }
-    let number = own_refusal(r, keys, value, signature);
-    if number != 0 {
-        return turned_back(number, r);
+    let own = own_refusal(r, keys, value, signature);
+    if own.number != 0 {
+        return turned_back(own.number, r);
     }
-    let room = out_length(r.n);
+    let room = layout::out_length(r.n);
     let p = submit_phase(r, store, &mut out[..room], value, signature);
     done(p)
 }
@@ -82,11 +81,11 @@ pub fn step(r: Record, keys: &[u8], store: &mut [u8], message: &[u8], out: &mut 
         return turned_back(given, r);
     }
     let kind = wire::read::classify(r.n, message);
-    let number = message_refusal(r, keys, kind, message);
-    if number != 0 {
-        return turned_back(number, r);
+    let heard = step_refusal(r, keys, kind, message);
+    if heard.number != 0 {
+        return turned_back(heard.number, r);
     }
-    let room = out_length(r.n);
+    let room = layout::out_length(r.n);
     let p = step_phase(r, store, &mut out[..room], kind, message);
     done(p)
 }

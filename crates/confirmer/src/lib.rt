@@ -1,5 +1,3 @@
 // The accountable confirmer: opening, submit and step.
 pub mod calls;
 pub mod opening;
-pub mod record;
-pub mod refusals;

@@ -3,6 +3,7 @@ ghost use mathlib.Core.Path.{_≡_};
 ghost use Prim.Native.Nat.{_+_, _*_, _<_, _≤_, _^_};
 ghost use Rattle.quorum.specs.Quorum.{mostSeats};
 ghost use Rattle.protocol.specs.Layout as Layout;
+ghost use Rattle.protocol.specs.Record.{lastRound};
 ghost use Rattle.layout.specs.Places.{full, evidence, bankOf};
 
 // The bytes of a signature, also as an array's length.
@@ -196,4 +197,44 @@ pub fn out_length(n: u32) -> usize
     ensures { λ r. ⌜ r ≡ Layout.outLength n ⌝ }
 {
     SUBMIT + NOTICE + full_length(n) + evidence_out_length(n)
+}
+
+// ---- values, keys, and what is signed
+
+pub fn value_length() -> usize
+    ensures { λ r. ⌜ r ≡ Layout.valueLength ⌝ }
+{
+    32
+}
+
+pub fn key_length() -> usize
+    ensures { λ r. ⌜ r ≡ Layout.keyLength ⌝ }
+{
+    56
+}
+
+// The key of a seat in the key table.
+pub fn key_at(seat: u32) -> usize
+    ensures { λ r. ⌜ r ≡ Layout.keyAt seat ⌝ }
+{
+    56 * (seat as usize)
+}
+
+pub fn tree_length() -> usize
+    ensures { λ r. ⌜ r ≡ Layout.treeLength ⌝ }
+{
+    65536
+}
+
+// The longest message that is signed or checked.
+pub fn message_limit() -> usize
+    ensures { λ r. ⌜ r ≡ Layout.messageLimit ⌝ }
+{
+    65535
+}
+
+pub fn last_round() -> u32
+    ensures { λ r. ⌜ r ≡ lastRound ⌝ }
+{
+    1023
 }

@@ -1,5 +1,5 @@
 -- What is turned back, by the tests of the code: one law for each return.
-use mathlib.Core.Path.{_≡_, refl, sym, _∙_}
+use mathlib.Core.Path.{_≡_, refl, sym, ap, _∙_}
 use mathlib.Core.Bool.{Bool, true, false, not, _||_, or-true, or-false, false≢true}
 use mathlib.Core.List.{List}
 use Prim.Native.Nat.{ℕ, _+_, _*_, _^_, _<_}
@@ -15,7 +15,8 @@ use Rattle.rfc8554.specs.Tree.{knownLms, height}
 use Rattle.rfc8554.specs.Verify.{lmsTypeOf, otsTypeOf, leafOf, sigTypeOf, rootCandidate, signatureLength, signatureInvalid, valid}
 use Rattle.rfc8554.specs.VerifyLaws.{otsInvalid-inside}
 use Rattle.protocol.specs.Refusals.{wrongKey}
-use Rattle.protocol.specs.SignatureLaws.{keyInvalid-wrongKey}
+use Rattle.protocol.specs.Signatures.{signatureNumber}
+use Rattle.protocol.specs.SignaturesLaws.{keyInvalid-wrongKey}
 
 -- ---- a key
 
@@ -117,13 +118,13 @@ module _ (key message s : List ℕ) (l : length key ≡ 56) (known : wrongKey ke
     key-field-ots : otsTypeOf key ≡ y
     key-field-ots = number-part-four 4 key (omega arith) ∙ sym f
 
-    pub signature-turned-back : (b : Bool) → b ≡ signatureInvalid x y s → b ≡ true → false ≡ valid key message s
-    unfolding valid
+    pub signature-turned-back : (b : Bool) → b ≡ signatureInvalid x y s → b ≡ true → 14 ≡ signatureNumber (valid key message s)
+    unfolding valid signatureNumber
     signature-turned-back b g t = rw (keyInvalid-wrongKey key, known, key-field, key-field-ots, ← g, t)
 
     pub signature-compared : (b : Bool) → b ≡ signatureInvalid x y s → b ≡ false
         → (I root last : List ℕ) (r : Bool) → I ≡ part 8 16 key → root ≡ rootCandidate (height x) (width y) I message s
-        → last ≡ part 24 32 key → r ≡ same root last → r ≡ valid key message s
+        → last ≡ part 24 32 key → r ≡ same root last → (number : ℕ) → number ≡ signatureNumber r → number ≡ signatureNumber (valid key message s)
     unfolding valid
-    signature-compared b g t I root last r i j k l =
-        l ∙ rw (keyInvalid-wrongKey key, known, key-field, key-field-ots, ← g, t, j, i, k)
+    signature-compared b g t I root last r i j k l number v =
+        v ∙ ap signatureNumber (l ∙ rw (keyInvalid-wrongKey key, known, key-field, key-field-ots, ← g, t, j, i, k))

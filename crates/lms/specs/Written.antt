@@ -1,21 +1,20 @@
--- Keys, signatures and signed bytes, as they are written piece by piece.
-use mathlib.Core.Path.{_≡_, refl, sym, ap, _∙_}
-use mathlib.Core.List.{List, _∷_, _++_, append-assoc}
-use Prim.Native.Nat.{ℕ, _+_, _-_, _*_, _/_, _%_, _^_, _≤_, _<_}
+-- Keys and signatures, as they are written piece by piece.
+use mathlib.Core.Path.{_≡_, refl, _∙_}
+use mathlib.Core.List.{List, _++_, append-assoc}
+use Prim.Native.Nat.{ℕ, _+_, _*_, _/_, _^_, _≤_, _<_}
 use native.Mathlib.Omega.{arith}
 use lib.ListN.{length, length-append}
 use Rattle.octets.specs.Octets.{part, patch, be}
-use Rattle.octets.specs.OctetLaws.{length-part, length-be, be-four}
+use Rattle.octets.specs.OctetLaws.{length-part, length-be}
 use Rattle.octets.specs.Strings.{joined}
-use Rattle.octets.specs.StringLaws.{part-all, length-joined, be-one, be-two}
-use Rattle.octets.specs.WriteLaws.{patch-next, pieces, joined-written}
+use Rattle.octets.specs.StringLaws.{part-all, length-joined}
+use Rattle.octets.specs.WriteLaws.{patch-next, joined-written}
 use Rattle.rfc8554.specs.Ots.{width, chains, digested, signed, otsSignature}
 use Rattle.rfc8554.specs.OtsLaws.{length-signed}
 use Rattle.rfc8554.specs.Tree.{height, T, publicKey, treeFilled, sibling, path, lmsSignature}
 use Rattle.rfc8554.specs.TreeLaws.{part-treeFilled}
 use Rattle.rfc8554.specs.VerifyLaws.{sibling-within, ancestor-within}
 use Rattle.protocol.specs.Layout.{treeLength}
-use Rattle.protocol.specs.Signatures.{signedBytes}
 
 -- ---- writes in a row
 
@@ -49,26 +48,6 @@ module _ (tree : List ℕ) (r : ℕ) (t : length tree ≡ treeLength) (k : 1024 
   path-turn before out beside new at x i s e h f g a u v =
       let long : length (joined (path tree r) i) ≡ 32 * i = length-joined 32 (path tree r) i (λ j b. length-path j (omega arith)) in
       joined-written (path tree r) at i before out beside new long a u (g ∙ rw (f, e)) v
-
--- ---- what a seat signs
-
--- the command, the round and the seat, as one word
-head-word : (round seat : ℕ) → round ≤ 65535 → seat < 256 → be 4 (16777216 + round * 256 + seat) ≡ 1 ∷ be 2 round ++ be 1 seat
-head-word round seat h k =
-    let x = 16777216 + round * 256 + seat in
-    let b0 : x / 16777216 % 256 ≡ 1 = omega arith in
-    let b1 : x / 65536 % 256 ≡ round / 256 % 256 = omega arith in
-    let b2 : x / 256 % 256 ≡ round % 256 = omega arith in
-    let b3 : x % 256 ≡ seat % 256 = omega arith in
-    rw (be-four, be-two, be-one, b0, b1, b2, b3)
-
-pub seat-signed : (value zs p q : List ℕ) (round seat : ℕ) → round ≤ 65535 → seat < 256
-    → p ≡ patch 0 (be 4 (16777216 + round * 256 + seat)) zs → q ≡ patch 4 value p → length zs ≡ 4 + length value
-    → q ≡ signedBytes round seat value
-unfolding signedBytes
-seat-signed value zs p q round seat h k u v l =
-    let x = 16777216 + round * 256 + seat in
-    pieces 4 (be 4 x) value zs p q u (sym (length-be 4 x)) (rw length-be (sym l)) v ∙ ap (λ (b : List ℕ). b ++ value) (head-word round seat h k)
 
 -- ---- a whole key, and a whole signature
 

@@ -1,39 +1,49 @@
 // The calls of document 01 on keys and signatures.
 ghost use mathlib.Core.Path.{_≡_};
-ghost use Prim.Native.Nat.{_+_, _*_, _≤_, _<_};
 ghost use lib.ListN.{length};
 ghost use Rattle.octets.specs.Octets.{patch};
-ghost use Rattle.fips180.specs.Constants.{constants};
-ghost use Rattle.rfc8554.specs.Verify.{lmsTypeOf, otsTypeOf};
+ghost use Rattle.protocol.specs.Refusals.{tooLong, wrongMakerMaterial, wrongSignerMaterial};
 ghost use Rattle.protocol.specs.Signatures as signatures;
-ghost use Rattle.protocol.specs.Layout.{signatureLength};
-ghost use Rattle.protocol.specs.Signatures.{makeKeyRefusal, makeKey, signRefusal, signedBytes, seatKey, checks, checkSignature};
-use crate::node;
+ghost use Rattle.protocol.specs.Signatures.{makeKeyRefusal, makeKey, signRefusal, checkSignature};
 use crate::signer;
 use crate::tree::make;
 use crate::verify;
+use protocol::Written;
 
-// What a call answers: its refusal's number, or 0, and how many bytes it wrote.
-#[repr(C)]
-pub struct Written {
-    pub number: u32,
-    pub written: u32,
+// The seed isn't 32 bytes, the identifier 16 or the tree 65,536.
+fn wrong_maker_material(seed: &[u8], identifier: &[u8], tree: &[u8]) -> bool
+    ensures { λ r. ⌜ r ≡ wrongMakerMaterial (now (seed .entry)) (now (identifier .entry)) (now (tree .entry)) ⌝ }
+{
+    let length = layout::tree_length();
+    (seed.len() != 32) | (identifier.len() != 16) | (tree.len() != length)
 }
 
-// What the key maker turns back.
+// These, or the randomizer isn't 32 bytes.
+fn wrong_signer_material(seed: &[u8], identifier: &[u8], randomizer: &[u8], tree: &[u8]) -> bool
+    ensures { λ r. ⌜ r ≡ wrongSignerMaterial (now (seed .entry)) (now (identifier .entry)) (now (randomizer .entry)) (now (tree .entry)) ⌝ }
+{
+    let length = layout::tree_length();
+    (seed.len() != 32)
+        | (identifier.len() != 16)
+        | (randomizer.len() != 32)
+        | (tree.len() != length)
+}
+
+// A message is too long to check or sign.
+fn is_too_long(message: &[u8]) -> bool
+    ensures { λ r. ⌜ r ≡ tooLong (now (message .entry)) ⌝ }
+{
+    layout::message_limit() < message.len()
+}
+
+// Refusal of the key maker.
 fn make_key_refusal(seed: &[u8], identifier: &[u8], tree: &[u8], out: &[u8]) -> u32
     ensures { λ n. ⌜ n ≡ makeKeyRefusal (now (seed .entry)) (now (identifier .entry)) (now (tree .entry)) (now (out .entry)) ⌝ }
 {
-    if out.len() < 56 {
+    if out.len() < layout::key_length() {
         return refusal::OUT;
     }
-    if seed.len() != 32 {
-        return refusal::KEY_MATERIAL;
-    }
-    if identifier.len() != 16 {
-        return refusal::KEY_MATERIAL;
-    }
-    if tree.len() != 65536 {
+    if wrong_maker_material(seed, identifier, tree) {
         return refusal::KEY_MATERIAL;
     }
     0
@@ -58,11 +68,11 @@ pub fn make_key(seed: &[u8], identifier: &[u8], tree: &mut [u8], out: &mut [u8])
     make(seed, identifier, tree, out);
     Written {
         number: 0,
-        written: 56,
+        written: layout::key_length() as u32,
     }
 }
 
-// What the signer turns back.
+// Refusal of the signer.
 fn sign_refusal(
     leaf: u32,
     seed: &[u8],
@@ -74,25 +84,16 @@ fn sign_refusal(
 ) -> u32
     ensures { λ n. ⌜ n ≡ signRefusal leaf (now (message .entry)) (now (seed .entry)) (now (identifier .entry)) (now (randomizer .entry)) (now (tree .entry)) (now (out .entry)) ⌝ }
 {
-    if 1023 < leaf {
+    if layout::last_round() < leaf {
         return refusal::ROUND;
     }
-    if out.len() < 1452 {
+    if out.len() < layout::signature_length() {
         return refusal::OUT;
     }
-    if 65535 < message.len() {
+    if is_too_long(message) {
         return refusal::GARBLED;
     }
-    if seed.len() != 32 {
-        return refusal::KEY_MATERIAL;
-    }
-    if identifier.len() != 16 {
-        return refusal::KEY_MATERIAL;
-    }
-    if randomizer.len() != 32 {
-        return refusal::KEY_MATERIAL;
-    }
-    if tree.len() != 65536 {
+    if wrong_signer_material(seed, identifier, randomizer, tree) {
         return refusal::KEY_MATERIAL;
     }
     0
@@ -125,55 +126,21 @@ pub fn sign(
     signer::write_signature(leaf, seed, identifier, randomizer, tree, message, out);
     Written {
         number: 0,
-        written: 1452,
+        written: layout::signature_length() as u32,
     }
 }
 
-// Checks a signature of a message: 0, or what is turned back.
+// Check of a signature of a message: the refusal number, or 0.
 pub fn check_signature(key: &[u8], message: &[u8], signature: &[u8]) -> u32
     ensures { λ n. ⌜ n ≡ checkSignature (now (key .entry)) (now (message .entry)) (now (signature .entry)) ⌝ }
 {
     if verify::key_refused(key) {
         return refusal::KEYS;
     }
-    if 65535 < message.len() {
+    if is_too_long(message) {
         return refusal::GARBLED;
     }
     let k = sha256::constants::round_constants();
-    if verify::verified(&k, key, message, signature) {
-        return 0;
-    }
-    refusal::SIGNATURE
-}
-
-// The 36 bytes that a seat signs.
-fn signed_bytes(round: u32, seat: u32, value: &[u8]) -> [u8; 36]
-    requires { ⌜ (round ≤ 65535) × (seat < 256) × (length (now value) ≡ 32) ⌝ }
-    ensures { λ m. ⌜ m ≡ signedBytes round seat (now (value .entry)) ⌝ }
-{
-    let mut m = [0u8; 36];
-    octets::put_word(&mut m, 0, 16777216 + round * 256 + seat);
-    octets::copy(&mut m, 4, value);
-    m
-}
-
-// Whether the seat's signature over the value in the round checks: its leaf is the round, and RFC 8554 accepts it.
-pub fn seat_checks(
-    k: &[u32; 64],
-    keys: &[u8],
-    round: u32,
-    seat: u32,
-    value: &[u8],
-    signature: &[u8],
-) -> bool
-    requires { ⌜ (now k ≡ constants) × (length (now value) ≡ 32) × (length (now signature) ≡ signatureLength) × (round ≤ 65535) × (seat < 256) ⌝ }
-    requires { ⌜ (56 * (seat + 1) ≤ length (now keys)) × (lmsTypeOf (seatKey (now keys) seat) ≡ 6) × (otsTypeOf (seatKey (now keys) seat) ≡ 4) ⌝ }
-    ensures { λ r. ⌜ r ≡ checks (now (keys .entry)) round seat (now (value .entry)) (now (signature .entry)) ⌝ }
-{
-    if octets::word_at(signature, 0) != round {
-        return false;
-    }
-    let key = node::bytes_at(keys, 56 * seat as usize, 56);
-    let message = signed_bytes(round, seat, value);
-    verify::verified(k, key, &message, signature)
+    let v = verify::verified(&k, key, message, signature);
+    v.number
 }

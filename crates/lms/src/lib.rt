@@ -3,4 +3,4 @@ pub mod calls;
 mod node;
 mod signer;
 mod tree;
-mod verify;
+pub mod verify;

@@ -15,7 +15,7 @@ const LEAF: u32 = 0x8282;
 const INNER: u32 = 0x8383;
 
 // The n bytes of s from index `at`.
-pub fn bytes_at(s: &[u8], at: usize, n: usize) -> &[u8]
+pub(crate) fn bytes_at(s: &[u8], at: usize, n: usize) -> &[u8]
     requires { ⌜ at + n ≤ length (now s) ⌝ }
     ensures { λ r. ⌜ now r ≡ part at n (now (s .entry)) ⌝ }
 {
@@ -24,7 +24,7 @@ pub fn bytes_at(s: &[u8], at: usize, n: usize) -> &[u8]
 }
 
 // The leaf r, over its LM-OTS key.
-pub fn leaf(k: &[u32; 64], id: [u32; 4], r: u32, key: &[u8]) -> [u8; 32]
+pub(crate) fn leaf(k: &[u32; 64], id: [u32; 4], r: u32, key: &[u8]) -> [u8; 32]
     requires { ⌜ now k ≡ constants ⌝ }
     ensures { λ n. ⌜ n ≡ Fips.sha256 (leafInput (bytes id) r (now (key .entry))) ⌝ }
 {
@@ -33,7 +33,7 @@ pub fn leaf(k: &[u32; 64], id: [u32; 4], r: u32, key: &[u8]) -> [u8; 32]
 }
 
 // The inner node r, over its children, which stand one after the other.
-pub fn inner(k: &[u32; 64], id: [u32; 4], r: u32, children: &[u8]) -> [u8; 32]
+pub(crate) fn inner(k: &[u32; 64], id: [u32; 4], r: u32, children: &[u8]) -> [u8; 32]
     requires { ⌜ now k ≡ constants ⌝ }
     ensures { λ n. ⌜ n ≡ Fips.sha256 (overChildren (bytes id) r (now (children .entry))) ⌝ }
 {
@@ -53,7 +53,7 @@ fn pair(left: &[u8], right: &[u8]) -> [u8; 64]
 }
 
 // The inner node r, over its left and its right child.
-pub fn parent(k: &[u32; 64], id: [u32; 4], r: u32, left: &[u8], right: &[u8]) -> [u8; 32]
+pub(crate) fn parent(k: &[u32; 64], id: [u32; 4], r: u32, left: &[u8], right: &[u8]) -> [u8; 32]
     requires { ⌜ (now k ≡ constants) × (length (now left) ≡ 32) × (length (now right) ≡ 32) ⌝ }
     ensures { λ n. ⌜ n ≡ Fips.sha256 (innerInput (bytes id) r (now (left .entry)) (now (right .entry))) ⌝ }
 {

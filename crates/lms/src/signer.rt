@@ -18,7 +18,7 @@ const LMS_TYPE: u32 = 6;
 const OTS_TYPE: u32 = 4;
 
 // The public key: both types, the identifier and the root.
-pub fn write_key(id: &[u8], root: &[u8], out: &mut [u8])
+pub(crate) fn write_key(id: &[u8], root: &[u8], out: &mut [u8])
     requires { ⌜ (length (now id) ≡ 16) × (length (now root) ≡ 32) × (56 ≤ length (now out)) ⌝ }
     ensures { λ _. ⌜ now (out .exit) ≡ patch 0 (be 4 6 ++ be 4 4 ++ now (id .entry) ++ now (root .entry)) (now (out .entry)) ⌝ }
 {
@@ -89,7 +89,7 @@ fn write_values(
 }
 
 // A whole signature.
-pub fn write_signature(
+pub(crate) fn write_signature(
     leaf: u32,
     seed: &[u8],
     id: &[u8],

@@ -79,7 +79,7 @@ fn fill(k: &[u32; 64], id: [u32; 4], seed: [u32; 8], tree: &mut [u8])
 }
 
 // Makes a key: all nodes, and the public key.
-pub fn make(seed: &[u8], id: &[u8], tree: &mut [u8], out: &mut [u8])
+pub(crate) fn make(seed: &[u8], id: &[u8], tree: &mut [u8], out: &mut [u8])
     requires { ⌜ (length (now seed) ≡ 32) × (length (now id) ≡ 16) × (length (now tree) ≡ treeLength) × (56 ≤ length (now out)) ⌝ }
     ensures { λ _. ⌜ (now (tree .exit) ≡ treeFilled (now (id .entry)) (now (seed .entry)) (now (tree .entry))) × (now (out .exit) ≡ patch 0 (publicKey 6 4 (now (id .entry)) (now (seed .entry))) (now (out .entry))) ⌝ }
 {

@@ -13,33 +13,35 @@ ghost use Rattle.rfc8554.specs.Tree as Tree;
 ghost use Rattle.rfc8554.specs.Tree.{knownLms, leafInput};
 ghost use Rattle.rfc8554.specs.Verify.{leafOf, otsPart, levelUp, climbed, rootCandidate, signatureLength, signatureInvalid, valid};
 ghost use Rattle.protocol.specs.Refusals.{wrongKey};
+ghost use Rattle.protocol.specs.Signatures.{signatureNumber};
 use crate::node;
+use protocol::Verdict;
 
 // ---- parameters
 
 // The width of an LM-OTS type.
-pub fn width(ots: u32) -> u32
+pub(crate) fn width(ots: u32) -> u32
     ensures { λ w. ⌜ (w ≡ Ots.width ots) × ((w ≡ 4) ⊎ (w ≡ 8)) ⌝ }
 {
     if ots == 3 { 4 } else { 8 }
 }
 
 // The height of an LMS type.
-pub fn height(lms: u32) -> usize
+pub(crate) fn height(lms: u32) -> usize
     ensures { λ h. ⌜ (h ≡ Tree.height lms) × (h ≤ 10) ⌝ }
 {
     if lms == 5 { 5 } else { 10 }
 }
 
 // The leaves of a tree of an LMS type.
-pub fn leaves(lms: u32) -> u32
+pub(crate) fn leaves(lms: u32) -> u32
     ensures { λ n. ⌜ (n ≡ 2 ^ Tree.height lms) × (n ≤ 1024) ⌝ }
 {
     if lms == 5 { 32 } else { 1024 }
 }
 
 // The length of an LM-OTS signature of width w.
-pub fn ots_length(w: u32) -> usize
+pub(crate) fn ots_length(w: u32) -> usize
     ensures { λ n. ⌜ (n ≡ otsLength w) × (n ≤ 2180) ⌝ }
 {
     if w == 4 { 2180 } else { 1124 }
@@ -66,10 +68,10 @@ fn known_ots(ots: u32) -> bool
 // ---- what is turned back before any hashing
 
 // Whether these are not the 56 bytes of a key of known types.
-pub fn key_refused(key: &[u8]) -> bool
+pub(crate) fn key_refused(key: &[u8]) -> bool
     ensures { λ r. ⌜ r ≡ wrongKey (now (key .entry)) ⌝ }
 {
-    if key.len() != 56 {
+    if key.len() != layout::key_length() {
         return true;
     }
     let lms = octets::word_at(key, 0);
@@ -81,7 +83,7 @@ pub fn key_refused(key: &[u8]) -> bool
 }
 
 // Whether Algorithm 6a rejects the signature for its length, its types or its leaf.
-pub fn signature_refused(lms: u32, ots: u32, signature: &[u8]) -> bool
+pub(crate) fn signature_refused(lms: u32, ots: u32, signature: &[u8]) -> bool
     ensures { λ r. ⌜ r ≡ signatureInvalid lms ots (now (signature .entry)) ⌝ }
 {
     let at = 4 + ots_length(width(ots));
@@ -177,17 +179,20 @@ fn root_candidate(
     climb(k, id, h, w, r, signature, start)
 }
 
-// Whether RFC 8554 accepts the signature of the message under a key of known types.
-pub fn verified(k: &[u32; 64], key: &[u8], message: &[u8], signature: &[u8]) -> bool
+// Verdict on the signature of a message under a key of known types: whether RFC 8554 accepts it.
+pub fn verified(k: &[u32; 64], key: &[u8], message: &[u8], signature: &[u8]) -> Verdict
     requires { ⌜ (now k ≡ constants) × (length (now key) ≡ 56) × (wrongKey (now key) ≡ false) ⌝ }
-    ensures { λ r. ⌜ r ≡ valid (now (key .entry)) (now (message .entry)) (now (signature .entry)) ⌝ }
+    ensures { λ v. ⌜ v .number ≡ signatureNumber (valid (now (key .entry)) (now (message .entry)) (now (signature .entry))) ⌝ }
 {
     let lms = octets::word_at(key, 0);
     let ots = octets::word_at(key, 4);
     if signature_refused(lms, ots, signature) {
-        return false;
+        return Verdict {
+            number: refusal::SIGNATURE,
+        };
     }
     let id = lmots_digits::words::four(key, 8);
     let root = root_candidate(k, id, lms, ots, message, signature);
-    octets::same(&root, node::bytes_at(key, 24, 32))
+    let accepted = octets::same(&root, node::bytes_at(key, 24, 32));
+    protocol::signature_verdict(accepted)
 }

@@ -1,5 +1,4 @@
 -- Laws of the phases' code.
-pub mod Records
 pub mod Phases
 pub mod Hearing
 pub mod Certificates

@@ -1,37 +1,9 @@
--- What follows for a record from its not being impossible, by name.
-use mathlib.Core.Path.{_≡_, refl, sym}
-use mathlib.Core.Bool.{Bool, true, false, not, _&&_, false≢true}
+-- What the phases find in the record, store and out of a call that isn't refused.
 use mathlib.Core.List.{List}
-use Prim.Native.Nat.{ℕ, _^_, _≤_, _<_}
-use native.Mathlib.Omega.{arith}
-use lib.Dec.{ltb, eqb}
-use lib.ListN.{length}
-use borrow.Author.Tests.{eqb-true, eq-eqb, ltb-false}
-use Rattle.quorum.specs.Quorum.{k, has, size, outside}
-use Rattle.quorum.specs.QuorumLaws.{outside-false}
-use Rattle.protocol.specs.Layout.{storeLength, outLength}
-use Rattle.protocol.specs.Record.{outOfRange, wrongHeard, namesStranger, wrongCollected, wrongFirst, lacksFirst, wrongGuilty, wrongSent, wrongUnset, impossible}
+use Prim.Native.Nat.{ℕ}
+use Rattle.protocol.specs.RecordLaws.{Ready}
 use Rattle.protocol.specs.declared.Record.{Record}
-use Rattle.steps.specs.Records.{or-false, InRange, in-range}
 use Rattle.steps.specs.Phases.{Fits}
-
-pub record Possible (r : Record) : Type 0 where
-  pub range : InRange r
-  -- the masks name seats below n
-  pub collected : r .own .collected < 2 ^ r .n
-  pub first : r .first .seats < 2 ^ r .n
-  -- nothing is collected before the submission, at most k are, and k are only where the unit has confirmed
-  pub unsaid : r .own .submitted ≡ false → r .own .collected ≡ 0
-  pub few : size (r .own .collected) ≤ k (r .n)
-  pub complete : size (r .own .collected) ≡ k (r .n) → r .confirmed ≡ true
-  -- the first certificate has none or k
-  pub held : size (r .first .seats) ≤ k (r .n)
-
--- a call's record, store and out, where 4, 6 and 7 are not refused
-pub record Ready (r : Record) (store out : List ℕ) : Type 0 where
-  pub possible : Possible r
-  pub slots : storeLength (r .n) ≤ length store
-  pub room : outLength (r .n) ≤ length out
 
 pub ready-fits : (r : Record) (store out : List ℕ) → Ready r store out → Fits r store
 ready-fits r store out h =
@@ -46,50 +18,3 @@ ready-fits r store out h =
       held = p .held;
       slots = h .slots;
     }
-
--- ---- from the test
-
-then-so : (a b : Bool) → (a && not b) ≡ false → a ≡ true → b ≡ true
-then-so true true e h = refl
-then-so true false e h = absurd (false≢true (sym e))
-then-so false b e h = absurd (false≢true h)
-
-none-or-k : (s k : ℕ) → (not (eqb s 0) && not (eqb s k)) ≡ false → s ≤ k
-none-or-k s k e = go (eqb s 0) refl
-  where
-    go : (b : Bool) → eqb s 0 ≡ b → s ≤ k
-    go true h = omega (arith, eqb-true s 0 h)
-    go false h = omega (arith, eqb-true s k (then-so true (eqb s k) (rw h at e) refl))
-
-module _ (r : Record) (e : impossible r ≡ false) where
-  parts : (outOfRange r ≡ false) × (namesStranger r ≡ false) × (wrongCollected r ≡ false) × (wrongFirst r ≡ false)
-  unfolding impossible
-  parts =
-      let a = or-false _ (wrongUnset r) e .0 in
-      let b = or-false _ (wrongSent r) a .0 in
-      let c = or-false _ (wrongGuilty r) b .0 in
-      let d = or-false _ (lacksFirst r) c .0 in
-      let f = or-false _ (wrongFirst r) d in
-      let g = or-false _ (wrongCollected r) (f .0) in
-      let h = or-false _ (namesStranger r) (g .0) in
-      let i = or-false (outOfRange r) (wrongHeard r) (h .0) in
-      (i .0, h .1, g .1, f .1)
-
-  pub possible : Possible r
-  unfolding namesStranger wrongCollected wrongFirst
-  possible =
-      let masks = or-false _ (outside (r .n) (r .guilty)) (parts .1) in
-      let two = or-false (outside (r .n) (r .own .collected)) (outside (r .n) (r .first .seats)) (masks .0) in
-      let a = or-false _ (r .confirmed && not (eqb (size (r .own .collected)) (k (r .n)))) (parts .2) in
-      let b = or-false _ (eqb (size (r .own .collected)) (k (r .n)) && not (r .confirmed)) (a .0) in
-      let c = or-false _ (ltb (k (r .n)) (size (r .own .collected))) (b .0) in
-      let d = or-false (not (r .own .submitted) && not (eqb (r .own .collected) 0)) (r .own .submitted && not (has (r .seat) (r .own .collected))) (c .0) in
-      record {
-        range = in-range r (parts .0);
-        collected = outside-false (r .n) (r .own .collected) .0 (two .0);
-        first = outside-false (r .n) (r .first .seats) .0 (two .1);
-        unsaid = λ h. eqb-true (r .own .collected) 0 (then-so (not (r .own .submitted)) (eqb (r .own .collected) 0) (d .0) (rw h));
-        few = ltb-false (k (r .n)) (size (r .own .collected)) (c .1);
-        complete = λ h. then-so (eqb (size (r .own .collected)) (k (r .n))) (r .confirmed) (b .1) (eq-eqb (size (r .own .collected)) (k (r .n)) h);
-        held = none-or-k (size (r .first .seats)) (k (r .n)) (parts .3);
-      }

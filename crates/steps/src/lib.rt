@@ -1,5 +1,4 @@
 // What a submit and a step do once nothing is refused: the phases of document 01's "Steps".
-pub mod bools;
 pub mod certificate;
 pub mod collect;
 pub mod confirm;

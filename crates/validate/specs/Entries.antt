@@ -3,130 +3,212 @@
 use mathlib.Core.Path.{_≡_, refl, sym, ap, _∙_}
 use mathlib.Core.Bool.{Bool, true, false, not, _&&_, and-eq-true-iff, false≢true}
 use mathlib.Core.List.{List, [], _∷_}
-use Prim.Native.Nat.{ℕ, _+_, _*_, _≤_, _<_}
+use Prim.Native.Nat.{ℕ, _+_, _≤_, _<_}
 use native.Mathlib.Decide.{decLt}
 use native.Mathlib.Omega.{arith}
-use lib.Dec.{leb, ltb, eqb}
+use lib.Dec.{ltb, eqb}
 use lib.ListN.{length}
-use borrow.Author.Tests.{leb-true, le-leb, lt-ltb, le-ltb, ltb-true, eqb-true, not-false}
+use borrow.Author.Tests.{le-leb, lt-ltb, le-ltb, ltb-true, not-false}
+use Rattle.refusal.specs.Refusal.{firstOf}
 use Rattle.quorum.specs.Quorum.{k}
-use Rattle.protocol.specs.Layout.{signatureLength, submitLength, fullEntryLength, fullEntryAt, fullLength, evidenceEntryLength, evidenceEntryAt, evidenceLength}
-use Rattle.protocol.specs.Message.{Entry, byteAt, readEntry, readValue, readSignature, entryCommands, pairCommands, fitsFull, fitsEvidence, read, readSubmit, readNotice, readFull, readEvidence, seatsOf, signed}
-use Rattle.protocol.specs.Refusals.{Checks, every, stranger, badSignature}
-use Rattle.wire.specs.Reading.{kindOf, column}
+use Rattle.protocol.specs.Layout.{valueLength, signatureLength, seatAt, valueAt, submitSignatureAt, submitLength, fullCountAt, fullEntryLength, fullEntryAt, fullLength, evidenceCountAt, evidenceEntryLength, evidenceEntryAt, evidenceLength}
+use Rattle.protocol.specs.Entries.{readEntry}
+use Rattle.protocol.specs.Message.{Entry, fullForm, byteAt, readValue, readSignature, read, readSubmit, readNotice, readFull, readEvidence, seatsOf, signed}
+use Rattle.protocol.specs.Refusals.{Checks, every, isFull, isEvidence, stranger, badSignature, SIGNATURE}
+use Rattle.protocol.specs.Signatures.{signatureNumber}
+use Rattle.protocol.specs.SignaturesLaws.{signature-row}
+use Rattle.layout.specs.Places.{full, evidence}
+use Rattle.wire.specs.Reading.{kindOf, seatPlace, seatsIn}
 use Rattle.wire.specs.KindLaws.{read-as}
-use Rattle.wire.specs.SourceLaws.{full-length}
-use Rattle.wire.specs.MessageLaws.{submit-length, evidence-length, known-entries, full-column, evidence-column}
-use Rattle.wire.specs.ColumnLaws.{below-read}
-use Rattle.validate.specs.Signatures.{entryCheck, pairCheck, eachBelow, submit-bad, full-bad, evidence-bad, each-none, each-turn, each-not, entry-checked}
-use Rattle.wire.specs.Answers.{entryOf, entryAt, Found}
-use Rattle.wire.specs.declared.reader.Step.{Step}
-use Rattle.wire.specs.declared.reader.Step.the-variants as step
+use Rattle.wire.specs.FormLaws.{submit-length, full-fits, evidence-fits}
+use Rattle.wire.specs.MessageLaws.{known-entries, full-seats, evidence-seats}
+use Rattle.wire.specs.WalkLaws.{below-at}
+use Rattle.wire.specs.Answers.{entryOf, nthEntry, Found}
+use Rattle.wire.specs.declared.reader.Next.{Next}
+use Rattle.wire.specs.declared.reader.Next.the-variants as next
 use Rattle.wire.specs.declared.read.Kind.{Kind}
 use Rattle.wire.specs.declared.read.Kind.the-variants as kind
+use Rattle.validate.specs.Messages.{Formed, full-kind, evidence-kind}
+use Rattle.validate.specs.Places.{PairInside, pairPlaces}
+use Rattle.validate.specs.Signatures.{entryCheck, pairCheck, eachBelow, submit-bad, full-bad, evidence-bad, entry-inside, each-none, each-more, each-not}
+
+-- ---- what its bytes say
 
 pub record SubmitTaken (n : ℕ) (bytes : List ℕ) : Type 0 where
   pub says : read n bytes ≡ readSubmit bytes
   pub size : length bytes ≡ submitLength
-  pub known : byteAt bytes 3 < n
+  pub known : byteAt bytes seatAt < n
 
 pub record FullTaken (n : ℕ) (bytes : List ℕ) : Type 0 where
   pub says : read n bytes ≡ readFull n bytes
   pub size : length bytes ≡ fullLength n
-  pub count : byteAt bytes 36 ≡ k n
-  pub known : (t : ℕ) → t < k n → byteAt bytes (fullEntryAt t + 1) < n
+  pub count : byteAt bytes fullCountAt ≡ k n
+  pub known : (i : ℕ) → i < k n → byteAt bytes (fullEntryAt i + 1) < n
 
 pub record EvidenceTaken (n : ℕ) (bytes : List ℕ) : Type 0 where
   pub says : read n bytes ≡ readEvidence bytes
-  pub size : length bytes ≡ evidenceLength (byteAt bytes 67)
-  pub few : byteAt bytes 67 ≤ n
-  pub known : (t : ℕ) → t < byteAt bytes 67 → byteAt bytes (evidenceEntryAt t + 1) < n
+  pub size : length bytes ≡ evidenceLength (byteAt bytes evidenceCountAt)
+  pub few : byteAt bytes evidenceCountAt ≤ n
+  pub known : (i : ℕ) → i < byteAt bytes evidenceCountAt → byteAt bytes (evidenceEntryAt i + 1) < n
 
-submit-known : (n : ℕ) (bytes : List ℕ) → stranger n (readSubmit bytes) ≡ false → byteAt bytes 3 < n
+submit-known : (n : ℕ) (bytes : List ℕ) → stranger n (readSubmit bytes) ≡ false → byteAt bytes seatAt < n
 unfolding stranger seatsOf every readSubmit
 submit-known n bytes s =
-    let below : (ltb (byteAt bytes 3) n && true) ≡ true = not-false _ s in
-    ltb-true (byteAt bytes 3) n (and-eq-true-iff (ltb (byteAt bytes 3) n) true .0 below .0)
-
-k-entries : (n : ℕ) (bytes : List ℕ) → fitsFull n bytes ≡ true → byteAt bytes 36 ≡ k n
-unfolding fitsFull
-k-entries n bytes e =
-    let front = eqb (length bytes) (fullLength n) && eqb (byteAt bytes 0) 0x03 in
-    let a = and-eq-true-iff (front && eqb (byteAt bytes 36) (k n)) (entryCommands (k n) bytes) .0 e .0 in
-    eqb-true (byteAt bytes 36) (k n) (and-eq-true-iff front (eqb (byteAt bytes 36) (k n)) .0 a .1)
-
-few-entries : (n : ℕ) (bytes : List ℕ) → fitsEvidence n bytes ≡ true → byteAt bytes 67 ≤ n
-unfolding fitsEvidence
-few-entries n bytes e =
-    let code = eqb (byteAt bytes 0) 0x05 in
-    let some = leb 1 (byteAt bytes 67) in
-    let few = leb (byteAt bytes 67) n in
-    let size = eqb (length bytes) (evidenceLength (byteAt bytes 67)) in
-    let a = and-eq-true-iff (code && some && few && size) (pairCommands (byteAt bytes 67) bytes) .0 e .0 in
-    let b = and-eq-true-iff (code && some && few) size .0 a .0 in
-    leb-true (byteAt bytes 67) n (and-eq-true-iff (code && some) few .0 b .1)
+    let below : (ltb (byteAt bytes seatAt) n && true) ≡ true = not-false _ s in
+    ltb-true (byteAt bytes seatAt) n (and-eq-true-iff (ltb (byteAt bytes seatAt) n) true .0 below .0)
 
 module _ (n : ℕ) (bytes : List ℕ) (t : Kind) (e : t ≡ kindOf (read n bytes)) (s : stranger n (read n bytes) ≡ false) where
   pub submit-taken : t ≡ kind.Submit → SubmitTaken n bytes
   submit-taken g =
       let r = read-as kind.Submit n bytes (sym g ∙ e) in
-      record { says = r .0; size = submit-length bytes (r .1); known = submit-known n bytes (rw (r .0) at s) }
+      record { says = r .0; size = submit-length bytes (r .1) .0; known = submit-known n bytes (rw (r .0) at s) }
 
   pub full-taken : t ≡ kind.Full → FullTaken n bytes
-  unfolding fullEntryAt fullEntryLength
+  unfolding fullEntryAt
   full-taken g =
       let r = read-as kind.Full n bytes (sym g ∙ e) in
-      let seats = full-column t n bytes e (k n) g refl .0 in
-      record {
-        says = r .0;
-        size = full-length n bytes (r .1);
-        count = k-entries n bytes (r .1);
-        known = λ i h.
-            let place : 37 + 1454 * i + 1 ≡ 38 + 1454 * i = omega arith in
-            rw place (below-read 38 1454 bytes n (k n) i h (known-entries n (read n bytes) (column 38 1454 (k n) bytes) n (omega arith) s seats));
-      }
+      let fits = full-fits n bytes (r .1) in
+      let seats = full-seats t n bytes e (k n) g refl .0 in
+      let below = known-entries n (read n bytes) (seatsIn (full (k n)) bytes) n (omega arith) s seats in
+      record { says = r .0; size = fits .size; count = fits .count; known = λ i h. below-at (seatPlace (full (k n))) bytes n (k n) i h below }
 
   pub evidence-taken : t ≡ kind.Evidence → EvidenceTaken n bytes
-  unfolding evidenceEntryAt evidenceEntryLength
+  unfolding evidenceEntryAt
   evidence-taken g =
       let r = read-as kind.Evidence n bytes (sym g ∙ e) in
-      let seats = evidence-column t n bytes e (byteAt bytes 67) g refl .0 in
-      record {
-        says = r .0;
-        size = evidence-length n bytes (r .1);
-        few = few-entries n bytes (r .1);
-        known = λ i h.
-            let place : 68 + 2906 * i + 1 ≡ 69 + 2906 * i = omega arith in
-            rw place (below-read 69 2906 bytes n (byteAt bytes 67) i h (known-entries n (read n bytes) (column 69 2906 (byteAt bytes 67) bytes) n (omega arith) s seats));
-      }
+      let fits = evidence-fits n bytes (r .1) in
+      let count = byteAt bytes evidenceCountAt in
+      let seats = evidence-seats t n bytes e count g refl .0 in
+      let below = known-entries n (read n bytes) (seatsIn (evidence count) bytes) n (omega arith) s seats in
+      record { says = r .0; size = fits .size; few = fits .few; known = λ i h. below-at (seatPlace (evidence count)) bytes n count i h below }
+
+-- a certificate, and an EVIDENCE, that a call takes
+module _ (n round : ℕ) (bytes : List ℕ) where
+  pub certificate-taken : Formed n round (isFull (read n bytes)) (read n bytes) → FullTaken n bytes
+  certificate-taken f = full-taken n bytes kind.Full (full-kind (read n bytes) (f .is)) (f .known) refl
+
+  pub pack-taken : Formed n round (isEvidence (read n bytes)) (read n bytes) → EvidenceTaken n bytes
+  pack-taken f = evidence-taken n bytes kind.Evidence (evidence-kind (read n bytes) (f .is)) (f .known) refl
+
+-- ---- verdicts
+
+-- what row 14 says of signatures that are bad or not
+pub bad-row : (bad : Bool) → signatureNumber (not bad) ≡ firstOf ((14, bad) ∷ [])
+unfolding signatureNumber firstOf
+bad-row true = refl
+bad-row false = refl
+
+module _ (checks : Checks) (n : ℕ) (bytes : List ℕ) where
+  abbrev row : ℕ
+  row = firstOf (SIGNATURE checks (read n bytes) ∷ [])
+
+  pub submit-row : SubmitTaken n bytes → (seat number : ℕ) → seat ≡ byteAt bytes seatAt
+      → number ≡ signatureNumber (checks seat (readValue valueAt bytes) (readSignature submitSignatureAt bytes)) → number ≡ row
+  submit-row h seat number e q = q ∙ rw (h .says, submit-bad checks bytes, e) (signature-row _)
+
+  pub full-row : (bad : Bool) → bad ≡ badSignature checks (read n bytes) → (number : ℕ) → number ≡ signatureNumber (not bad) → number ≡ row
+  full-row bad e number q = q ∙ rw e (bad-row (badSignature checks (read n bytes)))
+
+  -- NOTICE has none, and garbled bytes neither
+  pub notice-row : (t : Kind) → t ≡ kindOf (read n bytes) → t ≡ kind.Notice → 0 ≡ row
+  unfolding badSignature signed every readNotice firstOf
+  notice-row t e g = rw (read-as kind.Notice n bytes (sym g ∙ e) .0)
+
+  pub garbled-row : (t : Kind) → t ≡ kindOf (read n bytes) → t ≡ kind.Garbled → 0 ≡ row
+  unfolding badSignature signed every firstOf
+  garbled-row t e g = rw (read-as kind.Garbled n bytes (sym g ∙ e) .0)
+
+-- ---- the pairs of EVIDENCE
+
+-- a verdict on both signatures of a pair
+pub pair-first : (a b : Bool) (number : ℕ) → number ≡ signatureNumber a → (number ≡ 0 → ⊥) → number ≡ signatureNumber (a && b)
+unfolding signatureNumber
+pair-first true b number e h = absurd (h e)
+pair-first false b number e h = e
+
+pub pair-second : (a b : Bool) (first number : ℕ) → first ≡ signatureNumber a → first ≡ 0 → number ≡ signatureNumber b → number ≡ signatureNumber (a && b)
+unfolding signatureNumber
+pair-second true b first number e z q = q
+pair-second false b first number e z q = absurd (omega arith)
+
+accepts : (b : Bool) (number : ℕ) → number ≡ signatureNumber b → number ≡ 0 → b ≡ true
+unfolding signatureNumber
+accepts true number e z = refl
+accepts false number e z = absurd (omega arith)
+
+rejects : (b : Bool) (number : ℕ) → number ≡ signatureNumber b → (number ≡ 0 → ⊥) → (b ≡ false) × (number ≡ 14)
+unfolding signatureNumber
+rejects true number e h = absurd (h e)
+rejects false number e h = (refl, e)
+
+-- the loop over the pairs: all before index t check
+abbrev pub Checked : Checks → List ℕ → ℕ → Type 0
+Checked checks bytes t = (t ≤ byteAt bytes evidenceCountAt) × (eachBelow (pairCheck checks bytes) t ≡ true)
+
+pub checked-none : (checks : Checks) (bytes : List ℕ) → Checked checks bytes 0
+checked-none checks bytes = (omega arith, each-none (pairCheck checks bytes))
+
+module _ (checks : Checks) (n : ℕ) (bytes : List ℕ) (h : EvidenceTaken n bytes) where
+  abbrev count : ℕ
+  count = byteAt bytes evidenceCountAt
+
+  -- the pair of an index lies in the message
+  pub pair-inside : (i : ℕ) → i < byteAt bytes evidenceCountAt → PairInside n (pairPlaces (byteAt bytes (evidenceEntryAt i + 1)) (evidenceEntryAt i)) bytes
+  unfolding evidenceEntryAt evidenceEntryLength signatureLength
+  pair-inside i l =
+      let room = entry-inside bytes count i (h .size) l in
+      (h .known i l, (omega arith, omega arith), (omega arith, omega arith))
+
+  module _ (t number : ℕ) (l : t < byteAt bytes evidenceCountAt) (v : number ≡ signatureNumber (pairCheck checks bytes t)) where
+    pub checked-more : Checked checks bytes t → number ≡ 0 → Checked checks bytes (t + 1)
+    checked-more c z = (omega arith, each-more (pairCheck checks bytes) t (c .1) (accepts (pairCheck checks bytes t) number v z))
+
+    pub checked-not : (number ≡ 0 → ⊥) → number ≡ firstOf (SIGNATURE checks (read n bytes) ∷ [])
+    unfolding firstOf
+    checked-not d =
+        let bad = rejects (pairCheck checks bytes t) number v d in
+        bad .1 ∙ sym (rw (h .says, evidence-bad checks bytes (h .size), each-not (pairCheck checks bytes) t count l (bad .0)))
+
+  pub checked-all : (t : ℕ) → Checked checks bytes t → byteAt bytes evidenceCountAt ≤ t → 0 ≡ firstOf (SIGNATURE checks (read n bytes) ∷ [])
+  unfolding firstOf
+  checked-all t c l =
+      let e : t ≡ count = omega arith in
+      let all : eachBelow (pairCheck checks bytes) count ≡ true = rw e at (c .1) in
+      rw (h .says, evidence-bad checks bytes (h .size), all)
 
 -- ---- the entries of FULL, as a reader finds them
 
 -- the seat is one of n, and the signature lies in the message
-abbrev pub Fits : ℕ → List ℕ → Step → Type 0
-Fits n bytes (step.Entry seat at) = (seat < n) × (at + signatureLength ≤ length bytes)
-Fits n bytes step.End = Unit {0}
+abbrev pub Fits : ℕ → List ℕ → Next → Type 0
+Fits n bytes (next.Entry seat at) = (seat < n) × (at + signatureLength ≤ length bytes)
+Fits n bytes next.End = Unit {0}
 
 -- an entry was found, and its signature checks over the message's value
-unfoldable pub foundChecks : Checks → List ℕ → Step → Bool
-foundChecks checks bytes (step.Entry seat at) = checks seat (readValue 4 bytes) (readSignature at bytes)
-foundChecks checks bytes step.End = false
+unfoldable pub foundChecks : Checks → List ℕ → Next → Bool
+foundChecks checks bytes (next.Entry seat at) = checks seat (readValue valueAt bytes) (readSignature at bytes)
+foundChecks checks bytes next.End = false
 
-unfoldable pub isEntry : Step → Bool
-isEntry (step.Entry seat at) = true
-isEntry step.End = false
+unfoldable pub isEntry : Next → Bool
+isEntry (next.Entry seat at) = true
+isEntry next.End = false
 
--- what a match on a step tells
-module _ (s : Step) (n : ℕ) (bytes : List ℕ) where
-  module _ (seat at : ℕ) (e : s ≡ step.Entry seat at) where
+zero-accepts : (b : Bool) → eqb (signatureNumber b) 0 ≡ b
+unfolding signatureNumber
+zero-accepts true = refl
+zero-accepts false = refl
+
+-- what a match on it tells
+module _ (s : Next) (n : ℕ) (bytes : List ℕ) where
+  module _ (seat at : ℕ) (e : s ≡ next.Entry seat at) where
     pub fits-entry : Fits n bytes s → (seat < n) × (at + signatureLength ≤ length bytes)
     fits-entry f = rw e at f
 
-    pub checks-entry : (checks : Checks) (r : Bool) → r ≡ checks seat (readValue 4 bytes) (readSignature at bytes) → r ≡ foundChecks checks bytes s
+    pub checks-entry : (checks : Checks) (number : ℕ) → number ≡ signatureNumber (checks seat (readValue valueAt bytes) (readSignature at bytes))
+        → eqb number 0 ≡ foundChecks checks bytes s
     unfolding foundChecks
-    checks-entry checks r q = rw e q
+    checks-entry checks number q = rw (e, q) (zero-accepts (checks seat (readValue valueAt bytes) (readSignature at bytes)))
 
-  pub checks-end : s ≡ step.End → (checks : Checks) → false ≡ foundChecks checks bytes s
+  pub checks-end : s ≡ next.End → (checks : Checks) → false ≡ foundChecks checks bytes s
   unfolding foundChecks
   checks-end e checks = rw e
 
@@ -138,63 +220,41 @@ ne-nil : {e : Entry} → e ∷ [] ≡ [] → ⊥
 ne-nil q = let z : _≡_ {A = ℕ} 1 0 = ap length q in omega arith
 
 module _ (n : ℕ) (bytes : List ℕ) (h : FullTaken n bytes) where
-  -- there is an entry below k, and none at k
-  entry-below : (t : ℕ) → t < k n → entryAt t bytes ≡ readEntry (fullEntryAt t) bytes ∷ []
-  unfolding entryAt fullLength
-  entry-below t l = rw (h .count, le-leb (fullEntryAt (k n)) (length bytes) (omega (arith, h .size)), lt-ltb t (k n) l)
+  -- its value lies in it
+  pub value-inside : valueAt + valueLength ≤ length bytes
+  unfolding fullLength fullEntryAt
+  value-inside = omega (arith, h .size)
 
-  entry-past : (t : ℕ) → k n ≤ t → entryAt t bytes ≡ []
-  unfolding entryAt fullLength
-  entry-past t l = rw (h .count, le-leb (fullEntryAt (k n)) (length bytes) (omega (arith, h .size)), le-ltb t (k n) l)
+  -- there is an entry below k, and none at k
+  entry-below : (i : ℕ) → i < k n → nthEntry i bytes ≡ readEntry fullForm (fullEntryAt i) bytes ∷ []
+  unfolding nthEntry fullLength
+  entry-below i l = rw (h .count, le-leb (fullEntryAt (k n)) (length bytes) (omega (arith, h .size)), lt-ltb i (k n) l)
+
+  entry-past : (i : ℕ) → k n ≤ i → nthEntry i bytes ≡ []
+  unfolding nthEntry fullLength
+  entry-past i l = rw (h .count, le-leb (fullEntryAt (k n)) (length bytes) (omega (arith, h .size)), le-ltb i (k n) l)
 
 -- what a reader has come to that found s at index t: all entries before it check
-pub record Walked (checks : Checks) (n : ℕ) (bytes : List ℕ) (t : ℕ) (s : Step) : Type 0 where
+pub record Walked (checks : Checks) (n : ℕ) (bytes : List ℕ) (t : ℕ) (s : Next) : Type 0 where
   pub within : t ≤ k n
   pub found : Found t bytes s
   pub before : eachBelow (entryCheck checks bytes) t ≡ true
 
--- ---- its signatures, as the code checks them
-
-module _ (checks : Checks) (n : ℕ) (bytes : List ℕ) where
-  pub submit-signature : SubmitTaken n bytes → (seat : ℕ) (b : Bool) → seat ≡ byteAt bytes 3
-      → b ≡ checks seat (readValue 4 bytes) (readSignature 36 bytes) → not b ≡ badSignature checks (read n bytes)
-  submit-signature h seat b e q = rw (h .says, submit-bad checks bytes, q, e)
-
-  -- one of FULL's doesn't check, or all do
-  module _ (h : FullTaken n bytes) where
-    full-not : (t : ℕ) → t < k n → entryCheck checks bytes t ≡ false → true ≡ badSignature checks (read n bytes)
-    full-not t l e = rw (h .says, full-bad checks bytes n, each-not (entryCheck checks bytes) t (k n) l e)
-
-    full-all : eachBelow (entryCheck checks bytes) (k n) ≡ true → false ≡ badSignature checks (read n bytes)
-    full-all e = rw (h .says, full-bad checks bytes n, e)
-
-  -- of EVIDENCE's
-  module _ (h : EvidenceTaken n bytes) where
-    pub evidence-not : (t : ℕ) → t < byteAt bytes 67 → pairCheck checks bytes t ≡ false → true ≡ badSignature checks (read n bytes)
-    evidence-not t l e = rw (h .says, evidence-bad checks bytes, each-not (pairCheck checks bytes) t (byteAt bytes 67) l e)
-
-    pub evidence-all : eachBelow (pairCheck checks bytes) (byteAt bytes 67) ≡ true → false ≡ badSignature checks (read n bytes)
-    evidence-all e = rw (h .says, evidence-bad checks bytes, e)
-
-  -- NOTICE has none, and garbled bytes neither
-  pub notice-none : (t : Kind) → t ≡ kindOf (read n bytes) → t ≡ kind.Notice → false ≡ badSignature checks (read n bytes)
-  unfolding badSignature signed every readNotice
-  notice-none t e g = rw (read-as kind.Notice n bytes (sym g ∙ e) .0)
-
-  pub garbled-none : (t : Kind) → t ≡ kindOf (read n bytes) → t ≡ kind.Garbled → false ≡ badSignature checks (read n bytes)
-  unfolding badSignature signed every
-  garbled-none t e g = rw (read-as kind.Garbled n bytes (sym g ∙ e) .0)
-
--- ---- FULL's signatures, as a reader goes through them
-
 module _ (checks : Checks) (n : ℕ) (bytes : List ℕ) (h : FullTaken n bytes) where
-  pub walk-starts : (s : Step) → Found 0 bytes s → Walked checks n bytes 0 s
+  -- one of the signatures doesn't check, or all do
+  full-not : (t : ℕ) → t < k n → entryCheck checks bytes t ≡ false → true ≡ badSignature checks (read n bytes)
+  full-not t l e = rw (h .says, full-bad checks bytes n, each-not (entryCheck checks bytes) t (k n) l e)
+
+  full-all : eachBelow (entryCheck checks bytes) (k n) ≡ true → false ≡ badSignature checks (read n bytes)
+  full-all e = rw (h .says, full-bad checks bytes n, e)
+
+  pub walk-starts : (s : Next) → Found 0 bytes s → Walked checks n bytes 0 s
   walk-starts s f = record { within = omega arith; found = f; before = each-none (entryCheck checks bytes) }
 
   module _ (t : ℕ) where
     -- what is found: an entry below k, and none at k
-    found-entry : (seat at : ℕ) → Walked checks n bytes t (step.Entry seat at) → (t < k n) × (seat ≡ byteAt bytes (fullEntryAt t + 1)) × (at ≡ fullEntryAt t + 2)
-    unfolding entryOf readEntry headSeat
+    found-entry : (seat at : ℕ) → Walked checks n bytes t (next.Entry seat at) → (t < k n) × (seat ≡ byteAt bytes (fullEntryAt t + 1)) × (at ≡ fullEntryAt t + 2)
+    unfolding entryOf readEntry fullForm headSeat
     found-entry seat at w = go (decLt t (k n))
       where
         go : Dec (t < k n) → (t < k n) × (seat ≡ byteAt bytes (fullEntryAt t + 1)) × (at ≡ fullEntryAt t + 2)
@@ -203,7 +263,7 @@ module _ (checks : Checks) (n : ℕ) (bytes : List ℕ) (h : FullTaken n bytes) 
             (l, ap (λ (es : List Entry). headSeat es) same, w .found .1)
         go (no l) = absurd (ne-nil (w .found .0 ∙ entry-past n bytes h t (omega arith)))
 
-    found-end : Walked checks n bytes t step.End → t ≡ k n
+    found-end : Walked checks n bytes t next.End → t ≡ k n
     unfolding entryOf
     found-end w = go (decLt t (k n))
       where
@@ -212,31 +272,35 @@ module _ (checks : Checks) (n : ℕ) (bytes : List ℕ) (h : FullTaken n bytes) 
         go (no l) = let m = w .within in omega arith
 
     -- its seat is one of n, and its signature lies in the message
-    pub walk-fits : (s : Step) → Walked checks n bytes t s → Fits n bytes s
+    pub walk-fits : (s : Next) → Walked checks n bytes t s → Fits n bytes s
     unfolding fullLength fullEntryAt fullEntryLength signatureLength
-    walk-fits step.End w = tt
-    walk-fits (step.Entry seat at) w =
+    walk-fits next.End w = tt
+    walk-fits (next.Entry seat at) w =
         let is = found-entry seat at w in
         (rw (is .1) (h .known t (is .0)), omega (arith, is .0, is .2, h .size))
 
+    -- the check of an entry found is that of its index
+    entry-checked : (seat at : ℕ) → Walked checks n bytes t (next.Entry seat at) → entryCheck checks bytes t ≡ checks seat (readValue valueAt bytes) (readSignature at bytes)
+    entry-checked seat at w = let is = found-entry seat at w in rw (is .1, is .2)
+
     -- it checks, and the reader is moved on
-    pub walk-on : (s : Step) → Walked checks n bytes t s → foundChecks checks bytes s ≡ true → (t < k n) × ((s′ : Step) → Found (t + 1) bytes s′ → Walked checks n bytes (t + 1) s′)
+    pub walk-on : (s : Next) → Walked checks n bytes t s → foundChecks checks bytes s ≡ true → (t < k n) × ((s′ : Next) → Found (t + 1) bytes s′ → Walked checks n bytes (t + 1) s′)
     unfolding foundChecks
-    walk-on step.End w e = absurd (false≢true e)
-    walk-on (step.Entry seat at) w e =
+    walk-on next.End w e = absurd (false≢true e)
+    walk-on (next.Entry seat at) w e =
         let is = found-entry seat at w in (
           is .0,
           λ s′ f. record {
             within = omega (arith, is .0);
             found = f;
-            before = each-turn (entryCheck checks bytes) t (w .before) (sym (entry-checked checks bytes t seat at true (is .1) (is .2) (sym e)));
+            before = each-more (entryCheck checks bytes) t (w .before) (entry-checked seat at w ∙ e);
           },
         )
 
     -- it doesn't, or there is none: the reader stands before an entry where a signature is bad
-    pub walk-ends : (s : Step) → Walked checks n bytes t s → foundChecks checks bytes s ≡ false → isEntry s ≡ badSignature checks (read n bytes)
+    pub walk-ends : (s : Next) → Walked checks n bytes t s → foundChecks checks bytes s ≡ false → isEntry s ≡ badSignature checks (read n bytes)
     unfolding foundChecks isEntry
-    walk-ends step.End w e = full-all checks n bytes h (rw (← found-end w) (w .before))
-    walk-ends (step.Entry seat at) w e =
+    walk-ends next.End w e = full-all (rw (← found-end w) (w .before))
+    walk-ends (next.Entry seat at) w e =
         let is = found-entry seat at w in
-        full-not checks n bytes h t (is .0) (sym (entry-checked checks bytes t seat at false (is .1) (is .2) (sym e)))
+        full-not t (is .0) (entry-checked seat at w ∙ e)

@@ -1,4 +1,10 @@
--- What is turned back of what a call is given outside a record, of a message's form, and of its signatures.
-pub mod Conditions
-pub mod Entries
+-- Laws of what is turned back: `Given` of what a call is given besides a message, `Keys` of the key table, `Messages` of a message's 9 to 14,
+-- `Seats` of a seat's signature, `Places`, `Signatures` and `Entries` of the signatures of a message, `Calls` of what each call turns back.
+pub mod Given
+pub mod Keys
+pub mod Messages
+pub mod Seats
+pub mod Places
 pub mod Signatures
+pub mod Entries
+pub mod Calls

@@ -1,32 +1,24 @@
 -- The signatures of a message, one entry after another.
 -- Assumes nothing.
 use mathlib.Core.Path.{_≡_, refl, ap, _∙_}
-use mathlib.Core.Bool.{Bool, true, false, not, _&&_, and-false, and-true}
-use mathlib.Core.List.{List, [], _∷_, _++_}
+use mathlib.Core.Bool.{Bool, true, false, not, _&&_, and-assoc, and-false, and-true}
+use mathlib.Core.List.{List, [], _∷_, _++_, append-nil}
 use mathlib.Core.Logic.{⊎-elim}
-use Prim.Native.Nat.{ℕ, zero, suc, _+_, _<_}
+use Prim.Native.Nat.{ℕ, zero, suc, _+_, _≤_, _<_}
 use native.Mathlib.Nat.{eq-or-lt-of-le, suc-inj, le-of-suc-le-suc}
 use native.Mathlib.Numerals.{add-one}
 use native.Mathlib.Omega.{arith}
+use lib.ListN.{length, take, drop}
+use lib.Seq.{take-add, take-at, drop-at, drop-drop}
+use Rattle.octets.specs.Octets.{part}
+use Rattle.octets.specs.OctetLaws.{length-part}
 use Rattle.quorum.specs.Quorum.{k}
-use Rattle.protocol.specs.Layout.{signatureLength, fullEntryAt, evidenceEntryAt}
-use Rattle.protocol.specs.Message.{Entry, Pair, Signed, byteAt, readValue, readSignature, readEntry, readEntries, readPair, readPairs, readSubmit, readFull, readEvidence, signedEntries, signedPairs, signed}
+use Rattle.protocol.specs.Layout.{signatureLength, seatAt, valueAt, submitSignatureAt, fullEntryLength, fullEntryAt, evidenceCountAt, evidenceEntryLength, evidenceEntryAt, evidenceLength}
+use Rattle.protocol.specs.Entries.{Form, placeOf, readEntry, readEntries}
+use Rattle.protocol.specs.Message.{Entry, Pair, Signed, byteAt, fullForm, evidenceForm, formOf, readValue, readSignature, readSubmit, readFull, readEvidence, signedEntries, signedPairs, signed}
 use Rattle.protocol.specs.Refusals.{Checks, every, badSignature}
-
--- the signature of an entry of FULL checks over the value
-unfoldable pub entryChecks : Checks → List ℕ → Entry → Bool
-entryChecks checks value e = checks (e .seat) value (e .signature)
-
--- both signatures of an entry of EVIDENCE check, over the lower value and the higher
-unfoldable pub pairChecks : Checks → List ℕ → List ℕ → Pair → Bool
-pairChecks checks lower higher p = checks (p .seat) lower (p .lower) && checks (p .seat) higher (p .higher)
-
--- those of the entry of index t
-abbrev pub entryCheck : Checks → List ℕ → ℕ → Bool
-entryCheck checks bytes t = entryChecks checks (readValue 4 bytes) (readEntry (fullEntryAt t) bytes)
-
-abbrev pub pairCheck : Checks → List ℕ → ℕ → Bool
-pairCheck checks bytes t = pairChecks checks (readValue 3 bytes) (readValue 35 bytes) (readPair (evidenceEntryAt t) bytes)
+use Rattle.protocol.specs.ConditionsLaws.{every-append}
+use Rattle.validate.specs.Places.{pairChecks, pairPlaces}
 
 -- a test holds of every index below t
 unfoldable pub eachBelow : (ℕ → Bool) → ℕ → Bool
@@ -40,9 +32,9 @@ module _ (test : ℕ → Bool) where
   unfolding eachBelow
   each-none = refl
 
-  pub each-turn : (t : ℕ) → eachBelow test t ≡ true → test t ≡ true → eachBelow test (t + 1) ≡ true
+  pub each-more : (t : ℕ) → eachBelow test t ≡ true → test t ≡ true → eachBelow test (t + 1) ≡ true
   unfolding eachBelow
-  each-turn t e p = rw (add-one, e, p)
+  each-more t e p = rw (add-one, e, p)
 
   -- one that fails spoils the whole
   pub each-not : (t n : ℕ) → t < n → test t ≡ false → eachBelow test n ≡ false
@@ -54,80 +46,99 @@ module _ (test : ℕ → Bool) where
       (λ (l : suc t < suc n). rw (each-not t n (le-of-suc-le-suc l) p))
       (eq-or-lt-of-le h)
 
--- ---- the definition's own form
+-- two tests that agree below t
+each-same : (f g : ℕ → Bool) (t : ℕ) → ((i : ℕ) → i < t → f i ≡ g i) → eachBelow f t ≡ eachBelow g t
+unfolding eachBelow
+each-same f g zero h = refl
+each-same f g (suc t) h = rw (each-same f g t (λ i l. h i (omega arith)), h t (omega arith))
 
-module _ (checks : Checks) where
-  test : Signed → Bool
+-- ---- a list of entries, whatever they hold: `all` the signatures of a list, `of` those of one entry
+
+module _
+    {A : Type 0} (test : Signed → Bool) (form : Form A) (all : List A → List Signed) (of : A → List Signed)
+    (nil : all [] ≡ []) (cons : (x : A) (xs : List A) → all (x ∷ xs) ≡ of x ++ all xs)
+  where
+    snoc : (xs : List A) (x : A) → every test (all (xs ++ x ∷ [])) ≡ (every test (all xs) && every test (of x))
+    unfolding every
+    snoc [] x = rw (cons x [], nil, append-nil (of x))
+    snoc (y ∷ xs) x =
+        rw (cons y (xs ++ x ∷ []), cons y xs, every-append test (of y) (all (xs ++ x ∷ [])), every-append test (of y) (all xs), snoc xs x, and-assoc)
+
+    each-read : (bytes : List ℕ) (t : ℕ)
+        → every test (all (readEntries form t bytes)) ≡ eachBelow (λ (i : ℕ). every test (of (readEntry form (placeOf form i) bytes))) t
+    unfolding every readEntries eachBelow
+    each-read bytes zero = rw nil
+    each-read bytes (suc t) =
+        snoc (readEntries form t bytes) (readEntry form (placeOf form t) bytes)
+        ∙ ap (λ (b : Bool). b && every test (of (readEntry form (placeOf form t) bytes))) (each-read bytes t)
+
+-- ---- the signatures of a message
+
+-- an entry of EVIDENCE lies in it
+pub entry-inside : (bytes : List ℕ) (count i : ℕ) → length bytes ≡ evidenceLength count → i < count → evidenceEntryAt i + evidenceEntryLength ≤ length bytes
+unfolding evidenceLength evidenceEntryAt evidenceEntryLength signatureLength
+entry-inside bytes count i l h = omega arith
+
+-- and so does its first signature
+first-inside : (at L : ℕ) → at + evidenceEntryLength ≤ L → at + 2 + signatureLength ≤ L
+unfolding evidenceEntryLength
+first-inside at L h = omega arith
+
+-- two halves of a part
+halves : (from a b : ℕ) (xs : List ℕ) → from + a ≤ length xs
+    → (take a (part from (a + b) xs) ≡ part from a xs) × (drop a (part from (a + b) xs) ≡ part (from + a) b xs)
+unfolding part
+halves from a b xs h =
+    let long : length (take a (drop from xs)) ≡ a = length-part from a xs h in
+    let first = take a (drop from xs) in
+    let second = take b (drop a (drop from xs)) in (
+      rw (take-add a b (drop from xs)) (take-at first second a long),
+      rw (take-add a b (drop from xs)) (drop-at first second a long ∙ ap (take b) (drop-drop a from xs)),
+    )
+
+module _ (checks : Checks) (bytes : List ℕ) where
+  abbrev test : Signed → Bool
   test s = checks (s .seat) (s .value) (s .signature)
 
-  entries-snoc : (value : List ℕ) (es : List Entry) (e : Entry)
-      → every test (signedEntries value (es ++ e ∷ [])) ≡ (every test (signedEntries value es) && entryChecks checks value e)
-  unfolding every signedEntries entryChecks test
-  entries-snoc value [] e = and-true (checks (e .seat) value (e .signature))
-  entries-snoc value (d ∷ es) e =
-      ap (λ (b : Bool). checks (d .seat) value (d .signature) && b) (entries-snoc value es e)
-      ∙ regroup (checks (d .seat) value (d .signature)) (every test (signedEntries value es)) (entryChecks checks value e)
-    where
-      regroup : (a b c : Bool) → (a && (b && c)) ≡ ((a && b) && c)
-      regroup true b c = refl
-      regroup false b c = refl
+  -- that of the entry of an index checks; and both of a pair
+  abbrev pub entryCheck : ℕ → Bool
+  entryCheck i = checks (byteAt bytes (fullEntryAt i + 1)) (readValue valueAt bytes) (readSignature (fullEntryAt i + 2) bytes)
 
-  pairs-snoc : (lower higher : List ℕ) (ps : List Pair) (p : Pair)
-      → every test (signedPairs lower higher (ps ++ p ∷ [])) ≡ (every test (signedPairs lower higher ps) && pairChecks checks lower higher p)
-  unfolding every signedPairs pairChecks test
-  pairs-snoc lower higher [] p = ap (λ (b : Bool). checks (p .seat) lower (p .lower) && b) (and-true (checks (p .seat) higher (p .higher)))
-  pairs-snoc lower higher (q ∷ ps) p =
-      ap (λ (b : Bool). checks (q .seat) lower (q .lower) && (checks (q .seat) higher (q .higher) && b)) (pairs-snoc lower higher ps p)
-      ∙ regroup (checks (q .seat) lower (q .lower)) (checks (q .seat) higher (q .higher)) (every test (signedPairs lower higher ps)) (pairChecks checks lower higher p)
-    where
-      regroup : (a b c d : Bool) → (a && (b && (c && d))) ≡ ((a && (b && c)) && d)
-      regroup true true c d = refl
-      regroup true false c d = refl
-      regroup false b c d = refl
+  abbrev pub pairCheck : ℕ → Bool
+  pairCheck i = pairChecks checks bytes (pairPlaces (byteAt bytes (evidenceEntryAt i + 1)) (evidenceEntryAt i))
 
-  module _ (bytes : List ℕ) where
-    entries-are : (t : ℕ) → every test (signedEntries (readValue 4 bytes) (readEntries t bytes)) ≡ eachBelow (entryCheck checks bytes) t
-    unfolding every signedEntries readEntries eachBelow
-    entries-are zero = refl
-    entries-are (suc t) =
-        entries-snoc (readValue 4 bytes) (readEntries t bytes) (readEntry (fullEntryAt t) bytes)
-        ∙ ap (λ (b : Bool). b && entryCheck checks bytes t) (entries-are t)
+  pub submit-bad : badSignature checks (readSubmit bytes) ≡ not (checks (byteAt bytes seatAt) (readValue valueAt bytes) (readSignature submitSignatureAt bytes))
+  unfolding badSignature signed readSubmit every
+  submit-bad = ap not (and-true (checks (byteAt bytes seatAt) (readValue valueAt bytes) (readSignature submitSignatureAt bytes)))
 
-    pairs-are : (t : ℕ) → every test (signedPairs (readValue 3 bytes) (readValue 35 bytes) (readPairs t bytes)) ≡ eachBelow (pairCheck checks bytes) t
-    unfolding every signedPairs readPairs eachBelow
-    pairs-are zero = refl
-    pairs-are (suc t) =
-        pairs-snoc (readValue 3 bytes) (readValue 35 bytes) (readPairs t bytes) (readPair (evidenceEntryAt t) bytes)
-        ∙ ap (λ (b : Bool). b && pairCheck checks bytes t) (pairs-are t)
+  abbrev ofEntry : List ℕ → Entry → List Signed
+  ofEntry value e = record { seat = e .seat; value = value; signature = e .signature } ∷ []
 
-    -- of a whole message
-    pub submit-bad : badSignature checks (readSubmit bytes) ≡ not (checks (byteAt bytes 3) (readValue 4 bytes) (readSignature 36 bytes))
-    unfolding badSignature signed readSubmit every
-    submit-bad = ap not (and-true (checks (byteAt bytes 3) (readValue 4 bytes) (readSignature 36 bytes)))
+  abbrev ofPair : Pair → List Signed
+  ofPair p =
+      record { seat = p .seat; value = p .lowerValue; signature = p .lower } ∷ record { seat = p .seat; value = p .higherValue; signature = p .higher } ∷ []
 
-    pub full-bad : (n : ℕ) → badSignature checks (readFull n bytes) ≡ not (eachBelow (entryCheck checks bytes) (k n))
-    unfolding badSignature signed readFull test
-    full-bad n = ap not (entries-are (k n))
+  entry-is : (i : ℕ) → every test (ofEntry (readValue valueAt bytes) (readEntry fullForm (placeOf fullForm i) bytes)) ≡ entryCheck i
+  unfolding every readEntry fullForm placeOf fullEntryAt fullEntryLength readSignature
+  entry-is i = and-true _
 
-    pub evidence-bad : badSignature checks (readEvidence bytes) ≡ not (eachBelow (pairCheck checks bytes) (byteAt bytes 67))
-    unfolding badSignature signed readEvidence test
-    evidence-bad = ap not (pairs-are (byteAt bytes 67))
+  pub full-bad : (n : ℕ) → badSignature checks (readFull n bytes) ≡ not (eachBelow entryCheck (k n))
+  unfolding badSignature signed readFull signedEntries
+  full-bad n =
+      let value = readValue valueAt bytes in
+      ap not (each-read test fullForm (signedEntries value) (ofEntry value) refl (λ x xs. refl) bytes (k n)
+      ∙ each-same _ entryCheck (k n) (λ i h. entry-is i))
 
--- ---- one entry, as the code checks it
+  pair-is : (i : ℕ) → evidenceEntryAt i + evidenceEntryLength ≤ length bytes → every test (ofPair (readEntry (formOf bytes) (placeOf (formOf bytes) i) bytes)) ≡ pairCheck i
+  unfolding every readEntry evidenceForm placeOf evidenceEntryAt evidenceEntryLength readSignature
+  pair-is i h =
+      let two = halves (evidenceEntryAt i + 2) signatureLength signatureLength bytes (first-inside (evidenceEntryAt i) (length bytes) h) in
+      rw (two .0, two .1, and-true)
 
-pub entry-checked : (checks : Checks) (bytes : List ℕ) (t seat signature : ℕ) (r : Bool) → seat ≡ byteAt bytes (fullEntryAt t + 1) → signature ≡ fullEntryAt t + 2
-    → r ≡ checks seat (readValue 4 bytes) (readSignature signature bytes) → r ≡ entryCheck checks bytes t
-unfolding entryChecks readEntry
-entry-checked checks bytes t seat signature r s p e = e ∙ rw (s, p)
-
-module _ (checks : Checks) (bytes : List ℕ) (at seat : ℕ) (s : seat ≡ byteAt bytes (at + 1)) (first : Bool) (f : first ≡ checks seat (readValue 3 bytes) (readSignature (at + 2) bytes)) where
-  pub pair-low : first ≡ false → false ≡ pairChecks checks (readValue 3 bytes) (readValue 35 bytes) (readPair at bytes)
-  unfolding pairChecks readPair
-  pair-low e = rw (← s, ← f, e)
-
-  pub pair-both : first ≡ true → (second : Bool) → second ≡ checks seat (readValue 35 bytes) (readSignature (at + 1454) bytes)
-      → second ≡ pairChecks checks (readValue 3 bytes) (readValue 35 bytes) (readPair at bytes)
-  unfolding pairChecks readPair signatureLength
-  pair-both e second t =
-      let place : at + 2 + 1452 ≡ at + 1454 = omega arith in
-      rw (place, ← s, ← f, e) t
+  pub evidence-bad : length bytes ≡ evidenceLength (byteAt bytes evidenceCountAt)
+      → badSignature checks (readEvidence bytes) ≡ not (eachBelow pairCheck (byteAt bytes evidenceCountAt))
+  unfolding badSignature signed readEvidence signedPairs
+  evidence-bad l =
+      let count = byteAt bytes evidenceCountAt in
+      ap not (each-read test (formOf bytes) signedPairs ofPair refl (λ x xs. refl) bytes count
+      ∙ each-same _ pairCheck count (λ i h. pair-is i (entry-inside bytes count i l h)))

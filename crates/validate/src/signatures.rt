@@ -1,71 +1,141 @@
-// The signatures of a message, each under its seat's key and over the value that it stands for.
+// The signatures of a message, each under its seat's key and over the value that it stands for: 14.
 ghost use mathlib.Core.Path.{_≡_};
+ghost use mathlib.Core.Bool.{false};
+ghost use mathlib.Core.List.{[], _∷_};
 ghost use Prim.Native.Nat.{_+_, _≤_, _<_};
 ghost use lib.ListN.{length};
-ghost use Rattle.protocol.specs.Signatures.{checks};
-ghost use Rattle.protocol.specs.Layout.{valueLength, signatureLength, evidenceEntryLength};
-ghost use Rattle.protocol.specs.Message.{byteAt, readValue, readSignature, readPair, read};
-ghost use Rattle.protocol.specs.Refusals.{badSignature};
-ghost use Rattle.validate.specs.Conditions.{Ready};
+ghost use Rattle.fips180.specs.Constants.{constants};
+ghost use Rattle.refusal.specs.Refusal.{firstOf};
+ghost use Rattle.protocol.specs.Layout.{valueLength, signatureLength, valueAt, evidenceEntryLength};
+ghost use Rattle.protocol.specs.Message.{byteAt, readSignature, read};
+ghost use Rattle.protocol.specs.Refusals.{stranger, badSignature, SIGNATURE};
+ghost use Rattle.protocol.specs.Signatures.{signedBytes, checks, signatureNumber};
+ghost use Rattle.wire.specs.Reading.{kindOf};
+ghost use Rattle.validate.specs.Given.{Given};
 ghost use Rattle.validate.specs.Entries.{SubmitTaken, FullTaken, EvidenceTaken, Fits, foundChecks, isEntry};
-ghost use Rattle.validate.specs.Signatures.{pairChecks};
-use wire::reader::Step;
+ghost use Rattle.validate.specs.Places.{PlaceInside, PairInside, placeChecks, pairChecks, pairPlaces};
+use crate::keys::seat_key;
+use protocol::Verdict;
+use wire::read::Kind;
+use wire::reader::Next;
 
-// Whether the signature at index `at` checks for a seat over the value at index `value`.
-fn signed_at(
+// The 36 bytes that a seat signs.
+fn signed_bytes(round: u32, seat: u32, value: &[u8]) -> [u8; 36]
+    requires { ⌜ (round ≤ 65535) × (seat < 256) × (length (now value) ≡ 32) ⌝ }
+    ensures { λ m. ⌜ m ≡ signedBytes round seat (now (value .entry)) ⌝ }
+{
+    let mut m = [0u8; 36];
+    octets::put_word(&mut m, 0, 16777216 + round * 256 + seat);
+    octets::copy(&mut m, 4, value);
+    m
+}
+
+// Verdict on the signature of a seat over a value: its leaf is the round, and RFC 8554 accepts it under the seat's key.
+pub(crate) fn seat_verdict(
+    k: &[u32; 64],
+    n: u32,
+    round: u32,
+    keys: &[u8],
+    seat: u32,
+    value: &[u8],
+    signature: &[u8],
+) -> Verdict
+    requires { ⌜ (now k ≡ constants) × Given n round (now keys) × (seat < n) × (length (now value) ≡ valueLength) × (length (now signature) ≡ signatureLength) ⌝ }
+    ensures { λ v. ⌜ v .number ≡ signatureNumber (checks (now (keys .entry)) round seat (now (value .entry)) (now (signature .entry))) ⌝ }
+{
+    if octets::word_at(signature, 0) != round {
+        return Verdict {
+            number: refusal::SIGNATURE,
+        };
+    }
+    let key = seat_key(keys, seat);
+    let message = signed_bytes(round, seat, value);
+    lms::verify::verified(k, key, &message, signature)
+}
+
+// A signature in a message: where it stands, and where the value stands that it is over.
+pub(crate) struct Place {
+    pub value: usize,
+    pub signature: usize,
+}
+
+// The signature at index `at` of a message.
+fn signature_at(m: &[u8], at: usize) -> &[u8]
+    requires { ⌜ at + signatureLength ≤ length (now m) ⌝ }
+    ensures { λ r. ⌜ now r ≡ readSignature at (now (m .entry)) ⌝ }
+{
+    let end = at + layout::signature_length();
+    &m[at..end]
+}
+
+// Verdict on a seat's signature in a message.
+fn place_verdict(
     k: &[u32; 64],
     n: u32,
     round: u32,
     keys: &[u8],
     m: &[u8],
     seat: u32,
-    value: usize,
-    at: usize,
-) -> bool
-    requires { ⌜ Ready (now k) n round (now keys) × (seat < n) × (value + valueLength ≤ length (now m)) × (at + signatureLength ≤ length (now m)) ⌝ }
-    ensures { λ r. ⌜ r ≡ checks (now (keys .entry)) round seat (readValue value (now (m .entry))) (readSignature at (now (m .entry))) ⌝ }
+    place: Place,
+) -> Verdict
+    requires { ⌜ (now k ≡ constants) × Given n round (now keys) × (seat < n) × PlaceInside place (now m) ⌝ }
+    ensures { λ v. ⌜ v .number ≡ signatureNumber (placeChecks (checks (now (keys .entry)) round) (now (m .entry)) seat place) ⌝ }
 {
-    let v = wire::values::value_at(m, value);
-    let signature = wire::slots::signature_at(m, at);
-    fleet::seat_checks(k, n, keys, round, seat, &v, signature)
+    let value = wire::values::value_at(m, place.value);
+    let signature = signature_at(m, place.signature);
+    seat_verdict(k, n, round, keys, seat, &value, signature)
 }
 
-// Whether the signature of SUBMIT doesn't check.
-pub fn bad_in_submit(k: &[u32; 64], n: u32, round: u32, keys: &[u8], m: &[u8]) -> bool
-    requires { ⌜ Ready (now k) n round (now keys) × SubmitTaken n (now m) ⌝ }
-    ensures { λ r. ⌜ r ≡ badSignature (checks (now (keys .entry)) round) (read n (now (m .entry))) ⌝ }
+// ---- SUBMIT
+
+fn submit_verdict(k: &[u32; 64], n: u32, round: u32, keys: &[u8], m: &[u8]) -> Verdict
+    requires { ⌜ (now k ≡ constants) × Given n round (now keys) × SubmitTaken n (now m) ⌝ }
+    ensures { λ v. ⌜ v .number ≡ firstOf (SIGNATURE (checks (now (keys .entry)) round) (read n (now (m .entry))) ∷ []) ⌝ }
 {
-    let seat = wire::read::number_at(m, 3);
-    !signed_at(k, n, round, keys, m, seat, 4, 36)
+    let seat = wire::read::number_at(m, layout::seat_at());
+    let place = Place {
+        value: layout::value_at(),
+        signature: layout::submit_signature_at(),
+    };
+    place_verdict(k, n, round, keys, m, seat, place)
 }
+
+// ---- FULL
 
 // Whether a reader found an entry of FULL whose signature checks.
-fn found_checks(k: &[u32; 64], n: u32, round: u32, keys: &[u8], m: &[u8], found: Step) -> bool
-    requires { ⌜ Ready (now k) n round (now keys) × (4 + valueLength ≤ length (now m)) × Fits n (now m) found ⌝ }
+fn found_checks(k: &[u32; 64], n: u32, round: u32, keys: &[u8], m: &[u8], found: Next) -> bool
+    requires { ⌜ (now k ≡ constants) × Given n round (now keys) × (valueAt + valueLength ≤ length (now m)) × Fits n (now m) found ⌝ }
     ensures { λ r. ⌜ r ≡ foundChecks (checks (now (keys .entry)) round) (now (m .entry)) found ⌝ }
 {
     match found {
-        Step::Entry { seat, signature } => signed_at(k, n, round, keys, m, seat, 4, signature),
-        Step::End => false,
+        Next::Entry { seat, signature } => {
+            let place = Place {
+                value: layout::value_at(),
+                signature,
+            };
+            let v = place_verdict(k, n, round, keys, m, seat, place);
+            v.number == 0
+        },
+        Next::End => false,
     }
 }
 
 // Whether a reader found an entry.
-fn is_entry(found: Step) -> bool
+fn is_entry(found: Next) -> bool
     ensures { λ r. ⌜ r ≡ isEntry found ⌝ }
 {
     match found {
-        Step::Entry {
+        Next::Entry {
             seat: _,
             signature: _,
         } => true,
-        Step::End => false,
+        Next::End => false,
     }
 }
 
 // Whether one of FULL's signatures doesn't check: a reader is moved on while they do, and stands then before an entry or at the end.
-pub fn bad_in_full(k: &[u32; 64], n: u32, round: u32, keys: &[u8], m: &[u8]) -> bool
-    requires { ⌜ Ready (now k) n round (now keys) × FullTaken n (now m) ⌝ }
+fn bad_in_full(k: &[u32; 64], n: u32, round: u32, keys: &[u8], m: &[u8]) -> bool
+    requires { ⌜ (now k ≡ constants) × Given n round (now keys) × FullTaken n (now m) ⌝ }
     ensures { λ r. ⌜ r ≡ badSignature (checks (now (keys .entry)) round) (read n (now (m .entry))) ⌝ }
 {
     let mut reader = wire::reader::open(m);
@@ -77,30 +147,95 @@ pub fn bad_in_full(k: &[u32; 64], n: u32, round: u32, keys: &[u8], m: &[u8]) -> 
     is_entry(found)
 }
 
-// Whether both signatures of the entry of EVIDENCE at index `at` check, over the lower value and the higher.
-fn pair_checks(k: &[u32; 64], n: u32, round: u32, keys: &[u8], m: &[u8], at: usize) -> bool
-    requires { ⌜ Ready (now k) n round (now keys) × (68 ≤ at) × (at + evidenceEntryLength ≤ length (now m)) × (byteAt (now m) (at + 1) < n) ⌝ }
-    ensures { λ r. ⌜ r ≡ pairChecks (checks (now (keys .entry)) round) (readValue 3 (now (m .entry))) (readValue 35 (now (m .entry))) (readPair at (now (m .entry))) ⌝ }
+fn full_verdict(k: &[u32; 64], n: u32, round: u32, keys: &[u8], m: &[u8]) -> Verdict
+    requires { ⌜ (now k ≡ constants) × Given n round (now keys) × FullTaken n (now m) ⌝ }
+    ensures { λ v. ⌜ v .number ≡ firstOf (SIGNATURE (checks (now (keys .entry)) round) (read n (now (m .entry))) ∷ []) ⌝ }
 {
-    let seat = wire::read::number_at(m, at + 1);
-    if !signed_at(k, n, round, keys, m, seat, 3, at + 2) {
-        return false;
-    }
-    signed_at(k, n, round, keys, m, seat, 35, at + 1454)
+    let bad = bad_in_full(k, n, round, keys, m);
+    protocol::signature_verdict(!bad)
 }
 
-// Whether one of EVIDENCE's signatures doesn't check.
-pub fn bad_in_evidence(k: &[u32; 64], n: u32, round: u32, keys: &[u8], m: &[u8]) -> bool
-    requires { ⌜ Ready (now k) n round (now keys) × EvidenceTaken n (now m) ⌝ }
-    ensures { λ r. ⌜ r ≡ badSignature (checks (now (keys .entry)) round) (read n (now (m .entry))) ⌝ }
+// ---- EVIDENCE
+
+// A pair of signatures in a message: the seat of both, and their places.
+pub(crate) struct Pair {
+    pub seat: u32,
+    pub lower: Place,
+    pub higher: Place,
+}
+
+// Verdict on a pair: both check.
+fn pair_verdict(k: &[u32; 64], n: u32, round: u32, keys: &[u8], m: &[u8], pair: Pair) -> Verdict
+    requires { ⌜ (now k ≡ constants) × Given n round (now keys) × PairInside n pair (now m) ⌝ }
+    ensures { λ v. ⌜ v .number ≡ signatureNumber (pairChecks (checks (now (keys .entry)) round) (now (m .entry)) pair) ⌝ }
 {
-    let count = wire::read::number_at(m, 67) as usize;
+    let lower = pair.lower;
+    let first = place_verdict(k, n, round, keys, m, pair.seat, lower);
+    if first.number != 0 {
+        return first;
+    }
+    let higher = pair.higher;
+    place_verdict(k, n, round, keys, m, pair.seat, higher)
+}
+
+// The pair in the entry of EVIDENCE at index `at`, over the two values of the message.
+fn pair_at(m: &[u8], at: usize) -> Pair
+    requires { ⌜ at + evidenceEntryLength ≤ length (now m) ⌝ }
+    ensures { λ p. ⌜ p ≡ pairPlaces (byteAt (now (m .entry)) (at + 1)) at ⌝ }
+{
+    let lower = Place {
+        value: layout::lower_at(),
+        signature: at + 2,
+    };
+    let higher = Place {
+        value: layout::higher_at(),
+        signature: at + 2 + layout::signature_length(),
+    };
+    Pair {
+        seat: wire::read::number_at(m, at + 1),
+        lower,
+        higher,
+    }
+}
+
+// Verdict on the signatures of EVIDENCE: its pairs one after another.
+fn evidence_verdict(k: &[u32; 64], n: u32, round: u32, keys: &[u8], m: &[u8]) -> Verdict
+    requires { ⌜ (now k ≡ constants) × Given n round (now keys) × EvidenceTaken n (now m) ⌝ }
+    ensures { λ v. ⌜ v .number ≡ firstOf (SIGNATURE (checks (now (keys .entry)) round) (read n (now (m .entry))) ∷ []) ⌝ }
+{
+    let count = wire::read::number_at(m, layout::evidence_count_at()) as usize;
+    let entries = layout::evidence_entries(count);
     let mut t = 0;
     while t < count {
-        if !pair_checks(k, n, round, keys, m, 68 + 2906 * t) {
-            return true;
+        let pair = pair_at(m, layout::entry_at(entries, t));
+        let v = pair_verdict(k, n, round, keys, m, pair);
+        if v.number != 0 {
+            return v;
         }
         t += 1;
     }
-    false
+    Verdict { number: 0 }
+}
+
+// ---- a message
+
+// Verdict on the signatures of a message in which no seat is a stranger.
+pub(crate) fn message_verdict(
+    k: &[u32; 64],
+    n: u32,
+    round: u32,
+    keys: &[u8],
+    kind: Kind,
+    m: &[u8],
+) -> Verdict
+    requires { ⌜ (now k ≡ constants) × Given n round (now keys) × (kind ≡ kindOf (read n (now m))) × (stranger n (read n (now m)) ≡ false) ⌝ }
+    ensures { λ v. ⌜ v .number ≡ firstOf (SIGNATURE (checks (now (keys .entry)) round) (read n (now (m .entry))) ∷ []) ⌝ }
+{
+    match kind {
+        Kind::Submit => submit_verdict(k, n, round, keys, m),
+        Kind::Notice => Verdict { number: 0 },
+        Kind::Full => full_verdict(k, n, round, keys, m),
+        Kind::Evidence => evidence_verdict(k, n, round, keys, m),
+        Kind::Garbled => Verdict { number: 0 },
+    }
 }

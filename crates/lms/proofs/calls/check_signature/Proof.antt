@@ -1,50 +1,71 @@
 -- `lms::calls::check_signature` meets its contract.
-use mathlib.Core.Path.{sym, _∙_}
-use borrow.Author.Needs.{needs}
+use mathlib.Core.Path.{_≡_, sym, _∙_}
+use mathlib.Core.Bool.{false}
+use mathlib.Core.List.{List}
+use Prim.Native.Nat.{ℕ}
 use denote.Ref.{now}
+use Rattle.protocol.specs.Refusals.{wrongKey}
 use Rattle.lms.specs.Refused.{key-fits}
-use Rattle.lms.specs.Called.{check-key, check-message, check-valid, check-invalid}
+use Rattle.lms.specs.Called.{check-key, check-message, check-verdict}
+use borrow.Author.Needs.{needs}
 use Rattle.lms.proofs.calls.check_signature.Statement.{statement}
 use Rattle.lms.proofs.calls.check_signature.Tie as tie
+
+-- what the call is given
+module _ (start : tie.Start) where
+  abbrev key : List ℕ
+  key = now (start .args .key)
+
+  abbrev message : List ℕ
+  message = now (start .args .message)
+
+  abbrev signature : List ℕ
+  signature = now (start .args .signature)
+
+abbrev started : tie.After-key-refused → tie.Start
+started c = c .before .before .before .before
+
+-- the key isn't turned back
+right-key : (c : tie.Else1) → wrongKey (key (started (c .before))) ≡ false
+right-key c = sym (c .before .key-refused .ensures) ∙ c .if1 .left
 
 key-refused-requires : tie.Need-key-refused-requires
 key-refused-requires c κs = search needs
 
 returns : tie.Need-returns
 returns c =
-    let args = c .before .before .before .before .before .args in
-    check-key (now (args .key)) (now (args .message)) (now (args .signature)) (c .before .key-refused .result) (c .before .key-refused .ensures)
-    (c .if1 .taken)
+    let tested = c .before in
+    let s = started tested in
+    check-key (key s) (message s) (signature s) (tested .key-refused .result) (tested .key-refused .ensures) (c .if1 .taken)
+
+is-too-long-requires : tie.Need-is-too-long-requires
+is-too-long-requires c κs = search needs
 
 returns-2 : tie.Need-returns-2
 returns-2 c =
-    let args = c .before .before .before .before .before .before .args in
-    check-message (now (args .key)) (now (args .message)) (now (args .signature)) (c .before .before .key-refused .result)
-    (c .before .before .key-refused .ensures) (c .before .if1 .left) (c .if2 .taken)
+    let known = c .before .before in
+    let tested = known .before in
+    let s = started tested in
+    check-message (key s) (message s) (signature s) (tested .key-refused .result) (tested .key-refused .ensures) (known .if1 .left)
+    (c .before .is-too-long .result) (c .before .is-too-long .ensures) (c .if2 .taken)
 
 round-constants-requires : tie.Need-round-constants-requires
 round-constants-requires c κs = search needs
 
 verified-requires : tie.Need-verified-requires
 verified-requires c κs =
-    let known = sym (c .before .before .before .before .key-refused .ensures) ∙ c .before .before .before .if1 .left in
-    (c .before .round-constants .ensures, key-fits (now (c .before .before .before .before .before .before .before .before .args .key)) known, known)
+    let known = right-key (c .before .before .before .before) in
+    (c .before .round-constants .ensures, key-fits _ known, known)
 
 returns-3 : tie.Need-returns-3
 returns-3 c =
-    let args = c .before .before .before .before .before .before .before .before .before .before .args in
-    check-valid (now (args .key)) (now (args .message)) (now (args .signature))
-    (c .before .before .before .before .before .before .key-refused .result)
-    (c .before .before .before .before .before .before .key-refused .ensures) (c .before .before .before .before .before .if1 .left)
-    (c .before .before .before .before .if2 .left) (c .before .verified .result) (c .before .verified .ensures) (c .if3 .taken)
-
-returns-4 : tie.Need-returns-4
-returns-4 c =
-    let args = c .before .before .before .before .before .before .before .before .before .before .args in
-    check-invalid (now (args .key)) (now (args .message)) (now (args .signature))
-    (c .before .before .before .before .before .before .key-refused .result)
-    (c .before .before .before .before .before .before .key-refused .ensures) (c .before .before .before .before .before .if1 .left)
-    (c .before .before .before .before .if2 .left) (c .before .verified .result) (c .before .verified .ensures) (c .if3 .left)
+    let short = c .before .before .before in
+    let known = short .before .before in
+    let tested = known .before in
+    let s = started tested in
+    check-verdict (key s) (message s) (signature s) (tested .key-refused .result) (tested .key-refused .ensures) (known .if1 .left)
+    (short .before .is-too-long .result) (short .before .is-too-long .ensures) (short .if2 .left)
+    (c .verified .result .number) (c .verified .ensures)
 
 pub check-signature-spec : {M : Type 1} → statement M
 check-signature-spec =
@@ -52,8 +73,8 @@ check-signature-spec =
     (tie.spec
     key-refused-requires
     returns
+    is-too-long-requires
     returns-2
     round-constants-requires
     verified-requires
-    returns-3
-    returns-4)
+    returns-3)

@@ -1,14 +1,44 @@
 -- `lms::calls::make_key` meets its contract.
-use mathlib.Core.Path.{refl, sym}
-use borrow.Author.Needs.{needs}
+use mathlib.Core.Path.{_≡_, refl, sym, _∙_}
+use mathlib.Core.List.{List}
+use Prim.Native.Nat.{ℕ, _≤_}
+use lib.ListN.{length}
 use denote.Ref.{now}
 use Rattle.octets.specs.StringLaws.{patch-nothing}
-use Rattle.protocol.specs.SignatureLaws.{makeKey-unrefused}
-use Rattle.protocol.specs.Layout.{treeLength}
 use Rattle.rfc8554.specs.VerifyLaws.{length-publicKey}
+use Rattle.protocol.specs.Layout.{keyLength, treeLength}
+use Rattle.protocol.specs.SignaturesLaws.{makeKey-unrefused}
 use Rattle.lms.specs.Called.{key-refused, key-room}
+use borrow.Author.Needs.{needs}
 use Rattle.lms.proofs.calls.make_key.Statement.{statement}
 use Rattle.lms.proofs.calls.make_key.Tie as tie
+
+-- what the call is given
+module _ (start : tie.Start) where
+  abbrev seed : List ℕ
+  seed = now (start .args .seed)
+
+  abbrev id : List ℕ
+  id = now (start .args .identifier)
+
+  abbrev tree : List ℕ
+  tree = now (start .args .tree)
+
+  abbrev out : List ℕ
+  out = now (start .args .out)
+
+abbrev started : tie.After-make-key-refusal → tie.Start
+started c = c .before .before .before .before .before .before .before
+
+-- nothing is turned back: the lengths are right
+room : (c : tie.Else1)
+    → let s = started (c .before) in (length (seed s) ≡ 32) × (length (id s) ≡ 16) × (length (tree s) ≡ treeLength) × (keyLength ≤ length (out s))
+room c =
+    let s = started (c .before) in
+    key-room (seed s) (id s) (tree s) (out s) (c .before .make-key-refusal .result) (c .before .make-key-refusal .ensures) (c .if1 .left)
+
+abbrev passed : tie.After-key-length → tie.Else1
+passed c = c .before .before .before .before .before .before .before .before
 
 make-key-refusal-requires : tie.Need-make-key-refusal-requires
 make-key-refusal-requires c κs = search needs
@@ -21,16 +51,19 @@ same-length-2 c = search needs
 
 returns : tie.Need-returns
 returns c =
-    let args = c .before .before .before .before .before .before .before .before .args in
-    rw
-    (key-refused (now (args .seed)) (now (args .identifier)) (now (args .tree)) (now (args .out)) (c .before .make-key-refusal .result) (c .before .make-key-refusal .ensures) (c .if1 .taken))
-    (refl, refl, refl, sym (patch-nothing (now (args .out))))
+    let tested = c .before in
+    let s = started tested in
+    rw (key-refused (seed s) (id s) (tree s) (out s) (tested .make-key-refusal .result) (tested .make-key-refusal .ensures) (c .if1 .taken))
+    (refl, refl, refl, sym (patch-nothing (out s)))
 
 make-requires : tie.Need-make-requires
-make-requires c κs =
-    let args = c .before .before .before .before .before .before .before .before .before .before .args in
-    key-room (now (args .seed)) (now (args .identifier)) (now (args .tree)) (now (args .out)) (c .before .before .before .make-key-refusal .result)
-    (c .before .before .before .make-key-refusal .ensures) (c .before .before .if1 .left)
+make-requires c κs = room (c .before .before)
+
+key-length-requires : tie.Need-key-length-requires
+key-length-requires c κs = search needs
+
+cast-t17 : tie.Need-cast-t17
+cast-t17 c = search needs
 
 same-length-3 : tie.Need-same-length-3
 same-length-3 c = search needs
@@ -41,10 +74,11 @@ same-length-4 c = search needs
 returns-2 : tie.Need-returns-2
 unfolding treeLength
 returns-2 c =
-    let args = c .before .before .before .before .before .before .before .before .before .before .before .before .before .before .before .args in
-    let room = key-room (now (args .seed)) (now (args .identifier)) (now (args .tree)) (now (args .out)) (c .before .before .before .before .before .before .before .before .make-key-refusal .result) (c .before .before .before .before .before .before .before .before .make-key-refusal .ensures) (c .before .before .before .before .before .before .before .if1 .left) in
-    rw (makeKey-unrefused (now (args .seed)) (now (args .identifier)) (now (args .tree)) (now (args .out)) (room .0) (room .1) (room .2) (room .3))
-    (refl, sym (length-publicKey 6 4 (now (args .identifier)) (now (args .seed)) (room .1)), c .before .before .before .before .make .ensures .0, c .before .before .before .before .make .ensures .1)
+    let s = started (passed c .before) in
+    let r = room (passed c) in
+    let made = c .before .before .before .before .before .make .ensures in
+    rw (makeKey-unrefused (seed s) (id s) (tree s) (out s) (r .0) (r .1) (r .2) (r .3))
+    (refl, c .key-length .ensures ∙ sym (length-publicKey 6 4 (id s) (seed s) (r .1)), made .0, made .1)
 
 pub make-key-spec : {M : Type 1} → statement M
 make-key-spec =
@@ -55,6 +89,8 @@ make-key-spec =
     same-length-2
     returns
     make-requires
+    key-length-requires
+    cast-t17
     same-length-3
     same-length-4
     returns-2)

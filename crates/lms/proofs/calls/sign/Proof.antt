@@ -1,14 +1,56 @@
 -- `lms::calls::sign` meets its contract.
-use mathlib.Core.Path.{refl, sym}
+use mathlib.Core.Path.{_≡_, refl, sym, _∙_}
+use mathlib.Core.List.{List}
+use Prim.Native.Nat.{ℕ, _≤_}
 use native.Mathlib.Omega.{arith}
-use borrow.Author.Needs.{needs}
+use lib.ListN.{length}
 use denote.Ref.{now}
 use Rattle.octets.specs.StringLaws.{patch-nothing}
-use Rattle.protocol.specs.SignatureLaws.{sign-unrefused, length-lmsSignature-six-four}
 use Rattle.protocol.specs.Layout.{signatureLength, treeLength, messageLimit}
+use Rattle.protocol.specs.Record.{lastRound}
+use Rattle.protocol.specs.SignaturesLaws.{sign-unrefused, length-lmsSignature-six-four}
 use Rattle.lms.specs.Called.{signer-refused, signer-room}
+use borrow.Author.Needs.{needs}
 use Rattle.lms.proofs.calls.sign.Statement.{statement}
 use Rattle.lms.proofs.calls.sign.Tie as tie
+
+-- what the call is given
+module _ (start : tie.Start) where
+  abbrev message : List ℕ
+  message = now (start .args .message)
+
+  abbrev seed : List ℕ
+  seed = now (start .args .seed)
+
+  abbrev id : List ℕ
+  id = now (start .args .identifier)
+
+  abbrev randomizer : List ℕ
+  randomizer = now (start .args .randomizer)
+
+  abbrev tree : List ℕ
+  tree = now (start .args .tree)
+
+  abbrev out : List ℕ
+  out = now (start .args .out)
+
+  abbrev leaf : ℕ
+  leaf = start .args .leaf
+
+abbrev started : tie.After-sign-refusal → tie.Start
+started c = c .before .before .before .before .before .before .before .before
+
+-- nothing is turned back: leaf and lengths are right
+room : (c : tie.Else1)
+    → let s = started (c .before) in (leaf s ≤ lastRound) × (signatureLength ≤ length (out s)) × (length (message s) ≤ messageLimit)
+    × (length (seed s) ≡ 32) × (length (id s) ≡ 16) × (length (randomizer s) ≡ 32) × (length (tree s) ≡ treeLength)
+room c =
+    let s = started (c .before) in
+    signer-room (leaf s) (message s) (seed s) (id s) (randomizer s) (tree s) (out s) (c .before .sign-refusal .result) (c .before .sign-refusal .ensures)
+    (c .if1 .left)
+
+abbrev passed : tie.After-signature-length → tie.Else1
+passed c = c .before .before .before .before .before
 
 sign-refusal-requires : tie.Need-sign-refusal-requires
 sign-refusal-requires c κs = search needs
@@ -18,17 +60,24 @@ same-length c = search needs
 
 returns : tie.Need-returns
 returns c =
-    let args = c .before .before .before .before .before .before .before .before .before .args in
+    let tested = c .before in
+    let s = started tested in
     rw
-    (signer-refused (args .leaf) (now (args .message)) (now (args .seed)) (now (args .identifier)) (now (args .randomizer)) (now (args .tree)) (now (args .out)) (c .before .sign-refusal .result) (c .before .sign-refusal .ensures) (c .if1 .taken))
-    (refl, refl, sym (patch-nothing (now (args .out))))
+    (signer-refused (leaf s) (message s) (seed s) (id s) (randomizer s) (tree s) (out s) (tested .sign-refusal .result) (tested .sign-refusal .ensures) (c .if1 .taken))
+    (refl, refl, sym (patch-nothing (out s)))
 
 write-signature-requires : tie.Need-write-signature-requires
 unfolding signatureLength
 write-signature-requires c κs =
-    let args = c .before .before .before .before .before .before .before .before .before .before .args in
-    let room = signer-room (args .leaf) (now (args .message)) (now (args .seed)) (now (args .identifier)) (now (args .randomizer)) (now (args .tree)) (now (args .out)) (c .before .before .sign-refusal .result) (c .before .before .sign-refusal .ensures) (c .before .if1 .left) in
-    (omega arith, room .3, room .4, room .5, room .6, omega arith)
+    let r = room (c .before) in
+    (omega arith, r .3, r .4, r .5, r .6, omega arith)
+
+signature-length-requires : tie.Need-signature-length-requires
+signature-length-requires c κs = search needs
+
+cast-t16 : tie.Need-cast-t16
+unfolding signatureLength
+cast-t16 c = omega arith
 
 same-length-2 : tie.Need-same-length-2
 same-length-2 c = search needs
@@ -36,11 +85,11 @@ same-length-2 c = search needs
 returns-2 : tie.Need-returns-2
 unfolding signatureLength treeLength messageLimit
 returns-2 c =
-    let args = c .before .before .before .before .before .before .before .before .before .before .before .before .before .args in
-    let room = signer-room (args .leaf) (now (args .message)) (now (args .seed)) (now (args .identifier)) (now (args .randomizer)) (now (args .tree)) (now (args .out)) (c .before .before .before .before .before .sign-refusal .result) (c .before .before .before .before .before .sign-refusal .ensures) (c .before .before .before .before .if1 .left) in
+    let s = started (passed c .before) in
+    let r = room (passed c) in
     rw
-    (sign-unrefused (now (args .seed)) (now (args .identifier)) (now (args .tree)) (now (args .out)) (room .3) (room .4) (room .6) (args .leaf) (now (args .message)) (now (args .randomizer)) (room .0) (room .2) (room .5) (room .1))
-    (refl, sym (length-lmsSignature-six-four (now (args .identifier)) (args .leaf) (now (args .seed)) (now (args .randomizer)) (now (args .message)) (now (args .tree)) (room .0) (room .5) (room .6)), c .before .before .write-signature .ensures)
+    (sign-unrefused (seed s) (id s) (tree s) (out s) (r .3) (r .4) (r .6) (leaf s) (message s) (randomizer s) (r .0) (r .2) (r .5) (r .1))
+    (refl, c .signature-length .ensures ∙ sym (length-lmsSignature-six-four (id s) (leaf s) (seed s) (randomizer s) (message s) (tree s) (r .0) (r .5) (r .6)), c .before .before .before .write-signature .ensures)
 
 pub sign-spec : {M : Type 1} → statement M
 sign-spec =
@@ -50,5 +99,7 @@ sign-spec =
     same-length
     returns
     write-signature-requires
+    signature-length-requires
+    cast-t16
     same-length-2
     returns-2)

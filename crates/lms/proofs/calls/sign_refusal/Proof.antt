@@ -1,46 +1,87 @@
 -- `lms::calls::sign_refusal` meets its contract.
-use borrow.Author.Tests.{lt-ltb, le-ltb, eq-eqb, ne-eqb}
+use mathlib.Core.Path.{_≡_, sym, _∙_}
+use mathlib.Core.Bool.{false}
+use Prim.Native.Nat.{_≤_}
+use native.Mathlib.Omega.{arith}
+use lib.ListN.{length}
+use borrow.Author.Tests.{lt-ltb, le-ltb}
+use denote.Ref.{now}
 use Rattle.refusal.specs.Refusal.{firstOf}
-use Rattle.protocol.specs.Layout.{treeLength, messageLimit, signatureLength}
-use Rattle.protocol.specs.Record.{wrongRound}
-use Rattle.protocol.specs.Refusals.{shortOut, signConditions}
+use Rattle.protocol.specs.Layout.{signatureLength}
+use Rattle.protocol.specs.Record.{lastRound, wrongRound}
+use Rattle.protocol.specs.Refusals.{tooLong, shortOut, signConditions}
 use Rattle.protocol.specs.Signatures.{signRefusal}
+use borrow.Author.Needs.{needs}
 use Rattle.lms.proofs.calls.sign_refusal.Statement.{statement}
 use Rattle.lms.proofs.calls.sign_refusal.Tie as tie
 
+abbrev started : tie.Else1 → tie.Start
+started c = c .before .before .before .before .before .before .before .before
+
+-- the leaf is one of the tree
+leaf-known : (c : tie.Else1) → started c .args .leaf ≤ lastRound
+leaf-known c = omega arith
+
+abbrev before-out : tie.Else2 → tie.Else1
+before-out c = c .before .before
+
+-- out has room for a signature
+roomy : (c : tie.Else2) → signatureLength ≤ length (now (started (before-out c) .args .out))
+roomy c = rw (c .before .signature-length .ensures) at (c .if2 .left)
+
+abbrev before-message : tie.Else3 → tie.Else2
+before-message c = c .before .before
+
+-- the message isn't too long
+short-message : (c : tie.Else3) → tooLong (now (started (before-out (before-message c)) .args .message)) ≡ false
+short-message c = sym (c .before .is-too-long .ensures) ∙ c .if3 .left
+
+last-round-requires : tie.Need-last-round-requires
+last-round-requires c κs = search needs
+
 returns : tie.Need-returns
-unfolding signRefusal signConditions wrongRound shortOut firstOf treeLength messageLimit signatureLength
-returns c = rw (lt-ltb _ _ (c .if1 .taken))
+unfolding signRefusal signConditions wrongRound shortOut firstOf
+returns c = rw (lt-ltb lastRound _ (rw (c .before .last-round .ensures) at (c .if1 .taken)))
+
+signature-length-requires : tie.Need-signature-length-requires
+signature-length-requires c κs = search needs
 
 returns-2 : tie.Need-returns-2
-unfolding signRefusal signConditions wrongRound shortOut firstOf treeLength messageLimit signatureLength
-returns-2 c = rw (le-ltb _ _ (c .before .if1 .left), lt-ltb _ _ (c .if2 .taken))
+unfolding signRefusal signConditions wrongRound shortOut firstOf
+returns-2 c =
+    rw (le-ltb lastRound _ (leaf-known (c .before .before)), lt-ltb _ signatureLength (rw (c .before .signature-length .ensures) at (c .if2 .taken)))
+
+is-too-long-requires : tie.Need-is-too-long-requires
+is-too-long-requires c κs = search needs
 
 returns-3 : tie.Need-returns-3
-unfolding signRefusal signConditions wrongRound shortOut firstOf treeLength messageLimit signatureLength
-returns-3 c = rw (le-ltb _ _ (c .before .before .if1 .left), le-ltb _ _ (c .before .if2 .left), lt-ltb _ _ (c .if3 .taken))
+unfolding signRefusal signConditions wrongRound shortOut firstOf
+returns-3 c =
+    rw (le-ltb lastRound _ (leaf-known (before-out (c .before .before))), le-ltb _ signatureLength (roomy (c .before .before)), sym (c .before .is-too-long .ensures) ∙ c .if3 .taken)
+
+wrong-signer-material-requires : tie.Need-wrong-signer-material-requires
+wrong-signer-material-requires c κs = search needs
 
 returns-4 : tie.Need-returns-4
-unfolding signRefusal signConditions wrongRound shortOut firstOf treeLength messageLimit signatureLength
-returns-4 c = rw (le-ltb _ _ (c .before .before .before .if1 .left), le-ltb _ _ (c .before .before .if2 .left), le-ltb _ _ (c .before .if3 .left), ne-eqb _ _ (c .if4 .taken))
+unfolding signRefusal signConditions wrongRound shortOut firstOf
+returns-4 c =
+    rw (le-ltb lastRound _ (leaf-known (before-out (before-message (c .before .before)))), le-ltb _ signatureLength (roomy (before-message (c .before .before))), short-message (c .before .before), sym (c .before .wrong-signer-material .ensures) ∙ c .if4 .taken)
 
 returns-5 : tie.Need-returns-5
-unfolding signRefusal signConditions wrongRound shortOut firstOf treeLength messageLimit signatureLength
-returns-5 c = rw (le-ltb _ _ (c .before .before .before .before .if1 .left), le-ltb _ _ (c .before .before .before .if2 .left), le-ltb _ _ (c .before .before .if3 .left), eq-eqb _ _ (c .before .if4 .left), ne-eqb _ _ (c .if5 .taken))
-
-returns-6 : tie.Need-returns-6
-unfolding signRefusal signConditions wrongRound shortOut firstOf treeLength messageLimit signatureLength
-returns-6 c = rw (le-ltb _ _ (c .before .before .before .before .before .if1 .left), le-ltb _ _ (c .before .before .before .before .if2 .left), le-ltb _ _ (c .before .before .before .if3 .left), eq-eqb _ _ (c .before .before .if4 .left), eq-eqb _ _ (c .before .if5 .left), ne-eqb _ _ (c .if6 .taken))
-
-returns-7 : tie.Need-returns-7
-unfolding signRefusal signConditions wrongRound shortOut firstOf treeLength messageLimit signatureLength
-returns-7 c = rw (le-ltb _ _ (c .before .before .before .before .before .before .if1 .left), le-ltb _ _ (c .before .before .before .before .before .if2 .left), le-ltb _ _ (c .before .before .before .before .if3 .left), eq-eqb _ _ (c .before .before .before .if4 .left), eq-eqb _ _ (c .before .before .if5 .left), eq-eqb _ _ (c .before .if6 .left), ne-eqb _ _ (c .if7 .taken))
-
-returns-8 : tie.Need-returns-8
-unfolding signRefusal signConditions wrongRound shortOut firstOf treeLength messageLimit signatureLength
-returns-8 c = rw (le-ltb _ _ (c .before .before .before .before .before .before .if1 .left), le-ltb _ _ (c .before .before .before .before .before .if2 .left), le-ltb _ _ (c .before .before .before .before .if3 .left), eq-eqb _ _ (c .before .before .before .if4 .left), eq-eqb _ _ (c .before .before .if5 .left), eq-eqb _ _ (c .before .if6 .left), eq-eqb _ _ (c .if7 .left))
+unfolding signRefusal signConditions wrongRound shortOut firstOf
+returns-5 c =
+    rw (le-ltb lastRound _ (leaf-known (before-out (before-message (c .before .before)))), le-ltb _ signatureLength (roomy (before-message (c .before .before))), short-message (c .before .before), sym (c .before .wrong-signer-material .ensures) ∙ c .if4 .left)
 
 pub sign-refusal-spec : {M : Type 1} → statement M
 sign-refusal-spec =
     tie.close
-    (tie.spec returns returns-2 returns-3 returns-4 returns-5 returns-6 returns-7 returns-8)
+    (tie.spec
+    last-round-requires
+    returns
+    signature-length-requires
+    returns-2
+    is-too-long-requires
+    returns-3
+    wrong-signer-material-requires
+    returns-4
+    returns-5)

@@ -45,18 +45,18 @@ use denote.Triple.Table.{entered, cited}
 use denote.Triple.Walked.{needs, says, Stays, stay-dropped, walkOf, goes-dropped, AllGo, Walks, ends-at, walked, walk-meets}
 use denote.Triple.Clauses.{ensured, lasts}
 use denote.Exit.{yes}
+use Rattle.fips180.specs.Constants.{constants}
 use Rattle.quorum.specs.Quorum.{k, mostSeats}
 use Rattle.protocol.specs.Signatures.{checks}
-use Rattle.protocol.specs.Layout.{valueLength, fullLength, fullEntryAt}
 use Rattle.protocol.specs.Message.{read}
 use Rattle.protocol.specs.Refusals.{Checks, badSignature}
 use Rattle.wire.specs.Answers.{Found}
 use Rattle.wire.specs.declared.reader.Reader.{Reader}
-use Rattle.wire.specs.declared.reader.Step.{Step}
+use Rattle.wire.specs.declared.reader.Next.{Next}
 use Rattle.wire.proofs.reader.Reader as T
 use Rattle.wire.proofs.reader.Reader.Laws as T′
-use Rattle.wire.proofs.reader.Step as S
-use Rattle.wire.proofs.reader.Step.Laws as S′
+use Rattle.wire.proofs.reader.Next as S
+use Rattle.wire.proofs.reader.Next.Laws as S′
 use Rattle.wire.proofs.reader.open as open-reader
 use Rattle.wire.proofs.reader.open.Symbol as open-def
 use Rattle.wire.proofs.reader.open.Symbol.{name as #open}
@@ -69,8 +69,8 @@ use Rattle.wire.proofs.reader.advance as advance
 use Rattle.wire.proofs.reader.advance.Symbol as advance-def
 use Rattle.wire.proofs.reader.advance.Symbol.{name as #advance}
 use Rattle.wire.proofs.reader.advance.Met as advance-thm
-use Rattle.validate.specs.Conditions.{Ready}
-use Rattle.validate.specs.Entries.{FullTaken, Fits, foundChecks, isEntry, Walked, walk-starts, walk-fits, walk-on, walk-ends}
+use Rattle.validate.specs.Given.{Given as Right}
+use Rattle.validate.specs.Entries.{FullTaken, Fits, foundChecks, isEntry, Walked, value-inside, walk-starts, walk-fits, walk-on, walk-ends}
 use Rattle.validate.proofs.signatures.found_checks as found-checks
 use Rattle.validate.proofs.signatures.found_checks.Symbol as found-checks-def
 use Rattle.validate.proofs.signatures.found_checks.Symbol.{name as #found-checks}
@@ -111,10 +111,6 @@ next-fits : (n t : ℕ) → n ≤ mostSeats → t < k n → t + 1 < 2 ^ 64
 unfolding k
 next-fits n t h l = omega arith
 
-value-fits : (n : ℕ) (bytes : List ℕ) → FullTaken n bytes → 4 + valueLength ≤ length bytes
-unfolding fullLength fullEntryAt
-value-fits n bytes h = omega (arith, h .size)
-
 module _ {M : Type 1} (𝓤 : URA M) (H : Heap 𝓤) (A : Atoms 𝓤) (mem : Memory → SProp 𝓤) (run : Routine → Fun 𝓤) where
   -- the contracts that the proof cites
   abbrev Open : Contract 𝓤
@@ -133,7 +129,7 @@ module _ {M : Type 1} (𝓤 : URA M) (H : Heap 𝓤) (A : Atoms 𝓤) (mem : Mem
   IsEntry = tripleOf 𝓤 H A is-entry.signature (is-entry.spec 𝓤 H A mem run)
 
 -- what is found by a reader over m, at t
-found-at : (r : Reader) (s : Step) (t : ℕ) {m : RefT (List ℕ)} → r .full ≡ m → r .next ≡ t → Found (r .next) (now (r .full)) s → Found t (now m) s
+found-at : (r : Reader) (s : Next) (t : ℕ) {m : RefT (List ℕ)} → r .full ≡ m → r .next ≡ t → Found (r .next) (now (r .full)) s → Found t (now m) s
 found-at r s t {m} whole here found =
     subst (λ (x : RefT (List ℕ)). Found t (now x) s) whole (subst (λ (i : ℕ). Found i (now (r .full)) s) here found)
 
@@ -142,7 +138,7 @@ record Turn (checked : Checks) (n : ℕ) (m : RefT (List ℕ)) : Type 0 where
   t : ℕ
   r : Reader
   u : Val
-  s : Step
+  s : Next
   w : Val
   whole : r .full ≡ m
   here : r .next ≡ t
@@ -151,7 +147,7 @@ record Turn (checked : Checks) (n : ℕ) (m : RefT (List ℕ)) : Type 0 where
   so-far : Walked checked n (now m) t s
 
 module _ {M : Type 1} (𝓤 : URA M) (H : Heap 𝓤) (A : Atoms 𝓤) (W : Given 𝓤 H A) (mem : Memory → SProp 𝓤) (run : Routine → Fun 𝓤) (κ₀ κ₁ κ₂ : Lft) (q₀ q₁ q₂ : Share)
-    (words : RefT (List ℕ)) (n round : ℕ) (keys m : RefT (List ℕ)) (n-fits : n < 2 ^ 32) (round-fits : round < 2 ^ 32) (ready : Ready (now words) n round (now keys)) (taken : FullTaken n (now m)) where
+    (words : RefT (List ℕ)) (n round : ℕ) (keys m : RefT (List ℕ)) (n-fits : n < 2 ^ 32) (round-fits : round < 2 ^ 32) (known : now words ≡ constants) (right : Right n round (now keys)) (taken : FullTaken n (now m)) where
   abbrev checked : Checks
   checked = checks (now keys) round
 
@@ -236,7 +232,7 @@ module _ {M : Type 1} (𝓤 : URA M) (H : Heap 𝓤) (A : Atoms 𝓤) (W : Given
       nothing ! $ move ! (1 ∷ 0 ∷ []) $ fjoin ! $ move ! (2 ∷ 0 ∷ []) $
       use2 W (raw (Entry 𝓤 H A mem run .pre (to-entry r u))) (qed W (Token ∷ ‵ (owns (B ∷ []) (r, tt) (u ∷ [], tt)) ∷ []) ∵ join ! $ frame ! $ done !) $ frame ! $ move ! (1 ∷ []) $ frame ! $ done !
 
-  entry-said : (r : Reader) (s : Step) → ent 𝓤 (ensured 𝓤 H A entry.ended (entry.clauses 𝓤 H A mem run) (κ₂, tt) (r, tt) tt s) (fact 𝓤 (Found (r .next) (now (r .full)) s))
+  entry-said : (r : Reader) (s : Next) → ent 𝓤 (ensured 𝓤 H A entry.ended (entry.clauses 𝓤 H A mem run) (κ₂, tt) (r, tt) tt s) (fact 𝓤 (Found (r .next) (now (r .full)) s))
   entry-said r s = exE 𝓤 _ (λ ws. snd∗ 𝓤 (sem 𝓤 H A (lasts entry.ended (κ₂, tt) (r, tt) ws)) (fact 𝓤 (Found (r .next) (now (r .full)) s)))
 
   abbrev to-advance : Reader → Val → Advance 𝓤 H A mem run .Ghost
@@ -250,19 +246,19 @@ module _ {M : Type 1} (𝓤 : URA M) (H : Heap 𝓤) (A : Atoms 𝓤) (W : Given
   advance-said : (r r′ : Reader) → ent 𝓤 (ensured 𝓤 H A advance.ended (advance.clauses 𝓤 H A mem run) (κ₂, tt) (r, tt) tt r′) (fact 𝓤 ((r′ .full ≡ r .full) × (r′ .next ≡ r .next + 1)))
   advance-said r r′ = exE 𝓤 _ (λ ws. snd∗ 𝓤 (sem 𝓤 H A (lasts advance.ended (κ₂, tt) (r, tt) ws)) (fact 𝓤 ((r′ .full ≡ r .full) × (r′ .next ≡ r .next + 1))))
 
-  abbrev args-checks : Step → Args found-checks.signature (κ₀, (κ₁, (κ₂, tt)))
+  abbrev args-checks : Next → Args found-checks.signature (κ₀, (κ₁, (κ₂, tt)))
   args-checks s = (words, (n, (round, (keys, (m, (s, tt))))))
 
   abbrev vals-checks : Val → Vals found-checks.signature (κ₀, (κ₁, (κ₂, tt)))
   vals-checks w = (ptr-vals words, (vint w32 n ∷ [], (vint w32 round ∷ [], (slice-vals keys, (slice-vals m, (w ∷ [], tt))))))
 
-  abbrev to-checks : Step → Val → FoundChecks 𝓤 H A mem run .Ghost
+  abbrev to-checks : Next → Val → FoundChecks 𝓤 H A mem run .Ghost
   to-checks s w = (((κ₀, (κ₁, (κ₂, tt))), (q₀, (q₁, (q₂, tt))), tt, args-checks s, vals-checks w), tt)
 
-  abbrev OwnsChecks : Step → Val → Fml
+  abbrev OwnsChecks : Next → Val → Fml
   OwnsChecks s w = owns (ShrRef (named 0) κ₀ (Array u32 64) ∷ u32 ∷ u32 ∷ ShrSlice (named 1) κ₁ u8 ∷ ShrSlice (named 2) κ₂ u8 ∷ S.the-row ∷ []) (args-checks s) (vals-checks w)
 
-  goes-checks : (s : Step) (w : Val) → Is S.the-row s (w ∷ []) → Fits n (now m) s → ent 𝓤 (mean 𝓤 H A Held) (mean 𝓤 H A (raw (FoundChecks 𝓤 H A mem run .pre (to-checks s w)) ⊛ Refs))
+  goes-checks : (s : Next) (w : Val) → Is S.the-row s (w ∷ []) → Fits n (now m) s → ent 𝓤 (mean 𝓤 H A Held) (mean 𝓤 H A (raw (FoundChecks 𝓤 H A mem run .pre (to-checks s w)) ⊛ Refs))
   goes-checks s w is fits =
       qed W (Held ∷ []) ∵ split ! $ move ! (1 ∷ []) $ split3 ! $
       use1 W (‵ OwnWords ⊛ ‵ OwnWords) (shr-copy 𝓤 H A W (named 0) κ₀ (Array u32 64) .twice words (ptr-vals words)) $ split ! $ move ! (2 ∷ []) $
@@ -271,19 +267,19 @@ module _ {M : Type 1} (𝓤 : URA M) (H : Heap 𝓤) (A : Atoms 𝓤) (W : Given
       -- [m; m; keys; keys; words; words; the tokens]
       nothing ! $ owned ! S.the-row (Is S.the-row) (EL.makes S.the-type S′.the-plain 𝓤 H A) s _ is $ fjoin ! $ move ! (1 ∷ 0 ∷ []) $ fjoin ! $ move ! (2 ∷ 0 ∷ []) $ fjoin ! $
       owned ! u32 (Is u32) (uint-makes 𝓤 H A W w32) round _ (refl, round-fits) $ fjoin ! $ owned ! u32 (Is u32) (uint-makes 𝓤 H A W w32) n _ (refl, n-fits) $ fjoin ! $ move ! (3 ∷ 0 ∷ []) $ fjoin ! $ move ! (4 ∷ 0 ∷ []) $
-      use2 W (raw (FoundChecks 𝓤 H A mem run .pre (to-checks s w))) (qed W (Tokens ∷ ‵ (OwnsChecks s w) ∷ []) ∵ says ! (ready, value-fits n (now m) taken, fits) $ frame ! $ done !) $
+      use2 W (raw (FoundChecks 𝓤 H A mem run .pre (to-checks s w))) (qed W (Tokens ∷ ‵ (OwnsChecks s w) ∷ []) ∵ says ! (known, right, value-inside n (now m) taken, fits) $ frame ! $ done !) $
       frame ! $ move ! (2 ∷ 1 ∷ 0 ∷ []) $ frame ! $ frame ! $ done !
 
-  checks-said : (s : Step) (b : Bool) → ent 𝓤 (ensured 𝓤 H A found-checks.ended (found-checks.clauses 𝓤 H A mem run) (κ₀, (κ₁, (κ₂, tt))) (args-checks s) tt b) (fact 𝓤 (b ≡ foundChecks checked (now m) s))
+  checks-said : (s : Next) (b : Bool) → ent 𝓤 (ensured 𝓤 H A found-checks.ended (found-checks.clauses 𝓤 H A mem run) (κ₀, (κ₁, (κ₂, tt))) (args-checks s) tt b) (fact 𝓤 (b ≡ foundChecks checked (now m) s))
   checks-said s b = exE 𝓤 _ (λ ws. snd∗ 𝓤 (sem 𝓤 H A (lasts found-checks.ended (κ₀, (κ₁, (κ₂, tt))) (args-checks s) ws)) (fact 𝓤 (b ≡ foundChecks checked (now m) s)))
 
-  abbrev to-is-entry : Step → Val → IsEntry 𝓤 H A mem run .Ghost
+  abbrev to-is-entry : Next → Val → IsEntry 𝓤 H A mem run .Ghost
   to-is-entry s w = ((tt, tt, tt, (s, tt), (w ∷ [], tt)), tt)
 
-  goes-is-entry : (s : Step) (w : Val) → ent 𝓤 (⋆ 𝓤 H A (‵ (S.the-row .own s (w ∷ [])) ∷ [])) (IsEntry 𝓤 H A mem run .pre (to-is-entry s w))
+  goes-is-entry : (s : Next) (w : Val) → ent 𝓤 (⋆ 𝓤 H A (‵ (S.the-row .own s (w ∷ [])) ∷ [])) (IsEntry 𝓤 H A mem run .pre (to-is-entry s w))
   goes-is-entry s w = qed W (‵ (S.the-row .own s (w ∷ [])) ∷ []) ∵ nothing ! $ move ! (1 ∷ 0 ∷ []) $ fjoin ! $ nothing ! $ join ! $ frame ! $ done !
 
-  is-entry-said : (s : Step) (b : Bool) → ent 𝓤 (ensured 𝓤 H A is-entry.ended (is-entry.clauses 𝓤 H A mem run) tt (s, tt) tt b) (fact 𝓤 (b ≡ isEntry s))
+  is-entry-said : (s : Next) (b : Bool) → ent 𝓤 (ensured 𝓤 H A is-entry.ended (is-entry.clauses 𝓤 H A mem run) tt (s, tt) tt b) (fact 𝓤 (b ≡ isEntry s))
   is-entry-said s b = exE 𝓤 _ (λ ws. snd∗ 𝓤 (sem 𝓤 H A (lasts is-entry.ended tt (s, tt) ws)) (fact 𝓤 (b ≡ isEntry s)))
 
   -- ---- the exit
@@ -299,7 +295,7 @@ module _ {M : Type 1} (𝓤 : URA M) (H : Heap 𝓤) (A : Atoms 𝓤) (W : Given
 
   -- ---- the turns
 
-  first-turn : (r : Reader) (u : Val) (s : Step) (w : Val) → (r .full ≡ m) × (r .next ≡ 0) → Holds (hasTy (T′.mir erased) u) × WT u → Is S.the-row s (w ∷ [])
+  first-turn : (r : Reader) (u : Val) (s : Next) (w : Val) → (r .full ≡ m) × (r .next ≡ 0) → Holds (hasTy (T′.mir erased) u) × WT u → Is S.the-row s (w ∷ [])
       → Found (r .next) (now (r .full)) s → Turn checked n m
   first-turn r u s w made typed is found =
       record {
@@ -315,9 +311,9 @@ module _ {M : Type 1} (𝓤 : URA M) (H : Heap 𝓤) (A : Atoms 𝓤) (W : Given
         so-far = walk-starts checked n (now m) taken s (found-at r s 0 (made .0) (made .1) found);
       }
 
-  next-turn : (x : Turn checked n m) (r′ : Reader) (u′ : Val) (s′ : Step) (w′ : Val) → (r′ .full ≡ x .r .full) × (r′ .next ≡ x .r .next + 1)
+  next-turn : (x : Turn checked n m) (r′ : Reader) (u′ : Val) (s′ : Next) (w′ : Val) → (r′ .full ≡ x .r .full) × (r′ .next ≡ x .r .next + 1)
       → Holds (hasTy (T′.mir erased) u′) × WT u′ → Is S.the-row s′ (w′ ∷ []) → Found (r′ .next) (now (r′ .full)) s′
-      → ((s : Step) → Found (x .t + 1) (now m) s → Walked checked n (now m) (x .t + 1) s) → Turn checked n m
+      → ((s : Next) → Found (x .t + 1) (now m) s → Walked checked n (now m) (x .t + 1) s) → Turn checked n m
   next-turn x r′ u′ s′ w′ moved typed is found on =
       let whole = moved .0 ∙ x .whole in
       let here = moved .1 ∙ ap (λ (i : ℕ). i + 1) (x .here) in
@@ -411,7 +407,7 @@ module _ {M : Type 1} (𝓤 : URA M) (H : Heap 𝓤) (A : Atoms 𝓤) (W : Given
           either b
           (λ on. rewrite ! 6 (λ (z : Bool). ‵ (fat fullShare tyBool l₉ 0 (vbool z))) on refl $ stays ! (load ! (from ! (stop !)) (look ! 6 refl)) $
           let good = past (sym e ∙ on) in
-          let room : x .r .next + 1 < 2 ^ 64 = subst (λ (i : ℕ). i + 1 < 2 ^ 64) (sym (x .here)) (next-fits n (x .t) (ready .size) (good .0)) in
+          let room : x .r .next + 1 < 2 ^ 64 = subst (λ (i : ℕ). i + 1 < 2 ^ 64) (sym (x .here)) (next-fits n (x .t) (right .most) (good .0)) in
           assigns ! (of-opd ! (load ! (from ! (stop !)) (look ! 12 refl))) (from ! (stop !)) (init ! 4 refl (x .typed)) $
           use2 W (raw (Advance 𝓤 H A mem run .pre (to-advance (x .r) (x .u))) ⊛ Others) (goes-advance (x .r) (x .u) room) $ split ! $
           calls-at ! fm (Advance 𝓤 H A mem run) known-advance (to-advance (x .r) (x .u)) (and-then ! (load ! (from ! (stop !)) (look ! 4 refl)) (no-more !)) (λ u′.
@@ -425,7 +421,7 @@ module _ {M : Type 1} (𝓤 : URA M) (H : Heap 𝓤) (A : Atoms 𝓤) (W : Given
           move ! (1 ∷ 2 ∷ []) $ use2 W Held together $
           use2 W (raw (Entry 𝓤 H A mem run .pre (to-entry r′ u′)) ⊛ (Others ⊛ ‵ (OwnReader r′ u′))) (goes-entry r′ u′) $ split3 ! $
           calls-at-last ! fm (Entry 𝓤 H A mem run) known-entry (to-entry r′ u′) (and-then ! (load ! (from ! (stop !)) (look ! 3 refl)) (no-more !)) (λ w′.
-          use1 W (later (some (λ (s′ : Step). (Token ⊛ ‵ (S.the-row .own s′ (w′ ∷ []))) ⊛ raw (ensured 𝓤 H A entry.ended (entry.clauses 𝓤 H A mem run) (κ₂, tt) (r′, tt) tt s′)))) (id⊢ 𝓤 _) $ await ! tt $ pick ! (λ s′.
+          use1 W (later (some (λ (s′ : Next). (Token ⊛ ‵ (S.the-row .own s′ (w′ ∷ []))) ⊛ raw (ensured 𝓤 H A entry.ended (entry.clauses 𝓤 H A mem run) (κ₂, tt) (r′, tt) tt s′)))) (id⊢ 𝓤 _) $ await ! tt $ pick ! (λ s′.
           split ! $ move ! (1 ∷ []) $ use1 W (raw (fact 𝓤 (Found (r′ .next) (now (r′ .full)) s′))) (entry-said r′ s′) $ heard ! (Found (r′ .next) (now (r′ .full)) s′) (λ found. split ! $ move ! (1 ∷ []) $
           facts ! S.the-row (Is S.the-row) (shows 𝓤 H A S.the-row) s′ (w′ ∷ []) (λ is′.
           -- [the token; the others; the reader; _11; …]
@@ -445,7 +441,7 @@ module _ {M : Type 1} (𝓤 : URA M) (H : Heap 𝓤) (A : Atoms 𝓤) (W : Given
           move ! (13 ∷ 14 ∷ []) $ free1 ! $ move ! (11 ∷ 12 ∷ []) $ free1 ! $ move ! (9 ∷ 10 ∷ []) $ free1 ! $ move ! (7 ∷ 8 ∷ []) $ free1 ! $ move ! (5 ∷ 6 ∷ []) $ free1 ! $ move ! (3 ∷ 4 ∷ []) $ free1 ! $ free0 ! $
           keep ! (0 ∷ 1 ∷ []) $ by ! (exits c v′ (e′ ∙ walk-ends checked n (now m) taken (x .t) (x .s) (x .so-far) (sym e ∙ off))))))))))))
 
-      started : (r : Reader) (u : Val) (s : Step) (w : Val) → (r .full ≡ m) × (r .next ≡ 0) → Holds (hasTy (T′.mir erased) u) × WT u → Is S.the-row s (w ∷ [])
+      started : (r : Reader) (u : Val) (s : Next) (w : Val) → (r .full ≡ m) × (r .next ≡ 0) → Holds (hasTy (T′.mir erased) u) × WT u → Is S.the-row s (w ∷ [])
           → Found (r .next) (now (r .full)) s → Sq W (Around r u w) (runs C Λ En pieces.t-4 (atRet En Post))
       unfolding first-turn
       started r u s w made typed is found = first ! $ blocks ! $ loops ! 𝓣 Nearer Nearer-wf At turns (first-turn r u s w made typed is found)
@@ -475,7 +471,7 @@ module _ {M : Type 1} (𝓤 : URA M) (H : Heap 𝓤) (A : Atoms 𝓤) (W : Given
         move ! (1 ∷ 2 ∷ []) $ use2 W Held together $
         use2 W (raw (Entry 𝓤 H A mem run .pre (to-entry r u)) ⊛ (Others ⊛ ‵ (OwnReader r u))) (goes-entry r u) $ split3 ! $
         calls-at ! fm (Entry 𝓤 H A mem run) known-entry (to-entry r u) (and-then ! (load ! (from ! (stop !)) (look ! 9 refl)) (no-more !)) (λ w.
-        use1 W (later (some (λ (s : Step). (Token ⊛ ‵ (S.the-row .own s (w ∷ []))) ⊛ raw (ensured 𝓤 H A entry.ended (entry.clauses 𝓤 H A mem run) (κ₂, tt) (r, tt) tt s)))) (id⊢ 𝓤 _) $ await ! tt $ pick ! (λ s.
+        use1 W (later (some (λ (s : Next). (Token ⊛ ‵ (S.the-row .own s (w ∷ []))) ⊛ raw (ensured 𝓤 H A entry.ended (entry.clauses 𝓤 H A mem run) (κ₂, tt) (r, tt) tt s)))) (id⊢ 𝓤 _) $ await ! tt $ pick ! (λ s.
         split ! $ move ! (1 ∷ []) $ use1 W (raw (fact 𝓤 (Found (r .next) (now (r .full)) s))) (entry-said r s) $ heard ! (Found (r .next) (now (r .full)) s) (λ found. split ! $ move ! (1 ∷ []) $
         facts ! S.the-row (Is S.the-row) (shows 𝓤 H A S.the-row) s (w ∷ []) (λ is.
         -- [the token; the others; the reader; _11; …]
@@ -493,7 +489,7 @@ module _ {M : Type 1} (𝓤 : URA M) (H : Heap 𝓤) (A : Atoms 𝓤) (W : Given
     bad-in-full-walks = walked 𝓤 H A f.ended stayed (f.clauses 𝓤 H A mem run) (WpFn 𝓤 H (𝓣 .C) (𝓣 .Λ) code.function) (λ κs. (ptr-vals, (uint-vals w32, (uint-vals w32, (slice-vals, (slice-vals, tt))))))
         (λ κs. (shr-tells (named 0) (κs .0) (Array u32 64), (uint-tells w32, (uint-tells w32, (shr-slice-tells (named 1) (κs .1 .0) u8, (shr-slice-tells (named 2) (κs .1 .1 .0) u8, tt))))))
         (λ κs qs bounds a g are. needs 𝓤 _ _ (λ pre. walk 𝓤 H A W mem run (κs .0) (κs .1 .0) (κs .1 .1 .0) (qs .0) (qs .1 .0) (qs .1 .1 .0) (a .0) (a .1 .0) (a .1 .1 .0) (a .1 .1 .1 .0) (a .1 .1 .1 .1 .0)
-        (are .1 .0 .1) (are .1 .1 .0 .1) (pre .0) (pre .1) 𝓣 (fmOf 𝓤 H (W .laws) 𝓣) known-open known-entry known-advance known-checks known-is (are .0) (are .1 .1 .1 .0) (are .1 .1 .1 .1 .0)))
+        (are .1 .0 .1) (are .1 .1 .0 .1) (pre .0) (pre .1) (pre .2) 𝓣 (fmOf 𝓤 H (W .laws) 𝓣) known-open known-entry known-advance known-checks known-is (are .0) (are .1 .1 .1 .0) (are .1 .1 .1 .1 .0)))
 
     bad-in-full-meets : Meets 𝓤 H A f.signature (WpFn 𝓤 H (𝓣 .C) (𝓣 .Λ) code.function) (f.spec 𝓤 H A mem run)
     bad-in-full-meets = walk-meets 𝓤 H A f.ended stayed W all-go (f.clauses 𝓤 H A mem run) (WpFn 𝓤 H (𝓣 .C) (𝓣 .Λ) code.function) (WpFn-mono 𝓤 H (W .laws) 𝓣 code.function) bad-in-full-walks

@@ -1,2 +1,0 @@
--- Laws of the key table.
-pub mod Laws

@@ -1,0 +1,15 @@
+-- `validate::arguments::wrong_round` meets its contract.
+use borrow.Author.Needs.{needs}
+use Rattle.protocol.specs.Record.{wrongRound}
+use Rattle.validate.proofs.arguments.wrong_round.Statement.{statement}
+use Rattle.validate.proofs.arguments.wrong_round.Tie as tie
+
+last-round-requires : tie.Need-last-round-requires
+last-round-requires c κs = search needs
+
+returns : tie.Need-returns
+unfolding wrongRound
+returns c = rw (c .last-round .ensures)
+
+pub wrong-round-spec : {M : Type 1} → statement M
+wrong-round-spec = tie.close (tie.spec last-round-requires returns)

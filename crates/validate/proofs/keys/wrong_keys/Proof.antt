@@ -1,0 +1,81 @@
+-- `validate::keys::wrong_keys` meets its contract.
+use mathlib.Core.Path.{_≡_, sym, _∙_}
+use mathlib.Core.Bool.{true}
+use Prim.Native.Nat.{_-_, _≤_}
+use native.Mathlib.Omega.{arith}
+use lib.ListN.{length}
+use borrow.Author.Tests.{not-true, not-false}
+use denote.Ref.{now}
+use borrow.Author.Needs.{needs}
+use Rattle.protocol.specs.Layout.{keyAt}
+use Rattle.protocol.specs.Refusals.{keysAllowed}
+use Rattle.validate.specs.Keys.{keys-length, keys-none, keys-more, keys-not, keys-right}
+use Rattle.validate.proofs.keys.wrong_keys.Statement.{statement}
+use Rattle.validate.proofs.keys.wrong_keys.Tie as tie
+
+abbrev Inv-loop : tie.InvT-loop
+Inv-loop n keys seat₀ seat = (seat ≤ n) × (length keys ≡ keyAt n) × (keysAllowed seat keys ≡ true)
+
+abbrev μ-loop : tie.MeasureT-loop
+μ-loop n keys seat₀ seat = n - seat
+
+-- the table has its length
+long : (c : tie.Else1 Inv-loop μ-loop) → let s = c .before .before .before in length (now (s .args .keys)) ≡ keyAt (s .args .n)
+long c = c .if1 .left ∙ c .before .key-at .ensures
+
+key-at-requires : tie.Need-key-at-requires Inv-loop μ-loop
+key-at-requires c κs = search needs
+
+returns : tie.Need-returns Inv-loop μ-loop
+returns c =
+    keys-length (now (c .before .before .before .args .keys)) (c .before .before .before .args .n) (λ e. c .if1 .taken (e ∙ sym (c .before .key-at .ensures)))
+
+loop-holds : tie.Need-loop-holds Inv-loop μ-loop
+loop-holds c =
+    let s = c .before .before .before in
+    (omega arith, long c, keys-none (now (s .args .keys)))
+
+key-allowed-requires : tie.Need-key-allowed-requires Inv-loop μ-loop
+key-allowed-requires c κs = omega arith
+
+returns-2 : tie.Need-returns-2 Inv-loop μ-loop
+returns-2 c =
+    let at-loop = c .before .before .before in
+    let s = c .before .before .before .before .before .before .before in
+    keys-not (now (s .args .keys)) (s .args .n) (at-loop .loop .inv .1) (at-loop .loop .seat) (omega arith)
+    (sym (c .before .key-allowed .ensures) ∙ not-true _ (c .if2 .taken))
+
+add-seat : tie.Need-add-seat Inv-loop μ-loop
+add-seat c = omega arith
+
+loop-less : tie.Need-loop-less Inv-loop μ-loop
+loop-less c = omega arith
+
+loop-again : tie.Need-loop-again Inv-loop μ-loop
+loop-again c =
+    let at-loop = c .before .before .before in
+    let more = keys-more (now (c .before .before .before .before .before .before .before .args .keys)) (at-loop .loop .seat) (at-loop .loop .inv .2) (sym (c .before .key-allowed .ensures) ∙ not-false _ (c .if2 .left)) in
+    (omega arith, at-loop .loop .inv .1, more)
+
+returns-3 : tie.Need-returns-3 Inv-loop μ-loop
+returns-3 c =
+    let at-loop = c .before in
+    let s = c .before .before .before .before .before in
+    let all : at-loop .loop .seat ≡ s .args .n = omega arith in
+    keys-right (now (s .args .keys)) (s .args .n) (at-loop .loop .inv .1) (rw all at (at-loop .loop .inv .2))
+
+pub wrong-keys-spec : {M : Type 1} → statement M
+wrong-keys-spec =
+    tie.close
+    (tie.spec
+    Inv-loop
+    μ-loop
+    key-at-requires
+    returns
+    loop-holds
+    key-allowed-requires
+    returns-2
+    add-seat
+    loop-less
+    loop-again
+    returns-3)

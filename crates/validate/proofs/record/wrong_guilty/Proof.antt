@@ -1,0 +1,15 @@
+-- `validate::record::wrong_guilty` meets its contract.
+use borrow.Author.Needs.{needs}
+use Rattle.protocol.specs.Record.{wrongGuilty}
+use Rattle.validate.proofs.record.wrong_guilty.Statement.{statement}
+use Rattle.validate.proofs.record.wrong_guilty.Tie as tie
+
+shared-requires : tie.Need-shared-requires
+shared-requires c κs = search needs
+
+returns : tie.Need-returns
+unfolding wrongGuilty
+returns c = cc
+
+pub wrong-guilty-spec : {M : Type 1} → statement M
+wrong-guilty-spec = tie.close (tie.spec shared-requires returns)

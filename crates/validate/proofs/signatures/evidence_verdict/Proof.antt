@@ -1,0 +1,158 @@
+-- `validate::signatures::evidence_verdict` meets its contract.
+use mathlib.Core.Path.{_≡_, sym, ap, subst, _∙_}
+use mathlib.Core.List.{List}
+use Prim.Native.Nat.{ℕ, _+_, _-_, _≤_, _<_}
+use native.Mathlib.Omega.{arith}
+use lib.ListN.{length}
+use borrow.Author.Needs.{needs}
+use denote.Ref.{now}
+use Rattle.protocol.specs.Layout.{signatureLength, evidenceCountAt, evidenceEntryLength, evidenceEntryAt, evidenceLength, entryAt}
+use Rattle.protocol.specs.Message.{byteAt}
+use Rattle.protocol.specs.Refusals.{Checks}
+use Rattle.protocol.specs.Signatures.{checks, signatureNumber}
+use Rattle.layout.specs.declared.Entries.{Entries}
+use Rattle.validate.specs.Places.{PairInside, pairChecks, pairPlaces}
+use Rattle.validate.specs.declared.signatures.Pair.{Pair}
+use Rattle.validate.specs.Signatures.{pairCheck, entry-inside}
+use Rattle.validate.specs.Entries.{pair-inside, Checked, checked-none, checked-more, checked-not, checked-all}
+use Rattle.validate.proofs.signatures.evidence_verdict.Statement.{statement}
+use Rattle.validate.proofs.signatures.evidence_verdict.Tie as tie
+
+abbrev Inv-loop : tie.InvT-loop
+Inv-loop k n round keys m count entries t₀ t = Checked (checks keys round) m t
+
+abbrev μ-loop : tie.MeasureT-loop
+μ-loop k n round keys m count entries t₀ t = byteAt m evidenceCountAt - t
+
+-- what the function is given
+module _ (start : tie.Start Inv-loop μ-loop) where
+  abbrev check : Checks
+  check = checks (now (start .args .keys)) (start .args .round)
+
+  abbrev n : ℕ
+  n = start .args .n
+
+  abbrev m : List ℕ
+  m = now (start .args .m)
+
+abbrev started : tie.After-evidence-entries Inv-loop μ-loop → tie.Start Inv-loop μ-loop
+started c = c .before .before .before .before .before
+
+-- the number of entries
+count-read : (c : tie.After-evidence-entries Inv-loop μ-loop) → c .before .number-at .result ≡ byteAt (m (started c)) evidenceCountAt
+count-read c = let number = c .before in number .number-at .ensures .0 ∙ ap (λ (i : ℕ). byteAt (m (started c)) i) (number .before .evidence-count-at .ensures)
+
+abbrev loop-at : tie.After-entry-at Inv-loop μ-loop → tie.At-loop Inv-loop μ-loop
+loop-at c = c .before .before
+
+-- an index below it
+inside : (c : tie.After-entry-at Inv-loop μ-loop) → loop-at c .loop .t < byteAt (m (started (loop-at c .before))) evidenceCountAt
+inside c = let counted = count-read (loop-at c .before) in omega arith
+
+-- the place of its entry
+place : (c : tie.After-entry-at Inv-loop μ-loop) → c .entry-at .result ≡ evidenceEntryAt (loop-at c .loop .t)
+unfolding evidenceEntryAt
+place c =
+    c .entry-at .ensures ∙ ap (λ (e : Entries). entryAt (e .start) (e .length) (loop-at c .loop .t)) (loop-at c .before .evidence-entries .ensures)
+
+-- and of its pair
+pair-is : (c : tie.After-pair-at Inv-loop μ-loop)
+    → let at-loop = loop-at (c .before) in let at = evidenceEntryAt (at-loop .loop .t) in
+    c .pair-at .result ≡ pairPlaces (byteAt (m (started (at-loop .before))) (at + 1)) at
+pair-is c =
+    let s = started (loop-at (c .before) .before) in
+    c .pair-at .ensures ∙ ap (λ (at : ℕ). pairPlaces (byteAt (m s) (at + 1)) at) (place (c .before))
+
+-- the verdict on it
+said : (c : tie.After-pair-verdict Inv-loop μ-loop)
+    → let at-loop = loop-at (c .before .before) in let s = started (at-loop .before) in
+    c .pair-verdict .result .number ≡ signatureNumber (pairCheck (check s) (m s) (at-loop .loop .t))
+said c =
+    let pair = c .before in
+    let s = started (loop-at (pair .before) .before) in
+    c .pair-verdict .ensures ∙ ap (λ (p : Pair). signatureNumber (pairChecks (check s) (m s) p)) (pair-is pair)
+
+evidence-count-at-requires : tie.Need-evidence-count-at-requires Inv-loop μ-loop
+evidence-count-at-requires c κs = search needs
+
+number-at-requires : tie.Need-number-at-requires Inv-loop μ-loop
+unfolding evidenceLength evidenceEntryAt evidenceEntryLength signatureLength
+number-at-requires c κs = omega arith
+
+cast-count : tie.Need-cast-count Inv-loop μ-loop
+cast-count c = omega arith
+
+evidence-entries-requires : tie.Need-evidence-entries-requires Inv-loop μ-loop
+evidence-entries-requires c κs = search needs
+
+loop-holds : tie.Need-loop-holds Inv-loop μ-loop
+loop-holds c =
+    let s = started c in
+    checked-none (check s) (m s)
+
+entry-at-requires : tie.Need-entry-at-requires Inv-loop μ-loop
+unfolding evidenceEntryLength signatureLength
+entry-at-requires c κs =
+    let made = c .before .before in
+    let few = made .before .number-at .ensures .1 in
+    rw (made .evidence-entries .ensures) (omega arith)
+
+pair-at-requires : tie.Need-pair-at-requires Inv-loop μ-loop
+pair-at-requires c κs =
+    let made = c .before .before .before in
+    let s = started made in
+    subst (λ (at : ℕ). at + evidenceEntryLength ≤ length (m s)) (sym (place c))
+    (entry-inside (m s) (byteAt (m s) evidenceCountAt) (loop-at c .loop .t) (s .pre .2 .size) (inside c))
+
+pair-verdict-requires : tie.Need-pair-verdict-requires Inv-loop μ-loop
+pair-verdict-requires c κs =
+    let entry = c .before in
+    let s = started (c .before .before .before .before) in
+    let fits = pair-inside (check s) (n s) (m s) (s .pre .2) (loop-at entry .loop .t) (inside entry) in
+    (s .pre .0, s .pre .1, subst (λ (p : Pair). PairInside (n s) p (m s)) (sym (pair-is c)) fits)
+
+returns : tie.Need-returns Inv-loop μ-loop
+returns c =
+    let entry = c .before .before .before .before in
+    let s = started (c .before .before .before .before .before .before .before) in
+    checked-not (check s) (n s) (m s) (s .pre .2) (loop-at entry .loop .t) (c .before .before .pair-verdict .result .number) (inside entry) (said (c .before .before)) (c .if1 .taken)
+
+add-t : tie.Need-add-t Inv-loop μ-loop
+add-t c = omega arith
+
+loop-less : tie.Need-loop-less Inv-loop μ-loop
+loop-less c = let counted = count-read (c .before .before .before .before .before .before .before) in omega arith
+
+loop-again : tie.Need-loop-again Inv-loop μ-loop
+loop-again c =
+    let entry = c .before .before .before .before in
+    let s = started (c .before .before .before .before .before .before .before) in
+    let at-loop = loop-at entry in
+    checked-more (check s) (n s) (m s) (s .pre .2) (at-loop .loop .t) (c .before .before .pair-verdict .result .number) (inside entry) (said (c .before .before)) (at-loop .loop .inv) (c .if1 .left)
+
+returns-2 : tie.Need-returns-2 Inv-loop μ-loop
+returns-2 c =
+    let at-loop = c .before in
+    let s = started (c .before .before) in
+    let counted = count-read (c .before .before) in
+    checked-all (check s) (n s) (m s) (s .pre .2) (at-loop .loop .t) (at-loop .loop .inv) (omega arith)
+
+pub evidence-verdict-spec : {M : Type 1} → statement M
+evidence-verdict-spec =
+    tie.close
+    (tie.spec
+    Inv-loop
+    μ-loop
+    evidence-count-at-requires
+    number-at-requires
+    cast-count
+    evidence-entries-requires
+    loop-holds
+    entry-at-requires
+    pair-at-requires
+    pair-verdict-requires
+    returns
+    add-t
+    loop-less
+    loop-again
+    returns-2)

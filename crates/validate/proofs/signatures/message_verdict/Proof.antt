@@ -1,0 +1,88 @@
+-- `validate::signatures::message_verdict` meets its contract.
+use mathlib.Core.List.{List}
+use Prim.Native.Nat.{ℕ}
+use borrow.Author.Needs.{needs}
+use denote.Ref.{now}
+use Rattle.protocol.specs.Refusals.{Checks}
+use Rattle.protocol.specs.Signatures.{checks}
+use Rattle.validate.specs.Entries.{submit-taken, full-taken, evidence-taken, notice-row, garbled-row}
+use Rattle.validate.proofs.signatures.message_verdict.Statement.{statement}
+use Rattle.validate.proofs.signatures.message_verdict.Tie as tie
+
+-- what the function is given
+module _ (start : tie.Start) where
+  abbrev check : Checks
+  check = checks (now (start .args .keys)) (start .args .round)
+
+  abbrev n : ℕ
+  n = start .args .n
+
+  abbrev m : List ℕ
+  m = now (start .args .m)
+
+enum-told : tie.Need-enum-told
+enum-told c = search needs
+
+submit-verdict-requires : tie.Need-submit-verdict-requires
+submit-verdict-requires c κs =
+    let s = c .before .before .before .before in
+    (s .pre .0, s .pre .1, submit-taken (n s) (m s) (s .args .kind) (s .pre .2) (s .pre .3) (c .enum-told .given .1))
+
+enum-told-2 : tie.Need-enum-told-2
+enum-told-2 c = search needs
+
+enum-told-3 : tie.Need-enum-told-3
+enum-told-3 c = search needs
+
+full-verdict-requires : tie.Need-full-verdict-requires
+full-verdict-requires c κs =
+    let s = c .before .before .before .before in
+    (s .pre .0, s .pre .1, full-taken (n s) (m s) (s .args .kind) (s .pre .2) (s .pre .3) (c .enum-told3 .given .1))
+
+enum-told-4 : tie.Need-enum-told-4
+enum-told-4 c = search needs
+
+evidence-verdict-requires : tie.Need-evidence-verdict-requires
+evidence-verdict-requires c κs =
+    let s = c .before .before .before .before in
+    (s .pre .0, s .pre .1, evidence-taken (n s) (m s) (s .args .kind) (s .pre .2) (s .pre .3) (c .enum-told4 .given .1))
+
+enum-told-5 : tie.Need-enum-told-5
+enum-told-5 c = search needs
+
+returns : tie.Need-returns
+returns c = search needs
+
+returns-2 : tie.Need-returns-2
+returns-2 c =
+    let s = c .before .before .before .before in
+    notice-row (check s) (n s) (m s) (s .args .kind) (s .pre .2) (c .enum-told2 .given .1)
+
+returns-3 : tie.Need-returns-3
+returns-3 c = search needs
+
+returns-4 : tie.Need-returns-4
+returns-4 c = search needs
+
+returns-5 : tie.Need-returns-5
+returns-5 c =
+    let s = c .before .before .before .before in
+    garbled-row (check s) (n s) (m s) (s .args .kind) (s .pre .2) (c .enum-told5 .given .1)
+
+pub message-verdict-spec : {M : Type 1} → statement M
+message-verdict-spec =
+    tie.close
+    (tie.spec
+    enum-told
+    submit-verdict-requires
+    enum-told-2
+    enum-told-3
+    full-verdict-requires
+    enum-told-4
+    evidence-verdict-requires
+    enum-told-5
+    returns
+    returns-2
+    returns-3
+    returns-4
+    returns-5)

@@ -1,0 +1,43 @@
+-- `validate::signatures::place_verdict` meets its contract.
+use mathlib.Core.Path.{ap, _∙_}
+use Prim.Native.Nat.{_+_, _≤_}
+use native.Mathlib.Omega.{arith}
+use lib.ListN.{length}
+use denote.Ref.{now}
+use borrow.Author.Needs.{needs}
+use Rattle.octets.specs.OctetLaws.{length-part}
+use Rattle.protocol.specs.Layout.{signatureLength}
+use Rattle.protocol.specs.Message.{readSignature}
+use Rattle.validate.proofs.signatures.place_verdict.Statement.{statement}
+use Rattle.validate.proofs.signatures.place_verdict.Tie as tie
+
+value-at-requires : tie.Need-value-at-requires
+value-at-requires c κs = search needs
+
+signature-at-requires : tie.Need-signature-at-requires
+signature-at-requires c κs = search needs
+
+slice-aggregate-seat-verdict : tie.Need-slice-aggregate-seat-verdict
+slice-aggregate-seat-verdict c = search needs
+
+seat-verdict-requires : tie.Need-seat-verdict-requires
+unfolding readSignature
+seat-verdict-requires c κs =
+    let s = c .before .before .before .before .before in
+    let m = now (s .args .m) in
+    let at = s .args .place .signature in
+    let room : at + signatureLength ≤ length m = omega arith in
+    (s .pre .0, s .pre .1, s .pre .2, search needs, ap length (c .before .signature-at .ensures) ∙ length-part at signatureLength m room)
+
+returns : tie.Need-returns
+returns c = cc
+
+pub place-verdict-spec : {M : Type 1} → statement M
+place-verdict-spec =
+    tie.close
+    (tie.spec
+    value-at-requires
+    signature-at-requires
+    slice-aggregate-seat-verdict
+    seat-verdict-requires
+    returns)

@@ -1,0 +1,169 @@
+// Refusals of the calls. Each test comes after those of lower numbers, so that nothing is looked at twice.
+ghost use mathlib.Core.Path.{_≡_};
+ghost use Rattle.refusal.specs.Refusal.{firstOf};
+ghost use Rattle.protocol.specs.Signatures.{checks};
+ghost use Rattle.protocol.specs.Message.{read};
+ghost use Rattle.protocol.specs.Refusals.{wrongLengths, isForStep, early, outsideConditions, openingConditions, recordConditions, messageConditions, certificateConditions, twoConditions};
+ghost use Rattle.wire.specs.Reading.{kindOf};
+ghost use Rattle.protocol.specs.RecordLaws.{InRange};
+ghost use Rattle.validate.specs.Given.{Given};
+ghost use Rattle.validate.specs.Calls.{ownConditions, packConditions};
+use crate::arguments::wrong_round;
+use crate::arguments::wrong_seat;
+use crate::arguments::wrong_size;
+use crate::buffers::short_out;
+use crate::buffers::short_store;
+use crate::conflict::equal_values;
+use crate::conflict::not_lower_first;
+use crate::keys::wrong_keys;
+use crate::message;
+use crate::message::is_within;
+use crate::message::message_refusal;
+use crate::record::is_impossible;
+use crate::signatures::seat_verdict;
+use protocol::Record;
+use protocol::Verdict;
+use wire::read::Kind;
+
+// Refusal of n, round and key table, in a call without a record: 1, 3, 5.
+pub fn outside_refusal(n: u32, round: u32, keys: &[u8]) -> u32
+    ensures { λ r. ⌜ r ≡ firstOf (outsideConditions n round (now (keys .entry))) ⌝ }
+{
+    if wrong_size(n) {
+        return refusal::SIZE;
+    }
+    if wrong_round(round) {
+        return refusal::ROUND;
+    }
+    if wrong_keys(n, keys) {
+        return refusal::KEYS;
+    }
+    0
+}
+
+// Refusal of an opening: 1, 2, 3, 5.
+pub fn opening_refusal(n: u32, seat: u32, round: u32, keys: &[u8]) -> u32
+    ensures { λ r. ⌜ r ≡ firstOf (openingConditions n seat round (now (keys .entry))) ⌝ }
+{
+    if wrong_size(n) {
+        return refusal::SIZE;
+    }
+    if wrong_seat(n, seat) {
+        return refusal::SEAT;
+    }
+    if wrong_round(round) {
+        return refusal::ROUND;
+    }
+    if wrong_keys(n, keys) {
+        return refusal::KEYS;
+    }
+    0
+}
+
+// Refusal of the record, key table, store and out of a submit or a step: 4, 5, 6, 7.
+pub fn record_refusal(r: Record, keys: &[u8], store: &[u8], out: &[u8]) -> u32
+    ensures { λ b. ⌜ b ≡ firstOf (recordConditions (now (keys .entry)) r (now (store .entry)) (now (out .entry))) ⌝ }
+{
+    if is_impossible(r) {
+        return refusal::RECORD;
+    }
+    if wrong_keys(r.n, keys) {
+        return refusal::KEYS;
+    }
+    if short_store(r.n, store) {
+        return refusal::STORE;
+    }
+    if short_out(layout::out_length(r.n), out) {
+        return refusal::OUT;
+    }
+    0
+}
+
+// A value isn't 32 bytes, or a signature isn't 1,452.
+fn wrong_lengths(value: &[u8], signature: &[u8]) -> bool
+    ensures { λ r. ⌜ r ≡ wrongLengths (now (value .entry)) (now (signature .entry)) ⌝ }
+{
+    let length = layout::value_length();
+    let signed = layout::signature_length();
+    (value.len() != length) | (signature.len() != signed)
+}
+
+// Refusal of the own submission: 8, 9, 14.
+pub fn own_refusal(r: Record, keys: &[u8], value: &[u8], signature: &[u8]) -> Verdict
+    requires { ⌜ InRange r × Given (r .n) (r .round) (now keys) ⌝ }
+    ensures { λ v. ⌜ v .number ≡ firstOf (ownConditions (checks (now (keys .entry)) (r .round)) r (now (value .entry)) (now (signature .entry))) ⌝ }
+{
+    if r.own.submitted {
+        return Verdict {
+            number: refusal::SAID,
+        };
+    }
+    if wrong_lengths(value, signature) {
+        return Verdict {
+            number: refusal::GARBLED,
+        };
+    }
+    let k = sha256::constants::round_constants();
+    seat_verdict(&k, r.n, r.round, keys, r.seat, value, signature)
+}
+
+// Refusal of the message given to a step: 9 to 14.
+pub fn step_refusal(r: Record, keys: &[u8], kind: Kind, m: &[u8]) -> Verdict
+    requires { ⌜ Given (r .n) (r .round) (now keys) × (kind ≡ kindOf (read (r .n) (now m))) ⌝ }
+    ensures { λ v.
+        let said = read (r .n) (now (m .entry)) in
+        ⌜ v .number ≡ firstOf (messageConditions (checks (now (keys .entry)) (r .round)) (r .n) (r .round) (isForStep said) (early r said) said) ⌝ }
+{
+    let taken = is_within(kind, message::SUBMIT, message::FULL);
+    let early = is_within(kind, message::SUBMIT, message::SUBMIT) & !r.own.submitted;
+    message_refusal(r.n, r.round, keys, taken, early, kind, m)
+}
+
+// Refusal of an EVIDENCE: 9 to 15.
+pub fn evidence_refusal(n: u32, round: u32, keys: &[u8], kind: Kind, m: &[u8]) -> Verdict
+    requires { ⌜ Given n round (now keys) × (kind ≡ kindOf (read n (now m))) ⌝ }
+    ensures { λ v. ⌜ v .number ≡ firstOf (packConditions (checks (now (keys .entry)) round) n round (read n (now (m .entry)))) ⌝ }
+{
+    let taken = is_within(kind, message::EVIDENCE, message::EVIDENCE);
+    let v = message_refusal(n, round, keys, taken, false, kind, m);
+    if v.number != 0 {
+        return v;
+    }
+    if not_lower_first(n, m) {
+        return Verdict {
+            number: refusal::NO_CONFLICT,
+        };
+    }
+    v
+}
+
+// Refusal of one certificate: 9 to 14.
+fn certificate_refusal(n: u32, round: u32, keys: &[u8], m: &[u8]) -> Verdict
+    requires { ⌜ Given n round (now keys) ⌝ }
+    ensures { λ v. ⌜ v .number ≡ firstOf (certificateConditions (checks (now (keys .entry)) round) n round (read n (now (m .entry)))) ⌝ }
+{
+    let kind = wire::read::classify(n, m);
+    let taken = is_within(kind, message::FULL, message::FULL);
+    message_refusal(n, round, keys, taken, false, kind, m)
+}
+
+// Refusal of two certificates: the first's 9 to 14, the second's, and 15.
+pub fn two_refusal(n: u32, round: u32, keys: &[u8], first: &[u8], second: &[u8]) -> Verdict
+    requires { ⌜ Given n round (now keys) ⌝ }
+    ensures { λ v. ⌜ v .number ≡ firstOf (twoConditions (checks (now (keys .entry)) round) n round (read n (now (first .entry))) (read n (now (second .entry)))) ⌝ }
+{
+    let a = certificate_refusal(n, round, keys, first);
+    if a.number != 0 {
+        return a;
+    }
+    let b = certificate_refusal(n, round, keys, second);
+    if b.number != 0 {
+        return b;
+    }
+    if equal_values(n, first, second) {
+        return Verdict {
+            number: refusal::NO_CONFLICT,
+        };
+    }
+    b
+}

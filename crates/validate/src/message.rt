@@ -1,0 +1,88 @@
+// A message: its command, round, seats and order, and whether it comes early (9 to 13), then its signatures.
+ghost use mathlib.Core.Path.{_≡_};
+ghost use Prim.Native.Nat.{_≤_};
+ghost use Rattle.quorum.specs.Quorum.{mostSeats};
+ghost use Rattle.refusal.specs.Refusal.{firstOf};
+ghost use Rattle.protocol.specs.Signatures.{checks};
+ghost use Rattle.protocol.specs.Message.{read};
+ghost use Rattle.protocol.specs.Refusals.{messageConditions};
+ghost use Rattle.wire.specs.Reading.{kindOf};
+ghost use Rattle.wire.specs.Answers.{commandOf};
+ghost use Rattle.validate.specs.Given.{Given};
+ghost use Rattle.validate.specs.Messages.{within, formConditions};
+use crate::signatures::message_verdict;
+use protocol::Verdict;
+use wire::read::Kind;
+
+// The commands that calls take.
+pub(crate) const SUBMIT: u32 = 1;
+
+pub(crate) const FULL: u32 = 3;
+
+pub(crate) const EVIDENCE: u32 = 5;
+
+// The command of a message, or 0.
+fn command(kind: Kind) -> u32
+    ensures { λ r. ⌜ r ≡ commandOf kind ⌝ }
+{
+    match kind {
+        Kind::Submit => SUBMIT,
+        Kind::Notice => 2,
+        Kind::Full => FULL,
+        Kind::Evidence => EVIDENCE,
+        Kind::Garbled => 0,
+    }
+}
+
+// Whether the command of a message is one of those from `first` to `last`.
+pub(crate) fn is_within(kind: Kind, first: u32, last: u32) -> bool
+    ensures { λ r. ⌜ r ≡ within first last kind ⌝ }
+{
+    let c = command(kind);
+    (first <= c) & (c <= last)
+}
+
+// Refusal for the form of a message, before any signature is checked: 9 to 13.
+fn form_refusal(n: u32, round: u32, taken: bool, early: bool, kind: Kind, m: &[u8]) -> u32
+    requires { ⌜ (1 ≤ n) × (n ≤ mostSeats) × (kind ≡ kindOf (read n (now m))) ⌝ }
+    ensures { λ r. ⌜ r ≡ firstOf (formConditions n round taken early (read n (now (m .entry)))) ⌝ }
+{
+    if !taken {
+        return refusal::GARBLED;
+    }
+    if wire::read::other_round(n, kind, m, round) {
+        return refusal::OTHER_ROUND;
+    }
+    if wire::read::is_stranger(n, kind, m) {
+        return refusal::STRANGER;
+    }
+    if wire::read::is_disordered(n, kind, m) {
+        return refusal::DISORDER;
+    }
+    if early {
+        return refusal::EARLY;
+    }
+    0
+}
+
+// Refusal of a message, for every call: 9 to 14. `taken`: the call takes its command. `early`: it comes before the own submit.
+// Signatures are checked last, after everything cheaper.
+pub(crate) fn message_refusal(
+    n: u32,
+    round: u32,
+    keys: &[u8],
+    taken: bool,
+    early: bool,
+    kind: Kind,
+    m: &[u8],
+) -> Verdict
+    requires { ⌜ Given n round (now keys) × (kind ≡ kindOf (read n (now m))) ⌝ }
+    ensures { λ v. ⌜ v .number ≡ firstOf (messageConditions (checks (now (keys .entry)) round) n round taken early (read n (now (m .entry)))) ⌝ }
+{
+    let form = form_refusal(n, round, taken, early, kind, m);
+    if form != 0 {
+        return Verdict { number: form };
+    }
+    let k = sha256::constants::round_constants();
+    message_verdict(&k, n, round, keys, kind, m)
+}
