@@ -19,9 +19,9 @@ use Rattle.protocol.specs.StepLaws.{reply-after, confirmIfComplete-after}
 use Rattle.protocol.specs.declared.Record.{Record}
 use Rattle.wire.specs.Reading.{kindOf}
 use Rattle.wire.specs.KindLaws.{read-as, tag}
-use Rattle.wire.specs.StoreLaws.{length-signature}
-use Rattle.wire.specs.Sources.{certificateFrom}
-use Rattle.wire.specs.SourceLaws.{inFull, full-length, full-certificate}
+use Rattle.store.specs.StoreLaws.{length-signature}
+use Rattle.store.specs.Sources.{certificateFrom}
+use Rattle.store.specs.SourceLaws.{inFull, full-length, full-certificate}
 use Rattle.wire.specs.declared.read.Kind.{Kind}
 use Rattle.wire.specs.declared.read.Kind.the-variants as kind
 use Rattle.steps.specs.Phases.{Changed, Did, likewise, quietly, next}

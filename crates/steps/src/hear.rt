@@ -26,7 +26,7 @@ fn notices_with(r: Record, value: [u8; 32]) -> Notices
 }
 
 // A notice for a value updates the notices heard.
-pub fn hear(r: Record, value: [u8; 32]) -> Record
+pub(crate) fn hear(r: Record, value: [u8; 32]) -> Record
     ensures { λ u. ⌜ u ≡ withNotices r (noticesWith value r) ⌝ }
 {
     let notices = notices_with(r, value);
