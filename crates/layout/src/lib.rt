@@ -30,6 +30,13 @@ pub fn signature_length() -> usize
 
 // ---- places in a message
 
+// The round, after the command.
+pub fn round_at() -> usize
+    ensures { λ r. ⌜ r ≡ Layout.roundAt ⌝ }
+{
+    1
+}
+
 // The sender's seat in SUBMIT, NOTICE and FULL.
 pub fn seat_at() -> usize
     ensures { λ r. ⌜ r ≡ Layout.seatAt ⌝ }

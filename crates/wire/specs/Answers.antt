@@ -7,12 +7,13 @@ use mathlib.Core.List.{List, [], _∷_}
 use Prim.Native.Nat.{ℕ, _+_}
 use lib.Dec.{leb, ltb}
 use lib.ListN.{length}
-use Rattle.protocol.specs.Layout.{fullEntryAt}
-use Rattle.protocol.specs.Message.{Message, Entry, render, byteAt, readSignature, readEntry}
+use Rattle.protocol.specs.Layout.{fullCountAt, fullEntryAt}
+use Rattle.protocol.specs.Entries.{readEntry}
+use Rattle.protocol.specs.Message.{Message, Entry, fullForm, render, byteAt, readSignature}
 use Rattle.wire.specs.declared.read.Kind.{Kind}
 use Rattle.wire.specs.declared.read.Kind.the-variants as kind
-use Rattle.wire.specs.declared.reader.Step.{Step}
-use Rattle.wire.specs.declared.reader.Step.the-variants as step
+use Rattle.wire.specs.declared.reader.Next.{Next}
+use Rattle.wire.specs.declared.reader.Next.the-variants as next
 
 -- ---- what a message is
 
@@ -30,21 +31,22 @@ command m = byteAt (render m) 0
 
 -- ---- what a reader finds
 
--- "0x04, seat 1, signature 1,452": the entry that a step found, its signature read where the step says; none at the end
-unfoldable pub entryOf : Step → List ℕ → List Entry
-entryOf (step.Entry seat at) bytes = record { seat = seat; signature = readSignature at bytes } ∷ []
-entryOf step.End bytes = []
+-- "0x04, seat 1, signature 1,452": the entry found, its signature read where the answer says; none at the end
+unfoldable pub entryOf : Next → List ℕ → List Entry
+entryOf (next.Entry seat at) bytes = record { seat = seat; signature = readSignature at bytes } ∷ []
+entryOf next.End bytes = []
 
 -- the entry of an index of a FULL, counted from 0; none past the last, or where the bytes haven't all entries that they count
-unfoldable pub entryAt : ℕ → List ℕ → List Entry
-entryAt next bytes =
-    cond (leb (fullEntryAt (byteAt bytes 36)) (length bytes) && ltb next (byteAt bytes 36)) (readEntry (fullEntryAt next) bytes ∷ []) []
+unfoldable pub nthEntry : ℕ → List ℕ → List Entry
+nthEntry i bytes =
+    let count = byteAt bytes fullCountAt in
+    cond (leb (fullEntryAt count) (length bytes) && ltb i count) (readEntry fullForm (fullEntryAt i) bytes ∷ []) []
 
 -- the signature of an entry found stands in the entry of that index, after its command and seat
-abbrev pub Stands : ℕ → Step → Type 0
-Stands next (step.Entry seat at) = at ≡ fullEntryAt next + 2
-Stands next step.End = Unit {0}
+abbrev pub Stands : ℕ → Next → Type 0
+Stands i (next.Entry seat at) = at ≡ fullEntryAt i + 2
+Stands i next.End = Unit {0}
 
--- a step that is the entry of an index: what it says, and where
-abbrev pub Found : ℕ → List ℕ → Step → Type 0
-Found next bytes s = (entryOf s bytes ≡ entryAt next bytes) × Stands next s
+-- what is found is the entry of an index: what it says, and where
+abbrev pub Found : ℕ → List ℕ → Next → Type 0
+Found i bytes s = (entryOf s bytes ≡ nthEntry i bytes) × Stands i s

@@ -1,17 +1,11 @@
--- What the code's parts compute, with the laws that tie it to the definitions of `protocol`.
-pub mod Writing
-pub mod Sources
+-- What the readers compute, with the laws that tie it to the definitions of `protocol`.
 pub mod Reading
 pub mod Answers
 pub mod StringLaws
-pub mod MaskLaws
-pub mod SeatLaws
-pub mod SourceLaws
-pub mod ColumnLaws
+pub mod WalkLaws
+pub mod EntriesLaws
 pub mod FormLaws
 pub mod KindLaws
 pub mod MessageLaws
-pub mod StepLaws
+pub mod NextLaws
 pub mod RoundTrip
-pub mod StoreLaws
-pub mod WriteLaws

@@ -3,54 +3,40 @@
 use mathlib.Core.Path.{_≡_, refl, sym, _∙_}
 use mathlib.Core.Bool.{Bool, true, false, not, _&&_, and-eq-true-iff}
 use mathlib.Core.Logic.{_⊎_, ⊎-elim}
-use mathlib.Core.List.{List, [], _∷_, _++_, map, map-append}
-use Prim.Native.Nat.{ℕ, zero, suc, _+_, _*_, _≤_, _<_}
+use mathlib.Core.List.{List, [], _∷_, _++_}
+use Prim.Native.Nat.{ℕ, _+_, _≤_, _<_}
 use native.Mathlib.Decide.{decLt, ℕ-discrete}
 use native.Mathlib.Omega.{arith}
 use lib.Dec.{leb, ltb, eqb}
 use lib.ListN.{length}
-use borrow.Author.Tests.{eqb-true, ltb-true, lt-ltb, le-ltb, le-leb, lt-leb, ne-eqb, not-true, not-false}
+use borrow.Author.Tests.{ltb-true, lt-ltb, le-ltb, le-leb, lt-leb, ne-eqb, not-true, not-false}
 use Rattle.quorum.specs.Quorum.{k}
-use Rattle.protocol.specs.Layout.{submitLength, noticeLength, fullEntryLength, fullEntryAt, fullLength, evidenceEntryLength, evidenceEntryAt, evidenceLength}
-use Rattle.protocol.specs.Message.{Entry, Pair, Message, Submit, Notice, Full, Evidence, Garbled, byteAt, readRound, readEntry, readEntries, readPair, readPairs, readSubmit, readNotice, readFull, readEvidence, fitsSubmit, fitsNotice, fitsEvidence, read, roundOf, entrySeats, seatsOf, pairCommands}
+use Rattle.protocol.specs.Layout.{valueLength, signatureLength, seatAt, valueAt, fullEntryLength, evidenceCountAt, evidenceEntryLength}
+use Rattle.protocol.specs.Figures.{submit-figure, notice-figure, full-figure, evidence-figure}
+use Rattle.protocol.specs.Entries.{placeOf}
+use Rattle.protocol.specs.Message.{Message, Submit, Notice, Full, Evidence, Garbled, fullForm, evidenceForm, formOf, byteAt, readRound, readSubmit, readNotice, readFull, readEvidence, read, roundOf, entrySeats, seatsOf}
 use Rattle.protocol.specs.Refusals.{every, rising, otherRound, stranger, disorder}
 use Rattle.protocol.specs.Laws.{every-append}
-use Rattle.wire.specs.Reading.{kindOf, column, sendersOf}
+use Rattle.layout.specs.Places.{full, evidence}
+use Rattle.wire.specs.Reading.{kindOf, bytesAt, seatsIn, Inside, sendersOf}
+use Rattle.wire.specs.EntriesLaws.{seats-read}
+use Rattle.wire.specs.FormLaws.{submit-length, notice-length, full-fits, evidence-fits}
 use Rattle.wire.specs.KindLaws.{read-as, tag}
-use Rattle.wire.specs.SourceLaws.{full-length}
 use Rattle.wire.specs.declared.read.Kind.{Kind}
 use Rattle.wire.specs.declared.read.Kind.the-variants as kind
 
 -- ---- lengths
 
-pub submit-length : (bytes : List ℕ) → fitsSubmit bytes ≡ true → length bytes ≡ submitLength
-unfolding fitsSubmit
-submit-length bytes h = eqb-true (length bytes) submitLength (and-eq-true-iff (eqb (length bytes) submitLength) (eqb (byteAt bytes 0) 0x01) .0 h .0)
-
-pub notice-length : (bytes : List ℕ) → fitsNotice bytes ≡ true → length bytes ≡ noticeLength
-unfolding fitsNotice
-notice-length bytes h = eqb-true (length bytes) noticeLength (and-eq-true-iff (eqb (length bytes) noticeLength) (eqb (byteAt bytes 0) 0x02) .0 h .0)
-
-pub evidence-length : (n : ℕ) (bytes : List ℕ) → fitsEvidence n bytes ≡ true → length bytes ≡ evidenceLength (byteAt bytes 67)
-unfolding fitsEvidence
-evidence-length n bytes h =
-    let count = byteAt bytes 67 in
-    let front = eqb (byteAt bytes 0) 0x05 && leb 1 count && leb count n in
-    let size = eqb (length bytes) (evidenceLength count) in
-    eqb-true (length bytes) (evidenceLength count) (and-eq-true-iff front size .0 (and-eq-true-iff (front && size) (pairCommands count bytes) .0 h .0) .1)
-
 -- every command but a garbled one is as long as a NOTICE or longer
-pub long-enough : (t : Kind) (n : ℕ) (bytes : List ℕ) → t ≡ kindOf (read n bytes) → (tag t ≡ 4 → ⊥) → 36 ≤ length bytes
-unfolding submitLength noticeLength fullLength fullEntryAt fullEntryLength evidenceLength evidenceEntryAt evidenceEntryLength
-long-enough kind.Submit n bytes e h = omega (arith, submit-length bytes (read-as kind.Submit n bytes e .1))
-long-enough kind.Notice n bytes e h = omega (arith, notice-length bytes (read-as kind.Notice n bytes e .1))
-long-enough kind.Full n bytes e h = omega (arith, full-length n bytes (read-as kind.Full n bytes e .1))
-long-enough kind.Evidence n bytes e h = omega (arith, evidence-length n bytes (read-as kind.Evidence n bytes e .1))
+pub long-enough : (t : Kind) (n : ℕ) (bytes : List ℕ) → t ≡ kindOf (read n bytes) → (tag t ≡ 4 → ⊥) → valueAt + valueLength ≤ length bytes
+long-enough kind.Submit n bytes e h = omega (arith, submit-length bytes (read-as kind.Submit n bytes e .1) .0, submit-figure)
+long-enough kind.Notice n bytes e h = omega (arith, notice-length bytes (read-as kind.Notice n bytes e .1) .0, notice-figure)
+long-enough kind.Full n bytes e h = omega (arith, full-fits n bytes (read-as kind.Full n bytes e .1) .size, full-figure n)
+long-enough kind.Evidence n bytes e h = omega (arith, evidence-fits n bytes (read-as kind.Evidence n bytes e .1) .size, evidence-figure (byteAt bytes evidenceCountAt))
 long-enough kind.Garbled n bytes e h = absurd (h refl)
 
-pub evidence-long : (t : Kind) (n : ℕ) (bytes : List ℕ) → t ≡ kindOf (read n bytes) → t ≡ kind.Evidence → 67 < length bytes
-unfolding evidenceLength evidenceEntryAt
-evidence-long t n bytes e g = omega (arith, evidence-length n bytes (read-as kind.Evidence n bytes (sym g ∙ e) .1))
+pub evidence-long : (t : Kind) (n : ℕ) (bytes : List ℕ) → t ≡ kindOf (read n bytes) → t ≡ kind.Evidence → evidenceCountAt < length bytes
+evidence-long t n bytes e g = omega (arith, evidence-fits n bytes (read-as kind.Evidence n bytes (sym g ∙ e) .1) .size, evidence-figure (byteAt bytes evidenceCountAt))
 
 -- ---- the round
 
@@ -77,7 +63,7 @@ round-garbled t n bytes e g round = rw (read-as kind.Garbled n bytes (sym g ∙ 
 
 -- ---- strangers
 
-pub names-sender : (t : Kind) (n : ℕ) (bytes : List ℕ) → t ≡ kindOf (read n bytes) → (tag t ≡ 0) ⊎ ((tag t ≡ 1) ⊎ (tag t ≡ 2)) → sendersOf (read n bytes) ≡ byteAt bytes 3 ∷ []
+pub names-sender : (t : Kind) (n : ℕ) (bytes : List ℕ) → t ≡ kindOf (read n bytes) → (tag t ≡ 0) ⊎ ((tag t ≡ 1) ⊎ (tag t ≡ 2)) → sendersOf (read n bytes) ≡ byteAt bytes seatAt ∷ []
 unfolding sendersOf readSubmit readNotice readFull
 names-sender kind.Submit n bytes e h = rw (read-as kind.Submit n bytes e .0)
 names-sender kind.Notice n bytes e h = rw (read-as kind.Notice n bytes e .0)
@@ -101,9 +87,9 @@ not-below x n = go (decLt x n)
     go (no l) = rw (le-leb n x (omega arith), le-ltb x n (omega arith))
 
 pub sender-told : (t : Kind) (n : ℕ) (bytes : List ℕ) → t ≡ kindOf (read n bytes) → (tag t ≡ 0) ⊎ ((tag t ≡ 1) ⊎ (tag t ≡ 2))
-    → (r : ℕ) → r ≡ byteAt bytes 3 → leb n r ≡ not (every (λ (s : ℕ). ltb s n) (sendersOf (read n bytes)))
+    → (r : ℕ) → r ≡ byteAt bytes seatAt → leb n r ≡ not (every (λ (s : ℕ). ltb s n) (sendersOf (read n bytes)))
 unfolding every
-sender-told t n bytes e h r q = rw (names-sender t n bytes e h, q) (not-below (byteAt bytes 3) n)
+sender-told t n bytes e h r q = rw (names-sender t n bytes e h, q) (not-below (byteAt bytes seatAt) n)
 
 pub sender-none : (t : Kind) (n : ℕ) (bytes : List ℕ) → t ≡ kindOf (read n bytes) → (tag t ≡ 3) ⊎ (tag t ≡ 4) → false ≡ not (every (λ (s : ℕ). ltb s n) (sendersOf (read n bytes)))
 unfolding every
@@ -148,41 +134,27 @@ pub disorder-told : (m : Message) (b : Bool) (l : List ℕ) → l ≡ entrySeats
 unfolding disorder
 disorder-told m b l q e = rw (e, q)
 
--- ---- the seats of the entries, as a column
-
-entry-seats : (t : ℕ) (bytes : List ℕ) → column 38 fullEntryLength t bytes ≡ map (λ (e : Entry). e .seat) (readEntries t bytes)
-unfolding column readEntries readEntry fullEntryAt
-entry-seats zero bytes = refl
-entry-seats (suc t) bytes =
-    let place : 38 + fullEntryLength * t ≡ 37 + fullEntryLength * t + 1 = omega arith in
-    rw (entry-seats t bytes, place) (sym (map-append (λ (e : Entry). e .seat) (readEntries t bytes) (readEntry (37 + fullEntryLength * t) bytes ∷ [])))
-
-pair-seats : (t : ℕ) (bytes : List ℕ) → column 69 evidenceEntryLength t bytes ≡ map (λ (p : Pair). p .seat) (readPairs t bytes)
-unfolding column readPairs readPair evidenceEntryAt
-pair-seats zero bytes = refl
-pair-seats (suc t) bytes =
-    let place : 69 + evidenceEntryLength * t ≡ 68 + evidenceEntryLength * t + 1 = omega arith in
-    rw (pair-seats t bytes, place) (sym (map-append (λ (p : Pair). p .seat) (readPairs t bytes) (readPair (68 + evidenceEntryLength * t) bytes ∷ [])))
+-- ---- the seats of the entries
 
 module _ (t : Kind) (n : ℕ) (bytes : List ℕ) (e : t ≡ kindOf (read n bytes)) (count : ℕ) where
-  pub full-column : t ≡ kind.Full → count ≡ k n
-      → (column 38 1454 count bytes ≡ entrySeats (read n bytes)) × (38 + 1454 * count < length bytes + 1454)
-  unfolding entrySeats readFull fullLength fullEntryAt fullEntryLength
-  full-column g q =
+  pub full-seats : t ≡ kind.Full → count ≡ k n → (seatsIn (full count) bytes ≡ entrySeats (read n bytes)) × Inside (full count) bytes
+  unfolding entrySeats readFull fullForm placeOf fullEntryLength signatureLength
+  full-seats g q =
       let r = read-as kind.Full n bytes (sym g ∙ e) in
-      (rw (r .0, q) (entry-seats (k n) bytes), omega (arith, full-length n bytes (r .1)))
+      (rw (r .0, q) (seats-read fullForm bytes (λ s held. refl) (k n)), omega (arith, full-fits n bytes (r .1) .size, full-figure n))
 
-  pub evidence-column : t ≡ kind.Evidence → count ≡ byteAt bytes 67
-      → (column 69 2906 count bytes ≡ entrySeats (read n bytes)) × (69 + 2906 * count < length bytes + 2906)
-  unfolding entrySeats readEvidence evidenceLength evidenceEntryAt evidenceEntryLength
-  evidence-column g q =
+  pub evidence-seats : t ≡ kind.Evidence → count ≡ byteAt bytes evidenceCountAt → (seatsIn (evidence count) bytes ≡ entrySeats (read n bytes)) × Inside (evidence count) bytes
+  unfolding entrySeats readEvidence evidenceForm placeOf evidenceEntryLength signatureLength
+  evidence-seats g q =
       let r = read-as kind.Evidence n bytes (sym g ∙ e) in
-      (rw (r .0, q) (pair-seats (byteAt bytes 67) bytes), omega (arith, evidence-length n bytes (r .1)))
+      (rw (r .0, q) (seats-read (formOf bytes) bytes (λ s held. refl) (byteAt bytes evidenceCountAt)), omega (arith, evidence-fits n bytes (r .1) .size, evidence-figure (byteAt bytes evidenceCountAt)))
 
-pub no-column : (t : Kind) (n : ℕ) (bytes : List ℕ) → t ≡ kindOf (read n bytes) → (tag t ≡ 0) ⊎ ((tag t ≡ 1) ⊎ (tag t ≡ 4)) → column 0 1 0 bytes ≡ entrySeats (read n bytes)
-unfolding column entrySeats readSubmit readNotice
-no-column kind.Submit n bytes e h = rw (read-as kind.Submit n bytes e .0)
-no-column kind.Notice n bytes e h = rw (read-as kind.Notice n bytes e .0)
-no-column kind.Full n bytes e h = absurd (⊎-elim (λ a. omega arith) (⊎-elim (λ a. omega arith) (λ a. omega arith)) h)
-no-column kind.Evidence n bytes e h = absurd (⊎-elim (λ a. omega arith) (⊎-elim (λ a. omega arith) (λ a. omega arith)) h)
-no-column kind.Garbled n bytes e h = rw (read-as kind.Garbled n bytes e .0)
+-- the others have no entries
+pub no-seats : (t : Kind) (n : ℕ) (bytes : List ℕ) → t ≡ kindOf (read n bytes) → (tag t ≡ 0) ⊎ ((tag t ≡ 1) ⊎ (tag t ≡ 4))
+    → (seatsIn (full 0) bytes ≡ entrySeats (read n bytes)) × Inside (full 0) bytes
+unfolding bytesAt entrySeats readSubmit readNotice fullEntryLength signatureLength
+no-seats kind.Submit n bytes e h = (rw (read-as kind.Submit n bytes e .0), omega arith)
+no-seats kind.Notice n bytes e h = (rw (read-as kind.Notice n bytes e .0), omega arith)
+no-seats kind.Full n bytes e h = absurd (⊎-elim (λ a. omega arith) (⊎-elim (λ a. omega arith) (λ a. omega arith)) h)
+no-seats kind.Evidence n bytes e h = absurd (⊎-elim (λ a. omega arith) (⊎-elim (λ a. omega arith) (λ a. omega arith)) h)
+no-seats kind.Garbled n bytes e h = (rw (read-as kind.Garbled n bytes e .0), omega arith)

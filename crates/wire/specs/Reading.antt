@@ -1,12 +1,13 @@
 -- What the readers answer.
 -- Assumes nothing.
 use mathlib.Core.List.{List, [], _∷_, _++_}
-use Prim.Native.Nat.{ℕ, zero, suc, _+_, _*_, _<_}
+use Prim.Native.Nat.{ℕ, zero, suc, _+_, _<_}
 use lib.ListN.{length}
+use Rattle.protocol.specs.Layout.{entryAt}
 use Rattle.protocol.specs.Message.{Message, Submit, Notice, Full, Evidence, Garbled, byteAt}
+use Rattle.layout.specs.declared.Entries.{Entries}
 use Rattle.wire.specs.declared.read.Kind.{Kind}
 use Rattle.wire.specs.declared.read.Kind.the-variants as kind
-use Rattle.wire.specs.declared.read.Column.{Column}
 
 -- what a message is
 unfoldable pub kindOf : Message → Kind
@@ -16,17 +17,31 @@ kindOf (Full round sender value entries) = kind.Full
 kindOf (Evidence round lower higher entries) = kind.Evidence
 kindOf Garbled = kind.Garbled
 
--- the bytes at index `at` and at each distance `stride` after it, t of them
-unfoldable pub column : ℕ → ℕ → ℕ → List ℕ → List ℕ
-column at stride zero bytes = []
-column at stride (suc t) bytes = column at stride t bytes ++ byteAt bytes (at + stride * t) ∷ []
+-- ---- entries
 
-abbrev pub bytesOf : Column → List ℕ → List ℕ
-bytesOf c bytes = column (c .at) (c .stride) (c .count) bytes
+-- one byte of each of the first t entries, where `place` says
+unfoldable pub bytesAt : (ℕ → ℕ) → ℕ → List ℕ → List ℕ
+bytesAt place zero bytes = []
+bytesAt place (suc t) bytes = bytesAt place t bytes ++ byteAt bytes (place t) ∷ []
 
--- the last of them lies in the message
-abbrev pub Inside : Column → List ℕ → Type 0
-Inside c bytes = c .at + c .stride * c .count < length bytes + c .stride
+-- where an entry has its command, and its seat
+abbrev pub commandPlace : Entries → ℕ → ℕ
+commandPlace entries i = entryAt (entries .start) (entries .length) i
+
+abbrev pub seatPlace : Entries → ℕ → ℕ
+seatPlace entries i = entryAt (entries .start) (entries .length) i + 1
+
+abbrev pub commandsIn : Entries → List ℕ → List ℕ
+commandsIn entries bytes = bytesAt (commandPlace entries) (entries .count) bytes
+
+abbrev pub seatsIn : Entries → List ℕ → List ℕ
+seatsIn entries bytes = bytesAt (seatPlace entries) (entries .count) bytes
+
+-- the command and the seat of the last entry lie in the message
+abbrev pub Inside : Entries → List ℕ → Type 0
+Inside entries bytes = entryAt (entries .start) (entries .length) (entries .count) + 1 < length bytes + entries .length
+
+-- ---- senders
 
 -- the seat that sends a message, where it names one
 unfoldable pub sendersOf : Message → List ℕ

@@ -1,4 +1,4 @@
--- Laws of comparisons in a loop, and of what a lent part leaves.
+-- Laws of comparisons in a loop, and of bytes copied.
 -- Assumes nothing.
 use mathlib.Core.Path.{_≡_, refl, sym, _∙_}
 use mathlib.Core.Bool.{true, false}
@@ -7,8 +7,7 @@ use Prim.Native.Nat.{ℕ, _+_, _≤_, _<_}
 use native.Mathlib.Numerals.{add-one}
 use native.Mathlib.Omega.{arith}
 use lib.ListN.{length, drop, getD, drop-of-length-le}
-use lib.Seq.{drop-cons, drop-drop}
-use borrow.Rule.Slice.PartMut.{putMid}
+use lib.Seq.{drop-cons}
 use borrow.Author.Tests.{lt-ltb, le-ltb, eq-eqb, ne-eqb}
 use Rattle.octets.specs.Octets.{part, patch}
 use Rattle.octets.specs.Laws.{length-part}
@@ -57,17 +56,10 @@ nothing-below (x ∷ xs) = refl
 pub lower-short : (xs ys : List ℕ) (i : ℕ) → length ys ≤ i → isLower (drop i xs) (drop i ys) ≡ isLower xs ys → false ≡ isLower xs ys
 lower-short xs ys i hy h = sym (rw (drop-of-length-le ys {i = i} hy) (nothing-below (drop i xs))) ∙ h
 
--- ---- what is written
+-- ---- what is copied
 
 -- n bytes copied out of a message
 pub part-copied : (at n : ℕ) (bytes zeros copy : List ℕ) → at + n ≤ length bytes → length zeros ≡ n → copy ≡ patch 0 (part at n bytes) zeros → copy ≡ part at n bytes
 part-copied at n bytes zeros copy h z e =
     let l = length-part at n bytes h in
     e ∙ patch-all (part at n bytes) zeros (omega arith)
-
--- the part of ws's length at `at`, lent and written whole, is back in its place
-pub patch-part : (at k : ℕ) (ws xs ys : List ℕ) → k ≡ length ws → at + length ws ≤ length xs → ys ≡ patch 0 ws (part at k xs) → putMid at k xs ys ≡ patch at ws xs
-unfolding patch
-patch-part at k ws xs ys w h e =
-    let l = length-part at k xs (omega arith) in
-    rw (e ∙ patch-all ws (part at k xs) (omega arith), drop-drop k at xs, w)

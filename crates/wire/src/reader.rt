@@ -3,6 +3,7 @@
 ghost use mathlib.Core.Path.{_≡_};
 ghost use Prim.Native.Nat.{_+_, _<_, _^_};
 ghost use Rattle.wire.specs.Answers.{Found};
+use crate::entries::seat_of_entry;
 use crate::read::number_at;
 
 pub struct Reader<'a> {
@@ -10,30 +11,31 @@ pub struct Reader<'a> {
     pub next: usize,
 }
 
-// What a reader finds: the seat of an entry and where its signature starts, or the end.
-pub enum Step {
+// What a reader finds: the seat of the next entry and where its signature starts, or the end.
+pub enum Next {
     Entry { seat: u32, signature: usize },
     End,
 }
 
 // The entry at an index of a FULL, counted from 0, or the end where it has no such entry.
-fn entry_at(full: &[u8], next: usize) -> Step
+fn entry_at(full: &[u8], next: usize) -> Next
     ensures { λ s. ⌜ Found next (now (full .entry)) s ⌝ }
 {
-    if full.len() < 37 {
-        return Step::End;
+    let count_at = layout::full_count_at();
+    if full.len() <= count_at {
+        return Next::End;
     }
-    let count = number_at(full, 36) as usize;
-    if full.len() < 37 + 1454 * count {
-        return Step::End;
+    let count = number_at(full, count_at) as usize;
+    let entries = layout::full_entries(count);
+    if full.len() < layout::entry_at(entries, count) {
+        return Next::End;
     }
     if count <= next {
-        return Step::End;
+        return Next::End;
     }
-    let at = 37 + 1454 * next;
-    Step::Entry {
-        seat: number_at(full, at + 1),
-        signature: at + 2,
+    Next::Entry {
+        seat: seat_of_entry(full, entries, next),
+        signature: layout::entry_at(entries, next) + 2,
     }
 }
 
@@ -45,7 +47,7 @@ pub fn open<'a>(full: &'a [u8]) -> Reader<'a>
 }
 
 // The next entry.
-pub fn entry<'a>(r: Reader<'a>) -> Step
+pub fn entry<'a>(r: Reader<'a>) -> Next
     ensures { λ s. ⌜ Found (r .entry .next) (now (r .entry .full)) s ⌝ }
 {
     entry_at(r.full, r.next)

@@ -5,22 +5,22 @@ use denote.Ref.{now}
 use Rattle.quorum.specs.Quorum.{mostSeats}
 use Rattle.protocol.specs.Message.{read}
 use Rattle.protocol.specs.Certificate.{setOf}
-use Rattle.wire.specs.Reading.{bytesOf}
+use Rattle.wire.specs.Reading.{seatsIn}
 use Rattle.wire.specs.MessageLaws.{known-entries}
 use Rattle.wire.proofs.read.entry_set.Statement.{statement}
 use Rattle.wire.proofs.read.entry_set.Tie as tie
 
-seat-column-requires : tie.Need-seat-column-requires
-seat-column-requires c κs = search needs
+entries-of-requires : tie.Need-entries-of-requires
+entries-of-requires c κs = search needs
 
-set-of-requires : tie.Need-set-of-requires
-set-of-requires c κs =
+seat-set-requires : tie.Need-seat-set-requires
+seat-set-requires c κs =
     let start = c .before .before in
     let args = start .args in
-    (c .seat-column .ensures .1, known-entries (args .n) (read (args .n) (now (args .m))) (bytesOf (c .seat-column .result) (now (args .m))) mostSeats (start .pre .1) (start .pre .3) (c .seat-column .ensures .0))
+    (c .entries-of .ensures .1, known-entries (args .n) (read (args .n) (now (args .m))) (seatsIn (c .entries-of .result) (now (args .m))) mostSeats (start .pre .1) (start .pre .3) (c .entries-of .ensures .0))
 
 returns : tie.Need-returns
-returns c = c .set-of .ensures ∙ ap setOf (c .before .seat-column .ensures .0)
+returns c = c .seat-set .ensures ∙ ap setOf (c .before .entries-of .ensures .0)
 
 pub entry-set-spec : {M : Type 1} → statement M
-entry-set-spec = tie.close (tie.spec seat-column-requires set-of-requires returns)
+entry-set-spec = tie.close (tie.spec entries-of-requires seat-set-requires returns)

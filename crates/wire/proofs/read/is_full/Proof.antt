@@ -1,77 +1,115 @@
 -- `wire::read::is_full` meets its contract.
-use mathlib.Core.Path.{sym, _∙_}
+use mathlib.Core.Path.{_≡_, sym, ap, _∙_}
+use Prim.Native.Nat.{ℕ}
+use native.Mathlib.Omega.{arith}
+use lib.ListN.{length}
 use borrow.Author.Needs.{needs}
 use denote.Ref.{now}
+use Rattle.quorum.specs.Quorum.{k}
+use Rattle.protocol.specs.Layout.{signatureLength, fullCountAt, fullEntryLength, fullLength}
+use Rattle.protocol.specs.Figures.{full-figure}
+use Rattle.protocol.specs.Message.{byteAt}
+use Rattle.layout.specs.Places.{full}
 use Rattle.wire.specs.FormLaws.{full-size, full-code, full-count, full-entries}
 use Rattle.wire.proofs.read.is_full.Statement.{statement}
 use Rattle.wire.proofs.read.is_full.Tie as tie
 
-k-requires : tie.Need-k-requires
-k-requires c κs = search needs
+abbrev start : tie.After-full-length → tie.Start
+start c = c .before .before
 
-cast-if1 : tie.Need-cast-if1
-cast-if1 c = search needs
+-- the length is right
+abbrev begun : tie.Else1 → tie.Start
+begun c = start (c .before)
 
-mul-if1 : tie.Need-mul-if1
-mul-if1 c = search needs
+long : (c : tie.Else1) → length (now (begun c .args .m)) ≡ fullLength (begun c .args .n)
+long c = c .if1 .left ∙ c .before .full-length .ensures
 
-add-if1 : tie.Need-add-if1
-add-if1 c = search needs
+-- the code is right
+abbrev coded : tie.Then2 → tie.Else1
+coded c = c .before .before
+
+abbrev sized : tie.Else2 → tie.Else1
+sized c = c .before .before
+
+-- the count that is read
+abbrev after-code : tie.After-number-at → tie.Else2
+after-code c = c .before .before .before
+
+count-read : (c : tie.After-number-at) → c .number-at .result ≡ byteAt (now (begun (sized (after-code c)) .args .m)) fullCountAt
+count-read c = c .number-at .ensures .0 ∙ ap (λ (i : ℕ). byteAt (now (begun (sized (after-code c)) .args .m)) i) (c .before .full-count-at .ensures)
+
+k-read : (c : tie.After-number-at) → c .before .before .k .result ≡ k (begun (sized (after-code c)) .args .n)
+k-read c = c .before .before .k .ensures
+
+full-length-requires : tie.Need-full-length-requires
+full-length-requires c κs = search needs
 
 returns : tie.Need-returns
 returns c =
-    let k = c .before in
-    let args = k .before .before .args in
-    full-size (args .n) (k .k .result) (now (args .m)) (k .k .ensures) (c .if1 .taken)
+    let s = start (c .before) in
+    let size = c .before .full-length in
+    full-size (s .args .n) (now (s .args .m)) (size .result) (size .ensures) (c .if1 .taken)
 
 shared-slice-read-if2 : tie.Need-shared-slice-read-if2
-shared-slice-read-if2 c = search needs
+shared-slice-read-if2 c = omega (arith, long (c .before), full-figure (begun (c .before) .args .n))
 
 returns-2 : tie.Need-returns-2
-returns-2 c =
-    let k = c .before .before .before in
-    let args = k .before .before .args in
-    full-code (args .n) (k .k .result) (now (args .m)) (k .k .ensures) (c .if2 .taken)
+returns-2 c = let s = begun (coded c) in full-code (s .args .n) (now (s .args .m)) (c .if2 .taken)
 
-shared-slice-read-wide : tie.Need-shared-slice-read-wide
-shared-slice-read-wide c = search needs
+k-requires : tie.Need-k-requires
+k-requires c κs = search needs
 
-wide-requires : tie.Need-wide-requires
-wide-requires c κs = search needs
+full-count-at-requires : tie.Need-full-count-at-requires
+full-count-at-requires c κs = search needs
+
+number-at-requires : tie.Need-number-at-requires
+number-at-requires c κs =
+    let l = sized (c .before .before) in
+    omega (arith, long l, full-figure (begun l .args .n))
 
 returns-3 : tie.Need-returns-3
 returns-3 c =
-    let k = c .before .before .before .before .before .before in
-    let args = k .before .before .args in
-    full-count (args .n) (k .k .result) (now (args .m)) (k .k .ensures) (λ e. c .if3 .taken (c .before .wide .ensures .0 ∙ e))
+    let s = begun (sized (after-code (c .before))) in
+    full-count (s .args .n) (now (s .args .m)) (λ e. c .if3 .taken (count-read (c .before) ∙ e ∙ sym (k-read (c .before))))
 
-cast-t5 : tie.Need-cast-t5
-cast-t5 c = search needs
+cast-full-entries : tie.Need-cast-full-entries
+cast-full-entries c = search needs
 
-all-equal-requires : tie.Need-all-equal-requires
-all-equal-requires c κs = search needs
+full-entries-requires : tie.Need-full-entries-requires
+full-entries-requires c κs = search needs
+
+have-command-requires : tie.Need-have-command-requires
+unfolding fullEntryLength signatureLength
+have-command-requires c κs =
+    let read = c .before .before in
+    let l = sized (after-code read) in
+    let size = long l ∙ full-figure (begun l .args .n) in
+    let few = k-read read in
+    rw (c .full-entries .ensures) (omega arith)
 
 returns-4 : tie.Need-returns-4
 returns-4 c =
-    let k = c .before .before .before .before .before .before .before in
-    let args = k .before .before .args in
-    full-entries (args .n) (k .k .result) (now (args .m)) (k .k .ensures) (c .all-equal .result) (c .before .before .before .before .before .before .if1 .left)
-    (c .before .before .before .before .if2 .left) (sym (c .before .before .wide .ensures .0) ∙ c .before .if3 .left) (c .all-equal .ensures)
+    let made = c .before in
+    let read = made .before .before in
+    let code = after-code read in
+    let s = begun (sized code) in
+    let entries = made .full-entries .ensures ∙ ap full (k-read read) in
+    full-entries (s .args .n) (now (s .args .m)) (c .have-command .result) (long (sized code)) (code .if2 .left)
+    (sym (count-read read) ∙ made .before .if3 .left ∙ k-read read) (rw entries at (c .have-command .ensures))
 
 pub is-full-spec : {M : Type 1} → statement M
 is-full-spec =
     tie.close
     (tie.spec
-    k-requires
-    cast-if1
-    mul-if1
-    add-if1
+    full-length-requires
     returns
     shared-slice-read-if2
     returns-2
-    shared-slice-read-wide
-    wide-requires
+    k-requires
+    full-count-at-requires
+    number-at-requires
     returns-3
-    cast-t5
-    all-equal-requires
+    cast-full-entries
+    full-entries-requires
+    have-command-requires
     returns-4)

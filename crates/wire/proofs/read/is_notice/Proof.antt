@@ -1,21 +1,27 @@
 -- `wire::read::is_notice` meets its contract.
+use mathlib.Core.Path.{_≡_, sym, _∙_}
+use native.Mathlib.Omega.{arith}
 use borrow.Author.Tests.{eq-eqb, ne-eqb}
 use borrow.Author.Needs.{needs}
-use Rattle.protocol.specs.Layout.{noticeLength}
+use Rattle.protocol.specs.Figures.{notice-figure}
 use Rattle.protocol.specs.Message.{fitsNotice}
 use Rattle.wire.proofs.read.is_notice.Statement.{statement}
 use Rattle.wire.proofs.read.is_notice.Tie as tie
 
+notice-length-requires : tie.Need-notice-length-requires
+notice-length-requires c κs = search needs
+
 returns : tie.Need-returns
-unfolding fitsNotice noticeLength
-returns c = rw (ne-eqb _ _ (c .if1 .taken))
+unfolding fitsNotice
+returns c = rw (ne-eqb _ _ (λ e. c .if1 .taken (e ∙ sym (c .before .notice-length .ensures))))
 
 shared-slice-read-result : tie.Need-shared-slice-read-result
-shared-slice-read-result c = search needs
+shared-slice-read-result c = omega (arith, notice-figure)
 
 returns-2 : tie.Need-returns-2
-unfolding fitsNotice noticeLength
-returns-2 c = rw (eq-eqb _ _ (c .before .if1 .left))
+unfolding fitsNotice
+returns-2 c = let same = c .before in rw (eq-eqb _ _ (same .if1 .left ∙ same .before .notice-length .ensures))
 
 pub is-notice-spec : {M : Type 1} → statement M
-is-notice-spec = tie.close (tie.spec returns shared-slice-read-result returns-2)
+is-notice-spec =
+    tie.close (tie.spec notice-length-requires returns shared-slice-read-result returns-2)

@@ -1,21 +1,27 @@
 -- `wire::read::is_submit` meets its contract.
+use mathlib.Core.Path.{_≡_, sym, _∙_}
+use native.Mathlib.Omega.{arith}
 use borrow.Author.Tests.{eq-eqb, ne-eqb}
 use borrow.Author.Needs.{needs}
-use Rattle.protocol.specs.Layout.{submitLength}
+use Rattle.protocol.specs.Figures.{submit-figure}
 use Rattle.protocol.specs.Message.{fitsSubmit}
 use Rattle.wire.proofs.read.is_submit.Statement.{statement}
 use Rattle.wire.proofs.read.is_submit.Tie as tie
 
+submit-length-requires : tie.Need-submit-length-requires
+submit-length-requires c κs = search needs
+
 returns : tie.Need-returns
-unfolding fitsSubmit submitLength
-returns c = rw (ne-eqb _ _ (c .if1 .taken))
+unfolding fitsSubmit
+returns c = rw (ne-eqb _ _ (λ e. c .if1 .taken (e ∙ sym (c .before .submit-length .ensures))))
 
 shared-slice-read-result : tie.Need-shared-slice-read-result
-shared-slice-read-result c = search needs
+shared-slice-read-result c = omega (arith, submit-figure)
 
 returns-2 : tie.Need-returns-2
-unfolding fitsSubmit submitLength
-returns-2 c = rw (eq-eqb _ _ (c .before .if1 .left))
+unfolding fitsSubmit
+returns-2 c = let same = c .before in rw (eq-eqb _ _ (same .if1 .left ∙ same .before .submit-length .ensures))
 
 pub is-submit-spec : {M : Type 1} → statement M
-is-submit-spec = tie.close (tie.spec returns shared-slice-read-result returns-2)
+is-submit-spec =
+    tie.close (tie.spec submit-length-requires returns shared-slice-read-result returns-2)

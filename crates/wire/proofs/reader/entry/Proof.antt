@@ -46,11 +46,11 @@ use denote.Exit.{yes}
 use denote.Triple.Clauses.{ensured, lasts}
 use Rattle.wire.specs.Answers.{Found}
 use Rattle.wire.specs.declared.reader.Reader.{Reader}
-use Rattle.wire.specs.declared.reader.Step.{Step}
+use Rattle.wire.specs.declared.reader.Next.{Next}
 use Rattle.wire.proofs.reader.Reader as T
 use Rattle.wire.proofs.reader.Reader.Laws as T′
-use Rattle.wire.proofs.reader.Step as S
-use Rattle.wire.proofs.reader.Step.Laws as S′
+use Rattle.wire.proofs.reader.Next as S
+use Rattle.wire.proofs.reader.Next.Laws as S′
 use Rattle.wire.proofs.reader.entry_at as entry-at
 use Rattle.wire.proofs.reader.entry_at.Symbol as entry-at-def
 use Rattle.wire.proofs.reader.entry_at.Symbol.{name as #entry-at}
@@ -80,7 +80,7 @@ module _ {M : Type 1} (𝓤 : URA M) (H : Heap 𝓤) (A : Atoms 𝓤) (W : Given
   abbrev v : Val
   v = sliceVal (d .full .ptr) (length (d .full .now))
 
-  abbrev Said : Step → Type 0
+  abbrev Said : Next → Type 0
   Said s = Found (d .next) (now (d .full)) s
 
   abbrev Post : Val → SProp 𝓤
@@ -120,10 +120,10 @@ module _ {M : Type 1} (𝓤 : URA M) (H : Heap 𝓤) (A : Atoms 𝓤) (W : Given
       move ! (2 ∷ 0 ∷ []) $ use2 W (raw (EntryAt 𝓤 H A mem run .pre to)) asked $ frame ! $ done !)
 
   -- of the callee's `ensured`, the clause alone: it has no `&mut`, so what is said of last values is dropped
-  said : (r : Step) → ent 𝓤 (ensured 𝓤 H A entry-at.ended (entry-at.clauses 𝓤 H A mem run) (κ, tt) (d .full, (d .next, tt)) tt r) (fact 𝓤 (Said r))
+  said : (r : Next) → ent 𝓤 (ensured 𝓤 H A entry-at.ended (entry-at.clauses 𝓤 H A mem run) (κ, tt) (d .full, (d .next, tt)) tt r) (fact 𝓤 (Said r))
   said r = exE 𝓤 _ (λ ws. snd∗ 𝓤 (sem 𝓤 H A (lasts entry-at.ended (κ, tt) (d .full, (d .next, tt)) ws)) (fact 𝓤 (Said r)))
 
-  exits : (r : Step) (u : Val) → Said r → ent 𝓤 (⋆ 𝓤 H A (‵ (S.the-row .own r (u ∷ [])) ∷ (‵ (flft κ q) ⊛ ‵ ftrue) ∷ ‵ Own ∷ [])) (Post u)
+  exits : (r : Next) (u : Val) → Said r → ent 𝓤 (⋆ 𝓤 H A (‵ (S.the-row .own r (u ∷ [])) ∷ (‵ (flft κ q) ⊛ ‵ ftrue) ∷ ‵ Own ∷ [])) (Post u)
   exits r u e =
       qed W (‵ (S.the-row .own r (u ∷ [])) ∷ (‵ (flft κ q) ⊛ ‵ ftrue) ∷ ‵ Own ∷ []) ∵
       suffices ! _ (ends-at 𝓤 H A entry.ended stayed (entry.clauses 𝓤 H A mem run) W (((κ, tt), (q, tt), tt, (d, tt), (mach ∷ [], tt)), tt) u r (tt, tt) (tt, tt)) $ says ! e $
@@ -138,7 +138,7 @@ module _ {M : Type 1} (𝓤 : URA M) (H : Heap 𝓤) (A : Atoms 𝓤) (W : Given
         assigns ! (of-opd ! (load ! (from ! (fld ! refl (stop !))) (look-in ! 4 (sub ! 1 refl (whole !))))) (from ! (stop !)) (init ! 0 refl (tt, wt .1 .1 .0)) $
         move ! (8 ∷ []) $ use1 W (raw (EntryAt 𝓤 H A mem run .pre to) ⊛ ‵ Own) (apart (wt .1 .1 .0 .fits)) $ split ! $
         calls-at ! fm (EntryAt 𝓤 H A mem run) known to (and-then ! (load ! (from ! (stop !)) (look ! 4 refl)) (and-then ! (load ! (from ! (stop !)) (look ! 2 refl)) (no-more !))) (λ u.
-        use1 W (later (some (λ (r : Step). ((‵ (flft κ q) ⊛ ‵ ftrue) ⊛ ‵ (S.the-row .own r (u ∷ []))) ⊛ raw (ensured 𝓤 H A entry-at.ended (entry-at.clauses 𝓤 H A mem run) (κ, tt) (d .full, (d .next, tt)) tt r)))) (id⊢ 𝓤 _) $ await ! tt $ pick ! (λ r.
+        use1 W (later (some (λ (r : Next). ((‵ (flft κ q) ⊛ ‵ ftrue) ⊛ ‵ (S.the-row .own r (u ∷ []))) ⊛ raw (ensured 𝓤 H A entry-at.ended (entry-at.clauses 𝓤 H A mem run) (κ, tt) (d .full, (d .next, tt)) tt r)))) (id⊢ 𝓤 _) $ await ! tt $ pick ! (λ r.
         split ! $ move ! (1 ∷ []) $ use1 W (raw (fact 𝓤 (Said r))) (said r) $ heard ! (Said r) (λ e. split ! $ move ! (1 ∷ []) $
         -- [the result; the token; what the struct owns; _3; …; _2; …; _1; …; room for _0; …]
         peeks ! S.the-row (Is S.the-row) (shows 𝓤 H A S.the-row) r (u ∷ []) (λ is.

@@ -1,0 +1,230 @@
+-- A FULL whose entries rise has each seat's signature where its place among them says; a source's signature, as code reads it.
+-- Assumes nothing.
+use mathlib.Core.Path.{_≡_, refl, sym, ap, _∙_}
+use mathlib.Core.Bool.{Bool, true, false, cond, and-eq-true-iff, false≢true}
+use mathlib.Core.Logic.{⊎-elim}
+use mathlib.Core.List.{List, [], _∷_, _++_, map}
+use Prim.Native.Nat.{ℕ, zero, suc, _+_, _^_, _≤_, _<_}
+use native.Mathlib.Nat.{eq-or-lt-of-le, le-of-suc-le-suc}
+use native.Mathlib.Omega.{arith}
+use lib.Dec.{ltb, eqb}
+use lib.ListN.{length, getD, length-append, length-map, List·getD-append}
+use lib.Seq.{getD-at}
+use borrow.Author.Tests.{eqb-true, eq-eqb, ne-eqb, not-false}
+use Rattle.quorum.specs.Quorum.{k, In, size, shared, all, seats}
+use Rattle.quorum.specs.Laws.{seat-at, length-seats}
+use Rattle.protocol.specs.Layout.{signatureLength, valueAt, seatAt, fullCountAt, fullEntryLength, fullEntryAt, fullLength, banks, storeLength, slotLength, slotAt}
+use Rattle.protocol.specs.Laws.{slot-fits}
+use Rattle.protocol.specs.Entries.{Form, placeOf, readEntry, readEntries, entryCommands, formSeats}
+use Rattle.protocol.specs.Message.{Entry, Message, byteAt, read, fullForm, readValue, readSignature, readFull, readSubmit, readNotice, readEvidence, fitsSubmit, fitsNotice, fitsFull, fitsEvidence, entrySeats, seatsOf, Garbled}
+use Rattle.protocol.specs.Certificate.{slot, setOf, signatureOf, certificateOf, certificateIn}
+use Rattle.protocol.specs.Refusals.{every, rising, isFull, stranger, disorder}
+use Rattle.layout.specs.Places.{bankOf}
+use Rattle.layout.specs.declared.Bank.{Bank}
+use Rattle.store.specs.Sources.{bytesOf, Sound, entryPlace, Stands, Readable, signatureAt, signatureFrom, certificateFrom}
+use Rattle.store.specs.StoreLaws.{length-signature, bank-listed, slot-signature}
+use Rattle.store.specs.SeatLaws.{seats-set, set-lt, seats-split, count-below}
+use Rattle.store.specs.declared.sources.Place.{Place}
+use Rattle.store.specs.declared.sources.Place.the-variants as place
+use Rattle.store.specs.declared.sources.Source.{Source}
+
+-- ---- bytes that are a FULL's
+
+pick : (a b c d : Bool) (s t f e g : Message) → isFull s ≡ false → isFull t ≡ false → isFull e ≡ false → isFull g ≡ false
+    → isFull (cond a s (cond b t (cond c f (cond d e g)))) ≡ true → (c ≡ true) × (cond a s (cond b t (cond c f (cond d e g))) ≡ f)
+pick true b c d s t f e g hs ht he hg h = absurd (false≢true (sym hs ∙ h))
+pick false true c d s t f e g hs ht he hg h = absurd (false≢true (sym ht ∙ h))
+pick false false true d s t f e g hs ht he hg h = (refl, refl)
+pick false false false true s t f e g hs ht he hg h = absurd (false≢true (sym he ∙ h))
+pick false false false false s t f e g hs ht he hg h = absurd (false≢true (sym hg ∙ h))
+
+pub read-is-full : (n : ℕ) (bytes : List ℕ) → isFull (read n bytes) ≡ true → (fitsFull n bytes ≡ true) × (read n bytes ≡ readFull n bytes)
+unfolding read isFull readSubmit readNotice readEvidence
+read-is-full n bytes h =
+    pick (fitsSubmit bytes) (fitsNotice bytes) (fitsFull n bytes) (fitsEvidence n bytes) (readSubmit bytes) (readNotice bytes) (readFull n bytes) (readEvidence bytes) Garbled refl refl refl refl h
+
+pub full-length : (n : ℕ) (bytes : List ℕ) → fitsFull n bytes ≡ true → length bytes ≡ fullLength n
+unfolding fitsFull
+full-length n bytes h =
+    let front = and-eq-true-iff _ (entryCommands fullForm (k n) bytes) .0 h .0 in
+    let two = and-eq-true-iff _ (eqb (byteAt bytes fullCountAt) (k n)) .0 front .0 in
+    eqb-true (length bytes) (fullLength n) (and-eq-true-iff (eqb (length bytes) (fullLength n)) _ .0 two .0)
+
+-- ---- entries
+
+pub length-entries-read : {A : Type 0} (form : Form A) (t : ℕ) (bytes : List ℕ) → length (readEntries form t bytes) ≡ t
+unfolding readEntries
+length-entries-read form zero bytes = refl
+length-entries-read form (suc t) bytes = simp (length-append, length-entries-read form t bytes) (omega arith)
+
+pub entry-read : {A : Type 0} (form : Form A) (t i : ℕ) (bytes : List ℕ) (d : A) → i < t → getD (readEntries form t bytes) i d ≡ readEntry form (placeOf form i) bytes
+unfolding readEntries
+entry-read form zero i bytes d h = absurd (omega arith)
+entry-read form (suc t) i bytes d h =
+    let l = length-entries-read form t bytes in
+    ⊎-elim
+    (λ (e : i ≡ t). rw e (getD-at (readEntries form t bytes) (readEntry form (placeOf form t) bytes) [] d t l))
+    (λ (b : i < t). List·getD-append (readEntries form t bytes) (readEntry form (placeOf form t) bytes ∷ []) d i (omega arith) ∙ entry-read form t i bytes d b)
+    (eq-or-lt-of-le (le-of-suc-le-suc h))
+
+-- the signature of a seat is that of the entry which has the seat
+signature-after : (es : List Entry) (before : List ℕ) (s : ℕ) (rest : List ℕ) (d : Entry) → formSeats fullForm es ≡ before ++ s ∷ rest
+    → ((i : ℕ) → i < length before → getD before i 0 < s) → signatureOf es s ≡ getD es (length before) d .signature
+unfolding signatureOf formSeats fullForm
+signature-after [] [] s rest d e h = absurd (omega (arith, ap length e))
+signature-after [] (b ∷ before) s rest d e h = absurd (omega (arith, ap length e))
+signature-after (x ∷ es) [] s rest d e h =
+    let here : x .seat ≡ s = cc in
+    rw (eq-eqb (x .seat) s here)
+signature-after (x ∷ es) (b ∷ before) s rest d e h =
+    let here : x .seat ≡ b = cc in
+    let after : formSeats fullForm es ≡ before ++ s ∷ rest = cc in
+    rw (ne-eqb (x .seat) s (λ q. omega (arith, h 0 (omega arith))))
+    (signature-after es before s rest d after (λ i l. h (suc i) (omega arith)))
+
+-- ---- a FULL whose entries rise
+
+abbrev pub entriesIn : ℕ → List ℕ → List Entry
+entriesIn n bytes = readEntries fullForm (k n) bytes
+
+module _ (n : ℕ) (bytes : List ℕ) (mask : ℕ) (h : Sound n bytes mask) where
+  is-full : (fitsFull n bytes ≡ true) × (read n bytes ≡ readFull n bytes)
+  is-full = read-is-full n bytes (h .full)
+
+  pub sound-set : mask ≡ setOf (formSeats fullForm (entriesIn n bytes))
+  unfolding certificateIn readFull certificateOf
+  sound-set = h .set ∙ rw (is-full .1)
+
+  pub sound-signature : certificateIn (read n bytes) .signature ≡ signatureOf (entriesIn n bytes)
+  unfolding certificateIn readFull certificateOf
+  sound-signature = rw (is-full .1)
+
+  sound-known : every (λ (s : ℕ). ltb s n) (formSeats fullForm (entriesIn n bytes)) ≡ true
+  unfolding stranger seatsOf entrySeats readFull every
+  sound-known =
+      let all-known = not-false _ (rw (is-full .1) at (h .known)) in
+      and-eq-true-iff (ltb (byteAt bytes seatAt) n) (every (λ (s : ℕ). ltb s n) (formSeats fullForm (entriesIn n bytes))) .0 all-known .1
+
+  sound-ordered : rising (formSeats fullForm (entriesIn n bytes)) ≡ true
+  unfolding disorder entrySeats readFull
+  sound-ordered = not-false _ (rw (is-full .1) at (h .ordered))
+
+  pub sound-lt : mask < 2 ^ n
+  sound-lt = rw sound-set (set-lt n (formSeats fullForm (entriesIn n bytes)) sound-known)
+
+  pub sound-seats : seats n mask ≡ formSeats fullForm (entriesIn n bytes)
+  sound-seats = rw sound-set (seats-set n (formSeats fullForm (entriesIn n bytes)) sound-ordered sound-known)
+
+  pub sound-many : length (seats n mask) ≡ k n
+  unfolding formSeats
+  sound-many = ap length sound-seats ∙ length-map (entriesIn n bytes) (fullForm .seat) ∙ length-entries-read fullForm (k n) bytes
+
+  module _ (s : ℕ) (l : s < n) (i : In s mask) where
+    entry-index : size (shared mask (all s)) < k n
+    entry-index =
+        let f = seats-split n s mask l i in
+        omega (arith, sound-many, count-below s mask, ap length (f .1), length-append (seats s mask) (s ∷ f .0))
+
+    pub entry-inside : entryPlace mask s + signatureLength ≤ length bytes
+    unfolding entryPlace fullLength fullEntryAt fullEntryLength signatureLength
+    entry-inside = omega (arith, entry-index, full-length n bytes (is-full .0))
+
+    pub entry-signature : readSignature (entryPlace mask s) bytes ≡ certificateIn (read n bytes) .signature s
+    unfolding entryPlace fullEntryAt fullEntryLength placeOf readEntry fullForm readSignature
+    entry-signature =
+        let f = seats-split n s mask l i in
+        let d : Entry = record { seat = 0; signature = [] } in
+        let found = signature-after (entriesIn n bytes) (seats s mask) s (f .0) d (sym sound-seats ∙ f .1) (λ j b. seat-at s mask j b .0) in
+        let read = entry-read fullForm (k n) (size (shared mask (all s))) bytes d entry-index in
+        rw (sound-signature, found, count-below s mask, read)
+
+-- ---- a source's signature, as code reads it at place p
+
+module _ (n : ℕ) (source : Source) (bytes : List ℕ) (readable : Readable n source bytes) (s : ℕ) (l : s < n) (p : ℕ) where
+  module _ (i : In s (source .seats)) (f : source .place ≡ place.Entries) (e : p ≡ entryPlace (source .seats) s) where
+    sound-source : Sound n bytes (source .seats)
+    sound-source = rw f at (readable .stands)
+
+    pub entries-inside : p + signatureLength ≤ length bytes
+    entries-inside = rw e (entry-inside n bytes (source .seats) sound-source s l i)
+
+    pub entries-signature : (g : List ℕ) → g ≡ readSignature p bytes → (g ≡ signatureFrom n source bytes s) × (length g ≡ signatureLength)
+    unfolding signatureAt
+    entries-signature g at = (at ∙ rw (e, f) (entry-signature n bytes (source .seats) sound-source s l i), rw at (length-signature p bytes entries-inside))
+
+  module _ (bank : Bank) (f : source .place ≡ place.Slots bank) (e : p ≡ slotAt n (bankOf bank) s) where
+    stored : storeLength n ≤ length bytes
+    stored = rw f at (readable .stands)
+
+    pub slots-inside : p + signatureLength ≤ length bytes
+    slots-inside = rw e (omega (arith, stored, slot-fits n (bankOf bank) s (bank-listed bank) l, slot-signature bank))
+
+    pub slots-signature : (g : List ℕ) → g ≡ readSignature p bytes → (g ≡ signatureFrom n source bytes s) × (length g ≡ signatureLength)
+    unfolding signatureAt slot readSignature
+    slots-signature g at = (at ∙ rw (e, f, slot-signature bank), rw at (length-signature p bytes slots-inside))
+
+pub length-signature-from : (n : ℕ) (source : Source) (bytes : List ℕ) → Readable n source bytes → (s : ℕ) → s < n → In s (source .seats)
+    → length (signatureFrom n source bytes s) ≡ signatureLength
+length-signature-from n source bytes readable s l i = go (source .place) refl
+  where
+    go : (p : Place) → source .place ≡ p → length (signatureFrom n source bytes s) ≡ signatureLength
+    go place.Entries f =
+        let found = entries-signature n source bytes readable s l (entryPlace (source .seats) s) i f refl _ refl in
+        ap length (sym (found .0)) ∙ found .1
+    go (place.Slots bank) f =
+        let found = slots-signature n source bytes readable s l (slotAt n (bankOf bank) s) bank f refl _ refl in
+        ap length (sym (found .0)) ∙ found .1
+
+-- ---- while a certificate is held
+
+-- the signature of a seat is the one at the start where its slots are still as they were
+pub same-signature : (n : ℕ) (source : Source) (store before m : List ℕ) (s : ℕ)
+    → ((b : ℕ) → b < length banks → slot n b store s ≡ slot n b before s)
+    → signatureFrom n source (bytesOf (source .place) store m) s ≡ signatureFrom n source (bytesOf (source .place) before m) s
+unfolding signatureAt bytesOf
+same-signature n source store before m s h = go (source .place)
+  where
+    go : (p : Place) → signatureAt n p (bytesOf p store m) s ≡ signatureAt n p (bytesOf p before m) s
+    go place.Entries = refl
+    go (place.Slots bank) = h (bankOf bank) (bank-listed bank)
+
+-- and it can still be read
+pub still-readable : (n : ℕ) (source : Source) (store before m : List ℕ) → length store ≡ length before
+    → Readable n source (bytesOf (source .place) before m) → Readable n source (bytesOf (source .place) store m)
+unfolding bytesOf
+still-readable n source store before m long r = record { inside = r .inside; stands = go (source .place) (r .stands) }
+  where
+    go : (p : Place) → Stands n p (source .seats) (bytesOf p before m) → Stands n p (source .seats) (bytesOf p store m)
+    go place.Entries h = h
+    go (place.Slots bank) h = omega arith
+
+-- ---- a FULL as a source, with `seats` the set of its entries' seats
+
+abbrev pub inFull : ℕ → Source
+inFull seats = record { place = place.Entries; seats = seats }
+
+module _ (n : ℕ) (bytes : List ℕ) (full : isFull (read n bytes) ≡ true) where
+  pub full-long : length bytes ≡ fullLength n
+  full-long = full-length n bytes (read-is-full n bytes full .0)
+
+  pub full-value : certificateIn (read n bytes) .value ≡ readValue valueAt bytes
+  unfolding certificateIn readFull certificateOf
+  full-value = rw (read-is-full n bytes full .1)
+
+  module _ (known : stranger n (read n bytes) ≡ false) (ordered : disorder (read n bytes) ≡ false) (mask : ℕ) (set : mask ≡ setOf (entrySeats (read n bytes))) where
+    set-in : mask ≡ certificateIn (read n bytes) .seats
+    unfolding certificateIn certificateOf entrySeats readFull
+    set-in = set ∙ rw (read-is-full n bytes full .1)
+
+    sound : Sound n bytes mask
+    sound = record { full = full; known = known; ordered = ordered; set = set-in }
+
+    pub full-readable : Readable n (inFull mask) bytes
+    full-readable = record { inside = sound-lt n bytes mask sound; stands = sound }
+
+    pub full-certificate : (value : List ℕ) → value ≡ readValue valueAt bytes → certificateFrom n (inFull mask) value bytes ≡ certificateIn (read n bytes)
+    unfolding signatureAt
+    full-certificate value v = rw (v ∙ sym full-value, set-in)
+
+    pub full-size : size mask ≡ k n
+    full-size = sym (length-seats n mask (sound-lt n bytes mask sound)) ∙ sound-many n bytes mask sound

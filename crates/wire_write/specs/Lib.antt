@@ -1,0 +1,3 @@
+-- What the writers leave, with its laws.
+pub mod Writing
+pub mod WriteLaws
