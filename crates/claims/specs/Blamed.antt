@@ -13,9 +13,9 @@ use borrow.Author.Tests.{ne-eqb, not-false}
 use Rattle.quorum.specs.Quorum.{In}
 use Rattle.refusal.specs.Refusal.{firstOf, unrefused}
 use Rattle.protocol.specs.Layout.{valueLength, storeLength, outLength}
-use Rattle.protocol.specs.Message.{Entry, Message, Submit, Notice, Full, Evidence, Garbled, render, read, roundOf, entrySeats, seatsOf, signed}
-use Rattle.protocol.specs.Laws.{in-set}
-use Rattle.protocol.specs.ReadLaws.{WellFormed, read-render}
+use Rattle.protocol.specs.Message.{Entry, Message, Submit, Notice, Full, Evidence, Garbled, render, read, roundOf, entrySeats, seatsOf, signed, WellFormed}
+use Rattle.protocol.specs.CertificateLaws.{in-set}
+use Rattle.protocol.specs.MessageLaws.{read-render}
 use Rattle.protocol.specs.Refusals.{wrongKeys, isForStep, isFull, isEvidence, rising, early, stepConditions}
 use Rattle.protocol.specs.Step.{State, otherHeard, owesFull, stepped}
 use Rattle.protocol.specs.Calls.{start, checkedBy, evidenceCheck}
@@ -25,7 +25,7 @@ use Rattle.round.specs.Demand3.{Blames, ReachedOthers}
 use Rattle.round.specs.Demand1.{NOTICE, FULL, EVIDENCE, isNotice}
 use Rattle.reading.specs.Lists.{and-false-either, each-nil, each-one}
 use Rattle.claims.specs.Sound.{Heard, Held, Grows, Settled, Entries, Pairs, Sound, Said}
-use Rattle.claims.specs.Certificates.{sized-entries}
+use Rattle.claims.specs.Certificates.{entries-laid}
 use Rattle.claims.specs.Parts.{other-heard}
 use Rattle.claims.specs.Whole.{notice-heard, full-held}
 use Rattle.claims.specs.Unrefused.{possible, Taken, step-unrefused, full-taken}
@@ -129,7 +129,7 @@ module _ (S : Setting) where
     unfolding isForStep early
     reached-held sender value es inside entries h =
         let range = opened-range S u opened in
-        reached-end (Full round sender value es) (let e = range .early in omega arith, entries .sized, entries .many, sized-entries es (λ e d. entries .kept e d .sized)) refl (λ r. refl)
+        reached-end (Full round sender value es) (let e = range .early in omega arith, entries .sized, entries .many, entries-laid checks Any n value es entries) refl (λ r. refl)
         (full-taken checks Any n round sender value es inside entries)
         h
         (Held value)

@@ -13,11 +13,13 @@ use lib.Pow.{pow-pos}
 use borrow.Author.Tests.{eqb-true, eqb-false}
 use Rattle.quorum.specs.Quorum.{t0, k, In, size, shared, seats}
 use Rattle.quorum.specs.Laws.{bit-cases, in-shared, shared-lt, shared-comm, with-lt, size-empty, size-shared-le, size-with-new, length-seats, mem-seats, seats-rise, k-of-n-share}
-use Rattle.protocol.specs.Layout.{signatureLength}
 use Rattle.protocol.specs.Values.{isLower}
-use Rattle.protocol.specs.Message.{Entry, Pair, Message, Evidence, entrySeats}
+use Rattle.protocol.specs.Message.{Entry, Pair, Message, Evidence, fullForm, evidenceForm, entrySeats}
 use Rattle.protocol.specs.Certificate.{Certificate, setOf, signatureOf, certificateOf, entryOf, entriesOf, pairOf, pairsOf, orderedEvidence, evidenceOf}
-use Rattle.protocol.specs.Laws.{lower-other, in-set, set-seats, Sized, SizedPairs}
+use Rattle.protocol.specs.ValuesLaws.{lower-other}
+use Rattle.protocol.specs.CertificateLaws.{in-set, set-seats}
+use Rattle.protocol.specs.Entries.{Laid, formSeats}
+use Rattle.protocol.specs.MessageLaws.{pair-laid}
 use Rattle.protocol.specs.Refusals.{Checks, rising}
 use Rattle.round.specs.Round.{Each, Relation}
 use Rattle.reading.specs.Lists.{cond-elim, each-map, rising-first, rising-of-rises}
@@ -48,30 +50,28 @@ module _ (n m : ℕ) where
   pub seats-in-set : Each (λ s. In s m) (seats n m)
   seats-in-set s d = mem-seats n s m .0 d .1
 
--- ---- signatures of the right length
-
-pub sized-entries : (es : List Entry) → Each (λ (e : Entry). length (e .signature) ≡ signatureLength) es → Sized es
-sized-entries [] h = tt
-sized-entries (e ∷ es) h = (h e (List·Memᴰ·head refl), sized-entries es (λ x d. h x (List·Memᴰ·tail d)))
-
-pub sized-pairs : (ps : List Pair) → Each (λ (p : Pair). length (p .lower) ≡ signatureLength) ps → Each (λ (p : Pair). length (p .higher) ≡ signatureLength) ps → SizedPairs ps
-sized-pairs [] l h = tt
-sized-pairs (p ∷ ps) l h =
-    (l p (List·Memᴰ·head refl), h p (List·Memᴰ·head refl), sized-pairs ps (λ x d. l x (List·Memᴰ·tail d)) (λ x d. h x (List·Memᴰ·tail d)))
-
 -- ---- certificates
 
 pub entry-seats : (n : ℕ) (c : Certificate) → map (λ (e : Entry). e .seat) (entriesOf n c) ≡ seats n (c .seats)
 unfolding entriesOf
 entry-seats n c = map-map (λ (e : Entry). e .seat) (entryOf c) (seats n (c .seats)) ∙ map-id (seats n (c .seats))
 
-pub pair-seats : (n : ℕ) (c d : Certificate) → map (λ (p : Pair). p .seat) (pairsOf n c d) ≡ seats n (shared (c .seats) (d .seats))
+pub pair-seats : (n mask : ℕ) (c d : Certificate) → map (λ (p : Pair). p .seat) (pairsOf n mask c d) ≡ seats n mask
 unfolding pairsOf
-pair-seats n c d =
-    map-map (λ (p : Pair). p .seat) (pairOf c d) (seats n (shared (c .seats) (d .seats)))
-    ∙ map-id (seats n (shared (c .seats) (d .seats)))
+pair-seats n mask c d = map-map (λ (p : Pair). p .seat) (pairOf c d) (seats n mask) ∙ map-id (seats n mask)
 
 module _ (checks : Checks) (W : Relation) where
+  -- the entries of either list are as their form lays them out
+  pub entries-laid : (n : ℕ) (value : List ℕ) (es : List Entry) → Entries checks W n value es → Laid fullForm es
+  unfolding fullForm
+  entries-laid n value es z e d = (z .kept e d .sized, refl)
+
+  pub pairs-laid : (n : ℕ) (lower higher : List ℕ) (ps : List Pair) → Pairs checks W n lower higher ps → Laid (evidenceForm lower higher) ps
+  unfolding evidenceForm
+  pairs-laid n lower higher ps z p d =
+      let own = z .values p d in
+      pair-laid lower higher p (sym (own .0)) (sym (own .1)) (z .lows p d .sized) (z .highs p d .sized)
+
   -- a certificate's FULL
   pub entries-of : (n : ℕ) (c : Certificate) → Certifies checks W n c → Entries checks W n (c .value) (entriesOf n c)
   unfolding entriesOf
@@ -93,7 +93,7 @@ module _ (checks : Checks) (W : Relation) where
       (λ q. ⊎-elim (λ p. absurd (eqb-false (e .seat) s q (sym p))) (λ t. signature-kept value es s (λ x m. h x (List·Memᴰ·tail m)) t) (List·Memᴰ·cases-cons d))
 
   pub certifies-of : (n : ℕ) (value : List ℕ) (es : List Entry) → Entries checks W n value es → Certifies checks W n (certificateOf value es)
-  unfolding certificateOf
+  unfolding certificateOf formSeats fullForm
   certifies-of n value es z = record {
     sized = z .sized;
     below = set-below n (map (λ (e : Entry). e .seat) es) (each-map (λ s. s < n) (λ (e : Entry). e .seat) es (z .below));
@@ -103,24 +103,25 @@ module _ (checks : Checks) (W : Relation) where
 
   -- the evidence of two, the lower first
   pub pairs-of : (n : ℕ) (c d : Certificate) → 1 ≤ n → Certifies checks W n c → Certifies checks W n d → isLower (c .value) (d .value) ≡ true
-      → Pairs checks W n (c .value) (d .value) (pairsOf n c d)
+      → Pairs checks W n (c .value) (d .value) (pairsOf n (shared (c .seats) (d .seats)) c d)
   unfolding pairsOf
   pairs-of n c d some y z l =
       let both = shared (c .seats) (d .seats) in
       let pair : ℕ → Pair = pairOf c d in
       let below : both < 2 ^ n = shared-lt n (c .seats) (d .seats) (y .below) (z .below) in
-      let sized : length (pairsOf n c d) ≡ size both = length-map (seats n both) pair ∙ length-seats n both below in
+      let sized : length (pairsOf n both c d) ≡ size both = length-map (seats n both) pair ∙ length-seats n both below in
       let enough : t0 n + 1 ≤ size both = k-of-n-share n (c .seats) (d .seats) some (y .below) (z .below) (y .enough) (z .enough) in
       let few : size both ≤ size (c .seats) = size-shared-le (c .seats) (d .seats) in
       let exact : k n ≡ size (c .seats) = sym (y .enough) in
       record {
         sizedLower = y .sized;
         sizedHigher = z .sized;
+        values = each-map (λ (p : Pair). (c .value ≡ p .lowerValue) × (d .value ≡ p .higherValue)) pair (seats n both) (λ s m. (refl, refl));
         ordered = l;
-        named = rw (pair-seats n c d, set-seats n both below) enough;
+        named = rw (pair-seats n (shared (c .seats) (d .seats)) c d, set-seats n both below) enough;
         some = omega arith;
         few = omega arith;
-        rise = ap rising (pair-seats n c d) ∙ seats-rising n both;
+        rise = ap rising (pair-seats n (shared (c .seats) (d .seats)) c d) ∙ seats-rising n both;
         below = each-map (λ (p : Pair). p .seat < n) pair (seats n both) (seats-below n both);
         lows = each-map (λ (p : Pair). Changed checks W (p .seat) (c .value) (p .lower)) pair (seats n both) (λ s m. y .kept s (in-shared s (c .seats) (d .seats) .0 (seats-in-set n both s m) .0));
         highs = each-map (λ (p : Pair). Changed checks W (p .seat) (d .value) (p .higher)) pair (seats n both) (λ s m. z .kept s (in-shared s (c .seats) (d .seats) .0 (seats-in-set n both s m) .1));
@@ -132,14 +133,14 @@ module _ (checks : Checks) (W : Relation) where
   unfolding evidenceOf orderedEvidence
   evidence-elim P n round c d some y z different f =
       cond-elim P (isLower (c .value) (d .value)) (orderedEvidence n round c d) (orderedEvidence n round d c)
-      (λ l. f (c .value) (d .value) (pairsOf n c d) (pairs-of n c d some y z l))
-      (λ l. f (d .value) (c .value) (pairsOf n d c) (pairs-of n d c some z y (lower-other (c .value) (d .value) (y .sized ∙ sym (z .sized)) different ∙ ap not l)))
+      (λ l. f (c .value) (d .value) (pairsOf n (shared (c .seats) (d .seats)) c d) (pairs-of n c d some y z l))
+      (λ l. f (d .value) (c .value) (pairsOf n (shared (d .seats) (c .seats)) d c) (pairs-of n d c some z y (lower-other (c .value) (d .value) (y .sized ∙ sym (z .sized)) different ∙ ap not l)))
 
   -- it names the seats that they share
   pub evidence-names : (n round : ℕ) (c d : Certificate) → Certifies checks W n c → Certifies checks W n d
       → setOf (entrySeats (evidenceOf n round c d)) ≡ shared (c .seats) (d .seats)
-  unfolding evidenceOf orderedEvidence entrySeats
+  unfolding evidenceOf orderedEvidence entrySeats formSeats evidenceForm
   evidence-names n round c d y z =
       cond-elim (λ m. setOf (entrySeats m) ≡ shared (c .seats) (d .seats)) (isLower (c .value) (d .value)) (orderedEvidence n round c d) (orderedEvidence n round d c)
-      (λ _. rw (pair-seats n c d, set-seats n (shared (c .seats) (d .seats)) (shared-lt n (c .seats) (d .seats) (y .below) (z .below))))
-      (λ _. rw (pair-seats n d c, set-seats n (shared (d .seats) (c .seats)) (shared-lt n (d .seats) (c .seats) (z .below) (y .below))) (shared-comm (d .seats) (c .seats)))
+      (λ _. rw (pair-seats n (shared (c .seats) (d .seats)) c d, set-seats n (shared (c .seats) (d .seats)) (shared-lt n (c .seats) (d .seats) (y .below) (z .below))))
+      (λ _. rw (pair-seats n (shared (d .seats) (c .seats)) d c, set-seats n (shared (d .seats) (c .seats)) (shared-lt n (d .seats) (c .seats) (z .below) (y .below))) (shared-comm (d .seats) (c .seats)))

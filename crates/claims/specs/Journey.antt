@@ -24,7 +24,7 @@ use Rattle.reading.specs.Lists.{count-append, count-nil, each-nil, each-cons}
 use Rattle.claims.specs.Sound.{Grows, Counts, InRange, Settled, Sound, Good}
 use Rattle.claims.specs.Parts.{shared-none, grows-refl, grows-trans, k-pos}
 use Rattle.claims.specs.Whole.{Done, submitted-done, submitted-value, stepped-done}
-use Rattle.reading.specs.Reading.{read-laid}
+use Rattle.reading.specs.Reading.{read-sized}
 use Rattle.claims.specs.Unrefused.{submit-taken, step-taken, brings}
 
 -- ---- the end of a list
@@ -56,11 +56,11 @@ module _ (S : Setting) (W : Relation) where
   done (ByStep bytes out) r store z e q w =
       let m = read (r .n) bytes in
       let t = step-taken checks keys r store m out q in
-      stepped-done checks W (start r store) z (t .0) e m (brings checks W r m (t .2) (t .3) (read-laid (r .n) bytes) w)
+      stepped-done checks W (start r store) z (t .0) e m (brings checks W r m (t .2) (t .3) (read-sized (r .n) bytes) w)
   done (ByThinEntry bytes out) r store z e q w =
       let m = read (r .n) bytes in
       let t = step-taken checks keys r store m out q in
-      stepped-done checks W (start r store) z (t .0) e m (brings checks W r m (t .2) (t .3) (read-laid (r .n) bytes) w)
+      stepped-done checks W (start r store) z (t .0) e m (brings checks W r m (t .2) (t .3) (read-sized (r .n) bytes) w)
 
   -- a submit that isn't refused keeps its value
   pub submit-value : (value signature out : List ℕ) (r : Record) (store : List ℕ) → Sound checks W r store → refusalOf S (BySubmit value signature out) r store ≡ 0 → W (r .seat) value signature

@@ -8,15 +8,16 @@ use Prim.Native.Nat.{ℕ, _+_, _≤_}
 use native.Mathlib.Omega.{arith}
 use Rattle.quorum.specs.Quorum.{t0, size, shared}
 use Rattle.refusal.specs.Refusal.{firstOf, unrefused}
-use Rattle.protocol.specs.Message.{Pair, Message, Evidence, render, read, entrySeats}
-use Rattle.protocol.specs.ReadLaws.{read-render}
+use Rattle.protocol.specs.Entries.{formSeats}
+use Rattle.protocol.specs.Message.{Pair, Message, Evidence, evidenceForm, render, read, entrySeats}
+use Rattle.protocol.specs.MessageLaws.{read-render}
 use Rattle.protocol.specs.Certificate.{setOf, certificateIn}
 use Rattle.protocol.specs.Refusals.{wrongKeys, isEvidence, notLowerFirst}
 use Rattle.protocol.specs.Calls.{makingBy, making, checkedBy, evidenceCheck}
 use Rattle.round.specs.Round.{Setting, InHand, makingOf, Accepted}
 use Rattle.claims.specs.Sound.{InRange, Certifies, Pairs}
 use Rattle.claims.specs.Certificates.{evidence-elim, evidence-names}
-use Rattle.reading.specs.Reading.{read-laid}
+use Rattle.reading.specs.Reading.{read-sized}
 use Rattle.claims.specs.Unrefused.{Taken, MakingTaken, making-taken, evidence-unrefused, evidence-taken}
 use Rattle.claims.specs.Units.{Any, pairs-formed}
 use Rattle.claims.specs.Safe.{conditions, evidenceFrom, making-bytes, certifies-in}
@@ -39,7 +40,7 @@ module _ (S : Setting) (seat : ℕ) (range : InRange (S .n) seat (S .round)) (ta
   pub evidence-accepted : (ρ : ℕ) (lower higher : List ℕ) (ps : List Pair) → ρ ≡ round → Pairs checks Any n lower higher ps
       → (evidenceCheck checks n round keys (render (Evidence ρ lower higher ps)) .number ≡ 0)
       × (t0 n + 1 ≤ size (evidenceCheck checks n round keys (render (Evidence ρ lower higher ps)) .mask))
-  unfolding entrySeats
+  unfolding entrySeats formSeats evidenceForm
   evidence-accepted ρ lower higher ps e z =
       let a = accepted-as ρ lower higher ps e z in
       (a .0, rw (a .1) (z .named))
@@ -70,10 +71,10 @@ module _ (S : Setting) (h : InHand) (unrefused-making : making (S .checks) (S .n
   taken = making-taken checks n round keys a b (h .out) zero
 
   first : Certifies checks Any n (certificateIn a)
-  first = certifies-in checks Any n round a (taken .fullA) (taken .takenA) (read-laid n (h .a)) (λ s m. tt)
+  first = certifies-in checks Any n round a (taken .fullA) (taken .takenA) (read-sized n (h .a)) (λ s m. tt)
 
   second : Certifies checks Any n (certificateIn b)
-  second = certifies-in checks Any n round b (taken .fullB) (taken .takenB) (read-laid n (h .b)) (λ s m. tt)
+  second = certifies-in checks Any n round b (taken .fullB) (taken .takenB) (read-sized n (h .b)) (λ s m. tt)
 
   range : InRange n 0 round
   range = record { some = taken .some; most = taken .most; inside = (let s = taken .some in omega arith); early = taken .early }

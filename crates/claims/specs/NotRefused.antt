@@ -3,9 +3,9 @@
 -- every message and every buffer. So nothing meets them that refuses anything else, or all; the last claim shows it of a step.
 -- Assumes nothing.
 use Prim.Native.Nat.{ℕ, zero, suc, _+_, _*_, _≤_, _<_}
-use mathlib.Core.Path.{_≡_, refl, sym, subst}
+use mathlib.Core.Path.{_≡_, refl, sym, subst, _∙_}
 use mathlib.Core.Bool.{Bool, true, false, not, _&&_, _||_}
-use mathlib.Core.List.{List, _++_, List·Memᴰ·not-nil}
+use mathlib.Core.List.{List, [], _∷_, _++_, List·Memᴰ·not-nil}
 use mathlib.Core.Logic.{_≢_, _↔_}
 use native.Mathlib.Omega.{arith}
 use native.Mathlib.Decide.{ℕ-discrete}
@@ -21,17 +21,17 @@ use Rattle.rfc8554.specs.Ots.{knownOts}
 use Rattle.rfc8554.specs.Tree.{knownLms}
 use Rattle.rfc8554.specs.Verify.{lmsTypeOf, otsTypeOf, valid}
 use Rattle.protocol.specs.Layout.{valueLength, signatureLength, treeLength, messageLimit, keyLength, keyAt, storeLength, outLength, evidenceOutLength}
-use Rattle.protocol.specs.Message.{Message, Notice, render, read, signed, seatsOf, entrySeats, roundOf}
-use Rattle.protocol.specs.ReadLaws.{WellFormed, read-render}
+use Rattle.protocol.specs.Message.{Message, Notice, render, read, signed, seatsOf, entrySeats, roundOf, WellFormed}
+use Rattle.protocol.specs.MessageLaws.{read-render}
 use Rattle.protocol.specs.Certificate.{certificateIn}
 use Rattle.protocol.specs.Record.{lastRound, wrongSize, wrongSeat, wrongRound, impossible, fresh}
-use Rattle.protocol.specs.Refusals.{Checks, every, lengthIsnt, wrongKey, certificateConditions, checkConditions, makeKeyConditions, signConditions, keyAllowed, keysAllowed, wrongKeys, shortStore, shortOut, said, isForStep, isFull, isEvidence, wrongLengths, rising, early, badSignature, notLowerFirst, equalValues, formConditions, signatureConditions, outsideConditions, recordConditions, openingConditions, submitConditions, stepConditions, evidenceConditions, twoConditions, makingConditions}
+use Rattle.protocol.specs.Refusals.{Condition, NO-CONFLICT-BETWEEN, Checks, every, lengthIsnt, wrongKey, certificateConditions, checkConditions, makeKeyConditions, signConditions, keyAllowed, keysAllowed, wrongKeys, shortStore, shortOut, said, isForStep, isFull, isEvidence, wrongLengths, rising, early, badSignature, notLowerFirst, equalValues, messageConditions, outsideConditions, recordConditions, openingConditions, submitConditions, stepConditions, evidenceConditions, twoConditions, makingConditions}
 use Rattle.protocol.specs.Signatures.{checkSignature, makeKeyRefusal, makeKey, signRefusal, sign}
 use Rattle.protocol.specs.Calls.{openedBy, opening, resultBy, submit, step, makingBy, making, checkedBy, evidenceCheck}
 use Rattle.protocol.specs.declared.Record.{Record}
 use Rattle.reading.specs.Lists.{and-true-both, or-false-both, each-one}
 use Rattle.claims.specs.Sound.{InRange}
-use Rattle.claims.specs.Unrefused.{size-right, round-right, possible, Taken, of-taken, opening-range, submit-taken, step-taken, step-unrefused, evidence-checked, evidence-unrefused, making-taken}
+use Rattle.claims.specs.Unrefused.{size-right, round-right, possible, Taken, opening-range, outside-passed, record-passed, message-passes, submit-taken, step-taken, step-unrefused, evidence-checked, evidence-unrefused, making-taken}
 use Rattle.claims.specs.Journey.{fresh-sound, fresh-settled}
 use Rattle.claims.specs.Units.{Any}
 
@@ -106,14 +106,10 @@ pub record Lent (keys : List ℕ) (r : Record) (store out : List ℕ) : Type 0 w
   -- 7: "Out buffer: 1,629 + 4,360 × k bytes or more"
   pub outRoom : outLength (r .n) ≤ length out
 
-lent-of : (keys : List ℕ) (r : Record) (store out : List ℕ) (rest : List (ℕ × Bool)) → firstOf (recordConditions keys r store out ++ rest) ≡ 0 → Lent keys r store out
-unfolding recordConditions shortStore shortOut
+lent-of : (keys : List ℕ) (r : Record) (store out : List ℕ) (rest : List Condition) → firstOf (recordConditions keys r store out ++ rest) ≡ 0 → Lent keys r store out
 lent-of keys r store out rest e =
-    let a = firstOf-zero 3 _ _ e in
-    let b = firstOf-zero 4 _ _ (a .1) in
-    let c = firstOf-zero 5 _ _ (b .1) in
-    let d = firstOf-zero 6 _ _ (c .1) in
-    record { possible = a .0; table = keys-right keys (r .n) .0 (b .0); storeRoom = ltb-false (length store) (storeLength (r .n)) (c .0); outRoom = ltb-false (length out) (outLength (r .n)) (d .0) }
+    let lent = record-passed keys r store out rest e .0 in
+    record { possible = lent .0; table = keys-right keys (r .n) .0 (lent .1); storeRoom = lent .2; outRoom = lent .3 }
 
 pub record SubmitFit (checks : Checks) (keys : List ℕ) (r : Record) (store value signature out : List ℕ) : Type 0 where
   -- 4 to 7
@@ -128,13 +124,13 @@ pub record SubmitFit (checks : Checks) (keys : List ℕ) (r : Record) (store val
 
 module _ (checks : Checks) (keys : List ℕ) (r : Record) (store value signature out : List ℕ) where
   submit-fit : firstOf (submitConditions checks keys r store value signature out) ≡ 0 → SubmitFit checks keys r store value signature out
-  unfolding submitConditions recordConditions signatureConditions
+  unfolding submitConditions
   submit-fit e =
       let t = submit-taken checks keys r store value signature out e in
       record { lent = lent-of keys r store out _ e; first = t .unsaid; sizedValue = t .sizedValue; sizedSignature = t .sized; checked = t .checked }
 
   fit-submit : SubmitFit checks keys r store value signature out → firstOf (submitConditions checks keys r store value signature out) ≡ 0
-  unfolding submitConditions recordConditions signatureConditions shortStore shortOut said wrongLengths badSignature signed every firstOf
+  unfolding submitConditions recordConditions shortStore shortOut said wrongLengths badSignature signed every firstOf
   fit-submit t =
       rw (
         t .lent .possible,
@@ -163,7 +159,7 @@ pub record StepFit (checks : Checks) (keys : List ℕ) (r : Record) (store bytes
 
 pub step-not-refused : (checks : Checks) (keys : List ℕ) (r : Record) (store bytes out : List ℕ)
     → (step checks keys r store bytes out .refusal ≡ 0) ↔ StepFit checks keys r store bytes out
-unfolding step resultBy stepConditions recordConditions formConditions signatureConditions
+unfolding step resultBy stepConditions
 step-not-refused checks keys r store bytes out = (
   λ e.
       let t = step-taken checks keys r store (read (r .n) bytes) out e in
@@ -206,18 +202,13 @@ pub record EvidenceFit (checks : Checks) (n round : ℕ) (keys bytes : List ℕ)
   -- 15: the lower value comes first
   pub conflict : notLowerFirst (read n bytes) ≡ false
 
-outside-of : (n round : ℕ) (keys : List ℕ) (rest : List (ℕ × Bool)) → firstOf (outsideConditions n round keys ++ rest) ≡ 0 → Outside n round keys
-unfolding outsideConditions wrongSize wrongRound
+outside-of : (n round : ℕ) (keys : List ℕ) (rest : List Condition) → firstOf (outsideConditions n round keys ++ rest) ≡ 0 → Outside n round keys
 outside-of n round keys rest e =
-    let a = firstOf-zero 0 _ _ e in
-    let b = firstOf-zero 2 _ _ (a .1) in
-    let c = firstOf-zero 4 _ _ (b .1) in
-    let sized = or-false-both (eqb n 0) (ltb mostSeats n) (a .0) in
-    let nonzero = eqb-false n 0 (sized .0) in
-    record { some = omega arith; most = ltb-false mostSeats n (sized .1); inTime = ltb-false lastRound round (b .0); table = keys-right keys n .0 (c .0) }
+    let outside = outside-passed n round keys rest e .0 in
+    record { some = outside .0; most = outside .1; inTime = outside .2; table = keys-right keys n .0 (outside .3) }
 
 pub evidence-not-refused : (checks : Checks) (n round : ℕ) (keys bytes : List ℕ) → (evidenceCheck checks n round keys bytes .number ≡ 0) ↔ EvidenceFit checks n round keys bytes
-unfolding evidenceCheck checkedBy evidenceConditions outsideConditions formConditions signatureConditions
+unfolding evidenceCheck checkedBy evidenceConditions outsideConditions
 evidence-not-refused checks n round keys bytes = (
   λ e. let t = evidence-checked checks n round keys (read n bytes) e in record { outside = outside-of n round keys _ e; isOne = t .0; message = t .1; conflict = t .2 },
   λ t.
@@ -241,13 +232,10 @@ pub record MakingFit (checks : Checks) (n round : ℕ) (keys a b out : List ℕ)
 
 module _ (checks : Checks) (n round : ℕ) (keys a b out : List ℕ) where
   making-fit : firstOf (makingConditions checks n round keys (read n a) (read n b) out) ≡ 0 → MakingFit checks n round keys a b out
-  unfolding makingConditions twoConditions certificateConditions outsideConditions formConditions signatureConditions shortOut
+  unfolding makingConditions outsideConditions shortOut
   making-fit e =
       let t = making-taken checks n round keys (read n a) (read n b) out e in
-      let p = firstOf-zero 0 _ _ e in
-      let q = firstOf-zero 2 _ _ (p .1) in
-      let r = firstOf-zero 4 _ _ (q .1) in
-      let s = firstOf-zero 6 _ _ (r .1) in
+      let s = firstOf-zero 6 _ _ (outside-passed n round keys _ e .1) in
       record {
         outside = outside-of n round keys _ e;
         outRoom = ltb-false (length out) (evidenceOutLength n) (s .0);
@@ -259,28 +247,14 @@ module _ (checks : Checks) (n round : ℕ) (keys a b out : List ℕ) where
       }
 
   fit-making : MakingFit checks n round keys a b out → firstOf (makingConditions checks n round keys (read n a) (read n b) out) ≡ 0
-  unfolding makingConditions twoConditions certificateConditions outsideConditions formConditions signatureConditions shortOut equalValues firstOf
+  unfolding makingConditions twoConditions certificateConditions messageConditions outsideConditions shortOut equalValues firstOf
   fit-making t =
       let o = t .outside in
-      let x = of-taken checks n round (read n a) (t .first) in
-      let y = of-taken checks n round (read n b) (t .second) in
-      rw (
-        size-right n (o .some) (o .most),
-        round-right round (o .inTime),
-        keys-right keys n .1 (o .table),
-        le-ltb (length out) (evidenceOutLength n) (t .outRoom),
-        t .firstFull,
-        x .0,
-        x .1,
-        x .2,
-        x .3,
-        t .secondFull,
-        y .0,
-        y .1,
-        y .2,
-        y .3,
-        same-false (certificateIn (read n a) .value) (certificateIn (read n b) .value) (t .conflict),
-      )
+      let conflict = NO-CONFLICT-BETWEEN (read n a) (read n b) ∷ [] in
+      rw (size-right n (o .some) (o .most), round-right round (o .inTime), keys-right keys n .1 (o .table), le-ltb (length out) (evidenceOutLength n) (t .outRoom))
+      (message-passes checks n round (isFull (read n a)) false (read n a) (certificateConditions checks n round (read n b) ++ conflict) (t .firstFull) (t .first) refl
+      ∙ message-passes checks n round (isFull (read n b)) false (read n b) conflict (t .secondFull) (t .second) refl
+      ∙ rw (same-false (certificateIn (read n a) .value) (certificateIn (read n b) .value) (t .conflict)))
 
   pub making-not-refused : (making checks n round keys a b out .refusal ≡ 0) ↔ MakingFit checks n round keys a b out
   unfolding making makingBy

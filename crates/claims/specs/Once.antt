@@ -11,10 +11,9 @@ use native.Mathlib.Decide.{ℕ-discrete}
 use lib.ListN.{length, length-append}
 use borrow.Author.Tests.{ne-eqb}
 use Rattle.quorum.specs.Quorum.{k}
-use Rattle.protocol.specs.Layout.{submitLength, noticeLength, fullEntryLength, fullEntryAt, evidenceEntryLength, evidenceEntryAt, outLength}
-use Rattle.protocol.specs.Message.{Message, Submit, Notice, Full, Evidence, Garbled, render, renderAll}
-use Rattle.protocol.specs.Laws.{length-submit, length-notice, length-full, length-evidence}
-use Rattle.protocol.specs.ReadLaws.{WellFormed}
+use Rattle.protocol.specs.Layout.{signatureLength, submitLength, noticeLength, fullEntryAt, fullLength, evidenceEntryLength, evidenceEntryAt, evidenceLength, outLength}
+use Rattle.protocol.specs.Message.{Message, Submit, Notice, Full, Evidence, Garbled, render, renderAll, WellFormed}
+use Rattle.protocol.specs.MessageLaws.{length-submit, length-notice, length-full, length-evidence}
 use Rattle.protocol.specs.Record.{impossible}
 use Rattle.protocol.specs.Refusals.{Checks, isFull, isEvidence}
 use Rattle.protocol.specs.Calls.{opening}
@@ -23,7 +22,7 @@ use Rattle.round.specs.Round.{Setting, IsOpened, Each, Relation, Honest, Called
 use Rattle.round.specs.Demand1.{Kind, SUBMIT, NOTICE, FULL, EVIDENCE, isOf, isSubmit, isNotice, worth, count, writtenOver, AtMostOne}
 use Rattle.reading.specs.Lists.{worth-le-one, worth-true, true-of-worth, count-pos}
 use Rattle.claims.specs.Sound.{flagOf, Good}
-use Rattle.claims.specs.Certificates.{sized-entries, sized-pairs}
+use Rattle.claims.specs.Certificates.{entries-laid, pairs-laid}
 use Rattle.claims.specs.Parts.{confirmed-submitted}
 use Rattle.reading.specs.Reading.{are-unique}
 use Rattle.claims.specs.Unrefused.{possible}
@@ -47,7 +46,7 @@ kinds-all n (Evidence ρ lower higher ps ∷ ms) w = omega (arith, kinds-all n m
 kinds-all n (Garbled ∷ ms) w = absurd (w Garbled (List·Memᴰ·head refl))
 
 evidence-room : (a b : ℕ) → a ≤ b → evidenceEntryAt a ≤ evidenceEntryAt b
-unfolding evidenceEntryAt evidenceEntryLength
+unfolding evidenceEntryAt evidenceEntryLength signatureLength
 evidence-room a b h = omega arith
 
 once-le : (c l : ℕ) → c ≤ 1 → c * l ≤ l
@@ -57,8 +56,8 @@ once-le (suc (suc c)) l h = absurd (omega arith)
 
 -- one of each kind fills out
 out-filled : (n : ℕ) → submitLength + noticeLength + fullEntryAt (k n) + evidenceEntryAt (k n) ≡ outLength n
-unfolding submitLength noticeLength fullEntryAt fullEntryLength evidenceEntryAt evidenceEntryLength outLength
-out-filled n = omega arith
+unfolding outLength fullLength evidenceLength
+out-filled n = refl
 
 -- none but evidence, and one at most
 evidence-alone : (ms : List Message) → length ms ≡ count (isOf EVIDENCE) ms → count (isOf EVIDENCE) ms ≤ 1 → (ms ≡ []) ⊎ ((m : Message) × (isEvidence m ≡ true) × (ms ≡ m ∷ []))
@@ -84,11 +83,11 @@ module _ (checks : Checks) (W : Relation) (r : Record) where
   bytes-by-kind (Full ρ sender value es ∷ ms) g =
       let h = g (Full ρ sender value es) (List·Memᴰ·head refl) in
       let l : length (render (Full ρ sender value es)) ≡ fullEntryAt (k (r .n)) =
-      length-full ρ sender value es (h .0 .sized) (sized-entries es (λ e d. h .1 .kept e d .sized)) ∙ ap fullEntryAt (h .1 .many) in
+      length-full ρ sender value es (h .0 .sized) (entries-laid checks W (r .n) value es (h .1)) ∙ ap fullEntryAt (h .1 .many) in
       omega (arith, length-append (render (Full ρ sender value es)) (renderAll ms), bytes-by-kind ms (λ m d. g m (List·Memᴰ·tail d)))
   bytes-by-kind (Evidence ρ lower higher ps ∷ ms) g =
       let h = g (Evidence ρ lower higher ps) (List·Memᴰ·head refl) in
-      let l = length-evidence ρ lower higher ps (h .1 .sizedLower) (h .1 .sizedHigher) (sized-pairs ps (λ p d. h .1 .lows p d .sized) (λ p d. h .1 .highs p d .sized)) in
+      let l = length-evidence ρ lower higher ps (h .1 .sizedLower) (h .1 .sizedHigher) (pairs-laid checks W (r .n) lower higher ps (h .1)) in
       let f = evidence-room (length ps) (k (r .n)) (h .1 .few) in
       omega (arith, length-append (render (Evidence ρ lower higher ps)) (renderAll ms), bytes-by-kind ms (λ m d. g m (List·Memᴰ·tail d)))
   bytes-by-kind (Garbled ∷ ms) g = absurd (g Garbled (List·Memᴰ·head refl))

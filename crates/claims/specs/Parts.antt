@@ -19,6 +19,7 @@ use Rattle.quorum.specs.Laws.{bit-empty, bit-with-other, bit-with-same, has-fal
 use Rattle.protocol.specs.Layout.{valueLength, signatureLength, storeLength, collectedBank, firstBank}
 use Rattle.protocol.specs.Values.{unset}
 use Rattle.protocol.specs.Message.{Pair, Message, Submit, Notice, Full, Evidence, Garbled}
+use Rattle.protocol.specs.LayoutLaws.{collected-bank, first-bank}
 use Rattle.protocol.specs.Certificate.{Certificate, slot, fill, fillEach, ownCertificate, firstCertificate, fullOf, evidenceOf}
 use Rattle.protocol.specs.Record.{noneHeard, oneHeard, holds}
 use Rattle.protocol.specs.Refusals.{Checks, isFull, isEvidence}
@@ -165,10 +166,11 @@ module _ (checks : Checks) (W : Relation) where
   }
     where
       go : (s : ℕ) → In s (with seat (own .collected)) → Dec (s ≡ seat) → Changed checks W s (own .value) (slot n collectedBank (fill n collectedBank seat signature store) s)
-      go s i (yes e) = rw (e, slot-fill-same n collectedBank seat signature store (omega arith) inside room (g .sized)) g
+      go s i (yes e) = rw (e, slot-fill-same n collectedBank seat signature store collected-bank inside room (g .sized)) g
       go s i (no d) =
-          rw (slot-fill-other n collectedBank seat signature store (omega arith) inside room (g .sized) collectedBank s (λ q. d (omega arith)))
-          (z .kept s (sym (bit-with-other s seat (own .collected) d) ∙ i))
+          let old : In s (own .collected) = sym (bit-with-other s seat (own .collected) d) ∙ i in
+          rw (slot-fill-other n collectedBank seat signature store collected-bank inside room (g .sized) collectedBank s (collected-bank .0) (in-below n s (own .collected) (z .below) old) (λ _ q. d (sym q)))
+          (z .kept s old)
 
   -- the first certificate's bank is as it was
   pub holding-beside : (n seat guilty : ℕ) (r : Record) (signature store : List ℕ) → seat < n → storeLength n ≤ length store → length signature ≡ signatureLength
@@ -177,7 +179,7 @@ module _ (checks : Checks) (W : Relation) where
     sized = z .sized;
     below = z .below;
     enough = z .enough;
-    kept = λ s i. rw (slot-fill-other n collectedBank seat signature store (omega arith) inside room sized firstBank s (λ q. omega arith)) (z .kept s i);
+    kept = λ s i. rw (slot-fill-other n collectedBank seat signature store collected-bank inside room sized firstBank s (first-bank .0) (in-below n s (r .first .seats) (z .below) i) (λ q _. omega arith)) (z .kept s i);
     guiltyBelow = z .guiltyBelow;
     guiltyWithin = z .guiltyWithin;
     unheld = z .unheld;
@@ -210,7 +212,7 @@ module _ (checks : Checks) (W : Relation) where
           first = holding-beside (r .n) seat (r .guilty) r signature (s .store) inside room (g .sized) (z .first);
           flags = record { full = λ e. absurd (true≢false (sym e ∙ unconfirmed)); confirmed = z .flags .confirmed };
         })
-        (fill-length (r .n) collectedBank seat signature (s .store) (omega arith) inside room (g .sized))
+        (fill-length (r .n) collectedBank seat signature (s .store) collected-bank inside room (g .sized))
         (record { n = refl; seat = refl; round = refl; said = λ e. (e, refl); heard = λ v h. h; held = λ v h. h })
         refl
         (same-flags r (collect seat signature s .unit) refl refl refl refl)
@@ -249,7 +251,7 @@ module _ (checks : Checks) (W : Relation) where
           first = holding-beside (r .n) (r .seat) (r .guilty) r signature (s .store) (z .range .inside) room (g .sized) (z .first);
           flags = record { full = λ e. absurd (let f = z .flags .full e in omega arith); confirmed = z .flags .confirmed };
         })
-        (fill-length (r .n) collectedBank (r .seat) signature (s .store) (omega arith) (z .range .inside) room (g .sized))
+        (fill-length (r .n) collectedBank (r .seat) signature (s .store) collected-bank (z .range .inside) room (g .sized))
         (record { n = refl; seat = refl; round = refl; said = λ e. absurd (true≢false (sym e ∙ unsaid)); heard = λ v h. h; held = λ v h. h })
         refl
         (record { ofRound = refl; ofSeat = refl; ofValue = refl; submitted = refl; sized = sized }, g)
@@ -388,7 +390,7 @@ module _ (checks : Checks) (W : Relation) where
               sized = z .own .collection .sized;
               below = z .own .collection .below;
               few = z .own .collection .few;
-              kept = λ t i. rw (slot-fillEach-other (r .n) firstBank (c .signature) (omega arith) (seats (r .n) (c .seats)) (s .store) collectedBank t certificate-fit room (λ u d q. let l = in-below (r .n) t (r .own .collected) (z .own .collection .below) i in omega arith)) (z .own .collection .kept t i);
+              kept = λ t i. rw (slot-fillEach-other (r .n) firstBank (c .signature) first-bank (seats (r .n) (c .seats)) (s .store) collectedBank t certificate-fit room (collected-bank .0) (in-below (r .n) t (r .own .collected) (z .own .collection .below) i) (λ u d q _. omega arith)) (z .own .collection .kept t i);
             };
             unsaid = z .own .unsaid;
             said = z .own .said;
@@ -398,14 +400,14 @@ module _ (checks : Checks) (W : Relation) where
             sized = y .sized;
             below = y .below;
             enough = inr (y .enough);
-            kept = λ t i. rw (slot-fillEach-same (r .n) firstBank (c .signature) (omega arith) (seats (r .n) (c .seats)) (s .store) t certificate-fit room (mem-seats (r .n) t (c .seats) .1 (in-below (r .n) t (c .seats) (y .below) i, i))) (y .kept t i);
+            kept = λ t i. rw (slot-fillEach-same (r .n) firstBank (c .signature) first-bank (seats (r .n) (c .seats)) (s .store) t certificate-fit room (mem-seats (r .n) t (c .seats) .1 (in-below (r .n) t (c .seats) (y .below) i, i))) (y .kept t i);
             guiltyBelow = z .first .guiltyBelow;
             guiltyWithin = rw innocent (shared-none (c .seats));
             unheld = λ e. absurd (certificate-some e);
           };
           flags = z .flags;
         })
-        (fillEach-length (r .n) firstBank (c .signature) (omega arith) (seats (r .n) (c .seats)) (s .store) certificate-fit room)
+        (fillEach-length (r .n) firstBank (c .signature) first-bank (seats (r .n) (c .seats)) (s .store) certificate-fit room)
         (record { n = refl; seat = refl; round = refl; said = λ e. (e, refl); heard = λ v h. h; held = λ v h. absurd (h .0 empty) })
         refl
         (same-flags r (hold c s .unit) refl refl refl refl)

@@ -10,8 +10,9 @@ use native.Mathlib.Omega.{arith}
 use borrow.Author.Tests.{le-ltb, eq-eqb, not-false}
 use Rattle.refusal.specs.Refusal.{firstOf, unrefused}
 use Rattle.protocol.specs.Values.{isLower}
-use Rattle.protocol.specs.Message.{Pair, Message, Submit, Notice, Full, Evidence, Garbled, render, renderAll, read, signed, entrySeats}
-use Rattle.protocol.specs.ReadLaws.{WellFormed, read-render}
+use Rattle.protocol.specs.Entries.{formSeats}
+use Rattle.protocol.specs.Message.{Pair, Message, Submit, Notice, Full, Evidence, Garbled, evidenceForm, render, renderAll, read, signed, entrySeats, WellFormed}
+use Rattle.protocol.specs.MessageLaws.{laid-values, read-render}
 use Rattle.protocol.specs.Certificate.{certificateIn, evidenceOf}
 use Rattle.protocol.specs.Refusals.{Checks, isFull, isEvidence, notLowerFirst, makingConditions}
 use Rattle.protocol.specs.Calls.{makingBy, making, made, checkedBy, evidenceCheck}
@@ -21,7 +22,7 @@ use Rattle.round.specs.Demand3.{Takes, NoneForged, NoneBlamed}
 use Rattle.reading.specs.Lists.{each-nil, each-one}
 use Rattle.claims.specs.Sound.{Certifies, Pairs, Good}
 use Rattle.claims.specs.Certificates.{certifies-of, evidence-elim}
-use Rattle.reading.specs.Reading.{Laid, read-laid, are-unique}
+use Rattle.reading.specs.Reading.{Sized, read-sized, are-unique}
 use Rattle.claims.specs.Unrefused.{Taken, signed-pairs, evidence-checked, making-taken, entries-taken}
 use Rattle.reading.specs.Messages.{refusalOf, cameTo, counted-written, unrefused-result}
 use Rattle.claims.specs.Journey.{WorthyGiven, Worthy, At, submit-value}
@@ -46,7 +47,7 @@ evidence-cases P (Evidence ρ lower higher ps) e f = f ρ lower higher ps
 evidence-cases P Garbled e f = absurd (false≢true e)
 
 -- the certificate of a FULL that a making takes
-pub certifies-in : (checks : Checks) (R : Relation) (n round : ℕ) (m : Message) → isFull m ≡ true → Taken checks n round m → Laid n m → EachSigned R m → Certifies checks R n (certificateIn m)
+pub certifies-in : (checks : Checks) (R : Relation) (n round : ℕ) (m : Message) → isFull m ≡ true → Taken checks n round m → Sized n m → EachSigned R m → Certifies checks R n (certificateIn m)
 unfolding isFull certificateIn
 certifies-in checks R n round (Submit ρ seat value signature) e t l w = absurd (false≢true e)
 certifies-in checks R n round (Notice ρ seat value) e t l w = absurd (false≢true e)
@@ -152,7 +153,7 @@ module _ (S : Setting) where
     named-in m evidence seat w e d = subst (λ x. List·Memᴰ seat (entrySeats x)) (ap (read n) e ∙ read-render n m w) d
 
     written-safe : (i j : I) (evidence : List ℕ) → WritesEvidence S (boat j) evidence → Names S evidence (boat i .seat) → ⊥
-    unfolding entrySeats
+    unfolding entrySeats formSeats evidenceForm
     written-safe i j evidence w d =
         let m = w .message in
         let stands = w .writes .stands in
@@ -171,14 +172,14 @@ module _ (S : Setting) where
     making-number h e = e
 
     making-unnamed : (i j : I) (h : InHand) (m : Message) → List·Memᴰ h (boat j .inHand) → firstOf (conditions h) ≡ 0 → StandsIn n m (makingOf S h) → List·Memᴰ (boat i .seat) (entrySeats m) → ⊥
-    unfolding unrefused renderAll entrySeats
+    unfolding unrefused renderAll entrySeats formSeats evidenceForm
     making-unnamed i j h m d e stands named =
         let a = read n (h .a) in
         let b = read n (h .b) in
         let t = making-taken checks n round keys a b (h .out) e in
         let r = takes .makings j h d (making-number h e) in
-        let ca = certifies-in checks R n round a (t .fullA) (t .takenA) (read-laid n (h .a)) (r .0) in
-        let cb = certifies-in checks R n round b (t .fullB) (t .takenB) (read-laid n (h .b)) (r .1) in
+        let ca = certifies-in checks R n round a (t .fullA) (t .takenA) (read-sized n (h .a)) (r .0) in
+        let cb = certifies-in checks R n round b (t .fullB) (t .takenB) (read-sized n (h .b)) (r .1) in
         let bytes : makingOf S h ≡ render (evidenceFrom h) = making-bytes h ∙ rw e in
         evidence-elim checks R (λ x. makingOf S h ≡ render x → ⊥) n round (certificateIn a) (certificateIn b) (t .some) ca cb (t .different)
         (λ lower higher ps z is.
@@ -200,13 +201,18 @@ module _ (S : Setting) where
             List·Memᴰ·not-nil (subst (λ ms. List·Memᴰ (w .message) ms) (are-unique n (makingOf S h) (w .stands .0) [] (w .stands .1) (each-nil (WellFormed n), making-refused h q e)) (w .stands .2))
 
     accepted-safe : (i : I) (evidence : List ℕ) → AcceptedFrom S R evidence → Names S evidence (boat i .seat) → ⊥
-    unfolding evidenceCheck checkedBy entrySeats notLowerFirst signed
+    unfolding evidenceCheck checkedBy entrySeats formSeats evidenceForm notLowerFirst signed
     accepted-safe i evidence a d =
         let t = evidence-checked checks n round keys (read n evidence) (a .0) in
-        evidence-cases (λ x. Taken checks n round x → notLowerFirst x ≡ false → EachSigned R x → List·Memᴰ (boat i .seat) (entrySeats x) → ⊥) (read n evidence) (t .0)
-        (λ ρ lower higher ps taken low r e. unnamed i i lower higher ps (not-false (isLower lower higher) low)
-        (λ p m. let c = signed-pairs (λ s v g. checks s v g ≡ true) lower higher ps (taken .checked) p m in let b = signed-pairs R lower higher ps r p m in (c .0, inl (b .0), c .1, inl (b .1))) e)
-        (t .1) (t .2) (a .1) d
+        evidence-cases (λ x. Taken checks n round x → notLowerFirst x ≡ false → Sized n x → EachSigned R x → List·Memᴰ (boat i .seat) (entrySeats x) → ⊥) (read n evidence) (t .0)
+        (λ ρ lower higher ps taken low sized r e.
+        let own = laid-values lower higher ps sized in
+        unnamed i i lower higher ps (not-false (isLower lower higher) low)
+        (λ p m.
+        let c = signed-pairs (λ s v g. checks s v g ≡ true) lower higher ps own (taken .checked) p m in
+        let b = signed-pairs R lower higher ps own r p m in
+        (c .0, inl (b .0), c .1, inl (b .1))) e)
+        (t .1) (t .2) (read-sized n evidence) (a .1) d
 
 -- ---- the claim
 

@@ -118,6 +118,7 @@ module _ (checks : Checks) (W : Relation) where
   pub record Pairs (n : ℕ) (lower higher : List ℕ) (ps : List Pair) : Type 0 where
     pub sizedLower : length lower ≡ valueLength
     pub sizedHigher : length higher ≡ valueLength
+    pub values : Each (λ (p : Pair). (lower ≡ p .lowerValue) × (higher ≡ p .higherValue)) ps
     pub ordered : isLower lower higher ≡ true
     pub named : t0 n + 1 ≤ size (setOf (map (λ (p : Pair). p .seat) ps))
     pub some : 1 ≤ length ps

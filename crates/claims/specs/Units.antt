@@ -7,8 +7,7 @@ use Prim.Native.Nat.{ℕ, _≤_}
 use native.Mathlib.Omega.{arith}
 use Rattle.quorum.specs.Quorum.{k}
 use Rattle.refusal.specs.Refusal.{unrefused}
-use Rattle.protocol.specs.Message.{Pair, Message, Submit, Notice, Full, Evidence, Garbled}
-use Rattle.protocol.specs.ReadLaws.{WellFormed}
+use Rattle.protocol.specs.Message.{Pair, Message, Submit, Notice, Full, Evidence, Garbled, WellFormed}
 use Rattle.protocol.specs.Record.{fresh, lastRound}
 use Rattle.protocol.specs.Refusals.{Checks, wrongKeys}
 use Rattle.protocol.specs.Calls.{openedBy, opening}
@@ -17,7 +16,7 @@ use Rattle.round.specs.Round.{Setting, IsOpened, Each, Relation, Call, BySubmit
 use Rattle.round.specs.Demand1.{Kind, SUBMIT, NOTICE, FULL, EVIDENCE, isOf, worth, writtenOver}
 use Rattle.reading.specs.Lists.{worth-le-one, worth-true, true-of-worth, count-pos, count-member}
 use Rattle.claims.specs.Sound.{flagOf, Grows, InRange, Settled, Pairs, Sound, Good}
-use Rattle.claims.specs.Certificates.{sized-entries, sized-pairs}
+use Rattle.claims.specs.Certificates.{entries-laid, pairs-laid}
 use Rattle.claims.specs.Parts.{grows-trans, good-grows}
 use Rattle.reading.specs.Reading.{are-unique}
 use Rattle.claims.specs.Unrefused.{opening-range}
@@ -37,14 +36,14 @@ pairs-formed checks W n round lower higher ps early z = (
   z .sizedHigher,
   z .some,
   (let f = z .few in let h = k-le n in omega arith),
-  sized-pairs ps (λ p d. z .lows p d .sized) (λ p d. z .highs p d .sized),
+  pairs-laid checks W n lower higher ps z,
 )
 
 pub good-formed : (checks : Checks) (W : Relation) (r : Record) (m : Message) → InRange (r .n) (r .seat) (r .round) → Good checks W r m → WellFormed (r .n) m
 good-formed checks W r (Submit ρ seat value signature) range g = (rw (g .0 .ofRound) (let e = range .early in omega arith), g .0 .sized, g .1 .sized)
 good-formed checks W r (Notice ρ seat value) range g = (rw (g .ofRound) (let e = range .early in omega arith), g .sized)
 good-formed checks W r (Full ρ sender value es) range g =
-    (rw (g .0 .ofRound) (let e = range .early in omega arith), g .0 .sized, g .1 .many, sized-entries es (λ e d. g .1 .kept e d .sized))
+    (rw (g .0 .ofRound) (let e = range .early in omega arith), g .0 .sized, g .1 .many, entries-laid checks W (r .n) value es (g .1))
 good-formed checks W r (Evidence ρ lower higher ps) range g = pairs-formed checks W (r .n) ρ lower higher ps (rw (g .0) (range .early)) (g .1)
 good-formed checks W r Garbled range g = absurd g
 

@@ -2,7 +2,7 @@
 -- Assumes nothing.
 use mathlib.Core.Path.{_≡_, refl, sym, ap, subst, _∙_}
 use mathlib.Core.Bool.{Bool, true, false, not, _&&_, _||_, true≢false}
-use mathlib.Core.List.{List, [], _∷_, map, List·Memᴰ·head, List·Memᴰ·tail, Memᴰ·map}
+use mathlib.Core.List.{List, [], _∷_, _++_, map, List·Memᴰ·head, List·Memᴰ·tail, Memᴰ·map}
 use mathlib.Core.Logic.{⊎-elim, _≢_}
 use Prim.Native.Nat.{ℕ, _≤_, _<_}
 use native.Mathlib.Omega.{arith}
@@ -17,16 +17,17 @@ use Rattle.refusal.specs.Refusal.{firstOf}
 use Rattle.refusal.specs.Laws.{firstOf-zero}
 use Rattle.protocol.specs.Layout.{valueLength, signatureLength, storeLength, outLength}
 use Rattle.protocol.specs.Values.{unset}
-use Rattle.protocol.specs.Message.{Entry, Pair, Message, Submit, Notice, Full, Evidence, Garbled, Signed, signedEntries, signedPairs, signed, roundOf, entrySeats, seatsOf}
+use Rattle.protocol.specs.Entries.{formSeats}
+use Rattle.protocol.specs.Message.{Entry, Pair, Message, Submit, Notice, Full, Evidence, Garbled, fullForm, evidenceForm, Signed, signedEntries, signedPairs, signed, roundOf, entrySeats, seatsOf}
 use Rattle.protocol.specs.Certificate.{certificateIn}
 use Rattle.protocol.specs.Record.{lastRound, wrongSize, wrongSeat, wrongRound, noneHeard, holds, outOfRange, wrongHeard, namesStranger, wrongCollected, wrongFirst, lacksFirst, wrongGuilty, wrongSent, wrongUnset, impossible}
-use Rattle.protocol.specs.Refusals.{Checks, every, wrongKeys, shortStore, shortOut, said, isForStep, isFull, isEvidence, wrongLengths, otherRound, stranger, rising, disorder, early, badSignature, notLowerFirst, formConditions, signatureConditions, outsideConditions, recordConditions, openingConditions, submitConditions, stepConditions, evidenceConditions, equalValues, certificateConditions, twoConditions, makingConditions}
+use Rattle.protocol.specs.Refusals.{Condition, Checks, every, wrongKeys, shortStore, shortOut, said, isForStep, isFull, isEvidence, wrongLengths, otherRound, stranger, rising, disorder, early, badSignature, notLowerFirst, NO-CONFLICT-IN, NO-CONFLICT-BETWEEN, messageConditions, outsideConditions, recordConditions, openingConditions, submitConditions, stepConditions, evidenceConditions, equalValues, certificateConditions, twoConditions, makingConditions}
 use Rattle.protocol.specs.declared.Record.{Record}
 use Rattle.round.specs.Round.{Each, Relation, EachSigned}
 use Rattle.reading.specs.Lists.{and-true-both, or-false-both, or-true-either, each-nil, each-cons, each-map, every-each, each-every}
 use Rattle.claims.specs.Sound.{InRange, Settled, Changed, Entries, Pairs, Sound}
 use Rattle.claims.specs.Whole.{Brings}
-use Rattle.reading.specs.Reading.{Laid}
+use Rattle.reading.specs.Reading.{Sized}
 
 -- ---- ranges
 
@@ -104,18 +105,46 @@ module _ (checks : Checks) (W : Relation) (r : Record) (store : List ℕ) (z : S
 
 -- ---- an opening that isn't refused
 
+some-of : (n : ℕ) → wrongSize n ≡ false → (1 ≤ n) × (n ≤ mostSeats)
+unfolding wrongSize
+some-of n e =
+    let s = or-false-both (eqb n 0) (ltb mostSeats n) e in
+    let nonzero = eqb-false n 0 (s .0) in
+    (omega arith, ltb-false mostSeats n (s .1))
+
 pub opening-range : (n seat round : ℕ) (keys : List ℕ) → firstOf (openingConditions n seat round keys) ≡ 0 → InRange n seat round × (wrongKeys n keys ≡ false)
-unfolding openingConditions wrongSize wrongSeat wrongRound
+unfolding openingConditions wrongSeat wrongRound
 opening-range n seat round keys e =
     let a = firstOf-zero 0 _ _ e in
     let b = firstOf-zero 1 _ _ (a .1) in
     let c = firstOf-zero 2 _ _ (b .1) in
     let d = firstOf-zero 4 _ _ (c .1) in
-    let s = or-false-both (eqb n 0) (ltb mostSeats n) (a .0) in
-    let nonzero = eqb-false n 0 (s .0) in (
-      record { some = omega arith; most = ltb-false mostSeats n (s .1); inside = leb-false n seat (b .0); early = ltb-false lastRound round (c .0) },
-      d .0,
-    )
+    let s = some-of n (a .0) in
+    (record { some = s .0; most = s .1; inside = leb-false n seat (b .0); early = ltb-false lastRound round (c .0) }, d .0)
+
+-- ---- what the lists of several calls start with, and what is left of them
+
+-- n, round and key table
+pub outside-passed : (n round : ℕ) (keys : List ℕ) (rest : List Condition) → firstOf (outsideConditions n round keys ++ rest) ≡ 0
+    → ((1 ≤ n) × (n ≤ mostSeats) × (round ≤ lastRound) × (wrongKeys n keys ≡ false)) × (firstOf rest ≡ 0)
+unfolding outsideConditions wrongRound
+outside-passed n round keys rest e =
+    let a = firstOf-zero 0 _ _ e in
+    let b = firstOf-zero 2 _ _ (a .1) in
+    let c = firstOf-zero 4 _ _ (b .1) in
+    let s = some-of n (a .0) in
+    ((s .0, s .1, ltb-false lastRound round (b .0), c .0), c .1)
+
+-- record, key table, store and out
+pub record-passed : (keys : List ℕ) (r : Record) (store out : List ℕ) (rest : List Condition) → firstOf (recordConditions keys r store out ++ rest) ≡ 0
+    → ((impossible r ≡ false) × (wrongKeys (r .n) keys ≡ false) × (storeLength (r .n) ≤ length store) × (outLength (r .n) ≤ length out)) × (firstOf rest ≡ 0)
+unfolding recordConditions shortStore shortOut
+record-passed keys r store out rest e =
+    let a = firstOf-zero 3 _ _ e in
+    let b = firstOf-zero 4 _ _ (a .1) in
+    let c = firstOf-zero 5 _ _ (b .1) in
+    let d = firstOf-zero 6 _ _ (c .1) in
+    ((a .0, b .0, ltb-false (length store) (storeLength (r .n)) (c .0), ltb-false (length out) (outLength (r .n)) (d .0)), d .1)
 
 -- ---- a submit that isn't refused
 
@@ -127,18 +156,15 @@ pub record SubmitTaken (checks : Checks) (r : Record) (store value signature : L
   pub checked : checks (r .seat) value signature ≡ true
 
 pub submit-taken : (checks : Checks) (keys : List ℕ) (r : Record) (store value signature out : List ℕ) → firstOf (submitConditions checks keys r store value signature out) ≡ 0 → SubmitTaken checks r store value signature
-unfolding submitConditions recordConditions signatureConditions shortStore said wrongLengths badSignature signed every
+unfolding submitConditions said wrongLengths badSignature signed every
 submit-taken checks keys r store value signature out e =
-    let a = firstOf-zero 3 _ _ e in
-    let b = firstOf-zero 4 _ _ (a .1) in
-    let c = firstOf-zero 5 _ _ (b .1) in
-    let d = firstOf-zero 6 _ _ (c .1) in
-    let f = firstOf-zero 7 _ _ (d .1) in
+    let lent = record-passed keys r store out _ e in
+    let f = firstOf-zero 7 _ _ (lent .1) in
     let g = firstOf-zero 8 _ _ (f .1) in
     let h = firstOf-zero 13 _ _ (g .1) in
     let lengths = or-false-both (not (eqb (length value) valueLength)) (not (eqb (length signature) signatureLength)) (g .0) in
     record {
-      room = ltb-false (length store) (storeLength (r .n)) (c .0);
+      room = lent .0 .2;
       unsaid = f .0;
       sizedValue = eqb-true (length value) valueLength (not-false (eqb (length value) valueLength) (lengths .0));
       sized = eqb-true (length signature) signatureLength (not-false (eqb (length signature) signatureLength) (lengths .1));
@@ -167,21 +193,27 @@ module _ (P : Relation) where
   abbrev pub ForPair : List ℕ → List ℕ → Pair → Type 0
   ForPair lower higher p = P (p .seat) lower (p .lower) × P (p .seat) higher (p .higher)
 
-  pub signed-pairs : (lower higher : List ℕ) (ps : List Pair) → Each ForSigned (signedPairs lower higher ps) → Each (ForPair lower higher) ps
-  unfolding signedPairs
-  signed-pairs lower higher [] h = each-nil (ForPair lower higher)
-  signed-pairs lower higher (p ∷ ps) h =
-      each-cons (ForPair lower higher) p ps (h _ (List·Memᴰ·head refl), h _ (List·Memᴰ·tail (List·Memᴰ·head refl)))
-      (signed-pairs lower higher ps (λ s d. h s (List·Memᴰ·tail (List·Memᴰ·tail d))))
+  -- over the message's values, which are each pair's own
+  module _ (lower higher : List ℕ) where
+    abbrev OwnValues : Pair → Type 0
+    OwnValues p = (lower ≡ p .lowerValue) × (higher ≡ p .higherValue)
 
-  pub pairs-signed : (lower higher : List ℕ) (ps : List Pair) → Each (ForPair lower higher) ps → Each ForSigned (signedPairs lower higher ps)
-  unfolding signedPairs
-  pairs-signed lower higher [] h = each-nil ForSigned
-  pairs-signed lower higher (p ∷ ps) h =
-      let both = h p (List·Memᴰ·head refl) in
-      let high : Signed = record { seat = p .seat; value = higher; signature = p .higher } in
-      each-cons ForSigned (record { seat = p .seat; value = lower; signature = p .lower }) (high ∷ signedPairs lower higher ps) (both .0)
-      (each-cons ForSigned high (signedPairs lower higher ps) (both .1) (pairs-signed lower higher ps (λ x d. h x (List·Memᴰ·tail d))))
+    pub signed-pairs : (ps : List Pair) → Each OwnValues ps → Each ForSigned (signedPairs ps) → Each (ForPair lower higher) ps
+    unfolding signedPairs
+    signed-pairs [] v h = each-nil (ForPair lower higher)
+    signed-pairs (p ∷ ps) v h =
+        let own = v p (List·Memᴰ·head refl) in
+        each-cons (ForPair lower higher) p ps (rw (own .0) (h _ (List·Memᴰ·head refl)), rw (own .1) (h _ (List·Memᴰ·tail (List·Memᴰ·head refl))))
+        (signed-pairs ps (λ x d. v x (List·Memᴰ·tail d)) (λ s d. h s (List·Memᴰ·tail (List·Memᴰ·tail d))))
+
+    pub pairs-signed : (ps : List Pair) → Each OwnValues ps → Each (ForPair lower higher) ps → Each ForSigned (signedPairs ps)
+    unfolding signedPairs
+    pairs-signed [] v h = each-nil ForSigned
+    pairs-signed (p ∷ ps) v h =
+        let own = v p (List·Memᴰ·head refl) in
+        let both = h p (List·Memᴰ·head refl) in
+        each-cons ForSigned _ _ (rw (← own .0) (both .0))
+        (each-cons ForSigned _ (signedPairs ps) (rw (← own .1) (both .1)) (pairs-signed ps (λ x d. v x (List·Memᴰ·tail d)) (λ x d. h x (List·Memᴰ·tail d))))
 
 -- ---- a message that isn't refused
 
@@ -210,53 +242,57 @@ of-taken checks n round m t = (
   rw (each-every (λ (s : Signed). checks (s .seat) (s .value) (s .signature)) (signed m) (t .checked)),
 )
 
+-- a message's rows, in any call's list: whether the call takes it, and whether it comes early
+module _ (checks : Checks) (n round : ℕ) (takes comes-early : Bool) (m : Message) (rest : List Condition) where
+  pub message-taken : firstOf (messageConditions checks n round takes comes-early m ++ rest) ≡ 0
+      → ((takes ≡ true) × Taken checks n round m × (comes-early ≡ false)) × (firstOf rest ≡ 0)
+  unfolding messageConditions
+  message-taken e =
+      let f = firstOf-zero 8 _ _ e in
+      let g = firstOf-zero 9 _ _ (f .1) in
+      let h = firstOf-zero 10 _ _ (g .1) in
+      let i = firstOf-zero 11 _ _ (h .1) in
+      let j = firstOf-zero 12 _ _ (i .1) in
+      let l = firstOf-zero 13 _ _ (j .1) in
+      ((not-false takes (f .0), taken-of checks n round m (g .0) (h .0) (i .0) (l .0), j .0), l .1)
+
+  pub message-passes : takes ≡ true → Taken checks n round m → comes-early ≡ false → firstOf (messageConditions checks n round takes comes-early m ++ rest) ≡ firstOf rest
+  unfolding messageConditions firstOf
+  message-passes f t g =
+      let h = of-taken checks n round m t in
+      rw (f, h .0, h .1, h .2, g, h .3)
+
 -- a step's
 pub step-taken : (checks : Checks) (keys : List ℕ) (r : Record) (store : List ℕ) (m : Message) (out : List ℕ) → firstOf (stepConditions checks keys r store m out) ≡ 0
     → (storeLength (r .n) ≤ length store) × (isForStep m ≡ true) × Taken checks (r .n) (r .round) m × (early r m ≡ false)
-unfolding stepConditions recordConditions formConditions signatureConditions shortStore
+unfolding stepConditions messageConditions
 step-taken checks keys r store m out e =
-    let a = firstOf-zero 3 _ _ e in
-    let b = firstOf-zero 4 _ _ (a .1) in
-    let c = firstOf-zero 5 _ _ (b .1) in
-    let d = firstOf-zero 6 _ _ (c .1) in
-    let f = firstOf-zero 8 _ _ (d .1) in
-    let g = firstOf-zero 9 _ _ (f .1) in
-    let h = firstOf-zero 10 _ _ (g .1) in
-    let i = firstOf-zero 11 _ _ (h .1) in
-    let j = firstOf-zero 12 _ _ (i .1) in
-    let l = firstOf-zero 13 _ _ (j .1) in
-    (ltb-false (length store) (storeLength (r .n)) (c .0), not-false (isForStep m) (f .0), taken-of checks (r .n) (r .round) m (g .0) (h .0) (i .0) (l .0), j .0)
+    let lent = record-passed keys r store out _ e in
+    let t = message-taken checks (r .n) (r .round) (isForStep m) (early r m) m [] (lent .1) .0 in
+    (lent .0 .2, t .0, t .1, t .2)
 
 pub step-unrefused : (checks : Checks) (keys : List ℕ) (r : Record) (store : List ℕ) (m : Message) (out : List ℕ) → impossible r ≡ false → wrongKeys (r .n) keys ≡ false
     → storeLength (r .n) ≤ length store → outLength (r .n) ≤ length out → isForStep m ≡ true → early r m ≡ false → Taken checks (r .n) (r .round) m
     → firstOf (stepConditions checks keys r store m out) ≡ 0
-unfolding stepConditions recordConditions formConditions signatureConditions shortStore shortOut firstOf
+unfolding stepConditions recordConditions messageConditions shortStore shortOut firstOf
 step-unrefused checks keys r store m out a b c d f g t =
-    let h = of-taken checks (r .n) (r .round) m t in
-    rw (a, b, le-ltb (length store) (storeLength (r .n)) c, le-ltb (length out) (outLength (r .n)) d, f, h .0, h .1, h .2, g, h .3)
+    rw (a, b, le-ltb (length store) (storeLength (r .n)) c, le-ltb (length out) (outLength (r .n)) d)
+    (message-passes checks (r .n) (r .round) (isForStep m) (early r m) m [] f t g)
 
 pub evidence-unrefused : (checks : Checks) (n seat round : ℕ) (keys : List ℕ) (m : Message) → InRange n seat round → wrongKeys n keys ≡ false → isEvidence m ≡ true
     → Taken checks n round m → notLowerFirst m ≡ false → firstOf (evidenceConditions checks n round keys m) ≡ 0
-unfolding evidenceConditions outsideConditions formConditions signatureConditions firstOf
+unfolding evidenceConditions outsideConditions messageConditions firstOf
 evidence-unrefused checks n seat round keys m range b f t low =
-    let h = of-taken checks n round m t in
-    rw (size-right n (range .some) (range .most), round-right round (range .early), b, f, h .0, h .1, h .2, h .3, low)
+    rw (size-right n (range .some) (range .most), round-right round (range .early), b)
+    (message-passes checks n round (isEvidence m) false m (NO-CONFLICT-IN m ∷ []) f t refl ∙ rw low)
 
 -- the evidence check's
 pub evidence-checked : (checks : Checks) (n round : ℕ) (keys : List ℕ) (m : Message) → firstOf (evidenceConditions checks n round keys m) ≡ 0
     → (isEvidence m ≡ true) × Taken checks n round m × (notLowerFirst m ≡ false)
-unfolding evidenceConditions outsideConditions formConditions signatureConditions
+unfolding evidenceConditions outsideConditions messageConditions
 evidence-checked checks n round keys m e =
-    let a = firstOf-zero 0 _ _ e in
-    let b = firstOf-zero 2 _ _ (a .1) in
-    let c = firstOf-zero 4 _ _ (b .1) in
-    let f = firstOf-zero 8 _ _ (c .1) in
-    let g = firstOf-zero 9 _ _ (f .1) in
-    let h = firstOf-zero 10 _ _ (g .1) in
-    let i = firstOf-zero 11 _ _ (h .1) in
-    let l = firstOf-zero 13 _ _ (i .1) in
-    let o = firstOf-zero 14 _ _ (l .1) in
-    (not-false (isEvidence m) (f .0), taken-of checks n round m (g .0) (h .0) (i .0) (l .0), o .0)
+    let t = message-taken checks n round (isEvidence m) false m (NO-CONFLICT-IN m ∷ []) (outside-passed n round keys _ e .1) in
+    (t .0 .0, t .0 .1, firstOf-zero 14 _ _ (t .1) .0)
 
 -- a making's: two certificates of different values
 pub record MakingTaken (checks : Checks) (n round : ℕ) (keys : List ℕ) (a b : Message) : Type 0 where
@@ -271,34 +307,21 @@ pub record MakingTaken (checks : Checks) (n round : ℕ) (keys : List ℕ) (a b 
   pub different : certificateIn a .value ≢ certificateIn b .value
 
 pub making-taken : (checks : Checks) (n round : ℕ) (keys : List ℕ) (a b : Message) (out : List ℕ) → firstOf (makingConditions checks n round keys a b out) ≡ 0 → MakingTaken checks n round keys a b
-unfolding makingConditions twoConditions certificateConditions outsideConditions formConditions signatureConditions equalValues wrongSize wrongRound
+unfolding makingConditions twoConditions certificateConditions messageConditions outsideConditions equalValues
 making-taken checks n round keys a b out e =
-    let p = firstOf-zero 0 _ _ e in
-    let q = firstOf-zero 2 _ _ (p .1) in
-    let r = firstOf-zero 4 _ _ (q .1) in
-    let s = firstOf-zero 6 _ _ (r .1) in
-    let f = firstOf-zero 8 _ _ (s .1) in
-    let g = firstOf-zero 9 _ _ (f .1) in
-    let h = firstOf-zero 10 _ _ (g .1) in
-    let i = firstOf-zero 11 _ _ (h .1) in
-    let l = firstOf-zero 13 _ _ (i .1) in
-    let f′ = firstOf-zero 8 _ _ (l .1) in
-    let g′ = firstOf-zero 9 _ _ (f′ .1) in
-    let h′ = firstOf-zero 10 _ _ (g′ .1) in
-    let i′ = firstOf-zero 11 _ _ (h′ .1) in
-    let l′ = firstOf-zero 13 _ _ (i′ .1) in
-    let o = firstOf-zero 14 _ _ (l′ .1) in
-    let sized = or-false-both (eqb n 0) (ltb mostSeats n) (p .0) in
-    let nonzero = eqb-false n 0 (sized .0) in
+    let outside = outside-passed n round keys _ e in
+    let t = message-taken checks n round (isFull a) false a _ (firstOf-zero 6 _ _ (outside .1) .1) in
+    let u = message-taken checks n round (isFull b) false b (NO-CONFLICT-BETWEEN a b ∷ []) (t .1) in
+    let o = firstOf-zero 14 _ _ (u .1) in
     record {
-      some = omega arith;
-      most = ltb-false mostSeats n (sized .1);
-      early = ltb-false lastRound round (q .0);
-      table = r .0;
-      fullA = not-false (isFull a) (f .0);
-      takenA = taken-of checks n round a (g .0) (h .0) (i .0) (l .0);
-      fullB = not-false (isFull b) (f′ .0);
-      takenB = taken-of checks n round b (g′ .0) (h′ .0) (i′ .0) (l′ .0);
+      some = outside .0 .0;
+      most = outside .0 .1;
+      early = outside .0 .2;
+      table = outside .0 .3;
+      fullA = t .0 .0;
+      takenA = t .0 .1;
+      fullB = u .0 .0;
+      takenB = u .0 .1;
       different = λ d. true≢false (sym (same-refl (certificateIn b .value)) ∙ subst (λ (v : List ℕ). same v (certificateIn b .value) ≡ false) d (o .0));
     }
 
@@ -315,19 +338,19 @@ module _ (checks : Checks) (W : Relation) where
   }
 
   -- a FULL that a call takes
-  pub entries-taken : (n round ρ sender : ℕ) (value : List ℕ) (es : List Entry) → Taken checks n round (Full ρ sender value es) → Laid n (Full ρ sender value es) → EachSigned W (Full ρ sender value es) → Entries checks W n value es
-  unfolding signed seatsOf entrySeats
+  pub entries-taken : (n round ρ sender : ℕ) (value : List ℕ) (es : List Entry) → Taken checks n round (Full ρ sender value es) → Sized n (Full ρ sender value es) → EachSigned W (Full ρ sender value es) → Entries checks W n value es
+  unfolding signed seatsOf entrySeats formSeats fullForm
   entries-taken n round ρ sender value es t l w = record {
     sized = l .0;
     many = l .1;
     rise = t .rises;
     below = λ e d. t .inside (e .seat) (List·Memᴰ·tail (Memᴰ·map (λ (x : Entry). x .seat) d));
-    kept = entries-kept value es (t .checked) w (l .2);
+    kept = entries-kept value es (t .checked) w (λ e d. l .2 e d .0);
   }
 
   -- a FULL that a unit wrote, to another
   pub full-taken : (n ρ sender : ℕ) (value : List ℕ) (es : List Entry) → sender < n → Entries checks W n value es → Taken checks n ρ (Full ρ sender value es)
-  unfolding roundOf signed seatsOf entrySeats
+  unfolding roundOf signed seatsOf entrySeats formSeats fullForm
   full-taken n ρ sender value es l z = record {
     inRound = refl;
     inside = each-cons (λ s. s < n) sender (map (λ (e : Entry). e .seat) es) l (each-map (λ s. s < n) (λ (e : Entry). e .seat) es (z .below));
@@ -336,15 +359,15 @@ module _ (checks : Checks) (W : Relation) where
   }
 
   pub evidence-taken : (n ρ : ℕ) (lower higher : List ℕ) (ps : List Pair) → Pairs checks W n lower higher ps → Taken checks n ρ (Evidence ρ lower higher ps)
-  unfolding roundOf signed seatsOf entrySeats
+  unfolding roundOf signed seatsOf entrySeats formSeats evidenceForm
   evidence-taken n ρ lower higher ps z = record {
     inRound = refl;
     inside = each-map (λ s. s < n) (λ (p : Pair). p .seat) ps (z .below);
     rises = z .rise;
-    checked = pairs-signed (λ s v g. checks s v g ≡ true) lower higher ps (λ p d. (z .lows p d .checked, z .highs p d .checked));
+    checked = pairs-signed (λ s v g. checks s v g ≡ true) lower higher ps (z .values) (λ p d. (z .lows p d .checked, z .highs p d .checked));
   }
 
-  pub brings : (r : Record) (m : Message) → Taken checks (r .n) (r .round) m → early r m ≡ false → Laid (r .n) m → EachSigned W m → Brings checks W r m
+  pub brings : (r : Record) (m : Message) → Taken checks (r .n) (r .round) m → early r m ≡ false → Sized (r .n) m → EachSigned W m → Brings checks W r m
   unfolding early signed seatsOf
   brings r (Submit ρ seat value signature) t e l w = (
     not-false (r .own .submitted) e,

@@ -11,7 +11,7 @@ use native.Mathlib.Omega.{arith}
 use lib.Count.{ones}
 use lib.ListN.{length, replicate, length-replicate}
 use Rattle.quorum.specs.Quorum.{t0, k, bit, In, shared, seats}
-use Rattle.protocol.specs.Layout.{valueLength, storeLength, outLength}
+use Rattle.protocol.specs.Layout.{signatureLength, valueLength, storeLength, outLength}
 use Rattle.protocol.specs.Message.{byteAt}
 use Rattle.protocol.specs.Record.{lastRound}
 use Rattle.reading.specs.Lists.{each-nil}
@@ -148,7 +148,7 @@ room : (n m : ℕ) → m ≤ n → m ≤ length (zeros n)
 room n m h = rw (length-repeated n 0) h
 
 abbrev pub plain : Material
-plain = record { seed = λ s. zeros 32; identifier = λ s. zeros 16; tree = λ s. zeros 65536; randomizer = λ side s. zeros 32; keyOut = zeros 56; signOut = zeros 1452 }
+plain = record { seed = λ s. zeros 32; identifier = λ s. zeros 16; tree = λ s. zeros 65536; randomizer = λ side s. zeros 32; keyOut = zeros 56; signOut = zeros signatureLength }
 
 plain-stated : Stated plain
 plain-stated = record {
@@ -157,16 +157,15 @@ plain-stated = record {
   trees = λ s. length-repeated 65536 0;
   randomizers = λ side s. length-repeated 32 0;
   keyRoom = room 56 56 (omega arith);
-  signRoom = room 1452 1452 (omega arith);
+  signRoom = room signatureLength signatureLength (omega arith);
 }
 
 abbrev pub sevenOrNine : Bool → List ℕ
 sevenOrNine false = replicate 32 7
 sevenOrNine true = replicate 32 9
 
-pub run-of-7 : Split (setting 7 5 (madeKeys plain 7)) (planWith 5 sevenOrNine plain (zeros 20328) (zeros 23429) fleetOf7)
-unfolding k t0 storeLength outLength
+pub run-of-7 : Split (setting 7 5 (madeKeys plain 7)) (planWith 5 sevenOrNine plain (zeros (storeLength 7)) (zeros (outLength 7)) fleetOf7)
 run-of-7 =
-    fleet-of-7 5 sevenOrNine plain (zeros 20328) (zeros 23429) (omega arith) (λ side. elim side [ false ↦ length-repeated 32 7 | true ↦ length-repeated 32 9 ])
+    fleet-of-7 5 sevenOrNine plain (zeros (storeLength 7)) (zeros (outLength 7)) (omega arith) (λ side. elim side [ false ↦ length-repeated 32 7 | true ↦ length-repeated 32 9 ])
     (λ e. let h = ap (λ (l : List ℕ). byteAt l 0) e in omega arith)
-    plain-stated (room 20328 (storeLength 7) (omega arith)) (room 23429 (outLength 7) (omega arith))
+    plain-stated (room (storeLength 7) (storeLength 7) (omega arith)) (room (outLength 7) (outLength 7) (omega arith))

@@ -16,7 +16,7 @@ use Rattle.rfc8554.specs.Tree.{publicKey, treeFilled}
 use Rattle.rfc8554.specs.TreeLaws.{length-treeFilled}
 use Rattle.rfc8554.specs.VerifyLaws.{length-publicKey, lmsType-publicKey, otsType-publicKey}
 use Rattle.protocol.specs.Signatures.{MadeKey, MadeSignature, makeKey, sign, signedBytes, seatKey, checks}
-use Rattle.protocol.specs.SignatureLaws.{length-signedBytes, length-lmsSignature-six-four, makeKey-unrefused, sign-unrefused}
+use Rattle.protocol.specs.SignaturesLaws.{length-signedBytes, length-lmsSignature-six-four, makeKey-unrefused, sign-unrefused}
 use Rattle.protocol.specs.SignatureClaim.{made-signature-checks}
 use Rattle.protocol.specs.Layout.{valueLength, signatureLength}
 use Rattle.claims.specs.NotRefused.{Table}
@@ -37,7 +37,7 @@ pub record Stated (M : Material) : Type 0 where
   pub trees : (s : ℕ) → length (M .tree s) ≡ 65536
   pub randomizers : (side : Bool) (s : ℕ) → length (M .randomizer side s) ≡ 32
   pub keyRoom : 56 ≤ length (M .keyOut)
-  pub signRoom : 1452 ≤ length (M .signOut)
+  pub signRoom : signatureLength ≤ length (M .signOut)
 
 module _ (M : Material) where
   -- the key of a seat, with its tree, and the table of n seats
@@ -101,5 +101,6 @@ module _ (M : Material) where
           ∙ length-lmsSignature-six-four id round (M .seed s) (M .randomizer side s) message tree early (f .randomizers side s) filled
 
       pub signature-checks : (n : ℕ) (side : Bool) (s : ℕ) → s < n → checks (madeKeys n) round s (layout side) (madeSignature round layout side s) ≡ true
+      unfolding signatureLength
       signature-checks n side s h =
           made-signature-checks (M .seed s) (M .identifier s) (M .randomizer side s) (f .seeds s) (f .identifiers s) (f .randomizers side s) (M .tree s) (M .keyOut) (M .signOut) (f .trees s) (f .keyRoom) (f .signRoom) round early (madeKeys n) s (layout side) (layouts side) (seat-key n s h)

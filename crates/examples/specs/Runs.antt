@@ -1,12 +1,13 @@
 -- Small runs of whole calls, computed.
 -- Assumes nothing.
-use Prim.Native.Nat.{ℕ, _*_}
+use Prim.Native.Nat.{ℕ, _-_}
 use mathlib.Core.Bool.{Bool, true, false, not, _&&_}
 use mathlib.Core.List.{List, [], _∷_, _++_}
 use lib.Dec.{T, eqb}
 use lib.ListN.{length, replicate}
 use Rattle.quorum.specs.Quorum.{seats}
 use Rattle.octets.specs.Strings.{same}
+use Rattle.protocol.specs.Layout.{signatureLength, storeLength, outLength, evidenceOutLength}
 use Rattle.protocol.specs.Message.{Entry, Pair, Message, Submit, Notice, Full, Evidence, render, renderAll}
 use Rattle.protocol.specs.declared.Record.{Record}
 use Rattle.protocol.specs.Record.{withOwn, withNotices, withFirst, withSent, withGuilty, fresh, zeros, impossible}
@@ -18,16 +19,16 @@ use Rattle.trials.specs.Toy.{unfolded, toy, layout, sign, keys, submitBy, entry
 
 -- the unit of seat 0 among n in round 5, after an opening and before its first call
 abbrev opened : ℕ → Result
-opened n = record { refusal = 0; unit = fresh n 0 5; store = replicate (2904 * n) 1; written = [] }
+opened n = record { refusal = 0; unit = fresh n 0 5; store = replicate (storeLength n) 1; written = [] }
 
 abbrev room : ℕ → List ℕ
 room length = replicate length 0
 
 abbrev submits : Result → ℕ → Result
-submits r b = submit toy (keys (r .unit .n)) (r .unit) (r .store) (layout b) (sign 0 b) (room 14709)
+submits r b = submit toy (keys (r .unit .n)) (r .unit) (r .store) (layout b) (sign 0 b) (room (outLength 4))
 
 abbrev given : Result → List ℕ → Result
-given r bytes = step toy (keys (r .unit .n)) (r .unit) (r .store) bytes (room 14709)
+given r bytes = step toy (keys (r .unit .n)) (r .unit) (r .store) bytes (room (outLength 4))
 
 abbrev hears : Result → Message → Result
 hears r m = given r (render m)
@@ -65,7 +66,7 @@ unfolding unfolded
 threeConfirm =
     let a = submits (opened 4) 7 in
     let b = hears a (submitBy 2 7) in
-    let c = hears b (Submit 5 2 (layout 7) (2 ∷ 7 ∷ replicate 1450 3)) in
+    let c = hears b (Submit 5 2 (layout 7) (2 ∷ 7 ∷ replicate (signatureLength - 2) 3)) in
     let d = hears c (submitBy 1 9) in
     let e = hears d (submitBy 3 7) in
     let f = hears e (submitBy 1 7) in
@@ -80,7 +81,7 @@ threeConfirm =
     && not (f .unit .sent)
     && eqb (f .unit .own .collected) 13
     && eqb (f .unit .first .seats) 13
-    && same (f .store) (sign 0 7 ++ replicate 1452 1 ++ sign 2 7 ++ sign 3 7 ++ sign 0 7 ++ replicate 1452 1 ++ sign 2 7 ++ sign 3 7)
+    && same (f .store) (sign 0 7 ++ replicate signatureLength 1 ++ sign 2 7 ++ sign 3 7 ++ sign 0 7 ++ replicate signatureLength 1 ++ sign 2 7 ++ sign 3 7)
 
 threeConfirm-run : T threeConfirm
 unfolding threeConfirm
@@ -106,11 +107,11 @@ noticeFirst-run = tt
 
 -- ---- two certificates of four seats: NOTICE, FULL and EVIDENCE in one call
 
-abbrev pairBy : ℕ → Pair
-pairBy seat = record { seat = seat; lower = sign seat 7; higher = sign seat 9 }
+abbrev pairBy : ℕ → ℕ → ℕ → Pair
+pairBy low high seat = record { seat = seat; lowerValue = layout low; higherValue = layout high; lower = sign seat low; higher = sign seat high }
 
 abbrev evidenceBoth : Message
-evidenceBoth = Evidence 5 (layout 7) (layout 9) (pairBy 1 ∷ pairBy 2 ∷ [])
+evidenceBoth = Evidence 5 (layout 7) (layout 9) (pairBy 7 9 1 ∷ pairBy 7 9 2 ∷ [])
 
 -- the unit holds a certificate of the layout 9 and confirms the layout 7; a third certificate is answered by nothing
 conflict : Bool
@@ -126,7 +127,7 @@ conflict =
     && writes c (Notice 5 0 (layout 7) ∷ fullBy 7 0 1 2 ∷ evidenceBoth ∷ [])
     && eqb (c .unit .guilty) 6
     && c .unit .sent
-    && same (c .store) (sign 0 7 ++ sign 1 7 ++ sign 2 7 ++ replicate 1452 1 ++ replicate 1452 1 ++ sign 1 9 ++ sign 2 9 ++ sign 3 9)
+    && same (c .store) (sign 0 7 ++ sign 1 7 ++ sign 2 7 ++ replicate signatureLength 1 ++ replicate signatureLength 1 ++ sign 1 9 ++ sign 2 9 ++ sign 3 9)
     && writes d []
     && eqb (d .unit .guilty) 6
 
@@ -144,10 +145,9 @@ heardConflicts =
     let lower = hears a (fullBy 3 1 2 3) in
     let held = hears a (fullBy 7 1 2 3) in
     let silent = hears (hears (opened 4) (fullBy 7 0 1 2)) (fullBy 9 1 2 3) in
-    let pair : ℕ → Pair = λ seat. record { seat = seat; lower = sign seat 3; higher = sign seat 7 } in
     writes higher (fullBy 7 0 1 2 ∷ evidenceBoth ∷ [])
     && eqb (higher .unit .guilty) 6
-    && writes lower (fullBy 7 0 1 2 ∷ Evidence 5 (layout 3) (layout 7) (pair 1 ∷ pair 2 ∷ []) ∷ [])
+    && writes lower (fullBy 7 0 1 2 ∷ Evidence 5 (layout 3) (layout 7) (pairBy 3 7 1 ∷ pairBy 3 7 2 ∷ []) ∷ [])
     && writes held []
     && same (held .store) (a .store)
     && eqb (held .unit .first .seats) 7
@@ -165,8 +165,8 @@ unfolding unfolded
 evidenceCalls =
     let seven = render (fullBy 7 0 1 2) in
     let nine = render (fullBy 9 1 2 3) in
-    let made1 = making toy 4 5 (keys 4) seven nine (room 8786) in
-    let made2 = making toy 4 5 (keys 4) nine seven (room 8786) in
+    let made1 = making toy 4 5 (keys 4) seven nine (room (evidenceOutLength 4)) in
+    let made2 = making toy 4 5 (keys 4) nine seven (room (evidenceOutLength 4)) in
     let check = evidenceCheck toy 4 5 (keys 4) (render evidenceBoth) in
     eqb (made1 .refusal) 0
     && same (made1 .written) (render evidenceBoth)
@@ -259,8 +259,8 @@ impossibles-run = tt
 owed : Bool
 unfolding unfolded
 owed =
-    let at : Record → Result = λ r. record { refusal = 0; unit = r; store = replicate 11616 1; written = [] } in
-    let entry : ℕ → Entry = λ seat. record { seat = seat; signature = replicate 1452 1 } in
+    let at : Record → Result = λ r. record { refusal = 0; unit = r; store = replicate (storeLength 4) 1; written = [] } in
+    let entry : ℕ → Entry = λ seat. record { seat = seat; signature = replicate signatureLength 1 } in
     writes (hears (at (confirmedWith false 2 (layout 9))) (submitBy 3 7)) (Full 5 0 (layout 7) (entry 0 ∷ entry 1 ∷ entry 2 ∷ []) ∷ [])
     && writes (hears (at (confirmedWith false 0 (layout 0))) (submitBy 3 7)) []
     && writes (hears (at (confirmedWith false 1 (layout 7))) (submitBy 3 7)) []
@@ -293,7 +293,7 @@ unfolding unfolded
 submitsRefused =
     let fresh4 = opened 4 .unit in
     let store = opened 4 .store in
-    let out = room 14709 in
+    let out = room (outLength 4) in
     refuses (submit toy (keys 4) zeros store (layout 7) (sign 0 7) out) 4
     && refuses (submit toy (keys 3) fresh4 (room 11615) (layout 7) (sign 0 7) out) 5
     && refuses (submit toy (keys 4) fresh4 (room 11615) (layout 7) (sign 0 7) (room 14708)) 6
@@ -341,20 +341,20 @@ evidenceRefused =
     let nine = render (fullBy 9 1 2 3) in
     let bad = render (Full 5 1 (layout 9) (entryBy 9 1 ∷ entryBy 9 2 ∷ entryBy 7 3 ∷ [])) in
     let twice : Pair → Message = λ p. Evidence 5 (layout 7) (layout 9) (p ∷ p ∷ []) in
-    let made : List ℕ → List ℕ → ℕ = λ a b. making toy 4 5 (keys 4) a b (room 8786) .refusal in
+    let made : List ℕ → List ℕ → ℕ = λ a b. making toy 4 5 (keys 4) a b (room (evidenceOutLength 4)) .refusal in
     eqb (evidenceCheck toy 33 1024 [] [] .number) 1
     && eqb (evidenceCheck toy 4 1024 [] [] .number) 3
     && eqb (evidenceCheck toy 4 5 (keys 3) [] .number) 5
     && eqb (evidenceCheck toy 4 5 (keys 4) [] .number) 9
     && eqb (check (Evidence 5 (layout 7) (layout 9) [])) 9
     && eqb (check (fullBy 7 0 1 2)) 9
-    && eqb (check (Evidence 6 (layout 7) (layout 9) (pairBy 1 ∷ []))) 10
-    && eqb (check (Evidence 5 (layout 7) (layout 9) (pairBy 4 ∷ []))) 11
-    && eqb (check (twice (pairBy 1))) 12
-    && eqb (check (Evidence 5 (layout 9) (layout 7) (pairBy 1 ∷ []))) 14
-    && eqb (check (Evidence 5 (layout 9) (layout 7) (record { seat = 1; lower = sign 1 9; higher = sign 1 7 } ∷ []))) 15
-    && eqb (check (Evidence 5 (layout 7) (layout 7) (record { seat = 1; lower = sign 1 7; higher = sign 1 7 } ∷ []))) 15
-    && eqb (making toy 4 5 (keys 4) [] [] (room 8785) .refusal) 7
+    && eqb (check (Evidence 6 (layout 7) (layout 9) (pairBy 7 9 1 ∷ []))) 10
+    && eqb (check (Evidence 5 (layout 7) (layout 9) (pairBy 7 9 4 ∷ []))) 11
+    && eqb (check (twice (pairBy 7 9 1))) 12
+    && eqb (check (Evidence 5 (layout 9) (layout 7) (pairBy 7 9 1 ∷ []))) 14
+    && eqb (check (Evidence 5 (layout 9) (layout 7) (pairBy 9 7 1 ∷ []))) 15
+    && eqb (check (Evidence 5 (layout 7) (layout 7) (pairBy 7 7 1 ∷ []))) 15
+    && eqb (making toy 4 5 (keys 4) [] [] (room (evidenceOutLength 4 - 1)) .refusal) 7
     && eqb (made bad []) 14
     && eqb (made seven []) 9
     && eqb (made seven bad) 14

@@ -15,9 +15,10 @@ use Rattle.quorum.specs.Quorum.{k, bit, In, has, size, shared, with, seats}
 use Rattle.quorum.specs.Laws.{bit-cases, has-true, bit-with-same, bit-with-other, bit-shared, same-seats, shared-comm, size-shared-le, size-with-new, mem-seats}
 use Rattle.refusal.specs.Refusal.{firstOf, unrefused}
 use Rattle.protocol.specs.Layout.{storeLength, outLength, evidenceEntryLength, evidenceEntryAt, evidenceLength, evidenceOutLength}
-use Rattle.protocol.specs.Message.{Entry, Message, Submit, Notice, Full, Evidence, Garbled, Signed, render, renderAll, read, roundOf, entrySeats, seatsOf, signed}
-use Rattle.protocol.specs.ReadLaws.{WellFormed, read-render}
-use Rattle.protocol.specs.Laws.{in-set, set-seats}
+use Rattle.protocol.specs.Entries.{formSeats}
+use Rattle.protocol.specs.Message.{Entry, Message, Submit, Notice, Full, Evidence, Garbled, Signed, render, renderAll, read, roundOf, entrySeats, seatsOf, signed, WellFormed, fullForm}
+use Rattle.protocol.specs.MessageLaws.{read-render}
+use Rattle.protocol.specs.CertificateLaws.{in-set, set-seats}
 use Rattle.protocol.specs.Certificate.{setOf, ownCertificate, certificateOf, certificateIn, entryOf, entriesOf, fullOf}
 use Rattle.protocol.specs.Refusals.{isForStep, isFull, isEvidence, rising, early}
 use Rattle.protocol.specs.Step.{State, write, collect, isWanted, hearSubmit, reply, isComplete, confirm, hearOwn, confirmIfComplete, submitted, stepped}
@@ -28,10 +29,10 @@ use Rattle.round.specs.Demand1.{SUBMIT, NOTICE, isNotice, isOf}
 use Rattle.round.specs.Demand3.{NoneForged, ReachedOthers}
 use Rattle.reading.specs.Lists.{cond-elim, and-false-either, worth-le-one, worth-true, true-of-worth, count-nil, each-nil, each-cons, each-one, each-append, each-map, rising-first}
 use Rattle.claims.specs.Sound.{Settled, Changed, Certifies, Entries, Sound, Said}
-use Rattle.claims.specs.Certificates.{set-size, seats-rising, sized-entries, entry-seats, entries-of, evidence-elim}
+use Rattle.claims.specs.Certificates.{set-size, seats-rising, entries-laid, entry-seats, entries-of, evidence-elim}
 use Rattle.claims.specs.Parts.{in-below}
 use Rattle.claims.specs.Whole.{reply-stays, hearing-stays, Done, submitted-done, submitted-value, stepped-done}
-use Rattle.reading.specs.Reading.{Laid, read-laid}
+use Rattle.reading.specs.Reading.{Sized, read-sized}
 use Rattle.reading.specs.Messages.{refusalOf, cameTo, outcome-is, step-is}
 use Rattle.claims.specs.Unrefused.{possible, Taken, entries-signed, full-taken, brings, making-taken}
 use Rattle.claims.specs.Journey.{lastOf, WorthyGiven, Worthy}
@@ -208,7 +209,7 @@ module _ (S : Setting) {I : Type 0} (P : Plan I) (z : Splits S P) where
       let s = role (leader side) .seat in
       let es = entriesOf n (certificate S P side) in
       record {
-        formed = (short, z .layouts side, entries side .many, sized-entries es (λ e d. entries side .kept e d .sized));
+        formed = (short, z .layouts side, entries side .many, entries-laid checks W n (layout side) es (entries side));
         forStep = refl;
         taken = full-taken checks W n round s (layout side) es (inside side s (sender-in side)) (entries side);
         worthy = entries-signed W (layout side) es (λ e d. entries side .kept e d .worthy);
@@ -309,7 +310,7 @@ module _ (S : Setting) {I : Type 0} (P : Plan I) (z : Splits S P) where
       leaves = outcome-is S (given S P m) r s ∙ rw (passes, step-is S (given S P m) (render m) out r s (given-step m) .1, reads)
 
       done : Done checks W (start r s) t
-      done = stepped-done checks W (start r s) (y .sound) roomy (y .settled) m (brings checks W r m taken-here timely (subst (Laid (r .n)) reads (read-laid (r .n) (render m))) (x .worthy))
+      done = stepped-done checks W (start r s) (y .sound) roomy (y .settled) m (brings checks W r m taken-here timely (subst (Sized (r .n)) reads (read-sized (r .n) (render m))) (x .worthy))
 
       next : Ready (t .unit) (t .store)
       next =
@@ -633,7 +634,7 @@ module _ (S : Setting) {I : Type 0} (P : Plan I) (z : Splits S P) where
   -- ---- evidence made from the two certificates
 
   making-room : evidenceOutLength n ≤ length out
-  unfolding evidenceOutLength evidenceLength evidenceEntryAt evidenceEntryLength outLength
+  unfolding evidenceOutLength outLength
   making-room = let r = z .outRoom in omega arith
 
   fulls-differ : certificateIn (fullBy S P false) .value ≢ certificateIn (fullBy S P true) .value
@@ -662,7 +663,7 @@ module _ (S : Setting) {I : Type 0} (P : Plan I) (z : Splits S P) where
   accuses = made-accepted S (inHand S P) making-passes
 
   full-signers : (b : Bool) → certificateIn (read n (render (fullBy S P b))) .seats ≡ signers b
-  unfolding fullOf certificateIn certificateOf
+  unfolding fullOf certificateIn certificateOf formSeats fullForm
   full-signers b = rw (read-render n (fullBy S P b) (full-sent b .formed), entry-seats n (certificate S P b)) (set-seats n (signers b) (z .fits .below b))
 
   -- it is one EVIDENCE
@@ -672,8 +673,8 @@ module _ (S : Setting) {I : Type 0} (P : Plan I) (z : Splits S P) where
       let h = inHand S P in
       let zero : firstOf (conditions S h) ≡ 0 = making-passes in
       let t = making-taken checks n round keys (read n (h .a)) (read n (h .b)) out zero in
-      let ca = certifies-in checks Any n round (read n (h .a)) (t .fullA) (t .takenA) (read-laid n (h .a)) (λ s d. tt) in
-      let cb = certifies-in checks Any n round (read n (h .b)) (t .fullB) (t .takenB) (read-laid n (h .b)) (λ s d. tt) in
+      let ca = certifies-in checks Any n round (read n (h .a)) (t .fullA) (t .takenA) (read-sized n (h .a)) (λ s d. tt) in
+      let cb = certifies-in checks Any n round (read n (h .b)) (t .fullB) (t .takenB) (read-sized n (h .b)) (λ s d. tt) in
       let bytes : makingOf S h ≡ render (evidenceFrom S h) = making-bytes S h ∙ rw zero in
       evidence-elim checks Any (λ m. makingOf S h ≡ render m → MakesEvidence S (boat S P i) (makingOf S h)) n round (certificateIn (read n (h .a))) (certificateIn (read n (h .b))) (z .fits .some) ca cb (t .different)
       (λ lower higher ps y is.

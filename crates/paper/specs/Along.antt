@@ -14,7 +14,8 @@ use Rattle.quorum.specs.Quorum.{k, bit, In}
 use Rattle.quorum.specs.Laws.{bit-empty, has-true, size-empty}
 use Rattle.refusal.specs.Refusal.{firstOf, unrefused}
 use Rattle.protocol.specs.Layout.{signatureLength, collectedBank, firstBank}
-use Rattle.protocol.specs.Message.{Entry, Message, Submit, Notice, Full, Evidence, Garbled, read, entrySeats, seatsOf}
+use Rattle.protocol.specs.Entries.{formSeats}
+use Rattle.protocol.specs.Message.{Entry, Message, Submit, Notice, Full, Evidence, Garbled, fullForm, read, entrySeats, seatsOf}
 use Rattle.protocol.specs.Certificate.{slot, signatureOf}
 use Rattle.protocol.specs.Record.{fresh}
 use Rattle.protocol.specs.Refusals.{stepConditions}
@@ -24,7 +25,7 @@ use Rattle.protocol.specs.declared.Record.{Record}
 use Rattle.round.specs.Round.{Setting, Each, Call, BySubmit, ByStep, ByThinEntry, Called, outcome, resultOf, listFrom, writtenIn, Are, StandsIn}
 use Rattle.reading.specs.Lists.{cond-elim, or-true-either, each-nil, each-append}
 use Rattle.claims.specs.Parts.{k-pos}
-use Rattle.reading.specs.Reading.{Laid, read-laid}
+use Rattle.reading.specs.Reading.{Sized, read-sized}
 use Rattle.claims.specs.Unrefused.{submit-taken, Taken, step-taken, brings}
 use Rattle.reading.specs.Messages.{refusalOf, cameTo, outcome-is, messages}
 use Rattle.claims.specs.Units.{Any}
@@ -65,7 +66,7 @@ module _ (S : Setting) (seat : ℕ) (some-seats : 1 ≤ S .n) (inside : seat < S
       let r = kept n seat round m in
       let msg = read n bytes in
       let t = step-taken checks keys r store msg out q in
-      step-is n seat round checks keys m store msg some-seats (t .0) z (brings checks Any r msg (t .2) (t .3) (read-laid n bytes) (λ s d. tt))
+      step-is n seat round checks keys m store msg some-seats (t .0) z (brings checks Any r msg (t .2) (t .3) (read-sized n bytes) (λ s d. tt))
 
   comes : (c : Call) (m : Machine) (store : List ℕ) → Mirrors n store m → refusalOf S c (kept n seat round m) store ≡ 0
       → Comes n seat round (cameTo c (kept n seat round m) store) (reactTo checks n seat (eventOf n 0 c) m)
@@ -152,8 +153,8 @@ module _ (S : Setting) (seat : ℕ) (some-seats : 1 ≤ S .n) (inside : seat < S
     still-good : (m : Machine) → Has m → Done (record { machine = m; actions = [] })
     still-good m z = (z, each-nil (Sent checks n seat Happened some-seats inside))
 
-    step-good : (msg : Message) (m : Machine) → Taken checks n round msg → Laid n msg → ((e : Event) → delivered msg ≡ some e → Happened e) → Has m → Done (reactTo checks n seat (delivered msg) m)
-    unfolding delivered reactTo seatsOf entrySeats
+    step-good : (msg : Message) (m : Machine) → Taken checks n round msg → Sized n msg → ((e : Event) → delivered msg ≡ some e → Happened e) → Has m → Done (reactTo checks n seat (delivered msg) m)
+    unfolding delivered reactTo seatsOf entrySeats formSeats fullForm
     step-good (Submit ρ s v g) m t l came z = react-good checks n seat Happened some-seats inside (SubmitDelivered s v g) m (came (SubmitDelivered s v g) refl) (t .inside s (List·Memᴰ·head refl)) z
     step-good (Notice ρ s v) m t l came z = react-good checks n seat Happened some-seats inside (NoticeDelivered v) m (came (NoticeDelivered v) refl) tt z
     step-good (Full ρ sender v es) m t l came z =
@@ -172,8 +173,8 @@ module _ (S : Setting) (seat : ℕ) (some-seats : 1 ≤ S .n) (inside : seat < S
     taken-good (BySubmit value signature out) m store q came z =
         let t = submit-taken checks keys (kept n seat round m) store value signature out q in
         react-is (Submitted value signature) m (react-good checks n seat Happened some-seats inside (Submitted value signature) m (came (Submitted value signature) refl) (none-is (m .value) (t .unsaid), t .sizedValue) z)
-    taken-good (ByStep bytes out) m store q came z = step-good (read n bytes) m (step-taken checks keys (kept n seat round m) store (read n bytes) out q .2) (read-laid n bytes) came z
-    taken-good (ByThinEntry bytes out) m store q came z = step-good (read n bytes) m (step-taken checks keys (kept n seat round m) store (read n bytes) out q .2) (read-laid n bytes) came z
+    taken-good (ByStep bytes out) m store q came z = step-good (read n bytes) m (step-taken checks keys (kept n seat round m) store (read n bytes) out q .2) (read-sized n bytes) came z
+    taken-good (ByThinEntry bytes out) m store q came z = step-good (read n bytes) m (step-taken checks keys (kept n seat round m) store (read n bytes) out q .2) (read-sized n bytes) came z
 
     turn-good : (c : Call) (m : Machine) (store : List ℕ) → AtRest n m → Has m
         → let t : Called = record { given = c; unit = kept n seat round m; store = store } in List·Memᴰ t all → Done (reaction S seat t m)

@@ -17,7 +17,9 @@ use Rattle.octets.specs.StringLaws.{same-refl}
 use Rattle.quorum.specs.Quorum.{k, bit, In, has, size, with}
 use Rattle.quorum.specs.Laws.{bit-with-other, has-false, size-with-new}
 use Rattle.protocol.specs.Layout.{signatureLength, storeLength, collectedBank, firstBank}
-use Rattle.protocol.specs.Message.{Entry, Message, Submit, Notice, Full, Evidence, Garbled}
+use Rattle.protocol.specs.LayoutLaws.{collected-bank, first-bank}
+use Rattle.protocol.specs.Entries.{Each, formSeats}
+use Rattle.protocol.specs.Message.{Entry, Message, Submit, Notice, Full, Evidence, Garbled, fullForm}
 use Rattle.protocol.specs.Certificate.{slot, fill, signatureOf, certificateOf, certificateIn}
 use Rattle.protocol.specs.Refusals.{Checks}
 use Rattle.protocol.specs.Step.{State, write, collect, setOwnValue, submitOwn, isWanted, hearSubmit, hear, reply, confirmIfComplete, submitted, stepped}
@@ -25,18 +27,18 @@ use Rattle.reading.specs.Lists.{each-one, each-append, each-every}
 use Rattle.claims.specs.Slots.{fill-length, slot-fill-same, slot-fill-other}
 use Rattle.claims.specs.Sound.{Entries}
 use Rattle.claims.specs.Certificates.{certifies-of}
-use Rattle.claims.specs.Parts.{k-pos}
+use Rattle.claims.specs.Parts.{k-pos, in-below}
 use Rattle.claims.specs.Whole.{Brings}
 use Rattle.claims.specs.Units.{Any}
 use Rattle.paper.specs.Machine.{FullCertificate, Machine, BroadcastSubmit, Reaction, act, setValue, addCollected, addNoticed, isSome, isOwn, ownValue, isFrom, isFullCertificate, isCollected, uponSubmitDelivered, uponSubmit, uponNoticeDelivered, obtain, uponFullDelivered, confirming, uponQuorum, uponNoticesConflict, uponFullsConflict, uponEvent, uponRules, react}
 use Rattle.paper.specs.Memory.{seatsIn, noticesOf, heldFirst, guiltyOf, kept}
 use Rattle.paper.specs.Events.{delivered, reactTo}
 use Rattle.paper.specs.Conflicts.{some-none}
-use Rattle.paper.specs.Entries.{seats-more, from-seats, signature-new, signature-old, rising-distinct}
+use Rattle.paper.specs.Entries.{seats-more, seats-below, from-seats, signature-new, signature-old, rising-distinct}
 use Rattle.paper.specs.Spoken.{spoken}
 use Rattle.paper.specs.Rules.{fulls-quiet}
 use Rattle.paper.specs.Mirror.{Collecting, Quorum, Stored, Mirrors}
-use Rattle.paper.specs.Parts.{at, Comes, write-is, hear-is, reply-is, reply-mirrors, certificate-is, confirm-is}
+use Rattle.paper.specs.Parts.{first-below, at, Comes, write-is, hear-is, reply-is, reply-mirrors, certificate-is, confirm-is}
 
 some-is : {A : Type 0} (o : Option A) → isSome o ≡ true → o ≢ none
 unfolding isSome
@@ -106,13 +108,15 @@ module _ (n seat round : ℕ) where
             counted = subst (λ (es : List Entry). size (seatsIn es) ≡ length es) (sym all-after) more;
           }
 
-      module _ (store : List ℕ) (room : storeLength n ≤ length store) (inside : s < n) (sized : length g ≡ signatureLength) (new : isFrom s before ≡ false) where
+      module _ (store : List ℕ) (room : storeLength n ≤ length store) (inside : s < n) (sized : length g ≡ signatureLength) (new : isFrom s before ≡ false)
+          (below : Each (λ (a : Entry). a .seat < n) before) (quorums : Each (Quorum n) (x .machine .obtained)) where
         slot-after : ((t : ℕ) → In t (seatsIn before) → slot n collectedBank store t ≡ signatureOf before t) → (t : ℕ) → In t (with s (seatsIn before)) → Dec (t ≡ s)
             → slot n collectedBank (fill n collectedBank s g store) t ≡ signatureOf (before ++ e ∷ []) t
-        slot-after own t i (yes q) = rw q (slot-fill-same n collectedBank s g store (omega arith) inside room sized ∙ sym (signature-new s g before new))
+        slot-after own t i (yes q) = rw q (slot-fill-same n collectedBank s g store collected-bank inside room sized ∙ sym (signature-new s g before new))
         slot-after own t i (no d) =
-            slot-fill-other n collectedBank s g store (omega arith) inside room sized collectedBank t (λ q. d (omega arith))
-            ∙ own t (sym (bit-with-other t s (seatsIn before) d) ∙ i)
+            let old : In t (seatsIn before) = sym (bit-with-other t s (seatsIn before) d) ∙ i in
+            slot-fill-other n collectedBank s g store collected-bank inside room sized collectedBank t (collected-bank .0) (in-below n t (seatsIn before) (seats-below n before below) old) (λ _ q. d (sym q))
+            ∙ own t old
             ∙ sym (signature-old t before e (λ q. d (sym q)))
 
         collect-stored : Stored n store before (x .machine .obtained) → Stored n (fill n collectedBank s g store) (before ++ e ∷ []) (x .machine .obtained)
@@ -123,7 +127,9 @@ module _ (n seat round : ℕ) where
             λ t i. slot-after own t (subst (In t) (seats-more before e) i) (ℕ-discrete t s) in
             record {
               own = subst (λ (es : List Entry). (t : ℕ) → In t (seatsIn es) → slot n collectedBank (fill n collectedBank s g store) t ≡ signatureOf es t) (sym all-after) after;
-              first = λ t i. slot-fill-other n collectedBank s g store (omega arith) inside room sized firstBank t (λ q. omega arith) ∙ z .first t i;
+              first = λ t i.
+                  slot-fill-other n collectedBank s g store collected-bank inside room sized firstBank t (first-bank .0) (in-below n t (heldFirst (x .machine .obtained) .seats) (first-below n (x .machine .obtained) quorums) i) (λ q _. omega arith)
+                  ∙ z .first t i;
             }
 
     -- one after the first k: the machine has it, and the record is as it was
@@ -180,8 +186,8 @@ module _ (n seat round : ℕ) where
       unfolding hearSubmit uponSubmitDelivered
       both few new p q =
           let unconfirmed : m .confirmed ≡ false = z .resting .complete ∙ lt-leb (k n) (length (m .collected)) few in
-          let a = confirm-is n seat round checks some-seats (addCollected (e s g x) x) (fill n collectedBank s g store) (subst (λ (l : ℕ). storeLength n ≤ l) (sym (fill-length n collectedBank s g store (omega arith) inside room sized)) room)
-          (collect-collecting s g x few inside sized new (some-is (m .value) said) (z .collecting)) (z .obtaining) (collect-stored s g x few store room inside sized new (z .stored)) (λ h. absurd (true≢false (sym h ∙ unconfirmed))) in
+          let a = confirm-is n seat round checks some-seats (addCollected (e s g x) x) (fill n collectedBank s g store) (subst (λ (l : ℕ). storeLength n ≤ l) (sym (fill-length n collectedBank s g store collected-bank inside room sized)) room)
+          (collect-collecting s g x few inside sized new (some-is (m .value) said) (z .collecting)) (z .obtaining) (collect-stored s g x few store room inside sized new (z .collecting .below) (z .obtaining .quorums) (z .stored)) (λ h. absurd (true≢false (sym h ∙ unconfirmed))) in
           subst (Comes n seat round (confirmIfComplete (hearSubmit s v g (at n seat round x store)))) (ap (λ (b : Bool). uponRules checks n seat (cond b (addCollected (e s g x) x) x)) (sym q))
           (record {
             store = a .store;
@@ -260,8 +266,8 @@ module _ (n seat round : ℕ) where
       unfolding submitted uponSubmit uponSubmitDelivered act
       submit-is =
           let y = act (BroadcastSubmit v g) (setValue v x) in
-          let a = confirm-is n seat round checks some-seats (addCollected (e seat g x) y) (fill n collectedBank seat g store) (subst (λ (l : ℕ). storeLength n ≤ l) (sym (fill-length n collectedBank seat g store (omega arith) inside room sized)) room)
-          (collect-collecting seat g (setValue v x) few inside sized new-seat (λ h. some-none v (some v) refl h) collecting-own) (z .obtaining) (collect-stored seat g (setValue v x) few store room inside sized new-seat (z .stored)) (λ h. absurd (true≢false (sym h ∙ unconfirmed))) in
+          let a = confirm-is n seat round checks some-seats (addCollected (e seat g x) y) (fill n collectedBank seat g store) (subst (λ (l : ℕ). storeLength n ≤ l) (sym (fill-length n collectedBank seat g store collected-bank inside room sized)) room)
+          (collect-collecting seat g (setValue v x) few inside sized new-seat (λ h. some-none v (some v) refl h) collecting-own) (z .obtaining) (collect-stored seat g (setValue v x) few store room inside sized new-seat (z .collecting .below) (z .obtaining .quorums) (z .stored)) (λ h. absurd (true≢false (sym h ∙ unconfirmed))) in
           subst (Comes n seat round (submitted v g (at n seat round x store))) (ap (λ (b : Bool). uponRules checks n seat (cond b (addCollected (e seat g x) y) y)) (sym own-collected))
           (record { store = a .store; is = ap confirmIfComplete own-is-kept ∙ a .is; mirrors = a .mirrors })
 
@@ -307,14 +313,14 @@ module _ (n seat round : ℕ) where
         )
 
     full-quorum : (v : List ℕ) (es : List Entry) → Entries checks Any n v es → Quorum n (record { value = v; entries = es })
-    unfolding certificateOf seatsIn
+    unfolding certificateOf formSeats fullForm seatsIn
     full-quorum v es h =
         let c = certifies-of checks Any n v es h in
         record { below = c .below; enough = c .enough; sized = λ s i. c .kept s i .sized }
 
     pub full-is : (ρ sender : ℕ) (v : List ℕ) (es : List Entry) → Entries checks Any n v es
         → Comes n seat round (stepped (Full ρ sender v es) (at n seat round x store)) (uponRules checks n seat (uponFullDelivered checks n seat (record { value = v; entries = es }) x))
-    unfolding stepped certificateIn certificateOf seatsIn uponFullDelivered uponRules obtain uponNoticeDelivered
+    unfolding stepped certificateIn certificateOf formSeats fullForm seatsIn uponFullDelivered uponRules obtain uponNoticeDelivered
     full-is ρ sender v es h =
         let q : FullCertificate = record { value = v; entries = es } in
         let y = obtain checks n seat q x in

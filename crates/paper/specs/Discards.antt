@@ -14,7 +14,7 @@ use Rattle.quorum.specs.Quorum.{k}
 use Rattle.refusal.specs.Refusal.{firstOf}
 use Rattle.protocol.specs.Layout.{storeLength, outLength}
 use Rattle.protocol.specs.Message.{Entry, Message, Submit, Notice, Full, Evidence, Garbled, Signed, signedEntries, signed, roundOf, entrySeats, seatsOf}
-use Rattle.protocol.specs.Refusals.{Checks, every, shortStore, shortOut, isForStep, rising, early, badSignature, formConditions, signatureConditions, recordConditions, stepConditions}
+use Rattle.protocol.specs.Refusals.{Checks, every, shortStore, shortOut, isForStep, rising, early, badSignature, messageConditions, recordConditions, stepConditions}
 use Rattle.protocol.specs.declared.Record.{Record}
 use Rattle.round.specs.Round.{Each}
 use Rattle.claims.specs.Unrefused.{of-taken}
@@ -45,7 +45,7 @@ before-last i j false false p q e r = absurd (r (sym e))
 
 module _ (checks : Checks) (keys : List ℕ) (r : Record) (store : List ℕ) (m : Message) (out : List ℕ) where
   past-form : (j : ℕ) → 12 ≢ j → 11 ≢ j → 10 ≢ j → 9 ≢ j → 7 ≢ j → 6 ≢ j → 5 ≢ j → 4 ≢ j → firstOf (stepConditions checks keys r store m out) ≡ j → firstOf ((13, early r m) ∷ (14, badSignature checks m) ∷ []) ≡ j
-  unfolding stepConditions recordConditions formConditions signatureConditions
+  unfolding stepConditions recordConditions messageConditions
   past-form j l i h g d c b a e =
       firstOf-other 12 j _ _ l (firstOf-other 11 j _ _ i (firstOf-other 10 j _ _ h (firstOf-other 9 j _ _ g (firstOf-other 7 j _ _ d (firstOf-other 6 j _ _ c (firstOf-other 5 j _ _ b (firstOf-other 4 j _ _ a e)))))))
 
@@ -62,7 +62,7 @@ module _ (checks : Checks) (keys : List ℕ) (r : Record) (store : List ℕ) (m 
 
   -- where nothing but these two can be refused, the message is delivered
   pub fit-delivered : Lent keys r store out → isForStep m ≡ true → roundOf m ≡ r .round → Each (λ s. s < r .n) (seatsOf m) → rising (entrySeats m) ≡ true → isDelivered (firstOf (stepConditions checks keys r store m out)) ≡ true
-  unfolding stepConditions recordConditions formConditions signatureConditions shortStore shortOut firstOf isDelivered
+  unfolding stepConditions recordConditions messageConditions shortStore shortOut firstOf isDelivered
   fit-delivered lent for-step in-round inside rises =
       let form = of-taken (λ s v g. true) (r .n) (r .round) m (record { inRound = in-round; inside = inside; rises = rises; checked = λ s d. refl }) in
       rw (

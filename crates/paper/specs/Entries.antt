@@ -14,8 +14,8 @@ use Rattle.quorum.specs.Quorum.{bit, In, has, shared, with, seats}
 use Rattle.quorum.specs.Laws.{bit-cases, bit-empty, bit-with-same, bit-with-other, has-true, has-false, in-shared, mem-seats}
 use Rattle.protocol.specs.Values.{isLower}
 use Rattle.protocol.specs.Message.{Entry, Full, Evidence}
-use Rattle.protocol.specs.Certificate.{setOf, signatureOf, entriesOf, fullOf, pairsOf, orderedEvidence, evidenceOf}
-use Rattle.protocol.specs.Laws.{in-set, set-snoc}
+use Rattle.protocol.specs.Certificate.{setOf, signatureOf, entriesOf, fullOf, pairOf, pairsOf, orderedEvidence, evidenceOf}
+use Rattle.protocol.specs.CertificateLaws.{in-set, set-snoc}
 use Rattle.protocol.specs.Refusals.{rising}
 use Rattle.round.specs.Round.{Each}
 use Rattle.reading.specs.Lists.{cond-elim, and-true-both, or-false-both, each-nil, each-cons, each-map, rising-first}
@@ -117,13 +117,13 @@ module _ (n round : ℕ) where
       (λ s d. ap (λ (x : List ℕ). record { seat = s; signature = x }) (h s (mem-seats n s m .0 d .1))))
 
   module _ (v w : List ℕ) (a b : ℕ) (f f′ g g′ : ℕ → List ℕ) (p : (s : ℕ) → In s a → f s ≡ f′ s) (q : (s : ℕ) → In s b → g s ≡ g′ s) where
-    pairs-same : pairsOf n (record { value = v; seats = a; signature = f }) (record { value = w; seats = b; signature = g }) ≡ pairsOf n (record { value = v; seats = a; signature = f′ }) (record { value = w; seats = b; signature = g′ })
+    pairs-same : pairsOf n (shared a b) (record { value = v; seats = a; signature = f }) (record { value = w; seats = b; signature = g }) ≡ pairsOf n (shared a b) (record { value = v; seats = a; signature = f′ }) (record { value = w; seats = b; signature = g′ })
     unfolding pairsOf
     pairs-same =
-        map-same (λ (s : ℕ). record { seat = s; lower = f s; higher = g s }) (λ (s : ℕ). record { seat = s; lower = f′ s; higher = g′ s }) (seats n (shared a b))
+        map-same (pairOf (record { value = v; seats = a; signature = f }) (record { value = w; seats = b; signature = g })) (pairOf (record { value = v; seats = a; signature = f′ }) (record { value = w; seats = b; signature = g′ })) (seats n (shared a b))
         (λ s d.
         let i = in-shared s a b .0 (mem-seats n s (shared a b) .0 d .1) in
-        ap₂ (λ (x y : List ℕ). record { seat = s; lower = x; higher = y }) (p s (i .0)) (q s (i .1)))
+        ap₂ (λ (x y : List ℕ). record { seat = s; lowerValue = v; higherValue = w; lower = x; higher = y }) (p s (i .0)) (q s (i .1)))
 
   pub evidence-same : (v w : List ℕ) (a b : ℕ) (f f′ g g′ : ℕ → List ℕ) → ((s : ℕ) → In s a → f s ≡ f′ s) → ((s : ℕ) → In s b → g s ≡ g′ s)
       → evidenceOf n round (record { value = v; seats = a; signature = f }) (record { value = w; seats = b; signature = g }) ≡ evidenceOf n round (record { value = v; seats = a; signature = f′ }) (record { value = w; seats = b; signature = g′ })

@@ -260,6 +260,8 @@ abbrev pub PairOf : FullCertificate → FullCertificate → Pair → Type 0
 PairOf low high p =
     List·Memᴰ (record { seat = p .seat; signature = p .lower }) (low .entries)
     × List·Memᴰ (record { seat = p .seat; signature = p .higher }) (high .entries)
+    × (p .lowerValue ≡ low .value)
+    × (p .higherValue ≡ high .value)
 
 -- by a unit at a seat in a round
 module _ (round seat : ℕ) where

@@ -9,6 +9,7 @@ use mathlib.Core.Logic.{⊎-elim, _≢_}
 use mathlib.Core.Option.{Option, none, some}
 use native.Mathlib.Omega.{arith}
 use lib.Dec.{eqb, leb}
+use lib.Pow.{pow-pos}
 use lib.ListN.{length, take}
 use lib.Seq.{take-all, length-take-le}
 use borrow.Author.Tests.{leb-true, leb-false, eq-eqb, ne-eqb}
@@ -17,7 +18,9 @@ use Rattle.octets.specs.StringLaws.{same-refl}
 use Rattle.quorum.specs.Quorum.{k, In, size, shared, seats}
 use Rattle.quorum.specs.Laws.{size-empty, mem-seats, k-of-n-share}
 use Rattle.protocol.specs.Layout.{signatureLength, storeLength, collectedBank, firstBank}
-use Rattle.protocol.specs.Message.{Entry, Message}
+use Rattle.protocol.specs.LayoutLaws.{collected-bank, first-bank}
+use Rattle.protocol.specs.Entries.{formSeats}
+use Rattle.protocol.specs.Message.{Entry, Message, fullForm}
 use Rattle.protocol.specs.Certificate.{Certificate, slot, fillEach, ownCertificate, firstCertificate, signatureOf, certificateOf}
 use Rattle.protocol.specs.Record.{noneHeard, oneHeard, holds}
 use Rattle.protocol.specs.Refusals.{Checks}
@@ -75,6 +78,11 @@ other-heard-is (v ∷ vs) r e d = rw (e, conflict-head valueOfNotice v vs) (go (
 pub taken-below : (n : ℕ) (es : List Entry) → Each (λ (e : Entry). e .seat < n) es → seatsIn (take (k n) es) < 2 ^ n
 taken-below n es h = seats-below n (take (k n) es) (each-take (λ (e : Entry). e .seat < n) (k n) es h)
 
+pub first-below : (n : ℕ) (obtained : List FullCertificate) → Each (Quorum n) obtained → heldFirst obtained .seats < 2 ^ n
+unfolding heldFirst
+first-below n [] h = pow-pos n
+first-below n (c ∷ cs) h = h c (List·Memᴰ·head refl) .below
+
 -- ---- record, store and messages beside the machine
 
 module _ (n seat round : ℕ) where
@@ -129,7 +137,7 @@ module _ (n seat round : ℕ) where
   module _ (checks : Checks) where
     send-is : (x : Reaction) (store : List ℕ) → ((s : ℕ) → In s (seatsIn (take (k n) (x .machine .collected))) → slot n collectedBank store s ≡ signatureOf (take (k n) (x .machine .collected)) s)
         → sendFull (at x store) ≡ at (sending checks n seat x) store
-    unfolding sendFull ownCertificate kept sending spoken certificateOf ownFull seatsIn
+    unfolding sendFull ownCertificate kept sending spoken certificateOf formSeats fullForm ownFull seatsIn
     send-is x store own =
         let m = x .machine in
         ap (λ (y : Message). write y (at (setSent x) store)) (full-same n round seat (ownValue (m .value)) (seatsIn (take (k n) (m .collected))) (slot n collectedBank store) (signatureOf (take (k n) (m .collected))) own)
@@ -177,11 +185,11 @@ module _ (n seat round : ℕ) where
           obtaining = record { quorums = each-one (Quorum n) q y; agreed = λ e. refl; guilty = z .obtaining .guilty };
           stored = record {
             own = λ s i.
-                slot-fillEach-other n firstBank signature (omega arith) (seats n (seatsIn (q .entries))) store collectedBank s fit room
-                (λ u d p. let l = in-below n s (seatsIn (take (k n) collected)) (taken-below n collected (z .collecting .below)) i in omega arith)
+                slot-fillEach-other n firstBank signature first-bank (seats n (seatsIn (q .entries))) store collectedBank s fit room (collected-bank .0)
+                (in-below n s (seatsIn (take (k n) collected)) (taken-below n collected (z .collecting .below)) i) (λ u d p _. omega arith)
                 ∙ z .stored .own s i;
             first = λ s i.
-                slot-fillEach-same n firstBank signature (omega arith) (seats n (seatsIn (q .entries))) store s fit room (mem-seats n s (seatsIn (q .entries)) .1 (in-below n s (seatsIn (q .entries)) (y .below) i, i))
+                slot-fillEach-same n firstBank signature first-bank (seats n (seatsIn (q .entries))) store s fit room (mem-seats n s (seatsIn (q .entries)) .1 (in-below n s (seatsIn (q .entries)) (y .below) i, i))
                 ∙ agree s i;
           };
           resting = z .resting;
@@ -226,7 +234,7 @@ module _ (n seat round : ℕ) where
 
           blame-is : ((s : ℕ) → In s (seatsIn (f .entries)) → slot n firstBank store s ≡ signatureOf (f .entries) s)
               → blame c (at (with-certificates (f ∷ rest) none) store) ≡ at (act (Detect f q) (with-certificates (f ∷ (rest ++ q ∷ [])) (some (f, q)))) store
-          unfolding blame firstCertificate kept heldFirst guiltyOf spoken certificateOf seatsIn
+          unfolding blame firstCertificate kept heldFirst guiltyOf spoken certificateOf formSeats fullForm seatsIn
           blame-is first =
               ap (λ (m : Message). write m (at (with-certificates (f ∷ (rest ++ q ∷ [])) (some (f, q))) store))
               (evidence-same n round (f .value) (q .value) (seatsIn (f .entries)) (seatsIn (q .entries)) (slot n firstBank store) (signatureOf (f .entries)) signature (signatureOf (q .entries)) first agree)

@@ -11,9 +11,11 @@ use Rattle.quorum.specs.Quorum.{In, shared, seats}
 use Rattle.quorum.specs.Laws.{mem-seats, in-shared}
 use Rattle.protocol.specs.Layout.{valueLength}
 use Rattle.protocol.specs.Values.{isLower}
-use Rattle.protocol.specs.Message.{Entry, Pair, Message, Submit, Notice, Full, Evidence}
+use Rattle.protocol.specs.Entries.{formSeats}
+use Rattle.protocol.specs.Message.{Entry, Pair, Message, Submit, Notice, Full, Evidence, fullForm}
 use Rattle.protocol.specs.Certificate.{Certificate, certificateOf, entryOf, entriesOf, fullOf, pairOf, pairsOf, orderedEvidence, evidenceOf}
-use Rattle.protocol.specs.Laws.{lower-other, in-set}
+use Rattle.protocol.specs.ValuesLaws.{lower-other}
+use Rattle.protocol.specs.CertificateLaws.{in-set}
 use Rattle.protocol.specs.Refusals.{rising}
 use Rattle.round.specs.Round.{Each, Are, StandsIn}
 use Rattle.reading.specs.Reading.{are-unique}
@@ -49,11 +51,11 @@ certificate c = certificateOf (c .value) (c .entries)
 module _ (n : ℕ) where
   -- the entry of a seat
   entry-in : (c : FullCertificate) (s : ℕ) → In s (certificate c .seats) → List·Memᴰ (entryOf (certificate c) s) (c .entries)
-  unfolding certificateOf seatsIn
+  unfolding certificateOf formSeats fullForm seatsIn
   entry-in c s i = signature-member (c .entries) s i
 
   seat-in : (c : FullCertificate) (e : Entry) → List·Memᴰ e (c .entries) → In (e .seat) (certificate c .seats)
-  unfolding certificateOf
+  unfolding certificateOf formSeats fullForm
   seat-in c e d = in-set (e .seat) (map (λ (x : Entry). x .seat) (c .entries)) .1 (Memᴰ·map (λ (x : Entry). x .seat) d)
 
   entry-is : (c : FullCertificate) → Formed n c → (e : Entry) → List·Memᴰ e (c .entries) → certificate c .signature (e .seat) ≡ e .signature
@@ -73,35 +75,35 @@ module _ (n : ℕ) where
     );
   }
 
-  evidence-pairs : (c d : FullCertificate) → Formed n c → Formed n d → InOrder (λ (p : Pair). p .seat) (PairOf c d) (pairsOf n (certificate c) (certificate d))
-  unfolding pairsOf
+  evidence-pairs : (c d : FullCertificate) → Formed n c → Formed n d → InOrder (λ (p : Pair). p .seat) (PairOf c d) (pairsOf n (shared (certificate c .seats) (certificate d .seats)) (certificate c) (certificate d))
+  unfolding pairsOf certificateOf
   evidence-pairs c d f g =
       let both = shared (certificate c .seats) (certificate d .seats) in
       let pair : ℕ → Pair = pairOf (certificate c) (certificate d) in
       record {
-        rise = ap rising (pair-seats n (certificate c) (certificate d)) ∙ seats-rising n both;
+        rise = ap rising (pair-seats n both (certificate c) (certificate d)) ∙ seats-rising n both;
         just = λ p. (
           λ m.
               let o = Memᴰ·of-map pair (seats n both) m in
               let i = in-shared (o .0) (certificate c .seats) (certificate d .seats) .0 (mem-seats n (o .0) both .0 (o .1) .1) in
-              subst (PairOf c d) (o .2) (entry-in c (o .0) (i .0), entry-in d (o .0) (i .1)),
+              subst (PairOf c d) (o .2) (entry-in c (o .0) (i .0), entry-in d (o .0) (i .1), refl, refl),
           λ h.
               let low : Entry = record { seat = p .seat; signature = p .lower } in
               let high : Entry = record { seat = p .seat; signature = p .higher } in
               let at = mem-seats n (p .seat) both .1 (f .below low (h .0), in-shared (p .seat) (certificate c .seats) (certificate d .seats) .1 (seat-in c low (h .0), seat-in d high (h .1))) in
-              subst (λ (x : Pair). List·Memᴰ x (map pair (seats n both))) (pair-is p (entry-is c f low (h .0)) (entry-is d g high (h .1))) (Memᴰ·map pair at),
+              subst (λ (x : Pair). List·Memᴰ x (map pair (seats n both))) (pair-is p (entry-is c f low (h .0)) (entry-is d g high (h .1)) (sym (h .2)) (sym (h .3))) (Memᴰ·map pair at),
         );
       }
     where
-      pair-is : (p : Pair) → certificate c .signature (p .seat) ≡ p .lower → certificate d .signature (p .seat) ≡ p .higher → pairOf (certificate c) (certificate d) (p .seat) ≡ p
-      pair-is p a b = rw (a, b)
+      pair-is : (p : Pair) → certificate c .signature (p .seat) ≡ p .lower → certificate d .signature (p .seat) ≡ p .higher → c .value ≡ p .lowerValue → d .value ≡ p .higherValue → pairOf (certificate c) (certificate d) (p .seat) ≡ p
+      pair-is p a b v w = rw (a, b, v, w)
 
 -- ---- what is sent is what `Says` says
 
 module _ (n round seat : ℕ) where
   conflict-says : (c d : FullCertificate) → Formed n c → Formed n d → isLower (c .value) (d .value) ≡ true → SaysConflict round seat c d (orderedEvidence n round (certificate c) (certificate d))
   unfolding orderedEvidence certificateOf
-  conflict-says c d f g l = (pairsOf n (certificate c) (certificate d), l, refl, evidence-pairs n c d f g)
+  conflict-says c d f g l = (pairsOf n (shared (certificate c .seats) (certificate d .seats)) (certificate c) (certificate d), l, refl, evidence-pairs n c d f g)
 
   -- of two values that differ, one is lower
   other-lower : (c d : FullCertificate) → FormedAction n (Detect c d) → isLower (d .value) (c .value) ≡ not (isLower (c .value) (d .value))

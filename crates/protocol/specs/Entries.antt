@@ -2,15 +2,20 @@
 -- are such lists (`Message`).
 -- Assumes nothing.
 use Prim.Native.Nat.{ℕ, zero, suc, _+_}
+use mathlib.Core.Path.{_≡_}
 use mathlib.Core.Bool.{Bool, true, _&&_}
-use mathlib.Core.List.{List, [], _∷_, _++_, map}
+use mathlib.Core.List.{List, [], _∷_, _++_, map, List·Memᴰ}
 use lib.Dec.{eqb}
-use lib.ListN.{getD}
+use lib.ListN.{length, getD}
 use Rattle.octets.specs.Octets.{part}
 use Rattle.protocol.specs.Layout.{entryLength, entryAt}
 
 abbrev pub byteAt : List ℕ → ℕ → ℕ
 byteAt bytes i = getD bytes i 0
+
+-- every one of a list
+abbrev pub Each {ℓ} : {A : Type ℓ} → (A → Type 0) → List A → Type ℓ
+Each {A = A} P xs = (x : A) → List·Memᴰ x xs → P x
 
 -- what a list's entries are: where the first stands in its message, their command, how many bytes each holds, its seat, the bytes that it
 -- holds, and the entry that a seat and such bytes make
@@ -25,6 +30,10 @@ pub record Form (A : Type 0) : Type 0 where
 -- where the entry of an index stands, counted from 0
 unfoldable pub placeOf : {A : Type 0} → Form A → ℕ → ℕ
 placeOf form i = entryAt (form .start) (entryLength (form .held)) i
+
+-- entries as their form lays them out: each holds as many bytes as the form says, and is what its seat and these bytes make
+abbrev pub Laid : {A : Type 0} → Form A → List A → Type 0
+Laid {A = A} form es = Each (λ (e : A). (length (form .bytes e) ≡ form .held) × (form .make (form .seat e) (form .bytes e) ≡ e)) es
 
 -- ---- the bytes of entries
 

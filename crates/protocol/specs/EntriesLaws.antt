@@ -1,12 +1,21 @@
--- Lists of entries, whatever they hold: lengths, and entries appended.
+-- Lists of entries, whatever they hold: their lengths, what is read of entries written, and what is written of entries read.
 -- Assumes nothing.
-use mathlib.Core.Path.{_≡_, refl, sym}
-use mathlib.Core.List.{List, [], _∷_, _++_, append-assoc}
-use Prim.Native.Nat.{ℕ, _+_, _*_}
+use mathlib.Core.Path.{_≡_, refl, sym, ap₂, _∙_}
+use mathlib.Core.Bool.{true, and-eq-true-iff}
+use mathlib.Core.List.{List, [], _∷_, _++_, append-assoc, append-nil, List·Memᴰ·head, List·Memᴰ·tail}
+use Prim.Native.Nat.{ℕ, zero, suc, _+_, _*_, _≤_, _<_}
+use native.Mathlib.Nat.{add-zero, add-comm, mul-zero, mul-suc}
+use native.Mathlib.Numerals.{add-one}
 use native.Mathlib.Omega.{arith}
-use lib.ListN.{length, length-append}
+use lib.Dec.{eqb}
+use lib.ListN.{length, take, drop, getD, length-append}
+use lib.Seq.{take-at, drop-at, take-suc, drop-cons, drop-drop, drop-nil, getD-drop}
+use borrow.Author.Tests.{eqb-true, eq-eqb}
+use Rattle.octets.specs.Octets.{part}
+use Rattle.octets.specs.StringLaws.{part-suc}
+use Rattle.octets.specs.WriteLaws.{part-add}
 use Rattle.protocol.specs.Layout.{entryLength}
-use Rattle.protocol.specs.Entries.{Form, renderEntry, renderEntries}
+use Rattle.protocol.specs.Entries.{Form, Laid, byteAt, placeOf, renderEntry, renderEntries, entryCommands, readEntry, readEntries}
 
 module _ {A : Type 0} (form : Form A) where
   pub entries-append : (xs ys : List A) → renderEntries form (xs ++ ys) ≡ renderEntries form xs ++ renderEntries form ys
@@ -14,16 +23,104 @@ module _ {A : Type 0} (form : Form A) where
   entries-append [] ys = refl
   entries-append (x ∷ xs) ys = rw (entries-append xs ys) (sym (append-assoc (renderEntry form x) (renderEntries form xs) (renderEntries form ys)))
 
-  -- each entry holds as many bytes as its form says
-  abbrev pub Sized : List A → Type 0
-  Sized [] = Unit {0}
-  Sized (e ∷ es) = (length (form .bytes e) ≡ form .held) × Sized es
+  -- ---- lengths
 
   pub length-entry : (e : A) → length (form .bytes e) ≡ form .held → length (renderEntry form e) ≡ entryLength (form .held)
   unfolding renderEntry
   length-entry e h = simp length-append (omega arith)
 
-  pub length-entries : (es : List A) → Sized es → length (renderEntries form es) ≡ entryLength (form .held) * length es
+  rest-laid : (e : A) (es : List A) → Laid form (e ∷ es) → Laid form es
+  rest-laid e es h x d = h x (List·Memᴰ·tail d)
+
+  pub length-entries : (es : List A) → Laid form es → length (renderEntries form es) ≡ entryLength (form .held) * length es
   unfolding renderEntries
   length-entries [] h = omega arith
-  length-entries (e ∷ es) h = simp length-append (omega (arith, length-entry e (h .0), length-entries es (h .1)))
+  length-entries (e ∷ es) h =
+      simp length-append (omega (arith, length-entry e (h e (List·Memᴰ·head refl) .0), length-entries es (rest-laid e es h)))
+
+  pub length-read : (t : ℕ) (bytes : List ℕ) → length (readEntries form t bytes) ≡ t
+  unfolding readEntries
+  length-read zero bytes = refl
+  length-read (suc t) bytes = simp length-append (omega (arith, length-read t bytes))
+
+  -- ---- entries written are read back the same
+
+  -- the entries from the one at index t on
+  entries-drop : (t : ℕ) (es : List A) → Laid form es → drop (entryLength (form .held) * t) (renderEntries form es) ≡ renderEntries form (drop t es)
+  unfolding renderEntries
+  entries-drop zero es h = rw mul-zero
+  entries-drop (suc t) [] h = drop-nil (entryLength (form .held) * suc t)
+  entries-drop (suc t) (e ∷ es) h =
+      let each = entryLength (form .held) in
+      let d : each * suc t ≡ each + each * t = mul-suc each t ∙ add-comm (each * t) each in
+      rw (d, ← drop-drop (each * t) each (renderEntry form e ++ renderEntries form es), drop-at (renderEntry form e) (renderEntries form es) each (length-entry e (h e (List·Memᴰ·head refl) .0)))
+      (entries-drop t es (rest-laid e es h))
+
+  laid-at : (es : List A) (t : ℕ) (d : A) → Laid form es → t < length es → (length (form .bytes (getD es t d)) ≡ form .held) × (form .make (form .seat (getD es t d)) (form .bytes (getD es t d)) ≡ getD es t d)
+  laid-at [] t d h l = absurd (omega arith)
+  laid-at (e ∷ es) zero d h l = h e (List·Memᴰ·head refl)
+  laid-at (e ∷ es) (suc t) d h l = laid-at es t d (rest-laid e es h) (omega arith)
+
+  -- the bytes have the entries at their place
+  module _ (bytes : List ℕ) (es : List A) (stand : drop (form .start) bytes ≡ renderEntries form es) (laid : Laid form es) where
+    entry-stands : (t : ℕ) (d : A) → t < length es → drop (placeOf form t) bytes ≡ renderEntry form (getD es t d) ++ renderEntries form (drop (suc t) es)
+    unfolding placeOf renderEntries
+    entry-stands t d l = rw (← drop-drop (entryLength (form .held) * t) (form .start) bytes, stand, entries-drop t es laid, drop-cons es t d l)
+
+    module _ (t : ℕ) (l : t < length es) where
+      abbrev the : A
+      the = getD es t (form .make 0 [])
+
+      command-right : byteAt bytes (placeOf form t) ≡ form .command
+      unfolding renderEntry
+      command-right = rw (← add-zero (placeOf form t), ← getD-drop (placeOf form t) bytes 0 0, entry-stands t (form .make 0 []) l)
+
+      entry-read : readEntry form (placeOf form t) bytes ≡ the
+      unfolding readEntry part renderEntry
+      entry-read =
+          let h = laid-at es t (form .make 0 []) laid l in
+          let stands = entry-stands t (form .make 0 []) l in
+          let seat : byteAt bytes (placeOf form t + 1) ≡ form .seat the = rw (← getD-drop (placeOf form t) bytes 1 0, stands) in
+          let held : part (placeOf form t + 2) (form .held) bytes ≡ form .bytes the = rw (← drop-drop 2 (placeOf form t) bytes, stands, take-at (form .bytes the) (renderEntries form (drop (suc t) es)) (form .held) (h .0)) in
+          ap₂ (form .make) seat held ∙ h .1
+
+    pub commands-right : (t : ℕ) → t ≤ length es → entryCommands form t bytes ≡ true
+    unfolding entryCommands
+    commands-right zero l = refl
+    commands-right (suc t) l = rw (commands-right t (omega arith), command-right t l) (eq-eqb (form .command) (form .command) refl)
+
+    pub entries-read : (t : ℕ) → t ≤ length es → readEntries form t bytes ≡ take t es
+    unfolding readEntries
+    entries-read zero l = refl
+    entries-read (suc t) l = rw (entries-read t (omega arith), entry-read t l) (sym (take-suc es t (form .make 0 []) l))
+
+  -- ---- entries read are written back as the bytes that they were
+
+  -- an entry made has the seat and the bytes that it was made from
+  abbrev pub Faithful : Type 0
+  Faithful = (seat : ℕ) (bytes : List ℕ) → (form .seat (form .make seat bytes) ≡ seat) × (form .bytes (form .make seat bytes) ≡ bytes)
+
+  module _ (faithful : Faithful) (bytes : List ℕ) where
+    entry-back : (at : ℕ) → at + entryLength (form .held) ≤ length bytes → byteAt bytes at ≡ form .command
+        → renderEntry form (readEntry form at bytes) ≡ part at (entryLength (form .held)) bytes
+    unfolding renderEntry readEntry part
+    entry-back at h e =
+        let made = faithful (byteAt bytes (at + 1)) (part (at + 2) (form .held) bytes) in
+        rw (part-add at 2 (form .held) bytes, part-suc at 1 bytes (omega arith), part-suc (suc at) 0 bytes (omega arith), made .0, made .1, e, add-one at)
+
+    pub entries-back : (t : ℕ) → placeOf form t ≤ length bytes → entryCommands form t bytes ≡ true
+        → renderEntries form (readEntries form t bytes) ≡ part (form .start) (entryLength (form .held) * t) bytes
+    unfolding renderEntries readEntries entryCommands placeOf part
+    entries-back zero h c = rw mul-zero refl
+    entries-back (suc t) h c =
+        let each = entryLength (form .held) in
+        let more : each * suc t ≡ each * t + each = mul-suc each t in
+        let both = and-eq-true-iff (entryCommands form t bytes) (eqb (byteAt bytes (placeOf form t)) (form .command)) .0 c in
+        entries-append (readEntries form t bytes) (readEntry form (placeOf form t) bytes ∷ [])
+        ∙ rw (
+          entries-back t (omega arith) (both .0),
+          append-nil (renderEntry form (readEntry form (placeOf form t) bytes)),
+          entry-back (placeOf form t) (omega arith) (eqb-true (byteAt bytes (placeOf form t)) (form .command) (both .1)),
+          more,
+          part-add (form .start) (each * t) each bytes,
+        )

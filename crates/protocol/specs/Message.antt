@@ -1,6 +1,7 @@
 -- The commands on the air: what a message says, the bytes it is written as, and what bytes say.
 -- Assumes nothing.
-use Prim.Native.Nat.{ℕ, _+_, _*_}
+use Prim.Native.Nat.{ℕ, _+_, _*_, _≤_, _<_}
+use mathlib.Core.Path.{_≡_}
 use mathlib.Core.Bool.{Bool, cond, _&&_}
 use mathlib.Core.List.{List, [], _∷_, _++_}
 use lib.Dec.{leb, eqb}
@@ -9,7 +10,7 @@ use Rattle.octets.specs.Octets.{part, be}
 use Rattle.quorum.specs.Quorum.{k}
 use Rattle.protocol.specs.Layout.{valueLength, signatureLength, roundAt, seatAt, valueAt, submitSignatureAt, submitLength, noticeLength, fullCountAt, fullStart, fullLength, lowerAt, higherAt, evidenceCountAt, evidenceStart, evidenceLength}
 pub use Rattle.protocol.specs.Entries.{byteAt}
-use Rattle.protocol.specs.Entries.{Form, renderEntries, entryCommands, readEntries, formSeats}
+use Rattle.protocol.specs.Entries.{Form, Laid, renderEntries, entryCommands, readEntries, formSeats}
 
 -- ---- what a message says
 
@@ -72,6 +73,15 @@ render (Notice round seat value) = 0x02 ∷ be 2 round ++ seat ∷ [] ++ value
 render (Full round sender value entries) = 0x03 ∷ be 2 round ++ sender ∷ [] ++ value ++ length entries ∷ [] ++ renderEntries fullForm entries
 render (Evidence round lower higher entries) = 0x05 ∷ be 2 round ++ lower ++ higher ++ length entries ∷ [] ++ renderEntries (evidenceForm lower higher) entries
 render Garbled = []
+
+-- a message that has bytes in a fleet of n seats: each operand has its width, the entries are as many as document 01 says
+abbrev pub WellFormed : ℕ → Message → Type 0
+WellFormed n (Submit round seat value signature) = (round < 65536) × (length value ≡ valueLength) × (length signature ≡ signatureLength)
+WellFormed n (Notice round seat value) = (round < 65536) × (length value ≡ valueLength)
+WellFormed n (Full round sender value es) = (round < 65536) × (length value ≡ valueLength) × (length es ≡ k n) × Laid fullForm es
+WellFormed n (Evidence round lower higher ps) =
+    (round < 65536) × (length lower ≡ valueLength) × (length higher ≡ valueLength) × (1 ≤ length ps) × (length ps ≤ n) × Laid (evidenceForm lower higher) ps
+WellFormed n Garbled = ⊥
 
 -- "Messages go to `out` one after another"
 unfoldable pub renderAll : List Message → List ℕ

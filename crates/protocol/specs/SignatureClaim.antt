@@ -20,7 +20,7 @@ use Rattle.protocol.specs.Refusals.{wrongKey, tooLong, GARBLED-LONG, SIG
 use Rattle.protocol.specs.Signatures.{checkSignature, makeKey, sign, signedBytes, seatKey, checks}
 use Rattle.rfc8554.specs.TreeLaws.{length-treeFilled, part-treeFilled}
 use Rattle.rfc8554.specs.VerifyLaws.{leaf-lmsSignature, keyInvalid-publicKey, valid-lmsSignature}
-use Rattle.protocol.specs.SignatureLaws.{keyInvalid-wrongKey, valid-key, length-signedBytes, makeKey-unrefused, sign-unrefused}
+use Rattle.protocol.specs.SignaturesLaws.{keyInvalid-wrongKey, valid-key, length-signedBytes, makeKey-unrefused, sign-unrefused}
 
 -- ---- "nothing is accepted that the standard rejects"
 

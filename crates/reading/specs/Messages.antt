@@ -8,9 +8,8 @@ use lib.ListN.{length, drop}
 use lib.Seq.{take-append-seam}
 use Rattle.octets.specs.Octets.{patch}
 use Rattle.refusal.specs.Refusal.{firstOf, unrefused}
-use Rattle.protocol.specs.Message.{Message, renderAll, read}
-use Rattle.protocol.specs.Laws.{all-append}
-use Rattle.protocol.specs.ReadLaws.{WellFormed}
+use Rattle.protocol.specs.Message.{Message, renderAll, read, WellFormed}
+use Rattle.protocol.specs.MessageLaws.{all-append}
 use Rattle.protocol.specs.Refusals.{submitConditions, stepConditions}
 use Rattle.protocol.specs.Step.{State, submitted, stepped}
 use Rattle.protocol.specs.Calls.{Result, resultBy, start, outAfter, submit, step, answer}

@@ -1,115 +1,107 @@
--- Bytes and messages: what bytes are read as has the lengths of document 01, and bytes are messages one after another in one
--- way only.
+-- Bytes and messages: the operands of what bytes are read as have their widths, and bytes are messages one after another in one way only.
 -- Assumes nothing.
 use mathlib.Core.Path.{_≡_, refl, sym, ap, ap₂, _∙_}
 use mathlib.Core.Bool.{true, cond, _&&_}
 use mathlib.Core.List.{List, [], _∷_, _++_, append-assoc, List·Memᴰ·head, List·Memᴰ·tail}
-use Prim.Native.Nat.{ℕ, zero, suc, _+_, _≤_}
+use Prim.Native.Nat.{ℕ, zero, suc, _+_, _*_, _≤_}
+use native.Mathlib.Nat.{mul-suc}
 use native.Mathlib.Omega.{arith}
-use lib.Dec.{eqb, leb}
+use lib.Dec.{leb, eqb}
 use lib.ListN.{length, take, drop, getD, length-append}
 use lib.Seq.{take-at, drop-at, take-append-seam, getD-at}
 use borrow.Author.Tests.{eqb-true}
-use Rattle.octets.specs.Octets.{be}
+use Rattle.octets.specs.Octets.{be, part}
 use Rattle.octets.specs.Laws.{length-be, length-part}
 use Rattle.quorum.specs.Quorum.{k}
-use Rattle.protocol.specs.Layout.{valueLength, signatureLength, submitLength, noticeLength, fullEntryLength, fullEntryAt, fullLength, evidenceEntryLength, evidenceEntryAt, evidenceLength}
-use Rattle.protocol.specs.Message.{Entry, Pair, Message, Submit, Notice, Full, Evidence, Garbled, render, renderPairs, renderAll, byteAt, readValue, readSignature, entryCommands, readEntry, readEntries, pairCommands, readPair, readPairs, fitsSubmit, fitsNotice, fitsFull, fitsEvidence, readSubmit, readNotice, readFull, readEvidence, read}
-use Rattle.protocol.specs.Laws.{length-submit, length-notice, length-full, length-evidence}
-use Rattle.protocol.specs.ReadLaws.{WellFormed, read-render}
+use Rattle.protocol.specs.Layout.{valueLength, signatureLength, entryLength, valueAt, submitSignatureAt, submitLength, noticeLength, fullCountAt, fullEntryLength, fullEntryAt, fullLength, lowerAt, higherAt, evidenceCountAt, evidenceEntryLength, evidenceEntryAt, evidenceLength}
+use Rattle.protocol.specs.Entries.{Form, Laid, placeOf, renderEntries, entryCommands, readEntry, readEntries}
+use Rattle.protocol.specs.EntriesLaws.{Faithful, length-read}
+use Rattle.protocol.specs.Message.{Pair, Message, Submit, Notice, Full, Evidence, Garbled, WellFormed, fullForm, evidenceForm, formOf, render, renderAll, byteAt, readValue, readSignature, fitsSubmit, fitsNotice, fitsFull, fitsEvidence, readSubmit, readNotice, readFull, readEvidence, read}
+use Rattle.protocol.specs.MessageLaws.{length-submit, length-notice, length-full, length-evidence, full-faithful, evidence-faithful, read-render}
 use Rattle.round.specs.Round.{Each, Are}
 use Rattle.reading.specs.Lists.{cond-elim, and-true-both, each-nil, each-one, each-append}
 
 -- ---- what bytes are read as
 
-abbrev pub SignedEntry : Entry → Type 0
-SignedEntry e = length (e .signature) ≡ signatureLength
+module _ {A : Type 0} (form : Form A) (faithful : Faithful form) (bytes : List ℕ) where
+  entry-laid : (at : ℕ) → at + entryLength (form .held) ≤ length bytes → Laid form (readEntry form at bytes ∷ [])
+  unfolding readEntry
+  entry-laid at h =
+      let held = part (at + 2) (form .held) bytes in
+      let made = faithful (byteAt bytes (at + 1)) held in
+      each-one _ (form .make (byteAt bytes (at + 1)) held) (ap length (made .1) ∙ length-part (at + 2) (form .held) bytes (omega arith), ap₂ (form .make) (made .0) (made .1))
 
-abbrev pub SignedPair : Pair → Type 0
-SignedPair p = (length (p .lower) ≡ signatureLength) × (length (p .higher) ≡ signatureLength)
+  entries-laid : (t : ℕ) → placeOf form t ≤ length bytes → Laid form (readEntries form t bytes)
+  unfolding readEntries placeOf
+  entries-laid zero h = each-nil _
+  entries-laid (suc t) h =
+      let more : entryLength (form .held) * suc t ≡ entryLength (form .held) * t + entryLength (form .held) = mul-suc (entryLength (form .held)) t in
+      each-append _ (readEntries form t bytes) (readEntry form (placeOf form t) bytes ∷ []) (entries-laid t (omega arith)) (entry-laid (placeOf form t) (omega arith))
 
--- the lengths that document 01 gives the operands
-abbrev pub Laid : ℕ → Message → Type 0
-Laid n (Submit ρ seat value signature) = (length value ≡ valueLength) × (length signature ≡ signatureLength)
-Laid n (Notice ρ seat value) = length value ≡ valueLength
-Laid n (Full ρ sender value es) = (length value ≡ valueLength) × (length es ≡ k n) × Each SignedEntry es
-Laid n (Evidence ρ lower higher ps) = (length lower ≡ valueLength) × (length higher ≡ valueLength) × Each SignedPair ps
-Laid n Garbled = Unit {0}
-
-entries-laid : (t : ℕ) (bytes : List ℕ) → fullEntryAt t ≤ length bytes → (length (readEntries t bytes) ≡ t) × Each SignedEntry (readEntries t bytes)
-unfolding readEntries readEntry readSignature fullEntryAt fullEntryLength signatureLength
-entries-laid zero bytes h = (refl, each-nil SignedEntry)
-entries-laid (suc t) bytes h =
-    let rest = entries-laid t bytes (omega arith) in
-    let last = readEntry (fullEntryAt t) bytes in (
-      simp length-append (omega arith),
-      each-append SignedEntry (readEntries t bytes) (last ∷ []) (rest .1) (each-one SignedEntry last (length-part (fullEntryAt t + 2) signatureLength bytes (omega arith))),
-    )
-
-pairs-laid : (t : ℕ) (bytes : List ℕ) → evidenceEntryAt t ≤ length bytes → Each SignedPair (readPairs t bytes)
-unfolding readPairs readPair readSignature evidenceEntryAt evidenceEntryLength signatureLength
-pairs-laid zero bytes h = each-nil SignedPair
-pairs-laid (suc t) bytes h =
-    let last = readPair (evidenceEntryAt t) bytes in
-    each-append SignedPair (readPairs t bytes) (last ∷ []) (pairs-laid t bytes (omega arith))
-    (each-one SignedPair last (length-part (evidenceEntryAt t + 2) signatureLength bytes (omega arith), length-part (evidenceEntryAt t + 2 + signatureLength) signatureLength bytes (omega arith)))
+-- a message's operands have their widths
+abbrev pub Sized : ℕ → Message → Type 0
+Sized n (Submit ρ seat value signature) = (length value ≡ valueLength) × (length signature ≡ signatureLength)
+Sized n (Notice ρ seat value) = length value ≡ valueLength
+Sized n (Full ρ sender value es) = (length value ≡ valueLength) × (length es ≡ k n) × Laid fullForm es
+Sized n (Evidence ρ lower higher ps) = Laid (evidenceForm lower higher) ps
+Sized n Garbled = Unit {0}
 
 module _ (n : ℕ) (bytes : List ℕ) where
-  submit-laid : fitsSubmit bytes ≡ true → Laid n (readSubmit bytes)
+  submit-sized : fitsSubmit bytes ≡ true → Sized n (readSubmit bytes)
   unfolding fitsSubmit readSubmit readValue readSignature submitLength signatureLength
-  submit-laid e =
+  submit-sized e =
       let l = eqb-true (length bytes) submitLength (and-true-both (eqb (length bytes) submitLength) (eqb (byteAt bytes 0) 0x01) e .0) in
-      (length-part 4 valueLength bytes (omega arith), length-part 36 signatureLength bytes (omega arith))
+      (length-part valueAt valueLength bytes (omega arith), length-part submitSignatureAt signatureLength bytes (omega arith))
 
-  notice-laid : fitsNotice bytes ≡ true → Laid n (readNotice bytes)
+  notice-sized : fitsNotice bytes ≡ true → Sized n (readNotice bytes)
   unfolding fitsNotice readNotice readValue noticeLength
-  notice-laid e =
+  notice-sized e =
       let l = eqb-true (length bytes) noticeLength (and-true-both (eqb (length bytes) noticeLength) (eqb (byteAt bytes 0) 0x02) e .0) in
-      length-part 4 valueLength bytes (omega arith)
+      length-part valueAt valueLength bytes (omega arith)
 
-  full-laid : fitsFull n bytes ≡ true → Laid n (readFull n bytes)
-  unfolding fitsFull readFull readValue fullLength fullEntryAt
-  full-laid e =
-      let a = and-true-both (eqb (length bytes) (fullLength n) && eqb (byteAt bytes 0) 0x03 && eqb (byteAt bytes 36) (k n)) (entryCommands (k n) bytes) e .0 in
-      let b = and-true-both (eqb (length bytes) (fullLength n) && eqb (byteAt bytes 0) 0x03) (eqb (byteAt bytes 36) (k n)) a .0 in
+  full-sized : fitsFull n bytes ≡ true → Sized n (readFull n bytes)
+  unfolding fitsFull readFull readValue fullLength fullEntryAt fullEntryLength fullForm placeOf
+  full-sized e =
+      let a = and-true-both (eqb (length bytes) (fullLength n) && eqb (byteAt bytes 0) 0x03 && eqb (byteAt bytes fullCountAt) (k n)) (entryCommands fullForm (k n) bytes) e .0 in
+      let b = and-true-both (eqb (length bytes) (fullLength n) && eqb (byteAt bytes 0) 0x03) (eqb (byteAt bytes fullCountAt) (k n)) a .0 in
       let l = eqb-true (length bytes) (fullLength n) (and-true-both (eqb (length bytes) (fullLength n)) (eqb (byteAt bytes 0) 0x03) b .0) in
-      let es = entries-laid (k n) bytes (omega arith) in
-      (length-part 4 valueLength bytes (omega arith), es .0, es .1)
+      (length-part valueAt valueLength bytes (omega arith), length-read fullForm (k n) bytes, entries-laid fullForm full-faithful bytes (k n) (omega arith))
 
-  evidence-laid : fitsEvidence n bytes ≡ true → Laid n (readEvidence bytes)
-  unfolding fitsEvidence readEvidence readValue evidenceLength evidenceEntryAt
-  evidence-laid e =
-      let count = byteAt bytes 67 in
-      let a = and-true-both (eqb (byteAt bytes 0) 0x05 && leb 1 count && leb count n && eqb (length bytes) (evidenceLength count)) (pairCommands count bytes) e .0 in
+  evidence-sized : fitsEvidence n bytes ≡ true → Sized n (readEvidence bytes)
+  unfolding fitsEvidence readEvidence evidenceLength evidenceEntryAt evidenceEntryLength evidenceForm placeOf
+  evidence-sized e =
+      let count = byteAt bytes evidenceCountAt in
+      let a = and-true-both (eqb (byteAt bytes 0) 0x05 && leb 1 count && leb count n && eqb (length bytes) (evidenceLength count)) (entryCommands (formOf bytes) count bytes) e .0 in
       let l = eqb-true (length bytes) (evidenceLength count) (and-true-both (eqb (byteAt bytes 0) 0x05 && leb 1 count && leb count n) (eqb (length bytes) (evidenceLength count)) a .1) in
-      (length-part 3 valueLength bytes (omega arith), length-part 35 valueLength bytes (omega arith), pairs-laid count bytes (omega arith))
+      entries-laid (formOf bytes) (evidence-faithful (readValue lowerAt bytes) (readValue higherAt bytes)) bytes count (omega arith)
 
-  pub read-laid : Laid n (read n bytes)
+  pub read-sized : Sized n (read n bytes)
   unfolding read
-  read-laid =
-      cond-elim (Laid n) (fitsSubmit bytes) (readSubmit bytes) (cond (fitsNotice bytes) (readNotice bytes) (cond (fitsFull n bytes) (readFull n bytes) (cond (fitsEvidence n bytes) (readEvidence bytes) Garbled))) submit-laid
-      (λ a. cond-elim (Laid n) (fitsNotice bytes) (readNotice bytes) (cond (fitsFull n bytes) (readFull n bytes) (cond (fitsEvidence n bytes) (readEvidence bytes) Garbled)) notice-laid
-      (λ b. cond-elim (Laid n) (fitsFull n bytes) (readFull n bytes) (cond (fitsEvidence n bytes) (readEvidence bytes) Garbled) full-laid
-      (λ c. cond-elim (Laid n) (fitsEvidence n bytes) (readEvidence bytes) Garbled evidence-laid (λ d. tt))))
+  read-sized =
+      cond-elim (Sized n) (fitsSubmit bytes) (readSubmit bytes) _ submit-sized
+      (λ a. cond-elim (Sized n) (fitsNotice bytes) (readNotice bytes) _ notice-sized
+      (λ b. cond-elim (Sized n) (fitsFull n bytes) (readFull n bytes) _ full-sized
+      (λ c. cond-elim (Sized n) (fitsEvidence n bytes) (readEvidence bytes) Garbled evidence-sized (λ d. tt))))
 
 -- ---- where a message ends
 
 -- the length of the message that stands first, by its command and count
-unfoldable frameLength : ℕ → List ℕ → ℕ
+unfoldable pub frameLength : ℕ → List ℕ → ℕ
 frameLength n bytes =
     cond (eqb (byteAt bytes 0) 0x01) submitLength
     (cond (eqb (byteAt bytes 0) 0x02) noticeLength
-    (cond (eqb (byteAt bytes 0) 0x03) (fullLength n) (evidenceLength (byteAt bytes 67))))
+    (cond (eqb (byteAt bytes 0) 0x03) (fullLength n) (evidenceLength (byteAt bytes evidenceCountAt))))
 
 evidence-counted : (ρ : ℕ) (lower higher : List ℕ) (ps : List Pair) (rest : List ℕ) → length lower ≡ valueLength → length higher ≡ valueLength
-    → byteAt (render (Evidence ρ lower higher ps) ++ rest) 67 ≡ length ps
+    → byteAt (render (Evidence ρ lower higher ps) ++ rest) evidenceCountAt ≡ length ps
 unfolding render
 evidence-counted ρ lower higher ps rest l h =
     let front = 0x05 ∷ be 2 ρ ++ lower ++ higher in
-    ap (λ (b : List ℕ). getD b 67 0) (append-assoc (front ++ length ps ∷ []) (renderPairs ps) rest ∙ append-assoc front (length ps ∷ []) (renderPairs ps ++ rest))
-    ∙ getD-at front (length ps) (renderPairs ps ++ rest) 0 67 (simp (length-append, length-be) (omega arith))
+    let entries = renderEntries (evidenceForm lower higher) ps in
+    ap (λ (b : List ℕ). getD b evidenceCountAt 0) (append-assoc (front ++ length ps ∷ []) entries rest ∙ append-assoc front (length ps ∷ []) (entries ++ rest))
+    ∙ getD-at front (length ps) (entries ++ rest) 0 evidenceCountAt (simp (length-append, length-be) (omega arith))
 
-frame-length : (n : ℕ) (m : Message) (rest : List ℕ) → WellFormed n m → frameLength n (render m ++ rest) ≡ length (render m)
+pub frame-length : (n : ℕ) (m : Message) (rest : List ℕ) → WellFormed n m → frameLength n (render m ++ rest) ≡ length (render m)
 unfolding frameLength render fullLength evidenceLength
 frame-length n (Submit ρ seat value signature) rest w = sym (length-submit ρ seat value signature (w .1) (w .2))
 frame-length n (Notice ρ seat value) rest w = sym (length-notice ρ seat value (w .1))

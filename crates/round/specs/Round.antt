@@ -7,8 +7,8 @@ use mathlib.Core.List.{List, [], _∷_, List·Memᴰ}
 use mathlib.Core.Logic.{_⊎_, _≢_}
 use lib.ListN.{length, take}
 use Rattle.protocol.specs.Layout.{storeLength, outLength}
-use Rattle.protocol.specs.Message.{Message, Notice, Full, Signed, Entry, render, renderAll, read, signed, entrySeats}
-use Rattle.protocol.specs.ReadLaws.{WellFormed}
+pub use Rattle.protocol.specs.Entries.{Each}
+use Rattle.protocol.specs.Message.{Message, Notice, Full, Signed, Entry, render, renderAll, read, signed, entrySeats, WellFormed}
 use Rattle.protocol.specs.Refusals.{Checks, isEvidence}
 use Rattle.protocol.specs.Calls.{Result, outAfter, opening, submit, step, answer, making, made, evidenceCheck}
 use Rattle.protocol.specs.declared.Record.{Record}
@@ -90,10 +90,6 @@ abbrev pub outOf : Call → List ℕ
 outOf (BySubmit value signature out) = out
 outOf (ByStep bytes out) = out
 outOf (ByThinEntry bytes out) = out
-
--- every one of a list
-abbrev pub Each {ℓ} : {A : Type ℓ} → (A → Type 0) → List A → Type ℓ
-Each {A = A} P xs = (x : A) → List·Memᴰ x xs → P x
 
 -- bytes are these messages one after another, each of them as document 01 lays it out
 abbrev pub Are : ℕ → List ℕ → List Message → Type 0

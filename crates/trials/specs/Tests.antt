@@ -13,9 +13,9 @@ use Rattle.octets.specs.Strings.{same}
 use Rattle.octets.specs.StringLaws.{same-true}
 use Rattle.quorum.specs.Quorum.{t0, k, size}
 use Rattle.protocol.specs.Layout.{valueLength, signatureLength, storeLength, outLength}
-use Rattle.protocol.specs.Message.{Entry, Pair, Message, Submit, Notice, Full, Evidence, Garbled, Signed, render, read, signed, entrySeats}
-use Rattle.protocol.specs.Laws.{Sized, SizedPairs}
-use Rattle.protocol.specs.ReadLaws.{WellFormed, read-render}
+use Rattle.protocol.specs.Message.{Entry, Pair, Message, Submit, Notice, Full, Evidence, Garbled, fullForm, evidenceForm, Signed, render, read, signed, entrySeats, WellFormed}
+use Rattle.protocol.specs.Entries.{Laid}
+use Rattle.protocol.specs.MessageLaws.{pair-laid, read-render}
 use Rattle.protocol.specs.Refusals.{every, isFull, isEvidence}
 use Rattle.protocol.specs.Calls.{opening, evidenceCheck}
 use Rattle.round.specs.Round.{Each, Are, Setting, Call, BySubmit, ByStep, ByThinEntry, IsStep, Honest, Called, outOf, resultOf, listOf, Writes, Submits, Confirms, Reached, HaveReached, writtenIn, WritesEvidence, Names, IsOpened}
@@ -52,35 +52,34 @@ every-false test (x ∷ xs) e =
 
 -- ---- messages
 
--- each operand has its length
+-- an entry's signatures have their length, and a pair has the values of its message
 unfoldable pub entrySized : Entry → Bool
 entrySized e = eqb (length (e .signature)) signatureLength
 
-unfoldable pub pairSized : Pair → Bool
-pairSized p = eqb (length (p .lower)) signatureLength && eqb (length (p .higher)) signatureLength
+unfoldable pub pairSized : List ℕ → List ℕ → Pair → Bool
+pairSized lower higher p =
+    same (p .lowerValue) lower && (same (p .higherValue) higher && (eqb (length (p .lower)) signatureLength && eqb (length (p .higher)) signatureLength))
 
 unfoldable pub wellFormed : ℕ → Message → Bool
 wellFormed n (Submit ρ seat value signature) = ltb ρ 65536 && (eqb (length value) valueLength && eqb (length signature) signatureLength)
 wellFormed n (Notice ρ seat value) = ltb ρ 65536 && eqb (length value) valueLength
 wellFormed n (Full ρ sender value es) = ltb ρ 65536 && (eqb (length value) valueLength && (eqb (length es) (k n) && every entrySized es))
 wellFormed n (Evidence ρ lower higher ps) =
-    ltb ρ 65536 && (eqb (length lower) valueLength && (eqb (length higher) valueLength && (leb 1 (length ps) && (leb (length ps) n && every pairSized ps))))
+    ltb ρ 65536 && (eqb (length lower) valueLength && (eqb (length higher) valueLength && (leb 1 (length ps) && (leb (length ps) n && every (pairSized lower higher) ps))))
 wellFormed n Garbled = false
 
-sized-says : (es : List Entry) → every entrySized es ≡ true → Sized es
-unfolding every entrySized
-sized-says [] h = tt
-sized-says (e ∷ es) h =
-    let both = and-true-both (entrySized e) (every entrySized es) h in
-    (eqb-true (length (e .signature)) signatureLength (both .0), sized-says es (both .1))
+entries-laid : (es : List Entry) → every entrySized es ≡ true → Laid fullForm es
+unfolding fullForm entrySized
+entries-laid es h e d = (eqb-true (length (e .signature)) signatureLength (every-each entrySized es h e d), refl)
 
-sizedPairs-says : (ps : List Pair) → every pairSized ps ≡ true → SizedPairs ps
-unfolding every pairSized
-sizedPairs-says [] h = tt
-sizedPairs-says (p ∷ ps) h =
-    let both = and-true-both (pairSized p) (every pairSized ps) h in
-    let two = and-true-both (eqb (length (p .lower)) signatureLength) (eqb (length (p .higher)) signatureLength) (both .0) in
-    (eqb-true (length (p .lower)) signatureLength (two .0), eqb-true (length (p .higher)) signatureLength (two .1), sizedPairs-says ps (both .1))
+pairs-laid : (lower higher : List ℕ) (ps : List Pair) → every (pairSized lower higher) ps ≡ true → Laid (evidenceForm lower higher) ps
+unfolding evidenceForm pairSized
+pairs-laid lower higher ps h p d =
+    let sizes = eqb (length (p .lower)) signatureLength && eqb (length (p .higher)) signatureLength in
+    let a = and-true-both (same (p .lowerValue) lower) (same (p .higherValue) higher && sizes) (every-each (pairSized lower higher) ps h p d) in
+    let b = and-true-both (same (p .higherValue) higher) sizes (a .1) in
+    let c = and-true-both (eqb (length (p .lower)) signatureLength) (eqb (length (p .higher)) signatureLength) (b .1) in
+    pair-laid lower higher p (same-true (p .lowerValue) lower (a .0)) (same-true (p .higherValue) higher (b .0)) (eqb-true (length (p .lower)) signatureLength (c .0)) (eqb-true (length (p .higher)) signatureLength (c .1))
 
 wellFormed-says : (n : ℕ) (m : Message) → wellFormed n m ≡ true → WellFormed n m
 unfolding wellFormed
@@ -95,20 +94,20 @@ wellFormed-says n (Full ρ sender value es) h =
     let a = and-true-both (ltb ρ 65536) (eqb (length value) valueLength && (eqb (length es) (k n) && every entrySized es)) h in
     let b = and-true-both (eqb (length value) valueLength) (eqb (length es) (k n) && every entrySized es) (a .1) in
     let c = and-true-both (eqb (length es) (k n)) (every entrySized es) (b .1) in
-    (ltb-true ρ 65536 (a .0), eqb-true (length value) valueLength (b .0), eqb-true (length es) (k n) (c .0), sized-says es (c .1))
+    (ltb-true ρ 65536 (a .0), eqb-true (length value) valueLength (b .0), eqb-true (length es) (k n) (c .0), entries-laid es (c .1))
 wellFormed-says n (Evidence ρ lower higher ps) h =
-    let rest = leb 1 (length ps) && (leb (length ps) n && every pairSized ps) in
+    let rest = leb 1 (length ps) && (leb (length ps) n && every (pairSized lower higher) ps) in
     let a = and-true-both (ltb ρ 65536) (eqb (length lower) valueLength && (eqb (length higher) valueLength && rest)) h in
     let b = and-true-both (eqb (length lower) valueLength) (eqb (length higher) valueLength && rest) (a .1) in
     let c = and-true-both (eqb (length higher) valueLength) rest (b .1) in
-    let d = and-true-both (leb 1 (length ps)) (leb (length ps) n && every pairSized ps) (c .1) in
-    let e = and-true-both (leb (length ps) n) (every pairSized ps) (d .1) in (
+    let d = and-true-both (leb 1 (length ps)) (leb (length ps) n && every (pairSized lower higher) ps) (c .1) in
+    let e = and-true-both (leb (length ps) n) (every (pairSized lower higher) ps) (d .1) in (
       ltb-true ρ 65536 (a .0),
       eqb-true (length lower) valueLength (b .0),
       eqb-true (length higher) valueLength (c .0),
       leb-true 1 (length ps) (d .0),
       leb-true (length ps) n (e .0),
-      sizedPairs-says ps (e .1),
+      pairs-laid lower higher ps (e .1),
     )
 wellFormed-says n Garbled h = absurd (false≢true h)
 

@@ -6,6 +6,7 @@ use mathlib.Core.Path.{_≡_, refl}
 use mathlib.Core.Bool.{Bool, true, false, cond}
 use mathlib.Core.List.{List, [], _∷_, _++_, map, List·Memᴰ, List·Memᴰ·head, List·Memᴰ·tail}
 use lib.ListN.{replicate}
+use Rattle.protocol.specs.Layout.{storeLength, outLength}
 use Rattle.protocol.specs.Message.{Entry, Pair, Message, Submit, Notice, Full, Evidence, Garbled, render, byteAt}
 use Rattle.round.specs.Round.{Setting, Call, BySubmit, ByStep, Called, Honest, IsOpened, Family, outcome, resultOf, listFrom, listOf}
 use Rattle.round.specs.Demand1.{isSubmit, isNotice, worth, count, AtMostOne}
@@ -23,7 +24,7 @@ abbrev pub four : Setting
 four = record { n = 4; round = 5; keys = keys 4; checks = toy }
 
 abbrev pub room : List ℕ
-room = replicate 14709 0
+room = replicate (outLength 4) 0
 
 abbrev pub says : ℕ → ℕ → Call
 says seat b = BySubmit (layout b) (sign seat b) room
@@ -32,7 +33,7 @@ abbrev pub hears : Message → Call
 hears m = ByStep (render m) room
 
 abbrev pub boatAt : ℕ → List Call → Honest
-boatAt seat calls = record { seat = seat; store = replicate 11616 1; calls = calls; inHand = [] }
+boatAt seat calls = record { seat = seat; store = replicate (storeLength 4) 1; calls = calls; inHand = [] }
 
 -- those of a list that pass a test
 unfoldable pub those {ℓ} : {A : Type ℓ} → (A → Bool) → List A → List A
@@ -193,7 +194,7 @@ abbrev pub heardTwice : Bool → Honest
 heardTwice = ofTwo (boatAt 0 (says 0 7 ∷ [])) (boatAt 1 (hears (submitBy 0 7) ∷ hears (Submit 5 0 (layout 9) (sign 0 7)) ∷ []))
 
 abbrev pub framing : ℕ → ℕ → List ℕ
-framing b c = render (Evidence 5 (layout b) (layout c) (record { seat = 0; lower = sign 0 7; higher = sign 0 7 } ∷ []))
+framing b c = render (Evidence 5 (layout b) (layout c) (record { seat = 0; lowerValue = layout b; higherValue = layout c; lower = sign 0 7; higher = sign 0 7 } ∷ []))
 
 unfoldable pub unsignedEvidence : Trial (Family four heardTwice → Demand3 four heardTwice)
 unsignedEvidence = safety four two heardTwice (framing 7 9 ∷ [])
