@@ -11,7 +11,7 @@ use Rattle.protocol.specs.Message.{Message, render, renderAll}
 use Rattle.protocol.specs.Calls.{start}
 use Rattle.protocol.specs.Step.{State}
 use Rattle.protocol.specs.StepLaws.{after}
-use Rattle.protocol.specs.Laws.{all-append}
+use Rattle.protocol.specs.MessageLaws.{all-append}
 use Rattle.protocol.specs.declared.Record.{Record}
 use Rattle.wire_write.specs.Writing.{Wrote}
 use Rattle.wire_write.specs.WriteLaws.{then}

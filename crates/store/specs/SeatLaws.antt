@@ -15,7 +15,7 @@ use Rattle.quorum.specs.Quorum.{bit, In, size, shared, all, seats}
 use Rattle.quorum.specs.Laws.{bit-cases, bit-shared, bit-lt-two, bit-all-below, seats-in, seats-out, length-seats, all-lt, bit-outside, lt-of-none-outside, mem-seats}
 use Rattle.protocol.specs.Certificate.{setOf}
 use Rattle.protocol.specs.Refusals.{every, rising}
-use Rattle.protocol.specs.Laws.{in-set}
+use Rattle.protocol.specs.CertificateLaws.{in-set}
 
 -- what holds of every one holds of each
 pub every-at : (test : ℕ → Bool) (l : List ℕ) (x : ℕ) → every test l ≡ true → List·Memᴰ x l → test x ≡ true

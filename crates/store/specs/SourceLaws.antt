@@ -14,7 +14,7 @@ use borrow.Author.Tests.{eqb-true, eq-eqb, ne-eqb, not-false}
 use Rattle.quorum.specs.Quorum.{k, In, size, shared, all, seats}
 use Rattle.quorum.specs.Laws.{seat-at, length-seats}
 use Rattle.protocol.specs.Layout.{signatureLength, valueAt, seatAt, fullCountAt, fullEntryLength, fullEntryAt, fullLength, banks, storeLength, slotLength, slotAt}
-use Rattle.protocol.specs.Laws.{slot-fits}
+use Rattle.protocol.specs.LayoutLaws.{slot-fits}
 use Rattle.protocol.specs.Entries.{Form, placeOf, readEntry, readEntries, entryCommands, formSeats}
 use Rattle.protocol.specs.Message.{Entry, Message, byteAt, read, fullForm, readValue, readSignature, readFull, readSubmit, readNotice, readEvidence, fitsSubmit, fitsNotice, fitsFull, fitsEvidence, entrySeats, seatsOf, Garbled}
 use Rattle.protocol.specs.Certificate.{slot, setOf, signatureOf, certificateOf, certificateIn}

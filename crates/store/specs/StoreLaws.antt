@@ -18,7 +18,8 @@ use Rattle.quorum.specs.Laws.{seats-in, seats-out}
 use Rattle.protocol.specs.Layout.{signatureLength, banks, lengthOfBanks, banksBefore, slotLengthIn, slotLength, storeLength, slotAt, firstBank}
 use Rattle.protocol.specs.Message.{readSignature}
 use Rattle.protocol.specs.Certificate.{slot, fill, fillEach}
-use Rattle.protocol.specs.Laws.{slot-fits, fill-snoc}
+use Rattle.protocol.specs.LayoutLaws.{slot-fits}
+use Rattle.protocol.specs.CertificateLaws.{fill-snoc}
 use Rattle.layout.specs.Places.{bankOf}
 use Rattle.layout.specs.declared.Bank.{Bank}
 use Rattle.layout.specs.declared.Bank.the-variants as bank

@@ -16,7 +16,7 @@ use Rattle.protocol.specs.Figures.{submit-figure, notice-figure, full-figure, e
 use Rattle.protocol.specs.Entries.{placeOf}
 use Rattle.protocol.specs.Message.{Message, Submit, Notice, Full, Evidence, Garbled, fullForm, evidenceForm, formOf, byteAt, readRound, readSubmit, readNotice, readFull, readEvidence, read, roundOf, entrySeats, seatsOf}
 use Rattle.protocol.specs.Refusals.{every, rising, otherRound, stranger, disorder}
-use Rattle.protocol.specs.Laws.{every-append}
+use Rattle.protocol.specs.ConditionsLaws.{every-append}
 use Rattle.layout.specs.Places.{full, evidence}
 use Rattle.wire.specs.Reading.{kindOf, bytesAt, seatsIn, Inside, sendersOf}
 use Rattle.wire.specs.EntriesLaws.{seats-read}

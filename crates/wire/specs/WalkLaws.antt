@@ -15,7 +15,8 @@ use Rattle.quorum.specs.Quorum.{with}
 use Rattle.protocol.specs.Message.{byteAt}
 use Rattle.protocol.specs.Certificate.{setOf}
 use Rattle.protocol.specs.Refusals.{every, rising}
-use Rattle.protocol.specs.Laws.{every-append, rising-snoc, set-snoc}
+use Rattle.protocol.specs.ConditionsLaws.{every-append, rising-snoc}
+use Rattle.protocol.specs.CertificateLaws.{set-snoc}
 use Rattle.layout.specs.declared.Entries.{Entries}
 use Rattle.wire.specs.Reading.{bytesAt, seatPlace, Inside}
 

@@ -6,7 +6,7 @@ use borrow.Author.Needs.{needs}
 use denote.Ref.{now}
 use Rattle.protocol.specs.Layout.{signatureLength, noticeLength, submitLength}
 use Rattle.protocol.specs.Message.{render}
-use Rattle.protocol.specs.Laws.{length-submit}
+use Rattle.protocol.specs.MessageLaws.{length-submit}
 use Rattle.wire.specs.WriteLaws.{then}
 use Rattle.wire.proofs.write.write_submit.Statement.{statement}
 use Rattle.wire.proofs.write.write_submit.Tie as tie
