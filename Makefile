@@ -3,15 +3,22 @@
 # make test   the gate: every crate proved, every program run, the static libraries against the harness
 # make soak   the long version of the harness's tests under load and with faults
 # make bench  speed as ratios to plain C and to OpenSSL's libcrypto, in one run
+# make install PREFIX=/usr/local
+#             header, archive and zolbine.pc for pkg-config; DESTDIR puts them under another root
 
 CARGO = cargo --quiet
 HARNESS = cd harness && $(CARGO)
 DEMO =
+ARCHIVE = target/staticlib/libzolbine.a
+SOURCES = crates.txt $(shell find crates -name '*.rt' -o -name '*.antt')
+PREFIX = /usr/local
+DESTDIR =
 
-.PHONY: test demo soak bench archives zolbine probes toolchain libcrypto
+.PHONY: test demo soak bench install archives zolbine probes toolchain libcrypto
 .NOTPARALLEL:
 
-test: toolchain
+test:
+	@scripts/tools.sh g++
 	@scripts/test.sh
 
 demo: zolbine
@@ -24,6 +31,12 @@ soak: zolbine
 
 bench: archives libcrypto
 	@$(HARNESS) run --release --offline --features zolbine,probes,libcrypto --bin bench
+
+install: $(ARCHIVE)
+	@scripts/install.sh $(ARCHIVE) '$(PREFIX)' '$(DESTDIR)'
+
+$(ARCHIVE): $(SOURCES)
+	@$(MAKE) --no-print-directory zolbine
 
 # the static libraries, for C and for the harness
 archives: zolbine probes

@@ -12,15 +12,15 @@
 #include <stdio.h>
 #include <stdlib.h>
 
-enum { VALUE_LEN = 32, SUBMIT_LEN = 1488, MOST_SEATS = 32 };
+/* A SUBMIT is 0x01, round (2), seat (1), value (32), so far the signed bytes, and the signature, which starts with its leaf (4). */
+enum { SEAT_AT = 3, LEAF_LEN = 4 };
 
 /* One round of one boat. Record and store belong together: they are kept together and given to every call together. */
 struct unit {
     struct zolbine_record record;
     uint8_t *keys, *store, *out;
     size_t keys_len, store_len, out_len;
-    uint8_t *early[MOST_SEATS]; /* SUBMITs that came before the own submit, to be given again after it */
-    size_t early_count;
+    uint8_t *early[ZOLBINE_MOST_SEATS]; /* each seat's SUBMIT that came before the own submit, or NULL */
 };
 
 static void stop(const char *why)
@@ -48,44 +48,46 @@ static unsigned number(const uint8_t *bytes)
     return 256u * bytes[0] + bytes[1];
 }
 
-/* Lengths by n, as docs/HOST.md has them. */
-static unsigned seats_to_confirm(unsigned n)
-{
-    return n - ((n + 2) / 3 - 1);
-}
-
 static void open_unit(struct unit *unit, FILE *file)
 {
     uint8_t head[4];
+    uint32_t n, seat, round;
     struct zolbine_opened opened;
 
     read_bytes(file, head, sizeof head);
-    unit->keys_len = 56 * (size_t)head[0];
+    n = head[0];
+    seat = head[1];
+    round = number(head + 2);
+    unit->keys_len = ZOLBINE_KEYS_LEN(n);
     unit->keys = buffer(unit->keys_len);
     read_bytes(file, unit->keys, unit->keys_len);
-    opened = zolbine_open(head[0], head[1], number(head + 2), unit->keys, unit->keys_len);
-    printf("open n %u, seat %u, round %u: %u\n", head[0], head[1], number(head + 2), (unsigned)opened.number);
+    opened = zolbine_open(n, seat, round, unit->keys, unit->keys_len);
+    printf("open n %u, seat %u, round %u: %u\n", (unsigned)n, (unsigned)seat, (unsigned)round, (unsigned)opened.number);
     if (opened.number != 0)
         stop("the opening is refused");
     unit->record = opened.record;
-    unit->store_len = 2904 * (size_t)head[0];
+    unit->store_len = ZOLBINE_STORE_LEN(n);
     unit->store = buffer(unit->store_len); /* any bytes will do */
-    unit->out_len = 1629 + 4360 * (size_t)seats_to_confirm(head[0]);
+    unit->out_len = ZOLBINE_OUT_LEN(n);
     unit->out = buffer(unit->out_len);
-    unit->early_count = 0;
+    for (size_t place = 0; place < ZOLBINE_MOST_SEATS; place++)
+        unit->early[place] = NULL;
 }
 
 /* All of the bytes written go on the air. Here the messages among them are named. */
-static void send_all(const uint8_t *out, size_t written)
+static void send_all(uint32_t n, const uint8_t *out, size_t written)
 {
     size_t len;
 
     for (; written > 0; out += len, written -= len) {
         switch (out[0]) {
-        case 0x01: len = SUBMIT_LEN; printf("  sends SUBMIT"); break;
-        case 0x02: len = 36; printf("  sends NOTICE"); break;
-        case 0x03: len = 37 + 1454 * (size_t)out[36]; printf("  sends FULL"); break;
-        default: len = 68 + 2906 * (size_t)out[67]; printf("  sends EVIDENCE"); break;
+        case ZOLBINE_SUBMIT: len = ZOLBINE_SUBMIT_LEN; printf("  sends SUBMIT"); break;
+        case ZOLBINE_NOTICE: len = ZOLBINE_NOTICE_LEN; printf("  sends NOTICE"); break;
+        case ZOLBINE_FULL: len = ZOLBINE_FULL_LEN(n); printf("  sends FULL"); break;
+        default: /* EVIDENCE: its count is the last byte of its head */
+            len = ZOLBINE_EVIDENCE_LEN((size_t)out[ZOLBINE_EVIDENCE_HEAD_LEN - 1]);
+            printf("  sends EVIDENCE");
+            break;
         }
         printf(", %zu bytes\n", len);
     }
@@ -97,7 +99,7 @@ static void send_all(const uint8_t *out, size_t written)
 static void answered(const struct unit *unit, const char *what, uint32_t number, uint32_t written)
 {
     printf("%s: %u\n", what, (unsigned)number);
-    send_all(unit->out, written);
+    send_all(unit->record.n, unit->out, written);
 }
 
 static uint32_t step(struct unit *unit, const uint8_t *message, size_t len)
@@ -106,28 +108,46 @@ static uint32_t step(struct unit *unit, const uint8_t *message, size_t len)
     struct zolbine_written answer = zolbine_step_lent(&unit->record, unit->keys, unit->keys_len, unit->store,
                                                       unit->store_len, message, len, unit->out, unit->out_len);
 
-    answered(unit, names[len == 0 || message[0] > 3 ? 0 : message[0]], answer.number, answer.written);
+    answered(unit, names[len == 0 || message[0] > ZOLBINE_FULL ? 0 : message[0]], answer.number, answer.written);
     return answer.number;
 }
 
 static void submit(struct unit *unit, FILE *file)
 {
-    uint8_t *value = buffer(VALUE_LEN), *signature = buffer(ZOLBINE_SIGNATURE_LEN);
+    uint8_t *value = buffer(ZOLBINE_VALUE_LEN), *signature = buffer(ZOLBINE_SIGNATURE_LEN);
     struct zolbine_stepped answer;
 
-    read_bytes(file, value, VALUE_LEN);
+    read_bytes(file, value, ZOLBINE_VALUE_LEN);
     read_bytes(file, signature, ZOLBINE_SIGNATURE_LEN);
     answer = zolbine_submit(unit->record, unit->keys, unit->keys_len, unit->store, unit->store_len,
-                            value, VALUE_LEN, signature, ZOLBINE_SIGNATURE_LEN, unit->out, unit->out_len);
+                            value, ZOLBINE_VALUE_LEN, signature, ZOLBINE_SIGNATURE_LEN, unit->out, unit->out_len);
     unit->record = answer.record; /* with a refusal it is as it was given */
     answered(unit, "submit", answer.number, answer.written);
     free(value);
     free(signature);
-    while (answer.number == 0 && unit->early_count > 0) {
-        uint8_t *message = unit->early[--unit->early_count];
-        step(unit, message, SUBMIT_LEN);
+    for (uint32_t seat = 0; answer.number == 0 && seat < unit->record.n; seat++) {
+        uint8_t *message = unit->early[seat];
+        unit->early[seat] = NULL;
+        if (message != NULL)
+            step(unit, message, ZOLBINE_SUBMIT_LEN);
         free(message);
     }
+}
+
+/* Whether an early SUBMIT is to be given again: the first of its seat that is truly signed by it. A forged one is let go, so that no
+ * number of them takes the place of a good one. The step has seen to length, round and seat before it answered ZOLBINE_EARLY; the
+ * signature it hasn't looked at.
+ */
+static bool worth_giving_again(const struct unit *unit, const uint8_t *message)
+{
+    size_t seat = message[SEAT_AT];
+    const uint8_t *key = unit->keys + ZOLBINE_KEY_LEN * seat, *signature = message + ZOLBINE_SIGNED_LEN;
+    uint32_t leaf = 0;
+
+    for (size_t at = 0; at < LEAF_LEN; at++)
+        leaf = leaf << 8 | signature[at];
+    return unit->early[seat] == NULL && leaf == unit->record.round &&
+           zolbine_check_signature(key, ZOLBINE_KEY_LEN, message, ZOLBINE_SIGNED_LEN, signature, ZOLBINE_SIGNATURE_LEN) == 0;
 }
 
 /* EVIDENCE is for the evidence check; every other message is for the unit. */
@@ -140,12 +160,13 @@ static void hear(struct unit *unit, FILE *file)
     len = number(head);
     message = buffer(len);
     read_bytes(file, message, len);
-    if (len > 0 && message[0] == 0x05) {
+    if (len > 0 && message[0] == ZOLBINE_EVIDENCE) {
         struct zolbine_verdict verdict = zolbine_check_evidence(unit->record.n, unit->record.round, unit->keys,
                                                                 unit->keys_len, message, len);
         printf("EVIDENCE: %u, seats 0x%08x\n", (unsigned)verdict.number, (unsigned)verdict.mask);
-    } else if (step(unit, message, len) == ZOLBINE_EARLY && unit->early_count < MOST_SEATS) {
-        unit->early[unit->early_count++] = message;
+    } else if (step(unit, message, len) == ZOLBINE_EARLY && worth_giving_again(unit, message)) {
+        unit->early[message[SEAT_AT]] = message;
+        printf("  put by\n");
         return;
     }
     free(message);
@@ -172,8 +193,8 @@ int main(int argc, char **argv)
     printf("%s; double signers 0x%08x\n", unit.record.confirmed ? "confirmed" : "not confirmed",
            (unsigned)unit.record.guilty);
     fclose(file);
-    while (unit.early_count > 0)
-        free(unit.early[--unit.early_count]);
+    for (size_t seat = 0; seat < ZOLBINE_MOST_SEATS; seat++)
+        free(unit.early[seat]);
     free(unit.keys);
     free(unit.store);
     free(unit.out);

@@ -1,8 +1,8 @@
 /* Zolbine: the accountable confirmer of a fleet link. The C interface of libzolbine.a.
  *
  * Every call takes numbers and lent bytes, a pointer and a length, keeps nothing between calls, and allocates nothing. A pointer
- * is never NULL, also where the length is 0, and a buffer that is written overlaps no other. A call answers a refusal's number,
- * 0 where nothing is refused; a refusal changes no byte of any buffer.
+ * is never NULL, also where the length is 0, and a buffer that is written overlaps no other. A call that may refuse answers a
+ * refusal's number, 0 where nothing is refused; a refusal changes no byte of any buffer.
  */
 #ifndef ZOLBINE_H
 #define ZOLBINE_H
@@ -14,6 +14,13 @@
 #ifdef __cplusplus
 extern "C" {
 #endif
+
+/* The interface's version: a change of a call, a struct or a length raises it. zolbine_version answers that of the archive: a
+ * program that was compiled with this header runs with an archive of the same version alone.
+ */
+#define ZOLBINE_VERSION 1
+
+uint32_t zolbine_version(void);
 
 /* What is turned back. The lowest number whose condition holds is answered. */
 enum {
@@ -35,7 +42,17 @@ enum {
     ZOLBINE_KEY_MATERIAL = 16  /* seed, identifier, randomizer or tree of another length */
 };
 
-/* Lengths in bytes. */
+/* Commands: the first byte of a message. docs/PROTOCOL.md has the bytes after it. */
+enum {
+    ZOLBINE_SUBMIT = 0x01,         /* a seat signs a value */
+    ZOLBINE_NOTICE = 0x02,         /* a seat has confirmed a value */
+    ZOLBINE_FULL = 0x03,           /* the signatures of k seats over one value */
+    ZOLBINE_FULL_ENTRY = 0x04,     /* first byte of an entry of a FULL */
+    ZOLBINE_EVIDENCE = 0x05,       /* seats that signed two values */
+    ZOLBINE_EVIDENCE_ENTRY = 0x06  /* first byte of an entry of an EVIDENCE */
+};
+
+/* Lengths in bytes, and the last leaf. In a message the command, a seat and a count have 1 byte, the round has 2. */
 enum {
     ZOLBINE_SEED_LEN = 32,
     ZOLBINE_IDENTIFIER_LEN = 16,
@@ -44,8 +61,37 @@ enum {
     ZOLBINE_TREE_LEN = 65536,
     ZOLBINE_SIGNATURE_LEN = 1452,
     ZOLBINE_MESSAGE_MAX = 65535,
-    ZOLBINE_LAST_LEAF = 1023
+    ZOLBINE_LAST_LEAF = 1023,
+    ZOLBINE_MOST_SEATS = 32,
+    ZOLBINE_VALUE_LEN = 32,
+    ZOLBINE_SIGNED_LEN = 1 + 2 + 1 + ZOLBINE_VALUE_LEN,              /* what a seat signs: 0x01, round, seat, value */
+    ZOLBINE_SUBMIT_LEN = ZOLBINE_SIGNED_LEN + ZOLBINE_SIGNATURE_LEN, /* the signed bytes, signature */
+    ZOLBINE_NOTICE_LEN = 1 + 2 + 1 + ZOLBINE_VALUE_LEN,              /* command, round, seat, value */
+    ZOLBINE_FULL_HEAD_LEN = 1 + 2 + 1 + ZOLBINE_VALUE_LEN + 1,       /* command, round, sender's seat, value, count */
+    ZOLBINE_FULL_ENTRY_LEN = 1 + 1 + ZOLBINE_SIGNATURE_LEN,          /* command, seat, signature */
+    ZOLBINE_EVIDENCE_HEAD_LEN = 1 + 2 + 2 * ZOLBINE_VALUE_LEN + 1,   /* command, round, two values, count */
+    ZOLBINE_EVIDENCE_ENTRY_LEN = 1 + 1 + 2 * ZOLBINE_SIGNATURE_LEN   /* command, seat, two signatures */
 };
+
+/* Lengths by n, the number of seats, from 1 to 32. It takes the signatures of k = n - t0 seats to confirm a value, and more than
+ * t0 double signers, t0 = n/3 rounded up, less one, to have two confirmed. An EVIDENCE is as long as its count of entries, 1 to
+ * n, makes it.
+ */
+#define ZOLBINE_T0(n) (((n) + 2) / 3 - 1)
+#define ZOLBINE_K(n) ((n) - ZOLBINE_T0(n))
+#define ZOLBINE_KEYS_LEN(n) ((size_t)ZOLBINE_KEY_LEN * (n))
+#define ZOLBINE_STORE_LEN(n) ((size_t)2 * ZOLBINE_SIGNATURE_LEN * (n))
+#define ZOLBINE_FULL_LEN(n) (ZOLBINE_FULL_HEAD_LEN + (size_t)ZOLBINE_FULL_ENTRY_LEN * ZOLBINE_K(n))
+#define ZOLBINE_EVIDENCE_LEN(count) (ZOLBINE_EVIDENCE_HEAD_LEN + (size_t)ZOLBINE_EVIDENCE_ENTRY_LEN * (count))
+#define ZOLBINE_EVIDENCE_OUT_LEN(n) ZOLBINE_EVIDENCE_LEN(ZOLBINE_K(n)) /* out of zolbine_make_evidence */
+/* out of zolbine_submit and of the steps: room for one message of each kind */
+#define ZOLBINE_OUT_LEN(n) (ZOLBINE_SUBMIT_LEN + ZOLBINE_NOTICE_LEN + ZOLBINE_FULL_LEN(n) + ZOLBINE_EVIDENCE_OUT_LEN(n))
+
+/* The length of the first message in a buffer, by which what a call wrote is split into messages: 0 where no message of a fleet
+ * of n seats stands there whole, with its command, length, count and entry commands right. Also 0 for n outside 1 to 32. Seats,
+ * round and signatures aren't looked at.
+ */
+uint32_t zolbine_message_length(uint32_t n, const uint8_t *bytes, size_t bytes_len);
 
 struct zolbine_written {
     uint32_t number;  /* the refusal's number, or 0 */
@@ -91,18 +137,18 @@ struct zolbine_verdict {
 };
 
 /* The evidence check: an EVIDENCE command of a fleet of n seats in a round, under the fleet's key table (56 * n bytes, seat s's
- * key at byte 56 * s, types 6 and 4). Accepted evidence names double signers: each seat in the mask signed two layouts in the round.
- * Refusals: ZOLBINE_SIZE, ZOLBINE_ROUND, ZOLBINE_KEYS, ZOLBINE_GARBLED, ZOLBINE_OTHER_ROUND, ZOLBINE_STRANGER, ZOLBINE_DISORDER,
- * ZOLBINE_SIGNATURE, ZOLBINE_NO_CONFLICT. Signatures are checked only after everything cheaper has passed.
+ * key at byte 56 * s, types 6 and 4). Accepted evidence names double signers: each seat in the mask signed two layouts in the
+ * round. Refusals: ZOLBINE_SIZE, ZOLBINE_ROUND, ZOLBINE_KEYS, ZOLBINE_GARBLED, ZOLBINE_OTHER_ROUND, ZOLBINE_STRANGER,
+ * ZOLBINE_DISORDER, ZOLBINE_SIGNATURE, ZOLBINE_NO_CONFLICT. Signatures are checked only after everything cheaper has passed.
  */
 struct zolbine_verdict zolbine_check_evidence(uint32_t n, uint32_t round,
                                               const uint8_t *keys, size_t keys_len,
                                               const uint8_t *evidence, size_t evidence_len);
 
-/* Evidence from two FULL commands in hand, given in either order, whose values differ: writes the EVIDENCE command that names the
- * seats they share to out, of 68 + 2906 * k bytes or more. zolbine_check_evidence accepts what it writes. Refusals: ZOLBINE_SIZE,
- * ZOLBINE_ROUND, ZOLBINE_KEYS, ZOLBINE_OUT, then of the first and then of the second ZOLBINE_GARBLED, ZOLBINE_OTHER_ROUND,
- * ZOLBINE_STRANGER, ZOLBINE_DISORDER, ZOLBINE_SIGNATURE, and of both ZOLBINE_NO_CONFLICT (equal values).
+/* Evidence from two FULL commands in hand, given in either order, whose values differ: writes the EVIDENCE command that names
+ * the seats they share to out, of ZOLBINE_EVIDENCE_OUT_LEN(n) bytes or more. zolbine_check_evidence accepts what it writes.
+ * Refusals: ZOLBINE_SIZE, ZOLBINE_ROUND, ZOLBINE_KEYS, ZOLBINE_OUT, then of the first and then of the second ZOLBINE_GARBLED,
+ * ZOLBINE_OTHER_ROUND, ZOLBINE_STRANGER, ZOLBINE_DISORDER, ZOLBINE_SIGNATURE, and of both ZOLBINE_NO_CONFLICT (equal values).
  */
 struct zolbine_written zolbine_make_evidence(uint32_t n, uint32_t round,
                                              const uint8_t *keys, size_t keys_len,
@@ -113,21 +159,25 @@ struct zolbine_written zolbine_make_evidence(uint32_t n, uint32_t round,
 /* A unit's record in a round. It goes in and comes back by value, or is lent, and is to be read and never written by the host: a
  * record that no call gave may be refused (ZOLBINE_RECORD), or go with a store that doesn't hold what it says. A value is 32 bytes,
  * zeros where it isn't set; a set of seats is a mask, seat s being bit s.
+ *
+ * It has 136 bytes and is aligned to 4. Numbers are in the processor's own byte order. Nine bytes are padding, three after
+ * own.value, three after confirmed and three after sent: they mean nothing, and a copy of a record may have others there. So two
+ * records are compared field by field, and a checksum is made over the bytes as they are kept.
  */
 struct zolbine_own {
-    bool submitted;     /* whether the unit has submitted */
-    uint8_t value[32];  /* what it submitted */
-    uint32_t collected; /* the seats whose signatures over it are collected, the own one among them */
+    bool submitted;                   /* whether the unit has submitted */
+    uint8_t value[ZOLBINE_VALUE_LEN]; /* what it submitted */
+    uint32_t collected;               /* the seats whose signatures over it are collected, the own one among them */
 };
 
 struct zolbine_notices {
-    uint32_t heard;    /* values heard in NOTICE and FULL: 0 for none, 1 for one, 2 for two different ones */
-    uint8_t value[32]; /* the first of them */
+    uint32_t heard;                   /* values heard in NOTICE and FULL: 0 for none, 1 for one, 2 for two different ones */
+    uint8_t value[ZOLBINE_VALUE_LEN]; /* the first of them */
 };
 
 struct zolbine_first {
-    uint8_t value[32]; /* the value of the first certificate held */
-    uint32_t seats;    /* its seats, 0 where none is held */
+    uint8_t value[ZOLBINE_VALUE_LEN]; /* the value of the first certificate held */
+    uint32_t seats;                   /* its seats, 0 where none is held */
 };
 
 struct zolbine_record {
@@ -153,17 +203,53 @@ struct zolbine_stepped {
     struct zolbine_record record; /* the record after the call; with a refusal as it was given */
 };
 
-/* Opening: the record of a unit at its seat in a fleet of n, for one round. The key table has 56 * n bytes, seat s's key at byte
- * 56 * s, types 6 and 4. Refusals: ZOLBINE_SIZE, ZOLBINE_SEAT, ZOLBINE_ROUND, ZOLBINE_KEYS.
+/* The archive's structs are laid out so. A compiler that lays them out otherwise stops here. */
+#ifdef __cplusplus
+#define ZOLBINE_ASSERT(what) static_assert(what, #what)
+#define ZOLBINE_ALIGNED(type) alignof(type)
+#else
+#define ZOLBINE_ASSERT(what) _Static_assert(what, #what)
+#define ZOLBINE_ALIGNED(type) _Alignof(type)
+#endif
+ZOLBINE_ASSERT(sizeof(bool) == 1 && sizeof(uint32_t) == 4);
+ZOLBINE_ASSERT(offsetof(struct zolbine_own, submitted) == 0);
+ZOLBINE_ASSERT(offsetof(struct zolbine_own, value) == 1);
+ZOLBINE_ASSERT(offsetof(struct zolbine_own, collected) == 36);
+ZOLBINE_ASSERT(sizeof(struct zolbine_own) == 40);
+ZOLBINE_ASSERT(offsetof(struct zolbine_notices, heard) == 0);
+ZOLBINE_ASSERT(offsetof(struct zolbine_notices, value) == 4);
+ZOLBINE_ASSERT(sizeof(struct zolbine_notices) == 36);
+ZOLBINE_ASSERT(offsetof(struct zolbine_first, value) == 0);
+ZOLBINE_ASSERT(offsetof(struct zolbine_first, seats) == 32);
+ZOLBINE_ASSERT(sizeof(struct zolbine_first) == 36);
+ZOLBINE_ASSERT(offsetof(struct zolbine_record, n) == 0);
+ZOLBINE_ASSERT(offsetof(struct zolbine_record, seat) == 4);
+ZOLBINE_ASSERT(offsetof(struct zolbine_record, round) == 8);
+ZOLBINE_ASSERT(offsetof(struct zolbine_record, own) == 12);
+ZOLBINE_ASSERT(offsetof(struct zolbine_record, confirmed) == 52);
+ZOLBINE_ASSERT(offsetof(struct zolbine_record, notices) == 56);
+ZOLBINE_ASSERT(offsetof(struct zolbine_record, first) == 92);
+ZOLBINE_ASSERT(offsetof(struct zolbine_record, sent) == 128);
+ZOLBINE_ASSERT(offsetof(struct zolbine_record, guilty) == 132);
+ZOLBINE_ASSERT(sizeof(struct zolbine_record) == 136 && ZOLBINE_ALIGNED(struct zolbine_record) == 4);
+ZOLBINE_ASSERT(sizeof(struct zolbine_written) == 8 && sizeof(struct zolbine_verdict) == 8);
+ZOLBINE_ASSERT(offsetof(struct zolbine_opened, record) == 4 && sizeof(struct zolbine_opened) == 140);
+ZOLBINE_ASSERT(offsetof(struct zolbine_stepped, record) == 8 && sizeof(struct zolbine_stepped) == 144);
+#undef ZOLBINE_ALIGNED
+#undef ZOLBINE_ASSERT
+
+/* Opening: the record of a unit at its seat in a fleet of n, for one round. The key table has ZOLBINE_KEYS_LEN(n) bytes, seat
+ * s's key at byte 56 * s, types 6 and 4. Refusals: ZOLBINE_SIZE, ZOLBINE_SEAT, ZOLBINE_ROUND, ZOLBINE_KEYS.
  */
 struct zolbine_opened zolbine_open(uint32_t n, uint32_t seat, uint32_t round,
                                    const uint8_t *keys, size_t keys_len);
 
-/* Submit: the unit's own value, 32 bytes, with its own signature, 1,452 bytes, over the 36 bytes 0x01, round (2), seat (1), value.
- * The store has 2,904 * n bytes or more and holds the signatures that the record speaks of: the two are kept together, and a round's
- * first call takes a store of any bytes. Out has 1,629 + 4,360 * k bytes or more, k = n - t0 with t0 = n/3 rounded up, less one.
- * Everything written to out is to be sent, in its order. Refusals: ZOLBINE_RECORD, ZOLBINE_KEYS, ZOLBINE_STORE, ZOLBINE_OUT,
- * ZOLBINE_SAID, ZOLBINE_GARBLED (a length), ZOLBINE_SIGNATURE.
+/* Submit: the unit's own value, 32 bytes, with its own signature, 1,452 bytes, over the 36 bytes 0x01, round (2, high byte
+ * first), seat (1), value. The store has ZOLBINE_STORE_LEN(n) bytes or more and holds the signatures that the record speaks of:
+ * the two are kept together, and a round's first call takes a store of any bytes. Out has ZOLBINE_OUT_LEN(n) bytes or more.
+ * Everything written to out is to be sent, in its order, each message by itself: zolbine_message_length tells where one ends.
+ * Refusals: ZOLBINE_RECORD, ZOLBINE_KEYS, ZOLBINE_STORE, ZOLBINE_OUT, ZOLBINE_SAID, ZOLBINE_GARBLED (a length),
+ * ZOLBINE_SIGNATURE.
  */
 struct zolbine_stepped zolbine_submit(struct zolbine_record record,
                                       const uint8_t *keys, size_t keys_len,

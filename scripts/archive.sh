@@ -5,10 +5,13 @@ set -uo pipefail
 cd "$(dirname "$0")/.."
 name=$1
 
-echo "zolbine: proving $name and the crates below it: about 6 minutes from nothing, seconds where nothing has changed" >&2
+total=$(scripts/below.sh "$name" | wc -l)
+echo "zolbine: proving $name and the $total crates below it. $(scripts/times.sh "$name")" >&2
 mkdir -p target/log
 log=target/log/staticlib-$name.log
-rt staticlib "$name" 2>&1 | tee "$log" | grep --line-buffered '^rt: .* proved ([0-9]* s)$' >&2
+rt staticlib "$name" 2>&1 | tee "$log" | awk -v total=$((total + 1)) '
+    /^rt: [a-z0-9_]* proved \(/ { done++ }
+    /^rt: [a-z0-9_]* proved \([0-9]+ s\)$/ { print "  " done " of " total ": " $2 " " $3 " " $4 " " $5; fflush() }' >&2
 status=${PIPESTATUS[0]}
 if [ "$status" -ne 0 ]; then
     grep -v ': proved$\|: note: \|^rt: .* proved (' "$log" >&2

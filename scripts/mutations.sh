@@ -5,6 +5,53 @@
 set -euo pipefail
 cd "$(dirname "$0")/.."
 
+edit=${1:-}
+logs=target/mutations
+label=mutations
+[ -z "$edit" ] || label="mutation $(basename "$edit" .edit)"
+work=
+said=
+
+# an answer, after which the script may end
+say() {
+    said=yes
+    echo "$label: $*"
+}
+
+# whatever ends the script, it says so
+ended() {
+    local status=$?
+    [ -z "$work" ] || rm -rf "$work"
+    [ -n "$said" ] || case $status in
+    129 | 130 | 143) echo "$label: interrupted, so that nothing is shown" >&2 ;;
+    *) echo "$label: FAILED: ended with $status before it had an answer (logs: $logs)" >&2 ;;
+    esac
+}
+trap ended EXIT
+trap 'exit 129' HUP
+trap 'exit 130' INT
+trap 'exit 143' TERM
+
+for tool in rt awk xargs; do
+    if ! command -v "$tool" >/dev/null; then
+        say "FAILED: $tool is missing on this machine"
+        exit 1
+    fi
+done
+case $edit in
+'') ;;
+mutations/*.edit)
+    if [ ! -f "$edit" ]; then
+        say "FAILED: there is no file $edit"
+        exit 1
+    fi
+    ;;
+*)
+    say "FAILED: an argument is a file mutations/NAME.edit or mutations/harmless/NAME.edit"
+    exit 1
+    ;;
+esac
+
 # the crates below one, by crates.txt
 below=
 find_below() {
@@ -16,25 +63,26 @@ find_below() {
     done
 }
 find_below trials
+if [ -z "$below" ]; then
+    say "FAILED: crates.txt has no crates below trials"
+    exit 1
+fi
 
-logs=target/mutations
-work=$(mktemp -d)
-trap 'rm -rf "$work"' EXIT
 mkdir -p "$logs"
+work=$(mktemp -d)
 
 field() { sed -n "s/^$1: //p" "$2"; }
 
 # a copy of what the trials stand on, with what is proved of it
 copy() {
-    mkdir -p "$1/crates"
-    cp crates.txt "$1/"
+    mkdir -p "$1/crates" && cp crates.txt "$1/" || return
     local name kind part
-    for name in $below trials; do cp -R "crates/$name" "$1/crates/"; done
+    for name in $below trials; do cp -R "crates/$name" "$1/crates/" || return; done
     for name in $below; do
         for kind in log stamp obj rlib; do
-            mkdir -p "$1/target/$kind"
+            mkdir -p "$1/target/$kind" || return
             for part in "target/$kind/$name" "target/$kind/$name".*; do
-                [ ! -e "$part" ] || cp -R "$part" "$1/target/$kind/"
+                [ ! -e "$part" ] || cp -R "$part" "$1/target/$kind/" || return
             done
         done
     done
@@ -80,14 +128,17 @@ claim-fails = refuted $1 verdict
 ANTT
 }
 
-# is the answer proved with the edit? 0: yes. 1: no, and for nothing else than the answer. 2: the edit shows nothing
+# is the answer proved with the edit? 0: yes. 1: no, and for nothing else than the answer. 2: the edit shows nothing, as was said
 proved() {
-    local edit=$1 answer=$2 label status=0
-    label=$(basename "$edit" .edit)
-    local log="$logs/$label.log" at="$work/$label.$answer"
-    copy "$at"
-    if ! apply "$edit" "$at" >"$log"; then
-        echo "mutation $label: $(cat "$log")"
+    local answer=$1 name status=0
+    name=$(basename "$edit" .edit)
+    local log="$logs/$name.log" at="$work/$name.$answer"
+    if ! copy "$at" >"$log" 2>&1; then
+        say "FAILED: the crates can't be copied: $(tail -n 1 "$log")"
+        return 2
+    fi
+    if ! apply "$edit" "$at" >"$log" 2>&1; then
+        say "FAILED: $(cat "$log")"
         return 2
     fi
     assert "$(field run "$edit")" "$at" "$answer"
@@ -96,7 +147,7 @@ proved() {
     rm -rf "$at"
     [ "$status" -ne 0 ] || return 0
     if grep ': error: ' "$log" | grep -qv '/Verdict.antt:' || ! grep -q '/Verdict.antt:[0-9:]* error: `verdict`' "$log"; then
-        echo "mutation $label: an error that is not the answer's, so that the edit shows nothing ($log)"
+        say "FAILED: an error that is not the answer's, so that the edit shows nothing ($log)"
         tail -n 20 "$log"
         return 2
     fi
@@ -105,44 +156,44 @@ proved() {
 
 # an edit that must make its claim false
 refutes() {
-    local label status=0
-    label=$(basename "$1" .edit)
-    proved "$1" false || status=$?
+    local status=0
+    proved false || status=$?
     case $status in
-    0) echo "mutation $label: $(field claim "$1"): proved false on the run $(field run "$1")" ;;
-    1) echo "mutation $label: NOT REFUTED: on the run $(field run "$1") the premises fail or the conclusion holds ($logs/$label.log)" ;;
+    0) say "$(field claim "$edit"): proved false on the run $(field run "$edit")" ;;
+    1) say "NOT REFUTED: on the run $(field run "$edit") the premises fail or the conclusion holds ($logs)" ;;
     esac
     return "$status"
 }
 
 # an edit that must leave it as it is: the script refuses it, and the run's answer is that of the definitions as they stand
 harmless() {
-    local label status=0
-    label=$(basename "$1" .edit)
-    proved "$1" false || status=$?
-    [ "$status" -ne 0 ] || echo "harmless edit $label: REFUTES $(field claim "$1")"
+    local status=0
+    proved false || status=$?
+    [ "$status" -ne 0 ] || say "harmless, and REFUTES $(field claim "$edit")"
     [ "$status" -eq 1 ] || return 1
     status=0
-    proved "$1" true || status=$?
+    proved true || status=$?
     case $status in
-    0) echo "harmless edit $label: refutes nothing, as it must be" ;;
-    1) echo "harmless edit $label: the run $(field run "$1") has another answer ($logs/$label.log)" ;;
+    0) say "harmless: refutes nothing, as it must be" ;;
+    1) say "harmless, and the run $(field run "$edit") has another answer ($logs)" ;;
     esac
     return "$status"
 }
 
-case "${1:-}" in
-mutations/harmless/*) harmless "$1" ;;
-mutations/*) refutes "$1" ;;
+case $edit in
+mutations/harmless/*) harmless ;;
+mutations/*) refutes ;;
 *)
     # two at a time
-    if ! printf '%s\n' mutations/*.edit mutations/harmless/*.edit | xargs -n 1 -P 2 scripts/mutations.sh; then
-        echo "mutations: FAILED"
+    status=0
+    printf '%s\n' mutations/*.edit mutations/harmless/*.edit | xargs -n 1 -P 2 scripts/mutations.sh || status=$?
+    if [ "$status" -ne 0 ]; then
+        say "FAILED"
         exit 1
     fi
     set -- mutations/*.edit
     tried=$#
     set -- mutations/harmless/*.edit
-    echo "$tried mutations, each refuted by its run; harmless edits found harmless: $#"
+    say "$tried refuted, each by its run; harmless edits found harmless: $#"
     ;;
 esac

@@ -1,5 +1,5 @@
 #!/usr/bin/env bash
-# Says which of the tools are missing or too old, and which versions are needed.
+# Says which of the tools are missing or too old, and which versions are needed. With g++ as argument: that one too.
 set -uo pipefail
 cd "$(dirname "$0")/.."
 
@@ -10,7 +10,7 @@ missing=()
 
 if ! command -v rt >/dev/null; then
     missing+=("rt     the Rattle toolchain, $kit: its folder bin on the PATH")
-elif found=$(rt version) && [ "${found%% *}" != "$kit" ]; then
+elif found=$(rt version) && [[ $found != "$kit"* ]]; then
     echo "zolbine: rt is of $found; the crates were proved with $kit" >&2
 fi
 
@@ -24,6 +24,9 @@ fi
 
 if ! echo 'int main(void) { return 0; }' | "$compiler" -std=c11 -x c -o /dev/null - 2>/dev/null; then
     missing+=("gcc    any that compiles and links C11 (4.9 or newer); CC names another compiler")
+fi
+if [ "${1:-}" = g++ ] && ! echo 'int main() { return 0; }' | "${CXX:-g++}" -std=c++11 -x c++ -o /dev/null - 2>/dev/null; then
+    missing+=("g++    any that compiles and links C++11, for the gate alone; CXX names another compiler")
 fi
 command -v ar >/dev/null || missing+=("ar     of binutils, which comes with gcc")
 

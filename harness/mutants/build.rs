@@ -1,17 +1,51 @@
-//! Makes a copy of the reference's confirmer for each fault of faults.txt, with the fault's lines replaced.
+//! Makes a copy of a part of the reference for each fault of faults.txt, with the fault's lines replaced.
 
 use std::collections::BTreeMap;
 use std::path::PathBuf;
 use std::{env, fs};
 
-/// The files that make up document 01's part of the reference; the rest is used as it is.
-const FILES: [&str; 8] = ["engine", "evidence", "impossible", "messages", "quorum", "seats", "store", "turned_back"];
+/// A part of the reference that is copied whole around a fault in one of its files.
+struct Part {
+    /// How mutants of it are tested: a variant of `Subject`, and the macro that gives the copies' calls to a type.
+    subject: &'static str,
+    calls: &'static str,
+    files: &'static [&'static str],
+    /// What the copies use as it is.
+    whole: &'static str,
+}
+
+/// Faults go into the first part that has their file.
+const PARTS: [Part; 4] = [
+    Part {
+        subject: "Confirmer",
+        calls: "confirmer_of",
+        files: &["engine", "evidence", "impossible", "layout", "messages", "quorum", "seats", "turned_back"],
+        whole: "pub use harness::reference::{calls, lms, record, verdicts};",
+    },
+    Part { subject: "Hashes", calls: "hashes_of", files: &["sha256"], whole: "" },
+    Part {
+        subject: "Calls",
+        calls: "calls_of",
+        files: &["calls", "lms"],
+        whole: "pub use crate::once::lmots; pub use harness::reference::{layout, record};
+            pub mod verdicts { pub use super::lms::verify; }",
+    },
+    Part {
+        subject: "Calls",
+        calls: "calls_of",
+        files: &["calls", "lms", "lmots"],
+        whole: "pub use harness::reference::{layout, record, sha256};
+            pub mod verdicts { pub use super::lms::verify; }",
+    },
+];
 
 #[derive(Default)]
 struct Fault {
     what: String,
     file: String,
     battery: String,
+    /// An edit that changes no meaning.
+    harmless: bool,
     right: Vec<String>,
     wrong: Vec<String>,
 }
@@ -27,21 +61,28 @@ fn main() {
         let text = read(here.join(format!("../src/reference/{name}.rs")));
         text.split("#[cfg(test)]").next().unwrap_or_default().to_string()
     };
-    let sources: BTreeMap<&str, String> = FILES.into_iter().map(|name| (name, source(name))).collect();
+    let files = PARTS.iter().flat_map(|part| part.files);
+    let sources: BTreeMap<&str, String> = files.map(|&name| (name, source(name))).collect();
     let faults = read(here.join("faults.txt"));
     let faults: Vec<Fault> = faults.split("\n\n").filter_map(fault).collect();
     let mut text = String::new();
     let mut list = String::new();
     for (number, fault) in faults.iter().enumerate() {
-        text.push_str(&mutant(number, fault, &sources));
-        let Fault { what, battery, .. } = fault;
-        list.push_str(&format!("Mutant {{ fault: {what:?}, battery: {battery:?}, confirmer: &M{number} }},\n"));
+        let Fault { what, file, battery, harmless, .. } = fault;
+        let part = PARTS.iter().find(|part| part.files.contains(&file.as_str()));
+        let part = part.unwrap_or_else(|| panic!("{what}: no file {file}"));
+        text.push_str(&mutant(number, fault, part, &sources));
+        let subject = format!("Subject::{}(&M{number})", part.subject);
+        list.push_str(&format!(
+            "Mutant {{ fault: {what:?}, battery: {battery:?}, harmless: {harmless}, subject: {subject} }},\n"
+        ));
     }
     text.push_str(&format!("pub const ALL: [Mutant; {}] = [\n{list}];\n", faults.len()));
     fs::write(out.join("mutants.rs"), text).expect("the folder for what is made");
 }
 
-/// A block of the file: what is wrong, `FILE, BATTERY`, the right lines and the wrong ones. Comments are no block.
+/// A block of the file: what is wrong, `FILE, BATTERY` with `, harmless` behind it or not, the right lines and the wrong ones.
+/// Comments are no block.
 fn fault(block: &str) -> Option<Fault> {
     let mut fault = Fault::default();
     for line in block.lines().filter(|line| !line.starts_with('#')) {
@@ -52,35 +93,41 @@ fn fault(block: &str) -> Option<Fault> {
         } else if fault.what.is_empty() {
             fault.what = line.to_string();
         } else {
-            let (file, battery) = line.split_once(", ").unwrap_or_else(|| panic!("file and battery: {line}"));
-            (fault.file, fault.battery) = (file.to_string(), battery.to_string());
+            match line.split(", ").collect::<Vec<_>>()[..] {
+                [file, battery] => (fault.file, fault.battery) = (file.to_string(), battery.to_string()),
+                [file, battery, "harmless"] => {
+                    (fault.file, fault.battery, fault.harmless) = (file.to_string(), battery.to_string(), true);
+                }
+                _ => panic!("file and battery: {line}"),
+            }
         }
     }
     (!fault.what.is_empty()).then_some(fault)
 }
 
-/// All files of the reference with one of them changed, and their calls given to a type.
-fn mutant(number: usize, fault: &Fault, sources: &BTreeMap<&str, String>) -> String {
+/// All files of the part with one of them changed, and their calls given to a type.
+fn mutant(number: usize, fault: &Fault, part: &Part, sources: &BTreeMap<&str, String>) -> String {
     let Fault { what, file, right, wrong, .. } = fault;
-    let right = right.join("\n");
+    let (right, wrong) = (right.join("\n"), wrong.join("\n"));
     let mut modules = String::new();
-    for (name, text) in sources {
-        let mut text = text.clone();
+    for name in part.files {
+        let mut text = sources[name].clone();
         if name == file {
             assert_eq!(text.matches(&right).count(), 1, "{what}: {file}.rs doesn't have once:\n{right}");
-            text = text.replace(&right, &wrong.join("\n"));
+            assert_ne!(right, wrong, "{what}: nothing is edited");
+            text = text.replace(&right, &wrong);
         }
         modules.push_str(&format!("pub mod {name} {{ {text} }}\n"));
     }
-    assert!(sources.contains_key(file.as_str()), "{what}: no file {file}");
+    let Part { calls, whole, .. } = part;
     format!(
         "#[allow(warnings, clippy::all)]
         pub mod m{number} {{
-            pub use harness::reference::{{calls, lms, record, verdicts}};
+            {whole}
             {modules}
         }}
         struct M{number};
-        harness::confirmer_of!(M{number}: crate::m{number});
+        harness::{calls}!(M{number}: crate::m{number});
         "
     )
 }

@@ -1,7 +1,9 @@
 //! What goes over the air: the messages that a call wrote, taken apart, and messages garbled on their way.
 
 use crate::fleet;
-use crate::reference::calls::SIGNATURE;
+use crate::reference::layout::{
+    self, ENTRY_SEAT_AT, ENTRY_SIGNATURE_AT, EVIDENCE_COUNT_AT, FULL_COUNT_AT, FULL_ENTRIES_AT, ROUND_AT, SEAT_AT,
+};
 use crate::reference::messages::{EVIDENCE, FULL, NOTICE, SUBMIT};
 use crate::rng::Rng;
 
@@ -21,10 +23,10 @@ pub fn messages(mut written: &[u8]) -> Vec<Vec<u8>> {
     let mut messages = Vec::new();
     while !written.is_empty() {
         let length = match written[0] {
-            SUBMIT => 36 + SIGNATURE,
-            NOTICE => 36,
-            FULL => 37 + (2 + SIGNATURE) * usize::from(written[36]),
-            EVIDENCE => 68 + (2 + 2 * SIGNATURE) * usize::from(written[67]),
+            SUBMIT => layout::SUBMIT,
+            NOTICE => layout::NOTICE,
+            FULL => layout::full(written[FULL_COUNT_AT].into()),
+            EVIDENCE => layout::evidence(written[EVIDENCE_COUNT_AT].into()),
             other => panic!("no command that a call writes: {other:#04x}"),
         };
         let (message, rest) = written.split_at(length);
@@ -44,7 +46,7 @@ pub fn garbled(message: &[u8], rng: &mut Rng) -> (&'static str, Vec<u8>) {
             "a bit flipped"
         }
         1 => {
-            garbled[rng.below(length.min(40))] ^= 1 << rng.below(8);
+            garbled[rng.below(length.min(FULL_ENTRIES_AT + ENTRY_SIGNATURE_AT + 1))] ^= 1 << rng.below(8);
             "a bit of its head flipped"
         }
         2 => {
@@ -58,7 +60,16 @@ pub fn garbled(message: &[u8], rng: &mut Rng) -> (&'static str, Vec<u8>) {
             "lengthened"
         }
         4 => {
-            let length = *rng.pick(&[0, 1, 35, 36, 37, 1488, 1491, 68 + 2906]);
+            let length = *rng.pick(&[
+                0,
+                1,
+                layout::NOTICE - 1,
+                layout::NOTICE,
+                layout::NOTICE + 1,
+                layout::SUBMIT,
+                layout::full(1),
+                layout::evidence(1),
+            ]);
             garbled = rng.bytes(length);
             "noise"
         }
@@ -67,11 +78,11 @@ pub fn garbled(message: &[u8], rng: &mut Rng) -> (&'static str, Vec<u8>) {
             "with another command"
         }
         6 => {
-            garbled[1..3].copy_from_slice(&(*rng.pick(&fleet::rounds()) as u16).to_be_bytes());
+            garbled[ROUND_AT..SEAT_AT].copy_from_slice(&(*rng.pick(&fleet::rounds()) as u16).to_be_bytes());
             "of some round"
         }
         7 => {
-            garbled[3] = rng.below(40) as u8;
+            garbled[SEAT_AT] = rng.below(40) as u8;
             "of some seat"
         }
         8 => {
@@ -88,15 +99,15 @@ pub fn garbled(message: &[u8], rng: &mut Rng) -> (&'static str, Vec<u8>) {
         10 => {
             in_entries(&mut garbled, |entries| {
                 let place = rng.below(entries.len());
-                entries[place][1] = rng.below(40) as u8;
+                entries[place][ENTRY_SEAT_AT] = rng.below(40) as u8;
             });
             "with an entry of some seat"
         }
         _ => {
             in_entries(&mut garbled, |entries| {
                 let (one, other) = (rng.below(entries.len()), rng.below(entries.len()));
-                let signature = entries[one][2..].to_vec();
-                entries[other][2..].copy_from_slice(&signature);
+                let signature = entries[one][ENTRY_SIGNATURE_AT..].to_vec();
+                entries[other][ENTRY_SIGNATURE_AT..].copy_from_slice(&signature);
             });
             "with a signature of another entry"
         }
@@ -107,9 +118,9 @@ pub fn garbled(message: &[u8], rng: &mut Rng) -> (&'static str, Vec<u8>) {
 /// A change to the entries of a FULL; any other message stays.
 fn in_entries(message: &mut Vec<u8>, change: impl FnOnce(&mut Vec<Vec<u8>>)) {
     if message[0] == FULL {
-        let mut entries = message[37..].chunks(2 + SIGNATURE).map(<[u8]>::to_vec).collect();
+        let mut entries = message[FULL_ENTRIES_AT..].chunks(layout::FULL_ENTRY).map(<[u8]>::to_vec).collect();
         change(&mut entries);
-        message.truncate(37);
+        message.truncate(FULL_ENTRIES_AT);
         message.extend(entries.concat());
     }
 }

@@ -1,7 +1,6 @@
 //! The confirmer's calls behind safe faces, and the reference behind them.
 
-use crate::reference::calls::Written;
-use crate::reference::record::{Opened, Record, Stepped, Verdict};
+use crate::reference::record::{Opened, Record, Stepped, Verdict, Written};
 
 pub trait EvidenceCheck: Sync {
     fn check_evidence(&self, n: u32, round: u32, keys: &[u8], evidence: &[u8]) -> Verdict;
@@ -43,10 +42,24 @@ pub trait LowerCopy: Sync {
     fn copy_lower(&self, n: u32, round: u32, keys: &[u8], first: &[u8], second: &[u8], out: &mut [u8]) -> u32;
 }
 
-/// All of the calls.
-pub trait Confirmer: EvidenceCheck + Engine + LentStep + Making + Lower {}
+/// What hands the lower one back can copy it.
+impl<T: Lower> LowerCopy for T {
+    fn copy_lower(&self, n: u32, round: u32, keys: &[u8], first: &[u8], second: &[u8], out: &mut [u8]) -> u32 {
+        let lower = self.lower_certificate(n, round, keys, first, second);
+        match out.get_mut(..lower.len()) {
+            Some(part) => {
+                part.copy_from_slice(lower);
+                0
+            }
+            None => 7,
+        }
+    }
+}
 
-impl<T: EvidenceCheck + Engine + LentStep + Making + Lower> Confirmer for T {}
+/// All of the calls.
+pub trait Confirmer: EvidenceCheck + Engine + LentStep + Making + Lower + LowerCopy {}
+
+impl<T: EvidenceCheck + Engine + LentStep + Making + Lower + LowerCopy> Confirmer for T {}
 
 /// Gives a type the calls of a module like [`crate::reference`].
 #[macro_export]
@@ -95,7 +108,7 @@ macro_rules! confirmer_of {
                 store: &mut [u8],
                 message: &[u8],
                 out: &mut [u8],
-            ) -> $crate::reference::calls::Written {
+            ) -> $crate::reference::record::Written {
                 $($module)+::engine::step_lent(record, keys, store, message, out)
             }
         }
@@ -109,7 +122,7 @@ macro_rules! confirmer_of {
                 first: &[u8],
                 second: &[u8],
                 out: &mut [u8],
-            ) -> $crate::reference::calls::Written {
+            ) -> $crate::reference::record::Written {
                 $($module)+::evidence::make_evidence(n, round, keys, first, second, out)
             }
         }

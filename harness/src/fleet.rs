@@ -6,8 +6,7 @@ use crate::compare::progress;
 use crate::keys::Key;
 use crate::memo::Memo;
 use crate::parallel;
-use crate::reference::calls::engine_types;
-use crate::reference::lms::N;
+use crate::reference::lms::{Types, N};
 use crate::reference::messages::{signed_bytes, Evidence, EvidenceEntry, Full, FullEntry, Notice, Submit, Value};
 use crate::reference::quorum;
 use crate::rng::{seed, Rng};
@@ -30,7 +29,7 @@ fn keys() -> &'static [Key] {
     KEYS.get_or_init(|| {
         let seats: Vec<u32> = (0..32).collect();
         let key =
-            |seat: &u32| Key::with_leaves(engine_types(), &rounds(), &mut Rng::new(seed(), &format!("seat {seat}")));
+            |seat: &u32| Key::with_leaves(Types::ENGINE, &rounds(), &mut Rng::new(seed(), &format!("seat {seat}")));
         let keys = parallel::map(&seats, key);
         progress("the reference made the keys of 32 seats");
         keys

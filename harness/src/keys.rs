@@ -1,7 +1,6 @@
 //! Whole keys made by the reference.
 
 use crate::parallel;
-use crate::reference::calls::engine_types;
 use crate::reference::lms::{self, Types, IDENTIFIER, N};
 use crate::rng::Rng;
 
@@ -50,7 +49,7 @@ impl Key {
 
     /// The tree as the signer reads it; only of the engine's types.
     pub fn lent_tree(&self, first: &[u8]) -> Vec<u8> {
-        assert_eq!((self.types, first.len()), (engine_types(), N));
+        assert_eq!((self.types, first.len()), (Types::ENGINE, N));
         [first, &self.tree.concat()].concat()
     }
 }

@@ -1,6 +1,8 @@
-//! Tests and measurements of the library from outside: a second implementation, foreign vectors, plain C.
+//! Tests and measurements of the library from outside: a second implementation, outside vectors, plain C.
 
 pub mod air;
+#[cfg(feature = "zolbine")]
+pub mod c_program;
 pub mod compare;
 pub mod confirmer;
 pub mod contest;

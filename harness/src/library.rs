@@ -6,8 +6,7 @@ pub struct Library;
 mod calls {
     use super::Library;
     use crate::confirmer::{Engine, EvidenceCheck, LentStep, Making};
-    use crate::reference::calls::Written;
-    use crate::reference::record::{Opened, Record, Stepped, Verdict};
+    use crate::reference::record::{Opened, Record, Stepped, Verdict, Written};
     use crate::subject::{c_calls, c_functions};
 
     c_calls!(Library: zolbine_check_signature, zolbine_make_key, zolbine_sign);
@@ -161,5 +160,4 @@ linked! {
     hashes: crate::subject::Hashes, "probes";
     evidence_check: crate::confirmer::EvidenceCheck, "zolbine";
     engine: crate::confirmer::Engine, "zolbine";
-    making: crate::confirmer::Making, "zolbine";
 }

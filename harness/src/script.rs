@@ -3,11 +3,11 @@
 use std::collections::BTreeMap;
 
 use crate::compare::equal;
-use crate::confirmer::{Engine, EvidenceCheck, Lower, Making};
+use crate::confirmer::{Engine, EvidenceCheck, LowerCopy, Making};
 use crate::fleet::Fleet;
+use crate::reference::layout;
 use crate::reference::record::{First, Notices, Own, Record, Stepped, Verdict};
 use crate::reference::seats::mask;
-use crate::reference::{engine, evidence, store};
 use crate::terms::{change, each_line, each_script, expect, length, number, seats, Terms, Words};
 
 /// The calls that a script is run with.
@@ -16,7 +16,7 @@ pub struct Calls<'a> {
     pub engine: &'a dyn Engine,
     pub evidence: &'a dyn EvidenceCheck,
     pub making: &'a dyn Making,
-    pub lower: &'a dyn Lower,
+    pub lower: &'a dyn LowerCopy,
 }
 
 /// What stands in `out` and in a store before anything is written there.
@@ -88,7 +88,7 @@ impl Script<'_> {
                 let verdict = self.calls.evidence.check_evidence(n, round, &self.terms.fleet.key_table(), &message);
                 self.answer = Some(Answer::Named(verdict));
             }
-            "join" => self.join(words)?,
+            "make" => self.make(words)?,
             "lower" => self.lower(words)?,
             seat => {
                 let seat = seat.parse().map_err(|_| format!("`{seat}` is no command and no seat"))?;
@@ -109,7 +109,7 @@ impl Script<'_> {
         let opened = self.calls.engine.open(n, seat, round, &self.terms.fleet.key_table());
         self.answer = Some(Answer::Opened(opened.number));
         if opened.number == 0 {
-            self.units.insert(seat, Unit { record: opened.record, store: vec![BLANK; store::length(n)] });
+            self.units.insert(seat, Unit { record: opened.record, store: vec![BLANK; layout::store(n)] });
         }
     }
 
@@ -153,7 +153,7 @@ impl Script<'_> {
         let unit = self.units.get_mut(&seat).ok_or("the unit isn't open")?;
         let mut store = unit.store[..lent.store.unwrap_or(unit.store.len())].to_vec();
         let before = store.clone();
-        let mut out = vec![BLANK; lent.out.unwrap_or(engine::out_length(n))];
+        let mut out = vec![BLANK; lent.out.unwrap_or(layout::out(n))];
         let answer = call(unit.record, &keys, &mut store, &mut out);
         let written = out.drain(..answer.written as usize).collect();
         if out.iter().any(|&byte| byte != BLANK) {
@@ -169,10 +169,10 @@ impl Script<'_> {
         Ok(())
     }
 
-    fn join(&mut self, words: &mut Words) -> Result<(), String> {
+    fn make(&mut self, words: &mut Words) -> Result<(), String> {
         let (first, second, lent) = self.two_certificates(words)?;
         let Fleet { n, round } = self.terms.fleet;
-        let mut out = vec![BLANK; lent.out.unwrap_or(evidence::out_length(n))];
+        let mut out = vec![BLANK; lent.out.unwrap_or(layout::evidence_out(n))];
         let answer =
             self.calls.making.make_evidence(n, round, &self.terms.fleet.key_table(), &first, &second, &mut out);
         out.truncate(answer.written as usize);
@@ -183,14 +183,13 @@ impl Script<'_> {
     fn lower(&mut self, words: &mut Words) -> Result<(), String> {
         let (first, second, _) = self.two_certificates(words)?;
         let Fleet { n, round } = self.terms.fleet;
-        let part = self.calls.lower.lower_certificate(n, round, &self.terms.fleet.key_table(), &first, &second);
-        let places = [("first", &first), ("second", &second)];
-        let whole = places.iter().find(|(_, buffer)| part.as_ptr() == buffer.as_ptr() && part.len() == buffer.len());
-        self.answer = Some(Answer::Lower(match whole {
-            Some((name, _)) => name,
-            None if part.is_empty() => "none",
-            None => "something else",
-        }));
+        let mut out = vec![BLANK; first.len().max(second.len()) + 1];
+        let keys = self.terms.fleet.key_table();
+        equal("the number", self.calls.lower.copy_lower(n, round, &keys, &first, &second, &mut out), 0)?;
+        let wholly = |bytes: &[u8]| out.strip_prefix(bytes).is_some_and(|rest| rest.iter().all(|&byte| byte == BLANK));
+        let names = [("none", &[][..]), ("first", &first), ("second", &second)];
+        let name = names.into_iter().find(|(_, bytes)| wholly(bytes)).map_or("something else", |(name, _)| name);
+        self.answer = Some(Answer::Lower(name));
         Ok(())
     }
 

@@ -1,6 +1,7 @@
 //! What is tested and measured: C functions behind safe faces.
 
-use crate::reference::calls::Written;
+use crate::reference::lms::N;
+use crate::reference::record::Written;
 
 /// The library's calls.
 pub trait Calls: Sync {
@@ -27,6 +28,70 @@ pub trait Hashes: Sync {
 
     /// The block taken in `count` times in a row.
     fn compress_many(&self, count: u32, state: &[u8], block: &[u8], out: &mut [u8]) -> u32;
+}
+
+/// Gives a type the calls of a module like [`crate::reference`].
+#[macro_export]
+macro_rules! calls_of {
+    ($subject:ident: $($module:tt)+) => {
+        impl $crate::subject::Calls for $subject {
+            fn check_signature(&self, key: &[u8], message: &[u8], signature: &[u8]) -> u32 {
+                $($module)+::calls::check_signature(key, message, signature)
+            }
+
+            fn make_key(
+                &self,
+                seed: &[u8],
+                identifier: &[u8],
+                tree: &mut [u8],
+                out: &mut [u8],
+            ) -> $crate::reference::record::Written {
+                $($module)+::calls::make_key(seed, identifier, tree, out)
+            }
+
+            fn sign(
+                &self,
+                leaf: u32,
+                seed: &[u8],
+                identifier: &[u8],
+                randomizer: &[u8],
+                tree: &[u8],
+                message: &[u8],
+                out: &mut [u8],
+            ) -> $crate::reference::record::Written {
+                $($module)+::calls::sign(leaf, seed, identifier, randomizer, tree, message, out)
+            }
+        }
+    };
+}
+
+/// The same for [`Hashes`].
+#[macro_export]
+macro_rules! hashes_of {
+    ($subject:ident: $($module:tt)+) => {
+        impl $crate::subject::Hashes for $subject {
+            fn sha256(&self, message: &[u8], out: &mut [u8]) -> u32 {
+                $crate::subject::digest_to(out, || $($module)+::sha256::digest(message))
+            }
+
+            fn compress_many(&self, count: u32, state: &[u8], block: &[u8], out: &mut [u8]) -> u32 {
+                use $($module)+::sha256::{bytes_of, compress, state_of};
+                let many = || bytes_of((0..count).fold(state_of(state), |words, _| compress(words, block)));
+                $crate::subject::digest_to(out, many)
+            }
+        }
+    };
+}
+
+/// The answer of a layer below the calls.
+pub fn digest_to(out: &mut [u8], digest: impl FnOnce() -> Vec<u8>) -> u32 {
+    match out.get_mut(..N) {
+        Some(part) => {
+            part.copy_from_slice(&digest());
+            0
+        }
+        None => 7,
+    }
 }
 
 /// Declares C functions and gives each a safe face of the same name: a slice passes as pointer and length.
@@ -71,7 +136,7 @@ macro_rules! c_calls {
     ($subject:ident: $check_signature:ident, $make_key:ident, $sign:ident) => {
         $crate::subject::c_functions! {
             fn $check_signature(key: &[u8], message: &[u8], signature: &[u8]) -> u32;
-            fn $make_key(seed: &[u8], identifier: &[u8], tree: &mut [u8], out: &mut [u8]) -> $crate::reference::calls::Written;
+            fn $make_key(seed: &[u8], identifier: &[u8], tree: &mut [u8], out: &mut [u8]) -> $crate::reference::record::Written;
             fn $sign(
                 leaf: u32,
                 seed: &[u8],
@@ -80,7 +145,7 @@ macro_rules! c_calls {
                 tree: &[u8],
                 message: &[u8],
                 out: &mut [u8]
-            ) -> $crate::reference::calls::Written;
+            ) -> $crate::reference::record::Written;
         }
 
         impl $crate::subject::Calls for $subject {
@@ -94,7 +159,7 @@ macro_rules! c_calls {
                 identifier: &[u8],
                 tree: &mut [u8],
                 out: &mut [u8],
-            ) -> $crate::reference::calls::Written {
+            ) -> $crate::reference::record::Written {
                 $make_key(seed, identifier, tree, out)
             }
 
@@ -107,7 +172,7 @@ macro_rules! c_calls {
                 tree: &[u8],
                 message: &[u8],
                 out: &mut [u8],
-            ) -> $crate::reference::calls::Written {
+            ) -> $crate::reference::record::Written {
                 $sign(leaf, seed, identifier, randomizer, tree, message, out)
             }
         }

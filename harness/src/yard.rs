@@ -8,6 +8,7 @@ use crate::air;
 use crate::compare::equal;
 use crate::fleet::{self, layouts, rounds, some_seats, Fleet};
 use crate::hex;
+use crate::reference::lms::PUBLIC_KEY;
 use crate::rng::Rng;
 use crate::terms::{change, each_line, each_script, expect, number, Terms, Words};
 
@@ -141,7 +142,7 @@ fn random_opening(fleet: Fleet, seat: u32, rng: &mut Rng) -> Vec<u8> {
         2 => opening(n, seat, 1024, &keys),
         3 => opening(n, 255, 1024, &keys),
         4 => {
-            keys[56 * rng.below(n as usize) + rng.below(8)] ^= 1;
+            keys[PUBLIC_KEY * rng.below(n as usize) + rng.below(8)] ^= 1;
             opening(n, seat, round, &keys)
         }
         5 => opening(n, seat, round, &fleet::table(n - 1)),

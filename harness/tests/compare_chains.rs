@@ -2,10 +2,10 @@
 #![cfg(feature = "probes")]
 
 use harness::library::Library;
-use harness::reference::lms::{chain, chain_start, IDENTIFIER, N};
+use harness::reference::lmots::{chain, chain_start, Types, IDENTIFIER, N};
 use harness::rng::{seed, Rng};
 
-const CHAINS: usize = 34;
+const CHAINS: usize = Types::ENGINE.chains();
 
 /// Digits that are `most` but at the places of `others`.
 fn digits(most: u8, others: &[(usize, u8)]) -> Vec<u8> {

@@ -1,10 +1,15 @@
-//! Evidence from two certificates in hand against the reference.
-#![cfg(feature = "zolbine")]
+//! Evidence and the lower certificate from two certificates in hand against the reference.
 
-use harness::compare::making;
-use harness::library::Library;
-
+#[cfg(feature = "zolbine")]
 #[test]
-fn pairs_of_certificates() {
-    making::battery(making::Subject { making: &Library, lower: None });
+fn evidence() {
+    use harness::compare::making::{battery, Subject};
+    battery(Subject { making: &harness::library::Library, lower: None });
+}
+
+/// Through its probe, as a copy.
+#[cfg(feature = "probes")]
+#[test]
+fn lower_certificate() {
+    harness::compare::making::copies(&harness::library::Library);
 }

@@ -1,7 +1,7 @@
 //! The lengths by n in docs/HOST.md are those that the calls ask for.
 
+use harness::reference::layout;
 use harness::reference::quorum::{k, t0};
-use harness::reference::{engine, evidence, store};
 
 /// A row of a table whose cells are all numbers.
 fn numbers(line: &str) -> Option<Vec<usize>> {
@@ -14,9 +14,9 @@ fn lengths_by_n() {
     let rows: Vec<Vec<usize>> = include_str!("../../docs/HOST.md").lines().filter_map(numbers).collect();
     assert_eq!(rows.len(), 32);
     for (n, row) in (1..).zip(rows) {
-        let (full, longest) = (37 + 1454 * k(n) as usize, 68 + 2906 * n as usize);
-        let lengths = [store::length(n), engine::out_length(n), evidence::out_length(n), full, longest];
+        let messages = [layout::full(k(n)), layout::evidence(n)];
+        let lengths = [layout::store(n), layout::out(n), layout::evidence_out(n)];
         let thresholds = [n, t0(n), k(n)].map(|number| number as usize);
-        assert_eq!(row, [&thresholds[..], &lengths[..]].concat());
+        assert_eq!(row, [&thresholds[..], &lengths[..], &messages[..]].concat());
     }
 }

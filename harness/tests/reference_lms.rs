@@ -1,8 +1,11 @@
 //! The reference's LMS against the RFC's vectors and those of other implementations.
 
 use harness::keys::Key;
-use harness::reference::calls::{self, Written, SIGNATURE, TREE};
-use harness::reference::lms::{self, Types, PUBLIC_KEY};
+use harness::reference::calls::{self, TREE};
+use harness::reference::layout::SIGNATURE;
+use harness::reference::lmots;
+use harness::reference::lms::{self, Types, N, PUBLIC_KEY};
+use harness::reference::record::Written;
 use harness::vectors::{self, Made, Record};
 
 #[test]
@@ -28,18 +31,18 @@ fn parameters_are_those_of_tables_1_and_2() {
 #[test]
 fn coef_counts_from_the_left() {
     let s = [0x12, 0x34];
-    let nibbles: Vec<u32> = (0..4).map(|i| lms::coef(&s, i, 4)).collect();
+    let nibbles: Vec<u32> = (0..4).map(|i| lmots::coef(&s, i, 4)).collect();
     assert_eq!(nibbles, [1, 2, 3, 4]);
-    assert_eq!((lms::coef(&s, 7, 1), lms::coef(&s, 6, 1)), (0, 1));
-    assert_eq!((lms::coef(&s, 0, 8), lms::coef(&s, 1, 8)), (0x12, 0x34));
+    assert_eq!((lmots::coef(&s, 7, 1), lmots::coef(&s, 6, 1)), (0, 1));
+    assert_eq!((lmots::coef(&s, 0, 8), lmots::coef(&s, 1, 8)), (0x12, 0x34));
 }
 
 /// Document 01's marked cases for width 8, and the same ends for width 4.
 #[test]
 fn checksum_of_all_zeros_and_all_ones() {
     let (w4, w8) = (Types::of(5, 3).unwrap(), Types::of(5, 4).unwrap());
-    let checksum_digits = |digest: &[u8], types: Types| lms::digits(digest, types)[types.digest_digits()..].to_vec();
-    assert_eq!(lms::checksum(&[0; 32], w8), 8160);
+    let checksum_digits = |digest: &[u8], types: Types| lmots::digits(digest, types)[types.digest_digits()..].to_vec();
+    assert_eq!(lmots::checksum(&[0; 32], w8), 8160);
     assert_eq!(checksum_digits(&[0; 32], w8), [31, 224]);
     assert_eq!(checksum_digits(&[255; 32], w8), [0, 0]);
     assert_eq!(checksum_digits(&[0; 32], w4), [0x3, 0xc, 0x0]);
@@ -95,6 +98,10 @@ fn keys_and_signatures_are_remade_from_their_seeds() {
     let mut keys: Vec<Key> = Vec::new();
     for (record, made) in remakable {
         assert!(record.accept);
+        // The calls remake those.
+        if made.types == Types::ENGINE {
+            continue;
+        }
         if !keys.iter().any(|key| key.public == record.key) {
             keys.push(Key::make(made.types, &made.identifier, &made.seed));
         }
@@ -105,23 +112,23 @@ fn keys_and_signatures_are_remade_from_their_seeds() {
 
 #[test]
 fn the_calls_remake_the_records_of_types_6_and_4() {
-    let records: Vec<_> = remakable().into_iter().filter(|(_, made)| made.types == calls::engine_types()).collect();
+    let records: Vec<_> = remakable().into_iter().filter(|(_, made)| made.types == Types::ENGINE).collect();
     assert_eq!(records.len(), 11);
     let (record, made) = &records[0];
     let public = &record.key;
     let mut tree = vec![0xa5; TREE];
     let mut out = vec![0x5a; PUBLIC_KEY + 1];
     let answer = calls::make_key(&made.seed, &made.identifier, &mut tree, &mut out);
-    assert_eq!(answer, Written { number: 0, written: 56 });
+    assert_eq!(answer, Written { number: 0, written: PUBLIC_KEY as u32 });
     assert_eq!(out, [public.as_slice(), &[0x5a]].concat());
-    assert_eq!(tree[..32], [0xa5; 32]);
-    assert_eq!(tree[32..64], public[24..]);
+    assert_eq!(tree[..N], [0xa5; N]);
+    assert_eq!(tree[N..2 * N], public[PUBLIC_KEY - N..]);
     for (record, made) in &records {
         assert_eq!(record.key, *public, "{}", record.name);
         let mut out = vec![0x5a; SIGNATURE + 1];
         let answer =
             calls::sign(made.q, &made.seed, &made.identifier, &made.randomizer, &tree, &record.message, &mut out);
-        assert_eq!(answer, Written { number: 0, written: 1452 }, "{}", record.name);
+        assert_eq!(answer, Written { number: 0, written: SIGNATURE as u32 }, "{}", record.name);
         assert!(out == [record.signature.as_slice(), &[0x5a]].concat(), "{}", record.name);
     }
 }

@@ -34,15 +34,3 @@ fn digests_are_the_known_ones() {
         assert_eq!(sha256::digest(&message), digest, "length {}", message.len());
     }
 }
-
-#[test]
-fn padding_fills_floor_of_length_plus_8_by_64_plus_1_blocks() {
-    for length in 0..=259 {
-        let message = vec![0xff; length];
-        let padded = sha256::padded(&message);
-        assert_eq!(padded.len(), 64 * ((length + 8) / 64 + 1), "length {length}");
-        assert_eq!(padded[..length], message);
-        assert_eq!(padded[length], 0x80);
-        assert!(padded[length + 1..padded.len() - 8].iter().all(|&byte| byte == 0));
-    }
-}

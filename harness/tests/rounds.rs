@@ -1,7 +1,7 @@
 //! The rounds of data/rounds, whose answers were worked out from document 01 by hand.
 
 use harness::confirmer::Reference;
-use harness::library;
+use harness::reference::layout::SUBMIT;
 use harness::script::{self, Calls};
 
 const REFERENCE: Calls<'static> =
@@ -12,29 +12,27 @@ fn on_the_reference() {
     script::all(REFERENCE);
 }
 
-/// The reference stands in for what isn't linked.
+/// The lower certificate through its probe.
+#[cfg(all(feature = "zolbine", feature = "probes"))]
 #[test]
 fn on_the_library() {
-    script::all(Calls {
-        engine: library::engine().unwrap_or(&Reference),
-        evidence: library::evidence_check().unwrap_or(&Reference),
-        making: library::making().unwrap_or(&Reference),
-        lower: &Reference,
-    });
+    use harness::library::Library;
+    script::all(Calls { engine: &Library, evidence: &Library, making: &Library, lower: &Library });
 }
 
 #[test]
 fn a_wrong_answer_is_told() {
     let opening = "fleet 4 round 5\nlayout A 11\n0 opens\n= 0\n";
-    for (rest, line) in [
-        ("0 submits A\n= 0 1487 SUBMIT 0 A", 6),
-        ("0 submits A\n= 0 1488 SUBMIT 0 A'", 6),
+    let cases: [(&str, u32); 7] = [
+        (&format!("0 submits A\n= 0 {} SUBMIT 0 A", SUBMIT - 1), 6),
+        (&format!("0 submits A\n= 0 {SUBMIT} SUBMIT 0 A'"), 6),
         ("0 submits A\n= 8 0", 6),
         ("0 hears NOTICE 1 A\n= 0 0\n0 has nothing", 7),
         ("0 submits A\n0 submits A", 6),
         ("check EVIDENCE A A of 1\n= 14", 6),
         ("lower NOTICE 1 A and NOTICE 1 A\n= first", 6),
-    ] {
+    ];
+    for (rest, line) in cases {
         let told = script::run(&format!("{opening}{rest}"), REFERENCE).unwrap_err();
         assert!(told.starts_with(&format!("line {line}: ")), "{rest}: {told}");
     }

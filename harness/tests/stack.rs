@@ -5,15 +5,17 @@ use std::cell::RefCell;
 use std::collections::BTreeMap;
 
 use harness::compare::progress;
-use harness::confirmer::{Engine, EvidenceCheck, LentStep};
+use harness::confirmer::{Engine, EvidenceCheck, LentStep, Making};
 use harness::fleet::{layouts, Fleet};
 use harness::library::Library;
-use harness::reference::calls::{SIGNATURE, TREE};
-use harness::reference::engine::out_length;
+use harness::reference::calls::{MAX_LEAF, MAX_MESSAGE, TREE};
+use harness::reference::layout::{
+    self, ENTRY_SEAT_AT, EVIDENCE_ENTRIES_AT, EVIDENCE_ENTRY, FULL_ENTRIES_AT, FULL_ENTRY, ROUND_AT, SEAT_AT,
+    SIGNATURE, SIGNED,
+};
 use harness::reference::lms::{IDENTIFIER, N, PUBLIC_KEY};
-use harness::reference::messages::signed_bytes;
+use harness::reference::messages::Value;
 use harness::reference::record::Record;
-use harness::reference::store;
 use harness::stack::used;
 use harness::subject::Calls;
 
@@ -21,18 +23,42 @@ use harness::subject::Calls;
 const STATED: usize = 40;
 const UNSIGNED: usize = 4;
 
-/// The deepest that each call went.
+/// The answers that a call gives before it comes to a signature, and what is stated for them. Each is measured; any other answer
+/// may take what is stated for a call. Of two certificates the second is looked at after the first one's signatures.
+const BEFORE_SIGNATURES: [(&str, &[u32], usize); 13] = [
+    ("check_signature", &[5, 9], UNSIGNED),
+    ("make_key", &[7, 16], STATED),
+    ("sign", &[3, 7, 9, 16], STATED),
+    ("check_evidence", &[1, 3, 5, 9, 10, 11, 12], UNSIGNED),
+    ("make_evidence", &[1, 3, 5, 7, 9, 10, 11, 12], UNSIGNED),
+    ("open", &[0, 1, 2, 3, 5], UNSIGNED),
+    ("submit", &[4, 5, 6, 7, 8, 9], UNSIGNED),
+    ("step, SUBMIT", &[4, 5, 6, 7, 9, 10, 11, 13], UNSIGNED),
+    ("step, NOTICE", &[0, 4, 5, 6, 7, 9, 10, 11], UNSIGNED),
+    ("step, FULL", &[4, 5, 6, 7, 9, 10, 11, 12], UNSIGNED),
+    ("step_lent, SUBMIT", &[4, 5, 6, 7, 9, 10, 11, 13], UNSIGNED),
+    ("step_lent, NOTICE", &[0, 4, 5, 6, 7, 9, 10, 11], UNSIGNED),
+    ("step_lent, FULL", &[4, 5, 6, 7, 9, 10, 11, 12], UNSIGNED),
+];
+
+/// The deepest that each call went, by the number that it answered.
 #[derive(Default)]
-struct Depths(RefCell<BTreeMap<&'static str, usize>>);
+struct Depths(RefCell<BTreeMap<(String, u32), usize>>);
 
 impl Depths {
-    fn of<R>(&self, name: &'static str, work: impl FnOnce() -> R) -> R {
+    /// The work answers with its number first.
+    fn of<R>(&self, call: &str, work: impl FnOnce() -> (u32, R)) -> (u32, R) {
         let mut result = None;
         let depth = used(|| result = Some(work()));
+        let answer = result.expect("the work was done");
         let mut depths = self.0.borrow_mut();
-        let deepest = depths.entry(name).or_default();
+        let deepest = depths.entry((call.to_string(), answer.0)).or_default();
         *deepest = depth.max(*deepest);
-        result.expect("the work was done")
+        answer
+    }
+
+    fn refused(&self, call: &str, number: u32, work: impl FnOnce() -> u32) {
+        assert_eq!(self.of(call, || (work(), ())).0, number, "{call}");
     }
 }
 
@@ -41,76 +67,265 @@ fn the_stated_stack_is_enough() {
     let depths = Depths::default();
     signatures(&depths);
     for n in [1, 4, 32] {
-        round(&depths, Fleet { n, round: 5 });
+        let fleet = Fleet { n, round: 5 };
+        round(&depths, fleet);
+        refused_arguments(&depths, fleet);
+        refused_steps(&depths, fleet);
     }
     let depths = depths.0.into_inner();
     progress(&format!("bytes of stack: {depths:?}"));
-    for (name, depth) in depths {
-        let stated = if ["open", "step, NOTICE", "step, early"].contains(&name) { UNSIGNED } else { STATED };
-        assert!(depth <= 1024 * stated, "{name} takes {depth} bytes of stack, and docs/HOST.md states {stated} KiB");
+    for (call, numbers, _) in BEFORE_SIGNATURES {
+        for &number in numbers {
+            assert!(depths.contains_key(&(call.to_string(), number)), "{call} was never answered {number}");
+        }
+    }
+    for ((call, number), depth) in &depths {
+        let mut rows = BEFORE_SIGNATURES.iter().filter(|(name, numbers, _)| name == call && numbers.contains(number));
+        let stated = rows.next().map_or(STATED, |(_, _, stated)| *stated);
+        assert!(
+            *depth <= 1024 * stated,
+            "{call} that answers {number} takes {depth} bytes of stack, and docs/HOST.md states {stated} KiB"
+        );
     }
     for stated in
-        [format!("Each call gets by with {STATED} KiB of stack"), format!("comes before 14) {UNSIGNED} KiB do")]
+        [format!("Each call gets by with {STATED} KiB of stack"), format!("no signature is checked {UNSIGNED} KiB do")]
     {
         assert!(include_str!("../../docs/HOST.md").contains(&stated), "docs/HOST.md hasn't: {stated}");
     }
 }
 
+/// The signature calls, right and refused.
 fn signatures(depths: &Depths) {
-    let (seed, identifier) = ([1; N], [2; IDENTIFIER]);
+    let (seed, identifier, randomizer) = ([1; N], [2; IDENTIFIER], [4; N]);
     let (mut tree, mut public, mut signature) = (vec![0; TREE], [0; PUBLIC_KEY], [0; SIGNATURE]);
-    depths.of("make_key", || Library.make_key(&seed, &identifier, &mut tree, &mut public));
-    for length in [0, 36, 65_535] {
+    depths.refused("make_key", 0, || Library.make_key(&seed, &identifier, &mut tree, &mut public).number);
+    depths.refused("make_key", 7, || Library.make_key(&seed, &identifier, &mut tree, &mut [0; PUBLIC_KEY - 1]).number);
+    depths.refused("make_key", 16, || Library.make_key(&seed[1..], &identifier, &mut tree, &mut public).number);
+    for length in [0, SIGNED, MAX_MESSAGE] {
         let message = vec![3; length];
-        depths.of("sign", || Library.sign(5, &seed, &identifier, &[4; N], &tree, &message, &mut signature));
-        assert_eq!(depths.of("check_signature", || Library.check_signature(&public, &message, &signature)), 0);
+        depths.refused("sign", 0, || {
+            Library.sign(5, &seed, &identifier, &randomizer, &tree, &message, &mut signature).number
+        });
+        depths.refused("check_signature", 0, || Library.check_signature(&public, &message, &signature));
+        depths.refused("check_signature", 14, || Library.check_signature(&public, &message, &signature[1..]));
+        depths.refused("check_signature", 5, || Library.check_signature(&public[1..], &message, &signature));
     }
+    let long = vec![3; MAX_MESSAGE + 1];
+    depths.refused("check_signature", 9, || Library.check_signature(&public, &long, &signature));
+    let short = &mut [0; SIGNATURE - 1];
+    let out = &mut signature;
+    depths.refused("sign", 3, || Library.sign(MAX_LEAF + 1, &seed, &identifier, &randomizer, &tree, &[], out).number);
+    depths.refused("sign", 7, || Library.sign(5, &seed, &identifier, &randomizer, &tree, &[], short).number);
+    depths.refused("sign", 9, || Library.sign(5, &seed, &identifier, &randomizer, &tree, &long, out).number);
+    depths.refused("sign", 16, || Library.sign(5, &seed, &identifier, &randomizer, &tree[1..], &[], out).number);
 }
 
-/// A unit that hears another certificate before it confirms, so that its last call writes all that a call can write; then
-/// the evidence.
-fn round(depths: &Depths, fleet: Fleet) {
-    let Fleet { n, round } = fleet;
-    let keys = fleet.key_table();
-    let [value, other] = [layouts()[0], layouts()[4]];
-    let quorum: Vec<u32> = (0..fleet.k()).collect();
-    let opened = depths.of("open", || Library.open(n, 0, round, &keys));
-    let mut unit = Unit { record: opened.record, store: vec![0; store::length(n)], out: vec![0; out_length(n)], keys };
-    let early = fleet.submit(0, &value, 0).write();
-    let Unit { record, store, out, keys } = &mut unit;
-    assert_eq!(depths.of("step, early", || Library.step(*record, keys, store, &early, out)).number, 13);
-    unit.hear(depths, "step, NOTICE", &fleet.notice(0, &other).write());
-    unit.hear(depths, "step, FULL", &fleet.full(0, &other, &quorum, 0).write());
-    let signature = fleet.signature(0, &value, 0);
-    let Unit { record, store, out, keys } = &mut unit;
-    let answer = depths.of("submit", || Library.submit(*record, keys, store, &value, &signature, out));
-    let mut written = answer.written;
-    unit.record = answer.record;
-    for &seat in &quorum[1..] {
-        written = unit.hear(depths, "step, SUBMIT", &fleet.submit(seat, &value, 0).write());
-    }
-    let length = 68 + 2906 * quorum.len();
-    let evidence = &unit.out[written as usize - length..written as usize];
-    let verdict = depths.of("check_evidence", || Library.check_evidence(n, round, &unit.keys, evidence));
-    assert_eq!((verdict.number, verdict.mask.count_ones()), (0, fleet.k()));
-    assert_eq!(Library.check_signature(&unit.keys[..56], &signed_bytes(round, 0, &value), &signature), 0);
+/// Two layouts of a round.
+fn two_layouts() -> [Value; 2] {
+    [layouts()[0], layouts()[4]]
+}
+
+/// The seats that make up a certificate.
+fn quorum(fleet: Fleet) -> Vec<u32> {
+    (0..fleet.k()).collect()
 }
 
 struct Unit {
     record: Record,
+    keys: Vec<u8>,
     store: Vec<u8>,
     out: Vec<u8>,
-    keys: Vec<u8>,
 }
 
 impl Unit {
-    fn hear(&mut self, depths: &Depths, name: &'static str, message: &[u8]) -> u32 {
-        let Unit { record, store, out, keys } = self;
-        let (mut lent, mut lent_store) = (*record, store.clone());
-        depths.of("step_lent", || Library.step_lent(&mut lent, keys, &mut lent_store, message, out));
-        let answer = depths.of(name, || Library.step(*record, keys, store, message, out));
-        assert_eq!(answer.number, 0, "{name}");
-        self.record = answer.record;
-        answer.written
+    fn open(depths: &Depths, fleet: Fleet) -> Unit {
+        let Fleet { n, round } = fleet;
+        let keys = fleet.key_table();
+        let (_, record) = depths.of("open", || {
+            let opened = Library.open(n, 0, round, &keys);
+            (opened.number, opened.record)
+        });
+        Unit { record, keys, store: vec![0; layout::store(n)], out: vec![0; layout::out(n)] }
     }
+
+    fn submit(&mut self, depths: &Depths, value: &[u8], signature: &[u8]) -> (u32, u32) {
+        let Unit { record, keys, store, out } = self;
+        let (number, answer) = depths.of("submit", || {
+            let answer = Library.submit(*record, keys, store, value, signature, out);
+            (answer.number, answer)
+        });
+        self.record = answer.record;
+        (number, answer.written)
+    }
+
+    /// A step by value, and on copies the one that is lent its record.
+    fn hear(&mut self, depths: &Depths, kind: &str, message: &[u8]) -> (u32, u32) {
+        let Unit { record, keys, store, out } = self;
+        let (mut lent, mut lent_store) = (*record, store.clone());
+        depths.of(&format!("step_lent, {kind}"), || {
+            let answer = Library.step_lent(&mut lent, keys, &mut lent_store, message, out);
+            (answer.number, ())
+        });
+        let (number, answer) = depths.of(&format!("step, {kind}"), || {
+            let answer = Library.step(*record, keys, store, message, out);
+            (answer.number, answer)
+        });
+        self.record = answer.record;
+        (number, answer.written)
+    }
+}
+
+/// A unit that hears another certificate before it confirms, so that its last call writes all that a call can write; then
+/// evidence checked and made.
+fn round(depths: &Depths, fleet: Fleet) {
+    let Fleet { n, round } = fleet;
+    let [value, other] = two_layouts();
+    let quorum = quorum(fleet);
+    let mut unit = Unit::open(depths, fleet);
+    assert_eq!(unit.hear(depths, "NOTICE", &fleet.notice(0, &other).write()).0, 0);
+    assert_eq!(unit.hear(depths, "FULL", &fleet.full(0, &other, &quorum, 0).write()).0, 0);
+    let (mut number, mut written) = unit.submit(depths, &value, &fleet.signature(0, &value, 0));
+    for &seat in &quorum[1..] {
+        assert_eq!(number, 0);
+        let wrong = fleet.submit(seat, &value, 0).write();
+        assert_eq!(unit.hear(depths, "SUBMIT", &[&wrong[..wrong.len() - 1], &[0xff]].concat()).0, 14);
+        (number, written) = unit.hear(depths, "SUBMIT", &fleet.submit(seat, &value, 0).write());
+    }
+    let first = written as usize - layout::evidence(fleet.k());
+    let evidence = unit.out[first..written as usize].to_vec();
+    let (number, named) = depths.of("check_evidence", || {
+        let verdict = Library.check_evidence(n, round, &unit.keys, &evidence);
+        (verdict.number, verdict.mask)
+    });
+    assert_eq!((number, named.count_ones()), (0, fleet.k()));
+    let [one, another] = [value, other].map(|value| fleet.full(0, &value, &quorum, 0).write());
+    let mut make = |number: u32, first: &[u8], second: &[u8]| {
+        let out = &mut unit.out[..layout::evidence_out(n)];
+        // The second one's refusals come after the first one's signatures.
+        let call = if number > 8 { "make_evidence, after signatures" } else { "make_evidence" };
+        depths.refused(call, number, || Library.make_evidence(n, round, &unit.keys, first, second, out).number);
+    };
+    make(0, &one, &another);
+    make(0, &another, &one);
+    make(15, &one, &one);
+    make(9, &one, &another[1..]);
+}
+
+/// Refusals of the calls that stand outside a record, before they come to a signature.
+fn refused_arguments(depths: &Depths, fleet: Fleet) {
+    let Fleet { n, round } = fleet;
+    let keys = fleet.key_table();
+    let [value, other] = two_layouts();
+    let wrong_arguments: [(u32, u32, u32, &[u8]); 3] =
+        [(1, 33, round, &keys), (3, n, MAX_LEAF + 1, &keys), (5, n, round, &keys[1..])];
+    for (number, n, round, keys) in wrong_arguments {
+        depths.refused("open", number, || Library.open(n, 0, round, keys).number);
+    }
+    depths.refused("open", 2, || Library.open(n, n, round, &keys).number);
+
+    let evidence = fleet.evidence((&value, 0), (&other, 0), &quorum(fleet)).write();
+    for (number, n, round, keys) in wrong_arguments {
+        depths.refused("check_evidence", number, || Library.check_evidence(n, round, keys, &evidence).number);
+    }
+    for (number, wrong) in wrong_messages(fleet, &evidence, EVIDENCE_ENTRIES_AT, EVIDENCE_ENTRY) {
+        depths.refused("check_evidence", number, || Library.check_evidence(n, round, &keys, &wrong).number);
+    }
+
+    let [one, another] = [value, other].map(|value| fleet.full(0, &value, &quorum(fleet), 0).write());
+    let mut out = vec![0; layout::evidence_out(n)];
+    for (number, n, round, keys) in wrong_arguments {
+        depths.refused("make_evidence", number, || {
+            Library.make_evidence(n, round, keys, &one, &another, &mut out).number
+        });
+    }
+    let short = &mut out[1..];
+    depths.refused("make_evidence", 7, || Library.make_evidence(n, round, &keys, &one, &another, short).number);
+    for (number, wrong) in wrong_messages(fleet, &one, FULL_ENTRIES_AT, FULL_ENTRY) {
+        depths.refused("make_evidence", number, || {
+            Library.make_evidence(n, round, &keys, &wrong, &another, &mut out).number
+        });
+    }
+}
+
+/// A message with entries, cut short, of another round, with a stranger and, where it has two entries, with a seat twice.
+fn wrong_messages(fleet: Fleet, right: &[u8], entries: usize, entry: usize) -> Vec<(u32, Vec<u8>)> {
+    let last = right.len() - entry + ENTRY_SEAT_AT;
+    let mut wrong = vec![
+        (9, right[..right.len() - 1].to_vec()),
+        (10, with(right, ROUND_AT, !right[ROUND_AT])),
+        (11, with(right, last, fleet.n as u8)),
+    ];
+    if right.len() - entries > entry {
+        wrong.push((12, with(right, last, right[last - entry])));
+    }
+    wrong
+}
+
+fn with(message: &[u8], at: usize, byte: u8) -> Vec<u8> {
+    let mut changed = message.to_vec();
+    changed[at] = byte;
+    changed
+}
+
+/// Refusals of submit and step before they come to a signature.
+fn refused_steps(depths: &Depths, fleet: Fleet) {
+    let n = fleet.n;
+    let [value, _] = two_layouts();
+    let signature = fleet.signature(0, &value, 0);
+    let full = fleet.full(0, &value, &quorum(fleet), 0).write();
+    let headed = |right: Vec<u8>| {
+        vec![
+            (9, right[1..].to_vec()),
+            (10, with(&right, ROUND_AT, !right[ROUND_AT])),
+            (11, with(&right, SEAT_AT, n as u8)),
+        ]
+    };
+    let submit = fleet.submit(0, &value, 0).write();
+    let notice = fleet.notice(0, &value).write();
+    let mut wrong_submits = headed(submit.clone());
+    wrong_submits.push((13, submit.clone()));
+    let kinds = [
+        ("SUBMIT", submit, wrong_submits),
+        ("NOTICE", notice.clone(), headed(notice)),
+        ("FULL", full.clone(), wrong_messages(fleet, &full, FULL_ENTRIES_AT, FULL_ENTRY)),
+    ];
+    type Spoil = fn(&mut Unit);
+    let wrong_units: [(u32, Spoil); 4] = [
+        (4, |unit| unit.record.n = 33),
+        (5, |unit| unit.keys.truncate(unit.keys.len() - 1)),
+        (6, |unit| unit.store.truncate(unit.store.len() - 1)),
+        (7, |unit| unit.out.truncate(unit.out.len() - 1)),
+    ];
+    for (number, spoil) in wrong_units {
+        let mut unit = Unit::open(depths, fleet);
+        spoil(&mut unit);
+        assert_eq!(unit.submit(depths, &value, &signature).0, number);
+        for (kind, right, _) in &kinds {
+            assert_eq!(unit.hear(depths, kind, right).0, number, "{kind}");
+        }
+    }
+    let mut unit = Unit::open(depths, fleet);
+    for (kind, _, wrong) in &kinds {
+        for (number, message) in wrong {
+            assert_eq!(unit.hear(depths, kind, message).0, *number, "{kind}");
+        }
+    }
+    assert_eq!(unit.submit(depths, &value[1..], &signature).0, 9);
+    assert_eq!(unit.submit(depths, &value, &signature[1..]).0, 9);
+    assert_eq!(unit.submit(depths, &value, &signature).0, 0);
+    assert_eq!(unit.submit(depths, &value, &signature).0, 8);
+}
+
+/// The header declares no call that isn't measured here.
+#[test]
+fn each_call_is_measured() {
+    let header = include_str!("../../include/zolbine.h");
+    let code: String = header.split("/*").flat_map(|part| part.rsplit("*/").next()).collect();
+    let before_parentheses = code.split('(').flat_map(|part| part.split_whitespace().last());
+    let mut declared: Vec<&str> = before_parentheses.filter_map(|word| word.strip_prefix("zolbine_")).collect();
+    declared.sort();
+    let mut measured: Vec<&str> = BEFORE_SIGNATURES.iter().flat_map(|(call, ..)| call.split(',').next()).collect();
+    measured.sort();
+    measured.dedup();
+    assert_eq!(declared, measured);
 }

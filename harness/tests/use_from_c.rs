@@ -4,25 +4,176 @@
 use std::path::{Path, PathBuf};
 use std::process::{Command, Output};
 
+/// A file of the repository.
+fn file(path: &str) -> PathBuf {
+    Path::new(env!("CARGO_MANIFEST_DIR")).join("..").join(path)
+}
+
+const STRICT: [&str; 4] = ["-Wall", "-Wextra", "-Werror", "-pedantic"];
+
+/// The compiler of C11, or of C++11.
+fn compiler(cpp: bool) -> Command {
+    let (variable, usual, standard) = if cpp { ("CXX", "g++", "-std=c++11") } else { ("CC", "gcc", "-std=c11") };
+    let mut compile = Command::new(std::env::var_os(variable).unwrap_or_else(|| usual.into()));
+    compile.arg(standard).args(STRICT);
+    compile
+}
+
 /// Compiles a C file of the repository with the shipped header and links the archive.
-fn compiled(source: &str, name: &str, flags: &[&str]) -> PathBuf {
-    let root = Path::new(env!("CARGO_MANIFEST_DIR")).join("..");
+fn compiled_by(mut compile: Command, source: &str, name: &str, flags: &[&str]) -> PathBuf {
     let program = Path::new(env!("CARGO_TARGET_TMPDIR")).join(name);
-    let mut compile = Command::new(std::env::var_os("CC").unwrap_or_else(|| "gcc".into()));
-    compile.args(["-std=c11", "-Wall", "-Wextra", "-Werror"]).args(flags).arg("-I").arg(root.join("include"));
-    compile.arg(root.join(source)).arg(env!("ZOLBINE_ARCHIVE")).arg("-o").arg(&program);
+    compile.args(flags).arg("-I").arg(file("include"));
+    compile.arg(file(source)).arg(env!("ZOLBINE_ARCHIVE")).arg("-o").arg(&program);
     assert!(compile.status().unwrap().success(), "{compile:?}");
     program
+}
+
+fn compiled(source: &str, name: &str, flags: &[&str]) -> PathBuf {
+    compiled_by(compiler(false), source, name, flags)
 }
 
 fn told(run: &Output) -> String {
     format!("{}{}", String::from_utf8_lossy(&run.stdout), String::from_utf8_lossy(&run.stderr))
 }
 
+/// What a program prints that ends well.
+fn printed(program: &Path) -> String {
+    let run = Command::new(program).output().unwrap();
+    assert!(run.status.success() && run.stderr.is_empty(), "{}: {}", program.display(), told(&run));
+    String::from_utf8(run.stdout).unwrap()
+}
+
 #[test]
 fn a_c_program_makes_a_key_signs_and_checks() {
-    let run = Command::new(compiled("harness/c/use_zolbine.c", "use_zolbine", &[])).output().unwrap();
-    assert!(run.status.success(), "{}", told(&run));
+    printed(&compiled("harness/c/use_zolbine.c", "use_zolbine", &[]));
+}
+
+/// The header's lengths for every n against what the calls take.
+#[test]
+fn the_headers_lengths_are_those_of_the_calls() {
+    let flags = ["-g", "-fsanitize=address,undefined", "-fno-sanitize-recover=all"];
+    let c = printed(&compiled("harness/c/lengths.c", "lengths", &flags));
+    let cpp = printed(&compiled_by(compiler(true), "harness/c/lengths.c", "lengths_cpp", &[]));
+    assert!(c == cpp && c.trim().parse::<u32>().unwrap() > 5000, "{c}{cpp}");
+}
+
+/// Boat 0 hears of boat 1's layout before it confirms its own, and so writes two messages in one call.
+const SPLIT: &str = "\
+(seat 2 signs for boat 1)
+boat 1 hears SUBMIT: 13
+boat 0 submits: 0
+    boat 0 sends SUBMIT, 1488 bytes
+boat 1 submits: 0
+    boat 1 sends SUBMIT, 1488 bytes
+boat 1 hears SUBMIT: 0
+(seat 3 signs for boat 1)
+boat 1 hears SUBMIT: 0
+    boat 1: CONFIRMED
+    boat 1 sends NOTICE, 36 bytes
+(seat 2 signs for boat 0)
+boat 0 hears SUBMIT: 0
+boat 1 hears SUBMIT: 0
+boat 0 hears SUBMIT: 0
+boat 0 hears NOTICE: 0
+(seat 3 signs for boat 0)
+boat 0 hears SUBMIT: 0
+    boat 0: CONFIRMED
+    boat 0 sends NOTICE, 36 bytes
+    boat 0 sends FULL, 4399 bytes
+boat 1 hears NOTICE: 0
+    boat 1 sends FULL, 4399 bytes
+boat 1 hears FULL: 0
+    boat 1 sends EVIDENCE, 5880 bytes
+boat 0 hears FULL: 0
+    boat 0 sends EVIDENCE, 5880 bytes
+boat 0 hears EVIDENCE: 0, seats 0x0000000c
+boat 1 hears EVIDENCE: 0, seats 0x0000000c
+boat 0: north confirmed, evidence against 0x0000000c
+boat 1: south confirmed, evidence against 0x0000000c
+";
+
+#[test]
+fn a_round_with_two_double_signers_in_c_and_in_cpp() {
+    let source = "harness/c/double_signers.c";
+    assert_eq!(printed(&compiled(source, "double_signers", &[])), SPLIT);
+    assert_eq!(printed(&compiled_by(compiler(true), source, "double_signers_cpp", &[])), SPLIT);
+}
+
+mod installed {
+    use super::*;
+    use std::fs;
+
+    /// `make install` into an empty folder of the name; the archive is taken as it stands.
+    fn install(name: &str, arguments: impl Fn(&str) -> Vec<String>) -> PathBuf {
+        let folder = Path::new(env!("CARGO_TARGET_TMPDIR")).join(name);
+        let _ = fs::remove_dir_all(&folder);
+        let archive = fs::canonicalize(env!("ZOLBINE_ARCHIVE")).unwrap();
+        let mut make = Command::new("make");
+        make.arg("install")
+            .arg("-C")
+            .arg(file("."))
+            .arg("-o")
+            .arg(&archive)
+            .arg(format!("ARCHIVE={}", archive.display()));
+        // The tests may themselves run under make.
+        make.args(arguments(folder.to_str().unwrap())).env_remove("MAKEFLAGS").env_remove("MAKELEVEL");
+        let run = make.output().unwrap();
+        assert!(run.status.success(), "{make:?}: {}", told(&run));
+        folder
+    }
+
+    /// The flags by pkg-config, or by zolbine.pc itself where that isn't installed.
+    fn flags(prefix: &Path) -> Vec<String> {
+        let folder = prefix.join("lib/pkgconfig");
+        let told =
+            Command::new("pkg-config").args(["--cflags", "--libs", "zolbine"]).env("PKG_CONFIG_PATH", &folder).output();
+        let text = match told {
+            Ok(run) => {
+                assert!(run.status.success(), "{}", super::told(&run));
+                String::from_utf8(run.stdout).unwrap()
+            }
+            Err(_) => by_file(&fs::read_to_string(folder.join("zolbine.pc")).unwrap()),
+        };
+        text.split_whitespace().map(String::from).collect()
+    }
+
+    fn by_file(text: &str) -> String {
+        let mut variables: Vec<(String, String)> = Vec::new();
+        let mut flags = String::new();
+        for line in text.lines() {
+            let line = variables.iter().fold(line.to_string(), |line, (name, value)| line.replace(name, value));
+            if let Some((name, value)) = line.split_once('=') {
+                variables.push((format!("${{{name}}}"), value.to_string()));
+            } else if let Some((_, value)) = line.split_once(": ").filter(|(name, _)| ["Cflags", "Libs"].contains(name))
+            {
+                flags += &format!(" {value}");
+            }
+        }
+        flags
+    }
+
+    #[test]
+    fn a_program_finds_the_library_by_pkg_config() {
+        let prefix = install("installed", |folder| vec![format!("PREFIX={folder}")]);
+        let flags = flags(&prefix);
+        let text = fs::read_to_string(prefix.join("lib/pkgconfig/zolbine.pc")).unwrap();
+        assert_eq!(by_file(&text).split_whitespace().collect::<Vec<_>>(), flags);
+        let program = prefix.join("lengths");
+        let mut compile = compiler(false);
+        compile.arg(file("harness/c/lengths.c")).args(&flags).arg("-o").arg(&program);
+        assert!(compile.status().unwrap().success(), "{compile:?}");
+        printed(&program);
+    }
+
+    /// A package is built below another root than the one that it will stand in.
+    #[test]
+    fn below_another_root() {
+        let root = install("root", |folder| vec!["PREFIX=/usr".to_string(), format!("DESTDIR={folder}")]);
+        let text = fs::read_to_string(root.join("usr/lib/pkgconfig/zolbine.pc")).unwrap();
+        assert_eq!(by_file(&text).trim(), "-I/usr/include -L/usr/lib -lzolbine");
+        assert_eq!(fs::read(root.join("usr/include/zolbine.h")).unwrap(), fs::read(file("include/zolbine.h")).unwrap());
+        assert_eq!(fs::read(root.join("usr/lib/libzolbine.a")).unwrap(), fs::read(env!("ZOLBINE_ARCHIVE")).unwrap());
+    }
 }
 
 /// As docs/HOST.md has it: no variables, and little of the C library.
@@ -51,10 +202,6 @@ mod example {
     use super::*;
     use harness::compare::progress;
     use harness::{reference, yard};
-
-    fn file(path: &str) -> PathBuf {
-        Path::new(env!("CARGO_MANIFEST_DIR")).join("..").join(path)
-    }
 
     /// The program's output is the expected one, and whatever watches it has nothing to say.
     fn runs_well(mut command: Command) {

@@ -12,7 +12,7 @@ use lib.ListN.{length, length-map}
 use lib.Pow.{pow-pos}
 use borrow.Author.Tests.{eqb-true, eqb-false}
 use Rattle.quorum.specs.Quorum.{t0, k, In, size, shared, seats}
-use Rattle.quorum.specs.Laws.{bit-cases, in-shared, shared-lt, shared-comm, with-lt, size-empty, size-shared-le, size-with-new, length-seats, mem-seats, seats-rise, k-of-n-share}
+use Rattle.quorum.specs.QuorumLaws.{bit-cases, in-shared, shared-lt, shared-comm, with-lt, size-empty, size-shared-le, size-with-new, length-seats, mem-seats, seats-rise, k-of-n-share}
 use Rattle.protocol.specs.Values.{isLower}
 use Rattle.protocol.specs.Message.{Entry, Pair, Message, Evidence, fullForm, evidenceForm, entrySeats}
 use Rattle.protocol.specs.Certificate.{Certificate, setOf, signatureOf, certificateOf, entryOf, entriesOf, pairOf, pairsOf, orderedEvidence, evidenceOf}
@@ -23,7 +23,7 @@ use Rattle.protocol.specs.MessageLaws.{pair-laid}
 use Rattle.protocol.specs.Refusals.{Checks, rising}
 use Rattle.round.specs.Round.{Each, Relation}
 use Rattle.reading.specs.Lists.{cond-elim, each-map, rising-first, rising-of-rises}
-use Rattle.claims.specs.Sound.{Changed, Certifies, Entries, Pairs}
+use Rattle.claims.specs.Sound.{Attested, Certifies, Entries, Pairs}
 
 -- ---- sets and lists of seats
 
@@ -64,7 +64,7 @@ module _ (checks : Checks) (W : Relation) where
   -- the entries of either list are as their form lays them out
   pub entries-laid : (n : ℕ) (value : List ℕ) (es : List Entry) → Entries checks W n value es → Laid fullForm es
   unfolding fullForm
-  entries-laid n value es z e d = (z .kept e d .sized, refl)
+  entries-laid n value es z e d = (z .attested e d .sized, refl)
 
   pub pairs-laid : (n : ℕ) (lower higher : List ℕ) (ps : List Pair) → Pairs checks W n lower higher ps → Laid (evidenceForm lower higher) ps
   unfolding evidenceForm
@@ -80,17 +80,17 @@ module _ (checks : Checks) (W : Relation) where
     many = length-map (seats n (c .seats)) (entryOf c) ∙ length-seats n (c .seats) (z .below) ∙ z .enough;
     rise = ap rising (entry-seats n c) ∙ seats-rising n (c .seats);
     below = each-map (λ (e : Entry). e .seat < n) (entryOf c) (seats n (c .seats)) (seats-below n (c .seats));
-    kept = each-map (λ (e : Entry). Changed checks W (e .seat) (c .value) (e .signature)) (entryOf c) (seats n (c .seats)) (λ s d. z .kept s (seats-in-set n (c .seats) s d));
+    attested = each-map (λ (e : Entry). Attested checks W (e .seat) (c .value) (e .signature)) (entryOf c) (seats n (c .seats)) (λ s d. z .attested s (seats-in-set n (c .seats) s d));
   }
 
   -- a FULL's certificate
-  signature-kept : (value : List ℕ) (es : List Entry) (s : ℕ) → Each (λ (e : Entry). Changed checks W (e .seat) value (e .signature)) es → List·Memᴰ s (map (λ (e : Entry). e .seat) es) → Changed checks W s value (signatureOf es s)
+  signature-attested : (value : List ℕ) (es : List Entry) (s : ℕ) → Each (λ (e : Entry). Attested checks W (e .seat) value (e .signature)) es → List·Memᴰ s (map (λ (e : Entry). e .seat) es) → Attested checks W s value (signatureOf es s)
   unfolding signatureOf
-  signature-kept value [] s h d = absurd (List·Memᴰ·not-nil d)
-  signature-kept value (e ∷ es) s h d =
-      cond-elim (λ g. Changed checks W s value g) (eqb (e .seat) s) (e .signature) (signatureOf es s)
-      (λ q. subst (λ t. Changed checks W t value (e .signature)) (eqb-true (e .seat) s q) (h e (List·Memᴰ·head refl)))
-      (λ q. ⊎-elim (λ p. absurd (eqb-false (e .seat) s q (sym p))) (λ t. signature-kept value es s (λ x m. h x (List·Memᴰ·tail m)) t) (List·Memᴰ·cases-cons d))
+  signature-attested value [] s h d = absurd (List·Memᴰ·not-nil d)
+  signature-attested value (e ∷ es) s h d =
+      cond-elim (λ g. Attested checks W s value g) (eqb (e .seat) s) (e .signature) (signatureOf es s)
+      (λ q. subst (λ t. Attested checks W t value (e .signature)) (eqb-true (e .seat) s q) (h e (List·Memᴰ·head refl)))
+      (λ q. ⊎-elim (λ p. absurd (eqb-false (e .seat) s q (sym p))) (λ t. signature-attested value es s (λ x m. h x (List·Memᴰ·tail m)) t) (List·Memᴰ·cases-cons d))
 
   pub certifies-of : (n : ℕ) (value : List ℕ) (es : List Entry) → Entries checks W n value es → Certifies checks W n (certificateOf value es)
   unfolding certificateOf formSeats fullForm
@@ -98,7 +98,7 @@ module _ (checks : Checks) (W : Relation) where
     sized = z .sized;
     below = set-below n (map (λ (e : Entry). e .seat) es) (each-map (λ s. s < n) (λ (e : Entry). e .seat) es (z .below));
     enough = set-size (map (λ (e : Entry). e .seat) es) (z .rise) ∙ length-map es (λ (e : Entry). e .seat) ∙ z .many;
-    kept = λ s i. signature-kept value es s (z .kept) (in-set s (map (λ (e : Entry). e .seat) es) .0 i);
+    attested = λ s i. signature-attested value es s (z .attested) (in-set s (map (λ (e : Entry). e .seat) es) .0 i);
   }
 
   -- the evidence of two, the lower first
@@ -123,8 +123,8 @@ module _ (checks : Checks) (W : Relation) where
         few = omega arith;
         rise = ap rising (pair-seats n (shared (c .seats) (d .seats)) c d) ∙ seats-rising n both;
         below = each-map (λ (p : Pair). p .seat < n) pair (seats n both) (seats-below n both);
-        lows = each-map (λ (p : Pair). Changed checks W (p .seat) (c .value) (p .lower)) pair (seats n both) (λ s m. y .kept s (in-shared s (c .seats) (d .seats) .0 (seats-in-set n both s m) .0));
-        highs = each-map (λ (p : Pair). Changed checks W (p .seat) (d .value) (p .higher)) pair (seats n both) (λ s m. z .kept s (in-shared s (c .seats) (d .seats) .0 (seats-in-set n both s m) .1));
+        lows = each-map (λ (p : Pair). Attested checks W (p .seat) (c .value) (p .lower)) pair (seats n both) (λ s m. y .attested s (in-shared s (c .seats) (d .seats) .0 (seats-in-set n both s m) .0));
+        highs = each-map (λ (p : Pair). Attested checks W (p .seat) (d .value) (p .higher)) pair (seats n both) (λ s m. z .attested s (in-shared s (c .seats) (d .seats) .0 (seats-in-set n both s m) .1));
       }
 
   -- in either order

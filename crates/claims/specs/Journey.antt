@@ -8,7 +8,7 @@ use mathlib.Core.Logic.{inl}
 use Prim.Native.Nat.{ℕ, zero, suc, _≤_}
 use native.Mathlib.Omega.{arith}
 use lib.Pow.{pow-pos}
-use Rattle.quorum.specs.Laws.{bit-empty, size-empty}
+use Rattle.quorum.specs.QuorumLaws.{bit-empty, size-empty}
 use Rattle.refusal.specs.Refusal.{unrefused}
 use Rattle.protocol.specs.Values.{unset}
 use Rattle.protocol.specs.Message.{Message, read}
@@ -62,7 +62,7 @@ module _ (S : Setting) (W : Relation) where
       let t = step-taken checks keys r store m out q in
       stepped-done checks W (start r store) z (t .0) e m (brings checks W r m (t .2) (t .3) (read-sized (r .n) bytes) w)
 
-  -- a submit that isn't refused keeps its value
+  -- the value of a submit that isn't refused is the own one
   pub submit-value : (value signature out : List ℕ) (r : Record) (store : List ℕ) → Sound checks W r store → refusalOf S (BySubmit value signature out) r store ≡ 0 → W (r .seat) value signature
       → (cameTo (BySubmit value signature out) r store .unit .own .submitted ≡ true) × (cameTo (BySubmit value signature out) r store .unit .own .value ≡ value)
   unfolding refusalOf cameTo
@@ -146,7 +146,7 @@ unfolding fresh unset
 fresh-sound checks W n seat round store range = record {
   range = range;
   own = record {
-    collection = record { sized = refl; below = pow-pos n; few = omega (arith, size-empty); kept = λ s i. absurd (omega (arith, bit-empty s)) };
+    collection = record { sized = refl; below = pow-pos n; few = omega (arith, size-empty); attested = λ s i. absurd (omega (arith, bit-empty s)) };
     unsaid = λ e. (refl, refl);
     said = λ e. absurd (false≢true e);
   };
@@ -155,7 +155,7 @@ fresh-sound checks W n seat round store range = record {
     sized = refl;
     below = pow-pos n;
     enough = inl refl;
-    kept = λ s i. absurd (omega (arith, bit-empty s));
+    attested = λ s i. absurd (omega (arith, bit-empty s));
     guiltyBelow = pow-pos n;
     guiltyWithin = shared-none 0;
     unheld = λ e. (refl, refl);

@@ -16,7 +16,7 @@ use Rattle.octets.specs.Octets.{wordAt}
 use Rattle.octets.specs.StringLaws.{same-false}
 use Rattle.quorum.specs.Quorum.{mostSeats}
 use Rattle.refusal.specs.Refusal.{firstOf}
-use Rattle.refusal.specs.Laws.{firstOf-zero}
+use Rattle.refusal.specs.Laws.{both-true, both-false, firstOf-zero}
 use Rattle.rfc8554.specs.Ots.{knownOts}
 use Rattle.rfc8554.specs.Tree.{knownLms}
 use Rattle.rfc8554.specs.Verify.{lmsTypeOf, otsTypeOf, valid}
@@ -29,7 +29,7 @@ use Rattle.protocol.specs.Refusals.{Condition, NO-CONFLICT-BETWEEN, Checks, eve
 use Rattle.protocol.specs.Signatures.{checkSignature, makeKeyRefusal, makeKey, signRefusal, sign}
 use Rattle.protocol.specs.Calls.{openedBy, opening, resultBy, submit, step, makingBy, making, checkedBy, evidenceCheck}
 use Rattle.protocol.specs.declared.Record.{Record}
-use Rattle.reading.specs.Lists.{and-true-both, or-false-both, each-one}
+use Rattle.reading.specs.Lists.{each-one}
 use Rattle.claims.specs.Sound.{InRange}
 use Rattle.claims.specs.Unrefused.{size-right, round-right, possible, Taken, opening-range, outside-passed, record-passed, message-passes, submit-taken, step-taken, step-unrefused, evidence-checked, evidence-unrefused, making-taken}
 use Rattle.claims.specs.Journey.{fresh-sound, fresh-settled}
@@ -50,12 +50,12 @@ module _ (keys : List ℕ) where
   unfolding keysAllowed keyAllowed
   allowed-types zero h seat l = absurd (omega arith)
   allowed-types (suc n) h seat l =
-      let both = and-true-both (keysAllowed n keys) (eqb (wordAt keys (keyAt n)) 6 && eqb (wordAt keys (keyAt n + 4)) 4) h in
+      let both = both-true (keysAllowed n keys) (eqb (wordAt keys (keyAt n)) 6 && eqb (wordAt keys (keyAt n + 4)) 4) h in
       by (both .1) (λ m. allowed-types n (both .0) seat m) (ℕ-discrete seat n)
     where
       by : (eqb (wordAt keys (keyAt n)) 6 && eqb (wordAt keys (keyAt n + 4)) 4) ≡ true → (seat < n → Types seat) → Dec (seat ≡ n) → Types seat
       by last rest (yes q) =
-          let both = and-true-both (eqb (wordAt keys (keyAt n)) 6) (eqb (wordAt keys (keyAt n + 4)) 4) last in
+          let both = both-true (eqb (wordAt keys (keyAt n)) 6) (eqb (wordAt keys (keyAt n + 4)) 4) last in
           subst Types (sym q) (eqb-true (wordAt keys (keyAt n)) 6 (both .0), eqb-true (wordAt keys (keyAt n + 4)) 4 (both .1))
       by last rest (no d) = rest (omega arith)
 
@@ -70,7 +70,7 @@ module _ (keys : List ℕ) where
   unfolding wrongKeys
   keys-right n = (
     λ e.
-        let both = or-false-both (not (eqb (length keys) (keyLength * n))) (not (keysAllowed n keys)) e in
+        let both = both-false (not (eqb (length keys) (keyLength * n))) (not (keysAllowed n keys)) e in
         record {
           sized = eqb-true (length keys) (keyLength * n) (not-false (eqb (length keys) (keyLength * n)) (both .0));
           types = allowed-types n (not-false (keysAllowed n keys) (both .1));
@@ -282,8 +282,8 @@ module _ (key message signature : List ℕ) where
       let a = firstOf-zero 4 _ _ e in
       let b = firstOf-zero 8 _ _ (a .1) in
       let c = firstOf-zero 13 _ _ (b .1) in
-      let types = or-false-both (lengthIsnt 56 key || not (knownLms (lmsTypeOf key))) (not (knownOts (otsTypeOf key))) (a .0) in
-      let tree = or-false-both (lengthIsnt 56 key) (not (knownLms (lmsTypeOf key))) (types .0) in
+      let types = both-false (lengthIsnt 56 key || not (knownLms (lmsTypeOf key))) (not (knownOts (otsTypeOf key))) (a .0) in
+      let tree = both-false (lengthIsnt 56 key) (not (knownLms (lmsTypeOf key))) (types .0) in
       record {
         sizedKey = length-is 56 key (tree .0);
         knownTree = not-false (knownLms (lmsTypeOf key)) (tree .1);
@@ -313,8 +313,8 @@ module _ (seed I tree out : List ℕ) where
   make-key-fit e =
       let a = firstOf-zero 6 _ _ e in
       let b = firstOf-zero 15 _ _ (a .1) in
-      let lengths = or-false-both (lengthIsnt 32 seed || lengthIsnt 16 I) (lengthIsnt treeLength tree) (b .0) in
-      let secrets = or-false-both (lengthIsnt 32 seed) (lengthIsnt 16 I) (lengths .0) in
+      let lengths = both-false (lengthIsnt 32 seed || lengthIsnt 16 I) (lengthIsnt treeLength tree) (b .0) in
+      let secrets = both-false (lengthIsnt 32 seed) (lengthIsnt 16 I) (lengths .0) in
       record { outRoom = ltb-false (length out) 56 (a .0); sizedSeed = length-is 32 seed (secrets .0); sizedIdentifier = length-is 16 I (secrets .1); sizedTree = length-is treeLength tree (lengths .1) }
 
   fit-make-key : MakeKeyFit seed I tree out → makeKeyRefusal seed I tree out ≡ 0
@@ -346,9 +346,9 @@ module _ (leaf : ℕ) (message seed I C tree out : List ℕ) where
       let b = firstOf-zero 6 _ _ (a .1) in
       let c = firstOf-zero 8 _ _ (b .1) in
       let d = firstOf-zero 15 _ _ (c .1) in
-      let lengths = or-false-both (lengthIsnt 32 seed || lengthIsnt 16 I || lengthIsnt 32 C) (lengthIsnt treeLength tree) (d .0) in
-      let secrets = or-false-both (lengthIsnt 32 seed || lengthIsnt 16 I) (lengthIsnt 32 C) (lengths .0) in
-      let first = or-false-both (lengthIsnt 32 seed) (lengthIsnt 16 I) (secrets .0) in
+      let lengths = both-false (lengthIsnt 32 seed || lengthIsnt 16 I || lengthIsnt 32 C) (lengthIsnt treeLength tree) (d .0) in
+      let secrets = both-false (lengthIsnt 32 seed || lengthIsnt 16 I) (lengthIsnt 32 C) (lengths .0) in
+      let first = both-false (lengthIsnt 32 seed) (lengthIsnt 16 I) (secrets .0) in
       record {
         inTime = ltb-false lastRound leaf (a .0);
         outRoom = ltb-false (length out) signatureLength (b .0);

@@ -1,4 +1,4 @@
--- The parts of a submit and a step: each keeps record and store sound, only adds to what stood, and writes a message just
+-- The parts of a submit and a step: each leaves record and store sound, only adds to what stood, and writes a message just
 -- where its flag comes to be set.
 -- Assumes nothing.
 use mathlib.Core.Path.{_≡_, refl, sym, ap, subst, _∙_}
@@ -15,7 +15,8 @@ use borrow.Author.Tests.{eqb-true, eqb-false, ne-eqb, not-true, not-false}
 use Rattle.octets.specs.Strings.{same}
 use Rattle.octets.specs.StringLaws.{same-refl, same-true, same-false}
 use Rattle.quorum.specs.Quorum.{k, bit, In, has, size, shared, with, seats}
-use Rattle.quorum.specs.Laws.{bit-empty, bit-with-other, bit-with-same, has-false, bit-shared, same-seats, shared-lt, with-lt, size-empty, size-with-new, bit-outside, mem-seats, t0-is-third, k-of-n-share}
+use Rattle.quorum.specs.QuorumLaws.{bit-empty, bit-with-other, bit-with-same, has-false, bit-shared, same-seats, shared-lt, with-lt, size-empty, size-with-new, bit-outside, mem-seats, t0-is-third, k-of-n-share}
+use Rattle.refusal.specs.Laws.{both-true}
 use Rattle.protocol.specs.Layout.{valueLength, signatureLength, storeLength, collectedBank, firstBank}
 use Rattle.protocol.specs.Values.{unset}
 use Rattle.protocol.specs.Message.{Pair, Message, Submit, Notice, Full, Evidence, Garbled}
@@ -29,9 +30,9 @@ use Rattle.protocol.specs.declared.Notices.{Notices}
 use Rattle.protocol.specs.declared.Record.{Record}
 use Rattle.round.specs.Round.{Each, Relation}
 use Rattle.round.specs.Demand1.{Kind, SUBMIT, NOTICE, FULL, EVIDENCE, isOf, isSubmit, isNotice, worth}
-use Rattle.reading.specs.Lists.{cond-elim, and-true-both, and-false-either, each-one, each-append, count-append, count-one}
+use Rattle.reading.specs.Lists.{cond-elim, and-false-either, each-one, each-append, count-append, count-one}
 use Rattle.claims.specs.Slots.{fill-length, slot-fill-same, slot-fill-other, fillEach-length, slot-fillEach-other, slot-fillEach-same}
-use Rattle.claims.specs.Sound.{flagOf, Heard, Held, Grows, Room, Changed, Certifies, Pairs, Collection, Holding, Sound, Said, Good, Leads}
+use Rattle.claims.specs.Sound.{flagOf, Heard, Held, Grows, Room, Attested, Certifies, Pairs, Collection, Holding, Sound, Said, Good, Leads}
 use Rattle.claims.specs.Certificates.{entries-of, evidence-elim}
 
 -- ---- records that go on
@@ -56,12 +57,12 @@ k-pos n h = omega (arith, t0-is-third n h)
 
 said-grows : (r r′ : Record) (ρ seat : ℕ) (value : List ℕ) → Grows r r′ → Said r ρ seat value → Said r′ ρ seat value
 said-grows r r′ ρ seat value g s =
-    let kept = g .said (s .submitted) in
+    let still = g .said (s .submitted) in
     record {
       ofRound = s .ofRound ∙ sym (g .round);
       ofSeat = s .ofSeat ∙ sym (g .seat);
-      ofValue = s .ofValue ∙ sym (kept .1);
-      submitted = kept .0;
+      ofValue = s .ofValue ∙ sym (still .1);
+      submitted = still .0;
       sized = s .sized;
     }
 
@@ -94,7 +95,7 @@ notices-elim P value r none other known =
     let v = r .notices .value in
     cond-elim P (eqb h 0) (record { heard = 1; value = value }) (cond (eqb h 1 && not (same value v)) (record { heard = 2; value = v }) (r .notices)) (λ e. none (eqb-true h 0 e))
     (λ z. cond-elim P (eqb h 1 && not (same value v)) (record { heard = 2; value = v }) (r .notices)
-    (λ e. let both = and-true-both (eqb h 1) (not (same value v)) e in
+    (λ e. let both = both-true (eqb h 1) (not (same value v)) e in
     other (eqb-true h 1 (both .0)) (λ q. true≢false (sym (same-refl v) ∙ subst (λ (u : List ℕ). same u v ≡ false) q (not-true (same value v) (both .1)))))
     (λ e. known (eqb-false h 0 z)
     (λ one. ⊎-elim (λ q. absurd (eqb-false h 1 q one)) (λ q. same-true value v (not-false (same value v) q)) (and-false-either (eqb h 1) (not (same value v)) e))))
@@ -156,21 +157,21 @@ module _ (checks : Checks) (W : Relation) where
 
   -- a new seat's signature over the value
   pub collection-with : (n seat : ℕ) (own : Own) (signature store : List ℕ) → seat < n → storeLength n ≤ length store → bit seat (own .collected) ≡ 0
-      → size (own .collected) < k n → Changed checks W seat (own .value) signature → Collection checks W n own store
+      → size (own .collected) < k n → Attested checks W seat (own .value) signature → Collection checks W n own store
       → Collection checks W n (record { submitted = own .submitted; value = own .value; collected = with seat (own .collected) }) (fill n collectedBank seat signature store)
   collection-with n seat own signature store inside room new few g z = record {
     sized = z .sized;
     below = with-lt n seat (own .collected) inside (z .below);
     few = let more = size-with-new seat (own .collected) new in omega arith;
-    kept = λ s i. go s i (ℕ-discrete s seat);
+    attested = λ s i. go s i (ℕ-discrete s seat);
   }
     where
-      go : (s : ℕ) → In s (with seat (own .collected)) → Dec (s ≡ seat) → Changed checks W s (own .value) (slot n collectedBank (fill n collectedBank seat signature store) s)
+      go : (s : ℕ) → In s (with seat (own .collected)) → Dec (s ≡ seat) → Attested checks W s (own .value) (slot n collectedBank (fill n collectedBank seat signature store) s)
       go s i (yes e) = rw (e, slot-fill-same n collectedBank seat signature store collected-bank inside room (g .sized)) g
       go s i (no d) =
           let old : In s (own .collected) = sym (bit-with-other s seat (own .collected) d) ∙ i in
           rw (slot-fill-other n collectedBank seat signature store collected-bank inside room (g .sized) collectedBank s (collected-bank .0) (in-below n s (own .collected) (z .below) old) (λ _ q. d (sym q)))
-          (z .kept s old)
+          (z .attested s old)
 
   -- the first certificate's bank is as it was
   pub holding-beside : (n seat guilty : ℕ) (r : Record) (signature store : List ℕ) → seat < n → storeLength n ≤ length store → length signature ≡ signatureLength
@@ -179,7 +180,7 @@ module _ (checks : Checks) (W : Relation) where
     sized = z .sized;
     below = z .below;
     enough = z .enough;
-    kept = λ s i. rw (slot-fill-other n collectedBank seat signature store collected-bank inside room sized firstBank s (first-bank .0) (in-below n s (r .first .seats) (z .below) i) (λ q _. omega arith)) (z .kept s i);
+    attested = λ s i. rw (slot-fill-other n collectedBank seat signature store collected-bank inside room sized firstBank s (first-bank .0) (in-below n s (r .first .seats) (z .below) i) (λ q _. omega arith)) (z .attested s i);
     guiltyBelow = z .guiltyBelow;
     guiltyWithin = z .guiltyWithin;
     unheld = z .unheld;
@@ -188,23 +189,23 @@ module _ (checks : Checks) (W : Relation) where
   module _ (seat : ℕ) (value signature : List ℕ) (s : State) (z : Sound checks W (s .unit) (s .store)) (room : Room s) where
     -- "the value is the own one and the seat is new, its signature is collected"
     pub collect-leads : isWanted seat value (s .unit) ≡ true → s .unit .own .submitted ≡ true → (size (s .unit .own .collected) ≡ k (s .unit .n) → s .unit .confirmed ≡ true)
-        → seat < s .unit .n → Changed checks W seat value signature → Leads checks W s (collect seat signature s)
+        → seat < s .unit .n → Attested checks W seat value signature → Leads checks W s (collect seat signature s)
     unfolding collect isWanted
     collect-leads wanted submitted complete inside g =
         let r = s .unit in
-        let both = and-true-both (not (r .confirmed) && same value (r .own .value)) (not (has seat (r .own .collected))) wanted in
-        let front = and-true-both (not (r .confirmed)) (same value (r .own .value)) (both .0) in
+        let both = both-true (not (r .confirmed) && same value (r .own .value)) (not (has seat (r .own .collected))) wanted in
+        let front = both-true (not (r .confirmed)) (same value (r .own .value)) (both .0) in
         let unconfirmed : r .confirmed ≡ false = not-true (r .confirmed) (front .0) in
         let own : value ≡ r .own .value = same-true value (r .own .value) (front .1) in
         let new : bit seat (r .own .collected) ≡ 0 = has-false seat (r .own .collected) .0 (not-true (has seat (r .own .collected)) (both .1)) in
         let few : size (r .own .collected) ≢ k (r .n) = λ e. true≢false (sym (complete e) ∙ unconfirmed) in
-        let kept : Changed checks W seat (r .own .value) signature = subst (λ (v : List ℕ). Changed checks W seat v signature) own g in
+        let attested : Attested checks W seat (r .own .value) signature = subst (λ (v : List ℕ). Attested checks W seat v signature) own g in
         let at-most : size (r .own .collected) ≤ k (r .n) = z .own .collection .few in
         leads-quiet s (collect seat signature s)
         (record {
           range = z .range;
           own = record {
-            collection = collection-with (r .n) seat (r .own) signature (s .store) inside room new (omega arith) kept (z .own .collection);
+            collection = collection-with (r .n) seat (r .own) signature (s .store) inside room new (omega arith) attested (z .own .collection);
             unsaid = λ e. absurd (true≢false (sym submitted ∙ e));
             said = λ e. go (ℕ-discrete (r .seat) seat);
           };
@@ -224,7 +225,7 @@ module _ (checks : Checks) (W : Relation) where
   -- ---- submit
 
   module _ (value signature : List ℕ) (s : State) (z : Sound checks W (s .unit) (s .store)) (room : Room s) where
-    pub submitOwn-leads : s .unit .own .submitted ≡ false → length value ≡ valueLength → Changed checks W (s .unit .seat) value signature → Leads checks W s (submitOwn value signature s)
+    pub submitOwn-leads : s .unit .own .submitted ≡ false → length value ≡ valueLength → Attested checks W (s .unit .seat) value signature → Leads checks W s (submitOwn value signature s)
     unfolding submitOwn write collect setOwnValue isSubmit isNotice isFull isEvidence worth
     submitOwn-leads unsaid sized g =
         let r = s .unit in
@@ -237,7 +238,7 @@ module _ (checks : Checks) (W : Relation) where
           sized = sized;
           below = z .own .collection .below;
           few = z .own .collection .few;
-          kept = λ t i. absurd (let b : bit t (r .own .collected) ≡ 0 = rw empty (bit-empty t) in omega arith);
+          attested = λ t i. absurd (let b : bit t (r .own .collected) ≡ 0 = rw empty (bit-empty t) in omega arith);
         } in
         leads-writing s (submitOwn value signature s) (Submit (r .round) (r .seat) value signature)
         (record {
@@ -313,12 +314,12 @@ module _ (checks : Checks) (W : Relation) where
 
   pub own-certifies : (r : Record) (store : List ℕ) → Sound checks W r store → size (r .own .collected) ≡ k (r .n) → Certifies checks W (r .n) (ownCertificate r store)
   unfolding ownCertificate
-  own-certifies r store z e = record { sized = z .own .collection .sized; below = z .own .collection .below; enough = e; kept = z .own .collection .kept }
+  own-certifies r store z e = record { sized = z .own .collection .sized; below = z .own .collection .below; enough = e; attested = z .own .collection .attested }
 
   pub first-certifies : (r : Record) (store : List ℕ) → Sound checks W r store → r .first .seats ≢ 0 → Certifies checks W (r .n) (firstCertificate r store)
   unfolding firstCertificate
   first-certifies r store z held =
-      record { sized = z .first .sized; below = z .first .below; enough = ⊎-elim (λ e. absurd (held e)) (λ e. e) (z .first .enough); kept = z .first .kept }
+      record { sized = z .first .sized; below = z .first .below; enough = ⊎-elim (λ e. absurd (held e)) (λ e. e) (z .first .enough); attested = z .first .attested }
 
   -- ---- reply
 
@@ -331,7 +332,7 @@ module _ (checks : Checks) (W : Relation) where
     unfolding owesFull
     owes-parts e =
         let r = s .unit in
-        let front = and-true-both (r .confirmed) (not (r .sent)) (and-true-both (r .confirmed && not (r .sent)) (otherHeard r) e .0) in
+        let front = both-true (r .confirmed) (not (r .sent)) (both-true (r .confirmed && not (r .sent)) (otherHeard r) e .0) in
         (front .0, not-true (r .sent) (front .1))
 
     sendFull-leads : owesFull (s .unit) ≡ true → Leads checks W s (sendFull s)
@@ -374,7 +375,7 @@ module _ (checks : Checks) (W : Relation) where
     certificate-some e = let none = ap size e ∙ size-empty in let p = k-pos (s .unit .n) (z .range .some) in let q = y .enough in omega arith
 
     certificate-fit : Each (λ t. (t < s .unit .n) × (length (c .signature t) ≡ signatureLength)) (seats (s .unit .n) (c .seats))
-    certificate-fit t d = let m = mem-seats (s .unit .n) t (c .seats) .0 d in (m .0, y .kept t (m .1) .sized)
+    certificate-fit t d = let m = mem-seats (s .unit .n) t (c .seats) .0 d in (m .0, y .attested t (m .1) .sized)
 
     hold-leads : s .unit .first .seats ≡ 0 → Leads checks W s (hold c s)
     unfolding hold
@@ -390,7 +391,7 @@ module _ (checks : Checks) (W : Relation) where
               sized = z .own .collection .sized;
               below = z .own .collection .below;
               few = z .own .collection .few;
-              kept = λ t i. rw (slot-fillEach-other (r .n) firstBank (c .signature) first-bank (seats (r .n) (c .seats)) (s .store) collectedBank t certificate-fit room (collected-bank .0) (in-below (r .n) t (r .own .collected) (z .own .collection .below) i) (λ u d q _. omega arith)) (z .own .collection .kept t i);
+              attested = λ t i. rw (slot-fillEach-other (r .n) firstBank (c .signature) first-bank (seats (r .n) (c .seats)) (s .store) collectedBank t certificate-fit room (collected-bank .0) (in-below (r .n) t (r .own .collected) (z .own .collection .below) i) (λ u d q _. omega arith)) (z .own .collection .attested t i);
             };
             unsaid = z .own .unsaid;
             said = z .own .said;
@@ -400,7 +401,7 @@ module _ (checks : Checks) (W : Relation) where
             sized = y .sized;
             below = y .below;
             enough = inr (y .enough);
-            kept = λ t i. rw (slot-fillEach-same (r .n) firstBank (c .signature) first-bank (seats (r .n) (c .seats)) (s .store) t certificate-fit room (mem-seats (r .n) t (c .seats) .1 (in-below (r .n) t (c .seats) (y .below) i, i))) (y .kept t i);
+            attested = λ t i. rw (slot-fillEach-same (r .n) firstBank (c .signature) first-bank (seats (r .n) (c .seats)) (s .store) t certificate-fit room (mem-seats (r .n) t (c .seats) .1 (in-below (r .n) t (c .seats) (y .below) i, i))) (y .attested t i);
             guiltyBelow = z .first .guiltyBelow;
             guiltyWithin = rw innocent (shared-none (c .seats));
             unheld = λ e. absurd (certificate-some e);
@@ -437,7 +438,7 @@ module _ (checks : Checks) (W : Relation) where
             sized = z .first .sized;
             below = z .first .below;
             enough = z .first .enough;
-            kept = z .first .kept;
+            attested = z .first .attested;
             guiltyBelow = shared-lt (r .n) (r .first .seats) (c .seats) (z .first .below) (y .below);
             guiltyWithin = same-seats (shared guilty (r .first .seats)) guilty (λ t. omega (arith, bit-shared t guilty (r .first .seats), bit-shared t (r .first .seats) (c .seats)));
             unheld = λ e. absurd (held e);
@@ -464,7 +465,7 @@ module _ (checks : Checks) (W : Relation) where
         let same-value = same (c .value) (r .first .value) in
         cond-elim (λ x. Leads checks W s x) (not (eqb (r .first .seats) 0)) (cond (not same-value && eqb (r .guilty) 0) (blame c s) s) (hold c s)
         (λ held. cond-elim (λ x. Leads checks W s x) (not same-value && eqb (r .guilty) 0) (blame c s) s
-        (λ e. let both = and-true-both (not same-value) (eqb (r .guilty) 0) e in
+        (λ e. let both = both-true (not same-value) (eqb (r .guilty) 0) e in
         blame-leads (eqb-false (r .first .seats) 0 (not-true (eqb (r .first .seats) 0) held)) (λ q. true≢false (sym (same-refl (c .value)) ∙ subst (λ (v : List ℕ). same (c .value) v ≡ false) q (not-true same-value (both .0)))) (eqb-true (r .guilty) 0 (both .1)))
         (λ e. leads-refl s z))
         (λ empty. hold-leads (eqb-true (r .first .seats) 0 (not-false (eqb (r .first .seats) 0) empty)))

@@ -85,9 +85,9 @@ module _ (S : Setting) where
         at .before .said (ap (λ (r : Record). r .own .submitted) came ∙ v .0) .1 ∙ ap (λ (r : Record). r .own .value) came ∙ v .1
 
   module _ {I : Type 0} (boat : I → Honest) (opened : (i : I) → IsOpened S (boat i)) (R : Relation) (takes : Takes S boat R) (none : NoneForged S boat R) where
-    -- ---- what a unit keeps
+    -- ---- what a unit has stored
 
-    -- a signature that a unit keeps was delivered, or is its own over what it submitted
+    -- a signature that a unit has stored was delivered, or is its own over what it submitted
     abbrev Backed : I → Relation
     Backed j seat value signature = R seat value signature ⊎ ((seat ≡ boat j .seat) × Submits S (boat j) value)
 
@@ -109,7 +109,7 @@ module _ (S : Setting) where
 
     -- ---- an honest seat
 
-    -- it did submit what a delivered signature of it stands over, and what it keeps itself
+    -- it did submit what a delivered signature of it stands over, and what it has stored itself
     submitted-of : (i : I) (value signature : List ℕ) → checks (boat i .seat) value signature ≡ true → Backed i (boat i .seat) value signature → (Submits S (boat i) value → ⊥) → ⊥
     submitted-of i value signature c (inl r) never = true≢false (sym c ∙ none i value signature r never)
     submitted-of i value signature c (inr s) never = never (s .1)
@@ -143,8 +143,8 @@ module _ (S : Setting) where
         let b = h (m .0) (m .1) in
         unnamed-at i j lower higher (m .0) l (sym (m .2)) (b .0) (b .1) (b .2) (b .3)
 
-    kept-both : (j : I) (W : Relation) (size : ℕ) (lower higher : List ℕ) (ps : List Pair) → ((s : ℕ) (v g : List ℕ) → W s v g → Backed j s v g) → Pairs checks W size lower higher ps → Each (Both j lower higher) ps
-    kept-both j W size lower higher ps f z p d =
+    backed-both : (j : I) (W : Relation) (size : ℕ) (lower higher : List ℕ) (ps : List Pair) → ((s : ℕ) (v g : List ℕ) → W s v g → Backed j s v g) → Pairs checks W size lower higher ps → Each (Both j lower higher) ps
+    backed-both j W size lower higher ps f z p d =
         (z .lows p d .checked, f (p .seat) lower (p .lower) (z .lows p d .worthy), z .highs p d .checked, f (p .seat) higher (p .higher) (z .highs p d .worthy))
 
     -- ---- the three kinds of evidence
@@ -160,7 +160,7 @@ module _ (S : Setting) where
         let end = endOf S (boat j) (opened j) in
         let good = writes-good S (boat j) (opened j) (Backed j) (backed j) m (w .writes) in
         evidence-cases (λ x. Good checks (Backed j) end x → List·Memᴰ (boat i .seat) (entrySeats x) → ⊥) m (w .kind)
-        (λ ρ lower higher ps g e. unnamed i j lower higher ps (g .1 .ordered) (kept-both j (Backed j) (end .n) lower higher ps (λ s v h b. b) (g .1)) e)
+        (λ ρ lower higher ps g e. unnamed i j lower higher ps (g .1 .ordered) (backed-both j (Backed j) (end .n) lower higher ps (λ s v h b. b) (g .1)) e)
         good (named-in m evidence (boat i .seat) (stands .1 .0 m (stands .2)) (w .bytes) d)
 
     making-refused : (h : InHand) (q : ℕ) → firstOf (conditions h) ≡ suc q → makingOf S h ≡ renderAll []
@@ -186,7 +186,7 @@ module _ (S : Setting) where
         let x = Evidence round lower higher ps in
         let only = are-unique n (makingOf S h) (stands .0) (x ∷ []) (stands .1) (each-one (WellFormed n) x (pairs-formed checks R n round lower higher ps (t .early) z), is ∙ sym (append-nil (render x))) in
         let same : m ≡ x = List·Memᴰ·eq-of-singleton (subst (λ ms. List·Memᴰ m ms) only (stands .2)) in
-        unnamed i j lower higher ps (z .ordered) (kept-both j R n lower higher ps (λ s v g w. inl w) z) (subst (λ y. List·Memᴰ (boat i .seat) (entrySeats y)) same named))
+        unnamed i j lower higher ps (z .ordered) (backed-both j R n lower higher ps (λ s v g w. inl w) z) (subst (λ y. List·Memᴰ (boat i .seat) (entrySeats y)) same named))
         bytes
 
     made-safe : (i j : I) (evidence : List ℕ) → MakesEvidence S (boat j) evidence → Names S evidence (boat i .seat) → ⊥

@@ -93,8 +93,8 @@ pub record Said (r : Record) (ρ seat : ℕ) (value : List ℕ) : Type 0 where
 module _ (checks : Checks) (W : Relation) where
   -- ---- signatures
 
-  -- a signature that a unit keeps checks, has its length, and is worth what the parameter says
-  pub record Changed (seat : ℕ) (value signature : List ℕ) : Type 0 where
+  -- a signature that a unit has taken: it checks, has its length, and is worth what the parameter says
+  pub record Attested (seat : ℕ) (value signature : List ℕ) : Type 0 where
     pub checked : checks seat value signature ≡ true
     pub sized : length signature ≡ signatureLength
     pub worthy : W seat value signature
@@ -104,7 +104,7 @@ module _ (checks : Checks) (W : Relation) where
     pub sized : length (c .value) ≡ valueLength
     pub below : c .seats < 2 ^ n
     pub enough : size (c .seats) ≡ k n
-    pub kept : (s : ℕ) → In s (c .seats) → Changed s (c .value) (c .signature s)
+    pub attested : (s : ℕ) → In s (c .seats) → Attested s (c .value) (c .signature s)
 
   -- the entries of a FULL
   pub record Entries (n : ℕ) (value : List ℕ) (es : List Entry) : Type 0 where
@@ -112,7 +112,7 @@ module _ (checks : Checks) (W : Relation) where
     pub many : length es ≡ k n
     pub rise : rising (map (λ (e : Entry). e .seat) es) ≡ true
     pub below : Each (λ (e : Entry). e .seat < n) es
-    pub kept : Each (λ (e : Entry). Changed (e .seat) value (e .signature)) es
+    pub attested : Each (λ (e : Entry). Attested (e .seat) value (e .signature)) es
 
   -- the entries of an EVIDENCE
   pub record Pairs (n : ℕ) (lower higher : List ℕ) (ps : List Pair) : Type 0 where
@@ -125,8 +125,8 @@ module _ (checks : Checks) (W : Relation) where
     pub few : length ps ≤ k n
     pub rise : rising (map (λ (p : Pair). p .seat) ps) ≡ true
     pub below : Each (λ (p : Pair). p .seat < n) ps
-    pub lows : Each (λ (p : Pair). Changed (p .seat) lower (p .lower)) ps
-    pub highs : Each (λ (p : Pair). Changed (p .seat) higher (p .higher)) ps
+    pub lows : Each (λ (p : Pair). Attested (p .seat) lower (p .lower)) ps
+    pub highs : Each (λ (p : Pair). Attested (p .seat) higher (p .higher)) ps
 
   -- ---- record and store
 
@@ -135,14 +135,14 @@ module _ (checks : Checks) (W : Relation) where
     pub sized : length (own .value) ≡ valueLength
     pub below : own .collected < 2 ^ n
     pub few : size (own .collected) ≤ k n
-    pub kept : (s : ℕ) → In s (own .collected) → Changed s (own .value) (slot n collectedBank store s)
+    pub attested : (s : ℕ) → In s (own .collected) → Attested s (own .value) (slot n collectedBank store s)
 
   -- the first certificate, in the second bank, and the guilty seats
   pub record Holding (n : ℕ) (first : First) (guilty : ℕ) (store : List ℕ) : Type 0 where
     pub sized : length (first .value) ≡ valueLength
     pub below : first .seats < 2 ^ n
     pub enough : (first .seats ≡ 0) ⊎ (size (first .seats) ≡ k n)
-    pub kept : (s : ℕ) → In s (first .seats) → Changed s (first .value) (slot n firstBank store s)
+    pub attested : (s : ℕ) → In s (first .seats) → Attested s (first .value) (slot n firstBank store s)
     pub guiltyBelow : guilty < 2 ^ n
     pub guiltyWithin : shared guilty (first .seats) ≡ guilty
     pub unheld : first .seats ≡ 0 → (first .value ≡ unset) × (guilty ≡ 0)
@@ -165,7 +165,7 @@ module _ (checks : Checks) (W : Relation) where
 
   -- what holds of a message that the unit has written
   abbrev pub Good : Record → Message → Type 0
-  Good r (Submit ρ seat value signature) = Said r ρ seat value × Changed seat value signature
+  Good r (Submit ρ seat value signature) = Said r ρ seat value × Attested seat value signature
   Good r (Notice ρ seat value) = Said r ρ seat value
   Good r (Full ρ sender value entries) = Said r ρ sender value × Entries (r .n) value entries
   Good r (Evidence ρ lower higher entries) = (ρ ≡ r .round) × Pairs (r .n) lower higher entries

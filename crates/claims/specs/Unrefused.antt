@@ -12,9 +12,9 @@ use borrow.Author.Tests.{ltb-true, ltb-false, lt-ltb, le-ltb, lt-leb, leb-false,
 use Rattle.octets.specs.Strings.{same}
 use Rattle.octets.specs.StringLaws.{same-refl}
 use Rattle.quorum.specs.Quorum.{mostSeats, k, has, size, shared}
-use Rattle.quorum.specs.Laws.{has-true, outside-false, size-empty}
+use Rattle.quorum.specs.QuorumLaws.{has-true, outside-false, size-empty}
 use Rattle.refusal.specs.Refusal.{firstOf}
-use Rattle.refusal.specs.Laws.{firstOf-zero}
+use Rattle.refusal.specs.Laws.{both-true, both-false, firstOf-zero}
 use Rattle.protocol.specs.Layout.{valueLength, signatureLength, storeLength, outLength}
 use Rattle.protocol.specs.Values.{unset}
 use Rattle.protocol.specs.Entries.{formSeats}
@@ -24,8 +24,8 @@ use Rattle.protocol.specs.Record.{lastRound, wrongSize, wrongSeat, wrongRound, 
 use Rattle.protocol.specs.Refusals.{Condition, Checks, every, wrongKeys, shortStore, shortOut, said, isForStep, isFull, isEvidence, wrongLengths, otherRound, stranger, rising, disorder, early, badSignature, notLowerFirst, NO-CONFLICT-IN, NO-CONFLICT-BETWEEN, messageConditions, outsideConditions, recordConditions, openingConditions, submitConditions, stepConditions, evidenceConditions, equalValues, certificateConditions, twoConditions, makingConditions}
 use Rattle.protocol.specs.declared.Record.{Record}
 use Rattle.round.specs.Round.{Each, Relation, EachSigned}
-use Rattle.reading.specs.Lists.{and-true-both, or-false-both, or-true-either, each-nil, each-cons, each-map, every-each, each-every}
-use Rattle.claims.specs.Sound.{InRange, Settled, Changed, Entries, Pairs, Sound}
+use Rattle.reading.specs.Lists.{or-true-either, each-nil, each-cons, each-map, every-each, each-every}
+use Rattle.claims.specs.Sound.{InRange, Settled, Attested, Entries, Pairs, Sound}
 use Rattle.claims.specs.Whole.{Brings}
 use Rattle.reading.specs.Reading.{Sized}
 
@@ -39,7 +39,7 @@ pub round-right : (round : ℕ) → round ≤ lastRound → wrongRound round ≡
 unfolding wrongRound
 round-right round h = le-ltb lastRound round h
 
--- ---- no record that keeps the invariant is impossible
+-- ---- no record for which the invariant holds is impossible
 
 implied : (a b : Bool) → (a ≡ true → b ≡ true) → (a && not b) ≡ false
 implied true b h = rw (h refl)
@@ -108,7 +108,7 @@ module _ (checks : Checks) (W : Relation) (r : Record) (store : List ℕ) (z : S
 some-of : (n : ℕ) → wrongSize n ≡ false → (1 ≤ n) × (n ≤ mostSeats)
 unfolding wrongSize
 some-of n e =
-    let s = or-false-both (eqb n 0) (ltb mostSeats n) e in
+    let s = both-false (eqb n 0) (ltb mostSeats n) e in
     let nonzero = eqb-false n 0 (s .0) in
     (omega arith, ltb-false mostSeats n (s .1))
 
@@ -162,13 +162,13 @@ submit-taken checks keys r store value signature out e =
     let f = firstOf-zero 7 _ _ (lent .1) in
     let g = firstOf-zero 8 _ _ (f .1) in
     let h = firstOf-zero 13 _ _ (g .1) in
-    let lengths = or-false-both (not (eqb (length value) valueLength)) (not (eqb (length signature) signatureLength)) (g .0) in
+    let lengths = both-false (not (eqb (length value) valueLength)) (not (eqb (length signature) signatureLength)) (g .0) in
     record {
       room = lent .0 .2;
       unsaid = f .0;
       sizedValue = eqb-true (length value) valueLength (not-false (eqb (length value) valueLength) (lengths .0));
       sized = eqb-true (length signature) signatureLength (not-false (eqb (length signature) signatureLength) (lengths .1));
-      checked = and-true-both (checks (r .seat) value signature) true (not-false (checks (r .seat) value signature && true) (h .0)) .0;
+      checked = both-true (checks (r .seat) value signature) true (not-false (checks (r .seat) value signature && true) (h .0)) .0;
     }
 
 -- ---- the signatures of a message, entry by entry
@@ -328,10 +328,10 @@ making-taken checks n round keys a b out e =
 -- ---- what it brings
 
 module _ (checks : Checks) (W : Relation) where
-  entries-kept : (value : List ℕ) (es : List Entry) → EachSigned (λ s v g. checks s v g ≡ true) (Full 0 0 value es) → EachSigned W (Full 0 0 value es) → Each (λ (e : Entry). length (e .signature) ≡ signatureLength) es
-      → Each (λ (e : Entry). Changed checks W (e .seat) value (e .signature)) es
+  entries-attested : (value : List ℕ) (es : List Entry) → EachSigned (λ s v g. checks s v g ≡ true) (Full 0 0 value es) → EachSigned W (Full 0 0 value es) → Each (λ (e : Entry). length (e .signature) ≡ signatureLength) es
+      → Each (λ (e : Entry). Attested checks W (e .seat) value (e .signature)) es
   unfolding signed
-  entries-kept value es c w l e d = record {
+  entries-attested value es c w l e d = record {
     checked = signed-entries (λ s v g. checks s v g ≡ true) value es c e d;
     sized = l e d;
     worthy = signed-entries W value es w e d;
@@ -345,7 +345,7 @@ module _ (checks : Checks) (W : Relation) where
     many = l .1;
     rise = t .rises;
     below = λ e d. t .inside (e .seat) (List·Memᴰ·tail (Memᴰ·map (λ (x : Entry). x .seat) d));
-    kept = entries-kept value es (t .checked) w (λ e d. l .2 e d .0);
+    attested = entries-attested value es (t .checked) w (λ e d. l .2 e d .0);
   }
 
   -- a FULL that a unit wrote, to another
@@ -355,7 +355,7 @@ module _ (checks : Checks) (W : Relation) where
     inRound = refl;
     inside = each-cons (λ s. s < n) sender (map (λ (e : Entry). e .seat) es) l (each-map (λ s. s < n) (λ (e : Entry). e .seat) es (z .below));
     rises = z .rise;
-    checked = entries-signed (λ s v g. checks s v g ≡ true) value es (λ e d. z .kept e d .checked);
+    checked = entries-signed (λ s v g. checks s v g ≡ true) value es (λ e d. z .attested e d .checked);
   }
 
   pub evidence-taken : (n ρ : ℕ) (lower higher : List ℕ) (ps : List Pair) → Pairs checks W n lower higher ps → Taken checks n ρ (Evidence ρ lower higher ps)

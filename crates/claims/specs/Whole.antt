@@ -10,6 +10,7 @@ use lib.Dec.{eqb}
 use lib.ListN.{length}
 use borrow.Author.Tests.{eqb-true, eqb-false, not-true, not-false}
 use Rattle.quorum.specs.Quorum.{k, size}
+use Rattle.refusal.specs.Laws.{both-true}
 use Rattle.protocol.specs.Layout.{valueLength}
 use Rattle.protocol.specs.Message.{Entry, Message, Submit, Notice, Full, Evidence, Garbled}
 use Rattle.protocol.specs.Certificate.{Certificate, ownCertificate, certificateOf, certificateIn}
@@ -19,8 +20,8 @@ use Rattle.protocol.specs.Step.{State, write, collect, setOwnValue, submitOwn, 
 use Rattle.protocol.specs.declared.Record.{Record}
 use Rattle.round.specs.Round.{Relation}
 use Rattle.round.specs.Demand1.{Kind, SUBMIT, NOTICE, FULL, EVIDENCE, isOf, isSubmit, isNotice, worth}
-use Rattle.reading.specs.Lists.{cond-elim, and-true-both, and-false-either}
-use Rattle.claims.specs.Sound.{flagOf, Heard, Held, Grows, Room, Settled, Changed, Certifies, Entries, Sound, Leads}
+use Rattle.reading.specs.Lists.{cond-elim, and-false-either}
+use Rattle.claims.specs.Sound.{flagOf, Heard, Held, Grows, Room, Settled, Attested, Certifies, Entries, Sound, Leads}
 use Rattle.claims.specs.Certificates.{certifies-of}
 use Rattle.claims.specs.Parts.{k-pos, room-leads, leads-trans, leads-writing, leads-refl, collect-leads, submitOwn-leads, hear-leads, hear-heard, reply-leads, holdOrBlame-leads, holdOrBlame-held, own-certifies, collected-submitted, confirmed-submitted}
 
@@ -125,7 +126,7 @@ module _ (checks : Checks) (W : Relation) where
     unfolding confirm write isComplete isSubmit isNotice isFull isEvidence worth
     confirm-leads e =
         let r = s .unit in
-        let both = and-true-both (not (r .confirmed)) (eqb (size (r .own .collected)) (k (r .n))) e in
+        let both = both-true (not (r .confirmed)) (eqb (size (r .own .collected)) (k (r .n))) e in
         let full = eqb-true (size (r .own .collected)) (k (r .n)) (both .1) in
         let pos = k-pos (r .n) (z .range .some) in
         leads-writing checks W s (confirm s) (Notice (r .round) (r .seat) (r .own .value))
@@ -151,7 +152,7 @@ module _ (checks : Checks) (W : Relation) where
     complete-size : isComplete (s .unit) ≡ true → size (s .unit .own .collected) ≡ k (s .unit .n)
     unfolding isComplete
     complete-size e =
-        eqb-true (size (s .unit .own .collected)) (k (s .unit .n)) (and-true-both (not (s .unit .confirmed)) (eqb (size (s .unit .own .collected)) (k (s .unit .n))) e .1)
+        eqb-true (size (s .unit .own .collected)) (k (s .unit .n)) (both-true (not (s .unit .confirmed)) (eqb (size (s .unit .own .collected)) (k (s .unit .n))) e .1)
 
     confirm-size : isComplete (s .unit) ≡ true → size (confirm s .unit .own .collected) ≡ k (confirm s .unit .n)
     unfolding confirm write
@@ -192,7 +193,7 @@ module _ (checks : Checks) (W : Relation) where
 
   -- ---- submit and step
 
-  module _ (value signature : List ℕ) (s : State) (z : Sound checks W (s .unit) (s .store)) (room : Room s) (unsaid : s .unit .own .submitted ≡ false) (sized : length value ≡ valueLength) (g : Changed checks W (s .unit .seat) value signature) where
+  module _ (value signature : List ℕ) (s : State) (z : Sound checks W (s .unit) (s .store)) (room : Room s) (unsaid : s .unit .own .submitted ≡ false) (sized : length value ≡ valueLength) (g : Attested checks W (s .unit .seat) value signature) where
     own-leads : Leads checks W s (submitOwn value signature s)
     own-leads = submitOwn-leads checks W value signature s z room unsaid sized g
 
@@ -214,14 +215,14 @@ module _ (checks : Checks) (W : Relation) where
 
   -- what a message brings that a step doesn't refuse
   abbrev pub Brings : Record → Message → Type 0
-  Brings r (Submit ρ seat value signature) = (r .own .submitted ≡ true) × (seat < r .n) × Changed checks W seat value signature
+  Brings r (Submit ρ seat value signature) = (r .own .submitted ≡ true) × (seat < r .n) × Attested checks W seat value signature
   Brings r (Notice ρ seat value) = Unit {0}
   Brings r (Full ρ sender value entries) = Entries checks W (r .n) value entries
   Brings r (Evidence ρ lower higher entries) = Unit {0}
   Brings r Garbled = Unit {0}
 
   module _ (s : State) (z : Sound checks W (s .unit) (s .store)) (room : Room s) (e : Settled (s .unit)) where
-    hearSubmit-done : (seat : ℕ) (value signature : List ℕ) → s .unit .own .submitted ≡ true → seat < s .unit .n → Changed checks W seat value signature → Done s (confirmIfComplete (hearSubmit seat value signature s))
+    hearSubmit-done : (seat : ℕ) (value signature : List ℕ) → s .unit .own .submitted ≡ true → seat < s .unit .n → Attested checks W seat value signature → Done s (confirmIfComplete (hearSubmit seat value signature s))
     unfolding hearSubmit
     hearSubmit-done seat value signature submitted inside g =
         cond-elim (λ x. Done s (confirmIfComplete x)) (isWanted seat value (s .unit)) (collect seat signature s) s

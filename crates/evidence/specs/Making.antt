@@ -10,7 +10,7 @@ use borrow.Author.Tests.{ltb-false}
 use Rattle.octets.specs.Strings.{same}
 use Rattle.octets.specs.StringLaws.{patch-nothing}
 use Rattle.quorum.specs.Quorum.{k, size, shared}
-use Rattle.quorum.specs.Laws.{size-shared-le}
+use Rattle.quorum.specs.QuorumLaws.{size-shared-le}
 use Rattle.refusal.specs.Refusal.{firstOf, unrefused}
 use Rattle.protocol.specs.Values.{isLower}
 use Rattle.protocol.specs.Layout.{valueLength, fullLength, fullEntryAt, evidenceLength, evidenceEntryAt, evidenceEntryLength, evidenceOutLength}

@@ -12,7 +12,7 @@ use borrow.Author.Tests.{not-false}
 use Rattle.octets.specs.Strings.{same}
 use Rattle.octets.specs.StringLaws.{same-refl}
 use Rattle.quorum.specs.Quorum.{k, bit, In, has, size, shared, with, seats}
-use Rattle.quorum.specs.Laws.{bit-cases, has-true, bit-with-same, bit-with-other, bit-shared, same-seats, shared-comm, size-shared-le, size-with-new, mem-seats}
+use Rattle.quorum.specs.QuorumLaws.{bit-cases, has-true, bit-with-same, bit-with-other, bit-shared, same-seats, shared-comm, size-shared-le, size-with-new, mem-seats}
 use Rattle.refusal.specs.Refusal.{firstOf, unrefused}
 use Rattle.protocol.specs.Layout.{storeLength, outLength, evidenceEntryLength, evidenceEntryAt, evidenceLength, evidenceOutLength}
 use Rattle.protocol.specs.Entries.{formSeats}
@@ -28,7 +28,7 @@ use Rattle.round.specs.Round.{Setting, Call, ByStep, ByThinEntry, IsStep, Hones
 use Rattle.round.specs.Demand1.{SUBMIT, NOTICE, isNotice, isOf}
 use Rattle.round.specs.Demand3.{NoneForged, ReachedOthers}
 use Rattle.reading.specs.Lists.{cond-elim, and-false-either, worth-le-one, worth-true, true-of-worth, count-nil, each-nil, each-cons, each-one, each-append, each-map, rising-first}
-use Rattle.claims.specs.Sound.{Settled, Changed, Certifies, Entries, Sound, Said}
+use Rattle.claims.specs.Sound.{Settled, Attested, Certifies, Entries, Sound, Said}
 use Rattle.claims.specs.Certificates.{set-size, seats-rising, entries-laid, entry-seats, entries-of, evidence-elim}
 use Rattle.claims.specs.Parts.{in-below}
 use Rattle.claims.specs.Whole.{reply-stays, hearing-stays, Done, submitted-done, submitted-value, stepped-done}
@@ -155,11 +155,11 @@ module _ (S : Setting) {I : Type 0} (P : Plan I) (z : Splits S P) where
   sender-in : (side : Bool) → In (role (leader side) .seat) (signers side)
   sender-in side = subst (λ b. In (role (leader side) .seat) (signers b)) (z .fits .leads side) (z .fits .signs (leader side))
 
-  kept : (side : Bool) (s : ℕ) → In s (signers side) → Changed checks W s (layout side) (signature side s)
-  kept side s i = record { checked = z .checked side s i; sized = z .sized side s i; worthy = (side, refl, i, refl) }
+  attested : (side : Bool) (s : ℕ) → In s (signers side) → Attested checks W s (layout side) (signature side s)
+  attested side s i = record { checked = z .checked side s i; sized = z .sized side s i; worthy = (side, refl, i, refl) }
 
   certifies : (side : Bool) → Certifies checks W n (certificate S P side)
-  certifies side = record { sized = z .layouts side; below = z .fits .below side; enough = z .fits .enough side; kept = kept side }
+  certifies side = record { sized = z .layouts side; below = z .fits .below side; enough = z .fits .enough side; attested = attested side }
 
   entries : (side : Bool) → Entries checks W n (layout side) (entriesOf n (certificate S P side))
   entries side = entries-of checks W n (certificate S P side) (certifies side)
@@ -212,7 +212,7 @@ module _ (S : Setting) {I : Type 0} (P : Plan I) (z : Splits S P) where
         formed = (short, z .layouts side, entries side .many, entries-laid checks W n (layout side) es (entries side));
         forStep = refl;
         taken = full-taken checks W n round s (layout side) es (inside side s (sender-in side)) (entries side);
-        worthy = entries-signed W (layout side) es (λ e d. entries side .kept e d .worthy);
+        worthy = entries-signed W (layout side) es (λ e d. entries side .attested e d .worthy);
       }
 
   leaders-sent : Each Sent (leaders S P)
@@ -315,14 +315,14 @@ module _ (S : Setting) {I : Type 0} (P : Plan I) (z : Splits S P) where
       next : Ready (t .unit) (t .store)
       next =
           let g = done .leads .grows in
-          let kept = g .said (y .submitted) in
+          let still = g .said (y .submitted) in
           record {
             sound = done .leads .sound;
             settled = done .settled;
             size-is = g .n ∙ y .size-is;
             round-is = g .round ∙ y .round-is;
-            submitted = kept .0;
-            value = kept .1 ∙ y .value;
+            submitted = still .0;
+            value = still .1 ∙ y .value;
             room = rw (done .leads .stored) (y .room);
           }
 
@@ -404,7 +404,7 @@ module _ (S : Setting) {I : Type 0} (P : Plan I) (z : Splits S P) where
         go : (a : ℕ) → (bit a (signers side) ≡ 0) ⊎ In a (signers side) → (bit a (r .own .collected) ≡ 0) ⊎ In a (r .own .collected) → bit a (r .own .collected) ≡ bit a (signers side)
         go a (inl e) (inl h) = omega arith
         go a (inl e) (inr h) =
-            let w = y .sound .own .collection .kept a h .worthy in
+            let w = y .sound .own .collection .attested a h .worthy in
             let own : In a (signers side) = subst (λ b. In a (signers b)) (side-of (w .0) side (sym (w .1) ∙ y .value)) (w .2) in
             omega arith
         go a (inr e) _ = omega (arith, ⊎-elim (λ h. h) (λ d. absurd (List·Memᴰ·not-nil d)) (f a e))
@@ -433,8 +433,8 @@ module _ (S : Setting) {I : Type 0} (P : Plan I) (z : Splits S P) where
         go true e = absurd (omega (arith, start-flag S u (opened i) SUBMIT, worth-true (start-record .own .submitted) e))
         go false e = e
 
-    own-kept : Changed checks W (start-record .seat) (layout side) (signature side (role i .seat))
-    own-kept = subst (λ s. Changed checks W s (layout side) (signature side (role i .seat))) (sym (start-seat S u (opened i))) (kept side (role i .seat) (z .fits .signs i))
+    own-attested : Attested checks W (start-record .seat) (layout side) (signature side (role i .seat))
+    own-attested = subst (λ s. Attested checks W s (layout side) (signature side (role i .seat))) (sym (start-seat S u (opened i))) (attested side (role i .seat) (z .fits .signs i))
 
     start-room : storeLength (start-record .n) ≤ length store
     start-room = rw (start-n S u (opened i)) (z .storeRoom)
@@ -453,8 +453,8 @@ module _ (S : Setting) {I : Type 0} (P : Plan I) (z : Splits S P) where
           };
           first = unsaid;
           sizedValue = z .layouts side;
-          sizedSignature = own-kept .sized;
-          checked = own-kept .checked;
+          sizedSignature = own-attested .sized;
+          checked = own-attested .checked;
         })
 
     abbrev submitted-state : State
@@ -467,8 +467,8 @@ module _ (S : Setting) {I : Type 0} (P : Plan I) (z : Splits S P) where
     submit-ready : Ready (submitted-state .unit) (submitted-state .store)
     submit-ready =
         let sound = start-sound S u (opened i) W in
-        let done = submitted-done checks W (layout side) (signature side (role i .seat)) (start start-record store) sound start-room unsaid (z .layouts side) own-kept in
-        let value = submitted-value checks W (layout side) (signature side (role i .seat)) (start start-record store) sound start-room unsaid (z .layouts side) own-kept in
+        let done = submitted-done checks W (layout side) (signature side (role i .seat)) (start start-record store) sound start-room unsaid (z .layouts side) own-attested in
+        let value = submitted-value checks W (layout side) (signature side (role i .seat)) (start start-record store) sound start-room unsaid (z .layouts side) own-attested in
         record {
           sound = done .leads .sound;
           settled = done .settled;
@@ -537,13 +537,13 @@ module _ (S : Setting) {I : Type 0} (P : Plan I) (z : Splits S P) where
     entries-are es y =
         let xs = map (λ (e : Entry). e .seat) es in
         let signing : Each (λ s. In s (signers side)) xs =
-        each-map (λ s. In s (signers side)) (λ (e : Entry). e .seat) es (λ e d. let w = y .kept e d .worthy in subst (λ b. In (e .seat) (signers b)) (sym (side-of side (w .0) (w .1))) (w .2)) in
+        each-map (λ s. In s (signers side)) (λ (e : Entry). e .seat) es (λ e d. let w = y .attested e d .worthy in subst (λ b. In (e .seat) (signers b)) (sym (side-of side (w .0) (w .1))) (w .2)) in
         let all : setOf xs ≡ signers side =
         sub-same (setOf xs) (signers side) (λ s h. signing s (in-set s xs .0 h)) (set-size xs (y .rise) ∙ length-map es (λ (e : Entry). e .seat) ∙ y .many ∙ sym (z .fits .enough side)) in
         let seats-are : xs ≡ seats n (signers side) =
         rising-same xs (seats n (signers side)) (y .rise) (seats-rising n (signers side)) (λ s d. mem-seats n s (signers side) .1 (inside side s (signing s d), signing s d))
         (λ s d. in-set s xs .0 (subst (In s) (sym all) (mem-seats n s (signers side) .0 d .1))) in
-        sym (entry-is es (λ e d. y .kept e d .worthy)) ∙ ap (map (entryOf (certificate S P side))) seats-are
+        sym (entry-is es (λ e d. y .attested e d .worthy)) ∙ ap (map (entryOf (certificate S P side))) seats-are
 
     full-is : (ρ sender : ℕ) (value : List ℕ) (es : List Entry) → Writes S u (Full ρ sender value es) → Own ρ sender value × (es ≡ entriesOf n (certificate S P side))
     full-is ρ sender value es w =

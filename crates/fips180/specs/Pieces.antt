@@ -1,4 +1,4 @@
--- What the code's pieces compute on the way to a digest.
+-- Values on the code's way to a digest.
 use Prim.Native.Nat.{ℕ, _*_, _/_}
 use mathlib.Core.Bool.{cond}
 use mathlib.Core.List.{List}

@@ -1,4 +1,4 @@
--- The chains of a key, of a signature and of a candidate, and what is hashed to a key.
+-- The chains of a key, of a signature and of a candidate, and the hash input of a key.
 use mathlib.Core.Path.{_≡_, sym, ap, _∙_}
 use mathlib.Core.List.{List, _++_}
 use mathlib.Core.Logic.{_⊎_, ⊎-elim}
@@ -9,14 +9,14 @@ use lib.ListN.{length, take, drop, getD, set, replicate, getD-replicate, length-
 use lib.Seq.{drop-drop}
 use Rattle.octets.specs.Octets.{part, patch, bytes}
 use Rattle.octets.specs.Strings.{joined}
-use Rattle.octets.specs.Laws.{take-patch, take-rest}
+use Rattle.octets.specs.OctetLaws.{take-patch, take-rest}
 use Rattle.octets.specs.StringLaws.{length-joined, joined-same, part-patch, part-joined}
 use Rattle.fips180.specs.Fips.{sha256}
 use Rattle.rfc8554.specs.Ots.{coef, chains, otsLength, candidate, dPblc, chain, start, keyInput, digested, signed, completed}
 use Rattle.rfc8554.specs.OtsLaws.{length-start, length-completed}
 use Rattle.lmots_digits.specs.Pieces.{front}
-use Rattle.lmots_turns.specs.Turns.{Ordered, ended}
-use Rattle.lmots_turns.specs.TurnLaws.{all-set, written-next}
+use Rattle.lmots_batches.specs.Batches.{Ordered, ended}
+use Rattle.lmots_batches.specs.BatchLaws.{all-set, written-next}
 
 -- a signature's values
 pub length-values : (w : ℕ) → otsLength w ≡ 36 + 32 * chains w
@@ -33,9 +33,9 @@ digit-more w xs i x f l h k j a =
     omega arith
 
 -- one more start
-pub starts-turn : (I seed z₀ z x z′ : List ℕ) (q i : ℕ) → z ≡ patch 0 (joined (start I q seed) i) z₀ → bytes x ≡ start I q seed i
+pub starts-next : (I seed z₀ z x z′ : List ℕ) (q i : ℕ) → z ≡ patch 0 (joined (start I q seed) i) z₀ → bytes x ≡ start I q seed i
     → z′ ≡ patch (32 * i) (bytes x) z → z′ ≡ patch 0 (joined (start I q seed) (i + 1)) z₀
-starts-turn I seed z₀ z x z′ q i e k p =
+starts-next I seed z₀ z x z′ q i e k p =
     written-next (start I q seed) i z₀ z (bytes x) z′ (length-joined 32 _ i (λ j _. length-start I q seed j)) e k p
 
 zeros : (i n a : ℕ) → i < n → getD (replicate n a) i 0 ≡ a
@@ -83,12 +83,12 @@ completed-by I S sig places x z r q w n top l e h ls et f p k =
     ∙ ap (take 32) (drop-drop (32 * i) 36 sig)) in
     rw (zeros i 67 top (omega arith), f i a, et) (ap (chain I q i (coef w S i) (2 ^ w - 1 - coef w S i)) slot))
 
--- ---- what is hashed to a key
+-- ---- the hash input of a key
 
 pub front-taken : (n : ℕ) (ws zs a : List ℕ) → length ws ≡ n → a ≡ patch 0 ws zs → take n a ≡ ws
 front-taken n ws zs a l e = let k : n ≡ 0 + length ws = omega arith in rw (e, k) (take-patch 0 ws zs (omega arith))
 
-pub key-by : (I ends a b r : List ℕ) (q n : ℕ) → 22 ≤ length a → take 22 a ≡ front I q dPblc → n ≡ 22 + length ends → b ≡ patch 22 ends a
+key-by : (I ends a b r : List ℕ) (q n : ℕ) → 22 ≤ length a → take 22 a ≡ front I q dPblc → n ≡ 22 + length ends → b ≡ patch 22 ends a
     → r ≡ sha256 (take n b) → r ≡ sha256 (keyInput I q ends)
 unfolding keyInput front
 key-by I ends a b r q n h e l p k =
@@ -105,11 +105,11 @@ unfolding chains
 some-chains w h = ⊎-elim (λ e. rw e (omega arith)) (λ e. rw e (omega arith)) h
 
 -- a signature of width w has room for the value of chain i
-pub value-place : (w i n : ℕ) → n ≡ otsLength w → i < chains w → 36 + 32 * i + 32 ≤ n
+value-place : (w i n : ℕ) → n ≡ otsLength w → i < chains w → 36 + 32 * i + 32 ≤ n
 unfolding otsLength
 value-place w i n e h = omega arith
 
-pub length-ends : (I S sig : List ℕ) (q w n : ℕ) → length sig ≡ otsLength w → n ≤ chains w → length (joined (completed I q w S sig) n) ≡ 32 * n
+length-ends : (I S sig : List ℕ) (q w n : ℕ) → length sig ≡ otsLength w → n ≤ chains w → length (joined (completed I q w S sig) n) ≡ 32 * n
 length-ends I S sig q w n l h = length-joined 32 _ n (λ i k. length-completed I q w S sig i (omega (arith, value-place w i (length sig) l (omega arith))))
 
 pub key-completed : (I message sig S a b r : List ℕ) (q w m : ℕ) → length sig ≡ otsLength w → S ≡ digested I q w (part 4 32 sig) message → 22 ≤ length a

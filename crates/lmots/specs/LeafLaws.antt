@@ -1,34 +1,31 @@
--- Sixteen leaves, one in each lane: every string comes to be what is hashed to its leaf's key.
+-- Sixteen leaves, one in each column: every string comes to be the hash input of its leaf's key.
 use mathlib.Core.Path.{_≡_, refl, sym, ap, ap₂, _∙_}
-use mathlib.Core.Logic.{⊎-elim}
 use mathlib.Core.List.{List, _++_, append-assoc, append-nil}
 use Prim.Native.Nat.{ℕ, _+_, _*_, _≤_, _<_}
-use native.Mathlib.Nat.{eq-or-lt-of-le}
 use native.Mathlib.Numerals.{add-one}
 use native.Mathlib.Omega.{arith}
 use lib.ListN.{length, getD, replicate, getD-replicate}
 use Rattle.octets.specs.Octets.{part, patch, bytes}
-use Rattle.octets.specs.Laws.{length-patch, length-bytes}
+use Rattle.octets.specs.OctetLaws.{length-patch, length-bytes}
 use Rattle.octets.specs.Strings.{joined}
 use Rattle.octets.specs.StringLaws.{length-joined, joined-same}
 use Rattle.octets.specs.WriteLaws.{part-add, part-own, part-before, part-after, patch-whole}
 use Rattle.fips180.specs.Fips.{sha256}
-use Rattle.fips180.specs.Laws.{length-sha256}
+use Rattle.fips180.specs.FipsLaws.{length-sha256}
 use Rattle.sha256_lanes.specs.Rows.{column}
+use Rattle.sha256_lanes.specs.RowLaws.{one-more}
 use Rattle.rfc8554.specs.Ots.{H, chainInput, chain, start, keyInput, chainEnd, chains, otsKey, dPblc}
 use Rattle.lmots.specs.Leaves.{string, Put}
 use Rattle.lmots_digits.specs.Pieces.{front}
 use Rattle.lmots_chains.specs.Sixteen.{Walked}
-use Rattle.lmots_turns.specs.TurnLaws.{written-next}
+use Rattle.lmots_batches.specs.BatchLaws.{written-next}
 
--- ---- lanes
+-- ---- columns
 
--- one more lane with the value y
-pub filled-turn : (v v₁ y : List ℕ) (l : ℕ) → ((j : ℕ) → j < l → column j 8 v ≡ y) → column l 8 v₁ ≡ y → ((j : ℕ) → j < l → column j 8 v₁ ≡ column j 8 v)
+-- one more column with the value y
+pub filled-next : (v v₁ y : List ℕ) (l : ℕ) → ((j : ℕ) → j < l → column j 8 v ≡ y) → column l 8 v₁ ≡ y → ((j : ℕ) → j < l → column j 8 v₁ ≡ column j 8 v)
     → (j : ℕ) → j < l + 1 → column j 8 v₁ ≡ y
-filled-turn v v₁ y l f e g j a =
-    let fits : j ≤ l = omega arith in
-    ⊎-elim (λ i. rw i e) (λ b. g j b ∙ f j b) (eq-or-lt-of-le fits)
+filled-next v v₁ y l f e g = one-more (λ j. column j 8 v₁ ≡ y) l (λ j b. g j b ∙ f j b) e
 
 -- the step over the seed and 255 more
 pub ended-by : (id leaves seed : List ℕ) (i : ℕ) (v v₁ v₂ : List ℕ) → i < 34 → ((l : ℕ) → l < 16 → column l 8 v ≡ seed)
@@ -65,32 +62,27 @@ module _ (n i : ℕ) (v z z₁ y z₂ : List ℕ) (hn : n < 16) (hi : i < 34) (l
       ∙ rw (p, here) (part-more (1110 * n) (22 + 32 * i) (bytes y) z₁ (omega (arith, f .long)))
       ∙ ap₂ (λ (a b : List ℕ). a ++ b) (f .old n (omega arith) hn) (ap bytes e)
 
-  pub put-turn : Put (n + 1) i v z z₂
-  put-turn =
+  pub put-next : Put (n + 1) i v z z₂
+  put-next =
       let at = 1110 * n + 32 * i + 22 in
       record {
         long = ap length p ∙ length-patch at (bytes y) z₁ (omega (arith, wide, f .long)) ∙ f .long;
         new =
-            λ l a.
-            let fits : l ≤ n = omega arith in
-            ⊎-elim
-            (λ b. rw b put-own)
-            (λ b. rw p (part-before (1110 * l) (22 + 32 * i + 32) at (bytes y) z₁ (omega arith) (omega (arith, f .long))) ∙ f .new l b)
-            (eq-or-lt-of-le fits);
+            one-more (λ l. part (1110 * l) (22 + 32 * i + 32) z₂ ≡ part (1110 * l) (22 + 32 * i) z ++ bytes (column l 8 v)) n
+            (λ l b. rw p (part-before (1110 * l) (22 + 32 * i + 32) at (bytes y) z₁ (omega arith) (omega (arith, f .long))) ∙ f .new l b)
+            put-own;
         old =
             λ l a b.
             rw p (part-after (1110 * l) (22 + 32 * i) at (bytes y) z₁ (omega (arith, wide)) (omega (arith, f .long))) ∙ f .old l (omega arith) b;
       }
 
-pub fronts-turn : (I leaves z x z₁ : List ℕ) (l : ℕ) → l < 16 → length z ≡ 17760 → length x ≡ 22 → x ≡ front I (getD leaves l 0) dPblc → z₁ ≡ patch (1110 * l) x z
+pub fronts-next : (I leaves z x z₁ : List ℕ) (l : ℕ) → l < 16 → length z ≡ 17760 → length x ≡ 22 → x ≡ front I (getD leaves l 0) dPblc → z₁ ≡ patch (1110 * l) x z
     → ((j : ℕ) → j < l → part (1110 * j) 22 z ≡ front I (getD leaves j 0) dPblc)
     → (j : ℕ) → j < l + 1 → part (1110 * j) 22 z₁ ≡ front I (getD leaves j 0) dPblc
-fronts-turn I leaves z x z₁ l h lz lx e p f j a =
-    let fits : j ≤ l = omega arith in
-    ⊎-elim
-    (λ i. rw i (rw p (part-own (1110 * l) 22 x z (omega arith) lx) ∙ e))
-    (λ b. rw p (part-before (1110 * j) 22 (1110 * l) x z (omega arith) (omega arith)) ∙ f j b)
-    (eq-or-lt-of-le fits)
+fronts-next I leaves z x z₁ l h lz lx e p f =
+    one-more (λ j. part (1110 * j) 22 z₁ ≡ front I (getD leaves j 0) dPblc) l
+    (λ j b. rw p (part-before (1110 * j) 22 (1110 * l) x z (omega arith) (omega arith)) ∙ f j b)
+    (rw p (part-own (1110 * l) 22 x z (omega arith) lx) ∙ e)
 
 -- the strings, up to the end of n chains
 unfoldable pub Strings : List ℕ → List ℕ → List ℕ → ℕ → List ℕ → Type 0
@@ -100,10 +92,10 @@ pub strings-none : (I leaves seed z : List ℕ) → ((l : ℕ) → l < 16 → pa
 unfolding Strings string keyInput front joined
 strings-none I leaves seed z f l h = f l h ∙ sym (append-nil _)
 
-pub strings-turn : (I leaves seed : List ℕ) (i : ℕ) (v z z₁ : List ℕ) → ((l : ℕ) → l < 16 → bytes (column l 8 v) ≡ chainEnd I (getD leaves l 0) 8 seed i)
+pub strings-next : (I leaves seed : List ℕ) (i : ℕ) (v z z₁ : List ℕ) → ((l : ℕ) → l < 16 → bytes (column l 8 v) ≡ chainEnd I (getD leaves l 0) 8 seed i)
     → Put 16 i v z z₁ → Strings I leaves seed i z → Strings I leaves seed (i + 1) z₁
 unfolding Strings string keyInput front joined
-strings-turn I leaves seed i v z z₁ ended put f l h =
+strings-next I leaves seed i v z z₁ ended put f l h =
     let q = getD leaves l 0 in
     let ends = chainEnd I q 8 seed in
     let wide : 22 + 32 * (i + 1) ≡ 22 + 32 * i + 32 = omega arith in
@@ -125,10 +117,10 @@ length-hashes : (z : List ℕ) (l : ℕ) → length (joined (hash z) l) ≡ 32 *
 unfolding hash
 length-hashes z l = length-joined 32 (hash z) l (λ i h. length-sha256 _)
 
-pub keys-turn : (z out₀ out key new : List ℕ) (l : ℕ) → key ≡ sha256 (part (1110 * l) 1110 z) → out ≡ patch 0 (joined (hash z) l) out₀
+pub keys-next : (z out₀ out key new : List ℕ) (l : ℕ) → key ≡ sha256 (part (1110 * l) 1110 z) → out ≡ patch 0 (joined (hash z) l) out₀
     → new ≡ patch (32 * l) key out → new ≡ patch 0 (joined (hash z) (l + 1)) out₀
 unfolding hash
-keys-turn z out₀ out key new l k p r = written-next (hash z) l out₀ out key new (length-hashes z l) p k r
+keys-next z out₀ out key new l k p r = written-next (hash z) l out₀ out key new (length-hashes z l) p k r
 
 pub keys-done : (I seed leaves z out₀ out : List ℕ) (q l : ℕ) → l ≡ 16 → length out₀ ≡ 512 → ((j : ℕ) → j < 16 → getD leaves j 0 ≡ q + j)
     → ((j : ℕ) → j < 16 → part (1110 * j) 1110 z ≡ string I (getD leaves j 0) seed 34) → out ≡ patch 0 (joined (hash z) l) out₀

@@ -1,5 +1,4 @@
--- What the code of LM-OTS's keys and leaves computes on the way (`Leaves`), and the laws that its proofs cite. The definitions of
--- LM-OTS are in rfc8554's `Ots`.
+-- Keys and leaves of LM-OTS: values on the code's way (`Leaves`), and laws. The definitions of LM-OTS are in rfc8554's `Ots`.
 pub mod KeyLaws
 pub mod Leaves
 pub mod LeafLaws

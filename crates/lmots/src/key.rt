@@ -9,13 +9,13 @@ ghost use Rattle.fips180.specs.Constants.{constants};
 ghost use Rattle.rfc8554.specs.Ots.{dPblc};
 ghost use Rattle.rfc8554.specs.Ots as Ots;
 ghost use Rattle.lmots_digits.specs.Pieces as Pieces;
+use lmots_batches::run;
 use lmots_chains::chain::start;
 use lmots_digits::digits::coef;
 use lmots_digits::digits::front;
 use lmots_digits::digits::message_digits;
 use lmots_digits::digits::most;
 use lmots_digits::words::put_eight;
-use lmots_turns::run;
 
 // How many chains a key of width w has.
 fn count(w: u32) -> usize
@@ -54,7 +54,7 @@ fn write_starts(k: &[u32; 64], id: [u32; 4], q: u32, seed: [u32; 8], z: &mut [u8
     }
 }
 
-// The values of a signature of width 8: each chain from its start as many steps as its digit says.
+// The values of a signature of width 8: each chain from its start as many steps as its digit says. Scratch: the bytes from 1,088 on.
 fn signed(k: &[u32; 64], id: [u32; 4], q: u32, seed: [u32; 8], digits: &[u8]) -> [u8; 2144]
     requires { ⌜ (now k ≡ constants) × (length (now digits) ≡ 34) ⌝ }
     ensures { λ r. ⌜ take 1088 r ≡ joined (Ots.signed (bytes id) q 8 (bytes seed) (now (digits .entry))) 34 ⌝ }
@@ -83,7 +83,7 @@ pub fn write_signed(
     octets::copy(out, at, &z[..1088]);
 }
 
-// The ends of n chains, from the values of a signature, at the places that the digits say.
+// The ends of n chains, from the values of a signature, at the places that the digits say. Scratch: the bytes after them.
 fn completed(
     k: &[u32; 64],
     id: [u32; 4],
@@ -124,7 +124,7 @@ fn write_completed(
     octets::copy(out, at, &z[..end]);
 }
 
-// A buffer for what is hashed to a key of either width, with its front.
+// A buffer for the hash input of a key of either width, with its front. Scratch: the bytes after it.
 fn key_buffer(id: [u32; 4], q: u32) -> [u8; 2166]
     ensures { λ r. ⌜ take 22 r ≡ Pieces.front (bytes id) q dPblc ⌝ }
 {

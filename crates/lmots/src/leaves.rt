@@ -1,7 +1,6 @@
-// The keys of sixteen leaves side by side (RFC 8554, section 4.3): each lane has a leaf of its own, and all go through the same
-// chain together. What is hashed to the keys stands in sixteen strings of 1,110 bytes, one after the other in z.
+// The keys of sixteen leaves side by side (RFC 8554, section 4.3): each column has a leaf of its own, and all go through the same
+// chain together. The hash inputs of the keys stand in sixteen strings of 1,110 bytes, one after the other in z.
 ghost use mathlib.Core.Path.{_≡_};
-ghost use mathlib.Core.List.{_++_};
 ghost use Prim.Native.Nat.{ℕ, _+_, _*_, _<_, _≤_};
 ghost use lib.ListN.{length, getD};
 ghost use Rattle.octets.specs.Octets.{part, bytes};
@@ -13,25 +12,25 @@ ghost use Rattle.rfc8554.specs.Ots.{dPblc};
 ghost use Rattle.rfc8554.specs.Ots as Ots;
 ghost use Rattle.lmots_digits.specs.Pieces as Pieces;
 ghost use Rattle.lmots.specs.Leaves.{Put, string};
+use lmots_batches::column;
+use lmots_batches::put_column;
 use lmots_chains::sixteen::steps;
 use lmots_digits::digits::front;
 use lmots_digits::words::put_eight;
-use lmots_turns::lane;
-use lmots_turns::put_lane;
 
-// One value in every lane.
+// One value in every column.
 fn put_all(y: [u32; 8], v: &mut [u32; 128])
     requires { ⌜ length (now v) ≡ 128 ⌝ }
     ensures { λ _. ⌜ (length (now (v .exit)) ≡ 128) × ((l : ℕ) → l < 16 → column l 8 (now (v .exit)) ≡ y) ⌝ }
 {
     let mut l = 0;
     while l < 16 {
-        put_lane(v, l, y);
+        put_column(v, l, y);
         l += 1;
     }
 }
 
-// The end of chain i in every lane. The chain's start is a step too, from the seed and at place 255.
+// The end of chain i in every column. The chain's start is a step too, from the seed and at place 255.
 fn chain_ends(
     k: &[u32; 64],
     id: [u32; 4],
@@ -56,13 +55,13 @@ fn put_ends(v: &[u32; 128], i: usize, z: &mut [u8])
 {
     let mut l = 0;
     while l < 16 {
-        let y = lane(v, l);
+        let y = column(v, l);
         put_eight(z, 1110 * l + 32 * i + 22, y);
         l += 1;
     }
 }
 
-// Writes what the strings begin with.
+// Writes what the strings begin with. Scratch: the rest of each string.
 fn put_fronts(id: [u32; 4], leaves: [u32; 16], z: &mut [u8])
     requires { ⌜ length (now z) ≡ 17760 ⌝ }
     ensures { λ _. ⌜ (length (now (z .exit)) ≡ 17760) × ((l : ℕ) → l < 16 → part (1110 * l) 22 (now (z .exit)) ≡ Pieces.front (bytes id) (getD leaves l 0) dPblc) ⌝ }

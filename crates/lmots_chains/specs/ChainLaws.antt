@@ -7,11 +7,11 @@ use native.Mathlib.Omega.{arith}
 use lib.ListN.{length, getD}
 use lib.Seq.{take-all}
 use Rattle.octets.specs.Octets.{be, words, bytes}
-use Rattle.octets.specs.Laws.{as-four, as-eight, be-four, length-bytes, bytes-append}
+use Rattle.octets.specs.OctetLaws.{as-four, as-eight, be-four, length-bytes, bytes-append}
 use Rattle.fips180.specs.Constants.{initial}
 use Rattle.fips180.specs.Fips.{compress, pad, sha256}
 use Rattle.fips180.specs.Pieces.{oneBlock}
-use Rattle.fips180.specs.Laws.{one-block, pad-55}
+use Rattle.fips180.specs.FipsLaws.{one-block, pad-55}
 use Rattle.rfc8554.specs.Ots.{chainInput, chain}
 use Rattle.rfc8554.specs.OtsLaws.{length-chainInput}
 use Rattle.lmots_chains.specs.Pieces.{across}
@@ -105,7 +105,7 @@ compressed m h r x l b e p q =
 
 -- ---- chains
 
-pub chain-turn : (I tmp h r : List ℕ) (q i from t : ℕ) → bytes h ≡ chain I q i from t tmp
+pub chain-next : (I tmp h r : List ℕ) (q i from t : ℕ) → bytes h ≡ chain I q i from t tmp
     → bytes r ≡ sha256 (chainInput I q i (from + t) (bytes h)) → bytes r ≡ chain I q i from (t + 1) tmp
 unfolding chain
-chain-turn I tmp h r q i from t e p = rw (add-one, ← e) p
+chain-next I tmp h r q i from t e p = rw (add-one, ← e) p

@@ -1,4 +1,4 @@
--- What the code of the chains computes on the way (`Pieces`, and `Sixteen` of sixteen side by side), and the laws that its proofs cite.
+-- Chains: values on the code's way (`Pieces`, and `Sixteen` of sixteen side by side), and laws.
 pub mod Pieces
 pub mod WordLaws
 pub mod ChainLaws

@@ -1,4 +1,4 @@
--- What the code's pieces compute.
+-- Values on the code's way.
 use Prim.Native.Nat.{ℕ, _+_, _*_, _/_, _%_}
 
 -- the word of a word's last three bytes and the next one's first

@@ -7,35 +7,34 @@ use lib.ListN.{length, getD}
 use Rattle.octets.specs.Octets.{bytes}
 use Rattle.fips180.specs.Constants.{initial}
 use Rattle.sha256_lanes.specs.Rows.{column, Common}
+use Rattle.sha256_lanes.specs.RowLaws.{Two}
 use Rattle.rfc8554.specs.Ots.{H, chain, chainInput}
 use Rattle.lmots_chains.specs.Pieces.{across}
 
--- words 6 to 12 of the blocks z, of which n are written, for the values v; the others are those of w
-pub record Slid (n : ℕ) (v w z : List ℕ) : Type 0 where
+-- n words of the blocks z from index p on are f's; the words before p and from q on are those of w
+pub record Filled (p q : ℕ) (f : ℕ → ℕ) (n : ℕ) (w z : List ℕ) : Type 0 where
   pub long : length z ≡ 1024
-  pub new : (i : ℕ) → i < n → getD z (i + 96) 0 ≡ across (getD v i 0) (getD v (i + 16) 0)
-  pub old : (i : ℕ) → (i < 96) ⊎ (208 ≤ i) → getD z i 0 ≡ getD w i 0
+  pub new : (i : ℕ) → i < n → getD z (p + i) 0 ≡ f i
+  pub old : (i : ℕ) → (i < p) ⊎ (q ≤ i) → getD z i 0 ≡ getD w i 0
 
--- words 5 and 13 of the blocks z, of which those of n lanes are written, for the places and values; the others are those of w
-pub record Placed (n : ℕ) (places : List ℕ) (t : ℕ) (v w z : List ℕ) : Type 0 where
-  pub long : length z ≡ 1024
-  pub fifth : (l : ℕ) → l < n → getD z (l + 80) 0 ≡ getD places l 0 + 256 * t + getD v l 0 / 16777216 % 256
-  pub last : (l : ℕ) → l < n → getD z (l + 208) 0 ≡ getD v (l + 112) 0 % 16777216 * 256 + 128
-  pub low : (i : ℕ) → i < 80 → getD z i 0 ≡ getD w i 0
-  pub high : (i : ℕ) → 224 ≤ i → getD z i 0 ≡ getD w i 0
+-- words 6 to 12, for the values v
+abbrev pub Slid : ℕ → List ℕ → List ℕ → List ℕ → Type 0
+Slid n v w z = Filled 96 208 (λ i. across (getD v i 0) (getD v (i + 16) 0)) n w z
 
--- word 4 of the blocks z, of which those of n lanes are written, for the leaves' numbers; the others are those of w
-pub record Numbered (n : ℕ) (leaves w z : List ℕ) : Type 0 where
-  pub long : length z ≡ 1024
-  pub new : (l : ℕ) → l < n → getD z (l + 64) 0 ≡ getD leaves l 0
-  pub low : (i : ℕ) → i < 64 → getD z i 0 ≡ getD w i 0
-  pub high : (i : ℕ) → 80 ≤ i → getD z i 0 ≡ getD w i 0
+-- word 4, for the leaves' numbers
+abbrev pub Numbered : ℕ → List ℕ → List ℕ → List ℕ → Type 0
+Numbered n leaves w z = Filled 64 80 (λ l. getD leaves l 0) n w z
+
+-- words 5 and 13, for the places and values
+abbrev pub Placed : ℕ → List ℕ → ℕ → List ℕ → List ℕ → List ℕ → Type 0
+Placed n places t v w z =
+    Two 80 208 16 (λ l. getD places l 0 + 256 * t + getD v l 0 / 16777216 % 256) (λ l. getD v (l + 112) 0 % 16777216 * 256 + 128) n w z
 
 -- the first five words of a leaf's blocks
 unfoldable pub five : List ℕ → ℕ → List ℕ
 five id q = getD id 0 0 ∷ getD id 1 0 ∷ getD id 2 0 ∷ getD id 3 0 ∷ q ∷ []
 
--- blocks of the lanes' leaves, and what is made for them
+-- blocks of the lanes' leaves, with their common start
 pub record Ready (id leaves w x s : List ℕ) : Type 0 where
   pub long : length id ≡ 4
   pub words : (i : ℕ) → getD id i 0 < 4294967296

@@ -10,60 +10,25 @@ use Rattle.octets.specs.Octets.{bytes}
 use Rattle.fips180.specs.Constants.{initial}
 use Rattle.fips180.specs.Fips.{compress, pad, sha256}
 use Rattle.sha256_lanes.specs.Rows.{column, Same, Alike, Common, Compressed}
-use Rattle.sha256_lanes.specs.Laws.{below, above, there, length-column, getD-column, common-alike}
+use Rattle.sha256_lanes.specs.RowLaws.{below, above, fill-next, length-column, getD-column, common-alike}
 use Rattle.rfc8554.specs.Ots.{chain, chainInput}
-use Rattle.lmots_chains.specs.ChainLaws.{prepared, compressed, chain-turn}
+use Rattle.lmots_chains.specs.ChainLaws.{prepared, compressed, chain-next}
 use Rattle.lmots_chains.specs.Pieces.{across}
-use Rattle.lmots_chains.specs.Sixteen.{Slid, Placed, Numbered, five, Ready, Stepped, Walked, AllWalked}
+use Rattle.lmots_chains.specs.Sixteen.{Filled, Slid, Placed, Numbered, five, Ready, Stepped, Walked, AllWalked}
 
 -- ---- the loops that write the blocks
 
-pub slid-none : (v w : List ℕ) → length w ≡ 1024 → Slid 0 v w w
-slid-none v w l = record { long = l; new = λ i h. absurd (omega arith); old = λ i h. refl }
+pub filled-none : (p q : ℕ) (f : ℕ → ℕ) (w : List ℕ) → length w ≡ 1024 → Filled p q f 0 w w
+filled-none p q f w l = record { long = l; new = λ i h. absurd (omega arith); old = λ i h. refl }
 
-pub slid-turn : (n : ℕ) (v w z : List ℕ) (x : ℕ) → n < 112 → x ≡ across (getD v n 0) (getD v (n + 16) 0) → Slid n v w z → Slid (n + 1) v w (set z (n + 96) x)
-slid-turn n v w z x h p f =
+pub filled-next : (p q : ℕ) (f : ℕ → ℕ) (n : ℕ) (w z : List ℕ) (a x : ℕ) → a ≡ p + n → a < q → q ≤ 1024 → x ≡ f n
+    → Filled p q f n w z → Filled p q f (n + 1) w (set z a x)
+filled-next p q f n w z a x e h k ex t =
+    let lz : length z ≡ 1024 = t .long in
     record {
-      long = simp length-set (f .long);
-      new =
-          λ i k.
-          let fits : i ≤ n = omega arith in
-          ⊎-elim
-          (λ e. rw e (there z (n + 96) (n + 96) x refl (omega (arith, f .long)) ∙ p))
-          (λ a. below z (n + 96) (i + 96) x (omega arith) ∙ f .new i a)
-          (eq-or-lt-of-le fits);
-      old = λ i k. ⊎-elim (λ a. below z (n + 96) i x (omega arith)) (λ a. above z (n + 96) i x (omega arith)) k ∙ f .old i k;
-    }
-
-pub placed-none : (places : List ℕ) (t : ℕ) (v w : List ℕ) → length w ≡ 1024 → Placed 0 places t v w w
-placed-none places t v w l =
-    record { long = l; fifth = λ i h. absurd (omega arith); last = λ i h. absurd (omega arith); low = λ i h. refl; high = λ i h. refl }
-
-pub placed-turn : (n : ℕ) (places : List ℕ) (t : ℕ) (v w z : List ℕ) (x y : ℕ) → n < 16
-    → x ≡ getD places n 0 + 256 * t + getD v n 0 / 16777216 % 256 → y ≡ getD v (n + 112) 0 % 16777216 * 256 + 128
-    → Placed n places t v w z → Placed (n + 1) places t v w (set (set z (n + 80) x) (n + 208) y)
-placed-turn n places t v w z x y h p q f =
-    let u = set z (n + 80) x in
-    let lu : length u ≡ 1024 = simp length-set (f .long) in
-    record {
-      long = simp length-set (f .long);
-      fifth =
-          λ i k.
-          let fits : i ≤ n = omega arith in
-          below u (n + 208) (i + 80) y (omega arith)
-          ∙ ⊎-elim
-          (λ e. rw e (there z (n + 80) (n + 80) x refl (omega (arith, f .long)) ∙ p))
-          (λ a. below z (n + 80) (i + 80) x (omega arith) ∙ f .fifth i a)
-          (eq-or-lt-of-le fits);
-      last =
-          λ i k.
-          let fits : i ≤ n = omega arith in
-          ⊎-elim
-          (λ e. rw e (there u (n + 208) (n + 208) y refl (omega arith) ∙ q))
-          (λ a. below u (n + 208) (i + 208) y (omega arith) ∙ above z (n + 80) (i + 208) x (omega arith) ∙ f .last i a)
-          (eq-or-lt-of-le fits);
-      low = λ i k. below u (n + 208) i y (omega arith) ∙ below z (n + 80) i x (omega arith) ∙ f .low i k;
-      high = λ i k. above u (n + 208) i y (omega arith) ∙ above z (n + 80) i x (omega arith) ∙ f .high i k;
+      long = simp length-set lz;
+      new = fill-next (λ i. p + i) f z n a x e (λ i d. omega arith) (omega arith) ex (t .new);
+      old = λ i d. ⊎-elim (λ b. below z a i x (omega arith)) (λ b. above z a i x (omega arith)) d ∙ t .old i d;
     }
 
 -- ---- one lane's block
@@ -108,17 +73,17 @@ module _ (id leaves places : List ℕ) (t : ℕ) (w x s v y z : List ℕ) (ready
 
   place-word : getD z (80 + l) 0 ≡ getD places l 0 + 256 * t + getD (column l 8 v) 0 0 / 16777216 % 256
   place-word =
-      slid .old (80 + l) (inl (omega arith)) ∙ at y (80 + l) (l + 80) (omega arith) ∙ placed .fifth l hl
+      slid .old (80 + l) (inl (omega arith)) ∙ placed .first l hl
       ∙ ap (λ (x : ℕ). getD places l 0 + 256 * t + x / 16777216 % 256) (at v l (0 + l) (omega arith) ∙ sym (value 0 (omega arith)))
 
   value-word : (r n : ℕ) → r < 7 → n ≡ 16 * r + 96 → getD z (n + l) 0 ≡ across (getD (column l 8 v) r 0) (getD (column l 8 v) (r + 1) 0)
   value-word r n h e =
-      at z (n + l) (16 * r + l + 96) (omega arith) ∙ slid .new (16 * r + l) (omega arith)
+      at z (n + l) (96 + (16 * r + l)) (omega arith) ∙ slid .new (16 * r + l) (omega arith)
       ∙ rw (value r (omega arith), value (r + 1) (omega arith), at v (16 * r + l + 16) (16 * (r + 1) + l) (omega arith))
 
   last-word : getD z (208 + l) 0 ≡ getD (column l 8 v) 7 0 % 16777216 * 256 + 128
   last-word =
-      slid .old (208 + l) (inr (omega arith)) ∙ at y (208 + l) (l + 208) (omega arith) ∙ placed .last l hl
+      slid .old (208 + l) (inr (omega arith)) ∙ placed .second l hl
       ∙ ap (λ (x : ℕ). x % 16777216 * 256 + 128) (at v (l + 112) (112 + l) (omega arith) ∙ sym (value 7 (omega arith)))
 
   zero-word : getD z (224 + l) 0 ≡ 0
@@ -230,9 +195,9 @@ stepped-by places t w x s v y z w′ s′ v′ placed slid same done id leaves r
       (after id leaves places t w x s v y z w′ s′ v′ placed slid same done ready .1 l hl),
 )
 
--- ---- what is made once
+-- ---- made once
 
--- what the lanes' blocks hold before the leaves' numbers are written
+-- the lanes' blocks before the leaves' numbers are written
 unfoldable pub unnumbered : List ℕ → List ℕ
 unnumbered id = getD id 0 0 ∷ getD id 1 0 ∷ getD id 2 0 ∷ getD id 3 0 ∷ 0 ∷ 0 ∷ 0 ∷ 0 ∷ 0 ∷ 0 ∷ 0 ∷ 0 ∷ 0 ∷ 0 ∷ 0 ∷ 440 ∷ []
 
@@ -248,24 +213,6 @@ fifth-word : (id : List ℕ) (q : ℕ) → getD (five id q) 4 0 ≡ q
 unfolding five
 fifth-word id q = refl
 
-pub numbered-none : (leaves w : List ℕ) → length w ≡ 1024 → Numbered 0 leaves w w
-numbered-none leaves w l = record { long = l; new = λ i h. absurd (omega arith); low = λ i h. refl; high = λ i h. refl }
-
-pub numbered-turn : (n : ℕ) (leaves w z : List ℕ) (x : ℕ) → n < 16 → x ≡ getD leaves n 0 → Numbered n leaves w z → Numbered (n + 1) leaves w (set z (n + 64) x)
-numbered-turn n leaves w z x h p f =
-    record {
-      long = simp length-set (f .long);
-      new =
-          λ i k.
-          let fits : i ≤ n = omega arith in
-          ⊎-elim
-          (λ e. rw e (there z (n + 64) (n + 64) x refl (omega (arith, f .long)) ∙ p))
-          (λ a. below z (n + 64) (i + 64) x (omega arith) ∙ f .new i a)
-          (eq-or-lt-of-le fits);
-      low = λ i k. below z (n + 64) i x (omega arith) ∙ f .low i k;
-      high = λ i k. above z (n + 64) i x (omega arith) ∙ f .high i k;
-    }
-
 module _ (id leaves m w₀ w : List ℕ) (e : m ≡ unnumbered id) (f : (l : ℕ) → l < 16 → column l 16 w₀ ≡ m) (n : Numbered 16 leaves w₀ w) where
   spread-word : (l n : ℕ) → l < 16 → n < 16 → getD w₀ (16 * n + l) 0 ≡ getD (unnumbered id) n 0
   spread-word l n h k = sym (getD-column l 16 w₀ n k) ∙ ap (λ (c : List ℕ). getD c n 0) (f l h ∙ e)
@@ -273,17 +220,17 @@ module _ (id leaves m w₀ w : List ℕ) (e : m ≡ unnumbered id) (f : (l : ℕ
   five-word : (l r : ℕ) → l < 16 → r < 5 → getD w (16 * r + l) 0 ≡ getD (five id (getD leaves l 0)) r 0
   five-word l r h k =
       let fits : r ≤ 4 = omega arith in
-      let fourth : 16 * 4 + l ≡ l + 64 = omega arith in
+      let fourth : 16 * 4 + l ≡ 64 + l = omega arith in
       ⊎-elim
       (λ a.
       rw a (ap (λ (i : ℕ). getD w i 0) fourth ∙ n .new l h ∙ sym (fifth-word id (getD leaves l 0))))
-      (λ a. n .low (16 * r + l) (omega arith) ∙ spread-word l r h (omega arith) ∙ four-first id (getD leaves l 0) r a)
+      (λ a. n .old (16 * r + l) (inl (omega arith)) ∙ spread-word l r h (omega arith) ∙ four-first id (getD leaves l 0) r a)
       (eq-or-lt-of-le fits)
 
   -- where the places will be
   pub no-place : (l : ℕ) → l < 16 → getD w (80 + l) 0 ≡ 0
   unfolding unnumbered
-  no-place l h = n .high (80 + l) (omega arith) ∙ spread-word l 5 h (omega arith)
+  no-place l h = n .old (80 + l) (inr (omega arith)) ∙ spread-word l 5 h (omega arith)
 
   pub ready-by : (x s : List ℕ) → length id ≡ 4 → ((i : ℕ) → getD id i 0 < 4294967296) → ((l : ℕ) → getD leaves l 0 < 4294967296) → Common initial w x s
       → Ready id leaves w x s
@@ -294,25 +241,25 @@ module _ (id leaves m w₀ w : List ℕ) (e : m ≡ unnumbered id) (f : (l : ℕ
         words = bi;
         numbers = bl;
         front = five-word;
-        zero = λ l h. n .high (224 + l) (omega arith) ∙ spread-word l 14 h (omega arith);
-        bits = λ l h. n .high (240 + l) (omega arith) ∙ spread-word l 15 h (omega arith);
+        zero = λ l h. n .old (224 + l) (inr (omega arith)) ∙ spread-word l 14 h (omega arith);
+        bits = λ l h. n .old (240 + l) (inr (omega arith)) ∙ spread-word l 15 h (omega arith);
         common = c;
       }
 
 -- ---- chains
 
-pub walked-none : (id leaves places v : List ℕ) → Walked id leaves places 0 v v
+walked-none : (id leaves places v : List ℕ) → Walked id leaves places 0 v v
 unfolding Walked chain
 walked-none id leaves places v l i j hl hi hj e = refl
 
-pub walked-turn : (id leaves places : List ℕ) (t : ℕ) (w x s v₀ v w′ s′ v′ : List ℕ) → Ready id leaves w x s → Stepped places t w x s v w′ s′ v′
+walked-next : (id leaves places : List ℕ) (t : ℕ) (w x s v₀ v w′ s′ v′ : List ℕ) → Ready id leaves w x s → Stepped places t w x s v w′ s′ v′
     → Walked id leaves places t v₀ v → Walked id leaves places (t + 1) v₀ v′
 unfolding Walked Stepped
-walked-turn id leaves places t w x s v₀ v w′ s′ v′ ready stepped f l i j hl hi hj e =
-    chain-turn (bytes id) (bytes (column l 8 v₀)) (column l 8 v) (column l 8 v′) (getD leaves l 0) i j t (f l i j hl hi (omega arith) e)
+walked-next id leaves places t w x s v₀ v w′ s′ v′ ready stepped f l i j hl hi hj e =
+    chain-next (bytes id) (bytes (column l 8 v₀)) (column l 8 v) (column l 8 v′) (getD leaves l 0) i j t (f l i j hl hi (omega arith) e)
     (stepped id leaves ready .1 l i j hl hi (omega arith) e)
 
-pub still-by : (id leaves places : List ℕ) (t : ℕ) (w x s v w′ s′ v′ : List ℕ) → Ready id leaves w x s → Stepped places t w x s v w′ s′ v′ → Ready id leaves w′ x s′
+still-by : (id leaves places : List ℕ) (t : ℕ) (w x s v w′ s′ v′ : List ℕ) → Ready id leaves w x s → Stepped places t w x s v w′ s′ v′ → Ready id leaves w′ x s′
 unfolding Stepped
 still-by id leaves places t w x s v w′ s′ v′ ready stepped = stepped id leaves ready .0
 
@@ -320,12 +267,12 @@ pub all-none : (places w x s v : List ℕ) → AllWalked places 0 w x s v w s v
 unfolding AllWalked
 all-none places w x s v id leaves r = (r, walked-none id leaves places v)
 
-pub all-turn : (places : List ℕ) (t : ℕ) (w₀ x s₀ v₀ w s v w′ s′ v′ : List ℕ) → AllWalked places t w₀ x s₀ v₀ w s v → Stepped places t w x s v w′ s′ v′
+pub all-next : (places : List ℕ) (t : ℕ) (w₀ x s₀ v₀ w s v w′ s′ v′ : List ℕ) → AllWalked places t w₀ x s₀ v₀ w s v → Stepped places t w x s v w′ s′ v′
     → AllWalked places (t + 1) w₀ x s₀ v₀ w′ s′ v′
 unfolding AllWalked
-all-turn places t w₀ x s₀ v₀ w s v w′ s′ v′ f g id leaves r =
+all-next places t w₀ x s₀ v₀ w s v w′ s′ v′ f g id leaves r =
     let now = f id leaves r in
-    (still-by id leaves places t w x s v w′ s′ v′ (now .0) g, walked-turn id leaves places t w x s v₀ v w′ s′ v′ (now .0) g (now .1))
+    (still-by id leaves places t w x s v w′ s′ v′ (now .0) g, walked-next id leaves places t w x s v₀ v w′ s′ v′ (now .0) g (now .1))
 
 pub all-done : (places : List ℕ) (t count : ℕ) (w₀ x s₀ v₀ w s v : List ℕ) → t ≡ count → AllWalked places t w₀ x s₀ v₀ w s v
     → AllWalked places count w₀ x s₀ v₀ w s v

@@ -11,7 +11,7 @@ use sha256::constants::initial_value;
 use sha256_block::compress;
 
 // The last three bytes of a word and the first of the next.
-pub fn across(a: u32, b: u32) -> u32
+pub(crate) fn across(a: u32, b: u32) -> u32
     ensures { λ r. ⌜ r ≡ Pieces.across a b ⌝ }
 {
     a % 16777216 * 256 + b / 16777216 % 256

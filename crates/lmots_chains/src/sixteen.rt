@@ -45,7 +45,7 @@ fn put_numbers(leaves: [u32; 16], w: &mut [u32; 1024])
     }
 }
 
-// One step of every chain, t places after the lane's own.
+// One step of every chain, t places after the lane's own. Scratch: what `Ready` does not name of w and s.
 fn step(
     k: &[u32; 64],
     places: &[u32; 16],
@@ -65,7 +65,8 @@ fn step(
     sha256_lanes::compress(k, w, x, s, v);
 }
 
-// What is the same in every step of a leaf's chains: the blocks' words around place and value, and what comes of them.
+// The same in every step of a leaf's chains: the blocks' words around place and value, with their common start. Scratch: what `Ready`
+// does not name of w, x and s.
 fn prepare(
     k: &[u32; 64],
     id: [u32; 4],
@@ -103,7 +104,7 @@ fn prepare(
     sha256_lanes::begin(k, h, w, x, s);
 }
 
-// Steps of every chain, for leaves for which w, x and s are ready.
+// Steps of every chain, for leaves for which w, x and s are ready. Scratch as in `step`.
 fn walk(
     k: &[u32; 64],
     places: &[u32; 16],

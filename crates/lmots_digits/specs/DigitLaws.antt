@@ -7,7 +7,7 @@ use native.Mathlib.Numerals.{add-one}
 use native.Mathlib.Omega.{arith}
 use lib.ListN.{length, getD, set}
 use Rattle.octets.specs.Octets.{patch, be}
-use Rattle.octets.specs.Laws.{length-be, length-patch}
+use Rattle.octets.specs.OctetLaws.{length-be, length-patch}
 use Rattle.octets.specs.WriteLaws.{pieces, stores-two}
 use Rattle.fips180.specs.Fips.{sha256}
 use Rattle.rfc8554.specs.Ots.{coef, digits, chains, leftShift, dMesg, sum, checksum, withChecksum, messageInput, digested}
@@ -51,9 +51,9 @@ chain-place w i h k =
 
 -- ---- checksum
 
-pub sum-turn : (w top x s i : ℕ) (S : List ℕ) → s ≡ sum w S i → top ≡ 2 ^ w - 1 → x ≡ coef w S i → s + (top - x) ≡ sum w S (i + 1)
+pub sum-next : (w top x s i : ℕ) (S : List ℕ) → s ≡ sum w S i → top ≡ 2 ^ w - 1 → x ≡ coef w S i → s + (top - x) ≡ sum w S (i + 1)
 unfolding sum
-sum-turn w top x s i S e p q = rw (add-one, e, p, q)
+sum-next w top x s i S e p q = rw (add-one, e, p, q)
 
 pub checksum-eight : (w s i : ℕ) (S : List ℕ) → w ≡ 8 → i ≡ digits w → s ≡ sum w S i → s ≡ checksum w S
 unfolding checksum digits leftShift

@@ -1,4 +1,4 @@
--- What the code of the digits computes on the way (`Pieces`), and the laws that its proofs cite, with those of words and of writes.
+-- Digits: values on the code's way (`Pieces`), and laws of digits, of words and of writes.
 pub mod Pieces
 pub mod WordLaws
 pub mod WriteLaws

@@ -1,8 +1,8 @@
--- What the code's pieces compute.
+-- Values on the code's way.
 use Prim.Native.Nat.{ℕ}
 use mathlib.Core.List.{List, _++_}
 use Rattle.octets.specs.Octets.{be}
 
--- what the hashes of messages, keys and nodes begin with: identifier, leaf or node number, and the separator d
+-- the front of the hash input of a message, key or node: identifier, leaf or node number, and the separator d
 unfoldable pub front : List ℕ → ℕ → ℕ → List ℕ
 front I q d = I ++ be 4 q ++ be 2 d

@@ -7,7 +7,7 @@ use native.Mathlib.Omega.{arith}
 use lib.ListN.{length, take, drop, getD}
 use lib.Seq.{take-add, drop-drop}
 use Rattle.octets.specs.Octets.{part, be, wordAt, bytes}
-use Rattle.octets.specs.Laws.{as-four, be-four, bytes-append}
+use Rattle.octets.specs.OctetLaws.{as-four, be-four, bytes-append}
 use Rattle.octets.specs.StringLaws.{part-suc}
 
 be-word : (a b c d : ℕ) → a < 256 → b < 256 → c < 256 → d < 256

@@ -1,11 +1,11 @@
--- What the hashes begin with, as it is written piece by piece.
+-- The front of a hash input, written piece by piece.
 use mathlib.Core.Path.{_≡_, refl, sym, ap, _∙_}
 use mathlib.Core.List.{List, _++_, append-assoc, append-nil}
 use Prim.Native.Nat.{ℕ, _+_, _/_, _%_}
 use native.Mathlib.Omega.{arith}
 use lib.ListN.{length, getD, set, length-append}
 use Rattle.octets.specs.Octets.{patch, be, bytes}
-use Rattle.octets.specs.Laws.{as-four, length-be, length-patch}
+use Rattle.octets.specs.OctetLaws.{as-four, length-be, length-patch}
 use Rattle.octets.specs.WriteLaws.{stores-two, patch-next, patch-whole}
 use Rattle.lmots_digits.specs.Pieces.{front}
 

@@ -67,7 +67,7 @@ fn with_checksum(w: u32, digest: [u8; 32]) -> [u8; 34]
     out
 }
 
-// What the hashes of messages, keys and nodes begin with: identifier, leaf or node number, and the separator d.
+// The front of the hash input of a message, key or node: identifier, leaf or node number, and the separator d.
 pub fn front(id: [u32; 4], q: u32, d: u32) -> [u8; 22]
     ensures { λ r. ⌜ r ≡ Pieces.front (bytes id) q d ⌝ }
 {
@@ -82,7 +82,7 @@ pub fn front(id: [u32; 4], q: u32, d: u32) -> [u8; 22]
     out
 }
 
-// What is hashed before the message: identifier, leaf number, separator and randomizer.
+// The hash input before the message: identifier, leaf number, separator and randomizer.
 fn prefix(id: [u32; 4], q: u32, c: &[u8]) -> [u8; 54]
     requires { ⌜ length (now c) ≡ 32 ⌝ }
     ensures { λ r. ⌜ r ≡ Pieces.front (bytes id) q dMesg ++ now (c .entry) ⌝ }

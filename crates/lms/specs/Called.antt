@@ -7,7 +7,7 @@ use native.Mathlib.Omega.{arith}
 use borrow.Author.Tests.{lt-ltb, le-ltb, ltb-false, eq-eqb, ne-eqb, eqb-true, not-false}
 use lib.ListN.{length}
 use Rattle.octets.specs.Octets.{part, wordAt}
-use Rattle.octets.specs.Laws.{length-part}
+use Rattle.octets.specs.OctetLaws.{length-part}
 use Rattle.octets.specs.StringLaws.{number-part-four}
 use Rattle.refusal.specs.Refusal.{firstOf}
 use Rattle.refusal.specs.Laws.{firstOf-zero}

@@ -9,10 +9,10 @@ use lib.Pow.{shr-shr}
 use Rattle.octets.specs.Octets.{part, patch, be, wordAt}
 use Rattle.octets.specs.StringLaws.{number-part-four}
 use Rattle.fips180.specs.Fips.{sha256}
-use Rattle.fips180.specs.Laws.{length-sha256}
+use Rattle.fips180.specs.FipsLaws.{length-sha256}
 use Rattle.rfc8554.specs.Ots.{H, width, otsLength, candidate}
 use Rattle.rfc8554.specs.Tree.{height, leafInput, innerInput, dIntr}
-use Rattle.rfc8554.specs.Verify.{leafOf, otsPart, turn, climbed, rootCandidate}
+use Rattle.rfc8554.specs.Verify.{leafOf, otsPart, levelUp, climbed, rootCandidate}
 use Rattle.lms.specs.Pieces.{leafOver, overChildren}
 
 -- the part `xs[at..end]` with n bytes up to its end
@@ -49,7 +49,7 @@ pub half-turn : (x r i : ℕ) → x ≡ r / 2 ^ i → x / 2 ≡ r / 2 ^ (i + 1)
 half-turn x r i e = rw e (shr-shr r i 1)
 
 pub climbed-turn : (I signature start tmp beside new : List ℕ) (w n r x i : ℕ) → n ≡ otsLength w → x ≡ r / 2 ^ i
-    → tmp ≡ climbed I w r signature start i → beside ≡ part (8 + n + 32 * i) 32 signature → new ≡ turn I x beside tmp
+    → tmp ≡ climbed I w r signature start i → beside ≡ part (8 + n + 32 * i) 32 signature → new ≡ levelUp I x beside tmp
     → new ≡ climbed I w r signature start (i + 1)
 unfolding climbed
 climbed-turn I signature start tmp beside new w n r x i d e f g k = rw (add-one, ← d, ← e, ← f, ← g) k

@@ -5,7 +5,7 @@ use Prim.Native.Nat.{ℕ, _+_, _-_, _*_, _/_, _%_, _^_, _≤_, _<_}
 use native.Mathlib.Omega.{arith}
 use lib.ListN.{length, length-append}
 use Rattle.octets.specs.Octets.{part, patch, be}
-use Rattle.octets.specs.Laws.{length-part, length-be, be-four}
+use Rattle.octets.specs.OctetLaws.{length-part, length-be, be-four}
 use Rattle.octets.specs.Strings.{joined}
 use Rattle.octets.specs.StringLaws.{part-all, length-joined, be-one, be-two}
 use Rattle.octets.specs.WriteLaws.{patch-next, pieces, joined-written}

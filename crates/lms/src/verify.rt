@@ -11,7 +11,7 @@ ghost use Rattle.rfc8554.specs.Ots as Ots;
 ghost use Rattle.rfc8554.specs.Ots.{knownOts, otsLength, candidate};
 ghost use Rattle.rfc8554.specs.Tree as Tree;
 ghost use Rattle.rfc8554.specs.Tree.{knownLms, leafInput};
-ghost use Rattle.rfc8554.specs.Verify.{leafOf, otsPart, turn, climbed, rootCandidate, signatureLength, signatureInvalid, valid};
+ghost use Rattle.rfc8554.specs.Verify.{leafOf, otsPart, levelUp, climbed, rootCandidate, signatureLength, signatureInvalid, valid};
 ghost use Rattle.protocol.specs.Refusals.{wrongKey};
 use crate::node;
 
@@ -99,10 +99,10 @@ pub fn signature_refused(lms: u32, ots: u32, signature: &[u8]) -> bool
 
 // ---- the climb
 
-// One turn up from the node r, with the node beside it.
+// One level up from the node r, with the node beside it.
 fn turned(k: &[u32; 64], id: [u32; 4], r: u32, beside: &[u8], tmp: &[u8]) -> [u8; 32]
     requires { ⌜ (now k ≡ constants) × (length (now beside) ≡ 32) × (length (now tmp) ≡ 32) ⌝ }
-    ensures { λ n. ⌜ n ≡ turn (bytes id) r (now (beside .entry)) (now (tmp .entry)) ⌝ }
+    ensures { λ n. ⌜ n ≡ levelUp (bytes id) r (now (beside .entry)) (now (tmp .entry)) ⌝ }
 {
     if r % 2 == 1 {
         return node::parent(k, id, r / 2, beside, tmp);

@@ -5,7 +5,7 @@ use libc::STDIN_FILENO;
 use libc::STDOUT_FILENO;
 
 // What reading an operand finds: its length, or the end of the input.
-pub enum Field {
+enum Field {
     Of(usize),
     End,
 }

@@ -188,7 +188,7 @@ same-false xs ys h = go (same xs ys) refl
     go false e = refl
 
 -- a comparison in code that answers true just where the strings are equal
-pub same-by : (r : Bool) (xs ys : List ℕ) → (r ≡ true → xs ≡ ys) → (xs ≡ ys → r ≡ true) → r ≡ same xs ys
+same-by : (r : Bool) (xs ys : List ℕ) → (r ≡ true → xs ≡ ys) → (xs ≡ ys → r ≡ true) → r ≡ same xs ys
 same-by true xs ys f g = rw (f refl) (sym (same-refl ys))
 same-by false xs ys f g = go (same xs ys) refl
   where

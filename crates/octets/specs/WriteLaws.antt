@@ -9,7 +9,7 @@ use lib.ListN.{length, take, drop, getD, set, take-append-drop, length-append, d
 use lib.Seq.{length-take-le, take-suc, take-add, drop-drop, sets-eq}
 use Rattle.octets.specs.Octets.{part, patch, be, bytes}
 use Rattle.octets.specs.Strings.{joined}
-use Rattle.octets.specs.Laws.{length-bytes, bytes-append, patch-patch}
+use Rattle.octets.specs.OctetLaws.{length-bytes, bytes-append, patch-patch}
 use Rattle.octets.specs.StringLaws.{part-left, part-skip, part-patch, part-all, be-two}
 
 -- ---- parts of what is written
@@ -72,7 +72,7 @@ stores-two at x xs h =
     rw (be-two, add-one)
     (sets-eq (x / 256 % 256 ∷ x % 256 ∷ []) xs at h ∙ append-assoc (take at xs) (x / 256 % 256 ∷ x % 256 ∷ []) (drop (at + 2) xs))
 
--- one turn of a loop that writes the bytes of words
+-- one pass of a loop that writes the bytes of words
 pub words-written : (at i : ℕ) (h xs out r : List ℕ) → out ≡ patch at (bytes (take i h)) xs → i < length h → at ≤ length xs
     → r ≡ patch (at + 4 * i) (be 4 (getD h i 0)) out → r ≡ patch at (bytes (take (i + 1) h)) xs
 unfolding bytes
@@ -84,7 +84,7 @@ words-written at i h xs out r e k l p =
     patch-next at (at + 4 * i) (bytes (take i h)) (be 4 (getD h i 0)) xs out r e (omega arith) l p
     ∙ rw (add-one, last)
 
--- one turn of a loop that writes strings of 32 bytes, one after the other
+-- one pass of a loop that writes strings of 32 bytes, one after the other
 pub joined-written : (f : ℕ → List ℕ) (at i : ℕ) (xs out y r : List ℕ) → length (joined f i) ≡ 32 * i → at ≤ length xs
     → out ≡ patch at (joined f i) xs → y ≡ f i → r ≡ patch (at + 32 * i) y out → r ≡ patch at (joined f (i + 1)) xs
 unfolding joined

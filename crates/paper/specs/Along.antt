@@ -11,7 +11,7 @@ use lib.Dec.{eqb}
 use lib.ListN.{length, take}
 use borrow.Author.Tests.{eqb-true, lt-leb}
 use Rattle.quorum.specs.Quorum.{k, bit, In}
-use Rattle.quorum.specs.Laws.{bit-empty, has-true, size-empty}
+use Rattle.quorum.specs.QuorumLaws.{bit-empty, has-true, size-empty}
 use Rattle.refusal.specs.Refusal.{firstOf, unrefused}
 use Rattle.protocol.specs.Layout.{signatureLength, collectedBank, firstBank}
 use Rattle.protocol.specs.Entries.{formSeats}
@@ -30,7 +30,7 @@ use Rattle.claims.specs.Unrefused.{submit-taken, Taken, step-taken, brings}
 use Rattle.reading.specs.Messages.{refusalOf, cameTo, outcome-is, messages}
 use Rattle.claims.specs.Units.{Any}
 use Rattle.paper.specs.Machine.{FullCertificate, Machine, init, Event, Submitted, SubmitDelivered, NoticeDelivered, FullDelivered, Action, Reaction, isSome, ownValue, distinct, conflict, uponEvent, react, Says}
-use Rattle.paper.specs.Memory.{seatsIn, noticesOf, heldFirst, guiltyOf, kept, firstEntries, Keeps}
+use Rattle.paper.specs.Memory.{seatsIn, noticesOf, heldFirst, guiltyOf, recordOf, firstEntries, Recorded}
 use Rattle.paper.specs.Events.{delivered, isDelivered, eventOf, reactTo, reaction, DoesAs, actionsOver, TakenIn}
 use Rattle.paper.specs.Conflicts.{some-none}
 use Rattle.paper.specs.Entries.{seats-none, from-seats, from-member, signature-is, distinct-take}
@@ -59,31 +59,31 @@ module _ (S : Setting) (seat : ℕ) (some-seats : 1 ≤ S .n) (inside : seat < S
   unfolding reactTo
   none-quiet m = refl
 
-  step-comes : (bytes out : List ℕ) (m : Machine) (store : List ℕ) → Mirrors n store m → firstOf (stepConditions checks keys (kept n seat round m) store (read n bytes) out) ≡ 0
+  step-comes : (bytes out : List ℕ) (m : Machine) (store : List ℕ) → Mirrors n store m → firstOf (stepConditions checks keys (recordOf n seat round m) store (read n bytes) out) ≡ 0
       → Comes n seat round (stepped (read n bytes) (at n seat round (record { machine = m; actions = [] }) store)) (reactTo checks n seat (delivered (read n bytes)) m)
-  unfolding kept
+  unfolding recordOf
   step-comes bytes out m store z q =
-      let r = kept n seat round m in
+      let r = recordOf n seat round m in
       let msg = read n bytes in
       let t = step-taken checks keys r store msg out q in
       step-is n seat round checks keys m store msg some-seats (t .0) z (brings checks Any r msg (t .2) (t .3) (read-sized n bytes) (λ s d. tt))
 
-  comes : (c : Call) (m : Machine) (store : List ℕ) → Mirrors n store m → refusalOf S c (kept n seat round m) store ≡ 0
-      → Comes n seat round (cameTo c (kept n seat round m) store) (reactTo checks n seat (eventOf n 0 c) m)
-  unfolding refusalOf cameTo eventOf isDelivered unrefused reactTo react uponEvent kept
+  comes : (c : Call) (m : Machine) (store : List ℕ) → Mirrors n store m → refusalOf S c (recordOf n seat round m) store ≡ 0
+      → Comes n seat round (cameTo c (recordOf n seat round m) store) (reactTo checks n seat (eventOf n 0 c) m)
+  unfolding refusalOf cameTo eventOf isDelivered unrefused reactTo react uponEvent recordOf
   comes (BySubmit value signature out) m store z q =
-      let t = submit-taken checks keys (kept n seat round m) store value signature out q in
+      let t = submit-taken checks keys (recordOf n seat round m) store value signature out q in
       submit-is n seat round checks some-seats (record { machine = m; actions = [] }) store (t .room) z value signature (t .unsaid) inside (t .sized) (t .checked)
   comes (ByStep bytes out) m store z q = step-comes bytes out m store z q
   comes (ByThinEntry bytes out) m store z q = step-comes bytes out m store z q
 
   -- ---- a call that is
 
-  step-quiet : (bytes out : List ℕ) (m : Machine) (store : List ℕ) → AtRest n m → (refusal : ℕ) → refusal ≢ 0 → firstOf (stepConditions checks keys (kept n seat round m) store (read n bytes) out) ≡ refusal
+  step-quiet : (bytes out : List ℕ) (m : Machine) (store : List ℕ) → AtRest n m → (refusal : ℕ) → refusal ≢ 0 → firstOf (stepConditions checks keys (recordOf n seat round m) store (read n bytes) out) ≡ refusal
       → reactTo checks n seat (cond (isDelivered refusal) (delivered (read n bytes)) none) m ≡ record { machine = m; actions = [] }
   unfolding isDelivered
   step-quiet bytes out m store rest refusal d q =
-      let r = kept n seat round m in
+      let r = recordOf n seat round m in
       let msg = read n bytes in
       cond-elim (λ o. reactTo checks n seat o m ≡ record { machine = m; actions = [] }) (eqb refusal 0 || eqb refusal 13 || eqb refusal 14) (delivered msg) none
       (λ e. ⊎-elim
@@ -92,9 +92,9 @@ module _ (S : Setting) (seat : ℕ) (some-seats : 1 ≤ S .n) (inside : seat < S
       (or-true-either (eqb refusal 0 || eqb refusal 13) (eqb refusal 14) e))
       (λ e. none-quiet m)
 
-  quiet : (c : Call) (m : Machine) (store : List ℕ) → AtRest n m → (refusal : ℕ) → refusal ≢ 0 → refusalOf S c (kept n seat round m) store ≡ refusal
+  quiet : (c : Call) (m : Machine) (store : List ℕ) → AtRest n m → (refusal : ℕ) → refusal ≢ 0 → refusalOf S c (recordOf n seat round m) store ≡ refusal
       → reactTo checks n seat (eventOf n refusal c) m ≡ record { machine = m; actions = [] }
-  unfolding refusalOf eventOf unrefused kept
+  unfolding refusalOf eventOf unrefused recordOf
   quiet (BySubmit value signature out) m store rest zero d q = absurd (d refl)
   quiet (BySubmit value signature out) m store rest (suc refusal) d q = none-quiet m
   quiet (ByStep bytes out) m store rest refusal d q = step-quiet bytes out m store rest refusal d q
@@ -103,12 +103,12 @@ module _ (S : Setting) (seat : ℕ) (some-seats : 1 ≤ S .n) (inside : seat < S
   -- ---- a call
 
   pub record Meets (r : Record) (store : List ℕ) (ms : List Message) (x : Reaction) : Type 0 where
-    pub unit : r ≡ kept n seat round (x .machine)
+    pub unit : r ≡ recordOf n seat round (x .machine)
     pub messages : ms ≡ map (spoken n round seat) (x .actions)
     pub mirrors : Mirrors n store (x .machine)
 
   meets-by : (refusal : ℕ) (s : State) (m : Machine) (store : List ℕ) (x : Reaction) → Mirrors n store m → (refusal ≡ 0 → Comes n seat round s x) → (refusal ≢ 0 → x ≡ record { machine = m; actions = [] })
-      → Meets (resultBy refusal s (kept n seat round m) store .unit) (resultBy refusal s (kept n seat round m) store .store) (unrefused refusal (s .written) []) x
+      → Meets (resultBy refusal s (recordOf n seat round m) store .unit) (resultBy refusal s (recordOf n seat round m) store .store) (unrefused refusal (s .written) []) x
   unfolding resultBy unrefused
   meets-by zero s m store x z came stayed =
       let a = came refl in
@@ -118,14 +118,14 @@ module _ (S : Setting) (seat : ℕ) (some-seats : 1 ≤ S .n) (inside : seat < S
         mirrors = subst (λ (y : State). Mirrors n (y .store) (x .machine)) (sym (a .is)) (a .mirrors);
       }
   meets-by (suc refusal) s m store x z came stayed =
-      subst (Meets (kept n seat round m) store []) (sym (stayed (λ q. omega arith))) (record { unit = refl; messages = refl; mirrors = z })
+      subst (Meets (recordOf n seat round m) store []) (sym (stayed (λ q. omega arith))) (record { unit = refl; messages = refl; mirrors = z })
 
   meets : (c : Call) (m : Machine) (store : List ℕ) → Mirrors n store m → AtRest n m
-      → let t : Called = record { given = c; unit = kept n seat round m; store = store } in
+      → let t : Called = record { given = c; unit = recordOf n seat round m; store = store } in
       Meets (resultOf S t .unit) (resultOf S t .store) (messages S t) (reaction S seat t m)
   unfolding reaction resultBy
   meets c m store z rest =
-      let r = kept n seat round m in
+      let r = recordOf n seat round m in
       let refusal = refusalOf S c r store in
       let is = outcome-is S c r store in
       rw is
@@ -167,32 +167,32 @@ module _ (S : Setting) (seat : ℕ) (some-seats : 1 ≤ S .n) (inside : seat < S
     unfolding reactTo
     react-is e m g = g
 
-    taken-good : (c : Call) (m : Machine) (store : List ℕ) → refusalOf S c (kept n seat round m) store ≡ 0 → ((e : Event) → eventOf n 0 c ≡ some e → Happened e) → Has m
+    taken-good : (c : Call) (m : Machine) (store : List ℕ) → refusalOf S c (recordOf n seat round m) store ≡ 0 → ((e : Event) → eventOf n 0 c ≡ some e → Happened e) → Has m
         → Done (reactTo checks n seat (eventOf n 0 c) m)
-    unfolding refusalOf eventOf isDelivered unrefused kept
+    unfolding refusalOf eventOf isDelivered unrefused recordOf
     taken-good (BySubmit value signature out) m store q came z =
-        let t = submit-taken checks keys (kept n seat round m) store value signature out q in
+        let t = submit-taken checks keys (recordOf n seat round m) store value signature out q in
         react-is (Submitted value signature) m (react-good checks n seat Happened some-seats inside (Submitted value signature) m (came (Submitted value signature) refl) (none-is (m .value) (t .unsaid), t .sizedValue) z)
-    taken-good (ByStep bytes out) m store q came z = step-good (read n bytes) m (step-taken checks keys (kept n seat round m) store (read n bytes) out q .2) (read-sized n bytes) came z
-    taken-good (ByThinEntry bytes out) m store q came z = step-good (read n bytes) m (step-taken checks keys (kept n seat round m) store (read n bytes) out q .2) (read-sized n bytes) came z
+    taken-good (ByStep bytes out) m store q came z = step-good (read n bytes) m (step-taken checks keys (recordOf n seat round m) store (read n bytes) out q .2) (read-sized n bytes) came z
+    taken-good (ByThinEntry bytes out) m store q came z = step-good (read n bytes) m (step-taken checks keys (recordOf n seat round m) store (read n bytes) out q .2) (read-sized n bytes) came z
 
     turn-good : (c : Call) (m : Machine) (store : List ℕ) → AtRest n m → Has m
-        → let t : Called = record { given = c; unit = kept n seat round m; store = store } in List·Memᴰ t all → Done (reaction S seat t m)
+        → let t : Called = record { given = c; unit = recordOf n seat round m; store = store } in List·Memᴰ t all → Done (reaction S seat t m)
     unfolding reaction resultBy
     turn-good c m store rest z d =
-        let r = kept n seat round m in
+        let r = recordOf n seat round m in
         let is = outcome-is S c r store in
         rw is (by (refusalOf S c r store) refl)
       where
-        by : (refusal : ℕ) → refusalOf S c (kept n seat round m) store ≡ refusal → Done (reactTo checks n seat (eventOf n refusal c) m)
-        by zero q = taken-good c m store q (λ e h. (record { given = c; unit = kept n seat round m; store = store }, d, ap (λ (x : Result). x .refusal) (outcome-is S c (kept n seat round m) store) ∙ q, h)) z
+        by : (refusal : ℕ) → refusalOf S c (recordOf n seat round m) store ≡ refusal → Done (reactTo checks n seat (eventOf n refusal c) m)
+        by zero q = taken-good c m store q (λ e h. (record { given = c; unit = recordOf n seat round m; store = store }, d, ap (λ (x : Result). x .refusal) (outcome-is S c (recordOf n seat round m) store) ∙ q, h)) z
         by (suc refusal) q = subst Done (sym (quiet c m store rest (suc refusal) (λ e. omega arith) q)) (still-good m z)
 
-    -- ---- what record and store keep
+    -- ---- record and store
 
-    keeps : (m : Machine) (r : Record) (store : List ℕ) → r ≡ kept n seat round m → Mirrors n store m → Has m → Keeps n seat round m r store
+    recorded : (m : Machine) (r : Record) (store : List ℕ) → r ≡ recordOf n seat round m → Mirrors n store m → Has m → Recorded n seat round m r store
     unfolding heldFirst firstEntries
-    keeps m r store e z b = record {
+    recorded m r store e z b = record {
       unit = e;
       collected = slots (slot n collectedBank store) (take (k n) (m .collected)) (distinct-take (k n) (m .collected) (b .collection .apart)) (z .stored .own);
       first = firsts (m .obtained) (b .certified) (z .stored .first);
@@ -208,7 +208,7 @@ module _ (S : Setting) (seat : ℕ) (some-seats : 1 ≤ S .n) (inside : seat < S
 
     -- ---- a list of calls
 
-    pub does-as : (r : Record) (store : List ℕ) (cs : List Call) (m : Machine) → r ≡ kept n seat round m → Mirrors n store m → AtRest n m → Has m → Each (λ t. List·Memᴰ t all) (listFrom S r store cs)
+    pub does-as : (r : Record) (store : List ℕ) (cs : List Call) (m : Machine) → r ≡ recordOf n seat round m → Mirrors n store m → AtRest n m → Has m → Each (λ t. List·Memᴰ t all) (listFrom S r store cs)
         → Each (λ t. Are n (writtenIn S t) (messages S t)) (listFrom S r store cs)
         → DoesAs S seat m (listFrom S r store cs) × Each (Sent checks n seat Happened some-seats inside) (actionsOver S seat m (listFrom S r store cs))
     unfolding listFrom reaction actionsOver
@@ -227,11 +227,11 @@ module _ (S : Setting) (seat : ℕ) (some-seats : 1 ≤ S .n) (inside : seat < S
         let later = does-as (outcome S c r store .unit) (outcome S c r store .store) cs (now .machine) (a .unit) (a .mirrors) (reaction-rest (eventOf n (resultOf S t .refusal) c) m rest) (g .0) (λ u d. in-all u (List·Memᴰ·tail d)) (λ u d. are u (List·Memᴰ·tail d)) in (
           (
             record {
-              gets = keeps m r store e z b;
+              gets = recorded m r store e z b;
               sends = map (spoken n round seat) (now .actions);
               writes = subst (Are n (writtenIn S t)) (a .messages) (are t (List·Memᴰ·head refl));
               says = each-says n round seat (now .actions) (λ x d. g .1 x d .1);
-              leaves = keeps (now .machine) (resultOf S t .unit) (resultOf S t .store) (a .unit) (a .mirrors) (g .0);
+              leaves = recorded (now .machine) (resultOf S t .unit) (resultOf S t .store) (a .unit) (a .mirrors) (g .0);
             },
             later .0,
           ),
@@ -240,9 +240,9 @@ module _ (S : Setting) (seat : ℕ) (some-seats : 1 ≤ S .n) (inside : seat < S
 
   -- ---- the opening
 
-  pub init-kept : fresh n seat round ≡ kept n seat round init
-  unfolding fresh kept init isSome ownValue noticesOf heldFirst guiltyOf
-  init-kept = rw (take-none (k n), seats-none)
+  pub init-recorded : fresh n seat round ≡ recordOf n seat round init
+  unfolding fresh recordOf init isSome ownValue noticesOf heldFirst guiltyOf
+  init-recorded = rw (take-none (k n), seats-none)
 
   pub init-mirrors : (store : List ℕ) → Mirrors n store init
   unfolding init conflict heldFirst

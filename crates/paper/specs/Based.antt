@@ -12,12 +12,13 @@ use lib.ListN.{length}
 use borrow.Author.Tests.{leb-true, not-true}
 use Rattle.octets.specs.StringLaws.{same-true}
 use Rattle.quorum.specs.Quorum.{k}
+use Rattle.refusal.specs.Laws.{both-true}
 use Rattle.protocol.specs.Layout.{valueLength}
 use Rattle.protocol.specs.Values.{unset}
 use Rattle.protocol.specs.Message.{Entry, Pair, Full, Evidence}
 use Rattle.protocol.specs.Refusals.{Checks, every, isFull, isEvidence}
 use Rattle.round.specs.Round.{Each}
-use Rattle.reading.specs.Lists.{cond-elim, and-true-both, each-nil, each-one, each-append}
+use Rattle.reading.specs.Lists.{cond-elim, each-nil, each-one, each-append}
 use Rattle.claims.specs.Parts.{k-pos}
 use Rattle.paper.specs.Machine.{FullCertificate, Machine, init, Event, Submitted, SubmitDelivered, NoticeDelivered, FullDelivered, Action, BroadcastSubmit, ConfirmAndNotice, BroadcastFull, Detect, Reaction, act, setValue, setConfirmed, addCollected, isSome, isOwn, ownValue, isFrom, distinct, conflict, valueOfFull, isFullCertificate, ownFull, isCollected, uponSubmitDelivered, uponSubmit, uponNoticeDelivered, obtain, uponFullDelivered, confirming, uponQuorum, sending, uponNoticesConflict, detecting, uponFullsConflict, uponEvent, uponRules, react, SaysConflict, Says}
 use Rattle.paper.specs.Conflicts.{some-none, conflict-found}
@@ -73,8 +74,8 @@ module _ (checks : Checks) (n own : ℕ) (Happened : Event → Type 0) (some-sea
   unfolding isCollected
   collects s v g m below came z h =
       let e : Entry = record { seat = s; signature = g } in
-      let new = and-true-both (checks s v g && isOwn v (m .value)) (not (isFrom s (m .collected))) h in
-      let is = own-value v (m .value) (and-true-both (checks s v g) (isOwn v (m .value)) (new .0) .1) in
+      let new = both-true (checks s v g && isOwn v (m .value)) (not (isFrom s (m .collected))) h in
+      let is = own-value v (m .value) (both-true (checks s v g) (isOwn v (m .value)) (new .0) .1) in
       let c = z .collection in
       record {
         said = z .said;
@@ -128,7 +129,7 @@ module _ (checks : Checks) (n own : ℕ) (Happened : Event → Type 0) (some-sea
       let valid = every (λ (e : Entry). checks (e .seat) (c .value) (e .signature)) (c .entries) in
       let many = leb (k n) (length (c .entries)) in
       cond-elim Good (many && distinct (c .entries) && valid) (obtain checks n own c x) x
-      (λ h. obtain-good c x (record { sized = sized; below = below; apart = and-true-both many (distinct (c .entries)) (and-true-both (many && distinct (c .entries)) valid h .0) .1 }, inr came) z)
+      (λ h. obtain-good c x (record { sized = sized; below = below; apart = both-true many (distinct (c .entries)) (both-true (many && distinct (c .entries)) valid h .0) .1 }, inr came) z)
       (λ h. z)
 
   -- the own certificate, once there is a submission
@@ -149,7 +150,7 @@ module _ (checks : Checks) (n own : ℕ) (Happened : Event → Type 0) (some-sea
   -- k seats collected: so there is a submission
   complete-said : (m : Machine) → BasedOn m → quorumDue n m ≡ true → m .value ≢ none
   complete-said m z h q =
-      let many = leb-true (k n) (length (m .collected)) (and-true-both (not (m .confirmed)) (leb (k n) (length (m .collected))) h .1) in
+      let many = leb-true (k n) (length (m .collected)) (both-true (not (m .confirmed)) (leb (k n) (length (m .collected))) h .1) in
       let none-yet = ap length (z .unsaid q .0) in
       let p = k-pos n some-seats in
       omega arith
@@ -172,7 +173,7 @@ module _ (checks : Checks) (n own : ℕ) (Happened : Event → Type 0) (some-sea
   confirmed-said : (m : Machine) → BasedOn m → noticesDue m ≡ true → m .value ≢ none
   confirmed-said m z h q =
       let open-notices = isSome (conflict (λ (v : List ℕ). v) (m .noticed)) in
-      let confirmed = and-true-both (m .confirmed) (not (m .sent)) (and-true-both (m .confirmed && not (m .sent)) open-notices h .0) .0 in
+      let confirmed = both-true (m .confirmed) (not (m .sent)) (both-true (m .confirmed && not (m .sent)) open-notices h .0) .0 in
       true≢false (sym confirmed ∙ z .unsaid q .1)
 
   notices-good : (x : Reaction) → Good x → Good (uponNoticesConflict checks n own x)

@@ -15,7 +15,7 @@ use borrow.Author.Tests.{leb-true, leb-false, le-leb, lt-leb}
 use Rattle.octets.specs.Strings.{same}
 use Rattle.octets.specs.StringLaws.{same-refl}
 use Rattle.quorum.specs.Quorum.{k, bit, In, has, size, with}
-use Rattle.quorum.specs.Laws.{bit-with-other, has-false, size-with-new}
+use Rattle.quorum.specs.QuorumLaws.{bit-with-other, has-false, size-with-new}
 use Rattle.protocol.specs.Layout.{signatureLength, storeLength, collectedBank, firstBank}
 use Rattle.protocol.specs.LayoutLaws.{collected-bank, first-bank}
 use Rattle.protocol.specs.Entries.{Each, formSeats}
@@ -31,7 +31,7 @@ use Rattle.claims.specs.Parts.{k-pos, in-below}
 use Rattle.claims.specs.Whole.{Brings}
 use Rattle.claims.specs.Units.{Any}
 use Rattle.paper.specs.Machine.{FullCertificate, Machine, BroadcastSubmit, Reaction, act, setValue, addCollected, addNoticed, isSome, isOwn, ownValue, isFrom, isFullCertificate, isCollected, uponSubmitDelivered, uponSubmit, uponNoticeDelivered, obtain, uponFullDelivered, confirming, uponQuorum, uponNoticesConflict, uponFullsConflict, uponEvent, uponRules, react}
-use Rattle.paper.specs.Memory.{seatsIn, noticesOf, heldFirst, guiltyOf, kept}
+use Rattle.paper.specs.Memory.{seatsIn, noticesOf, heldFirst, guiltyOf, recordOf}
 use Rattle.paper.specs.Events.{delivered, reactTo}
 use Rattle.paper.specs.Conflicts.{some-none}
 use Rattle.paper.specs.Entries.{seats-more, seats-below, from-seats, signature-new, signature-old, rising-distinct}
@@ -91,7 +91,7 @@ module _ (n seat round : ℕ) where
       all-after = take-all (k n) (before ++ e ∷ []) (omega (arith, length-append before (e ∷ [])))
 
       collect-is : (store : List ℕ) → collect s g (at n seat round x store) ≡ at n seat round (addCollected e x) (fill n collectedBank s g store)
-      unfolding collect kept
+      unfolding collect recordOf
       collect-is store =
           ap (λ (mask : ℕ). collecting-to mask (fill n collectedBank s g store)) (ap (λ (es : List Entry). with s (seatsIn es)) all-before ∙ sym (seats-more before e) ∙ ap seatsIn (sym all-after))
 
@@ -138,7 +138,7 @@ module _ (n seat round : ℕ) where
       same-taken = take-append-le (k n) before (e ∷ []) many
 
       beyond-is : (store : List ℕ) → at n seat round x store ≡ at n seat round (addCollected e x) store
-      unfolding kept
+      unfolding recordOf
       beyond-is store = ap (λ (mask : ℕ). collecting-to mask store) (ap seatsIn (sym same-taken))
 
       beyond-collecting : s < n → length g ≡ signatureLength → x .machine .value ≢ none → Collecting n (x .machine .value) before → Collecting n (x .machine .value) (before ++ e ∷ [])
@@ -171,7 +171,7 @@ module _ (n seat round : ℕ) where
       abbrev Result : Type 0
       Result = Comes n seat round (confirmIfComplete (hearSubmit s v g (at n seat round x store))) (uponRules checks n seat (uponSubmitDelivered checks n seat s v g x))
 
-      neither : isWanted s v (kept n seat round m) ≡ false → isCollected checks n seat s v g m ≡ false → Result
+      neither : isWanted s v (recordOf n seat round m) ≡ false → isCollected checks n seat s v g m ≡ false → Result
       unfolding hearSubmit uponSubmitDelivered
       neither p q =
           let a = confirm-is n seat round checks some-seats x store room (z .collecting) (z .obtaining) (z .stored) rested in
@@ -182,7 +182,7 @@ module _ (n seat round : ℕ) where
             mirrors = a .mirrors;
           })
 
-      both : length (m .collected) < k n → isFrom s (m .collected) ≡ false → isWanted s v (kept n seat round m) ≡ true → isCollected checks n seat s v g m ≡ true → Result
+      both : length (m .collected) < k n → isFrom s (m .collected) ≡ false → isWanted s v (recordOf n seat round m) ≡ true → isCollected checks n seat s v g m ≡ true → Result
       unfolding hearSubmit uponSubmitDelivered
       both few new p q =
           let unconfirmed : m .confirmed ≡ false = z .resting .complete ∙ lt-leb (k n) (length (m .collected)) few in
@@ -195,7 +195,7 @@ module _ (n seat round : ℕ) where
             mirrors = a .mirrors;
           })
 
-      beyond : k n ≤ length (m .collected) → isWanted s v (kept n seat round m) ≡ false → isCollected checks n seat s v g m ≡ true → Result
+      beyond : k n ≤ length (m .collected) → isWanted s v (recordOf n seat round m) ≡ false → isCollected checks n seat s v g m ≡ true → Result
       unfolding hearSubmit uponSubmitDelivered
       beyond many p q =
           let a = confirm-is n seat round checks some-seats (addCollected (e s g x) x) store room
@@ -208,8 +208,8 @@ module _ (n seat round : ℕ) where
           })
 
       -- the two tests
-      wanted-is : isWanted s v (kept n seat round m) ≡ (not (m .confirmed) && same v (ownValue (m .value)) && not (has s (seatsIn (take (k n) (m .collected)))))
-      unfolding isWanted kept
+      wanted-is : isWanted s v (recordOf n seat round m) ≡ (not (m .confirmed) && same v (ownValue (m .value)) && not (has s (seatsIn (take (k n) (m .collected)))))
+      unfolding isWanted recordOf
       wanted-is = refl
 
       collected-is : isCollected checks n seat s v g m ≡ (same v (ownValue (m .value)) && not (isFrom s (m .collected)))
@@ -219,7 +219,7 @@ module _ (n seat round : ℕ) where
       pub submit-heard : Result
       submit-heard = go (m .confirmed) refl (same v (ownValue (m .value))) refl (isFrom s (m .collected)) refl
         where
-          new : (d : Bool) → length (m .collected) < k n → isWanted s v (kept n seat round m) ≡ not d → isCollected checks n seat s v g m ≡ not d → isFrom s (m .collected) ≡ d → Result
+          new : (d : Bool) → length (m .collected) < k n → isWanted s v (recordOf n seat round m) ≡ not d → isCollected checks n seat s v g m ≡ not d → isFrom s (m .collected) ≡ d → Result
           new true few p q r = neither p q
           new false few p q r = both few r p q
 
@@ -256,9 +256,9 @@ module _ (n seat round : ℕ) where
       collecting-own =
           record { unsaid = λ h. absurd (some-none v (some v) refl h); below = z .collecting .below; sized = z .collecting .sized; counted = z .collecting .counted }
 
-      own-is-kept : submitOwn v g (at n seat round x store) ≡ at n seat round (addCollected (e seat g x) (act (BroadcastSubmit v g) (setValue v x))) (fill n collectedBank seat g store)
-      unfolding submitOwn setOwnValue kept isSome ownValue spoken act
-      own-is-kept =
+      own-is-recorded : submitOwn v g (at n seat round x store) ≡ at n seat round (addCollected (e seat g x) (act (BroadcastSubmit v g) (setValue v x))) (fill n collectedBank seat g store)
+      unfolding submitOwn setOwnValue recordOf isSome ownValue spoken act
+      own-is-recorded =
           ap (λ (s : State). write (Submit round seat v g) s) (collect-is seat g (setValue v x) few store)
           ∙ write-is n seat round (BroadcastSubmit v g) (addCollected (e seat g x) (setValue v x)) (fill n collectedBank seat g store)
 
@@ -269,7 +269,7 @@ module _ (n seat round : ℕ) where
           let a = confirm-is n seat round checks some-seats (addCollected (e seat g x) y) (fill n collectedBank seat g store) (subst (λ (l : ℕ). storeLength n ≤ l) (sym (fill-length n collectedBank seat g store collected-bank inside room sized)) room)
           (collect-collecting seat g (setValue v x) few inside sized new-seat (λ h. some-none v (some v) refl h) collecting-own) (z .obtaining) (collect-stored seat g (setValue v x) few store room inside sized new-seat (z .collecting .below) (z .obtaining .quorums) (z .stored)) (λ h. absurd (true≢false (sym h ∙ unconfirmed))) in
           subst (Comes n seat round (submitted v g (at n seat round x store))) (ap (λ (b : Bool). uponRules checks n seat (cond b (addCollected (e seat g x) y) y)) (sym own-collected))
-          (record { store = a .store; is = ap confirmIfComplete own-is-kept ∙ a .is; mirrors = a .mirrors })
+          (record { store = a .store; is = ap confirmIfComplete own-is-recorded ∙ a .is; mirrors = a .mirrors })
 
     -- ---- NOTICE and FULL heard: lines 29 and 35
 
@@ -309,14 +309,14 @@ module _ (n seat round : ℕ) where
         rw (
           le-leb (k n) (length es) (omega arith),
           rising-distinct es (h .rise),
-          each-every (λ (a : Entry). checks (a .seat) v (a .signature)) es (λ a d. h .kept a d .checked),
+          each-every (λ (a : Entry). checks (a .seat) v (a .signature)) es (λ a d. h .attested a d .checked),
         )
 
     full-quorum : (v : List ℕ) (es : List Entry) → Entries checks Any n v es → Quorum n (record { value = v; entries = es })
     unfolding certificateOf formSeats fullForm seatsIn
     full-quorum v es h =
         let c = certifies-of checks Any n v es h in
-        record { below = c .below; enough = c .enough; sized = λ s i. c .kept s i .sized }
+        record { below = c .below; enough = c .enough; sized = λ s i. c .attested s i .sized }
 
     pub full-is : (ρ sender : ℕ) (v : List ℕ) (es : List Entry) → Entries checks Any n v es
         → Comes n seat round (stepped (Full ρ sender v es) (at n seat round x store)) (uponRules checks n seat (uponFullDelivered checks n seat (record { value = v; entries = es }) x))
@@ -335,9 +335,9 @@ module _ (n seat round : ℕ) where
   abbrev still : Machine → Reaction
   still m = record { machine = m; actions = [] }
 
-  pub step-is : (checks : Checks) (keys : List ℕ) (m : Machine) (store : List ℕ) (msg : Message) → 1 ≤ n → storeLength n ≤ length store → Mirrors n store m → Brings checks Any (kept n seat round m) msg
+  pub step-is : (checks : Checks) (keys : List ℕ) (m : Machine) (store : List ℕ) (msg : Message) → 1 ≤ n → storeLength n ≤ length store → Mirrors n store m → Brings checks Any (recordOf n seat round m) msg
       → Comes n seat round (stepped msg (at n seat round (still m) store)) (reactTo checks n seat (delivered msg) m)
-  unfolding stepped delivered reactTo react uponEvent kept
+  unfolding stepped delivered reactTo react uponEvent recordOf
   step-is checks keys m store (Submit ρ s v g) some-seats room z b = submit-heard checks some-seats (still m) store room z s v g (b .0) (b .1) (b .2 .sized) (b .2 .checked)
   step-is checks keys m store (Notice ρ s v) some-seats room z b = notice-is checks some-seats (still m) store room z v
   step-is checks keys m store (Full ρ sender v es) some-seats room z b = full-is checks some-seats (still m) store room z ρ sender v es b

@@ -13,11 +13,11 @@ use Rattle.round.specs.Round.{Setting, IsOpened, Each, Honest, listOf, Writes}
 use Rattle.claims.specs.Sound.{InRange}
 use Rattle.claims.specs.Units.{Any, any-worthy, opened-range, written-are}
 use Rattle.paper.specs.Machine.{init, Event, Action, Says}
-use Rattle.paper.specs.Memory.{kept}
+use Rattle.paper.specs.Memory.{recordOf}
 use Rattle.paper.specs.Events.{DoesAs, actionsOver, TakenIn}
 use Rattle.paper.specs.Received.{Collected, IsSubmitted, Came, Received}
 use Rattle.paper.specs.Based.{Sent, init-based, full-from, evidence-from}
-use Rattle.paper.specs.Along.{does-as, init-kept, init-mirrors, init-rest, over-list}
+use Rattle.paper.specs.Along.{does-as, init-recorded, init-mirrors, init-rest, over-list}
 
 -- For any list of calls of a unit that an opening gave, with any signature check, any store and any out buffers:
 module _ (S : Setting) (u : Honest) (opened : IsOpened S u) where
@@ -31,9 +31,9 @@ module _ (S : Setting) (u : Honest) (opened : IsOpened S u) where
   abbrev pub Took : Event → Type 0
   Took = TakenIn S (listOf S u)
 
-  opened-kept : 1 ≤ n → u .seat < n → opening n (u .seat) round keys .unit ≡ kept n (u .seat) round init
+  opened-recorded : 1 ≤ n → u .seat < n → opening n (u .seat) round keys .unit ≡ recordOf n (u .seat) round init
   unfolding opening openedBy unrefused
-  opened-kept some-seats inside = rw opened (init-kept S (u .seat) some-seats inside)
+  opened-recorded some-seats inside = rw opened (init-recorded S (u .seat) some-seats inside)
 
   range : InRange n (u .seat) round
   range = opened-range S u opened
@@ -42,7 +42,7 @@ module _ (S : Setting) (u : Honest) (opened : IsOpened S u) where
   along =
       let some-seats = range .some in
       let inside = range .inside in
-      does-as S (u .seat) some-seats inside (listOf S u) (opening n (u .seat) round keys .unit) (u .store) (u .calls) init (opened-kept some-seats inside)
+      does-as S (u .seat) some-seats inside (listOf S u) (opening n (u .seat) round keys .unit) (u .store) (u .calls) init (opened-recorded some-seats inside)
       (init-mirrors S (u .seat) some-seats inside (u .store))
       (init-rest S (u .seat) some-seats inside)
       (init-based checks n (u .seat) Took some-seats inside)
@@ -50,7 +50,7 @@ module _ (S : Setting) (u : Honest) (opened : IsOpened S u) where
       (λ t d. written-are S u opened Any (any-worthy S (listOf S u)) t d)
 
   -- At each call the engine writes exactly what the paper's machine, which forgets nothing, then broadcasts or detects; and its
-  -- record and store, before and after, are what they keep of the machine's state. So this short memory loses nothing.
+  -- record and store, before and after, are those of the machine's state. So this short memory loses nothing.
   pub does-as-the-paper : DoesAs S (u .seat) init (listOf S u)
   does-as-the-paper = along .0
 

@@ -20,7 +20,7 @@ use Rattle.round.specs.Round.{Each}
 use Rattle.claims.specs.Unrefused.{of-taken}
 use Rattle.claims.specs.NotRefused.{Lent, keys-right}
 use Rattle.paper.specs.Machine.{FullCertificate, Machine, Reaction, isSome, isOwn, isFrom, distinct, isFullCertificate, isCollected, uponSubmitDelivered, uponFullDelivered, addCollected, obtain, uponEvent, uponRules, react}
-use Rattle.paper.specs.Memory.{kept}
+use Rattle.paper.specs.Memory.{recordOf}
 use Rattle.paper.specs.Events.{delivered, isDelivered, reactTo}
 use Rattle.paper.specs.Rules.{AtRest, rest-quiet}
 
@@ -108,8 +108,8 @@ module _ (checks : Checks) (n round : ℕ) (keys : List ℕ) (seat : ℕ) (m : M
   not-obtained c e = ap (λ (b : Bool). uponRules checks n seat (cond b (obtain checks n seat c still) still)) e ∙ rest-quiet checks n seat still rest
 
   -- "SUBMIT heard before the own submit": value_i is ⊥, and no value is the own one
-  pub early-discarded : (msg : Message) → early (kept n seat round m) msg ≡ true → reactTo checks n seat (delivered msg) m ≡ still
-  unfolding early kept delivered reactTo react uponEvent isCollected
+  pub early-discarded : (msg : Message) → early (recordOf n seat round m) msg ≡ true → reactTo checks n seat (delivered msg) m ≡ still
+  unfolding early recordOf delivered reactTo react uponEvent isCollected
   early-discarded (Submit ρ s v g) e =
       not-collected s v g
       (ap (λ (b : Bool). checks s v g && b && not (isFrom s (m .collected))) (unsaid-own v (m .value) (not-true (isSome (m .value)) e))

@@ -11,14 +11,15 @@ use lib.Dec.{eqb}
 use lib.ListN.{take}
 use borrow.Author.Tests.{eqb-true, eqb-false, eq-eqb, ne-eqb, not-true}
 use Rattle.quorum.specs.Quorum.{bit, In, has, shared, with, seats}
-use Rattle.quorum.specs.Laws.{bit-cases, bit-empty, bit-with-same, bit-with-other, has-true, has-false, in-shared, mem-seats}
+use Rattle.quorum.specs.QuorumLaws.{bit-cases, bit-empty, bit-with-same, bit-with-other, has-true, has-false, in-shared, mem-seats}
+use Rattle.refusal.specs.Laws.{both-true, both-false}
 use Rattle.protocol.specs.Values.{isLower}
 use Rattle.protocol.specs.Message.{Entry, Full, Evidence}
 use Rattle.protocol.specs.Certificate.{setOf, signatureOf, entriesOf, fullOf, pairOf, pairsOf, orderedEvidence, evidenceOf}
 use Rattle.protocol.specs.CertificateLaws.{in-set, set-snoc}
 use Rattle.protocol.specs.Refusals.{rising}
 use Rattle.round.specs.Round.{Each}
-use Rattle.reading.specs.Lists.{cond-elim, and-true-both, or-false-both, each-nil, each-cons, each-map, rising-first}
+use Rattle.reading.specs.Lists.{cond-elim, each-nil, each-cons, each-map, rising-first}
 use Rattle.claims.specs.Certificates.{set-below}
 use Rattle.paper.specs.Machine.{isFrom, distinct}
 use Rattle.paper.specs.Memory.{seatsIn}
@@ -94,7 +95,7 @@ pub signature-is : (es : List Entry) → distinct es ≡ true → (e : Entry) �
 unfolding distinct signatureOf
 signature-is [] h e d = absurd (List·Memᴰ·not-nil d)
 signature-is (x ∷ es) h e d =
-    let both = and-true-both (not (isFrom (x .seat) es)) (distinct es) h in
+    let both = both-true (not (isFrom (x .seat) es)) (distinct es) h in
     ⊎-elim (λ q. subst (λ (y : Entry). signatureOf (x ∷ es) (y .seat) ≡ y .signature) (sym q) (rw (eq-eqb (x .seat) (x .seat) refl)))
     (λ t.
     let apart : x .seat ≢ e .seat = λ q. true≢false (sym (from-member e es t) ∙ subst (λ s. isFrom s es ≡ false) q (not-true (isFrom (x .seat) es) (both .0))) in
@@ -136,14 +137,14 @@ module _ (n round : ℕ) where
 from-more : (s : ℕ) (es : List Entry) (e : Entry) → isFrom s es ≡ false → e .seat ≢ s → isFrom s (es ++ e ∷ []) ≡ false
 unfolding isFrom
 from-more s [] e h d = rw (ne-eqb (e .seat) s d)
-from-more s (x ∷ es) e h d = let both = or-false-both (eqb (x .seat) s) (isFrom s es) h in rw (both .0) (from-more s es e (both .1) d)
+from-more s (x ∷ es) e h d = let both = both-false (eqb (x .seat) s) (isFrom s es) h in rw (both .0) (from-more s es e (both .1) d)
 
 pub distinct-more : (es : List Entry) (e : Entry) → distinct es ≡ true → isFrom (e .seat) es ≡ false → distinct (es ++ e ∷ []) ≡ true
 unfolding distinct isFrom
 distinct-more [] e h d = refl
 distinct-more (x ∷ es) e h d =
-    let both = and-true-both (not (isFrom (x .seat) es)) (distinct es) h in
-    let new = or-false-both (eqb (x .seat) (e .seat)) (isFrom (e .seat) es) d in
+    let both = both-true (not (isFrom (x .seat) es)) (distinct es) h in
+    let new = both-false (eqb (x .seat) (e .seat)) (isFrom (e .seat) es) d in
     rw (from-more (x .seat) es e (not-true (isFrom (x .seat) es) (both .0)) (λ q. eqb-false (x .seat) (e .seat) (new .0) (sym q))) (distinct-more es e (both .1) (new .1))
 
 -- the first of a list
@@ -156,14 +157,14 @@ from-take : (i s : ℕ) (es : List Entry) → isFrom s es ≡ false → isFrom s
 unfolding isFrom
 from-take zero s es h = refl
 from-take (suc i) s [] h = refl
-from-take (suc i) s (e ∷ es) h = let both = or-false-both (eqb (e .seat) s) (isFrom s es) h in rw (both .0) (from-take i s es (both .1))
+from-take (suc i) s (e ∷ es) h = let both = both-false (eqb (e .seat) s) (isFrom s es) h in rw (both .0) (from-take i s es (both .1))
 
 pub distinct-take : (i : ℕ) (es : List Entry) → distinct es ≡ true → distinct (take i es) ≡ true
 unfolding distinct
 distinct-take zero es h = refl
 distinct-take (suc i) [] h = refl
 distinct-take (suc i) (e ∷ es) h =
-    let both = and-true-both (not (isFrom (e .seat) es)) (distinct es) h in
+    let both = both-true (not (isFrom (e .seat) es)) (distinct es) h in
     rw (from-take i (e .seat) es (not-true (isFrom (e .seat) es) (both .0))) (distinct-take i es (both .1))
 
 -- ---- entries whose seats rise are from distinct seats

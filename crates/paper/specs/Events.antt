@@ -13,7 +13,7 @@ use Rattle.protocol.specs.Message.{Message, Submit, Notice, Full, Evidence, Gar
 use Rattle.protocol.specs.Refusals.{Checks, isForStep, rising}
 use Rattle.round.specs.Round.{Setting, Each, Call, BySubmit, ByStep, ByThinEntry, IsStep, Called, resultOf, writtenIn, Are}
 use Rattle.paper.specs.Machine.{Machine, Event, Submitted, SubmitDelivered, NoticeDelivered, FullDelivered, Action, Reaction, react, SaysEach}
-use Rattle.paper.specs.Memory.{Keeps}
+use Rattle.paper.specs.Memory.{Recorded}
 
 -- a message delivered; EVIDENCE is none of the paper's, and no step takes it
 unfoldable pub delivered : Message → Option Event
@@ -47,15 +47,15 @@ module _ (S : Setting) (seat : ℕ) where
 
   -- At a call, with the machine in step:
   pub record AtCall (m : Machine) (t : Called) : Type 0 where
-    -- the record and the store that it gets are what they keep of the machine's state;
-    pub gets : Keeps n seat round m (t .unit) (t .store)
+    -- the record and the store that it gets are those of the machine's state;
+    pub gets : Recorded n seat round m (t .unit) (t .store)
     -- the bytes that it writes are what the machine does at that event, each action sent as its command, one after another. (`Are`
     -- says that they are these messages and no others: bytes are messages in one way only, `claims/specs/Reading: are-unique`.)
     pub sends : List Message
     pub writes : Are n (writtenIn S t) sends
     pub says : SaysEach round seat (reaction t m .actions) sends
-    -- the record and the store that it leaves are what they keep of the machine's next state.
-    pub leaves : Keeps n seat round (reaction t m .machine) (resultOf S t .unit) (resultOf S t .store)
+    -- the record and the store that it leaves are those of the machine's next state.
+    pub leaves : Recorded n seat round (reaction t m .machine) (resultOf S t .unit) (resultOf S t .store)
 
   -- at each call of a list, to the last
   abbrev pub DoesAs : Machine → List Called → Type 0

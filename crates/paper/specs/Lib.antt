@@ -1,7 +1,7 @@
 -- The ABC paper's accountable confirmer, and the claim that the engine does exactly what it does (demand 2).
 --
 -- To read, in this order: `Machine` has the paper's Algorithm 2 as an abstract machine that forgets nothing, and what its actions are on
--- the air; `Memory` what a unit's record and store keep of it; `Events` the calls of a list as its events, with what the claim says;
+-- the air; `Memory` what a unit's record and store have of it; `Events` the calls of a list as its events, with what the claim says;
 -- `Received` where everything that is sent comes from. The claims are in `Claim`, and in `Happens` that no call is passed over that should
 -- be an event. `Guard` has runs that show that they say something; docs/PAPER.md has the paper's lines beside the definitions.
 --

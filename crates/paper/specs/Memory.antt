@@ -1,4 +1,4 @@
--- What a unit's record and store keep of the machine: all else is forgotten.
+-- What a unit's record and store have of the machine: all else is forgotten.
 -- Assumes nothing.
 use Prim.Native.Nat.{ℕ}
 use mathlib.Core.Path.{_≡_}
@@ -37,8 +37,8 @@ guiltyOf none = 0
 guiltyOf (some p) = shared (seatsIn (p .0 .entries)) (seatsIn (p .1 .entries))
 
 -- the record of a unit at a seat in a round: of all signatures over its value, the seats of the first k
-unfoldable pub kept : ℕ → ℕ → ℕ → Machine → Record
-kept n seat round m = record {
+unfoldable pub recordOf : ℕ → ℕ → ℕ → Machine → Record
+recordOf n seat round m = record {
   n = n;
   seat = seat;
   round = round;
@@ -56,7 +56,7 @@ firstEntries [] = []
 firstEntries (c ∷ cs) = c .entries
 
 -- record and store: "n slots of 1,452 for collected signatures, then n for the first certificate, each by seat"
-pub record Keeps (n seat round : ℕ) (m : Machine) (r : Record) (store : List ℕ) : Type 0 where
-  pub unit : r ≡ kept n seat round m
+pub record Recorded (n seat round : ℕ) (m : Machine) (r : Record) (store : List ℕ) : Type 0 where
+  pub unit : r ≡ recordOf n seat round m
   pub collected : Each (λ (e : Entry). slot n collectedBank store (e .seat) ≡ e .signature) (take (k n) (m .collected))
   pub first : Each (λ (e : Entry). slot n firstBank store (e .seat) ≡ e .signature) (firstEntries (m .obtained))

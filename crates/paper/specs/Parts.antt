@@ -1,5 +1,5 @@
--- The parts of a submit and a step, each beside the machine's `upon`: from the record that the machine's state keeps it comes to
--- the record that the machine's next state keeps, and writes what the machine sends.
+-- The parts of a submit and a step, each beside the machine's `upon`: from the record of the machine's state it comes to
+-- the record of the machine's next state, and writes what the machine sends.
 -- Assumes nothing.
 use Prim.Native.Nat.{ℕ, _^_, _≤_, _<_}
 use mathlib.Core.Path.{_≡_, refl, sym, ap, subst, _∙_}
@@ -16,7 +16,7 @@ use borrow.Author.Tests.{leb-true, leb-false, eq-eqb, ne-eqb}
 use Rattle.octets.specs.Strings.{same}
 use Rattle.octets.specs.StringLaws.{same-refl}
 use Rattle.quorum.specs.Quorum.{k, In, size, shared, seats}
-use Rattle.quorum.specs.Laws.{size-empty, mem-seats, k-of-n-share}
+use Rattle.quorum.specs.QuorumLaws.{size-empty, mem-seats, k-of-n-share}
 use Rattle.protocol.specs.Layout.{signatureLength, storeLength, collectedBank, firstBank}
 use Rattle.protocol.specs.LayoutLaws.{collected-bank, first-bank}
 use Rattle.protocol.specs.Entries.{formSeats}
@@ -32,7 +32,7 @@ use Rattle.reading.specs.Lists.{cond-elim, each-one, each-append}
 use Rattle.claims.specs.Parts.{k-pos, in-below}
 use Rattle.claims.specs.Slots.{slot-fillEach-other, slot-fillEach-same}
 use Rattle.paper.specs.Machine.{FullCertificate, Machine, Action, ConfirmAndNotice, BroadcastFull, Detect, Reaction, act, setConfirmed, addNoticed, addObtained, setSent, isSome, ownValue, other, pairOr, conflict, valueOfNotice, valueOfFull, ownFull, uponNoticeDelivered, obtain, confirming, uponQuorum, sending, uponNoticesConflict, detecting, uponFullsConflict, uponRules}
-use Rattle.paper.specs.Memory.{seatsIn, noticesOf, heldFirst, guiltyOf, kept, firstEntries}
+use Rattle.paper.specs.Memory.{seatsIn, noticesOf, heldFirst, guiltyOf, recordOf, firstEntries}
 use Rattle.paper.specs.Conflicts.{same-sym, some-none, other-none, other-more, other-still, conflict-head, head-none}
 use Rattle.paper.specs.Entries.{seats-below, signature-each, full-same, evidence-same, each-take}
 use Rattle.paper.specs.Spoken.{spoken}
@@ -87,7 +87,7 @@ first-below n (c ∷ cs) h = h c (List·Memᴰ·head refl) .below
 
 module _ (n seat round : ℕ) where
   abbrev pub at : Reaction → List ℕ → State
-  at x store = record { unit = kept n seat round (x .machine); store = store; written = map (spoken n round seat) (x .actions) }
+  at x store = record { unit = recordOf n seat round (x .machine); store = store; written = map (spoken n round seat) (x .actions) }
 
   -- a state beside the machine's
   pub record Comes (s : State) (x : Reaction) : Type 0 where
@@ -102,10 +102,10 @@ module _ (n seat round : ℕ) where
   pub write-is : (a : Action) (x : Reaction) (store : List ℕ) → write (spoken n round seat a) (at x store) ≡ at (act a x) store
   unfolding write act
   write-is a x store =
-      ap (λ (ws : List Message). record { unit = kept n seat round (x .machine); store = store; written = ws }) (sym (map-append (spoken n round seat) (x .actions) (a ∷ [])))
+      ap (λ (ws : List Message). record { unit = recordOf n seat round (x .machine); store = store; written = ws }) (sym (map-append (spoken n round seat) (x .actions) (a ∷ [])))
 
   pub hear-is : (v : List ℕ) (x : Reaction) (store : List ℕ) → hear v (at x store) ≡ at (addNoticed v x) store
-  unfolding hear kept
+  unfolding hear recordOf
   hear-is v x store =
       ap (λ (y : Notices). record {
         unit = record {
@@ -122,22 +122,22 @@ module _ (n seat round : ℕ) where
         store = store;
         written = map (spoken n round seat) (x .actions);
       })
-      (notices-more v (x .machine .noticed) (kept n seat round (x .machine)) refl)
+      (notices-more v (x .machine .noticed) (recordOf n seat round (x .machine)) refl)
 
   -- ---- reply: line 33
 
-  owes-is : (m : Machine) → (m .confirmed ≡ true → List·Memᴰ (ownValue (m .value)) (m .noticed)) → owesFull (kept n seat round m) ≡ (m .confirmed && not (m .sent) && isSome (conflict valueOfNotice (m .noticed)))
-  unfolding owesFull kept
+  owes-is : (m : Machine) → (m .confirmed ≡ true → List·Memᴰ (ownValue (m .value)) (m .noticed)) → owesFull (recordOf n seat round m) ≡ (m .confirmed && not (m .sent) && isSome (conflict valueOfNotice (m .noticed)))
+  unfolding owesFull recordOf
   owes-is m heard = go (m .confirmed) refl
     where
-      go : (b : Bool) → m .confirmed ≡ b → (b && not (m .sent) && otherHeard (kept n seat round m)) ≡ (b && not (m .sent) && isSome (conflict valueOfNotice (m .noticed)))
-      go true e = ap (λ (o : Bool). not (m .sent) && o) (other-heard-is (m .noticed) (kept n seat round m) refl (heard e))
+      go : (b : Bool) → m .confirmed ≡ b → (b && not (m .sent) && otherHeard (recordOf n seat round m)) ≡ (b && not (m .sent) && isSome (conflict valueOfNotice (m .noticed)))
+      go true e = ap (λ (o : Bool). not (m .sent) && o) (other-heard-is (m .noticed) (recordOf n seat round m) refl (heard e))
       go false e = refl
 
   module _ (checks : Checks) where
     send-is : (x : Reaction) (store : List ℕ) → ((s : ℕ) → In s (seatsIn (take (k n) (x .machine .collected))) → slot n collectedBank store s ≡ signatureOf (take (k n) (x .machine .collected)) s)
         → sendFull (at x store) ≡ at (sending checks n seat x) store
-    unfolding sendFull ownCertificate kept sending spoken certificateOf formSeats fullForm ownFull seatsIn
+    unfolding sendFull ownCertificate recordOf sending spoken certificateOf formSeats fullForm ownFull seatsIn
     send-is x store own =
         let m = x .machine in
         ap (λ (y : Message). write y (at (setSent x) store)) (full-same n round seat (ownValue (m .value)) (seatsIn (take (k n) (m .collected))) (slot n collectedBank store) (signatureOf (take (k n) (m .collected))) own)
@@ -208,33 +208,33 @@ module _ (n seat round : ℕ) where
         }
 
         module _ (f : FullCertificate) (rest : List FullCertificate) where
-          held : (detected : Option (FullCertificate × FullCertificate)) → Mirror n store value confirmed collected noticed (f ∷ rest) detected → holds (kept n seat round (with-certificates (f ∷ rest) detected .machine)) ≡ true
-          unfolding holds kept heldFirst
+          held : (detected : Option (FullCertificate × FullCertificate)) → Mirror n store value confirmed collected noticed (f ∷ rest) detected → holds (recordOf n seat round (with-certificates (f ∷ rest) detected .machine)) ≡ true
+          unfolding holds recordOf heldFirst
           held detected z = rw (ne-eqb (seatsIn (f .entries)) 0 (quorum-some f (z .obtaining .quorums f (List·Memᴰ·head refl))))
 
           -- the first stays the first
           still : (detected : Option (FullCertificate × FullCertificate)) → at (with-certificates (f ∷ rest) detected) store ≡ at (with-certificates (f ∷ (rest ++ q ∷ [])) detected) store
-          unfolding kept heldFirst
+          unfolding recordOf heldFirst
           still detected = refl
 
-          quiet-is : (detected : Option (FullCertificate × FullCertificate)) → Mirror n store value confirmed collected noticed (f ∷ rest) detected → blames c (kept n seat round (with-certificates (f ∷ rest) detected .machine)) ≡ false
+          quiet-is : (detected : Option (FullCertificate × FullCertificate)) → Mirror n store value confirmed collected noticed (f ∷ rest) detected → blames c (recordOf n seat round (with-certificates (f ∷ rest) detected .machine)) ≡ false
               → holdOrBlame c (at (with-certificates (f ∷ rest) detected) store) ≡ at (with-certificates (f ∷ (rest ++ q ∷ [])) detected) store
           unfolding holdOrBlame
           quiet-is detected z b = rw (held detected z, b) (still detected)
 
           -- while guilty seats are empty, one with another value is blamed
-          blames-is : blames c (kept n seat round (with-certificates (f ∷ rest) none .machine)) ≡ not (same (f .value) (q .value))
-          unfolding blames kept heldFirst guiltyOf
+          blames-is : blames c (recordOf n seat round (with-certificates (f ∷ rest) none .machine)) ≡ not (same (f .value) (q .value))
+          unfolding blames recordOf heldFirst guiltyOf
           blames-is = and-true (not (same (q .value) (f .value))) ∙ ap not (same-sym (q .value) (f .value))
 
           -- and after that none is
-          blames-none : (p : FullCertificate × FullCertificate) → guiltyOf (some p) ≢ 0 → blames c (kept n seat round (with-certificates (f ∷ rest) (some p) .machine)) ≡ false
-          unfolding blames kept heldFirst
+          blames-none : (p : FullCertificate × FullCertificate) → guiltyOf (some p) ≢ 0 → blames c (recordOf n seat round (with-certificates (f ∷ rest) (some p) .machine)) ≡ false
+          unfolding blames recordOf heldFirst
           blames-none p g = rw (ne-eqb (guiltyOf (some p)) 0 g) (and-false (not (same (q .value) (f .value))))
 
           blame-is : ((s : ℕ) → In s (seatsIn (f .entries)) → slot n firstBank store s ≡ signatureOf (f .entries) s)
               → blame c (at (with-certificates (f ∷ rest) none) store) ≡ at (act (Detect f q) (with-certificates (f ∷ (rest ++ q ∷ [])) (some (f, q)))) store
-          unfolding blame firstCertificate kept heldFirst guiltyOf spoken certificateOf formSeats fullForm seatsIn
+          unfolding blame firstCertificate recordOf heldFirst guiltyOf spoken certificateOf formSeats fullForm seatsIn
           blame-is first =
               ap (λ (m : Message). write m (at (with-certificates (f ∷ (rest ++ q ∷ [])) (some (f, q))) store))
               (evidence-same n round (f .value) (q .value) (seatsIn (f .entries)) (seatsIn (q .entries)) (slot n firstBank store) (signatureOf (f .entries)) signature (signatureOf (q .entries)) first agree)
@@ -270,7 +270,7 @@ module _ (n seat round : ℕ) where
               subst (Comes (holdOrBlame c (at (with-certificates (f ∷ rest) none) store))) (ap (λ (o : Option (FullCertificate × FullCertificate)). detecting checks n seat o (with-certificates (f ∷ (rest ++ q ∷ [])) none)) (sym found))
               (record {
                 store = store;
-                is = ap (λ (b : Bool). cond b (cond (blames c (kept n seat round (with-certificates (f ∷ rest) none .machine))) (blame c (at (with-certificates (f ∷ rest) none) store)) (at (with-certificates (f ∷ rest) none) store)) (hold c (at (with-certificates (f ∷ rest) none) store))) (held none z)
+                is = ap (λ (b : Bool). cond b (cond (blames c (recordOf n seat round (with-certificates (f ∷ rest) none .machine))) (blame c (at (with-certificates (f ∷ rest) none) store)) (at (with-certificates (f ∷ rest) none) store)) (hold c (at (with-certificates (f ∷ rest) none) store))) (held none z)
                     ∙ ap (λ (b : Bool). cond b (blame c (at (with-certificates (f ∷ rest) none) store)) (at (with-certificates (f ∷ rest) none) store)) (blames-is ∙ ap not e)
                     ∙ blame-is (z .stored .first);
                 mirrors = more-mirror f rest none (some (f, q)) z (λ h. absurd (some-none (f, q) (some (f, q)) refl h)) (blame-guilty z);
@@ -278,7 +278,7 @@ module _ (n seat round : ℕ) where
 
         hold-comes : (detected : Option (FullCertificate × FullCertificate)) → Mirror n store value confirmed collected noticed [] detected
             → Comes (holdOrBlame c (at (with-certificates [] detected) store)) (uponFullsConflict checks n seat (with-certificates (q ∷ []) detected))
-        unfolding holdOrBlame hold holds kept heldFirst conflict other pairOr
+        unfolding holdOrBlame hold holds recordOf heldFirst conflict other pairOr
         hold-comes detected z =
             subst (Comes (holdOrBlame c (at (with-certificates [] detected) store))) (sym (fulls-quiet checks n seat (with-certificates (q ∷ []) detected) (λ h. refl)))
             (record { store = fillEach n firstBank signature (seats n (seatsIn (q .entries))) store; is = refl; mirrors = hold-mirror detected z })
@@ -332,8 +332,8 @@ module _ (n seat round : ℕ) where
           let counted = collecting .counted in
           ne-eqb (size (seatsIn (take (k n) (x .machine .collected)))) (k n) (λ h. omega arith)
 
-      complete-is : isComplete (kept n seat round (x .machine)) ≡ (not (x .machine .confirmed) && complete)
-      unfolding isComplete kept
+      complete-is : isComplete (recordOf n seat round (x .machine)) ≡ (not (x .machine .confirmed) && complete)
+      unfolding isComplete recordOf
       complete-is = ap (λ (b : Bool). not (x .machine .confirmed) && b) (taken-size complete refl)
 
       -- the unit's own certificate
@@ -346,7 +346,7 @@ module _ (n seat round : ℕ) where
       }
 
       confirmed-is : complete ≡ true → Comes (hearOwn (confirm (at x store))) (uponFullsConflict checks n seat (uponNoticesConflict checks n seat (confirming checks n seat x)))
-      unfolding hearOwn ownCertificate confirm kept confirming ownFull spoken act
+      unfolding hearOwn ownCertificate confirm recordOf confirming ownFull spoken act
       confirmed-is e =
           let m = x .machine in
           let own = ownFull checks n seat m in

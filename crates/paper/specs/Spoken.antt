@@ -8,7 +8,7 @@ use mathlib.Core.Logic.{inl, inr, ⊎-elim, _≢_, _↔_}
 use native.Mathlib.Omega.{arith}
 use lib.ListN.{length}
 use Rattle.quorum.specs.Quorum.{In, shared, seats}
-use Rattle.quorum.specs.Laws.{mem-seats, in-shared}
+use Rattle.quorum.specs.QuorumLaws.{mem-seats, in-shared}
 use Rattle.protocol.specs.Layout.{valueLength}
 use Rattle.protocol.specs.Values.{isLower}
 use Rattle.protocol.specs.Entries.{formSeats}

@@ -1,5 +1,5 @@
--- Each call as a function of what it is given. "The lowest number whose condition holds is returned"; "A refusal returns its
--- number and 0 bytes written; record, store, tree and out keep every byte."
+-- Each call as a function of what it is given. It answers the first number of its list whose condition holds (`Order`). "A refusal
+-- returns its number and 0 bytes written; record, store, tree and out keep every byte."
 -- Assumes nothing.
 use Prim.Native.Nat.{ℕ}
 use mathlib.Core.Bool.{cond}

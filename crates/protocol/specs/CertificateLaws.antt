@@ -7,7 +7,7 @@ use Prim.Native.Nat.{ℕ, _^_, _<_}
 use native.Mathlib.Omega.{arith}
 use native.Mathlib.Decide.{decLt, ℕ-discrete}
 use Rattle.quorum.specs.Quorum.{In, bit, with, union, one, seats}
-use Rattle.quorum.specs.Laws.{bit-cases, bit-empty, bit-one-same, bit-one-other, bit-outside, bit-union, in-union, same-seats, mem-seats}
+use Rattle.quorum.specs.QuorumLaws.{bit-cases, bit-empty, bit-one-same, bit-one-other, bit-outside, bit-union, in-union, same-seats, mem-seats}
 use Rattle.protocol.specs.Certificate.{fill, fillEach, setOf}
 
 with-with : (s t m : ℕ) → with s (with t m) ≡ with t (with s m)

@@ -10,7 +10,7 @@ use lib.ListN.{length, take, drop, getD, length-append, take-append-drop}
 use lib.Seq.{take-at, drop-at, take-all, take-length, drop-drop, getD-drop, getD-at}
 use borrow.Author.Tests.{eq-eqb, le-leb}
 use Rattle.octets.specs.Octets.{be, part}
-use Rattle.octets.specs.Laws.{length-be}
+use Rattle.octets.specs.OctetLaws.{length-be}
 use Rattle.quorum.specs.Quorum.{k}
 use Rattle.protocol.specs.Layout.{valueLength, signatureLength, seatAt, valueAt, submitLength, noticeLength, fullCountAt, fullStart, fullEntryLength, fullEntryAt, fullLength, lowerAt, higherAt, evidenceCountAt, evidenceStart, evidenceEntryLength, evidenceEntryAt, evidenceLength}
 use Rattle.protocol.specs.Entries.{Each, Form, Laid, renderEntries}

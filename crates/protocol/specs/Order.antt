@@ -1,12 +1,15 @@
--- "The lowest number whose condition holds is returned; over two certificates, the first one's 9 to 14 come before the second's."
--- The numbers of every list rise, which is computed: so the first whose condition holds is the lowest.
+-- The order in which the table's numbers are looked at, and that every call answers the first number in it whose condition holds, "over
+-- two certificates, the first one's 9 to 14 .. before the second's". The numbers rise in this order, so that it is what document 01
+-- says: "The lowest number whose condition holds is returned".
 -- Assumes nothing.
 use Prim.Native.Nat.{ℕ}
 use mathlib.Core.Path.{_≡_, refl, ap, _∙_}
 use mathlib.Core.Bool.{true}
 use mathlib.Core.List.{List, [], _∷_, _++_, map}
-use Rattle.refusal.specs.Refusal.{firstOf}
-use Rattle.refusal.specs.Lowest.{numbers, riseFrom, rise, both-true, Lowest, firstOf-is, _before_, firstOf-before}
+use Rattle.refusal.specs.Refusal.{firstOf, numbers, nonzero, _before_}
+use Rattle.refusal.specs.Laws.{both-true, firstOf-before}
+use Rattle.refusal.specs.Order.{isIn, distinct, follows, held, firstIn, firstOf-in-order}
+use Rattle.refusal.specs.Lowest.{riseFrom, rise, Lowest, firstOf-lowest, rise-in}
 use Rattle.protocol.specs.Layout.{outLength, evidenceOutLength}
 use Rattle.protocol.specs.Message.{read}
 use Rattle.protocol.specs.Refusals.{Condition, Checks, every, SIZE, SEAT, ROUND, RECORD, KEYS, STORE, OUT, SAID, GARBLED, OTHER-ROUND, STRANGER, DISORDER, EARLY, early, SIGNATURE, NO-CONFLICT-IN, NO-CONFLICT-BETWEEN, KEY-MATERIAL, outsideConditions, recordConditions, messageConditions, certificateConditions, twoConditions, openingConditions, submitConditions, stepConditions, evidenceConditions, makingConditions, lowerConditions, checkConditions, makeKeyConditions, signConditions}
@@ -14,20 +17,48 @@ use Rattle.protocol.specs.Signatures.{checkSignature, makeKeyRefusal, ma
 use Rattle.protocol.specs.Calls as calls
 use Rattle.protocol.specs.declared.Record.{Record}
 
--- `lowest` finds the lowest number
-abbrev pub Found : List Condition → Type 0
-Found conditions = Lowest (firstOf conditions) conditions
+-- ---- the order
 
-unfoldable pub EachFound : List (List Condition) → Type 0
-EachFound [] = Unit
-EachFound (conditions ∷ rest) = Found conditions × EachFound rest
+unfoldable pub order : List ℕ
+order = 1 ∷ 2 ∷ 3 ∷ 4 ∷ 5 ∷ 6 ∷ 7 ∷ 8 ∷ 9 ∷ 10 ∷ 11 ∷ 12 ∷ 13 ∷ 14 ∷ 15 ∷ 16 ∷ []
 
-each : (lists : List (List Condition)) → every rise (map numbers lists) ≡ true → EachFound lists
-unfolding every EachFound
-each [] e = tt
-each (conditions ∷ rest) e =
-    let p = both-true (rise (numbers conditions)) (every rise (map numbers rest)) e in
-    (firstOf-is conditions (p .0), each rest (p .1))
+order-distinct : distinct order ≡ true
+unfolding order distinct isIn
+order-distinct = refl
+
+order-rises : rise order ≡ true
+unfolding order rise riseFrom
+order-rises = refl
+
+-- the number is the first in the order whose condition holds, or 0 where none does
+abbrev pub FirstInOrder : ℕ → List Condition → Type 0
+FirstInOrder n conditions = n ≡ firstIn order (held conditions)
+
+-- a list whose numbers follow the order: `firstOf` finds the first, which is the lowest
+abbrev Follows : List Condition → Type 0
+Follows conditions = follows order (numbers conditions) ≡ true
+
+finds-first : (conditions : List Condition) → Follows conditions → FirstInOrder (firstOf conditions) conditions
+finds-first conditions f = firstOf-in-order order conditions order-distinct f
+
+finds-lowest : (conditions : List Condition) → Follows conditions → Lowest (firstOf conditions) conditions
+finds-lowest conditions f = firstOf-lowest conditions (rise-in order (numbers conditions) order-rises f)
+
+-- ---- every list
+
+-- what holds of the number that `firstOf` finds, in each list
+module _ (Is : ℕ → List Condition → Type 0) where
+  abbrev EachIs : List (List Condition) → Type 0
+  EachIs [] = Unit {0}
+  EachIs (conditions ∷ rest) = Is (firstOf conditions) conditions × EachIs rest
+
+  each : ((conditions : List Condition) → Follows conditions → Is (firstOf conditions) conditions)
+      → (lists : List (List Condition)) → every (follows order) (map numbers lists) ≡ true → EachIs lists
+  unfolding every
+  each find [] e = tt
+  each find (conditions ∷ rest) e =
+      let p = both-true (follows order (numbers conditions)) (every (follows order) (map numbers rest)) e in
+      (find conditions (p .0), each find rest (p .1))
 
 module _
     (n seat round leaf : ℕ) (keys store value signature out key message seed I C tree bytes first second : List ℕ) (checks : Checks)
@@ -41,9 +72,10 @@ module _
         ∷ OTHER-ROUND round m ∷ STRANGER n m ∷ DISORDER m ∷ EARLY (early r m) ∷ SIGNATURE checks m ∷ NO-CONFLICT-IN m ∷ KEY-MATERIAL seed I tree
         ∷ []
 
-    pub table-numbers : numbers table ≡ 1 ∷ 2 ∷ 3 ∷ 4 ∷ 5 ∷ 6 ∷ 7 ∷ 8 ∷ 9 ∷ 10 ∷ 11 ∷ 12 ∷ 13 ∷ 14 ∷ 15 ∷ 16 ∷ []
-    unfolding numbers
-    table-numbers = refl
+    -- each stands in the order, in its place
+    pub table-ordered : numbers table ≡ order
+    unfolding numbers order
+    table-ordered = refl
 
     -- over two certificates: what the call is given besides, and one certificate's 9 to 14
     abbrev pub making-given : List Condition
@@ -78,35 +110,35 @@ module _
         ∷ []
 
     -- computed: a list's numbers don't hang on its conditions
-    pub lists-rise : every rise (map numbers lists) ≡ true
-    unfolding every rise riseFrom numbers openingConditions submitConditions stepConditions evidenceConditions checkConditions makeKeyConditions signConditions outsideConditions recordConditions messageConditions certificateConditions
-    lists-rise = refl
+    pub lists-follow : every (follows order) (map numbers lists) ≡ true
+    unfolding every follows order numbers openingConditions submitConditions stepConditions evidenceConditions checkConditions makeKeyConditions signConditions outsideConditions recordConditions messageConditions certificateConditions
+    lists-follow = refl
 
-    -- each call answers the lowest number of its list whose condition holds, or 0; over two certificates that of the call's own,
-    -- before that of the first certificate, before that of the second, before 15
-    pub record Answers : Type 0 where
-      pub opening : Lowest (calls.opening n seat round keys .number) (openingConditions n seat round keys)
-      pub submit : Lowest (calls.submit checks keys r store value signature out .refusal) (submitConditions checks keys r store value signature out)
-      pub step : Lowest (calls.step checks keys r store bytes out .refusal) (stepConditions checks keys r store (read (r .n) bytes) out)
-      pub evidence : Lowest (calls.evidenceCheck checks n round keys bytes .number) (evidenceConditions checks n round keys (read n bytes))
-      pub check : Lowest (checkSignature key message signature) (checkConditions key message signature)
-      pub key-maker : Lowest (makeKey seed I tree out .refusal) (makeKeyConditions seed I tree out)
-      pub signer : Lowest (sign leaf message seed I C tree out .refusal) (signConditions leaf message seed I C tree out)
+    -- each call answers such a number of its list; over two certificates that of the call's own, before that of the first certificate,
+    -- before that of the second, before 15
+    pub record Answers (Is : ℕ → List Condition → Type 0) : Type 0 where
+      pub opening : Is (calls.opening n seat round keys .number) (openingConditions n seat round keys)
+      pub submit : Is (calls.submit checks keys r store value signature out .refusal) (submitConditions checks keys r store value signature out)
+      pub step : Is (calls.step checks keys r store bytes out .refusal) (stepConditions checks keys r store (read (r .n) bytes) out)
+      pub evidence : Is (calls.evidenceCheck checks n round keys bytes .number) (evidenceConditions checks n round keys (read n bytes))
+      pub check : Is (checkSignature key message signature) (checkConditions key message signature)
+      pub key-maker : Is (makeKey seed I tree out .refusal) (makeKeyConditions seed I tree out)
+      pub signer : Is (sign leaf message seed I C tree out .refusal) (signConditions leaf message seed I C tree out)
       pub making : calls.making checks n round keys first second out .refusal ≡ (firstOf making-given before firstOf of-first before firstOf of-second before firstOf of-both)
       pub lower : firstOf (lowerConditions checks n round keys (read n first) (read n second)) ≡ (firstOf lower-given before firstOf of-first before firstOf of-second before firstOf of-both)
-      pub parts : Found making-given × Found lower-given × Found of-first × Found of-second
+      pub parts : Is (firstOf making-given) making-given × Is (firstOf lower-given) lower-given × Is (firstOf of-first) of-first × Is (firstOf of-second) of-second
 
-    two-before : (given : List Condition) → rise (numbers given) ≡ true
+    two-before : (given : List Condition) → nonzero (numbers given) ≡ true
         → firstOf (given ++ twoConditions checks n round (read n first) (read n second)) ≡ (firstOf given before firstOf of-first before firstOf of-second before firstOf of-both)
-    unfolding twoConditions certificateConditions messageConditions rise riseFrom numbers
+    unfolding twoConditions certificateConditions messageConditions nonzero numbers
     two-before given e =
         firstOf-before given _ e
         ∙ ap (λ later. firstOf given before later) (firstOf-before of-first (of-second ++ of-both) refl ∙ ap (λ later. firstOf of-first before later) (firstOf-before of-second of-both refl))
 
-    pub answers : Answers
-    unfolding EachFound calls.opening calls.openedBy calls.submit calls.step calls.resultBy calls.evidenceCheck calls.checkedBy calls.making calls.makingBy checkSignature makeKey makeKeyRefusal sign signRefusal makingConditions lowerConditions outsideConditions rise riseFrom numbers
-    answers =
-        let found = each lists lists-rise in
+    answers-each : (Is : ℕ → List Condition → Type 0) → ((conditions : List Condition) → Follows conditions → Is (firstOf conditions) conditions) → Answers Is
+    unfolding calls.opening calls.openedBy calls.submit calls.step calls.resultBy calls.evidenceCheck calls.checkedBy calls.making calls.makingBy checkSignature makeKey makeKeyRefusal sign signRefusal makingConditions lowerConditions outsideConditions nonzero numbers
+    answers-each Is find =
+        let found = each Is find lists lists-follow in
         let two = found .1 .1 .1 .1 .1 .1 .1 in
         record {
           opening = found .0;
@@ -120,3 +152,11 @@ module _
           lower = two-before lower-given refl;
           parts = (two .0, two .1 .0, two .1 .1 .0, two .1 .1 .1 .0);
         }
+
+    -- the first in the order
+    pub answers : Answers FirstInOrder
+    answers = answers-each FirstInOrder finds-first
+
+    -- "The lowest number whose condition holds is returned"
+    pub answers-lowest : Answers Lowest
+    answers-lowest = answers-each Lowest finds-lowest

@@ -1,5 +1,5 @@
 -- "What is turned back" (document 01): the table's numbers, words and conditions in its order, and for each call the list of its
--- rows, in which the lowest number is sought. The conditions in full are in `Conditions` and `Record`; those of `Conditions`
+-- rows, of which the first that holds is answered. The conditions in full are in `Conditions` and `Record`; those of `Conditions`
 -- are passed on here.
 -- Assumes nothing.
 unfoldable pub use Rattle.protocol.specs.Conditions.{Checks, every, keyAllowed, keysAllowed, wrongKeys, lengthIsnt, wrongKey, shortStore, shortOut, said, isForStep, isFull, isEvidence, wrongLengths, tooLong, otherRound, stranger, rising, disorder, early, badSignature, notLowerFirst, equalValues, wrongMakerMaterial, wrongSignerMaterial}

@@ -8,7 +8,7 @@ use native.Mathlib.Omega.{arith}
 use lib.Dec.{eqb, ltb}
 use lib.ListN.{length, length-append}
 use borrow.Author.Tests.{le-ltb, eqb-true, not-false}
-use Rattle.octets.specs.Laws.{length-be, length-part}
+use Rattle.octets.specs.OctetLaws.{length-be, length-part}
 use Rattle.refusal.specs.Refusal.{firstOf, unrefused}
 use Rattle.rfc8554.specs.Ots.{chains, otsLength, knownOts, width}
 use Rattle.rfc8554.specs.Tree.{knownLms, height, publicKey, treeFilled, path, lmsSignature}
@@ -72,7 +72,7 @@ module _ (I : List ℕ) (leaf : ℕ) (seed C message tree : List ℕ) (l : leaf 
   pub length-lmsSignature-six-four : length (lmsSignature 6 4 I leaf seed C message tree) ≡ signatureLength
   length-lmsSignature-six-four = length-lmsSignature 6 4 I leaf seed C message tree c length-path ∙ length-six-four
 
--- ---- the key maker and the signer: a refusal writes nothing, and keeps the tree
+-- ---- the key maker and the signer: a refusal writes nothing, and leaves the tree as it was
 
 pub makeKey-refused : (seed I tree out : List ℕ) (n : ℕ) → makeKeyRefusal seed I tree out ≡ suc n
     → makeKey seed I tree out ≡ record { refusal = suc n; written = []; tree = tree }

@@ -8,7 +8,7 @@ use Prim.Native.Nat.{ℕ}
 use Rattle.protocol.specs.Message.{Message}
 use Rattle.protocol.specs.Certificate.{Certificate, ownCertificate}
 use Rattle.protocol.specs.Record.{holds}
-use Rattle.protocol.specs.Step.{State, write, collect, setOwnValue, submitOwn, isWanted, hearSubmit, hear, owesFull, sendFull, reply, hold, blame, blames, holdOrBlame, hearCertificate, isComplete, confirm, hearOwn, confirmIfComplete}
+use Rattle.protocol.specs.Step.{State, write, hear, owesFull, sendFull, reply, hold, blame, blames, holdOrBlame, hearCertificate, isComplete, confirm, hearOwn, confirmIfComplete}
 
 -- a state with messages written before its own
 abbrev pub after : List Message → State → State
@@ -17,22 +17,6 @@ after ms s = record { unit = s .unit; store = s .store; written = ms ++ s .writt
 pub after-cond : (ms : List Message) (b : Bool) (s t : State) → cond b (after ms s) (after ms t) ≡ after ms (cond b s t)
 after-cond ms true s t = refl
 after-cond ms false s t = refl
-
-pub write-after : (m : Message) (ms : List Message) (s : State) → write m (after ms s) ≡ after ms (write m s)
-unfolding write
-write-after m ms s = rw append-assoc
-
-pub collect-after : (seat : ℕ) (signature : List ℕ) (ms : List Message) (s : State) → collect seat signature (after ms s) ≡ after ms (collect seat signature s)
-unfolding collect
-collect-after seat signature ms s = refl
-
-pub submitOwn-after : (value signature : List ℕ) (ms : List Message) (s : State) → submitOwn value signature (after ms s) ≡ after ms (submitOwn value signature s)
-unfolding submitOwn write collect setOwnValue
-submitOwn-after value signature ms s = rw append-assoc
-
-pub hearSubmit-after : (seat : ℕ) (value signature : List ℕ) (ms : List Message) (s : State) → hearSubmit seat value signature (after ms s) ≡ after ms (hearSubmit seat value signature s)
-unfolding hearSubmit
-hearSubmit-after seat value signature ms s = rw (collect-after seat signature ms s) (after-cond ms (isWanted seat value (s .unit)) (collect seat signature s) s)
 
 pub hear-after : (value : List ℕ) (ms : List Message) (s : State) → hear value (after ms s) ≡ after ms (hear value s)
 unfolding hear

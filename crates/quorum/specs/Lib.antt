@@ -1,2 +1,2 @@
 pub mod Quorum
-pub mod Laws
+pub mod QuorumLaws

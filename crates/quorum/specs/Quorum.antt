@@ -1,4 +1,4 @@
--- Seats, sets of seats as masks, and the two thresholds of a fleet. `Laws.antt` says how they hang together.
+-- Seats, sets of seats as masks, and the two thresholds of a fleet. Their laws are in `QuorumLaws`.
 -- Assumes nothing.
 use mathlib.Core.Path.{_≡_}
 use mathlib.Core.Bool.{Bool}

@@ -33,7 +33,7 @@ pub fn size(m: Mask) -> u32
 }
 
 // The set of one seat.
-pub fn one(s: u32) -> Mask
+fn one(s: u32) -> Mask
     requires { ⌜ s < mostSeats ⌝ }
     ensures { λ r. ⌜ r ≡ one s ⌝ }
 {

@@ -9,6 +9,7 @@ use native.Mathlib.Omega.{arith}
 use lib.Dec.{ltb}
 use borrow.Author.Tests.{ltb-true, lt-ltb}
 use Rattle.quorum.specs.Quorum.{Rises}
+use Rattle.refusal.specs.Laws.{both-true}
 use Rattle.protocol.specs.Refusals.{every, rising}
 use Rattle.round.specs.Round.{Each}
 use Rattle.round.specs.Demand1.{worth, count}
@@ -19,17 +20,9 @@ pub cond-elim {ℓ} : {A : Type ℓ} (P : A → Type 0) (b : Bool) (x y : A) →
 cond-elim P true x y f g = f refl
 cond-elim P false x y f g = g refl
 
-pub and-true-both : (a b : Bool) → (a && b) ≡ true → (a ≡ true) × (b ≡ true)
-and-true-both true b e = (refl, e)
-and-true-both false b e = absurd (false≢true e)
-
 pub and-false-either : (a b : Bool) → (a && b) ≡ false → (a ≡ false) ⊎ (b ≡ false)
 and-false-either true b e = inr e
 and-false-either false b e = inl refl
-
-pub or-false-both : (a b : Bool) → (a || b) ≡ false → (a ≡ false) × (b ≡ false)
-or-false-both true b e = absurd (true≢false e)
-or-false-both false b e = (refl, e)
 
 pub or-true-either : (a b : Bool) → (a || b) ≡ true → (a ≡ true) ⊎ (b ≡ true)
 or-true-either true b e = inl refl
@@ -75,7 +68,7 @@ pub every-each {ℓ} : {A : Type ℓ} (test : A → Bool) (xs : List A) → ever
 unfolding every
 every-each test [] e = each-nil (λ x. test x ≡ true)
 every-each test (x ∷ xs) e =
-    let both = and-true-both (test x) (every test xs) e in
+    let both = both-true (test x) (every test xs) e in
     each-cons (λ y. test y ≡ true) x xs (both .0) (every-each test xs (both .1))
 
 pub each-every {ℓ} : {A : Type ℓ} (test : A → Bool) (xs : List A) → Each (λ x. test x ≡ true) xs → every test xs ≡ true
@@ -129,7 +122,7 @@ pub rising-first : (a : ℕ) (l : List ℕ) → rising (a ∷ l) ≡ true → (r
 unfolding rising
 rising-first a [] e = (refl, each-nil (λ s. a < s))
 rising-first a (b ∷ rest) e =
-    let both = and-true-both (ltb a b) (rising (b ∷ rest)) e in
+    let both = both-true (ltb a b) (rising (b ∷ rest)) e in
     let l : a < b = ltb-true a b (both .0) in
     let next = rising-first b rest (both .1) in
     (both .1, each-cons (λ s. a < s) b rest l (λ s d. let h = next .1 s d in omega arith))

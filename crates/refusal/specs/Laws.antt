@@ -1,10 +1,24 @@
--- What the lowest number says of the conditions.
+-- What the first row of a list whose condition holds says of the conditions.
 use mathlib.Core.Path.{_≡_, refl}
-use mathlib.Core.Bool.{Bool, true, false, cond}
+use mathlib.Core.Bool.{Bool, true, false, cond, _&&_, _||_, false≢true, true≢false}
 use mathlib.Core.List.{List, [], _∷_, _++_}
-use Prim.Native.Nat.{ℕ, suc}
+use Prim.Native.Nat.{ℕ, zero, suc, _≤_}
 use native.Mathlib.Omega.{arith}
-use Rattle.refusal.specs.Refusal.{firstOf}
+use lib.Dec.{leb}
+use borrow.Author.Tests.{leb-true}
+use Rattle.refusal.specs.Refusal.{firstOf, numbers, nonzero, _before_}
+
+-- ---- tests
+
+pub both-true : (a b : Bool) → (a && b) ≡ true → (a ≡ true) × (b ≡ true)
+both-true true b e = (refl, e)
+both-true false b e = absurd (false≢true e)
+
+pub both-false : (a b : Bool) → (a || b) ≡ false → (a ≡ false) × (b ≡ false)
+both-false true b e = absurd (true≢false e)
+both-false false b e = (refl, e)
+
+-- ---- refusals
 
 -- what isn't refused passes every test
 pub firstOf-zero : (n : ℕ) (t : Bool) (rest : List (ℕ × Bool)) → firstOf ((suc n, t) ∷ rest) ≡ 0 → (t ≡ false) × (firstOf rest ≡ 0)
@@ -21,3 +35,16 @@ pub firstOf-front : (xs ys : List (ℕ × Bool)) → (firstOf xs ≡ 0 → ⊥) 
 unfolding firstOf
 firstOf-front [] ys h = absurd (h refl)
 firstOf-front (x ∷ xs) ys h = by-test (x .1) (x .0) (firstOf xs) (firstOf (xs ++ ys)) h (firstOf-front xs ys)
+
+-- the first of some rows and others after them
+pub firstOf-before : (xs ys : List (ℕ × Bool)) → nonzero (numbers xs) ≡ true → firstOf (xs ++ ys) ≡ (firstOf xs before firstOf ys)
+unfolding firstOf numbers nonzero _before_
+firstOf-before [] ys h = refl
+firstOf-before ((n, b) ∷ xs) ys h =
+    let two = both-true (leb 1 n) (nonzero (numbers xs)) h in
+    at n b (leb-true 1 n (two .0)) (firstOf-before xs ys (two .1))
+  where
+    at : (n : ℕ) (b : Bool) → 1 ≤ n → firstOf (xs ++ ys) ≡ (firstOf xs before firstOf ys) → cond b n (firstOf (xs ++ ys)) ≡ (cond b n (firstOf xs) before firstOf ys)
+    at zero b l rest = absurd (omega arith)
+    at (suc n) true l rest = refl
+    at (suc n) false l rest = rest

@@ -1,4 +1,6 @@
--- Refusals by number: `Refusal` has the definitions, `Lowest` and `Laws` what follows from them.
+-- Refusals by number: `Refusal` has the definitions and `Laws` what follows from them; `Order` is about the order in which numbers are
+-- looked at, and `Lowest` about an order in which they rise.
 pub mod Refusal
-pub mod Lowest
 pub mod Laws
+pub mod Order
+pub mod Lowest

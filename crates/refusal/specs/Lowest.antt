@@ -1,18 +1,15 @@
--- "The lowest number whose condition holds is returned": the first of a list is the lowest where the list's numbers rise.
+-- "The lowest number whose condition holds is returned": so it is in an order in which the numbers rise.
 use mathlib.Core.Path.{_≡_, refl}
-use mathlib.Core.Bool.{Bool, true, false, _&&_, false≢true}
-use mathlib.Core.List.{List, [], _∷_, _++_}
+use mathlib.Core.Bool.{Bool, true, false, cond, _&&_, false≢true}
+use mathlib.Core.List.{List, [], _∷_}
 use mathlib.Core.Logic.{_⊎_, inl, inr}
-use Prim.Native.Nat.{ℕ, zero, suc, _≤_, _<_}
+use Prim.Native.Nat.{ℕ, _≤_, _<_}
 use native.Mathlib.Omega.{arith}
-use lib.Dec.{ltb}
-use borrow.Author.Tests.{ltb-true}
-use Rattle.refusal.specs.Refusal.{firstOf}
-
--- the numbers, in the order of the list
-unfoldable pub numbers : List (ℕ × Bool) → List ℕ
-numbers [] = []
-numbers (c ∷ rest) = c .0 ∷ numbers rest
+use lib.Dec.{ltb, eqb}
+use borrow.Author.Tests.{eqb-true, ltb-true, lt-ltb}
+use Rattle.refusal.specs.Refusal.{firstOf, numbers}
+use Rattle.refusal.specs.Laws.{both-true}
+use Rattle.refusal.specs.Order.{follows}
 
 -- each number is above the one before it, and the first above the given one
 unfoldable pub riseFrom : ℕ → List ℕ → Bool
@@ -33,10 +30,6 @@ pub record Lowest (n : ℕ) (conditions : List (ℕ × Bool)) : Type 0 where
   pub holds : (n ≡ 0 → ⊥) → Holds n conditions
   pub least : (m : ℕ) → Holds m conditions → n ≤ m
   pub none : n ≡ 0 → (m : ℕ) → Holds m conditions → ⊥
-
-pub both-true : (a b : Bool) → (a && b) ≡ true → (a ≡ true) × (b ≡ true)
-both-true true b e = (refl, e)
-both-true false b e = absurd (false≢true e)
 
 rises : (m n : ℕ) (rest : List ℕ) → riseFrom m (n ∷ rest) ≡ true → (m < n) × (riseFrom n rest ≡ true)
 unfolding riseFrom
@@ -75,26 +68,26 @@ from m [] e = record { holds = λ h. absurd (h refl); least = λ n h. absurd h; 
 from m ((n, true) ∷ xs) e = first-holds m n xs e
 from m ((n, false) ∷ xs) e = first-passed n (firstOf xs) xs (from n xs (rises m n (numbers xs) e .1))
 
-pub firstOf-is : (xs : List (ℕ × Bool)) → rise (numbers xs) ≡ true → Lowest (firstOf xs) xs
+pub firstOf-lowest : (xs : List (ℕ × Bool)) → rise (numbers xs) ≡ true → Lowest (firstOf xs) xs
 unfolding rise
-firstOf-is xs e = from 0 xs e
+firstOf-lowest xs e = from 0 xs e
 
-infixr 20 _before_
--- one number before another: the first, where it isn't 0
-unfoldable pub _before_ : ℕ → ℕ → ℕ
-zero before n = n
-suc m before n = suc m
-
--- of a list that rises and what comes after it
-pub firstOf-before : (xs ys : List (ℕ × Bool)) → rise (numbers xs) ≡ true → firstOf (xs ++ ys) ≡ (firstOf xs before firstOf ys)
-unfolding rise numbers firstOf _before_
-firstOf-before xs ys e = go 0 xs e
+-- in an order whose numbers rise, so do those of a list that follows it
+rise-after : (m : ℕ) (order ns : List ℕ) → riseFrom m order ≡ true → follows order ns ≡ true → riseFrom m ns ≡ true
+unfolding riseFrom follows
+rise-after m order [] r f = refl
+rise-after m [] (n ∷ ns) r f = absurd (false≢true f)
+rise-after m (o ∷ order) (n ∷ ns) r f =
+    let p = rises m o order r in
+    go (p .0) (λ g. rise-after o order ns (p .1) g) (λ g. rise-after o order (n ∷ ns) (p .1) g) (eqb o n) refl f
   where
-    go : (m : ℕ) (xs : List (ℕ × Bool)) → riseFrom m (numbers xs) ≡ true → firstOf (xs ++ ys) ≡ (firstOf xs before firstOf ys)
-    go m [] e = refl
-    go m ((n, true) ∷ xs) e = at-first n (rises m n (numbers xs) e .0)
-      where
-        at-first : (n : ℕ) → m < n → n ≡ (n before firstOf ys)
-        at-first zero h = absurd (omega arith)
-        at-first (suc n) h = refl
-    go m ((n, false) ∷ xs) e = go n xs (rises m n (numbers xs) e .1)
+    go : m < o → (follows order ns ≡ true → riseFrom o ns ≡ true) → (follows order (n ∷ ns) ≡ true → riseFrom o (n ∷ ns) ≡ true)
+        → (same : Bool) → eqb o n ≡ same → cond same (follows order ns) (follows order (n ∷ ns)) ≡ true → riseFrom m (n ∷ ns) ≡ true
+    go l at later true e g = rw (← eqb-true o n e, lt-ltb m o l) (at g)
+    go l at later false e g =
+        let p = rises o n ns (later g) in
+        rw (lt-ltb m n (omega (arith, p .0))) (p .1)
+
+pub rise-in : (order ns : List ℕ) → rise order ≡ true → follows order ns ≡ true → rise ns ≡ true
+unfolding rise
+rise-in order ns r f = rise-after 0 order ns r f

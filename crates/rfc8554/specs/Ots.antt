@@ -80,7 +80,7 @@ start I q seed i = H (chainInput I q i 0xff seed)
 
 -- ---- public key (section 4.3, Algorithm 1)
 
--- what is hashed to K, over the ends of the chains
+-- the hash input of K, over the ends of the chains
 unfoldable pub keyInput : List ℕ → ℕ → List ℕ → List ℕ
 keyInput I q ends = I ++ u32str q ++ u16str dPblc ++ ends
 
@@ -109,7 +109,7 @@ withChecksum w Q = Q ++ u16str (checksum w Q)
 
 -- ---- signature (section 4.5, Algorithm 3)
 
--- what is hashed to Q
+-- the hash input of Q
 unfoldable pub messageInput : List ℕ → ℕ → List ℕ → List ℕ → List ℕ
 messageInput I q C message = I ++ u32str q ++ u16str dMesg ++ C ++ message
 

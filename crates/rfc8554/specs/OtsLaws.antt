@@ -1,4 +1,4 @@
--- What follows from the definitions of LM-OTS: lengths, digits, checksum, and chains that go on where others stop.
+-- Laws of LM-OTS: digits, lengths, and chains that go on where others stop.
 use mathlib.Core.Path.{_≡_, sym, ap, _∙_}
 use mathlib.Core.List.{List, _++_}
 use Prim.Native.Nat.{ℕ, zero, suc, _+_, _-_, _*_, _/_, _%_, _^_, _≤_, _<_}
@@ -7,15 +7,15 @@ use native.Mathlib.Omega.{arith}
 use lib.Bits.{and-comm, and-mask, and-le-l}
 use lib.ListN.{length, getD, length-append}
 use Rattle.octets.specs.Octets.{part}
-use Rattle.octets.specs.Laws.{length-be, length-part}
-use Rattle.fips180.specs.Laws.{length-sha256}
-use Rattle.rfc8554.specs.Ots.{H, u32str, coef, width, chains, otsLength, chainInput, chain, start, keyInput, chainEnd, otsKey, sum, withChecksum, messageInput, digested, signed, otsSignature, completed, candidate}
+use Rattle.octets.specs.OctetLaws.{length-be, length-part}
+use Rattle.fips180.specs.FipsLaws.{length-sha256}
+use Rattle.rfc8554.specs.Ots.{H, u32str, coef, width, chains, otsLength, chainInput, chain, start, keyInput, chainEnd, otsKey, digested, signed, otsSignature, completed, candidate}
 use Rattle.octets.specs.StringLaws.{part-skip, part-left, part-front, part-between, length-joined, part-joined, joined-same}
 
 -- ---- digits
 
 -- a digit is below 2^w, whatever the string holds
-pub coef-le : (w : ℕ) (S : List ℕ) (i : ℕ) → coef w S i ≤ 2 ^ w - 1
+coef-le : (w : ℕ) (S : List ℕ) (i : ℕ) → coef w S i ≤ 2 ^ w - 1
 unfolding coef
 coef-le w S i = and-le-l (2 ^ w - 1) _
 
@@ -43,13 +43,6 @@ coef-four-low S i e =
     let shift : 8 - (4 * (i % 2) + 4) ≡ 0 = omega arith in
     coef-mod 4 S i ∙ rw (place, shift) (omega arith)
 
--- ---- checksum: at most 8,160 for width 8 and 960 for width 4
-
-pub sum-le : (w : ℕ) (S : List ℕ) (n : ℕ) → sum w S n ≤ n * (2 ^ w - 1)
-unfolding sum
-sum-le w S zero = omega arith
-sum-le w S (suc n) = omega (arith, sum-le w S n)
-
 -- ---- chains
 
 pub chain-add : (I : List ℕ) (q i a c d : ℕ) (tmp : List ℕ)
@@ -59,7 +52,7 @@ chain-add I q i a c zero tmp = rw add-zero
 chain-add I q i a c (suc d) tmp = rw (add-suc, chain-add I q i a c d tmp, add-assoc)
 
 -- from a chain's first a steps the rest of its n steps lead to its end
-pub chain-rest : (I : List ℕ) (q i a n : ℕ) (tmp : List ℕ) → a ≤ n
+chain-rest : (I : List ℕ) (q i a n : ℕ) (tmp : List ℕ) → a ≤ n
     → chain I q i a (n - a) (chain I q i 0 a tmp) ≡ chain I q i 0 n tmp
 chain-rest I q i a n tmp h = sym (rw (zero-add, add-sub-of-le h) at (chain-add I q i 0 a (n - a) tmp))
 
@@ -74,10 +67,6 @@ pub length-start : (I : List ℕ) (q : ℕ) (seed : List ℕ) (i : ℕ) → leng
 unfolding start
 length-start I q seed i = length-sha256 _
 
-pub length-chainEnd : (I : List ℕ) (q w : ℕ) (seed : List ℕ) (i : ℕ) → length (chainEnd I q w seed i) ≡ 32
-unfolding chainEnd
-length-chainEnd I q w seed i = length-chain I q i 0 _ _ (length-start I q seed i)
-
 pub length-signed : (I : List ℕ) (q w : ℕ) (seed S : List ℕ) (i : ℕ) → length (signed I q w seed S i) ≡ 32
 unfolding signed
 length-signed I q w seed S i = length-chain I q i 0 _ _ (length-start I q seed i)
@@ -87,29 +76,12 @@ pub length-completed : (I : List ℕ) (q w : ℕ) (S signature : List ℕ) (i : 
 unfolding completed
 length-completed I q w S signature i h = length-chain I q i _ _ _ (length-part (36 + 32 * i) 32 signature (omega arith))
 
--- what is hashed, over an identifier of 16 bytes
+-- the hash input of a chain step, over an identifier of 16 bytes
 module _ (I : List ℕ) (e : length I ≡ 16) (q : ℕ) where
   -- 55 bytes
   pub length-chainInput : (i j : ℕ) (tmp : List ℕ) → length tmp ≡ 32 → length (chainInput I q i j tmp) ≡ 55
   unfolding chainInput
   length-chainInput i j tmp k = simp (length-append, length-be) (omega arith)
-
-  -- 1,110 bytes for width 8 and 2,166 for width 4
-  pub length-keyInput : (ends : List ℕ) → length (keyInput I q ends) ≡ 22 + length ends
-  unfolding keyInput
-  length-keyInput ends = simp (length-append, length-be) (omega arith)
-
-  pub length-messageInput : (C message : List ℕ) → length C ≡ 32 → length (messageInput I q C message) ≡ 54 + length message
-  unfolding messageInput
-  length-messageInput C message k = simp (length-append, length-be) (omega arith)
-
-pub length-withChecksum : (w : ℕ) (Q : List ℕ) → length Q ≡ 32 → length (withChecksum w Q) ≡ 34
-unfolding withChecksum
-length-withChecksum w Q e = simp (length-append, length-be) (omega arith)
-
-pub length-digested : (I : List ℕ) (q w : ℕ) (C message : List ℕ) → length (digested I q w C message) ≡ 34
-unfolding digested
-length-digested I q w C message = length-withChecksum w _ (length-sha256 _)
 
 pub four-le-otsLength : (w : ℕ) → 4 ≤ otsLength w
 unfolding otsLength
@@ -118,7 +90,7 @@ four-le-otsLength w = omega arith
 -- ---- a signature's fields, and the key that Algorithm 4b finds in it
 
 -- from y[i] of Algorithm 3, z[i] of Algorithm 4b is y[i] of Algorithm 1
-pub completed-signed : (I : List ℕ) (q w : ℕ) (seed S signature : List ℕ) (i : ℕ)
+completed-signed : (I : List ℕ) (q w : ℕ) (seed S signature : List ℕ) (i : ℕ)
     → part (36 + 32 * i) 32 signature ≡ signed I q w seed S i → completed I q w S signature i ≡ chainEnd I q w seed i
 unfolding completed signed chainEnd
 completed-signed I q w seed S signature i e = rw e (chain-rest I q i (coef w S i) (2 ^ w - 1) (start I q seed i) (coef-le w S i))
@@ -138,11 +110,11 @@ module _ (type : ℕ) (I : List ℕ) (q : ℕ) (seed C message : List ℕ) (e : 
       part-left (u32str type ++ C) _ 0 4 (rw length-front (omega arith))
       ∙ part-front (u32str type) C 4 (length-be 4 type)
 
-  pub randomizer-otsSignature : part 4 32 (otsSignature type I q seed C message) ≡ C
+  randomizer-otsSignature : part 4 32 (otsSignature type I q seed C message) ≡ C
   unfolding otsSignature
   randomizer-otsSignature = part-between (u32str type) C _ 4 32 (length-be 4 type) e
 
-  pub value-otsSignature : (i : ℕ) → i < chains (width type)
+  value-otsSignature : (i : ℕ) → i < chains (width type)
       → part (36 + 32 * i) 32 (otsSignature type I q seed C message)
       ≡ signed I q (width type) seed (digested I q (width type) C message) i
   unfolding otsSignature

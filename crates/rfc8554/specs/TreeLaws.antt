@@ -1,4 +1,4 @@
--- What follows from the definitions of the LMS tree: T[r] by the RFC's two equations, lengths, and the tree's buffer.
+-- Laws of the LMS tree: T[r] by the RFC's two equations, lengths, and the tree's buffer.
 use mathlib.Core.Path.{_≡_, refl, ap, _∙_}
 use mathlib.Core.Bool.{Bool, true, false, cond}
 use mathlib.Core.List.{List, _++_}
@@ -7,11 +7,11 @@ use native.Mathlib.Nat.{add-zero, add-assoc, pow-suc, mul-le-mul-right, add-sub-
 use native.Mathlib.Numerals.{one-add, add-one}
 use native.Mathlib.Omega.{arith}
 use lib.Dec.{leb}
-use lib.ListN.{length, length-append}
+use lib.ListN.{length}
 use borrow.Author.Tests.{le-leb, lt-leb}
 use Rattle.octets.specs.Octets.{part, patch}
-use Rattle.octets.specs.Laws.{length-be, length-patch}
-use Rattle.fips180.specs.Laws.{length-sha256}
+use Rattle.octets.specs.OctetLaws.{length-patch}
+use Rattle.fips180.specs.FipsLaws.{length-sha256}
 use Rattle.octets.specs.Strings.{joined}
 use Rattle.rfc8554.specs.Ots.{H, otsKey}
 use Rattle.rfc8554.specs.Tree.{leafInput, innerInput, node, T, nodes, treeFilled}
@@ -70,17 +70,6 @@ pub length-T : (h w : ℕ) (I seed : List ℕ) (r : ℕ) → length (T h w I see
 unfolding T
 length-T h w I seed r = length-node h w I seed h r
 
-module _ (I : List ℕ) (e : length I ≡ 16) (r : ℕ) where
-  -- 54 bytes
-  pub length-leafInput : (K : List ℕ) → length K ≡ 32 → length (leafInput I r K) ≡ 54
-  unfolding leafInput
-  length-leafInput K k = simp (length-append, length-be) (omega arith)
-
-  -- 86 bytes
-  pub length-innerInput : (left right : List ℕ) → length left ≡ 32 → length right ≡ 32 → length (innerInput I r left right) ≡ 86
-  unfolding innerInput
-  length-innerInput left right k l = simp (length-append, length-be) (omega arith)
-
 -- ---- the tree's buffer
 
 module _ (h w : ℕ) (I seed : List ℕ) where
@@ -89,7 +78,7 @@ module _ (h w : ℕ) (I seed : List ℕ) where
   length-nodes r n = length-joined 32 _ n (λ i _. length-T h w I seed (r + i))
 
   -- more nodes behind
-  pub nodes-add : (r n m : ℕ) → nodes h w I seed r (n + m) ≡ nodes h w I seed r n ++ nodes h w I seed (r + n) m
+  nodes-add : (r n m : ℕ) → nodes h w I seed r (n + m) ≡ nodes h w I seed r n ++ nodes h w I seed (r + n) m
   unfolding nodes
   nodes-add r n m = simp (joined-add, add-assoc)
 

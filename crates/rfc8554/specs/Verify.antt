@@ -54,17 +54,17 @@ signatureInvalid lmsType otsType signature =
     || not (eqb (length signature) (signatureLength (height lmsType) (width otsType)))
     || otsInvalid otsType (otsPart (width otsType) signature)
 
--- one turn up from the node r: tmp is hashed with the node beside it, which is the left one where r is odd
-unfoldable pub turn : List ℕ → ℕ → List ℕ → List ℕ → List ℕ
-turn I r beside tmp =
+-- one level up from the node r: tmp is hashed with the node beside it, which is the left one where r is odd
+unfoldable pub levelUp : List ℕ → ℕ → List ℕ → List ℕ → List ℕ
+levelUp I r beside tmp =
     cond (eqb (r % 2) 1) (H (innerInput I (r / 2) beside tmp)) (H (innerInput I (r / 2) tmp beside))
 
--- tmp after n turns from the leaf r
+-- tmp n levels up from the leaf r
 unfoldable pub climbed : List ℕ → ℕ → ℕ → List ℕ → List ℕ → ℕ → List ℕ
 climbed I w r signature tmp zero = tmp
-climbed I w r signature tmp (suc n) = turn I (r / 2 ^ n) (pathAt w signature n) (climbed I w r signature tmp n)
+climbed I w r signature tmp (suc n) = levelUp I (r / 2 ^ n) (pathAt w signature n) (climbed I w r signature tmp n)
 
--- Tc, after h turns
+-- Tc, h levels up
 unfoldable pub rootCandidate : ℕ → ℕ → List ℕ → List ℕ → List ℕ → List ℕ
 rootCandidate h w I message signature =
     let r = 2 ^ h + leafOf signature in

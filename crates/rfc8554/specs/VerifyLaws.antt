@@ -1,5 +1,5 @@
--- What follows from the definitions of verification: the fields of keys and signatures, and that Algorithm 6 takes what
--- the key maker and the signer of section 5 make.
+-- Laws of verification: the fields of keys and signatures, and that Algorithm 6 accepts what the key maker and the signer of
+-- section 5 make.
 use mathlib.Core.Path.{_≡_, refl, sym, ap, _∙_}
 use mathlib.Core.Bool.{Bool, true, false, not, cond, _&&_, _||_, or-true, false≢true}
 use mathlib.Core.List.{List, _++_}
@@ -13,10 +13,10 @@ use lib.ListN.{length, length-append}
 use lib.Pow.{pow-mono, pow-pos, shr-shr, shr-le, high}
 use borrow.Author.Tests.{lt-leb, le-ltb, eq-eqb, eqb-true, leb-false}
 use Rattle.octets.specs.Octets.{part, number}
-use Rattle.octets.specs.Laws.{length-be, length-part}
+use Rattle.octets.specs.OctetLaws.{length-be, length-part}
 use Rattle.rfc8554.specs.Ots.{H, u32str, u32At, knownOts, width, otsLength, otsKey, otsSignature, otsInvalid}
 use Rattle.rfc8554.specs.Tree.{knownLms, height, leafInput, innerInput, T, publicKey, sibling, path, lmsSignature}
-use Rattle.rfc8554.specs.Verify.{lmsTypeOf, otsTypeOf, identifierOf, rootOf, leafOf, otsPart, sigTypeOf, pathAt, signatureLength, signatureInvalid, turn, climbed, rootCandidate, keyInvalid, valid}
+use Rattle.rfc8554.specs.Verify.{lmsTypeOf, otsTypeOf, identifierOf, rootOf, leafOf, otsPart, sigTypeOf, pathAt, signatureLength, signatureInvalid, levelUp, climbed, rootCandidate, keyInvalid, valid}
 use Rattle.octets.specs.StringLaws.{part-skip, part-left, part-front, part-end, part-between, part-part, number-be, length-joined, part-joined, same-refl}
 use Rattle.rfc8554.specs.OtsLaws.{four-le-otsLength, length-otsSignature, type-otsSignature, candidate-otsSignature}
 use Rattle.rfc8554.specs.TreeLaws.{T-leaf, T-inner, length-T}
@@ -42,9 +42,9 @@ ancestor-within h r n k l m =
     (le-div-iff-mul-le (pow-pos n) .1 (omega (arith, pow-mono m)), omega (arith, shr-le r n))
 
 module _ (h w : ℕ) (I seed : List ℕ) where
-  pub turn-T : (x : ℕ) → 2 ≤ x → x < 2 * 2 ^ h → turn I x (T h w I seed (sibling x)) (T h w I seed x) ≡ T h w I seed (x / 2)
-  unfolding turn sibling
-  turn-T x k l =
+  levelUp-T : (x : ℕ) → 2 ≤ x → x < 2 * 2 ^ h → levelUp I x (T h w I seed (sibling x)) (T h w I seed x) ≡ T h w I seed (x / 2)
+  unfolding levelUp sibling
+  levelUp-T x k l =
       ⊎-elim
       (λ (e : x % 2 ≡ 0). rw e (over x (x + 1) (omega arith) (omega arith)))
       (λ (e : x % 2 ≡ 1). rw e (over (x - 1) x (omega arith) (omega arith)))
@@ -54,8 +54,8 @@ module _ (h w : ℕ) (I seed : List ℕ) where
           → H (innerInput I (x / 2) (T h w I seed left) (T h w I seed right)) ≡ T h w I seed (x / 2)
       over left right a b = rw (a, b) (sym (T-inner h w I seed (x / 2) (omega arith) (omega arith)))
 
-  -- with the nodes beside it for a path, the leaf r leads to the node r / 2^n in n turns
-  pub climbed-T : (r : ℕ) (signature : List ℕ) → 2 ^ h ≤ r → r < 2 * 2 ^ h
+  -- with the nodes beside it for a path, the leaf r leads to the node r / 2^n, n levels up
+  climbed-T : (r : ℕ) (signature : List ℕ) → 2 ^ h ≤ r → r < 2 * 2 ^ h
       → ((i : ℕ) → i < h → pathAt w signature i ≡ T h w I seed (sibling (r / 2 ^ i)))
       → (n : ℕ) → n ≤ h → climbed I w r signature (T h w I seed r) n ≡ T h w I seed (r / 2 ^ n)
   unfolding climbed
@@ -63,7 +63,7 @@ module _ (h w : ℕ) (I seed : List ℕ) where
   climbed-T r signature k l beside (suc n) m =
       let within = ancestor-within h r n k l m in
       rw (climbed-T r signature k l beside n (omega arith), beside n m)
-      (turn-T (r / 2 ^ n) (within .0) (within .1)
+      (levelUp-T (r / 2 ^ n) (within .0) (within .1)
       ∙ ap (T h w I seed) (shr-shr r n 1 ∙ ap (λ (e : ℕ). r / 2 ^ e) (add-one n)))
 
 -- ---- the fields of a key
@@ -96,11 +96,11 @@ module _ (lmsType otsType : ℕ) (I seed : List ℕ) (e : length I ≡ 16) where
       ∙ part-between (u32str lmsType) (u32str otsType) I 4 4 (length-be 4 lmsType) (length-be 4 otsType))
       ∙ number-be 4 otsType h
 
-  pub identifier-publicKey : identifierOf (publicKey lmsType otsType I seed) ≡ I
+  identifier-publicKey : identifierOf (publicKey lmsType otsType I seed) ≡ I
   unfolding publicKey
   identifier-publicKey = part-between (u32str lmsType ++ u32str otsType) I _ 8 16 length-types e
 
-  pub root-publicKey : rootOf (publicKey lmsType otsType I seed) ≡ T (height lmsType) (width otsType) I seed 1
+  root-publicKey : rootOf (publicKey lmsType otsType I seed) ≡ T (height lmsType) (width otsType) I seed 1
   unfolding publicKey
   root-publicKey = part-end (u32str lmsType ++ u32str otsType ++ I) _ 24 32 length-front (length-T _ _ I seed 1)
 
@@ -122,7 +122,7 @@ module _ (lmsType otsType : ℕ) (I : List ℕ) (q : ℕ) (seed C message tree :
       ∙ part-front (u32str q) _ 4 (length-be 4 q))
       ∙ number-be 4 q h
 
-  pub ots-lmsSignature : otsPart (width otsType) (lmsSignature lmsType otsType I q seed C message tree) ≡ otsSignature otsType I q seed C message
+  ots-lmsSignature : otsPart (width otsType) (lmsSignature lmsType otsType I q seed C message tree) ≡ otsSignature otsType I q seed C message
   unfolding lmsSignature
   ots-lmsSignature =
       part-left (u32str q ++ otsSignature otsType I q seed C message ++ u32str lmsType) _ 4 (otsLength (width otsType))
@@ -130,7 +130,7 @@ module _ (lmsType otsType : ℕ) (I : List ℕ) (q : ℕ) (seed C message tree :
       ∙ part-between (u32str q) (otsSignature otsType I q seed C message) (u32str lmsType) 4 (otsLength (width otsType))
       (length-be 4 q) (length-otsSignature otsType I q seed C message e)
 
-  pub sigType-lmsSignature : lmsType < 256 ^ 4 → sigTypeOf (width otsType) (lmsSignature lmsType otsType I q seed C message tree) ≡ lmsType
+  sigType-lmsSignature : lmsType < 256 ^ 4 → sigTypeOf (width otsType) (lmsSignature lmsType otsType I q seed C message tree) ≡ lmsType
   unfolding lmsSignature
   sigType-lmsSignature h =
       ap number
@@ -143,7 +143,7 @@ module _ (lmsType otsType : ℕ) (I : List ℕ) (q : ℕ) (seed C message tree :
     unfolding lmsSignature signatureLength
     length-lmsSignature = rw (length-append, length-before-path, length-joined 32 _ _ each)
 
-    pub path-lmsSignature : (i : ℕ) → i < height lmsType
+    path-lmsSignature : (i : ℕ) → i < height lmsType
         → pathAt (width otsType) (lmsSignature lmsType otsType I q seed C message tree) i ≡ path tree (2 ^ height lmsType + q) i
     unfolding lmsSignature
     path-lmsSignature i h =
@@ -151,7 +151,7 @@ module _ (lmsType otsType : ℕ) (I : List ℕ) (q : ℕ) (seed C message tree :
         length-before-path
         ∙ part-joined 32 _ _ each i h
 
--- ---- what is valid fits: the length is that of its types, and the leaf stands in the tree
+-- ---- a valid signature fits: the length is that of its types, and the leaf stands in the tree
 
 signatureInvalid-fits : (lmsType otsType : ℕ) (signature : List ℕ) → signatureInvalid lmsType otsType signature ≡ false
     → (length signature ≡ signatureLength (height lmsType) (width otsType)) × (leafOf signature < 2 ^ height lmsType)
@@ -183,7 +183,7 @@ valid-fits key message signature e =
     signatureInvalid-fits (lmsTypeOf key) (otsTypeOf key) signature
     (second-false (keyInvalid key) (signatureInvalid (lmsTypeOf key) (otsTypeOf key) signature) _ e)
 
--- ---- what is made is valid
+-- ---- a signature of section 5 is valid
 
 -- Algorithm 4b rejects nothing that Algorithm 6a has let through
 pub otsInvalid-inside : (h otsType : ℕ) (signature : List ℕ)

@@ -31,11 +31,11 @@ scheduledAt w n =
     (Fips.add (Fips.add (Fips.smallSigma1 (getD w (n - 32) 0)) (getD w (n - 112) 0)) (Fips.smallSigma0 (getD w (n - 240) 0)))
     (getD w (n - 256) 0)
 
--- what the rows 15 and 16 before the word at n + 256 bring to it
+-- the share of the rows 15 and 16 before the word at n + 256
 unfoldable pub shareAt : List ℕ → ℕ → ℕ
 shareAt w n = Fips.add (Fips.smallSigma0 (getD w (n + 16) 0)) (getD w n 0)
 
--- x has what words 0 to 4, 14 and 15 of the blocks w bring to words 16 and 17, and to words 18 and 19
+-- x has the shares of words 0 to 4, 14 and 15 of the blocks w in words 16 and 17, and in words 18 and 19
 pub record Shares (w x : List ℕ) : Type 0 where
   pub first : (n : ℕ) → n < 32 → getD x n 0 ≡ Fips.add (Fips.smallSigma1 (getD w (n + 224) 0)) (shareAt w n)
   pub second : (n : ℕ) → n < 32 → getD x (n + 32) 0 ≡ shareAt w (n + 32)
@@ -76,8 +76,8 @@ roundAt k x n s =
     (Fips.add (temp1At k x n s) (temp2At n s))
 
 -- the working variables from index b on stay
-unfoldable pub Kept : ℕ → List ℕ → List ℕ → Type 0
-Kept b s r = (q : List ℕ) (m : ℕ) → b ≤ m → m < 1040 → State q m s → State q m r
+unfoldable pub Unchanged : ℕ → List ℕ → List ℕ → Type 0
+Unchanged b s r = (q : List ℕ) (m : ℕ) → b ≤ m → m < 1040 → State q m s → State q m r
 
 -- ---- every lane
 
@@ -99,14 +99,14 @@ unfoldable pub Resumed : List ℕ → List ℕ → List ℕ → List ℕ → Typ
 Resumed w x s r =
     (l : ℕ) (q : List ℕ) → l < 16 → State q (place 5 l) s → Held q l x s → State (Fips.round (getD constants 5 0) (getD w (80 + l) 0) q) (place 6 l) r
 
--- what is made for all blocks that are alike to w, after the hash value h
+-- the common start of all blocks that are alike to w, after the hash value h
 pub record Common (h w x s : List ℕ) : Type 0 where
   pub shares : Shares w x
   pub start : (l : ℕ) → l < 16 → State h (place 0 l) s
   pub five : (l : ℕ) → l < 16 → State (Fips.rounds (column l 5 w) h 5) (place 5 l) s
   pub held : (l : ℕ) → l < 16 → Held (Fips.rounds (column l 5 w) h 5) l x s
 
--- compression of the blocks m; what was made for them is there after it
+-- compression of the blocks m; their common start is there after it
 unfoldable pub Compressed : List ℕ → List ℕ → List ℕ → List ℕ → List ℕ → List ℕ → Type 0
 Compressed m x s w r v =
     (h : List ℕ) → Common h m x s → Common h w x r × ((l : ℕ) → l < 16 → column l 8 v ≡ Fips.compress h (column l 16 m))

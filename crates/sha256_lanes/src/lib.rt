@@ -12,14 +12,14 @@ ghost use mathlib.Core.List.{List};
 ghost use lib.ListN.{length, getD};
 ghost use Rattle.fips180.specs.Constants.{constants};
 ghost use Rattle.fips180.specs.Fips as Fips;
-ghost use Rattle.sha256_lanes.specs.Rows.{column, place, State, Same, Kept, Rounded, Resumed, Common, Compressed, Shares, shareAt, scheduledAt, temp1At, temp2At, roundAt};
+ghost use Rattle.sha256_lanes.specs.Rows.{column, place, State, Same, Unchanged, Rounded, Resumed, Common, Compressed, Shares, shareAt, scheduledAt, temp1At, temp2At, roundAt};
 use sha256_words::add;
 use sha256_words::big_sigma0;
 use sha256_words::small_sigma0;
 use sha256_words::small_sigma1;
 use sha256_words::temp1;
 
-// The words of one block, in every lane.
+// The words of one block, in every lane. Scratch: the rows of w from 16 on.
 pub fn spread(m: [u32; 16], w: &mut [u32; 1024])
     requires { ⌜ length (now w) ≡ 1024 ⌝ }
     ensures { λ _. ⌜ (length (now (w .exit)) ≡ 1024) × ((l : ℕ) → l < 16 → column l 16 (now (w .exit)) ≡ m) ⌝ }
@@ -31,7 +31,7 @@ pub fn spread(m: [u32; 16], w: &mut [u32; 1024])
     }
 }
 
-// One hash value before its rounds, in every lane.
+// One hash value before its rounds, in every lane. Scratch: the rest of s.
 fn start(h: [u32; 8], s: &mut [u32; 3264])
     requires { ⌜ length (now s) ≡ 3264 ⌝ }
     ensures { λ _. ⌜ (length (now (s .exit)) ≡ 3264) × ((l : ℕ) → l < 16 → State h (place 0 l) (now (s .exit))) ⌝ }
@@ -46,7 +46,7 @@ fn start(h: [u32; 8], s: &mut [u32; 3264])
     }
 }
 
-// What the words at n and n + 16 bring to the word at n + 256.
+// The share of the words at n and n + 16 in the word at n + 256.
 fn share_at(w: &[u32; 1024], n: usize) -> u32
     requires { ⌜ (n < 1008) × (length (now w) ≡ 1024) ⌝ }
     ensures { λ r. ⌜ r ≡ shareAt (now (w .entry)) n ⌝ }
@@ -54,7 +54,7 @@ fn share_at(w: &[u32; 1024], n: usize) -> u32
     add(small_sigma0(w[n + 16]), w[n])
 }
 
-// What words 0 to 4, 14 and 15 bring to words 16 to 19.
+// The shares of words 0 to 4, 14 and 15 in words 16 to 19.
 fn shares(w: &[u32; 1024], x: &mut [u32; 96])
     requires { ⌜ (length (now w) ≡ 1024) × (length (now x) ≡ 96) ⌝ }
     ensures { λ _. ⌜ (length (now (x .exit)) ≡ 96) × Shares (now (w .entry)) (now (x .exit)) ⌝ }
@@ -163,7 +163,7 @@ fn round_at(k: u32, x: u32, s: &mut [u32; 3264], n: usize)
 // Round t of every lane.
 fn round(k: u32, w: &[u32; 1024], s: &mut [u32; 3264], t: usize)
     requires { ⌜ (t < 64) × (k ≡ getD constants t 0) × (length (now w) ≡ 1024) × (length (now s) ≡ 3264) ⌝ }
-    ensures { λ _. ⌜ (length (now (s .exit)) ≡ 3264) × Kept (1024 - 16 * t) (now (s .entry)) (now (s .exit)) ⌝ }
+    ensures { λ _. ⌜ (length (now (s .exit)) ≡ 3264) × Unchanged (1024 - 16 * t) (now (s .entry)) (now (s .exit)) ⌝ }
     ensures { λ _. ⌜ Rounded (now (w .entry)) t (t + 1) (now (s .entry)) (now (s .exit)) ⌝ }
 {
     let mut l = 0;
@@ -177,7 +177,7 @@ fn round(k: u32, w: &[u32; 1024], s: &mut [u32; 3264], t: usize)
 // The rounds of every lane, from one to another.
 fn rounds(k: &[u32; 64], w: &[u32; 1024], s: &mut [u32; 3264], from: usize, to: usize)
     requires { ⌜ (now k ≡ constants) × (from ≤ to) × (to ≤ 64) × (length (now w) ≡ 1024) × (length (now s) ≡ 3264) ⌝ }
-    ensures { λ _. ⌜ (length (now (s .exit)) ≡ 3264) × Kept (1024 - 16 * from) (now (s .entry)) (now (s .exit)) ⌝ }
+    ensures { λ _. ⌜ (length (now (s .exit)) ≡ 3264) × Unchanged (1024 - 16 * from) (now (s .entry)) (now (s .exit)) ⌝ }
     ensures { λ _. ⌜ Rounded (now (w .entry)) from to (now (s .entry)) (now (s .exit)) ⌝ }
 {
     let mut t = from;
@@ -187,7 +187,7 @@ fn rounds(k: &[u32; 64], w: &[u32; 1024], s: &mut [u32; 3264], from: usize, to: 
     }
 }
 
-// The hash values of every lane: what they were before the rounds, and what the rounds made of them, added.
+// The hash value of every lane: the sum of the one before the rounds and of the working variables after them.
 fn sums(s: &[u32; 3264], v: &mut [u32; 128])
     requires { ⌜ (length (now s) ≡ 3264) × (length (now v) ≡ 128) ⌝ }
     ensures { λ _. ⌜ length (now (v .exit)) ≡ 128 ⌝ }
@@ -201,8 +201,8 @@ fn sums(s: &[u32; 3264], v: &mut [u32; 128])
     }
 }
 
-// Keeps a and e after round 5.
-fn keep(s: &[u32; 3264], x: &mut [u32; 96])
+// Saves a and e after round 5, in the last two rows of x.
+fn save(s: &[u32; 3264], x: &mut [u32; 96])
     requires { ⌜ (length (now s) ≡ 3264) × (length (now x) ≡ 96) ⌝ }
     ensures { λ _. ⌜ (length (now (x .exit)) ≡ 96) × Same 64 (now (x .entry)) (now (x .exit)) ⌝ }
     ensures { λ _. ⌜ ((l : ℕ) → l < 16 → (getD (now (x .exit)) (64 + l) 0 ≡ getD (now (s .entry)) (928 + l) 0) × (getD (now (x .exit)) (80 + l) 0 ≡ getD (now (s .entry)) (2016 + l) 0)) ⌝ }
@@ -215,10 +215,10 @@ fn keep(s: &[u32; 3264], x: &mut [u32; 96])
     }
 }
 
-// Round 5 of every lane, from what is kept of it: its word is only added.
+// Round 5 of every lane, from what is saved of it: its word is only added.
 fn resume(w: &[u32; 1024], x: &[u32; 96], s: &mut [u32; 3264])
     requires { ⌜ (length (now w) ≡ 1024) × (length (now x) ≡ 96) × (length (now s) ≡ 3264) ⌝ }
-    ensures { λ _. ⌜ (length (now (s .exit)) ≡ 3264) × Kept 944 (now (s .entry)) (now (s .exit)) ⌝ }
+    ensures { λ _. ⌜ (length (now (s .exit)) ≡ 3264) × Unchanged 944 (now (s .entry)) (now (s .exit)) ⌝ }
     ensures { λ _. ⌜ Resumed (now (w .entry)) (now (x .entry)) (now (s .entry)) (now (s .exit)) ⌝ }
 {
     let mut n = 0;
@@ -229,8 +229,8 @@ fn resume(w: &[u32; 1024], x: &[u32; 96], s: &mut [u32; 3264])
     }
 }
 
-// What compress goes on from, for blocks whose words 0 to 4, 14 and 15 are those in w, and for one hash value before them. Word 5 is
-// zero in w, so that round 5 is without it.
+// The common start of blocks whose words 0 to 4, 14 and 15 are those in w, after one hash value: `compress` goes on from it. Word 5
+// is zero in w, so that round 5 is without it. Scratch: what `Common` does not name of s.
 pub fn begin(k: &[u32; 64], h: [u32; 8], w: &[u32; 1024], x: &mut [u32; 96], s: &mut [u32; 3264])
     requires { ⌜ (now k ≡ constants) × (length (now w) ≡ 1024) × (length (now x) ≡ 96) × (length (now s) ≡ 3264) × ((l : ℕ) → l < 16 → getD (now w) (80 + l) 0 ≡ 0) ⌝ }
     ensures { λ _. ⌜ (length (now (x .exit)) ≡ 96) × (length (now (s .exit)) ≡ 3264) × Common h (now (w .entry)) (now (x .exit)) (now (s .exit)) ⌝ }
@@ -239,10 +239,11 @@ pub fn begin(k: &[u32; 64], h: [u32; 8], w: &[u32; 1024], x: &mut [u32; 96], s: 
     start(h, s);
     rounds(k, w, s, 0, 5);
     rounds(k, w, s, 5, 6);
-    keep(s, x);
+    save(s, x);
 }
 
-// The hash value of every lane after one more block, whose words are the first sixteen rows of w.
+// The hash value of every lane after one more block, whose words are the first sixteen rows of w. Scratch: the rows of w from 16 on,
+// and what `Common` does not name of s.
 pub fn compress(
     k: &[u32; 64],
     w: &mut [u32; 1024],

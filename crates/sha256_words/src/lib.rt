@@ -10,7 +10,7 @@ pub fn add(x: u32, y: u32) -> u32
     wrapping_add_u32(x, y)
 }
 
-pub fn rotr(x: u32, n: u32) -> u32
+fn rotr(x: u32, n: u32) -> u32
     requires { ⌜ (0 < n) × (n < 32) ⌝ }
     ensures { λ r. ⌜ r ≡ Fips.rotr n x ⌝ }
 {
@@ -18,13 +18,13 @@ pub fn rotr(x: u32, n: u32) -> u32
 }
 
 // The standard's value with fewer operations, and so is `maj`; in a run of rounds `x ^ y` is the next round's `y ^ z`.
-pub fn ch(x: u32, y: u32, z: u32) -> u32
+fn ch(x: u32, y: u32, z: u32) -> u32
     ensures { λ r. ⌜ r ≡ Fips.ch x y z ⌝ }
 {
     z ^ (x & (y ^ z))
 }
 
-pub fn maj(x: u32, y: u32, z: u32) -> u32
+fn maj(x: u32, y: u32, z: u32) -> u32
     ensures { λ r. ⌜ r ≡ Fips.maj x y z ⌝ }
 {
     y ^ ((x ^ y) & (y ^ z))
@@ -36,7 +36,7 @@ pub fn big_sigma0(x: u32) -> u32
     rotr(x, 2) ^ rotr(x, 13) ^ rotr(x, 22)
 }
 
-pub fn big_sigma1(x: u32) -> u32
+fn big_sigma1(x: u32) -> u32
     ensures { λ r. ⌜ r ≡ Fips.bigSigma1 x ⌝ }
 {
     rotr(x, 6) ^ rotr(x, 11) ^ rotr(x, 25)

@@ -9,7 +9,7 @@ use lib.ListN.{length}
 use borrow.Author.Tests.{eq-eqb, ne-eqb}
 use Rattle.octets.specs.Strings.{same}
 use Rattle.quorum.specs.Quorum.{k, size, shared}
-use Rattle.quorum.specs.Laws.{size-shared-le}
+use Rattle.quorum.specs.QuorumLaws.{size-shared-le}
 use Rattle.protocol.specs.Layout.{collectedBank, firstBank, storeLength, fullEntryLength, fullEntryAt, fullLength, evidenceEntryLength, evidenceEntryAt, evidenceLength}
 use Rattle.protocol.specs.Message.{render}
 use Rattle.protocol.specs.Calls.{start}

@@ -10,7 +10,7 @@ use borrow.Author.Tests.{not-true}
 use Rattle.octets.specs.Strings.{same}
 use Rattle.octets.specs.StringLaws.{part-all}
 use Rattle.quorum.specs.Quorum.{t0, k, has, size, with}
-use Rattle.quorum.specs.Laws.{has-false, with-lt, size-with-new, bit-empty, size-empty}
+use Rattle.quorum.specs.QuorumLaws.{has-false, with-lt, size-with-new, bit-empty, size-empty}
 use Rattle.protocol.specs.Layout.{valueLength}
 use Rattle.protocol.specs.Message.{Submit, render, readValue}
 use Rattle.protocol.specs.Calls.{start}

@@ -8,7 +8,7 @@ use lib.Dec.{ltb, eqb}
 use lib.ListN.{length}
 use borrow.Author.Tests.{eqb-true, eq-eqb, ltb-false}
 use Rattle.quorum.specs.Quorum.{k, has, size, outside}
-use Rattle.quorum.specs.Laws.{outside-false}
+use Rattle.quorum.specs.QuorumLaws.{outside-false}
 use Rattle.protocol.specs.Layout.{storeLength, outLength}
 use Rattle.protocol.specs.Record.{outOfRange, wrongHeard, namesStranger, wrongCollected, wrongFirst, lacksFirst, wrongGuilty, wrongSent, wrongUnset, impossible}
 use Rattle.protocol.specs.declared.Record.{Record}

@@ -12,7 +12,7 @@ use lib.Dec.{ltb}
 use lib.ListN.{length}
 use borrow.Author.Tests.{ltb-true}
 use Rattle.quorum.specs.Quorum.{bit, In, size, shared, all, seats}
-use Rattle.quorum.specs.Laws.{bit-cases, bit-shared, bit-lt-two, bit-all-below, seats-in, seats-out, length-seats, all-lt, bit-outside, lt-of-none-outside, mem-seats}
+use Rattle.quorum.specs.QuorumLaws.{bit-cases, bit-shared, bit-lt-two, bit-all-below, seats-in, seats-out, length-seats, all-lt, bit-outside, lt-of-none-outside, mem-seats}
 use Rattle.protocol.specs.Certificate.{setOf}
 use Rattle.protocol.specs.Refusals.{every, rising}
 use Rattle.protocol.specs.CertificateLaws.{in-set}

@@ -12,7 +12,7 @@ use lib.ListN.{length, getD, length-append, length-map, List·getD-append}
 use lib.Seq.{getD-at}
 use borrow.Author.Tests.{eqb-true, eq-eqb, ne-eqb, not-false}
 use Rattle.quorum.specs.Quorum.{k, In, size, shared, all, seats}
-use Rattle.quorum.specs.Laws.{seat-at, length-seats}
+use Rattle.quorum.specs.QuorumLaws.{seat-at, length-seats}
 use Rattle.protocol.specs.Layout.{signatureLength, valueAt, seatAt, fullCountAt, fullEntryLength, fullEntryAt, fullLength, banks, storeLength, slotLength, slotAt}
 use Rattle.protocol.specs.LayoutLaws.{slot-fits}
 use Rattle.protocol.specs.Entries.{Form, placeOf, readEntry, readEntries, entryCommands, formSeats}

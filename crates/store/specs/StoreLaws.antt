@@ -11,10 +11,10 @@ use lib.ListN.{length}
 use lib.Seq.{drop-drop}
 use borrow.Rule.Slice.PartMut.{putMid}
 use Rattle.octets.specs.Octets.{part, patch}
-use Rattle.octets.specs.Laws.{length-part, length-patch}
+use Rattle.octets.specs.OctetLaws.{length-part, length-patch}
 use Rattle.octets.specs.WriteLaws.{part-before, part-after, patch-all}
 use Rattle.quorum.specs.Quorum.{bit, In, seats}
-use Rattle.quorum.specs.Laws.{seats-in, seats-out}
+use Rattle.quorum.specs.QuorumLaws.{seats-in, seats-out}
 use Rattle.protocol.specs.Layout.{signatureLength, banks, lengthOfBanks, banksBefore, slotLengthIn, slotLength, storeLength, slotAt, firstBank}
 use Rattle.protocol.specs.Message.{readSignature}
 use Rattle.protocol.specs.Certificate.{slot, fill, fillEach}

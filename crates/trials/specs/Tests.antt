@@ -12,6 +12,7 @@ use borrow.Author.Tests.{eqb-true, eq-eqb, leb-true, le-leb, ltb-true}
 use Rattle.octets.specs.Strings.{same}
 use Rattle.octets.specs.StringLaws.{same-true}
 use Rattle.quorum.specs.Quorum.{t0, k, size}
+use Rattle.refusal.specs.Laws.{both-true, both-false}
 use Rattle.protocol.specs.Layout.{valueLength, signatureLength, storeLength, outLength}
 use Rattle.protocol.specs.Message.{Entry, Pair, Message, Submit, Notice, Full, Evidence, Garbled, fullForm, evidenceForm, Signed, render, read, signed, entrySeats, WellFormed}
 use Rattle.protocol.specs.Entries.{Laid}
@@ -21,7 +22,7 @@ use Rattle.protocol.specs.Calls.{opening, evidenceCheck}
 use Rattle.round.specs.Round.{Each, Are, Setting, Call, BySubmit, ByStep, ByThinEntry, IsStep, Honest, Called, outOf, resultOf, listOf, Writes, Submits, Confirms, Reached, HaveReached, writtenIn, WritesEvidence, Names, IsOpened}
 use Rattle.round.specs.Demand1.{isNotice, writtenOver}
 use Rattle.round.specs.Demand3.{Blames}
-use Rattle.reading.specs.Lists.{and-true-both, and-false-either, or-true-either, or-false-both, every-each}
+use Rattle.reading.specs.Lists.{and-false-either, or-true-either, every-each}
 use Rattle.reading.specs.Reading.{are-unique}
 use Rattle.reading.specs.Messages.{messages, allMessages, all-member, member-all, written-is, over-are}
 
@@ -41,7 +42,7 @@ pub found-none {ℓ} : {A : Type ℓ} (test : A → Bool) (xs : List A) → foun
 unfolding found
 found-none test [] e x d = absurd (List·Memᴰ·not-nil d)
 found-none test (y ∷ xs) e x d =
-    let both = or-false-both (test y) (found test xs) e in
+    let both = both-false (test y) (found test xs) e in
     ⊎-elim (λ q. subst (λ z. test z ≡ false) (sym q) (both .0)) (λ q. found-none test xs (both .1) x q) (List·Memᴰ·cases-cons d)
 
 pub every-false {ℓ} : {A : Type ℓ} (test : A → Bool) (xs : List A) → every test xs ≡ false → (x : A) × List·Memᴰ x xs × (test x ≡ false)
@@ -76,32 +77,32 @@ pairs-laid : (lower higher : List ℕ) (ps : List Pair) → every (pairSized low
 unfolding evidenceForm pairSized
 pairs-laid lower higher ps h p d =
     let sizes = eqb (length (p .lower)) signatureLength && eqb (length (p .higher)) signatureLength in
-    let a = and-true-both (same (p .lowerValue) lower) (same (p .higherValue) higher && sizes) (every-each (pairSized lower higher) ps h p d) in
-    let b = and-true-both (same (p .higherValue) higher) sizes (a .1) in
-    let c = and-true-both (eqb (length (p .lower)) signatureLength) (eqb (length (p .higher)) signatureLength) (b .1) in
+    let a = both-true (same (p .lowerValue) lower) (same (p .higherValue) higher && sizes) (every-each (pairSized lower higher) ps h p d) in
+    let b = both-true (same (p .higherValue) higher) sizes (a .1) in
+    let c = both-true (eqb (length (p .lower)) signatureLength) (eqb (length (p .higher)) signatureLength) (b .1) in
     pair-laid lower higher p (same-true (p .lowerValue) lower (a .0)) (same-true (p .higherValue) higher (b .0)) (eqb-true (length (p .lower)) signatureLength (c .0)) (eqb-true (length (p .higher)) signatureLength (c .1))
 
 wellFormed-says : (n : ℕ) (m : Message) → wellFormed n m ≡ true → WellFormed n m
 unfolding wellFormed
 wellFormed-says n (Submit ρ seat value signature) h =
-    let a = and-true-both (ltb ρ 65536) (eqb (length value) valueLength && eqb (length signature) signatureLength) h in
-    let b = and-true-both (eqb (length value) valueLength) (eqb (length signature) signatureLength) (a .1) in
+    let a = both-true (ltb ρ 65536) (eqb (length value) valueLength && eqb (length signature) signatureLength) h in
+    let b = both-true (eqb (length value) valueLength) (eqb (length signature) signatureLength) (a .1) in
     (ltb-true ρ 65536 (a .0), eqb-true (length value) valueLength (b .0), eqb-true (length signature) signatureLength (b .1))
 wellFormed-says n (Notice ρ seat value) h =
-    let a = and-true-both (ltb ρ 65536) (eqb (length value) valueLength) h in
+    let a = both-true (ltb ρ 65536) (eqb (length value) valueLength) h in
     (ltb-true ρ 65536 (a .0), eqb-true (length value) valueLength (a .1))
 wellFormed-says n (Full ρ sender value es) h =
-    let a = and-true-both (ltb ρ 65536) (eqb (length value) valueLength && (eqb (length es) (k n) && every entrySized es)) h in
-    let b = and-true-both (eqb (length value) valueLength) (eqb (length es) (k n) && every entrySized es) (a .1) in
-    let c = and-true-both (eqb (length es) (k n)) (every entrySized es) (b .1) in
+    let a = both-true (ltb ρ 65536) (eqb (length value) valueLength && (eqb (length es) (k n) && every entrySized es)) h in
+    let b = both-true (eqb (length value) valueLength) (eqb (length es) (k n) && every entrySized es) (a .1) in
+    let c = both-true (eqb (length es) (k n)) (every entrySized es) (b .1) in
     (ltb-true ρ 65536 (a .0), eqb-true (length value) valueLength (b .0), eqb-true (length es) (k n) (c .0), entries-laid es (c .1))
 wellFormed-says n (Evidence ρ lower higher ps) h =
     let rest = leb 1 (length ps) && (leb (length ps) n && every (pairSized lower higher) ps) in
-    let a = and-true-both (ltb ρ 65536) (eqb (length lower) valueLength && (eqb (length higher) valueLength && rest)) h in
-    let b = and-true-both (eqb (length lower) valueLength) (eqb (length higher) valueLength && rest) (a .1) in
-    let c = and-true-both (eqb (length higher) valueLength) rest (b .1) in
-    let d = and-true-both (leb 1 (length ps)) (leb (length ps) n && every (pairSized lower higher) ps) (c .1) in
-    let e = and-true-both (leb (length ps) n) (every (pairSized lower higher) ps) (d .1) in (
+    let a = both-true (ltb ρ 65536) (eqb (length lower) valueLength && (eqb (length higher) valueLength && rest)) h in
+    let b = both-true (eqb (length lower) valueLength) (eqb (length higher) valueLength && rest) (a .1) in
+    let c = both-true (eqb (length higher) valueLength) rest (b .1) in
+    let d = both-true (leb 1 (length ps)) (leb (length ps) n && every (pairSized lower higher) ps) (c .1) in
+    let e = both-true (leb (length ps) n) (every (pairSized lower higher) ps) (d .1) in (
       ltb-true ρ 65536 (a .0),
       eqb-true (length lower) valueLength (b .0),
       eqb-true (length higher) valueLength (c .0),
@@ -181,8 +182,8 @@ sameSigned s z = eqb (s .seat) (z .seat) && (same (s .value) (z .value) && same 
 pub same-signed : (s z : Signed) → sameSigned s z ≡ true → s ≡ z
 unfolding sameSigned
 same-signed s z e =
-    let a = and-true-both (eqb (s .seat) (z .seat)) (same (s .value) (z .value) && same (s .signature) (z .signature)) e in
-    let b = and-true-both (same (s .value) (z .value)) (same (s .signature) (z .signature)) (a .1) in
+    let a = both-true (eqb (s .seat) (z .seat)) (same (s .value) (z .value) && same (s .signature) (z .signature)) e in
+    let b = both-true (same (s .value) (z .value)) (same (s .signature) (z .signature)) (a .1) in
     ap (λ (x : ℕ). record { seat = x; value = s .value; signature = s .signature }) (eqb-true (s .seat) (z .seat) (a .0))
     ∙ ap (λ (x : List ℕ). record { seat = z .seat; value = x; signature = s .signature }) (same-true (s .value) (z .value) (b .0))
     ∙ ap (λ (x : List ℕ). record { seat = z .seat; value = z .value; signature = x }) (same-true (s .signature) (z .signature) (b .1))
@@ -214,7 +215,7 @@ module _ (S : Setting) where
   submits-says u layout e =
       let f = found-one (λ (c : Called). isSubmitOf layout (c .given) && eqb (resultOf S c .refusal) 0) (listOf S u) e in
       let c = f .0 in
-      let both = and-true-both (isSubmitOf layout (c .given)) (eqb (resultOf S c .refusal) 0) (f .2) in
+      let both = both-true (isSubmitOf layout (c .given)) (eqb (resultOf S c .refusal) 0) (f .2) in
       let s = submit-of layout (c .given) (both .0) in
       record { call = c; inList = f .1; signature = s .0; out = s .1; carries = s .2; unrefused = eqb-true (resultOf S c .refusal) 0 (both .1) }
 
@@ -234,8 +235,8 @@ module _ (S : Setting) where
   reached-says u bytes e =
       let f = found-one (λ (c : Called). isStepOf bytes (c .given) && (leb storeAsked (length (c .store)) && leb outAsked (length (outOf (c .given))))) (listOf S u) e in
       let c = f .0 in
-      let a = and-true-both (isStepOf bytes (c .given)) (leb storeAsked (length (c .store)) && leb outAsked (length (outOf (c .given)))) (f .2) in
-      let b = and-true-both (leb storeAsked (length (c .store))) (leb outAsked (length (outOf (c .given)))) (a .1) in
+      let a = both-true (isStepOf bytes (c .given)) (leb storeAsked (length (c .store)) && leb outAsked (length (outOf (c .given)))) (f .2) in
+      let b = both-true (leb storeAsked (length (c .store))) (leb outAsked (length (outOf (c .given)))) (a .1) in
       record {
         step = record { call = c; inList = f .1; out = outOf (c .given); isStep = step-of bytes (c .given) (a .0) };
         storeRoom = leb-true storeAsked (length (c .store)) (b .0);
@@ -325,7 +326,7 @@ module _ (S : Setting) where
     accuses-says seat e =
         let g = found-one (isEvidenceOn seat) (all u) e in
         let m = g .0 in
-        let both = and-true-both (isEvidence m) (found (eqb seat) (entrySeats m)) (g .2) in (
+        let both = both-true (isEvidence m) (found (eqb seat) (entrySeats m)) (g .2) in (
           render m,
           record { message = m; kind = both .0; bytes = refl; writes = member-writes m (g .1) },
           subst (λ x. List·Memᴰ seat (entrySeats x)) (sym (read-render n m (all-formed m (g .1)))) (found-seat seat (entrySeats m) (both .1)),

@@ -10,6 +10,7 @@ use lib.Dec.{eqb, leb}
 use borrow.Author.Tests.{eqb-true, eqb-false, eq-eqb, le-leb, not-true, not-false}
 use Rattle.octets.specs.Strings.{same}
 use Rattle.octets.specs.StringLaws.{same-refl}
+use Rattle.refusal.specs.Laws.{both-true}
 use Rattle.protocol.specs.Message.{Signed, read, signed, entrySeats}
 use Rattle.protocol.specs.Record.{impossible}
 use Rattle.protocol.specs.Refusals.{every}
@@ -17,7 +18,7 @@ use Rattle.protocol.specs.Calls.{evidenceCheck}
 use Rattle.round.specs.Round.{Setting, InHand, Honest, Called, IsOpened, Family, resultOf, listOf, StepGiven, MadeFrom, Delivered, AcceptedFrom, Names}
 use Rattle.round.specs.Demand1.{Kind, SUBMIT, NOTICE, FULL, EVIDENCE, isOf, count, AtMostOne}
 use Rattle.round.specs.Demand3.{NoneForged, NoneBlamed, ReachedOthers, Demand3}
-use Rattle.reading.specs.Lists.{and-true-both, or-true-either, every-each}
+use Rattle.reading.specs.Lists.{or-true-either, every-each}
 use Rattle.trials.specs.Tests.{found, found-one, every-false, found-seat, signedIn, given-signed, signed-given, sameSigned, same-signed, isOpened, isOpened-says, all, formed, submits, submits-says, confirms, confirms-says, haveReached, haveReached-says, blames, blames-not, accuses, accuses-says, all-are}
 
 pub record Trial {ℓ} (claim : Type ℓ) : Type ℓ where
@@ -49,7 +50,7 @@ module _ (S : Setting) (u : Honest) where
     premises = isOpened S u && formed S u;
     conclusion = once SUBMIT && (once NOTICE && (once FULL && once EVIDENCE));
     refutes = λ p c claim.
-        let both = and-true-both (isOpened S u) (formed S u) p in
+        let both = both-true (isOpened S u) (formed S u) p in
         let one : (κ : Kind) → once κ ≡ true = λ κ. le-leb (count (isOf κ) (all S u)) 1 (claim (isOpened-says S u (both .0)) (all S u) (all-are S u (both .1)) κ) in
         true≢false (sym (rw (one SUBMIT, one NOTICE, one FULL, one EVIDENCE)) ∙ c);
   }
@@ -104,8 +105,8 @@ module _ (S : Setting) {I : Type 0} (crew : Crew I) (boat : I → Honest) where
 
   pub family-says : family ≡ true → Family S boat × ((i : I) → formed S (boat i) ≡ true)
   family-says e =
-      let a = and-true-both (each (λ i. isOpened S (boat i))) (each (λ i. each (apart i)) && each (λ i. formed S (boat i))) e in
-      let b = and-true-both (each (λ i. each (apart i))) (each (λ i. formed S (boat i))) (a .1) in (
+      let a = both-true (each (λ i. isOpened S (boat i))) (each (λ i. each (apart i)) && each (λ i. formed S (boat i))) e in
+      let b = both-true (each (λ i. each (apart i))) (each (λ i. formed S (boat i))) (a .1) in (
         record {
           opened = λ i. isOpened-says S (boat i) (each-says (λ l. isOpened S (boat l)) (a .0) i);
           apart = λ i j other same.
@@ -131,11 +132,11 @@ module _ (S : Setting) {I : Type 0} (crew : Crew I) (boat : I → Honest) where
     premises = family && (not (same a b) && (confirms S (boat i) a && (confirms S (boat j) b && (reachedOthers i && reachedOthers j))));
     conclusion = each (λ l. blames S (boat l));
     refutes = λ p c claim.
-        let q = and-true-both family (not (same a b) && (confirms S (boat i) a && (confirms S (boat j) b && (reachedOthers i && reachedOthers j)))) p in
-        let r = and-true-both (not (same a b)) (confirms S (boat i) a && (confirms S (boat j) b && (reachedOthers i && reachedOthers j))) (q .1) in
-        let s = and-true-both (confirms S (boat i) a) (confirms S (boat j) b && (reachedOthers i && reachedOthers j)) (r .1) in
-        let t = and-true-both (confirms S (boat j) b) (reachedOthers i && reachedOthers j) (s .1) in
-        let u = and-true-both (reachedOthers i) (reachedOthers j) (t .1) in
+        let q = both-true family (not (same a b) && (confirms S (boat i) a && (confirms S (boat j) b && (reachedOthers i && reachedOthers j)))) p in
+        let r = both-true (not (same a b)) (confirms S (boat i) a && (confirms S (boat j) b && (reachedOthers i && reachedOthers j))) (q .1) in
+        let s = both-true (confirms S (boat i) a) (confirms S (boat j) b && (reachedOthers i && reachedOthers j)) (r .1) in
+        let t = both-true (confirms S (boat j) b) (reachedOthers i && reachedOthers j) (s .1) in
+        let u = both-true (reachedOthers i) (reachedOthers j) (t .1) in
         let known = family-says (q .0) in
         let formed = known .1 in
         let different : a ≢ b = λ e. true≢false (sym (subst (λ x. same a x ≡ true) e (same-refl a)) ∙ not-true (same a b) (r .0)) in
@@ -200,8 +201,8 @@ module _ (S : Setting) {I : Type 0} (crew : Crew I) (boat : I → Honest) where
   framed-says i evidence e =
       let m = read n evidence in
       let number = evidenceCheck checks n round keys evidence .number in
-      let a = and-true-both (eqb number 0) (every delivered (signed m) && found (eqb (boat i .seat)) (entrySeats m)) e in
-      let b = and-true-both (every delivered (signed m)) (found (eqb (boat i .seat)) (entrySeats m)) (a .1) in
+      let a = both-true (eqb number 0) (every delivered (signed m) && found (eqb (boat i .seat)) (entrySeats m)) e in
+      let b = both-true (every delivered (signed m)) (found (eqb (boat i .seat)) (entrySeats m)) (a .1) in
       ((eqb-true number 0 (a .0), λ s d. delivered-says s (every-each delivered (signed m) (b .0) s d)), found-seat (boat i .seat) (entrySeats m) (b .1))
 
   -- no signature is forged: is no boat's seat in evidence that a boat writes, nor in any of these, accepted from delivered ones?
@@ -210,8 +211,8 @@ module _ (S : Setting) {I : Type 0} (crew : Crew I) (boat : I → Honest) where
     premises = family && (noneForged && noneInHand);
     conclusion = each (λ i. not (someone (λ j. accuses S (boat j) (boat i .seat)) || found (framed i) tried));
     refutes = λ p c claim.
-        let a = and-true-both family (noneForged && noneInHand) p in
-        let b = and-true-both noneForged noneInHand (a .1) in
+        let a = both-true family (noneForged && noneInHand) p in
+        let b = both-true noneForged noneInHand (a .1) in
         let known = family-says (a .0) in
         let none : NoneBlamed S boat (Delivered S boat) = claim (known .0) .safety (noneForged-says (b .0) (b .1)) in
         let l = every-false (λ i. not (someone (λ j. accuses S (boat j) (boat i .seat)) || found (framed i) tried)) (crew .everyone) c in

@@ -10,7 +10,7 @@ use lib.ListN.{length, drop, getD, drop-of-length-le}
 use lib.Seq.{drop-cons}
 use borrow.Author.Tests.{lt-ltb, le-ltb, eq-eqb, ne-eqb}
 use Rattle.octets.specs.Octets.{part, patch}
-use Rattle.octets.specs.Laws.{length-part}
+use Rattle.octets.specs.OctetLaws.{length-part}
 use Rattle.octets.specs.WriteLaws.{patch-all}
 use Rattle.protocol.specs.Values.{isLower}
 

@@ -10,16 +10,21 @@ use native.Mathlib.Omega.{arith}
 use lib.ListN.{length, take, drop, set, length-append, length-map, take-append-drop}
 use lib.Seq.{set-split, sets-eq}
 use Rattle.octets.specs.Octets.{patch, be}
-use Rattle.octets.specs.Laws.{length-be, patch-patch, length-patch}
+use Rattle.octets.specs.OctetLaws.{length-be, patch-patch, length-patch}
 use Rattle.octets.specs.StringLaws.{be-two}
+<<<<<<< HEAD
 use Rattle.quorum.specs.Quorum.{bit, In, seats, size}
-use Rattle.quorum.specs.Laws.{seats-in, seats-out, length-seats}
+use Rattle.quorum.specs.QuorumLaws.{seats-in, seats-out, length-seats}
+=======
+use Rattle.quorum.specs.Quorum.{bit, In, seats, size, shared}
+use Rattle.quorum.specs.QuorumLaws.{seats-in, seats-out, length-seats, shared-lt}
+>>>>>>> 373069b1965678a5299a89814be0ad13854858f3
 use Rattle.protocol.specs.Layout.{valueLength, operandsAt, noticeLength, entryLength, evidenceStart}
 use Rattle.protocol.specs.Values.{isLower}
 use Rattle.protocol.specs.Entries.{Form, renderEntry, renderEntries}
 use Rattle.protocol.specs.EntriesLaws.{entries-append, length-entry}
 use Rattle.protocol.specs.Message.{evidenceForm, render}
-use Rattle.protocol.specs.Certificate.{Certificate, pairOf, orderedEvidence, evidenceOf}
+use Rattle.protocol.specs.Certificate.{Certificate, pairOf, pairsOf, orderedEvidence, evidenceOf}
 use Rattle.store.specs.Sources.{certificateFrom}
 use Rattle.store.specs.SeatLaws.{seats-split}
 use Rattle.store.specs.declared.sources.Source.{Source}
@@ -136,6 +141,18 @@ pub pairs-values : (n : ℕ) (low : Source) (lows : List ℕ) (high : Source) (h
 unfolding renderEntries renderEntry evidenceForm
 pairs-values n low lows high highs lower higher [] = refl
 pairs-values n low lows high highs lower higher (s ∷ l) = rw (pairs-values n low lows high highs lower higher l)
+
+-- EVIDENCE from its parts: what it starts with, and the entries of the seats shared
+pub evidence-written : (n round at mask count a e : ℕ) (lower : List ℕ) (low : Source) (lows higher : List ℕ) (high : Source) (highs before one after : List ℕ)
+    → at ≤ length before → low .seats < 2 ^ n → high .seats < 2 ^ n → mask ≡ shared (low .seats) (high .seats) → count ≡ size mask
+    → Wrote at (evidenceHead round lower higher count) before one a
+    → Wrote a (renderEntries (evidenceForm [] []) (pairsOf n mask (certificateFrom n low [] lows) (certificateFrom n high [] highs))) one after e
+    → Wrote at (render (orderedEvidence n round (certificateFrom n low lower lows) (certificateFrom n high higher highs))) before after e
+unfolding render orderedEvidence pairsOf
+evidence-written n round at mask count a e lower low lows higher high highs before one after h x y q c u v =
+    let both = shared (low .seats) (high .seats) in
+    list-written (evidenceForm lower higher) (pairOf (certificateFrom n low lower lows) (certificateFrom n high higher highs)) n both at before (0x05 ∷ be 2 round ++ lower ++ higher) count a e one after h
+    (shared-lt n (low .seats) (high .seats) x y) (c ∙ ap size q) u (rw (q, pairs-values n low lows high highs lower higher (seats n both)) at v)
 
 -- EVIDENCE from two certificates in either order, by a test of their values
 module _ (n round : ℕ) (c d : Certificate) (t : Bool) (e : t ≡ isLower (c .value) (d .value)) (at : ℕ) (before after : List ℕ) (end : ℕ) where

@@ -210,7 +210,8 @@ fn write_ordered(
     ensures { λ r. ⌜ Wrote at (render (orderedEvidence n round (certificateFrom n low (now (lower .entry)) (now (lows .entry))) (certificateFrom n high (now (higher .entry)) (now (highs .entry))))) (now (out .entry)) (now (out .exit)) r × (r ≡ at + evidenceLength (size (shared (low .seats) (high .seats)))) ⌝ }
 {
     let mask = quorum::shared(low.seats, high.seats);
-    let a = write_evidence_head(out, at, round, lower, higher, quorum::size(mask));
+    let count = quorum::size(mask);
+    let a = write_evidence_head(out, at, round, lower, higher, count);
     write_pairs(out, a, n, mask, low, lows, high, highs)
 }
 

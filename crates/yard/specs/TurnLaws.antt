@@ -9,7 +9,7 @@ use lib.Dec.{ltb, eqb}
 use lib.ListN.{length, take, drop}
 use borrow.Author.Tests.{eq-eqb, ne-eqb, ltb-false, not-false}
 use Rattle.octets.specs.Octets.{part}
-use Rattle.octets.specs.Laws.{take-rest}
+use Rattle.octets.specs.OctetLaws.{take-rest}
 use Rattle.octets.specs.StringLaws.{patch-nothing}
 use Rattle.protocol.specs.Message.{byteAt}
 use Rattle.protocol.specs.Refusals.{Checks}

@@ -1,2 +1,3 @@
--- What the exported calls' contracts come to.
+-- The interface's version, and what the exported calls' contracts come to.
+pub mod Version
 pub mod Refused

@@ -4,12 +4,30 @@ ghost use lib.ListN.{length};
 ghost use Rattle.octets.specs.Octets.{patch};
 ghost use Rattle.protocol.specs.Calls as calls;
 ghost use Rattle.protocol.specs.Signatures.{checkSignature, makeKey, sign, checks};
+ghost use Rattle.framing.specs.Framing.{messageLength};
+ghost use Rattle.zolbine.specs.Version.{version};
 use lms::calls::Written;
 use protocol::Checked;
 use protocol::Made;
 use protocol::Opened;
 use protocol::Record;
 use protocol::Stepped;
+
+// The interface's version, ZOLBINE_VERSION in the header.
+#[no_mangle]
+pub extern "C" fn zolbine_version() -> u32
+    ensures { λ r. ⌜ r ≡ version ⌝ }
+{
+    1
+}
+
+// The length of the first message in a buffer; 0 where no message of a fleet of n seats stands there whole.
+#[no_mangle]
+pub extern "C" fn zolbine_message_length(n: u32, bytes: &[u8]) -> u32
+    ensures { λ r. ⌜ r ≡ messageLength n (now (bytes .entry)) ⌝ }
+{
+    framing::message_length(n, bytes)
+}
 
 // The stand-alone check of a signature: 0, or what is turned back.
 #[no_mangle]

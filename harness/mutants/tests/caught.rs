@@ -1,41 +1,87 @@
-//! Every planted fault is caught by the battery that is there for it.
+//! Every planted fault is caught by the battery that is there for it, and an edit without a meaning is not.
 
-use std::panic::{catch_unwind, set_hook, AssertUnwindSafe};
+use std::panic::{catch_unwind, set_hook, take_hook, AssertUnwindSafe};
 
-use harness::compare::engine::{lists, opening, records, refusals, Subject};
-use harness::compare::{evidence, making, progress};
-use harness::confirmer::{Confirmer, Reference};
-use harness::script::{self, Calls};
+use harness::compare::engine::{self, lists, opening, records, refusals};
+use harness::compare::{check_signature, evidence, hashes, make_key, making, progress, sign};
+use harness::confirmer::Reference;
+use harness::script;
+use mutants::{Mutant, Subject};
 
-fn run(battery: &str, confirmer: &'static dyn Confirmer) {
-    let subject = Subject { engine: confirmer, lent: confirmer };
-    match battery {
-        "evidence" => evidence::battery(confirmer),
-        "lists" => lists::battery(subject),
-        "making" => making::battery(making::Subject { making: confirmer, lower: Some(confirmer) }),
-        "opening" => opening::battery(confirmer),
-        "records" => records::battery(subject),
-        "refusals" => refusals::battery(subject),
-        "rounds" => script::all(Calls { engine: confirmer, evidence: confirmer, making: confirmer, lower: confirmer }),
-        battery => panic!("no battery {battery}"),
+const OF_THE_CONFIRMER: [&str; 7] = ["evidence", "lists", "making", "opening", "records", "refusals", "rounds"];
+const OF_SIGNATURES: [&str; 3] = ["check", "make_key", "sign"];
+const OF_HASHES: [&str; 2] = ["compressions", "digests"];
+
+fn batteries(subject: Subject) -> &'static [&'static str] {
+    match subject {
+        Subject::Confirmer(_) => &OF_THE_CONFIRMER,
+        Subject::Calls(_) => &OF_SIGNATURES,
+        Subject::Hashes(_) => &OF_HASHES,
     }
 }
 
+fn run(battery: &str, subject: Subject) {
+    match subject {
+        Subject::Confirmer(confirmer) => {
+            let engine = engine::Subject { engine: confirmer, lent: confirmer };
+            match battery {
+                "evidence" => evidence::battery(confirmer),
+                "lists" => lists::battery(engine),
+                "making" => making::battery(making::Subject { making: confirmer, lower: Some(confirmer) }),
+                "opening" => opening::battery(confirmer),
+                "records" => records::battery(engine),
+                "refusals" => refusals::battery(engine),
+                "rounds" => script::all(script::Calls {
+                    engine: confirmer,
+                    evidence: confirmer,
+                    making: confirmer,
+                    lower: confirmer,
+                }),
+                _ => unreachable!(),
+            }
+        }
+        Subject::Calls(calls) => match battery {
+            "check" => check_signature::battery(calls),
+            "make_key" => make_key::battery(calls),
+            "sign" => sign::battery(calls),
+            _ => unreachable!(),
+        },
+        Subject::Hashes(subject) => match battery {
+            "compressions" => hashes::compressions(subject),
+            "digests" => hashes::digests(subject),
+            _ => unreachable!(),
+        },
+    }
+}
+
+/// The confirmer's batteries let the reference itself pass; those of signatures have an edit without a meaning.
 #[test]
 fn faults_are_caught() {
-    for battery in ["evidence", "lists", "making", "opening", "records", "refusals", "rounds"] {
-        run(battery, &Reference);
+    for battery in OF_THE_CONFIRMER {
+        run(battery, Subject::Confirmer(&Reference));
+    }
+    for battery in OF_SIGNATURES.iter().chain(&OF_HASHES) {
+        assert!(mutants::ALL.iter().any(|mutant| mutant.harmless && mutant.battery == *battery), "{battery}");
+    }
+    for Mutant { fault, battery, subject, .. } in mutants::ALL {
+        assert!(batteries(subject).contains(&battery), "{fault}: no battery {battery} for its file");
     }
     // A caught fault is no news.
     set_hook(Box::new(|_| ()));
-    let mut missed = Vec::new();
+    let mut wrong = Vec::new();
     for mutant in mutants::ALL {
-        let caught = catch_unwind(AssertUnwindSafe(|| run(mutant.battery, mutant.confirmer))).is_err();
-        progress(&format!("{} by {}: {}", if caught { "caught" } else { "MISSED" }, mutant.battery, mutant.fault));
-        if !caught {
-            missed.push(mutant.fault);
+        let caught = catch_unwind(AssertUnwindSafe(|| run(mutant.battery, mutant.subject))).is_err();
+        let told = match (caught, mutant.harmless) {
+            (true, false) => "caught",
+            (false, false) => "MISSED",
+            (true, true) => "CAUGHT, and harmless",
+            (false, true) => "harmless and passed",
+        };
+        progress(&format!("{told} by {}: {}", mutant.battery, mutant.fault));
+        if caught == mutant.harmless {
+            wrong.push(format!("{told} by {}: {}", mutant.battery, mutant.fault));
         }
     }
-    let _ = std::panic::take_hook();
-    assert!(missed.is_empty(), "not caught: {missed:#?}");
+    let _ = take_hook();
+    assert!(wrong.is_empty(), "{wrong:#?}");
 }

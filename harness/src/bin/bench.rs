@@ -5,8 +5,10 @@
 use harness::contest::Contest;
 use harness::library;
 use harness::plain::Plain;
-use harness::reference::calls::{Written, SIGNATURE, TREE};
+use harness::reference::calls::TREE;
+use harness::reference::layout::{SIGNATURE, SIGNED};
 use harness::reference::lms::{Types, IDENTIFIER, N, PUBLIC_KEY};
+use harness::reference::record::Written;
 use harness::rng::{seed, Rng};
 use harness::subject::{Calls, Hashes};
 use harness::vectors;
@@ -110,7 +112,7 @@ fn call_contests() -> Vec<Contest<dyn Calls>> {
         }));
     }
     let (seed, identifier, randomizer, tree) = (rng.bytes(N), rng.bytes(IDENTIFIER), rng.bytes(N), rng.bytes(TREE));
-    let messages: Vec<Vec<u8>> = (0..8).map(|_| rng.bytes(36)).collect();
+    let messages: Vec<Vec<u8>> = (0..8).map(|_| rng.bytes(SIGNED)).collect();
     let (key_seed, key_identifier) = (seed.clone(), identifier.clone());
     contests.push(contest::<dyn Calls>("sign", messages.len(), 301, move |subject| {
         for (leaf, message) in (0..).zip(&messages) {

@@ -2,11 +2,12 @@
 
 use super::arguments::{untouched, Arguments};
 use super::refusals::{on_part, spoiled};
-use super::{equal, flip_bit, messages, noise, resized, run};
+use super::{equal, flip_bit, long, messages, noise, resized, run};
 use crate::confirmer::EvidenceCheck;
 use crate::fleet::{layouts, rounds, some_seats, Fleet};
 use crate::guarded::Guarded;
 use crate::reference::evidence;
+use crate::reference::layout::{self, ENTRY_SEAT_AT, EVIDENCE_COUNT_AT, EVIDENCE_ENTRIES_AT, LOWER_AT, ROUND_AT};
 use crate::reference::messages::{Evidence, Value, EVIDENCE, EVIDENCE_ENTRY};
 use crate::reference::record::Verdict;
 use crate::reference::seats::mask;
@@ -60,12 +61,12 @@ pub fn lengths_around(subject: &dyn EvidenceCheck, n: u32, rng: &mut Rng) -> Res
 /// A call with random bytes.
 pub fn noise(subject: &dyn EvidenceCheck, rng: &mut Rng) -> Result<u32, String> {
     let arguments = Arguments::noise(rng);
-    let count = 1 + rng.below(2);
-    let mut evidence = noise::bytes(68 + 2906 * count, rng);
+    let count = 1 + rng.below(2) as u32;
+    let mut evidence = noise::bytes(layout::evidence(count), rng);
     if rng.below(4) > 0 {
         noise::head(&mut evidence, EVIDENCE, arguments.round, rng);
-        noise::set(&mut evidence, 67, &[count as u8]);
-        noise::entries(&mut evidence, 68, 2906, EVIDENCE_ENTRY, rng);
+        noise::set(&mut evidence, EVIDENCE_COUNT_AT, &[count as u8]);
+        noise::entries(&mut evidence, EVIDENCE_ENTRIES_AT, layout::EVIDENCE_ENTRY, EVIDENCE_ENTRY, rng);
     }
     Ok(both(subject, &arguments, &evidence, rng)?.number)
 }
@@ -77,7 +78,9 @@ pub fn battery(subject: &dyn EvidenceCheck) {
         let fleet = Fleet { n, round: *rng.pick(&rounds()) };
         cases.extend(right_ones(fleet, &mut rng));
         cases.extend(in_other_fleets(fleet, &mut rng));
-        cases.extend(refusals(fleet, &mut rng));
+        if long() || [1, 2, 3, 4, 7, 10, 31, 32].contains(&n) {
+            cases.extend(refusals(fleet, &mut rng));
+        }
     }
     cases.extend(every_byte(Fleet { n: 4, round: rounds()[2] }, &mut rng));
     run("check_evidence", &cases, |case, rng| compare(subject, case, rng));
@@ -152,13 +155,15 @@ fn refusals(fleet: Fleet, rng: &mut Rng) -> Vec<Case> {
 
 /// An entry too many or too few for the count.
 fn whole_entries(base: &Case) -> Vec<Case> {
-    let entry = 2906;
     let mut longer = base.clone();
-    longer.evidence.extend_from_within(68..68 + entry);
+    longer.evidence.extend_from_within(EVIDENCE_ENTRIES_AT..layout::evidence(1));
     let mut shorter = base.clone();
-    shorter.evidence.truncate(base.evidence.len() - entry);
+    shorter.evidence.truncate(base.evidence.len() - layout::EVIDENCE_ENTRY);
     vec![refused("an entry too many", 9, longer), refused("an entry too few", 9, shorter)]
 }
+
+/// The place of the first entry's seat.
+const FIRST_SEAT_AT: usize = EVIDENCE_ENTRIES_AT + ENTRY_SEAT_AT;
 
 /// A bit of every byte. No bit makes a right message of another.
 fn every_byte(fleet: Fleet, rng: &mut Rng) -> Vec<Case> {
@@ -168,10 +173,10 @@ fn every_byte(fleet: Fleet, rng: &mut Rng) -> Vec<Case> {
         let mut case = base.clone();
         flip_bit(&mut case.evidence[at..=at], rng);
         let number = match at {
-            0 | 67 | 68 => 9,
-            1 | 2 => 10,
+            0 | EVIDENCE_COUNT_AT | EVIDENCE_ENTRIES_AT => 9,
+            ROUND_AT..LOWER_AT => 10,
             // Seat 1 as seat 0 or 3, or as a stranger.
-            69 if case.evidence[69] >= 4 => 11,
+            FIRST_SEAT_AT if case.evidence[at] >= 4 => 11,
             _ => 14,
         };
         refused(format!("a bit of byte {at}"), number, case)

@@ -1,10 +1,12 @@
 //! The key maker: whole trees and public keys byte by byte, and each refusal alone and with others.
 
 use super::refusals::{lengths, spoiled, Spoiler};
-use super::{equal, noise, progress, run};
+use super::{equal, long, noise, progress, run, sized};
 use crate::guarded::Guarded;
+use crate::memo::Memo;
 use crate::reference::calls::{self, TREE};
 use crate::reference::lms::{IDENTIFIER, N, PUBLIC_KEY};
+use crate::reference::record::Written;
 use crate::rng::{seed, Rng};
 use crate::subject::Calls;
 
@@ -19,9 +21,7 @@ struct Case {
 }
 
 fn compare(subject: &dyn Calls, case: &Case, rng: &mut Rng) -> Result<u32, String> {
-    let mut reference_tree = case.tree.clone();
-    let mut reference_out = case.out.clone();
-    let reference = calls::make_key(&case.seed, &case.identifier, &mut reference_tree, &mut reference_out);
+    let (reference, reference_tree, reference_out) = reference(case);
     let seed = Guarded::new(&case.seed, rng);
     let identifier = Guarded::new(&case.identifier, rng);
     let mut tree = Guarded::new(&case.tree, rng);
@@ -38,10 +38,26 @@ fn compare(subject: &dyn Calls, case: &Case, rng: &mut Rng) -> Result<u32, Strin
     told().map(|()| reference.number).map_err(|difference| format!("{}: {difference}", case.what))
 }
 
+/// An answer, and tree and out after it.
+type Made = (Written, Vec<u8>, Vec<u8>);
+
+/// What the reference comes to. A whole key takes long, so it is made once.
+fn reference(case: &Case) -> Made {
+    static WHOLE: Memo<[Vec<u8>; 4], Made> = Memo::new();
+    let Case { seed, identifier, tree, out, .. } = case;
+    let make = || {
+        let (mut tree, mut out) = (tree.clone(), out.clone());
+        (calls::make_key(seed, identifier, &mut tree, &mut out), tree, out)
+    };
+    match case.expected {
+        Some(0) => WHOLE.answer([seed, identifier, tree, out].map(Vec::clone), |_| make()),
+        _ => make(),
+    }
+}
+
 pub fn battery(subject: &dyn Calls) {
     let mut rng = Rng::new(seed(), "make_key");
     let mut cases = vec![
-        right("a random key", &mut rng),
         Case { out: rng.bytes(PUBLIC_KEY + 100), ..right("a random key, 100 bytes to spare", &mut rng) },
         Case {
             seed: vec![0xff; N],
@@ -51,7 +67,10 @@ pub fn battery(subject: &dyn Calls) {
             ..right("all bytes 255", &mut rng)
         },
     ];
-    progress("make_key: 3 whole keys");
+    if long() {
+        cases.push(right("a random key", &mut rng));
+    }
+    progress(&format!("make_key: {} whole keys", cases.len()));
     cases.extend(refusals(&mut rng));
     run("make_key", &cases, |case, rng| compare(subject, case, rng));
 }
@@ -101,6 +120,6 @@ fn spoilers() -> Vec<Spoiler<Case>> {
 }
 
 fn refusals(rng: &mut Rng) -> Vec<Case> {
-    let spoiled = spoiled(&spoilers(), 200, rng, |rng| right("", rng));
+    let spoiled = spoiled(&spoilers(), sized(200), rng, |rng| right("", rng));
     spoiled.into_iter().map(|wrong| Case { expected: Some(wrong.number()), what: wrong.what, ..wrong.case }).collect()
 }

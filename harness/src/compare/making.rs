@@ -6,11 +6,11 @@ use super::{equal, long, messages, noise, resized, run};
 use crate::confirmer::{Lower, LowerCopy, Making};
 use crate::fleet::{layouts, rounds, some_seats, Fleet};
 use crate::guarded::Guarded;
-use crate::reference::calls::Written;
-use crate::reference::evidence::{check_evidence, lower_certificate, make_evidence, out_length};
-use crate::reference::messages::{Full, FULL, FULL_ENTRY};
+use crate::reference::evidence::{check_evidence, lower_certificate, make_evidence};
+use crate::reference::layout::{self, evidence_out};
+use crate::reference::messages::{Full, FULL};
 use crate::reference::quorum;
-use crate::reference::record::Verdict;
+use crate::reference::record::{Verdict, Written};
 use crate::reference::seats::mask;
 use crate::rng::{seed, Rng};
 
@@ -128,7 +128,7 @@ pub fn lengths_around(subject: &dyn Making, n: u32, rng: &mut Rng) -> Result<usi
             calls += 1;
         }
     }
-    for length in noise::around(out_length(n)) {
+    for length in noise::around(evidence_out(n)) {
         both(subject, &arguments, &certificates, &rng.bytes(length), rng)?;
         calls += 1;
     }
@@ -138,17 +138,16 @@ pub fn lengths_around(subject: &dyn Making, n: u32, rng: &mut Rng) -> Result<usi
 /// A call with random bytes.
 pub fn noise(subject: &dyn Making, rng: &mut Rng) -> Result<u32, String> {
     let arguments = Arguments::noise(rng);
-    let k = quorum::k(arguments.n.clamp(1, 3)) as usize;
+    let k = quorum::k(arguments.n.clamp(1, 3));
     let certificates = [0, 1].map(|_| {
-        let mut full = noise::bytes(37 + 1454 * k, rng);
+        let mut full = noise::bytes(layout::full(k), rng);
         if rng.below(8) > 0 {
             noise::head(&mut full, FULL, arguments.round, rng);
-            noise::set(&mut full, 36, &[k as u8]);
-            noise::entries(&mut full, 37, 1454, FULL_ENTRY, rng);
+            noise::certificate(&mut full, k, rng);
         }
         full
     });
-    let out = noise::bytes(68 + 2906 * k, rng);
+    let out = noise::bytes(layout::evidence(k), rng);
     Ok(both(subject, &arguments, &certificates, &out, rng)?.0.number)
 }
 
@@ -194,8 +193,8 @@ fn right(fleet: Fleet, [lower, higher]: &[Full; 2], rng: &mut Rng) -> Case {
         what: String::new(),
         arguments: Arguments::of(fleet),
         certificates: [lower.write(), higher.write()],
-        out: rng.bytes(out_length(fleet.n) + spare),
-        made: Written { number: 0, written: 68 + 2906 * named.count_ones() },
+        out: rng.bytes(evidence_out(fleet.n) + spare),
+        made: Written { number: 0, written: layout::evidence(named.count_ones()) as u32 },
         named,
         lower: Some(0),
     }
@@ -220,7 +219,7 @@ fn in_another_fleet(fleet: Fleet, rng: &mut Rng) -> Vec<Case> {
         return Vec::new();
     }
     let case = right(fleet, &pair(fleet, rng), rng);
-    let moved = Case { arguments: Arguments::of(larger), out: rng.bytes(out_length(larger.n)), ..case };
+    let moved = Case { arguments: Arguments::of(larger), out: rng.bytes(evidence_out(larger.n)), ..case };
     match larger.k() == fleet.k() {
         true => vec![Case { what: "certificates of a fleet with as many to confirm".to_string(), ..moved }],
         false => vec![refused("certificates of a smaller fleet", 9, moved)],
@@ -231,7 +230,7 @@ fn refusals(fleet: Fleet, rng: &mut Rng) -> Vec<Case> {
     let full = pair(fleet, rng);
     let base = right(fleet, &full, rng);
     let mut spoilers = on_part(Arguments::spoilers(fleet), |case: &mut Case| &mut case.arguments);
-    let short = [0, 68, out_length(fleet.n) - 2906, out_length(fleet.n) - 1];
+    let short = [0, layout::evidence(0), layout::evidence(fleet.k() - 1), evidence_out(fleet.n) - 1];
     spoilers.extend(lengths(7, "out", &short, |case: &mut Case| &mut case.out));
     let in_first = on_part(messages::full(fleet, &full[0]), |case: &mut Case| &mut case.certificates[0]);
     let in_second = on_part(messages::full(fleet, &full[1]), |case: &mut Case| &mut case.certificates[1]);

@@ -3,36 +3,45 @@
 
 use super::refusals::{lengths, spoiler, Spoiler};
 use crate::fleet::{self, Fleet};
-use crate::reference::calls::SIGNATURE;
+use crate::reference::layout::{
+    self, ENTRY_SEAT_AT, ENTRY_SIGNATURE_AT, EVIDENCE_COUNT_AT, EVIDENCE_ENTRIES_AT, FULL_COUNT_AT, FULL_ENTRIES_AT,
+    HIGHER_AT, LOWER_AT, ROUND_AT, SEAT_AT, SIGNATURE, SIGNATURE_AT, VALUE, VALUE_AT,
+};
+use crate::reference::lms::{Types, N};
 use crate::reference::messages::{self, signed_bytes, Evidence, Full, Notice, Submit, Value};
 
 type Wrong = Spoiler<Vec<u8>>;
 
 pub fn submit(fleet: Fleet, right: &Submit) -> Vec<Wrong> {
     let mut wrong = headed(fleet, &right.write());
-    wrong.extend(stranger(fleet.n, "the seat", 3));
-    wrong.extend([4, 35].map(|at| flipped("the value", at)));
-    wrong.extend(signatures(fleet, "", right.seat, &right.value, 36));
+    wrong.extend(stranger(fleet.n, "the seat", SEAT_AT));
+    wrong.extend(ends(VALUE_AT).map(|at| flipped("the value", at)));
+    wrong.extend(signatures(fleet, "", right.seat, &right.value, SIGNATURE_AT));
     wrong
 }
 
 pub fn notice(fleet: Fleet, right: &Notice) -> Vec<Wrong> {
     let mut wrong = headed(fleet, &right.write());
-    wrong.extend(stranger(fleet.n, "the seat", 3));
+    wrong.extend(stranger(fleet.n, "the seat", SEAT_AT));
     wrong
 }
 
 pub fn full(fleet: Fleet, right: &Full) -> Vec<Wrong> {
     let mut wrong = headed(fleet, &right.write());
-    wrong.extend(counts(36, &[0, fleet.k() - 1, fleet.k() + 1, 128 + fleet.k(), 255]));
-    wrong.extend(stranger(fleet.n, "the sender", 3));
-    wrong.extend([4, 35].map(|at| flipped("the value", at)));
-    let entries =
-        Entries { start: 37, width: 2 + SIGNATURE, count: right.entries.len(), command: messages::FULL_ENTRY };
+    wrong.extend(counts(FULL_COUNT_AT, &[0, fleet.k() - 1, fleet.k() + 1, 128 + fleet.k(), 255]));
+    wrong.extend(stranger(fleet.n, "the sender", SEAT_AT));
+    wrong.extend(ends(VALUE_AT).map(|at| flipped("the value", at)));
+    let entries = Entries {
+        start: FULL_ENTRIES_AT,
+        width: layout::FULL_ENTRY,
+        count: right.entries.len(),
+        command: messages::FULL_ENTRY,
+    };
     wrong.extend(entries.wrong(fleet.n));
     for place in entries.places() {
         let entry = &right.entries[place];
-        wrong.extend(signatures(fleet, &format!("entry {place}'s "), entry.seat, &right.value, entries.at(place) + 2));
+        let at = entries.at(place) + ENTRY_SIGNATURE_AT;
+        wrong.extend(signatures(fleet, &format!("entry {place}'s "), entry.seat, &right.value, at));
     }
     wrong
 }
@@ -40,14 +49,18 @@ pub fn full(fleet: Fleet, right: &Full) -> Vec<Wrong> {
 pub fn evidence(fleet: Fleet, right: &Evidence) -> Vec<Wrong> {
     let mut wrong = headed(fleet, &right.write());
     let told = right.entries.len() as u32;
-    wrong.extend(counts(67, &[0, told - 1, told + 1, fleet.n + 1, 128 + told, 255]));
-    wrong.extend([3, 34].map(|at| flipped("the lower value", at)));
-    wrong.extend([35, 66].map(|at| flipped("the higher value", at)));
-    let width = 2 + 2 * SIGNATURE;
-    let entries = Entries { start: 68, width, count: right.entries.len(), command: messages::EVIDENCE_ENTRY };
+    wrong.extend(counts(EVIDENCE_COUNT_AT, &[0, told - 1, told + 1, fleet.n + 1, 128 + told, 255]));
+    wrong.extend(ends(LOWER_AT).map(|at| flipped("the lower value", at)));
+    wrong.extend(ends(HIGHER_AT).map(|at| flipped("the higher value", at)));
+    let entries = Entries {
+        start: EVIDENCE_ENTRIES_AT,
+        width: layout::EVIDENCE_ENTRY,
+        count: right.entries.len(),
+        command: messages::EVIDENCE_ENTRY,
+    };
     wrong.extend(entries.wrong(fleet.n));
     for place in entries.places() {
-        let (seat, at) = (right.entries[place].seat, entries.at(place) + 2);
+        let (seat, at) = (right.entries[place].seat, entries.at(place) + ENTRY_SIGNATURE_AT);
         wrong.extend(signatures(fleet, &format!("entry {place}'s lower "), seat, &right.lower, at));
         wrong.extend(signatures(fleet, &format!("entry {place}'s higher "), seat, &right.higher, at + SIGNATURE));
     }
@@ -68,6 +81,11 @@ fn set(number: u32, what: String, at: usize, byte: u8) -> Wrong {
     spoiler(number, what, move |message: &mut Vec<u8>, _| message.get_mut(at).into_iter().for_each(|it| *it = byte))
 }
 
+/// The first and the last byte of a value.
+fn ends(at: usize) -> [usize; 2] {
+    [at, at + VALUE - 1]
+}
+
 /// A bit of what is signed, so that the signatures no longer check.
 fn flipped(name: &str, at: usize) -> Wrong {
     spoiler(14, format!("{name} changed at byte {at}"), move |message: &mut Vec<u8>, _| message[at] ^= 1)
@@ -76,8 +94,8 @@ fn flipped(name: &str, at: usize) -> Wrong {
 /// The command, the length and the round. No length is right for another count of entries.
 fn headed(fleet: Fleet, right: &[u8]) -> Vec<Wrong> {
     let whole = right.len();
-    let mut wrong =
-        lengths(9, "message", &[0, 1, 3, 35, whole - 1, whole + 1, whole + 33, 2 * whole + 1], |message| message);
+    let other = [0, 1, SEAT_AT, layout::NOTICE - 1, whole - 1, whole + 1, whole + 33, 2 * whole + 1];
+    let mut wrong = lengths(9, "message", &other, |message| message);
     for cut in [1, 2, 32, SIGNATURE - 1] {
         let what = format!("{cut} bytes cut off");
         wrong.push(spoiler(9, what, move |message: &mut Vec<u8>, _| message.truncate(whole - cut.min(whole))));
@@ -90,7 +108,7 @@ fn headed(fleet: Fleet, right: &[u8]) -> Vec<Wrong> {
     for other in [round ^ 1, round ^ 0x0100, round ^ 0x0400, round ^ 0x8000, 0xffff - round] {
         let what = format!("round {other} in the message");
         wrong.push(spoiler(10, what, move |message: &mut Vec<u8>, _| {
-            message[1..3].copy_from_slice(&(other as u16).to_be_bytes());
+            message[ROUND_AT..][..2].copy_from_slice(&(other as u16).to_be_bytes());
         }));
     }
     wrong
@@ -133,7 +151,7 @@ impl Entries {
             for command in [0, self.command - 1, self.command + 1, self.command ^ 2, self.command ^ 0x80] {
                 wrong.push(set(9, format!("entry {place}'s command {command:#04x}"), at, command));
             }
-            wrong.extend(stranger(n, &format!("entry {place}'s seat"), at + 1));
+            wrong.extend(stranger(n, &format!("entry {place}'s seat"), at + ENTRY_SEAT_AT));
         }
         if self.count > 1 {
             wrong.extend(self.disorder());
@@ -149,10 +167,10 @@ impl Entries {
                 message[first..second + width].rotate_left(width);
             }),
             spoiler(12, "entry 1's seat is entry 0's", move |message: &mut Vec<u8>, _| {
-                message[second + 1] = message[first + 1];
+                message[second + ENTRY_SEAT_AT] = message[first + ENTRY_SEAT_AT];
             }),
             spoiler(12, "the last entry's seat is the first's", move |message: &mut Vec<u8>, _| {
-                message[last + 1] = message[first + 1];
+                message[last + ENTRY_SEAT_AT] = message[first + ENTRY_SEAT_AT];
             }),
         ]
     }
@@ -160,10 +178,19 @@ impl Entries {
 
 /// A signature damaged in each of its fields, and signatures that are right elsewhere.
 pub fn signatures(fleet: Fleet, name: &str, seat: u32, value: &Value, at: usize) -> Vec<Wrong> {
-    let fields =
-        [("leaf", 0), ("leaf", 3), ("ots type", 7), ("C", 8), ("y[0]", 40), ("y[33]", 1127), ("lms type", 1131)];
+    let types = Types::ENGINE;
     let mut wrong = Vec::new();
-    for (field, offset) in fields.into_iter().chain([("path[0]", 1132), ("path[9]", 1451)]) {
+    for (field, offset) in [
+        ("leaf", 0),
+        ("leaf", 3),
+        ("ots type", 7),
+        ("C", 8),
+        ("y[0]", 8 + N),
+        ("the last y", types.lms_type_at() - 1),
+        ("lms type", types.lms_type_at() + 3),
+        ("path[0]", types.path_at()),
+        ("the last of the path", SIGNATURE - 1),
+    ] {
         wrong.push(flipped(&format!("{name}signature's {field}"), at + offset));
     }
     for (what, signature) in foreign_signatures(fleet, seat, value) {
@@ -182,7 +209,7 @@ fn foreign_signatures(fleet: Fleet, seat: u32, value: &Value) -> Vec<(&'static s
     let mut other_value = *value;
     other_value[16] ^= 1;
     let own_bytes = signed_bytes(round, seat, value);
-    let without_seat = [&own_bytes[..3], value].concat();
+    let without_seat = [&own_bytes[..SEAT_AT], value].concat();
     vec![
         ("signature under another leaf", fleet::sign(seat, other_round, &own_bytes, 0)),
         ("signature for another round", fleet::sign(seat, round, &signed_bytes(other_round, seat, value), 0)),

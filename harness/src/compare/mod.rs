@@ -31,6 +31,15 @@ fn long() -> bool {
     std::env::var("ZOLBINE_LONG").is_ok_and(|value| value == "1")
 }
 
+/// So many cases in the long batteries, half as many else.
+fn sized(count: usize) -> usize {
+    if long() {
+        count
+    } else {
+        count / 2
+    }
+}
+
 /// Every buffer of the confirmer's calls at every length around its own, for each n. The signature calls' batteries have
 /// theirs.
 pub fn lengths(subjects: noise::Subjects) {
@@ -101,7 +110,7 @@ pub fn keys() -> &'static [Key] {
         let mut rng = Rng::new(seed(), "keys");
         let mut keys = Vec::new();
         for types in Types::all() {
-            for _ in 0..if types.h == 5 { 3 } else { 2 } {
+            for _ in 0..sized(if types.h == 5 { 4 } else { 2 }) {
                 keys.push(Key::random(types, &mut rng));
                 progress(&format!("the reference made a key of types {} and {}", types.lms, types.ots));
             }
@@ -109,6 +118,9 @@ pub fn keys() -> &'static [Key] {
         keys
     })
 }
+
+/// The length of a signature of the other height.
+const LOWER_TREE: usize = Types::of(5, 4).unwrap().signature();
 
 /// Message lengths around every edge of the padding (54 bytes go before the message), and the longest.
 fn message_lengths(rng: &mut Rng) -> Vec<usize> {

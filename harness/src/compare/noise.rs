@@ -5,7 +5,9 @@ use std::collections::BTreeMap;
 use super::engine::{self, Subject};
 use super::{check_signature, evidence, make_key, making, progress, run, sign};
 use crate::confirmer::{EvidenceCheck, Making};
+use crate::reference::layout::{self, FULL_COUNT_AT, FULL_ENTRIES_AT, SEAT_AT};
 use crate::reference::lms::PUBLIC_KEY;
+use crate::reference::messages::FULL_ENTRY;
 use crate::rng::Rng;
 use crate::subject::Calls;
 
@@ -111,7 +113,13 @@ pub fn keys(n: u32, rng: &mut Rng) -> Vec<u8> {
 pub fn head(message: &mut [u8], command: u8, round: u32, rng: &mut Rng) {
     let round = if rng.one_in(8) { round ^ 1 } else { round };
     set(message, 0, &[command, (round >> 8) as u8, round as u8]);
-    set(message, 3, &[rng.below(4) as u8]);
+    set(message, SEAT_AT, &[rng.below(4) as u8]);
+}
+
+/// A FULL's count, and its entries.
+pub fn certificate(full: &mut [u8], count: u32, rng: &mut Rng) {
+    set(full, FULL_COUNT_AT, &[count as u8]);
+    entries(full, FULL_ENTRIES_AT, layout::FULL_ENTRY, FULL_ENTRY, rng);
 }
 
 /// The entries' command and low seats, mostly rising.

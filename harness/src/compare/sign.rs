@@ -1,13 +1,14 @@
 //! The signer: whole signatures byte by byte, any tree lent, and each refusal alone and with others.
 
-use std::sync::Arc;
+use crate::reference::layout::{SIGNATURE, SIGNED};
+use std::sync::{Arc, OnceLock};
 
 use super::refusals::{lengths, spoiled, spoiler, Spoiler};
-use super::{equal, keys, message_lengths, noise, run};
+use super::{equal, keys, message_lengths, noise, run, sized, LOWER_TREE};
 use crate::guarded::Guarded;
 use crate::keys::Key;
-use crate::reference::calls::{self, engine_types, MAX_LEAF, MAX_MESSAGE, SIGNATURE, TREE};
-use crate::reference::lms::{self, IDENTIFIER, N};
+use crate::reference::calls::{self, MAX_LEAF, MAX_MESSAGE, TREE};
+use crate::reference::lms::{self, Types, IDENTIFIER, N, PUBLIC_KEY};
 use crate::rng::{seed, Rng};
 use crate::subject::Calls;
 
@@ -70,12 +71,17 @@ fn compare(subject: &dyn Calls, case: &Case, rng: &mut Rng) -> Result<u32, Strin
 }
 
 pub fn battery(subject: &dyn Calls) {
+    static CASES: OnceLock<Vec<Case>> = OnceLock::new();
+    run("sign", CASES.get_or_init(cases), |case, rng| compare(subject, case, rng));
+}
+
+fn cases() -> Vec<Case> {
     let mut rng = Rng::new(seed(), "sign");
-    let keys: Vec<&Key> = keys().iter().filter(|key| key.types == engine_types()).collect();
+    let keys: Vec<&Key> = keys().iter().filter(|key| key.types == Types::ENGINE).collect();
     let mut cases = honest(&keys, &mut rng);
     cases.extend(any_tree(&mut rng));
     cases.extend(refusals(&mut rng));
-    run("sign", &cases, |case, rng| compare(subject, case, rng));
+    cases
 }
 
 /// What a key and its tree sign is accepted.
@@ -131,7 +137,7 @@ pub fn noise(subject: &dyn Calls, rng: &mut Rng) -> Result<u32, String> {
         identifier: noise::bytes(IDENTIFIER, rng),
         randomizer: noise::bytes(N, rng),
         tree: Arc::new(rng.bytes(tree)),
-        message: noise::bytes(36, rng),
+        message: noise::bytes(SIGNED, rng),
         out: noise::bytes(SIGNATURE, rng),
         expected: None,
         public: None,
@@ -142,7 +148,7 @@ pub fn noise(subject: &dyn Calls, rng: &mut Rng) -> Result<u32, String> {
 /// The tree is read and never compared with the seed.
 fn any_tree(rng: &mut Rng) -> Vec<Case> {
     let mut cases = Vec::new();
-    for number in 0..20 {
+    for number in 0..sized(20) {
         let tree = Arc::new(rng.bytes(TREE));
         cases.extend((0..5).map(|_| any_operands(format!("random tree {number}"), &tree, rng)));
     }
@@ -152,7 +158,7 @@ fn any_tree(rng: &mut Rng) -> Vec<Case> {
             seed: vec![byte; N],
             identifier: vec![byte; IDENTIFIER],
             randomizer: vec![byte; N],
-            message: vec![byte; 36],
+            message: vec![byte; SIGNED],
             ..any_operands(format!("all bytes {byte}"), &tree, rng)
         });
     }
@@ -164,7 +170,9 @@ fn spoilers() -> Vec<Spoiler<Case>> {
     for leaf in [MAX_LEAF + 1, 1025, 2047, 2048, 65_535, 65_536, 65_541, 1 << 31, u32::MAX - 1023, u32::MAX] {
         spoilers.push(spoiler(3, format!("leaf {leaf}"), move |case: &mut Case, _| case.leaf = leaf));
     }
-    spoilers.extend(lengths(7, "out", &[0, 1, 31, 56, 1292, SIGNATURE - 1], |case: &mut Case| &mut case.out));
+    spoilers.extend(lengths(7, "out", &[0, 1, N - 1, PUBLIC_KEY, LOWER_TREE, SIGNATURE - 1], |case: &mut Case| {
+        &mut case.out
+    }));
     spoilers.extend(lengths(9, "message", &[MAX_MESSAGE + 1, MAX_MESSAGE + 2, 100_000], |case: &mut Case| {
         &mut case.message
     }));
@@ -186,6 +194,6 @@ fn spoilers() -> Vec<Spoiler<Case>> {
 
 fn refusals(rng: &mut Rng) -> Vec<Case> {
     let tree = Arc::new(rng.bytes(TREE));
-    let spoiled = spoiled(&spoilers(), 400, rng, |rng| any_operands("", &tree, rng));
+    let spoiled = spoiled(&spoilers(), sized(400), rng, |rng| any_operands("", &tree, rng));
     spoiled.into_iter().map(|wrong| Case { expected: Some(wrong.number()), what: wrong.what, ..wrong.case }).collect()
 }

@@ -1,12 +1,11 @@
 //! A boat of the demonstration: its key, made and used by the library alone, and the unit that it runs in a round.
 
 use super::Calls;
-use crate::reference::calls::{Written, SIGNATURE, TREE};
-use crate::reference::engine::out_length;
+use crate::reference::calls::TREE;
+use crate::reference::layout::{self, SIGNATURE};
 use crate::reference::lms::{IDENTIFIER, N, PUBLIC_KEY};
 use crate::reference::messages::{signed_bytes, Submit, Value};
-use crate::reference::record::{Record, Stepped};
-use crate::reference::store;
+use crate::reference::record::{Record, Stepped, Written};
 use crate::rng::Rng;
 
 pub struct Boat {
@@ -66,7 +65,7 @@ impl<'a> Unit<'a> {
     pub fn open(calls: Calls<'a>, n: u32, seat: u32, round: u32, keys: &'a [u8]) -> Unit<'a> {
         let opened = calls.engine.open(n, seat, round, keys);
         assert_eq!(opened.number, 0, "the opening of boat {seat}");
-        Unit { calls, keys, record: opened.record, store: vec![0; store::length(n)], out: vec![0; out_length(n)] }
+        Unit { calls, keys, record: opened.record, store: vec![0; layout::store(n)], out: vec![0; layout::out(n)] }
     }
 
     pub fn submit(&mut self, own: &Submit) -> Answer {

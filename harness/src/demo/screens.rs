@@ -9,6 +9,7 @@ use super::round::{Event, Given, Layout, Played, Sent, Side, Stage};
 use super::words::{and, boats, boats_of, capital, count, picture, thousands};
 use crate::air;
 use crate::fleet::fewest_to_split;
+use crate::reference::layout::{ENTRY_SEAT_AT, FULL_ENTRIES_AT, FULL_ENTRY, SIGNED, VALUE_AT};
 use crate::reference::quorum::k;
 use crate::reference::record::Record;
 use crate::reference::seats::{list, mask, size};
@@ -213,7 +214,7 @@ impl<'a> Screens<'a> {
 
     fn given(&self, event: &Event) -> String {
         let told = |sent: &Sent| {
-            format!("{} of boat {} for {}", air::name(&sent.bytes), sent.from, self.name(&sent.bytes[4..36]))
+            format!("{} of boat {} for {}", air::name(&sent.bytes), sent.from, self.name(&sent.bytes[VALUE_AT..SIGNED]))
         };
         match &event.given {
             Given::Own => {
@@ -232,7 +233,7 @@ impl<'a> Screens<'a> {
         let Some(Answer { number, before, after, written }) = &event.answer else {
             return "lost: the link is down".to_string();
         };
-        let value = event.message().map(|sent| &sent.bytes[4..36]);
+        let value = event.message().map(|sent| &sent.bytes[VALUE_AT..SIGNED]);
         match number {
             0 if after.own.collected != before.own.collected => {
                 let signatures = format!("{} of {}", size(after.own.collected), self.k);
@@ -345,7 +346,10 @@ impl<'a> Screens<'a> {
         if !at_length {
             return vec![(boat, format!("hears FULL of boat {from}: {guilty} signed both, sends {sends}"))];
         }
-        let signers = sent.bytes[37..].chunks(1454).map(|entry| u32::from(entry[1])).collect::<Vec<_>>();
+        let signers = sent.bytes[FULL_ENTRIES_AT..]
+            .chunks(FULL_ENTRY)
+            .map(|entry| u32::from(entry[ENTRY_SEAT_AT]))
+            .collect::<Vec<_>>();
         let (held, name) = (self.name(&before.first.value), self.name(&value(sent)));
         vec![
             (boat, format!("has {held} signed by {}", boats_of(before.first.seats))),
@@ -479,7 +483,7 @@ fn lines(words: &str, width: usize) -> Vec<String> {
 }
 
 fn value(sent: &Sent) -> Vec<u8> {
-    sent.bytes[4..36].to_vec()
+    sent.bytes[VALUE_AT..SIGNED].to_vec()
 }
 
 /// The names of the messages that a call wrote.

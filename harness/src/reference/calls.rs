@@ -1,24 +1,13 @@
 //! The library's calls over the reference, with the refusals of document 01.
 
+use super::layout::SIGNATURE;
 use super::lms::{self, Types, IDENTIFIER, N, PUBLIC_KEY};
+use super::record::Written;
+use super::verdicts;
 
 pub const MAX_MESSAGE: usize = 65_535;
 pub const MAX_LEAF: u32 = 1023;
 pub const TREE: usize = 65_536;
-pub const SIGNATURE: usize = 1452;
-
-/// What a call that writes hands back: 0 or the refusal's number, and the bytes written.
-#[derive(Clone, Copy, Debug, PartialEq, Eq)]
-#[repr(C)]
-pub struct Written {
-    pub number: u32,
-    pub written: u32,
-}
-
-/// The engine's pairing: height 10 and width 8.
-pub fn engine_types() -> Types {
-    Types::of(6, 4).unwrap()
-}
 
 /// The lowest number whose condition holds, 0 where none does.
 fn lowest(conditions: &[(u32, bool)]) -> u32 {
@@ -35,7 +24,7 @@ pub fn check_signature(key: &[u8], message: &[u8], signature: &[u8]) -> u32 {
     let refusal = lowest(&[(5, !allowed_key(key)), (9, message.len() > MAX_MESSAGE)]);
     if refusal != 0 {
         refusal
-    } else if lms::verify(key, message, signature) {
+    } else if verdicts::verify(key, message, signature) {
         0
     } else {
         14
@@ -56,9 +45,9 @@ pub fn make_key(seed: &[u8], identifier: &[u8], tree: &mut [u8], out: &mut [u8])
     let wrong_material = seed.len() != N || identifier.len() != IDENTIFIER || tree.len() != TREE;
     let refusal = lowest(&[(7, out.len() < PUBLIC_KEY), (16, wrong_material)]);
     answer(refusal, out, || {
-        let nodes = lms::tree(engine_types(), identifier, seed);
+        let nodes = lms::tree(Types::ENGINE, identifier, seed);
         tree[N..].copy_from_slice(&nodes.concat());
-        lms::public_key(engine_types(), identifier, &nodes[1])
+        lms::public_key(Types::ENGINE, identifier, &nodes[1])
     })
 }
 
@@ -82,6 +71,6 @@ pub fn sign(
     ]);
     answer(refusal, out, || {
         let nodes: Vec<Vec<u8>> = tree.chunks(N).map(|node| node.to_vec()).collect();
-        lms::sign(engine_types(), &nodes, leaf, seed, identifier, randomizer, message)
+        lms::sign(Types::ENGINE, &nodes, leaf, seed, identifier, randomizer, message)
     })
 }

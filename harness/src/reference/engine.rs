@@ -1,20 +1,15 @@
 //! Document 01's opening and steps. A call works on copies; only at its end are they handed over, so that a refusal
 //! changes nothing.
 
-use super::calls::{Written, MAX_LEAF, SIGNATURE};
+use super::calls::MAX_LEAF;
 use super::evidence;
 use super::impossible::impossible;
+use super::layout::{self, SIGNATURE};
 use super::messages::{Evidence, Full, FullEntry, Notice, Submit, Value, FULL, NOTICE, SUBMIT};
 use super::quorum;
-use super::record::{First, Notices, Opened, Record, Stepped};
+use super::record::{First, Notices, Opened, Record, Stepped, Written};
 use super::seats::{contains, list, mask, size};
-use super::store;
 use super::turned_back::{certificate, is_size, key_table, places, refuse, signature, Passed};
-
-/// The bytes that `out` needs for a submit or a step.
-pub fn out_length(n: u32) -> usize {
-    1629 + 4360 * quorum::k(n) as usize
-}
 
 pub fn open(n: u32, seat: u32, round: u32, keys: &[u8]) -> Opened {
     let tested = || {
@@ -78,8 +73,8 @@ pub fn step_lent(record: &mut Record, keys: &[u8], store: &mut [u8], message: &[
 fn buffers(record: &Record, keys: &[u8], store: &[u8], out: &[u8]) -> Passed {
     refuse(4, impossible(record))?;
     key_table(record.n, keys)?;
-    refuse(6, store.len() < store::length(record.n))?;
-    refuse(7, out.len() < out_length(record.n))
+    refuse(6, store.len() < layout::store(record.n))?;
+    refuse(7, out.len() < layout::out(record.n))
 }
 
 /// 9 to 14 of a SUBMIT.
@@ -142,7 +137,7 @@ impl Unit {
 
     fn collect(&mut self, seat: u32, signature: &[u8]) {
         self.record.own.collected |= mask(&[seat]);
-        self.store[store::collected(seat)].copy_from_slice(signature);
+        self.store[layout::collected(seat)].copy_from_slice(signature);
         if size(self.record.own.collected) == quorum::k(self.record.n) {
             self.confirm();
         }
@@ -179,7 +174,7 @@ impl Unit {
     fn hold(&mut self, full: &Full) {
         self.record.first = First { value: full.value, seats: mask(&full.seats()) };
         for entry in &full.entries {
-            self.store[store::first(self.record.n, entry.seat)].copy_from_slice(&entry.signature);
+            self.store[layout::first(self.record.n, entry.seat)].copy_from_slice(&entry.signature);
         }
     }
 
@@ -195,12 +190,12 @@ impl Unit {
 
     fn own_certificate(&self) -> Full {
         let own = self.record.own;
-        self.certificate(own.value, own.collected, store::collected)
+        self.certificate(own.value, own.collected, layout::collected)
     }
 
     fn first_certificate(&self) -> Full {
         let Record { n, first, .. } = self.record;
-        self.certificate(first.value, first.seats, |seat| store::first(n, seat))
+        self.certificate(first.value, first.seats, |seat| layout::first(n, seat))
     }
 
     fn certificate(&self, value: Value, seats: u32, slot: impl Fn(u32) -> std::ops::Range<usize>) -> Full {

@@ -1,16 +1,10 @@
 //! The evidence check, evidence from two certificates in hand, and the lower of two certificates.
 
-use super::calls::Written;
+use super::layout;
 use super::messages::{Evidence, EvidenceEntry, Full, FullEntry};
-use super::quorum;
-use super::record::Verdict;
+use super::record::{Verdict, Written};
 use super::seats::mask;
 use super::turned_back::{arguments, certificate, places, refuse, signature, Passed};
-
-/// The bytes that `out` needs for evidence from two certificates.
-pub fn out_length(n: u32) -> usize {
-    68 + 2906 * quorum::k(n) as usize
-}
 
 pub fn check_evidence(n: u32, round: u32, keys: &[u8], evidence: &[u8]) -> Verdict {
     let named = || {
@@ -33,7 +27,7 @@ pub fn check_evidence(n: u32, round: u32, keys: &[u8], evidence: &[u8]) -> Verdi
 pub fn make_evidence(n: u32, round: u32, keys: &[u8], first: &[u8], second: &[u8], out: &mut [u8]) -> Written {
     let made = || {
         arguments(n, round, keys)?;
-        refuse(7, out.len() < out_length(n))?;
+        refuse(7, out.len() < layout::evidence_out(n))?;
         let (first, second) = conflicting(n, round, keys, first, second)?;
         Ok(of_conflict(&first, &second).write())
     };

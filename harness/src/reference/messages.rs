@@ -1,7 +1,7 @@
 //! Document 01's commands on the air, written and read. None from a reader is refusal 9: a wrong command, length,
 //! count or entry command.
 
-use super::calls::SIGNATURE;
+use super::layout::{SIGNATURE, VALUE};
 
 pub const SUBMIT: u8 = 0x01;
 pub const NOTICE: u8 = 0x02;
@@ -11,7 +11,7 @@ pub const EVIDENCE: u8 = 0x05;
 pub const EVIDENCE_ENTRY: u8 = 0x06;
 
 /// Compared byte by byte from the first, as Rust compares arrays.
-pub type Value = [u8; 32];
+pub type Value = [u8; VALUE];
 
 #[derive(Clone, Debug, PartialEq, Eq)]
 pub struct Submit {
@@ -57,7 +57,7 @@ pub struct EvidenceEntry {
     pub over_higher: Vec<u8>,
 }
 
-/// The 36 bytes that a seat signs.
+/// The bytes that a seat signs.
 pub fn signed_bytes(round: u32, seat: u32, value: &Value) -> Vec<u8> {
     [&[0x01], two_bytes(round).as_slice(), &[one_byte(seat)], value].concat()
 }
@@ -198,7 +198,7 @@ impl Rest<'_> {
     }
 
     fn value(&mut self) -> Option<Value> {
-        Some(self.take(32)?.try_into().expect("32 bytes"))
+        Some(self.take(VALUE)?.try_into().expect("a value's bytes"))
     }
 
     fn signature(&mut self) -> Option<Vec<u8>> {
@@ -213,6 +213,10 @@ impl Rest<'_> {
 #[cfg(test)]
 mod tests {
     use super::*;
+    use crate::reference::layout::{
+        self, ENTRY_SEAT_AT, ENTRY_SIGNATURE_AT, EVIDENCE_COUNT_AT, EVIDENCE_ENTRIES_AT, FULL_COUNT_AT,
+        FULL_ENTRIES_AT, HIGHER_AT, LOWER_AT, ROUND_AT, SEAT_AT, VALUE_AT,
+    };
 
     fn signature(byte: u8) -> Vec<u8> {
         vec![byte; SIGNATURE]
@@ -229,40 +233,47 @@ mod tests {
         Evidence { round: 0x0102, lower: [1; 32], higher: [2; 32], entries: (0..count).map(entry).collect() }
     }
 
-    /// "Messages written are read back the same", in the lengths that document 01 states.
+    /// "Messages written are read back the same", in the lengths of the layout.
     #[test]
     fn what_is_written_is_read_back() {
         let submit = Submit { round: 1023, seat: 31, value: [7; 32], signature: signature(8) };
-        assert_eq!((submit.write().len(), Submit::read(&submit.write())), (1488, Some(submit)));
+        assert_eq!((submit.write().len(), Submit::read(&submit.write())), (layout::SUBMIT, Some(submit)));
         let notice = Notice { round: 65_535, seat: 255, value: [7; 32] };
-        assert_eq!((notice.write().len(), Notice::read(&notice.write())), (36, Some(notice)));
+        assert_eq!((notice.write().len(), Notice::read(&notice.write())), (layout::NOTICE, Some(notice)));
         for k in 1..=22 {
             let bytes = full(k).write();
-            assert_eq!((bytes.len(), Full::read(&bytes, k)), (37 + 1454 * k as usize, Some(full(k))));
+            assert_eq!((bytes.len(), Full::read(&bytes, k)), (layout::full(k), Some(full(k))));
             assert_eq!((Full::read(&bytes, k + 1), Full::read(&bytes, k - 1)), (None, None));
         }
         for count in 1..=32 {
             let bytes = evidence(count).write();
-            assert_eq!((bytes.len(), Evidence::read(&bytes, 32)), (68 + 2906 * count as usize, Some(evidence(count))));
+            assert_eq!((bytes.len(), Evidence::read(&bytes, 32)), (layout::evidence(count), Some(evidence(count))));
             assert_eq!(Evidence::read(&bytes, count - 1), None);
         }
         assert_eq!(Evidence::read(&evidence(0).write(), 32), None);
     }
 
-    /// The places of the operands, by document 01's widths.
+    /// The operands stand in the places of the layout.
     #[test]
     fn operands_stand_in_their_places() {
         let bytes = full(2).write();
-        assert_eq!(bytes[..4], [0x03, 0x01, 0x02, 3]);
-        assert_eq!((&bytes[4..36], bytes[36]), ([9; 32].as_slice(), 2));
-        assert_eq!((bytes[37], bytes[38], bytes[39]), (0x04, 0, 0));
-        assert_eq!((bytes[37 + 1454], bytes[38 + 1454], bytes[39 + 1454]), (0x04, 1, 1));
+        assert_eq!((bytes[0], &bytes[ROUND_AT..SEAT_AT], bytes[SEAT_AT]), (0x03, [0x01, 0x02].as_slice(), 3));
+        assert_eq!((&bytes[VALUE_AT..FULL_COUNT_AT], bytes[FULL_COUNT_AT]), ([9; VALUE].as_slice(), 2));
+        for (seat, entry) in (0..2).zip(bytes[FULL_ENTRIES_AT..].chunks(layout::FULL_ENTRY)) {
+            assert_eq!((entry[0], entry[ENTRY_SEAT_AT]), (0x04, seat));
+            assert_eq!(entry[ENTRY_SIGNATURE_AT..], signature(seat));
+        }
         let bytes = evidence(2).write();
-        assert_eq!(bytes[..3], [0x05, 0x01, 0x02]);
-        assert_eq!((bytes[3], bytes[35], bytes[67]), (1, 2, 2));
-        assert_eq!((bytes[68 + 2906], bytes[69 + 2906], bytes[70 + 2906]), (0x06, 1, 1));
-        assert_eq!(bytes[70 + 2906 + 1452], 254);
-        assert_eq!(signed_bytes(0x0102, 3, &[9; 32]), [&[0x01, 0x01, 0x02, 3], [9; 32].as_slice()].concat());
+        assert_eq!((bytes[0], &bytes[ROUND_AT..LOWER_AT]), (0x05, [0x01, 0x02].as_slice()));
+        assert_eq!(bytes[LOWER_AT..HIGHER_AT], [1; VALUE]);
+        assert_eq!((&bytes[HIGHER_AT..EVIDENCE_COUNT_AT], bytes[EVIDENCE_COUNT_AT]), ([2; VALUE].as_slice(), 2));
+        for (seat, entry) in (0..2).zip(bytes[EVIDENCE_ENTRIES_AT..].chunks(layout::EVIDENCE_ENTRY)) {
+            assert_eq!((entry[0], entry[ENTRY_SEAT_AT]), (0x06, seat));
+            assert_eq!(entry[ENTRY_SIGNATURE_AT..], [signature(seat), signature(!seat)].concat());
+        }
+        let signed = signed_bytes(0x0102, 3, &[9; VALUE]);
+        assert_eq!(signed, [&[0x01, 0x01, 0x02, 3], [9; VALUE].as_slice()].concat());
+        assert_eq!(signed.len(), layout::SIGNED);
     }
 
     #[test]

@@ -56,6 +56,14 @@ pub struct Stepped {
     pub record: Record,
 }
 
+/// Answer of a call that writes: 0 or the refusal's number, and the bytes written.
+#[derive(Clone, Copy, Debug, PartialEq, Eq)]
+#[repr(C)]
+pub struct Written {
+    pub number: u32,
+    pub written: u32,
+}
+
 /// The evidence check's answer: the mask of the seats named, 0 with a refusal.
 #[derive(Clone, Copy, Debug, PartialEq, Eq)]
 #[repr(C)]
@@ -77,6 +85,7 @@ mod tests {
         assert_eq!((offset_of!(Record, confirmed), offset_of!(Record, notices)), (52, 56));
         assert_eq!((offset_of!(Record, first), offset_of!(First, seats)), (92, 32));
         assert_eq!((offset_of!(Record, sent), offset_of!(Record, guilty)), (128, 132));
-        assert_eq!((size_of::<Opened>(), size_of::<Stepped>(), size_of::<Verdict>()), (140, 144, 8));
+        assert_eq!((size_of::<Opened>(), size_of::<Stepped>()), (140, 144));
+        assert_eq!((size_of::<Written>(), size_of::<Verdict>()), (8, 8));
     }
 }

@@ -21,13 +21,6 @@ pub fn size(mask: u32) -> u32 {
 mod tests {
     use super::*;
 
-    /// Document 01's marked cases.
-    #[test]
-    fn shared_seats() {
-        assert_eq!((7 & 14, size(7 & 14)), (6, 2));
-        assert_eq!((15 & 30, size(15 & 30)), (14, 3));
-    }
-
     #[test]
     fn both_ways() {
         assert_eq!((list(0b1011), mask(&[3, 0, 1])), (vec![0, 1, 3], 0b1011));

@@ -1,8 +1,9 @@
 //! Document 01's program for the yard, from its whole input to its whole output.
 
-use super::calls::SIGNATURE;
+use super::layout::{SIGNATURE, VALUE};
+use super::lms::PUBLIC_KEY;
 use super::record::Record;
-use super::{engine, store};
+use super::{engine, layout};
 
 const MOST_SEATS: u32 = 7;
 
@@ -32,7 +33,7 @@ impl<'a> Yard<'a> {
             self.print(1, 0);
             return Some(());
         }
-        let keys = self.operand(56 * n as usize)?;
+        let keys = self.operand(PUBLIC_KEY * n as usize)?;
         let opened = engine::open(n, seat, round, keys);
         self.print(opened.number, 0);
         if opened.number == 0 {
@@ -43,8 +44,8 @@ impl<'a> Yard<'a> {
     }
 
     fn calls(&mut self, mut record: Record, keys: &[u8]) -> Option<()> {
-        let mut store = vec![0; store::length(MOST_SEATS)];
-        let mut out = vec![0; engine::out_length(MOST_SEATS)];
+        let mut store = vec![0; layout::store(MOST_SEATS)];
+        let mut out = vec![0; layout::out(MOST_SEATS)];
         while !self.rest.is_empty() {
             let stepped = match self.number(1)? {
                 0x11 => {
@@ -52,7 +53,7 @@ impl<'a> Yard<'a> {
                     engine::step(record, keys, &mut store, self.operand(length)?, &mut out)
                 }
                 0x12 => {
-                    let (value, signature) = (self.operand(32)?, self.operand(SIGNATURE)?);
+                    let (value, signature) = (self.operand(VALUE)?, self.operand(SIGNATURE)?);
                     engine::submit(record, keys, &mut store, value, signature, &mut out)
                 }
                 _ => return None,

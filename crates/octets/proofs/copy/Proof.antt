@@ -5,7 +5,7 @@ use native.Mathlib.Omega.{arith}
 use lib.ListN.{length, length-set}
 use denote.Ref.{now}
 use lib.Seq.{paste, paste-zero}
-use Rattle.octets.specs.Laws.{paste-turn, patch-paste}
+use Rattle.octets.specs.OctetLaws.{paste-next, patch-paste}
 use Rattle.octets.proofs.copy.Statement.{statement}
 use Rattle.octets.proofs.copy.Tie as tie
 
@@ -37,7 +37,7 @@ loop-again : tie.Need-loop-again Inv-loop μ-loop
 loop-again c =
     let at-loop = c .before .before in
     let args = at-loop .before .args in
-    (omega arith, simp length-set (at-loop .loop .inv .1), paste-turn (args .at) (now (args .src)) (now (args .out)) (at-loop .loop .out) (at-loop .loop .i) (at-loop .loop .inv .2) (omega arith) (omega arith))
+    (omega arith, simp length-set (at-loop .loop .inv .1), paste-next (args .at) (now (args .src)) (now (args .out)) (at-loop .loop .out) (at-loop .loop .i) (at-loop .loop .inv .2) (omega arith) (omega arith))
 
 same-length : tie.Need-same-length Inv-loop μ-loop
 same-length c = omega arith

@@ -5,7 +5,7 @@ use native.Mathlib.Omega.{arith}
 use lib.ListN.{length, take, length-set}
 use denote.Ref.{now}
 use Rattle.octets.specs.Octets.{words}
-use Rattle.octets.specs.Laws.{filled, words-turn}
+use Rattle.octets.specs.OctetLaws.{filled, words-next}
 use Rattle.probes.proofs.eight_words.Statement.{statement}
 use Rattle.probes.proofs.eight_words.Tie as tie
 
@@ -42,7 +42,7 @@ loop-again c =
     let at-loop = c .before .before in
     let t = at-loop .loop .t in
     let s = now (at-loop .before .before .args .s) in
-    (omega arith, simp length-set (at-loop .loop .inv .1), words-turn (at-loop .loop .w) s t (c .word-at .result) (at-loop .loop .inv .2) (omega arith) (c .word-at .ensures))
+    (omega arith, simp length-set (at-loop .loop .inv .1), words-next (at-loop .loop .w) s t (c .word-at .result) (at-loop .loop .inv .2) (omega arith) (c .word-at .ensures))
 
 returns : tie.Need-returns Inv-loop μ-loop
 returns c =

@@ -6,7 +6,7 @@ use borrow.Author.Needs.{needs}
 use lib.Bits.{and-mask}
 use lib.Dec.{eqb}
 use Rattle.quorum.specs.Quorum.{has}
-use Rattle.quorum.specs.Laws.{shift-is-bit}
+use Rattle.quorum.specs.QuorumLaws.{shift-is-bit}
 use Rattle.quorum.proofs.has.Statement.{statement}
 use Rattle.quorum.proofs.has.Tie as tie
 

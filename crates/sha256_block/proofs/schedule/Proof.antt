@@ -6,7 +6,7 @@ use native.Mathlib.Omega.{arith}
 use borrow.Author.Needs.{needs}
 use lib.ListN.{length, take, length-set}
 use Rattle.fips180.specs.Fips.{schedule}
-use Rattle.fips180.specs.Laws.{schedule-turn, schedule-done}
+use Rattle.fips180.specs.FipsLaws.{schedule-next, schedule-done}
 use Rattle.sha256_block.proofs.schedule.Statement.{statement}
 use Rattle.sha256_block.proofs.schedule.Tie as tie
 
@@ -50,7 +50,7 @@ loop-again c =
     let w = at-loop .loop .w in
     let t = at-loop .loop .t in
     let m = take 16 (at-loop .before .first-words .result) in
-    (omega arith, simp length-set (omega arith), schedule-turn m w t (c .scheduled .result) (at-loop .loop .inv .2) (omega arith) (c .scheduled .ensures))
+    (omega arith, simp length-set (omega arith), schedule-next m w t (c .scheduled .result) (at-loop .loop .inv .2) (omega arith) (c .scheduled .ensures))
 
 returns : tie.Need-returns Inv-loop μ-loop
 returns c =

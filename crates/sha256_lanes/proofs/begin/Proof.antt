@@ -1,6 +1,6 @@
 -- `sha256_lanes::begin` meets its contract.
 use denote.Ref.{now}
-use Rattle.sha256_lanes.specs.Laws.{common-by}
+use Rattle.sha256_lanes.specs.RowLaws.{common-by}
 use borrow.Author.Needs.{needs}
 use Rattle.sha256_lanes.proofs.begin.Statement.{statement}
 use Rattle.sha256_lanes.proofs.begin.Tie as tie
@@ -17,12 +17,12 @@ rounds-requires c κs = search needs
 rounds-requires-2 : tie.Need-rounds-requires-2
 rounds-requires-2 c κs = search needs
 
-keep-requires : tie.Need-keep-requires
-keep-requires c κs = search needs
+save-requires : tie.Need-save-requires
+save-requires c κs = search needs
 
 returns : tie.Need-returns
 returns c =
-    let kept = c .keep .ensures in
+    let saved = c .save .ensures in
     let six = c .before .before .before .rounds2 in
     let five = c .before .before .before .before .before .rounds in
     let started = c .before .before .before .before .before .before .before .start in
@@ -30,14 +30,14 @@ returns c =
     let start = c .before .before .before .before .before .before .before .before .before .before .before in
     let args = start .args in
     let x = shared .last .1 .0 in
-    let y = c .keep .last .1 .0 in
+    let y = c .save .last .1 .0 in
     let s = started .last .1 .0 in
     let u = five .last .1 .1 .0 in
     let r = six .last .1 .1 .0 in (
-      kept .0 .0,
+      saved .0 .0,
       six .ensures .0 .0,
       common-by (args .h) (now (args .w)) x y s u r (shared .ensures .1) (start .pre .4) (started .ensures .1) (five .ensures .0 .1) (five .ensures .1)
-          (six .ensures .0 .1) (six .ensures .1) (kept .0 .1) (kept .1),
+          (six .ensures .0 .1) (six .ensures .1) (saved .0 .1) (saved .1),
     )
 
 pub begin-spec : {M : Type 1} → statement M
@@ -48,5 +48,5 @@ begin-spec =
     start-requires
     rounds-requires
     rounds-requires-2
-    keep-requires
+    save-requires
     returns)

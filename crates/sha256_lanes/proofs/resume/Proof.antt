@@ -4,7 +4,7 @@ use Prim.Native.Nat.{_-_, _≤_}
 use native.Mathlib.Omega.{arith}
 use lib.ListN.{length, length-set}
 use denote.Ref.{now}
-use Rattle.sha256_lanes.specs.Laws.{Two, two-none, two-turn, wordedA, wordedE, resume-kept, resume-done}
+use Rattle.sha256_lanes.specs.RowLaws.{Two, two-none, two-next, wordedA, wordedE, resume-unchanged, resume-done}
 use Rattle.sha256_lanes.proofs.resume.Statement.{statement}
 use Rattle.sha256_lanes.proofs.resume.Tie as tie
 
@@ -91,7 +91,7 @@ loop-again c =
     let first = c .before .before .before .add in (
       omega arith,
       simp length-set (omega arith),
-      two-turn 928 2016 16 _ _ (loop .n) (now (at-loop .before .args .s)) (loop .s) _ _ _ _ (omega arith) (omega arith) (omega arith) refl refl (first .ensures)
+      two-next 928 2016 16 _ _ (loop .n) (now (at-loop .before .args .s)) (loop .s) _ _ _ _ (omega arith) (omega arith) (omega arith) refl refl (first .ensures)
           (c .add2 .ensures) (loop .inv .2),
     )
 
@@ -102,7 +102,7 @@ returns c =
     let w = now (args .w) in
     let x = now (args .x) in
     let s = now (args .s) in (
-      (loop .inv .1, resume-kept (loop .n) w x s (loop .s) (omega arith) (loop .inv .2)),
+      (loop .inv .1, resume-unchanged (loop .n) w x s (loop .s) (omega arith) (loop .inv .2)),
       resume-done (loop .n) w x s (loop .s) (omega arith) (loop .inv .2),
     )
 

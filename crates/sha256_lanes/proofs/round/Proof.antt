@@ -4,13 +4,13 @@ use Prim.Native.Nat.{_+_, _*_, _-_, _≤_}
 use native.Mathlib.Omega.{arith}
 use lib.ListN.{length, getD}
 use denote.Ref.{now}
-use Rattle.sha256_lanes.specs.Rows.{Kept, roundAt}
-use Rattle.sha256_lanes.specs.Laws.{Part, part-none, part-kept, part-turn, part-done, kept-all, length-roundAt}
+use Rattle.sha256_lanes.specs.Rows.{Unchanged, roundAt}
+use Rattle.sha256_lanes.specs.RowLaws.{Part, part-none, part-unchanged, part-next, part-done, unchanged-all, length-roundAt}
 use Rattle.sha256_lanes.proofs.round.Statement.{statement}
 use Rattle.sha256_lanes.proofs.round.Tie as tie
 
 abbrev Inv-loop : tie.InvT-loop
-Inv-loop k w s₀ t l₀ s l = (l ≤ 16) × (length s ≡ 3264) × Kept (1024 - 16 * t) s₀ s × Part k t l w s₀ s
+Inv-loop k w s₀ t l₀ s l = (l ≤ 16) × (length s ≡ 3264) × Unchanged (1024 - 16 * t) s₀ s × Part k t l w s₀ s
 
 abbrev μ-loop : tie.MeasureT-loop
 μ-loop k w s₀ t l₀ s l = 16 - l
@@ -18,7 +18,7 @@ abbrev μ-loop : tie.MeasureT-loop
 loop-holds : tie.Need-loop-holds Inv-loop μ-loop
 loop-holds c =
     let args = c .args in
-    (omega arith, c .pre .3, kept-all (1024 - 16 * args .t) (now (args .s)), part-none (args .k) (args .t) (now (args .w)) (now (args .s)) (now (args .s)))
+    (omega arith, c .pre .3, unchanged-all (1024 - 16 * args .t) (now (args .s)), part-none (args .k) (args .t) (now (args .w)) (now (args .s)) (now (args .s)))
 
 mul-x : tie.Need-mul-x Inv-loop μ-loop
 mul-x c = omega arith
@@ -65,8 +65,8 @@ loop-again c =
     let d : z ≡ roundAt (args .k) x n r = c .round-at .ensures in (
       omega arith,
       rw d (length-roundAt (args .k) x n r (omega arith) (omega arith)),
-      part-kept (args .k) t l n x w s r z (omega arith) (omega arith) refl refl (omega arith) (at-loop .loop .inv .2) d,
-      part-turn (args .k) t l n x w s r z (omega arith) (omega arith) refl refl (omega arith) (at-loop .loop .inv .2) d (at-loop .loop .inv .3),
+      part-unchanged (args .k) t l n x w s r z (omega arith) (omega arith) refl refl (omega arith) (at-loop .loop .inv .2) d,
+      part-next (args .k) t l n x w s r z (omega arith) (omega arith) refl refl (omega arith) (at-loop .loop .inv .2) d (at-loop .loop .inv .3),
     )
 
 returns : tie.Need-returns Inv-loop μ-loop

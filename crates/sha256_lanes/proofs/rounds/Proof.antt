@@ -5,13 +5,13 @@ use Prim.Native.Nat.{ℕ, _+_, _*_, _-_, _≤_}
 use native.Mathlib.Omega.{arith}
 use lib.ListN.{length, getD}
 use denote.Ref.{now}
-use Rattle.sha256_lanes.specs.Rows.{Kept, Rounded}
-use Rattle.sha256_lanes.specs.Laws.{kept-all, kept-then, rounded-none, rounded-then}
+use Rattle.sha256_lanes.specs.Rows.{Unchanged, Rounded}
+use Rattle.sha256_lanes.specs.RowLaws.{unchanged-all, unchanged-then, rounded-none, rounded-then}
 use Rattle.sha256_lanes.proofs.rounds.Statement.{statement}
 use Rattle.sha256_lanes.proofs.rounds.Tie as tie
 
 abbrev Inv-loop : tie.InvT-loop
-Inv-loop k w s₀ from to t₀ s t = (from ≤ t) × (t ≤ to) × (length s ≡ 3264) × Kept (1024 - 16 * from) s₀ s × Rounded w from t s₀ s
+Inv-loop k w s₀ from to t₀ s t = (from ≤ t) × (t ≤ to) × (length s ≡ 3264) × Unchanged (1024 - 16 * from) s₀ s × Rounded w from t s₀ s
 
 abbrev μ-loop : tie.MeasureT-loop
 μ-loop k w s₀ from to t₀ s t = to - t
@@ -19,7 +19,7 @@ abbrev μ-loop : tie.MeasureT-loop
 loop-holds : tie.Need-loop-holds Inv-loop μ-loop
 loop-holds c =
     let args = c .args in
-    (omega arith, c .pre .1, c .pre .4, kept-all (1024 - 16 * args .from) (now (args .s)), rounded-none (now (args .w)) (args .from) (now (args .s)))
+    (omega arith, c .pre .1, c .pre .4, unchanged-all (1024 - 16 * args .from) (now (args .s)), rounded-none (now (args .w)) (args .from) (now (args .s)))
 
 mul-round : tie.Need-mul-round Inv-loop μ-loop
 mul-round c = omega arith
@@ -52,7 +52,7 @@ loop-again c =
       omega arith,
       omega arith,
       c .round .ensures .0 .0,
-      kept-then (1024 - 16 * from) (1024 - 16 * t) s r z (omega arith) (at-loop .loop .inv .3) (c .round .ensures .0 .1),
+      unchanged-then (1024 - 16 * from) (1024 - 16 * t) s r z (omega arith) (at-loop .loop .inv .3) (c .round .ensures .0 .1),
       rounded-then w from t (t + 1) s r z (at-loop .loop .inv .4) (c .round .ensures .1),
     )
 

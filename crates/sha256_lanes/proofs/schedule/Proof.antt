@@ -5,7 +5,7 @@ use Prim.Native.Nat.{ℕ, _-_, _≤_}
 use native.Mathlib.Omega.{arith}
 use lib.ListN.{length, length-set}
 use denote.Ref.{now}
-use Rattle.sha256_lanes.specs.Laws.{Going, going-none, going-turn, going-done}
+use Rattle.sha256_lanes.specs.RowLaws.{Going, going-none, going-next, going-done}
 use Rattle.sha256_lanes.proofs.schedule.Statement.{statement}
 use Rattle.sha256_lanes.proofs.schedule.Tie as tie
 
@@ -54,7 +54,7 @@ loop-again c =
       omega arith,
       omega arith,
       simp length-set (omega arith),
-      λ m g. going-turn x m (loop .w) (loop .n) (c .scheduled-first .result) (omega arith) (omega arith) (c .scheduled-first .ensures) (loop .inv .3 m g),
+      λ m g. going-next x m (loop .w) (loop .n) (c .scheduled-first .result) (omega arith) (omega arith) (c .scheduled-first .ensures) (loop .inv .3 m g),
     )
 
 loop2-holds : tie.Need-loop2-holds Inv-loop μ-loop Inv-loop2 μ-loop2 Inv-loop3 μ-loop3
@@ -84,7 +84,7 @@ loop2-again c =
       omega arith,
       omega arith,
       simp length-set (omega arith),
-      λ m g. going-turn x m (loop .w) (loop .n) (c .scheduled-next .result) (omega arith) (omega arith) (c .scheduled-next .ensures) (loop .inv .3 m g),
+      λ m g. going-next x m (loop .w) (loop .n) (c .scheduled-next .result) (omega arith) (omega arith) (c .scheduled-next .ensures) (loop .inv .3 m g),
     )
 
 loop3-holds : tie.Need-loop3-holds Inv-loop μ-loop Inv-loop2 μ-loop2 Inv-loop3 μ-loop3
@@ -114,7 +114,7 @@ loop3-again c =
       omega arith,
       omega arith,
       simp length-set (omega arith),
-      λ m g. going-turn x m (loop .w) (loop .n) (c .scheduled .result) (omega arith) (omega arith) (λ h. c .scheduled .ensures) (loop .inv .3 m g),
+      λ m g. going-next x m (loop .w) (loop .n) (c .scheduled .result) (omega arith) (omega arith) (λ h. c .scheduled .ensures) (loop .inv .3 m g),
     )
 
 returns : tie.Need-returns Inv-loop μ-loop Inv-loop2 μ-loop2 Inv-loop3 μ-loop3

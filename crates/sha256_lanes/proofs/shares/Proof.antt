@@ -4,7 +4,7 @@ use Prim.Native.Nat.{_-_, _≤_}
 use native.Mathlib.Omega.{arith}
 use lib.ListN.{length, length-set}
 use denote.Ref.{now}
-use Rattle.sha256_lanes.specs.Laws.{Two, two-none, two-turn, firstShare, nextShare, shares-done}
+use Rattle.sha256_lanes.specs.RowLaws.{Two, two-none, two-next, firstShare, nextShare, shares-done}
 use Rattle.sha256_lanes.proofs.shares.Statement.{statement}
 use Rattle.sha256_lanes.proofs.shares.Tie as tie
 
@@ -71,7 +71,7 @@ loop-again c =
     let made : c .before .add .result ≡ firstShare (now (args .w)) (loop .n) = cc in (
       omega arith,
       simp length-set (omega arith),
-      two-turn 0 32 32 _ _ (loop .n) (now (args .x)) (loop .x) _ _ _ _ (omega arith) (omega arith) (omega arith) (omega arith) (omega arith) made
+      two-next 0 32 32 _ _ (loop .n) (now (args .x)) (loop .x) _ _ _ _ (omega arith) (omega arith) (omega arith) (omega arith) (omega arith) made
           (c .share-at2 .ensures) (loop .inv .2),
     )
 

@@ -4,7 +4,7 @@ use Prim.Native.Nat.{_-_, _≤_}
 use native.Mathlib.Omega.{arith}
 use borrow.Author.Needs.{needs}
 use lib.ListN.{length, length-set}
-use Rattle.sha256_lanes.specs.Laws.{Spread, spread-none, spread-turn, spread-done}
+use Rattle.sha256_lanes.specs.RowLaws.{Spread, spread-none, spread-next, spread-done}
 use Rattle.sha256_lanes.proofs.spread.Statement.{statement}
 use Rattle.sha256_lanes.proofs.spread.Tie as tie
 
@@ -38,7 +38,7 @@ loop-less c = omega arith
 loop-again : tie.Need-loop-again Inv-loop μ-loop
 loop-again c =
     let at-loop = c .before in
-    (omega arith, simp length-set (omega arith), search needs, spread-turn (at-loop .loop .n) _ (at-loop .loop .w) (omega arith) (at-loop .loop .inv .3))
+    (omega arith, simp length-set (omega arith), search needs, spread-next (at-loop .loop .n) _ (at-loop .loop .w) (omega arith) (at-loop .loop .inv .3))
 
 returns : tie.Need-returns Inv-loop μ-loop
 returns c =

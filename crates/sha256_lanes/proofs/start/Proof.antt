@@ -5,7 +5,7 @@ use native.Mathlib.Omega.{arith}
 use borrow.Author.Needs.{needs}
 use lib.Bits.{bitXor}
 use lib.ListN.{length, getD, length-set}
-use Rattle.sha256_lanes.specs.Laws.{Begun, begun-none, begun-turn, begun-done}
+use Rattle.sha256_lanes.specs.RowLaws.{Begun, begun-none, begun-next, begun-done}
 use Rattle.sha256_lanes.proofs.start.Statement.{statement}
 use Rattle.sha256_lanes.proofs.start.Tie as tie
 
@@ -75,7 +75,7 @@ loop-less c = omega arith
 loop-again : tie.Need-loop-again Inv-loop μ-loop
 loop-again c =
     let at-loop = c .before in
-    (omega arith, simp length-set (omega arith), search needs, refl, begun-turn (at-loop .loop .n) _ (at-loop .loop .s) (omega arith) (omega arith) _ refl (at-loop .loop .inv .4))
+    (omega arith, simp length-set (omega arith), search needs, refl, begun-next (at-loop .loop .n) _ (at-loop .loop .s) (omega arith) (omega arith) _ refl (at-loop .loop .inv .4))
 
 returns : tie.Need-returns Inv-loop μ-loop
 returns c =

@@ -4,7 +4,7 @@ use Prim.Native.Nat.{_-_, _≤_}
 use native.Mathlib.Omega.{arith}
 use lib.ListN.{length, length-set}
 use denote.Ref.{now}
-use Rattle.sha256_lanes.specs.Laws.{Summed, summed-none, summed-turn, summed-done}
+use Rattle.sha256_lanes.specs.RowLaws.{Summed, summed-none, summed-next, summed-done}
 use Rattle.sha256_lanes.proofs.sums.Statement.{statement}
 use Rattle.sha256_lanes.proofs.sums.Tie as tie
 
@@ -86,7 +86,7 @@ loop-again c =
     let first = c .before .before .before .add in (
       omega arith,
       simp length-set (omega arith),
-      summed-turn n s v _ (first .result) (c .add2 .result) (omega arith) (omega arith) (first .ensures) (c .add2 .ensures) refl (at-loop .loop .inv .2),
+      summed-next n s v _ (first .result) (c .add2 .result) (omega arith) (omega arith) (first .ensures) (c .add2 .ensures) refl (at-loop .loop .inv .2),
     )
 
 returns : tie.Need-returns Inv-loop μ-loop

@@ -1,9 +1,9 @@
--- `wire::write::put_byte` meets its contract.
+-- `wire_write::put_byte` meets its contract.
 use borrow.Author.Needs.{needs}
 use denote.Ref.{now}
-use Rattle.wire.specs.WriteLaws.{one-byte}
-use Rattle.wire.proofs.write.put_byte.Statement.{statement}
-use Rattle.wire.proofs.write.put_byte.Tie as tie
+use Rattle.wire_write.specs.WriteLaws.{one-byte}
+use Rattle.wire_write.proofs.put_byte.Statement.{statement}
+use Rattle.wire_write.proofs.put_byte.Tie as tie
 
 slice-write-out : tie.Need-slice-write-out
 slice-write-out c = search needs

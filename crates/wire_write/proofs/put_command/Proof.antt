@@ -1,11 +1,11 @@
--- `wire::write::put_command` meets its contract.
+-- `wire_write::put_command` meets its contract.
 use native.Mathlib.Omega.{arith}
 use lib.ListN.{length-set}
 use borrow.Author.Needs.{needs}
 use denote.Ref.{now}
-use Rattle.wire.specs.WriteLaws.{command-written}
-use Rattle.wire.proofs.write.put_command.Statement.{statement}
-use Rattle.wire.proofs.write.put_command.Tie as tie
+use Rattle.wire_write.specs.WriteLaws.{command-written}
+use Rattle.wire_write.proofs.put_command.Statement.{statement}
+use Rattle.wire_write.proofs.put_command.Tie as tie
 
 slice-write-out : tie.Need-slice-write-out
 slice-write-out c = search needs

@@ -1,10 +1,10 @@
--- `wire::write::put_tag` meets its contract.
+-- `wire_write::put_tag` meets its contract.
 use native.Mathlib.Omega.{arith}
 use borrow.Author.Needs.{needs}
 use denote.Ref.{now}
-use Rattle.wire.specs.WriteLaws.{then}
-use Rattle.wire.proofs.write.put_tag.Statement.{statement}
-use Rattle.wire.proofs.write.put_tag.Tie as tie
+use Rattle.wire_write.specs.WriteLaws.{then}
+use Rattle.wire_write.proofs.put_tag.Statement.{statement}
+use Rattle.wire_write.proofs.put_tag.Tie as tie
 
 put-byte-requires : tie.Need-put-byte-requires
 put-byte-requires c κs = search needs

@@ -1,12 +1,13 @@
--- `wire::write::write_entry` meets its contract.
+-- `wire_write::write_entry` meets its contract.
 use native.Mathlib.Omega.{arith}
 use borrow.Author.Needs.{needs}
 use denote.Ref.{now}
 use Rattle.protocol.specs.Layout.{signatureLength, fullEntryLength}
-use Rattle.protocol.specs.Message.{renderEntry}
-use Rattle.wire.specs.WriteLaws.{then}
-use Rattle.wire.proofs.write.write_entry.Statement.{statement}
-use Rattle.wire.proofs.write.write_entry.Tie as tie
+use Rattle.protocol.specs.Entries.{renderEntry}
+use Rattle.protocol.specs.Message.{fullForm}
+use Rattle.wire_write.specs.WriteLaws.{then}
+use Rattle.wire_write.proofs.write_entry.Statement.{statement}
+use Rattle.wire_write.proofs.write_entry.Tie as tie
 
 put-tag-requires : tie.Need-put-tag-requires
 unfolding signatureLength fullEntryLength
@@ -20,7 +21,7 @@ same-length : tie.Need-same-length
 same-length c = search needs
 
 returns : tie.Need-returns
-unfolding renderEntry
+unfolding renderEntry fullForm
 returns c =
     let second = c .before .before in
     let first = second .before .before .before .before in

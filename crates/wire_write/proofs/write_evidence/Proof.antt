@@ -1,16 +1,31 @@
--- `wire::write::write_evidence` meets its contract.
-use mathlib.Core.Path.{ap, _∙_}
+-- `wire_write::write_evidence` meets its contract.
+use mathlib.Core.Path.{_≡_, ap, _∙_}
 use Prim.Native.Nat.{ℕ, _+_}
 use native.Mathlib.Omega.{arith}
 use borrow.Author.Needs.{needs}
 use denote.Ref.{now}
-use Rattle.quorum.specs.Quorum.{size}
+use Rattle.quorum.specs.Quorum.{size, shared}
+use Rattle.quorum.specs.QuorumLaws.{shared-comm}
 use Rattle.protocol.specs.Layout.{evidenceLength}
-use Rattle.wire.specs.Sources.{certificateFrom}
-use Rattle.wire.specs.MaskLaws.{shared-comm}
-use Rattle.wire.specs.WriteLaws.{given-lower, given-higher}
-use Rattle.wire.proofs.write.write_evidence.Statement.{statement}
-use Rattle.wire.proofs.write.write_evidence.Tie as tie
+use Rattle.protocol.specs.Certificate.{Certificate}
+use Rattle.store.specs.Sources.{certificateFrom}
+use Rattle.wire_write.specs.WriteLaws.{given-lower, given-higher}
+use Rattle.wire_write.proofs.write_evidence.Statement.{statement}
+use Rattle.wire_write.proofs.write_evidence.Tie as tie
+
+abbrev started : tie.After-lower → tie.Start
+started c = c .before .before .before .before .before .before
+
+-- the two certificates
+abbrev one : tie.Start → Certificate
+one c = certificateFrom (c .args .n) (c .args .a) (now (c .args .va)) (now (c .args .ma))
+
+abbrev two : tie.Start → Certificate
+two c = certificateFrom (c .args .n) (c .args .b) (now (c .args .vb)) (now (c .args .mb))
+
+-- as many seats are shared in either order
+swapped : (c : tie.Start) → evidenceLength (size (shared (c .args .b .seats) (c .args .a .seats))) ≡ evidenceLength (size (shared (c .args .a .seats) (c .args .b .seats)))
+swapped c = ap (λ (x : ℕ). evidenceLength (size x)) (shared-comm (c .args .b .seats) (c .args .a .seats))
 
 lower-requires : tie.Need-lower-requires
 lower-requires c κs = search needs
@@ -23,31 +38,35 @@ same-length c = search needs
 
 returns : tie.Need-returns
 returns c =
-    let wrote = c .before .before .write-ordered in
-    let test = c .before .before .before .before .before in
-    let args = test .before .before .before .before .before .before .args in (
-      given-lower (args .n) (args .round) (certificateFrom (args .n) (args .a) (now (args .va)) (now (args .ma))) (certificateFrom (args .n) (args .b) (now (args .vb)) (now (args .mb)))
-          (test .lower .result) (test .lower .ensures) (args .at) (now (args .out)) (wrote .last .0) (wrote .result) (c .before .before .before .before .if1 .taken) (wrote .ensures .0),
+    let done = c .before .before in
+    let branch = done .before .before in
+    let test = branch .before in
+    let start = started test in
+    let wrote = done .write-ordered in (
+      given-lower (start .args .n) (start .args .round) (one start) (two start) (test .lower .result) (test .lower .ensures) (start .args .at) (now (start .args .out)) (wrote .last .0) (wrote .result)
+          (branch .if1 .taken) (wrote .ensures .0),
       wrote .ensures .1,
     )
 
 write-ordered-requires-2 : tie.Need-write-ordered-requires-2
 write-ordered-requires-2 c κs =
-    let start = c .before .before .before .before .before .before .before .before in
-    let swap = ap (λ (x : ℕ). evidenceLength (size x)) (shared-comm (start .args .a .seats) (start .args .b .seats)) in
-    (start .pre .0, start .pre .3, start .pre .4, start .pre .1, start .pre .2, omega (arith, swap, start .pre .5))
+    let start = started (c .before .before) in
+    let pre = start .pre in
+    (pre .0, pre .3, pre .4, pre .1, pre .2, omega (arith, swapped start, pre .5))
 
 same-length-2 : tie.Need-same-length-2
 same-length-2 c = search needs
 
 returns-2 : tie.Need-returns-2
 returns-2 c =
-    let wrote = c .before .before .write-ordered2 in
-    let test = c .before .before .before .before .before in
-    let args = test .before .before .before .before .before .before .args in (
-      given-higher (args .n) (args .round) (certificateFrom (args .n) (args .a) (now (args .va)) (now (args .ma))) (certificateFrom (args .n) (args .b) (now (args .vb)) (now (args .mb)))
-          (test .lower .result) (test .lower .ensures) (args .at) (now (args .out)) (wrote .last .0) (wrote .result) (c .before .before .before .before .if1 .left) (wrote .ensures .0),
-      wrote .ensures .1 ∙ ap (λ (x : ℕ). args .at + evidenceLength (size x)) (shared-comm (args .b .seats) (args .a .seats)),
+    let done = c .before .before in
+    let branch = done .before .before in
+    let test = branch .before in
+    let start = started test in
+    let wrote = done .write-ordered2 in (
+      given-higher (start .args .n) (start .args .round) (one start) (two start) (test .lower .result) (test .lower .ensures) (start .args .at) (now (start .args .out)) (wrote .last .0) (wrote .result)
+          (branch .if1 .left) (wrote .ensures .0),
+      wrote .ensures .1 ∙ ap (λ (l : ℕ). start .args .at + l) (swapped start),
     )
 
 pub write-evidence-spec : {M : Type 1} → statement M

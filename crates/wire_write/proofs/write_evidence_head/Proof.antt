@@ -1,36 +1,49 @@
--- `wire::write::write_evidence_head` meets its contract.
+-- `wire_write::write_evidence_head` meets its contract.
 use mathlib.Core.Path.{ap, _∙_}
 use Prim.Native.Nat.{ℕ, _+_}
 use native.Mathlib.Omega.{arith}
 use borrow.Author.Needs.{needs}
 use denote.Ref.{now}
-use Rattle.wire.specs.WriteLaws.{then, length-command, length-evidence-head}
-use Rattle.wire.proofs.write.write_evidence_head.Statement.{statement}
-use Rattle.wire.proofs.write.write_evidence_head.Tie as tie
+use Rattle.wire_write.specs.WriteLaws.{then, length-command, length-evidence-head}
+use Rattle.wire_write.proofs.write_evidence_head.Statement.{statement}
+use Rattle.wire_write.proofs.write_evidence_head.Tie as tie
+
+abbrev started : tie.After-put-command → tie.Start
+started c = c .before .before .before .before .before
+
+-- the command is written, then the lower value, then the higher
+abbrev commanded : tie.After-put → tie.After-put-command
+commanded c = c .before .before .before .before
+
+abbrev lowered : tie.After-put2 → tie.After-put
+lowered c = c .before .before .before .before
 
 put-command-requires : tie.Need-put-command-requires
 put-command-requires c κs = search needs
 
 put-requires : tie.Need-put-requires
 put-requires c κs =
-    let start = c .before .before .before .before .before .before .before .before in
-    omega (arith, start .pre, length-command 5 (start .args .round), c .before .before .before .put-command .ensures .ends, c .before .before .before .put-command .kept)
+    let first = c .before .before .before in
+    let start = started first in
+    omega (arith, start .pre, length-command 5 (start .args .round), first .put-command .ensures .ends, first .put-command .kept)
 
 put-requires-2 : tie.Need-put-requires-2
 put-requires-2 c κs =
-    let first = c .before .before .before .before .before .before .before in
-    let start = first .before .before .before .before .before in
-    omega (arith, start .pre, length-command 5 (start .args .round), first .put-command .ensures .ends, first .put-command .kept, c .before .before .before .put .ensures .ends, c .before .before .before .put .kept)
+    let second = c .before .before .before in
+    let first = commanded second in
+    let start = started first in
+    omega (arith, start .pre, length-command 5 (start .args .round), first .put-command .ensures .ends, first .put-command .kept, second .put .ensures .ends, second .put .kept)
 
 cast-put-byte : tie.Need-cast-put-byte
 cast-put-byte c = search needs
 
 put-byte-requires : tie.Need-put-byte-requires
 put-byte-requires c κs =
-    let second = c .before .before .before .before .before .before .before in
-    let first = second .before .before .before .before in
-    let start = first .before .before .before .before .before in
-    omega (arith, start .pre, length-command 5 (start .args .round), first .put-command .ensures .ends, first .put-command .kept, second .put .ensures .ends, second .put .kept, c .before .before .before .put2 .ensures .ends, c .before .before .before .put2 .kept)
+    let third = c .before .before .before in
+    let second = lowered third in
+    let first = commanded second in
+    let start = started first in
+    omega (arith, start .pre, length-command 5 (start .args .round), first .put-command .ensures .ends, first .put-command .kept, second .put .ensures .ends, second .put .kept, third .put2 .ensures .ends, third .put2 .kept)
 
 same-length : tie.Need-same-length
 same-length c = search needs
@@ -39,9 +52,9 @@ returns : tie.Need-returns
 returns c =
     let fourth = c .before .before in
     let third = fourth .before .before .before .before in
-    let second = third .before .before .before .before in
-    let first = second .before .before .before .before in
-    let start = first .before .before .before .before .before in
+    let second = lowered third in
+    let first = commanded second in
+    let start = started first in
     let args = start .args in
     let out = now (args .out) in
     let h = start .pre in
@@ -50,7 +63,7 @@ returns c =
     (then (args .at) (second .put .result) (third .put2 .result) _ (now (args .higher)) out (second .put .last .0) (third .put2 .last .0) (omega arith)
     (then (args .at) (first .put-command .result) (second .put .result) _ (now (args .lower)) out (first .put-command .last .0) (second .put .last .0) (omega arith)
     (first .put-command .ensures) (second .put .ensures)) (third .put2 .ensures)) (fourth .put-byte .ensures) in
-    (wrote, wrote .ends ∙ ap (λ (l : ℕ). args .at + l) (length-evidence-head (args .round) (now (args .lower)) (now (args .higher)) (args .count) (start .pre .1) (start .pre .2)))
+    (wrote, wrote .ends ∙ ap (λ (l : ℕ). args .at + l) (length-evidence-head (args .round) (now (args .lower)) (now (args .higher)) (args .count) (h .1) (h .2)))
 
 pub write-evidence-head-spec : {M : Type 1} → statement M
 write-evidence-head-spec =

@@ -1,14 +1,31 @@
--- `wire::write::write_full` meets its contract.
-use mathlib.Core.Path.{_∙_}
+-- `wire_write::write_full` meets its contract.
+use mathlib.Core.Path.{_≡_, _∙_}
+use mathlib.Core.List.{_∷_, []}
+use Prim.Native.Nat.{_+_, _≤_}
 use native.Mathlib.Omega.{arith}
+use lib.ListN.{length}
 use borrow.Author.Needs.{needs}
 use denote.Ref.{now}
 use Rattle.quorum.specs.Quorum.{size, seats}
-use Rattle.quorum.specs.Laws.{size-le, length-seats}
+use Rattle.quorum.specs.QuorumLaws.{size-le, length-seats}
 use Rattle.protocol.specs.Layout.{noticeLength, fullEntryAt}
-use Rattle.wire.specs.WriteLaws.{full-written}
-use Rattle.wire.proofs.write.write_full.Statement.{statement}
-use Rattle.wire.proofs.write.write_full.Tie as tie
+use Rattle.protocol.specs.Message.{fullForm, render}
+use Rattle.protocol.specs.Certificate.{entryOf, entriesOf, fullOf}
+use Rattle.store.specs.Sources.{certificateFrom}
+use Rattle.wire_write.specs.Writing.{head}
+use Rattle.wire_write.specs.WriteLaws.{then, list-written}
+use Rattle.wire_write.proofs.write_full.Statement.{statement}
+use Rattle.wire_write.proofs.write_full.Tie as tie
+
+abbrev sized : tie.After-write-head → tie.After-size
+sized c = c .before .before
+
+abbrev started : tie.After-write-head → tie.Start
+started c = sized c .before .before .before .before
+
+-- what it starts with is written, then the count
+abbrev headed : tie.After-put-byte → tie.After-write-head
+headed c = c .before .before .before .before
 
 size-requires : tie.Need-size-requires
 size-requires c κs = search needs
@@ -19,40 +36,48 @@ write-head-requires c κs = omega arith
 
 cast-put-byte : tie.Need-cast-put-byte
 cast-put-byte c =
-    let start = c .before .before .before .before .before .before .before .before .before in
-    omega (arith, start .pre .0, c .before .before .before .before .before .size .ensures, size-le (start .args .n) (start .args .source .seats) (start .pre .3 .inside))
+    let first = c .before .before .before in
+    let start = started first in
+    omega (arith, start .pre .0, sized first .size .ensures, size-le (start .args .n) (start .args .source .seats) (start .pre .3 .inside))
 
 put-byte-requires : tie.Need-put-byte-requires
 unfolding noticeLength fullEntryAt
 put-byte-requires c κs =
-    let start = c .before .before .before .before .before .before .before .before .before in
-    omega (arith, start .pre .4)
+    let first = c .before .before .before in
+    omega (arith, started first .pre .4)
 
 write-entries-requires : tie.Need-write-entries-requires
 unfolding noticeLength fullEntryAt
 write-entries-requires c κs =
-    let start = c .before .before .before .before .before .before .before .before .before .before .before .before .before in
+    let second = c .before .before .before in
+    let first = headed second in
+    let start = started first in
     let args = start .args in
-    let head = c .before .before .before .before .before .before .before .write-head in
     let counted = length-seats (args .n) (args .source .seats) (start .pre .3 .inside) in
-    (start .pre .0, start .pre .3, rw counted (omega (arith, start .pre .4, head .ensures .1, head .kept, c .before .before .before .put-byte .ensures .ends)))
+    (start .pre .0, start .pre .3, rw counted (omega (arith, start .pre .4, first .write-head .ensures .1, first .write-head .kept, second .put-byte .ensures .ends)))
 
 same-length : tie.Need-same-length
 same-length c = search needs
 
 returns : tie.Need-returns
-unfolding noticeLength fullEntryAt
+unfolding noticeLength fullEntryAt render fullOf entriesOf
 returns c =
     let third = c .before .before in
     let second = third .before .before .before .before in
-    let first = second .before .before .before .before in
-    let start = first .before .before .before .before .before .before in
+    let first = headed second in
+    let start = started first in
     let args = start .args in
-    let size-is = first .before .before .size .ensures in
-    let counted = length-seats (args .n) (args .source .seats) (start .pre .3 .inside) in (
-      full-written (args .n) (args .round) (args .sender) (args .at) (first .write-head .result) (second .put-byte .result) (third .write-entries .result) (first .before .before .size .result)
-          (now (args .value)) (args .source) (now (args .m)) (now (args .out)) (first .write-head .last .0) (second .put-byte .last .0) (third .write-entries .last .0)
-          (omega (arith, start .pre .4)) (start .pre .3 .inside) size-is (first .write-head .ensures .0) (second .put-byte .ensures) (third .write-entries .ensures .0),
+    let n = args .n in
+    let out = now (args .out) in
+    let value = now (args .value) in
+    let front = head 0x03 (args .round) (args .sender) value in
+    let count = sized first .size in
+    let room : args .at ≤ length out = omega (arith, start .pre .4) in
+    let counted = length-seats n (args .source .seats) (start .pre .3 .inside) in (
+      list-written fullForm (entryOf (certificateFrom n (args .source) value (now (args .m)))) n (args .source .seats) (args .at) out front (count .result) (second .put-byte .result) (third .write-entries .result)
+          (second .put-byte .last .0) (third .write-entries .last .0) room (start .pre .3 .inside) (count .ensures)
+          (then (args .at) (first .write-head .result) (second .put-byte .result) front (count .result ∷ []) out (first .write-head .last .0) (second .put-byte .last .0) room (first .write-head .ensures .0) (second .put-byte .ensures))
+          (third .write-entries .ensures .0),
       third .write-entries .ensures .1 ∙ rw counted (omega (arith, first .write-head .ensures .1, second .put-byte .ensures .ends)),
     )
 

@@ -1,13 +1,19 @@
--- `wire::write::write_head` meets its contract.
+-- `wire_write::write_head` meets its contract.
 use mathlib.Core.Path.{ap, _∙_}
 use Prim.Native.Nat.{ℕ, _+_}
 use native.Mathlib.Omega.{arith}
 use borrow.Author.Needs.{needs}
 use denote.Ref.{now}
 use Rattle.protocol.specs.Layout.{noticeLength}
-use Rattle.wire.specs.WriteLaws.{then, length-command, length-head}
-use Rattle.wire.proofs.write.write_head.Statement.{statement}
-use Rattle.wire.proofs.write.write_head.Tie as tie
+use Rattle.wire_write.specs.WriteLaws.{then, length-command, length-head}
+use Rattle.wire_write.proofs.write_head.Statement.{statement}
+use Rattle.wire_write.proofs.write_head.Tie as tie
+
+abbrev started : tie.After-put-command → tie.Start
+started c = c .before .before .before .before
+
+abbrev commanded : tie.After-put-byte → tie.After-put-command
+commanded c = c .before .before .before .before
 
 put-command-requires : tie.Need-put-command-requires
 unfolding noticeLength
@@ -19,14 +25,14 @@ cast-put-byte c = search needs
 put-byte-requires : tie.Need-put-byte-requires
 unfolding noticeLength
 put-byte-requires c κs =
-    let start = c .before .before .before .before .before .before .before in
+    let start = started (c .before .before .before) in
     omega (arith, length-command (start .args .command) (start .args .round), start .pre)
 
 put-requires : tie.Need-put-requires
 unfolding noticeLength
 put-requires c κs =
-    let start = c .before .before .before .before .before .before .before .before .before .before .before in
-    let command = c .before .before .before .before .before .before .before in
+    let command = commanded (c .before .before .before) in
+    let start = started command in
     omega (arith, length-command (start .args .command) (start .args .round), start .pre, command .put-command)
 
 same-length : tie.Need-same-length
@@ -34,15 +40,16 @@ same-length c = search needs
 
 returns : tie.Need-returns
 returns c =
-    let putting = c .before .before in
-    let byte = putting .before .before .before .before in
-    let command = byte .before .before .before .before in
-    let start = command .before .before .before .before in
+    let last = c .before .before in
+    let byte = last .before .before .before .before in
+    let command = commanded byte in
+    let start = started command in
     let args = start .args in
+    let out = now (args .out) in
     let wrote =
-    then (args .at) (byte .put-byte .result) (putting .put .result) _ (now (args .value)) (now (args .out)) (byte .put-byte .last .0) (putting .put .last .0) (omega (arith, start .pre))
-    (then (args .at) (command .put-command .result) (byte .put-byte .result) _ _ (now (args .out)) (command .put-command .last .0) (byte .put-byte .last .0) (omega (arith, start .pre)) (command .put-command .ensures) (byte .put-byte .ensures))
-    (putting .put .ensures) in
+    then (args .at) (byte .put-byte .result) (last .put .result) _ (now (args .value)) out (byte .put-byte .last .0) (last .put .last .0) (omega (arith, start .pre))
+    (then (args .at) (command .put-command .result) (byte .put-byte .result) _ _ out (command .put-command .last .0) (byte .put-byte .last .0) (omega (arith, start .pre)) (command .put-command .ensures) (byte .put-byte .ensures))
+    (last .put .ensures) in
     (wrote, wrote .ends ∙ ap (λ (l : ℕ). args .at + l) (length-head (args .command) (args .round) (args .seat) (now (args .value)) (start .pre .1)))
 
 pub write-head-spec : {M : Type 1} → statement M

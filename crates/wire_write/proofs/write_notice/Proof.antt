@@ -1,8 +1,8 @@
--- `wire::write::write_notice` meets its contract.
+-- `wire_write::write_notice` meets its contract.
 use borrow.Author.Needs.{needs}
 use Rattle.protocol.specs.Message.{render}
-use Rattle.wire.proofs.write.write_notice.Statement.{statement}
-use Rattle.wire.proofs.write.write_notice.Tie as tie
+use Rattle.wire_write.proofs.write_notice.Statement.{statement}
+use Rattle.wire_write.proofs.write_notice.Tie as tie
 
 write-head-requires : tie.Need-write-head-requires
 write-head-requires c κs = search needs

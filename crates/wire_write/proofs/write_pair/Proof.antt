@@ -1,12 +1,19 @@
--- `wire::write::write_pair` meets its contract.
+-- `wire_write::write_pair` meets its contract.
 use native.Mathlib.Omega.{arith}
 use borrow.Author.Needs.{needs}
 use denote.Ref.{now}
 use Rattle.protocol.specs.Layout.{signatureLength, evidenceEntryLength}
-use Rattle.protocol.specs.Message.{renderPair}
-use Rattle.wire.specs.WriteLaws.{then}
-use Rattle.wire.proofs.write.write_pair.Statement.{statement}
-use Rattle.wire.proofs.write.write_pair.Tie as tie
+use Rattle.protocol.specs.Entries.{renderEntry}
+use Rattle.protocol.specs.Message.{evidenceForm}
+use Rattle.wire_write.specs.WriteLaws.{then}
+use Rattle.wire_write.proofs.write_pair.Statement.{statement}
+use Rattle.wire_write.proofs.write_pair.Tie as tie
+
+abbrev started : tie.After-put-tag → tie.Start
+started c = c .before .before .before .before .before
+
+abbrev tagged : tie.After-put → tie.After-put-tag
+tagged c = c .before .before .before .before
 
 put-tag-requires : tie.Need-put-tag-requires
 unfolding signatureLength evidenceEntryLength
@@ -18,21 +25,22 @@ put-requires c κs = omega arith
 
 put-requires-2 : tie.Need-put-requires-2
 unfolding signatureLength evidenceEntryLength
-put-requires-2 c κs = omega (arith, c .before .before .before .before .before .before .before .before .before .before .before .before .pre)
+put-requires-2 c κs = omega (arith, started (tagged (c .before .before .before)) .pre)
 
 same-length : tie.Need-same-length
 same-length c = search needs
 
 returns : tie.Need-returns
-unfolding renderPair
+unfolding renderEntry evidenceForm
 returns c =
     let third = c .before .before in
     let second = third .before .before .before .before in
-    let first = second .before .before .before .before in
-    let start = first .before .before .before .before .before in
+    let first = tagged second in
+    let start = started first in
     let args = start .args in
-    then (args .at) (second .put .result) (third .put2 .result) _ (now (args .higher)) (now (args .out)) (second .put .last .0) (third .put2 .last .0) (omega (arith, start .pre))
-    (then (args .at) (first .put-tag .result) (second .put .result) _ (now (args .lower)) (now (args .out)) (first .put-tag .last .0) (second .put .last .0) (omega (arith, start .pre)) (first .put-tag .ensures) (second .put .ensures))
+    let out = now (args .out) in
+    then (args .at) (second .put .result) (third .put2 .result) _ (now (args .higher)) out (second .put .last .0) (third .put2 .last .0) (omega (arith, start .pre))
+    (then (args .at) (first .put-tag .result) (second .put .result) _ (now (args .lower)) out (first .put-tag .last .0) (second .put .last .0) (omega (arith, start .pre)) (first .put-tag .ensures) (second .put .ensures))
     (third .put2 .ensures)
 
 pub write-pair-spec : {M : Type 1} → statement M

@@ -1,71 +1,87 @@
--- `wire::write::write_pairs` meets its contract.
+-- `wire_write::write_pairs` meets its contract.
+use mathlib.Core.Path.{_≡_, sym, ap₂, _∙_}
+use mathlib.Core.Bool.{true, false}
+use mathlib.Core.List.{List, []}
 use mathlib.Core.Logic.{⊎-elim}
-use Prim.Native.Nat.{_-_}
+use Prim.Native.Nat.{ℕ, _+_, _-_}
 use native.Mathlib.Omega.{arith}
-use borrow.Author.Needs.{needs}
+use lib.ListN.{length, length-append}
 use denote.Ref.{now}
+<<<<<<< HEAD
 use Rattle.quorum.specs.Quorum.{shared}
-use Rattle.quorum.specs.Laws.{in-shared}
+use Rattle.quorum.specs.QuorumLaws.{in-shared}
+=======
+use Rattle.quorum.specs.Quorum.{In, bit}
+use Rattle.quorum.specs.QuorumLaws.{has-true, has-false}
+>>>>>>> 373069b1965678a5299a89814be0ad13854858f3
 use Rattle.protocol.specs.Layout.{evidenceEntryLength}
-use Rattle.wire.specs.Writing.{pairFor}
-use Rattle.wire.specs.MaskLaws.{shared-test-in, shared-test-out}
-use Rattle.wire.specs.WriteLaws.{Going, going-none, going-skip, going-room, pair-turn, pairs-done}
-use Rattle.wire.proofs.write.write_pairs.Statement.{statement}
-use Rattle.wire.proofs.write.write_pairs.Tie as tie
+use Rattle.protocol.specs.Entries.{Form}
+use Rattle.protocol.specs.Message.{Pair, evidenceForm}
+use Rattle.protocol.specs.Certificate.{pairOf, pairsOf}
+use Rattle.store.specs.Sources.{certificateFrom}
+use Rattle.wire_write.specs.Writing.{pair}
+use Rattle.wire_write.specs.WriteLaws.{Going, going-none, going-skip, going-room, going-on, going-done}
+use Rattle.wire_write.proofs.write_pairs.Statement.{statement}
+use Rattle.wire_write.proofs.write_pairs.Tie as tie
+
+abbrev form : Form Pair
+form = evidenceForm [] []
 
 abbrev Inv-loop : tie.InvT-loop
-Inv-loop out₀ at n low lows high highs mask end₀ s₀ out end s = Going (pairFor n low lows high highs) evidenceEntryLength n (shared (low .seats) (high .seats)) at out₀ s end out
+Inv-loop out₀ at n mask low lows high highs end₀ s₀ out end s = Going form (pairOf (certificateFrom n low [] lows) (certificateFrom n high [] highs)) n mask at out₀ s end out
 
 abbrev μ-loop : tie.MeasureT-loop
-μ-loop out₀ at n low lows high highs mask end₀ s₀ out end s = n - s
+μ-loop out₀ at n mask low lows high highs end₀ s₀ out end s = n - s
 
-shared-requires : tie.Need-shared-requires Inv-loop μ-loop
-shared-requires c κs = search needs
+abbrev started : tie.At-loop Inv-loop μ-loop → tie.Start Inv-loop μ-loop
+started c = c .before .before .before .before
+
+abbrev looped : tie.After-has Inv-loop μ-loop → tie.At-loop Inv-loop μ-loop
+looped c = c .before .before
+
+-- what the test for a seat says
+test-in : (c : tie.After-has Inv-loop μ-loop) → c .has .result ≡ true → In (looped c .loop .s) (started (looped c) .args .mask)
+test-in c t = has-true _ _ .0 (sym (c .has .ensures) ∙ t)
+
+test-out : (c : tie.After-has Inv-loop μ-loop) → c .has .result ≡ false → bit (looped c .loop .s) (started (looped c) .args .mask) ≡ 0
+test-out c t = has-false _ _ .0 (sym (c .has .ensures) ∙ t)
 
 loop-holds : tie.Need-loop-holds Inv-loop μ-loop
 loop-holds c =
-    let args = c .before .before .before .before .args in
-    going-none _ evidenceEntryLength (args .n) (shared (args .low .seats) (args .high .seats)) (args .at) (now (args .out)) (omega arith)
+    let args = c .before .before .before .args in
+    going-none form _ (args .n) (args .mask) (args .at) (now (args .out)) (omega arith)
 
 has-requires : tie.Need-has-requires Inv-loop μ-loop
 has-requires c κs = omega arith
 
 signature-of-requires : tie.Need-signature-of-requires Inv-loop μ-loop
 signature-of-requires c κs =
-    let at-loop = c .before .before .before .before in
-    let shares = at-loop .before in
-    let start = shares .before .before .before .before in
-    let s = at-loop .loop .s in
-    let has = c .before .before .has in
-    let a = start .args .low .seats in
-    let b = start .args .high .seats in
-    let i = shared-test-in s a b (shares .shared .result) (has .result) (shares .shared .ensures) (has .ensures) (c .before .if1 .taken) in
-    (start .pre .0, omega arith, in-shared s a b .0 i .0, start .pre .1)
+    let taken = c .before in
+    let at-loop = looped (taken .before) in
+    let pre = started at-loop .pre in
+    (pre .0, omega arith, pre .1 (at-loop .loop .s) (test-in (taken .before) (taken .if1 .taken)), pre .2)
 
 signature-of-requires-2 : tie.Need-signature-of-requires-2 Inv-loop μ-loop
 signature-of-requires-2 c κs =
-    let at-loop = c .before .before .before .before .before in
-    let shares = at-loop .before in
-    let start = shares .before .before .before .before in
-    let s = at-loop .loop .s in
-    let has = c .before .before .before .has in
-    let a = start .args .low .seats in
-    let b = start .args .high .seats in
-    let i = shared-test-in s a b (shares .shared .result) (has .result) (shares .shared .ensures) (has .ensures) (c .before .before .if1 .taken) in
-    (start .pre .0, omega arith, in-shared s a b .0 i .1, start .pre .2)
+    let taken = c .before .before in
+    let at-loop = looped (taken .before) in
+    let pre = started at-loop .pre in
+    (pre .0, omega arith, pre .3 (at-loop .loop .s) (test-in (taken .before) (taken .if1 .taken)), pre .4)
 
 write-pair-requires : tie.Need-write-pair-requires Inv-loop μ-loop
+unfolding evidenceForm evidenceEntryLength
 write-pair-requires c κs =
-    let at-loop = c .before .before .before .before .before .before in
-    let shares = at-loop .before in
-    let start = shares .before .before .before .before in
+    let signed = c .before in
+    let taken = signed .before .before in
+    let at-loop = looped (taken .before) in
+    let start = started at-loop in
     let args = start .args in
-    let s = at-loop .loop .s in
-    let has = c .before .before .before .before .has in
-    let a = args .low .seats in
-    let b = args .high .seats in
-    let i = shared-test-in s a b (shares .shared .result) (has .result) (shares .shared .ensures) (has .ensures) (c .before .before .before .if1 .taken) in
-    (omega (arith, start .pre .0), c .before .signature-of .ensures .1, c .signature-of2 .ensures .1, going-room _ evidenceEntryLength (args .n) (shared a b) (args .at) (now (args .out)) s (at-loop .loop .end) (at-loop .loop .out) (at-loop .loop .inv) (c .before .before .before .before .before .loop-test .taken) i (start .pre .3))
+    let loop = at-loop .loop in (
+      omega (arith, start .pre .0),
+      signed .signature-of .ensures .1,
+      c .signature-of2 .ensures .1,
+      going-room form _ (args .n) (args .mask) (args .at) (now (args .out)) (loop .s) (loop .end) (loop .out) (loop .inv) (omega arith) (test-in (taken .before) (taken .if1 .taken)) (start .pre .5),
+    )
 
 add-s : tie.Need-add-s Inv-loop μ-loop
 add-s c = omega arith
@@ -74,35 +90,38 @@ loop-less : tie.Need-loop-less Inv-loop μ-loop
 loop-less c = omega arith
 
 loop-again : tie.Need-loop-again Inv-loop μ-loop
+unfolding evidenceForm evidenceEntryLength
 loop-again c =
-    let at-loop = c .before .before .before in
-    let shares = at-loop .before in
-    let start = shares .before .before .before .before in
+    let tested = c .before in
+    let at-loop = looped tested in
+    let start = started at-loop in
     let args = start .args in
-    let s = at-loop .loop .s in
-    let has = c .before .has in
-    let a = args .low .seats in
-    let b = args .high .seats in
+    let loop = at-loop .loop in
+    let s = loop .s in
+    let out = now (args .out) in
     ⊎-elim
     (λ w.
-    let i = shared-test-in s a b (shares .shared .result) (has .result) (shares .shared .ensures) (has .ensures) (w .0 .taken) in
+    let lower = w .2 in
+    let higher = w .3 in
+    let two = length-append (now (lower .result)) (now (higher .result)) in
     rw (w .7, w .8)
-    (pair-turn (args .n) (args .low) (now (args .lows)) (args .high) (now (args .highs)) (args .at) (now (args .out)) s (at-loop .loop .end) (at-loop .loop .out)
-    (at-loop .loop .inv) (omega arith) i (start .pre .3) (now (w .2 .result)) (w .2 .ensures) (now (w .3 .result)) (w .3 .ensures) (w .4 .result) (w .4 .last .0) (w .4 .ensures)))
+    (going-on form _ (args .n) (args .mask) (args .at) out s (loop .end) (loop .out) (loop .inv) (omega arith) (test-in tested (w .0 .taken)) (start .pre .5)
+    (pair s (now (lower .result)) (now (higher .result))) (ap₂ (pair s) (lower .ensures .0) (higher .ensures .0)) (two ∙ rw (lower .ensures .1, higher .ensures .1)) (w .4 .result) (w .4 .last .0) (w .4 .ensures)))
     (λ w.
     rw (w .1, w .2)
-    (going-skip _ evidenceEntryLength (args .n) (shared a b) (args .at) (now (args .out)) s (at-loop .loop .end) (at-loop .loop .out) (at-loop .loop .inv) (omega arith)
-    (shared-test-out s a b (shares .shared .result) (has .result) (shares .shared .ensures) (has .ensures) (w .0 .left))))
+    (going-skip form _ (args .n) (args .mask) (args .at) out s (loop .end) (loop .out) (loop .inv) (omega arith) (test-out tested (w .0 .left))))
     (c .if1 .came)
 
 same-length : tie.Need-same-length Inv-loop μ-loop
 same-length c = omega arith
 
 returns : tie.Need-returns Inv-loop μ-loop
+unfolding evidenceForm evidenceEntryLength pairsOf
 returns c =
     let at-loop = c .before in
-    let args = at-loop .before .before .before .before .before .args in
-    pairs-done (args .n) (args .low) (now (args .lows)) (args .high) (now (args .highs)) (args .at) (now (args .out)) (at-loop .loop .s) (at-loop .loop .end) (at-loop .loop .out) (at-loop .loop .inv) (omega arith)
+    let args = started at-loop .args in
+    let loop = at-loop .loop in
+    going-done form _ (args .n) (args .mask) (args .at) (now (args .out)) (loop .s) (loop .end) (loop .out) (loop .inv) (omega arith)
 
 pub write-pairs-spec : {M : Type 1} → statement M
 write-pairs-spec =
@@ -110,7 +129,6 @@ write-pairs-spec =
     (tie.spec
     Inv-loop
     μ-loop
-    shared-requires
     loop-holds
     has-requires
     signature-of-requires

@@ -8,13 +8,13 @@ use super::{both, Call, Case, Subject};
 use crate::air;
 use crate::compare::{equal, long, progress, run};
 use crate::fleet::{fewest_to_split, layouts, rounds, some_seats, Fleet, HANDS};
-use crate::reference::engine::out_length;
 use crate::reference::evidence::check_evidence;
+use crate::reference::layout::{self, SIGNATURE};
+use crate::reference::lms::PUBLIC_KEY;
 use crate::reference::messages::{Value, EVIDENCE, FULL, NOTICE};
 use crate::reference::quorum::t0;
 use crate::reference::record::{Record, Verdict};
 use crate::reference::seats::{contains, mask, size};
-use crate::reference::store;
 use crate::rng::Rng;
 
 #[derive(Debug)]
@@ -31,13 +31,13 @@ struct Plan {
 /// How often a call came to a number, or wrote messages together.
 type Tally = BTreeMap<String, usize>;
 
-/// Thousands of calls for each n.
+/// Hundreds of calls for each n, ten thousand in the long battery.
 pub fn battery(subject: Subject) {
     let mut plans = Vec::new();
     for n in (1..=32).rev() {
         let (lists, calls) = match (n, long()) {
-            (1, false) => (120, 20),
-            (_, false) => (30, 50),
+            (1, false) => (60, 20),
+            (_, false) => (15, 50),
             (_, true) => (100, 100),
         };
         let plan = |list: usize| Plan {
@@ -137,7 +137,7 @@ impl<'a> Sea<'a> {
             Boat {
                 layout: chosen[place % chosen.len()],
                 record: opened(fleet, seat),
-                store: rng.bytes(store::length(fleet.n) + spare),
+                store: rng.bytes(layout::store(fleet.n) + spare),
                 said: Vec::new(),
             }
         };
@@ -222,8 +222,8 @@ impl<'a> Sea<'a> {
         match rng.below(5) {
             0 => value.truncate(rng.below(32)),
             1 => value.push(rng.below(256) as u8),
-            2 => signature.truncate(rng.below(1452)),
-            3 => signature[rng.below(1452)] ^= 1,
+            2 => signature.truncate(rng.below(SIGNATURE)),
+            3 => signature[rng.below(SIGNATURE)] ^= 1,
             _ => value[rng.below(32)] ^= 1,
         }
         self.right_call(boat, "wrong submit", Call::Submit { value, signature }, rng)
@@ -305,19 +305,19 @@ impl<'a> Sea<'a> {
             }
             1 => {
                 let seat = rng.below(n as usize);
-                case.keys[56 * seat + rng.below(8)] ^= 1 << rng.below(8);
+                case.keys[PUBLIC_KEY * seat + rng.below(8)] ^= 1 << rng.below(8);
                 5
             }
             2 => {
-                case.store.truncate(store::length(n) - 1 - rng.below(20));
+                case.store.truncate(layout::store(n) - 1 - rng.below(20));
                 6
             }
             3 => {
-                case.out.truncate(rng.below(out_length(n)));
+                case.out.truncate(rng.below(layout::out(n)));
                 7
             }
             _ => {
-                case.out.truncate(out_length(n) - 1);
+                case.out.truncate(layout::out(n) - 1);
                 7
             }
         };
@@ -334,7 +334,7 @@ impl<'a> Sea<'a> {
     fn case(&self, boat: usize, call: Call, rng: &mut Rng) -> Case {
         let Boat { record, store, .. } = &self.boats[boat];
         let fleet = self.plan.fleet;
-        let out = out_length(fleet.n) + *rng.pick(&[0, 0, 1, 60]);
+        let out = layout::out(fleet.n) + *rng.pick(&[0, 0, 1, 60]);
         Case { record: *record, keys: fleet.key_table(), store: store.clone(), call, out: rng.bytes(out) }
     }
 

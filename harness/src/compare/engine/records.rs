@@ -1,16 +1,14 @@
 //! Records: states of a unit, possible ones that no list of calls reaches, and impossible ones, each cause alone.
 
 use super::{both, Call, Case, Subject};
-use crate::compare::{equal, long, noise, run};
+use crate::compare::{equal, long, noise, run, sized};
 use crate::fleet::{layouts, rounds, some_seats, Fleet};
-use crate::reference::calls::SIGNATURE;
-use crate::reference::engine::out_length;
 use crate::reference::impossible::causes;
-use crate::reference::messages::{Value, EVIDENCE, FULL, FULL_ENTRY, NOTICE, SUBMIT};
+use crate::reference::layout::{self, SIGNATURE, VALUE};
+use crate::reference::messages::{Value, EVIDENCE, FULL, NOTICE, SUBMIT};
 use crate::reference::quorum;
 use crate::reference::record::{First, Notices, Own, Record};
 use crate::reference::seats::mask;
-use crate::reference::store;
 use crate::rng::{seed, Rng};
 
 /// An opened unit.
@@ -196,9 +194,9 @@ fn case(fleet: Fleet, record: Record, call: Call, rng: &mut Rng) -> Case {
     Case {
         record,
         keys: fleet.key_table(),
-        store: rng.bytes(store::length(fleet.n) + spare),
+        store: rng.bytes(layout::store(fleet.n) + spare),
         call,
-        out: rng.bytes(out_length(fleet.n) + spare),
+        out: rng.bytes(layout::out(fleet.n) + spare),
     }
 }
 
@@ -209,7 +207,7 @@ pub fn noise_submit(subject: Subject, rng: &mut Rng) -> Result<u32, String> {
         if rng.one_in(50) {
             noise::set(&mut signature, 0, &record.round.to_be_bytes());
         }
-        Call::Submit { value: noise::bytes(32, rng), signature }
+        Call::Submit { value: noise::bytes(VALUE, rng), signature }
     });
     Ok(both(subject, &case, rng)?.number)
 }
@@ -217,15 +215,19 @@ pub fn noise_submit(subject: Subject, rng: &mut Rng) -> Result<u32, String> {
 /// A step with random bytes: a message of some command in its right length, or of any.
 pub fn noise_step(subject: Subject, rng: &mut Rng) -> Result<u32, String> {
     let case = noise_case(rng, |record, rng| {
-        let k = quorum::k(record.n.clamp(1, 3)) as usize;
-        let (command, length) = *rng.pick(&[(SUBMIT, 1488), (NOTICE, 36), (FULL, 37 + 1454 * k), (EVIDENCE, 68)]);
+        let k = quorum::k(record.n.clamp(1, 3));
+        let (command, length) = *rng.pick(&[
+            (SUBMIT, layout::SUBMIT),
+            (NOTICE, layout::NOTICE),
+            (FULL, layout::full(k)),
+            (EVIDENCE, layout::evidence(0)),
+        ]);
         let mut message = noise::bytes(length, rng);
         if !rng.one_in(16) {
             noise::head(&mut message, command, record.round, rng);
         }
         if command == FULL && !rng.one_in(16) {
-            noise::set(&mut message, 36, &[k as u8]);
-            noise::entries(&mut message, 37, 1454, FULL_ENTRY, rng);
+            noise::certificate(&mut message, k, rng);
         }
         Call::Step { message }
     });
@@ -242,7 +244,7 @@ fn noise_case(rng: &mut Rng, call: impl Fn(&Record, &mut Rng) -> Call) -> Case {
         2 | 3 => opened(fleet, rng.below(n as usize) as u32),
         _ => any_possible(fleet, &layouts(), rng),
     };
-    let (store, out) = (noise::bytes(store::length(n), rng), noise::bytes(out_length(n), rng));
+    let (store, out) = (noise::bytes(layout::store(n), rng), noise::bytes(layout::out(n), rng));
     Case { record, keys: noise::keys(n, rng), store, call: call(&record, rng), out }
 }
 
@@ -282,9 +284,9 @@ pub fn battery(subject: Subject) {
             cases.push(("guilty strangers".to_string(), true, case(fleet, record, call, &mut rng)));
         }
         let (count, values) = match (n <= 7, long()) {
-            (true, _) => (300, &values[..]),
+            (true, _) => (sized(300), &values[..]),
             (false, true) => (100, &values[..3]),
-            (false, false) => (20, &values[..3]),
+            (false, false) => (10, &values[..3]),
         };
         for _ in 0..count {
             let record = any_possible(fleet, values, &mut rng);

@@ -5,13 +5,11 @@ use super::{both, Call, Case, Subject};
 use crate::compare::arguments::key_spoilers;
 use crate::compare::messages;
 use crate::compare::refusals::{lengths, on_part, spoiled, spoiler, Spoiler};
-use crate::compare::{equal, long, noise, resized, run};
+use crate::compare::{equal, long, noise, resized, run, sized, LOWER_TREE};
 use crate::fleet::{layouts, rounds, Fleet};
-use crate::reference::calls::SIGNATURE;
-use crate::reference::engine::out_length;
+use crate::reference::layout::{self, SIGNATURE};
 use crate::reference::messages::{Full, Notice, Submit, Value};
 use crate::reference::record::{First, Own, Record};
-use crate::reference::store;
 use crate::rng::{seed, Rng};
 
 pub fn battery(subject: Subject) {
@@ -23,7 +21,7 @@ pub fn battery(subject: Subject) {
         for (base, mut spoilers) in kinds(fleet, &mut rng) {
             spoilers.extend(shared_spoilers(fleet));
             cases.push((format!("n = {n}, {}", base.name), 0, base.case.clone()));
-            let spoiled = spoiled(&spoilers, 150, &mut rng, |_| base.case.clone());
+            let spoiled = spoiled(&spoilers, sized(150), &mut rng, |_| base.case.clone());
             cases.extend(
                 spoiled
                     .into_iter()
@@ -67,7 +65,7 @@ impl Right {
         let (unsaid, said) = (opened(fleet, seat), submitted(fleet, seat, value));
         let own = Call::Submit { value: value.to_vec(), signature: fleet.signature(seat, &value, 0) };
         let mut base = |name, record, call| {
-            let (store, out) = (rng.bytes(store::length(fleet.n)), rng.bytes(out_length(fleet.n)));
+            let (store, out) = (rng.bytes(layout::store(fleet.n)), rng.bytes(layout::out(fleet.n)));
             Base { name, case: Case { record, keys: fleet.key_table(), store, call, out } }
         };
         [
@@ -151,7 +149,12 @@ fn own_spoilers(fleet: Fleet, seat: u32, value: Value) -> Vec<Spoiler<Case>> {
         case.record = submitted(fleet, seat, other);
     }));
     spoilers.extend(lengths(9, "value", &[0, 1, 31, 33, 64], value_of));
-    spoilers.extend(lengths(9, "signature", &[0, 1, 1292, SIGNATURE - 1, SIGNATURE + 1, 2 * SIGNATURE], signature_of));
+    spoilers.extend(lengths(
+        9,
+        "signature",
+        &[0, 1, LOWER_TREE, SIGNATURE - 1, SIGNATURE + 1, 2 * SIGNATURE],
+        signature_of,
+    ));
     for at in [0, 31] {
         spoilers.push(spoiler(14, format!("value changed at byte {at}"), move |case, _| value_of(case)[at] ^= 1));
     }
@@ -179,9 +182,9 @@ fn shared_spoilers(fleet: Fleet) -> Vec<Spoiler<Case>> {
         spoilers.push(spoiler(4, what, move |case: &mut Case, _| spoil(&mut case.record)));
     }
     spoilers.extend(on_part(key_spoilers(n), |case: &mut Case| &mut case.keys));
-    let (store, out) = (store::length(n), out_length(n));
+    let (store, out) = (layout::store(n), layout::out(n));
     spoilers.extend(lengths(6, "store", &[0, 1, store / 2, store - 1], |case: &mut Case| &mut case.store));
-    let short = [0, 36, 1488, out - 2906, out - 1];
+    let short = [0, layout::NOTICE, layout::SUBMIT, out - layout::EVIDENCE_ENTRY, out - 1];
     spoilers.extend(lengths(7, "out", &short, |case: &mut Case| &mut case.out));
     spoilers
 }

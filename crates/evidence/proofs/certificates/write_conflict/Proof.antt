@@ -3,7 +3,7 @@ use lib.ListN.{length}
 use native.Mathlib.Omega.{arith}
 use denote.Ref.{now}
 use Rattle.quorum.specs.Quorum.{k}
-use Rattle.quorum.specs.Laws.{size-shared-le}
+use Rattle.quorum.specs.QuorumLaws.{size-shared-le}
 use Rattle.protocol.specs.Layout.{evidenceEntryLength, evidenceEntryAt, evidenceLength}
 use Rattle.protocol.specs.Message.{read}
 use Rattle.protocol.specs.Certificate.{certificateIn}

@@ -9,6 +9,13 @@ use Rattle.lmots.specs.KeyLaws.{chains-le, key-completed}
 use Rattle.lmots.proofs.key.candidate.Statement.{statement}
 use Rattle.lmots.proofs.key.candidate.Tie as tie
 
+abbrev started : tie.After-key-buffer → tie.Start
+started c = c .before .before .before .before .before
+
+-- the buffer, from where the ends are written to it
+abbrev buffered : tie.After-all → tie.After-key-buffer
+buffered c = c .before .before
+
 sub-message-digits : tie.Need-sub-message-digits
 sub-message-digits c = search needs
 
@@ -33,7 +40,7 @@ slice-aggregate-write-completed-2 c = search needs
 
 write-completed-requires : tie.Need-write-completed-requires
 write-completed-requires c κs =
-    let start = c .before .before .before .before .before .before .before in
+    let start = started (buffered c) in
     let room = chains-le (start .args .w) (start .pre .1) in
     (start .pre .0, start .pre .1, search needs, start .pre .2, omega arith)
 
@@ -58,9 +65,16 @@ sha256-requires c κs = search needs
 returns : tie.Need-returns
 unfolding part
 returns c =
-    let args = c .before .before .before .before .before .before .before .before .before .before .before .before .args in
-    key-completed (bytes (args .id)) (now (args .message)) (now (args .sig)) (c .before .before .before .before .before .before .before .before .message-digits .result) (c .before .before .before .before .before .before .before .key-buffer .result) (c .before .before .before .before .write-completed .last .1 .1 .1 .1 .1 .1 .0) (c .sha256 .result)
-    (args .q) (args .w) (c .before .before .count .result) (c .before .before .before .before .before .before .before .before .before .before .before .before .pre .2) (c .before .before .before .before .before .before .before .before .message-digits .ensures) (omega arith) (c .before .before .before .before .before .before .before .key-buffer .ensures) (c .before .before .count .ensures .0) (c .before .before .before .before .write-completed .ensures) (c .sha256 .ensures)
+    let written = c .before .before .before .before in
+    let made = buffered (written .before) in
+    let start = started made in
+    let args = start .args in
+    let digits = made .before .message-digits in
+    let buffer = made .key-buffer in
+    let ends = written .write-completed in
+    let count = c .before .before .count in
+    key-completed (bytes (args .id)) (now (args .message)) (now (args .sig)) (digits .result) (buffer .result) (ends .last .1 .1 .1 .1 .1 .1 .0) (c .sha256 .result)
+    (args .q) (args .w) (count .result) (start .pre .2) (digits .ensures) (omega arith) (buffer .ensures) (count .ensures .0) (ends .ensures) (c .sha256 .ensures)
 
 pub candidate-spec : {M : Type 1} → statement M
 candidate-spec =

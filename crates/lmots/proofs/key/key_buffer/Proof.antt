@@ -20,7 +20,9 @@ copy-requires c κs = search needs
 
 returns : tie.Need-returns
 returns c =
-    front-taken 22 (c .before .before .before .before .front .result) (replicate 2166 0) (c .before .copy .last .0) (search needs) (c .before .copy .ensures) ∙ c .before .before .before .before .front .ensures
+    let front = c .before .before .before .before .front in
+    let copied = c .before .copy in
+    front-taken 22 (front .result) (replicate 2166 0) (copied .last .0) (search needs) (copied .ensures) ∙ front .ensures
 
 pub key-buffer-spec : {M : Type 1} → statement M
 key-buffer-spec =

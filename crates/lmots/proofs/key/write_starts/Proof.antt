@@ -9,8 +9,8 @@ use Rattle.octets.specs.Octets.{patch, bytes}
 use Rattle.octets.specs.Strings.{joined}
 use Rattle.octets.specs.WriteLaws.{patch-none}
 use Rattle.rfc8554.specs.Ots.{start}
-use Rattle.lmots.specs.KeyLaws.{starts-turn}
-use Rattle.lmots_turns.specs.TurnLaws.{length-written}
+use Rattle.lmots.specs.KeyLaws.{starts-next}
+use Rattle.lmots_batches.specs.BatchLaws.{length-written}
 use Rattle.lmots.proofs.key.write_starts.Statement.{statement}
 use Rattle.lmots.proofs.key.write_starts.Tie as tie
 
@@ -50,7 +50,7 @@ loop-again c =
     let put = c .before .before .put-eight in (
       omega arith,
       length-written (loop .i) (loop .z) (x .result) (put .last .0) (omega arith) (loop .inv .1) (search needs) (put .ensures),
-      starts-turn (bytes (args .id)) (bytes (args .seed)) (now (args .z)) (loop .z) (x .result) (put .last .0) (args .q) (loop .i) (loop .inv .2) (x .ensures) (put .ensures),
+      starts-next (bytes (args .id)) (bytes (args .seed)) (now (args .z)) (loop .z) (x .result) (put .last .0) (args .q) (loop .i) (loop .inv .2) (x .ensures) (put .ensures),
     )
 
 same-length : tie.Need-same-length Inv-loop μ-loop

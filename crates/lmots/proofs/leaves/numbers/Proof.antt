@@ -4,7 +4,7 @@ use Prim.Native.Nat.{ℕ, _+_, _-_, _<_, _≤_}
 use native.Mathlib.Omega.{arith}
 use borrow.Author.Needs.{needs}
 use lib.ListN.{length, getD, length-set}
-use Rattle.lmots_turns.specs.TurnLaws.{fill-next}
+use Rattle.sha256_lanes.specs.RowLaws.{front-next}
 use Rattle.lmots.proofs.leaves.numbers.Statement.{statement}
 use Rattle.lmots.proofs.leaves.numbers.Tie as tie
 
@@ -39,7 +39,7 @@ loop-again : tie.Need-loop-again Inv-loop μ-loop
 loop-again c =
     let loop = c .before .loop in
     let q = c .before .before .args .q in
-    (omega arith, simp length-set (omega arith), fill-next (λ j. q + j) (loop .out) (loop .l) _ (loop .inv .2) (omega arith) refl)
+    (omega arith, simp length-set (omega arith), front-next (λ j. q + j) (loop .out) (loop .l) _ (loop .inv .2) (omega arith) refl)
 
 returns : tie.Need-returns Inv-loop μ-loop
 returns c = λ l h. c .before .loop .inv .2 l (omega arith)

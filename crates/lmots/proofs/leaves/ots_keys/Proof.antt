@@ -7,7 +7,7 @@ use lib.ListN.{length}
 use Rattle.octets.specs.Octets.{patch, bytes}
 use Rattle.octets.specs.Strings.{joined}
 use Rattle.octets.specs.WriteLaws.{patch-none}
-use Rattle.lmots.specs.LeafLaws.{hash, keys-turn, keys-done}
+use Rattle.lmots.specs.LeafLaws.{hash, keys-next, keys-done}
 use Rattle.lmots.proofs.leaves.ots_keys.Statement.{statement}
 use Rattle.lmots.proofs.leaves.ots_keys.Tie as tie
 
@@ -16,6 +16,16 @@ Inv-loop k q z out₀ l₀ out l = (l ≤ 16) × (length z ≡ 17760) × (length
 
 abbrev μ-loop : tie.MeasureT-loop
 μ-loop k q z out₀ l₀ out l = 16 - l
+
+-- the strings, from the loop, and the loop, from where a string is hashed
+abbrev written : tie.At-loop Inv-loop μ-loop → tie.After-put-strings Inv-loop μ-loop
+written c = c .before .before
+
+abbrev numbered : tie.After-put-strings Inv-loop μ-loop → tie.After-numbers Inv-loop μ-loop
+numbered c = c .before .before
+
+abbrev hashing : tie.After-z3 Inv-loop μ-loop → tie.At-loop Inv-loop μ-loop
+hashing c = c .before .before
 
 numbers-requires : tie.Need-numbers-requires Inv-loop μ-loop
 numbers-requires c κs = c .pre .1
@@ -34,7 +44,7 @@ slice-aggregate-hashed : tie.Need-slice-aggregate-hashed Inv-loop μ-loop
 slice-aggregate-hashed c = search needs
 
 hashed-requires : tie.Need-hashed-requires Inv-loop μ-loop
-hashed-requires c κs = (c .before .before .before .before .before .before .before .pre .0, c .before .before .loop .inv .1, omega arith)
+hashed-requires c κs = (numbered (written (hashing c)) .before .pre .0, hashing c .loop .inv .1, omega arith)
 
 slice-aggregate-copy : tie.Need-slice-aggregate-copy Inv-loop μ-loop
 slice-aggregate-copy c = search needs
@@ -56,18 +66,19 @@ loop-less c = omega arith
 
 loop-again : tie.Need-loop-again Inv-loop μ-loop
 loop-again c =
-    let loop = c .before .before .before .before .before .before .before .loop in
-    let hashed = c .before .before .before .before .hashed in
+    let after = c .before .before .before .before in
+    let loop = hashing (after .before) .loop in
+    let hashed = after .hashed in
     let copied = c .before .copy in
-    (omega arith, loop .inv .1, omega arith, keys-turn _ _ (loop .out) (hashed .result) (copied .last .0) (loop .l) (hashed .ensures) (loop .inv .3) (copied .ensures))
+    (omega arith, loop .inv .1, omega arith, keys-next _ _ (loop .out) (hashed .result) (copied .last .0) (loop .l) (hashed .ensures) (loop .inv .3) (copied .ensures))
 
 returns : tie.Need-returns Inv-loop μ-loop
 returns c =
     let loop = c .before .loop in
-    let strings = c .before .before .before .put-strings in
-    let leaves = c .before .before .before .before .before .numbers in
-    let args = c .before .before .before .before .before .before .args in
-    keys-done (bytes (args .id)) (bytes (args .seed)) (leaves .result) _ _ (loop .out) (args .q) (loop .l) (omega arith) (search needs) (leaves .ensures) (strings .ensures .1) (loop .inv .3)
+    let strings = written (c .before) in
+    let leaves = numbered strings .numbers in
+    let args = numbered strings .before .args in
+    keys-done (bytes (args .id)) (bytes (args .seed)) (leaves .result) _ _ (loop .out) (args .q) (loop .l) (omega arith) (search needs) (leaves .ensures) (strings .put-strings .ensures .1) (loop .inv .3)
 
 pub ots-keys-spec : {M : Type 1} → statement M
 ots-keys-spec =

@@ -4,7 +4,7 @@ use Prim.Native.Nat.{ℕ, _-_, _<_, _≤_}
 use native.Mathlib.Omega.{arith}
 use lib.ListN.{length}
 use Rattle.sha256_lanes.specs.Rows.{column}
-use Rattle.lmots.specs.LeafLaws.{filled-turn}
+use Rattle.lmots.specs.LeafLaws.{filled-next}
 use Rattle.lmots.proofs.leaves.put_all.Statement.{statement}
 use Rattle.lmots.proofs.leaves.put_all.Tie as tie
 
@@ -17,8 +17,8 @@ abbrev μ-loop : tie.MeasureT-loop
 loop-holds : tie.Need-loop-holds Inv-loop μ-loop
 loop-holds c = (omega arith, c .pre, λ j h. absurd (omega arith))
 
-put-lane-requires : tie.Need-put-lane-requires Inv-loop μ-loop
-put-lane-requires c κs = (omega arith, c .before .before .loop .inv .1)
+put-column-requires : tie.Need-put-column-requires Inv-loop μ-loop
+put-column-requires c κs = (omega arith, c .before .before .loop .inv .1)
 
 add-l : tie.Need-add-l Inv-loop μ-loop
 add-l c = omega arith
@@ -30,8 +30,8 @@ loop-again : tie.Need-loop-again Inv-loop μ-loop
 loop-again c =
     let loop = c .before .before .before .loop in
     let y = c .before .before .before .before .args .y in
-    let put = c .put-lane in
-    (omega arith, put .ensures .0, filled-turn (loop .v) (put .last .0) y (loop .l) (loop .inv .2) (put .ensures .1) (put .ensures .2))
+    let put = c .put-column in
+    (omega arith, put .ensures .0, filled-next (loop .v) (put .last .0) y (loop .l) (loop .inv .2) (put .ensures .1) (put .ensures .2))
 
 returns : tie.Need-returns Inv-loop μ-loop
 returns c =
@@ -41,4 +41,4 @@ returns c =
 pub put-all-spec : {M : Type 1} → statement M
 put-all-spec =
     tie.close
-    (tie.spec Inv-loop μ-loop loop-holds put-lane-requires add-l loop-less loop-again returns)
+    (tie.spec Inv-loop μ-loop loop-holds put-column-requires add-l loop-less loop-again returns)

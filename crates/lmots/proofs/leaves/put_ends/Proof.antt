@@ -5,7 +5,7 @@ use native.Mathlib.Omega.{arith}
 use borrow.Author.Needs.{needs}
 use denote.Ref.{now}
 use Rattle.lmots.specs.Leaves.{Put}
-use Rattle.lmots.specs.LeafLaws.{put-none, put-turn}
+use Rattle.lmots.specs.LeafLaws.{put-none, put-next}
 use Rattle.lmots.proofs.leaves.put_ends.Statement.{statement}
 use Rattle.lmots.proofs.leaves.put_ends.Tie as tie
 
@@ -15,13 +15,23 @@ Inv-loop v i z₀ l₀ z l = (l ≤ 16) × Put l i v z₀ z
 abbrev μ-loop : tie.MeasureT-loop
 μ-loop v i z₀ l₀ z l = 16 - l
 
+abbrev started : tie.At-loop Inv-loop μ-loop → tie.Start Inv-loop μ-loop
+started c = c .before .before
+
+-- the column read, from where its value is written
+abbrev writing : tie.After-put-eight-arg Inv-loop μ-loop → tie.After-column Inv-loop μ-loop
+writing c = c .before
+
+abbrev looping : tie.After-column Inv-loop μ-loop → tie.At-loop Inv-loop μ-loop
+looping c = c .before .before
+
 loop-holds : tie.Need-loop-holds Inv-loop μ-loop
 loop-holds c =
     let start = c .before in
     (omega arith, put-none (start .args .i) (now (start .args .v)) (now (start .args .z)) (start .pre .2))
 
-lane-requires : tie.Need-lane-requires Inv-loop μ-loop
-lane-requires c κs = (omega arith, c .before .before .before .pre .0)
+column-requires : tie.Need-column-requires Inv-loop μ-loop
+column-requires c κs = (omega arith, started (c .before) .pre .0)
 
 mul-put-eight : tie.Need-mul-put-eight Inv-loop μ-loop
 mul-put-eight c = omega arith
@@ -36,7 +46,7 @@ add-put-eight-2 : tie.Need-add-put-eight-2 Inv-loop μ-loop
 add-put-eight-2 c = omega arith
 
 put-eight-requires : tie.Need-put-eight-requires Inv-loop μ-loop
-put-eight-requires c κs = let long = c .before .before .before .loop .inv .1 .long in omega arith
+put-eight-requires c κs = let long = looping (writing c) .loop .inv .1 .long in omega arith
 
 add-l : tie.Need-add-l Inv-loop μ-loop
 add-l c = omega arith
@@ -46,13 +56,14 @@ loop-less c = omega arith
 
 loop-again : tie.Need-loop-again Inv-loop μ-loop
 loop-again c =
-    let loop = c .before .before .before .before .before .before .loop in
-    let start = c .before .before .before .before .before .before .before .before in
+    let read = writing (c .before .before .before) in
+    let loop = looping read .loop in
+    let start = started (looping read) in
     let args = start .args in
-    let y = c .before .before .before .before .lane in
+    let y = read .column in
     let put = c .before .before .put-eight in (
       omega arith,
-      put-turn (loop .l) (args .i) (now (args .v)) (now (args .z)) (loop .z) (y .result) (put .last .0) (omega arith) (start .pre .1) (search needs) (y .ensures) (put .ensures) (loop .inv .1),
+      put-next (loop .l) (args .i) (now (args .v)) (now (args .z)) (loop .z) (y .result) (put .last .0) (omega arith) (start .pre .1) (search needs) (y .ensures) (put .ensures) (loop .inv .1),
     )
 
 same-length : tie.Need-same-length Inv-loop μ-loop
@@ -63,7 +74,7 @@ same-length c =
 returns : tie.Need-returns Inv-loop μ-loop
 returns c =
     let loop = c .before .loop in
-    let args = c .before .before .before .args in
+    let args = started (c .before) .args in
     let all : loop .l ≡ 16 = omega arith in
     subst (λ (n : ℕ). Put n (args .i) (now (args .v)) (now (args .z)) (loop .z)) all (loop .inv .1)
 
@@ -74,7 +85,7 @@ put-ends-spec =
     Inv-loop
     μ-loop
     loop-holds
-    lane-requires
+    column-requires
     mul-put-eight
     mul-put-eight-2
     add-put-eight

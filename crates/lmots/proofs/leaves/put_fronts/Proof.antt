@@ -5,10 +5,10 @@ use native.Mathlib.Omega.{arith}
 use borrow.Author.Needs.{needs}
 use lib.ListN.{length, getD}
 use Rattle.octets.specs.Octets.{part, bytes}
-use Rattle.octets.specs.Laws.{length-patch}
+use Rattle.octets.specs.OctetLaws.{length-patch}
 use Rattle.rfc8554.specs.Ots.{dPblc}
 use Rattle.lmots_digits.specs.Pieces.{front}
-use Rattle.lmots.specs.LeafLaws.{fronts-turn}
+use Rattle.lmots.specs.LeafLaws.{fronts-next}
 use Rattle.lmots.proofs.leaves.put_fronts.Statement.{statement}
 use Rattle.lmots.proofs.leaves.put_fronts.Tie as tie
 
@@ -54,7 +54,7 @@ loop-again c =
     let wide : length (x .result) ≡ 22 = search needs in (
       omega arith,
       ap length (copied .ensures) ∙ length-patch (1110 * loop .l) (x .result) (loop .z) (omega arith) ∙ loop .inv .1,
-      fronts-turn (bytes (args .id)) (args .t2) (loop .z) (x .result) (copied .last .0) (loop .l) (omega arith) (loop .inv .1) wide (x .ensures) (copied .ensures) (loop .inv .2),
+      fronts-next (bytes (args .id)) (args .t2) (loop .z) (x .result) (copied .last .0) (loop .l) (omega arith) (loop .inv .1) wide (x .ensures) (copied .ensures) (loop .inv .2),
     )
 
 same-length : tie.Need-same-length Inv-loop μ-loop

@@ -5,7 +5,7 @@ use native.Mathlib.Omega.{arith}
 use borrow.Author.Needs.{needs}
 use lib.ListN.{length}
 use Rattle.octets.specs.Octets.{bytes}
-use Rattle.lmots.specs.LeafLaws.{Strings, strings-none, strings-turn, strings-done}
+use Rattle.lmots.specs.LeafLaws.{Strings, strings-none, strings-next, strings-done}
 use Rattle.lmots.proofs.leaves.put_strings.Statement.{statement}
 use Rattle.lmots.proofs.leaves.put_strings.Tie as tie
 
@@ -15,12 +15,22 @@ Inv-loop k id leaves seed z₀ v₀ i₀ z v i = (i ≤ 34) × (length z ≡ 177
 abbrev μ-loop : tie.MeasureT-loop
 μ-loop k id leaves seed z₀ v₀ i₀ z v i = 34 - i
 
+-- the call, from before the loop, and the loop, from where ends are made and written
+abbrev started : tie.After-slice-known2 Inv-loop μ-loop → tie.Start Inv-loop μ-loop
+started c = c .before .before .before .before .before
+
+abbrev making : tie.After-v Inv-loop μ-loop → tie.At-loop Inv-loop μ-loop
+making c = c .before .before
+
+abbrev writing : tie.After-put-ends-arg Inv-loop μ-loop → tie.After-chain-ends Inv-loop μ-loop
+writing c = c .before .before
+
 put-fronts-requires : tie.Need-put-fronts-requires Inv-loop μ-loop
 put-fronts-requires c κs = c .before .before .pre .1
 
 loop-holds : tie.Need-loop-holds Inv-loop μ-loop
 loop-holds c =
-    let args = c .before .before .before .before .before .args in
+    let args = started c .args in
     let begun = c .before .before .put-fronts in
     (omega arith, begun .ensures .0, search needs, strings-none (bytes (args .id)) (args .leaves) (bytes (args .seed)) _ (begun .ensures .1))
 
@@ -28,10 +38,10 @@ cast-n : tie.Need-cast-n Inv-loop μ-loop
 cast-n c = omega arith
 
 chain-ends-requires : tie.Need-chain-ends-requires Inv-loop μ-loop
-chain-ends-requires c κs = (c .before .before .before .before .before .before .before .before .pre .0, omega arith, c .before .before .loop .inv .2)
+chain-ends-requires c κs = (started (making c .before) .pre .0, omega arith, making c .loop .inv .2)
 
 put-ends-requires : tie.Need-put-ends-requires Inv-loop μ-loop
-put-ends-requires c κs = (c .before .before .chain-ends .ensures .0, omega arith, c .before .before .before .before .before .loop .inv .1)
+put-ends-requires c κs = (writing c .chain-ends .ensures .0, omega arith, making (writing c .before) .loop .inv .1)
 
 add-i : tie.Need-add-i Inv-loop μ-loop
 add-i c = omega arith
@@ -41,11 +51,13 @@ loop-less c = omega arith
 
 loop-again : tie.Need-loop-again Inv-loop μ-loop
 loop-again c =
-    let loop = c .before .before .before .before .before .before .before .before .loop in
-    let args = c .before .before .before .before .before .before .before .before .before .before .before .before .before .before .args in
-    let ends = c .before .before .before .before .before .chain-ends .ensures in
+    let made = writing (c .before .before .before) in
+    let at-loop = making (made .before) in
+    let loop = at-loop .loop in
+    let args = started (at-loop .before) .args in
+    let ends = made .chain-ends .ensures in
     let put = c .before .before .put-ends .ensures in
-    (omega arith, put .long, ends .0, strings-turn (bytes (args .id)) (args .leaves) (bytes (args .seed)) (loop .i) _ (loop .z) _ (ends .1) put (loop .inv .3))
+    (omega arith, put .long, ends .0, strings-next (bytes (args .id)) (args .leaves) (bytes (args .seed)) (loop .i) _ (loop .z) _ (ends .1) put (loop .inv .3))
 
 same-length : tie.Need-same-length Inv-loop μ-loop
 same-length c = omega arith
@@ -53,7 +65,7 @@ same-length c = omega arith
 returns : tie.Need-returns Inv-loop μ-loop
 returns c =
     let loop = c .before .loop in
-    let args = c .before .before .before .before .before .before .before .args in
+    let args = started (c .before .before) .args in
     (loop .inv .1, strings-done (bytes (args .id)) (args .leaves) (bytes (args .seed)) (loop .z) (loop .i) (omega arith) (loop .inv .3))
 
 pub put-strings-spec : {M : Type 1} → statement M

@@ -4,7 +4,7 @@ use Prim.Native.Nat.{ℕ, _-_, _≤_}
 use native.Mathlib.Omega.{arith}
 use Rattle.octets.specs.Octets.{bytes}
 use Rattle.rfc8554.specs.Ots.{chain}
-use Rattle.lmots_chains.specs.ChainLaws.{chain-turn}
+use Rattle.lmots_chains.specs.ChainLaws.{chain-next}
 use Rattle.lmots_chains.proofs.chain.chain.Statement.{statement}
 use Rattle.lmots_chains.proofs.chain.chain.Tie as tie
 
@@ -34,7 +34,7 @@ loop-again : tie.Need-loop-again Inv-loop μ-loop
 loop-again c =
     let at-loop = c .before .before in
     let args = at-loop .before .args in
-    (omega arith, chain-turn (bytes (args .id)) (bytes (args .tmp)) (at-loop .loop .h) (c .step .result) (args .q) (args .i) (args .from) (at-loop .loop .t) (at-loop .loop .inv .1) (c .step .ensures))
+    (omega arith, chain-next (bytes (args .id)) (bytes (args .tmp)) (at-loop .loop .h) (c .step .result) (args .q) (args .i) (args .from) (at-loop .loop .t) (at-loop .loop .inv .1) (c .step .ensures))
 
 returns : tie.Need-returns Inv-loop μ-loop
 returns c =

@@ -11,6 +11,13 @@ use borrow.Author.Needs.{needs}
 use Rattle.lmots_chains.proofs.sixteen.prepare.Statement.{statement}
 use Rattle.lmots_chains.proofs.sixteen.prepare.Tie as tie
 
+abbrev started : tie.After-spread → tie.Start
+started c = c .before .before .before
+
+-- the blocks, from where `begin` is called
+abbrev numbering : tie.After-begin-arg3 → tie.After-put-numbers
+numbering c = c .before .before .before
+
 initial-value-requires : tie.Need-initial-value-requires
 initial-value-requires c κs = search needs
 
@@ -35,9 +42,10 @@ put-numbers-requires c κs = search needs
 begin-requires : tie.Need-begin-requires
 unfolding unnumbered
 begin-requires c κs =
-    let numbered = c .before .before .before .put-numbers in
-    let filled = c .before .before .before .before .before .spread in
-    let start = c .before .before .before .before .before .before .before .before in
+    let numbered = numbering c .put-numbers in
+    let spread = numbering c .before .before in
+    let filled = spread .spread in
+    let start = started spread in
     let args = start .args in
     let pre = start .pre in
     (pre .0, numbered .ensures .long, pre .2, pre .3, no-place (args .t2) (args .leaves) _ _ _ refl (filled .ensures .1) (numbered .ensures))
@@ -56,10 +64,11 @@ returns : tie.Need-returns
 unfolding unnumbered
 returns c =
     let begun = c .begin in
-    let numbered = c .before .before .before .before .put-numbers in
-    let filled = c .before .before .before .before .before .before .spread in
-    let value = c .before .before .before .before .before .before .before .before .initial-value in
-    let start = c .before .before .before .before .before .before .before .before .before in
+    let numbered = numbering (c .before) .put-numbers in
+    let spread = numbering (c .before) .before .before in
+    let filled = spread .spread in
+    let value = spread .before .before .initial-value in
+    let start = started spread in
     let args = start .args in
     let id = args .t2 in
     let leaves = args .leaves in

@@ -4,7 +4,7 @@ use Prim.Native.Nat.{ℕ, _-_, _≤_}
 use native.Mathlib.Omega.{arith}
 use denote.Ref.{now}
 use Rattle.lmots_chains.specs.Sixteen.{Numbered}
-use Rattle.lmots_chains.specs.SixteenLaws.{numbered-none, numbered-turn}
+use Rattle.lmots_chains.specs.SixteenLaws.{filled-none, filled-next}
 use Rattle.lmots_chains.proofs.sixteen.put_numbers.Statement.{statement}
 use Rattle.lmots_chains.proofs.sixteen.put_numbers.Tie as tie
 
@@ -15,7 +15,7 @@ abbrev μ-loop : tie.MeasureT-loop
 μ-loop w₀ leaves l₀ w l = 16 - l
 
 loop-holds : tie.Need-loop-holds Inv-loop μ-loop
-loop-holds c = (omega arith, numbered-none (c .args .t1) (now (c .args .w)) (c .pre))
+loop-holds c = (omega arith, filled-none 64 80 _ (now (c .args .w)) (c .pre))
 
 mul-w : tie.Need-mul-w Inv-loop μ-loop
 mul-w c = omega arith
@@ -42,7 +42,7 @@ loop-again : tie.Need-loop-again Inv-loop μ-loop
 loop-again c =
     let loop = c .before .loop in
     let args = c .before .before .args in
-    (omega arith, numbered-turn (loop .l) (args .t1) (now (args .w)) (loop .w) _ (omega arith) refl (loop .inv .1))
+    (omega arith, filled-next 64 80 _ (loop .l) (now (args .w)) (loop .w) _ _ (omega arith) (omega arith) (omega arith) refl (loop .inv .1))
 
 returns : tie.Need-returns Inv-loop μ-loop
 returns c =

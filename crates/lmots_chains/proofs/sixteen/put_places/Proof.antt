@@ -1,10 +1,11 @@
 -- `lmots_chains::sixteen::put_places` meets its contract.
 use mathlib.Core.Path.{_≡_, refl, subst}
-use Prim.Native.Nat.{ℕ, _-_, _≤_}
+use Prim.Native.Nat.{ℕ, _-_, _<_, _≤_}
 use native.Mathlib.Omega.{arith}
 use denote.Ref.{now}
+use lib.ListN.{getD}
+use Rattle.sha256_lanes.specs.RowLaws.{two-none, two-next}
 use Rattle.lmots_chains.specs.Sixteen.{Placed}
-use Rattle.lmots_chains.specs.SixteenLaws.{placed-none, placed-turn}
 use Rattle.lmots_chains.proofs.sixteen.put_places.Statement.{statement}
 use Rattle.lmots_chains.proofs.sixteen.put_places.Tie as tie
 
@@ -14,8 +15,15 @@ Inv-loop places t v w₀ l₀ w l = (l ≤ 16) × Placed l places t v w₀ w
 abbrev μ-loop : tie.MeasureT-loop
 μ-loop places t v w₀ l₀ w l = 16 - l
 
+-- the loop, from where a place is made
+abbrev making : tie.After-x Inv-loop μ-loop → tie.At-loop Inv-loop μ-loop
+making c = c .before .before
+
+small : (c : tie.After-x Inv-loop μ-loop) → getD (now (making c .before .args .places)) (making c .loop .l) 0 < 16777216
+small c = making c .before .pre .4 (making c .loop .l) (omega arith)
+
 loop-holds : tie.Need-loop-holds Inv-loop μ-loop
-loop-holds c = (omega arith, placed-none (now (c .args .places)) (c .args .t) (now (c .args .v)) (now (c .args .w)) (c .pre .2))
+loop-holds c = (omega arith, two-none 80 208 16 _ _ (now (c .args .w)))
 
 mul-x : tie.Need-mul-x Inv-loop μ-loop
 mul-x c = omega arith
@@ -28,7 +36,7 @@ mul-x-2 c = omega arith
 
 add-x : tie.Need-add-x Inv-loop μ-loop
 add-x c =
-    let small = c .before .before .before .pre .4 (c .before .before .loop .l) (omega arith) in
+    let h = small c in
     omega arith
 
 mul-x-3 : tie.Need-mul-x-3 Inv-loop μ-loop
@@ -39,7 +47,7 @@ element-copy-out-x-2 c = omega arith
 
 add-x-2 : tie.Need-add-x-2 Inv-loop μ-loop
 add-x-2 c =
-    let small = c .before .before .before .before .pre .4 (c .before .before .before .loop .l) (omega arith) in
+    let h = small (c .before) in
     omega arith
 
 add-w : tie.Need-add-w Inv-loop μ-loop
@@ -83,9 +91,12 @@ loop-less c = omega arith
 
 loop-again : tie.Need-loop-again Inv-loop μ-loop
 loop-again c =
-    let at-loop = c .before .before .before .before in
-    let args = at-loop .before .args in
-    (omega arith, placed-turn (at-loop .loop .l) (now (args .places)) (args .t) (now (args .v)) (now (args .w)) (at-loop .loop .w) _ _ (omega arith) refl refl (at-loop .loop .inv .1))
+    let at-loop = making (c .before .before) in
+    let args = at-loop .before .args in (
+      omega arith,
+      two-next 80 208 16 _ _ (at-loop .loop .l) (now (args .w)) (at-loop .loop .w) _ _ _ _ (omega arith) (omega arith) (omega arith) (omega arith) (omega arith)
+          refl refl (at-loop .loop .inv .1),
+    )
 
 returns : tie.Need-returns Inv-loop μ-loop
 returns c =

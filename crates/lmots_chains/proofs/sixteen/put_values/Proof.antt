@@ -5,7 +5,7 @@ use native.Mathlib.Omega.{arith}
 use borrow.Author.Needs.{needs}
 use denote.Ref.{now}
 use Rattle.lmots_chains.specs.Sixteen.{Slid}
-use Rattle.lmots_chains.specs.SixteenLaws.{slid-none, slid-turn}
+use Rattle.lmots_chains.specs.SixteenLaws.{filled-none, filled-next}
 use Rattle.lmots_chains.proofs.sixteen.put_values.Statement.{statement}
 use Rattle.lmots_chains.proofs.sixteen.put_values.Tie as tie
 
@@ -16,7 +16,7 @@ abbrev μ-loop : tie.MeasureT-loop
 μ-loop v w₀ n₀ w n = 112 - n
 
 loop-holds : tie.Need-loop-holds Inv-loop μ-loop
-loop-holds c = (omega arith, slid-none (now (c .args .v)) (now (c .args .w)) (c .pre .1))
+loop-holds c = (omega arith, filled-none 96 208 _ (now (c .args .w)) (c .pre .1))
 
 mul-across : tie.Need-mul-across Inv-loop μ-loop
 mul-across c = omega arith
@@ -55,7 +55,7 @@ loop-again : tie.Need-loop-again Inv-loop μ-loop
 loop-again c =
     let at-loop = c .before .before .before .before in
     let args = at-loop .before .args in
-    (omega arith, slid-turn (at-loop .loop .n) (now (args .v)) (now (args .w)) (at-loop .loop .w) (c .across .result) (omega arith) (c .across .ensures) (at-loop .loop .inv .1))
+    (omega arith, filled-next 96 208 _ (at-loop .loop .n) (now (args .w)) (at-loop .loop .w) _ _ (omega arith) (omega arith) (omega arith) (c .across .ensures) (at-loop .loop .inv .1))
 
 returns : tie.Need-returns Inv-loop μ-loop
 returns c =

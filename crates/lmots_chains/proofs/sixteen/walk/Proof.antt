@@ -5,7 +5,7 @@ use native.Mathlib.Omega.{arith}
 use lib.ListN.{length}
 use denote.Ref.{now}
 use Rattle.lmots_chains.specs.Sixteen.{AllWalked}
-use Rattle.lmots_chains.specs.SixteenLaws.{all-none, all-turn, all-done}
+use Rattle.lmots_chains.specs.SixteenLaws.{all-none, all-next, all-done}
 use Rattle.lmots_chains.proofs.sixteen.walk.Statement.{statement}
 use Rattle.lmots_chains.proofs.sixteen.walk.Tie as tie
 
@@ -39,7 +39,7 @@ loop-again c =
     let args = at-loop .before .args in
     let loop = at-loop .loop in
     let e = c .step .ensures in
-    (omega arith, e .0 .0, e .0 .1, e .0 .2, all-turn (now (args .places)) (loop .t) (now (args .w)) (now (args .x)) (now (args .s)) (now (args .v)) (loop .w) (loop .s) (loop .v) _ _ _ (loop .inv .4) (e .1))
+    (omega arith, e .0 .0, e .0 .1, e .0 .2, all-next (now (args .places)) (loop .t) (now (args .w)) (now (args .x)) (now (args .s)) (now (args .v)) (loop .w) (loop .s) (loop .v) _ _ _ (loop .inv .4) (e .1))
 
 returns : tie.Need-returns Inv-loop μ-loop
 returns c =

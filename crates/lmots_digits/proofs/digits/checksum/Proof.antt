@@ -5,7 +5,7 @@ use native.Mathlib.Omega.{arith}
 use denote.Ref.{now}
 use Rattle.rfc8554.specs.Ots.{sum}
 use Rattle.rfc8554.specs.Ots as Ots
-use Rattle.lmots_digits.specs.DigitLaws.{narrow, digest-place, sum-turn, checksum-eight, checksum-four}
+use Rattle.lmots_digits.specs.DigitLaws.{narrow, digest-place, sum-next, checksum-eight, checksum-four}
 use Rattle.lmots_digits.proofs.digits.checksum.Statement.{statement}
 use Rattle.lmots_digits.proofs.digits.checksum.Tie as tie
 
@@ -14,6 +14,9 @@ Inv-loop w digest n top sum₀ i₀ sum i = (i ≤ n) × (sum ≤ 255 * i) × (s
 
 abbrev μ-loop : tie.MeasureT-loop
 μ-loop w digest n top sum₀ i₀ sum i = n - i
+
+abbrev started : tie.At-loop Inv-loop μ-loop → tie.Start Inv-loop μ-loop
+started c = c .before .before .before .before
 
 count-requires : tie.Need-count-requires Inv-loop μ-loop
 count-requires c κs = c .before .pre .0
@@ -27,7 +30,7 @@ loop-holds c = (omega arith, omega arith, refl)
 
 coef-requires : tie.Need-coef-requires Inv-loop μ-loop
 coef-requires c κs =
-    let start = c .before .before .before .before .before in
+    let start = started (c .before) in
     (start .pre .0, rw (start .pre .1) (digest-place (start .args .w) (c .before .loop .i) (start .pre .0) (omega arith)))
 
 sub-sum : tie.Need-sub-sum Inv-loop μ-loop
@@ -45,8 +48,8 @@ loop-less c = omega arith
 loop-again : tie.Need-loop-again Inv-loop μ-loop
 loop-again c =
     let at-loop = c .before .before in
-    let start = at-loop .before .before .before .before in
-    (omega arith, omega arith, sum-turn (start .args .w) (at-loop .before .most .result) (c .coef .result) (at-loop .loop .sum) (at-loop .loop .i) (now (start .args .digest)) (at-loop .loop .inv .2) (at-loop .before .most .ensures .0) (c .coef .ensures .0))
+    let start = started at-loop in
+    (omega arith, omega arith, sum-next (start .args .w) (at-loop .before .most .result) (c .coef .result) (at-loop .loop .sum) (at-loop .loop .i) (now (start .args .digest)) (at-loop .loop .inv .2) (at-loop .before .most .ensures .0) (c .coef .ensures .0))
 
 mul-result : tie.Need-mul-result Inv-loop μ-loop
 mul-result c = omega arith
@@ -54,13 +57,13 @@ mul-result c = omega arith
 returns : tie.Need-returns Inv-loop μ-loop
 returns c =
     let at-loop = c .before .before in
-    let start = at-loop .before .before .before .before in
+    let start = started at-loop in
     checksum-eight (start .args .w) (at-loop .loop .sum) (at-loop .loop .i) (now (start .args .digest)) (c .if1 .taken) (omega arith) (at-loop .loop .inv .2)
 
 returns-2 : tie.Need-returns-2 Inv-loop μ-loop
 returns-2 c =
     let at-loop = c .before .before in
-    let start = at-loop .before .before .before .before in
+    let start = started at-loop in
     checksum-four (start .args .w) (at-loop .loop .sum) (at-loop .loop .i) (now (start .args .digest)) (narrow _ (start .pre .0) (c .if1 .left)) (omega arith) (at-loop .loop .inv .2)
 
 pub checksum-spec : {M : Type 1} → statement M

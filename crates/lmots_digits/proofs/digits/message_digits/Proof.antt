@@ -21,8 +21,9 @@ with-checksum-requires c κs = search needs
 returns : tie.Need-returns
 returns c =
     let start = c .before .before .before .before .before .before in
-    digested-by (bytes (start .args .id)) (now (start .args .c)) (now (start .args .message)) (c .before .before .before .prefix .result) (c .before .sha256-two .result)
-    (c .with-checksum .result) (start .args .q) (start .args .w) (c .before .before .before .prefix .ensures) (c .before .sha256-two .ensures) (c .with-checksum .ensures)
+    let front = c .before .before .before .prefix in
+    digested-by (bytes (start .args .id)) (now (start .args .c)) (now (start .args .message)) (front .result) (c .before .sha256-two .result)
+    (c .with-checksum .result) (start .args .q) (start .args .w) (front .ensures) (c .before .sha256-two .ensures) (c .with-checksum .ensures)
 
 pub message-digits-spec : {M : Type 1} → statement M
 message-digits-spec =

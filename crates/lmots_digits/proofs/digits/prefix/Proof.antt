@@ -31,11 +31,14 @@ copy-requires-2 c κs = search needs
 returns : tie.Need-returns
 returns c =
     let start = c .before .before .before .before .before .before .before .before .before in
-    let front = c .before .before .before .before .before .before .before .front .result in
+    let begun = c .before .before .before .before .before .before .before .front in
+    let front = begun .result in
+    let first = c .before .before .before .before .copy in
+    let second = c .before .copy2 in
     let s = now (start .args .c) in
     let n : length front ≡ 22 = search needs in
-    pieces 22 front s (replicate 54 0) (c .before .before .before .before .copy .last .0) (c .before .copy2 .last .0) (c .before .before .before .before .copy .ensures) (omega arith) (omega arith) (c .before .copy2 .ensures)
-    ∙ ap (λ (l : List ℕ). l ++ s) (c .before .before .before .before .before .before .before .front .ensures)
+    pieces 22 front s (replicate 54 0) (first .last .0) (second .last .0) (first .ensures) (omega arith) (omega arith) (second .ensures)
+    ∙ ap (λ (l : List ℕ). l ++ s) (begun .ensures)
 
 pub prefix-spec : {M : Type 1} → statement M
 prefix-spec =

@@ -36,8 +36,9 @@ array-write-out-2 c = search needs
 returns : tie.Need-returns
 returns c =
     let start = c .before .before .before .before .before .before in
-    checksummed (start .args .w) (c .before .before .before .before .checksum .result) (start .args .t2) (replicate 34 0) (c .before .copy .last .0)
-    (search needs) refl (c .before .copy .ensures) (c .before .before .before .before .checksum .ensures)
+    let sum = c .before .before .before .before .checksum in
+    checksummed (start .args .w) (sum .result) (start .args .t2) (replicate 34 0) (c .before .copy .last .0)
+    (search needs) refl (c .before .copy .ensures) (sum .ensures)
 
 pub with-checksum-spec : {M : Type 1} → statement M
 with-checksum-spec =

@@ -6,7 +6,7 @@ use native.Mathlib.Omega.{arith}
 use borrow.Author.Needs.{needs}
 use lib.ListN.{length}
 use denote.Ref.{now}
-use Rattle.octets.specs.Laws.{length-part}
+use Rattle.octets.specs.OctetLaws.{length-part}
 use Rattle.octets.specs.Strings.{joined}
 use Rattle.octets.specs.Octets.{patch}
 use Rattle.octets.specs.WriteLaws.{patch-none}

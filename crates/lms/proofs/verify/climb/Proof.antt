@@ -6,7 +6,7 @@ use native.Mathlib.Omega.{arith}
 use borrow.Author.Needs.{needs}
 use lib.ListN.{length}
 use denote.Ref.{now}
-use Rattle.octets.specs.Laws.{length-part}
+use Rattle.octets.specs.OctetLaws.{length-part}
 use Rattle.octets.specs.Octets.{bytes}
 use Rattle.rfc8554.specs.Verify.{climbed, signatureLength}
 use Rattle.lms.specs.Laws.{half-turn, climbed-turn}

@@ -6,7 +6,7 @@ use borrow.Author.Needs.{needs}
 use lib.ListN.{length}
 use denote.Ref.{now}
 use Rattle.fips180.specs.Fips.{hashed, absorbed}
-use Rattle.fips180.specs.Laws.{hashed-turn}
+use Rattle.fips180.specs.FipsLaws.{hashed-next}
 use Rattle.sha256.proofs.hash.absorb.Statement.{statement}
 use Rattle.sha256.proofs.hash.absorb.Tie as tie
 
@@ -39,7 +39,7 @@ loop-again : tie.Need-loop-again Inv-loop μ-loop
 loop-again c =
     let at-loop = c .before .before .before in
     let args = at-loop .before .before .args in
-    (omega arith, refl, search needs, hashed-turn (args .h) (now (args .m)) (at-loop .loop .s) (c .before .block-words .result) (c .compress .result) (at-loop .loop .t) (at-loop .loop .inv .3) (c .before .block-words .ensures) (c .compress .ensures))
+    (omega arith, refl, search needs, hashed-next (args .h) (now (args .m)) (at-loop .loop .s) (c .before .block-words .result) (c .compress .result) (at-loop .loop .t) (at-loop .loop .inv .3) (c .before .block-words .ensures) (c .compress .ensures))
 
 returns : tie.Need-returns Inv-loop μ-loop
 unfolding absorbed

@@ -5,7 +5,7 @@ use native.Mathlib.Omega.{arith}
 use lib.ListN.{length, take, length-set}
 use denote.Ref.{now}
 use Rattle.octets.specs.Octets.{part, words}
-use Rattle.octets.specs.Laws.{filled, wordAt-part, words-turn}
+use Rattle.octets.specs.OctetLaws.{filled, wordAt-part, words-next}
 use Rattle.sha256.proofs.hash.block_words.Statement.{statement}
 use Rattle.sha256.proofs.hash.block_words.Tie as tie
 
@@ -46,7 +46,7 @@ loop-again c =
     let args = at-loop .before .before .args in
     let t = at-loop .loop .t in
     let m = now (args .m) in
-    (omega arith, simp length-set (at-loop .loop .inv .1), words-turn (at-loop .loop .w) (part (args .at) 64 m) t (c .word-at .result) (at-loop .loop .inv .2) (omega arith) (c .word-at .ensures ∙ sym (wordAt-part (args .at) 64 (4 * t) m (omega arith))))
+    (omega arith, simp length-set (at-loop .loop .inv .1), words-next (at-loop .loop .w) (part (args .at) 64 m) t (c .word-at .result) (at-loop .loop .inv .2) (omega arith) (c .word-at .ensures ∙ sym (wordAt-part (args .at) 64 (4 * t) m (omega arith))))
 
 returns : tie.Need-returns Inv-loop μ-loop
 returns c =

@@ -5,7 +5,7 @@ use native.Mathlib.Omega.{arith}
 use borrow.Author.Needs.{needs}
 use lib.ListN.{length, take, getD}
 use Rattle.octets.specs.Octets.{patch, be, bytes}
-use Rattle.octets.specs.Laws.{bytes-turn, bytes-done}
+use Rattle.octets.specs.OctetLaws.{bytes-next, bytes-done}
 use Rattle.sha256.proofs.hash.digest.Statement.{statement}
 use Rattle.sha256.proofs.hash.digest.Tie as tie
 
@@ -47,7 +47,7 @@ loop-again c =
     let out = at-loop .loop .out in
     let i = at-loop .loop .i in
     let wrote : c .before .put-word .last .0 ≡ patch (4 * i) (be 4 (getD h i 0)) out = c .before .put-word .ensures in
-    (omega arith, search needs, search needs, rw wrote (bytes-turn out h i (at-loop .loop .inv .3) (omega arith) (omega arith)))
+    (omega arith, search needs, search needs, rw wrote (bytes-next out h i (at-loop .loop .inv .3) (omega arith) (omega arith)))
 
 returns : tie.Need-returns Inv-loop μ-loop
 returns c =

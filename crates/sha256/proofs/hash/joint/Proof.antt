@@ -4,7 +4,7 @@ use borrow.Author.Needs.{needs}
 use lib.ListN.{length, replicate}
 use denote.Ref.{now}
 use Rattle.octets.specs.Octets.{patch}
-use Rattle.fips180.specs.Laws.{joined-pieces}
+use Rattle.fips180.specs.FipsLaws.{joined-pieces}
 use Rattle.sha256.proofs.hash.joint.Statement.{statement}
 use Rattle.sha256.proofs.hash.joint.Tie as tie
 

@@ -5,7 +5,7 @@ use borrow.Author.Needs.{needs}
 use lib.ListN.{length, length-set}
 use denote.Ref.{now}
 use Rattle.fips180.specs.Pieces.{ended}
-use Rattle.fips180.specs.Laws.{padded-tail}
+use Rattle.fips180.specs.FipsLaws.{padded-tail}
 use Rattle.sha256.proofs.hash.padded_tail.Statement.{statement}
 use Rattle.sha256.proofs.hash.padded_tail.Tie as tie
 

@@ -3,9 +3,9 @@ use borrow.Author.Needs.{needs}
 use Prim.Native.Nat.{_*_, _/_}
 use lib.ListN.{length}
 use denote.Ref.{now}
-use Rattle.octets.specs.Laws.{take-rest}
+use Rattle.octets.specs.OctetLaws.{take-rest}
 use Rattle.fips180.specs.Pieces.{leftover}
-use Rattle.fips180.specs.Laws.{sha256-ends}
+use Rattle.fips180.specs.FipsLaws.{sha256-ends}
 use Rattle.sha256.proofs.hash.sha256.Statement.{statement}
 use Rattle.sha256.proofs.hash.sha256.Tie as tie
 

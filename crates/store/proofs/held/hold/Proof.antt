@@ -7,7 +7,7 @@ use native.Mathlib.Omega.{arith}
 use lib.ListN.{length}
 use denote.Ref.{now}
 use Rattle.quorum.specs.Quorum.{In}
-use Rattle.quorum.specs.Laws.{has-true, has-false}
+use Rattle.quorum.specs.QuorumLaws.{has-true, has-false}
 use Rattle.protocol.specs.Layout.{storeLength}
 use Rattle.store.specs.Sources.{bytesOf, signatureFrom}
 use Rattle.store.specs.StoreLaws.{Holding, holding-none, holding-skip, holding-fill}

@@ -1,0 +1,75 @@
+-- `framing::message_length` meets its contract.
+use mathlib.Core.Path.{_≡_}
+use mathlib.Core.Bool.{cond}
+use native.Mathlib.Omega.{arith}
+use borrow.Author.Needs.{needs}
+use denote.Ref.{now}
+use lib.ListN.{length-take}
+use Rattle.framing.specs.Framing.{messageLength}
+use Rattle.framing.specs.Laws.{told-none, told-many, told-short, told-kind}
+use Rattle.framing.proofs.message_length.Statement.{statement}
+use Rattle.framing.proofs.message_length.Tie as tie
+
+-- the answer, by what the first bytes are
+told : (c : tie.After-is-garbled) →
+    let frame = c .before .before .before .before in
+    let args = frame .before .before .before .before .args in
+    cond (c .is-garbled .result) 0 (frame .frame-length .result) ≡ messageLength (args .n) (now (args .bytes))
+told c =
+    let short = c .before .before .before in
+    let frame = short .before in
+    let args = frame .before .before .before .before .args in
+    told-kind (args .n) (now (args .bytes)) (frame .before .before .if1 .left) (frame .before .if2 .left) (frame .frame-length .result) (frame .frame-length .ensures) (short .if3 .left)
+    (c .before .classify .result) (c .before .classify .ensures) (c .is-garbled .result) (c .is-garbled .ensures)
+
+returns : tie.Need-returns
+returns c =
+    let args = c .before .before .args in
+    told-none (args .n) (now (args .bytes)) (c .if1 .taken)
+
+returns-2 : tie.Need-returns-2
+returns-2 c =
+    let args = c .before .before .before .args in
+    told-many (args .n) (now (args .bytes)) (c .before .if1 .left) (c .if2 .taken)
+
+frame-length-requires : tie.Need-frame-length-requires
+frame-length-requires c κs = search needs
+
+cast-end : tie.Need-cast-end
+cast-end c = search needs
+
+returns-3 : tie.Need-returns-3
+returns-3 c =
+    let frame = c .before in
+    let args = frame .before .before .before .before .args in
+    told-short (args .n) (now (args .bytes)) (frame .before .before .if1 .left) (frame .before .if2 .left) (frame .frame-length .result) (frame .frame-length .ensures) (c .if3 .taken)
+
+slice-aggregate-classify : tie.Need-slice-aggregate-classify
+slice-aggregate-classify c = simp length-take (omega arith)
+
+classify-requires : tie.Need-classify-requires
+classify-requires c κs = search needs
+
+is-garbled-requires : tie.Need-is-garbled-requires
+is-garbled-requires c κs = search needs
+
+returns-4 : tie.Need-returns-4
+returns-4 c = rw (c .if4 .taken) at (told (c .before))
+
+returns-5 : tie.Need-returns-5
+returns-5 c = rw (c .if4 .left) at (told (c .before))
+
+pub message-length-spec : {M : Type 1} → statement M
+message-length-spec =
+    tie.close
+    (tie.spec
+    returns
+    returns-2
+    frame-length-requires
+    cast-end
+    returns-3
+    slice-aggregate-classify
+    classify-requires
+    is-garbled-requires
+    returns-4
+    returns-5)

@@ -1,0 +1,103 @@
+-- "Messages go to `out` one after another": the first of them has its own length, whatever follows.
+-- Assumes nothing.
+use mathlib.Core.Path.{_≡_, refl, ap, _∙_}
+use mathlib.Core.Bool.{Bool, true, false, cond}
+use mathlib.Core.List.{List, _++_}
+use Prim.Native.Nat.{ℕ, _≤_, _<_}
+use native.Mathlib.Omega.{arith}
+use lib.Dec.{ltb}
+use lib.ListN.{length, take, length-append}
+use lib.Seq.{take-append-seam}
+use borrow.Author.Tests.{ne-eqb, lt-ltb, le-ltb}
+use Rattle.quorum.specs.Quorum.{mostSeats}
+use Rattle.protocol.specs.Layout.{submitLength, noticeLength, fullLength, evidenceLength}
+use Rattle.protocol.specs.Message.{Message, Submit, Notice, Full, Evidence, Garbled, render, byteAt, read}
+use Rattle.protocol.specs.ReadLaws.{WellFormed, read-render}
+use Rattle.protocol.specs.Record.{wrongSize}
+use Rattle.reading.specs.Reading.{frameLength, frame-length}
+use Rattle.wire.specs.Reading.{kindOf}
+use Rattle.wire.specs.Answers.{commandOf, command}
+use Rattle.wire.specs.KindLaws.{kind-told}
+use Rattle.wire.specs.declared.read.Kind.{Kind}
+use Rattle.wire.specs.declared.read.Kind.the-variants as kind
+use Rattle.framing.specs.Framing.{isGarbled, firstFrame, messageLength}
+
+-- ---- a message that was written
+
+well-formed-said : (n : ℕ) (m : Message) → WellFormed n m → isGarbled m ≡ false
+unfolding isGarbled
+well-formed-said n (Submit round seat value signature) w = refl
+well-formed-said n (Notice round seat value) w = refl
+well-formed-said n (Full round sender value entries) w = refl
+well-formed-said n (Evidence round lower higher entries) w = refl
+well-formed-said n Garbled w = absurd w
+
+pub first-length : (n : ℕ) (m : Message) (rest : List ℕ) → wrongSize n ≡ false → WellFormed n m → messageLength n (render m ++ rest) ≡ length (render m)
+unfolding messageLength firstFrame
+first-length n m rest s w =
+    let l = frame-length n m rest w in
+    let enough : ltb (length (render m ++ rest)) (length (render m)) ≡ false = le-ltb (length (render m ++ rest)) (length (render m)) (omega (arith, length-append (render m) rest)) in
+    rw (s, l, enough, take-append-seam (render m) rest, read-render n m w, well-formed-said n m w)
+
+-- ---- a kind of message
+
+abbrev pub noMessage : Kind → Bool
+noMessage kind.Submit = false
+noMessage kind.Notice = false
+noMessage kind.Full = false
+noMessage kind.Evidence = false
+noMessage kind.Garbled = true
+
+kind-garbled : (m : Message) → noMessage (kindOf m) ≡ isGarbled m
+unfolding kindOf isGarbled
+kind-garbled (Submit round seat value signature) = refl
+kind-garbled (Notice round seat value) = refl
+kind-garbled (Full round sender value entries) = refl
+kind-garbled (Evidence round lower higher entries) = refl
+kind-garbled Garbled = refl
+
+garbled-told : (c : Kind) (m : Message) → commandOf c ≡ command m → noMessage c ≡ isGarbled m
+garbled-told c m e = ap noMessage (kind-told c m e) ∙ kind-garbled m
+
+-- ---- the function, return by return
+
+module _ (n : ℕ) (bytes : List ℕ) where
+  pub told-none : n ≡ 0 → 0 ≡ messageLength n bytes
+  unfolding messageLength wrongSize
+  told-none h = rw h
+
+  module _ (some : n ≡ 0 → ⊥) where
+    pub told-many : mostSeats < n → 0 ≡ messageLength n bytes
+    unfolding messageLength wrongSize
+    told-many h = rw (ne-eqb n 0 some, lt-ltb mostSeats n h)
+
+    module _ (few : n ≤ mostSeats) (l : ℕ) (e : l ≡ frameLength n bytes) where
+      pub told-short : length bytes < l → 0 ≡ messageLength n bytes
+      unfolding messageLength wrongSize
+      told-short h = rw (ne-eqb n 0 some, le-ltb mostSeats n few, ← e, lt-ltb (length bytes) l h)
+
+      module _ (long : l ≤ length bytes) (c : Kind) (told : commandOf c ≡ command (read n (take l bytes))) (t : Bool) (q : t ≡ noMessage c) where
+        pub told-kind : cond t 0 l ≡ messageLength n bytes
+        unfolding messageLength wrongSize firstFrame
+        told-kind = rw (ne-eqb n 0 some, le-ltb mostSeats n few, ← e, le-ltb (length bytes) l long, ← garbled-told c (read n (take l bytes)) told, ← q)
+
+-- ---- the length by command and count
+
+module _ (n : ℕ) (bytes : List ℕ) (c : ℕ) (e : c ≡ byteAt bytes 0) where
+  pub frame-submit : c ≡ 0x01 → submitLength ≡ frameLength n bytes
+  unfolding frameLength
+  frame-submit h = rw (← e, h)
+
+  module _ (no-submit : c ≡ 0x01 → ⊥) where
+    pub frame-notice : c ≡ 0x02 → noticeLength ≡ frameLength n bytes
+    unfolding frameLength
+    frame-notice h = rw (← e, h)
+
+    module _ (no-notice : c ≡ 0x02 → ⊥) where
+      pub frame-full : c ≡ 0x03 → fullLength n ≡ frameLength n bytes
+      unfolding frameLength
+      frame-full h = rw (← e, h)
+
+      pub frame-evidence : (c ≡ 0x03 → ⊥) → (count : ℕ) → count ≡ byteAt bytes 67 → evidenceLength count ≡ frameLength n bytes
+      unfolding frameLength
+      frame-evidence no-full count q = rw (← e, ne-eqb c 0x01 no-submit, ne-eqb c 0x02 no-notice, ne-eqb c 0x03 no-full, ← q)

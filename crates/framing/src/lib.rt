@@ -1,0 +1,72 @@
+// The length of the first message in a buffer.
+ghost use mathlib.Core.Path.{_≡_};
+ghost use Prim.Native.Nat.{_≤_, _<_};
+ghost use Rattle.quorum.specs.Quorum.{mostSeats};
+ghost use Rattle.protocol.specs.Message.{byteAt};
+ghost use Rattle.reading.specs.Reading.{frameLength};
+ghost use Rattle.framing.specs.Framing.{messageLength};
+ghost use Rattle.framing.specs.Laws.{noMessage};
+use wire::read::Kind;
+
+// The byte at an index, 0 past the end.
+fn byte_or_zero(bytes: &[u8], at: usize) -> u32
+    ensures { λ r. ⌜ (r ≡ byteAt (now (bytes .entry)) at) × (r < 256) ⌝ }
+{
+    if bytes.len() <= at {
+        return 0;
+    }
+    wire::read::number_at(bytes, at)
+}
+
+// The length that the command says, and of an EVIDENCE its count.
+fn frame_length(n: u32, bytes: &[u8]) -> u32
+    requires { ⌜ (1 ≤ n) × (n ≤ mostSeats) ⌝ }
+    ensures { λ r. ⌜ r ≡ frameLength n (now (bytes .entry)) ⌝ }
+{
+    let command = byte_or_zero(bytes, 0);
+    if command == 1 {
+        return 1488;
+    }
+    if command == 2 {
+        return 36;
+    }
+    if command == 3 {
+        return 37 + 1454 * quorum::k(n);
+    }
+    68 + 2906 * byte_or_zero(bytes, 67)
+}
+
+// Whether bytes are no message.
+fn is_garbled(kind: Kind) -> bool
+    ensures { λ r. ⌜ r ≡ noMessage kind ⌝ }
+{
+    match kind {
+        Kind::Submit => false,
+        Kind::Notice => false,
+        Kind::Full => false,
+        Kind::Evidence => false,
+        Kind::Garbled => true,
+    }
+}
+
+// The length of the first message in a buffer; 0 where no message of a fleet of n seats stands there whole.
+pub fn message_length(n: u32, bytes: &[u8]) -> u32
+    ensures { λ r. ⌜ r ≡ messageLength n (now (bytes .entry)) ⌝ }
+{
+    if n == 0 {
+        return 0;
+    }
+    if quorum::MOST_SEATS < n {
+        return 0;
+    }
+    let length = frame_length(n, bytes);
+    let end = length as usize;
+    if bytes.len() < end {
+        return 0;
+    }
+    let kind = wire::read::classify(n, &bytes[..end]);
+    if is_garbled(kind) {
+        return 0;
+    }
+    length
+}

@@ -1,0 +1,265 @@
+/* A round in which two double signers split a fleet of four: two honest boats confirm different layouts, and each then holds
+ * evidence that names both. It is written from include/zolbine.h, docs/HOST.md and docs/PROTOCOL.md alone, as a display's firmware
+ * would be, in C11 that is C++ too. It tells what happens, and ends with 1 where something goes wrong.
+ */
+#include "zolbine.h"
+
+#include <stdio.h>
+#include <stdlib.h>
+#include <string.h>
+
+enum { N = 4, ROUND = 258, HONEST = 2, AIR = 16 };
+
+#define DOUBLE_SIGNERS UINT32_C(0x0000000c) /* the seats 2 and 3 */
+
+/* A boat's key. A display keeps the seed secret. */
+struct signer {
+    uint8_t seed[ZOLBINE_SEED_LEN];
+    uint8_t identifier[ZOLBINE_IDENTIFIER_LEN];
+    uint8_t tree[ZOLBINE_TREE_LEN];
+    unsigned signatures; /* each draws its own randomizer */
+};
+
+/* An honest boat's display. Record and store are kept together. */
+struct display {
+    struct zolbine_record record;
+    uint8_t store[ZOLBINE_STORE_LEN(N)];
+    uint8_t out[ZOLBINE_OUT_LEN(N)];
+    uint8_t early[N][ZOLBINE_SUBMIT_LEN]; /* a SUBMIT of each seat that came before the own one */
+    bool is_early[N];
+    bool leaf_used;
+    uint8_t evidence[ZOLBINE_EVIDENCE_LEN(N)]; /* what this boat wrote */
+    size_t evidence_len;
+};
+
+/* A message on the air, from an honest boat to all others. */
+struct message {
+    uint32_t from;
+    size_t len;
+    uint8_t bytes[ZOLBINE_EVIDENCE_LEN(N)];
+};
+
+static struct signer signers[N];
+static struct display displays[HONEST];
+static struct message air[AIR];
+static size_t on_air, heard;
+static uint8_t keys[ZOLBINE_KEYS_LEN(N)];
+
+static void stop(const char *what, uint32_t number)
+{
+    printf("STOP: %s (%u)\n", what, (unsigned)number);
+    exit(1);
+}
+
+static const char *name_of(uint8_t command)
+{
+    switch (command) {
+    case ZOLBINE_SUBMIT: return "SUBMIT";
+    case ZOLBINE_NOTICE: return "NOTICE";
+    case ZOLBINE_FULL: return "FULL";
+    case ZOLBINE_EVIDENCE: return "EVIDENCE";
+    default: return "unknown";
+    }
+}
+
+/* In a display: 32 bytes of its random source. Here the same in every run. */
+static void draw(uint8_t *bytes, size_t len, unsigned which)
+{
+    size_t i;
+
+    for (i = 0; i < len; i++)
+        bytes[i] = (uint8_t)(37 * which + 11 * i + 1);
+}
+
+static void make_key(uint32_t seat)
+{
+    struct signer *signer = &signers[seat];
+    struct zolbine_written made;
+
+    draw(signer->seed, sizeof signer->seed, 100 + seat);
+    draw(signer->identifier, sizeof signer->identifier, 200 + seat);
+    made = zolbine_make_key(signer->seed, sizeof signer->seed, signer->identifier, sizeof signer->identifier,
+                            signer->tree, sizeof signer->tree, keys + ZOLBINE_KEYS_LEN(seat), ZOLBINE_KEY_LEN);
+    if (made.number != 0 || made.written != ZOLBINE_KEY_LEN)
+        stop("making a key", made.number);
+}
+
+/* A SUBMIT: the 36 signed bytes, then the signature over them with the round's leaf. */
+static void make_submit(uint32_t seat, const uint8_t *layout, uint8_t *submit)
+{
+    struct signer *signer = &signers[seat];
+    uint8_t randomizer[ZOLBINE_RANDOMIZER_LEN];
+    struct zolbine_written made;
+
+    submit[0] = ZOLBINE_SUBMIT;
+    submit[1] = ROUND >> 8;
+    submit[2] = ROUND & 0xff;
+    submit[3] = (uint8_t)seat;
+    memcpy(submit + 4, layout, ZOLBINE_VALUE_LEN);
+    draw(randomizer, sizeof randomizer, 300 + 10 * seat + signer->signatures++);
+    made = zolbine_sign(ROUND, signer->seed, sizeof signer->seed, signer->identifier, sizeof signer->identifier,
+                        randomizer, sizeof randomizer, signer->tree, sizeof signer->tree,
+                        submit, ZOLBINE_SIGNED_LEN, submit + ZOLBINE_SIGNED_LEN, ZOLBINE_SIGNATURE_LEN);
+    if (made.number != 0 || made.written != ZOLBINE_SIGNATURE_LEN)
+        stop("signing", made.number);
+}
+
+/* What a call wrote goes out message by message. */
+static void send_all(uint32_t seat, uint32_t written)
+{
+    struct display *display = &displays[seat];
+    const uint8_t *bytes = display->out;
+    uint32_t len;
+
+    for (; written > 0; bytes += len, written -= len) {
+        len = zolbine_message_length(N, bytes, written);
+        if (len == 0 || on_air == AIR)
+            stop("no message in out, or no room on the air", written);
+        printf("    boat %u sends %s, %u bytes\n", (unsigned)seat, name_of(bytes[0]), (unsigned)len);
+        air[on_air].from = seat;
+        air[on_air].len = len;
+        memcpy(air[on_air].bytes, bytes, len);
+        on_air++;
+        if (bytes[0] == ZOLBINE_EVIDENCE) {
+            memcpy(display->evidence, bytes, len);
+            display->evidence_len = len;
+        }
+    }
+}
+
+/* Whether a SUBMIT that came early is its seat's, with the round's leaf. Form, round and seat are right: else the step would have
+ * answered a lower number.
+ */
+static bool is_genuine(const uint8_t *submit)
+{
+    static const uint8_t leaf[4] = { 0, 0, ROUND >> 8, ROUND & 0xff };
+    const uint8_t *signature = submit + ZOLBINE_SIGNED_LEN;
+
+    return memcmp(signature, leaf, sizeof leaf) == 0
+        && zolbine_check_signature(keys + ZOLBINE_KEYS_LEN(submit[3]), ZOLBINE_KEY_LEN,
+                                   submit, ZOLBINE_SIGNED_LEN, signature, ZOLBINE_SIGNATURE_LEN) == 0;
+}
+
+static void hear(uint32_t seat, const uint8_t *bytes, size_t len)
+{
+    struct display *display = &displays[seat];
+    struct zolbine_written answer;
+    bool was_confirmed = display->record.confirmed;
+
+    printf("boat %u hears %s", (unsigned)seat, name_of(bytes[0]));
+    if (bytes[0] == ZOLBINE_EVIDENCE) {
+        struct zolbine_verdict verdict = zolbine_check_evidence(N, ROUND, keys, sizeof keys, bytes, len);
+
+        printf(": %u, seats 0x%08x\n", (unsigned)verdict.number, (unsigned)verdict.mask);
+        if (verdict.number != 0 || verdict.mask != DOUBLE_SIGNERS)
+            stop("evidence that isn't accepted", verdict.number);
+        return;
+    }
+    answer = zolbine_step_lent(&display->record, keys, sizeof keys, display->store, sizeof display->store,
+                               bytes, len, display->out, sizeof display->out);
+    printf(": %u\n", (unsigned)answer.number);
+    if (answer.number == ZOLBINE_EARLY) {
+        if (is_genuine(bytes) && !display->is_early[bytes[3]]) {
+            memcpy(display->early[bytes[3]], bytes, ZOLBINE_SUBMIT_LEN);
+            display->is_early[bytes[3]] = true;
+        }
+        return;
+    }
+    if (answer.number != 0)
+        stop("a refusal that this round has not", answer.number);
+    if (display->record.confirmed && !was_confirmed)
+        printf("    boat %u: CONFIRMED\n", (unsigned)seat);
+    send_all(seat, answer.written);
+}
+
+/* The own layout: the leaf is noted as used, then signed with, then submitted. What came early is given again. */
+static void submit(uint32_t seat, const uint8_t *layout)
+{
+    struct display *display = &displays[seat];
+    uint8_t own[ZOLBINE_SUBMIT_LEN];
+    struct zolbine_stepped answer;
+    uint32_t other;
+
+    if (display->leaf_used)
+        stop("a second signature in a round", seat);
+    display->leaf_used = true;
+    make_submit(seat, layout, own);
+    answer = zolbine_submit(display->record, keys, sizeof keys, display->store, sizeof display->store,
+                            layout, ZOLBINE_VALUE_LEN, own + ZOLBINE_SIGNED_LEN, ZOLBINE_SIGNATURE_LEN,
+                            display->out, sizeof display->out);
+    printf("boat %u submits: %u\n", (unsigned)seat, (unsigned)answer.number);
+    if (answer.number != 0)
+        stop("the own submit", answer.number);
+    display->record = answer.record;
+    if (answer.written != ZOLBINE_SUBMIT_LEN || memcmp(display->out, own, ZOLBINE_SUBMIT_LEN) != 0)
+        stop("another SUBMIT than the one signed", answer.written);
+    send_all(seat, answer.written);
+    for (other = 0; other < N; other++)
+        if (display->is_early[other])
+            hear(seat, display->early[other], ZOLBINE_SUBMIT_LEN);
+}
+
+/* A double signer gives one honest boat a SUBMIT that the other doesn't get. */
+static void deceive(uint32_t signer, uint32_t seat, const uint8_t *layout)
+{
+    uint8_t bytes[ZOLBINE_SUBMIT_LEN];
+
+    printf("(seat %u signs for boat %u)\n", (unsigned)signer, (unsigned)seat);
+    make_submit(signer, layout, bytes);
+    hear(seat, bytes, sizeof bytes);
+}
+
+/* What is on the air reaches the other honest boat, and what that sends in turn. */
+static void deliver(void)
+{
+    uint32_t seat;
+
+    for (; heard < on_air; heard++)
+        for (seat = 0; seat < HONEST; seat++)
+            if (seat != air[heard].from)
+                hear(seat, air[heard].bytes, air[heard].len);
+}
+
+int main(void)
+{
+    static const uint8_t north[ZOLBINE_VALUE_LEN] = { 'n', 'o', 'r', 't', 'h' };
+    static const uint8_t south[ZOLBINE_VALUE_LEN] = { 's', 'o', 'u', 't', 'h' };
+    uint32_t seat;
+
+    if (zolbine_version() != ZOLBINE_VERSION)
+        stop("an archive of another version", zolbine_version());
+    for (seat = 0; seat < N; seat++)
+        make_key(seat);
+    for (seat = 0; seat < HONEST; seat++) {
+        struct zolbine_opened opened = zolbine_open(N, seat, ROUND, keys, sizeof keys);
+
+        if (opened.number != 0)
+            stop("opening", opened.number);
+        displays[seat].record = opened.record;
+    }
+
+    deceive(2, 1, south); /* early: boat 1 has no layout yet */
+    submit(0, north);
+    submit(1, south);
+    deceive(3, 1, south);
+    deceive(2, 0, north);
+    deliver();            /* boat 0 hears of the other layout before it confirms: its next call writes two messages */
+    deceive(3, 0, north);
+    deliver();
+
+    for (seat = 0; seat < HONEST; seat++) {
+        const struct display *display = &displays[seat];
+        struct zolbine_verdict verdict;
+
+        if (!display->record.confirmed || memcmp(display->record.own.value, seat == 0 ? north : south, ZOLBINE_VALUE_LEN) != 0)
+            stop("a boat that hasn't confirmed its layout", seat);
+        if (display->record.guilty != DOUBLE_SIGNERS || display->evidence_len == 0)
+            stop("a boat without evidence", seat);
+        verdict = zolbine_check_evidence(N, ROUND, keys, sizeof keys, display->evidence, display->evidence_len);
+        if (verdict.number != 0 || verdict.mask != DOUBLE_SIGNERS)
+            stop("evidence that isn't accepted", verdict.number);
+        printf("boat %u: %.5s confirmed, evidence against 0x%08x\n", (unsigned)seat, (const char *)display->record.own.value,
+               (unsigned)verdict.mask);
+    }
+    return 0;
+}

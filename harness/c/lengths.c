@@ -1,0 +1,205 @@
+/* The lengths that include/zolbine.h names are those that the calls ask for, for every n: a byte less is refused, and a byte more
+ * where a length is exact. Prints the number of comparisons, and ends with 1 at the first that goes wrong. C11 that is C++ too.
+ */
+#include "zolbine.h"
+
+#include <stdio.h>
+#include <stdlib.h>
+#include <string.h>
+
+enum { N = ZOLBINE_MOST_SEATS, ROUND = 5, OTHER_ROUND = 6 };
+
+static uint8_t keys[ZOLBINE_KEYS_LEN(N) + 1], store[ZOLBINE_STORE_LEN(N)], out[ZOLBINE_OUT_LEN(N)];
+static uint8_t message[ZOLBINE_EVIDENCE_LEN(N + 1)], long_message[ZOLBINE_MESSAGE_MAX + 1], tree[ZOLBINE_TREE_LEN + 1];
+static uint8_t material[ZOLBINE_SEED_LEN + ZOLBINE_IDENTIFIER_LEN + ZOLBINE_RANDOMIZER_LEN], signature[ZOLBINE_SIGNATURE_LEN + 1];
+static uint8_t value[ZOLBINE_VALUE_LEN + 1];
+static unsigned long compared;
+
+static void is(const char *what, uint32_t n, uint32_t answer, uint32_t expected)
+{
+    if (answer != expected) {
+        printf("%s, n %u: %u, not %u\n", what, (unsigned)n, (unsigned)answer, (unsigned)expected);
+        exit(1);
+    }
+    compared++;
+}
+
+/* The command and round of a message. The round is another than the unit's: a message of the right form is refused for that. */
+static void start(uint8_t command)
+{
+    memset(message, 0, sizeof message);
+    message[0] = command;
+    message[2] = OTHER_ROUND;
+}
+
+static void full(uint32_t n)
+{
+    uint32_t i;
+
+    start(ZOLBINE_FULL);
+    message[ZOLBINE_FULL_HEAD_LEN - 1] = (uint8_t)ZOLBINE_K(n);
+    for (i = 0; i < ZOLBINE_K(n); i++)
+        message[ZOLBINE_FULL_HEAD_LEN + ZOLBINE_FULL_ENTRY_LEN * i] = ZOLBINE_FULL_ENTRY;
+}
+
+static void evidence(uint32_t count)
+{
+    uint32_t i;
+
+    start(ZOLBINE_EVIDENCE);
+    message[ZOLBINE_EVIDENCE_HEAD_LEN - 1] = (uint8_t)count;
+    for (i = 0; i < count; i++)
+        message[ZOLBINE_EVIDENCE_HEAD_LEN + ZOLBINE_EVIDENCE_ENTRY_LEN * i] = ZOLBINE_EVIDENCE_ENTRY;
+}
+
+static uint32_t stepped(struct zolbine_record record, size_t len, size_t store_len, size_t out_len)
+{
+    struct zolbine_record lent = record;
+    size_t keys_len = ZOLBINE_KEYS_LEN(record.n);
+    uint32_t number = zolbine_step(record, keys, keys_len, store, store_len, message, len, out, out_len).number;
+
+    is("the step with the record lent", record.n,
+       zolbine_step_lent(&lent, keys, keys_len, store, store_len, message, len, out, out_len).number, number);
+    return number;
+}
+
+static uint32_t submitted(struct zolbine_record record, size_t value_len, size_t signature_len, size_t store_len, size_t out_len)
+{
+    return zolbine_submit(record, keys, ZOLBINE_KEYS_LEN(record.n), store, store_len, value, value_len, signature, signature_len,
+                          out, out_len).number;
+}
+
+static uint32_t made_evidence(uint32_t n, size_t len, size_t out_len)
+{
+    return zolbine_make_evidence(n, ROUND, keys, ZOLBINE_KEYS_LEN(n), message, len, message, len, out, out_len).number;
+}
+
+/* The message that stands in the buffer has this length: to the helper, and to a step or the evidence check. */
+static void message_is(const char *what, struct zolbine_record record, size_t len)
+{
+    uint32_t n = record.n;
+    size_t tried;
+
+    is(what, n, zolbine_message_length(n, message, len), (uint32_t)len);
+    is(what, n, zolbine_message_length(n, message, sizeof message), (uint32_t)len);
+    is(what, n, zolbine_message_length(n, message, len - 1), 0);
+    is(what, 0, zolbine_message_length(0, message, sizeof message), 0);
+    for (tried = len - 1; tried <= len + 1; tried++) {
+        uint32_t expected = tried == len ? ZOLBINE_OTHER_ROUND : ZOLBINE_GARBLED;
+        uint32_t number = message[0] == ZOLBINE_EVIDENCE
+            ? zolbine_check_evidence(n, ROUND, keys, ZOLBINE_KEYS_LEN(n), message, tried).number
+            : stepped(record, tried, ZOLBINE_STORE_LEN(n), ZOLBINE_OUT_LEN(n));
+        is(what, n, number, expected);
+    }
+}
+
+static void by_n(uint32_t n)
+{
+    size_t keys_len = ZOLBINE_KEYS_LEN(n), store_len = ZOLBINE_STORE_LEN(n), out_len = ZOLBINE_OUT_LEN(n);
+    size_t full_len = ZOLBINE_FULL_LEN(n), making_len = ZOLBINE_EVIDENCE_OUT_LEN(n);
+    struct zolbine_record record = zolbine_open(n, 0, ROUND, keys, keys_len).record;
+    uint32_t count;
+
+    is("keys", n, zolbine_open(n, 0, ROUND, keys, keys_len).number, 0);
+    is("keys", n, zolbine_open(n, 0, ROUND, keys, keys_len - 1).number, ZOLBINE_KEYS);
+    is("keys", n, zolbine_open(n, 0, ROUND, keys, keys_len + 1).number, ZOLBINE_KEYS);
+
+    is("store, submit", n, submitted(record, 0, 0, store_len - 1, out_len), ZOLBINE_STORE);
+    is("out, submit", n, submitted(record, 0, 0, store_len, out_len - 1), ZOLBINE_OUT);
+    is("value", n, submitted(record, ZOLBINE_VALUE_LEN - 1, ZOLBINE_SIGNATURE_LEN, store_len, out_len), ZOLBINE_GARBLED);
+    is("value", n, submitted(record, ZOLBINE_VALUE_LEN + 1, ZOLBINE_SIGNATURE_LEN, store_len, out_len), ZOLBINE_GARBLED);
+    is("signature", n, submitted(record, ZOLBINE_VALUE_LEN, ZOLBINE_SIGNATURE_LEN - 1, store_len, out_len), ZOLBINE_GARBLED);
+    is("signature", n, submitted(record, ZOLBINE_VALUE_LEN, ZOLBINE_SIGNATURE_LEN + 1, store_len, out_len), ZOLBINE_GARBLED);
+    is("submit", n, submitted(record, ZOLBINE_VALUE_LEN, ZOLBINE_SIGNATURE_LEN, store_len, out_len), ZOLBINE_SIGNATURE);
+
+    start(ZOLBINE_NOTICE);
+    is("store, step", n, stepped(record, ZOLBINE_NOTICE_LEN, store_len - 1, out_len), ZOLBINE_STORE);
+    is("out, step", n, stepped(record, ZOLBINE_NOTICE_LEN, store_len, out_len - 1), ZOLBINE_OUT);
+    message_is("NOTICE", record, ZOLBINE_NOTICE_LEN);
+    start(ZOLBINE_SUBMIT);
+    message_is("SUBMIT", record, ZOLBINE_SUBMIT_LEN);
+    full(n);
+    message_is("FULL", record, full_len);
+    is("out, evidence", n, made_evidence(n, full_len, making_len - 1), ZOLBINE_OUT);
+    is("out, evidence", n, made_evidence(n, full_len, making_len), ZOLBINE_OTHER_ROUND);
+    is("another fleet's n", n, zolbine_message_length(N + 1, message, sizeof message), 0);
+    message[ZOLBINE_FULL_HEAD_LEN - 1]++;
+    is("a count that isn't k", n, zolbine_message_length(n, message, sizeof message), 0);
+    for (count = 1; count <= n; count++) {
+        evidence(count);
+        message_is("EVIDENCE", record, ZOLBINE_EVIDENCE_LEN(count));
+        message[ZOLBINE_EVIDENCE_HEAD_LEN + ZOLBINE_EVIDENCE_ENTRY_LEN * (count - 1)] ^= 1;
+        is("an entry command", n, zolbine_message_length(n, message, sizeof message), 0);
+    }
+    evidence(n + 1);
+    is("a count above n", n, zolbine_message_length(n, message, sizeof message), 0);
+    evidence(0);
+    is("a count of 0", n, zolbine_message_length(n, message, sizeof message), 0);
+    start(ZOLBINE_FULL_ENTRY);
+    is("no command", n, zolbine_message_length(n, message, sizeof message), 0);
+    is("no byte", n, zolbine_message_length(n, message, 0), 0);
+}
+
+static uint32_t checked(size_t key_len, size_t message_len)
+{
+    return zolbine_check_signature(keys, key_len, long_message, message_len, signature, ZOLBINE_SIGNATURE_LEN);
+}
+
+static uint32_t key_made(size_t seed_len, size_t identifier_len, size_t tree_len, size_t out_len)
+{
+    return zolbine_make_key(material, seed_len, material, identifier_len, tree, tree_len, out, out_len).number;
+}
+
+static uint32_t signed_by(size_t seed_len, size_t identifier_len, size_t randomizer_len, size_t tree_len)
+{
+    return zolbine_sign(ROUND, material, seed_len, material, identifier_len, material, randomizer_len, tree, tree_len,
+                        long_message, ZOLBINE_MESSAGE_MAX, out, ZOLBINE_SIGNATURE_LEN).number;
+}
+
+static uint32_t signed_with(uint32_t leaf, size_t message_len, size_t out_len)
+{
+    return zolbine_sign(leaf, material, ZOLBINE_SEED_LEN, material, ZOLBINE_IDENTIFIER_LEN, material, ZOLBINE_RANDOMIZER_LEN,
+                        tree, ZOLBINE_TREE_LEN, long_message, message_len, out, out_len).number;
+}
+
+static void of_signatures(void)
+{
+    size_t seed = ZOLBINE_SEED_LEN, name = ZOLBINE_IDENTIFIER_LEN, fresh = ZOLBINE_RANDOMIZER_LEN, whole = ZOLBINE_TREE_LEN;
+    size_t i;
+
+    is("message", 0, checked(ZOLBINE_KEY_LEN, ZOLBINE_MESSAGE_MAX), ZOLBINE_SIGNATURE);
+    is("message", 0, checked(ZOLBINE_KEY_LEN, ZOLBINE_MESSAGE_MAX + 1), ZOLBINE_GARBLED);
+    is("out, key", 0, key_made(seed, name, whole, ZOLBINE_KEY_LEN - 1), ZOLBINE_OUT);
+    is("out, signature", 0, signed_with(ZOLBINE_LAST_LEAF, 0, ZOLBINE_SIGNATURE_LEN - 1), ZOLBINE_OUT);
+    is("signature", 0, signed_with(ZOLBINE_LAST_LEAF, ZOLBINE_MESSAGE_MAX, ZOLBINE_SIGNATURE_LEN), 0);
+    is("message", 0, signed_with(ZOLBINE_LAST_LEAF, ZOLBINE_MESSAGE_MAX + 1, ZOLBINE_SIGNATURE_LEN), ZOLBINE_GARBLED);
+    is("leaf", 0, signed_with(ZOLBINE_LAST_LEAF + 1, 0, ZOLBINE_SIGNATURE_LEN), ZOLBINE_ROUND);
+    for (i = 0; i < 2; i++) {
+        size_t off = 2 * i; /* a byte less, then a byte more */
+
+        is("key", 0, checked(ZOLBINE_KEY_LEN - 1 + off, 0), ZOLBINE_KEYS);
+        is("seed", 0, key_made(seed - 1 + off, name, whole, ZOLBINE_KEY_LEN), ZOLBINE_KEY_MATERIAL);
+        is("identifier", 0, key_made(seed, name - 1 + off, whole, ZOLBINE_KEY_LEN), ZOLBINE_KEY_MATERIAL);
+        is("tree", 0, key_made(seed, name, whole - 1 + off, ZOLBINE_KEY_LEN), ZOLBINE_KEY_MATERIAL);
+        is("seed", 0, signed_by(seed - 1 + off, name, fresh, whole), ZOLBINE_KEY_MATERIAL);
+        is("identifier", 0, signed_by(seed, name - 1 + off, fresh, whole), ZOLBINE_KEY_MATERIAL);
+        is("randomizer", 0, signed_by(seed, name, fresh - 1 + off, whole), ZOLBINE_KEY_MATERIAL);
+        is("tree", 0, signed_by(seed, name, fresh, whole - 1 + off), ZOLBINE_KEY_MATERIAL);
+    }
+}
+
+int main(void)
+{
+    uint32_t n;
+
+    is("version", 0, zolbine_version(), ZOLBINE_VERSION);
+    for (n = 0; n < N; n++) {
+        keys[ZOLBINE_KEYS_LEN(n) + 3] = 6;
+        keys[ZOLBINE_KEYS_LEN(n) + 7] = 4;
+    }
+    for (n = 1; n <= N; n++)
+        by_n(n);
+    of_signatures();
+    printf("%lu\n", compared);
+    return 0;
+}

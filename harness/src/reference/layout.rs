@@ -1,0 +1,107 @@
+//! Document 01's layout in bytes: the widths of the parts, and the lengths and places that follow from them. A place is named
+//! by what stands there; `count` is a number of entries.
+
+use std::ops::Range;
+
+use super::lms::Types;
+use super::quorum::k;
+
+const COMMAND: usize = 1;
+const ROUND: usize = 2;
+const SEAT: usize = 1;
+const COUNT: usize = 1;
+pub const VALUE: usize = 32;
+/// Of the engine's types.
+pub const SIGNATURE: usize = Types::ENGINE.signature();
+
+// Commands start with the command and the round.
+pub const ROUND_AT: usize = COMMAND;
+const AFTER_ROUND: usize = ROUND_AT + ROUND;
+
+// SUBMIT, NOTICE and FULL: seat and value. So far go the bytes that a seat signs.
+pub const SEAT_AT: usize = AFTER_ROUND;
+pub const VALUE_AT: usize = SEAT_AT + SEAT;
+pub const SIGNED: usize = VALUE_AT + VALUE;
+pub const NOTICE: usize = SIGNED;
+pub const SIGNATURE_AT: usize = SIGNED;
+pub const SUBMIT: usize = SIGNATURE_AT + SIGNATURE;
+
+// FULL: besides, the count and the entries.
+pub const FULL_COUNT_AT: usize = SIGNED;
+pub const FULL_ENTRIES_AT: usize = FULL_COUNT_AT + COUNT;
+
+// EVIDENCE: the two values, the count and the entries.
+pub const LOWER_AT: usize = AFTER_ROUND;
+pub const HIGHER_AT: usize = LOWER_AT + VALUE;
+pub const EVIDENCE_COUNT_AT: usize = HIGHER_AT + VALUE;
+pub const EVIDENCE_ENTRIES_AT: usize = EVIDENCE_COUNT_AT + COUNT;
+
+// An entry of either: its command and its seat, then one signature or two.
+pub const ENTRY_SEAT_AT: usize = COMMAND;
+pub const ENTRY_SIGNATURE_AT: usize = ENTRY_SEAT_AT + SEAT;
+pub const FULL_ENTRY: usize = ENTRY_SIGNATURE_AT + SIGNATURE;
+pub const EVIDENCE_ENTRY: usize = ENTRY_SIGNATURE_AT + 2 * SIGNATURE;
+
+pub const fn full(count: u32) -> usize {
+    FULL_ENTRIES_AT + FULL_ENTRY * count as usize
+}
+
+pub const fn evidence(count: u32) -> usize {
+    EVIDENCE_ENTRIES_AT + EVIDENCE_ENTRY * count as usize
+}
+
+/// `out` for a submit or a step: each message once.
+pub fn out(n: u32) -> usize {
+    SUBMIT + NOTICE + full(k(n)) + evidence(k(n))
+}
+
+/// `out` for evidence from two certificates.
+pub fn evidence_out(n: u32) -> usize {
+    evidence(k(n))
+}
+
+/// The store: n slots for collected signatures, then n for the first certificate's, each by seat.
+pub fn store(n: u32) -> usize {
+    slot(2 * n).start
+}
+
+pub fn collected(seat: u32) -> Range<usize> {
+    slot(seat)
+}
+
+pub fn first(n: u32, seat: u32) -> Range<usize> {
+    slot(n + seat)
+}
+
+fn slot(number: u32) -> Range<usize> {
+    let start = SIGNATURE * number as usize;
+    start..start + SIGNATURE
+}
+
+#[cfg(test)]
+mod tests {
+    use super::*;
+
+    /// The figures that document 01 states.
+    #[test]
+    fn figures_of_document_01() {
+        assert_eq!((SIGNATURE, SIGNED, SUBMIT, NOTICE), (1452, 36, 1488, 36));
+        for n in 1..=32 {
+            let (count, k) = (n as usize, k(n) as usize);
+            assert_eq!((full(n), evidence(n)), (37 + 1454 * count, 68 + 2906 * count));
+            assert_eq!((store(n), out(n), evidence_out(n)), (2904 * count, 1629 + 4360 * k, 68 + 2906 * k));
+        }
+    }
+
+    #[test]
+    fn the_slots_fill_the_store() {
+        for n in 1..=32 {
+            let slots = (0..n).map(collected).chain((0..n).map(|seat| first(n, seat)));
+            let end = slots.fold(0, |end, slot| {
+                assert_eq!((slot.start, slot.len()), (end, SIGNATURE));
+                slot.end
+            });
+            assert_eq!(end, store(n));
+        }
+    }
+}

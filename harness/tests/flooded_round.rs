@@ -1,0 +1,103 @@
+//! The example's unit in a round that is flooded with forged SUBMITs before it submits.
+#![cfg(feature = "zolbine")]
+
+use std::path::Path;
+use std::process::Command;
+
+use harness::c_program::compile;
+use harness::fleet::{self, layouts, rounds, Fleet};
+use harness::reference::layout::{NOTICE, SEAT_AT, SIGNATURE, SIGNATURE_AT, SUBMIT};
+use harness::reference::messages::{signed_bytes, Submit, Value};
+use harness::rng::{seed, Rng};
+use harness::yard::{hearing, opening, submitting};
+
+const FLEET: Fleet = Fleet { n: 7, round: 5 };
+
+/// More than there are seats in the largest fleet.
+const FORGED: usize = 40;
+
+/// A SUBMIT of the seat that it didn't sign for this round.
+fn forged(seat: u32, value: &Value, rng: &mut Rng) -> Vec<u8> {
+    let Fleet { n, round } = FLEET;
+    let own = signed_bytes(round, seat, value);
+    let neighbour = (seat + 1) % n;
+    let signature = match rng.below(5) {
+        // Random bytes under the right leaf and types.
+        0 => {
+            let mut signature = FLEET.signature(seat, value, 0);
+            signature[8..].copy_from_slice(&rng.bytes(SIGNATURE - 8));
+            signature
+        }
+        // A bit turned.
+        1 => {
+            let mut signature = FLEET.signature(seat, value, 0);
+            signature[rng.below(SIGNATURE)] ^= 1 << rng.below(8);
+            signature
+        }
+        // The neighbour's, over the same bytes and over its own.
+        2 => fleet::sign(neighbour, round, &own, 0),
+        3 => FLEET.signature(neighbour, value, 0),
+        // The seat's own key under the leaf of another round.
+        _ => {
+            let other = rounds().into_iter().find(|&other| other != round).expect("several rounds");
+            fleet::sign(seat, other, &own, 0)
+        }
+    };
+    Submit { round, seat, value: *value, signature }.write()
+}
+
+/// What reaches boat 0 before its submit: forged SUBMITs of each seat, and the good ones in the middle of the flood.
+fn flood(value: &Value, rng: &mut Rng) -> Vec<(Vec<u8>, bool)> {
+    let of_each_seat = |rng: &mut Rng| {
+        let seats = (0..FORGED).flat_map(|_| FLEET.seats());
+        seats.map(|seat| (forged(seat, value, rng), false)).collect::<Vec<_>>()
+    };
+    let mut heard = of_each_seat(rng);
+    heard.extend((1..FLEET.n).rev().map(|seat| (FLEET.submit(seat, value, 0).write(), true)));
+    // A good one again: the seat's place is taken.
+    heard.push((FLEET.submit(1, value, 1).write(), false));
+    heard.extend(of_each_seat(rng));
+    heard
+}
+
+/// Each early message is refused by 13, and the first good one of a seat is put by. After the own submit they are given again in
+/// the order of the seats: with the own signature, the one of seat k - 1 is the k-th.
+#[test]
+fn forged_submits_take_nobodys_place() {
+    let Fleet { n, round } = FLEET;
+    let value = layouts()[5];
+    let heard = flood(&value, &mut Rng::new(seed(), "flood"));
+    let mut input = opening(n, 0, round, &FLEET.key_table());
+    let mut expected = format!("open n {n}, seat 0, round {round}: 0\n");
+    for (message, good) in heard {
+        assert_eq!(message.len(), SUBMIT);
+        assert_eq!(
+            good,
+            message[SIGNATURE_AT..] == FLEET.signature(message[SEAT_AT].into(), &value, 0),
+            "a forged one is none"
+        );
+        input.extend(hearing(&message));
+        expected += if good { "SUBMIT: 13\n  put by\n" } else { "SUBMIT: 13\n" };
+    }
+    input.extend(submitting(&value, &FLEET.signature(0, &value, 0)));
+    expected += &format!("submit: 0\n  sends SUBMIT, {SUBMIT} bytes\n");
+    for seat in 1..n {
+        expected += "SUBMIT: 0\n";
+        if seat == FLEET.k() - 1 {
+            expected += &format!("  sends NOTICE, {NOTICE} bytes\n");
+        }
+    }
+    expected += "confirmed; double signers 0x00000000\n";
+
+    let folder = Path::new(env!("CARGO_TARGET_TMPDIR"));
+    let (program, round) = (folder.join("unit_flooded"), folder.join("flooded.bin"));
+    compile("examples/unit.c", &program, &["-g", "-fsanitize=address,undefined", "-fno-sanitize-recover=all"]);
+    std::fs::write(&round, input).expect("a file for the round");
+    let run = Command::new(program).arg(round).output().expect("the example runs");
+    assert!(run.status.success(), "{}", String::from_utf8_lossy(&run.stderr));
+    let printed = String::from_utf8(run.stdout).expect("text");
+    for (number, (is, expected)) in (1..).zip(printed.lines().zip(expected.lines())) {
+        assert_eq!(is, expected, "line {number} with ZOLBINE_SEED={}", seed());
+    }
+    assert_eq!(printed.len(), expected.len());
+}
