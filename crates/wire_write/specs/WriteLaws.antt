@@ -12,13 +12,8 @@ use lib.Seq.{set-split, sets-eq}
 use Rattle.octets.specs.Octets.{patch, be}
 use Rattle.octets.specs.OctetLaws.{length-be, patch-patch, length-patch}
 use Rattle.octets.specs.StringLaws.{be-two}
-<<<<<<< HEAD
-use Rattle.quorum.specs.Quorum.{bit, In, seats, size}
-use Rattle.quorum.specs.QuorumLaws.{seats-in, seats-out, length-seats}
-=======
 use Rattle.quorum.specs.Quorum.{bit, In, seats, size, shared}
 use Rattle.quorum.specs.QuorumLaws.{seats-in, seats-out, length-seats, shared-lt}
->>>>>>> 373069b1965678a5299a89814be0ad13854858f3
 use Rattle.protocol.specs.Layout.{valueLength, operandsAt, noticeLength, entryLength, evidenceStart}
 use Rattle.protocol.specs.Values.{isLower}
 use Rattle.protocol.specs.Entries.{Form, renderEntry, renderEntries}

@@ -5,13 +5,8 @@ use native.Mathlib.Omega.{arith}
 use lib.ListN.{length}
 use borrow.Author.Needs.{needs}
 use denote.Ref.{now}
-<<<<<<< HEAD
-use Rattle.quorum.specs.Quorum.{shared, seats}
-use Rattle.quorum.specs.QuorumLaws.{size-le, shared-lt, length-seats}
-=======
 use Rattle.quorum.specs.Quorum.{size, shared, seats}
 use Rattle.quorum.specs.QuorumLaws.{in-shared, size-le, shared-lt, length-seats}
->>>>>>> 373069b1965678a5299a89814be0ad13854858f3
 use Rattle.protocol.specs.Layout.{evidenceEntryAt, evidenceLength}
 use Rattle.wire_write.specs.Writing.{Within}
 use Rattle.wire_write.specs.WriteLaws.{evidence-written}

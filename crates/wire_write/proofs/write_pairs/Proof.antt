@@ -7,13 +7,8 @@ use Prim.Native.Nat.{ℕ, _+_, _-_}
 use native.Mathlib.Omega.{arith}
 use lib.ListN.{length, length-append}
 use denote.Ref.{now}
-<<<<<<< HEAD
-use Rattle.quorum.specs.Quorum.{shared}
-use Rattle.quorum.specs.QuorumLaws.{in-shared}
-=======
 use Rattle.quorum.specs.Quorum.{In, bit}
 use Rattle.quorum.specs.QuorumLaws.{has-true, has-false}
->>>>>>> 373069b1965678a5299a89814be0ad13854858f3
 use Rattle.protocol.specs.Layout.{evidenceEntryLength}
 use Rattle.protocol.specs.Entries.{Form}
 use Rattle.protocol.specs.Message.{Pair, evidenceForm}

@@ -6,16 +6,10 @@ use borrow.Author.Needs.{needs}
 use denote.Ref.{now}
 use Rattle.protocol.specs.Layout.{signatureLength, noticeLength, submitLength}
 use Rattle.protocol.specs.Message.{render}
-<<<<<<< HEAD
 use Rattle.protocol.specs.MessageLaws.{length-submit}
-use Rattle.wire.specs.WriteLaws.{then}
-use Rattle.wire.proofs.write.write_submit.Statement.{statement}
-use Rattle.wire.proofs.write.write_submit.Tie as tie
-=======
 use Rattle.wire_write.specs.WriteLaws.{then}
 use Rattle.wire_write.proofs.write_submit.Statement.{statement}
 use Rattle.wire_write.proofs.write_submit.Tie as tie
->>>>>>> 373069b1965678a5299a89814be0ad13854858f3
 
 write-head-requires : tie.Need-write-head-requires
 unfolding noticeLength submitLength
