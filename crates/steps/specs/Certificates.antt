@@ -3,6 +3,7 @@ use mathlib.Core.Path.{_≡_, refl, subst, _∙_}
 use mathlib.Core.Bool.{Bool, true, false, cond, not, _&&_, false≢true}
 use mathlib.Core.List.{List}
 use Prim.Native.Nat.{ℕ, _+_, _^_, _≤_, _<_}
+use native.Mathlib.Nat.{mul-le-mul-left}
 use native.Mathlib.Omega.{arith}
 use lib.Dec.{eqb}
 use lib.ListN.{length}
@@ -45,13 +46,15 @@ pub readable-bank : (n : ℕ) (bank : Bank) (seats : ℕ) (store : List ℕ) →
 readable-bank n bank seats store s l = record { inside = s; stands = l }
 
 pub full-bound : (n size : ℕ) → size ≤ k n → fullEntryAt size ≤ fullLength n
-unfolding fullLength fullEntryAt fullEntryLength
-full-bound n size h = omega arith
+unfolding fullLength fullEntryAt
+full-bound n size h = omega (arith, mul-le-mul-left fullEntryLength h)
 
 -- EVIDENCE has an entry for each seat that is in both, so at most k
 pub evidence-bound : (n a b : ℕ) → size a ≤ k n → evidenceLength (size (shared a b)) ≤ evidenceLength (k n)
-unfolding evidenceLength evidenceEntryAt evidenceEntryLength
-evidence-bound n a b h = omega (arith, size-shared-le a b)
+unfolding evidenceLength evidenceEntryAt
+evidence-bound n a b h =
+    let most : size (shared a b) ≤ k n = omega (arith, size-shared-le a b) in
+    omega (arith, mul-le-mul-left evidenceEntryLength most)
 
 -- ---- messages written
 

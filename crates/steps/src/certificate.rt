@@ -51,14 +51,14 @@ fn blames(r: Record, value: [u8; 32]) -> bool
 }
 
 // The shared seats become guilty, and EVIDENCE is written.
-fn blame(
+fn blame<'a>(
     r: Record,
-    store: &[u8],
+    store: &'a [u8],
     out: &mut [u8],
     at: usize,
     value: [u8; 32],
     source: Source,
-    m: &[u8],
+    m: &'a [u8],
 ) -> Phase
     requires { ⌜ Fits r (now store) × Heard (r .n) source (now store) (now m) × (at + evidenceLength (k (r .n)) ≤ length (now out)) ⌝ }
     ensures { λ p. ⌜ Did (blame (heard (r .n) source value (now (store .entry)) (now (m .entry)))) r (now (store .entry)) (now (out .entry)) at (p .unit) (now (store .entry)) (now (out .exit)) (p .at) ⌝ }

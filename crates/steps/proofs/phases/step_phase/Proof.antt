@@ -1,11 +1,11 @@
--- `steps::steps::step_phase` meets its contract.
+-- `steps::phases::step_phase` meets its contract.
 use mathlib.Core.Path.{sym, _∙_}
 use denote.Ref.{now}
 use Rattle.steps.specs.Steps.{nothing-heard}
 use Rattle.wire.proofs.Tags.{tags}
 use borrow.Author.Needs.{needs}
-use Rattle.steps.proofs.steps.step_phase.Statement.{statement}
-use Rattle.steps.proofs.steps.step_phase.Tie as tie
+use Rattle.steps.proofs.phases.step_phase.Statement.{statement}
+use Rattle.steps.proofs.phases.step_phase.Tie as tie
 
 enum-told : tie.Need-enum-told
 enum-told c = search needs

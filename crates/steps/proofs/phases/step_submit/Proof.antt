@@ -1,4 +1,4 @@
--- `steps::steps::step_submit` meets its contract.
+-- `steps::phases::step_submit` meets its contract.
 use lib.ListN.{length}
 use native.Mathlib.Omega.{arith}
 use denote.Ref.{now}
@@ -6,8 +6,8 @@ use Rattle.steps.specs.Possible.{ready-fits}
 use Rattle.steps.specs.Collecting.{heard-submit-fits}
 use Rattle.steps.specs.Steps.{rest-fits, submit-length, submit-signature, submit-seat, submit-heard}
 use borrow.Author.Needs.{needs}
-use Rattle.steps.proofs.steps.step_submit.Statement.{statement}
-use Rattle.steps.proofs.steps.step_submit.Tie as tie
+use Rattle.steps.proofs.phases.step_submit.Statement.{statement}
+use Rattle.steps.proofs.phases.step_submit.Tie as tie
 
 value-at-requires : tie.Need-value-at-requires
 value-at-requires c κs =

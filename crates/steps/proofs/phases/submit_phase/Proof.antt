@@ -1,4 +1,4 @@
--- `steps::steps::submit_phase` meets its contract.
+-- `steps::phases::submit_phase` meets its contract.
 use lib.ListN.{length}
 use native.Mathlib.Omega.{arith}
 use denote.Ref.{now}
@@ -6,8 +6,8 @@ use Rattle.steps.specs.Possible.{ready-fits}
 use Rattle.steps.specs.Collecting.{submitted-fits}
 use Rattle.steps.specs.Steps.{all-fits, rest-fits, submit-done}
 use borrow.Author.Needs.{needs}
-use Rattle.steps.proofs.steps.submit_phase.Statement.{statement}
-use Rattle.steps.proofs.steps.submit_phase.Tie as tie
+use Rattle.steps.proofs.phases.submit_phase.Statement.{statement}
+use Rattle.steps.proofs.phases.submit_phase.Tie as tie
 
 submit-own-requires : tie.Need-submit-own-requires
 submit-own-requires c κs =
