@@ -3,16 +3,17 @@
 use mathlib.Core.Path.{_≡_, refl, ap, _∙_}
 use mathlib.Core.Bool.{Bool, true, false, cond}
 use mathlib.Core.List.{List, _++_}
-use Prim.Native.Nat.{ℕ, _≤_, _<_}
+use Prim.Native.Nat.{ℕ, _≤_, _<_, _^_}
 use native.Mathlib.Omega.{arith}
 use lib.Dec.{ltb}
 use lib.ListN.{length, take, length-append}
 use lib.Seq.{take-append-seam}
 use borrow.Author.Tests.{ne-eqb, lt-ltb, le-ltb}
-use Rattle.quorum.specs.Quorum.{mostSeats}
-use Rattle.protocol.specs.Layout.{submitLength, noticeLength, fullLength, evidenceLength}
-use Rattle.protocol.specs.Message.{Message, Submit, Notice, Full, Evidence, Garbled, render, byteAt, read}
-use Rattle.protocol.specs.ReadLaws.{WellFormed, read-render}
+use Rattle.quorum.specs.Quorum.{mostSeats, k}
+use Rattle.protocol.specs.Layout.{submitLength, noticeLength, fullLength, evidenceCountAt, evidenceLength}
+use Rattle.protocol.specs.Figures.{submit-figure, notice-figure, full-figure, evidence-figure}
+use Rattle.protocol.specs.Message.{Message, Submit, Notice, Full, Evidence, Garbled, render, byteAt, read, WellFormed}
+use Rattle.protocol.specs.MessageLaws.{read-render}
 use Rattle.protocol.specs.Record.{wrongSize}
 use Rattle.reading.specs.Reading.{frameLength, frame-length}
 use Rattle.wire.specs.Reading.{kindOf}
@@ -81,23 +82,27 @@ module _ (n : ℕ) (bytes : List ℕ) where
         unfolding messageLength wrongSize firstFrame
         told-kind = rw (ne-eqb n 0 some, le-ltb mostSeats n few, ← e, le-ltb (length bytes) l long, ← garbled-told c (read n (take l bytes)) told, ← q)
 
--- ---- the length by command and count
+-- ---- the length by command and count: r is what the code answers, which fits a u32
 
-module _ (n : ℕ) (bytes : List ℕ) (c : ℕ) (e : c ≡ byteAt bytes 0) where
-  pub frame-submit : c ≡ 0x01 → submitLength ≡ frameLength n bytes
+module _ (n : ℕ) (bytes : List ℕ) (c : ℕ) (e : c ≡ byteAt bytes 0) (r : ℕ) where
+  abbrev Told : Type 0
+  Told = (r ≡ frameLength n bytes) × (r < 2 ^ 32)
+
+  pub frame-submit : c ≡ 0x01 → r ≡ submitLength → Told
   unfolding frameLength
-  frame-submit h = rw (← e, h)
+  frame-submit h q = (rw (← e, h) q, omega (arith, submit-figure))
 
   module _ (no-submit : c ≡ 0x01 → ⊥) where
-    pub frame-notice : c ≡ 0x02 → noticeLength ≡ frameLength n bytes
+    pub frame-notice : c ≡ 0x02 → r ≡ noticeLength → Told
     unfolding frameLength
-    frame-notice h = rw (← e, h)
+    frame-notice h q = (rw (← e, h) q, omega (arith, notice-figure))
 
     module _ (no-notice : c ≡ 0x02 → ⊥) where
-      pub frame-full : c ≡ 0x03 → fullLength n ≡ frameLength n bytes
-      unfolding frameLength
-      frame-full h = rw (← e, h)
+      pub frame-full : n ≤ mostSeats → c ≡ 0x03 → r ≡ fullLength n → Told
+      unfolding frameLength k
+      frame-full few h q = (rw (← e, h) q, omega (arith, full-figure n))
 
-      pub frame-evidence : (c ≡ 0x03 → ⊥) → (count : ℕ) → count ≡ byteAt bytes 67 → evidenceLength count ≡ frameLength n bytes
+      pub frame-evidence : (c ≡ 0x03 → ⊥) → (count : ℕ) → count ≡ byteAt bytes evidenceCountAt → count < 256 → r ≡ evidenceLength count → Told
       unfolding frameLength
-      frame-evidence no-full count q = rw (← e, ne-eqb c 0x01 no-submit, ne-eqb c 0x02 no-notice, ne-eqb c 0x03 no-full, ← q)
+      frame-evidence no-full count p few q =
+          (rw (← e, ne-eqb c 0x01 no-submit, ne-eqb c 0x02 no-notice, ne-eqb c 0x03 no-full, ← p) q, omega (arith, evidence-figure count))

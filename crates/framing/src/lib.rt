@@ -1,6 +1,6 @@
 // The length of the first message in a buffer.
 ghost use mathlib.Core.Path.{_≡_};
-ghost use Prim.Native.Nat.{_≤_, _<_};
+ghost use Prim.Native.Nat.{_≤_, _<_, _^_};
 ghost use Rattle.quorum.specs.Quorum.{mostSeats};
 ghost use Rattle.protocol.specs.Message.{byteAt};
 ghost use Rattle.reading.specs.Reading.{frameLength};
@@ -19,21 +19,22 @@ fn byte_or_zero(bytes: &[u8], at: usize) -> u32
 }
 
 // The length that the command says, and of an EVIDENCE its count.
-fn frame_length(n: u32, bytes: &[u8]) -> u32
+fn frame_length(n: u32, bytes: &[u8]) -> usize
     requires { ⌜ (1 ≤ n) × (n ≤ mostSeats) ⌝ }
-    ensures { λ r. ⌜ r ≡ frameLength n (now (bytes .entry)) ⌝ }
+    ensures { λ r. ⌜ (r ≡ frameLength n (now (bytes .entry))) × (r < 2 ^ 32) ⌝ }
 {
     let command = byte_or_zero(bytes, 0);
     if command == 1 {
-        return 1488;
+        return layout::submit_length();
     }
     if command == 2 {
-        return 36;
+        return layout::notice_length();
     }
     if command == 3 {
-        return 37 + 1454 * quorum::k(n);
+        return layout::full_length(n);
     }
-    68 + 2906 * byte_or_zero(bytes, 67)
+    let count = byte_or_zero(bytes, layout::evidence_count_at());
+    layout::evidence_length(count as usize)
 }
 
 // Whether bytes are no message.
@@ -59,8 +60,7 @@ pub fn message_length(n: u32, bytes: &[u8]) -> u32
     if quorum::MOST_SEATS < n {
         return 0;
     }
-    let length = frame_length(n, bytes);
-    let end = length as usize;
+    let end = frame_length(n, bytes);
     if bytes.len() < end {
         return 0;
     }
@@ -68,5 +68,5 @@ pub fn message_length(n: u32, bytes: &[u8]) -> u32
     if is_garbled(kind) {
         return 0;
     }
-    length
+    end as u32
 }

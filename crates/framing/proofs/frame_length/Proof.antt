@@ -1,81 +1,100 @@
 -- `framing::frame_length` meets its contract.
-use native.Mathlib.Omega.{arith}
+use mathlib.Core.Path.{_≡_, ap, _∙_}
+use mathlib.Core.List.{List}
+use Prim.Native.Nat.{ℕ}
 use borrow.Author.Needs.{needs}
 use denote.Ref.{now}
-use Rattle.quorum.specs.Quorum.{k, t0}
-use Rattle.protocol.specs.Layout.{submitLength, noticeLength, fullEntryLength, fullEntryAt, fullLength, evidenceEntryLength, evidenceEntryAt, evidenceLength}
+use Rattle.protocol.specs.Layout.{evidenceCountAt}
+use Rattle.protocol.specs.Message.{byteAt}
 use Rattle.framing.specs.Laws.{frame-submit, frame-notice, frame-full, frame-evidence}
 use Rattle.framing.proofs.frame_length.Statement.{statement}
 use Rattle.framing.proofs.frame_length.Tie as tie
 
+-- what the call is given, and the command that it reads
+module _ (c : tie.After-byte-or-zero) where
+  abbrev start : tie.Start
+  start = c .before .before
+
+  abbrev n : ℕ
+  n = start .args .n
+
+  abbrev bytes : List ℕ
+  bytes = now (start .args .bytes)
+
+  abbrev command : ℕ
+  command = c .byte-or-zero .result
+
+  read : command ≡ byteAt bytes 0
+  read = c .byte-or-zero .ensures .0
+
 byte-or-zero-requires : tie.Need-byte-or-zero-requires
 byte-or-zero-requires c κs = search needs
 
+submit-length-requires : tie.Need-submit-length-requires
+submit-length-requires c κs = search needs
+
 returns : tie.Need-returns
-unfolding submitLength
 returns c =
-    let first = c .before in
-    let args = first .before .before .args in
-    frame-submit (args .n) (now (args .bytes)) (first .byte-or-zero .result) (first .byte-or-zero .ensures .0) (c .if1 .taken)
+    let first = c .before .before in
+    frame-submit (n first) (bytes first) (command first) (read first) (c .submit-length .result) (c .before .if1 .taken) (c .submit-length .ensures)
+
+notice-length-requires : tie.Need-notice-length-requires
+notice-length-requires c κs = search needs
 
 returns-2 : tie.Need-returns-2
-unfolding noticeLength
 returns-2 c =
-    let first = c .before .before in
-    let args = first .before .before .args in
-    frame-notice (args .n) (now (args .bytes)) (first .byte-or-zero .result) (first .byte-or-zero .ensures .0) (c .before .if1 .left) (c .if2 .taken)
+    let second = c .before in
+    let first = second .before .before in
+    frame-notice (n first) (bytes first) (command first) (read first) (c .notice-length .result) (second .before .if1 .left) (second .if2 .taken) (c .notice-length .ensures)
 
-k-requires : tie.Need-k-requires
-k-requires c κs = search needs
-
-mul-result : tie.Need-mul-result
-unfolding k t0
-mul-result c = omega (arith, c .k .ensures)
-
-add-result : tie.Need-add-result
-unfolding k t0
-add-result c = omega (arith, c .k .ensures)
+full-length-requires : tie.Need-full-length-requires
+full-length-requires c κs = search needs
 
 returns-3 : tie.Need-returns-3
-unfolding fullLength fullEntryAt fullEntryLength
 returns-3 c =
     let third = c .before in
-    let first = third .before .before .before in
-    let args = first .before .before .args in
-    rw (c .k .ensures)
-    (frame-full (args .n) (now (args .bytes)) (first .byte-or-zero .result) (first .byte-or-zero .ensures .0)
-    (third .before .before .if1 .left) (third .before .if2 .left) (third .if3 .taken))
+    let second = third .before in
+    let first = second .before .before in
+    frame-full (n first) (bytes first) (command first) (read first) (c .full-length .result) (second .before .if1 .left) (second .if2 .left)
+    (start first .pre .1) (third .if3 .taken) (c .full-length .ensures)
+
+evidence-count-at-requires : tie.Need-evidence-count-at-requires
+evidence-count-at-requires c κs = search needs
 
 byte-or-zero-requires-2 : tie.Need-byte-or-zero-requires-2
 byte-or-zero-requires-2 c κs = search needs
 
-mul-result-2 : tie.Need-mul-result-2
-mul-result-2 c = search needs
+cast-evidence-length : tie.Need-cast-evidence-length
+cast-evidence-length c = search needs
 
-add-result-2 : tie.Need-add-result-2
-add-result-2 c = search needs
+evidence-length-requires : tie.Need-evidence-length-requires
+evidence-length-requires c κs = search needs
 
 returns-4 : tie.Need-returns-4
-unfolding evidenceLength evidenceEntryAt evidenceEntryLength
 returns-4 c =
-    let third = c .before in
-    let first = third .before .before .before in
-    let args = first .before .before .args in
-    frame-evidence (args .n) (now (args .bytes)) (first .byte-or-zero .result) (first .byte-or-zero .ensures .0)
-    (third .before .before .if1 .left) (third .before .if2 .left) (third .if3 .left) (c .byte-or-zero2 .result) (c .byte-or-zero2 .ensures .0)
+    let counted = c .before in
+    let place = counted .before in
+    let third = place .before in
+    let second = third .before in
+    let first = second .before .before in
+    let count = counted .byte-or-zero2 in
+    let counted-at : count .result ≡ byteAt (bytes first) evidenceCountAt = count .ensures .0 ∙ ap (λ (i : ℕ). byteAt (bytes first) i) (place .evidence-count-at .ensures) in
+    frame-evidence (n first) (bytes first) (command first) (read first) (c .evidence-length .result) (second .before .if1 .left) (second .if2 .left)
+    (third .if3 .left) (count .result) counted-at (count .ensures .1) (c .evidence-length .ensures)
 
 pub frame-length-spec : {M : Type 1} → statement M
 frame-length-spec =
     tie.close
     (tie.spec
     byte-or-zero-requires
+    submit-length-requires
     returns
+    notice-length-requires
     returns-2
-    k-requires
-    mul-result
-    add-result
+    full-length-requires
     returns-3
+    evidence-count-at-requires
     byte-or-zero-requires-2
-    mul-result-2
-    add-result-2
+    cast-evidence-length
+    evidence-length-requires
     returns-4)

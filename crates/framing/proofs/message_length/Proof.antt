@@ -19,7 +19,7 @@ told c =
     let short = c .before .before .before in
     let frame = short .before in
     let args = frame .before .before .before .before .args in
-    told-kind (args .n) (now (args .bytes)) (frame .before .before .if1 .left) (frame .before .if2 .left) (frame .frame-length .result) (frame .frame-length .ensures) (short .if3 .left)
+    told-kind (args .n) (now (args .bytes)) (frame .before .before .if1 .left) (frame .before .if2 .left) (frame .frame-length .result) (frame .frame-length .ensures .0) (short .if3 .left)
     (c .before .classify .result) (c .before .classify .ensures) (c .is-garbled .result) (c .is-garbled .ensures)
 
 returns : tie.Need-returns
@@ -35,14 +35,11 @@ returns-2 c =
 frame-length-requires : tie.Need-frame-length-requires
 frame-length-requires c κs = search needs
 
-cast-end : tie.Need-cast-end
-cast-end c = search needs
-
 returns-3 : tie.Need-returns-3
 returns-3 c =
     let frame = c .before in
     let args = frame .before .before .before .before .args in
-    told-short (args .n) (now (args .bytes)) (frame .before .before .if1 .left) (frame .before .if2 .left) (frame .frame-length .result) (frame .frame-length .ensures) (c .if3 .taken)
+    told-short (args .n) (now (args .bytes)) (frame .before .before .if1 .left) (frame .before .if2 .left) (frame .frame-length .result) (frame .frame-length .ensures .0) (c .if3 .taken)
 
 slice-aggregate-classify : tie.Need-slice-aggregate-classify
 slice-aggregate-classify c = simp length-take (omega arith)
@@ -56,6 +53,9 @@ is-garbled-requires c κs = search needs
 returns-4 : tie.Need-returns-4
 returns-4 c = rw (c .if4 .taken) at (told (c .before))
 
+cast-result : tie.Need-cast-result
+cast-result c = search needs
+
 returns-5 : tie.Need-returns-5
 returns-5 c = rw (c .if4 .left) at (told (c .before))
 
@@ -66,10 +66,10 @@ message-length-spec =
     returns
     returns-2
     frame-length-requires
-    cast-end
     returns-3
     slice-aggregate-classify
     classify-requires
     is-garbled-requires
     returns-4
+    cast-result
     returns-5)
