@@ -1,6 +1,6 @@
 -- The returns of replying, holding and blaming, over plain values.
 use mathlib.Core.Path.{_≡_, refl, subst, _∙_}
-use mathlib.Core.Bool.{Bool, true, false, cond, not, _&&_, false≢true}
+use mathlib.Core.Bool.{Bool, true, false, cond, not, _&&_}
 use mathlib.Core.List.{List}
 use Prim.Native.Nat.{ℕ, _+_, _^_, _≤_, _<_}
 use native.Mathlib.Nat.{mul-le-mul-left}
@@ -11,12 +11,12 @@ use borrow.Author.Tests.{eq-eqb, ne-eqb}
 use Rattle.octets.specs.Strings.{same}
 use Rattle.quorum.specs.Quorum.{k, size, shared}
 use Rattle.quorum.specs.QuorumLaws.{size-shared-le}
-use Rattle.protocol.specs.Layout.{collectedBank, firstBank, storeLength, fullEntryLength, fullEntryAt, fullLength, evidenceEntryLength, evidenceEntryAt, evidenceLength}
+use Rattle.protocol.specs.Layout.{storeLength, fullEntryLength, fullEntryAt, fullLength, evidenceEntryLength, evidenceEntryAt, evidenceLength}
 use Rattle.protocol.specs.Message.{render}
 use Rattle.protocol.specs.Calls.{start}
 use Rattle.protocol.specs.Certificate.{Certificate, ownCertificate, firstCertificate, fullOf, evidenceOf}
 use Rattle.protocol.specs.Record.{withNotices, withSent, withGuilty, holds}
-use Rattle.protocol.specs.Step.{write, noticesWith, hear, owesFull, sendFull, reply, hold, blame, blames, holdOrBlame, hearCertificate, hearOwn}
+use Rattle.protocol.specs.Step.{write, noticesWith, hear, owesFull, sendFull, reply, hold, blame, blames, holdOrBlame, hearCertificate}
 use Rattle.protocol.specs.StepLaws.{reply-after, holdOrBlame-after}
 use Rattle.protocol.specs.declared.Notices.{Notices}
 use Rattle.protocol.specs.declared.Record.{Record}
@@ -66,13 +66,14 @@ module _ (r : Record) (store out : List ℕ) (at : ℕ) (out′ : List ℕ) (end
       saying sendFull r store (fullOf (r .n) (r .round) (r .seat) (ownCertificate r store)) out at (withSent r) store out′ end refl
       (record { recorded = refl; stored = refl }) w
 
-  pub evidence-sent : (c : Certificate) (guilty : ℕ) → guilty ≡ shared (r .first .seats) (c .seats)
-      → Wrote at (render (evidenceOf (r .n) (r .round) (certificateFrom (r .n) (inBank bank.First (r .first .seats)) (r .first .value) store) c)) out out′ end
-      → Did (blame c) r store out at (withGuilty r guilty) store out′ end
+  pub evidence-sent : (source : Source) (value m bytes : List ℕ) (guilty : ℕ) → bytes ≡ bytesOf (source .place) store m → guilty ≡ shared (r .first .seats) (source .seats)
+      → Wrote at (render (evidenceOf (r .n) (r .round) (certificateFrom (r .n) (inBank bank.First (r .first .seats)) (r .first .value) store) (certificateFrom (r .n) source value bytes))) out out′ end
+      → Did (blame (heard (r .n) source value store m)) r store out at (withGuilty r guilty) store out′ end
   unfolding blame write firstCertificate signatureAt bankOf
-  evidence-sent c guilty e w =
+  evidence-sent source value m bytes guilty chosen e w =
+      let c = heard (r .n) source value store m in
       saying (blame c) r store (evidenceOf (r .n) (r .round) (firstCertificate r store) c) out at (withGuilty r guilty) store out′ end refl
-      (record { recorded = rw e; stored = refl }) w
+      (record { recorded = rw e; stored = refl }) (rw (← chosen) w)
 
 -- ---- one way or the other
 

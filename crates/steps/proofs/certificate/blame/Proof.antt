@@ -1,39 +1,57 @@
+-- `steps::certificate::blame` meets its contract.
+use lib.ListN.{length}
+use mathlib.Core.Path.{_≡_, sym}
+use Rattle.protocol.specs.Layout.{valueLength}
+use Rattle.layout.specs.declared.Bank.the-variants as bank
+use native.Mathlib.Omega.{arith}
+use denote.Ref.{now}
+use Rattle.steps.specs.Certificates.{readable-bank, evidence-bound, evidence-sent}
 use borrow.Author.Needs.{needs}
 use Rattle.steps.proofs.certificate.blame.Statement.{statement}
 use Rattle.steps.proofs.certificate.blame.Tie as tie
-use Rattle.steps.proofs.certificate.blame.Reads as reads
-use Rattle.steps.proofs.certificate.blame.Lts as lts
-use Rattle.quorum.proofs.shared.Reads as shared-reads
-use Rattle.store.proofs.sources.bytes_of.Reads as bytes-of-reads
-use Rattle.wire_write.proofs.write_evidence.Reads as write-evidence-reads
 
--- src/certificate.rt:71:9
+abbrev started : tie.After-bytes-of → tie.Start
+started c = c .before .before .before .before .before
+
+abbrev chosen : tie.After-value → tie.After-bytes-of
+chosen c = c .before .before .before
+
+abbrev written : tie.After-shared → tie.After-write-evidence
+written c = c .before .before .before
+
 bytes-of-requires : tie.Need-bytes-of-requires
 bytes-of-requires c κs = search needs
 
--- src/certificate.rt:77:9
 slice-aggregate-write-evidence : tie.Need-slice-aggregate-write-evidence
 slice-aggregate-write-evidence c = search needs
 
--- src/certificate.rt:80:9
 slice-aggregate-write-evidence-2 : tie.Need-slice-aggregate-write-evidence-2
 slice-aggregate-write-evidence-2 c = search needs
 
--- src/certificate.rt:72:9
 write-evidence-requires : tie.Need-write-evidence-requires
-write-evidence-requires c κs = ?
+write-evidence-requires c κs =
+    let start = started (chosen c) in
+    let r = start .args .r in
+    let fits = start .pre .0 in
+    let room = evidence-bound (r .n) (r .first .seats) (start .args .source .seats) (fits .held) in
+    let readable = readable-bank (r .n) bank.First (r .first .seats) (now (start .args .store)) (fits .first) (fits .slots) in
+    let long : length (r .first .value) ≡ valueLength = sym (slice-aggregate-write-evidence (c .before)) in
+    let long-too : length (start .args .t5) ≡ valueLength = sym (slice-aggregate-write-evidence-2 c) in
+    (fits .most, long, readable, long-too, rw (chosen c .bytes-of .ensures) (start .pre .1), omega (arith, room, start .pre .2))
 
--- src/certificate.rt:84:9
 shared-requires : tie.Need-shared-requires
 shared-requires c κs = search needs
 
--- src/certificate.rt:54:1
 same-length : tie.Need-same-length
 same-length c = search needs
 
--- src/certificate.rt:54:1
 returns : tie.Need-returns
-returns c = ?
+returns c =
+    let wrote = written c .write-evidence in
+    let bytes = chosen (written c .before) .bytes-of in
+    let args = started (chosen (written c .before)) .args in
+    evidence-sent (args .r) (now (args .store)) (now (args .out)) (args .at) (wrote .last .0) (wrote .result)
+    (args .source) (args .t5) (now (args .m)) (now (bytes .result)) (c .shared .result) (bytes .ensures) (c .shared .ensures) (wrote .ensures .0)
 
 pub blame-spec : {M : Type 1} → statement M
 blame-spec =

@@ -1,47 +1,66 @@
+-- `steps::certificate::hold_or_blame` meets its contract.
+use Rattle.protocol.specs.Certificate.{Certificate}
+use denote.Ref.{now}
+use Rattle.steps.specs.Certificates.{heard, first-held, blamed, not-blamed}
 use borrow.Author.Needs.{needs}
 use Rattle.steps.proofs.certificate.hold_or_blame.Statement.{statement}
 use Rattle.steps.proofs.certificate.hold_or_blame.Tie as tie
-use Rattle.steps.proofs.certificate.hold_or_blame.Reads as reads
-use Rattle.steps.proofs.certificate.hold_or_blame.Lts as lts
-use Rattle.steps.proofs.certificate.blame.Reads as blame-reads
-use Rattle.steps.proofs.certificate.blames.Reads as blames-reads
-use Rattle.steps.proofs.certificate.hold.Reads as hold-reads
 
--- src/certificate.rt:104:13
+-- the certificate heard
+abbrev certificate : tie.Start → Certificate
+certificate s = heard (s .args .r .n) (s .args .source) (s .args .value) (now (s .args .store)) (now (s .args .m))
+
+abbrev started : tie.After-struct-known → tie.Start
+started c = c .before .before .before .before
+
+abbrev taken : tie.After-hold → tie.Then1
+taken c = c .before .before
+
+abbrev tested : tie.After-blame → tie.Then2
+tested c = c .before .before .before
+
 hold-requires : tie.Need-hold-requires
 hold-requires c κs = search needs
 
--- src/certificate.rt:105:9
 same-length : tie.Need-same-length
 same-length c = search needs
 
--- src/certificate.rt:105:9
 returns : tie.Need-returns
-returns c = ?
+returns c =
+    let last = c .before .before in
+    let held = last .hold in
+    let start = started (taken last .before) in
+    let args = start .args in
+    first-held (args .r) (now (args .store)) (now (args .out)) (args .at) (certificate start) (held .result) (held .last .1 .0) (taken last .if1 .taken) (held .ensures)
 
--- src/certificate.rt:107:8
 blames-requires : tie.Need-blames-requires
 blames-requires c κs = search needs
 
--- src/certificate.rt:108:9
 blame-requires : tie.Need-blame-requires
 blame-requires c κs = search needs
 
--- src/certificate.rt:108:9
 same-length-2 : tie.Need-same-length-2
 same-length-2 c = search needs
 
--- src/certificate.rt:108:9
 same-length-3 : tie.Need-same-length-3
 same-length-3 c = search needs
 
--- src/certificate.rt:108:9
 returns-2 : tie.Need-returns-2
-returns-2 c = ?
+returns-2 c =
+    let last = c .before .before in
+    let done = last .blame in
+    let asked = tested last .before in
+    let start = started (asked .before .before) in
+    let args = start .args in
+    blamed (args .r) (now (args .store)) (now (args .out)) (args .at) (certificate start) (asked .before .if1 .left) (asked .blames .result) (asked .blames .ensures)
+    (done .result .unit) (now (args .store)) (done .last .1 .1 .0) (done .result .at) (tested last .if2 .taken) (done .ensures)
 
--- src/certificate.rt:91:1
 returns-3 : tie.Need-returns-3
-returns-3 c = ?
+returns-3 c =
+    let asked = c .before in
+    let start = started (asked .before .before) in
+    let args = start .args in
+    not-blamed (args .r) (now (args .store)) (now (args .out)) (args .at) (certificate start) (asked .before .if1 .left) (asked .blames .result) (asked .blames .ensures) (c .if2 .left)
 
 pub hold-or-blame-spec : {M : Type 1} → statement M
 hold-or-blame-spec =

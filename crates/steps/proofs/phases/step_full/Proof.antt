@@ -1,40 +1,71 @@
+-- `steps::phases::step_full` meets its contract.
+use mathlib.Core.Path.{ap, _∙_}
+use Prim.Native.Nat.{ℕ}
+use lib.ListN.{length}
+use native.Mathlib.Omega.{arith}
+use denote.Ref.{now}
+use Rattle.protocol.specs.Message.{readValue}
+use Rattle.store.specs.Sources.{bytesOf}
+use Rattle.store.specs.SourceLaws.{full-readable}
+use Rattle.wire.specs.MessageLaws.{long-enough}
+use Rattle.wire.specs.declared.read.Kind.the-variants as kind
+use Rattle.steps.specs.Possible.{ready-fits}
+use Rattle.steps.specs.Steps.{all-fits, full-said, full-heard}
 use borrow.Author.Needs.{needs}
 use Rattle.steps.proofs.phases.step_full.Statement.{statement}
 use Rattle.steps.proofs.phases.step_full.Tie as tie
-use Rattle.steps.proofs.phases.step_full.Reads as reads
-use Rattle.steps.proofs.phases.step_full.Lts as lts
-use Rattle.layout.proofs.value_at.Reads as value-at-reads
-use Rattle.steps.proofs.certificate.hear_certificate.Reads as hear-certificate-reads
-use Rattle.wire.proofs.read.entry_set.Reads as entry-set-reads
-use Rattle.wire.proofs.values.value_at.Reads as values-value-at-reads
 
--- src/phases.rt:74:49
+abbrev started : tie.After-value-at → tie.Start
+started c = c .before .before .before .before
+
+abbrev read : tie.After-hear-certificate-arg2 → tie.After-entry-set
+read c = c .before .before
+
+abbrev done : tie.After-slice-known4 → tie.After-hear-certificate
+done c = c .before .before .before .before
+
 value-at-requires : tie.Need-value-at-requires
 value-at-requires c κs = search needs
 
--- src/phases.rt:74:9
 value-at-requires-2 : tie.Need-value-at-requires-2
-value-at-requires-2 c κs = ?
+value-at-requires-2 c κs =
+    let start = started c in
+    omega (arith, c .value-at .ensures, long-enough kind.Full (start .args .r .n) (now (start .args .message)) (start .pre .1) (λ e. omega arith))
 
--- src/phases.rt:75:9
 entry-set-requires : tie.Need-entry-set-requires
 entry-set-requires c κs = search needs
 
--- src/phases.rt:80:5
 hear-certificate-requires : tie.Need-hear-certificate-requires
-hear-certificate-requires c κs = ?
+unfolding bytesOf
+hear-certificate-requires c κs =
+    let set = read c .entry-set in
+    let start = started (read c .before .before) in
+    let args = start .args in
+    let n = args .r .n in
+    let m = now (args .message) in (
+      ready-fits (args .r) (now (args .store)) (now (args .out)) (start .pre .0),
+      full-readable n m (full-said n m (start .pre .1)) (start .pre .2) (start .pre .3) (set .result) (set .ensures),
+      omega (arith, all-fits n (length (now (args .out))) (start .pre .0 .room)),
+    )
 
--- src/phases.rt:70:1
 same-length : tie.Need-same-length
 same-length c = search needs
 
--- src/phases.rt:70:1
 same-length-2 : tie.Need-same-length-2
 same-length-2 c = search needs
 
--- src/phases.rt:70:1
 returns : tie.Need-returns
-returns c = ?
+unfolding bytesOf
+returns c =
+    let heard = done c .hear-certificate in
+    let point = read (done c .before) in
+    let set = point .entry-set in
+    let value = point .before .value-at2 in
+    let place = point .before .before .value-at in
+    let start = started (point .before .before) in
+    let args = start .args in
+    full-heard (args .r) (now (args .store)) (now (args .out)) (now (args .message)) (args .r) (heard .result .unit) (heard .last .1 .0) (heard .last .1 .1 .0) (heard .result .at)
+    (set .result) (value .result) (start .pre .1) (start .pre .2) (start .pre .3) (set .ensures) (value .ensures ∙ ap (λ (at : ℕ). readValue at (now (args .message))) (place .ensures)) (heard .ensures)
 
 pub step-full-spec : {M : Type 1} → statement M
 step-full-spec =
