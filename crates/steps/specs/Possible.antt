@@ -13,7 +13,6 @@ use Rattle.protocol.specs.Layout.{storeLength, outLength}
 use Rattle.protocol.specs.Record.{outOfRange, wrongHeard, namesStranger, wrongCollected, wrongFirst, lacksFirst, wrongGuilty, wrongSent, wrongUnset, impossible}
 use Rattle.protocol.specs.declared.Record.{Record}
 use Rattle.steps.specs.Records.{or-false, InRange, in-range}
-use Rattle.steps.specs.Phases.{Fits}
 
 pub record Possible (r : Record) : Type 0 where
   pub range : InRange r
@@ -32,20 +31,6 @@ pub record Ready (r : Record) (store out : List ℕ) : Type 0 where
   pub possible : Possible r
   pub slots : storeLength (r .n) ≤ length store
   pub room : outLength (r .n) ≤ length out
-
-pub ready-fits : (r : Record) (store out : List ℕ) → Ready r store out → Fits r store
-ready-fits r store out h =
-    let p = h .possible in
-    record {
-      some = p .range .some;
-      most = p .range .most;
-      seated = p .range .seated;
-      collected = p .collected;
-      few = p .few;
-      first = p .first;
-      held = p .held;
-      slots = h .slots;
-    }
 
 -- ---- from the test
 

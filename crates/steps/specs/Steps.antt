@@ -25,11 +25,27 @@ use Rattle.store.specs.Sources.{certificateFrom}
 use Rattle.store.specs.SourceLaws.{inFull, full-certificate}
 use Rattle.wire.specs.declared.read.Kind.{Kind}
 use Rattle.wire.specs.declared.read.Kind.the-variants as kind
-use Rattle.steps.specs.Phases.{Changed, Did, likewise, quietly, next}
+use Rattle.steps.specs.Possible.{Ready}
+use Rattle.steps.specs.Phases.{Changed, Did, Fits, likewise, quietly, next}
 use Rattle.steps.specs.Collecting.{hearSubmit-quiet}
 
--- ---- room for all four messages
+-- ---- what a call finds
 
+pub ready-fits : (r : Record) (store out : List ℕ) → Ready r store out → Fits r store
+ready-fits r store out h =
+    let p = h .possible in
+    record {
+      some = p .range .some;
+      most = p .range .most;
+      seated = p .range .seated;
+      collected = p .collected;
+      few = p .few;
+      first = p .first;
+      held = p .held;
+      slots = h .slots;
+    }
+
+-- room for all four messages
 pub all-fits : (n L : ℕ) → outLength n ≤ L → submitLength + noticeLength + fullLength n + evidenceLength (k n) ≤ L
 unfolding outLength
 all-fits n L h = omega arith

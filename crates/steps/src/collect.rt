@@ -1,6 +1,6 @@
 // Signatures over the own value, collected.
 ghost use mathlib.Core.Path.{_≡_};
-ghost use Prim.Native.Nat.{_+_, _<_, _≤_};
+ghost use Prim.Native.Nat.{_<_, _≤_};
 ghost use lib.ListN.{length};
 ghost use Rattle.quorum.specs.Quorum.{mostSeats};
 ghost use mathlib.Core.List.{[]};

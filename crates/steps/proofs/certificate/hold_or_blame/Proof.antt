@@ -13,6 +13,9 @@ certificate s = heard (s .args .r .n) (s .args .source) (s .args .value) (now (s
 abbrev started : tie.After-struct-known → tie.Start
 started c = c .before .before .before .before
 
+abbrev begun : tie.After-blames → tie.Start
+begun c = started (c .before .before)
+
 abbrev taken : tie.After-hold → tie.Then1
 taken c = c .before .before
 
@@ -50,7 +53,7 @@ returns-2 c =
     let last = c .before .before in
     let done = last .blame in
     let asked = tested last .before in
-    let start = started (asked .before .before) in
+    let start = begun asked in
     let args = start .args in
     blamed (args .r) (now (args .store)) (now (args .out)) (args .at) (certificate start) (asked .before .if1 .left) (asked .blames .result) (asked .blames .ensures)
     (done .result .unit) (now (args .store)) (done .last .1 .1 .0) (done .result .at) (tested last .if2 .taken) (done .ensures)
@@ -58,7 +61,7 @@ returns-2 c =
 returns-3 : tie.Need-returns-3
 returns-3 c =
     let asked = c .before in
-    let start = started (asked .before .before) in
+    let start = begun asked in
     let args = start .args in
     not-blamed (args .r) (now (args .store)) (now (args .out)) (args .at) (certificate start) (asked .before .if1 .left) (asked .blames .result) (asked .blames .ensures) (c .if2 .left)
 

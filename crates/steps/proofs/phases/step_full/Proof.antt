@@ -9,8 +9,7 @@ use Rattle.store.specs.Sources.{bytesOf}
 use Rattle.store.specs.SourceLaws.{full-readable}
 use Rattle.wire.specs.MessageLaws.{long-enough}
 use Rattle.wire.specs.declared.read.Kind.the-variants as kind
-use Rattle.steps.specs.Possible.{ready-fits}
-use Rattle.steps.specs.Steps.{all-fits, full-said, full-heard}
+use Rattle.steps.specs.Steps.{ready-fits, all-fits, full-said, full-heard}
 use borrow.Author.Needs.{needs}
 use Rattle.steps.proofs.phases.step_full.Statement.{statement}
 use Rattle.steps.proofs.phases.step_full.Tie as tie
@@ -61,11 +60,11 @@ returns c =
     let point = read (done c .before) in
     let set = point .entry-set in
     let value = point .before .value-at2 in
-    let place = point .before .before .value-at in
-    let start = started (point .before .before) in
+    let place = point .before .before in
+    let start = started place in
     let args = start .args in
     full-heard (args .r) (now (args .store)) (now (args .out)) (now (args .message)) (args .r) (heard .result .unit) (heard .last .1 .0) (heard .last .1 .1 .0) (heard .result .at)
-    (set .result) (value .result) (start .pre .1) (start .pre .2) (start .pre .3) (set .ensures) (value .ensures ∙ ap (λ (at : ℕ). readValue at (now (args .message))) (place .ensures)) (heard .ensures)
+    (set .result) (value .result) (start .pre .1) (start .pre .2) (start .pre .3) (set .ensures) (value .ensures ∙ ap (λ (at : ℕ). readValue at (now (args .message))) (place .value-at .ensures)) (heard .ensures)
 
 pub step-full-spec : {M : Type 1} → statement M
 step-full-spec =
