@@ -1,8 +1,9 @@
 -- The returns of replying, holding and blaming, over plain values.
 use mathlib.Core.Path.{_≡_, refl, subst, _∙_}
-use mathlib.Core.Bool.{Bool, true, false, cond, not, _&&_, false≢true}
+use mathlib.Core.Bool.{Bool, true, false, cond, not, _&&_}
 use mathlib.Core.List.{List}
 use Prim.Native.Nat.{ℕ, _+_, _^_, _≤_, _<_}
+use native.Mathlib.Nat.{mul-le-mul-left}
 use native.Mathlib.Omega.{arith}
 use lib.Dec.{eqb}
 use lib.ListN.{length}
@@ -10,55 +11,69 @@ use borrow.Author.Tests.{eq-eqb, ne-eqb}
 use Rattle.octets.specs.Strings.{same}
 use Rattle.quorum.specs.Quorum.{k, size, shared}
 use Rattle.quorum.specs.QuorumLaws.{size-shared-le}
-use Rattle.protocol.specs.Layout.{collectedBank, firstBank, storeLength, fullEntryLength, fullEntryAt, fullLength, evidenceEntryLength, evidenceEntryAt, evidenceLength}
+use Rattle.protocol.specs.Layout.{storeLength, fullEntryLength, fullEntryAt, fullLength, evidenceEntryLength, evidenceEntryAt, evidenceLength}
 use Rattle.protocol.specs.Message.{render}
 use Rattle.protocol.specs.Calls.{start}
 use Rattle.protocol.specs.Certificate.{Certificate, ownCertificate, firstCertificate, fullOf, evidenceOf}
 use Rattle.protocol.specs.Record.{withNotices, withSent, withGuilty, holds}
-use Rattle.protocol.specs.Step.{write, noticesWith, hear, owesFull, sendFull, reply, hold, blame, blames, holdOrBlame, hearCertificate, hearOwn}
+use Rattle.protocol.specs.Step.{write, noticesWith, hear, owesFull, sendFull, reply, hold, blame, blames, holdOrBlame, hearCertificate}
 use Rattle.protocol.specs.StepLaws.{reply-after, holdOrBlame-after}
 use Rattle.protocol.specs.declared.Notices.{Notices}
 use Rattle.protocol.specs.declared.Record.{Record}
-use Rattle.wire.specs.Sources.{Readable, signatureFrom, certificateFrom}
-use Rattle.wire.specs.Writing.{Wrote}
-use Rattle.wire.specs.declared.sources.Source.{Source}
+use Rattle.layout.specs.Places.{bankOf}
+use Rattle.layout.specs.declared.Bank.{Bank}
+use Rattle.layout.specs.declared.Bank.the-variants as bank
+use Rattle.store.specs.Sources.{bytesOf, Readable, signatureAt, certificateFrom}
+use Rattle.store.specs.declared.sources.Place.the-variants as place
+use Rattle.store.specs.declared.sources.Source.{Source}
+use Rattle.wire_write.specs.Writing.{Wrote}
 use Rattle.steps.specs.Phases.{Changed, Did, Fits, fits-like, likewise, quietly, saying, next}
 
 -- ---- sources and room
 
--- seats whose signatures are in a bank of the store
-abbrev pub inBank : ℕ → ℕ → Source
-inBank bank seats = record { full = false; bank = bank; seats = seats }
+-- a certificate that is heard: its signatures stand in a message or in the store, and can be read there
+abbrev pub Heard : ℕ → Source → List ℕ → List ℕ → Type 0
+Heard n source store m = Readable n source (bytesOf (source .place) store m)
 
-pub readable-bank : (n bank seats : ℕ) (store : List ℕ) → bank < 2 → seats < 2 ^ n → storeLength n ≤ length store → Readable n (inBank bank seats) store
-readable-bank n bank seats store b s l = record { inside = s; entries = λ e. absurd (false≢true e); slots = λ _. (b, l) }
+abbrev pub heard : ℕ → Source → List ℕ → List ℕ → List ℕ → Certificate
+heard n source value store m = certificateFrom n source value (bytesOf (source .place) store m)
+
+-- seats whose signatures are in a bank of the store
+abbrev pub inBank : Bank → ℕ → Source
+inBank bank seats = record { place = place.Slots bank; seats = seats }
+
+pub readable-bank : (n : ℕ) (bank : Bank) (seats : ℕ) (store : List ℕ) → seats < 2 ^ n → storeLength n ≤ length store → Readable n (inBank bank seats) store
+readable-bank n bank seats store s l = record { inside = s; stands = l }
 
 pub full-bound : (n size : ℕ) → size ≤ k n → fullEntryAt size ≤ fullLength n
-unfolding fullLength fullEntryAt fullEntryLength
-full-bound n size h = omega arith
+unfolding fullLength fullEntryAt
+full-bound n size h = omega (arith, mul-le-mul-left fullEntryLength h)
 
 -- EVIDENCE has an entry for each seat that is in both, so at most k
 pub evidence-bound : (n a b : ℕ) → size a ≤ k n → evidenceLength (size (shared a b)) ≤ evidenceLength (k n)
-unfolding evidenceLength evidenceEntryAt evidenceEntryLength
-evidence-bound n a b h = omega (arith, size-shared-le a b)
+unfolding evidenceLength evidenceEntryAt
+evidence-bound n a b h =
+    let most : size (shared a b) ≤ k n = omega (arith, size-shared-le a b) in
+    omega (arith, mul-le-mul-left evidenceEntryLength most)
 
 -- ---- messages written
 
 module _ (r : Record) (store out : List ℕ) (at : ℕ) (out′ : List ℕ) (end : ℕ) where
-  pub full-sent : Wrote at (render (fullOf (r .n) (r .round) (r .seat) (certificateFrom (r .n) (inBank collectedBank (r .own .collected)) (r .own .value) store))) out out′ end
+  pub full-sent : Wrote at (render (fullOf (r .n) (r .round) (r .seat) (certificateFrom (r .n) (inBank bank.Collected (r .own .collected)) (r .own .value) store))) out out′ end
       → Did sendFull r store out at (withSent r) store out′ end
-  unfolding sendFull write ownCertificate signatureFrom
+  unfolding sendFull write ownCertificate signatureAt bankOf
   full-sent w =
       saying sendFull r store (fullOf (r .n) (r .round) (r .seat) (ownCertificate r store)) out at (withSent r) store out′ end refl
       (record { recorded = refl; stored = refl }) w
 
-  pub evidence-sent : (c : Certificate) (guilty : ℕ) → guilty ≡ shared (r .first .seats) (c .seats)
-      → Wrote at (render (evidenceOf (r .n) (r .round) (certificateFrom (r .n) (inBank firstBank (r .first .seats)) (r .first .value) store) c)) out out′ end
-      → Did (blame c) r store out at (withGuilty r guilty) store out′ end
-  unfolding blame write firstCertificate signatureFrom
-  evidence-sent c guilty e w =
+  pub evidence-sent : (source : Source) (value m bytes : List ℕ) (guilty : ℕ) → bytes ≡ bytesOf (source .place) store m → guilty ≡ shared (r .first .seats) (source .seats)
+      → Wrote at (render (evidenceOf (r .n) (r .round) (certificateFrom (r .n) (inBank bank.First (r .first .seats)) (r .first .value) store) (certificateFrom (r .n) source value bytes))) out out′ end
+      → Did (blame (heard (r .n) source value store m)) r store out at (withGuilty r guilty) store out′ end
+  unfolding blame write firstCertificate signatureAt bankOf
+  evidence-sent source value m bytes guilty chosen e w =
+      let c = heard (r .n) source value store m in
       saying (blame c) r store (evidenceOf (r .n) (r .round) (firstCertificate r store) c) out at (withGuilty r guilty) store out′ end refl
-      (record { recorded = rw e; stored = refl }) w
+      (record { recorded = rw e; stored = refl }) (rw (← chosen) w)
 
 -- ---- one way or the other
 
@@ -134,10 +149,6 @@ module _ (r : Record) (store : List ℕ) (notices : Notices) (u : Record) (heard
     pub replied-fits : Fits r store → Fits v store
     replied-fits h = fits-alike r v store replied-alike h
 
-    pub replied-own : ownCertificate v store ≡ ownCertificate r store
-    unfolding ownCertificate
-    replied-own = rw (replied-alike .n, replied-alike .own)
-
     pub replied-room : (at a L : ℕ) → a ≤ at + fullLength (u .n) → at + fullLength (r .n) + evidenceLength (k (r .n)) ≤ L → a + evidenceLength (k (v .n)) ≤ L
     replied-room at a L e h =
         let f : a ≤ at + fullLength (r .n) = rw (heard-alike .n) at e in
@@ -145,26 +156,13 @@ module _ (r : Record) (store : List ℕ) (notices : Notices) (u : Record) (heard
 
 -- a certificate heard, from its three phases
 module _ (r : Record) (store out : List ℕ) (at : ℕ) (room : at ≤ length out) (u v : Record) (out′ : List ℕ) (a : ℕ) (w : Record) (store″ out″ : List ℕ) (e : ℕ) where
-  certificate-heard : (c : Certificate) → u ≡ withNotices r (noticesWith (c .value) r) → Did reply u store out at v store out′ a → Did (holdOrBlame c) v store out′ a w store″ out″ e
-      → Did (hearCertificate c) r store out at w store″ out″ e
+  pub certificate-heard : (source : Source) (value m : List ℕ) → u ≡ withNotices r (noticesWith value r) → Did reply u store out at v store out′ a
+      → Did (holdOrBlame (heard (v .n) source value store m)) v store out′ a w store″ out″ e → Did (hearCertificate (heard (r .n) source value store m)) r store out at w store″ out″ e
   unfolding hearCertificate hear
-  certificate-heard c heard replied held =
-      let first = quietly (hear (c .value)) r store out at u store refl (record { recorded = heard; stored = refl }) in
-      let second = next (hear (c .value)) reply reply-after r store out at u store out at v store out′ a room first replied in
-      next (λ s. reply (hear (c .value) s)) (holdOrBlame c) (holdOrBlame-after c) r store out at v store out′ a w store″ out″ e room second held
-
-  pub own-heard : u ≡ withNotices r (noticesWith (r .own .value) r) → Did reply u store out at v store out′ a → Did (holdOrBlame (ownCertificate v store)) v store out′ a w store″ out″ e
-      → Did hearOwn r store out at w store″ out″ e
-  unfolding hearOwn ownCertificate
-  own-heard heard replied held =
-      let same = replied-own r store (noticesWith (r .own .value) r) u heard v store (replied .kept) in
-      likewise (hearCertificate (ownCertificate r store)) r store hearOwn out at w store″ out″ e refl
-      (certificate-heard (ownCertificate r store) heard replied (rw same at held))
-
-  pub source-heard : (source : Source) (value m : List ℕ) → u ≡ withNotices r (noticesWith value r) → Did reply u store out at v store out′ a
-      → Did (holdOrBlame (certificateFrom (v .n) source value m)) v store out′ a w store″ out″ e
-      → Did (hearCertificate (certificateFrom (r .n) source value m)) r store out at w store″ out″ e
-  source-heard source value m heard replied held =
-      let same = replied-n r store (noticesWith value r) u heard v store (replied .kept) in
-      certificate-heard (certificateFrom (r .n) source value m) heard replied
-      (subst (λ (n : ℕ). Did (holdOrBlame (certificateFrom n source value m)) v store out′ a w store″ out″ e) same held)
+  certificate-heard source value m told replied held =
+      let same = replied-n r store (noticesWith value r) u told v store (replied .kept) in
+      let held-here = subst (λ (n : ℕ). Did (holdOrBlame (heard n source value store m)) v store out′ a w store″ out″ e) same held in
+      let c = heard (r .n) source value store m in
+      let first = quietly (hear value) r store out at u store refl (record { recorded = told; stored = refl }) in
+      let second = next (hear value) reply reply-after r store out at u store out at v store out′ a room first replied in
+      next (λ s. reply (hear value s)) (holdOrBlame c) (holdOrBlame-after c) r store out at v store out′ a w store″ out″ e room second held-here

@@ -17,9 +17,9 @@ use Rattle.protocol.specs.Calls.{start}
 use Rattle.protocol.specs.Refusals.{said}
 use Rattle.protocol.specs.Step.{write, setOwnValue, collect, submitOwn, isWanted, hearSubmit}
 use Rattle.protocol.specs.declared.Record.{Record}
-use Rattle.wire.specs.Writing.{Wrote}
+use Rattle.wire_write.specs.Writing.{Wrote}
 use Rattle.steps.specs.Phases.{Changed, Did, Fits, fits-like, likewise-kept, saying}
-use Rattle.steps.specs.Possible.{Possible}
+use Rattle.protocol.specs.RecordLaws.{Possible}
 
 -- ---- submit
 

@@ -7,9 +7,14 @@ use native.Mathlib.Omega.{arith}
 use lib.ListN.{length}
 use Rattle.quorum.specs.Quorum.{k}
 use Rattle.protocol.specs.Layout.{noticeLength, fullLength, evidenceLength}
-use Rattle.protocol.specs.Step.{write, confirm, reply, hearOwn, isComplete, confirmIfComplete}
+use Rattle.protocol.specs.Certificate.{ownCertificate}
+use Rattle.protocol.specs.Step.{write, confirm, reply, hearCertificate, hearOwn, isComplete, confirmIfComplete}
 use Rattle.protocol.specs.StepLaws.{hearOwn-after}
 use Rattle.protocol.specs.declared.Record.{Record}
+use Rattle.layout.specs.Places.{bankOf}
+use Rattle.layout.specs.declared.Bank.the-variants as bank
+use Rattle.store.specs.Sources.{signatureAt, certificateFrom}
+use Rattle.steps.specs.Certificates.{inBank}
 use Rattle.steps.specs.Phases.{Changed, Did, Fits, fits-like, likewise, next}
 
 module _ (r : Record) (store : List ℕ) (u : Record) (done : Changed confirm r store u store) where
@@ -25,12 +30,19 @@ module _ (r : Record) (store : List ℕ) (u : Record) (done : Changed confirm r 
       rw n (omega arith)
 
 module _ (r : Record) (store out : List ℕ) (at : ℕ) (v : Record) (store″ out″ : List ℕ) (e : ℕ) where
-  pub completed : (u : Record) (out′ : List ℕ) (a : ℕ) → at ≤ length out → isComplete r ≡ true → Did confirm r store out at u store out′ a → Did hearOwn u store out′ a v store″ out″ e
+  -- the own certificate is heard from the store
+  own-heard : (u : Record) (out′ : List ℕ) (a : ℕ) → Did (hearCertificate (certificateFrom (u .n) (inBank bank.Collected (u .own .collected)) (u .own .value) store)) u store out′ a v store″ out″ e
+      → Did hearOwn u store out′ a v store″ out″ e
+  unfolding hearOwn ownCertificate signatureAt bankOf
+  own-heard u out′ a d = likewise (hearCertificate (ownCertificate u store)) u store hearOwn out′ a v store″ out″ e refl d
+
+  pub completed : (u : Record) (out′ : List ℕ) (a : ℕ) → at ≤ length out → isComplete r ≡ true → Did confirm r store out at u store out′ a
+      → Did (hearCertificate (certificateFrom (u .n) (inBank bank.Collected (u .own .collected)) (u .own .value) store)) u store out′ a v store″ out″ e
       → Did confirmIfComplete r store out at v store″ out″ e
   unfolding confirmIfComplete
   completed u out′ a room complete first second =
       likewise (λ s. hearOwn (confirm s)) r store confirmIfComplete out at v store″ out″ e (rw complete)
-      (next confirm hearOwn hearOwn-after r store out at u store out′ a v store″ out″ e room first second)
+      (next confirm hearOwn hearOwn-after r store out at u store out′ a v store″ out″ e room first (own-heard u out′ a second))
 
   pub incomplete : isComplete r ≡ false → Did reply r store out at v store″ out″ e → Did confirmIfComplete r store out at v store″ out″ e
   unfolding confirmIfComplete

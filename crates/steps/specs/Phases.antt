@@ -11,10 +11,10 @@ use Rattle.protocol.specs.Message.{Message, render, renderAll}
 use Rattle.protocol.specs.Calls.{start}
 use Rattle.protocol.specs.Step.{State}
 use Rattle.protocol.specs.StepLaws.{after}
-use Rattle.protocol.specs.Laws.{all-append}
+use Rattle.protocol.specs.MessageLaws.{all-append}
 use Rattle.protocol.specs.declared.Record.{Record}
-use Rattle.wire.specs.Writing.{Wrote}
-use Rattle.wire.specs.WriteLaws.{then}
+use Rattle.wire_write.specs.Writing.{Wrote}
+use Rattle.wire_write.specs.WriteLaws.{then}
 
 -- the phase f leaves this record and this store
 pub record Changed (f : State → State) (r : Record) (store : List ℕ) (unit : Record) (store′ : List ℕ) : Type 0 where

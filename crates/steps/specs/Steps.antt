@@ -5,12 +5,12 @@ use mathlib.Core.List.{List}
 use mathlib.Core.Logic.{_⊎_, ⊎-elim}
 use Prim.Native.Nat.{ℕ, _+_, _≤_, _<_}
 use native.Mathlib.Omega.{arith}
-use lib.Dec.{ltb, eqb}
+use lib.Dec.{ltb}
 use lib.ListN.{length}
-use borrow.Author.Tests.{eqb-true, ltb-true, not-false}
+use borrow.Author.Tests.{ltb-true, not-false}
 use Rattle.quorum.specs.Quorum.{k}
-use Rattle.protocol.specs.Layout.{signatureLength, submitLength, noticeLength, fullEntryLength, fullEntryAt, fullLength, evidenceEntryLength, evidenceEntryAt, evidenceLength, outLength}
-use Rattle.protocol.specs.Message.{byteAt, read, readSubmit, readNotice, readFull, readEvidence, readValue, readSignature, fitsSubmit, fitsNotice, fitsFull, seatsOf, entrySeats}
+use Rattle.protocol.specs.Layout.{signatureLength, seatAt, valueAt, submitSignatureAt, submitLength, noticeLength, fullLength, evidenceLength, outLength}
+use Rattle.protocol.specs.Message.{byteAt, read, readSubmit, readNotice, readFull, readEvidence, readValue, readSignature, fitsSubmit, seatsOf, entrySeats}
 use Rattle.protocol.specs.Certificate.{setOf}
 use Rattle.protocol.specs.Record.{withNotices}
 use Rattle.protocol.specs.Refusals.{stranger, disorder, every, isFull}
@@ -18,19 +18,36 @@ use Rattle.protocol.specs.Step.{noticesWith, hear, reply, hearCertificate, subm
 use Rattle.protocol.specs.StepLaws.{reply-after, confirmIfComplete-after}
 use Rattle.protocol.specs.declared.Record.{Record}
 use Rattle.wire.specs.Reading.{kindOf}
+use Rattle.wire.specs.FormLaws.{submit-length}
 use Rattle.wire.specs.KindLaws.{read-as, tag}
-use Rattle.wire.specs.StoreLaws.{length-signature}
-use Rattle.wire.specs.Sources.{certificateFrom}
-use Rattle.wire.specs.SourceLaws.{inFull, full-length, full-certificate}
+use Rattle.store.specs.StoreLaws.{length-signature}
+use Rattle.store.specs.Sources.{certificateFrom}
+use Rattle.store.specs.SourceLaws.{inFull, full-certificate}
 use Rattle.wire.specs.declared.read.Kind.{Kind}
 use Rattle.wire.specs.declared.read.Kind.the-variants as kind
-use Rattle.steps.specs.Phases.{Changed, Did, likewise, quietly, next}
+use Rattle.protocol.specs.RecordLaws.{Ready}
+use Rattle.steps.specs.Phases.{Changed, Did, Fits, likewise, quietly, next}
 use Rattle.steps.specs.Collecting.{hearSubmit-quiet}
 
--- ---- room for all four messages
+-- ---- what a call finds
 
+pub ready-fits : (r : Record) (store out : List ℕ) → Ready r store out → Fits r store
+ready-fits r store out h =
+    let p = h .possible in
+    record {
+      some = p .range .some;
+      most = p .range .most;
+      seated = p .range .seated;
+      collected = p .collected;
+      few = p .few;
+      first = p .first;
+      held = p .held;
+      slots = h .slots;
+    }
+
+-- room for all four messages
 pub all-fits : (n L : ℕ) → outLength n ≤ L → submitLength + noticeLength + fullLength n + evidenceLength (k n) ≤ L
-unfolding outLength submitLength noticeLength fullLength fullEntryAt fullEntryLength evidenceLength evidenceEntryAt evidenceEntryLength
+unfolding outLength
 all-fits n L h = omega arith
 
 -- what is left of it after at most a SUBMIT
@@ -44,38 +61,22 @@ module _ (n : ℕ) (m : List ℕ) where
     is-submit : (read n m ≡ readSubmit m) × (fitsSubmit m ≡ true)
     is-submit = read-as kind.Submit n m e
 
-    pub submit-length : length m ≡ 36 + signatureLength
-    unfolding fitsSubmit submitLength signatureLength
-    submit-length = eqb-true (length m) submitLength (and-eq-true-iff (eqb (length m) submitLength) (eqb (byteAt m 0) 0x01) .0 (is-submit .1) .0)
+    pub submit-long : length m ≡ submitSignatureAt + signatureLength
+    unfolding submitLength
+    submit-long = submit-length m (is-submit .1) .0
 
-    pub submit-signature : (g : List ℕ) → g ≡ readSignature 36 m → length g ≡ signatureLength
-    submit-signature g q = rw q (length-signature 36 m (omega (arith, submit-length)))
+    pub submit-signature : (g : List ℕ) → g ≡ readSignature submitSignatureAt m → length g ≡ signatureLength
+    submit-signature g q = rw q (length-signature submitSignatureAt m (omega (arith, submit-long)))
 
-    pub submit-seat : (s : ℕ) → s ≡ byteAt m 3 → stranger n (read n m) ≡ false → s < n
+    pub submit-seat : (s : ℕ) → s ≡ byteAt m seatAt → stranger n (read n m) ≡ false → s < n
     unfolding stranger seatsOf every readSubmit
     submit-seat s q h =
         let known = not-false _ (rw (is-submit .0) at h) in
-        rw q (ltb-true (byteAt m 3) n (and-eq-true-iff (ltb (byteAt m 3) n) true .0 known .0))
+        rw q (ltb-true (byteAt m seatAt) n (and-eq-true-iff (ltb (byteAt m seatAt) n) true .0 known .0))
 
-  module _ (e : kind.Notice ≡ kindOf (read n m)) where
-    is-notice : (read n m ≡ readNotice m) × (fitsNotice m ≡ true)
-    is-notice = read-as kind.Notice n m e
-
-    pub notice-length : length m ≡ 36
-    unfolding fitsNotice noticeLength
-    notice-length = eqb-true (length m) noticeLength (and-eq-true-iff (eqb (length m) noticeLength) (eqb (byteAt m 0) 0x02) .0 (is-notice .1) .0)
-
-  module _ (e : kind.Full ≡ kindOf (read n m)) where
-    is-full : (read n m ≡ readFull n m) × (fitsFull n m ≡ true)
-    is-full = read-as kind.Full n m e
-
-    pub full-long : 36 ≤ length m
-    unfolding fullLength fullEntryAt
-    full-long = omega (arith, full-length n m (is-full .1))
-
-    pub full-said : isFull (read n m) ≡ true
-    unfolding isFull readFull
-    full-said = rw (is-full .0)
+  pub full-said : kind.Full ≡ kindOf (read n m) → isFull (read n m) ≡ true
+  unfolding isFull readFull
+  full-said e = rw (read-as kind.Full n m e .0)
 
 -- ---- the calls
 
@@ -87,7 +88,7 @@ module _ (r : Record) (store out : List ℕ) (u : Record) (store′ out′ : Lis
       next (submitOwn value signature) confirmIfComplete confirmIfComplete-after r store out 0 u store′ out′ a v store″ out″ e (omega arith) first second
 
 module _ (r : Record) (store out : List ℕ) (m : List ℕ) (u : Record) (v : Record) (store″ out″ : List ℕ) (e : ℕ) where
-  pub submit-heard : (seat : ℕ) (value signature store′ : List ℕ) → kind.Submit ≡ kindOf (read (r .n) m) → seat ≡ byteAt m 3 → value ≡ readValue 4 m → signature ≡ readSignature 36 m
+  pub submit-heard : (seat : ℕ) (value signature store′ : List ℕ) → kind.Submit ≡ kindOf (read (r .n) m) → seat ≡ byteAt m seatAt → value ≡ readValue valueAt m → signature ≡ readSignature submitSignatureAt m
       → Changed (hearSubmit seat value signature) r store u store′ → Did confirmIfComplete u store′ out 0 v store″ out″ e → Did (stepped (read (r .n) m)) r store out 0 v store″ out″ e
   unfolding stepped readSubmit
   submit-heard seat value signature store′ said at-seat at-value at-signature first second =
@@ -96,21 +97,21 @@ module _ (r : Record) (store out : List ℕ) (m : List ℕ) (u : Record) (v : Re
       rw (is-submit (r .n) m said .0, ← at-seat, ← at-value, ← at-signature)
       (next f confirmIfComplete confirmIfComplete-after r store out 0 u store′ out 0 v store″ out″ e (omega arith) quiet second)
 
-  pub notice-heard : (value : List ℕ) → kind.Notice ≡ kindOf (read (r .n) m) → value ≡ readValue 4 m → u ≡ withNotices r (noticesWith value r) → Did reply u store out 0 v store″ out″ e
+  pub notice-heard : (value : List ℕ) → kind.Notice ≡ kindOf (read (r .n) m) → value ≡ readValue valueAt m → u ≡ withNotices r (noticesWith value r) → Did reply u store out 0 v store″ out″ e
       → Did (stepped (read (r .n) m)) r store out 0 v store″ out″ e
   unfolding stepped readNotice hear
   notice-heard value said at-value first second =
       let f = hear value in
       let quiet = quietly f r store out 0 u store refl (record { recorded = first; stored = refl }) in
-      rw (is-notice (r .n) m said .0, ← at-value) (next f reply reply-after r store out 0 u store out 0 v store″ out″ e (omega arith) quiet second)
+      rw (read-as kind.Notice (r .n) m said .0, ← at-value) (next f reply reply-after r store out 0 u store out 0 v store″ out″ e (omega arith) quiet second)
 
   pub full-heard : (seats : ℕ) (value : List ℕ) → kind.Full ≡ kindOf (read (r .n) m) → stranger (r .n) (read (r .n) m) ≡ false → disorder (read (r .n) m) ≡ false
-      → seats ≡ setOf (entrySeats (read (r .n) m)) → value ≡ readValue 4 m → Did (hearCertificate (certificateFrom (r .n) (inFull seats) value m)) r store out 0 v store″ out″ e
+      → seats ≡ setOf (entrySeats (read (r .n) m)) → value ≡ readValue valueAt m → Did (hearCertificate (certificateFrom (r .n) (inFull seats) value m)) r store out 0 v store″ out″ e
       → Did (stepped (read (r .n) m)) r store out 0 v store″ out″ e
   unfolding stepped readFull
   full-heard seats value said known ordered set at-value d =
       likewise (hearCertificate (certificateFrom (r .n) (inFull seats) value m)) r store (stepped (read (r .n) m)) out 0 v store″ out″ e
-      (rw (full-certificate (r .n) m (full-said (r .n) m said) known ordered seats set value at-value, is-full (r .n) m said .0)) d
+      (rw (full-certificate (r .n) m (full-said (r .n) m said) known ordered seats set value at-value, read-as kind.Full (r .n) m said .0)) d
 
 -- what no step takes changes nothing
 pub nothing-heard : (t : Kind) (r : Record) (store out m : List ℕ) → t ≡ kindOf (read (r .n) m) → (tag t ≡ 3) ⊎ (tag t ≡ 4)

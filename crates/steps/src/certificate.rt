@@ -8,19 +8,17 @@ ghost use Rattle.octets.specs.Strings.{same};
 ghost use Rattle.quorum.specs.Quorum.{k};
 ghost use Rattle.protocol.specs.Layout.{fullLength, evidenceLength};
 ghost use Rattle.protocol.specs.Record.{withFirst};
-ghost use Rattle.protocol.specs.Certificate.{ownCertificate};
-ghost use Rattle.protocol.specs.Step.{hold, blame, holdOrBlame, hearCertificate, hearOwn};
-ghost use Rattle.wire.specs.Sources.{Readable, certificateFrom};
+ghost use Rattle.protocol.specs.Step.{hold, blame, holdOrBlame, hearCertificate};
 ghost use Rattle.steps.specs.Phases.{Changed, Did, Fits};
-use crate::bools::both;
+ghost use Rattle.steps.specs.Certificates.{Heard, heard};
 use crate::hear::hear;
+use crate::phases::Phase;
 use crate::reply::reply;
-use crate::steps::Phase;
+use layout::Bank;
 use protocol::First;
 use protocol::Record;
-use wire::slots::COLLECTED;
-use wire::slots::FIRST;
-use wire::sources::Source;
+use store::sources::Place;
+use store::sources::Source;
 
 // The record with its first certificate set.
 fn with_first(r: Record, first: First) -> Record
@@ -31,58 +29,46 @@ fn with_first(r: Record, first: First) -> Record
     u
 }
 
-// The own certificate is held.
-fn hold_own(r: Record, store: &mut [u8]) -> Record
-    requires { ⌜ Fits r (now store) ⌝ }
-    ensures { λ u. ⌜ Changed (hold (ownCertificate r (now (store .entry)))) r (now (store .entry)) u (now (store .exit)) ⌝ }
-{
-    let value = r.own.value;
-    let seats = r.own.collected;
-    wire::held::hold_own(store, r.n, seats);
-    let first = First { value, seats };
-    with_first(r, first)
-}
-
-// A certificate of a value is held, whose signatures stand in m.
+// A certificate is held. Its signatures stand in m or in the store.
 fn hold(r: Record, store: &mut [u8], value: [u8; 32], source: Source, m: &[u8]) -> Record
-    requires { ⌜ Fits r (now store) × Readable (r .n) source (now m) ⌝ }
-    ensures { λ u. ⌜ Changed (hold (certificateFrom (r .n) source value (now (m .entry)))) r (now (store .entry)) u (now (store .exit)) ⌝ }
+    requires { ⌜ Fits r (now store) × Heard (r .n) source (now store) (now m) ⌝ }
+    ensures { λ u. ⌜ Changed (hold (heard (r .n) source value (now (store .entry)) (now (m .entry)))) r (now (store .entry)) u (now (store .exit)) ⌝ }
 {
     let seats = source.seats;
-    wire::held::hold(store, r.n, source, m);
+    store::held::hold(store, r.n, source, m);
     let first = First { value, seats };
     with_first(r, first)
 }
 
-// A certificate of a value other than the first's blames, while guilty seats are empty.
+// Another value than the first certificate's, while guilty seats are empty.
 fn blames(r: Record, value: [u8; 32]) -> bool
     ensures { λ b. ⌜ b ≡ (not (same value (r .first .value)) && eqb (r .guilty) 0) ⌝ }
 {
     let first = r.first.value;
     let same = octets::same(&value, &first);
-    both(!same, r.guilty == 0)
+    !same & (r.guilty == 0)
 }
 
 // The shared seats become guilty, and EVIDENCE is written.
-fn blame(
+fn blame<'a>(
     r: Record,
-    store: &[u8],
+    store: &'a [u8],
     out: &mut [u8],
     at: usize,
     value: [u8; 32],
     source: Source,
-    m: &[u8],
+    m: &'a [u8],
 ) -> Phase
-    requires { ⌜ Fits r (now store) × Readable (r .n) source (now m) × (at + evidenceLength (k (r .n)) ≤ length (now out)) ⌝ }
-    ensures { λ p. ⌜ Did (blame (certificateFrom (r .n) source value (now (m .entry)))) r (now (store .entry)) (now (out .entry)) at (p .unit) (now (store .entry)) (now (out .exit)) (p .at) ⌝ }
+    requires { ⌜ Fits r (now store) × Heard (r .n) source (now store) (now m) × (at + evidenceLength (k (r .n)) ≤ length (now out)) ⌝ }
+    ensures { λ p. ⌜ Did (blame (heard (r .n) source value (now (store .entry)) (now (m .entry)))) r (now (store .entry)) (now (out .entry)) at (p .unit) (now (store .entry)) (now (out .exit)) (p .at) ⌝ }
 {
     let first_value = r.first.value;
     let first = Source {
-        full: false,
-        bank: FIRST,
+        place: Place::Slots(Bank::First),
         seats: r.first.seats,
     };
-    let end = wire::write::write_evidence(
+    let bytes = store::sources::bytes_of(source, store, m);
+    let end = wire_write::write_evidence(
         out,
         at,
         r.n,
@@ -92,7 +78,7 @@ fn blame(
         store,
         &value,
         source,
-        m,
+        bytes,
     );
     let guilty = quorum::shared(r.first.seats, source.seats);
     let mut unit = r;
@@ -100,29 +86,7 @@ fn blame(
     Phase { unit, at: end }
 }
 
-// The own certificate is held where none is, or blames.
-fn hold_or_blame_own(r: Record, store: &mut [u8], out: &mut [u8], at: usize) -> Phase
-    requires { ⌜ Fits r (now store) × (at + evidenceLength (k (r .n)) ≤ length (now out)) ⌝ }
-    ensures { λ p. ⌜ Did (holdOrBlame (ownCertificate r (now (store .entry)))) r (now (store .entry)) (now (out .entry)) at (p .unit) (now (store .exit)) (now (out .exit)) (p .at) ⌝ }
-{
-    if r.first.seats == 0 {
-        let unit = hold_own(r, store);
-        return Phase { unit, at };
-    }
-    let value = r.own.value;
-    if blames(r, value) {
-        let source = Source {
-            full: false,
-            bank: COLLECTED,
-            seats: r.own.collected,
-        };
-        let s = &store[..];
-        return blame(r, s, out, at, value, source, s);
-    }
-    Phase { unit: r, at }
-}
-
-// A certificate of a value, whose signatures stand in m, is held where none is, or blames.
+// A certificate is held where none is, or blames.
 fn hold_or_blame(
     r: Record,
     store: &mut [u8],
@@ -132,8 +96,8 @@ fn hold_or_blame(
     source: Source,
     m: &[u8],
 ) -> Phase
-    requires { ⌜ Fits r (now store) × Readable (r .n) source (now m) × (at + evidenceLength (k (r .n)) ≤ length (now out)) ⌝ }
-    ensures { λ p. ⌜ Did (holdOrBlame (certificateFrom (r .n) source value (now (m .entry)))) r (now (store .entry)) (now (out .entry)) at (p .unit) (now (store .exit)) (now (out .exit)) (p .at) ⌝ }
+    requires { ⌜ Fits r (now store) × Heard (r .n) source (now store) (now m) × (at + evidenceLength (k (r .n)) ≤ length (now out)) ⌝ }
+    ensures { λ p. ⌜ Did (holdOrBlame (heard (r .n) source value (now (store .entry)) (now (m .entry)))) r (now (store .entry)) (now (out .entry)) at (p .unit) (now (store .exit)) (now (out .exit)) (p .at) ⌝ }
 {
     if r.first.seats == 0 {
         let unit = hold(r, store, value, source, m);
@@ -145,21 +109,8 @@ fn hold_or_blame(
     Phase { unit: r, at }
 }
 
-// The own certificate counts as a notice for its value, and is held or blames; the reply comes in between.
-pub fn hear_own(r: Record, store: &mut [u8], out: &mut [u8], at: usize) -> Phase
-    requires { ⌜ Fits r (now store) × (at + fullLength (r .n) + evidenceLength (k (r .n)) ≤ length (now out)) ⌝ }
-    ensures { λ p. ⌜ Did hearOwn r (now (store .entry)) (now (out .entry)) at (p .unit) (now (store .exit)) (now (out .exit)) (p .at) ⌝ }
-{
-    let value = r.own.value;
-    let heard = hear(r, value);
-    let p = reply(heard, store, out, at);
-    let unit = p.unit;
-    let next = p.at;
-    hold_or_blame_own(unit, store, out, next)
-}
-
-// So does a certificate of a value, whose signatures stand in m.
-pub fn hear_certificate(
+// A certificate counts as a notice for its value, and is held or blames; the reply comes in between.
+pub(crate) fn hear_certificate(
     r: Record,
     store: &mut [u8],
     out: &mut [u8],
@@ -168,8 +119,8 @@ pub fn hear_certificate(
     source: Source,
     m: &[u8],
 ) -> Phase
-    requires { ⌜ Fits r (now store) × Readable (r .n) source (now m) × (at + fullLength (r .n) + evidenceLength (k (r .n)) ≤ length (now out)) ⌝ }
-    ensures { λ p. ⌜ Did (hearCertificate (certificateFrom (r .n) source value (now (m .entry)))) r (now (store .entry)) (now (out .entry)) at (p .unit) (now (store .exit)) (now (out .exit)) (p .at) ⌝ }
+    requires { ⌜ Fits r (now store) × Heard (r .n) source (now store) (now m) × (at + fullLength (r .n) + evidenceLength (k (r .n)) ≤ length (now out)) ⌝ }
+    ensures { λ p. ⌜ Did (hearCertificate (heard (r .n) source value (now (store .entry)) (now (m .entry)))) r (now (store .entry)) (now (out .entry)) at (p .unit) (now (store .exit)) (now (out .exit)) (p .at) ⌝ }
 {
     let heard = hear(r, value);
     let p = reply(heard, store, out, at);

@@ -1,6 +1,6 @@
 // Signatures over the own value, collected.
 ghost use mathlib.Core.Path.{_≡_};
-ghost use Prim.Native.Nat.{_+_, _<_, _≤_};
+ghost use Prim.Native.Nat.{_<_, _≤_};
 ghost use lib.ListN.{length};
 ghost use Rattle.quorum.specs.Quorum.{mostSeats};
 ghost use mathlib.Core.List.{[]};
@@ -9,11 +9,10 @@ ghost use Rattle.protocol.specs.Record.{withOwn};
 ghost use Rattle.protocol.specs.Layout.{signatureLength, submitLength, valueLength};
 ghost use Rattle.protocol.specs.Step.{isWanted, setOwnValue, collect, submitOwn, hearSubmit};
 ghost use Rattle.steps.specs.Phases.{Did, Changed, Fits};
-use crate::bools::both;
-use crate::steps::Phase;
+use crate::phases::Phase;
+use layout::Bank;
 use protocol::Own;
 use protocol::Record;
-use wire::slots::COLLECTED;
 
 // The record with its own part set anew.
 fn with_own(r: Record, own: Own) -> Record
@@ -31,7 +30,7 @@ fn collect(r: Record, store: &mut [u8], seat: u32, signature: &[u8]) -> Record
 {
     let value = r.own.value;
     let collected = quorum::with(r.own.collected, seat);
-    wire::slots::fill(store, r.n, COLLECTED, seat, signature);
+    store::slots::fill(store, r.n, Bank::Collected, seat, signature);
     let own = Own {
         submitted: r.own.submitted,
         value,
@@ -53,7 +52,7 @@ fn set_own_value(r: Record, value: [u8; 32]) -> Record
 }
 
 // Submit: the value is kept, the own signature collected, SUBMIT written from the start of `out`.
-pub fn submit_own(
+pub(crate) fn submit_own(
     r: Record,
     store: &mut [u8],
     out: &mut [u8],
@@ -65,7 +64,7 @@ pub fn submit_own(
 {
     let kept = set_own_value(r, wire::values::value_at(value, 0));
     let unit = collect(kept, store, r.seat, signature);
-    let at = wire::write::write_submit(out, 0, r.round, r.seat, value, signature);
+    let at = wire_write::write_submit(out, 0, r.round, r.seat, value, signature);
     Phase { unit, at }
 }
 
@@ -77,11 +76,11 @@ fn is_wanted(r: Record, seat: u32, value: [u8; 32]) -> bool
     let own = r.own.value;
     let same = octets::same(&value, &own);
     let has = quorum::has(r.own.collected, seat);
-    both(both(!r.confirmed, same), !has)
+    !r.confirmed & same & !has
 }
 
 // SUBMIT heard: its signature is collected where it is wanted.
-pub fn hear_submit(
+pub(crate) fn hear_submit(
     r: Record,
     store: &mut [u8],
     seat: u32,

@@ -7,11 +7,13 @@ ghost use Rattle.quorum.specs.Quorum.{mostSeats, k};
 ghost use Rattle.protocol.specs.Layout.{noticeLength, fullLength, evidenceLength};
 ghost use Rattle.protocol.specs.Step.{isComplete, confirm, confirmIfComplete};
 ghost use Rattle.steps.specs.Phases.{Did, Fits};
-use crate::bools::both;
-use crate::certificate::hear_own;
+use crate::certificate::hear_certificate;
+use crate::phases::Phase;
 use crate::reply::reply;
-use crate::steps::Phase;
+use layout::Bank;
 use protocol::Record;
+use store::sources::Place;
+use store::sources::Source;
 
 // k seats are collected, and the unit hasn't confirmed.
 fn is_complete(r: Record) -> bool
@@ -20,7 +22,7 @@ fn is_complete(r: Record) -> bool
 {
     let size = quorum::size(r.own.collected);
     let k = quorum::k(r.n);
-    both(!r.confirmed, size == k)
+    !r.confirmed & (size == k)
 }
 
 // The unit confirms and writes NOTICE, whatever the store.
@@ -29,14 +31,14 @@ fn confirm(r: Record, out: &mut [u8], at: usize) -> Phase
     ensures { λ p. ⌜ ((store : List ℕ) → Did confirm r store (now (out .entry)) at (p .unit) store (now (out .exit)) (p .at)) × (p .at ≡ at + noticeLength) ⌝ }
 {
     let value = r.own.value;
-    let end = wire::write::write_notice(out, at, r.round, r.seat, &value);
+    let end = wire_write::write_notice(out, at, r.round, r.seat, &value);
     let mut unit = r;
     unit.confirmed = true;
     Phase { unit, at: end }
 }
 
 // k seats collected: the unit confirms, and treats its own certificate like one heard. Else it may still owe FULL.
-pub fn confirm_if_complete(r: Record, store: &mut [u8], out: &mut [u8], at: usize) -> Phase
+pub(crate) fn confirm_if_complete(r: Record, store: &mut [u8], out: &mut [u8], at: usize) -> Phase
     requires { ⌜ Fits r (now store) × (at + noticeLength + fullLength (r .n) + evidenceLength (k (r .n)) ≤ length (now out)) ⌝ }
     ensures { λ p. ⌜ Did confirmIfComplete r (now (store .entry)) (now (out .entry)) at (p .unit) (now (store .exit)) (now (out .exit)) (p .at) ⌝ }
 {
@@ -44,7 +46,13 @@ pub fn confirm_if_complete(r: Record, store: &mut [u8], out: &mut [u8], at: usiz
         let p = confirm(r, out, at);
         let unit = p.unit;
         let next = p.at;
-        return hear_own(unit, store, out, next);
+        let value = unit.own.value;
+        let source = Source {
+            place: Place::Slots(Bank::Collected),
+            seats: unit.own.collected,
+        };
+        let message = [0u8; 0];
+        return hear_certificate(unit, store, out, next, value, source, &message);
     }
     reply(r, store, out, at)
 }

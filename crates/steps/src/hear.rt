@@ -2,7 +2,6 @@
 ghost use mathlib.Core.Path.{_≡_};
 ghost use Rattle.protocol.specs.Record.{withNotices};
 ghost use Rattle.protocol.specs.Step.{noticesWith};
-use crate::bools::both;
 use protocol::Notices;
 use protocol::Record;
 
@@ -16,7 +15,8 @@ fn notices_with(r: Record, value: [u8; 32]) -> Notices
         return Notices { heard: 1, value };
     }
     let same = octets::same(&value, &first);
-    if both(heard == 1, !same) {
+    let other = (heard == 1) & !same;
+    if other {
         return Notices {
             heard: 2,
             value: first,
@@ -26,7 +26,7 @@ fn notices_with(r: Record, value: [u8; 32]) -> Notices
 }
 
 // A notice for a value updates the notices heard.
-pub fn hear(r: Record, value: [u8; 32]) -> Record
+pub(crate) fn hear(r: Record, value: [u8; 32]) -> Record
     ensures { λ u. ⌜ u ≡ withNotices r (noticesWith value r) ⌝ }
 {
     let notices = notices_with(r, value);

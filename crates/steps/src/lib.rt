@@ -1,7 +1,7 @@
-// What a submit and a step do once nothing is refused: the phases of document 01's "Steps".
-pub mod certificate;
-pub mod collect;
-pub mod confirm;
-pub mod hear;
-pub mod reply;
-pub mod steps;
+// Submit and step once nothing is refused: the phases of document 01's "Steps".
+pub(crate) mod certificate;
+pub(crate) mod collect;
+pub(crate) mod confirm;
+pub(crate) mod hear;
+pub mod phases;
+pub(crate) mod reply;

@@ -5,11 +5,11 @@ ghost use lib.ListN.{length};
 ghost use Rattle.protocol.specs.Layout.{fullLength};
 ghost use Rattle.protocol.specs.Step.{otherHeard, owesFull, sendFull, reply};
 ghost use Rattle.steps.specs.Phases.{Did, Fits};
-use crate::bools::both;
-use crate::steps::Phase;
+use crate::phases::Phase;
+use layout::Bank;
 use protocol::Record;
-use wire::slots::COLLECTED;
-use wire::sources::Source;
+use store::sources::Place;
+use store::sources::Source;
 
 // A value was heard that isn't the own one.
 fn other_heard(r: Record) -> bool
@@ -32,7 +32,7 @@ fn owes_full(r: Record) -> bool
     ensures { λ b. ⌜ b ≡ owesFull r ⌝ }
 {
     let other = other_heard(r);
-    both(both(r.confirmed, !r.sent), other)
+    r.confirmed & !r.sent & other
 }
 
 // FULL is written from the own collected signatures.
@@ -42,18 +42,17 @@ fn send_full(r: Record, store: &[u8], out: &mut [u8], at: usize) -> Phase
 {
     let value = r.own.value;
     let source = Source {
-        full: false,
-        bank: COLLECTED,
+        place: Place::Slots(Bank::Collected),
         seats: r.own.collected,
     };
-    let end = wire::write::write_full(out, at, r.n, r.round, r.seat, &value, source, store);
+    let end = wire_write::write_full(out, at, r.n, r.round, r.seat, &value, source, store);
     let mut unit = r;
     unit.sent = true;
     Phase { unit, at: end }
 }
 
 // FULL is written where it is owed.
-pub fn reply(r: Record, store: &[u8], out: &mut [u8], at: usize) -> Phase
+pub(crate) fn reply(r: Record, store: &[u8], out: &mut [u8], at: usize) -> Phase
     requires { ⌜ Fits r (now store) × (at + fullLength (r .n) ≤ length (now out)) ⌝ }
     ensures { λ p. ⌜ Did reply r (now (store .entry)) (now (out .entry)) at (p .unit) (now (store .entry)) (now (out .exit)) (p .at) × (p .at ≤ at + fullLength (r .n)) ⌝ }
 {

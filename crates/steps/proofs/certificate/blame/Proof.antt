@@ -1,14 +1,26 @@
 -- `steps::certificate::blame` meets its contract.
 use lib.ListN.{length}
 use mathlib.Core.Path.{_≡_, sym}
-use Rattle.protocol.specs.Layout.{firstBank, valueLength}
-use Rattle.wire.specs.Sources.{certificateFrom}
+use Rattle.protocol.specs.Layout.{valueLength}
+use Rattle.layout.specs.declared.Bank.the-variants as bank
 use native.Mathlib.Omega.{arith}
 use denote.Ref.{now}
 use Rattle.steps.specs.Certificates.{readable-bank, evidence-bound, evidence-sent}
 use borrow.Author.Needs.{needs}
 use Rattle.steps.proofs.certificate.blame.Statement.{statement}
 use Rattle.steps.proofs.certificate.blame.Tie as tie
+
+abbrev started : tie.After-bytes-of → tie.Start
+started c = c .before .before .before .before .before
+
+abbrev chosen : tie.After-value → tie.After-bytes-of
+chosen c = c .before .before .before
+
+abbrev written : tie.After-shared → tie.After-write-evidence
+written c = c .before .before .before
+
+bytes-of-requires : tie.Need-bytes-of-requires
+bytes-of-requires c κs = search needs
 
 slice-aggregate-write-evidence : tie.Need-slice-aggregate-write-evidence
 slice-aggregate-write-evidence c = search needs
@@ -18,14 +30,14 @@ slice-aggregate-write-evidence-2 c = search needs
 
 write-evidence-requires : tie.Need-write-evidence-requires
 write-evidence-requires c κs =
-    let start = c .before .before .before .before .before .before .before in
+    let start = started (chosen c) in
     let r = start .args .r in
     let fits = start .pre .0 in
     let room = evidence-bound (r .n) (r .first .seats) (start .args .source .seats) (fits .held) in
-    let readable = readable-bank (r .n) firstBank (r .first .seats) (now (start .args .store)) (omega arith) (fits .first) (fits .slots) in
+    let readable = readable-bank (r .n) bank.First (r .first .seats) (now (start .args .store)) (fits .first) (fits .slots) in
     let long : length (r .first .value) ≡ valueLength = sym (slice-aggregate-write-evidence (c .before)) in
     let long-too : length (start .args .t5) ≡ valueLength = sym (slice-aggregate-write-evidence-2 c) in
-    (fits .most, long, readable, long-too, start .pre .1, omega (arith, room, start .pre .2))
+    (fits .most, long, readable, long-too, rw (chosen c .bytes-of .ensures) (start .pre .1), omega (arith, room, start .pre .2))
 
 shared-requires : tie.Need-shared-requires
 shared-requires c κs = search needs
@@ -35,16 +47,17 @@ same-length c = search needs
 
 returns : tie.Need-returns
 returns c =
-    let start = c .before .before .before .before .before .before .before .before .before .before .before in
-    let args = start .args in
-    let wrote = c .before .before .before .write-evidence in
+    let wrote = written c .write-evidence in
+    let bytes = chosen (written c .before) .bytes-of in
+    let args = started (chosen (written c .before)) .args in
     evidence-sent (args .r) (now (args .store)) (now (args .out)) (args .at) (wrote .last .0) (wrote .result)
-    (certificateFrom (args .r .n) (args .source) (args .t5) (now (args .m))) (c .shared .result) (c .shared .ensures) (wrote .ensures .0)
+    (args .source) (args .t5) (now (args .m)) (now (bytes .result)) (c .shared .result) (bytes .ensures) (c .shared .ensures) (wrote .ensures .0)
 
 pub blame-spec : {M : Type 1} → statement M
 blame-spec =
     tie.close
     (tie.spec
+    bytes-of-requires
     slice-aggregate-write-evidence
     slice-aggregate-write-evidence-2
     write-evidence-requires

@@ -12,13 +12,10 @@ slice-aggregate-same-2 c = search needs
 same-requires : tie.Need-same-requires
 same-requires c κs = search needs
 
-both-requires : tie.Need-both-requires
-both-requires c κs = search needs
-
 returns : tie.Need-returns
 returns c = cc
 
 pub blames-spec : {M : Type 1} → statement M
 blames-spec =
     tie.close
-    (tie.spec slice-aggregate-same slice-aggregate-same-2 same-requires both-requires returns)
+    (tie.spec slice-aggregate-same slice-aggregate-same-2 same-requires returns)

@@ -1,41 +1,56 @@
 -- `steps::certificate::hear_certificate` meets its contract.
 use Rattle.protocol.specs.Step.{noticesWith}
 use Rattle.protocol.specs.Layout.{evidenceLength}
+use Rattle.protocol.specs.declared.Notices.{Notices}
 use Rattle.quorum.specs.Quorum.{k}
 use lib.ListN.{length}
 use native.Mathlib.Omega.{arith}
 use denote.Ref.{now}
-use Rattle.steps.specs.Certificates.{heard-fits, heard-room, replied-n, replied-fits, replied-room, source-heard}
+use Rattle.steps.specs.Certificates.{heard-fits, heard-room, replied-n, replied-fits, replied-room, certificate-heard}
 use borrow.Author.Needs.{needs}
 use Rattle.steps.proofs.certificate.hear_certificate.Statement.{statement}
 use Rattle.steps.proofs.certificate.hear_certificate.Tie as tie
+
+-- the notices after it
+abbrev notices : tie.Start → Notices
+notices s = noticesWith (s .args .value) (s .args .r)
+
+abbrev started : tie.After-hear → tie.Start
+started c = c .before .before .before .before
+
+abbrev heard : tie.After-reply-arg2 → tie.After-hear
+heard c = c .before .before
+
+abbrev answered : tie.After-hold-or-blame-arg2 → tie.After-reply
+answered c = c .before .before .before .before .before
+
+abbrev done : tie.After-slice-known5 → tie.After-hold-or-blame
+done c = c .before .before .before .before
 
 hear-requires : tie.Need-hear-requires
 hear-requires c κs = search needs
 
 reply-requires : tie.Need-reply-requires
 reply-requires c κs =
-    let start = c .before .before .before .before .before .before in
-    let args = start .args in
-    let heard = c .before .before .hear in
-    let notices = noticesWith (start .args .value) (args .r) in (
-      heard-fits (args .r) (now (args .store)) notices (heard .result) (heard .ensures) (start .pre .0),
-      heard-room (args .r) (now (args .store)) notices (heard .result) (heard .ensures) (args .at) (evidenceLength (k (args .r .n))) (length (now (args .out))) (start .pre .2),
+    let hear = heard c .hear in
+    let start = started (heard c) in
+    let args = start .args in (
+      heard-fits (args .r) (now (args .store)) (notices start) (hear .result) (hear .ensures) (start .pre .0),
+      heard-room (args .r) (now (args .store)) (notices start) (hear .result) (hear .ensures) (args .at) (evidenceLength (k (args .r .n))) (length (now (args .out))) (start .pre .2),
     )
 
 hold-or-blame-requires : tie.Need-hold-or-blame-requires
 hold-or-blame-requires c κs =
-    let start = c .before .before .before .before .before .before .before .before .before .before .before .before in
+    let reply = answered c .reply in
+    let hear = heard (answered c .before) .hear in
+    let start = started (heard (answered c .before)) in
     let args = start .args in
-    let heard = c .before .before .before .before .before .before .before .before .hear in
-    let answered = c .before .before .before .before .before .reply in
-    let notices = noticesWith (start .args .value) (args .r) in
-    let fits = replied-fits (args .r) (now (args .store)) notices (heard .result) (heard .ensures) (answered .result .unit) (now (args .store)) (answered .ensures .0 .kept) (start .pre .0) in
+    let fits = replied-fits (args .r) (now (args .store)) (notices start) (hear .result) (hear .ensures) (reply .result .unit) (now (args .store)) (reply .ensures .0 .kept) (start .pre .0) in
     let room =
-    replied-room (args .r) (now (args .store)) notices (heard .result) (heard .ensures) (answered .result .unit) (now (args .store)) (answered .ensures .0 .kept)
-    (args .at) (answered .result .at) (length (now (args .out))) (answered .ensures .1) (start .pre .2) in
-    let same-n = replied-n (args .r) (now (args .store)) notices (heard .result) (heard .ensures) (answered .result .unit) (now (args .store)) (answered .ensures .0 .kept) in
-    (fits, rw same-n (start .pre .1), omega (arith, room, answered .kept .1 .1 .0))
+    replied-room (args .r) (now (args .store)) (notices start) (hear .result) (hear .ensures) (reply .result .unit) (now (args .store)) (reply .ensures .0 .kept)
+    (args .at) (reply .result .at) (length (now (args .out))) (reply .ensures .1) (start .pre .2) in
+    let same-n = replied-n (args .r) (now (args .store)) (notices start) (hear .result) (hear .ensures) (reply .result .unit) (now (args .store)) (reply .ensures .0 .kept) in
+    (fits, rw same-n (start .pre .1), omega (arith, room, reply .kept .1 .1 .0))
 
 same-length : tie.Need-same-length
 same-length c = search needs
@@ -45,13 +60,14 @@ same-length-2 c = search needs
 
 returns : tie.Need-returns
 returns c =
-    let start = c .before .before .before .before .before .before .before .before .before .before .before .before .before .before .before .before .before in
+    let held = done c .hold-or-blame in
+    let replied = answered (done c .before) in
+    let reply = replied .reply in
+    let hear = heard (replied .before) .hear in
+    let start = started (heard (replied .before)) in
     let args = start .args in
-    let heard = c .before .before .before .before .before .before .before .before .before .before .before .before .before .hear in
-    let answered = c .before .before .before .before .before .before .before .before .before .before .reply in
-    let held = c .before .before .before .before .hold-or-blame in
-    source-heard (args .r) (now (args .store)) (now (args .out)) (args .at) (omega (arith, start .pre)) (heard .result) (answered .result .unit) (answered .last .1 .1 .0) (answered .result .at)
-    (held .result .unit) (held .last .1 .0) (held .last .1 .1 .0) (held .result .at) (args .source) (args .value) (now (args .m)) (heard .ensures) (answered .ensures .0) (held .ensures)
+    certificate-heard (args .r) (now (args .store)) (now (args .out)) (args .at) (omega (arith, start .pre)) (hear .result) (reply .result .unit) (reply .last .1 .1 .0) (reply .result .at)
+    (held .result .unit) (held .last .1 .0) (held .last .1 .1 .0) (held .result .at) (args .source) (args .value) (now (args .m)) (hear .ensures) (reply .ensures .0) (held .ensures)
 
 pub hear-certificate-spec : {M : Type 1} → statement M
 hear-certificate-spec =

@@ -1,10 +1,26 @@
 -- `steps::certificate::hold_or_blame` meets its contract.
-use Rattle.wire.specs.Sources.{certificateFrom}
+use Rattle.protocol.specs.Certificate.{Certificate}
 use denote.Ref.{now}
-use Rattle.steps.specs.Certificates.{first-held, blamed, not-blamed}
+use Rattle.steps.specs.Certificates.{heard, first-held, blamed, not-blamed}
 use borrow.Author.Needs.{needs}
 use Rattle.steps.proofs.certificate.hold_or_blame.Statement.{statement}
 use Rattle.steps.proofs.certificate.hold_or_blame.Tie as tie
+
+-- the certificate heard
+abbrev certificate : tie.Start → Certificate
+certificate s = heard (s .args .r .n) (s .args .source) (s .args .value) (now (s .args .store)) (now (s .args .m))
+
+abbrev started : tie.After-struct-known → tie.Start
+started c = c .before .before .before .before
+
+abbrev begun : tie.After-blames → tie.Start
+begun c = started (c .before .before)
+
+abbrev taken : tie.After-hold → tie.Then1
+taken c = c .before .before
+
+abbrev tested : tie.After-blame → tie.Then2
+tested c = c .before .before .before
 
 hold-requires : tie.Need-hold-requires
 hold-requires c κs = search needs
@@ -14,11 +30,11 @@ same-length c = search needs
 
 returns : tie.Need-returns
 returns c =
-    let start = c .before .before .before .before .before .before .before .before .before in
+    let last = c .before .before in
+    let held = last .hold in
+    let start = started (taken last .before) in
     let args = start .args in
-    let held = c .before .before .hold in
-    first-held (args .r) (now (args .store)) (now (args .out)) (args .at) (certificateFrom (args .r .n) (args .source) (args .value) (now (args .m)))
-    (held .result) (held .last .1 .0) (c .before .before .before .before .if1 .taken) (held .ensures)
+    first-held (args .r) (now (args .store)) (now (args .out)) (args .at) (certificate start) (held .result) (held .last .1 .0) (taken last .if1 .taken) (held .ensures)
 
 blames-requires : tie.Need-blames-requires
 blames-requires c κs = search needs
@@ -34,20 +50,20 @@ same-length-3 c = search needs
 
 returns-2 : tie.Need-returns-2
 returns-2 c =
-    let start = c .before .before .before .before .before .before .before .before .before .before .before .before in
+    let last = c .before .before in
+    let done = last .blame in
+    let asked = tested last .before in
+    let start = begun asked in
     let args = start .args in
-    let done = c .before .before .blame in
-    let second = c .before .before .before .before .before in
-    blamed (args .r) (now (args .store)) (now (args .out)) (args .at) (certificateFrom (args .r .n) (args .source) (args .value) (now (args .m)))
-    (second .before .before .if1 .left) (second .before .blames .result) (second .before .blames .ensures)
-    (done .result .unit) (now (args .store)) (done .last .1 .1 .0) (done .result .at) (second .if2 .taken) (done .ensures)
+    blamed (args .r) (now (args .store)) (now (args .out)) (args .at) (certificate start) (asked .before .if1 .left) (asked .blames .result) (asked .blames .ensures)
+    (done .result .unit) (now (args .store)) (done .last .1 .1 .0) (done .result .at) (tested last .if2 .taken) (done .ensures)
 
 returns-3 : tie.Need-returns-3
 returns-3 c =
-    let start = c .before .before .before .before .before .before .before in
+    let asked = c .before in
+    let start = begun asked in
     let args = start .args in
-    not-blamed (args .r) (now (args .store)) (now (args .out)) (args .at) (certificateFrom (args .r .n) (args .source) (args .value) (now (args .m)))
-    (c .before .before .if1 .left) (c .before .blames .result) (c .before .blames .ensures) (c .if2 .left)
+    not-blamed (args .r) (now (args .store)) (now (args .out)) (args .at) (certificate start) (asked .before .if1 .left) (asked .blames .result) (asked .blames .ensures) (c .if2 .left)
 
 pub hold-or-blame-spec : {M : Type 1} → statement M
 hold-or-blame-spec =

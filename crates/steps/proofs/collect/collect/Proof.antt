@@ -1,6 +1,7 @@
 -- `steps::collect::collect` meets its contract.
 use mathlib.Core.Path.{_∙_}
 use Rattle.protocol.specs.Step.{collect}
+use Rattle.layout.specs.Places.{bankOf}
 use borrow.Author.Needs.{needs}
 use Rattle.steps.proofs.collect.collect.Statement.{statement}
 use Rattle.steps.proofs.collect.collect.Tie as tie
@@ -18,8 +19,10 @@ same-length : tie.Need-same-length
 same-length c = search needs
 
 returns : tie.Need-returns
-unfolding collect
-returns c = record { recorded = c .with-own .ensures ∙ rw (c .before .before .before .before .before .with .ensures); stored = c .before .before .before .fill .ensures }
+unfolding collect bankOf
+returns c =
+    let filled = c .before .before .before in
+    record { recorded = c .with-own .ensures ∙ rw (filled .before .before .with .ensures); stored = filled .fill .ensures }
 
 pub collect-spec : {M : Type 1} → statement M
 collect-spec =

@@ -6,6 +6,9 @@ use borrow.Author.Needs.{needs}
 use Rattle.steps.proofs.collect.hear_submit.Statement.{statement}
 use Rattle.steps.proofs.collect.hear_submit.Tie as tie
 
+abbrev started : tie.After-is-wanted → tie.Start
+started c = c .before .before .before
+
 is-wanted-requires : tie.Need-is-wanted-requires
 is-wanted-requires c κs = search needs
 
@@ -17,14 +20,14 @@ same-length c = search needs
 
 returns : tie.Need-returns
 returns c =
-    let args = c .before .before .before .before .before .before .before .before .args in
     let done = c .before .before .collect in
     let chosen = c .before .before .before .before in
+    let args = started (chosen .before) .args in
     wanted (args .r) (now (args .store)) (args .seat) (args .value) (now (args .signature)) (done .result) (done .last .1 .0) (sym (chosen .before .is-wanted .ensures) ∙ chosen .if1 .taken) (done .ensures)
 
 returns-2 : tie.Need-returns-2
 returns-2 c =
-    let args = c .before .before .before .before .args in
+    let args = started (c .before) .args in
     unwanted (args .r) (now (args .store)) (args .seat) (args .value) (now (args .signature)) (sym (c .before .is-wanted .ensures) ∙ c .if1 .left)
 
 pub hear-submit-spec : {M : Type 1} → statement M

@@ -16,12 +16,6 @@ same-requires c κs = search needs
 has-requires : tie.Need-has-requires
 has-requires c κs = search needs
 
-both-requires : tie.Need-both-requires
-both-requires c κs = search needs
-
-both-requires-2 : tie.Need-both-requires-2
-both-requires-2 c κs = search needs
-
 returns : tie.Need-returns
 unfolding isWanted
 returns c = cc
@@ -34,6 +28,6 @@ is-wanted-spec =
     slice-aggregate-same-2
     same-requires
     has-requires
-    both-requires
-    both-requires-2
+   
+   
     returns)

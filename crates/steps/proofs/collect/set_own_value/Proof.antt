@@ -1,4 +1,4 @@
--- `steps::collect::keep_value` meets its contract.
+-- `steps::collect::set_own_value` meets its contract.
 use Rattle.protocol.specs.Step.{setOwnValue}
 use borrow.Author.Needs.{needs}
 use Rattle.steps.proofs.collect.set_own_value.Statement.{statement}

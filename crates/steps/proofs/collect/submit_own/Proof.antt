@@ -6,6 +6,18 @@ use borrow.Author.Needs.{needs}
 use Rattle.steps.proofs.collect.submit_own.Statement.{statement}
 use Rattle.steps.proofs.collect.submit_own.Tie as tie
 
+abbrev started : tie.After-value-at → tie.Start
+started c = c .before .before .before .before .before
+
+abbrev set : tie.After-collect → tie.After-set-own-value
+set c = c .before .before
+
+abbrev written : tie.After-slice-known4 → tie.After-write-submit
+written c = c .before .before
+
+abbrev gathered : tie.After-write-submit → tie.After-collect
+gathered c = c .before .before .before .before
+
 value-at-requires : tie.Need-value-at-requires
 value-at-requires c κs = search needs
 
@@ -14,9 +26,10 @@ set-own-value-requires c κs = search needs
 
 collect-requires : tie.Need-collect-requires
 collect-requires c κs =
-    let start = c .before .before .before .before .before .before .before in
+    let read = c .before .before in
     let kept = c .before .set-own-value in
-    let fits = kept-fits (start .args .r) (c .before .before .value-at .result) (kept .result) (kept .ensures) (now (start .args .store)) (start .pre .0) in
+    let start = started read in
+    let fits = kept-fits (start .args .r) (read .value-at .result) (kept .result) (kept .ensures) (now (start .args .store)) (start .pre .0) in
     (fits .0, fits .1, start .pre .2)
 
 write-submit-requires : tie.Need-write-submit-requires
@@ -30,14 +43,15 @@ same-length-2 c = search needs
 
 returns : tie.Need-returns
 returns c =
-    let start = c .before .before .before .before .before .before .before .before .before .before .before .before .before .before in
-    let args = start .args in
-    let wrote = c .before .before .write-submit in
-    let gathered = c .before .before .before .before .before .before .collect in
-    let kept = c .before .before .before .before .before .before .before .before .set-own-value in
-    let read = c .before .before .before .before .before .before .before .before .before .value-at in (
+    let wrote = written c .write-submit in
+    let own = gathered (written c) .collect in
+    let point = set (gathered (written c)) in
+    let kept = point .set-own-value in
+    let read = point .before .value-at in
+    let start = started (point .before) in
+    let args = start .args in (
       own-submitted (args .r) (read .result) (kept .result) (kept .ensures) (now (args .value)) (now (args .signature)) (now (args .store)) (now (args .out)) (start .pre .1) (read .ensures)
-          (gathered .result) (gathered .last .1 .0) (wrote .last .0) (wrote .result) (gathered .ensures) (wrote .ensures .0),
+          (own .result) (own .last .1 .0) (wrote .last .0) (wrote .result) (own .ensures) (wrote .ensures .0),
       omega (arith, wrote .ensures .1),
     )
 

@@ -3,10 +3,31 @@ use lib.ListN.{length}
 use mathlib.Core.Path.{sym, _∙_}
 use native.Mathlib.Omega.{arith}
 use denote.Ref.{now}
+use Rattle.layout.specs.declared.Bank.the-variants as bank
+use Rattle.store.specs.Sources.{bytesOf}
+use Rattle.steps.specs.Certificates.{readable-bank}
 use Rattle.steps.specs.Confirming.{confirmed-fits, confirmed-room, completed, incomplete}
 use borrow.Author.Needs.{needs}
 use Rattle.steps.proofs.confirm.confirm_if_complete.Statement.{statement}
 use Rattle.steps.proofs.confirm.confirm_if_complete.Tie as tie
+
+abbrev started : tie.After-is-complete → tie.Start
+started c = c .before .before .before
+
+abbrev complete : tie.After-confirm → tie.Then1
+complete c = c .before .before
+
+abbrev confirmed : tie.After-message → tie.After-confirm
+confirmed c = c .before .before .before .before .before .before .before
+
+abbrev heard : tie.After-slice-known5 → tie.After-hear-certificate
+heard c = c .before .before .before .before
+
+abbrev replied : tie.After-slice-known6 → tie.After-reply
+replied c = c .before .before
+
+abbrev short : tie.After-reply → tie.Else1
+short c = c .before .before .before
 
 is-complete-requires : tie.Need-is-complete-requires
 is-complete-requires c κs = search needs
@@ -14,14 +35,21 @@ is-complete-requires c κs = search needs
 confirm-requires : tie.Need-confirm-requires
 confirm-requires c κs = search needs
 
-hear-own-requires : tie.Need-hear-own-requires
-hear-own-requires c κs =
-    let start = c .before .before .before .before .before .before .before .before .before .before .before in
+slice-aggregate-hear-certificate : tie.Need-slice-aggregate-hear-certificate
+slice-aggregate-hear-certificate c = search needs
+
+hear-certificate-requires : tie.Need-hear-certificate-requires
+unfolding bytesOf
+hear-certificate-requires c κs =
+    let done = confirmed c .confirm in
+    let start = started (complete (confirmed c) .before) in
     let args = start .args in
-    let done = c .before .before .before .before .before .confirm in
-    let kept = done .ensures .0 (now (args .store)) .kept in
-    let room = confirmed-room (args .r) (now (args .store)) (done .result .unit) kept (args .at) (done .result .at) (length (now (args .out))) (done .ensures .1) (start .pre .1) in
-    (confirmed-fits (args .r) (now (args .store)) (done .result .unit) kept (start .pre .0), omega (arith, room, done .kept .1 .0))
+    let store = now (args .store) in
+    let unit = done .result .unit in
+    let kept = done .ensures .0 store .kept in
+    let fits = confirmed-fits (args .r) store unit kept (start .pre .0) in
+    let room = confirmed-room (args .r) store unit kept (args .at) (done .result .at) (length (now (args .out))) (done .ensures .1) (start .pre .1) in
+    (fits, readable-bank (unit .n) bank.Collected (unit .own .collected) store (fits .collected) (fits .slots), omega (arith, room, done .kept .1 .0))
 
 same-length : tie.Need-same-length
 same-length c = search needs
@@ -30,14 +58,16 @@ same-length-2 : tie.Need-same-length-2
 same-length-2 c = search needs
 
 returns : tie.Need-returns
+unfolding bytesOf
 returns c =
-    let start = c .before .before .before .before .before .before .before .before .before .before .before .before .before .before .before .before in
+    let own = heard c .hear-certificate in
+    let point = confirmed (heard c .before) in
+    let done = point .confirm in
+    let chosen = complete point in
+    let start = started (chosen .before) in
     let args = start .args in
-    let done = c .before .before .before .before .before .before .before .before .before .before .confirm in
-    let heard = c .before .before .before .before .hear-own in
-    let complete = sym (c .before .before .before .before .before .before .before .before .before .before .before .before .before .is-complete .ensures) ∙ c .before .before .before .before .before .before .before .before .before .before .before .before .if1 .taken in
-    completed (args .r) (now (args .store)) (now (args .out)) (args .at) (heard .result .unit) (heard .last .1 .0) (heard .last .1 .1 .0) (heard .result .at)
-    (done .result .unit) (done .last .1 .0) (done .result .at) (omega (arith, start .pre)) complete (done .ensures .0 (now (args .store))) (heard .ensures)
+    completed (args .r) (now (args .store)) (now (args .out)) (args .at) (own .result .unit) (own .last .1 .0) (own .last .1 .1 .0) (own .result .at)
+    (done .result .unit) (done .last .1 .0) (done .result .at) (omega (arith, start .pre)) (sym (chosen .before .is-complete .ensures) ∙ chosen .if1 .taken) (done .ensures .0 (now (args .store))) (own .ensures)
 
 reply-requires : tie.Need-reply-requires
 reply-requires c κs = search needs
@@ -50,10 +80,10 @@ same-length-4 c = search needs
 
 returns-2 : tie.Need-returns-2
 returns-2 c =
-    let args = c .before .before .before .before .before .before .before .before .before .args in
-    let done = c .before .before .reply in
-    let short = sym (c .before .before .before .before .before .before .is-complete .ensures) ∙ c .before .before .before .before .before .if1 .left in
-    incomplete (args .r) (now (args .store)) (now (args .out)) (args .at) (done .result .unit) (now (args .store)) (done .last .1 .1 .0) (done .result .at) short (done .ensures .0)
+    let done = replied c .reply in
+    let chosen = short (replied c) in
+    let args = started (chosen .before) .args in
+    incomplete (args .r) (now (args .store)) (now (args .out)) (args .at) (done .result .unit) (now (args .store)) (done .last .1 .1 .0) (done .result .at) (sym (chosen .before .is-complete .ensures) ∙ chosen .if1 .left) (done .ensures .0)
 
 pub confirm-if-complete-spec : {M : Type 1} → statement M
 confirm-if-complete-spec =
@@ -61,7 +91,8 @@ confirm-if-complete-spec =
     (tie.spec
     is-complete-requires
     confirm-requires
-    hear-own-requires
+    slice-aggregate-hear-certificate
+    hear-certificate-requires
     same-length
     same-length-2
     returns

@@ -10,12 +10,9 @@ size-requires c κs = search needs
 k-requires : tie.Need-k-requires
 k-requires c κs = search needs
 
-both-requires : tie.Need-both-requires
-both-requires c κs = search needs
-
 returns : tie.Need-returns
 unfolding isComplete
 returns c = cc
 
 pub is-complete-spec : {M : Type 1} → statement M
-is-complete-spec = tie.close (tie.spec size-requires k-requires both-requires returns)
+is-complete-spec = tie.close (tie.spec size-requires k-requires returns)

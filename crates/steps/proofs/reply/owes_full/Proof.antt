@@ -7,15 +7,9 @@ use Rattle.steps.proofs.reply.owes_full.Tie as tie
 other-heard-requires : tie.Need-other-heard-requires
 other-heard-requires c κs = search needs
 
-both-requires : tie.Need-both-requires
-both-requires c κs = search needs
-
-both-requires-2 : tie.Need-both-requires-2
-both-requires-2 c κs = search needs
-
 returns : tie.Need-returns
 unfolding owesFull
 returns c = cc
 
 pub owes-full-spec : {M : Type 1} → statement M
-owes-full-spec = tie.close (tie.spec other-heard-requires both-requires both-requires-2 returns)
+owes-full-spec = tie.close (tie.spec other-heard-requires returns)

@@ -7,6 +7,9 @@ use borrow.Author.Needs.{needs}
 use Rattle.steps.proofs.reply.reply.Statement.{statement}
 use Rattle.steps.proofs.reply.reply.Tie as tie
 
+abbrev started : tie.After-owes-full → tie.Start
+started c = c .before .before .before
+
 owes-full-requires : tie.Need-owes-full-requires
 owes-full-requires c κs = search needs
 
@@ -18,16 +21,17 @@ same-length c = search needs
 
 returns : tie.Need-returns
 returns c =
-    let start = c .before .before .before .before .before .before .before .before in
     let sent = c .before .before .send-full in
-    let owed = sym (c .before .before .before .before .before .owes-full .ensures) ∙ c .before .before .before .before .if1 .taken in (
+    let chosen = c .before .before .before .before in
+    let start = started (chosen .before) in
+    let owed = sym (chosen .before .owes-full .ensures) ∙ chosen .if1 .taken in (
       replied (start .args .r) (now (start .args .store)) (now (start .args .out)) (start .args .at) (sent .result .unit) (now (start .args .store)) (sent .last .1 .1 .0) (sent .result .at) owed (sent .ensures .0),
       sent .ensures .1,
     )
 
 returns-2 : tie.Need-returns-2
 returns-2 c =
-    let start = c .before .before .before .before in
+    let start = started (c .before) in
     let owed = sym (c .before .owes-full .ensures) ∙ c .if1 .left in
     (silent (start .args .r) (now (start .args .store)) (now (start .args .out)) (start .args .at) owed, omega arith)
 

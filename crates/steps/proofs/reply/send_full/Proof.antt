@@ -1,7 +1,8 @@
 -- `steps::reply::send_full` meets its contract.
 use lib.ListN.{length}
 use mathlib.Core.Path.{_≡_, sym}
-use Rattle.protocol.specs.Layout.{collectedBank, valueLength}
+use Rattle.protocol.specs.Layout.{valueLength}
+use Rattle.layout.specs.declared.Bank.the-variants as bank
 use Rattle.quorum.specs.Quorum.{size}
 use native.Mathlib.Omega.{arith}
 use denote.Ref.{now}
@@ -10,17 +11,20 @@ use borrow.Author.Needs.{needs}
 use Rattle.steps.proofs.reply.send_full.Statement.{statement}
 use Rattle.steps.proofs.reply.send_full.Tie as tie
 
+abbrev started : tie.After-value2 → tie.Start
+started c = c .before .before .before .before .before
+
 slice-aggregate-write-full : tie.Need-slice-aggregate-write-full
 slice-aggregate-write-full c = search needs
 
 write-full-requires : tie.Need-write-full-requires
 write-full-requires c κs =
-    let long : length (c .before .before .before .before .before .args .r .own .value) ≡ valueLength = sym (slice-aggregate-write-full c) in
-    let start = c .before .before .before .before .before in
+    let start = started c in
     let r = start .args .r in
+    let long : length (r .own .value) ≡ valueLength = sym (slice-aggregate-write-full c) in
     let fits = start .pre .0 in
     let room = full-bound (r .n) (size (r .own .collected)) (fits .few) in
-    let readable = readable-bank (r .n) collectedBank (r .own .collected) (now (start .args .store)) (omega arith) (fits .collected) (fits .slots) in
+    let readable = readable-bank (r .n) bank.Collected (r .own .collected) (now (start .args .store)) (fits .collected) (fits .slots) in
     (fits .most, omega (arith, fits .seated, fits .most), long, readable, omega (arith, room, start .pre .1))
 
 same-length : tie.Need-same-length
@@ -28,9 +32,10 @@ same-length c = search needs
 
 returns : tie.Need-returns
 returns c =
-    let start = c .before .before .before .before .before .before .before .before in
-    let r = start .args .r in
-    let wrote = c .before .before .write-full in (
+    let point = c .before .before in
+    let wrote = point .write-full in
+    let start = started (point .before) in
+    let r = start .args .r in (
       full-sent r (now (start .args .store)) (now (start .args .out)) (start .args .at) (wrote .last .0) (wrote .result) (wrote .ensures .0),
       omega (arith, wrote .ensures .1, full-bound (r .n) (size (r .own .collected)) (start .pre .0 .few)),
     )

@@ -9,7 +9,7 @@ ghost use Rattle.protocol.specs.Step.{submitted, stepped};
 ghost use Rattle.wire.specs.Reading.{kindOf};
 ghost use Rattle.wire.specs.declared.read.Kind.the-variants as kind;
 ghost use Rattle.steps.specs.Phases.{Did};
-ghost use Rattle.steps.specs.Possible.{Ready};
+ghost use Rattle.protocol.specs.RecordLaws.{Ready};
 use crate::certificate::hear_certificate;
 use crate::collect::hear_submit;
 use crate::collect::submit_own;
@@ -17,8 +17,9 @@ use crate::confirm::confirm_if_complete;
 use crate::hear::hear;
 use crate::reply::reply;
 use protocol::Record;
+use store::sources::Place;
+use store::sources::Source;
 use wire::read::Kind;
-use wire::sources::Source;
 
 // What a phase comes to: the record, and the next place in `out`.
 pub struct Phase {
@@ -44,37 +45,36 @@ pub fn submit_phase(
 }
 
 // A SUBMIT heard.
-pub fn step_submit(r: Record, store: &mut [u8], out: &mut [u8], message: &[u8]) -> Phase
+fn step_submit(r: Record, store: &mut [u8], out: &mut [u8], message: &[u8]) -> Phase
     requires { ⌜ Ready r (now store) (now out) × (kind.Submit ≡ kindOf (read (r .n) (now message))) × (stranger (r .n) (read (r .n) (now message)) ≡ false) ⌝ }
     ensures { λ p. ⌜ Did (stepped (read (r .n) (now (message .entry)))) r (now (store .entry)) (now (out .entry)) 0 (p .unit) (now (store .exit)) (now (out .exit)) (p .at) ⌝ }
 {
-    let value = wire::values::value_at(message, 4);
-    let signature = wire::slots::signature_at(message, 36);
-    let seat = wire::read::number_at(message, 3);
+    let value = wire::values::value_at(message, layout::value_at());
+    let signature = store::slots::signature_at(message, layout::submit_signature_at());
+    let seat = wire::read::number_at(message, layout::seat_at());
     let unit = hear_submit(r, store, seat, value, signature);
     confirm_if_complete(unit, store, out, 0)
 }
 
 // A NOTICE heard.
-pub fn step_notice(r: Record, store: &[u8], out: &mut [u8], message: &[u8]) -> Phase
+fn step_notice(r: Record, store: &[u8], out: &mut [u8], message: &[u8]) -> Phase
     requires { ⌜ Ready r (now store) (now out) × (kind.Notice ≡ kindOf (read (r .n) (now message))) ⌝ }
     ensures { λ p. ⌜ Did (stepped (read (r .n) (now (message .entry)))) r (now (store .entry)) (now (out .entry)) 0 (p .unit) (now (store .entry)) (now (out .exit)) (p .at) ⌝ }
 {
-    let value = wire::values::value_at(message, 4);
+    let value = wire::values::value_at(message, layout::value_at());
     let unit = hear(r, value);
     reply(unit, store, out, 0)
 }
 
 // A FULL heard.
-pub fn step_full(r: Record, store: &mut [u8], out: &mut [u8], message: &[u8]) -> Phase
+fn step_full(r: Record, store: &mut [u8], out: &mut [u8], message: &[u8]) -> Phase
     requires { ⌜ Ready r (now store) (now out) × (kind.Full ≡ kindOf (read (r .n) (now message))) × (stranger (r .n) (read (r .n) (now message)) ≡ false) × (disorder (read (r .n) (now message)) ≡ false) ⌝ }
     ensures { λ p. ⌜ Did (stepped (read (r .n) (now (message .entry)))) r (now (store .entry)) (now (out .entry)) 0 (p .unit) (now (store .exit)) (now (out .exit)) (p .at) ⌝ }
 {
-    let value = wire::values::value_at(message, 4);
+    let value = wire::values::value_at(message, layout::value_at());
     let seats = wire::read::entry_set(r.n, Kind::Full, message);
     let source = Source {
-        full: true,
-        bank: 0,
+        place: Place::Entries,
         seats,
     };
     hear_certificate(r, store, out, 0, value, source, message)
