@@ -33,7 +33,6 @@ struct Compared<'a> {
 impl Compared<'_> {
     fn fleet(&mut self, n: u32) -> Result<(), String> {
         self.is("no byte", n, &[], 0)?;
-        let head = |rng: &mut Rng| (number(16, rng), number(8, rng), value(rng));
         let (round, seat, value) = head(self.rng);
         let signature = self.rng.bytes(SIGNATURE);
         self.message("SUBMIT", n, &Submit { round, seat, value, signature }.write(), layout::SUBMIT)?;
@@ -62,7 +61,7 @@ impl Compared<'_> {
     }
 
     fn full(&mut self, n: u32) -> Result<(), String> {
-        let (round, sender, value) = (number(16, self.rng), number(8, self.rng), value(self.rng));
+        let (round, sender, value) = head(self.rng);
         let entry = |_| FullEntry { seat: number(8, self.rng), signature: self.rng.bytes(SIGNATURE) };
         let entries = (0..k(n)).map(entry).collect();
         let bytes = Full { round, sender, value, entries }.write();
@@ -160,6 +159,11 @@ impl Compared<'_> {
         compared.and_then(|()| untouched(&[("bytes", &lent, bytes)])).map_err(|told| format!("{what}: {told}"))?;
         Ok(reference)
     }
+}
+
+/// A round, a seat and a value.
+fn head(rng: &mut Rng) -> (u32, u32, Value) {
+    (number(16, rng), number(8, rng), value(rng))
 }
 
 /// A number of so many bits.
