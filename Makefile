@@ -1,7 +1,7 @@
 # make demo   a fleet plays two rounds, sound and then with double signers; DEMO="--help" tells what can be varied, as in
 #             make demo DEMO="--double-signers 2 --lost-link 0-3"
 # make test   the gate: every crate proved, every program run, the static libraries against the harness
-# make soak   the long version of the harness's tests under load and with faults
+# make soak   the long version of the harness's tests: load, faults, every call, and plain C
 # make bench  speed as ratios to plain C and to OpenSSL's libcrypto, in one run
 # make install PREFIX=/usr/local
 #             header, archive and zolbine.pc for pkg-config; DESTDIR puts them under another root
@@ -27,7 +27,8 @@ demo: zolbine
 
 soak: zolbine
 	@cd harness && ZOLBINE_LONG=1 $(CARGO) test --release --offline --features zolbine \
-		--test load --test compare_engine --test compare_making
+		--test load --test compare_engine --test compare_evidence --test compare_framing --test compare_lms \
+		--test compare_making --test plain_c
 
 bench: archives libcrypto
 	@$(HARNESS) run --release --offline --features zolbine,probes,libcrypto --bin bench

@@ -3,17 +3,14 @@
  *     gcc -std=c11 -Iinclude examples/unit.c target/staticlib/libzolbine.a -o unit && ./unit examples/round.bin
  *
  * The file holds what reached one boat, in the order in which it came: 0x10 with n (1 byte), own seat (1), round (2) and the
- * fleet's n public keys of 56 bytes; then 0x12 with the own layout (32) and the signature over it (1,452), or 0x11 with the
- * length (2) of a message heard and its bytes. A display gets the same from its plotter, its signer and its radio.
+ * fleet's n public keys; then 0x12 with the own layout and the signature over it, or 0x11 with the length (2) of a message heard
+ * and its bytes. A display gets the same from its plotter, its signer and its radio.
  * harness/data/yard/radio.txt is this round to read, and unit.txt what the program prints.
  */
 #include "zolbine.h"
 
 #include <stdio.h>
 #include <stdlib.h>
-
-/* A SUBMIT is 0x01, round (2), seat (1), value (32), so far the signed bytes, and the signature, which starts with its leaf (4). */
-enum { SEAT_AT = 3, LEAF_LEN = 4 };
 
 /* One round of one boat. Record and store belong together: they are kept together and given to every call together. */
 struct unit {
@@ -74,22 +71,27 @@ static void open_unit(struct unit *unit, FILE *file)
         unit->early[place] = NULL;
 }
 
-/* All of the bytes written go on the air. Here the messages among them are named. */
-static void send_all(uint32_t n, const uint8_t *out, size_t written)
+static const char *name_of(const uint8_t *message, size_t len)
 {
-    size_t len;
+    switch (len > 0 ? message[0] : 0) {
+    case ZOLBINE_SUBMIT: return "SUBMIT";
+    case ZOLBINE_NOTICE: return "NOTICE";
+    case ZOLBINE_FULL: return "FULL";
+    case ZOLBINE_EVIDENCE: return "EVIDENCE";
+    default: return "garbled";
+    }
+}
+
+/* All of the bytes written go on the air, each message by itself. Here the messages are named. */
+static void send_all(uint32_t n, const uint8_t *out, uint32_t written)
+{
+    uint32_t len;
 
     for (; written > 0; out += len, written -= len) {
-        switch (out[0]) {
-        case ZOLBINE_SUBMIT: len = ZOLBINE_SUBMIT_LEN; printf("  sends SUBMIT"); break;
-        case ZOLBINE_NOTICE: len = ZOLBINE_NOTICE_LEN; printf("  sends NOTICE"); break;
-        case ZOLBINE_FULL: len = ZOLBINE_FULL_LEN(n); printf("  sends FULL"); break;
-        default: /* EVIDENCE: its count is the last byte of its head */
-            len = ZOLBINE_EVIDENCE_LEN((size_t)out[ZOLBINE_EVIDENCE_HEAD_LEN - 1]);
-            printf("  sends EVIDENCE");
-            break;
-        }
-        printf(", %zu bytes\n", len);
+        len = zolbine_message_length(n, out, written);
+        if (len == 0)
+            stop("bytes that no call writes");
+        printf("  sends %s, %u bytes\n", name_of(out, len), (unsigned)len);
     }
 }
 
@@ -104,11 +106,10 @@ static void answered(const struct unit *unit, const char *what, uint32_t number,
 
 static uint32_t step(struct unit *unit, const uint8_t *message, size_t len)
 {
-    static const char *const names[] = { "garbled", "SUBMIT", "NOTICE", "FULL" };
     struct zolbine_written answer = zolbine_step_lent(&unit->record, unit->keys, unit->keys_len, unit->store,
                                                       unit->store_len, message, len, unit->out, unit->out_len);
 
-    answered(unit, names[len == 0 || message[0] > ZOLBINE_FULL ? 0 : message[0]], answer.number, answer.written);
+    answered(unit, name_of(message, len), answer.number, answer.written);
     return answer.number;
 }
 
@@ -140,11 +141,11 @@ static void submit(struct unit *unit, FILE *file)
  */
 static bool worth_giving_again(const struct unit *unit, const uint8_t *message)
 {
-    size_t seat = message[SEAT_AT];
-    const uint8_t *key = unit->keys + ZOLBINE_KEY_LEN * seat, *signature = message + ZOLBINE_SIGNED_LEN;
+    size_t seat = message[ZOLBINE_SEAT_AT];
+    const uint8_t *key = unit->keys + ZOLBINE_KEYS_LEN(seat), *signature = message + ZOLBINE_SIGNED_LEN;
     uint32_t leaf = 0;
 
-    for (size_t at = 0; at < LEAF_LEN; at++)
+    for (size_t at = 0; at < ZOLBINE_LEAF_LEN; at++)
         leaf = leaf << 8 | signature[at];
     return unit->early[seat] == NULL && leaf == unit->record.round &&
            zolbine_check_signature(key, ZOLBINE_KEY_LEN, message, ZOLBINE_SIGNED_LEN, signature, ZOLBINE_SIGNATURE_LEN) == 0;
@@ -163,9 +164,9 @@ static void hear(struct unit *unit, FILE *file)
     if (len > 0 && message[0] == ZOLBINE_EVIDENCE) {
         struct zolbine_verdict verdict = zolbine_check_evidence(unit->record.n, unit->record.round, unit->keys,
                                                                 unit->keys_len, message, len);
-        printf("EVIDENCE: %u, seats 0x%08x\n", (unsigned)verdict.number, (unsigned)verdict.mask);
+        printf("%s: %u, seats 0x%08x\n", name_of(message, len), (unsigned)verdict.number, (unsigned)verdict.mask);
     } else if (step(unit, message, len) == ZOLBINE_EARLY && worth_giving_again(unit, message)) {
-        unit->early[message[SEAT_AT]] = message;
+        unit->early[message[ZOLBINE_SEAT_AT]] = message;
         printf("  put by\n");
         return;
     }
@@ -177,6 +178,8 @@ int main(int argc, char **argv)
     struct unit unit;
     FILE *file = argc == 2 ? fopen(argv[1], "rb") : NULL;
 
+    if (zolbine_version() != ZOLBINE_VERSION)
+        stop("the archive is of another version than the header");
     if (file == NULL)
         stop("a recorded round is needed: unit FILE");
     if (getc(file) != 0x10)

@@ -52,7 +52,9 @@ enum {
     ZOLBINE_EVIDENCE_ENTRY = 0x06  /* first byte of an entry of an EVIDENCE */
 };
 
-/* Lengths in bytes, and the last leaf. In a message the command, a seat and a count have 1 byte, the round has 2. */
+/* Lengths in bytes, and the last leaf. In a message the command, a seat and a count have 1 byte, the round has 2. A name that ends
+ * with _AT is a place, counted from the first byte.
+ */
 enum {
     ZOLBINE_SEED_LEN = 32,
     ZOLBINE_IDENTIFIER_LEN = 16,
@@ -60,10 +62,12 @@ enum {
     ZOLBINE_KEY_LEN = 56,
     ZOLBINE_TREE_LEN = 65536,
     ZOLBINE_SIGNATURE_LEN = 1452,
+    ZOLBINE_LEAF_LEN = 4, /* the leaf, high byte first, with which a signature starts */
     ZOLBINE_MESSAGE_MAX = 65535,
     ZOLBINE_LAST_LEAF = 1023,
     ZOLBINE_MOST_SEATS = 32,
     ZOLBINE_VALUE_LEN = 32,
+    ZOLBINE_SEAT_AT = 1 + 2, /* in the signed bytes, SUBMIT, NOTICE and FULL: after command and round */
     ZOLBINE_SIGNED_LEN = 1 + 2 + 1 + ZOLBINE_VALUE_LEN,              /* what a seat signs: 0x01, round, seat, value */
     ZOLBINE_SUBMIT_LEN = ZOLBINE_SIGNED_LEN + ZOLBINE_SIGNATURE_LEN, /* the signed bytes, signature */
     ZOLBINE_NOTICE_LEN = 1 + 2 + 1 + ZOLBINE_VALUE_LEN,              /* command, round, seat, value */
@@ -75,14 +79,14 @@ enum {
 
 /* Lengths by n, the number of seats, from 1 to 32. It takes the signatures of k = n - t0 seats to confirm a value, and more than
  * t0 double signers, t0 = n/3 rounded up, less one, to have two confirmed. An EVIDENCE is as long as its count of entries, 1 to
- * n, makes it.
+ * n, makes it. Each takes a number of any integer type and is a size_t, a constant where the number is one.
  */
-#define ZOLBINE_T0(n) (((n) + 2) / 3 - 1)
-#define ZOLBINE_K(n) ((n) - ZOLBINE_T0(n))
-#define ZOLBINE_KEYS_LEN(n) ((size_t)ZOLBINE_KEY_LEN * (n))
-#define ZOLBINE_STORE_LEN(n) ((size_t)2 * ZOLBINE_SIGNATURE_LEN * (n))
-#define ZOLBINE_FULL_LEN(n) (ZOLBINE_FULL_HEAD_LEN + (size_t)ZOLBINE_FULL_ENTRY_LEN * ZOLBINE_K(n))
-#define ZOLBINE_EVIDENCE_LEN(count) (ZOLBINE_EVIDENCE_HEAD_LEN + (size_t)ZOLBINE_EVIDENCE_ENTRY_LEN * (count))
+#define ZOLBINE_T0(n) (((size_t)(n) + 2) / 3 - 1)
+#define ZOLBINE_K(n) ((size_t)(n) - ZOLBINE_T0(n))
+#define ZOLBINE_KEYS_LEN(n) (ZOLBINE_KEY_LEN * (size_t)(n))
+#define ZOLBINE_STORE_LEN(n) (2 * ZOLBINE_SIGNATURE_LEN * (size_t)(n))
+#define ZOLBINE_FULL_LEN(n) (ZOLBINE_FULL_HEAD_LEN + ZOLBINE_FULL_ENTRY_LEN * ZOLBINE_K(n))
+#define ZOLBINE_EVIDENCE_LEN(count) (ZOLBINE_EVIDENCE_HEAD_LEN + ZOLBINE_EVIDENCE_ENTRY_LEN * (size_t)(count))
 #define ZOLBINE_EVIDENCE_OUT_LEN(n) ZOLBINE_EVIDENCE_LEN(ZOLBINE_K(n)) /* out of zolbine_make_evidence */
 /* out of zolbine_submit and of the steps: room for one message of each kind */
 #define ZOLBINE_OUT_LEN(n) (ZOLBINE_SUBMIT_LEN + ZOLBINE_NOTICE_LEN + ZOLBINE_FULL_LEN(n) + ZOLBINE_EVIDENCE_OUT_LEN(n))

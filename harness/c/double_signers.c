@@ -94,8 +94,8 @@ static void make_submit(uint32_t seat, const uint8_t *layout, uint8_t *submit)
     submit[0] = ZOLBINE_SUBMIT;
     submit[1] = ROUND >> 8;
     submit[2] = ROUND & 0xff;
-    submit[3] = (uint8_t)seat;
-    memcpy(submit + 4, layout, ZOLBINE_VALUE_LEN);
+    submit[ZOLBINE_SEAT_AT] = (uint8_t)seat;
+    memcpy(submit + ZOLBINE_SEAT_AT + 1, layout, ZOLBINE_VALUE_LEN);
     draw(randomizer, sizeof randomizer, 300 + 10 * seat + signer->signatures++);
     made = zolbine_sign(ROUND, signer->seed, sizeof signer->seed, signer->identifier, sizeof signer->identifier,
                         randomizer, sizeof randomizer, signer->tree, sizeof signer->tree,
@@ -132,11 +132,11 @@ static void send_all(uint32_t seat, uint32_t written)
  */
 static bool is_genuine(const uint8_t *submit)
 {
-    static const uint8_t leaf[4] = { 0, 0, ROUND >> 8, ROUND & 0xff };
-    const uint8_t *signature = submit + ZOLBINE_SIGNED_LEN;
+    static const uint8_t leaf[ZOLBINE_LEAF_LEN] = { 0, 0, ROUND >> 8, ROUND & 0xff };
+    const uint8_t *key = keys + ZOLBINE_KEYS_LEN(submit[ZOLBINE_SEAT_AT]), *signature = submit + ZOLBINE_SIGNED_LEN;
 
     return memcmp(signature, leaf, sizeof leaf) == 0
-        && zolbine_check_signature(keys + ZOLBINE_KEYS_LEN(submit[3]), ZOLBINE_KEY_LEN,
+        && zolbine_check_signature(key, ZOLBINE_KEY_LEN,
                                    submit, ZOLBINE_SIGNED_LEN, signature, ZOLBINE_SIGNATURE_LEN) == 0;
 }
 
@@ -159,9 +159,11 @@ static void hear(uint32_t seat, const uint8_t *bytes, size_t len)
                                bytes, len, display->out, sizeof display->out);
     printf(": %u\n", (unsigned)answer.number);
     if (answer.number == ZOLBINE_EARLY) {
-        if (is_genuine(bytes) && !display->is_early[bytes[3]]) {
-            memcpy(display->early[bytes[3]], bytes, ZOLBINE_SUBMIT_LEN);
-            display->is_early[bytes[3]] = true;
+        uint8_t from = bytes[ZOLBINE_SEAT_AT];
+
+        if (is_genuine(bytes) && !display->is_early[from]) {
+            memcpy(display->early[from], bytes, ZOLBINE_SUBMIT_LEN);
+            display->is_early[from] = true;
         }
         return;
     }

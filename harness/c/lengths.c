@@ -140,6 +140,23 @@ static void by_n(uint32_t n)
     is("no byte", n, zolbine_message_length(n, message, 0), 0);
 }
 
+/* The header's lengths of a number that has one byte, and as constants. */
+static void by_byte(uint8_t n)
+{
+    enum { CONSTANT = ZOLBINE_OUT_LEN(N) };
+    uint32_t wide = n;
+
+    is("t0", n, ZOLBINE_T0(n) == ZOLBINE_T0(wide), true);
+    is("k", n, ZOLBINE_K(n) == ZOLBINE_K(wide), true);
+    is("keys", n, ZOLBINE_KEYS_LEN(n) == ZOLBINE_KEYS_LEN(wide), true);
+    is("store", n, ZOLBINE_STORE_LEN(n) == ZOLBINE_STORE_LEN(wide), true);
+    is("FULL", n, ZOLBINE_FULL_LEN(n) == ZOLBINE_FULL_LEN(wide), true);
+    is("EVIDENCE", n, ZOLBINE_EVIDENCE_LEN(n) == ZOLBINE_EVIDENCE_LEN(wide), true);
+    is("out, evidence", n, ZOLBINE_EVIDENCE_OUT_LEN(n) == ZOLBINE_EVIDENCE_OUT_LEN(wide), true);
+    is("out", n, ZOLBINE_OUT_LEN(n) == ZOLBINE_OUT_LEN(wide), true);
+    is("out", n, ZOLBINE_OUT_LEN(n) == CONSTANT, n == N);
+}
+
 static uint32_t checked(size_t key_len, size_t message_len)
 {
     return zolbine_check_signature(keys, key_len, long_message, message_len, signature, ZOLBINE_SIGNATURE_LEN);
@@ -197,8 +214,10 @@ int main(void)
         keys[ZOLBINE_KEYS_LEN(n) + 3] = 6;
         keys[ZOLBINE_KEYS_LEN(n) + 7] = 4;
     }
-    for (n = 1; n <= N; n++)
+    for (n = 1; n <= N; n++) {
         by_n(n);
+        by_byte((uint8_t)n);
+    }
     of_signatures();
     printf("%lu\n", compared);
     return 0;

@@ -1,10 +1,8 @@
 //! What goes over the air: the messages that a call wrote, taken apart, and messages garbled on their way.
 
 use crate::fleet;
-use crate::reference::layout::{
-    self, ENTRY_SEAT_AT, ENTRY_SIGNATURE_AT, EVIDENCE_COUNT_AT, FULL_COUNT_AT, FULL_ENTRIES_AT, ROUND_AT, SEAT_AT,
-};
-use crate::reference::messages::{EVIDENCE, FULL, NOTICE, SUBMIT};
+use crate::reference::layout::{self, ENTRY_SEAT_AT, ENTRY_SIGNATURE_AT, FULL_ENTRIES_AT, ROUND_AT, SEAT_AT};
+use crate::reference::messages::{message_length, EVIDENCE, FULL, NOTICE, SUBMIT};
 use crate::rng::Rng;
 
 /// The name of a written message.
@@ -19,16 +17,11 @@ pub fn name(message: &[u8]) -> &'static str {
 }
 
 /// The messages in the bytes that a call's answer counts.
-pub fn messages(mut written: &[u8]) -> Vec<Vec<u8>> {
+pub fn messages(n: u32, mut written: &[u8]) -> Vec<Vec<u8>> {
     let mut messages = Vec::new();
     while !written.is_empty() {
-        let length = match written[0] {
-            SUBMIT => layout::SUBMIT,
-            NOTICE => layout::NOTICE,
-            FULL => layout::full(written[FULL_COUNT_AT].into()),
-            EVIDENCE => layout::evidence(written[EVIDENCE_COUNT_AT].into()),
-            other => panic!("no command that a call writes: {other:#04x}"),
-        };
+        let length = message_length(n, written) as usize;
+        assert!(length > 0, "no message that a call writes: {:#04x} and {} bytes", written[0], written.len() - 1);
         let (message, rest) = written.split_at(length);
         messages.push(message.to_vec());
         written = rest;

@@ -2,6 +2,11 @@
 
 use crate::reference::record::{Opened, Record, Stepped, Verdict, Written};
 
+/// The length of the first message in a buffer.
+pub trait Framing: Sync {
+    fn message_length(&self, n: u32, bytes: &[u8]) -> u32;
+}
+
 pub trait EvidenceCheck: Sync {
     fn check_evidence(&self, n: u32, round: u32, keys: &[u8], evidence: &[u8]) -> Verdict;
 }
@@ -57,14 +62,20 @@ impl<T: Lower> LowerCopy for T {
 }
 
 /// All of the calls.
-pub trait Confirmer: EvidenceCheck + Engine + LentStep + Making + Lower + LowerCopy {}
+pub trait Confirmer: Framing + EvidenceCheck + Engine + LentStep + Making + Lower + LowerCopy {}
 
-impl<T: EvidenceCheck + Engine + LentStep + Making + Lower + LowerCopy> Confirmer for T {}
+impl<T: Framing + EvidenceCheck + Engine + LentStep + Making + Lower + LowerCopy> Confirmer for T {}
 
 /// Gives a type the calls of a module like [`crate::reference`].
 #[macro_export]
 macro_rules! confirmer_of {
     ($subject:ident: $($module:tt)+) => {
+        impl $crate::confirmer::Framing for $subject {
+            fn message_length(&self, n: u32, bytes: &[u8]) -> u32 {
+                $($module)+::messages::message_length(n, bytes)
+            }
+        }
+
         impl $crate::confirmer::EvidenceCheck for $subject {
             fn check_evidence(&self, n: u32, round: u32, keys: &[u8], evidence: &[u8]) -> $crate::reference::record::Verdict {
                 $($module)+::evidence::check_evidence(n, round, keys, evidence)

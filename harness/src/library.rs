@@ -5,13 +5,14 @@ pub struct Library;
 #[cfg(feature = "zolbine")]
 mod calls {
     use super::Library;
-    use crate::confirmer::{Engine, EvidenceCheck, LentStep, Making};
+    use crate::confirmer::{Engine, EvidenceCheck, Framing, LentStep, Making};
     use crate::reference::record::{Opened, Record, Stepped, Verdict, Written};
     use crate::subject::{c_calls, c_functions};
 
     c_calls!(Library: zolbine_check_signature, zolbine_make_key, zolbine_sign);
 
     c_functions! {
+        fn zolbine_message_length(n: u32, bytes: &[u8]) -> u32;
         fn zolbine_check_evidence(n: u32, round: u32, keys: &[u8], evidence: &[u8]) -> Verdict;
         fn zolbine_open(n: u32, seat: u32, round: u32, keys: &[u8]) -> Opened;
         fn zolbine_submit(
@@ -38,6 +39,22 @@ mod calls {
             second: &[u8],
             out: &mut [u8]
         ) -> Written;
+    }
+
+    extern "C" {
+        fn zolbine_version() -> u32;
+    }
+
+    impl Library {
+        pub fn version(&self) -> u32 {
+            unsafe { zolbine_version() }
+        }
+    }
+
+    impl Framing for Library {
+        fn message_length(&self, n: u32, bytes: &[u8]) -> u32 {
+            zolbine_message_length(n, bytes)
+        }
     }
 
     impl EvidenceCheck for Library {

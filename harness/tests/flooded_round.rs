@@ -4,7 +4,7 @@
 use std::path::Path;
 use std::process::Command;
 
-use harness::c_program::compile;
+use harness::c_program::{compile, compiler, SANITIZED};
 use harness::fleet::{self, layouts, rounds, Fleet};
 use harness::reference::layout::{NOTICE, SEAT_AT, SIGNATURE, SIGNATURE_AT, SUBMIT};
 use harness::reference::messages::{signed_bytes, Submit, Value};
@@ -91,7 +91,7 @@ fn forged_submits_take_nobodys_place() {
 
     let folder = Path::new(env!("CARGO_TARGET_TMPDIR"));
     let (program, round) = (folder.join("unit_flooded"), folder.join("flooded.bin"));
-    compile("examples/unit.c", &program, &["-g", "-fsanitize=address,undefined", "-fno-sanitize-recover=all"]);
+    compile(compiler(false), "examples/unit.c", &program, &SANITIZED);
     std::fs::write(&round, input).expect("a file for the round");
     let run = Command::new(program).arg(round).output().expect("the example runs");
     assert!(run.status.success(), "{}", String::from_utf8_lossy(&run.stderr));

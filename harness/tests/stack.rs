@@ -5,7 +5,7 @@ use std::cell::RefCell;
 use std::collections::BTreeMap;
 
 use harness::compare::progress;
-use harness::confirmer::{Engine, EvidenceCheck, LentStep, Making};
+use harness::confirmer::{Engine, EvidenceCheck, Framing, LentStep, Making};
 use harness::fleet::{layouts, Fleet};
 use harness::library::Library;
 use harness::reference::calls::{MAX_LEAF, MAX_MESSAGE, TREE};
@@ -25,7 +25,9 @@ const UNSIGNED: usize = 4;
 
 /// The answers that a call gives before it comes to a signature, and what is stated for them. Each is measured; any other answer
 /// may take what is stated for a call. Of two certificates the second is looked at after the first one's signatures.
-const BEFORE_SIGNATURES: [(&str, &[u32], usize); 13] = [
+const BEFORE_SIGNATURES: [(&str, &[u32], usize); 15] = [
+    ("version", &[0], UNSIGNED),
+    ("message_length", &[0], UNSIGNED),
     ("check_signature", &[5, 9], UNSIGNED),
     ("make_key", &[7, 16], STATED),
     ("sign", &[3, 7, 9, 16], STATED),
@@ -65,9 +67,11 @@ impl Depths {
 #[test]
 fn the_stated_stack_is_enough() {
     let depths = Depths::default();
+    depths.of("version", || (0, Library.version()));
     signatures(&depths);
     for n in [1, 4, 32] {
         let fleet = Fleet { n, round: 5 };
+        message_lengths(&depths, fleet);
         round(&depths, fleet);
         refused_arguments(&depths, fleet);
         refused_steps(&depths, fleet);
@@ -128,6 +132,24 @@ fn two_layouts() -> [Value; 2] {
 /// The seats that make up a certificate.
 fn quorum(fleet: Fleet) -> Vec<u32> {
     (0..fleet.k()).collect()
+}
+
+/// The length of each message, and of bytes that are none. It refuses nothing.
+fn message_lengths(depths: &Depths, fleet: Fleet) {
+    let n = fleet.n;
+    let [value, other] = two_layouts();
+    let messages = [
+        fleet.submit(0, &value, 0).write(),
+        fleet.notice(0, &value).write(),
+        fleet.full(0, &value, &quorum(fleet), 0).write(),
+        fleet.evidence((&value, 0), (&other, 0), &fleet.seats()).write(),
+    ];
+    let length = |n: u32, bytes: &[u8]| depths.of("message_length", || (0, Library.message_length(n, bytes))).1;
+    for message in messages {
+        assert_eq!(length(n, &message), message.len() as u32);
+        assert_eq!((length(n, &message[1..]), length(33, &message)), (0, 0));
+    }
+    assert_eq!(length(n, &[]), 0);
 }
 
 struct Unit {

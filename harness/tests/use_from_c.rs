@@ -4,27 +4,12 @@
 use std::path::{Path, PathBuf};
 use std::process::{Command, Output};
 
-/// A file of the repository.
-fn file(path: &str) -> PathBuf {
-    Path::new(env!("CARGO_MANIFEST_DIR")).join("..").join(path)
-}
+use harness::c_program::{compile, compiler, file, SANITIZED};
 
-const STRICT: [&str; 4] = ["-Wall", "-Wextra", "-Werror", "-pedantic"];
-
-/// The compiler of C11, or of C++11.
-fn compiler(cpp: bool) -> Command {
-    let (variable, usual, standard) = if cpp { ("CXX", "g++", "-std=c++11") } else { ("CC", "gcc", "-std=c11") };
-    let mut compile = Command::new(std::env::var_os(variable).unwrap_or_else(|| usual.into()));
-    compile.arg(standard).args(STRICT);
-    compile
-}
-
-/// Compiles a C file of the repository with the shipped header and links the archive.
-fn compiled_by(mut compile: Command, source: &str, name: &str, flags: &[&str]) -> PathBuf {
+/// A C file of the repository as a program of the name.
+fn compiled_by(compiler: Command, source: &str, name: &str, flags: &[&str]) -> PathBuf {
     let program = Path::new(env!("CARGO_TARGET_TMPDIR")).join(name);
-    compile.args(flags).arg("-I").arg(file("include"));
-    compile.arg(file(source)).arg(env!("ZOLBINE_ARCHIVE")).arg("-o").arg(&program);
-    assert!(compile.status().unwrap().success(), "{compile:?}");
+    compile(compiler, source, &program, flags);
     program
 }
 
@@ -51,8 +36,7 @@ fn a_c_program_makes_a_key_signs_and_checks() {
 /// The header's lengths for every n against what the calls take.
 #[test]
 fn the_headers_lengths_are_those_of_the_calls() {
-    let flags = ["-g", "-fsanitize=address,undefined", "-fno-sanitize-recover=all"];
-    let c = printed(&compiled("harness/c/lengths.c", "lengths", &flags));
+    let c = printed(&compiled("harness/c/lengths.c", "lengths", &SANITIZED));
     let cpp = printed(&compiled_by(compiler(true), "harness/c/lengths.c", "lengths_cpp", &[]));
     assert!(c == cpp && c.trim().parse::<u32>().unwrap() > 5000, "{c}{cpp}");
 }
@@ -221,8 +205,7 @@ mod example {
 
     #[test]
     fn a_units_loop_under_the_sanitizers() {
-        let flags = ["-g", "-fsanitize=address,undefined", "-fno-sanitize-recover=all"];
-        runs_well(Command::new(compiled("examples/unit.c", "unit_sanitized", &flags)));
+        runs_well(Command::new(compiled("examples/unit.c", "unit_sanitized", &SANITIZED)));
     }
 
     /// The archive's own reads and writes are seen by valgrind alone: the sanitizers watch what they compile.

@@ -4,6 +4,7 @@ mod arguments;
 pub mod check_signature;
 pub mod engine;
 pub mod evidence;
+pub mod framing;
 pub mod hashes;
 pub mod make_key;
 pub mod making;
@@ -43,14 +44,19 @@ fn sized(count: usize) -> usize {
 /// Every buffer of the confirmer's calls at every length around its own, for each n. The signature calls' batteries have
 /// theirs.
 pub fn lengths(subjects: noise::Subjects) {
-    let sizes: Vec<u32> = (1..=32).rev().collect();
-    let calls = run("buffer lengths, for each n", &sizes, |&n, rng| {
+    for_each_n("buffer lengths", |n, rng| {
         let mut calls = engine::refusals::lengths_around(subjects.engine, n, rng)?;
         calls += evidence::lengths_around(subjects.evidence, n, rng)?;
         calls += making::lengths_around(subjects.making, n, rng)?;
         Ok(calls)
     });
-    progress(&format!("buffer lengths: {} calls", calls.into_iter().sum::<usize>()));
+}
+
+/// Runs what makes calls for one n, and tells how many there were for all.
+fn for_each_n(title: &str, compare: impl Fn(u32, &mut Rng) -> Result<usize, String> + Sync) {
+    let sizes: Vec<u32> = (1..=32).rev().collect();
+    let calls = run(&format!("{title}, for each n"), &sizes, |&n, rng| compare(n, rng));
+    progress(&format!("{title}: {} calls", calls.into_iter().sum::<usize>()));
 }
 
 /// Differences after which the other cases are passed over.

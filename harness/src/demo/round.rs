@@ -101,7 +101,7 @@ impl Event {
     }
 
     fn sent(&self) -> Vec<Sent> {
-        let written = self.answer.iter().flat_map(|answer| air::messages(&answer.written));
+        let written = self.answer.iter().flat_map(|answer| air::messages(answer.before.n, &answer.written));
         written.map(|bytes| Sent { from: self.seat, bytes, forged: false }).collect()
     }
 }

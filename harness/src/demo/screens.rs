@@ -239,7 +239,7 @@ impl<'a> Screens<'a> {
                 let signatures = format!("{} of {}", size(after.own.collected), self.k);
                 let confirms = after.confirmed && !before.confirmed;
                 match confirms {
-                    true => format!("{signatures}: CONFIRMED, sends {}", messages(written)),
+                    true => format!("{signatures}: CONFIRMED, sends {}", messages(before.n, written)),
                     false => signatures,
                 }
             }
@@ -304,7 +304,7 @@ impl<'a> Screens<'a> {
                 let (from, name) = (sent.from, self.name(&value(sent)));
                 let answers = match answer.written.is_empty() {
                     true => "still waits".to_string(),
-                    false => format!("sends {}", messages(&answer.written)),
+                    false => format!("sends {}", messages(answer.before.n, &answer.written)),
                 };
                 format!("{status}, hears NOTICE of boat {from} for {name}: {answers}")
             }
@@ -342,7 +342,7 @@ impl<'a> Screens<'a> {
             return vec![(boat, "hears no FULL for another layout".to_string())];
         };
         let guilty = boats_of(after.guilty);
-        let (from, sends) = (sent.from, messages(written));
+        let (from, sends) = (sent.from, messages(before.n, written));
         if !at_length {
             return vec![(boat, format!("hears FULL of boat {from}: {guilty} signed both, sends {sends}"))];
         }
@@ -370,7 +370,10 @@ impl<'a> Screens<'a> {
             let answer = event.answer.as_ref().expect("an answer that was written");
             let confirms = if answer.after.confirmed && !answer.before.confirmed { "CONFIRMED, " } else { "" };
             let heard = self.given(event);
-            (format!("boat {}", event.seat), format!("{heard}: {confirms}sends {}", messages(&answer.written)))
+            (
+                format!("boat {}", event.seat),
+                format!("{heard}: {confirms}sends {}", messages(answer.before.n, &answer.written)),
+            )
         };
         let rows: Vec<_> = played.late.events.iter().filter(wrote).map(row).collect();
         if rows.is_empty() {
@@ -487,6 +490,6 @@ fn value(sent: &Sent) -> Vec<u8> {
 }
 
 /// The names of the messages that a call wrote.
-fn messages(written: &[u8]) -> String {
-    and(&air::messages(written).iter().map(|message| air::name(message)).collect::<Vec<_>>())
+fn messages(n: u32, written: &[u8]) -> String {
+    and(&air::messages(n, written).iter().map(|message| air::name(message)).collect::<Vec<_>>())
 }

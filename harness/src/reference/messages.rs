@@ -2,6 +2,7 @@
 //! count or entry command.
 
 use super::layout::{SIGNATURE, VALUE};
+use super::quorum;
 
 pub const SUBMIT: u8 = 0x01;
 pub const NOTICE: u8 = 0x02;
@@ -80,16 +81,17 @@ impl Submit {
     }
 
     pub fn read(message: &[u8]) -> Option<Submit> {
-        let mut rest = Rest(message);
+        whole(message, Submit::first)
+    }
+
+    fn first(rest: &mut Rest) -> Option<Submit> {
         rest.command(SUBMIT)?;
-        let submit = Submit {
+        Some(Submit {
             round: rest.number(2)?,
             seat: rest.number(1)?,
             value: rest.value()?,
             signature: rest.signature()?,
-        };
-        rest.end()?;
-        Some(submit)
+        })
     }
 }
 
@@ -99,11 +101,12 @@ impl Notice {
     }
 
     pub fn read(message: &[u8]) -> Option<Notice> {
-        let mut rest = Rest(message);
+        whole(message, Notice::first)
+    }
+
+    fn first(rest: &mut Rest) -> Option<Notice> {
         rest.command(NOTICE)?;
-        let notice = Notice { round: rest.number(2)?, seat: rest.number(1)?, value: rest.value()? };
-        rest.end()?;
-        Some(notice)
+        Some(Notice { round: rest.number(2)?, seat: rest.number(1)?, value: rest.value()? })
     }
 }
 
@@ -120,7 +123,10 @@ impl Full {
 
     /// The count is always k.
     pub fn read(message: &[u8], k: u32) -> Option<Full> {
-        let mut rest = Rest(message);
+        whole(message, |rest| Full::first(rest, k))
+    }
+
+    fn first(rest: &mut Rest, k: u32) -> Option<Full> {
         rest.command(FULL)?;
         let (round, sender, value) = (rest.number(2)?, rest.number(1)?, rest.value()?);
         if rest.number(1)? != k {
@@ -131,7 +137,6 @@ impl Full {
             rest.command(FULL_ENTRY)?;
             entries.push(FullEntry { seat: rest.number(1)?, signature: rest.signature()? });
         }
-        rest.end()?;
         Some(Full { round, sender, value, entries })
     }
 
@@ -154,7 +159,10 @@ impl Evidence {
 
     /// The count is 1 to n.
     pub fn read(message: &[u8], n: u32) -> Option<Evidence> {
-        let mut rest = Rest(message);
+        whole(message, |rest| Evidence::first(rest, n))
+    }
+
+    fn first(rest: &mut Rest, n: u32) -> Option<Evidence> {
         rest.command(EVIDENCE)?;
         let (round, lower, higher) = (rest.number(2)?, rest.value()?, rest.value()?);
         let count = rest.number(1)?;
@@ -170,13 +178,35 @@ impl Evidence {
                 over_higher: rest.signature()?,
             });
         }
-        rest.end()?;
         Some(Evidence { round, lower, higher, entries })
     }
 
     pub fn seats(&self) -> Vec<u32> {
         self.entries.iter().map(|entry| entry.seat).collect()
     }
+}
+
+/// The length of the first message in a buffer; 0 where no message of a fleet of n seats stands there whole.
+pub fn message_length(n: u32, bytes: &[u8]) -> u32 {
+    if !(1..=32).contains(&n) {
+        return 0;
+    }
+    let mut rest = Rest(bytes);
+    let first = match bytes.first() {
+        Some(&SUBMIT) => Submit::first(&mut rest).map(drop),
+        Some(&NOTICE) => Notice::first(&mut rest).map(drop),
+        Some(&FULL) => Full::first(&mut rest, quorum::k(n)).map(drop),
+        Some(&EVIDENCE) => Evidence::first(&mut rest, n).map(drop),
+        _ => None,
+    };
+    first.map_or(0, |()| (bytes.len() - rest.0.len()) as u32)
+}
+
+/// The message that is read first, where nothing follows it.
+fn whole<M>(message: &[u8], first: impl FnOnce(&mut Rest) -> Option<M>) -> Option<M> {
+    let mut rest = Rest(message);
+    let read = first(&mut rest)?;
+    rest.0.is_empty().then_some(read)
 }
 
 /// What is left to read.
@@ -203,10 +233,6 @@ impl Rest<'_> {
 
     fn signature(&mut self) -> Option<Vec<u8>> {
         Some(self.take(SIGNATURE)?.to_vec())
-    }
-
-    fn end(&self) -> Option<()> {
-        self.0.is_empty().then_some(())
     }
 }
 

@@ -370,7 +370,7 @@ impl<'a> Sea<'a> {
             equal("the store after a refusal", after.store == case.store, true)?;
             return equal("bytes written with a refusal", after.written.len(), 0);
         }
-        let messages = air::messages(&after.written);
+        let messages = air::messages(after.record.n, &after.written);
         let names: String = messages.iter().map(|message| format!(" {}", air::name(message))).collect();
         *self.tally.entry(format!("wrote{names}")).or_default() += 1;
         self.boats[boat].record = after.record;
