@@ -6,12 +6,11 @@ ghost use Rattle.protocol.specs.Calls as calls;
 ghost use Rattle.protocol.specs.Signatures.{checkSignature, makeKey, sign, checks};
 ghost use Rattle.framing.specs.Framing.{messageLength};
 ghost use Rattle.zolbine.specs.Version.{version};
-use lms::calls::Written;
 use protocol::Checked;
-use protocol::Made;
 use protocol::Opened;
 use protocol::Record;
 use protocol::Stepped;
+use protocol::Written;
 
 // The interface's version, ZOLBINE_VERSION in the header.
 #[no_mangle]
@@ -98,7 +97,7 @@ pub extern "C" fn zolbine_make_evidence(
     first: &[u8],
     second: &[u8],
     out: &mut [u8],
-) -> Made
+) -> Written
     ensures { λ r.
         let result = calls.making (checks (now (keys .entry)) round) n round (now (keys .entry))
         (now (first .entry)) (now (second .entry)) (now (out .entry)) in
@@ -164,7 +163,7 @@ pub extern "C" fn zolbine_step_lent(
     store: &mut [u8],
     message: &[u8],
     out: &mut [u8],
-) -> Made
+) -> Written
     ensures { λ r.
         let result = calls.step (checks (now (keys .entry)) (now (unit .entry) .round)) (now (keys .entry))
         (now (unit .entry)) (now (store .entry)) (now (message .entry)) (now (out .entry)) in
@@ -176,7 +175,7 @@ pub extern "C" fn zolbine_step_lent(
 {
     let a = confirmer::calls::step(*unit, keys, store, message, out);
     *unit = a.unit;
-    Made {
+    Written {
         number: a.number,
         written: a.written,
     }

@@ -46,13 +46,13 @@ use Rattle.protocol.specs.Calls as calls
 use Rattle.protocol.specs.Calls.{Result, answer, outAfter}
 use Rattle.protocol.specs.declared.Record.{Record}
 use Rattle.protocol.specs.declared.Stepped.{Stepped}
-use Rattle.protocol.specs.declared.Made.{Made}
+use Rattle.protocol.specs.declared.Written.{Written}
 use Rattle.protocol.proofs.Record as R
 use Rattle.protocol.proofs.Record.Laws as R′
 use Rattle.protocol.proofs.Stepped as S
 use Rattle.protocol.proofs.Stepped.Laws as S′
-use Rattle.protocol.proofs.Made as T
-use Rattle.protocol.proofs.Made.Laws as T′
+use Rattle.protocol.proofs.Written as T
+use Rattle.protocol.proofs.Written.Laws as T′
 use Rattle.confirmer.proofs.calls.step as step
 use Rattle.confirmer.proofs.calls.step.Symbol as step-def
 use Rattle.confirmer.proofs.calls.step.Symbol.{name as #confirmer·calls·step}
@@ -121,7 +121,7 @@ module _ {M : Type 1} (𝓤 : URA M) (H : Heap 𝓤) (A : Atoms 𝓤) (W : Given
 
   -- what is had at exit, of the answer r and the slices' last lists
   module _ (r : Stepped) (zs : Lasts step.ended κs (h, a .1)) where
-    abbrev made : Made
+    abbrev made : Written
     made = record { number = r .number; written = r .written }
 
     abbrev made-val : Val
