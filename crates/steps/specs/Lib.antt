@@ -2,7 +2,6 @@
 pub mod Phases
 pub mod Hearing
 pub mod Certificates
-pub mod Possible
 pub mod Collecting
 pub mod Confirming
 pub mod Steps

@@ -28,6 +28,4 @@ is-wanted-spec =
     slice-aggregate-same-2
     same-requires
     has-requires
-   
-   
     returns)

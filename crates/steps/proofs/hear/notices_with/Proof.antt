@@ -48,6 +48,5 @@ notices-with-spec =
     slice-aggregate-same
     slice-aggregate-same-2
     same-requires
-   
     returns-2
     returns-3)
