@@ -12,11 +12,5 @@ returns c =
     let args = c .before .before .args in
     (sym (List·getD-eq-default (now (args .bytes)) 0 {n = args .at} (c .if1 .taken)), omega arith)
 
-number-at-requires : tie.Need-number-at-requires
-number-at-requires c κs = search needs
-
-returns-2 : tie.Need-returns-2
-returns-2 c = search needs
-
 pub byte-or-zero-spec : {M : Type 1} → statement M
-byte-or-zero-spec = tie.close (tie.spec returns number-at-requires returns-2)
+byte-or-zero-spec = tie.close (tie.spec returns (λ c κs. search needs) (λ c. search needs))

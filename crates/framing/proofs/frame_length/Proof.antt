@@ -27,28 +27,16 @@ module _ (c : tie.After-byte-or-zero) where
   read : command ≡ byteAt bytes 0
   read = c .byte-or-zero .ensures .0
 
-byte-or-zero-requires : tie.Need-byte-or-zero-requires
-byte-or-zero-requires c κs = search needs
-
-submit-length-requires : tie.Need-submit-length-requires
-submit-length-requires c κs = search needs
-
 returns : tie.Need-returns
 returns c =
     let first = c .before .before in
     frame-submit (n first) (bytes first) (command first) (read first) (c .submit-length .result) (c .before .if1 .taken) (c .submit-length .ensures)
-
-notice-length-requires : tie.Need-notice-length-requires
-notice-length-requires c κs = search needs
 
 returns-2 : tie.Need-returns-2
 returns-2 c =
     let second = c .before in
     let first = second .before .before in
     frame-notice (n first) (bytes first) (command first) (read first) (c .notice-length .result) (second .before .if1 .left) (second .if2 .taken) (c .notice-length .ensures)
-
-full-length-requires : tie.Need-full-length-requires
-full-length-requires c κs = search needs
 
 returns-3 : tie.Need-returns-3
 returns-3 c =
@@ -57,18 +45,6 @@ returns-3 c =
     let first = second .before .before in
     frame-full (n first) (bytes first) (command first) (read first) (c .full-length .result) (second .before .if1 .left) (second .if2 .left)
     (start first .pre .1) (third .if3 .taken) (c .full-length .ensures)
-
-evidence-count-at-requires : tie.Need-evidence-count-at-requires
-evidence-count-at-requires c κs = search needs
-
-byte-or-zero-requires-2 : tie.Need-byte-or-zero-requires-2
-byte-or-zero-requires-2 c κs = search needs
-
-cast-evidence-length : tie.Need-cast-evidence-length
-cast-evidence-length c = search needs
-
-evidence-length-requires : tie.Need-evidence-length-requires
-evidence-length-requires c κs = search needs
 
 returns-4 : tie.Need-returns-4
 returns-4 c =
@@ -86,15 +62,15 @@ pub frame-length-spec : {M : Type 1} → statement M
 frame-length-spec =
     tie.close
     (tie.spec
-    byte-or-zero-requires
-    submit-length-requires
+    (λ c κs. search needs)
+    (λ c κs. search needs)
     returns
-    notice-length-requires
+    (λ c κs. search needs)
     returns-2
-    full-length-requires
+    (λ c κs. search needs)
     returns-3
-    evidence-count-at-requires
-    byte-or-zero-requires-2
-    cast-evidence-length
-    evidence-length-requires
+    (λ c κs. search needs)
+    (λ c κs. search needs)
+    (λ c. search needs)
+    (λ c κs. search needs)
     returns-4)

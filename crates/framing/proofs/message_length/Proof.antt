@@ -32,9 +32,6 @@ returns-2 c =
     let args = c .before .before .before .args in
     told-many (args .n) (now (args .bytes)) (c .before .if1 .left) (c .if2 .taken)
 
-frame-length-requires : tie.Need-frame-length-requires
-frame-length-requires c κs = search needs
-
 returns-3 : tie.Need-returns-3
 returns-3 c =
     let frame = c .before in
@@ -44,17 +41,8 @@ returns-3 c =
 slice-aggregate-classify : tie.Need-slice-aggregate-classify
 slice-aggregate-classify c = simp length-take (omega arith)
 
-classify-requires : tie.Need-classify-requires
-classify-requires c κs = search needs
-
-is-garbled-requires : tie.Need-is-garbled-requires
-is-garbled-requires c κs = search needs
-
 returns-4 : tie.Need-returns-4
 returns-4 c = rw (c .if4 .taken) at (told (c .before))
-
-cast-result : tie.Need-cast-result
-cast-result c = search needs
 
 returns-5 : tie.Need-returns-5
 returns-5 c = rw (c .if4 .left) at (told (c .before))
@@ -65,11 +53,11 @@ message-length-spec =
     (tie.spec
     returns
     returns-2
-    frame-length-requires
+    (λ c κs. search needs)
     returns-3
     slice-aggregate-classify
-    classify-requires
-    is-garbled-requires
+    (λ c κs. search needs)
+    (λ c κs. search needs)
     returns-4
-    cast-result
+    (λ c. search needs)
     returns-5)

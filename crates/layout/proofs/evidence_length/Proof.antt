@@ -5,14 +5,8 @@ use borrow.Author.Needs.{needs}
 use Rattle.layout.proofs.evidence_length.Statement.{statement}
 use Rattle.layout.proofs.evidence_length.Tie as tie
 
-mul-result : tie.Need-mul-result
-mul-result c = search needs
-
-add-result : tie.Need-add-result
-add-result c = search needs
-
 returns : tie.Need-returns
 returns c = omega (arith, evidence-figure (c .args .count))
 
 pub evidence-length-spec : {M : Type 1} → statement M
-evidence-length-spec = tie.close (tie.spec mul-result add-result returns)
+evidence-length-spec = tie.close (tie.spec (λ c. search needs) (λ c. search needs) returns)

@@ -5,19 +5,10 @@ use Rattle.protocol.specs.Layout.{evidenceLength, evidenceOutLength}
 use Rattle.layout.proofs.evidence_out_length.Statement.{statement}
 use Rattle.layout.proofs.evidence_out_length.Tie as tie
 
-k-requires : tie.Need-k-requires
-k-requires c κs = search needs
-
-cast-evidence-length : tie.Need-cast-evidence-length
-cast-evidence-length c = search needs
-
-evidence-length-requires : tie.Need-evidence-length-requires
-evidence-length-requires c κs = search needs
-
 returns : tie.Need-returns
 unfolding evidenceOutLength
 returns c = c .evidence-length .ensures ∙ ap evidenceLength (c .before .k .ensures)
 
 pub evidence-out-length-spec : {M : Type 1} → statement M
 evidence-out-length-spec =
-    tie.close (tie.spec k-requires cast-evidence-length evidence-length-requires returns)
+    tie.close (tie.spec (λ c κs. search needs) (λ c. search needs) (λ c κs. search needs) returns)

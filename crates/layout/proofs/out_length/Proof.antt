@@ -6,18 +6,9 @@ use Rattle.protocol.specs.Figures.{full-figure, evidence-out-figure, out-figure
 use Rattle.layout.proofs.out_length.Statement.{statement}
 use Rattle.layout.proofs.out_length.Tie as tie
 
-add-result : tie.Need-add-result
-add-result c = search needs
-
-full-length-requires : tie.Need-full-length-requires
-full-length-requires c κs = search needs
-
 add-result-2 : tie.Need-add-result-2
 unfolding k
 add-result-2 c = omega (arith, full-figure (c .before .args .n))
-
-evidence-out-length-requires : tie.Need-evidence-out-length-requires
-evidence-out-length-requires c κs = search needs
 
 add-result-3 : tie.Need-add-result-3
 unfolding k
@@ -30,9 +21,9 @@ pub out-length-spec : {M : Type 1} → statement M
 out-length-spec =
     tie.close
     (tie.spec
-    add-result
-    full-length-requires
+    (λ c. search needs)
+    (λ c κs. search needs)
     add-result-2
-    evidence-out-length-requires
+    (λ c κs. search needs)
     add-result-3
     returns)

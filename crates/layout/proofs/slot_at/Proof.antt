@@ -6,20 +6,8 @@ use borrow.Author.Needs.{needs}
 use Rattle.layout.proofs.slot_at.Statement.{statement}
 use Rattle.layout.proofs.slot_at.Tie as tie
 
-mul-at : tie.Need-mul-at
-mul-at c = search needs
-
 enum-told : tie.Need-enum-told
 enum-told c = search needs
-
-enum-told-2 : tie.Need-enum-told-2
-enum-told-2 c = search needs
-
-mul-result : tie.Need-mul-result
-mul-result c = search needs
-
-add-result : tie.Need-add-result
-add-result c = search needs
 
 returns : tie.Need-returns
 unfolding slotAt lengthOfBanks banksBefore banks slotLength slotLengthIn storeLength signatureLength bankOf
@@ -31,4 +19,4 @@ returns-2 c = let e = c .enum-told2 .given .1 in rw e (omega arith, omega arith)
 
 pub slot-at-spec : {M : Type 1} → statement M
 slot-at-spec =
-    tie.close (tie.spec mul-at enum-told enum-told-2 mul-result add-result returns returns-2)
+    tie.close (tie.spec (λ c. search needs) enum-told (λ c. search needs) (λ c. search needs) (λ c. search needs) returns returns-2)

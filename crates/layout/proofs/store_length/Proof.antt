@@ -5,15 +5,9 @@ use borrow.Author.Needs.{needs}
 use Rattle.layout.proofs.store_length.Statement.{statement}
 use Rattle.layout.proofs.store_length.Tie as tie
 
-mul-result : tie.Need-mul-result
-mul-result c = search needs
-
-mul-result-2 : tie.Need-mul-result-2
-mul-result-2 c = search needs
-
 returns : tie.Need-returns
 unfolding storeLength lengthOfBanks banks signatureLength
 returns c = omega arith
 
 pub store-length-spec : {M : Type 1} → statement M
-store-length-spec = tie.close (tie.spec mul-result mul-result-2 returns)
+store-length-spec = tie.close (tie.spec (λ c. search needs) (λ c. search needs) returns)

@@ -19,16 +19,10 @@ going c = c .before .before
 abbrev gone : tie.After-scatter-arg → tie.After-steps
 gone c = c .before .before
 
-together-requires : tie.Need-together-requires
-together-requires c κs = search needs
-
 row-requires : tie.Need-row-requires
 row-requires c κs =
     let pre = started c .pre in
     (pre .3, λ i h. omega (arith, pre .2 .before i h, pre .2 .within i h))
-
-gather-requires : tie.Need-gather-requires
-gather-requires c κs = search needs
 
 steps-requires : tie.Need-steps-requires
 steps-requires c κs =
@@ -58,9 +52,6 @@ scatter-requires c κs =
           omega (arith, count .1 l h, pre .2 .before _ some, pre .2 .within _ some),
     )
 
-same-length : tie.Need-same-length
-same-length c = search needs
-
 returns : tie.Need-returns
 returns c =
     let scattered = c .before .before .scatter in
@@ -83,10 +74,10 @@ pub batch-spec : {M : Type 1} → statement M
 batch-spec =
     tie.close
     (tie.spec
-    together-requires
+    (λ c κs. search needs)
     row-requires
-    gather-requires
+    (λ c κs. search needs)
     steps-requires
     scatter-requires
-    same-length
+    (λ c. search needs)
     returns)

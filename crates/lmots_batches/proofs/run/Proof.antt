@@ -6,9 +6,6 @@ use borrow.Author.Needs.{needs}
 use Rattle.lmots_batches.proofs.run.Statement.{statement}
 use Rattle.lmots_batches.proofs.run.Tie as tie
 
-advance-requires : tie.Need-advance-requires
-advance-requires c κs = search needs
-
 finish-requires : tie.Need-finish-requires
 finish-requires c κs =
     let advanced = c .before .before .before .advance in
@@ -22,9 +19,6 @@ finish-requires c κs =
       start .pre .4,
     )
 
-same-length : tie.Need-same-length
-same-length c = search needs
-
 returns : tie.Need-returns
 returns c =
     let done = c .before .before .finish in
@@ -37,4 +31,4 @@ returns c =
     )
 
 pub run-spec : {M : Type 1} → statement M
-run-spec = tie.close (tie.spec advance-requires finish-requires same-length returns)
+run-spec = tie.close (tie.spec (λ c κs. search needs) finish-requires (λ c. search needs) returns)

@@ -43,30 +43,6 @@ returns-3 c =
     let s = given right in
     block-garbled (count s) (state s) (block s) (out s) (right .before .if1 .left) (right .if2 .left) (c .if3 .taken)
 
-round-constants-requires : tie.Need-round-constants-requires
-round-constants-requires c κs = search needs
-
-eight-words-requires : tie.Need-eight-words-requires
-eight-words-requires c κs = search needs
-
-block-words-requires : tie.Need-block-words-requires
-block-words-requires c κs = search needs
-
-compress-times-requires : tie.Need-compress-times-requires
-compress-times-requires c κs = search needs
-
-digest-requires : tie.Need-digest-requires
-digest-requires c κs = search needs
-
-slice-aggregate-copy : tie.Need-slice-aggregate-copy
-slice-aggregate-copy c = search needs
-
-copy-requires : tie.Need-copy-requires
-copy-requires c κs = search needs
-
-same-length : tie.Need-same-length
-same-length c = search needs
-
 returns-4 : tie.Need-returns-4
 returns-4 c =
     let copied = c .before .before in
@@ -88,12 +64,12 @@ probe-compress-many-spec =
     returns
     returns-2
     returns-3
-    round-constants-requires
-    eight-words-requires
-    block-words-requires
-    compress-times-requires
-    digest-requires
-    slice-aggregate-copy
-    copy-requires
-    same-length
+    (λ c κs. search needs)
+    (λ c κs. search needs)
+    (λ c κs. search needs)
+    (λ c κs. search needs)
+    (λ c κs. search needs)
+    (λ c. search needs)
+    (λ c κs. search needs)
+    (λ c. search needs)
     returns-4)

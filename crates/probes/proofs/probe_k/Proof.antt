@@ -11,13 +11,10 @@ returns c = fleet-none k _ (c .if1 .taken)
 returns-2 : tie.Need-returns-2
 returns-2 c = fleet-too-large k _ (c .before .if1 .left) (c .if2 .taken)
 
-k-requires : tie.Need-k-requires
-k-requires c κs = search needs
-
 returns-3 : tie.Need-returns-3
 returns-3 c =
     let few = c .before in
     fleet-threshold k _ (few .before .if1 .left) (few .if2 .left) _ (c .k .ensures)
 
 pub probe-k-spec : {M : Type 1} → statement M
-probe-k-spec = tie.close (tie.spec returns returns-2 k-requires returns-3)
+probe-k-spec = tie.close (tie.spec returns returns-2 (λ c κs. search needs) returns-3)

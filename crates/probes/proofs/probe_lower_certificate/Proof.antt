@@ -9,9 +9,6 @@ use borrow.Author.Needs.{needs}
 use Rattle.probes.proofs.probe_lower_certificate.Statement.{statement}
 use Rattle.probes.proofs.probe_lower_certificate.Tie as tie
 
-lower-certificate-requires : tie.Need-lower-certificate-requires
-lower-certificate-requires c κs = search needs
-
 module _ (c : tie.After-lower-certificate) where
   abbrev start : tie.Start
   start = c .before .before .before .before .before
@@ -31,12 +28,6 @@ returns c =
     let lower = c .before in
     copy-short (handed lower) (out lower) (now (lower .lower-certificate .result)) (lower .lower-certificate .ensures .0) (c .if1 .taken)
 
-copy-requires : tie.Need-copy-requires
-copy-requires c κs = search needs
-
-same-length : tie.Need-same-length
-same-length c = search needs
-
 returns-2 : tie.Need-returns-2
 returns-2 c =
     let copied = c .before .before in
@@ -46,4 +37,4 @@ returns-2 c =
 
 pub probe-lower-certificate-spec : {M : Type 1} → statement M
 probe-lower-certificate-spec =
-    tie.close (tie.spec lower-certificate-requires returns copy-requires same-length returns-2)
+    tie.close (tie.spec (λ c κs. search needs) returns (λ c κs. search needs) (λ c. search needs) returns-2)

@@ -53,21 +53,6 @@ returns-4 c =
     let s = given named in
     digits-garbled (q s) (id s) (seed s) (digits s) (out s) (named .before .if1 .left) (named .if2 .left) (seeded .if3 .left) (c .if4 .taken)
 
-round-constants-requires : tie.Need-round-constants-requires
-round-constants-requires c κs = search needs
-
-four-requires : tie.Need-four-requires
-four-requires c κs = search needs
-
-eight-requires : tie.Need-eight-requires
-eight-requires c κs = search needs
-
-write-signed-requires : tie.Need-write-signed-requires
-write-signed-requires c κs = search needs
-
-same-length : tie.Need-same-length
-same-length c = search needs
-
 returns-5 : tie.Need-returns-5
 returns-5 c =
     let wrote = c .before .before in
@@ -88,9 +73,9 @@ probe-signed-spec =
     returns-2
     returns-3
     returns-4
-    round-constants-requires
-    four-requires
-    eight-requires
-    write-signed-requires
-    same-length
+    (λ c κs. search needs)
+    (λ c κs. search needs)
+    (λ c κs. search needs)
+    (λ c κs. search needs)
+    (λ c. search needs)
     returns-5)

@@ -10,12 +10,9 @@ use Rattle.quorum.specs.QuorumLaws.{shift-is-bit}
 use Rattle.quorum.proofs.has.Statement.{statement}
 use Rattle.quorum.proofs.has.Tie as tie
 
-shr-result : tie.Need-shr-result
-shr-result c = search needs
-
 returns : tie.Need-returns
 unfolding has
 returns c = ap (λ (x : ℕ). eqb x 1) (and-mask _ 1 ∙ shift-is-bit (c .args .s) (c .args .m))
 
 pub has-spec : {M : Type 1} → statement M
-has-spec = tie.close (tie.spec shr-result returns)
+has-spec = tie.close (tie.spec (λ c. search needs) returns)

@@ -6,9 +6,6 @@ use Rattle.quorum.specs.Quorum.{t0, k}
 use Rattle.quorum.proofs.k.Statement.{statement}
 use Rattle.quorum.proofs.k.Tie as tie
 
-t0-requires : tie.Need-t0-requires
-t0-requires c κs = search needs
-
 sub-result : tie.Need-sub-result
 unfolding t0
 sub-result c = omega arith
@@ -18,4 +15,4 @@ unfolding k
 returns c = omega arith
 
 pub k-spec : {M : Type 1} → statement M
-k-spec = tie.close (tie.spec t0-requires sub-result returns)
+k-spec = tie.close (tie.spec (λ c κs. search needs) sub-result returns)

@@ -6,12 +6,9 @@ use Rattle.quorum.specs.Quorum.{all, outside}
 use Rattle.quorum.proofs.names_outside.Statement.{statement}
 use Rattle.quorum.proofs.names_outside.Tie as tie
 
-all-requires : tie.Need-all-requires
-all-requires c κs = search needs
-
 returns : tie.Need-returns
 unfolding outside all
 returns c = rw (← suc-ones (c .before .args .n), c .all .ensures)
 
 pub names-outside-spec : {M : Type 1} → statement M
-names-outside-spec = tie.close (tie.spec all-requires returns)
+names-outside-spec = tie.close (tie.spec (λ c κs. search needs) returns)

@@ -10,11 +10,8 @@ use Rattle.quorum.specs.Quorum.{mostSeats}
 use Rattle.quorum.proofs.one.Statement.{statement}
 use Rattle.quorum.proofs.one.Tie as tie
 
-shl-result : tie.Need-shl-result
-shl-result c = search needs
-
 returns : tie.Need-returns
 returns c = shl-exact 1 (c .args .s) mostSeats (lit< tt) (omega arith) ∙ one-mul _
 
 pub one-spec : {M : Type 1} → statement M
-one-spec = tie.close (tie.spec shl-result returns)
+one-spec = tie.close (tie.spec (λ c. search needs) returns)

@@ -4,14 +4,8 @@ use borrow.Author.Needs.{needs}
 use Rattle.quorum.proofs.shared_count.Statement.{statement}
 use Rattle.quorum.proofs.shared_count.Tie as tie
 
-shared-requires : tie.Need-shared-requires
-shared-requires c κs = search needs
-
-size-requires : tie.Need-size-requires
-size-requires c κs = search needs
-
 returns : tie.Need-returns
 returns c = cc
 
 pub shared-count-spec : {M : Type 1} → statement M
-shared-count-spec = tie.close (tie.spec shared-requires size-requires returns)
+shared-count-spec = tie.close (tie.spec (λ c κs. search needs) (λ c κs. search needs) returns)

@@ -6,15 +6,9 @@ use Rattle.quorum.specs.Quorum.{t0}
 use Rattle.quorum.proofs.t0.Statement.{statement}
 use Rattle.quorum.proofs.t0.Tie as tie
 
-add-result : tie.Need-add-result
-add-result c = search needs
-
-sub-result : tie.Need-sub-result
-sub-result c = search needs
-
 returns : tie.Need-returns
 unfolding t0
 returns c = omega arith
 
 pub t0-spec : {M : Type 1} → statement M
-t0-spec = tie.close (tie.spec add-result sub-result returns)
+t0-spec = tie.close (tie.spec (λ c. search needs) (λ c. search needs) returns)

@@ -5,12 +5,9 @@ use Rattle.quorum.specs.Quorum.{with, union}
 use Rattle.quorum.proofs.with.Statement.{statement}
 use Rattle.quorum.proofs.with.Tie as tie
 
-one-requires : tie.Need-one-requires
-one-requires c κs = search needs
-
 returns : tie.Need-returns
 unfolding with union
 returns c = cc
 
 pub with-spec : {M : Type 1} → statement M
-with-spec = tie.close (tie.spec one-requires returns)
+with-spec = tie.close (tie.spec (λ c κs. search needs) returns)

@@ -5,21 +5,6 @@ use borrow.Author.Needs.{needs}
 use Rattle.sha256_lanes.proofs.begin.Statement.{statement}
 use Rattle.sha256_lanes.proofs.begin.Tie as tie
 
-shares-requires : tie.Need-shares-requires
-shares-requires c κs = search needs
-
-start-requires : tie.Need-start-requires
-start-requires c κs = search needs
-
-rounds-requires : tie.Need-rounds-requires
-rounds-requires c κs = search needs
-
-rounds-requires-2 : tie.Need-rounds-requires-2
-rounds-requires-2 c κs = search needs
-
-save-requires : tie.Need-save-requires
-save-requires c κs = search needs
-
 returns : tie.Need-returns
 returns c =
     let saved = c .save .ensures in
@@ -44,9 +29,9 @@ pub begin-spec : {M : Type 1} → statement M
 begin-spec =
     tie.close
     (tie.spec
-    shares-requires
-    start-requires
-    rounds-requires
-    rounds-requires-2
-    save-requires
+    (λ c κs. search needs)
+    (λ c κs. search needs)
+    (λ c κs. search needs)
+    (λ c κs. search needs)
+    (λ c κs. search needs)
     returns)

@@ -5,18 +5,6 @@ use borrow.Author.Needs.{needs}
 use Rattle.sha256_lanes.proofs.compress.Statement.{statement}
 use Rattle.sha256_lanes.proofs.compress.Tie as tie
 
-schedule-requires : tie.Need-schedule-requires
-schedule-requires c κs = search needs
-
-resume-requires : tie.Need-resume-requires
-resume-requires c κs = search needs
-
-rounds-requires : tie.Need-rounds-requires
-rounds-requires c κs = search needs
-
-sums-requires : tie.Need-sums-requires
-sums-requires c κs = search needs
-
 returns : tie.Need-returns
 returns c =
     let rounded = c .before .before .before .rounds in
@@ -37,4 +25,4 @@ returns c =
 
 pub compress-spec : {M : Type 1} → statement M
 compress-spec =
-    tie.close (tie.spec schedule-requires resume-requires rounds-requires sums-requires returns)
+    tie.close (tie.spec (λ c κs. search needs) (λ c κs. search needs) (λ c κs. search needs) (λ c κs. search needs) returns)

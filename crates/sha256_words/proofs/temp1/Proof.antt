@@ -4,24 +4,6 @@ use Rattle.fips180.specs.Fips.{temp1}
 use Rattle.sha256_words.proofs.temp1.Statement.{statement}
 use Rattle.sha256_words.proofs.temp1.Tie as tie
 
-big-sigma1-requires : tie.Need-big-sigma1-requires
-big-sigma1-requires c κs = search needs
-
-add-requires : tie.Need-add-requires
-add-requires c κs = search needs
-
-ch-requires : tie.Need-ch-requires
-ch-requires c κs = search needs
-
-add-requires-2 : tie.Need-add-requires-2
-add-requires-2 c κs = search needs
-
-add-requires-3 : tie.Need-add-requires-3
-add-requires-3 c κs = search needs
-
-add-requires-4 : tie.Need-add-requires-4
-add-requires-4 c κs = search needs
-
 returns : tie.Need-returns
 unfolding temp1
 returns c = cc
@@ -30,10 +12,10 @@ pub temp1-spec : {M : Type 1} → statement M
 temp1-spec =
     tie.close
     (tie.spec
-    big-sigma1-requires
-    add-requires
-    ch-requires
-    add-requires-2
-    add-requires-3
-    add-requires-4
+    (λ c κs. search needs)
+    (λ c κs. search needs)
+    (λ c κs. search needs)
+    (λ c κs. search needs)
+    (λ c κs. search needs)
+    (λ c κs. search needs)
     returns)

@@ -6,18 +6,6 @@ use Rattle.wire_write.specs.WriteLaws.{then}
 use Rattle.wire_write.proofs.put_tag.Statement.{statement}
 use Rattle.wire_write.proofs.put_tag.Tie as tie
 
-put-byte-requires : tie.Need-put-byte-requires
-put-byte-requires c κs = search needs
-
-cast-put-byte : tie.Need-cast-put-byte
-cast-put-byte c = search needs
-
-put-byte-requires-2 : tie.Need-put-byte-requires-2
-put-byte-requires-2 c κs = search needs
-
-same-length : tie.Need-same-length
-same-length c = search needs
-
 returns : tie.Need-returns
 returns c =
     let second = c .before .before in
@@ -28,4 +16,4 @@ returns c =
 
 pub put-tag-spec : {M : Type 1} → statement M
 put-tag-spec =
-    tie.close (tie.spec put-byte-requires cast-put-byte put-byte-requires-2 same-length returns)
+    tie.close (tie.spec (λ c κs. search needs) (λ c. search needs) (λ c κs. search needs) (λ c. search needs) returns)

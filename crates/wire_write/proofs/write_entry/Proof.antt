@@ -17,9 +17,6 @@ put-requires : tie.Need-put-requires
 unfolding signatureLength fullEntryLength
 put-requires c κs = omega arith
 
-same-length : tie.Need-same-length
-same-length c = search needs
-
 returns : tie.Need-returns
 unfolding renderEntry fullForm
 returns c =
@@ -30,4 +27,4 @@ returns c =
     (first .put-tag .ensures) (second .put .ensures)
 
 pub write-entry-spec : {M : Type 1} → statement M
-write-entry-spec = tie.close (tie.spec put-tag-requires put-requires same-length returns)
+write-entry-spec = tie.close (tie.spec put-tag-requires put-requires (λ c. search needs) returns)

@@ -27,15 +27,6 @@ two c = certificateFrom (c .args .n) (c .args .b) (now (c .args .vb)) (now (c .a
 swapped : (c : tie.Start) → evidenceLength (size (shared (c .args .b .seats) (c .args .a .seats))) ≡ evidenceLength (size (shared (c .args .a .seats) (c .args .b .seats)))
 swapped c = ap (λ (x : ℕ). evidenceLength (size x)) (shared-comm (c .args .b .seats) (c .args .a .seats))
 
-lower-requires : tie.Need-lower-requires
-lower-requires c κs = search needs
-
-write-ordered-requires : tie.Need-write-ordered-requires
-write-ordered-requires c κs = search needs
-
-same-length : tie.Need-same-length
-same-length c = search needs
-
 returns : tie.Need-returns
 returns c =
     let done = c .before .before in
@@ -54,9 +45,6 @@ write-ordered-requires-2 c κs =
     let pre = start .pre in
     (pre .0, pre .3, pre .4, pre .1, pre .2, omega (arith, swapped start, pre .5))
 
-same-length-2 : tie.Need-same-length-2
-same-length-2 c = search needs
-
 returns-2 : tie.Need-returns-2
 returns-2 c =
     let done = c .before .before in
@@ -73,10 +61,10 @@ pub write-evidence-spec : {M : Type 1} → statement M
 write-evidence-spec =
     tie.close
     (tie.spec
-    lower-requires
-    write-ordered-requires
-    same-length
+    (λ c κs. search needs)
+    (λ c κs. search needs)
+    (λ c. search needs)
     returns
     write-ordered-requires-2
-    same-length-2
+    (λ c. search needs)
     returns-2)

@@ -18,9 +18,6 @@ commanded c = c .before .before .before .before
 abbrev lowered : tie.After-put2 → tie.After-put
 lowered c = c .before .before .before .before
 
-put-command-requires : tie.Need-put-command-requires
-put-command-requires c κs = search needs
-
 put-requires : tie.Need-put-requires
 put-requires c κs =
     let first = c .before .before .before in
@@ -34,9 +31,6 @@ put-requires-2 c κs =
     let start = started first in
     omega (arith, start .pre, length-command 5 (start .args .round), first .put-command .ensures .ends, first .put-command .kept, second .put .ensures .ends, second .put .kept)
 
-cast-put-byte : tie.Need-cast-put-byte
-cast-put-byte c = search needs
-
 put-byte-requires : tie.Need-put-byte-requires
 put-byte-requires c κs =
     let third = c .before .before .before in
@@ -44,9 +38,6 @@ put-byte-requires c κs =
     let first = commanded second in
     let start = started first in
     omega (arith, start .pre, length-command 5 (start .args .round), first .put-command .ensures .ends, first .put-command .kept, second .put .ensures .ends, second .put .kept, third .put2 .ensures .ends, third .put2 .kept)
-
-same-length : tie.Need-same-length
-same-length c = search needs
 
 returns : tie.Need-returns
 returns c =
@@ -69,10 +60,10 @@ pub write-evidence-head-spec : {M : Type 1} → statement M
 write-evidence-head-spec =
     tie.close
     (tie.spec
-    put-command-requires
+    (λ c κs. search needs)
     put-requires
     put-requires-2
-    cast-put-byte
+    (λ c. search needs)
     put-byte-requires
-    same-length
+    (λ c. search needs)
     returns)

@@ -30,9 +30,6 @@ counting c = c .before .before .before
 abbrev headed : tie.After-put-byte → tie.After-write-head
 headed c = counting (c .before)
 
-size-requires : tie.Need-size-requires
-size-requires c κs = search needs
-
 write-head-requires : tie.Need-write-head-requires
 unfolding noticeLength fullEntryAt
 write-head-requires c κs = omega arith
@@ -56,9 +53,6 @@ write-entries-requires c κs =
     let args = start .args in
     let counted = length-seats (args .n) (args .source .seats) (start .pre .3 .inside) in
     (start .pre .0, start .pre .3, rw counted (omega (arith, start .pre .4, first .write-head .ensures .1, first .write-head .kept, second .put-byte .ensures .ends)))
-
-same-length : tie.Need-same-length
-same-length c = search needs
 
 returns : tie.Need-returns
 unfolding noticeLength fullEntryAt render fullOf entriesOf
@@ -86,10 +80,10 @@ pub write-full-spec : {M : Type 1} → statement M
 write-full-spec =
     tie.close
     (tie.spec
-    size-requires
+    (λ c κs. search needs)
     write-head-requires
     cast-put-byte
     put-byte-requires
     write-entries-requires
-    same-length
+    (λ c. search needs)
     returns)

@@ -19,9 +19,6 @@ put-command-requires : tie.Need-put-command-requires
 unfolding noticeLength
 put-command-requires c κs = omega arith
 
-cast-put-byte : tie.Need-cast-put-byte
-cast-put-byte c = search needs
-
 put-byte-requires : tie.Need-put-byte-requires
 unfolding noticeLength
 put-byte-requires c κs =
@@ -34,9 +31,6 @@ put-requires c κs =
     let command = commanded (c .before .before .before) in
     let start = started command in
     omega (arith, length-command (start .args .command) (start .args .round), start .pre, command .put-command)
-
-same-length : tie.Need-same-length
-same-length c = search needs
 
 returns : tie.Need-returns
 returns c =
@@ -57,8 +51,8 @@ write-head-spec =
     tie.close
     (tie.spec
     put-command-requires
-    cast-put-byte
+    (λ c. search needs)
     put-byte-requires
     put-requires
-    same-length
+    (λ c. search needs)
     returns)

@@ -46,12 +46,6 @@ module _ (c : tie.After-size) where
   in-high : Within (mask c) (started c .args .high)
   in-high s i = in-shared s low high .0 (rw mask-is at i) .1
 
-shared-requires : tie.Need-shared-requires
-shared-requires c κs = search needs
-
-size-requires : tie.Need-size-requires
-size-requires c κs = search needs
-
 write-evidence-head-requires : tie.Need-write-evidence-head-requires
 unfolding evidenceLength evidenceEntryAt
 write-evidence-head-requires c κs =
@@ -67,9 +61,6 @@ write-pairs-requires c κs =
     let sized = counted head in
     let pre = started sized .pre in
     (pre .0, in-low sized, pre .2, in-high sized, pre .4, rw (many sized) (omega (arith, pre .5, head .write-evidence-head .ensures .1, head .write-evidence-head .kept)))
-
-same-length : tie.Need-same-length
-same-length c = search needs
 
 returns : tie.Need-returns
 unfolding evidenceLength evidenceEntryAt
@@ -90,9 +81,9 @@ pub write-ordered-spec : {M : Type 1} → statement M
 write-ordered-spec =
     tie.close
     (tie.spec
-    shared-requires
-    size-requires
+    (λ c κs. search needs)
+    (λ c κs. search needs)
     write-evidence-head-requires
     write-pairs-requires
-    same-length
+    (λ c. search needs)
     returns)

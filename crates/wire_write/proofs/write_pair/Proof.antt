@@ -27,9 +27,6 @@ put-requires-2 : tie.Need-put-requires-2
 unfolding signatureLength evidenceEntryLength
 put-requires-2 c κs = omega (arith, started (tagged (c .before .before .before)) .pre)
 
-same-length : tie.Need-same-length
-same-length c = search needs
-
 returns : tie.Need-returns
 unfolding renderEntry evidenceForm
 returns c =
@@ -45,4 +42,4 @@ returns c =
 
 pub write-pair-spec : {M : Type 1} → statement M
 write-pair-spec =
-    tie.close (tie.spec put-tag-requires put-requires put-requires-2 same-length returns)
+    tie.close (tie.spec put-tag-requires put-requires put-requires-2 (λ c. search needs) returns)

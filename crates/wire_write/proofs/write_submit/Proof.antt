@@ -19,9 +19,6 @@ put-requires : tie.Need-put-requires
 unfolding noticeLength submitLength signatureLength
 put-requires c κs = omega (arith, c .before .before .before .before .before .before .before .before .pre)
 
-same-length : tie.Need-same-length
-same-length c = search needs
-
 returns : tie.Need-returns
 unfolding render
 returns c =
@@ -35,4 +32,4 @@ returns c =
     (wrote, wrote .ends ∙ ap (λ (l : ℕ). args .at + l) (length-submit (args .round) (args .seat) (now (args .value)) (now (args .signature)) (start .pre .1) (start .pre .2)))
 
 pub write-submit-spec : {M : Type 1} → statement M
-write-submit-spec = tie.close (tie.spec write-head-requires put-requires same-length returns)
+write-submit-spec = tie.close (tie.spec write-head-requires put-requires (λ c. search needs) returns)

@@ -6,23 +6,8 @@ use borrow.Author.Needs.{needs}
 use Rattle.yard_io.proofs.first_command.Statement.{statement}
 use Rattle.yard_io.proofs.first_command.Tie as tie
 
-read-command-requires : tie.Need-read-command-requires
-read-command-requires c κs = search needs
-
-slice-reshare-prefix-begin : tie.Need-slice-reshare-prefix-begin
-slice-reshare-prefix-begin c = search needs
-
 slice-aggregate-begin : tie.Need-slice-aggregate-begin
 slice-aggregate-begin c = simp length-take (omega arith)
-
-begin-requires : tie.Need-begin-requires
-begin-requires c κs = search needs
-
-print-requires : tie.Need-print-requires
-print-requires c κs = search needs
-
-same-length : tie.Need-same-length
-same-length c = search needs
 
 returns : tie.Need-returns
 unfolding told
@@ -35,10 +20,10 @@ pub first-command-spec : {M : Type 1} → statement M
 first-command-spec =
     tie.close
     (tie.spec
-    read-command-requires
-    slice-reshare-prefix-begin
+    (λ c κs. search needs)
+    (λ c. search needs)
     slice-aggregate-begin
-    begin-requires
-    print-requires
-    same-length
+    (λ c κs. search needs)
+    (λ c κs. search needs)
+    (λ c. search needs)
     returns)

@@ -6,29 +6,8 @@ use borrow.Author.Needs.{needs}
 use Rattle.yard_io.proofs.next_command.Statement.{statement}
 use Rattle.yard_io.proofs.next_command.Tie as tie
 
-read-command-requires : tie.Need-read-command-requires
-read-command-requires c κs = search needs
-
-slice-reshare-prefix-take-command : tie.Need-slice-reshare-prefix-take-command
-slice-reshare-prefix-take-command c = search needs
-
 slice-aggregate-take-command : tie.Need-slice-aggregate-take-command
 slice-aggregate-take-command c = simp length-take (omega arith)
-
-take-command-requires : tie.Need-take-command-requires
-take-command-requires c κs = search needs
-
-print-requires : tie.Need-print-requires
-print-requires c κs = search needs
-
-same-length : tie.Need-same-length
-same-length c = search needs
-
-same-length-2 : tie.Need-same-length-2
-same-length-2 c = search needs
-
-same-length-3 : tie.Need-same-length-3
-same-length-3 c = search needs
 
 returns : tie.Need-returns
 unfolding told
@@ -47,12 +26,12 @@ pub next-command-spec : {M : Type 1} → statement M
 next-command-spec =
     tie.close
     (tie.spec
-    read-command-requires
-    slice-reshare-prefix-take-command
+    (λ c κs. search needs)
+    (λ c. search needs)
     slice-aggregate-take-command
-    take-command-requires
-    print-requires
-    same-length
-    same-length-2
-    same-length-3
+    (λ c κs. search needs)
+    (λ c κs. search needs)
+    (λ c. search needs)
+    (λ c. search needs)
+    (λ c. search needs)
     returns)

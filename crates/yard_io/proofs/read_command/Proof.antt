@@ -30,26 +30,11 @@ read-on-requires c κs =
     let begin = c .before .before in
     (search needs, room-some (begin .args .first) (length (now (begin .args .space))) (begin .pre))
 
-same-length : tie.Need-same-length
-same-length c = search needs
-
 returns : tie.Need-returns
 returns c = command-none (first (c .before .before .before))
 
-slice-reshare-prefix-told-length : tie.Need-slice-reshare-prefix-told-length
-slice-reshare-prefix-told-length c = search needs
-
 slice-aggregate-told-length : tie.Need-slice-aggregate-told-length
 slice-aggregate-told-length c = simp length-take (omega arith)
-
-told-length-requires : tie.Need-told-length-requires
-told-length-requires c κs = search needs
-
-read-on-requires-2 : tie.Need-read-on-requires-2
-read-on-requires-2 c κs = search needs
-
-same-length-2 : tie.Need-same-length-2
-same-length-2 c = search needs
 
 returns-2 : tie.Need-returns-2
 returns-2 c =
@@ -58,20 +43,8 @@ returns-2 c =
     let some = begun told in
     command-short (first (one some)) (only some) (told .told-length .ensures .0) (more .read-on2 .ensures) (c .if2 .taken)
 
-slice-reshare-prefix-told-length-2 : tie.Need-slice-reshare-prefix-told-length-2
-slice-reshare-prefix-told-length-2 c = search needs
-
 slice-aggregate-told-length-2 : tie.Need-slice-aggregate-told-length-2
 slice-aggregate-told-length-2 c = simp length-take (omega arith)
-
-told-length-requires-2 : tie.Need-told-length-requires-2
-told-length-requires-2 c κs = search needs
-
-read-on-requires-3 : tie.Need-read-on-requires-3
-read-on-requires-3 c κs = search needs
-
-same-length-3 : tie.Need-same-length-3
-same-length-3 c = search needs
 
 returns-3 : tie.Need-returns-3
 returns-3 c =
@@ -89,17 +62,17 @@ read-command-spec =
     tie.close
     (tie.spec
     read-on-requires
-    same-length
+    (λ c. search needs)
     returns
-    slice-reshare-prefix-told-length
+    (λ c. search needs)
     slice-aggregate-told-length
-    told-length-requires
-    read-on-requires-2
-    same-length-2
+    (λ c κs. search needs)
+    (λ c κs. search needs)
+    (λ c. search needs)
     returns-2
-    slice-reshare-prefix-told-length-2
+    (λ c. search needs)
     slice-aggregate-told-length-2
-    told-length-requires-2
-    read-on-requires-3
-    same-length-3
+    (λ c κs. search needs)
+    (λ c κs. search needs)
+    (λ c. search needs)
     returns-3)

@@ -16,27 +16,9 @@ started c = c .before .before .before .before .before
 abbrev buffered : tie.After-all → tie.After-key-buffer
 buffered c = c .before .before
 
-sub-message-digits : tie.Need-sub-message-digits
-sub-message-digits c = search needs
-
-part-message-digits-start : tie.Need-part-message-digits-start
-part-message-digits-start c = search needs
-
 part-message-digits-end : tie.Need-part-message-digits-end
 unfolding otsLength
 part-message-digits-end c = omega arith
-
-message-digits-requires : tie.Need-message-digits-requires
-message-digits-requires c κs = search needs
-
-key-buffer-requires : tie.Need-key-buffer-requires
-key-buffer-requires c κs = search needs
-
-slice-aggregate-write-completed : tie.Need-slice-aggregate-write-completed
-slice-aggregate-write-completed c = search needs
-
-slice-aggregate-write-completed-2 : tie.Need-slice-aggregate-write-completed-2
-slice-aggregate-write-completed-2 c = search needs
 
 write-completed-requires : tie.Need-write-completed-requires
 write-completed-requires c κs =
@@ -44,23 +26,8 @@ write-completed-requires c κs =
     let room = chains-le (start .args .w) (start .pre .1) in
     (start .pre .0, start .pre .1, search needs, start .pre .2, omega arith)
 
-count-requires : tie.Need-count-requires
-count-requires c κs = search needs
-
-mul-end : tie.Need-mul-end
-mul-end c = search needs
-
-add-end : tie.Need-add-end
-add-end c = search needs
-
-array-share-prefix-all : tie.Need-array-share-prefix-all
-array-share-prefix-all c = search needs
-
 slice-aggregate-sha256 : tie.Need-slice-aggregate-sha256
 slice-aggregate-sha256 c = simp length-take (omega arith)
-
-sha256-requires : tie.Need-sha256-requires
-sha256-requires c κs = search needs
 
 returns : tie.Need-returns
 unfolding part
@@ -80,18 +47,18 @@ pub candidate-spec : {M : Type 1} → statement M
 candidate-spec =
     tie.close
     (tie.spec
-    sub-message-digits
-    part-message-digits-start
+    (λ c. search needs)
+    (λ c. search needs)
     part-message-digits-end
-    message-digits-requires
-    key-buffer-requires
-    slice-aggregate-write-completed
-    slice-aggregate-write-completed-2
+    (λ c κs. search needs)
+    (λ c κs. search needs)
+    (λ c. search needs)
+    (λ c. search needs)
     write-completed-requires
-    count-requires
-    mul-end
-    add-end
-    array-share-prefix-all
+    (λ c κs. search needs)
+    (λ c. search needs)
+    (λ c. search needs)
+    (λ c. search needs)
     slice-aggregate-sha256
-    sha256-requires
+    (λ c κs. search needs)
     returns)

@@ -22,23 +22,11 @@ values c = started c .pre .3 ∙ length-values (started c .args .w)
 abbrev running : tie.After-z3 → tie.After-z
 running c = c .before .before .before .before
 
-most-requires : tie.Need-most-requires
-most-requires c κs = search needs
-
-digit-places-requires : tie.Need-digit-places-requires
-digit-places-requires c κs = search needs
-
-slice-aggregate-copy : tie.Need-slice-aggregate-copy
-slice-aggregate-copy c = search needs
-
 sub-copy : tie.Need-sub-copy
 sub-copy c = omega (arith, values c)
 
 part-copy-start : tie.Need-part-copy-start
 part-copy-start c = omega (arith, values c)
-
-part-copy-end : tie.Need-part-copy-end
-part-copy-end c = search needs
 
 copy-requires : tie.Need-copy-requires
 copy-requires c κs =
@@ -46,9 +34,6 @@ copy-requires c κs =
     let few = chains-le (start .args .w) (start .pre .1) in
     let long = values (c .before) in
     simp (length-take, length-drop) (omega arith)
-
-slice-aggregate-run : tie.Need-slice-aggregate-run
-slice-aggregate-run c = search needs
 
 run-requires : tie.Need-run-requires
 run-requires c κs =
@@ -80,13 +65,13 @@ pub completed-spec : {M : Type 1} → statement M
 completed-spec =
     tie.close
     (tie.spec
-    most-requires
-    digit-places-requires
-    slice-aggregate-copy
+    (λ c κs. search needs)
+    (λ c κs. search needs)
+    (λ c. search needs)
     sub-copy
     part-copy-start
-    part-copy-end
+    (λ c. search needs)
     copy-requires
-    slice-aggregate-run
+    (λ c. search needs)
     run-requires
     returns)

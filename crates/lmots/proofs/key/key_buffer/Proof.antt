@@ -6,18 +6,6 @@ use Rattle.lmots.specs.KeyLaws.{front-taken}
 use Rattle.lmots.proofs.key.key_buffer.Statement.{statement}
 use Rattle.lmots.proofs.key.key_buffer.Tie as tie
 
-front-requires : tie.Need-front-requires
-front-requires c κs = search needs
-
-slice-aggregate-copy : tie.Need-slice-aggregate-copy
-slice-aggregate-copy c = search needs
-
-slice-aggregate-copy-2 : tie.Need-slice-aggregate-copy-2
-slice-aggregate-copy-2 c = search needs
-
-copy-requires : tie.Need-copy-requires
-copy-requires c κs = search needs
-
 returns : tie.Need-returns
 returns c =
     let front = c .before .before .before .before .front in
@@ -27,4 +15,4 @@ returns c =
 pub key-buffer-spec : {M : Type 1} → statement M
 key-buffer-spec =
     tie.close
-    (tie.spec front-requires slice-aggregate-copy slice-aggregate-copy-2 copy-requires returns)
+    (tie.spec (λ c κs. search needs) (λ c. search needs) (λ c. search needs) (λ c κs. search needs) returns)

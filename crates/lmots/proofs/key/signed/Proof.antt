@@ -16,15 +16,6 @@ digit-places-requires : tie.Need-digit-places-requires
 unfolding chains
 digit-places-requires c κs = (inr refl, c .before .pre .1, omega arith)
 
-slice-aggregate-write-starts : tie.Need-slice-aggregate-write-starts
-slice-aggregate-write-starts c = search needs
-
-write-starts-requires : tie.Need-write-starts-requires
-write-starts-requires c κs = search needs
-
-slice-aggregate-run : tie.Need-slice-aggregate-run
-slice-aggregate-run c = search needs
-
 run-requires : tie.Need-run-requires
 run-requires c κs =
     let digits = c .before .before .before .before .digit-places in
@@ -43,8 +34,8 @@ signed-spec =
     tie.close
     (tie.spec
     digit-places-requires
-    slice-aggregate-write-starts
-    write-starts-requires
-    slice-aggregate-run
+    (λ c. search needs)
+    (λ c κs. search needs)
+    (λ c. search needs)
     run-requires
     returns)

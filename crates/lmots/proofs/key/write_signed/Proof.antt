@@ -5,20 +5,11 @@ use borrow.Author.Needs.{needs}
 use Rattle.lmots.proofs.key.write_signed.Statement.{statement}
 use Rattle.lmots.proofs.key.write_signed.Tie as tie
 
-signed-requires : tie.Need-signed-requires
-signed-requires c κs = search needs
-
-array-share-prefix-z : tie.Need-array-share-prefix-z
-array-share-prefix-z c = search needs
-
 slice-aggregate-copy : tie.Need-slice-aggregate-copy
 slice-aggregate-copy c = simp length-take (omega arith)
 
 copy-requires : tie.Need-copy-requires
 copy-requires c κs = simp length-take (omega arith)
-
-same-length : tie.Need-same-length
-same-length c = search needs
 
 returns : tie.Need-returns
 returns c = rw (c .before .before .before .before .before .signed .ensures) at (c .before .before .copy .ensures)
@@ -27,9 +18,9 @@ pub write-signed-spec : {M : Type 1} → statement M
 write-signed-spec =
     tie.close
     (tie.spec
-    signed-requires
-    array-share-prefix-z
+    (λ c κs. search needs)
+    (λ c. search needs)
     slice-aggregate-copy
     copy-requires
-    same-length
+    (λ c. search needs)
     returns)

@@ -10,23 +10,11 @@ use Rattle.lmots.proofs.leaves.chain_ends.Tie as tie
 small : (x l : ℕ) → x < 16777216 → l < 16 → getD (replicate 16 x) l 0 < 16777216
 small x l h k = rw (getD-replicate 16 l x 0 k) h
 
-put-all-requires : tie.Need-put-all-requires
-put-all-requires c κs = search needs
-
-mul-steps : tie.Need-mul-steps
-mul-steps c = search needs
-
-add-steps : tie.Need-add-steps
-add-steps c = search needs
-
 steps-requires : tie.Need-steps-requires
 steps-requires c κs =
     let start = c .before .before .before .before in
     let pre = start .pre in
     (pre .0, c .before .before .put-all .ensures .0, search needs, omega arith, λ l h. small (start .args .i * 65536 + 65280) l (omega (arith, pre .1)) h)
-
-mul-steps-2 : tie.Need-mul-steps-2
-mul-steps-2 c = search needs
 
 steps-requires-2 : tie.Need-steps-requires-2
 steps-requires-2 c κs =
@@ -47,10 +35,10 @@ pub chain-ends-spec : {M : Type 1} → statement M
 chain-ends-spec =
     tie.close
     (tie.spec
-    put-all-requires
-    mul-steps
-    add-steps
+    (λ c κs. search needs)
+    (λ c. search needs)
+    (λ c. search needs)
     steps-requires
-    mul-steps-2
+    (λ c. search needs)
     steps-requires-2
     returns)

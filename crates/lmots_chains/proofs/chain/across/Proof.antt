@@ -5,15 +5,9 @@ use borrow.Author.Needs.{needs}
 use Rattle.lmots_chains.proofs.chain.across.Statement.{statement}
 use Rattle.lmots_chains.proofs.chain.across.Tie as tie
 
-mul-result : tie.Need-mul-result
-mul-result c = search needs
-
-add-result : tie.Need-add-result
-add-result c = search needs
-
 returns : tie.Need-returns
 unfolding across
 returns c = refl
 
 pub across-spec : {M : Type 1} → statement M
-across-spec = tie.close (tie.spec mul-result add-result returns)
+across-spec = tie.close (tie.spec (λ c. search needs) (λ c. search needs) returns)

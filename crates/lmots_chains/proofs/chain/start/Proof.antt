@@ -4,12 +4,9 @@ use borrow.Author.Needs.{needs}
 use Rattle.lmots_chains.proofs.chain.start.Statement.{statement}
 use Rattle.lmots_chains.proofs.chain.start.Tie as tie
 
-step-requires : tie.Need-step-requires
-step-requires c κs = search needs
-
 returns : tie.Need-returns
 unfolding start
 returns c = c .step .ensures
 
 pub start-spec : {M : Type 1} → statement M
-start-spec = tie.close (tie.spec step-requires returns)
+start-spec = tie.close (tie.spec (λ c κs. search needs) returns)

@@ -9,15 +9,6 @@ use borrow.Author.Needs.{needs}
 use Rattle.lmots_chains.proofs.chain.step.Statement.{statement}
 use Rattle.lmots_chains.proofs.chain.step.Tie as tie
 
-block-requires : tie.Need-block-requires
-block-requires c κs = search needs
-
-initial-value-requires : tie.Need-initial-value-requires
-initial-value-requires c κs = search needs
-
-compress-requires : tie.Need-compress-requires
-compress-requires c κs = search needs
-
 returns : tie.Need-returns
 returns c =
     let start = c .before .before .before in
@@ -27,4 +18,4 @@ returns c =
     (search needs) (λ i. let f : Fits w32 (getD m i 0) = search needs in f .fits) (c .before .initial-value .ensures) (c .before .before .block .ensures) (c .compress .ensures)
 
 pub step-spec : {M : Type 1} → statement M
-step-spec = tie.close (tie.spec block-requires initial-value-requires compress-requires returns)
+step-spec = tie.close (tie.spec (λ c κs. search needs) (λ c κs. search needs) (λ c κs. search needs) returns)

@@ -18,27 +18,6 @@ started c = c .before .before .before
 abbrev numbering : tie.After-begin-arg3 → tie.After-put-numbers
 numbering c = c .before .before .before
 
-initial-value-requires : tie.Need-initial-value-requires
-initial-value-requires c κs = search needs
-
-array-read-t12 : tie.Need-array-read-t12
-array-read-t12 c = search needs
-
-array-read-t15 : tie.Need-array-read-t15
-array-read-t15 c = search needs
-
-array-read-t18 : tie.Need-array-read-t18
-array-read-t18 c = search needs
-
-array-read-t21 : tie.Need-array-read-t21
-array-read-t21 c = search needs
-
-spread-requires : tie.Need-spread-requires
-spread-requires c κs = search needs
-
-put-numbers-requires : tie.Need-put-numbers-requires
-put-numbers-requires c κs = search needs
-
 begin-requires : tie.Need-begin-requires
 unfolding unnumbered
 begin-requires c κs =
@@ -86,12 +65,12 @@ pub prepare-spec : {M : Type 1} → statement M
 prepare-spec =
     tie.close
     (tie.spec
-    initial-value-requires
-    array-read-t12
-    array-read-t15
-    array-read-t18
-    array-read-t21
-    spread-requires
-    put-numbers-requires
+    (λ c κs. search needs)
+    (λ c. search needs)
+    (λ c. search needs)
+    (λ c. search needs)
+    (λ c. search needs)
+    (λ c κs. search needs)
+    (λ c κs. search needs)
     begin-requires
     returns)

@@ -5,15 +5,6 @@ use borrow.Author.Needs.{needs}
 use Rattle.lmots_chains.proofs.sixteen.step.Statement.{statement}
 use Rattle.lmots_chains.proofs.sixteen.step.Tie as tie
 
-put-places-requires : tie.Need-put-places-requires
-put-places-requires c κs = search needs
-
-put-values-requires : tie.Need-put-values-requires
-put-values-requires c κs = search needs
-
-compress-requires : tie.Need-compress-requires
-compress-requires c κs = search needs
-
 returns : tie.Need-returns
 returns c =
     let e = c .compress .ensures in
@@ -25,4 +16,4 @@ returns c =
     )
 
 pub step-spec : {M : Type 1} → statement M
-step-spec = tie.close (tie.spec put-places-requires put-values-requires compress-requires returns)
+step-spec = tie.close (tie.spec (λ c κs. search needs) (λ c κs. search needs) (λ c κs. search needs) returns)

@@ -5,12 +5,6 @@ use borrow.Author.Needs.{needs}
 use Rattle.lmots_chains.proofs.sixteen.steps.Statement.{statement}
 use Rattle.lmots_chains.proofs.sixteen.steps.Tie as tie
 
-prepare-requires : tie.Need-prepare-requires
-prepare-requires c κs = search needs
-
-walk-requires : tie.Need-walk-requires
-walk-requires c κs = search needs
-
 returns : tie.Need-returns
 returns c =
     let args = c .before .before .before .before .before .before .before .before .before .args in
@@ -18,4 +12,4 @@ returns c =
     (c .walk .ensures .0 .2, walked-for (args .id) (args .leaves) (now (args .places)) (args .count) _ _ _ (now (args .v)) _ _ _ (prepared .ensures .3) (c .walk .ensures .1))
 
 pub steps-spec : {M : Type 1} → statement M
-steps-spec = tie.close (tie.spec prepare-requires walk-requires returns)
+steps-spec = tie.close (tie.spec (λ c κs. search needs) (λ c κs. search needs) returns)

@@ -27,9 +27,6 @@ shared-slice-read-wide c =
     let start = wide-start (c .before) in
     place-eight (start .args .w) (start .args .i) (length (now (start .args .s))) (c .before .if1 .taken) (start .pre .1)
 
-wide-requires : tie.Need-wide-requires
-wide-requires c κs = search needs
-
 returns : tie.Need-returns
 returns c =
     let eight = c .before .before in
@@ -40,9 +37,6 @@ shared-slice-read-wide-2 : tie.Need-shared-slice-read-wide-2
 shared-slice-read-wide-2 c =
     let start = narrow-start (c .before) in
     place-four (start .args .w) (start .args .i) (length (now (start .args .s))) (four (c .before)) (start .pre .1)
-
-wide-requires-2 : tie.Need-wide-requires-2
-wide-requires-2 c κs = search needs
 
 returns-2 : tie.Need-returns-2
 returns-2 c =
@@ -63,9 +57,9 @@ coef-spec =
     tie.close
     (tie.spec
     shared-slice-read-wide
-    wide-requires
+    (λ c κs. search needs)
     returns
     shared-slice-read-wide-2
-    wide-requires-2
+    (λ c κs. search needs)
     returns-2
     returns-3)

@@ -6,60 +6,6 @@ use Rattle.lmots_digits.specs.WriteLaws.{fronted}
 use Rattle.lmots_digits.proofs.digits.front.Statement.{statement}
 use Rattle.lmots_digits.proofs.digits.front.Tie as tie
 
-slice-aggregate-put-word : tie.Need-slice-aggregate-put-word
-slice-aggregate-put-word c = search needs
-
-array-read-put-word : tie.Need-array-read-put-word
-array-read-put-word c = search needs
-
-put-word-requires : tie.Need-put-word-requires
-put-word-requires c κs = search needs
-
-slice-aggregate-put-word-2 : tie.Need-slice-aggregate-put-word-2
-slice-aggregate-put-word-2 c = search needs
-
-array-read-put-word-2 : tie.Need-array-read-put-word-2
-array-read-put-word-2 c = search needs
-
-put-word-requires-2 : tie.Need-put-word-requires-2
-put-word-requires-2 c κs = search needs
-
-slice-aggregate-put-word-3 : tie.Need-slice-aggregate-put-word-3
-slice-aggregate-put-word-3 c = search needs
-
-array-read-put-word-3 : tie.Need-array-read-put-word-3
-array-read-put-word-3 c = search needs
-
-put-word-requires-3 : tie.Need-put-word-requires-3
-put-word-requires-3 c κs = search needs
-
-slice-aggregate-put-word-4 : tie.Need-slice-aggregate-put-word-4
-slice-aggregate-put-word-4 c = search needs
-
-array-read-put-word-4 : tie.Need-array-read-put-word-4
-array-read-put-word-4 c = search needs
-
-put-word-requires-4 : tie.Need-put-word-requires-4
-put-word-requires-4 c κs = search needs
-
-slice-aggregate-put-word-5 : tie.Need-slice-aggregate-put-word-5
-slice-aggregate-put-word-5 c = search needs
-
-put-word-requires-5 : tie.Need-put-word-requires-5
-put-word-requires-5 c κs = search needs
-
-cast-out : tie.Need-cast-out
-cast-out c = search needs
-
-array-write-out : tie.Need-array-write-out
-array-write-out c = search needs
-
-cast-out-2 : tie.Need-cast-out-2
-cast-out-2 c = search needs
-
-array-write-out-2 : tie.Need-array-write-out-2
-array-write-out-2 c = search needs
-
 returns : tie.Need-returns
 returns c =
     let fifth = c .before in
@@ -76,22 +22,22 @@ pub front-spec : {M : Type 1} → statement M
 front-spec =
     tie.close
     (tie.spec
-    slice-aggregate-put-word
-    array-read-put-word
-    put-word-requires
-    slice-aggregate-put-word-2
-    array-read-put-word-2
-    put-word-requires-2
-    slice-aggregate-put-word-3
-    array-read-put-word-3
-    put-word-requires-3
-    slice-aggregate-put-word-4
-    array-read-put-word-4
-    put-word-requires-4
-    slice-aggregate-put-word-5
-    put-word-requires-5
-    cast-out
-    array-write-out
-    cast-out-2
-    array-write-out-2
+    (λ c. search needs)
+    (λ c. search needs)
+    (λ c κs. search needs)
+    (λ c. search needs)
+    (λ c. search needs)
+    (λ c κs. search needs)
+    (λ c. search needs)
+    (λ c. search needs)
+    (λ c κs. search needs)
+    (λ c. search needs)
+    (λ c. search needs)
+    (λ c κs. search needs)
+    (λ c. search needs)
+    (λ c κs. search needs)
+    (λ c. search needs)
+    (λ c. search needs)
+    (λ c. search needs)
+    (λ c. search needs)
     returns)

@@ -10,24 +10,6 @@ use borrow.Author.Needs.{needs}
 use Rattle.lmots_digits.proofs.digits.prefix.Statement.{statement}
 use Rattle.lmots_digits.proofs.digits.prefix.Tie as tie
 
-front-requires : tie.Need-front-requires
-front-requires c κs = search needs
-
-slice-aggregate-copy : tie.Need-slice-aggregate-copy
-slice-aggregate-copy c = search needs
-
-slice-aggregate-copy-2 : tie.Need-slice-aggregate-copy-2
-slice-aggregate-copy-2 c = search needs
-
-copy-requires : tie.Need-copy-requires
-copy-requires c κs = search needs
-
-slice-aggregate-copy-3 : tie.Need-slice-aggregate-copy-3
-slice-aggregate-copy-3 c = search needs
-
-copy-requires-2 : tie.Need-copy-requires-2
-copy-requires-2 c κs = search needs
-
 returns : tie.Need-returns
 returns c =
     let start = c .before .before .before .before .before .before .before .before .before in
@@ -44,10 +26,10 @@ pub prefix-spec : {M : Type 1} → statement M
 prefix-spec =
     tie.close
     (tie.spec
-    front-requires
-    slice-aggregate-copy
-    slice-aggregate-copy-2
-    copy-requires
-    slice-aggregate-copy-3
-    copy-requires-2
+    (λ c κs. search needs)
+    (λ c. search needs)
+    (λ c. search needs)
+    (λ c κs. search needs)
+    (λ c. search needs)
+    (λ c κs. search needs)
     returns)

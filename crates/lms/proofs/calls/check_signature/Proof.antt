@@ -29,17 +29,11 @@ started c = c .before .before .before .before
 right-key : (c : tie.Else1) → wrongKey (key (started (c .before))) ≡ false
 right-key c = sym (c .before .key-refused .ensures) ∙ c .if1 .left
 
-key-refused-requires : tie.Need-key-refused-requires
-key-refused-requires c κs = search needs
-
 returns : tie.Need-returns
 returns c =
     let tested = c .before in
     let s = started tested in
     check-key (key s) (message s) (signature s) (tested .key-refused .result) (tested .key-refused .ensures) (c .if1 .taken)
-
-is-too-long-requires : tie.Need-is-too-long-requires
-is-too-long-requires c κs = search needs
 
 returns-2 : tie.Need-returns-2
 returns-2 c =
@@ -48,9 +42,6 @@ returns-2 c =
     let s = started tested in
     check-message (key s) (message s) (signature s) (tested .key-refused .result) (tested .key-refused .ensures) (known .if1 .left)
     (c .before .is-too-long .result) (c .before .is-too-long .ensures) (c .if2 .taken)
-
-round-constants-requires : tie.Need-round-constants-requires
-round-constants-requires c κs = search needs
 
 verified-requires : tie.Need-verified-requires
 verified-requires c κs =
@@ -71,10 +62,10 @@ pub check-signature-spec : {M : Type 1} → statement M
 check-signature-spec =
     tie.close
     (tie.spec
-    key-refused-requires
+    (λ c κs. search needs)
     returns
-    is-too-long-requires
+    (λ c κs. search needs)
     returns-2
-    round-constants-requires
+    (λ c κs. search needs)
     verified-requires
     returns-3)

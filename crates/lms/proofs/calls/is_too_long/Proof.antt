@@ -3,11 +3,8 @@ use borrow.Author.Needs.{needs}
 use Rattle.lms.proofs.calls.is_too_long.Statement.{statement}
 use Rattle.lms.proofs.calls.is_too_long.Tie as tie
 
-message-limit-requires : tie.Need-message-limit-requires
-message-limit-requires c κs = search needs
-
 returns : tie.Need-returns
 returns c = rw (c .message-limit .ensures)
 
 pub is-too-long-spec : {M : Type 1} → statement M
-is-too-long-spec = tie.close (tie.spec message-limit-requires returns)
+is-too-long-spec = tie.close (tie.spec (λ c κs. search needs) returns)

@@ -40,15 +40,6 @@ room c =
 abbrev passed : tie.After-key-length → tie.Else1
 passed c = c .before .before .before .before .before .before .before .before
 
-make-key-refusal-requires : tie.Need-make-key-refusal-requires
-make-key-refusal-requires c κs = search needs
-
-same-length : tie.Need-same-length
-same-length c = search needs
-
-same-length-2 : tie.Need-same-length-2
-same-length-2 c = search needs
-
 returns : tie.Need-returns
 returns c =
     let tested = c .before in
@@ -58,18 +49,6 @@ returns c =
 
 make-requires : tie.Need-make-requires
 make-requires c κs = room (c .before .before)
-
-key-length-requires : tie.Need-key-length-requires
-key-length-requires c κs = search needs
-
-cast-t17 : tie.Need-cast-t17
-cast-t17 c = search needs
-
-same-length-3 : tie.Need-same-length-3
-same-length-3 c = search needs
-
-same-length-4 : tie.Need-same-length-4
-same-length-4 c = search needs
 
 returns-2 : tie.Need-returns-2
 unfolding treeLength
@@ -84,13 +63,13 @@ pub make-key-spec : {M : Type 1} → statement M
 make-key-spec =
     tie.close
     (tie.spec
-    make-key-refusal-requires
-    same-length
-    same-length-2
+    (λ c κs. search needs)
+    (λ c. search needs)
+    (λ c. search needs)
     returns
     make-requires
-    key-length-requires
-    cast-t17
-    same-length-3
-    same-length-4
+    (λ c κs. search needs)
+    (λ c. search needs)
+    (λ c. search needs)
+    (λ c. search needs)
     returns-2)

@@ -17,15 +17,9 @@ use Rattle.lms.proofs.calls.make_key_refusal.Tie as tie
 roomy : (c : tie.Else1) → keyLength ≤ length (now (c .before .before .before .before .before .before .args .out))
 roomy c = omega arith
 
-key-length-requires : tie.Need-key-length-requires
-key-length-requires c κs = search needs
-
 returns : tie.Need-returns
 unfolding makeKeyRefusal makeKeyConditions shortOut firstOf
 returns c = rw (lt-ltb _ keyLength (rw (c .before .key-length .ensures) at (c .if1 .taken)))
-
-wrong-maker-material-requires : tie.Need-wrong-maker-material-requires
-wrong-maker-material-requires c κs = search needs
 
 returns-2 : tie.Need-returns-2
 unfolding makeKeyRefusal makeKeyConditions shortOut firstOf
@@ -40,4 +34,4 @@ returns-3 c =
 pub make-key-refusal-spec : {M : Type 1} → statement M
 make-key-refusal-spec =
     tie.close
-    (tie.spec key-length-requires returns wrong-maker-material-requires returns-2 returns-3)
+    (tie.spec (λ c κs. search needs) returns (λ c κs. search needs) returns-2 returns-3)

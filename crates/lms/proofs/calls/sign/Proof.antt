@@ -52,12 +52,6 @@ room c =
 abbrev passed : tie.After-signature-length → tie.Else1
 passed c = c .before .before .before .before .before
 
-sign-refusal-requires : tie.Need-sign-refusal-requires
-sign-refusal-requires c κs = search needs
-
-same-length : tie.Need-same-length
-same-length c = search needs
-
 returns : tie.Need-returns
 returns c =
     let tested = c .before in
@@ -72,15 +66,9 @@ write-signature-requires c κs =
     let r = room (c .before) in
     (omega arith, r .3, r .4, r .5, r .6, omega arith)
 
-signature-length-requires : tie.Need-signature-length-requires
-signature-length-requires c κs = search needs
-
 cast-t16 : tie.Need-cast-t16
 unfolding signatureLength
 cast-t16 c = omega arith
-
-same-length-2 : tie.Need-same-length-2
-same-length-2 c = search needs
 
 returns-2 : tie.Need-returns-2
 unfolding signatureLength treeLength messageLimit
@@ -95,11 +83,11 @@ pub sign-spec : {M : Type 1} → statement M
 sign-spec =
     tie.close
     (tie.spec
-    sign-refusal-requires
-    same-length
+    (λ c κs. search needs)
+    (λ c. search needs)
     returns
     write-signature-requires
-    signature-length-requires
+    (λ c κs. search needs)
     cast-t16
-    same-length-2
+    (λ c. search needs)
     returns-2)

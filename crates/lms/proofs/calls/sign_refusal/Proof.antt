@@ -36,31 +36,19 @@ before-message c = c .before .before
 short-message : (c : tie.Else3) → tooLong (now (started (before-out (before-message c)) .args .message)) ≡ false
 short-message c = sym (c .before .is-too-long .ensures) ∙ c .if3 .left
 
-last-round-requires : tie.Need-last-round-requires
-last-round-requires c κs = search needs
-
 returns : tie.Need-returns
 unfolding signRefusal signConditions wrongRound shortOut firstOf
 returns c = rw (lt-ltb lastRound _ (rw (c .before .last-round .ensures) at (c .if1 .taken)))
-
-signature-length-requires : tie.Need-signature-length-requires
-signature-length-requires c κs = search needs
 
 returns-2 : tie.Need-returns-2
 unfolding signRefusal signConditions wrongRound shortOut firstOf
 returns-2 c =
     rw (le-ltb lastRound _ (leaf-known (c .before .before)), lt-ltb _ signatureLength (rw (c .before .signature-length .ensures) at (c .if2 .taken)))
 
-is-too-long-requires : tie.Need-is-too-long-requires
-is-too-long-requires c κs = search needs
-
 returns-3 : tie.Need-returns-3
 unfolding signRefusal signConditions wrongRound shortOut firstOf
 returns-3 c =
     rw (le-ltb lastRound _ (leaf-known (before-out (c .before .before))), le-ltb _ signatureLength (roomy (c .before .before)), sym (c .before .is-too-long .ensures) ∙ c .if3 .taken)
-
-wrong-signer-material-requires : tie.Need-wrong-signer-material-requires
-wrong-signer-material-requires c κs = search needs
 
 returns-4 : tie.Need-returns-4
 unfolding signRefusal signConditions wrongRound shortOut firstOf
@@ -76,12 +64,12 @@ pub sign-refusal-spec : {M : Type 1} → statement M
 sign-refusal-spec =
     tie.close
     (tie.spec
-    last-round-requires
+    (λ c κs. search needs)
     returns
-    signature-length-requires
+    (λ c κs. search needs)
     returns-2
-    is-too-long-requires
+    (λ c κs. search needs)
     returns-3
-    wrong-signer-material-requires
+    (λ c κs. search needs)
     returns-4
     returns-5)

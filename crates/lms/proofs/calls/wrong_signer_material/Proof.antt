@@ -3,11 +3,8 @@ use borrow.Author.Needs.{needs}
 use Rattle.lms.proofs.calls.wrong_signer_material.Statement.{statement}
 use Rattle.lms.proofs.calls.wrong_signer_material.Tie as tie
 
-tree-length-requires : tie.Need-tree-length-requires
-tree-length-requires c κs = search needs
-
 returns : tie.Need-returns
 returns c = rw (c .tree-length .ensures)
 
 pub wrong-signer-material-spec : {M : Type 1} → statement M
-wrong-signer-material-spec = tie.close (tie.spec tree-length-requires returns)
+wrong-signer-material-spec = tie.close (tie.spec (λ c κs. search needs) returns)

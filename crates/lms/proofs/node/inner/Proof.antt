@@ -7,15 +7,6 @@ use Rattle.lms.specs.Pieces.{overChildren}
 use Rattle.lms.proofs.node.inner.Statement.{statement}
 use Rattle.lms.proofs.node.inner.Tie as tie
 
-front-requires : tie.Need-front-requires
-front-requires c κs = search needs
-
-slice-aggregate-sha256-two : tie.Need-slice-aggregate-sha256-two
-slice-aggregate-sha256-two c = search needs
-
-sha256-two-requires : tie.Need-sha256-two-requires
-sha256-two-requires c κs = search needs
-
 returns : tie.Need-returns
 unfolding overChildren front
 returns c =
@@ -25,4 +16,4 @@ returns c =
 
 pub inner-spec : {M : Type 1} → statement M
 inner-spec =
-    tie.close (tie.spec front-requires slice-aggregate-sha256-two sha256-two-requires returns)
+    tie.close (tie.spec (λ c κs. search needs) (λ c. search needs) (λ c κs. search needs) returns)

@@ -6,15 +6,6 @@ use Rattle.lms.specs.Laws.{over-two}
 use Rattle.lms.proofs.node.parent.Statement.{statement}
 use Rattle.lms.proofs.node.parent.Tie as tie
 
-pair-requires : tie.Need-pair-requires
-pair-requires c κs = search needs
-
-slice-aggregate-inner : tie.Need-slice-aggregate-inner
-slice-aggregate-inner c = search needs
-
-inner-requires : tie.Need-inner-requires
-inner-requires c κs = search needs
-
 returns : tie.Need-returns
 returns c =
     let args = c .before .before .before .before .before .args in
@@ -22,4 +13,4 @@ returns c =
     (c .before .before .pair .ensures) (c .inner .ensures)
 
 pub parent-spec : {M : Type 1} → statement M
-parent-spec = tie.close (tie.spec pair-requires slice-aggregate-inner inner-requires returns)
+parent-spec = tie.close (tie.spec (λ c κs. search needs) (λ c. search needs) (λ c κs. search needs) returns)

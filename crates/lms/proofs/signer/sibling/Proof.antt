@@ -6,12 +6,6 @@ use Rattle.rfc8554.specs.Tree.{sibling}
 use Rattle.lms.proofs.signer.sibling.Statement.{statement}
 use Rattle.lms.proofs.signer.sibling.Tie as tie
 
-add-result : tie.Need-add-result
-add-result c = search needs
-
-sub-result : tie.Need-sub-result
-sub-result c = search needs
-
 returns : tie.Need-returns
 unfolding sibling
 returns c = (rw (eq-eqb _ _ (c .if1 .taken)), omega arith)
@@ -21,4 +15,4 @@ unfolding sibling
 returns-2 c = (rw (ne-eqb _ _ (c .if1 .left)), omega arith)
 
 pub sibling-spec : {M : Type 1} → statement M
-sibling-spec = tie.close (tie.spec add-result sub-result returns returns-2)
+sibling-spec = tie.close (tie.spec (λ c. search needs) (λ c. search needs) returns returns-2)

@@ -6,27 +6,6 @@ use Rattle.lms.specs.Written.{whole-string, signature-written}
 use Rattle.lms.proofs.signer.write_signature.Statement.{statement}
 use Rattle.lms.proofs.signer.write_signature.Tie as tie
 
-round-constants-requires : tie.Need-round-constants-requires
-round-constants-requires c κs = search needs
-
-four-requires : tie.Need-four-requires
-four-requires c κs = search needs
-
-eight-requires : tie.Need-eight-requires
-eight-requires c κs = search needs
-
-write-head-requires : tie.Need-write-head-requires
-write-head-requires c κs = search needs
-
-write-values-requires : tie.Need-write-values-requires
-write-values-requires c κs = search needs
-
-write-tail-requires : tie.Need-write-tail-requires
-write-tail-requires c κs = search needs
-
-same-length : tie.Need-same-length
-same-length c = search needs
-
 returns : tie.Need-returns
 returns c =
     let headed = c .before .before .before .before .before .before .before .before .before .before .before in
@@ -46,11 +25,11 @@ pub write-signature-spec : {M : Type 1} → statement M
 write-signature-spec =
     tie.close
     (tie.spec
-    round-constants-requires
-    four-requires
-    eight-requires
-    write-head-requires
-    write-values-requires
-    write-tail-requires
-    same-length
+    (λ c κs. search needs)
+    (λ c κs. search needs)
+    (λ c κs. search needs)
+    (λ c κs. search needs)
+    (λ c κs. search needs)
+    (λ c κs. search needs)
+    (λ c. search needs)
     returns)

@@ -8,18 +8,6 @@ use Rattle.octets.specs.WriteLaws.{patch-next}
 use Rattle.lms.proofs.signer.write_tail.Statement.{statement}
 use Rattle.lms.proofs.signer.write_tail.Tie as tie
 
-put-word-requires : tie.Need-put-word-requires
-put-word-requires c κs = search needs
-
-add-write-path : tie.Need-add-write-path
-add-write-path c = search needs
-
-write-path-requires : tie.Need-write-path-requires
-write-path-requires c κs = search needs
-
-same-length : tie.Need-same-length
-same-length c = search needs
-
 returns : tie.Need-returns
 unfolding be
 returns c =
@@ -28,4 +16,4 @@ returns c =
 
 pub write-tail-spec : {M : Type 1} → statement M
 write-tail-spec =
-    tie.close (tie.spec put-word-requires add-write-path write-path-requires same-length returns)
+    tie.close (tie.spec (λ c κs. search needs) (λ c. search needs) (λ c κs. search needs) (λ c. search needs) returns)

@@ -14,15 +14,6 @@ message-digits-requires c κs =
     let start = c .before .before .before in
     (start .pre .0, inr refl, start .pre .1)
 
-slice-aggregate-write-signed : tie.Need-slice-aggregate-write-signed
-slice-aggregate-write-signed c = search needs
-
-write-signed-requires : tie.Need-write-signed-requires
-write-signed-requires c κs = search needs
-
-same-length : tie.Need-same-length
-same-length c = search needs
-
 returns : tie.Need-returns
 returns c =
     let args = c .before .before .before .before .before .before .before .before .before .args in
@@ -36,7 +27,7 @@ write-values-spec =
     tie.close
     (tie.spec
     message-digits-requires
-    slice-aggregate-write-signed
-    write-signed-requires
-    same-length
+    (λ c. search needs)
+    (λ c κs. search needs)
+    (λ c. search needs)
     returns)

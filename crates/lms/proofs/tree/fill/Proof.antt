@@ -7,15 +7,6 @@ use Rattle.lms.specs.Filled.{tree-filled}
 use Rattle.lms.proofs.tree.fill.Statement.{statement}
 use Rattle.lms.proofs.tree.fill.Tie as tie
 
-put-leaves-requires : tie.Need-put-leaves-requires
-put-leaves-requires c κs = search needs
-
-put-inners-requires : tie.Need-put-inners-requires
-put-inners-requires c κs = search needs
-
-same-length : tie.Need-same-length
-same-length c = search needs
-
 returns : tie.Need-returns
 unfolding treeLength
 returns c =
@@ -26,4 +17,4 @@ returns c =
     (c .before .before .before .before .before .before .put-leaves .ensures) (c .before .before .put-inners .ensures)
 
 pub fill-spec : {M : Type 1} → statement M
-fill-spec = tie.close (tie.spec put-leaves-requires put-inners-requires same-length returns)
+fill-spec = tie.close (tie.spec (λ c κs. search needs) (λ c κs. search needs) (λ c. search needs) returns)

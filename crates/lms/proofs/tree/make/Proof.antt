@@ -9,18 +9,6 @@ use Rattle.lms.specs.Written.{whole-string, key-written}
 use Rattle.lms.proofs.tree.make.Statement.{statement}
 use Rattle.lms.proofs.tree.make.Tie as tie
 
-round-constants-requires : tie.Need-round-constants-requires
-round-constants-requires c κs = search needs
-
-four-requires : tie.Need-four-requires
-four-requires c κs = search needs
-
-eight-requires : tie.Need-eight-requires
-eight-requires c κs = search needs
-
-fill-requires : tie.Need-fill-requires
-fill-requires c κs = search needs
-
 bytes-at-requires : tie.Need-bytes-at-requires
 unfolding treeLength
 bytes-at-requires c κs = omega arith
@@ -30,12 +18,6 @@ unfolding treeLength
 write-key-requires c κs =
     let start = c .before .before .before .before .before .before .before .before .before .before .before .before .before .before .before in
     (start .pre .1, rw (c .before .bytes-at .ensures) (length-part 32 32 (c .before .before .before .before .before .fill .last .1 .1 .1 .0) (omega arith)), omega arith)
-
-same-length : tie.Need-same-length
-same-length c = search needs
-
-same-length-2 : tie.Need-same-length-2
-same-length-2 c = search needs
 
 returns : tie.Need-returns
 returns c =
@@ -57,12 +39,12 @@ pub make-spec : {M : Type 1} → statement M
 make-spec =
     tie.close
     (tie.spec
-    round-constants-requires
-    four-requires
-    eight-requires
-    fill-requires
+    (λ c κs. search needs)
+    (λ c κs. search needs)
+    (λ c κs. search needs)
+    (λ c κs. search needs)
     bytes-at-requires
     write-key-requires
-    same-length
-    same-length-2
+    (λ c. search needs)
+    (λ c. search needs)
     returns)

@@ -8,28 +8,13 @@ use Rattle.lms.specs.Filled.{inner-put}
 use Rattle.lms.proofs.tree.put_inner.Statement.{statement}
 use Rattle.lms.proofs.tree.put_inner.Tie as tie
 
-mul-bytes-at : tie.Need-mul-bytes-at
-mul-bytes-at c = search needs
-
 bytes-at-requires : tie.Need-bytes-at-requires
 unfolding treeLength
 bytes-at-requires c κs = omega arith
 
-inner-requires : tie.Need-inner-requires
-inner-requires c κs = search needs
-
-mul-copy : tie.Need-mul-copy
-mul-copy c = search needs
-
-slice-aggregate-copy : tie.Need-slice-aggregate-copy
-slice-aggregate-copy c = search needs
-
 copy-requires : tie.Need-copy-requires
 unfolding treeLength
 copy-requires c κs = omega arith
-
-same-length : tie.Need-same-length
-same-length c = search needs
 
 returns : tie.Need-returns
 returns c =
@@ -43,11 +28,11 @@ pub put-inner-spec : {M : Type 1} → statement M
 put-inner-spec =
     tie.close
     (tie.spec
-    mul-bytes-at
+    (λ c. search needs)
     bytes-at-requires
-    inner-requires
-    mul-copy
-    slice-aggregate-copy
+    (λ c κs. search needs)
+    (λ c. search needs)
+    (λ c. search needs)
     copy-requires
-    same-length
+    (λ c. search needs)
     returns)

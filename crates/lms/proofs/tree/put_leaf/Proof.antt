@@ -8,27 +8,9 @@ use Rattle.lms.specs.Laws.{leaf-put}
 use Rattle.lms.proofs.tree.put_leaf.Statement.{statement}
 use Rattle.lms.proofs.tree.put_leaf.Tie as tie
 
-add-r : tie.Need-add-r
-add-r c = search needs
-
-cast-place : tie.Need-cast-place
-cast-place c = search needs
-
-leaf-requires : tie.Need-leaf-requires
-leaf-requires c κs = search needs
-
-mul-copy : tie.Need-mul-copy
-mul-copy c = search needs
-
-slice-aggregate-copy : tie.Need-slice-aggregate-copy
-slice-aggregate-copy c = search needs
-
 copy-requires : tie.Need-copy-requires
 unfolding treeLength
 copy-requires c κs = omega arith
-
-same-length : tie.Need-same-length
-same-length c = search needs
 
 returns : tie.Need-returns
 returns c =
@@ -41,11 +23,11 @@ pub put-leaf-spec : {M : Type 1} → statement M
 put-leaf-spec =
     tie.close
     (tie.spec
-    add-r
-    cast-place
-    leaf-requires
-    mul-copy
-    slice-aggregate-copy
+    (λ c. search needs)
+    (λ c. search needs)
+    (λ c κs. search needs)
+    (λ c. search needs)
+    (λ c. search needs)
     copy-requires
-    same-length
+    (λ c. search needs)
     returns)

@@ -20,24 +20,9 @@ long c = c .if1 .left ∙ c .before .key-length .ensures
 abbrev long-key : tie.After-word-at2 → tie.Else1
 long-key c = c .before .before
 
-key-length-requires : tie.Need-key-length-requires
-key-length-requires c κs = search needs
-
 returns : tie.Need-returns
 returns c =
     key-length (now (c .before .before .before .args .key)) (λ e. c .if1 .taken (e ∙ sym (c .before .key-length .ensures)))
-
-word-at-requires : tie.Need-word-at-requires
-word-at-requires c κs = search needs
-
-word-at-requires-2 : tie.Need-word-at-requires-2
-word-at-requires-2 c κs = search needs
-
-known-lms-requires : tie.Need-known-lms-requires
-known-lms-requires c κs = search needs
-
-known-ots-requires : tie.Need-known-ots-requires
-known-ots-requires c κs = search needs
 
 returns-2 : tie.Need-returns-2
 returns-2 c =
@@ -56,11 +41,11 @@ pub key-refused-spec : {M : Type 1} → statement M
 key-refused-spec =
     tie.close
     (tie.spec
-    key-length-requires
+    (λ c κs. search needs)
     returns
-    word-at-requires
-    word-at-requires-2
-    known-lms-requires
-    known-ots-requires
+    (λ c κs. search needs)
+    (λ c κs. search needs)
+    (λ c κs. search needs)
+    (λ c κs. search needs)
     returns-2
     returns-3)

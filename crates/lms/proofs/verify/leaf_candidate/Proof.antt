@@ -9,23 +9,11 @@ use Rattle.lms.specs.Laws.{leaf-from}
 use Rattle.lms.proofs.verify.leaf_candidate.Statement.{statement}
 use Rattle.lms.proofs.verify.leaf_candidate.Tie as tie
 
-ots-length-requires : tie.Need-ots-length-requires
-ots-length-requires c κs = search needs
-
-bytes-at-requires : tie.Need-bytes-at-requires
-bytes-at-requires c κs = search needs
-
 candidate-requires : tie.Need-candidate-requires
 candidate-requires c κs =
     let start = c .before .before .before .before in
     let n = c .before .ots-length in
     (start .pre .0, start .pre .1, rw (c .bytes-at .ensures) (length-part 4 (n .result) (now (start .args .signature)) (omega arith) ∙ n .ensures .0))
-
-slice-aggregate-leaf : tie.Need-slice-aggregate-leaf
-slice-aggregate-leaf c = search needs
-
-leaf-requires : tie.Need-leaf-requires
-leaf-requires c κs = search needs
 
 returns : tie.Need-returns
 returns c =
@@ -39,9 +27,9 @@ pub leaf-candidate-spec : {M : Type 1} → statement M
 leaf-candidate-spec =
     tie.close
     (tie.spec
-    ots-length-requires
-    bytes-at-requires
+    (λ c κs. search needs)
+    (λ c κs. search needs)
     candidate-requires
-    slice-aggregate-leaf
-    leaf-requires
+    (λ c. search needs)
+    (λ c κs. search needs)
     returns)

@@ -10,18 +10,9 @@ use Rattle.lms.specs.Laws.{root-from}
 use Rattle.lms.proofs.verify.root_candidate.Statement.{statement}
 use Rattle.lms.proofs.verify.root_candidate.Tie as tie
 
-width-requires : tie.Need-width-requires
-width-requires c κs = search needs
-
-height-requires : tie.Need-height-requires
-height-requires c κs = search needs
-
 word-at-requires : tie.Need-word-at-requires
 unfolding signatureLength
 word-at-requires c κs = omega arith
-
-leaves-requires : tie.Need-leaves-requires
-leaves-requires c κs = search needs
 
 add-r : tie.Need-add-r
 unfolding signatureLength
@@ -55,10 +46,10 @@ pub root-candidate-spec : {M : Type 1} → statement M
 root-candidate-spec =
     tie.close
     (tie.spec
-    width-requires
-    height-requires
+    (λ c κs. search needs)
+    (λ c κs. search needs)
     word-at-requires
-    leaves-requires
+    (λ c κs. search needs)
     add-r
     leaf-candidate-requires
     climb-requires

@@ -5,27 +5,6 @@ use Rattle.lms.specs.Refused.{signature-length, signature-ots, signature
 use Rattle.lms.proofs.verify.signature_refused.Statement.{statement}
 use Rattle.lms.proofs.verify.signature_refused.Tie as tie
 
-width-requires : tie.Need-width-requires
-width-requires c κs = search needs
-
-ots-length-requires : tie.Need-ots-length-requires
-ots-length-requires c κs = search needs
-
-add-at : tie.Need-add-at
-add-at c = search needs
-
-add-if1 : tie.Need-add-if1
-add-if1 c = search needs
-
-height-requires : tie.Need-height-requires
-height-requires c κs = search needs
-
-mul-if1 : tie.Need-mul-if1
-mul-if1 c = search needs
-
-add-if1-2 : tie.Need-add-if1-2
-add-if1-2 c = search needs
-
 returns : tie.Need-returns
 returns c =
     let sized = c .before in
@@ -35,9 +14,6 @@ returns c =
     (sized .height .result) (sized .before .before .width .ensures .0) (sized .before .ots-length .ensures .0) (sized .height .ensures .0)
     (c .if1 .taken)
 
-word-at-requires : tie.Need-word-at-requires
-word-at-requires c κs = search needs
-
 returns-2 : tie.Need-returns-2
 returns-2 c =
     let sized = c .before .before .before in
@@ -46,9 +22,6 @@ returns-2 c =
     signature-ots (args .lms) (args .ots) (now (args .signature)) (sized .before .before .width .result) (sized .before .ots-length .result)
     (sized .height .result) (sized .before .before .width .ensures .0) (sized .before .ots-length .ensures .0) (sized .height .ensures .0)
     (c .before .before .if1 .left) (c .before .word-at .result) (c .before .word-at .ensures) (c .if2 .taken)
-
-word-at-requires-2 : tie.Need-word-at-requires-2
-word-at-requires-2 c κs = search needs
 
 returns-3 : tie.Need-returns-3
 returns-3 c =
@@ -60,12 +33,6 @@ returns-3 c =
     (sized .height .result) (sized .before .before .width .ensures .0) (sized .before .ots-length .ensures .0) (sized .height .ensures .0)
     (word .before .if1 .left) (word .word-at .result) (word .word-at .ensures) (c .before .word-at2 .result) (c .before .word-at2 .ensures)
     (c .if3 .taken)
-
-leaves-requires : tie.Need-leaves-requires
-leaves-requires c κs = search needs
-
-word-at-requires-3 : tie.Need-word-at-requires-3
-word-at-requires-3 c κs = search needs
 
 returns-4 : tie.Need-returns-4
 returns-4 c =
@@ -84,18 +51,18 @@ pub signature-refused-spec : {M : Type 1} → statement M
 signature-refused-spec =
     tie.close
     (tie.spec
-    width-requires
-    ots-length-requires
-    add-at
-    add-if1
-    height-requires
-    mul-if1
-    add-if1-2
+    (λ c κs. search needs)
+    (λ c κs. search needs)
+    (λ c. search needs)
+    (λ c. search needs)
+    (λ c κs. search needs)
+    (λ c. search needs)
+    (λ c. search needs)
     returns
-    word-at-requires
+    (λ c κs. search needs)
     returns-2
-    word-at-requires-2
+    (λ c κs. search needs)
     returns-3
-    leaves-requires
-    word-at-requires-3
+    (λ c κs. search needs)
+    (λ c κs. search needs)
     returns-4)

@@ -31,15 +31,6 @@ module _ (read : tie.After-word-at2) where
   abbrev ots : ℕ
   ots = read .word-at2 .result
 
-word-at-requires : tie.Need-word-at-requires
-word-at-requires c κs = search needs
-
-word-at-requires-2 : tie.Need-word-at-requires-2
-word-at-requires-2 c κs = search needs
-
-signature-refused-requires : tie.Need-signature-refused-requires
-signature-refused-requires c κs = search needs
-
 returns : tie.Need-returns
 returns c =
     let read = c .before .before in
@@ -47,27 +38,12 @@ returns c =
     signature-turned-back (key s) (message s) (signature s) (s .pre .1) (s .pre .2) (lms read) (ots read) (read .before .word-at .ensures) (read .word-at2 .ensures)
     (c .before .signature-refused .result) (c .before .signature-refused .ensures) (c .if1 .taken)
 
-four-requires : tie.Need-four-requires
-four-requires c κs = search needs
-
 root-candidate-requires : tie.Need-root-candidate-requires
 root-candidate-requires c κs =
     let taken = c .before in
     let read = taken .before .before in
     let fits = signature-fits (lms read) (ots read) (signature (started read)) (sym (taken .before .signature-refused .ensures) ∙ taken .if1 .left) in
     (started read .pre .0, fits .0, fits .1)
-
-slice-aggregate-same : tie.Need-slice-aggregate-same
-slice-aggregate-same c = search needs
-
-bytes-at-requires : tie.Need-bytes-at-requires
-bytes-at-requires c κs = search needs
-
-same-requires : tie.Need-same-requires
-same-requires c κs = search needs
-
-signature-verdict-requires : tie.Need-signature-verdict-requires
-signature-verdict-requires c κs = search needs
 
 returns-2 : tie.Need-returns-2
 returns-2 c =
@@ -86,14 +62,14 @@ pub verified-spec : {M : Type 1} → statement M
 verified-spec =
     tie.close
     (tie.spec
-    word-at-requires
-    word-at-requires-2
-    signature-refused-requires
+    (λ c κs. search needs)
+    (λ c κs. search needs)
+    (λ c κs. search needs)
     returns
-    four-requires
+    (λ c κs. search needs)
     root-candidate-requires
-    slice-aggregate-same
-    bytes-at-requires
-    same-requires
-    signature-verdict-requires
+    (λ c. search needs)
+    (λ c κs. search needs)
+    (λ c κs. search needs)
+    (λ c κs. search needs)
     returns-2)

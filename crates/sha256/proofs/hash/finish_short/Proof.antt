@@ -6,15 +6,6 @@ use lib.ListN.{length-take}
 use Rattle.sha256.proofs.hash.finish_short.Statement.{statement}
 use Rattle.sha256.proofs.hash.finish_short.Tie as tie
 
-joint-requires : tie.Need-joint-requires
-joint-requires c κs = search needs
-
-add-n : tie.Need-add-n
-add-n c = search needs
-
-array-share-prefix-block : tie.Need-array-share-prefix-block
-array-share-prefix-block c = search needs
-
 slice-aggregate-finish : tie.Need-slice-aggregate-finish
 slice-aggregate-finish c = simp length-take (omega arith)
 
@@ -33,9 +24,9 @@ pub finish-short-spec : {M : Type 1} → statement M
 finish-short-spec =
     tie.close
     (tie.spec
-    joint-requires
-    add-n
-    array-share-prefix-block
+    (λ c κs. search needs)
+    (λ c. search needs)
+    (λ c. search needs)
     slice-aggregate-finish
     finish-requires
     returns)

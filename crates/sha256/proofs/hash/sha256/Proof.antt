@@ -9,27 +9,6 @@ use Rattle.fips180.specs.FipsLaws.{sha256-ends}
 use Rattle.sha256.proofs.hash.sha256.Statement.{statement}
 use Rattle.sha256.proofs.hash.sha256.Tie as tie
 
-initial-value-requires : tie.Need-initial-value-requires
-initial-value-requires c κs = search needs
-
-absorb-requires : tie.Need-absorb-requires
-absorb-requires c κs = search needs
-
-mul-at : tie.Need-mul-at
-mul-at c = search needs
-
-sub-finish : tie.Need-sub-finish
-sub-finish c = search needs
-
-part-finish-start : tie.Need-part-finish-start
-part-finish-start c = search needs
-
-part-finish-end : tie.Need-part-finish-end
-part-finish-end c = search needs
-
-finish-requires : tie.Need-finish-requires
-finish-requires c κs = search needs
-
 returns : tie.Need-returns
 unfolding leftover
 returns c =
@@ -43,11 +22,11 @@ pub sha256-spec : {M : Type 1} → statement M
 sha256-spec =
     tie.close
     (tie.spec
-    initial-value-requires
-    absorb-requires
-    mul-at
-    sub-finish
-    part-finish-start
-    part-finish-end
-    finish-requires
+    (λ c κs. search needs)
+    (λ c κs. search needs)
+    (λ c. search needs)
+    (λ c. search needs)
+    (λ c. search needs)
+    (λ c. search needs)
+    (λ c κs. search needs)
     returns)

@@ -19,9 +19,6 @@ chosen c = c .before .before .before
 abbrev written : tie.After-shared → tie.After-write-evidence
 written c = c .before .before .before
 
-bytes-of-requires : tie.Need-bytes-of-requires
-bytes-of-requires c κs = search needs
-
 slice-aggregate-write-evidence : tie.Need-slice-aggregate-write-evidence
 slice-aggregate-write-evidence c = search needs
 
@@ -39,12 +36,6 @@ write-evidence-requires c κs =
     let long-too : length (start .args .t5) ≡ valueLength = sym (slice-aggregate-write-evidence-2 c) in
     (fits .most, long, readable, long-too, rw (chosen c .bytes-of .ensures) (start .pre .1), omega (arith, room, start .pre .2))
 
-shared-requires : tie.Need-shared-requires
-shared-requires c κs = search needs
-
-same-length : tie.Need-same-length
-same-length c = search needs
-
 returns : tie.Need-returns
 returns c =
     let wrote = written c .write-evidence in
@@ -57,10 +48,10 @@ pub blame-spec : {M : Type 1} → statement M
 blame-spec =
     tie.close
     (tie.spec
-    bytes-of-requires
+    (λ c κs. search needs)
     slice-aggregate-write-evidence
     slice-aggregate-write-evidence-2
     write-evidence-requires
-    shared-requires
-    same-length
+    (λ c κs. search needs)
+    (λ c. search needs)
     returns)

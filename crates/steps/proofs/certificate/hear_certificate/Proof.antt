@@ -27,9 +27,6 @@ answered c = c .before .before .before .before .before
 abbrev done : tie.After-slice-known5 → tie.After-hold-or-blame
 done c = c .before .before .before .before
 
-hear-requires : tie.Need-hear-requires
-hear-requires c κs = search needs
-
 reply-requires : tie.Need-reply-requires
 reply-requires c κs =
     let hear = heard c .hear in
@@ -52,12 +49,6 @@ hold-or-blame-requires c κs =
     let same-n = replied-n (args .r) (now (args .store)) (notices start) (hear .result) (hear .ensures) (reply .result .unit) (now (args .store)) (reply .ensures .0 .kept) in
     (fits, rw same-n (start .pre .1), omega (arith, room, reply .kept .1 .1 .0))
 
-same-length : tie.Need-same-length
-same-length c = search needs
-
-same-length-2 : tie.Need-same-length-2
-same-length-2 c = search needs
-
 returns : tie.Need-returns
 returns c =
     let held = done c .hold-or-blame in
@@ -73,9 +64,9 @@ pub hear-certificate-spec : {M : Type 1} → statement M
 hear-certificate-spec =
     tie.close
     (tie.spec
-    hear-requires
+    (λ c κs. search needs)
     reply-requires
     hold-or-blame-requires
-    same-length
-    same-length-2
+    (λ c. search needs)
+    (λ c. search needs)
     returns)

@@ -22,12 +22,6 @@ taken c = c .before .before
 abbrev tested : tie.After-blame → tie.Then2
 tested c = c .before .before .before
 
-hold-requires : tie.Need-hold-requires
-hold-requires c κs = search needs
-
-same-length : tie.Need-same-length
-same-length c = search needs
-
 returns : tie.Need-returns
 returns c =
     let last = c .before .before in
@@ -35,18 +29,6 @@ returns c =
     let start = started (taken last .before) in
     let args = start .args in
     first-held (args .r) (now (args .store)) (now (args .out)) (args .at) (certificate start) (held .result) (held .last .1 .0) (taken last .if1 .taken) (held .ensures)
-
-blames-requires : tie.Need-blames-requires
-blames-requires c κs = search needs
-
-blame-requires : tie.Need-blame-requires
-blame-requires c κs = search needs
-
-same-length-2 : tie.Need-same-length-2
-same-length-2 c = search needs
-
-same-length-3 : tie.Need-same-length-3
-same-length-3 c = search needs
 
 returns-2 : tie.Need-returns-2
 returns-2 c =
@@ -69,12 +51,12 @@ pub hold-or-blame-spec : {M : Type 1} → statement M
 hold-or-blame-spec =
     tie.close
     (tie.spec
-    hold-requires
-    same-length
+    (λ c κs. search needs)
+    (λ c. search needs)
     returns
-    blames-requires
-    blame-requires
-    same-length-2
-    same-length-3
+    (λ c κs. search needs)
+    (λ c κs. search needs)
+    (λ c. search needs)
+    (λ c. search needs)
     returns-2
     returns-3)

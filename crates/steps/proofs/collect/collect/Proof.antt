@@ -6,18 +6,6 @@ use borrow.Author.Needs.{needs}
 use Rattle.steps.proofs.collect.collect.Statement.{statement}
 use Rattle.steps.proofs.collect.collect.Tie as tie
 
-with-requires : tie.Need-with-requires
-with-requires c κs = search needs
-
-fill-requires : tie.Need-fill-requires
-fill-requires c κs = search needs
-
-with-own-requires : tie.Need-with-own-requires
-with-own-requires c κs = search needs
-
-same-length : tie.Need-same-length
-same-length c = search needs
-
 returns : tie.Need-returns
 unfolding collect bankOf
 returns c =
@@ -26,4 +14,4 @@ returns c =
 
 pub collect-spec : {M : Type 1} → statement M
 collect-spec =
-    tie.close (tie.spec with-requires fill-requires with-own-requires same-length returns)
+    tie.close (tie.spec (λ c κs. search needs) (λ c κs. search needs) (λ c κs. search needs) (λ c. search needs) returns)

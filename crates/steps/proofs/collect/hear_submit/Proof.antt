@@ -9,15 +9,6 @@ use Rattle.steps.proofs.collect.hear_submit.Tie as tie
 abbrev started : tie.After-is-wanted → tie.Start
 started c = c .before .before .before
 
-is-wanted-requires : tie.Need-is-wanted-requires
-is-wanted-requires c κs = search needs
-
-collect-requires : tie.Need-collect-requires
-collect-requires c κs = search needs
-
-same-length : tie.Need-same-length
-same-length c = search needs
-
 returns : tie.Need-returns
 returns c =
     let done = c .before .before .collect in
@@ -32,4 +23,4 @@ returns-2 c =
 
 pub hear-submit-spec : {M : Type 1} → statement M
 hear-submit-spec =
-    tie.close (tie.spec is-wanted-requires collect-requires same-length returns returns-2)
+    tie.close (tie.spec (λ c κs. search needs) (λ c κs. search needs) (λ c. search needs) returns returns-2)

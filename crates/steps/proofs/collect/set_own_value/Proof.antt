@@ -4,12 +4,9 @@ use borrow.Author.Needs.{needs}
 use Rattle.steps.proofs.collect.set_own_value.Statement.{statement}
 use Rattle.steps.proofs.collect.set_own_value.Tie as tie
 
-with-own-requires : tie.Need-with-own-requires
-with-own-requires c κs = search needs
-
 returns : tie.Need-returns
 unfolding setOwnValue
 returns c = c .with-own .ensures
 
 pub set-own-value-spec : {M : Type 1} → statement M
-set-own-value-spec = tie.close (tie.spec with-own-requires returns)
+set-own-value-spec = tie.close (tie.spec (λ c κs. search needs) returns)

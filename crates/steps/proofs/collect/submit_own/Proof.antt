@@ -18,12 +18,6 @@ written c = c .before .before
 abbrev gathered : tie.After-write-submit → tie.After-collect
 gathered c = c .before .before .before .before
 
-value-at-requires : tie.Need-value-at-requires
-value-at-requires c κs = search needs
-
-set-own-value-requires : tie.Need-set-own-value-requires
-set-own-value-requires c κs = search needs
-
 collect-requires : tie.Need-collect-requires
 collect-requires c κs =
     let read = c .before .before in
@@ -31,15 +25,6 @@ collect-requires c κs =
     let start = started read in
     let fits = kept-fits (start .args .r) (read .value-at .result) (kept .result) (kept .ensures) (now (start .args .store)) (start .pre .0) in
     (fits .0, fits .1, start .pre .2)
-
-write-submit-requires : tie.Need-write-submit-requires
-write-submit-requires c κs = search needs
-
-same-length : tie.Need-same-length
-same-length c = search needs
-
-same-length-2 : tie.Need-same-length-2
-same-length-2 c = search needs
 
 returns : tie.Need-returns
 returns c =
@@ -59,10 +44,10 @@ pub submit-own-spec : {M : Type 1} → statement M
 submit-own-spec =
     tie.close
     (tie.spec
-    value-at-requires
-    set-own-value-requires
+    (λ c κs. search needs)
+    (λ c κs. search needs)
     collect-requires
-    write-submit-requires
-    same-length
-    same-length-2
+    (λ c κs. search needs)
+    (λ c. search needs)
+    (λ c. search needs)
     returns)

@@ -9,15 +9,6 @@ use borrow.Author.Needs.{needs}
 use Rattle.steps.proofs.confirm.confirm.Statement.{statement}
 use Rattle.steps.proofs.confirm.confirm.Tie as tie
 
-slice-aggregate-write-notice : tie.Need-slice-aggregate-write-notice
-slice-aggregate-write-notice c = search needs
-
-write-notice-requires : tie.Need-write-notice-requires
-write-notice-requires c κs = search needs
-
-same-length : tie.Need-same-length
-same-length c = search needs
-
 returns : tie.Need-returns
 unfolding confirm write
 returns c =
@@ -33,4 +24,4 @@ returns c =
 
 pub confirm-spec : {M : Type 1} → statement M
 confirm-spec =
-    tie.close (tie.spec slice-aggregate-write-notice write-notice-requires same-length returns)
+    tie.close (tie.spec (λ c. search needs) (λ c κs. search needs) (λ c. search needs) returns)

@@ -29,15 +29,6 @@ replied c = c .before .before
 abbrev short : tie.After-reply → tie.Else1
 short c = c .before .before .before
 
-is-complete-requires : tie.Need-is-complete-requires
-is-complete-requires c κs = search needs
-
-confirm-requires : tie.Need-confirm-requires
-confirm-requires c κs = search needs
-
-slice-aggregate-hear-certificate : tie.Need-slice-aggregate-hear-certificate
-slice-aggregate-hear-certificate c = search needs
-
 hear-certificate-requires : tie.Need-hear-certificate-requires
 unfolding bytesOf
 hear-certificate-requires c κs =
@@ -51,12 +42,6 @@ hear-certificate-requires c κs =
     let room = confirmed-room (args .r) store unit kept (args .at) (done .result .at) (length (now (args .out))) (done .ensures .1) (start .pre .1) in
     (fits, readable-bank (unit .n) bank.Collected (unit .own .collected) store (fits .collected) (fits .slots), omega (arith, room, done .kept .1 .0))
 
-same-length : tie.Need-same-length
-same-length c = search needs
-
-same-length-2 : tie.Need-same-length-2
-same-length-2 c = search needs
-
 returns : tie.Need-returns
 unfolding bytesOf
 returns c =
@@ -69,15 +54,6 @@ returns c =
     completed (args .r) (now (args .store)) (now (args .out)) (args .at) (own .result .unit) (own .last .1 .0) (own .last .1 .1 .0) (own .result .at)
     (done .result .unit) (done .last .1 .0) (done .result .at) (omega (arith, start .pre)) (sym (chosen .before .is-complete .ensures) ∙ chosen .if1 .taken) (done .ensures .0 (now (args .store))) (own .ensures)
 
-reply-requires : tie.Need-reply-requires
-reply-requires c κs = search needs
-
-same-length-3 : tie.Need-same-length-3
-same-length-3 c = search needs
-
-same-length-4 : tie.Need-same-length-4
-same-length-4 c = search needs
-
 returns-2 : tie.Need-returns-2
 returns-2 c =
     let done = replied c .reply in
@@ -89,14 +65,14 @@ pub confirm-if-complete-spec : {M : Type 1} → statement M
 confirm-if-complete-spec =
     tie.close
     (tie.spec
-    is-complete-requires
-    confirm-requires
-    slice-aggregate-hear-certificate
+    (λ c κs. search needs)
+    (λ c κs. search needs)
+    (λ c. search needs)
     hear-certificate-requires
-    same-length
-    same-length-2
+    (λ c. search needs)
+    (λ c. search needs)
     returns
-    reply-requires
-    same-length-3
-    same-length-4
+    (λ c κs. search needs)
+    (λ c. search needs)
+    (λ c. search needs)
     returns-2)

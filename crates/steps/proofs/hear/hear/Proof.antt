@@ -3,11 +3,8 @@ use borrow.Author.Needs.{needs}
 use Rattle.steps.proofs.hear.hear.Statement.{statement}
 use Rattle.steps.proofs.hear.hear.Tie as tie
 
-notices-with-requires : tie.Need-notices-with-requires
-notices-with-requires c κs = search needs
-
 returns : tie.Need-returns
 returns c = rw (c .notices-with .ensures)
 
 pub hear-spec : {M : Type 1} → statement M
-hear-spec = tie.close (tie.spec notices-with-requires returns)
+hear-spec = tie.close (tie.spec (λ c κs. search needs) returns)

@@ -16,15 +16,6 @@ returns c =
     let args = c .before .before .args in
     none-before (args .t2) (args .r) (c .if1 .taken)
 
-slice-aggregate-same : tie.Need-slice-aggregate-same
-slice-aggregate-same c = search needs
-
-slice-aggregate-same-2 : tie.Need-slice-aggregate-same-2
-slice-aggregate-same-2 c = search needs
-
-same-requires : tie.Need-same-requires
-same-requires c κs = search needs
-
 returns-2 : tie.Need-returns-2
 returns-2 c =
     let compared = c .before in
@@ -45,8 +36,8 @@ notices-with-spec =
     tie.close
     (tie.spec
     returns
-    slice-aggregate-same
-    slice-aggregate-same-2
-    same-requires
+    (λ c. search needs)
+    (λ c. search needs)
+    (λ c κs. search needs)
     returns-2
     returns-3)

@@ -23,16 +23,10 @@ read c = c .before .before
 abbrev done : tie.After-slice-known4 → tie.After-hear-certificate
 done c = c .before .before .before .before
 
-value-at-requires : tie.Need-value-at-requires
-value-at-requires c κs = search needs
-
 value-at-requires-2 : tie.Need-value-at-requires-2
 value-at-requires-2 c κs =
     let start = started c in
     omega (arith, c .value-at .ensures, long-enough kind.Full (start .args .r .n) (now (start .args .message)) (start .pre .1) (λ e. omega arith))
-
-entry-set-requires : tie.Need-entry-set-requires
-entry-set-requires c κs = search needs
 
 hear-certificate-requires : tie.Need-hear-certificate-requires
 unfolding bytesOf
@@ -46,12 +40,6 @@ hear-certificate-requires c κs =
       full-readable n m (full-said n m (start .pre .1)) (start .pre .2) (start .pre .3) (set .result) (set .ensures),
       omega (arith, all-fits n (length (now (args .out))) (start .pre .0 .room)),
     )
-
-same-length : tie.Need-same-length
-same-length c = search needs
-
-same-length-2 : tie.Need-same-length-2
-same-length-2 c = search needs
 
 returns : tie.Need-returns
 unfolding bytesOf
@@ -70,10 +58,10 @@ pub step-full-spec : {M : Type 1} → statement M
 step-full-spec =
     tie.close
     (tie.spec
-    value-at-requires
+    (λ c κs. search needs)
     value-at-requires-2
-    entry-set-requires
+    (λ c κs. search needs)
     hear-certificate-requires
-    same-length
-    same-length-2
+    (λ c. search needs)
+    (λ c. search needs)
     returns)

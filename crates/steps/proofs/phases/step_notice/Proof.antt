@@ -20,16 +20,10 @@ started c = c .before .before .before .before
 abbrev answered : tie.After-slice-known2 → tie.After-reply
 answered c = c .before .before
 
-value-at-requires : tie.Need-value-at-requires
-value-at-requires c κs = search needs
-
 value-at-requires-2 : tie.Need-value-at-requires-2
 value-at-requires-2 c κs =
     let start = started c in
     omega (arith, c .value-at .ensures, long-enough kind.Notice (start .args .r .n) (now (start .args .message)) (start .pre .1) (λ e. omega arith))
-
-hear-requires : tie.Need-hear-requires
-hear-requires c κs = search needs
 
 reply-requires : tie.Need-reply-requires
 reply-requires c κs =
@@ -43,9 +37,6 @@ reply-requires c κs =
       heard-fits (args .r) (now (args .store)) notices (hear .result) (hear .ensures) fits,
       heard-room (args .r) (now (args .store)) notices (hear .result) (hear .ensures) 0 0 (length (now (args .out))) (omega (arith, room)),
     )
-
-same-length : tie.Need-same-length
-same-length c = search needs
 
 returns : tie.Need-returns
 returns c =
@@ -61,9 +52,9 @@ pub step-notice-spec : {M : Type 1} → statement M
 step-notice-spec =
     tie.close
     (tie.spec
-    value-at-requires
+    (λ c κs. search needs)
     value-at-requires-2
-    hear-requires
+    (λ c κs. search needs)
     reply-requires
-    same-length
+    (λ c. search needs)
     returns)

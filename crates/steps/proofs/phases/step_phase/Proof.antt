@@ -20,9 +20,6 @@ step-submit-requires c κs =
     let kind = told .enum-told .given .1 in
     (start .pre .0, sym kind ∙ start .pre .1, start .pre .2)
 
-enum-told-2 : tie.Need-enum-told-2
-enum-told-2 c = search needs
-
 step-notice-requires : tie.Need-step-notice-requires
 step-notice-requires c κs =
     let told = c .before .before in
@@ -30,42 +27,12 @@ step-notice-requires c κs =
     let kind = told .enum-told2 .given .1 in
     (start .pre .0, sym kind ∙ start .pre .1)
 
-enum-told-3 : tie.Need-enum-told-3
-enum-told-3 c = search needs
-
 step-full-requires : tie.Need-step-full-requires
 step-full-requires c κs =
     let told = c .before .before in
     let start = started (told .before .before) in
     let kind = told .enum-told3 .given .1 in
     (start .pre .0, sym kind ∙ start .pre .1, start .pre .2, start .pre .3)
-
-same-length : tie.Need-same-length
-same-length c = search needs
-
-same-length-2 : tie.Need-same-length-2
-same-length-2 c = search needs
-
-returns : tie.Need-returns
-returns c = search needs
-
-same-length-3 : tie.Need-same-length-3
-same-length-3 c = search needs
-
-same-length-4 : tie.Need-same-length-4
-same-length-4 c = search needs
-
-returns-2 : tie.Need-returns-2
-returns-2 c = search needs
-
-same-length-5 : tie.Need-same-length-5
-same-length-5 c = search needs
-
-same-length-6 : tie.Need-same-length-6
-same-length-6 c = search needs
-
-returns-3 : tie.Need-returns-3
-returns-3 c = search needs
 
 returns-4 : tie.Need-returns-4
 returns-4 c =
@@ -79,17 +46,17 @@ step-phase-spec =
     (tie.spec
     enum-told
     step-submit-requires
-    enum-told-2
+    (λ c. search needs)
     step-notice-requires
-    enum-told-3
+    (λ c. search needs)
     step-full-requires
-    same-length
-    same-length-2
-    returns
-    same-length-3
-    same-length-4
-    returns-2
-    same-length-5
-    same-length-6
-    returns-3
+    (λ c. search needs)
+    (λ c. search needs)
+    (λ c. search needs)
+    (λ c. search needs)
+    (λ c. search needs)
+    (λ c. search needs)
+    (λ c. search needs)
+    (λ c. search needs)
+    (λ c. search needs)
     returns-4)

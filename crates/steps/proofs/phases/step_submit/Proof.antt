@@ -62,22 +62,13 @@ seat-known c =
     let start = begun c in
     submit-seat (start .args .r .n) (now (start .args .message)) (start .pre .1) (c .number-at .result) (seat-read c) (start .pre .2)
 
-value-at-requires : tie.Need-value-at-requires
-value-at-requires c κs = search needs
-
 value-at-requires-2 : tie.Need-value-at-requires-2
 value-at-requires-2 c κs =
     let start = c .before .before .before .before in
     omega (arith, c .value-at .ensures, long start)
 
-submit-signature-at-requires : tie.Need-submit-signature-at-requires
-submit-signature-at-requires c κs = search needs
-
 signature-at-requires : tie.Need-signature-at-requires
 signature-at-requires c κs = omega (arith, c .submit-signature-at .ensures, long (started (c .before)))
-
-seat-at-requires : tie.Need-seat-at-requires
-seat-at-requires c κs = search needs
 
 number-at-requires : tie.Need-number-at-requires
 number-at-requires c κs = omega (arith, c .seat-at .ensures, long (started (valued (c .before))))
@@ -103,12 +94,6 @@ confirm-if-complete-requires c κs =
     (read .number-at .result) (valued (signed read) .value-at2 .result) (now (signed read .signature-at .result)) (seat-known read) (collected .ensures) in
     (after .0, rest-fits (args .r .n) (collected .result .n) 0 (length (now (args .out))) (after .1) (omega arith) (start .pre .0 .room))
 
-same-length : tie.Need-same-length
-same-length c = search needs
-
-same-length-2 : tie.Need-same-length-2
-same-length-2 c = search needs
-
 returns : tie.Need-returns
 returns c =
     let confirmed = done c .confirm-if-complete in
@@ -127,14 +112,14 @@ pub step-submit-spec : {M : Type 1} → statement M
 step-submit-spec =
     tie.close
     (tie.spec
-    value-at-requires
+    (λ c κs. search needs)
     value-at-requires-2
-    submit-signature-at-requires
+    (λ c κs. search needs)
     signature-at-requires
-    seat-at-requires
+    (λ c κs. search needs)
     number-at-requires
     hear-submit-requires
     confirm-if-complete-requires
-    same-length
-    same-length-2
+    (λ c. search needs)
+    (λ c. search needs)
     returns)

@@ -38,12 +38,6 @@ confirm-if-complete-requires c κs =
     let room = rest-fits (args .r .n) (said .result .unit .n) (said .result .at) (length (now (args .out))) (after .1) (omega (arith, said .ensures .1)) (start .pre .0 .room) in
     (after .0, omega (arith, room, said .kept .1 .1 .0))
 
-same-length : tie.Need-same-length
-same-length c = search needs
-
-same-length-2 : tie.Need-same-length-2
-same-length-2 c = search needs
-
 returns : tie.Need-returns
 returns c =
     let confirmed = done c .confirm-if-complete in
@@ -56,4 +50,4 @@ returns c =
 pub submit-phase-spec : {M : Type 1} → statement M
 submit-phase-spec =
     tie.close
-    (tie.spec submit-own-requires confirm-if-complete-requires same-length same-length-2 returns)
+    (tie.spec submit-own-requires confirm-if-complete-requires (λ c. search needs) (λ c. search needs) returns)

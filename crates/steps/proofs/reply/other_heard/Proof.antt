@@ -7,15 +7,6 @@ use Rattle.steps.proofs.reply.other_heard.Tie as tie
 returns : tie.Need-returns
 returns c = none-other (c .before .args .r) (c .if1 .taken)
 
-slice-aggregate-same : tie.Need-slice-aggregate-same
-slice-aggregate-same c = search needs
-
-slice-aggregate-same-2 : tie.Need-slice-aggregate-same-2
-slice-aggregate-same-2 c = search needs
-
-same-requires : tie.Need-same-requires
-same-requires c κs = search needs
-
 returns-2 : tie.Need-returns-2
 returns-2 c =
     let second = c .before .before .before .before .before in
@@ -29,8 +20,8 @@ other-heard-spec =
     tie.close
     (tie.spec
     returns
-    slice-aggregate-same
-    slice-aggregate-same-2
-    same-requires
+    (λ c. search needs)
+    (λ c. search needs)
+    (λ c κs. search needs)
     returns-2
     returns-3)

@@ -4,12 +4,9 @@ use borrow.Author.Needs.{needs}
 use Rattle.steps.proofs.reply.owes_full.Statement.{statement}
 use Rattle.steps.proofs.reply.owes_full.Tie as tie
 
-other-heard-requires : tie.Need-other-heard-requires
-other-heard-requires c κs = search needs
-
 returns : tie.Need-returns
 unfolding owesFull
 returns c = cc
 
 pub owes-full-spec : {M : Type 1} → statement M
-owes-full-spec = tie.close (tie.spec other-heard-requires returns)
+owes-full-spec = tie.close (tie.spec (λ c κs. search needs) returns)

@@ -10,15 +10,6 @@ use Rattle.steps.proofs.reply.reply.Tie as tie
 abbrev started : tie.After-owes-full → tie.Start
 started c = c .before .before .before
 
-owes-full-requires : tie.Need-owes-full-requires
-owes-full-requires c κs = search needs
-
-send-full-requires : tie.Need-send-full-requires
-send-full-requires c κs = search needs
-
-same-length : tie.Need-same-length
-same-length c = search needs
-
 returns : tie.Need-returns
 returns c =
     let sent = c .before .before .send-full in
@@ -37,4 +28,4 @@ returns-2 c =
 
 pub reply-spec : {M : Type 1} → statement M
 reply-spec =
-    tie.close (tie.spec owes-full-requires send-full-requires same-length returns returns-2)
+    tie.close (tie.spec (λ c κs. search needs) (λ c κs. search needs) (λ c. search needs) returns returns-2)

@@ -27,9 +27,6 @@ write-full-requires c κs =
     let readable = readable-bank (r .n) bank.Collected (r .own .collected) (now (start .args .store)) (fits .collected) (fits .slots) in
     (fits .most, omega (arith, fits .seated, fits .most), long, readable, omega (arith, room, start .pre .1))
 
-same-length : tie.Need-same-length
-same-length c = search needs
-
 returns : tie.Need-returns
 returns c =
     let point = c .before .before in
@@ -42,4 +39,4 @@ returns c =
 
 pub send-full-spec : {M : Type 1} → statement M
 send-full-spec =
-    tie.close (tie.spec slice-aggregate-write-full write-full-requires same-length returns)
+    tie.close (tie.spec slice-aggregate-write-full write-full-requires (λ c. search needs) returns)

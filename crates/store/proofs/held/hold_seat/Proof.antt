@@ -9,23 +9,14 @@ use Rattle.store.proofs.held.hold_seat.Tie as tie
 abbrev started : tie.After-bytes-of → tie.Start
 started c = c .before .before .before .before
 
-bytes-of-requires : tie.Need-bytes-of-requires
-bytes-of-requires c κs = search needs
-
 signature-copy-requires : tie.Need-signature-copy-requires
 signature-copy-requires c κs =
     let pre = started c .pre in
     (pre .0, pre .1, pre .2, rw (c .bytes-of .ensures) (pre .4))
 
-slice-aggregate-fill : tie.Need-slice-aggregate-fill
-slice-aggregate-fill c = search needs
-
 fill-requires : tie.Need-fill-requires
 unfolding signatureLength
 fill-requires c κs = search needs
-
-same-length : tie.Need-same-length
-same-length c = search needs
 
 returns : tie.Need-returns
 unfolding bankOf
@@ -38,9 +29,9 @@ pub hold-seat-spec : {M : Type 1} → statement M
 hold-seat-spec =
     tie.close
     (tie.spec
-    bytes-of-requires
+    (λ c κs. search needs)
     signature-copy-requires
-    slice-aggregate-fill
+    (λ c. search needs)
     fill-requires
-    same-length
+    (λ c. search needs)
     returns)

@@ -14,18 +14,6 @@ use Rattle.store.proofs.slots.fill.Tie as tie
 abbrev started : tie.After-slot-at → tie.Start
 started c = c .before .before .before
 
-slot-at-requires : tie.Need-slot-at-requires
-slot-at-requires c κs = search needs
-
-add-copy : tie.Need-add-copy
-add-copy c = search needs
-
-sub-copy : tie.Need-sub-copy
-sub-copy c = search needs
-
-part-copy-start : tie.Need-part-copy-start
-part-copy-start c = search needs
-
 part-copy-end : tie.Need-part-copy-end
 unfolding signatureLength
 part-copy-end c = omega (arith, slot-signature (started c .args .bank))
@@ -33,9 +21,6 @@ part-copy-end c = omega (arith, slot-signature (started c .args .bank))
 copy-requires : tie.Need-copy-requires
 unfolding signatureLength
 copy-requires c κs = omega (arith, slot-signature (started (c .before) .args .bank))
-
-same-length : tie.Need-same-length
-same-length c = search needs
 
 returns : tie.Need-returns
 unfolding fill part signatureLength
@@ -54,11 +39,11 @@ pub fill-spec : {M : Type 1} → statement M
 fill-spec =
     tie.close
     (tie.spec
-    slot-at-requires
-    add-copy
-    sub-copy
-    part-copy-start
+    (λ c κs. search needs)
+    (λ c. search needs)
+    (λ c. search needs)
+    (λ c. search needs)
     part-copy-end
     copy-requires
-    same-length
+    (λ c. search needs)
     returns)

@@ -9,15 +9,6 @@ use Rattle.protocol.specs.Message.{readSignature}
 use Rattle.store.proofs.slots.signature_at.Statement.{statement}
 use Rattle.store.proofs.slots.signature_at.Tie as tie
 
-add-result : tie.Need-add-result
-add-result c = search needs
-
-sub-result : tie.Need-sub-result
-sub-result c = search needs
-
-part-result-start : tie.Need-part-result-start
-part-result-start c = search needs
-
 part-result-end : tie.Need-part-result-end
 unfolding signatureLength
 part-result-end c = omega arith
@@ -31,4 +22,4 @@ returns c =
 
 pub signature-at-spec : {M : Type 1} → statement M
 signature-at-spec =
-    tie.close (tie.spec add-result sub-result part-result-start part-result-end returns)
+    tie.close (tie.spec (λ c. search needs) (λ c. search needs) (λ c. search needs) part-result-end returns)

@@ -19,24 +19,6 @@ started c = listed c .before .before
 counted : (c : tie.After-shared-count) → c .shared-count .result ≡ size (shared (started c .args .seats) (all (started c .args .seat)))
 counted c = c .shared-count .ensures ∙ ap (λ (x : ℕ). size (shared (started c .args .seats) x)) (c .before .all .ensures)
 
-size-requires : tie.Need-size-requires
-size-requires c κs = search needs
-
-cast-full-entries : tie.Need-cast-full-entries
-cast-full-entries c = search needs
-
-full-entries-requires : tie.Need-full-entries-requires
-full-entries-requires c κs = search needs
-
-all-requires : tie.Need-all-requires
-all-requires c κs = search needs
-
-shared-count-requires : tie.Need-shared-count-requires
-shared-count-requires c κs = search needs
-
-cast-entry-at : tie.Need-cast-entry-at
-cast-entry-at c = search needs
-
 entry-at-requires : tie.Need-entry-at-requires
 unfolding fullEntryLength signatureLength
 entry-at-requires c κs = rw (listed c .full-entries .ensures) (omega arith)
@@ -53,12 +35,12 @@ pub entry-place-spec : {M : Type 1} → statement M
 entry-place-spec =
     tie.close
     (tie.spec
-    size-requires
-    cast-full-entries
-    full-entries-requires
-    all-requires
-    shared-count-requires
-    cast-entry-at
+    (λ c κs. search needs)
+    (λ c. search needs)
+    (λ c κs. search needs)
+    (λ c κs. search needs)
+    (λ c κs. search needs)
+    (λ c. search needs)
     entry-at-requires
     add-result
     returns)

@@ -8,12 +8,6 @@ use Rattle.protocol.specs.Layout.{signatureLength}
 use Rattle.store.proofs.sources.signature_copy.Statement.{statement}
 use Rattle.store.proofs.sources.signature_copy.Tie as tie
 
-slice-aggregate-copy : tie.Need-slice-aggregate-copy
-slice-aggregate-copy c = search needs
-
-signature-of-requires : tie.Need-signature-of-requires
-signature-of-requires c κs = search needs
-
 copy-requires : tie.Need-copy-requires
 unfolding signatureLength
 copy-requires c κs = omega (arith, c .signature-of .ensures .1)
@@ -27,4 +21,4 @@ returns c =
 
 pub signature-copy-spec : {M : Type 1} → statement M
 signature-copy-spec =
-    tie.close (tie.spec slice-aggregate-copy signature-of-requires copy-requires returns)
+    tie.close (tie.spec (λ c. search needs) (λ c κs. search needs) copy-requires returns)

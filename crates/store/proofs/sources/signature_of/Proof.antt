@@ -15,21 +15,12 @@ in-slots c = c .before .before .before
 enum-told : tie.Need-enum-told
 enum-told c = search needs
 
-entry-place-requires : tie.Need-entry-place-requires
-entry-place-requires c κs = search needs
-
 signature-at-requires : tie.Need-signature-at-requires
 signature-at-requires c κs =
     let told = c .before in
     let start = in-entries told in
     let args = start .args in
     entries-inside (args .n) (args .source) (now (args .bytes)) (start .pre .3) (args .seat) (start .pre .1) (c .entry-place .result) (start .pre .2) (told .enum-told .given .1) (c .entry-place .ensures)
-
-enum-known-place : tie.Need-enum-known-place
-enum-known-place c = search needs
-
-slot-at-requires : tie.Need-slot-at-requires
-slot-at-requires c κs = search needs
 
 signature-at-requires-2 : tie.Need-signature-at-requires-2
 signature-at-requires-2 c κs =
@@ -61,10 +52,10 @@ signature-of-spec =
     tie.close
     (tie.spec
     enum-told
-    entry-place-requires
+    (λ c κs. search needs)
     signature-at-requires
-    enum-known-place
-    slot-at-requires
+    (λ c. search needs)
+    (λ c κs. search needs)
     signature-at-requires-2
     returns
     returns-2)

@@ -4,12 +4,9 @@ use Rattle.protocol.specs.Record.{wrongRound}
 use Rattle.validate.proofs.arguments.wrong_round.Statement.{statement}
 use Rattle.validate.proofs.arguments.wrong_round.Tie as tie
 
-last-round-requires : tie.Need-last-round-requires
-last-round-requires c κs = search needs
-
 returns : tie.Need-returns
 unfolding wrongRound
 returns c = rw (c .last-round .ensures)
 
 pub wrong-round-spec : {M : Type 1} → statement M
-wrong-round-spec = tie.close (tie.spec last-round-requires returns)
+wrong-round-spec = tie.close (tie.spec (λ c κs. search needs) returns)

@@ -4,12 +4,9 @@ use Rattle.protocol.specs.Refusals.{shortStore}
 use Rattle.validate.proofs.buffers.short_store.Statement.{statement}
 use Rattle.validate.proofs.buffers.short_store.Tie as tie
 
-store-length-requires : tie.Need-store-length-requires
-store-length-requires c κs = search needs
-
 returns : tie.Need-returns
 unfolding shortStore
 returns c = rw (c .store-length .ensures)
 
 pub short-store-spec : {M : Type 1} → statement M
-short-store-spec = tie.close (tie.spec store-length-requires returns)
+short-store-spec = tie.close (tie.spec (λ c κs. search needs) returns)

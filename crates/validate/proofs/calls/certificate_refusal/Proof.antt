@@ -28,9 +28,6 @@ module _ (start : tie.Start) where
 classify-requires : tie.Need-classify-requires
 classify-requires c κs = let s = c .before .before in (s .pre .some, s .pre .most)
 
-is-within-requires : tie.Need-is-within-requires
-is-within-requires c κs = search needs
-
 message-refusal-requires : tie.Need-message-refusal-requires
 message-refusal-requires c κs =
     let kind = c .before in
@@ -46,4 +43,4 @@ returns c =
     (c .message-refusal .result .number) (c .message-refusal .ensures)
 
 pub certificate-refusal-spec : {M : Type 1} → statement M
-certificate-refusal-spec = tie.close (tie.spec classify-requires is-within-requires message-refusal-requires returns)
+certificate-refusal-spec = tie.close (tie.spec classify-requires (λ c κs. search needs) message-refusal-requires returns)

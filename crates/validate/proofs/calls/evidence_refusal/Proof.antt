@@ -43,12 +43,6 @@ told c =
 abbrev tested : tie.Else1 → tie.After-message-refusal
 tested c = c .before .before
 
-is-within-requires : tie.Need-is-within-requires
-is-within-requires c κs = search needs
-
-message-refusal-requires : tie.Need-message-refusal-requires
-message-refusal-requires c κs = search needs
-
 returns : tie.Need-returns
 returns c =
     let t = c .before .before in
@@ -79,4 +73,4 @@ returns-3 c =
 pub evidence-refusal-spec : {M : Type 1} → statement M
 evidence-refusal-spec =
     tie.close
-    (tie.spec is-within-requires message-refusal-requires returns not-lower-first-requires returns-2 returns-3)
+    (tie.spec (λ c κs. search needs) (λ c κs. search needs) returns not-lower-first-requires returns-2 returns-3)

@@ -53,30 +53,18 @@ after3 c = c .before .before
 right-keys : (c : tie.Else4) → let s = started (after1 (after2 (after3 c))) in wrongKeys (n s) (keys s) ≡ false
 right-keys c = sym (c .before .wrong-keys .ensures) ∙ c .if4 .left
 
-wrong-size-requires : tie.Need-wrong-size-requires
-wrong-size-requires c κs = search needs
-
 returns : tie.Need-returns
 unfolding openingConditions firstOf
 returns c = rw (sym (c .before .wrong-size .ensures) ∙ c .if1 .taken)
-
-wrong-seat-requires : tie.Need-wrong-seat-requires
-wrong-seat-requires c κs = search needs
 
 returns-2 : tie.Need-returns-2
 unfolding openingConditions firstOf
 returns-2 c = rw (right-size (c .before .before), sym (c .before .wrong-seat .ensures) ∙ c .if2 .taken)
 
-wrong-round-requires : tie.Need-wrong-round-requires
-wrong-round-requires c κs = search needs
-
 returns-3 : tie.Need-returns-3
 unfolding openingConditions firstOf
 returns-3 c =
     rw (right-size (after1 (c .before .before)), right-seat (c .before .before), sym (c .before .wrong-round .ensures) ∙ c .if3 .taken)
-
-wrong-keys-requires : tie.Need-wrong-keys-requires
-wrong-keys-requires c κs = search needs
 
 returns-4 : tie.Need-returns-4
 unfolding openingConditions firstOf
@@ -92,12 +80,12 @@ pub opening-refusal-spec : {M : Type 1} → statement M
 opening-refusal-spec =
     tie.close
     (tie.spec
-    wrong-size-requires
+    (λ c κs. search needs)
     returns
-    wrong-seat-requires
+    (λ c κs. search needs)
     returns-2
-    wrong-round-requires
+    (λ c κs. search needs)
     returns-3
-    wrong-keys-requires
+    (λ c κs. search needs)
     returns-4
     returns-5)

@@ -43,22 +43,13 @@ after2 c = c .before .before
 right-keys : (c : tie.Else3) → let s = started (after1 (after2 c)) in wrongKeys (n s) (keys s) ≡ false
 right-keys c = sym (c .before .wrong-keys .ensures) ∙ c .if3 .left
 
-wrong-size-requires : tie.Need-wrong-size-requires
-wrong-size-requires c κs = search needs
-
 returns : tie.Need-returns
 unfolding outsideConditions firstOf
 returns c = rw (sym (c .before .wrong-size .ensures) ∙ c .if1 .taken)
 
-wrong-round-requires : tie.Need-wrong-round-requires
-wrong-round-requires c κs = search needs
-
 returns-2 : tie.Need-returns-2
 unfolding outsideConditions firstOf
 returns-2 c = rw (right-size (c .before .before), sym (c .before .wrong-round .ensures) ∙ c .if2 .taken)
-
-wrong-keys-requires : tie.Need-wrong-keys-requires
-wrong-keys-requires c κs = search needs
 
 returns-3 : tie.Need-returns-3
 unfolding outsideConditions firstOf
@@ -73,10 +64,10 @@ pub outside-refusal-spec : {M : Type 1} → statement M
 outside-refusal-spec =
     tie.close
     (tie.spec
-    wrong-size-requires
+    (λ c κs. search needs)
     returns
-    wrong-round-requires
+    (λ c κs. search needs)
     returns-2
-    wrong-keys-requires
+    (λ c κs. search needs)
     returns-3
     returns-4)

@@ -36,17 +36,11 @@ returns c =
     let s = c .before .before .before .before in
     own-said (check s) (r s) (value s) (signature s) (c .if1 .taken)
 
-wrong-lengths-requires : tie.Need-wrong-lengths-requires
-wrong-lengths-requires c κs = search needs
-
 returns-2 : tie.Need-returns-2
 unfolding said
 returns-2 c =
     let s = c .before .before .before .before .before .before in
     own-lengths (check s) (r s) (value s) (signature s) (c .before .before .if1 .left) (sym (c .before .wrong-lengths .ensures) ∙ c .if2 .taken)
-
-round-constants-requires : tie.Need-round-constants-requires
-round-constants-requires c κs = search needs
 
 seat-verdict-requires : tie.Need-seat-verdict-requires
 seat-verdict-requires c κs =
@@ -65,8 +59,8 @@ own-refusal-spec =
     tie.close
     (tie.spec
     returns
-    wrong-lengths-requires
+    (λ c κs. search needs)
     returns-2
-    round-constants-requires
+    (λ c κs. search needs)
     seat-verdict-requires
     returns-3)

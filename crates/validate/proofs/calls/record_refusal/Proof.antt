@@ -60,15 +60,9 @@ short-is c = c .short-out .ensures ∙ rw (c .before .out-length .ensures)
 long-out : (c : tie.Else4) → let s = started (after1 (after2 (after3 c))) in shortOut (outLength (r s .n)) (out s) ≡ false
 long-out c = sym (short-is (c .before)) ∙ c .if4 .left
 
-is-impossible-requires : tie.Need-is-impossible-requires
-is-impossible-requires c κs = search needs
-
 returns : tie.Need-returns
 unfolding recordConditions firstOf
 returns c = rw (sym (c .before .is-impossible .ensures) ∙ c .if1 .taken)
-
-wrong-keys-requires : tie.Need-wrong-keys-requires
-wrong-keys-requires c κs = search needs
 
 returns-2 : tie.Need-returns-2
 unfolding recordConditions firstOf
@@ -87,9 +81,6 @@ out-length-requires c κs =
     let range = possible _ (sound (after1 (after2 c))) .range in
     (range .some, range .most)
 
-short-out-requires : tie.Need-short-out-requires
-short-out-requires c κs = search needs
-
 returns-4 : tie.Need-returns-4
 unfolding recordConditions firstOf
 returns-4 c =
@@ -104,13 +95,13 @@ pub record-refusal-spec : {M : Type 1} → statement M
 record-refusal-spec =
     tie.close
     (tie.spec
-    is-impossible-requires
+    (λ c κs. search needs)
     returns
-    wrong-keys-requires
+    (λ c κs. search needs)
     returns-2
     short-store-requires
     returns-3
     out-length-requires
-    short-out-requires
+    (λ c κs. search needs)
     returns-4
     returns-5)

@@ -21,15 +21,6 @@ module _ (start : tie.Start) where
   abbrev m : Message
   m = read (r .n) (now (start .args .m))
 
-is-within-requires : tie.Need-is-within-requires
-is-within-requires c κs = search needs
-
-is-within-requires-2 : tie.Need-is-within-requires-2
-is-within-requires-2 c κs = search needs
-
-message-refusal-requires : tie.Need-message-refusal-requires
-message-refusal-requires c κs = search needs
-
 returns : tie.Need-returns
 returns c =
     let second = c .before .before in
@@ -41,4 +32,4 @@ returns c =
     (comes-early (m s) kind (s .pre .1) (submit .result) (r s) (submit .ensures)) (c .message-refusal .result .number) (c .message-refusal .ensures)
 
 pub step-refusal-spec : {M : Type 1} → statement M
-step-refusal-spec = tie.close (tie.spec is-within-requires is-within-requires-2 message-refusal-requires returns)
+step-refusal-spec = tie.close (tie.spec (λ c κs. search needs) (λ c κs. search needs) (λ c κs. search needs) returns)

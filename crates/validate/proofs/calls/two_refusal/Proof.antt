@@ -51,18 +51,12 @@ second-taken c =
     let two = of-second c .certificate-refusal2 in
     certificate-taken (n s) (round s) (now (s .args .second)) (certificate-formed (check s) (n s) (round s) (second s) (two .result .number) (two .ensures) (c .if2 .left))
 
-certificate-refusal-requires : tie.Need-certificate-refusal-requires
-certificate-refusal-requires c κs = search needs
-
 returns : tie.Need-returns
 returns c =
     let tested = c .before .before in
     let s = started tested in
     let one = tested .certificate-refusal in
     first-refused (check s) (n s) (round s) (first s) (second s) (one .result .number) (one .ensures) (c .if1 .taken)
-
-certificate-refusal-requires-2 : tie.Need-certificate-refusal-requires-2
-certificate-refusal-requires-2 c κs = search needs
 
 returns-2 : tie.Need-returns-2
 returns-2 c =
@@ -102,9 +96,9 @@ pub two-refusal-spec : {M : Type 1} → statement M
 two-refusal-spec =
     tie.close
     (tie.spec
-    certificate-refusal-requires
+    (λ c κs. search needs)
     returns
-    certificate-refusal-requires-2
+    (λ c κs. search needs)
     returns-2
     equal-values-requires
     returns-3

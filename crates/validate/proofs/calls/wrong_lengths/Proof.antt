@@ -4,15 +4,9 @@ use Rattle.protocol.specs.Refusals.{wrongLengths}
 use Rattle.validate.proofs.calls.wrong_lengths.Statement.{statement}
 use Rattle.validate.proofs.calls.wrong_lengths.Tie as tie
 
-value-length-requires : tie.Need-value-length-requires
-value-length-requires c κs = search needs
-
-signature-length-requires : tie.Need-signature-length-requires
-signature-length-requires c κs = search needs
-
 returns : tie.Need-returns
 unfolding wrongLengths
 returns c = cc
 
 pub wrong-lengths-spec : {M : Type 1} → statement M
-wrong-lengths-spec = tie.close (tie.spec value-length-requires signature-length-requires returns)
+wrong-lengths-spec = tie.close (tie.spec (λ c κs. search needs) (λ c κs. search needs) returns)

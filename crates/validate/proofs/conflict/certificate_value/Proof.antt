@@ -8,9 +8,6 @@ use Rattle.validate.specs.Calls.{certificate-says}
 use Rattle.validate.proofs.conflict.certificate_value.Statement.{statement}
 use Rattle.validate.proofs.conflict.certificate_value.Tie as tie
 
-value-at-requires : tie.Need-value-at-requires
-value-at-requires c κs = search needs
-
 value-at-requires-2 : tie.Need-value-at-requires-2
 value-at-requires-2 c κs =
     let s = c .before .before in
@@ -22,4 +19,4 @@ returns c =
     certificate-says (s .args .n) (now (s .args .m)) (s .pre) (c .value-at2 .result) (c .value-at2 .ensures ∙ rw (c .before .value-at .ensures))
 
 pub certificate-value-spec : {M : Type 1} → statement M
-certificate-value-spec = tie.close (tie.spec value-at-requires value-at-requires-2 returns)
+certificate-value-spec = tie.close (tie.spec (λ c κs. search needs) value-at-requires-2 returns)

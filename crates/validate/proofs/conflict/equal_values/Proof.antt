@@ -6,21 +6,6 @@ use Rattle.validate.specs.Calls.{values-told}
 use Rattle.validate.proofs.conflict.equal_values.Statement.{statement}
 use Rattle.validate.proofs.conflict.equal_values.Tie as tie
 
-certificate-value-requires : tie.Need-certificate-value-requires
-certificate-value-requires c κs = search needs
-
-certificate-value-requires-2 : tie.Need-certificate-value-requires-2
-certificate-value-requires-2 c κs = search needs
-
-slice-aggregate-same : tie.Need-slice-aggregate-same
-slice-aggregate-same c = search needs
-
-slice-aggregate-same-2 : tie.Need-slice-aggregate-same-2
-slice-aggregate-same-2 c = search needs
-
-same-requires : tie.Need-same-requires
-same-requires c κs = search needs
-
 returns : tie.Need-returns
 returns c =
     let s = c .before .before .before .before .before .before .before in
@@ -32,9 +17,9 @@ pub equal-values-spec : {M : Type 1} → statement M
 equal-values-spec =
     tie.close
     (tie.spec
-    certificate-value-requires
-    certificate-value-requires-2
-    slice-aggregate-same
-    slice-aggregate-same-2
-    same-requires
+    (λ c κs. search needs)
+    (λ c κs. search needs)
+    (λ c. search needs)
+    (λ c. search needs)
+    (λ c κs. search needs)
     returns)

@@ -67,23 +67,14 @@ returns : tie.Need-returns
 unfolding formConditions firstOf
 returns c = rw (c .if1 .taken)
 
-other-round-requires : tie.Need-other-round-requires
-other-round-requires c κs = search needs
-
 returns-2 : tie.Need-returns-2
 unfolding formConditions firstOf
 returns-2 c = rw (is-taken (c .before .before), sym (c .before .other-round .ensures) ∙ c .if2 .taken)
-
-is-stranger-requires : tie.Need-is-stranger-requires
-is-stranger-requires c κs = search needs
 
 returns-3 : tie.Need-returns-3
 unfolding formConditions firstOf
 returns-3 c =
     rw (is-taken (after1 (c .before .before)), same-round (c .before .before), sym (c .before .is-stranger .ensures) ∙ c .if3 .taken)
-
-is-disordered-requires : tie.Need-is-disordered-requires
-is-disordered-requires c κs = search needs
 
 returns-4 : tie.Need-returns-4
 unfolding formConditions firstOf
@@ -105,11 +96,11 @@ form-refusal-spec =
     tie.close
     (tie.spec
     returns
-    other-round-requires
+    (λ c κs. search needs)
     returns-2
-    is-stranger-requires
+    (λ c κs. search needs)
     returns-3
-    is-disordered-requires
+    (λ c κs. search needs)
     returns-4
     returns-5
     returns-6)

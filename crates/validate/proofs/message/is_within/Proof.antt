@@ -4,12 +4,9 @@ use Rattle.validate.specs.Messages.{within}
 use Rattle.validate.proofs.message.is_within.Statement.{statement}
 use Rattle.validate.proofs.message.is_within.Tie as tie
 
-command-requires : tie.Need-command-requires
-command-requires c κs = search needs
-
 returns : tie.Need-returns
 unfolding within
 returns c = rw (c .command .ensures)
 
 pub is-within-spec : {M : Type 1} → statement M
-is-within-spec = tie.close (tie.spec command-requires returns)
+is-within-spec = tie.close (tie.spec (λ c κs. search needs) returns)

@@ -48,9 +48,6 @@ returns c =
     let form = c .before .form-refusal in
     form-refused (n s) (round s) (taken s) (early s) (m s) (form .result) (form .ensures) (check s) (c .if1 .taken)
 
-round-constants-requires : tie.Need-round-constants-requires
-round-constants-requires c κs = search needs
-
 message-verdict-requires : tie.Need-message-verdict-requires
 message-verdict-requires c κs =
     let right = c .before .before in
@@ -68,4 +65,4 @@ returns-2 c =
 pub message-refusal-spec : {M : Type 1} → statement M
 message-refusal-spec =
     tie.close
-    (tie.spec form-refusal-requires returns round-constants-requires message-verdict-requires returns-2)
+    (tie.spec form-refusal-requires returns (λ c κs. search needs) message-verdict-requires returns-2)

@@ -11,9 +11,6 @@ use Rattle.validate.proofs.record.is_impossible.Tie as tie
 ranged : (c : tie.Else1) → outOfRange (c .before .before .args .r) ≡ false
 ranged c = sym (c .before .out-of-range .ensures) ∙ c .if1 .left
 
-out-of-range-requires : tie.Need-out-of-range-requires
-out-of-range-requires c κs = search needs
-
 returns : tie.Need-returns
 unfolding impossible
 returns c = rw (sym (c .before .out-of-range .ensures) ∙ c .if1 .taken)
@@ -27,18 +24,6 @@ wrong-collected-requires c κs = in-range _ (ranged (c .before .before))
 wrong-first-requires : tie.Need-wrong-first-requires
 wrong-first-requires c κs = in-range _ (ranged (c .before .before .before))
 
-lacks-first-requires : tie.Need-lacks-first-requires
-lacks-first-requires c κs = search needs
-
-wrong-guilty-requires : tie.Need-wrong-guilty-requires
-wrong-guilty-requires c κs = search needs
-
-wrong-sent-requires : tie.Need-wrong-sent-requires
-wrong-sent-requires c κs = search needs
-
-wrong-unset-requires : tie.Need-wrong-unset-requires
-wrong-unset-requires c κs = search needs
-
 returns-2 : tie.Need-returns-2
 unfolding impossible wrongHeard
 returns-2 c = rw (ranged (c .before .before .before .before .before .before .before .before)) (cc)
@@ -47,13 +32,13 @@ pub is-impossible-spec : {M : Type 1} → statement M
 is-impossible-spec =
     tie.close
     (tie.spec
-    out-of-range-requires
+    (λ c κs. search needs)
     returns
     names-stranger-requires
     wrong-collected-requires
     wrong-first-requires
-    lacks-first-requires
-    wrong-guilty-requires
-    wrong-sent-requires
-    wrong-unset-requires
+    (λ c κs. search needs)
+    (λ c κs. search needs)
+    (λ c κs. search needs)
+    (λ c κs. search needs)
     returns-2)

@@ -4,12 +4,9 @@ use Rattle.protocol.specs.Record.{lacksFirst}
 use Rattle.validate.proofs.record.lacks_first.Statement.{statement}
 use Rattle.validate.proofs.record.lacks_first.Tie as tie
 
-is-holding-requires : tie.Need-is-holding-requires
-is-holding-requires c κs = search needs
-
 returns : tie.Need-returns
 unfolding lacksFirst
 returns c = cc
 
 pub lacks-first-spec : {M : Type 1} → statement M
-lacks-first-spec = tie.close (tie.spec is-holding-requires returns)
+lacks-first-spec = tie.close (tie.spec (λ c κs. search needs) returns)

@@ -4,12 +4,9 @@ use Rattle.protocol.specs.Record.{wrongGuilty}
 use Rattle.validate.proofs.record.wrong_guilty.Statement.{statement}
 use Rattle.validate.proofs.record.wrong_guilty.Tie as tie
 
-shared-requires : tie.Need-shared-requires
-shared-requires c κs = search needs
-
 returns : tie.Need-returns
 unfolding wrongGuilty
 returns c = cc
 
 pub wrong-guilty-spec : {M : Type 1} → statement M
-wrong-guilty-spec = tie.close (tie.spec shared-requires returns)
+wrong-guilty-spec = tie.close (tie.spec (λ c κs. search needs) returns)

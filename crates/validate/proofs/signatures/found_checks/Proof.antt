@@ -8,12 +8,6 @@ use Rattle.validate.specs.Entries.{fits-entry, checks-entry, checks-end}
 use Rattle.validate.proofs.signatures.found_checks.Statement.{statement}
 use Rattle.validate.proofs.signatures.found_checks.Tie as tie
 
-enum-known-found : tie.Need-enum-known-found
-enum-known-found c = search needs
-
-value-at-requires : tie.Need-value-at-requires
-value-at-requires c κs = search needs
-
 place-verdict-requires : tie.Need-place-verdict-requires
 place-verdict-requires c κs =
     let s = c .before .before .before .before .before .before in
@@ -39,8 +33,8 @@ pub found-checks-spec : {M : Type 1} → statement M
 found-checks-spec =
     tie.close
     (tie.spec
-    enum-known-found
-    value-at-requires
+    (λ c. search needs)
+    (λ c κs. search needs)
     place-verdict-requires
     enum-told
     returns

@@ -28,41 +28,20 @@ submit-verdict-requires c κs =
     let s = c .before .before .before .before in
     (s .pre .0, s .pre .1, submit-taken (n s) (m s) (s .args .kind) (s .pre .2) (s .pre .3) (c .enum-told .given .1))
 
-enum-told-2 : tie.Need-enum-told-2
-enum-told-2 c = search needs
-
-enum-told-3 : tie.Need-enum-told-3
-enum-told-3 c = search needs
-
 full-verdict-requires : tie.Need-full-verdict-requires
 full-verdict-requires c κs =
     let s = c .before .before .before .before in
     (s .pre .0, s .pre .1, full-taken (n s) (m s) (s .args .kind) (s .pre .2) (s .pre .3) (c .enum-told3 .given .1))
-
-enum-told-4 : tie.Need-enum-told-4
-enum-told-4 c = search needs
 
 evidence-verdict-requires : tie.Need-evidence-verdict-requires
 evidence-verdict-requires c κs =
     let s = c .before .before .before .before in
     (s .pre .0, s .pre .1, evidence-taken (n s) (m s) (s .args .kind) (s .pre .2) (s .pre .3) (c .enum-told4 .given .1))
 
-enum-told-5 : tie.Need-enum-told-5
-enum-told-5 c = search needs
-
-returns : tie.Need-returns
-returns c = search needs
-
 returns-2 : tie.Need-returns-2
 returns-2 c =
     let s = c .before .before .before .before in
     notice-row (check s) (n s) (m s) (s .args .kind) (s .pre .2) (c .enum-told2 .given .1)
-
-returns-3 : tie.Need-returns-3
-returns-3 c = search needs
-
-returns-4 : tie.Need-returns-4
-returns-4 c = search needs
 
 returns-5 : tie.Need-returns-5
 returns-5 c =
@@ -75,14 +54,14 @@ message-verdict-spec =
     (tie.spec
     enum-told
     submit-verdict-requires
-    enum-told-2
-    enum-told-3
+    (λ c. search needs)
+    (λ c. search needs)
     full-verdict-requires
-    enum-told-4
+    (λ c. search needs)
     evidence-verdict-requires
-    enum-told-5
-    returns
+    (λ c. search needs)
+    (λ c. search needs)
     returns-2
-    returns-3
-    returns-4
+    (λ c. search needs)
+    (λ c. search needs)
     returns-5)

@@ -20,17 +20,11 @@ module _ (start : tie.Start) where
   abbrev higher : Bool
   higher = placeChecks check (now (start .args .m)) (start .args .pair .seat) (start .args .pair .higher)
 
-place-verdict-requires : tie.Need-place-verdict-requires
-place-verdict-requires c κs = search needs
-
 returns : tie.Need-returns
 returns c =
     let s = c .before .before .before .before .before .before in
     let first = c .before .before .place-verdict in
     pair-first (lower s) (higher s) (first .result .number) (first .ensures) (c .if1 .taken)
-
-place-verdict-requires-2 : tie.Need-place-verdict-requires-2
-place-verdict-requires-2 c κs = search needs
 
 returns-2 : tie.Need-returns-2
 returns-2 c =
@@ -40,4 +34,4 @@ returns-2 c =
 
 pub pair-verdict-spec : {M : Type 1} → statement M
 pair-verdict-spec =
-    tie.close (tie.spec place-verdict-requires returns place-verdict-requires-2 returns-2)
+    tie.close (tie.spec (λ c κs. search needs) returns (λ c κs. search needs) returns-2)

@@ -11,15 +11,6 @@ use Rattle.protocol.specs.Message.{readSignature}
 use Rattle.validate.proofs.signatures.place_verdict.Statement.{statement}
 use Rattle.validate.proofs.signatures.place_verdict.Tie as tie
 
-value-at-requires : tie.Need-value-at-requires
-value-at-requires c κs = search needs
-
-signature-at-requires : tie.Need-signature-at-requires
-signature-at-requires c κs = search needs
-
-slice-aggregate-seat-verdict : tie.Need-slice-aggregate-seat-verdict
-slice-aggregate-seat-verdict c = search needs
-
 seat-verdict-requires : tie.Need-seat-verdict-requires
 unfolding readSignature
 seat-verdict-requires c κs =
@@ -36,8 +27,8 @@ pub place-verdict-spec : {M : Type 1} → statement M
 place-verdict-spec =
     tie.close
     (tie.spec
-    value-at-requires
-    signature-at-requires
-    slice-aggregate-seat-verdict
+    (λ c κs. search needs)
+    (λ c κs. search needs)
+    (λ c. search needs)
     seat-verdict-requires
     returns)

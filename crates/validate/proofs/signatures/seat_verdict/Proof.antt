@@ -48,12 +48,6 @@ seat-key-requires c κs =
     let s = c .before .before .before .before .before in
     key-inside (keys s) (n s) (seat s) (s .pre .1 .table) (s .pre .2)
 
-signed-bytes-requires : tie.Need-signed-bytes-requires
-signed-bytes-requires c κs = search needs
-
-slice-aggregate-verified : tie.Need-slice-aggregate-verified
-slice-aggregate-verified c = search needs
-
 verified-requires : tie.Need-verified-requires
 verified-requires c κs =
     let s = c .before .before .before .before .before .before .before .before in
@@ -78,7 +72,7 @@ seat-verdict-spec =
     word-at-requires
     returns
     seat-key-requires
-    signed-bytes-requires
-    slice-aggregate-verified
+    (λ c κs. search needs)
+    (λ c. search needs)
     verified-requires
     returns-2)

@@ -9,21 +9,6 @@ use Rattle.protocol.specs.Message.{readSignature}
 use Rattle.validate.proofs.signatures.signature_at.Statement.{statement}
 use Rattle.validate.proofs.signatures.signature_at.Tie as tie
 
-signature-length-requires : tie.Need-signature-length-requires
-signature-length-requires c κs = search needs
-
-add-end : tie.Need-add-end
-add-end c = search needs
-
-sub-result : tie.Need-sub-result
-sub-result c = search needs
-
-part-result-start : tie.Need-part-result-start
-part-result-start c = search needs
-
-part-result-end : tie.Need-part-result-end
-part-result-end c = search needs
-
 returns : tie.Need-returns
 unfolding readSignature part
 returns c =
@@ -35,9 +20,9 @@ pub signature-at-spec : {M : Type 1} → statement M
 signature-at-spec =
     tie.close
     (tie.spec
-    signature-length-requires
-    add-end
-    sub-result
-    part-result-start
-    part-result-end
+    (λ c κs. search needs)
+    (λ c. search needs)
+    (λ c. search needs)
+    (λ c. search needs)
+    (λ c. search needs)
     returns)

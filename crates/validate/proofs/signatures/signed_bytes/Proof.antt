@@ -6,27 +6,6 @@ use Rattle.validate.specs.Seats.{seat-signed}
 use Rattle.validate.proofs.signatures.signed_bytes.Statement.{statement}
 use Rattle.validate.proofs.signatures.signed_bytes.Tie as tie
 
-slice-aggregate-put-word : tie.Need-slice-aggregate-put-word
-slice-aggregate-put-word c = search needs
-
-mul-put-word : tie.Need-mul-put-word
-mul-put-word c = search needs
-
-add-put-word : tie.Need-add-put-word
-add-put-word c = search needs
-
-add-put-word-2 : tie.Need-add-put-word-2
-add-put-word-2 c = search needs
-
-put-word-requires : tie.Need-put-word-requires
-put-word-requires c κs = search needs
-
-slice-aggregate-copy : tie.Need-slice-aggregate-copy
-slice-aggregate-copy c = search needs
-
-copy-requires : tie.Need-copy-requires
-copy-requires c κs = search needs
-
 returns : tie.Need-returns
 returns c =
     let start = c .before .before .before .before .before .before .before in
@@ -38,11 +17,11 @@ pub signed-bytes-spec : {M : Type 1} → statement M
 signed-bytes-spec =
     tie.close
     (tie.spec
-    slice-aggregate-put-word
-    mul-put-word
-    add-put-word
-    add-put-word-2
-    put-word-requires
-    slice-aggregate-copy
-    copy-requires
+    (λ c. search needs)
+    (λ c. search needs)
+    (λ c. search needs)
+    (λ c. search needs)
+    (λ c κs. search needs)
+    (λ c. search needs)
+    (λ c κs. search needs)
     returns)

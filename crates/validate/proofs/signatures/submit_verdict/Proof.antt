@@ -28,18 +28,9 @@ module _ (start : tie.Start) where
 seat-read : (c : tie.After-number-at) → c .number-at .result ≡ byteAt (m (c .before .before .before .before)) seatAt
 seat-read c = c .number-at .ensures .0 ∙ rw (c .before .seat-at .ensures)
 
-seat-at-requires : tie.Need-seat-at-requires
-seat-at-requires c κs = search needs
-
 number-at-requires : tie.Need-number-at-requires
 unfolding submitLength signatureLength
 number-at-requires c κs = omega arith
-
-value-at-requires : tie.Need-value-at-requires
-value-at-requires c κs = search needs
-
-submit-signature-at-requires : tie.Need-submit-signature-at-requires
-submit-signature-at-requires c κs = search needs
 
 place-verdict-requires : tie.Need-place-verdict-requires
 unfolding submitLength signatureLength
@@ -58,9 +49,9 @@ pub submit-verdict-spec : {M : Type 1} → statement M
 submit-verdict-spec =
     tie.close
     (tie.spec
-    seat-at-requires
+    (λ c κs. search needs)
     number-at-requires
-    value-at-requires
-    submit-signature-at-requires
+    (λ c κs. search needs)
+    (λ c κs. search needs)
     place-verdict-requires
     returns)

@@ -24,12 +24,9 @@ entry-at-requires c κs = let h = inside (c .before) in omega arith
 shared-slice-read-wide : tie.Need-shared-slice-read-wide
 shared-slice-read-wide c = let h = inside (start (c .before)) in omega arith
 
-wide-requires : tie.Need-wide-requires
-wide-requires c κs = search needs
-
 returns : tie.Need-returns
 returns c = let at = c .before .before in c .wide .ensures .0 ∙ ap (λ (i : ℕ). byteAt (now (start at .args .m)) (i)) (at .entry-at .ensures)
 
 pub command-of-entry-spec : {M : Type 1} → statement M
 command-of-entry-spec =
-    tie.close (tie.spec entry-at-requires shared-slice-read-wide wide-requires returns)
+    tie.close (tie.spec entry-at-requires shared-slice-read-wide (λ c κs. search needs) returns)

@@ -27,12 +27,9 @@ add-wide c = let h = inside (start c) in omega arith
 shared-slice-read-wide : tie.Need-shared-slice-read-wide
 shared-slice-read-wide c = let h = inside (start (c .before)) in omega arith
 
-wide-requires : tie.Need-wide-requires
-wide-requires c κs = search needs
-
 returns : tie.Need-returns
 returns c = let at = c .before .before in (c .wide .ensures .0 ∙ ap (λ (i : ℕ). byteAt (now (start at .args .m)) (i + 1)) (at .entry-at .ensures), c .wide .ensures .1)
 
 pub seat-of-entry-spec : {M : Type 1} → statement M
 seat-of-entry-spec =
-    tie.close (tie.spec entry-at-requires add-wide shared-slice-read-wide wide-requires returns)
+    tie.close (tie.spec entry-at-requires add-wide shared-slice-read-wide (λ c κs. search needs) returns)

@@ -38,31 +38,19 @@ no-full c = sym (c .before .is-full .ensures) ∙ c .if3 .left
 abbrev third : tie.After-is-evidence → tie.After-is-full
 third c = c .before .before
 
-is-submit-requires : tie.Need-is-submit-requires
-is-submit-requires c κs = search needs
-
 returns : tie.Need-returns
 returns c = told-submit (n (c .before)) (bytes (c .before)) (sym (c .before .is-submit .ensures) ∙ c .if1 .taken)
-
-is-notice-requires : tie.Need-is-notice-requires
-is-notice-requires c κs = search needs
 
 returns-2 : tie.Need-returns-2
 returns-2 c =
     let t = c .before in
     told-notice (n (first t)) (bytes (first t)) (no-submit (t .before)) (sym (t .is-notice .ensures) ∙ c .if2 .taken)
 
-is-full-requires : tie.Need-is-full-requires
-is-full-requires c κs = search needs
-
 returns-3 : tie.Need-returns-3
 returns-3 c =
     let t = c .before in
     let s = second t in
     told-full (n (first s)) (bytes (first s)) (no-submit (s .before)) (no-notice (t .before)) (sym (t .is-full .ensures) ∙ c .if3 .taken)
-
-is-evidence-requires : tie.Need-is-evidence-requires
-is-evidence-requires c κs = search needs
 
 returns-4 : tie.Need-returns-4
 returns-4 c =
@@ -80,12 +68,12 @@ pub classify-spec : {M : Type 1} → statement M
 classify-spec =
     tie.close
     (tie.spec
-    is-submit-requires
+    (λ c κs. search needs)
     returns
-    is-notice-requires
+    (λ c κs. search needs)
     returns-2
-    is-full-requires
+    (λ c κs. search needs)
     returns-3
-    is-evidence-requires
+    (λ c κs. search needs)
     returns-4
     returns-5)

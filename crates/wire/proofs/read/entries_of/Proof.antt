@@ -21,34 +21,10 @@ counted-at c = c .before .before
 enum-told : tie.Need-enum-told
 enum-told c = search needs
 
-k-requires : tie.Need-k-requires
-k-requires c κs = search needs
-
-cast-full-entries : tie.Need-cast-full-entries
-cast-full-entries c = search needs
-
-full-entries-requires : tie.Need-full-entries-requires
-full-entries-requires c κs = search needs
-
-enum-told-2 : tie.Need-enum-told-2
-enum-told-2 c = search needs
-
-evidence-count-at-requires : tie.Need-evidence-count-at-requires
-evidence-count-at-requires c κs = search needs
-
 number-at-requires : tie.Need-number-at-requires
 number-at-requires c κs =
     let s = evidence-start c in
     omega (arith, evidence-long (s .args .kind) (s .args .n) (now (s .args .m)) (s .pre .2) (c .before .enum-told2 .given .1))
-
-cast-evidence-entries : tie.Need-cast-evidence-entries
-cast-evidence-entries c = search needs
-
-evidence-entries-requires : tie.Need-evidence-entries-requires
-evidence-entries-requires c κs = search needs
-
-full-entries-requires-2 : tie.Need-full-entries-requires-2
-full-entries-requires-2 c κs = search needs
 
 returns : tie.Need-returns
 returns c =
@@ -75,15 +51,15 @@ entries-of-spec =
     tie.close
     (tie.spec
     enum-told
-    k-requires
-    cast-full-entries
-    full-entries-requires
-    enum-told-2
-    evidence-count-at-requires
+    (λ c κs. search needs)
+    (λ c. search needs)
+    (λ c κs. search needs)
+    (λ c. search needs)
+    (λ c κs. search needs)
     number-at-requires
-    cast-evidence-entries
-    evidence-entries-requires
-    full-entries-requires-2
+    (λ c. search needs)
+    (λ c κs. search needs)
+    (λ c κs. search needs)
     returns
     returns-2
     returns-3)

@@ -10,9 +10,6 @@ use Rattle.wire.specs.MessageLaws.{known-entries}
 use Rattle.wire.proofs.read.entry_set.Statement.{statement}
 use Rattle.wire.proofs.read.entry_set.Tie as tie
 
-entries-of-requires : tie.Need-entries-of-requires
-entries-of-requires c κs = search needs
-
 seat-set-requires : tie.Need-seat-set-requires
 seat-set-requires c κs =
     let start = c .before .before in
@@ -23,4 +20,4 @@ returns : tie.Need-returns
 returns c = c .seat-set .ensures ∙ ap setOf (c .before .entries-of .ensures .0)
 
 pub entry-set-spec : {M : Type 1} → statement M
-entry-set-spec = tie.close (tie.spec entries-of-requires seat-set-requires returns)
+entry-set-spec = tie.close (tie.spec (λ c κs. search needs) seat-set-requires returns)

@@ -7,12 +7,6 @@ use Rattle.wire.specs.MessageLaws.{disorder-told}
 use Rattle.wire.proofs.read.is_disordered.Statement.{statement}
 use Rattle.wire.proofs.read.is_disordered.Tie as tie
 
-entries-of-requires : tie.Need-entries-of-requires
-entries-of-requires c κs = search needs
-
-seats-rise-requires : tie.Need-seats-rise-requires
-seats-rise-requires c κs = search needs
-
 returns : tie.Need-returns
 returns c =
     let found = c .before in
@@ -20,4 +14,4 @@ returns c =
     disorder-told (read (args .n) (now (args .m))) (c .seats-rise .result) (seatsIn (found .entries-of .result) (now (args .m))) (found .entries-of .ensures .0) (c .seats-rise .ensures)
 
 pub is-disordered-spec : {M : Type 1} → statement M
-is-disordered-spec = tie.close (tie.spec entries-of-requires seats-rise-requires returns)
+is-disordered-spec = tie.close (tie.spec (λ c κs. search needs) (λ c κs. search needs) returns)

@@ -33,20 +33,11 @@ counted c = c .before .before .before
 size-read : (c : tie.After-evidence-length) → c .evidence-length .result ≡ evidenceLength (byteAt (now (begun (counted c) .args .m)) evidenceCountAt)
 size-read c = c .evidence-length .ensures ∙ ap evidenceLength (count-read (counted c))
 
-evidence-count-at-requires : tie.Need-evidence-count-at-requires
-evidence-count-at-requires c κs = search needs
-
 returns : tie.Need-returns
 returns c = let s = start (c .before) in evidence-short (s .args .n) (now (s .args .m)) (omega arith)
 
-shared-slice-read-if2 : tie.Need-shared-slice-read-if2
-shared-slice-read-if2 c = search needs
-
 returns-2 : tie.Need-returns-2
 returns-2 c = let s = start (c .before .before .before) in evidence-code (s .args .n) (now (s .args .m)) (c .if2 .taken)
-
-number-at-requires : tie.Need-number-at-requires
-number-at-requires c κs = search needs
 
 returns-3 : tie.Need-returns-3
 returns-3 c = let s = begun (c .before) in evidence-none (s .args .n) (now (s .args .m)) (omega (arith, count-read (c .before)))
@@ -57,23 +48,11 @@ returns-4 c =
     let s = begun read in
     evidence-many (s .args .n) (now (s .args .m)) (omega (arith, count-read read))
 
-cast-evidence-length : tie.Need-cast-evidence-length
-cast-evidence-length c = search needs
-
-evidence-length-requires : tie.Need-evidence-length-requires
-evidence-length-requires c κs = search needs
-
 returns-5 : tie.Need-returns-5
 returns-5 c =
     let size = c .before in
     let s = begun (counted size) in
     evidence-size (s .args .n) (now (s .args .m)) (size .evidence-length .result) (size-read size) (c .if5 .taken)
-
-cast-evidence-entries : tie.Need-cast-evidence-entries
-cast-evidence-entries c = search needs
-
-evidence-entries-requires : tie.Need-evidence-entries-requires
-evidence-entries-requires c κs = search needs
 
 have-command-requires : tie.Need-have-command-requires
 unfolding evidenceEntryLength signatureLength
@@ -96,17 +75,17 @@ pub is-evidence-spec : {M : Type 1} → statement M
 is-evidence-spec =
     tie.close
     (tie.spec
-    evidence-count-at-requires
+    (λ c κs. search needs)
     returns
-    shared-slice-read-if2
+    (λ c. search needs)
     returns-2
-    number-at-requires
+    (λ c κs. search needs)
     returns-3
     returns-4
-    cast-evidence-length
-    evidence-length-requires
+    (λ c. search needs)
+    (λ c κs. search needs)
     returns-5
-    cast-evidence-entries
-    evidence-entries-requires
+    (λ c. search needs)
+    (λ c κs. search needs)
     have-command-requires
     returns-6)

@@ -40,9 +40,6 @@ count-read c = c .number-at .ensures .0 ∙ ap (λ (i : ℕ). byteAt (now (begun
 k-read : (c : tie.After-number-at) → k-told c .k .result ≡ k (begun (sized (after-code c)) .args .n)
 k-read c = k-told c .k .ensures
 
-full-length-requires : tie.Need-full-length-requires
-full-length-requires c κs = search needs
-
 returns : tie.Need-returns
 returns c =
     let s = start (c .before) in
@@ -55,12 +52,6 @@ shared-slice-read-if2 c = omega (arith, long (c .before), full-figure (begun (c 
 returns-2 : tie.Need-returns-2
 returns-2 c = let s = begun (c .before .before) in full-code (s .args .n) (now (s .args .m)) (c .if2 .taken)
 
-k-requires : tie.Need-k-requires
-k-requires c κs = search needs
-
-full-count-at-requires : tie.Need-full-count-at-requires
-full-count-at-requires c κs = search needs
-
 number-at-requires : tie.Need-number-at-requires
 number-at-requires c κs =
     let l = sized (c .before .before) in
@@ -70,12 +61,6 @@ returns-3 : tie.Need-returns-3
 returns-3 c =
     let s = begun (sized (after-code (c .before))) in
     full-count (s .args .n) (now (s .args .m)) (λ e. c .if3 .taken (count-read (c .before) ∙ e ∙ sym (k-read (c .before))))
-
-cast-full-entries : tie.Need-cast-full-entries
-cast-full-entries c = search needs
-
-full-entries-requires : tie.Need-full-entries-requires
-full-entries-requires c κs = search needs
 
 have-command-requires : tie.Need-have-command-requires
 unfolding fullEntryLength signatureLength
@@ -100,15 +85,15 @@ pub is-full-spec : {M : Type 1} → statement M
 is-full-spec =
     tie.close
     (tie.spec
-    full-length-requires
+    (λ c κs. search needs)
     returns
     shared-slice-read-if2
     returns-2
-    k-requires
-    full-count-at-requires
+    (λ c κs. search needs)
+    (λ c κs. search needs)
     number-at-requires
     returns-3
-    cast-full-entries
-    full-entries-requires
+    (λ c. search needs)
+    (λ c κs. search needs)
     have-command-requires
     returns-4)

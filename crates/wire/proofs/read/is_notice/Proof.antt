@@ -8,9 +8,6 @@ use Rattle.protocol.specs.Message.{fitsNotice}
 use Rattle.wire.proofs.read.is_notice.Statement.{statement}
 use Rattle.wire.proofs.read.is_notice.Tie as tie
 
-notice-length-requires : tie.Need-notice-length-requires
-notice-length-requires c κs = search needs
-
 returns : tie.Need-returns
 unfolding fitsNotice
 returns c = rw (ne-eqb _ _ (λ e. c .if1 .taken (e ∙ sym (c .before .notice-length .ensures))))
@@ -24,4 +21,4 @@ returns-2 c = let same = c .before in rw (eq-eqb _ _ (same .if1 .left ∙ same .
 
 pub is-notice-spec : {M : Type 1} → statement M
 is-notice-spec =
-    tie.close (tie.spec notice-length-requires returns shared-slice-read-result returns-2)
+    tie.close (tie.spec (λ c κs. search needs) returns shared-slice-read-result returns-2)

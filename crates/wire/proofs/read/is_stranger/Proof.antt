@@ -10,20 +10,11 @@ use Rattle.wire.proofs.read.is_stranger.Tie as tie
 abbrev start : tie.After-sender-outside → tie.Start
 start c = c .before .before
 
-sender-outside-requires : tie.Need-sender-outside-requires
-sender-outside-requires c κs = search needs
-
 returns : tie.Need-returns
 returns c =
     let sender = c .before in
     let args = start sender .args in
     stranger-sender (args .n) (read (args .n) (now (args .m))) (sender .sender-outside .result) (sender .sender-outside .ensures) (c .if1 .taken)
-
-entries-of-requires : tie.Need-entries-of-requires
-entries-of-requires c κs = search needs
-
-seats-below-requires : tie.Need-seats-below-requires
-seats-below-requires c κs = search needs
 
 returns-2 : tie.Need-returns-2
 returns-2 c =
@@ -36,4 +27,4 @@ returns-2 c =
 pub is-stranger-spec : {M : Type 1} → statement M
 is-stranger-spec =
     tie.close
-    (tie.spec sender-outside-requires returns entries-of-requires seats-below-requires returns-2)
+    (tie.spec (λ c κs. search needs) returns (λ c κs. search needs) (λ c κs. search needs) returns-2)

@@ -8,9 +8,6 @@ use Rattle.protocol.specs.Message.{fitsSubmit}
 use Rattle.wire.proofs.read.is_submit.Statement.{statement}
 use Rattle.wire.proofs.read.is_submit.Tie as tie
 
-submit-length-requires : tie.Need-submit-length-requires
-submit-length-requires c κs = search needs
-
 returns : tie.Need-returns
 unfolding fitsSubmit
 returns c = rw (ne-eqb _ _ (λ e. c .if1 .taken (e ∙ sym (c .before .submit-length .ensures))))
@@ -24,4 +21,4 @@ returns-2 c = let same = c .before in rw (eq-eqb _ _ (same .if1 .left ∙ same .
 
 pub is-submit-spec : {M : Type 1} → statement M
 is-submit-spec =
-    tie.close (tie.spec submit-length-requires returns shared-slice-read-result returns-2)
+    tie.close (tie.spec (λ c κs. search needs) returns shared-slice-read-result returns-2)

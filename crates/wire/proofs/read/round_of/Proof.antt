@@ -7,30 +7,6 @@ use Rattle.protocol.specs.Message.{byteAt, readRound}
 use Rattle.wire.proofs.read.round_of.Statement.{statement}
 use Rattle.wire.proofs.read.round_of.Tie as tie
 
-round-at-requires : tie.Need-round-at-requires
-round-at-requires c κs = search needs
-
-shared-slice-read-wide : tie.Need-shared-slice-read-wide
-shared-slice-read-wide c = search needs
-
-wide-requires : tie.Need-wide-requires
-wide-requires c κs = search needs
-
-add-wide : tie.Need-add-wide
-add-wide c = search needs
-
-shared-slice-read-wide-2 : tie.Need-shared-slice-read-wide-2
-shared-slice-read-wide-2 c = search needs
-
-wide-requires-2 : tie.Need-wide-requires-2
-wide-requires-2 c κs = search needs
-
-mul-result : tie.Need-mul-result
-mul-result c = search needs
-
-add-result : tie.Need-add-result
-add-result c = search needs
-
 returns : tie.Need-returns
 unfolding readRound
 returns c =
@@ -45,12 +21,12 @@ pub round-of-spec : {M : Type 1} → statement M
 round-of-spec =
     tie.close
     (tie.spec
-    round-at-requires
-    shared-slice-read-wide
-    wide-requires
-    add-wide
-    shared-slice-read-wide-2
-    wide-requires-2
-    mul-result
-    add-result
+    (λ c κs. search needs)
+    (λ c. search needs)
+    (λ c κs. search needs)
+    (λ c. search needs)
+    (λ c. search needs)
+    (λ c κs. search needs)
+    (λ c. search needs)
+    (λ c. search needs)
     returns)

@@ -18,9 +18,6 @@ start c = c .before .before .before
 one-seat : (c : tie.After-seat-at) → let t = tag (start c .args .kind) in (t ≡ 0) ⊎ ((t ≡ 1) ⊎ (t ≡ 2))
 one-seat c = rw (tags (start c .args .kind)) at (c .before .match .keys1)
 
-seat-at-requires : tie.Need-seat-at-requires
-seat-at-requires c κs = search needs
-
 number-at-requires : tie.Need-number-at-requires
 number-at-requires c κs =
     let s = start c in
@@ -39,4 +36,4 @@ returns-2 c =
     sender-none k (s .args .n) (now (s .args .m)) (s .pre) (rw (tags k) at (c .match .keys2))
 
 pub sender-outside-spec : {M : Type 1} → statement M
-sender-outside-spec = tie.close (tie.spec seat-at-requires number-at-requires returns returns-2)
+sender-outside-spec = tie.close (tie.spec (λ c κs. search needs) number-at-requires returns returns-2)

@@ -54,22 +54,10 @@ seat-read c =
     let args = begun (e .before) .args in
     c .seat-of-entry .ensures .0 ∙ ap (λ (x : Entries). byteAt (now (args .full)) (seatPlace x (args .next))) (e .full-entries .ensures)
 
-full-count-at-requires : tie.Need-full-count-at-requires
-full-count-at-requires c κs = search needs
-
 returns : tie.Need-returns
 returns c =
     let args = start (c .before) .args in
     entry-none (now (args .full)) (args .next) (omega arith)
-
-number-at-requires : tie.Need-number-at-requires
-number-at-requires c κs = search needs
-
-cast-count : tie.Need-cast-count
-cast-count c = search needs
-
-full-entries-requires : tie.Need-full-entries-requires
-full-entries-requires c κs = search needs
 
 entry-at-requires : tie.Need-entry-at-requires
 unfolding fullEntryLength signatureLength
@@ -118,11 +106,11 @@ pub entry-at-spec : {M : Type 1} → statement M
 entry-at-spec =
     tie.close
     (tie.spec
-    full-count-at-requires
+    (λ c κs. search needs)
     returns
-    number-at-requires
-    cast-count
-    full-entries-requires
+    (λ c κs. search needs)
+    (λ c. search needs)
+    (λ c κs. search needs)
     entry-at-requires
     returns-2
     returns-3

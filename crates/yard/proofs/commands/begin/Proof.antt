@@ -5,12 +5,6 @@ use Rattle.yard.specs.CommandLaws.{begun-told}
 use Rattle.yard.proofs.commands.begin.Statement.{statement}
 use Rattle.yard.proofs.commands.begin.Tie as tie
 
-open-requires : tie.Need-open-requires
-open-requires c κs = search needs
-
-line-for-requires : tie.Need-line-for-requires
-line-for-requires c κs = search needs
-
 returns : tie.Need-returns
 returns c =
     let lined = c .before .before in
@@ -19,4 +13,4 @@ returns c =
     (begun-told (now (start .args .bytes)) (opened .«open» .result) (lined .line-for .result) (opened .«open» .ensures) (lined .line-for .ensures .0), lined .line-for .ensures .1)
 
 pub begin-spec : {M : Type 1} → statement M
-begin-spec = tie.close (tie.spec open-requires line-for-requires returns)
+begin-spec = tie.close (tie.spec (λ c κs. search needs) (λ c κs. search needs) returns)

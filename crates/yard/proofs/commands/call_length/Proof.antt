@@ -11,18 +11,6 @@ use Rattle.yard.proofs.commands.call_length.Tie as tie
 abbrev bytes : tie.After-byte-at → List ℕ
 bytes read = now (read .before .before .args .bytes)
 
-byte-at-requires : tie.Need-byte-at-requires
-byte-at-requires c κs = search needs
-
-two-at-requires : tie.Need-two-at-requires
-two-at-requires c κs = search needs
-
-cast-result : tie.Need-cast-result
-cast-result c = search needs
-
-add-result : tie.Need-add-result
-add-result c = search needs
-
 returns : tie.Need-returns
 returns c =
     let message = c .before in
@@ -45,4 +33,4 @@ returns-3 c =
 pub call-length-spec : {M : Type 1} → statement M
 call-length-spec =
     tie.close
-    (tie.spec byte-at-requires two-at-requires cast-result add-result returns returns-2 returns-3)
+    (tie.spec (λ c κs. search needs) (λ c κs. search needs) (λ c. search needs) (λ c. search needs) returns returns-2 returns-3)

@@ -14,16 +14,10 @@ bytes sized = now (sized .before .before .args .bytes)
 abbrev whole : tie.After-byte-at → tie.After-call-length
 whole c = c .before .before
 
-call-length-requires : tie.Need-call-length-requires
-call-length-requires c κs = search needs
-
 returns : tie.Need-returns
 returns c =
     let sized = c .before in
     call-short (bytes sized) (sized .call-length .result) (sized .call-length .ensures .0) (c .if1 .taken)
-
-byte-at-requires : tie.Need-byte-at-requires
-byte-at-requires c κs = search needs
 
 returns-2 : tie.Need-returns-2
 returns-2 c =
@@ -39,4 +33,4 @@ returns-3 c =
 
 pub is-misframed-call-spec : {M : Type 1} → statement M
 is-misframed-call-spec =
-    tie.close (tie.spec call-length-requires returns byte-at-requires returns-2 returns-3)
+    tie.close (tie.spec (λ c κs. search needs) returns (λ c κs. search needs) returns-2 returns-3)

@@ -10,16 +10,10 @@ use Rattle.yard.proofs.commands.is_misframed_opening.Tie as tie
 abbrev bytes : tie.After-opening-length → List ℕ
 bytes sized = now (sized .before .before .args .bytes)
 
-opening-length-requires : tie.Need-opening-length-requires
-opening-length-requires c κs = search needs
-
 returns : tie.Need-returns
 returns c =
     let sized = c .before in
     opening-short (bytes sized) (sized .opening-length .result) (sized .opening-length .ensures .0) (c .if1 .taken)
-
-byte-at-requires : tie.Need-byte-at-requires
-byte-at-requires c κs = search needs
 
 returns-2 : tie.Need-returns-2
 returns-2 c =
@@ -29,4 +23,4 @@ returns-2 c =
 
 pub is-misframed-opening-spec : {M : Type 1} → statement M
 is-misframed-opening-spec =
-    tie.close (tie.spec opening-length-requires returns byte-at-requires returns-2)
+    tie.close (tie.spec (λ c κs. search needs) returns (λ c κs. search needs) returns-2)

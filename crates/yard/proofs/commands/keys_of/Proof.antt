@@ -10,20 +10,8 @@ use Rattle.yard.proofs.commands.keys_of.Tie as tie
 abbrev bytes : tie.Start → List ℕ
 bytes s = now (s .args .bytes)
 
-slice-aggregate-result : tie.Need-slice-aggregate-result
-slice-aggregate-result c = search needs
-
 returns : tie.Need-returns
 returns c = keys-none (bytes (c .before .before)) (search needs)
-
-sub-result : tie.Need-sub-result
-sub-result c = search needs
-
-part-result-start : tie.Need-part-result-start
-part-result-start c = search needs
-
-part-result-end : tie.Need-part-result-end
-part-result-end c = search needs
 
 returns-2 : tie.Need-returns-2
 returns-2 c = keys-rest (bytes (c .before .before))
@@ -32,9 +20,9 @@ pub keys-of-spec : {M : Type 1} → statement M
 keys-of-spec =
     tie.close
     (tie.spec
-    slice-aggregate-result
+    (λ c. search needs)
     returns
-    sub-result
-    part-result-start
-    part-result-end
+    (λ c. search needs)
+    (λ c. search needs)
+    (λ c. search needs)
     returns-2)

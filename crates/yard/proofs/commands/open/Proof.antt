@@ -20,44 +20,17 @@ whole c = sym (c .before .is-misframed-opening .ensures) ∙ c .if1 .left
 abbrev started : tie.After-byte-at → List ℕ
 started c = bytes (c .before .before)
 
-is-misframed-opening-requires : tie.Need-is-misframed-opening-requires
-is-misframed-opening-requires c κs = search needs
-
-refused-opening-requires : tie.Need-refused-opening-requires
-refused-opening-requires c κs = search needs
-
 returns : tie.Need-returns
 returns c =
     let misframed = c .before in
     let framed = misframed .before in
     open-misframed (bytes framed) (c .refused-opening .result) (sym (framed .is-misframed-opening .ensures) ∙ misframed .if1 .taken) (c .refused-opening .ensures)
 
-byte-at-requires : tie.Need-byte-at-requires
-byte-at-requires c κs = search needs
-
-cast-if2 : tie.Need-cast-if2
-cast-if2 c = search needs
-
-refused-opening-requires-2 : tie.Need-refused-opening-requires-2
-refused-opening-requires-2 c κs = search needs
-
 returns-2 : tie.Need-returns-2
 returns-2 c =
     let many = c .before in
     let seats = many .before in
     open-many (started seats) (c .refused-opening2 .result) (whole (seats .before)) (seats .byte-at .result) (seats .byte-at .ensures .0) (many .if2 .taken) (c .refused-opening2 .ensures)
-
-byte-at-requires-2 : tie.Need-byte-at-requires-2
-byte-at-requires-2 c κs = search needs
-
-two-at-requires : tie.Need-two-at-requires
-two-at-requires c κs = search needs
-
-keys-of-requires : tie.Need-keys-of-requires
-keys-of-requires c κs = search needs
-
-open-requires : tie.Need-open-requires
-open-requires c κs = search needs
 
 returns-3 : tie.Need-returns-3
 returns-3 c =
@@ -73,15 +46,15 @@ pub open-spec : {M : Type 1} → statement M
 open-spec =
     tie.close
     (tie.spec
-    is-misframed-opening-requires
-    refused-opening-requires
+    (λ c κs. search needs)
+    (λ c κs. search needs)
     returns
-    byte-at-requires
-    cast-if2
-    refused-opening-requires-2
+    (λ c κs. search needs)
+    (λ c. search needs)
+    (λ c κs. search needs)
     returns-2
-    byte-at-requires-2
-    two-at-requires
-    keys-of-requires
-    open-requires
+    (λ c κs. search needs)
+    (λ c κs. search needs)
+    (λ c κs. search needs)
+    (λ c κs. search needs)
     returns-3)

@@ -14,31 +14,16 @@ bytes read = now (read .before .before .args .bytes)
 abbrev first : tie.After-byte-at2 → tie.After-byte-at
 first c = c .before .before
 
-byte-at-requires : tie.Need-byte-at-requires
-byte-at-requires c κs = search needs
-
 returns : tie.Need-returns
 returns c =
     let read = c .before in
     (opening-other (bytes read) (read .byte-at .result) (read .byte-at .ensures .0) (c .if1 .taken), search needs)
-
-byte-at-requires-2 : tie.Need-byte-at-requires-2
-byte-at-requires-2 c κs = search needs
-
-cast-n : tie.Need-cast-n
-cast-n c = search needs
 
 returns-2 : tie.Need-returns-2
 returns-2 c =
     let seats = c .before in
     let read = first seats in
     (opening-many (bytes read) (read .byte-at .result) (read .byte-at .ensures .0) (seats .before .if1 .left) (seats .byte-at2 .result) (seats .byte-at2 .ensures .0) (c .if2 .taken), search needs)
-
-mul-result : tie.Need-mul-result
-mul-result c = search needs
-
-add-result : tie.Need-add-result
-add-result c = search needs
 
 returns-3 : tie.Need-returns-3
 returns-3 c =
@@ -49,4 +34,4 @@ returns-3 c =
 pub opening-length-spec : {M : Type 1} → statement M
 opening-length-spec =
     tie.close
-    (tie.spec byte-at-requires returns byte-at-requires-2 cast-n returns-2 mul-result add-result returns-3)
+    (tie.spec (λ c κs. search needs) returns (λ c κs. search needs) (λ c. search needs) returns-2 (λ c. search needs) (λ c. search needs) returns-3)

@@ -50,41 +50,17 @@ own c =
     let read = c .before in
     submit-whole (bytes (given read)) (framed (read .before)) (read .byte-at .result) (read .byte-at .ensures .0) (c .if2 .left)
 
-is-misframed-call-requires : tie.Need-is-misframed-call-requires
-is-misframed-call-requires c κs = search needs
-
-line-for-requires : tie.Need-line-for-requires
-line-for-requires c κs = search needs
-
 returns : tie.Need-returns
 returns c =
     let tested = c .before in
     let g = tested .before in
     called-misframed checks (keys g) (r g) (store g) (out g) (bytes g) (sym (g .is-misframed-call .ensures) ∙ tested .if1 .taken) (c .line-for .result) (c .line-for .ensures)
 
-byte-at-requires : tie.Need-byte-at-requires
-byte-at-requires c κs = search needs
-
 sub-step : tie.Need-sub-step
 sub-step c = let h = message (c .before) in search needs
 
 part-step-start : tie.Need-part-step-start
 part-step-start c = let h = sub-step c in search needs
-
-part-step-end : tie.Need-part-step-end
-part-step-end c = search needs
-
-step-requires : tie.Need-step-requires
-step-requires c κs = search needs
-
-goes-on-requires : tie.Need-goes-on-requires
-goes-on-requires c κs = search needs
-
-same-length : tie.Need-same-length
-same-length c = search needs
-
-same-length-2 : tie.Need-same-length-2
-same-length-2 c = search needs
 
 returns-2 : tie.Need-returns-2
 returns-2 c =
@@ -96,12 +72,6 @@ returns-2 c =
     (step .step .result) (c .goes-on .result) (c .goes-on .ensures) (step .step .last .1 .1 .0) (step .step .last .1 .1 .1 .1 .0) (tested .if2 .taken) _ refl
     (step .step .ensures .0) (step .step .ensures .1) (step .step .ensures .2)
 
-sub-submit : tie.Need-sub-submit
-sub-submit c = search needs
-
-part-submit-start : tie.Need-part-submit-start
-part-submit-start c = search needs
-
 part-submit-end : tie.Need-part-submit-end
 part-submit-end c = let h = own (c .before) in search needs
 
@@ -110,21 +80,6 @@ sub-submit-2 c = part-submit-end (c .before)
 
 part-submit-start-2 : tie.Need-part-submit-start-2
 part-submit-start-2 c = let h = sub-submit-2 c in search needs
-
-part-submit-end-2 : tie.Need-part-submit-end-2
-part-submit-end-2 c = search needs
-
-submit-requires : tie.Need-submit-requires
-submit-requires c κs = search needs
-
-goes-on-requires-2 : tie.Need-goes-on-requires-2
-goes-on-requires-2 c κs = search needs
-
-same-length-3 : tie.Need-same-length-3
-same-length-3 c = search needs
-
-same-length-4 : tie.Need-same-length-4
-same-length-4 c = search needs
 
 returns-3 : tie.Need-returns-3
 returns-3 c =
@@ -140,26 +95,26 @@ pub take-command-spec : {M : Type 1} → statement M
 take-command-spec =
     tie.close
     (tie.spec
-    is-misframed-call-requires
-    line-for-requires
+    (λ c κs. search needs)
+    (λ c κs. search needs)
     returns
-    byte-at-requires
+    (λ c κs. search needs)
     sub-step
     part-step-start
-    part-step-end
-    step-requires
-    goes-on-requires
-    same-length
-    same-length-2
+    (λ c. search needs)
+    (λ c κs. search needs)
+    (λ c κs. search needs)
+    (λ c. search needs)
+    (λ c. search needs)
     returns-2
-    sub-submit
-    part-submit-start
+    (λ c. search needs)
+    (λ c. search needs)
     part-submit-end
     sub-submit-2
     part-submit-start-2
-    part-submit-end-2
-    submit-requires
-    goes-on-requires-2
-    same-length-3
-    same-length-4
+    (λ c. search needs)
+    (λ c κs. search needs)
+    (λ c κs. search needs)
+    (λ c. search needs)
+    (λ c. search needs)
     returns-3)

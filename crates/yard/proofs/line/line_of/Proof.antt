@@ -34,14 +34,8 @@ written-text c =
     text-then _ (decimal (start (numbered (parted c)) .args .written)) (parted c .put-byte .last .0) (c .put-decimal2 .last .0) (parted c .put-byte .result) (c .put-decimal2 .result)
     (space-text (parted c)) (c .put-decimal2 .ensures .0) (c .put-decimal2 .ensures .1)
 
-slice-aggregate-put-decimal : tie.Need-slice-aggregate-put-decimal
-slice-aggregate-put-decimal c = search needs
-
 put-decimal-requires : tie.Need-put-decimal-requires
 put-decimal-requires c κs = let s = c .before in number-fits (s .args .number) (s .args .written) (search needs) (search needs)
-
-slice-aggregate-put-byte : tie.Need-slice-aggregate-put-byte
-slice-aggregate-put-byte c = search needs
 
 put-byte-requires : tie.Need-put-byte-requires
 put-byte-requires c κs =
@@ -49,17 +43,11 @@ put-byte-requires c κs =
     let s = start before in
     space-fits (s .args .number) (s .args .written) (search needs) (search needs) (before .put-decimal .last .0) (before .put-decimal .result) (number-text before)
 
-slice-aggregate-put-decimal-2 : tie.Need-slice-aggregate-put-decimal-2
-slice-aggregate-put-decimal-2 c = search needs
-
 put-decimal-requires-2 : tie.Need-put-decimal-requires-2
 put-decimal-requires-2 c κs =
     let before = c .before .before in
     let s = start (numbered before) in
     written-fits (s .args .number) (s .args .written) (search needs) (search needs) (before .put-byte .last .0) (before .put-byte .result) (space-text before)
-
-slice-aggregate-put-byte-2 : tie.Need-slice-aggregate-put-byte-2
-slice-aggregate-put-byte-2 c = search needs
 
 put-byte-requires-2 : tie.Need-put-byte-requires-2
 put-byte-requires-2 c κs =
@@ -80,12 +68,12 @@ pub line-of-spec : {M : Type 1} → statement M
 line-of-spec =
     tie.close
     (tie.spec
-    slice-aggregate-put-decimal
+    (λ c. search needs)
     put-decimal-requires
-    slice-aggregate-put-byte
+    (λ c. search needs)
     put-byte-requires
-    slice-aggregate-put-decimal-2
+    (λ c. search needs)
     put-decimal-requires-2
-    slice-aggregate-put-byte-2
+    (λ c. search needs)
     put-byte-requires-2
     returns)
