@@ -1,4 +1,4 @@
-// Submit and step as whole calls: what is turned back, then the phases.
+// Submit and step: refusals, then phases.
 ghost use mathlib.Core.Path.{_≡_};
 ghost use Prim.Native.Nat.{_^_, _<_};
 ghost use Rattle.protocol.specs.Signatures.{checks};
@@ -6,14 +6,14 @@ ghost use Rattle.protocol.specs.Calls as calls;
 ghost use Rattle.confirmer.specs.Returns.{answered};
 use protocol::Record;
 use protocol::Stepped;
-use steps::steps::Phase;
-use steps::steps::step_phase;
-use steps::steps::submit_phase;
+use steps::phases::Phase;
+use steps::phases::step_phase;
+use steps::phases::submit_phase;
 use validate::calls::own_refusal;
 use validate::calls::record_refusal;
 use validate::calls::step_refusal;
 
-// What a call answers that is turned back: its number, no byte written, and the record as it was.
+// Answer of a refused call: its number, no byte written, the record as it was.
 fn turned_back(number: u32, r: Record) -> Stepped
     ensures { λ a. ⌜ a ≡ answered number 0 r ⌝ }
 {
@@ -24,7 +24,7 @@ fn turned_back(number: u32, r: Record) -> Stepped
     }
 }
 
-// What a call answers that isn't: the bytes written, and the record that its phases came to.
+// Answer of a call that isn't refused: the bytes written, the record after its phases.
 fn done(p: Phase) -> Stepped
     requires { ⌜ p .at < 2 ^ 32 ⌝ }
     ensures { λ a. ⌜ a ≡ answered 0 (p .at) (p .unit) ⌝ }

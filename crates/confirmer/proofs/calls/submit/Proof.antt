@@ -1,15 +1,79 @@
 -- `confirmer::calls::submit` meets its contract.
 use mathlib.Core.Path.{sym, _∙_}
+use mathlib.Core.List.{List}
+use Prim.Native.Nat.{ℕ}
 use denote.Ref.{now}
-use lib.Seq.{length-take-le}
 use Rattle.protocol.specs.Signatures.{checks}
+use Rattle.protocol.specs.Refusals.{Checks, Condition, submitConditions}
 use Rattle.protocol.specs.Calls.{submit}
-use Rattle.protocol.specs.Step.{submitted}
-use Rattle.confirmer.specs.Refused.{given, given-ready, ownConditions, own-unrefused, right-lengths}
-use Rattle.confirmer.specs.Returns.{room-within, part-ready, end-small, refused-given, refused-rest, does, submit-is}
+use Rattle.protocol.specs.Step.{State, submitted}
+use Rattle.protocol.specs.declared.Record.{Record}
+use Rattle.validate.specs.Calls.{ownConditions, own-passed}
+use Rattle.confirmer.specs.Returns.{Passed, ready, given, part-within, part-length, part-ready, end-small, refused-by-record, refused-by-rest, does}
 use borrow.Author.Needs.{needs}
 use Rattle.confirmer.proofs.calls.submit.Statement.{statement}
 use Rattle.confirmer.proofs.calls.submit.Tie as tie
+
+-- what the call is given, its conditions after the record's, and its phases
+module _ (s : tie.Start) where
+  abbrev r : Record
+  r = s .args .r
+
+  abbrev keys : List ℕ
+  keys = now (s .args .keys)
+
+  abbrev store : List ℕ
+  store = now (s .args .store)
+
+  abbrev out : List ℕ
+  out = now (s .args .out)
+
+  abbrev value : List ℕ
+  value = now (s .args .value)
+
+  abbrev signature : List ℕ
+  signature = now (s .args .signature)
+
+  abbrev check : Checks
+  check = checks keys (r .round)
+
+  abbrev rest : List Condition
+  rest = ownConditions check r value signature
+
+  abbrev phase : State → State
+  phase = submitted value signature
+
+-- ---- points of the call
+
+abbrev started : tie.After-record-refusal → tie.Start
+started c = c .before .before .before .before .before .before .before .before
+
+-- the record's conditions refuse nothing
+abbrev begun : tie.Else1 → tie.Start
+begun c = started (c .before)
+
+passed : (c : tie.Else1) → let s = begun c in Passed (keys s) (r s) (store s) (out s)
+passed c = sym (c .if1 .left) ∙ c .before .record-refusal .ensures
+
+-- the own submission's conditions refuse nothing
+abbrev tested : tie.Else2 → tie.After-own-refusal
+tested c = c .before .before
+
+abbrev taken : tie.Else2 → tie.Else1
+taken c = tested c .before
+
+-- a part of out is lent
+abbrev before-room : tie.After-out-length → tie.Else1
+before-room c = taken (c .before)
+
+abbrev lent : tie.After-submit-phase-arg2 → tie.After-out-length
+lent c = c .before .before
+
+-- the phases are done
+abbrev acted : tie.After-slice-known4 → tie.After-submit-phase
+acted c = c .before .before .before .before
+
+-- ---- needs
 
 record-refusal-requires : tie.Need-record-refusal-requires
 record-refusal-requires c κs = search needs
@@ -24,27 +88,16 @@ same-length-2 : tie.Need-same-length-2
 same-length-2 c = search needs
 
 returns : tie.Need-returns
+unfolding submit submitConditions ownConditions
 returns c =
-    let args = c .before .before .before .before .before .before .before .before .before .before .args in
-    let keys = now (args .keys) in
-    let store = now (args .store) in
-    let out = now (args .out) in
-    let check = checks keys (args .r .round) in
-    let value = now (args .value) in
-    let signature = now (args .signature) in
-    let first = c .before .before .record-refusal in
-    let left = refused-given keys (args .r) store out (ownConditions check (args .r) value signature) (submitted value signature) (submit check keys (args .r) store value signature out) (submit-is check keys (args .r) store value signature out) (first .result) (first .ensures) (c .before .if1 .taken) in
-    (c .turned-back .ensures ∙ left .0, left .1, left .2)
+    let first = c .before .before in
+    let s = started first in
+    refused-by-record (keys s) (r s) (store s) (out s) (rest s) (phase s) (c .turned-back .result) (first .record-refusal .result) (first .record-refusal .ensures) (c .before .if1 .taken) (c .turned-back .ensures)
 
 own-refusal-requires : tie.Need-own-refusal-requires
 own-refusal-requires c κs =
-    let args = c .before .before .before .before .before .before .before .before .before .args in
-    let keys = now (args .keys) in
-    let store = now (args .store) in
-    let out = now (args .out) in
-    let first = c .before .record-refusal in
-    let g = given keys (args .r) store out (first .result) (first .ensures) (c .if1 .left) in
-    (given-ready keys (args .r) store out g .possible .range, g .table)
+    let s = begun c in
+    (ready (keys s) (r s) (store s) (out s) (passed c) .possible .range, given (keys s) (r s) (store s) (out s) (passed c))
 
 turned-back-requires-2 : tie.Need-turned-back-requires-2
 turned-back-requires-2 c κs = search needs
@@ -56,84 +109,45 @@ same-length-4 : tie.Need-same-length-4
 same-length-4 c = search needs
 
 returns-2 : tie.Need-returns-2
+unfolding submit submitConditions ownConditions
 returns-2 c =
-    let args = c .before .before .before .before .before .before .before .before .before .before .before .before .args in
-    let keys = now (args .keys) in
-    let store = now (args .store) in
-    let out = now (args .out) in
-    let check = checks keys (args .r .round) in
-    let value = now (args .value) in
-    let signature = now (args .signature) in
-    let first = c .before .before .before .before .record-refusal in
-    let g = given keys (args .r) store out (first .result) (first .ensures) (c .before .before .before .if1 .left) in
-    let later = c .before .before .own-refusal in
-    let left = refused-rest keys (args .r) store out (ownConditions check (args .r) value signature) (submitted value signature) (submit check keys (args .r) store value signature out) (submit-is check keys (args .r) store value signature out) g (later .result) (later .ensures) (c .before .if2 .taken) in
-    (c .turned-back2 .ensures ∙ left .0, left .1, left .2)
+    let later = c .before .before .before in
+    let first = later .before in
+    let s = begun first in
+    refused-by-rest (keys s) (r s) (store s) (out s) (rest s) (phase s) (c .turned-back2 .result) (later .own-refusal .result .number) (passed first) (later .own-refusal .ensures) (c .before .if2 .taken) (c .turned-back2 .ensures)
 
 out-length-requires : tie.Need-out-length-requires
 out-length-requires c κs =
-    let args = c .before .before .before .before .before .before .before .before .before .before .before .args in
-    let keys = now (args .keys) in
-    let store = now (args .store) in
-    let out = now (args .out) in
-    let first = c .before .before .before .record-refusal in
-    let g = given keys (args .r) store out (first .result) (first .ensures) (c .before .before .if1 .left) in
-    let range = given-ready keys (args .r) store out g .possible .range in
+    let s = begun (taken c) in
+    let range = ready (keys s) (r s) (store s) (out s) (passed (taken c)) .possible .range in
     (range .some, range .most)
 
 slice-relend-prefix-submit-phase : tie.Need-slice-relend-prefix-submit-phase
 slice-relend-prefix-submit-phase c =
-    let args = c .before .before .before .before .before .before .before .before .before .before .before .before .before .args in
-    let keys = now (args .keys) in
-    let store = now (args .store) in
-    let out = now (args .out) in
-    let first = c .before .before .before .before .before .record-refusal in
-    let g = given keys (args .r) store out (first .result) (first .ensures) (c .before .before .before .before .if1 .left) in
-    let room = c .before .out-length in
-    room-within keys (args .r) store out (room .result) (room .ensures) g
+    let room = c .before in
+    let s = begun (before-room room) in
+    part-within (keys s) (r s) (store s) (out s) (passed (before-room room)) (room .out-length .result) (room .out-length .ensures)
 
 slice-aggregate-submit-phase : tie.Need-slice-aggregate-submit-phase
 slice-aggregate-submit-phase c =
-    let args = c .before .before .before .before .before .before .before .before .before .before .before .before .before .before .args in
-    let keys = now (args .keys) in
-    let store = now (args .store) in
-    let out = now (args .out) in
-    let first = c .before .before .before .before .before .before .record-refusal in
-    let g = given keys (args .r) store out (first .result) (first .ensures) (c .before .before .before .before .before .if1 .left) in
-    let room = c .before .before .out-length in
-    sym (length-take-le (room .result) out (room-within keys (args .r) store out (room .result) (room .ensures) g))
+    let room = lent c in
+    let s = begun (before-room room) in
+    part-length (keys s) (r s) (store s) (out s) (passed (before-room room)) (room .out-length .result) (room .out-length .ensures)
 
 submit-phase-requires : tie.Need-submit-phase-requires
 submit-phase-requires c κs =
-    let args = c .before .before .before .before .before .before .before .before .before .before .before .before .before .before .args in
-    let keys = now (args .keys) in
-    let store = now (args .store) in
-    let out = now (args .out) in
-    let check = checks keys (args .r .round) in
-    let value = now (args .value) in
-    let signature = now (args .signature) in
-    let first = c .before .before .before .before .before .before .record-refusal in
-    let g = given keys (args .r) store out (first .result) (first .ensures) (c .before .before .before .before .before .if1 .left) in
-    let room = c .before .before .out-length in
-    let later = c .before .before .before .before .own-refusal in
-    let sound = own-unrefused check (args .r) value signature (later .result) (later .ensures) (c .before .before .before .if2 .left) in
-    let long = right-lengths value signature (sound .1) in
-    (part-ready keys (args .r) store out (room .result) (room .ensures) g, sound .0, long .0, long .1)
+    let room = lent c in
+    let s = begun (before-room room) in
+    let own = tested (room .before) .own-refusal in
+    let right = own-passed (check s) (r s) (value s) (signature s) (own .result .number) (own .ensures) (room .before .if2 .left) in
+    (part-ready (keys s) (r s) (store s) (out s) (passed (before-room room)) (room .out-length .result) (room .out-length .ensures), right .0, right .1, right .2)
 
 done-requires : tie.Need-done-requires
 done-requires c κs =
-    let args = c .before .before .before .before .before .before .before .before .before .before .before .before .before .before .before .before .before .before .before .args in
-    let keys = now (args .keys) in
-    let store = now (args .store) in
-    let out = now (args .out) in
-    let check = checks keys (args .r .round) in
-    let value = now (args .value) in
-    let signature = now (args .signature) in
-    let first = c .before .before .before .before .before .before .before .before .before .before .before .record-refusal in
-    let g = given keys (args .r) store out (first .result) (first .ensures) (c .before .before .before .before .before .before .before .before .before .before .if1 .left) in
-    let room = c .before .before .before .before .before .before .before .out-length in
-    let did = c .before .before .before .before .submit-phase in
-    end-small (submitted value signature) keys (args .r) store out (room .result) (room .ensures) g (did .result .unit) (did .last .1 .0) (did .last .1 .1 .0) (did .result .at) (did .ensures) (did .kept .1 .1 .0)
+    let did = acted c .submit-phase in
+    let room = lent (acted c .before) in
+    let s = begun (before-room room) in
+    end-small (keys s) (r s) (store s) (out s) (passed (before-room room)) (room .out-length .result) (room .out-length .ensures) (phase s) (did .result .unit) (did .last .1 .0) (did .last .1 .1 .0) (did .result .at) (did .ensures) (did .kept .1 .1 .0)
 
 same-length-5 : tie.Need-same-length-5
 same-length-5 c = search needs
@@ -142,21 +156,14 @@ same-length-6 : tie.Need-same-length-6
 same-length-6 c = search needs
 
 returns-3 : tie.Need-returns-3
+unfolding submit submitConditions ownConditions
 returns-3 c =
-    let args = c .before .before .before .before .before .before .before .before .before .before .before .before .before .before .before .before .before .before .before .before .args in
-    let keys = now (args .keys) in
-    let store = now (args .store) in
-    let out = now (args .out) in
-    let check = checks keys (args .r .round) in
-    let value = now (args .value) in
-    let signature = now (args .signature) in
-    let first = c .before .before .before .before .before .before .before .before .before .before .before .before .record-refusal in
-    let g = given keys (args .r) store out (first .result) (first .ensures) (c .before .before .before .before .before .before .before .before .before .before .before .if1 .left) in
-    let room = c .before .before .before .before .before .before .before .before .out-length in
-    let did = c .before .before .before .before .before .submit-phase in
-    let later = c .before .before .before .before .before .before .before .before .before .before .own-refusal in
-    let left = does keys (args .r) store out (ownConditions check (args .r) value signature) (submitted value signature) (submit check keys (args .r) store value signature out) (submit-is check keys (args .r) store value signature out) g (later .result) (later .ensures) (c .before .before .before .before .before .before .before .before .before .if2 .left) (room .result) (room .ensures) (did .result .unit) (did .last .1 .0) (did .last .1 .1 .0) (did .result .at) (did .ensures) (did .kept .1 .1 .0) in
-    (c .done .ensures ∙ left .0, left .1, left .2)
+    let did = acted (c .before) .submit-phase in
+    let room = lent (acted (c .before) .before) in
+    let later = tested (room .before) .own-refusal in
+    let first = before-room room in
+    let s = begun first in
+    does (keys s) (r s) (store s) (out s) (rest s) (phase s) (c .done .result) (later .result .number) (passed first) (later .ensures) (room .before .if2 .left) (room .out-length .result) (room .out-length .ensures) (did .result .unit) (did .last .1 .0) (did .last .1 .1 .0) (did .result .at) (did .ensures) (did .kept .1 .1 .0) (c .done .ensures)
 
 pub submit-spec : {M : Type 1} → statement M
 submit-spec =
