@@ -75,18 +75,6 @@ acted c = c .before .before .before .before
 
 -- ---- needs
 
-record-refusal-requires : tie.Need-record-refusal-requires
-record-refusal-requires c κs = search needs
-
-turned-back-requires : tie.Need-turned-back-requires
-turned-back-requires c κs = search needs
-
-same-length : tie.Need-same-length
-same-length c = search needs
-
-same-length-2 : tie.Need-same-length-2
-same-length-2 c = search needs
-
 returns : tie.Need-returns
 unfolding submit submitConditions ownConditions
 returns c =
@@ -98,15 +86,6 @@ own-refusal-requires : tie.Need-own-refusal-requires
 own-refusal-requires c κs =
     let s = begun c in
     (ready (keys s) (r s) (store s) (out s) (passed c) .possible .range, given (keys s) (r s) (store s) (out s) (passed c))
-
-turned-back-requires-2 : tie.Need-turned-back-requires-2
-turned-back-requires-2 c κs = search needs
-
-same-length-3 : tie.Need-same-length-3
-same-length-3 c = search needs
-
-same-length-4 : tie.Need-same-length-4
-same-length-4 c = search needs
 
 returns-2 : tie.Need-returns-2
 unfolding submit submitConditions ownConditions
@@ -149,12 +128,6 @@ done-requires c κs =
     let s = begun (before-room room) in
     end-small (keys s) (r s) (store s) (out s) (passed (before-room room)) (room .out-length .result) (room .out-length .ensures) (phase s) (did .result .unit) (did .last .1 .0) (did .last .1 .1 .0) (did .result .at) (did .ensures) (did .kept .1 .1 .0)
 
-same-length-5 : tie.Need-same-length-5
-same-length-5 c = search needs
-
-same-length-6 : tie.Need-same-length-6
-same-length-6 c = search needs
-
 returns-3 : tie.Need-returns-3
 unfolding submit submitConditions ownConditions
 returns-3 c =
@@ -169,21 +142,21 @@ pub submit-spec : {M : Type 1} → statement M
 submit-spec =
     tie.close
     (tie.spec
-    record-refusal-requires
-    turned-back-requires
-    same-length
-    same-length-2
+    (λ c κs. search needs)
+    (λ c κs. search needs)
+    (λ c. search needs)
+    (λ c. search needs)
     returns
     own-refusal-requires
-    turned-back-requires-2
-    same-length-3
-    same-length-4
+    (λ c κs. search needs)
+    (λ c. search needs)
+    (λ c. search needs)
     returns-2
     out-length-requires
     slice-relend-prefix-submit-phase
     slice-aggregate-submit-phase
     submit-phase-requires
     done-requires
-    same-length-5
-    same-length-6
+    (λ c. search needs)
+    (λ c. search needs)
     returns-3)

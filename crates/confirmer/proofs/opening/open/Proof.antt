@@ -8,20 +8,11 @@ use Rattle.confirmer.proofs.opening.open.Tie as tie
 abbrev started : tie.After-opening-refusal → tie.Start
 started c = c .before .before
 
-opening-refusal-requires : tie.Need-opening-refusal-requires
-opening-refusal-requires c κs = search needs
-
-fresh-requires : tie.Need-fresh-requires
-fresh-requires c κs = search needs
-
 returns : tie.Need-returns
 returns c =
     let tested = c .before .before in
     let args = started tested .args in
     open-opened (args .n) (args .seat) (args .round) (now (args .keys)) (tested .opening-refusal .result) (c .fresh .result) (tested .opening-refusal .ensures) (c .before .if1 .taken) (c .fresh .ensures)
-
-fresh-requires-2 : tie.Need-fresh-requires-2
-fresh-requires-2 c κs = search needs
 
 returns-2 : tie.Need-returns-2
 returns-2 c =
@@ -31,4 +22,4 @@ returns-2 c =
 
 pub open-spec : {M : Type 1} → statement M
 open-spec =
-    tie.close (tie.spec opening-refusal-requires fresh-requires returns fresh-requires-2 returns-2)
+    tie.close (tie.spec (λ c κs. search needs) (λ c κs. search needs) returns (λ c κs. search needs) returns-2)
