@@ -45,14 +45,15 @@ outside-refusal-requires c κs = search needs
 
 returns : tie.Need-returns
 returns c =
-    let s = started-at (c .before) in
-    outside-refused (call s) (m s) (c .before .outside-refusal .ensures) (c .if1 .taken)
+    let o = c .before in
+    let s = started-at o in
+    outside-refused (call s) (m s) (o .outside-refusal .ensures) (c .if1 .taken)
 
 classify-requires : tie.Need-classify-requires
 classify-requires c κs = let g = given (call (started c)) (clear c) in (g .some, g .most)
 
 evidence-refusal-requires : tie.Need-evidence-refusal-requires
-evidence-refusal-requires c κs = (given (call (started (c .before))) (clear (c .before)), kind-is c)
+evidence-refusal-requires c κs = let outside = c .before in (given (call (started outside)) (clear outside), kind-is c)
 
 returns-2 : tie.Need-returns-2
 returns-2 c =

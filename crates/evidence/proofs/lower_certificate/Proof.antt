@@ -42,8 +42,9 @@ nothing-requires c κs = search needs
 returns : tie.Need-returns
 returns c =
     let refused = c .before in
-    let s = started-at (refused .before) in
-    lower-outside (call s) (first s) (second s) (c .nothing .ensures) (refused .before .outside-refusal .ensures) (refused .if1 .taken)
+    let o = refused .before in
+    let s = started-at o in
+    lower-outside (call s) (first s) (second s) (c .nothing .ensures) (o .outside-refusal .ensures) (refused .if1 .taken)
 
 two-refusal-requires : tie.Need-two-refusal-requires
 two-refusal-requires c κs = given (call (started c)) (clear c)
@@ -66,17 +67,19 @@ first-is-lower-requires c κs =
 
 returns-3 : tie.Need-returns-3
 returns-3 c =
-    let right = c .before .before in
+    let compared = c .before in
+    let right = compared .before in
     let v = verdict (right .before) in
     let s = started (v .before) in
-    first-lower (call s) (first s) (second s) (clear (v .before)) (v .two-refusal .ensures) (right .if2 .left) (c .before .first-is-lower .ensures) (s .args .first) (s .args .second) (c .if3 .taken)
+    first-lower (call s) (first s) (second s) (clear (v .before)) (v .two-refusal .ensures) (right .if2 .left) (compared .first-is-lower .ensures) (s .args .first) (s .args .second) (c .if3 .taken)
 
 returns-4 : tie.Need-returns-4
 returns-4 c =
-    let right = c .before .before in
+    let compared = c .before in
+    let right = compared .before in
     let v = verdict (right .before) in
     let s = started (v .before) in
-    second-lower (call s) (first s) (second s) (clear (v .before)) (v .two-refusal .ensures) (right .if2 .left) (c .before .first-is-lower .ensures) (s .args .first) (s .args .second) (c .if3 .left)
+    second-lower (call s) (first s) (second s) (clear (v .before)) (v .two-refusal .ensures) (right .if2 .left) (compared .first-is-lower .ensures) (s .args .first) (s .args .second) (c .if3 .left)
 
 pub lower-certificate-spec : {M : Type 1} → statement M
 lower-certificate-spec =

@@ -38,16 +38,16 @@ clear c = sym (c .before .outside-refusal .ensures) ∙ c .if1 .left
 abbrev stated : tie.After-short-out → tie.After-evidence-out-length
 stated c = c .before .before
 
-short : (c : tie.After-short-out) → let s = started (stated c .before) in c .short-out .result ≡ shortOut (evidenceOutLength (s .args .n)) (out s)
+abbrev passed : tie.After-short-out → tie.Else1
+passed c = stated c .before
+
+short : (c : tie.After-short-out) → let s = started (passed c) in c .short-out .result ≡ shortOut (evidenceOutLength (s .args .n)) (out s)
 short c =
-    let s = started (stated c .before) in
+    let s = started (passed c) in
     c .short-out .ensures ∙ ap (λ x. shortOut x (out s)) (stated c .evidence-out-length .ensures)
 
-abbrev passed : tie.Else2 → tie.Else1
-passed c = stated (c .before) .before
-
 -- out has the length stated
-roomy : (c : tie.Else2) → let s = started (passed c) in shortOut (evidenceOutLength (s .args .n)) (out s) ≡ false
+roomy : (c : tie.Else2) → let s = started (passed (c .before)) in shortOut (evidenceOutLength (s .args .n)) (out s) ≡ false
 roomy c = sym (short (c .before)) ∙ c .if2 .left
 
 -- the verdict on the two certificates
@@ -59,8 +59,9 @@ outside-refusal-requires c κs = search needs
 
 returns : tie.Need-returns
 returns c =
-    let s = started-at (c .before) in
-    making-outside (call s) (first s) (second s) (out s) (c .before .outside-refusal .ensures) (c .if1 .taken)
+    let o = c .before in
+    let s = started-at o in
+    making-outside (call s) (first s) (second s) (out s) (o .outside-refusal .ensures) (c .if1 .taken)
 
 evidence-out-length-requires : tie.Need-evidence-out-length-requires
 evidence-out-length-requires c κs = let g = given (call (started c)) (clear c) in (g .some, g .most)
@@ -73,12 +74,12 @@ same-length c = search needs
 
 returns-2 : tie.Need-returns-2
 returns-2 c =
-    let passed = stated (c .before) .before in
-    let s = started passed in
-    making-short (call s) (first s) (second s) (out s) (clear passed) (sym (short (c .before)) ∙ c .if2 .taken)
+    let tested = c .before in
+    let s = started (passed tested) in
+    making-short (call s) (first s) (second s) (out s) (clear (passed tested)) (sym (short tested) ∙ c .if2 .taken)
 
 two-refusal-requires : tie.Need-two-refusal-requires
-two-refusal-requires c κs = given (call (started (passed c))) (clear (passed c))
+two-refusal-requires c κs = let outside = passed (c .before) in given (call (started outside)) (clear outside)
 
 same-length-2 : tie.Need-same-length-2
 same-length-2 c = search needs
@@ -87,16 +88,18 @@ returns-3 : tie.Need-returns-3
 returns-3 c =
     let v = verdict (c .before) in
     let room = v .before in
-    let s = started (passed room) in
-    making-refused (call s) (first s) (second s) (out s) (clear (passed room)) (roomy room) (v .two-refusal .ensures) (c .if3 .taken)
+    let outside = passed (room .before) in
+    let s = started outside in
+    making-refused (call s) (first s) (second s) (out s) (clear outside) (roomy room) (v .two-refusal .ensures) (c .if3 .taken)
 
 write-conflict-requires : tie.Need-write-conflict-requires
 write-conflict-requires c κs =
     let right = c .before in
     let v = verdict (right .before) in
     let room = v .before in
-    let s = started (passed room) in
-    let g = given (call s) (clear (passed room)) in
+    let outside = passed (room .before) in
+    let s = started outside in
+    let g = given (call s) (clear outside) in
     (g .some, g .most, conflicting (call s) (first s) (second s) (v .two-refusal .ensures) (right .if3 .left), roomy-out (call s .n) (out s) (roomy room))
 
 same-length-3 : tie.Need-same-length-3
@@ -108,8 +111,9 @@ returns-4 c =
     let right = done .before .before in
     let v = verdict (right .before) in
     let room = v .before in
-    let s = started (passed room) in
-    making-done (call s) (first s) (second s) (out s) (clear (passed room)) (roomy room) (v .two-refusal .ensures) (right .if3 .left) (done .write-conflict .ensures)
+    let outside = passed (room .before) in
+    let s = started outside in
+    making-done (call s) (first s) (second s) (out s) (clear outside) (roomy room) (v .two-refusal .ensures) (right .if3 .left) (done .write-conflict .ensures)
 
 pub make-evidence-spec : {M : Type 1} → statement M
 make-evidence-spec =

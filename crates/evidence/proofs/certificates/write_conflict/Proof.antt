@@ -28,12 +28,15 @@ module _ (start : tie.Start) where
 abbrev started : tie.After-slice-known → tie.Start
 started c = c .before .before .before
 
--- the values, and the sets of seats
-abbrev values : tie.After-entry-set2 → tie.After-certificate-value2
-values c = c .before .before
-
+-- the sets of seats, and the values
 abbrev sets : tie.After-vb → tie.After-entry-set2
 sets c = c .before .before .before
+
+abbrev first-set : tie.After-entry-set2 → tie.After-entry-set
+first-set c = c .before
+
+abbrev values : tie.After-entry-set2 → tie.After-certificate-value2
+values c = first-set c .before
 
 abbrev given : tie.After-entry-set2 → tie.Start
 given c = started (values c .before .before)
@@ -41,6 +44,9 @@ given c = started (values c .before .before)
 -- what was written
 abbrev written : tie.After-slice-known2 → tie.After-write-evidence
 written c = c .before .before
+
+abbrev sources : tie.After-slice-known2 → tie.After-entry-set2
+sources c = sets (written c .before)
 
 certificate-value-requires : tie.Need-certificate-value-requires
 certificate-value-requires c κs = let s = started c in both-taken (first s) (second s) (s .pre .2) .0
@@ -71,7 +77,7 @@ write-evidence-requires c κs =
     let b = sets c in
     let s = given b in
     let conflict = s .pre .2 in
-    let sa = b .before .entry-set in
+    let sa = first-set b .entry-set in
     let sb = b .entry-set2 in (
       s .pre .1,
       search needs,
@@ -84,25 +90,23 @@ write-evidence-requires c κs =
 cast-result : tie.Need-cast-result
 unfolding evidenceLength evidenceEntryAt evidenceEntryLength signatureLength k
 cast-result c =
-    let w = written c in
-    let b = sets (w .before) in
+    let b = sources c in
     let s = given b in
-    let sa = b .before .entry-set in
-    omega (arith, size-shared-le (sa .result) (b .entry-set2 .result), sized (first s) (s .pre .2 .first) (sa .ensures), w .write-evidence .ensures .1)
+    let sa = first-set b .entry-set in
+    omega (arith, size-shared-le (sa .result) (b .entry-set2 .result), sized (first s) (s .pre .2 .first) (sa .ensures), written c .write-evidence .ensures .1)
 
 same-length : tie.Need-same-length
 same-length c = search needs
 
 returns : tie.Need-returns
 returns c =
-    let w = written c in
-    let b = sets (w .before) in
+    let b = sources c in
     let v = values b in
     let s = given b in
     let conflict = s .pre .2 in
-    let ca = certificate-is (first s) (conflict .first) (b .before .entry-set .ensures) (v .before .certificate-value .ensures) in
+    let ca = certificate-is (first s) (conflict .first) (first-set b .entry-set .ensures) (v .before .certificate-value .ensures) in
     let cb = certificate-is (second s) (conflict .second) (b .entry-set2 .ensures) (v .certificate-value2 .ensures) in
-    wrote-evidence (n s) (s .args .round) ca cb (w .write-evidence .ensures .0)
+    wrote-evidence (n s) (s .args .round) ca cb (written c .write-evidence .ensures .0)
 
 pub write-conflict-spec : {M : Type 1} → statement M
 write-conflict-spec =
