@@ -7,12 +7,13 @@ ghost use Rattle.protocol.specs.Values.{isLower};
 ghost use Rattle.protocol.specs.Layout.{evidenceOutLength};
 ghost use Rattle.protocol.specs.Message.{read, render};
 ghost use Rattle.protocol.specs.Certificate.{certificateIn, evidenceOf};
-ghost use Rattle.wire.specs.Writing.{Wrote};
+ghost use Rattle.wire_write.specs.Writing.{Wrote};
 ghost use Rattle.validate.specs.Entries.{FullTaken};
 ghost use Rattle.validate.specs.Calls.{Conflict};
+use store::sources::Place;
+use store::sources::Source;
 use validate::conflict::certificate_value;
 use wire::read::Kind;
-use wire::sources::Source;
 
 // Whether the first has the lower value.
 pub(crate) fn first_is_lower(n: u32, first: &[u8], second: &[u8]) -> bool
@@ -32,15 +33,13 @@ pub(crate) fn write_conflict(n: u32, round: u32, first: &[u8], second: &[u8], ou
     let va = certificate_value(n, first);
     let vb = certificate_value(n, second);
     let a = Source {
-        full: true,
-        bank: 0,
+        place: Place::Entries,
         seats: wire::read::entry_set(n, Kind::Full, first),
     };
     let b = Source {
-        full: true,
-        bank: 0,
+        place: Place::Entries,
         seats: wire::read::entry_set(n, Kind::Full, second),
     };
-    let end = wire::write::write_evidence(out, 0, n, round, &va, a, first, &vb, b, second);
+    let end = wire_write::write_evidence(out, 0, n, round, &va, a, first, &vb, b, second);
     end as u32
 }

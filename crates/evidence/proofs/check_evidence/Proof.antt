@@ -1,98 +1,79 @@
 -- `evidence::check_evidence` meets its contract.
-use mathlib.Core.Path.{_≡_}
+use mathlib.Core.Path.{_≡_, sym, _∙_}
 use mathlib.Core.List.{List}
 use Prim.Native.Nat.{ℕ}
 use denote.Ref.{now}
-use Rattle.protocol.specs.Signatures.{checks}
-use Rattle.fleet.specs.Laws.{size-most, size-some}
 use Rattle.protocol.specs.Message.{read}
-use Rattle.protocol.specs.Refusals.{Checks, isEvidence}
+use Rattle.wire.specs.Reading.{kindOf}
 use Rattle.wire.specs.KindLaws.{kind-told}
-use Rattle.validate.specs.Conditions.{Given, outside-passed}
-use Rattle.evidence.specs.Kinds.{evidence-told}
-use Rattle.evidence.specs.Returns.{outside-refused, form-refused, form-right}
+use Rattle.validate.specs.Calls.{pack-formed}
+use Rattle.evidence.specs.Passed.{Call, check, Clear, given}
+use Rattle.evidence.specs.Returns.{outside-refused, pack-refused, accepted}
 use borrow.Author.Needs.{needs}
 use Rattle.evidence.proofs.check_evidence.Statement.{statement}
 use Rattle.evidence.proofs.check_evidence.Tie as tie
 
 -- what the call is given
-module _ (start : tie.Start) where
-  abbrev n : ℕ
-  n = start .args .n
+abbrev call : tie.Start → Call
+call s = record { n = s .args .n; round = s .args .round; keys = now (s .args .keys) }
 
-  abbrev round : ℕ
-  round = start .args .round
+abbrev m : tie.Start → List ℕ
+m s = now (s .args .evidence)
 
-  abbrev keys : List ℕ
-  keys = now (start .args .keys)
+abbrev started-at : tie.After-outside-refusal → tie.Start
+started-at c = c .before .before .before
 
-  abbrev check : Checks
-  check = checks keys round
-
-  abbrev m : List ℕ
-  m = now (start .args .evidence)
-
-abbrev started : tie.After-outside-refusal → tie.Start
-started c = c .before .before .before
+abbrev started : tie.Else1 → tie.Start
+started c = started-at (c .before)
 
 -- n, round and key table pass
-given : (c : tie.Else1) → let s = started (c .before) in Given (n s) (round s) (keys s)
-given c =
-    let s = started (c .before) in
-    let outside = c .before .outside-refusal in
-    outside-passed (n s) (round s) (outside .result) (keys s) (outside .ensures) (c .if1 .left)
+clear : (c : tie.Else1) → Clear (call (started c))
+clear c = sym (c .before .outside-refusal .ensures) ∙ c .if1 .left
 
-abbrev after-outside : tie.After-form-refusal → tie.Else1
-after-outside c = c .before .before .before
+kind-is : (c : tie.After-classify) → let s = started (c .before) in c .classify .result ≡ kindOf (read (s .args .n) (m s))
+kind-is c = kind-told _ _ (c .classify .ensures)
 
--- the message is taken if it is an EVIDENCE
-taken-is : (c : tie.After-form-refusal) → let s = started (after-outside c .before) in c .before .is-evidence .result ≡ isEvidence (read (n s) (m s))
-taken-is c =
-    let s = started (after-outside c .before) in
-    let kind = c .before .before .classify in
-    let taken = c .before .is-evidence in
-    evidence-told (read (n s) (m s)) (kind .result) (kind-told _ _ (kind .ensures)) (taken .result) (taken .ensures)
+-- the message's verdict
+abbrev verdict : tie.After-struct-known → tie.After-evidence-refusal
+verdict c = c .before
+
+abbrev passed : tie.After-evidence-refusal → tie.Else1
+passed v = v .before .before
 
 outside-refusal-requires : tie.Need-outside-refusal-requires
 outside-refusal-requires c κs = search needs
 
 returns : tie.Need-returns
 returns c =
-    let s = started (c .before) in
-    let outside = c .before .outside-refusal in
-    outside-refused (check s) (n s) (round s) (keys s) (m s) (outside .result) (outside .ensures) (c .if1 .taken)
+    let o = c .before in
+    let s = started-at o in
+    outside-refused (call s) (m s) (o .outside-refusal .ensures) (c .if1 .taken)
 
 classify-requires : tie.Need-classify-requires
-classify-requires c κs =
-    let s = started (c .before) in
-    (size-some (n s) (given c .size), size-most (n s) (given c .size))
+classify-requires c κs = let g = given (call (started c)) (clear c) in (g .some, g .most)
 
-is-evidence-requires : tie.Need-is-evidence-requires
-is-evidence-requires c κs = search needs
-
-form-refusal-requires : tie.Need-form-refusal-requires
-form-refusal-requires c κs =
-    let passed = c .before .before in
-    let s = started (passed .before) in
-    (size-some (n s) (given passed .size), size-most (n s) (given passed .size), kind-told _ _ (c .before .classify .ensures))
+evidence-refusal-requires : tie.Need-evidence-refusal-requires
+evidence-refusal-requires c κs = let outside = c .before in (given (call (started outside)) (clear outside), kind-is c)
 
 returns-2 : tie.Need-returns-2
 returns-2 c =
-    let form = c .before .form-refusal in
-    let passed = after-outside (c .before) in
-    let s = started (passed .before) in
-    form-refused (check s) (n s) (round s) (keys s) (m s) (given passed) (form .result) (c .before .before .is-evidence .result) (taken-is (c .before)) (form .ensures) (c .if2 .taken)
+    let v = verdict (c .before) in
+    let s = started (passed v) in
+    pack-refused (call s) (m s) (clear (passed v)) (v .evidence-refusal .ensures) (c .if2 .taken)
 
-check-signatures-requires : tie.Need-check-signatures-requires
-check-signatures-requires c κs =
-    let form = c .before .form-refusal in
-    let passed = after-outside (c .before) in
-    let s = started (passed .before) in
-    let right = form-right (check s) (n s) (round s) (keys s) (m s) (given passed) (form .result) (c .before .before .is-evidence .result) (taken-is (c .before)) (form .ensures) (c .if2 .left) in
-    (kind-told _ _ (c .before .before .before .classify .ensures), given passed, right)
+entry-set-requires : tie.Need-entry-set-requires
+entry-set-requires c κs =
+    let v = verdict (c .before) in
+    let s = started (passed v) in
+    let g = given (call s) (clear (passed v)) in
+    let formed = pack-formed (check (call s)) (call s .n) (call s .round) (read (call s .n) (m s)) _ (v .evidence-refusal .ensures) (c .if2 .left) in
+    (g .some, g .most, kind-is (v .before), formed .known)
 
 returns-3 : tie.Need-returns-3
-returns-3 c = search needs
+returns-3 c =
+    let v = verdict (c .before .before) in
+    let s = started (passed v) in
+    accepted (call s) (m s) (clear (passed v)) (v .evidence-refusal .ensures) (c .before .if2 .left) (c .entry-set .ensures)
 
 pub check-evidence-spec : {M : Type 1} → statement M
 check-evidence-spec =
@@ -101,8 +82,7 @@ check-evidence-spec =
     outside-refusal-requires
     returns
     classify-requires
-    is-evidence-requires
-    form-refusal-requires
+    evidence-refusal-requires
     returns-2
-    check-signatures-requires
+    entry-set-requires
     returns-3)

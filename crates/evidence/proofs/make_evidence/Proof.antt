@@ -1,119 +1,119 @@
 -- `evidence::make_evidence` meets its contract.
-use mathlib.Core.Path.{_≡_, sym, _∙_}
+use mathlib.Core.Path.{_≡_, sym, ap, _∙_}
 use mathlib.Core.Bool.{false}
 use mathlib.Core.List.{List}
 use Prim.Native.Nat.{ℕ}
 use denote.Ref.{now}
-use Rattle.protocol.specs.Signatures.{checks}
-use Rattle.fleet.specs.Laws.{size-most, size-some}
 use Rattle.protocol.specs.Layout.{evidenceOutLength}
-use Rattle.protocol.specs.Message.{read}
-use Rattle.protocol.specs.Refusals.{Checks, shortOut}
-use Rattle.validate.specs.Conditions.{Given, outside-passed}
-use Rattle.evidence.specs.Certificates.{two-passed}
+use Rattle.protocol.specs.Refusals.{shortOut}
+use Rattle.evidence.specs.Passed.{Call, Clear, given, conflicting}
 use Rattle.evidence.specs.Making.{roomy-out, making-outside, making-short, making-refused, making-done}
 use borrow.Author.Needs.{needs}
 use Rattle.evidence.proofs.make_evidence.Statement.{statement}
 use Rattle.evidence.proofs.make_evidence.Tie as tie
 
 -- what the call is given
-module _ (start : tie.Start) where
-  abbrev n : ℕ
-  n = start .args .n
+abbrev call : tie.Start → Call
+call s = record { n = s .args .n; round = s .args .round; keys = now (s .args .keys) }
 
-  abbrev round : ℕ
-  round = start .args .round
+abbrev first : tie.Start → List ℕ
+first s = now (s .args .first)
 
-  abbrev keys : List ℕ
-  keys = now (start .args .keys)
+abbrev second : tie.Start → List ℕ
+second s = now (s .args .second)
 
-  abbrev check : Checks
-  check = checks keys round
+abbrev out : tie.Start → List ℕ
+out s = now (s .args .out)
 
-  abbrev first : List ℕ
-  first = now (start .args .first)
+abbrev started-at : tie.After-outside-refusal → tie.Start
+started-at c = c .before .before .before .before .before
 
-  abbrev second : List ℕ
-  second = now (start .args .second)
-
-  abbrev out : List ℕ
-  out = now (start .args .out)
-
-abbrev started : tie.After-outside-refusal → tie.Start
-started c = c .before .before .before .before .before
+abbrev started : tie.Else1 → tie.Start
+started c = started-at (c .before)
 
 -- n, round and key table pass
-given : (c : tie.Else1) → let s = started (c .before) in Given (n s) (round s) (keys s)
-given c =
-    let s = started (c .before) in
-    let outside = c .before .outside-refusal in
-    outside-passed (n s) (round s) (outside .result) (keys s) (outside .ensures) (c .if1 .left)
+clear : (c : tie.Else1) → Clear (call (started c))
+clear c = sym (c .before .outside-refusal .ensures) ∙ c .if1 .left
 
-abbrev after-outside : tie.After-is-short → tie.Else1
-after-outside c = c .before .before
+abbrev stated : tie.After-short-out → tie.After-evidence-out-length
+stated c = c .before .before
+
+abbrev passed : tie.After-short-out → tie.Else1
+passed c = stated c .before
+
+short : (c : tie.After-short-out) → let s = started (passed c) in c .short-out .result ≡ shortOut (evidenceOutLength (s .args .n)) (out s)
+short c =
+    let s = started (passed c) in
+    c .short-out .ensures ∙ ap (λ x. shortOut x (out s)) (stated c .evidence-out-length .ensures)
 
 -- out has the length stated
-roomy : (c : tie.Else2) → let s = started (after-outside (c .before) .before) in shortOut (evidenceOutLength (n s)) (out s) ≡ false
-roomy c = sym (c .before .is-short .ensures) ∙ c .if2 .left
+roomy : (c : tie.Else2) → let s = started (passed (c .before)) in shortOut (evidenceOutLength (s .args .n)) (out s) ≡ false
+roomy c = sym (short (c .before)) ∙ c .if2 .left
+
+-- the verdict on the two certificates
+abbrev verdict : tie.After-struct-known → tie.After-two-refusal
+verdict c = c .before
 
 outside-refusal-requires : tie.Need-outside-refusal-requires
 outside-refusal-requires c κs = search needs
 
 returns : tie.Need-returns
 returns c =
-    let outside = c .before .outside-refusal in
-    let s = started (c .before) in
-    making-outside (check s) (n s) (round s) (keys s) (first s) (second s) (out s) (outside .result) (outside .ensures) (c .if1 .taken)
+    let o = c .before in
+    let s = started-at o in
+    making-outside (call s) (first s) (second s) (out s) (o .outside-refusal .ensures) (c .if1 .taken)
 
-is-short-requires : tie.Need-is-short-requires
-is-short-requires c κs =
-    let passed = c .before in
-    let s = started (passed .before) in
-    (size-some (n s) (given passed .size), size-most (n s) (given passed .size))
+evidence-out-length-requires : tie.Need-evidence-out-length-requires
+evidence-out-length-requires c κs = let g = given (call (started c)) (clear c) in (g .some, g .most)
+
+short-out-requires : tie.Need-short-out-requires
+short-out-requires c κs = search needs
 
 same-length : tie.Need-same-length
 same-length c = search needs
 
 returns-2 : tie.Need-returns-2
 returns-2 c =
-    let passed = after-outside (c .before) in
-    let s = started (passed .before) in
-    making-short (check s) (n s) (round s) (keys s) (first s) (second s) (out s) (given passed) (sym (c .before .is-short .ensures) ∙ c .if2 .taken)
+    let tested = c .before in
+    let s = started (passed tested) in
+    making-short (call s) (first s) (second s) (out s) (clear (passed tested)) (sym (short tested) ∙ c .if2 .taken)
 
 two-refusal-requires : tie.Need-two-refusal-requires
-two-refusal-requires c κs = given (after-outside (c .before))
+two-refusal-requires c κs = let outside = passed (c .before) in given (call (started outside)) (clear outside)
 
 same-length-2 : tie.Need-same-length-2
 same-length-2 c = search needs
 
 returns-3 : tie.Need-returns-3
 returns-3 c =
-    let two = c .before .two-refusal in
-    let room = c .before .before in
-    let passed = after-outside (room .before) in
-    let s = started (passed .before) in
-    making-refused (check s) (n s) (round s) (keys s) (first s) (second s) (out s) (given passed) (roomy room) (two .result) (two .ensures) (c .if3 .taken)
+    let v = verdict (c .before) in
+    let room = v .before in
+    let outside = passed (room .before) in
+    let s = started outside in
+    making-refused (call s) (first s) (second s) (out s) (clear outside) (roomy room) (v .two-refusal .ensures) (c .if3 .taken)
 
 write-conflict-requires : tie.Need-write-conflict-requires
 write-conflict-requires c κs =
-    let room = c .before .before .before in
-    let passed = after-outside (room .before) in
-    let s = started (passed .before) in
-    let conflict = two-passed (check s) (n s) (round s) (read (n s) (first s)) (read (n s) (second s)) (sym (c .before .before .two-refusal .ensures) ∙ c .before .if3 .left) in
-    (size-some (n s) (given passed .size), size-most (n s) (given passed .size), conflict, roomy-out (n s) (out s) (roomy room))
+    let right = c .before in
+    let v = verdict (right .before) in
+    let room = v .before in
+    let outside = passed (room .before) in
+    let s = started outside in
+    let g = given (call s) (clear outside) in
+    (g .some, g .most, conflicting (call s) (first s) (second s) (v .two-refusal .ensures) (right .if3 .left), roomy-out (call s .n) (out s) (roomy room))
 
 same-length-3 : tie.Need-same-length-3
 same-length-3 c = search needs
 
 returns-4 : tie.Need-returns-4
 returns-4 c =
-    let done = c .before .before .write-conflict in
-    let right = c .before .before .before .before in
-    let two = right .before .two-refusal in
-    let room = right .before .before in
-    let passed = after-outside (room .before) in
-    let s = started (passed .before) in
-    making-done (check s) (n s) (round s) (keys s) (first s) (second s) (out s) (given passed) (roomy room) (two .result) (two .ensures) (right .if3 .left) (done .last .1 .1 .1 .1 .0) (done .result) (done .ensures)
+    let done = c .before .before in
+    let right = done .before .before in
+    let v = verdict (right .before) in
+    let room = v .before in
+    let outside = passed (room .before) in
+    let s = started outside in
+    making-done (call s) (first s) (second s) (out s) (clear outside) (roomy room) (v .two-refusal .ensures) (right .if3 .left) (done .write-conflict .ensures)
 
 pub make-evidence-spec : {M : Type 1} → statement M
 make-evidence-spec =
@@ -121,7 +121,8 @@ make-evidence-spec =
     (tie.spec
     outside-refusal-requires
     returns
-    is-short-requires
+    evidence-out-length-requires
+    short-out-requires
     same-length
     returns-2
     two-refusal-requires

@@ -1,59 +1,70 @@
 -- `evidence::certificates::write_conflict` meets its contract.
-use lib.ListN.{length}
+use mathlib.Core.List.{List}
+use Prim.Native.Nat.{ℕ}
 use native.Mathlib.Omega.{arith}
 use denote.Ref.{now}
 use Rattle.quorum.specs.Quorum.{k}
 use Rattle.quorum.specs.QuorumLaws.{size-shared-le}
-use Rattle.protocol.specs.Layout.{evidenceEntryLength, evidenceEntryAt, evidenceLength}
+use Rattle.protocol.specs.Layout.{signatureLength, evidenceEntryLength, evidenceEntryAt, evidenceLength}
 use Rattle.protocol.specs.Message.{read}
-use Rattle.protocol.specs.Certificate.{certificateIn}
-use Rattle.wire.specs.Sources.{certificateFrom}
-use Rattle.wire.specs.SourceLaws.{inFull}
-use Rattle.evidence.specs.Kinds.{full-kind}
-use Rattle.evidence.specs.Making.{value-inside, readable, sized, certificate-is, evidence-room, wrote-evidence}
+use Rattle.validate.specs.Messages.{full-kind}
+use Rattle.evidence.specs.Passed.{both-taken}
+use Rattle.evidence.specs.Making.{readable, sized, certificate-is, evidence-room, wrote-evidence}
 use borrow.Author.Needs.{needs}
 use Rattle.evidence.proofs.certificates.write_conflict.Statement.{statement}
 use Rattle.evidence.proofs.certificates.write_conflict.Tie as tie
 
-value-at-requires : tie.Need-value-at-requires
-value-at-requires c κs =
-    let start = c .before .before .before in
-    let n = start .args .n in
-    let round = start .args .round in
-    let a = now (start .args .first) in
-    let b = now (start .args .second) in
-    let conflict = start .pre .2 in
-    value-inside n round a (conflict .first)
+-- what the function is given
+module _ (start : tie.Start) where
+  abbrev n : ℕ
+  n = start .args .n
 
-value-at-requires-2 : tie.Need-value-at-requires-2
-value-at-requires-2 c κs =
-    let start = c .before .before .before .before in
-    let n = start .args .n in
-    let round = start .args .round in
-    let a = now (start .args .first) in
-    let b = now (start .args .second) in
-    let conflict = start .pre .2 in
-    value-inside n round b (conflict .second)
+  abbrev first : List ℕ
+  first = now (start .args .first)
+
+  abbrev second : List ℕ
+  second = now (start .args .second)
+
+abbrev started : tie.After-slice-known → tie.Start
+started c = c .before .before .before
+
+-- the sets of seats, and the values
+abbrev sets : tie.After-vb → tie.After-entry-set2
+sets c = c .before .before .before
+
+abbrev first-set : tie.After-entry-set2 → tie.After-entry-set
+first-set c = c .before
+
+abbrev values : tie.After-entry-set2 → tie.After-certificate-value2
+values c = first-set c .before
+
+abbrev given : tie.After-entry-set2 → tie.Start
+given c = started (values c .before .before)
+
+-- what was written
+abbrev written : tie.After-slice-known2 → tie.After-write-evidence
+written c = c .before .before
+
+abbrev sources : tie.After-slice-known2 → tie.After-entry-set2
+sources c = sets (written c .before)
+
+certificate-value-requires : tie.Need-certificate-value-requires
+certificate-value-requires c κs = let s = started c in both-taken (first s) (second s) (s .pre .2) .0
+
+certificate-value-requires-2 : tie.Need-certificate-value-requires-2
+certificate-value-requires-2 c κs = let s = started (c .before) in both-taken (first s) (second s) (s .pre .2) .1
 
 entry-set-requires : tie.Need-entry-set-requires
 entry-set-requires c κs =
-    let start = c .before .before .before .before .before in
-    let n = start .args .n in
-    let round = start .args .round in
-    let a = now (start .args .first) in
-    let b = now (start .args .second) in
-    let conflict = start .pre .2 in
-    (start .pre .0, start .pre .1, full-kind (read n a) (conflict .first .is), conflict .first .known)
+    let s = started (c .before .before) in
+    let f = s .pre .2 .first in
+    (s .pre .0, s .pre .1, full-kind (read (n s) (first s)) (f .is), f .known)
 
 entry-set-requires-2 : tie.Need-entry-set-requires-2
 entry-set-requires-2 c κs =
-    let start = c .before .before .before .before .before .before in
-    let n = start .args .n in
-    let round = start .args .round in
-    let a = now (start .args .first) in
-    let b = now (start .args .second) in
-    let conflict = start .pre .2 in
-    (start .pre .0, start .pre .1, full-kind (read n b) (conflict .second .is), conflict .second .known)
+    let s = started (c .before .before .before) in
+    let f = s .pre .2 .second in
+    (s .pre .0, s .pre .1, full-kind (read (n s) (second s)) (f .is), f .known)
 
 slice-aggregate-write-evidence : tie.Need-slice-aggregate-write-evidence
 slice-aggregate-write-evidence c = search needs
@@ -63,54 +74,46 @@ slice-aggregate-write-evidence-2 c = search needs
 
 write-evidence-requires : tie.Need-write-evidence-requires
 write-evidence-requires c κs =
-    let start = c .before .before .before .before .before .before .before .before .before .before in
-    let n = start .args .n in
-    let round = start .args .round in
-    let a = now (start .args .first) in
-    let b = now (start .args .second) in
-    let conflict = start .pre .2 in
-    let sa = c .before .before .before .before .entry-set in
-    let sb = c .before .before .before .entry-set2 in
-    (start .pre .1, search needs, readable n round a (conflict .first) (sa .result) (sa .ensures), search needs, readable n round b (conflict .second) (sb .result) (sb .ensures), evidence-room n (sa .result) (sb .result) (length (now (start .args .out))) (sized n round a (conflict .first) (sa .result) (sa .ensures)) (start .pre .3))
+    let b = sets c in
+    let s = given b in
+    let conflict = s .pre .2 in
+    let sa = first-set b .entry-set in
+    let sb = b .entry-set2 in (
+      s .pre .1,
+      search needs,
+      readable (first s) (conflict .first) (sa .ensures),
+      search needs,
+      readable (second s) (conflict .second) (sb .ensures),
+      evidence-room (n s) (sa .result) (sb .result) (sized (first s) (conflict .first) (sa .ensures)) (s .pre .3),
+    )
 
 cast-result : tie.Need-cast-result
-unfolding evidenceLength evidenceEntryAt evidenceEntryLength k
+unfolding evidenceLength evidenceEntryAt evidenceEntryLength signatureLength k
 cast-result c =
-    let start = c .before .before .before .before .before .before .before .before .before .before .before .before .before in
-    let n = start .args .n in
-    let round = start .args .round in
-    let a = now (start .args .first) in
-    let b = now (start .args .second) in
-    let conflict = start .pre .2 in
-    let sa = c .before .before .before .before .before .before .before .entry-set in
-    let sb = c .before .before .before .before .before .before .entry-set2 in
-    omega (arith, size-shared-le (sa .result) (sb .result), sized n round a (conflict .first) (sa .result) (sa .ensures), c .before .before .write-evidence .ensures .1)
+    let b = sources c in
+    let s = given b in
+    let sa = first-set b .entry-set in
+    omega (arith, size-shared-le (sa .result) (b .entry-set2 .result), sized (first s) (s .pre .2 .first) (sa .ensures), written c .write-evidence .ensures .1)
 
 same-length : tie.Need-same-length
 same-length c = search needs
 
 returns : tie.Need-returns
 returns c =
-    let start = c .before .before .before .before .before .before .before .before .before .before .before .before .before in
-    let n = start .args .n in
-    let round = start .args .round in
-    let a = now (start .args .first) in
-    let b = now (start .args .second) in
-    let conflict = start .pre .2 in
-    let va = c .before .before .before .before .before .before .before .before .before .value-at in
-    let vb = c .before .before .before .before .before .before .before .before .value-at2 in
-    let sa = c .before .before .before .before .before .before .before .entry-set in
-    let sb = c .before .before .before .before .before .before .entry-set2 in
-    let done = c .before .before .write-evidence in
-    wrote-evidence n round (certificateFrom n (inFull (sa .result)) (va .result) a) (certificateFrom n (inFull (sb .result)) (vb .result) b) (certificateIn (read n a)) (certificateIn (read n b)) (now (start .args .out)) (done .last .0) (done .result)
-    (certificate-is n round a (conflict .first) (sa .result) (sa .ensures) (va .result) (va .ensures)) (certificate-is n round b (conflict .second) (sb .result) (sb .ensures) (vb .result) (vb .ensures)) (done .ensures .0)
+    let b = sources c in
+    let v = values b in
+    let s = given b in
+    let conflict = s .pre .2 in
+    let ca = certificate-is (first s) (conflict .first) (first-set b .entry-set .ensures) (v .before .certificate-value .ensures) in
+    let cb = certificate-is (second s) (conflict .second) (b .entry-set2 .ensures) (v .certificate-value2 .ensures) in
+    wrote-evidence (n s) (s .args .round) ca cb (written c .write-evidence .ensures .0)
 
 pub write-conflict-spec : {M : Type 1} → statement M
 write-conflict-spec =
     tie.close
     (tie.spec
-    value-at-requires
-    value-at-requires-2
+    certificate-value-requires
+    certificate-value-requires-2
     entry-set-requires
     entry-set-requires-2
     slice-aggregate-write-evidence
