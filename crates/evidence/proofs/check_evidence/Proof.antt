@@ -40,9 +40,6 @@ verdict c = c .before
 abbrev passed : tie.After-evidence-refusal → tie.Else1
 passed v = v .before .before
 
-outside-refusal-requires : tie.Need-outside-refusal-requires
-outside-refusal-requires c κs = search needs
-
 returns : tie.Need-returns
 returns c =
     let o = c .before in
@@ -79,7 +76,7 @@ pub check-evidence-spec : {M : Type 1} → statement M
 check-evidence-spec =
     tie.close
     (tie.spec
-    outside-refusal-requires
+    (λ c κs. search needs)
     returns
     classify-requires
     evidence-refusal-requires

@@ -33,12 +33,6 @@ clear c = sym (c .before .outside-refusal .ensures) ∙ c .if1 .left
 abbrev verdict : tie.After-struct-known → tie.After-two-refusal
 verdict c = c .before
 
-outside-refusal-requires : tie.Need-outside-refusal-requires
-outside-refusal-requires c κs = search needs
-
-nothing-requires : tie.Need-nothing-requires
-nothing-requires c κs = search needs
-
 returns : tie.Need-returns
 returns c =
     let refused = c .before in
@@ -48,9 +42,6 @@ returns c =
 
 two-refusal-requires : tie.Need-two-refusal-requires
 two-refusal-requires c κs = given (call (started c)) (clear c)
-
-nothing-requires-2 : tie.Need-nothing-requires-2
-nothing-requires-2 c κs = search needs
 
 returns-2 : tie.Need-returns-2
 returns-2 c =
@@ -85,11 +76,11 @@ pub lower-certificate-spec : {M : Type 1} → statement M
 lower-certificate-spec =
     tie.close
     (tie.spec
-    outside-refusal-requires
-    nothing-requires
+    (λ c κs. search needs)
+    (λ c κs. search needs)
     returns
     two-refusal-requires
-    nothing-requires-2
+    (λ c κs. search needs)
     returns-2
     first-is-lower-requires
     returns-3

@@ -54,9 +54,6 @@ roomy c = sym (short (c .before)) ∙ c .if2 .left
 abbrev verdict : tie.After-struct-known → tie.After-two-refusal
 verdict c = c .before
 
-outside-refusal-requires : tie.Need-outside-refusal-requires
-outside-refusal-requires c κs = search needs
-
 returns : tie.Need-returns
 returns c =
     let o = c .before in
@@ -66,12 +63,6 @@ returns c =
 evidence-out-length-requires : tie.Need-evidence-out-length-requires
 evidence-out-length-requires c κs = let g = given (call (started c)) (clear c) in (g .some, g .most)
 
-short-out-requires : tie.Need-short-out-requires
-short-out-requires c κs = search needs
-
-same-length : tie.Need-same-length
-same-length c = search needs
-
 returns-2 : tie.Need-returns-2
 returns-2 c =
     let tested = c .before in
@@ -80,9 +71,6 @@ returns-2 c =
 
 two-refusal-requires : tie.Need-two-refusal-requires
 two-refusal-requires c κs = let outside = passed (c .before) in given (call (started outside)) (clear outside)
-
-same-length-2 : tie.Need-same-length-2
-same-length-2 c = search needs
 
 returns-3 : tie.Need-returns-3
 returns-3 c =
@@ -102,9 +90,6 @@ write-conflict-requires c κs =
     let g = given (call s) (clear outside) in
     (g .some, g .most, conflicting (call s) (first s) (second s) (v .two-refusal .ensures) (right .if3 .left), roomy-out (call s .n) (out s) (roomy room))
 
-same-length-3 : tie.Need-same-length-3
-same-length-3 c = search needs
-
 returns-4 : tie.Need-returns-4
 returns-4 c =
     let done = c .before .before in
@@ -119,15 +104,15 @@ pub make-evidence-spec : {M : Type 1} → statement M
 make-evidence-spec =
     tie.close
     (tie.spec
-    outside-refusal-requires
+    (λ c κs. search needs)
     returns
     evidence-out-length-requires
-    short-out-requires
-    same-length
+    (λ c κs. search needs)
+    (λ c. search needs)
     returns-2
     two-refusal-requires
-    same-length-2
+    (λ c. search needs)
     returns-3
     write-conflict-requires
-    same-length-3
+    (λ c. search needs)
     returns-4)

@@ -66,12 +66,6 @@ entry-set-requires-2 c κs =
     let f = s .pre .2 .second in
     (s .pre .0, s .pre .1, full-kind (read (n s) (second s)) (f .is), f .known)
 
-slice-aggregate-write-evidence : tie.Need-slice-aggregate-write-evidence
-slice-aggregate-write-evidence c = search needs
-
-slice-aggregate-write-evidence-2 : tie.Need-slice-aggregate-write-evidence-2
-slice-aggregate-write-evidence-2 c = search needs
-
 write-evidence-requires : tie.Need-write-evidence-requires
 write-evidence-requires c κs =
     let b = sets c in
@@ -95,9 +89,6 @@ cast-result c =
     let sa = first-set b .entry-set in
     omega (arith, size-shared-le (sa .result) (b .entry-set2 .result), sized (first s) (s .pre .2 .first) (sa .ensures), written c .write-evidence .ensures .1)
 
-same-length : tie.Need-same-length
-same-length c = search needs
-
 returns : tie.Need-returns
 returns c =
     let b = sources c in
@@ -116,9 +107,9 @@ write-conflict-spec =
     certificate-value-requires-2
     entry-set-requires
     entry-set-requires-2
-    slice-aggregate-write-evidence
-    slice-aggregate-write-evidence-2
+    (λ c. search needs)
+    (λ c. search needs)
     write-evidence-requires
     cast-result
-    same-length
+    (λ c. search needs)
     returns)
