@@ -200,9 +200,6 @@ abbrev pub inFull : ℕ → Source
 inFull seats = record { place = place.Entries; seats = seats }
 
 module _ (n : ℕ) (bytes : List ℕ) (full : isFull (read n bytes) ≡ true) where
-  pub full-long : length bytes ≡ fullLength n
-  full-long = full-length n bytes (read-is-full n bytes full .0)
-
   pub full-value : certificateIn (read n bytes) .value ≡ readValue valueAt bytes
   unfolding certificateIn readFull certificateOf
   full-value = rw (read-is-full n bytes full .1)

@@ -14,7 +14,7 @@ use Rattle.protocol.specs.Layout.{valueLength, signatureLength, valueAt, lowerA
 use Rattle.protocol.specs.Values.{isLower}
 use Rattle.protocol.specs.Message.{Message, Submit, readValue, read, readFull, readEvidence, signed}
 use Rattle.protocol.specs.Certificate.{certificateOf, certificateIn}
-use Rattle.protocol.specs.Refusals.{Checks, Condition, every, said, wrongLengths, isForStep, isFull, isEvidence, early, badSignature, notLowerFirst, equalValues, SAID, GARBLED-OWN, SIGNATURE, NO-CONFLICT-IN, NO-CONFLICT-BETWEEN, outsideConditions, recordConditions, messageConditions, certificateConditions, twoConditions, submitConditions, evidenceConditions}
+use Rattle.protocol.specs.Refusals.{Checks, Condition, every, said, wrongLengths, isForStep, isFull, isEvidence, early, badSignature, notLowerFirst, equalValues, SAID, GARBLED-OWN, SIGNATURE, NO-CONFLICT-IN, NO-CONFLICT-BETWEEN, outsideConditions, messageConditions, certificateConditions, twoConditions, evidenceConditions}
 use Rattle.protocol.specs.Signatures.{signatureNumber}
 use Rattle.protocol.specs.SignaturesLaws.{signature-row}
 use Rattle.protocol.specs.declared.Record.{Record}
@@ -58,11 +58,6 @@ module _ (checks : Checks) (r : Record) (value signature : List ℕ) where
       let s = firstOf-zero 7 _ _ (sym e ∙ z) in
       let lengths = right-lengths value signature (firstOf-zero 8 _ _ (s .1) .0) in
       (s .0, lengths .0, lengths .1)
-
-  -- submit's conditions are those of the record and these
-  pub submit-parts : (keys store out : List ℕ) → submitConditions checks keys r store value signature out ≡ recordConditions keys r store out ++ ownConditions checks r value signature
-  unfolding submitConditions ownConditions
-  submit-parts keys store out = refl
 
 -- ---- a step's message
 

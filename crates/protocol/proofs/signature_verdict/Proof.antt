@@ -1,5 +1,4 @@
 -- `protocol::signature_verdict` meets its contract.
-use mathlib.Core.Path.{refl}
 use Rattle.protocol.specs.Signatures.{signatureNumber}
 use Rattle.protocol.proofs.signature_verdict.Statement.{statement}
 use Rattle.protocol.proofs.signature_verdict.Tie as tie
