@@ -125,7 +125,7 @@ module _ (S : Setting) where
     unfolding isForStep early roundOf seatsOf entrySeats signed rising
     reached-heard seat value inside sized h =
         let range = opened-range S u opened in
-        reached-end (Notice round seat value) (let e = range .early in omega arith, sized) refl (λ r. refl)
+        reached-end (Notice round seat value) (let e = range .dated in omega arith, sized) refl (λ r. refl)
         (record { inRound = refl; inside = each-one (λ s. s < n) seat inside; rises = refl; checked = each-nil (λ s. checks (s .seat) (s .value) (s .signature) ≡ true) })
         h
         (Heard value)
@@ -137,7 +137,7 @@ module _ (S : Setting) where
     unfolding isForStep early
     reached-held sender value es inside entries h =
         let range = opened-range S u opened in
-        reached-end (Full round sender value es) (let e = range .early in omega arith, entries .sized, entries .many, entries-laid checks Any n value es entries) refl (λ r. refl)
+        reached-end (Full round sender value es) (let e = range .dated in omega arith, entries .sized, entries .many, entries-laid checks Any n value es entries) refl (λ r. refl)
         (full-taken checks Any n round sender value es inside entries)
         h
         (Held value)

@@ -17,7 +17,7 @@ use Rattle.octets.specs.Strings.{same}
 use Rattle.octets.specs.StringLaws.{same-refl, same-false}
 use Rattle.quorum.specs.Quorum.{mostSeats}
 use Rattle.refusal.specs.Refusal.{firstOf}
-use Rattle.refusal.specs.Laws.{both-true, both-false, firstOf-zero}
+use Rattle.refusal.specs.RefusalLaws.{both-true, both-false, firstOf-zero}
 use Rattle.rfc8554.specs.Ots.{knownOts}
 use Rattle.rfc8554.specs.Tree.{knownLms}
 use Rattle.rfc8554.specs.Verify.{lmsTypeOf, otsTypeOf, valid}
@@ -31,7 +31,8 @@ use Rattle.protocol.specs.Signatures.{checkSignature, makeKeyRefusal, makeKey, 
 use Rattle.protocol.specs.Calls.{openedBy, opening, resultBy, submit, step, makingBy, making, checkedBy, evidenceCheck}
 use Rattle.protocol.specs.declared.Record.{Record}
 use Rattle.reading.specs.Lists.{each-one}
-use Rattle.claims.specs.Sound.{Any, InRange}
+use Rattle.claims.specs.Sound.{Any}
+use Rattle.protocol.specs.RecordLaws.{InRange}
 use Rattle.claims.specs.Unrefused.{size-right, round-right, possible, fresh-sound, fresh-settled, Taken, message-taken, message-passes}
 
 -- ---- lengths
@@ -106,7 +107,7 @@ module _ (n seat round : ℕ) (keys : List ℕ) where
       let c = firstOf-zero 2 _ _ (b .1) in
       let s = some-of n (a .0) in
       record {
-        range = record { some = s .0; most = s .1; inside = leb-false n seat (b .0); early = ltb-false lastRound round (c .0) };
+        range = record { some = s .0; most = s .1; seated = leb-false n seat (b .0); dated = ltb-false lastRound round (c .0) };
         table = keys-right keys n .0 (firstOf-zero 4 _ _ (c .1) .0);
       }
 
@@ -114,7 +115,7 @@ module _ (n seat round : ℕ) (keys : List ℕ) where
   unfolding opening openedBy openingConditions wrongSeat firstOf
   opening-not-refused = (
     opening-fit,
-    λ t. rw (size-right n (t .range .some) (t .range .most), lt-leb n seat (t .range .inside), round-right round (t .range .early), keys-right keys n .1 (t .table)),
+    λ t. rw (size-right n (t .range .some) (t .range .most), lt-leb n seat (t .range .seated), round-right round (t .range .dated), keys-right keys n .1 (t .table)),
   )
 
 -- ---- submit and step
@@ -459,5 +460,5 @@ first-notice-taken checks n seat round keys store out sender value fit room outR
       storeRoom = room;
       outRoom = outRoom;
     })
-    (let e = fit .range .early in omega arith, sized) refl
+    (let e = fit .range .dated in omega arith, sized) refl
     (record { inRound = refl; inside = each-one (λ s. s < n) sender inside; rises = refl; checked = λ s d. absurd (List·Memᴰ·not-nil d) }) refl

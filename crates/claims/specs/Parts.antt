@@ -16,7 +16,7 @@ use Rattle.octets.specs.Strings.{same}
 use Rattle.octets.specs.StringLaws.{same-refl, same-true, same-false}
 use Rattle.quorum.specs.Quorum.{k, bit, In, has, size, shared, with, seats}
 use Rattle.quorum.specs.QuorumLaws.{bit-empty, bit-with-other, bit-with-same, has-false, bit-shared, same-seats, shared-lt, with-lt, size-empty, size-with-new, bit-outside, mem-seats, t0-is-third, k-of-n-share}
-use Rattle.refusal.specs.Laws.{both-true}
+use Rattle.refusal.specs.RefusalLaws.{both-true}
 use Rattle.protocol.specs.Layout.{valueLength, signatureLength, storeLength, collectedBank, firstBank}
 use Rattle.protocol.specs.Values.{unset}
 use Rattle.protocol.specs.Message.{Pair, Message, Submit, Notice, Full, Evidence, Garbled}
@@ -244,15 +244,15 @@ module _ (checks : Checks) (W : Relation) where
         (record {
           range = z .range;
           own = record {
-            collection = collection-with (r .n) (r .seat) own signature (s .store) (z .range .inside) room new (omega arith) g clean;
+            collection = collection-with (r .n) (r .seat) own signature (s .store) (z .range .seated) room new (omega arith) g clean;
             unsaid = λ e. absurd (true≢false e);
             said = λ e. bit-with-same (r .seat) (r .own .collected);
           };
           heard = z .heard;
-          first = holding-beside (r .n) (r .seat) (r .guilty) r signature (s .store) (z .range .inside) room (g .sized) (z .first);
+          first = holding-beside (r .n) (r .seat) (r .guilty) r signature (s .store) (z .range .seated) room (g .sized) (z .first);
           flags = record { full = λ e. absurd (let f = z .flags .full e in omega arith); confirmed = z .flags .confirmed };
         })
-        (fill-length (r .n) collectedBank (r .seat) signature (s .store) collected-bank (z .range .inside) room (g .sized))
+        (fill-length (r .n) collectedBank (r .seat) signature (s .store) collected-bank (z .range .seated) room (g .sized))
         (record { n = refl; seat = refl; round = refl; said = λ e. absurd (true≢false (sym e ∙ unsaid)); heard = λ v h. h; held = λ v h. h })
         refl
         (record { ofRound = refl; ofSeat = refl; ofValue = refl; submitted = refl; sized = sized }, g)

@@ -8,12 +8,12 @@ use mathlib.Core.Logic.{_⊎_, _≢_}
 use Prim.Native.Nat.{ℕ, _+_, _^_, _≤_, _<_}
 use lib.Dec.{eqb}
 use lib.ListN.{length}
-use Rattle.quorum.specs.Quorum.{mostSeats, t0, k, In, size, shared}
+use Rattle.quorum.specs.Quorum.{t0, k, In, size, shared}
+use Rattle.protocol.specs.RecordLaws.{InRange}
 use Rattle.protocol.specs.Layout.{valueLength, signatureLength, storeLength, collectedBank, firstBank}
 use Rattle.protocol.specs.Values.{unset, isLower}
 use Rattle.protocol.specs.Message.{Entry, Pair, Message, Submit, Notice, Full, Evidence, Garbled}
 use Rattle.protocol.specs.Certificate.{Certificate, slot, setOf}
-use Rattle.protocol.specs.Record.{lastRound}
 use Rattle.protocol.specs.Refusals.{Checks, rising}
 use Rattle.protocol.specs.Step.{State, owesFull}
 use Rattle.protocol.specs.declared.Own.{Own}
@@ -56,14 +56,6 @@ Counts r ms r′ = (κ : Kind) → count (isOf κ) ms + worth (flagOf κ r) ≡ 
 -- every signature is worth something
 abbrev pub Any : Relation
 Any seat value signature = Unit {0}
-
--- ---- n, seat and round
-
-pub record InRange (n seat round : ℕ) : Type 0 where
-  pub some : 1 ≤ n
-  pub most : n ≤ mostSeats
-  pub inside : seat < n
-  pub early : round ≤ lastRound
 
 -- the store has the stated length or more
 abbrev pub Room : State → Type 0

@@ -15,7 +15,8 @@ use Rattle.protocol.specs.declared.Record.{Record}
 use Rattle.round.specs.Round.{Setting, IsOpened, Each, Relation, Call, BySubmit, ByStep, ByThinEntry, Honest, Called, resultOf, writtenIn, Are, StandsIn, listOf, Writes}
 use Rattle.round.specs.Demand1.{Kind, SUBMIT, NOTICE, FULL, EVIDENCE, isOf, worth, writtenOver}
 use Rattle.reading.specs.Lists.{worth-le-one, worth-true, true-of-worth, count-pos, count-member}
-use Rattle.claims.specs.Sound.{Any, flagOf, Grows, InRange, Settled, Pairs, Sound, Good}
+use Rattle.claims.specs.Sound.{Any, flagOf, Grows, Settled, Pairs, Sound, Good}
+use Rattle.protocol.specs.RecordLaws.{InRange}
 use Rattle.claims.specs.Certificates.{entries-laid, pairs-laid}
 use Rattle.claims.specs.Parts.{grows-trans, good-grows}
 use Rattle.reading.specs.Reading.{are-unique}
@@ -41,11 +42,11 @@ pairs-formed checks W n round lower higher ps early z = (
 )
 
 pub good-formed : (checks : Checks) (W : Relation) (r : Record) (m : Message) → InRange (r .n) (r .seat) (r .round) → Good checks W r m → WellFormed (r .n) m
-good-formed checks W r (Submit ρ seat value signature) range g = (rw (g .0 .ofRound) (let e = range .early in omega arith), g .0 .sized, g .1 .sized)
-good-formed checks W r (Notice ρ seat value) range g = (rw (g .ofRound) (let e = range .early in omega arith), g .sized)
+good-formed checks W r (Submit ρ seat value signature) range g = (rw (g .0 .ofRound) (let e = range .dated in omega arith), g .0 .sized, g .1 .sized)
+good-formed checks W r (Notice ρ seat value) range g = (rw (g .ofRound) (let e = range .dated in omega arith), g .sized)
 good-formed checks W r (Full ρ sender value es) range g =
-    (rw (g .0 .ofRound) (let e = range .early in omega arith), g .0 .sized, g .1 .many, entries-laid checks W (r .n) value es (g .1))
-good-formed checks W r (Evidence ρ lower higher ps) range g = pairs-formed checks W (r .n) ρ lower higher ps (rw (g .0) (range .early)) (g .1)
+    (rw (g .0 .ofRound) (let e = range .dated in omega arith), g .0 .sized, g .1 .many, entries-laid checks W (r .n) value es (g .1))
+good-formed checks W r (Evidence ρ lower higher ps) range g = pairs-formed checks W (r .n) ρ lower higher ps (rw (g .0) (range .dated)) (g .1)
 good-formed checks W r Garbled range g = absurd g
 
 any-given : (S : Setting) (c : Call) (r : Record) → WorthyGiven S Any c r
@@ -84,7 +85,7 @@ module _ (S : Setting) (u : Honest) (opened : IsOpened S u) where
   opened-range = opened-fit .range
 
   pub opened-outside : Outside n round keys
-  opened-outside = record { some = opened-range .some; most = opened-range .most; inTime = opened-range .early; table = opened-fit .table }
+  opened-outside = record { some = opened-range .some; most = opened-range .most; inTime = opened-range .dated; table = opened-fit .table }
 
   opened-fresh : startOf ≡ fresh n (u .seat) round
   unfolding opening openedBy unrefused

@@ -15,7 +15,7 @@ use Rattle.octets.specs.StringLaws.{same-refl}
 use Rattle.quorum.specs.Quorum.{mostSeats, k, has, size, shared}
 use Rattle.quorum.specs.QuorumLaws.{has-true, outside-false, bit-empty, size-empty}
 use Rattle.refusal.specs.Refusal.{firstOf}
-use Rattle.refusal.specs.Laws.{firstOf-zero}
+use Rattle.refusal.specs.RefusalLaws.{firstOf-zero}
 use Rattle.protocol.specs.Layout.{signatureLength}
 use Rattle.protocol.specs.Values.{unset}
 use Rattle.protocol.specs.Entries.{formSeats}
@@ -26,7 +26,8 @@ use Rattle.protocol.specs.Step.{owesFull}
 use Rattle.protocol.specs.declared.Record.{Record}
 use Rattle.round.specs.Round.{Each, Relation, EachSigned}
 use Rattle.reading.specs.Lists.{or-true-either, each-nil, each-cons, each-map, every-each, each-every}
-use Rattle.claims.specs.Sound.{InRange, Settled, Attested, Entries, Pairs, Sound}
+use Rattle.claims.specs.Sound.{Settled, Attested, Entries, Pairs, Sound}
+use Rattle.protocol.specs.RecordLaws.{InRange}
 use Rattle.claims.specs.Parts.{shared-none, k-pos}
 use Rattle.claims.specs.Whole.{Brings}
 use Rattle.reading.specs.Reading.{Sized}
@@ -50,7 +51,7 @@ implied false b h = refl
 module _ (checks : Checks) (W : Relation) (r : Record) (store : List ℕ) (z : Sound checks W r store) (e : Settled r) where
   in-range : outOfRange r ≡ false
   unfolding outOfRange wrongSeat
-  in-range = rw (size-right (r .n) (z .range .some) (z .range .most), lt-leb (r .n) (r .seat) (z .range .inside), round-right (r .round) (z .range .early))
+  in-range = rw (size-right (r .n) (z .range .some) (z .range .most), lt-leb (r .n) (r .seat) (z .range .seated), round-right (r .round) (z .range .dated))
 
   heard-right : wrongHeard r ≡ false
   unfolding wrongHeard

@@ -10,7 +10,7 @@ use lib.Seq.{drop-append-le, length-take-le}
 use Rattle.octets.specs.Octets.{patch}
 use Rattle.quorum.specs.Quorum.{k}
 use Rattle.refusal.specs.Refusal.{firstOf, unrefused}
-use Rattle.refusal.specs.Laws.{refused-first, refused-later}
+use Rattle.refusal.specs.RefusalLaws.{refused-first, refused-later}
 use Rattle.protocol.specs.Layout.{outLength}
 use Rattle.protocol.specs.Figures.{out-figure}
 use Rattle.protocol.specs.Message.{renderAll}
@@ -89,7 +89,7 @@ module _ (keys : List ℕ) (r : Record) (store out : List ℕ) where
       unfolding resultBy unrefused answer
       leaves =
           let ends : end ≡ length bytes = did .wrote .ends ∙ zero-add (length bytes) in
-          (rw (ends, did .kept .recorded), did .kept .stored, whole)
+          (rw (ends, did .changed .recorded), did .changed .stored, whole)
 
   -- a call: its conditions after those of the record, and its phases
   module _ (rest : List Condition) (f : State → State) where

@@ -11,7 +11,7 @@ use Rattle.octets.specs.StringLaws.{patch-nothing}
 use Rattle.quorum.specs.Quorum.{k, size, shared}
 use Rattle.quorum.specs.QuorumLaws.{size-shared-le}
 use Rattle.refusal.specs.Refusal.{firstOf, unrefused}
-use Rattle.refusal.specs.Laws.{refused-first}
+use Rattle.refusal.specs.RefusalLaws.{refused-first}
 use Rattle.protocol.specs.Values.{isLower}
 use Rattle.protocol.specs.Layout.{evidenceLength, evidenceEntryAt, evidenceEntryLength, evidenceOutLength, signatureLength}
 use Rattle.protocol.specs.Message.{Message, render, read, entrySeats}

@@ -4,7 +4,7 @@ use mathlib.Core.Path.{_≡_, refl, sym, _∙_}
 use mathlib.Core.List.{List, _++_}
 use Prim.Native.Nat.{ℕ}
 use Rattle.refusal.specs.Refusal.{firstOf}
-use Rattle.refusal.specs.Laws.{refused-later}
+use Rattle.refusal.specs.RefusalLaws.{refused-later}
 use Rattle.protocol.specs.Message.{read}
 use Rattle.protocol.specs.Refusals.{Checks, Condition, outsideConditions, twoConditions}
 use Rattle.protocol.specs.Signatures.{checks}

@@ -5,7 +5,7 @@ ghost use Rattle.quorum.specs.Quorum.{mostSeats};
 ghost use Rattle.protocol.specs.Message.{byteAt};
 ghost use Rattle.reading.specs.Reading.{frameLength};
 ghost use Rattle.framing.specs.Framing.{messageLength};
-ghost use Rattle.framing.specs.Laws.{noMessage};
+ghost use Rattle.framing.specs.FramingLaws.{noMessage};
 use wire::read::Kind;
 
 // The byte at an index, 0 past the end.

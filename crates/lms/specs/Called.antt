@@ -6,7 +6,7 @@ use Prim.Native.Nat.{ℕ, zero, suc, _≤_}
 use borrow.Author.Tests.{ltb-false, eqb-true, not-false}
 use lib.ListN.{length}
 use Rattle.refusal.specs.Refusal.{firstOf}
-use Rattle.refusal.specs.Laws.{both-false, firstOf-zero}
+use Rattle.refusal.specs.RefusalLaws.{both-false, firstOf-zero}
 use Rattle.rfc8554.specs.Verify.{valid}
 use Rattle.protocol.specs.Layout.{keyLength, signatureLength, treeLength, messageLimit}
 use Rattle.protocol.specs.Record.{lastRound, wrongRound}

@@ -15,7 +15,7 @@ use Rattle.rfc8554.specs.Tree.{T, nodes, treeFilled}
 use Rattle.rfc8554.specs.TreeLaws.{T-leaf, T-inner, length-T, length-nodes, nodes-suc, part-nodes}
 use Rattle.lmots.specs.LeafLaws.{length-otsKey}
 use Rattle.lms.specs.Pieces.{leafOver, leafAt, overChildren, innerPut, innersPut}
-use Rattle.lms.specs.Laws.{length-leafOver, over-two}
+use Rattle.lms.specs.LmsLaws.{length-leafOver, over-two}
 
 -- ---- as the code writes them
 

@@ -1,7 +1,7 @@
--- What the code's pieces compute, with the laws that their proofs cite: `Laws` on buffers, nodes and the climb, `Refused`
+-- What the code's pieces compute, with the laws that their proofs cite: `LmsLaws` on buffers, nodes and the climb, `Refused`
 -- on what is turned back, `Filled` on the tree's buffer, `Written` on keys and signatures, `Called` on the calls.
 pub mod Pieces
-pub mod Laws
+pub mod LmsLaws
 pub mod Refused
 pub mod Filled
 pub mod Written

@@ -10,7 +10,8 @@ use Rattle.refusal.specs.Refusal.{unrefused}
 use Rattle.protocol.specs.Message.{Entry, Pair, Message, Full, Evidence}
 use Rattle.protocol.specs.Calls.{opening, openedBy}
 use Rattle.round.specs.Round.{Setting, IsOpened, Each, Honest, listOf, Writes}
-use Rattle.claims.specs.Sound.{Any, InRange}
+use Rattle.claims.specs.Sound.{Any}
+use Rattle.protocol.specs.RecordLaws.{InRange}
 use Rattle.claims.specs.Units.{any-worthy, opened-range, written-are}
 use Rattle.paper.specs.Machine.{init, Event, Action, Says}
 use Rattle.paper.specs.Memory.{recordOf}
@@ -38,10 +39,10 @@ module _ (S : Setting) (u : Honest) (opened : IsOpened S u) where
   range : InRange n (u .seat) round
   range = opened-range S u opened
 
-  along : DoesAs S (u .seat) init (listOf S u) × Each (Sent checks n (u .seat) Took (range .some) (range .inside)) actions
+  along : DoesAs S (u .seat) init (listOf S u) × Each (Sent checks n (u .seat) Took (range .some) (range .seated)) actions
   along =
       let some-seats = range .some in
-      let inside = range .inside in
+      let inside = range .seated in
       does-as S (u .seat) some-seats inside (listOf S u) (opening n (u .seat) round keys .unit) (u .store) (u .calls) init (opened-recorded some-seats inside)
       (init-mirrors S (u .seat) some-seats inside (u .store))
       (init-rest S (u .seat) some-seats inside)

@@ -12,7 +12,7 @@ use lib.ListN.{take}
 use borrow.Author.Tests.{eqb-true, eqb-false, eq-eqb, ne-eqb, not-true}
 use Rattle.quorum.specs.Quorum.{bit, In, has, shared, with, seats}
 use Rattle.quorum.specs.QuorumLaws.{bit-cases, bit-empty, bit-with-same, bit-with-other, has-true, has-false, in-shared, mem-seats}
-use Rattle.refusal.specs.Laws.{both-true, both-false}
+use Rattle.refusal.specs.RefusalLaws.{both-true, both-false}
 use Rattle.protocol.specs.Values.{isLower}
 use Rattle.protocol.specs.Message.{Entry, Full, Evidence}
 use Rattle.protocol.specs.Certificate.{setOf, signatureOf, entriesOf, fullOf, pairOf, pairsOf, orderedEvidence, evidenceOf}

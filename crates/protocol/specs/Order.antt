@@ -7,7 +7,7 @@ use mathlib.Core.Path.{_≡_, refl, ap, _∙_}
 use mathlib.Core.Bool.{true}
 use mathlib.Core.List.{List, [], _∷_, _++_, map}
 use Rattle.refusal.specs.Refusal.{firstOf, numbers, nonzero, _before_}
-use Rattle.refusal.specs.Laws.{both-true, firstOf-before}
+use Rattle.refusal.specs.RefusalLaws.{both-true, firstOf-before}
 use Rattle.refusal.specs.Order.{isIn, distinct, follows, held, firstIn, firstOf-in-order}
 use Rattle.refusal.specs.Lowest.{riseFrom, rise, Lowest, firstOf-lowest, rise-in}
 use Rattle.protocol.specs.Layout.{outLength, evidenceOutLength}

@@ -8,7 +8,7 @@ use native.Mathlib.Omega.{arith}
 use lib.Dec.{ltb, eqb}
 use lib.ListN.{length}
 use borrow.Author.Tests.{eqb-true, eqb-false, eq-eqb, ltb-false, leb-false}
-use Rattle.refusal.specs.Laws.{both-false}
+use Rattle.refusal.specs.RefusalLaws.{both-false}
 use Rattle.quorum.specs.Quorum.{mostSeats, k, has, size, outside}
 use Rattle.quorum.specs.QuorumLaws.{outside-false}
 use Rattle.protocol.specs.Layout.{storeLength, outLength}
@@ -29,24 +29,24 @@ unfolding wrongRound
 right-round round e = ltb-false lastRound round e
 
 -- n, seat and round are in range
-pub record InRange (r : Record) : Type 0 where
-  pub some : 1 ≤ r .n
-  pub most : r .n ≤ mostSeats
-  pub seated : r .seat < r .n
-  pub round : r .round ≤ lastRound
+pub record InRange (n seat round : ℕ) : Type 0 where
+  pub some : 1 ≤ n
+  pub most : n ≤ mostSeats
+  pub seated : seat < n
+  pub dated : round ≤ lastRound
 
-pub in-range : (r : Record) → outOfRange r ≡ false → InRange r
+pub in-range : (r : Record) → outOfRange r ≡ false → InRange (r .n) (r .seat) (r .round)
 unfolding outOfRange wrongSeat
 in-range r e =
     let a = both-false (wrongSize (r .n) || wrongSeat (r .n) (r .seat)) (wrongRound (r .round)) e in
     let b = both-false (wrongSize (r .n)) (wrongSeat (r .n) (r .seat)) (a .0) in
     let size = right-size (r .n) (b .0) in
-    record { some = size .0; most = size .1; seated = leb-false (r .n) (r .seat) (b .1); round = right-round (r .round) (a .1) }
+    record { some = size .0; most = size .1; seated = leb-false (r .n) (r .seat) (b .1); dated = right-round (r .round) (a .1) }
 
 -- ---- possible records
 
 pub record Possible (r : Record) : Type 0 where
-  pub range : InRange r
+  pub range : InRange (r .n) (r .seat) (r .round)
   -- the masks name seats below n
   pub collected : r .own .collected < 2 ^ r .n
   pub first : r .first .seats < 2 ^ r .n

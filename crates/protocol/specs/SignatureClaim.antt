@@ -10,8 +10,8 @@ use lib.Dec.{eqb}
 use lib.ListN.{length}
 use borrow.Author.Tests.{le-ltb, ltb-false, eq-eqb, eqb-true, not-false}
 use Rattle.refusal.specs.Refusal.{firstOf}
-use Rattle.refusal.specs.Laws.{firstOf-zero}
-use Rattle.refusal.specs.Laws.{both-true}
+use Rattle.refusal.specs.RefusalLaws.{firstOf-zero}
+use Rattle.refusal.specs.RefusalLaws.{both-true}
 use Rattle.rfc8554.specs.Ots.{knownOts, width}
 use Rattle.rfc8554.specs.Tree.{knownLms, height, publicKey, treeFilled, lmsSignature}
 use Rattle.rfc8554.specs.Verify.{leafOf, valid}

@@ -17,7 +17,7 @@ use Rattle.protocol.specs.Layout.{signatureLength, treeLength, messageLi
 use Rattle.protocol.specs.Record.{wrongRound}
 use Rattle.protocol.specs.Refusals.{shortOut, wrongKey, checkConditions, makeKeyConditions, signConditions}
 use Rattle.protocol.specs.Signatures.{signatureNumber, checkSignature, makeKeyRefusal, makeKey, signRefusal, sign, signedBytes}
-use Rattle.refusal.specs.Laws.{firstOf-zero}
+use Rattle.refusal.specs.RefusalLaws.{firstOf-zero}
 use Rattle.rfc8554.specs.VerifyLaws.{sibling-within, ancestor-within, length-lmsSignature, valid-fits}
 
 -- ---- the check

@@ -9,7 +9,7 @@ use native.Mathlib.Omega.{arith}
 use lib.Dec.{ltb}
 use borrow.Author.Tests.{ltb-true, lt-ltb}
 use Rattle.quorum.specs.Quorum.{Rises}
-use Rattle.refusal.specs.Laws.{both-true}
+use Rattle.refusal.specs.RefusalLaws.{both-true}
 use Rattle.protocol.specs.Refusals.{every, rising}
 use Rattle.round.specs.Round.{Each}
 use Rattle.round.specs.Demand1.{worth, count}

@@ -14,7 +14,7 @@ use borrow.Author.Tests.{eqb-true}
 use Rattle.octets.specs.Octets.{be, part}
 use Rattle.octets.specs.OctetLaws.{length-be, length-part}
 use Rattle.quorum.specs.Quorum.{k}
-use Rattle.refusal.specs.Laws.{both-true}
+use Rattle.refusal.specs.RefusalLaws.{both-true}
 use Rattle.protocol.specs.Layout.{valueLength, signatureLength, entryLength, valueAt, submitSignatureAt, submitLength, noticeLength, fullCountAt, fullEntryLength, fullEntryAt, fullLength, lowerAt, higherAt, evidenceCountAt, evidenceEntryLength, evidenceEntryAt, evidenceLength}
 use Rattle.protocol.specs.Entries.{Form, Laid, placeOf, renderEntries, entryCommands, readEntry, readEntries}
 use Rattle.protocol.specs.EntriesLaws.{byte-after, Faithful, length-read}

@@ -8,7 +8,7 @@ use native.Mathlib.Omega.{arith}
 use lib.Dec.{ltb, eqb}
 use borrow.Author.Tests.{eqb-true, ltb-true, lt-ltb}
 use Rattle.refusal.specs.Refusal.{firstOf, numbers}
-use Rattle.refusal.specs.Laws.{both-true}
+use Rattle.refusal.specs.RefusalLaws.{both-true}
 use Rattle.refusal.specs.Order.{follows}
 
 -- each number is above the one before it, and the first above the given one

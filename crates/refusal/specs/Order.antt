@@ -6,7 +6,7 @@ use Prim.Native.Nat.{ℕ}
 use lib.Dec.{eqb}
 use borrow.Author.Tests.{eqb-true, eq-eqb, not-true}
 use Rattle.refusal.specs.Refusal.{firstOf, numbers}
-use Rattle.refusal.specs.Laws.{both-true, both-false}
+use Rattle.refusal.specs.RefusalLaws.{both-true, both-false}
 
 -- the number is in the list
 unfoldable pub isIn : ℕ → List ℕ → Bool

@@ -160,7 +160,7 @@ module _ (r : Record) (store out : List ℕ) (at : ℕ) (room : at ≤ length ou
       → Did (holdOrBlame (heard (v .n) source value store m)) v store out′ a w store″ out″ e → Did (hearCertificate (heard (r .n) source value store m)) r store out at w store″ out″ e
   unfolding hearCertificate hear
   certificate-heard source value m told replied held =
-      let same = replied-n r store (noticesWith value r) u told v store (replied .kept) in
+      let same = replied-n r store (noticesWith value r) u told v store (replied .changed) in
       let held-here = subst (λ (n : ℕ). Did (holdOrBlame (heard n source value store m)) v store out′ a w store″ out″ e) same held in
       let c = heard (r .n) source value store m in
       let first = quietly (hear value) r store out at u store refl (record { recorded = told; stored = refl }) in

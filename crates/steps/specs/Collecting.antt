@@ -18,15 +18,15 @@ use Rattle.protocol.specs.Refusals.{said}
 use Rattle.protocol.specs.Step.{write, setOwnValue, collect, submitOwn, isWanted, hearSubmit}
 use Rattle.protocol.specs.declared.Record.{Record}
 use Rattle.wire_write.specs.Writing.{Wrote}
-use Rattle.steps.specs.Phases.{Changed, Did, Fits, fits-like, likewise-kept, saying}
+use Rattle.steps.specs.Phases.{Changed, Did, Fits, fits-like, likewise-changed, saying}
 use Rattle.protocol.specs.RecordLaws.{Possible}
 
 -- ---- submit
 
-module _ (r : Record) (value : List ℕ) (u : Record) (kept : u ≡ setOwnValue value (start r []) .unit) where
-  pub kept-fits : (store : List ℕ) → Fits r store → Fits u store × (r .seat < u .n)
+module _ (r : Record) (value : List ℕ) (u : Record) (told : u ≡ setOwnValue value (start r []) .unit) where
+  pub value-set-fits : (store : List ℕ) → Fits r store → Fits u store × (r .seat < u .n)
   unfolding setOwnValue
-  kept-fits store h = (fits-like r u store store h (rw kept) (rw kept) (rw kept) (rw kept) refl, rw kept (h .seated))
+  value-set-fits store h = (fits-like r u store store h (rw told) (rw told) (rw told) (rw told) refl, rw told (h .seated))
 
   pub own-submitted : (given signature store out : List ℕ) → length given ≡ valueLength → value ≡ readValue 0 given
       → (v : Record) (store′ out′ : List ℕ) (end : ℕ) → Changed (collect (r .seat) signature) u store v store′
@@ -36,14 +36,14 @@ module _ (r : Record) (value : List ℕ) (u : Record) (kept : u ≡ setOwnValue 
   own-submitted given signature store out l e v store′ out′ end c w =
       let whole : value ≡ given = e ∙ part-all given valueLength l in
       saying (submitOwn given signature) r store (Submit (r .round) (r .seat) given signature) out 0 v store′ out′ end refl
-      (record { recorded = c .recorded ∙ rw (kept, whole); stored = c .stored ∙ rw kept }) w
+      (record { recorded = c .recorded ∙ rw (told, whole); stored = c .stored ∙ rw told }) w
 
 -- ---- SUBMIT heard
 
 module _ (r : Record) (store : List ℕ) (seat : ℕ) (value signature : List ℕ) where
   pub wanted : (u : Record) (store′ : List ℕ) → isWanted seat value r ≡ true → Changed (collect seat signature) r store u store′ → Changed (hearSubmit seat value signature) r store u store′
   unfolding hearSubmit
-  wanted u store′ e c = likewise-kept (collect seat signature) r store (hearSubmit seat value signature) u store′ (rw e) c
+  wanted u store′ e c = likewise-changed (collect seat signature) r store (hearSubmit seat value signature) u store′ (rw e) c
 
   pub unwanted : isWanted seat value r ≡ false → Changed (hearSubmit seat value signature) r store r store
   unfolding hearSubmit

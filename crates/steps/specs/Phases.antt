@@ -23,7 +23,7 @@ pub record Changed (f : State → State) (r : Record) (store : List ℕ) (unit :
 
 -- and has written its messages from index `at` of out on, up to `end`
 pub record Did (f : State → State) (r : Record) (store out : List ℕ) (at : ℕ) (unit : Record) (store′ out′ : List ℕ) (end : ℕ) : Type 0 where
-  pub kept : Changed f r store unit store′
+  pub changed : Changed f r store unit store′
   pub wrote : Wrote at (renderAll (f (start r store) .written)) out out′ end
 
 -- what every phase finds, and leaves: n and the seat are in range, the masks name seats below n, each of them at most k, and the
@@ -57,22 +57,22 @@ module _ (f : State → State) (r : Record) (store : List ℕ) where
   -- a phase that writes nothing
   pub quietly : (out : List ℕ) (at : ℕ) (unit : Record) (store′ : List ℕ) → f (start r store) .written ≡ [] → Changed f r store unit store′ → Did f r store out at unit store′ out at
   unfolding renderAll patch
-  quietly out at unit store′ e k = record { kept = k; wrote = rw e (record { ends = sym (add-zero at); wrote = rw add-zero (sym (take-append-drop at out)) }) }
+  quietly out at unit store′ e k = record { changed = k; wrote = rw e (record { ends = sym (add-zero at); wrote = rw add-zero (sym (take-append-drop at out)) }) }
 
   -- a phase that does there what f does
-  pub likewise-kept : (g : State → State) (unit : Record) (store′ : List ℕ) → f (start r store) ≡ g (start r store) → Changed f r store unit store′ → Changed g r store unit store′
-  likewise-kept g unit store′ e k = record { recorded = k .recorded ∙ rw e; stored = k .stored ∙ rw e }
+  pub likewise-changed : (g : State → State) (unit : Record) (store′ : List ℕ) → f (start r store) ≡ g (start r store) → Changed f r store unit store′ → Changed g r store unit store′
+  likewise-changed g unit store′ e k = record { recorded = k .recorded ∙ rw e; stored = k .stored ∙ rw e }
 
   pub likewise : (g : State → State) (out : List ℕ) (at : ℕ) (unit : Record) (store′ out′ : List ℕ) (end : ℕ) → f (start r store) ≡ g (start r store)
       → Did f r store out at unit store′ out′ end → Did g r store out at unit store′ out′ end
   likewise g out at unit store′ out′ end e d =
-      record { kept = likewise-kept g unit store′ e (d .kept); wrote = rw (← e) (d .wrote) }
+      record { changed = likewise-changed g unit store′ e (d .changed); wrote = rw (← e) (d .wrote) }
 
   -- a phase that writes one message
   pub saying : (m : Message) (out : List ℕ) (at : ℕ) (unit : Record) (store′ out′ : List ℕ) (end : ℕ) → f (start r store) .written ≡ m ∷ []
       → Changed f r store unit store′ → Wrote at (render m) out out′ end → Did f r store out at unit store′ out′ end
   unfolding renderAll
-  saying m out at unit store′ out′ end e k w = record { kept = k; wrote = rw (e, append-nil) w }
+  saying m out at unit store′ out′ end e k w = record { changed = k; wrote = rw (e, append-nil) w }
 
 -- one phase after another, where the second only adds to the messages
 pub next : (f g : State → State) → ((ms : List Message) (s : State) → g (after ms s) ≡ after ms (g s))
@@ -83,9 +83,9 @@ next f g adds r store out at u store′ out′ a v store″ out″ e room d h =
     let s = f (start r store) in
     let t = g (start u store′) in
     let whole : s ≡ after (s .written) (start (s .unit) (s .store)) = rw append-nil in
-    let same : start (s .unit) (s .store) ≡ start u store′ = rw (d .kept .recorded, d .kept .stored) in
+    let same : start (s .unit) (s .store) ≡ start u store′ = rw (d .changed .recorded, d .changed .stored) in
     let both : g s ≡ after (s .written) t = ap g whole ∙ adds (s .written) (start (s .unit) (s .store)) ∙ ap (λ (x : State). after (s .written) (g x)) same in
     record {
-      kept = record { recorded = h .kept .recorded ∙ rw both; stored = h .kept .stored ∙ rw both };
+      changed = record { recorded = h .changed .recorded ∙ rw both; stored = h .changed .stored ∙ rw both };
       wrote = rw (both, all-append) (then at a e (renderAll (s .written)) (renderAll (t .written)) out out′ out″ room (d .wrote) (h .wrote));
     }

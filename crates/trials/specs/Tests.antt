@@ -12,7 +12,7 @@ use borrow.Author.Tests.{eqb-true, eq-eqb, leb-true, le-leb, ltb-true}
 use Rattle.octets.specs.Strings.{same}
 use Rattle.octets.specs.StringLaws.{same-true}
 use Rattle.quorum.specs.Quorum.{t0, k, size}
-use Rattle.refusal.specs.Laws.{both-true, both-false}
+use Rattle.refusal.specs.RefusalLaws.{both-true, both-false}
 use Rattle.protocol.specs.Layout.{valueLength, signatureLength, storeLength, outLength}
 use Rattle.protocol.specs.Message.{Entry, Pair, Message, Submit, Notice, Full, Evidence, Garbled, fullForm, evidenceForm, Signed, render, read, signed, entrySeats, WellFormed}
 use Rattle.protocol.specs.Entries.{Laid}

@@ -10,7 +10,7 @@ use lib.Dec.{eqb, leb}
 use borrow.Author.Tests.{eqb-true, eqb-false, eq-eqb, le-leb, not-true, not-false}
 use Rattle.octets.specs.Strings.{same}
 use Rattle.octets.specs.StringLaws.{same-refl}
-use Rattle.refusal.specs.Laws.{both-true}
+use Rattle.refusal.specs.RefusalLaws.{both-true}
 use Rattle.protocol.specs.Message.{Signed, read, signed, entrySeats}
 use Rattle.protocol.specs.Record.{impossible}
 use Rattle.protocol.specs.Refusals.{every}

@@ -9,7 +9,7 @@ use lib.ListN.{length}
 use borrow.Author.Tests.{eqb-true, not-false}
 use Rattle.octets.specs.Strings.{same}
 use Rattle.refusal.specs.Refusal.{firstOf, numbers, nonzero}
-use Rattle.refusal.specs.Laws.{both-false, firstOf-zero, refused-first, refused-later, passed-first}
+use Rattle.refusal.specs.RefusalLaws.{both-false, firstOf-zero, refused-first, refused-later, passed-first}
 use Rattle.protocol.specs.Layout.{valueLength, signatureLength, valueAt, lowerAt, higherAt}
 use Rattle.protocol.specs.Values.{isLower}
 use Rattle.protocol.specs.Message.{Message, Submit, readValue, read, readFull, readEvidence, signed}

@@ -7,7 +7,7 @@ use Prim.Native.Nat.{ℕ, _≤_}
 use lib.ListN.{length}
 use borrow.Author.Tests.{ltb-false}
 use Rattle.refusal.specs.Refusal.{firstOf, numbers, nonzero}
-use Rattle.refusal.specs.Laws.{firstOf-zero}
+use Rattle.refusal.specs.RefusalLaws.{firstOf-zero}
 use Rattle.quorum.specs.Quorum.{mostSeats}
 use Rattle.protocol.specs.Layout.{storeLength, outLength}
 use Rattle.protocol.specs.Record.{lastRound, impossible}
@@ -65,4 +65,4 @@ module _ (keys : List ℕ) (r : Record) (store out : List ℕ) where
     pub record-given : Given (r .n) (r .round) keys
     record-given =
         let range = possible r (passed .0) .range in
-        record { some = range .some; most = range .most; dated = range .round; table = passed .1 }
+        record { some = range .some; most = range .most; dated = range .dated; table = passed .1 }

@@ -14,7 +14,7 @@ use borrow.Author.Tests.{eq-eqb, ne-eqb, eqb-true, not-false}
 use Rattle.octets.specs.Octets.{part, number, wordAt}
 use Rattle.octets.specs.OctetLaws.{length-part}
 use Rattle.octets.specs.StringLaws.{part-part, number-part-four}
-use Rattle.refusal.specs.Laws.{both-true, both-false}
+use Rattle.refusal.specs.RefusalLaws.{both-true, both-false}
 use Rattle.rfc8554.specs.Ots.{knownOts}
 use Rattle.rfc8554.specs.Tree.{knownLms}
 use Rattle.rfc8554.specs.Verify.{lmsTypeOf, otsTypeOf}

@@ -7,7 +7,7 @@ use Prim.Native.Nat.{ℕ}
 use lib.Dec.{leb}
 use borrow.Author.Tests.{not-false}
 use Rattle.refusal.specs.Refusal.{firstOf, numbers, nonzero}
-use Rattle.refusal.specs.Laws.{firstOf-zero, refused-first, refused-later, passed-first}
+use Rattle.refusal.specs.RefusalLaws.{firstOf-zero, refused-first, refused-later, passed-first}
 use Rattle.protocol.specs.Message.{Message, Submit, Notice, Full, Evidence, Garbled}
 use Rattle.protocol.specs.Refusals.{Checks, Condition, isForStep, isFull, isEvidence, otherRound, stranger, disorder, early, GARBLED, OTHER-ROUND, STRANGER, DISORDER, EARLY, SIGNATURE, messageConditions}
 use Rattle.protocol.specs.declared.Record.{Record}

@@ -90,7 +90,7 @@ fn wrong_lengths(value: &[u8], signature: &[u8]) -> bool
 
 // Refusal of the own submission: 8, 9, 14.
 pub fn own_refusal(r: Record, keys: &[u8], value: &[u8], signature: &[u8]) -> Verdict
-    requires { ⌜ InRange r × Given (r .n) (r .round) (now keys) ⌝ }
+    requires { ⌜ InRange (r .n) (r .seat) (r .round) × Given (r .n) (r .round) (now keys) ⌝ }
     ensures { λ v. ⌜ v .number ≡ firstOf (ownConditions (checks (now (keys .entry)) (r .round)) r (now (value .entry)) (now (signature .entry))) ⌝ }
 {
     if r.own.submitted {

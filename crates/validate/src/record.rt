@@ -33,7 +33,7 @@ fn out_of_range(r: Record) -> bool
 
 // A mask names a seat at or above n.
 fn names_stranger(r: Record) -> bool
-    requires { ⌜ InRange r ⌝ }
+    requires { ⌜ InRange (r .n) (r .seat) (r .round) ⌝ }
     ensures { λ b. ⌜ b ≡ namesStranger r ⌝ }
 {
     let collected = quorum::names_outside(r.n, r.own.collected);
@@ -45,7 +45,7 @@ fn names_stranger(r: Record) -> bool
 // Collected seats are non-empty without a submission, lack the own seat after one, exceed k, or number k without confirmed or
 // the reverse.
 fn wrong_collected(r: Record) -> bool
-    requires { ⌜ InRange r ⌝ }
+    requires { ⌜ InRange (r .n) (r .seat) (r .round) ⌝ }
     ensures { λ b. ⌜ b ≡ wrongCollected r ⌝ }
 {
     let own = quorum::has(r.own.collected, r.seat);
@@ -60,7 +60,7 @@ fn wrong_collected(r: Record) -> bool
 
 // The first certificate's seats number neither 0 nor k.
 fn wrong_first(r: Record) -> bool
-    requires { ⌜ InRange r ⌝ }
+    requires { ⌜ InRange (r .n) (r .seat) (r .round) ⌝ }
     ensures { λ b. ⌜ b ≡ wrongFirst r ⌝ }
 {
     let k = quorum::k(r.n);

@@ -12,7 +12,7 @@ use Rattle.octets.specs.Octets.{part}
 use Rattle.octets.specs.OctetLaws.{take-rest}
 use Rattle.octets.specs.StringLaws.{patch-nothing}
 use Rattle.refusal.specs.Refusal.{firstOf, unrefused}
-use Rattle.refusal.specs.Laws.{both-false}
+use Rattle.refusal.specs.RefusalLaws.{both-false}
 use Rattle.protocol.specs.Layout.{valueLength, signatureLength, keyLength}
 use Rattle.protocol.specs.Message.{byteAt}
 use Rattle.protocol.specs.Record.{wrongSize}

@@ -6,7 +6,7 @@ use borrow.Author.Needs.{needs}
 use denote.Ref.{now}
 use Rattle.protocol.specs.Layout.{evidenceCountAt}
 use Rattle.protocol.specs.Message.{byteAt}
-use Rattle.framing.specs.Laws.{frame-submit, frame-notice, frame-full, frame-evidence}
+use Rattle.framing.specs.FramingLaws.{frame-submit, frame-notice, frame-full, frame-evidence}
 use Rattle.framing.proofs.frame_length.Statement.{statement}
 use Rattle.framing.proofs.frame_length.Tie as tie
 

@@ -6,7 +6,7 @@ use borrow.Author.Needs.{needs}
 use denote.Ref.{now}
 use lib.ListN.{length-take}
 use Rattle.framing.specs.Framing.{messageLength}
-use Rattle.framing.specs.Laws.{told-none, told-many, told-short, told-kind}
+use Rattle.framing.specs.FramingLaws.{told-none, told-many, told-short, told-kind}
 use Rattle.framing.proofs.message_length.Statement.{statement}
 use Rattle.framing.proofs.message_length.Tie as tie
 

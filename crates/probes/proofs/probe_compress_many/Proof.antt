@@ -2,7 +2,7 @@
 use mathlib.Core.List.{List}
 use Prim.Native.Nat.{ℕ}
 use denote.Ref.{now}
-use Rattle.probes.specs.Laws.{compress-short, state-garbled, block-garbled, compress-fits}
+use Rattle.probes.specs.ProbesLaws.{compress-short, state-garbled, block-garbled, compress-fits}
 use borrow.Author.Needs.{needs}
 use Rattle.probes.proofs.probe_compress_many.Statement.{statement}
 use Rattle.probes.proofs.probe_compress_many.Tie as tie

@@ -1,6 +1,6 @@
 -- `probes::probe_k` meets its contract.
 use Rattle.quorum.specs.Quorum.{k}
-use Rattle.probes.specs.Laws.{fleet-none, fleet-too-large, fleet-threshold}
+use Rattle.probes.specs.ProbesLaws.{fleet-none, fleet-too-large, fleet-threshold}
 use borrow.Author.Needs.{needs}
 use Rattle.probes.proofs.probe_k.Statement.{statement}
 use Rattle.probes.proofs.probe_k.Tie as tie

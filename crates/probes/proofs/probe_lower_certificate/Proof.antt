@@ -4,7 +4,7 @@ use Prim.Native.Nat.{ℕ}
 use denote.Ref.{now}
 use Rattle.protocol.specs.Signatures.{checks}
 use Rattle.protocol.specs.Calls.{lowerCertificate}
-use Rattle.probes.specs.Laws.{copy-short, copy-fits}
+use Rattle.probes.specs.ProbesLaws.{copy-short, copy-fits}
 use borrow.Author.Needs.{needs}
 use Rattle.probes.proofs.probe_lower_certificate.Statement.{statement}
 use Rattle.probes.proofs.probe_lower_certificate.Tie as tie

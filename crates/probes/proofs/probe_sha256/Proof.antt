@@ -1,6 +1,6 @@
 -- `probes::probe_sha256` meets its contract.
 use denote.Ref.{now}
-use Rattle.probes.specs.Laws.{digest-short, digest-fits}
+use Rattle.probes.specs.ProbesLaws.{digest-short, digest-fits}
 use borrow.Author.Needs.{needs}
 use Rattle.probes.proofs.probe_sha256.Statement.{statement}
 use Rattle.probes.proofs.probe_sha256.Tie as tie

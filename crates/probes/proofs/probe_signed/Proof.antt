@@ -2,7 +2,7 @@
 use mathlib.Core.List.{List}
 use Prim.Native.Nat.{ℕ}
 use denote.Ref.{now}
-use Rattle.probes.specs.Laws.{signed-short, id-garbled, seed-garbled, digits-garbled, signed-fits}
+use Rattle.probes.specs.ProbesLaws.{signed-short, id-garbled, seed-garbled, digits-garbled, signed-fits}
 use borrow.Author.Needs.{needs}
 use Rattle.probes.proofs.probe_signed.Statement.{statement}
 use Rattle.probes.proofs.probe_signed.Tie as tie

@@ -1,6 +1,6 @@
 -- `probes::probe_t0` meets its contract.
 use Rattle.quorum.specs.Quorum.{t0}
-use Rattle.probes.specs.Laws.{fleet-none, fleet-too-large, fleet-threshold}
+use Rattle.probes.specs.ProbesLaws.{fleet-none, fleet-too-large, fleet-threshold}
 use borrow.Author.Needs.{needs}
 use Rattle.probes.proofs.probe_t0.Statement.{statement}
 use Rattle.probes.proofs.probe_t0.Tie as tie

@@ -2,7 +2,7 @@
 use borrow.Author.Needs.{needs}
 use denote.Ref.{now}
 use Rattle.lmots_digits.specs.Pieces.{front}
-use Rattle.lms.specs.Laws.{prefixed}
+use Rattle.lms.specs.LmsLaws.{prefixed}
 use Rattle.lms.specs.Pieces.{overChildren}
 use Rattle.lms.proofs.node.inner.Statement.{statement}
 use Rattle.lms.proofs.node.inner.Tie as tie

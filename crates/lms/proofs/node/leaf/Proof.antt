@@ -3,7 +3,7 @@ use borrow.Author.Needs.{needs}
 use denote.Ref.{now}
 use Rattle.rfc8554.specs.Tree.{leafInput}
 use Rattle.lmots_digits.specs.Pieces.{front}
-use Rattle.lms.specs.Laws.{prefixed}
+use Rattle.lms.specs.LmsLaws.{prefixed}
 use Rattle.lms.proofs.node.leaf.Statement.{statement}
 use Rattle.lms.proofs.node.leaf.Tie as tie
 

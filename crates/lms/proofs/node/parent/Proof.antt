@@ -2,7 +2,7 @@
 use borrow.Author.Needs.{needs}
 use denote.Ref.{now}
 use Rattle.octets.specs.Octets.{bytes}
-use Rattle.lms.specs.Laws.{over-two}
+use Rattle.lms.specs.LmsLaws.{over-two}
 use Rattle.lms.proofs.node.parent.Statement.{statement}
 use Rattle.lms.proofs.node.parent.Tie as tie
 

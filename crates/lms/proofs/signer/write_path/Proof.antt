@@ -13,7 +13,7 @@ use Rattle.octets.specs.WriteLaws.{patch-none}
 use Rattle.protocol.specs.Layout.{treeLength}
 use Rattle.rfc8554.specs.Tree.{path}
 use Rattle.lms.specs.Written.{way-within, path-turn}
-use Rattle.lms.specs.Laws.{half-turn}
+use Rattle.lms.specs.LmsLaws.{half-turn}
 use Rattle.lms.proofs.signer.write_path.Statement.{statement}
 use Rattle.lms.proofs.signer.write_path.Tie as tie
 

@@ -4,7 +4,7 @@ use borrow.Author.Needs.{needs}
 use denote.Ref.{now}
 use Rattle.octets.specs.Octets.{bytes}
 use Rattle.protocol.specs.Layout.{treeLength}
-use Rattle.lms.specs.Laws.{leaf-put}
+use Rattle.lms.specs.LmsLaws.{leaf-put}
 use Rattle.lms.proofs.tree.put_leaf.Statement.{statement}
 use Rattle.lms.proofs.tree.put_leaf.Tie as tie
 

@@ -9,7 +9,7 @@ use denote.Ref.{now}
 use Rattle.octets.specs.OctetLaws.{length-part}
 use Rattle.octets.specs.Octets.{bytes}
 use Rattle.rfc8554.specs.Verify.{climbed, signatureLength}
-use Rattle.lms.specs.Laws.{half-turn, climbed-turn}
+use Rattle.lms.specs.LmsLaws.{half-turn, climbed-turn}
 use Rattle.lms.proofs.verify.climb.Statement.{statement}
 use Rattle.lms.proofs.verify.climb.Tie as tie
 

@@ -5,7 +5,7 @@ use borrow.Author.Needs.{needs}
 use denote.Ref.{now}
 use Rattle.octets.specs.OctetLaws.{length-part}
 use Rattle.octets.specs.Octets.{bytes}
-use Rattle.lms.specs.Laws.{leaf-from}
+use Rattle.lms.specs.LmsLaws.{leaf-from}
 use Rattle.lms.proofs.verify.leaf_candidate.Statement.{statement}
 use Rattle.lms.proofs.verify.leaf_candidate.Tie as tie
 

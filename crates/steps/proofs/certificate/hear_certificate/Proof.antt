@@ -42,11 +42,11 @@ hold-or-blame-requires c κs =
     let hear = heard (answered c .before) .hear in
     let start = started (heard (answered c .before)) in
     let args = start .args in
-    let fits = replied-fits (args .r) (now (args .store)) (notices start) (hear .result) (hear .ensures) (reply .result .unit) (now (args .store)) (reply .ensures .0 .kept) (start .pre .0) in
+    let fits = replied-fits (args .r) (now (args .store)) (notices start) (hear .result) (hear .ensures) (reply .result .unit) (now (args .store)) (reply .ensures .0 .changed) (start .pre .0) in
     let room =
-    replied-room (args .r) (now (args .store)) (notices start) (hear .result) (hear .ensures) (reply .result .unit) (now (args .store)) (reply .ensures .0 .kept)
+    replied-room (args .r) (now (args .store)) (notices start) (hear .result) (hear .ensures) (reply .result .unit) (now (args .store)) (reply .ensures .0 .changed)
     (args .at) (reply .result .at) (length (now (args .out))) (reply .ensures .1) (start .pre .2) in
-    let same-n = replied-n (args .r) (now (args .store)) (notices start) (hear .result) (hear .ensures) (reply .result .unit) (now (args .store)) (reply .ensures .0 .kept) in
+    let same-n = replied-n (args .r) (now (args .store)) (notices start) (hear .result) (hear .ensures) (reply .result .unit) (now (args .store)) (reply .ensures .0 .changed) in
     (fits, rw same-n (start .pre .1), omega (arith, room, reply .kept .1 .1 .0))
 
 returns : tie.Need-returns

@@ -1,7 +1,7 @@
 -- `steps::collect::submit_own` meets its contract.
 use native.Mathlib.Omega.{arith}
 use denote.Ref.{now}
-use Rattle.steps.specs.Collecting.{kept-fits, own-submitted}
+use Rattle.steps.specs.Collecting.{value-set-fits, own-submitted}
 use borrow.Author.Needs.{needs}
 use Rattle.steps.proofs.collect.submit_own.Statement.{statement}
 use Rattle.steps.proofs.collect.submit_own.Tie as tie
@@ -21,9 +21,9 @@ gathered c = c .before .before .before .before
 collect-requires : tie.Need-collect-requires
 collect-requires c κs =
     let read = c .before .before in
-    let kept = c .before .set-own-value in
+    let told = c .before .set-own-value in
     let start = started read in
-    let fits = kept-fits (start .args .r) (read .value-at .result) (kept .result) (kept .ensures) (now (start .args .store)) (start .pre .0) in
+    let fits = value-set-fits (start .args .r) (read .value-at .result) (told .result) (told .ensures) (now (start .args .store)) (start .pre .0) in
     (fits .0, fits .1, start .pre .2)
 
 returns : tie.Need-returns
@@ -31,11 +31,11 @@ returns c =
     let wrote = written c .write-submit in
     let own = gathered (written c) .collect in
     let point = set (gathered (written c)) in
-    let kept = point .set-own-value in
+    let told = point .set-own-value in
     let read = point .before .value-at in
     let start = started (point .before) in
     let args = start .args in (
-      own-submitted (args .r) (read .result) (kept .result) (kept .ensures) (now (args .value)) (now (args .signature)) (now (args .store)) (now (args .out)) (start .pre .1) (read .ensures)
+      own-submitted (args .r) (read .result) (told .result) (told .ensures) (now (args .value)) (now (args .signature)) (now (args .store)) (now (args .out)) (start .pre .1) (read .ensures)
           (own .result) (own .last .1 .0) (wrote .last .0) (wrote .result) (own .ensures) (wrote .ensures .0),
       omega (arith, wrote .ensures .1),
     )

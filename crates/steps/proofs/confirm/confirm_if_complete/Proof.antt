@@ -37,9 +37,9 @@ hear-certificate-requires c κs =
     let args = start .args in
     let store = now (args .store) in
     let unit = done .result .unit in
-    let kept = done .ensures .0 store .kept in
-    let fits = confirmed-fits (args .r) store unit kept (start .pre .0) in
-    let room = confirmed-room (args .r) store unit kept (args .at) (done .result .at) (length (now (args .out))) (done .ensures .1) (start .pre .1) in
+    let told = done .ensures .0 store .changed in
+    let fits = confirmed-fits (args .r) store unit told (start .pre .0) in
+    let room = confirmed-room (args .r) store unit told (args .at) (done .result .at) (length (now (args .out))) (done .ensures .1) (start .pre .1) in
     (fits, readable-bank (unit .n) bank.Collected (unit .own .collected) store (fits .collected) (fits .slots), omega (arith, room, done .kept .1 .0))
 
 returns : tie.Need-returns

@@ -34,7 +34,7 @@ confirm-if-complete-requires c κs =
     let args = start .args in
     let after =
     submitted-fits (args .r) (start .pre .0 .possible) (now (args .store)) (fits start) (said .result .unit) (said .last .1 .0) (said .kept .1 .0)
-    (now (args .value)) (now (args .signature)) (start .pre .1) (said .ensures .0 .kept) in
+    (now (args .value)) (now (args .signature)) (start .pre .1) (said .ensures .0 .changed) in
     let room = rest-fits (args .r .n) (said .result .unit .n) (said .result .at) (length (now (args .out))) (after .1) (omega (arith, said .ensures .1)) (start .pre .0 .room) in
     (after .0, omega (arith, room, said .kept .1 .1 .0))
 
