@@ -219,7 +219,7 @@ module _ (S : Setting) where
     confirmed i value c = confirms-end (boat i) (opened i) value c
 
     inside : (i : I) → boat i .seat < n
-    inside i = opened-range S (boat i) (opened i) .inside
+    inside i = opened-range S (boat i) (opened i) .seated
 
     -- of two units that confirmed different layouts, each has sent its FULL
     each-sent : (i j : I) (a b : List ℕ) → a ≢ b → Confirms S (boat i) a → Confirms S (boat j) b → ReachedOthers S boat j → endAt i .sent ≡ true
