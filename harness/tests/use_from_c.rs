@@ -170,7 +170,7 @@ fn the_archive_shares_nothing() {
     for line in text.lines() {
         if let [name, kind, ..] = line.split_whitespace().collect::<Vec<_>>()[..] {
             let known = match kind {
-                "U" => ["memcpy", "memset"].contains(&name),
+                "U" => ["memcpy", "memmove", "memset"].contains(&name),
                 // Code, and constants.
                 "t" | "T" | "r" | "R" => true,
                 _ => false,

@@ -237,7 +237,7 @@ module _ (S : Setting) {I : Type 0} (P : Plan I) (z : Splits S P) where
   opened : (i : I) → IsOpened S (boat S P i)
   opened i =
       opening-not-refused n (role i .seat) round keys .1
-      (record { range = record { some = z .fits .some; most = z .fits .most; inside = inside (role i .side) (role i .seat) (z .fits .signs i); early = z .early }; table = z .table })
+      (record { range = record { some = z .fits .some; most = z .fits .most; seated = inside (role i .side) (role i .seat) (z .fits .signs i); dated = z .early }; table = z .table })
 
   family : Family S (boat S P)
   family = record { opened = opened; apart = z .fits .apart }
