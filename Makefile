@@ -22,7 +22,7 @@ test:
 	@scripts/test.sh
 
 demo: zolbine
-	@echo "zolbine: compiling the demonstration, about a minute the first time; then it makes a key for each boat" >&2
+	@echo "zolbine: compiling the demonstration; then it makes a key for each boat" >&2
 	@$(HARNESS) run --release --offline --features zolbine --bin demo -- $(DEMO)
 
 soak: zolbine
