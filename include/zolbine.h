@@ -63,11 +63,13 @@ enum {
     ZOLBINE_TREE_LEN = 65536,
     ZOLBINE_SIGNATURE_LEN = 1452,
     ZOLBINE_LEAF_LEN = 4, /* the leaf, high byte first, with which a signature starts */
-    ZOLBINE_MESSAGE_MAX = 65535,
+    ZOLBINE_MESSAGE_MAX = 65535, /* the longest that zolbine_check_signature and zolbine_sign take; an EVIDENCE may be longer */
     ZOLBINE_LAST_LEAF = 1023,
     ZOLBINE_MOST_SEATS = 32,
     ZOLBINE_VALUE_LEN = 32,
+    ZOLBINE_ROUND_AT = 1, /* in every command: after its one byte */
     ZOLBINE_SEAT_AT = 1 + 2, /* in the signed bytes, SUBMIT, NOTICE and FULL: after command and round */
+    ZOLBINE_VALUE_AT = 1 + 2 + 1, /* in the same: after the seat */
     ZOLBINE_SIGNED_LEN = 1 + 2 + 1 + ZOLBINE_VALUE_LEN,              /* what a seat signs: 0x01, round, seat, value */
     ZOLBINE_SUBMIT_LEN = ZOLBINE_SIGNED_LEN + ZOLBINE_SIGNATURE_LEN, /* the signed bytes, signature */
     ZOLBINE_NOTICE_LEN = 1 + 2 + 1 + ZOLBINE_VALUE_LEN,              /* command, round, seat, value */
@@ -175,7 +177,8 @@ struct zolbine_own {
 };
 
 struct zolbine_notices {
-    uint32_t heard;                   /* values heard in NOTICE and FULL: 0 for none, 1 for one, 2 for two different ones */
+    uint32_t heard;                   /* values heard in NOTICE and FULL, the own one counting once the unit has confirmed: 0 for
+                                         none, 1 for one, 2 for two different ones */
     uint8_t value[ZOLBINE_VALUE_LEN]; /* the first of them */
 };
 
