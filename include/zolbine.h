@@ -73,22 +73,31 @@ enum {
     ZOLBINE_SIGNED_LEN = 1 + 2 + 1 + ZOLBINE_VALUE_LEN,              /* what a seat signs: 0x01, round, seat, value */
     ZOLBINE_SUBMIT_LEN = ZOLBINE_SIGNED_LEN + ZOLBINE_SIGNATURE_LEN, /* the signed bytes, signature */
     ZOLBINE_NOTICE_LEN = 1 + 2 + 1 + ZOLBINE_VALUE_LEN,              /* command, round, seat, value */
+    ZOLBINE_FULL_COUNT_AT = 1 + 2 + 1 + ZOLBINE_VALUE_LEN,           /* in FULL: after the value */
     ZOLBINE_FULL_HEAD_LEN = 1 + 2 + 1 + ZOLBINE_VALUE_LEN + 1,       /* command, round, sender's seat, value, count */
     ZOLBINE_FULL_ENTRY_LEN = 1 + 1 + ZOLBINE_SIGNATURE_LEN,          /* command, seat, signature */
+    ZOLBINE_EVIDENCE_COUNT_AT = 1 + 2 + 2 * ZOLBINE_VALUE_LEN,       /* in EVIDENCE: after the two values */
     ZOLBINE_EVIDENCE_HEAD_LEN = 1 + 2 + 2 * ZOLBINE_VALUE_LEN + 1,   /* command, round, two values, count */
     ZOLBINE_EVIDENCE_ENTRY_LEN = 1 + 1 + 2 * ZOLBINE_SIGNATURE_LEN   /* command, seat, two signatures */
 };
+
+/* A number of any integer type as a size_t, for the lengths below. */
+#ifdef __cplusplus
+#define ZOLBINE_AS_SIZE(number) static_cast<size_t>(number)
+#else
+#define ZOLBINE_AS_SIZE(number) ((size_t)(number))
+#endif
 
 /* Lengths by n, the number of seats, from 1 to 32. It takes the signatures of k = n - t0 seats to confirm a value, and more than
  * t0 double signers, t0 = n/3 rounded up, less one, to have two confirmed. An EVIDENCE is as long as its count of entries, 1 to
  * n, makes it. Each takes a number of any integer type and is a size_t, a constant where the number is one.
  */
-#define ZOLBINE_T0(n) (((size_t)(n) + 2) / 3 - 1)
-#define ZOLBINE_K(n) ((size_t)(n) - ZOLBINE_T0(n))
-#define ZOLBINE_KEYS_LEN(n) (ZOLBINE_KEY_LEN * (size_t)(n))
-#define ZOLBINE_STORE_LEN(n) (2 * ZOLBINE_SIGNATURE_LEN * (size_t)(n))
+#define ZOLBINE_T0(n) ((ZOLBINE_AS_SIZE(n) + 2) / 3 - 1)
+#define ZOLBINE_K(n) (ZOLBINE_AS_SIZE(n) - ZOLBINE_T0(n))
+#define ZOLBINE_KEYS_LEN(n) (ZOLBINE_KEY_LEN * ZOLBINE_AS_SIZE(n))
+#define ZOLBINE_STORE_LEN(n) (2 * ZOLBINE_SIGNATURE_LEN * ZOLBINE_AS_SIZE(n))
 #define ZOLBINE_FULL_LEN(n) (ZOLBINE_FULL_HEAD_LEN + ZOLBINE_FULL_ENTRY_LEN * ZOLBINE_K(n))
-#define ZOLBINE_EVIDENCE_LEN(count) (ZOLBINE_EVIDENCE_HEAD_LEN + ZOLBINE_EVIDENCE_ENTRY_LEN * (size_t)(count))
+#define ZOLBINE_EVIDENCE_LEN(count) (ZOLBINE_EVIDENCE_HEAD_LEN + ZOLBINE_EVIDENCE_ENTRY_LEN * ZOLBINE_AS_SIZE(count))
 #define ZOLBINE_EVIDENCE_OUT_LEN(n) ZOLBINE_EVIDENCE_LEN(ZOLBINE_K(n)) /* out of zolbine_make_evidence */
 /* out of zolbine_submit and of the steps: room for one message of each kind */
 #define ZOLBINE_OUT_LEN(n) (ZOLBINE_SUBMIT_LEN + ZOLBINE_NOTICE_LEN + ZOLBINE_FULL_LEN(n) + ZOLBINE_EVIDENCE_OUT_LEN(n))

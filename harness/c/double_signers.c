@@ -92,10 +92,10 @@ static void make_submit(uint32_t seat, const uint8_t *layout, uint8_t *submit)
     struct zolbine_written made;
 
     submit[0] = ZOLBINE_SUBMIT;
-    submit[1] = ROUND >> 8;
-    submit[2] = ROUND & 0xff;
+    submit[ZOLBINE_ROUND_AT] = ROUND >> 8;
+    submit[ZOLBINE_ROUND_AT + 1] = ROUND & 0xff;
     submit[ZOLBINE_SEAT_AT] = (uint8_t)seat;
-    memcpy(submit + ZOLBINE_SEAT_AT + 1, layout, ZOLBINE_VALUE_LEN);
+    memcpy(submit + ZOLBINE_VALUE_AT, layout, ZOLBINE_VALUE_LEN);
     draw(randomizer, sizeof randomizer, 300 + 10 * seat + signer->signatures++);
     made = zolbine_sign(ROUND, signer->seed, sizeof signer->seed, signer->identifier, sizeof signer->identifier,
                         randomizer, sizeof randomizer, signer->tree, sizeof signer->tree,

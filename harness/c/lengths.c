@@ -1,5 +1,5 @@
 /* The lengths that include/zolbine.h names are those that the calls ask for, for every n: a byte less is refused, and a byte more
- * where a length is exact. Prints the number of comparisons, and ends with 1 at the first that goes wrong. C11 that is C++ too.
+ * where a length is exact. The places that it names are those where the calls read. Prints the number of comparisons, and ends with 1 at the first that goes wrong. C11 that is C++ too.
  */
 #include "zolbine.h"
 
@@ -29,7 +29,7 @@ static void start(uint8_t command)
 {
     memset(message, 0, sizeof message);
     message[0] = command;
-    message[2] = OTHER_ROUND;
+    message[ZOLBINE_ROUND_AT + 1] = OTHER_ROUND;
 }
 
 static void full(uint32_t n)
@@ -37,7 +37,7 @@ static void full(uint32_t n)
     uint32_t i;
 
     start(ZOLBINE_FULL);
-    message[ZOLBINE_FULL_HEAD_LEN - 1] = (uint8_t)ZOLBINE_K(n);
+    message[ZOLBINE_FULL_COUNT_AT] = (uint8_t)ZOLBINE_K(n);
     for (i = 0; i < ZOLBINE_K(n); i++)
         message[ZOLBINE_FULL_HEAD_LEN + ZOLBINE_FULL_ENTRY_LEN * i] = ZOLBINE_FULL_ENTRY;
 }
@@ -47,7 +47,7 @@ static void evidence(uint32_t count)
     uint32_t i;
 
     start(ZOLBINE_EVIDENCE);
-    message[ZOLBINE_EVIDENCE_HEAD_LEN - 1] = (uint8_t)count;
+    message[ZOLBINE_EVIDENCE_COUNT_AT] = (uint8_t)count;
     for (i = 0; i < count; i++)
         message[ZOLBINE_EVIDENCE_HEAD_LEN + ZOLBINE_EVIDENCE_ENTRY_LEN * i] = ZOLBINE_EVIDENCE_ENTRY;
 }
@@ -93,6 +93,28 @@ static void message_is(const char *what, struct zolbine_record record, size_t le
     }
 }
 
+/* Round, seat and value of a NOTICE, and a FULL's, stand where the header says. */
+static void places(struct zolbine_record record)
+{
+    uint32_t n = record.n;
+    struct zolbine_stepped answer;
+
+    start(ZOLBINE_NOTICE);
+    message[ZOLBINE_ROUND_AT + 1] = ROUND;
+    message[ZOLBINE_SEAT_AT] = (uint8_t)n;
+    is("a stranger's seat", n, stepped(record, ZOLBINE_NOTICE_LEN, ZOLBINE_STORE_LEN(n), ZOLBINE_OUT_LEN(n)), ZOLBINE_STRANGER);
+    message[ZOLBINE_SEAT_AT]--;
+    memset(message + ZOLBINE_VALUE_AT, 0xff, ZOLBINE_VALUE_LEN);
+    answer = zolbine_step(record, keys, ZOLBINE_KEYS_LEN(n), store, ZOLBINE_STORE_LEN(n), message, ZOLBINE_NOTICE_LEN, out,
+                          ZOLBINE_OUT_LEN(n));
+    is("round and seat", n, answer.number, 0);
+    is("value", n, memcmp(answer.record.notices.value, message + ZOLBINE_VALUE_AT, ZOLBINE_VALUE_LEN) == 0, true);
+    full(n);
+    message[ZOLBINE_ROUND_AT + 1] = ROUND;
+    message[ZOLBINE_SEAT_AT] = (uint8_t)n;
+    is("a stranger's FULL", n, stepped(record, ZOLBINE_FULL_LEN(n), ZOLBINE_STORE_LEN(n), ZOLBINE_OUT_LEN(n)), ZOLBINE_STRANGER);
+}
+
 static void by_n(uint32_t n)
 {
     size_t keys_len = ZOLBINE_KEYS_LEN(n), store_len = ZOLBINE_STORE_LEN(n), out_len = ZOLBINE_OUT_LEN(n);
@@ -118,12 +140,13 @@ static void by_n(uint32_t n)
     message_is("NOTICE", record, ZOLBINE_NOTICE_LEN);
     start(ZOLBINE_SUBMIT);
     message_is("SUBMIT", record, ZOLBINE_SUBMIT_LEN);
+    places(record);
     full(n);
     message_is("FULL", record, full_len);
     is("out, evidence", n, made_evidence(n, full_len, making_len - 1), ZOLBINE_OUT);
     is("out, evidence", n, made_evidence(n, full_len, making_len), ZOLBINE_OTHER_ROUND);
     is("another fleet's n", n, zolbine_message_length(N + 1, message, sizeof message), 0);
-    message[ZOLBINE_FULL_HEAD_LEN - 1]++;
+    message[ZOLBINE_FULL_COUNT_AT]++;
     is("a count that isn't k", n, zolbine_message_length(n, message, sizeof message), 0);
     for (count = 1; count <= n; count++) {
         evidence(count);

@@ -41,6 +41,35 @@ fn the_headers_lengths_are_those_of_the_calls() {
     assert!(c == cpp && c.trim().parse::<u32>().unwrap() > 5000, "{c}{cpp}");
 }
 
+/// The header's macros with a parameter, but for those that it undefines.
+fn macros() -> Vec<String> {
+    let header = std::fs::read_to_string(file("include/zolbine.h")).unwrap();
+    let undefined = |name: &str| header.lines().any(|line| line.strip_prefix("#undef ") == Some(name));
+    let defined = header.lines().filter_map(|line| line.strip_prefix("#define ")?.split([' ', ')']).next());
+    let mut names: Vec<String> =
+        defined.filter_map(|start| start.split_once('(')).map(|(name, _)| name.into()).collect();
+    names.retain(|name| !undefined(name));
+    names.sort();
+    names.dedup();
+    names
+}
+
+/// A C++ program may forbid C's casts: each macro, of a constant and of numbers of several types.
+#[test]
+fn the_headers_macros_in_cpp_without_old_casts() {
+    let names = macros();
+    assert!(names.contains(&"ZOLBINE_OUT_LEN".into()) && names.contains(&"ZOLBINE_T0".into()), "{names:?}");
+    let lengths = names.iter().map(|name| format!("sum += {name}(n); static_assert({name}(7) > 1, \"\");"));
+    let body = lengths.collect::<Vec<_>>().join(" ");
+    let text = format!(
+        "#include \"zolbine.h\"\ntemplate <typename T> size_t lengths(T n) {{ size_t sum = 0; {body} return sum; }}\n\
+        int main() {{ return lengths(7) == lengths(uint8_t(7)) && lengths(7u) == lengths(size_t(7)) ? 0 : 1; }}\n"
+    );
+    let source = Path::new(env!("CARGO_TARGET_TMPDIR")).join("macros.cpp");
+    std::fs::write(&source, text).unwrap();
+    printed(&compiled_by(compiler(true), source.to_str().unwrap(), "macros_cpp", &["-Wold-style-cast"]));
+}
+
 /// Boat 0 hears of boat 1's layout before it confirms its own, and so writes two messages in one call.
 const SPLIT: &str = "\
 (seat 2 signs for boat 1)
