@@ -29,6 +29,21 @@ fn lengths_by_n() {
     }
 }
 
+/// The places that PROTOCOL gives a name of the header.
+#[test]
+fn places() {
+    let places = [
+        ("ROUND_AT", layout::ROUND_AT),
+        ("SEAT_AT", layout::SEAT_AT),
+        ("VALUE_AT", layout::VALUE_AT),
+        ("FULL_COUNT_AT", layout::FULL_COUNT_AT),
+        ("EVIDENCE_COUNT_AT", layout::EVIDENCE_COUNT_AT),
+    ];
+    for (name, at) in places {
+        assert!(PROTOCOL.contains(&format!("| {at} (`ZOLBINE_{name}`) |")), "{name} isn't {at}");
+    }
+}
+
 fn words(text: &str) -> impl Iterator<Item = &str> {
     text.split(|letter: char| !letter.is_ascii_alphanumeric() && letter != '_')
 }
