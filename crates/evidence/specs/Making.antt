@@ -88,24 +88,24 @@ module _ (c : Call) (a b out : List ℕ) where
   pub making-outside : {number : ℕ} → number ≡ firstOf (outside c) → (number ≡ 0 → ⊥) → Makes number 0 out
   making-outside {number} e h = by-number (refused-first (outside c) rest number e h) h
 
-  module _ (clear : Clear c) where
-    pub making-short : shortOut (evidenceOutLength (c .n)) out ≡ true → Makes 7 0 out
+module _ {c : Call} (clear : Clear c) (a b out : List ℕ) where
+  pub making-short : shortOut (evidenceOutLength (c .n)) out ≡ true → Makes c a b out 7 0 out
+  unfolding firstOf
+  making-short l = let short : 7 ≡ firstOf (rest c a b out) = rw l in by-number c a b out (short ∙ after-outside clear (rest c a b out)) (λ z. omega arith)
+
+  module _ (room : shortOut (evidenceOutLength (c .n)) out ≡ false) {number : ℕ} (e : number ≡ firstOf (two c a b)) where
+    roomy : number ≡ firstOf (outside c ++ rest c a b out)
     unfolding firstOf
-    making-short l = let short : 7 ≡ firstOf rest = rw l in by-number (short ∙ after-outside c clear rest) (λ z. omega arith)
+    roomy = let long : firstOf (two c a b) ≡ firstOf (rest c a b out) = rw room in e ∙ long ∙ after-outside clear (rest c a b out)
 
-    module _ (room : shortOut (evidenceOutLength (c .n)) out ≡ false) {number : ℕ} (e : number ≡ firstOf (two c a b)) where
-      roomy : number ≡ firstOf (outside c ++ rest)
-      unfolding firstOf
-      roomy = let long : firstOf (two c a b) ≡ firstOf rest = rw room in e ∙ long ∙ after-outside c clear rest
+    pub making-refused : (number ≡ 0 → ⊥) → Makes c a b out number 0 out
+    making-refused h = by-number c a b out roomy h
 
-      pub making-refused : (number ≡ 0 → ⊥) → Makes number 0 out
-      making-refused h = by-number roomy h
-
-      pub making-done : number ≡ 0 → {after : List ℕ} {end : ℕ} → Wrote 0 (render conflict) out after end → Makes 0 end after
-      unfolding making made makingBy unrefused outAfter
-      making-done z {after} {end} w =
-          let ends : end ≡ length (render conflict) = omega (arith, w .ends) in
-          rw (in-order, sym roomy ∙ z) (ap (answered 0) ends, w .wrote)
+    pub making-done : number ≡ 0 → {after : List ℕ} {end : ℕ} → Wrote 0 (render (conflict c a b out)) out after end → Makes c a b out 0 end after
+    unfolding making made makingBy unrefused outAfter
+    making-done z {after} {end} w =
+        let ends : end ≡ length (render (conflict c a b out)) = omega (arith, w .ends) in
+        rw (in-order c a b out, sym roomy ∙ z) (ap (answered 0) ends, w .wrote)
 
 -- ---- the lower certificate
 
@@ -144,21 +144,23 @@ module _ (c : Call) (a b : List ℕ) where
     unfolding lowerConditions
     lower-outside e h = nothing-of (refused-first (outside c) (two c a b) number e h) h
 
-    pub lower-refused : Clear c → number ≡ firstOf (two c a b) → (number ≡ 0 → ⊥) → Hands part buffer
-    unfolding lowerConditions
-    lower-refused clear e h = nothing-of (e ∙ after-outside c clear (two c a b)) h
+module _ {c : Call} (clear : Clear c) (a b : List ℕ) {number : ℕ} (e : number ≡ firstOf (two c a b)) where
+  told : number ≡ lowest c a b
+  unfolding lowerConditions
+  told = e ∙ after-outside clear (two c a b)
+
+  pub lower-refused : {part : List ℕ} → part ≡ [] → {buffer : Type 0} → (number ≡ 0 → ⊥) → Hands c a b part buffer
+  lower-refused none h = nothing-of c a b none told h
 
   -- nothing is refused: the whole of the first, or of the second. x and y are the references to them.
-  module _ (clear : Clear c) {number : ℕ} (e : number ≡ firstOf (two c a b)) (z : number ≡ 0) where
-    is-none : lowest ≡ 0
-    unfolding lowerConditions
-    is-none = sym (e ∙ after-outside c clear (two c a b)) ∙ z
+  module _ (z : number ≡ 0) {t : Bool} (is : t ≡ isLower (certificateIn (read (c .n) a) .value) (certificateIn (read (c .n) b) .value)) {A : Type 0} (x y : A) where
+    is-none : lowest c a b ≡ 0
+    is-none = sym told ∙ z
 
-    module _ {t : Bool} (is : t ≡ isLower (certificateIn (read (c .n) a) .value) (certificateIn (read (c .n) b) .value)) {A : Type 0} (x y : A) where
-      pub first-lower : t ≡ true → Hands a (x ≡ lowerFirst (c .n) a b x y)
-      unfolding lowerCertificate lowerOf unrefused lowerFirst
-      first-lower q = (rw (is-none, ← is, q), λ _. rw (← is, q))
+    pub first-lower : t ≡ true → Hands c a b a (x ≡ lowerFirst (c .n) a b x y)
+    unfolding lowerCertificate lowerOf unrefused lowerFirst
+    first-lower q = (rw (is-none, ← is, q), λ _. rw (← is, q))
 
-      pub second-lower : t ≡ false → Hands b (y ≡ lowerFirst (c .n) a b x y)
-      unfolding lowerCertificate lowerOf unrefused lowerFirst
-      second-lower q = (rw (is-none, ← is, q), λ _. rw (← is, q))
+    pub second-lower : t ≡ false → Hands c a b b (y ≡ lowerFirst (c .n) a b x y)
+    unfolding lowerCertificate lowerOf unrefused lowerFirst
+    second-lower q = (rw (is-none, ← is, q), λ _. rw (← is, q))

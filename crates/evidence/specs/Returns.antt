@@ -41,14 +41,14 @@ module _ (c : Call) (bytes : List ℕ) where
   pub outside-refused : {number : ℕ} → number ≡ firstOf (outside c) → (number ≡ 0 → ⊥) → Answers number 0
   outside-refused {number} e h = refused (refused-first (outside c) pack number e h) h
 
-  -- of the message, and nothing
-  module _ (clear : Clear c) {number : ℕ} (e : number ≡ firstOf (packConditions (check c) (c .n) (c .round) (read (c .n) bytes))) where
-    later : number ≡ firstOf (outside c ++ pack)
-    later = e ∙ after-outside c clear pack
+-- of the message, and nothing
+module _ {c : Call} (clear : Clear c) (bytes : List ℕ) {number : ℕ} (e : number ≡ firstOf (pack c bytes)) where
+  later : number ≡ firstOf (outside c ++ pack c bytes)
+  later = e ∙ after-outside clear (pack c bytes)
 
-    pub pack-refused : (number ≡ 0 → ⊥) → Answers number 0
-    pack-refused h = refused later h
+  pub pack-refused : (number ≡ 0 → ⊥) → Answers c bytes number 0
+  pack-refused h = refused c bytes later h
 
-    pub accepted : number ≡ 0 → {mask : ℕ} → mask ≡ setOf (entrySeats (read (c .n) bytes)) → Answers 0 mask
-    unfolding evidenceCheck checkedBy unrefused
-    accepted z set = rw (evidence-parts (check c) (c .n) (c .round) m (c .keys), sym later ∙ z, set)
+  pub accepted : number ≡ 0 → {mask : ℕ} → mask ≡ setOf (entrySeats (m c bytes)) → Answers c bytes 0 mask
+  unfolding evidenceCheck checkedBy unrefused
+  accepted z set = rw (evidence-parts (check c) (c .n) (c .round) (m c bytes) (c .keys), sym later ∙ z, set)
