@@ -18,7 +18,7 @@ use Rattle.protocol.specs.Message.{renderAll}
 use Rattle.protocol.specs.Refusals.{Condition, recordConditions}
 use Rattle.protocol.specs.RecordLaws.{Ready}
 use Rattle.protocol.specs.Step.{State}
-use Rattle.protocol.specs.Calls.{outAfter, Result, resultBy, start, answer}
+use Rattle.protocol.specs.Calls.{outAfter, resultBy, start, answer}
 use Rattle.protocol.specs.declared.Record.{Record}
 use Rattle.protocol.specs.declared.Stepped.{Stepped}
 use Rattle.validate.specs.Given.{Given, record-ready, record-given, record-rises}

@@ -68,11 +68,11 @@ module _ (c : Call) (a b out : List ℕ) where
   abbrev rest : List Condition
   rest = OUT (evidenceOutLength (c .n)) out ∷ two c a b
 
-  abbrev pub conflict : Message
+  abbrev conflict : Message
   conflict = evidenceOf (c .n) (c .round) (certificateIn (read (c .n) a)) (certificateIn (read (c .n) b))
 
   -- what the call answers and leaves
-  abbrev pub Makes : ℕ → ℕ → List ℕ → Type 0
+  abbrev Makes : ℕ → ℕ → List ℕ → Type 0
   Makes number written after =
       let result = making (check c) (c .n) (c .round) (c .keys) a b out in
       (answered number written ≡ made result) × (after ≡ outAfter (result .written) out)
@@ -131,7 +131,7 @@ module _ (c : Call) (a b : List ℕ) where
   lowest = lowerNumber (check c) (c .n) (c .round) (c .keys) a b
 
   -- what the call hands back: a part, and of which buffer
-  abbrev pub Hands : List ℕ → Type 0 → Type 0
+  abbrev Hands : List ℕ → Type 0 → Type 0
   Hands part buffer = (part ≡ lowerCertificate (check c) (c .n) (c .round) (c .keys) a b) × (lowest ≡ 0 → buffer)
 
   -- a refusal hands back no byte

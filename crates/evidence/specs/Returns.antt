@@ -30,7 +30,7 @@ module _ (c : Call) (bytes : List ℕ) where
   pack = packConditions (check c) (c .n) (c .round) m
 
   -- what the call answers
-  abbrev pub Answers : ℕ → ℕ → Type 0
+  abbrev Answers : ℕ → ℕ → Type 0
   Answers number mask = answered number mask ≡ evidenceCheck (check c) (c .n) (c .round) (c .keys) bytes
 
   refused : {number : ℕ} → number ≡ firstOf (outside c ++ pack) → (number ≡ 0 → ⊥) → Answers number 0

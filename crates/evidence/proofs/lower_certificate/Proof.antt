@@ -7,11 +7,8 @@ use Rattle.evidence.proofs.lower_certificate.Statement.{statement}
 use Rattle.evidence.proofs.lower_certificate.Tie as tie
 
 -- what the call is given
-abbrev started : tie.After-outside-refusal → tie.Start
-started c = c .before .before .before .before
-
 abbrev call : tie.After-outside-refusal → Call
-call c = let args = started c .args in record { n = args .n; round = args .round; keys = now (args .keys) }
+call c = let args = c .before .before .before .before .args in record { n = args .n; round = args .round; keys = now (args .keys) }
 
 -- n, round and key table pass
 clear : (c : tie.Else1) → Clear (call (c .before))
@@ -41,15 +38,13 @@ returns-3 : tie.Need-returns-3
 returns-3 c =
     let compared = c .before in
     let v = verdict (compared .before .before) in
-    let args = started (v .before .before) .args in
-    first-lower (clear (v .before)) _ _ (v .two-refusal .ensures) (compared .before .if2 .left) (compared .first-is-lower .ensures) (args .first) (args .second) (c .if3 .taken)
+    first-lower (clear (v .before)) _ _ (v .two-refusal .ensures) (compared .before .if2 .left) (compared .first-is-lower .ensures) _ _ (c .if3 .taken)
 
 returns-4 : tie.Need-returns-4
 returns-4 c =
     let compared = c .before in
     let v = verdict (compared .before .before) in
-    let args = started (v .before .before) .args in
-    second-lower (clear (v .before)) _ _ (v .two-refusal .ensures) (compared .before .if2 .left) (compared .first-is-lower .ensures) (args .first) (args .second) (c .if3 .left)
+    second-lower (clear (v .before)) _ _ (v .two-refusal .ensures) (compared .before .if2 .left) (compared .first-is-lower .ensures) _ _ (c .if3 .left)
 
 pub lower-certificate-spec : {M : Type 1} → statement M
 lower-certificate-spec =
