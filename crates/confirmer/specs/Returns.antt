@@ -1,4 +1,4 @@
--- Submit and step: what they leave, from their refusals and their phases.
+-- Results of submit and step, from their refusals and their phases.
 -- Assumes nothing.
 use mathlib.Core.Path.{_≡_, refl, sym, ap, _∙_}
 use mathlib.Core.List.{List, _++_, append-assoc}
@@ -28,7 +28,7 @@ use Rattle.steps.specs.declared.phases.Phase.{Phase}
 abbrev pub answered : ℕ → ℕ → Record → Stepped
 answered number written unit = record { number = number; written = written; unit = unit }
 
--- a submit or a step: what it is given, its conditions after those of the record, and its phases
+-- a submit or a step: arguments, conditions after those of the record, and phases
 pub record Call : Type 0 where
   pub keys : List ℕ
   pub unit : Record
@@ -41,11 +41,11 @@ pub record Call : Type 0 where
 abbrev first : Call → List Condition
 first c = recordConditions (c .keys) (c .unit) (c .store) (c .out)
 
--- what it comes to where nothing is refused
+-- state after the phases
 abbrev outcome : Call → State
 outcome c = c .phases (start (c .unit) (c .store))
 
--- the answer, the store and out after a call, by its refusal number
+-- answer, store and out after a call, by its refusal number
 abbrev LeavesBy : ℕ → Call → Stepped → List ℕ → List ℕ → Type 0
 LeavesBy number c a store out =
     let result = resultBy number (outcome c) (c .unit) (c .store) in
@@ -56,13 +56,13 @@ Leaves c = LeavesBy (firstOf (first c ++ c .rest)) c
 
 -- ---- points of a call
 
--- the number told for record, key table, store and out is 0
+-- no refusal for record, key table, store and out
 pub record Passed (c : Call) : Type 0 where
   pub number : ℕ
   pub told : number ≡ firstOf (first c)
   pub none : number ≡ 0
 
--- the one told for the rest is 0 too, and the phases are lent as much of out as document 01 states
+-- nor for the rest, and the phases are lent the part of out that document 01 states
 pub record Lent (c : Call) (room : ℕ) : Type 0 where
   pub passed : Passed c
   pub number : ℕ
@@ -70,7 +70,7 @@ pub record Lent (c : Call) (room : ℕ) : Type 0 where
   pub none : number ≡ 0
   pub stated : room ≡ outLength (c .unit .n)
 
--- the phases leave p, this store and this part
+-- the phases are done: their answer, the store and this part after them
 pub record Acted (c : Call) (room : ℕ) (p : Phase) (store part : List ℕ) : Type 0 where
   pub lent : Lent c room
   pub did : Did (c .phases) (c .unit) (c .store) (take room (c .out)) 0 (p .unit) store part (p .at)
@@ -109,7 +109,7 @@ module _ {c : Call} (passed : Passed c) where
 
 -- ---- phases
 
--- the part of out that they are lent
+-- the part of out that the phases are lent
 module _ {c : Call} {room : ℕ} (lent : Lent c room) where
   pub part-within : room ≤ length (c .out)
   part-within = omega (arith, lent .stated, ready (lent .passed) .room)
@@ -122,7 +122,7 @@ module _ {c : Call} {room : ℕ} (lent : Lent c room) where
       let whole = ready (lent .passed) in
       record { possible = whole .possible; slots = whole .slots; room = omega (arith, lent .stated, part-length) }
 
--- what they leave in it, and so in out
+-- this part after them, and so out
 module _ {c : Call} {room : ℕ} {p : Phase} {store part : List ℕ} (acted : Acted c room p store part) where
   abbrev bytes : List ℕ
   bytes = renderAll (outcome c .written)
@@ -136,7 +136,7 @@ module _ {c : Call} {room : ℕ} {p : Phase} {store part : List ℕ} (acted : Ac
       let size : length part ≡ length bytes + length (drop (0 + length bytes) lent-part) = ap length (acted .did .wrote .wrote) ∙ length-append bytes (drop (0 + length bytes) lent-part) in
       omega (arith, size, acted .long, part-length (acted .lent))
 
-  -- the bytes written are counted by 32 bits
+  -- the number of bytes written fits 32 bits
   pub end-small : p .at < 2 ^ 32
   unfolding k
   end-small = omega (arith, given (acted .lent .passed) .most, acted .lent .stated, out-figure (c .unit .n), acted .did .wrote .ends, written-within)

@@ -1,4 +1,4 @@
--- Where n, round and key table aren't refused, and where two certificates aren't.
+-- Calls whose n, round and key table aren't refused, and two certificates that aren't.
 -- Assumes nothing.
 use mathlib.Core.Path.{_≡_, sym, _∙_}
 use mathlib.Core.List.{List, _++_}
@@ -25,7 +25,7 @@ check c = checks (c .keys) (c .round)
 abbrev pub outside : Call → List Condition
 outside c = outsideConditions (c .n) (c .round) (c .keys)
 
--- the number told for them is 0
+-- n, round and key table aren't refused
 pub record Clear (c : Call) : Type 0 where
   pub number : ℕ
   pub told : number ≡ firstOf (outside c)
@@ -38,15 +38,15 @@ module _ {c : Call} (clear : Clear c) where
   pub sized : (1 ≤ c .n) × (c .n ≤ mostSeats)
   sized = (given .some, given .most)
 
-  -- the number is that of the conditions after them
+  -- the number of the call is that of the rows after them
   pub after-outside : (rest : List Condition) → firstOf rest ≡ firstOf (outside c ++ rest)
   after-outside rest = refused-later (outside c) rest (clear .number) (clear .told) (outside-rises (c .n) (c .round) (c .keys)) (clear .none)
 
--- the conditions of two certificates
+-- the rows of two certificates
 abbrev pub two : Call → List ℕ → List ℕ → List Condition
 two c a b = twoConditions (check c) (c .n) (c .round) (read (c .n) a) (read (c .n) b)
 
--- two that aren't refused
+-- two certificates that aren't refused
 pub conflicting : (check : Checks) (n round : ℕ) (a b : Message) {number : ℕ} → number ≡ firstOf (twoConditions check n round a b) → number ≡ 0 → Conflict n round a b
 conflicting check n round a b e z = two-passed check n round a b (sym e ∙ z)
 

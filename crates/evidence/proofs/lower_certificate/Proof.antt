@@ -6,7 +6,7 @@ use borrow.Author.Needs.{needs}
 use Rattle.evidence.proofs.lower_certificate.Statement.{statement}
 use Rattle.evidence.proofs.lower_certificate.Tie as tie
 
--- what the call is given
+-- arguments of the call
 abbrev call : tie.After-outside-refusal → Call
 call c = let args = c .before .before .before .before .args in record { n = args .n; round = args .round; keys = now (args .keys) }
 

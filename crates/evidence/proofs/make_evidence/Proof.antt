@@ -10,7 +10,7 @@ use borrow.Author.Needs.{needs}
 use Rattle.evidence.proofs.make_evidence.Statement.{statement}
 use Rattle.evidence.proofs.make_evidence.Tie as tie
 
--- what the call is given
+-- arguments of the call
 abbrev started : tie.After-outside-refusal → tie.Start
 started c = c .before .before .before .before .before
 

@@ -14,7 +14,7 @@ use borrow.Author.Needs.{needs}
 use Rattle.confirmer.proofs.calls.step.Statement.{statement}
 use Rattle.confirmer.proofs.calls.step.Tie as tie
 
--- what the call is given, its conditions after the record's, and its phases
+-- arguments of the call, its conditions after the record's, and its phases
 abbrev started : tie.After-record-refusal → tie.Start
 started c = c .before .before .before .before .before .before .before
 

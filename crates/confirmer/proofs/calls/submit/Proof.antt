@@ -10,7 +10,7 @@ use borrow.Author.Needs.{needs}
 use Rattle.confirmer.proofs.calls.submit.Statement.{statement}
 use Rattle.confirmer.proofs.calls.submit.Tie as tie
 
--- what the call is given, its conditions after the record's, and its phases
+-- arguments of the call, its conditions after the record's, and its phases
 abbrev call : tie.After-record-refusal → Call
 call c =
     let args = c .before .before .before .before .before .before .before .before .args in

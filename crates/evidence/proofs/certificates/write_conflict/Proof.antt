@@ -26,7 +26,7 @@ values c = first-set c .before
 abbrev given : tie.After-entry-set2 → tie.Start
 given c = started (values c .before .before)
 
--- what was written
+-- the bytes written
 abbrev written : tie.After-slice-known2 → tie.After-write-evidence
 written c = c .before .before
 
