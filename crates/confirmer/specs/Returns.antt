@@ -2,7 +2,7 @@
 -- Assumes nothing.
 use mathlib.Core.Path.{_≡_, refl, sym, ap, _∙_}
 use mathlib.Core.List.{List, _++_, append-assoc}
-use Prim.Native.Nat.{ℕ, zero, suc, _+_, _^_, _≤_, _<_}
+use Prim.Native.Nat.{ℕ, _+_, _^_, _≤_, _<_}
 use native.Mathlib.Nat.{zero-add}
 use native.Mathlib.Omega.{arith}
 use lib.ListN.{length, take, drop, length-append, take-append-drop}
@@ -11,7 +11,7 @@ use Rattle.octets.specs.Octets.{patch}
 use Rattle.octets.specs.StringLaws.{patch-nothing}
 use Rattle.quorum.specs.Quorum.{mostSeats, k}
 use Rattle.refusal.specs.Refusal.{firstOf, unrefused}
-use Rattle.refusal.specs.RefusalLaws.{refused-first, refused-later}
+use Rattle.refusal.specs.RefusalLaws.{refused-old, refused-first, refused-later}
 use Rattle.protocol.specs.Layout.{outLength}
 use Rattle.protocol.specs.Figures.{out-figure}
 use Rattle.protocol.specs.Message.{renderAll}
@@ -45,14 +45,11 @@ first c = recordConditions (c .keys) (c .unit) (c .store) (c .out)
 abbrev outcome : Call → State
 outcome c = c .phases (start (c .unit) (c .store))
 
--- answer, store and out after a call, by its refusal number
-abbrev LeavesBy : ℕ → Call → Stepped → List ℕ → List ℕ → Type 0
-LeavesBy number c a store out =
-    let result = resultBy number (outcome c) (c .unit) (c .store) in
-    (a ≡ answer result) × (store ≡ result .store) × (out ≡ outAfter (result .written) (c .out))
-
+-- answer, store and out after a call
 abbrev Leaves : Call → Stepped → List ℕ → List ℕ → Type 0
-Leaves c = LeavesBy (firstOf (first c ++ c .rest)) c
+Leaves c a store out =
+    let result = resultBy (firstOf (first c ++ c .rest)) (outcome c) (c .unit) (c .store) in
+    (a ≡ answer result) × (store ≡ result .store) × (out ≡ outAfter (result .written) (c .out))
 
 -- ---- points of a call
 
@@ -79,14 +76,10 @@ pub record Acted (c : Call) (room : ℕ) (p : Phase) (store part : List ℕ) : T
 -- ---- refusals
 
 -- "A refusal returns its number and 0 bytes written; record, store, tree and out keep every byte."
-refused-by : (number : ℕ) (c : Call) → (number ≡ 0 → ⊥) → LeavesBy number c (answered number 0 (c .unit)) (c .store) (c .out)
-unfolding resultBy unrefused answer outAfter
-refused-by zero c h = absurd (h refl)
-refused-by (suc n) c h = (refl, refl, sym (patch-nothing (c .out)))
-
 module _ (c : Call) {number : ℕ} {a : Stepped} (h : number ≡ 0 → ⊥) (is : a ≡ answered number 0 (c .unit)) where
   refused : number ≡ firstOf (first c ++ c .rest) → Leaves c a (c .store) (c .out)
-  refused e = rw (is, ← e) (refused-by number c h)
+  unfolding resultBy answer outAfter
+  refused e = rw (is, ← e) (simp refused-old (refl, refl, sym (patch-nothing (c .out))))
 
   pub refused-by-record : number ≡ firstOf (first c) → Leaves c a (c .store) (c .out)
   refused-by-record e = refused (refused-first (first c) (c .rest) number e h)

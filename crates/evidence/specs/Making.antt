@@ -3,7 +3,7 @@
 use mathlib.Core.Path.{_≡_, refl, sym, ap, _∙_}
 use mathlib.Core.Bool.{Bool, true, false, cond}
 use mathlib.Core.List.{List, [], _∷_, _++_}
-use Prim.Native.Nat.{ℕ, zero, suc, _+_, _≤_}
+use Prim.Native.Nat.{ℕ, _+_, _≤_}
 use native.Mathlib.Omega.{arith}
 use lib.ListN.{length}
 use borrow.Author.Tests.{ltb-false}
@@ -11,7 +11,7 @@ use Rattle.octets.specs.StringLaws.{patch-nothing}
 use Rattle.quorum.specs.Quorum.{k, size, shared}
 use Rattle.quorum.specs.QuorumLaws.{size-shared-le}
 use Rattle.refusal.specs.Refusal.{firstOf, unrefused}
-use Rattle.refusal.specs.RefusalLaws.{refused-first}
+use Rattle.refusal.specs.RefusalLaws.{refused-old, refused-first}
 use Rattle.protocol.specs.Values.{isLower}
 use Rattle.protocol.specs.Layout.{evidenceLength, evidenceEntryAt, evidenceEntryLength, evidenceOutLength, signatureLength}
 use Rattle.protocol.specs.Message.{Message, render, read, entrySeats}
@@ -56,13 +56,6 @@ wrote-evidence n round e f w = rw (← e, ← f) w
 abbrev answered : ℕ → ℕ → Written
 answered number written = record { number = number; written = written }
 
--- a refusal writes nothing
-refused-by : (number : ℕ) (m : Message) (out : List ℕ) → (number ≡ 0 → ⊥)
-    → (answered number 0 ≡ made (makingBy number m)) × (out ≡ outAfter (makingBy number m .written) out)
-unfolding made makingBy unrefused outAfter
-refused-by zero m out h = absurd (h refl)
-refused-by (suc q) m out h = (refl, sym (patch-nothing out))
-
 module _ (c : Call) (a b out : List ℕ) where
   -- the rows after those of n, round and key table
   abbrev rest : List Condition
@@ -81,9 +74,10 @@ module _ (c : Call) (a b out : List ℕ) where
   unfolding makingConditions outsideConditions
   in-order = refl
 
+  -- a refusal writes nothing
   by-number : {number : ℕ} → number ≡ firstOf (outside c ++ rest) → (number ≡ 0 → ⊥) → Makes number 0 out
-  unfolding making
-  by-number {number} e h = rw (in-order, ← e) (refused-by number conflict out h)
+  unfolding making made makingBy outAfter
+  by-number e h = rw (in-order, ← e, refused-old) (refl, sym (patch-nothing out))
 
   pub making-outside : {number : ℕ} → number ≡ firstOf (outside c) → (number ≡ 0 → ⊥) → Makes number 0 out
   making-outside {number} e h = by-number (refused-first (outside c) rest number e h) h
@@ -121,11 +115,6 @@ pub lower-told : (n : ℕ) (a b : List ℕ) {va vb : List ℕ} → va ≡ certif
     → isLower va vb ≡ isLower (certificateIn (read n a) .value) (certificateIn (read n b) .value)
 lower-told n a b p q = rw (p, q)
 
-no-part : (number : ℕ) (lower : List ℕ) → (number ≡ 0 → ⊥) → [] ≡ unrefused number lower []
-unfolding unrefused
-no-part zero lower h = absurd (h refl)
-no-part (suc q) lower h = refl
-
 module _ (c : Call) (a b : List ℕ) where
   abbrev lowest : ℕ
   lowest = lowerNumber (check c) (c .n) (c .round) (c .keys) a b
@@ -138,7 +127,7 @@ module _ (c : Call) (a b : List ℕ) where
   module _ {part : List ℕ} (none : part ≡ []) {buffer : Type 0} {number : ℕ} where
     nothing-of : number ≡ lowest → (number ≡ 0 → ⊥) → Hands part buffer
     unfolding lowerCertificate
-    nothing-of e h = (none ∙ rw (← e) (no-part number (lowerOf (c .n) a b) h), λ z. absurd (h (e ∙ z)))
+    nothing-of e h = (none ∙ rw (← e, refused-old), λ z. absurd (h (e ∙ z)))
 
     pub lower-outside : number ≡ firstOf (outside c) → (number ≡ 0 → ⊥) → Hands part buffer
     unfolding lowerConditions

@@ -1,10 +1,10 @@
 -- The returns of the evidence check, over plain values.
 -- Assumes nothing.
-use mathlib.Core.Path.{_≡_, refl, sym, _∙_}
+use mathlib.Core.Path.{_≡_, sym, _∙_}
 use mathlib.Core.List.{List, _++_}
-use Prim.Native.Nat.{ℕ, zero, suc}
+use Prim.Native.Nat.{ℕ}
 use Rattle.refusal.specs.Refusal.{firstOf, unrefused}
-use Rattle.refusal.specs.RefusalLaws.{refused-first}
+use Rattle.refusal.specs.RefusalLaws.{refused-old, refused-first}
 use Rattle.protocol.specs.Message.{Message, read, entrySeats}
 use Rattle.protocol.specs.Certificate.{setOf}
 use Rattle.protocol.specs.Refusals.{Condition}
@@ -15,12 +15,6 @@ use Rattle.evidence.specs.Passed.{Call, check, outside, Clear, after-out
 
 abbrev answered : ℕ → ℕ → Checked
 answered number mask = record { number = number; mask = mask }
-
--- a refusal names no seat
-refused-by : (number : ℕ) (m : Message) → (number ≡ 0 → ⊥) → answered number 0 ≡ checkedBy number m
-unfolding checkedBy unrefused
-refused-by zero m h = absurd (h refl)
-refused-by (suc n) m h = refl
 
 module _ (c : Call) (bytes : List ℕ) where
   abbrev m : Message
@@ -33,9 +27,10 @@ module _ (c : Call) (bytes : List ℕ) where
   abbrev Answers : ℕ → ℕ → Type 0
   Answers number mask = answered number mask ≡ evidenceCheck (check c) (c .n) (c .round) (c .keys) bytes
 
+  -- a refusal names no seat
   refused : {number : ℕ} → number ≡ firstOf (outside c ++ pack) → (number ≡ 0 → ⊥) → Answers number 0
-  unfolding evidenceCheck
-  refused {number} e h = rw (evidence-parts (check c) (c .n) (c .round) m (c .keys), ← e) (refused-by number m h)
+  unfolding evidenceCheck checkedBy
+  refused e h = rw (evidence-parts (check c) (c .n) (c .round) m (c .keys), ← e, refused-old)
 
   -- refusal of n, round and key table
   pub outside-refused : {number : ℕ} → number ≡ firstOf (outside c) → (number ≡ 0 → ⊥) → Answers number 0

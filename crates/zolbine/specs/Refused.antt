@@ -1,12 +1,12 @@
 -- "A refusal returns its number and 0 bytes written; record, store, tree and out keep every byte.": what the contracts of a
 -- submit and of a step, by value and through the thin entry, come to where the call is refused.
 -- Assumes nothing.
-use Prim.Native.Nat.{ℕ, zero, suc}
+use Prim.Native.Nat.{ℕ}
 use mathlib.Core.Path.{_≡_, refl}
 use mathlib.Core.Logic.{_≢_}
 use mathlib.Core.List.{List, []}
-use Rattle.octets.specs.Octets.{patch}
-use Rattle.refusal.specs.Refusal.{unrefused}
+use Rattle.octets.specs.StringLaws.{patch-nothing}
+use Rattle.refusal.specs.RefusalLaws.{refused-old}
 use Rattle.protocol.specs.Refusals.{Checks}
 use Rattle.protocol.specs.Step.{State}
 use Rattle.protocol.specs.Calls.{Result, resultBy, submit, step, outAfter}
@@ -17,9 +17,8 @@ abbrev pub Unchanged : Result → Record → List ℕ → List ℕ → Type 0
 Unchanged result r store out = (result .unit ≡ r) × (result .store ≡ store) × (result .written ≡ []) × (outAfter (result .written) out ≡ out)
 
 refused-by : (refusal : ℕ) (s : State) (r : Record) (store out : List ℕ) → refusal ≢ 0 → Unchanged (resultBy refusal s r store) r store out
-unfolding resultBy unrefused outAfter patch
-refused-by zero s r store out h = absurd (h refl)
-refused-by (suc refusal) s r store out h = (refl, refl, refl, refl)
+unfolding resultBy outAfter
+refused-by refusal s r store out h = simp refused-old (refl, refl, refl, patch-nothing out)
 
 pub submit-refused : (checks : Checks) (keys : List ℕ) (r : Record) (store value signature out : List ℕ)
     → submit checks keys r store value signature out .refusal ≢ 0 → Unchanged (submit checks keys r store value signature out) r store out
