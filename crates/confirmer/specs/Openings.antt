@@ -1,8 +1,9 @@
 -- The returns of opening, over plain values.
-use mathlib.Core.Path.{_≡_, refl}
+use mathlib.Core.Path.{_≡_}
 use mathlib.Core.List.{List}
-use Prim.Native.Nat.{ℕ, zero, suc}
+use Prim.Native.Nat.{ℕ}
 use Rattle.refusal.specs.Refusal.{firstOf, unrefused}
+use Rattle.refusal.specs.RefusalLaws.{refused-old}
 use Rattle.protocol.specs.Record.{fresh, zeros}
 use Rattle.protocol.specs.Refusals.{openingConditions}
 use Rattle.protocol.specs.Calls.{openedBy, opening}
@@ -12,16 +13,11 @@ use Rattle.protocol.specs.declared.Opened.{Opened}
 abbrev answered : ℕ → Record → Opened
 answered number unit = record { number = number; unit = unit }
 
-refused-gives-zeros : (number : ℕ) (r : Record) → (number ≡ 0 → ⊥) → answered number (fresh 0 0 0) ≡ openedBy number r
-unfolding openedBy unrefused zeros
-refused-gives-zeros zero r h = absurd (h refl)
-refused-gives-zeros (suc n) r h = refl
-
 module _ (n seat round : ℕ) (keys : List ℕ) (number : ℕ) (unit : Record) (e : number ≡ firstOf (openingConditions n seat round keys)) where
   pub open-opened : number ≡ 0 → unit ≡ fresh n seat round → answered number unit ≡ opening n seat round keys
   unfolding opening openedBy unrefused
   open-opened z u = rw (← e, z, u)
 
   pub open-refused : (number ≡ 0 → ⊥) → unit ≡ fresh 0 0 0 → answered number unit ≡ opening n seat round keys
-  unfolding opening
-  open-refused h u = rw (← e, u) (refused-gives-zeros number (fresh n seat round) h)
+  unfolding opening openedBy zeros
+  open-refused h u = rw (← e, u, refused-old)

@@ -3,7 +3,7 @@
 use mathlib.Core.Path.{_≡_, refl, sym, ap, _∙_}
 use mathlib.Core.Bool.{Bool, true, false, cond}
 use mathlib.Core.List.{List, [], _∷_, _++_}
-use Prim.Native.Nat.{ℕ, zero, suc, _+_, _≤_}
+use Prim.Native.Nat.{ℕ, _+_, _≤_}
 use native.Mathlib.Omega.{arith}
 use lib.ListN.{length}
 use borrow.Author.Tests.{ltb-false}
@@ -11,7 +11,7 @@ use Rattle.octets.specs.StringLaws.{patch-nothing}
 use Rattle.quorum.specs.Quorum.{k, size, shared}
 use Rattle.quorum.specs.QuorumLaws.{size-shared-le}
 use Rattle.refusal.specs.Refusal.{firstOf, unrefused}
-use Rattle.refusal.specs.RefusalLaws.{refused-first}
+use Rattle.refusal.specs.RefusalLaws.{refused-old, refused-first}
 use Rattle.protocol.specs.Values.{isLower}
 use Rattle.protocol.specs.Layout.{evidenceLength, evidenceEntryAt, evidenceEntryLength, evidenceOutLength, signatureLength}
 use Rattle.protocol.specs.Message.{Message, render, read, entrySeats}
@@ -25,7 +25,7 @@ use Rattle.wire_write.specs.Writing.{Wrote}
 use Rattle.validate.specs.Messages.{Formed}
 use Rattle.evidence.specs.Passed.{Call, check, outside, Clear, after-outside, two}
 
--- ---- a certificate as the source of what is written
+-- ---- a certificate as a source
 
 module _ {n round : ℕ} (bytes : List ℕ) (f : Formed n round (isFull (read n bytes)) (read n bytes)) {mask : ℕ} (set : mask ≡ setOf (entrySeats (read n bytes))) where
   pub readable : Readable n (inFull mask) bytes
@@ -48,7 +48,7 @@ pub roomy-out : (n : ℕ) (out : List ℕ) → shortOut (evidenceOutLength n) ou
 unfolding shortOut
 roomy-out n out e = ltb-false (length out) (evidenceOutLength n) e
 
--- what is written
+-- the EVIDENCE of equal certificates
 pub wrote-evidence : (n round : ℕ) {ca cb a b : Certificate} {out after : List ℕ} {end : ℕ} → ca ≡ a → cb ≡ b
     → Wrote 0 (render (evidenceOf n round ca cb)) out after end → Wrote 0 (render (evidenceOf n round a b)) out after end
 wrote-evidence n round e f w = rw (← e, ← f) w
@@ -56,23 +56,16 @@ wrote-evidence n round e f w = rw (← e, ← f) w
 abbrev answered : ℕ → ℕ → Written
 answered number written = record { number = number; written = written }
 
--- a refusal writes nothing
-refused-by : (number : ℕ) (m : Message) (out : List ℕ) → (number ≡ 0 → ⊥)
-    → (answered number 0 ≡ made (makingBy number m)) × (out ≡ outAfter (makingBy number m .written) out)
-unfolding made makingBy unrefused outAfter
-refused-by zero m out h = absurd (h refl)
-refused-by (suc q) m out h = (refl, sym (patch-nothing out))
-
 module _ (c : Call) (a b out : List ℕ) where
-  -- those after the first
+  -- the rows after those of n, round and key table
   abbrev rest : List Condition
   rest = OUT (evidenceOutLength (c .n)) out ∷ two c a b
 
-  abbrev pub conflict : Message
+  abbrev conflict : Message
   conflict = evidenceOf (c .n) (c .round) (certificateIn (read (c .n) a)) (certificateIn (read (c .n) b))
 
-  -- what the call answers and leaves
-  abbrev pub Makes : ℕ → ℕ → List ℕ → Type 0
+  -- answer of the call, and `out` after it
+  abbrev Makes : ℕ → ℕ → List ℕ → Type 0
   Makes number written after =
       let result = making (check c) (c .n) (c .round) (c .keys) a b out in
       (answered number written ≡ made result) × (after ≡ outAfter (result .written) out)
@@ -81,35 +74,36 @@ module _ (c : Call) (a b out : List ℕ) where
   unfolding makingConditions outsideConditions
   in-order = refl
 
+  -- a refusal writes nothing
   by-number : {number : ℕ} → number ≡ firstOf (outside c ++ rest) → (number ≡ 0 → ⊥) → Makes number 0 out
-  unfolding making
-  by-number {number} e h = rw (in-order, ← e) (refused-by number conflict out h)
+  unfolding making made makingBy outAfter
+  by-number e h = rw (in-order, ← e, refused-old) (refl, sym (patch-nothing out))
 
   pub making-outside : {number : ℕ} → number ≡ firstOf (outside c) → (number ≡ 0 → ⊥) → Makes number 0 out
   making-outside {number} e h = by-number (refused-first (outside c) rest number e h) h
 
-  module _ (clear : Clear c) where
-    pub making-short : shortOut (evidenceOutLength (c .n)) out ≡ true → Makes 7 0 out
+module _ {c : Call} (clear : Clear c) (a b out : List ℕ) where
+  pub making-short : shortOut (evidenceOutLength (c .n)) out ≡ true → Makes c a b out 7 0 out
+  unfolding firstOf
+  making-short l = let short : 7 ≡ firstOf (rest c a b out) = rw l in by-number c a b out (short ∙ after-outside clear (rest c a b out)) (λ z. omega arith)
+
+  module _ (room : shortOut (evidenceOutLength (c .n)) out ≡ false) {number : ℕ} (e : number ≡ firstOf (two c a b)) where
+    roomy : number ≡ firstOf (outside c ++ rest c a b out)
     unfolding firstOf
-    making-short l = let short : 7 ≡ firstOf rest = rw l in by-number (short ∙ after-outside c clear rest) (λ z. omega arith)
+    roomy = let long : firstOf (two c a b) ≡ firstOf (rest c a b out) = rw room in e ∙ long ∙ after-outside clear (rest c a b out)
 
-    module _ (room : shortOut (evidenceOutLength (c .n)) out ≡ false) {number : ℕ} (e : number ≡ firstOf (two c a b)) where
-      roomy : number ≡ firstOf (outside c ++ rest)
-      unfolding firstOf
-      roomy = let long : firstOf (two c a b) ≡ firstOf rest = rw room in e ∙ long ∙ after-outside c clear rest
+    pub making-refused : (number ≡ 0 → ⊥) → Makes c a b out number 0 out
+    making-refused h = by-number c a b out roomy h
 
-      pub making-refused : (number ≡ 0 → ⊥) → Makes number 0 out
-      making-refused h = by-number roomy h
-
-      pub making-done : number ≡ 0 → {after : List ℕ} {end : ℕ} → Wrote 0 (render conflict) out after end → Makes 0 end after
-      unfolding making made makingBy unrefused outAfter
-      making-done z {after} {end} w =
-          let ends : end ≡ length (render conflict) = omega (arith, w .ends) in
-          rw (in-order, sym roomy ∙ z) (ap (answered 0) ends, w .wrote)
+    pub making-done : number ≡ 0 → {after : List ℕ} {end : ℕ} → Wrote 0 (render (conflict c a b out)) out after end → Makes c a b out 0 end after
+    unfolding making made makingBy unrefused outAfter
+    making-done z {after} {end} w =
+        let ends : end ≡ length (render (conflict c a b out)) = omega (arith, w .ends) in
+        rw (in-order c a b out, sym roomy ∙ z) (ap (answered 0) ends, w .wrote)
 
 -- ---- the lower certificate
 
--- the lowest of the call's numbers
+-- the number of the call
 abbrev pub lowerNumber : Checks → ℕ → ℕ → List ℕ → List ℕ → List ℕ → ℕ
 lowerNumber checks n round keys a b = firstOf (lowerConditions checks n round keys (read n a) (read n b))
 
@@ -121,44 +115,41 @@ pub lower-told : (n : ℕ) (a b : List ℕ) {va vb : List ℕ} → va ≡ certif
     → isLower va vb ≡ isLower (certificateIn (read n a) .value) (certificateIn (read n b) .value)
 lower-told n a b p q = rw (p, q)
 
-no-part : (number : ℕ) (lower : List ℕ) → (number ≡ 0 → ⊥) → [] ≡ unrefused number lower []
-unfolding unrefused
-no-part zero lower h = absurd (h refl)
-no-part (suc q) lower h = refl
-
 module _ (c : Call) (a b : List ℕ) where
   abbrev lowest : ℕ
   lowest = lowerNumber (check c) (c .n) (c .round) (c .keys) a b
 
-  -- what the call hands back: a part, and of which buffer
-  abbrev pub Hands : List ℕ → Type 0 → Type 0
+  -- the part that the call hands back, and its buffer
+  abbrev Hands : List ℕ → Type 0 → Type 0
   Hands part buffer = (part ≡ lowerCertificate (check c) (c .n) (c .round) (c .keys) a b) × (lowest ≡ 0 → buffer)
 
   -- a refusal hands back no byte
   module _ {part : List ℕ} (none : part ≡ []) {buffer : Type 0} {number : ℕ} where
     nothing-of : number ≡ lowest → (number ≡ 0 → ⊥) → Hands part buffer
     unfolding lowerCertificate
-    nothing-of e h = (none ∙ rw (← e) (no-part number (lowerOf (c .n) a b) h), λ z. absurd (h (e ∙ z)))
+    nothing-of e h = (none ∙ rw (← e, refused-old), λ z. absurd (h (e ∙ z)))
 
     pub lower-outside : number ≡ firstOf (outside c) → (number ≡ 0 → ⊥) → Hands part buffer
     unfolding lowerConditions
     lower-outside e h = nothing-of (refused-first (outside c) (two c a b) number e h) h
 
-    pub lower-refused : Clear c → number ≡ firstOf (two c a b) → (number ≡ 0 → ⊥) → Hands part buffer
-    unfolding lowerConditions
-    lower-refused clear e h = nothing-of (e ∙ after-outside c clear (two c a b)) h
+module _ {c : Call} (clear : Clear c) (a b : List ℕ) {number : ℕ} (e : number ≡ firstOf (two c a b)) where
+  told : number ≡ lowest c a b
+  unfolding lowerConditions
+  told = e ∙ after-outside clear (two c a b)
+
+  pub lower-refused : {part : List ℕ} → part ≡ [] → {buffer : Type 0} → (number ≡ 0 → ⊥) → Hands c a b part buffer
+  lower-refused none h = nothing-of c a b none told h
 
   -- nothing is refused: the whole of the first, or of the second. x and y are the references to them.
-  module _ (clear : Clear c) {number : ℕ} (e : number ≡ firstOf (two c a b)) (z : number ≡ 0) where
-    is-none : lowest ≡ 0
-    unfolding lowerConditions
-    is-none = sym (e ∙ after-outside c clear (two c a b)) ∙ z
+  module _ (z : number ≡ 0) {t : Bool} (is : t ≡ isLower (certificateIn (read (c .n) a) .value) (certificateIn (read (c .n) b) .value)) {A : Type 0} (x y : A) where
+    is-none : lowest c a b ≡ 0
+    is-none = sym told ∙ z
 
-    module _ {t : Bool} (is : t ≡ isLower (certificateIn (read (c .n) a) .value) (certificateIn (read (c .n) b) .value)) {A : Type 0} (x y : A) where
-      pub first-lower : t ≡ true → Hands a (x ≡ lowerFirst (c .n) a b x y)
-      unfolding lowerCertificate lowerOf unrefused lowerFirst
-      first-lower q = (rw (is-none, ← is, q), λ _. rw (← is, q))
+    pub first-lower : t ≡ true → Hands c a b a (x ≡ lowerFirst (c .n) a b x y)
+    unfolding lowerCertificate lowerOf unrefused lowerFirst
+    first-lower q = (rw (is-none, ← is, q), λ _. rw (← is, q))
 
-      pub second-lower : t ≡ false → Hands b (y ≡ lowerFirst (c .n) a b x y)
-      unfolding lowerCertificate lowerOf unrefused lowerFirst
-      second-lower q = (rw (is-none, ← is, q), λ _. rw (← is, q))
+    pub second-lower : t ≡ false → Hands c a b b (y ≡ lowerFirst (c .n) a b x y)
+    unfolding lowerCertificate lowerOf unrefused lowerFirst
+    second-lower q = (rw (is-none, ← is, q), λ _. rw (← is, q))

@@ -1,11 +1,12 @@
--- Where n, round and key table aren't refused, and where two certificates aren't.
+-- Calls whose n, round and key table aren't refused, and two certificates that aren't.
 -- Assumes nothing.
-use mathlib.Core.Path.{_≡_, refl, sym, _∙_}
+use mathlib.Core.Path.{_≡_, sym, _∙_}
 use mathlib.Core.List.{List, _++_}
-use Prim.Native.Nat.{ℕ}
+use Prim.Native.Nat.{ℕ, _≤_}
+use Rattle.quorum.specs.Quorum.{mostSeats}
 use Rattle.refusal.specs.Refusal.{firstOf}
 use Rattle.refusal.specs.RefusalLaws.{refused-later}
-use Rattle.protocol.specs.Message.{read}
+use Rattle.protocol.specs.Message.{Message, read}
 use Rattle.protocol.specs.Refusals.{Checks, Condition, outsideConditions, twoConditions}
 use Rattle.protocol.specs.Signatures.{checks}
 use Rattle.validate.specs.Given.{Given, outside-given, outside-rises}
@@ -24,24 +25,30 @@ check c = checks (c .keys) (c .round)
 abbrev pub outside : Call → List Condition
 outside c = outsideConditions (c .n) (c .round) (c .keys)
 
--- they aren't refused
-abbrev pub Clear : Call → Type 0
-Clear c = firstOf (outside c) ≡ 0
+-- n, round and key table aren't refused
+pub record Clear (c : Call) : Type 0 where
+  pub number : ℕ
+  pub told : number ≡ firstOf (outside c)
+  pub none : number ≡ 0
 
-pub given : (c : Call) → Clear c → Given (c .n) (c .round) (c .keys)
-given c z = outside-given (c .n) (c .round) (c .keys) (firstOf (outside c)) refl z
+module _ {c : Call} (clear : Clear c) where
+  pub given : Given (c .n) (c .round) (c .keys)
+  given = outside-given (c .n) (c .round) (c .keys) (clear .number) (clear .told) (clear .none)
 
--- the number is that of the conditions after them
-pub after-outside : (c : Call) → Clear c → (rest : List Condition) → firstOf rest ≡ firstOf (outside c ++ rest)
-after-outside c z rest = refused-later (outside c) rest (firstOf (outside c)) refl (outside-rises (c .n) (c .round) (c .keys)) z
+  pub sized : (1 ≤ c .n) × (c .n ≤ mostSeats)
+  sized = (given .some, given .most)
 
--- the conditions of two certificates
+  -- the number of the call is that of the rows after them
+  pub after-outside : (rest : List Condition) → firstOf rest ≡ firstOf (outside c ++ rest)
+  after-outside rest = refused-later (outside c) rest (clear .number) (clear .told) (outside-rises (c .n) (c .round) (c .keys)) (clear .none)
+
+-- the rows of two certificates
 abbrev pub two : Call → List ℕ → List ℕ → List Condition
 two c a b = twoConditions (check c) (c .n) (c .round) (read (c .n) a) (read (c .n) b)
 
--- two that aren't refused
-pub conflicting : (c : Call) (a b : List ℕ) {number : ℕ} → number ≡ firstOf (two c a b) → number ≡ 0 → Conflict (c .n) (c .round) (read (c .n) a) (read (c .n) b)
-conflicting c a b e z = two-passed (check c) (c .n) (c .round) (read (c .n) a) (read (c .n) b) (sym e ∙ z)
+-- two certificates that aren't refused
+pub conflicting : (check : Checks) (n round : ℕ) (a b : Message) {number : ℕ} → number ≡ firstOf (twoConditions check n round a b) → number ≡ 0 → Conflict n round a b
+conflicting check n round a b e z = two-passed check n round a b (sym e ∙ z)
 
 pub both-taken : {n round : ℕ} (a b : List ℕ) → Conflict n round (read n a) (read n b) → FullTaken n a × FullTaken n b
 both-taken {n} {round} a b conflict = (certificate-taken n round a (conflict .first), certificate-taken n round b (conflict .second))

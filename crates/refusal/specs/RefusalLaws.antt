@@ -7,7 +7,7 @@ use native.Mathlib.Decide.{ℕ-discrete}
 use native.Mathlib.Omega.{arith}
 use lib.Dec.{leb}
 use borrow.Author.Tests.{leb-true}
-use Rattle.refusal.specs.Refusal.{firstOf, numbers, nonzero, _before_}
+use Rattle.refusal.specs.Refusal.{firstOf, unrefused, numbers, nonzero, _before_}
 
 -- ---- tests
 
@@ -20,6 +20,12 @@ both-false true b e = absurd (true≢false e)
 both-false false b e = (refl, e)
 
 -- ---- refusals
+
+-- a refused call leaves the old
+pub refused-old : {A : Type 0} (number : ℕ) (new old : A) → (number ≡ 0 → ⊥) → unrefused number new old ≡ old
+unfolding unrefused
+refused-old zero new old h = absurd (h refl)
+refused-old (suc n) new old h = refl
 
 -- where nothing is refused, no condition holds
 pub firstOf-zero : (n : ℕ) (t : Bool) (rest : List (ℕ × Bool)) → firstOf ((suc n, t) ∷ rest) ≡ 0 → (t ≡ false) × (firstOf rest ≡ 0)

@@ -1,32 +1,31 @@
 -- "A refusal returns its number and 0 bytes written; record, store, tree and out keep every byte.": what the contracts of a
 -- submit and of a step, by value and through the thin entry, come to where the call is refused.
 -- Assumes nothing.
-use Prim.Native.Nat.{ℕ, zero, suc}
+use Prim.Native.Nat.{ℕ}
 use mathlib.Core.Path.{_≡_, refl}
 use mathlib.Core.Logic.{_≢_}
 use mathlib.Core.List.{List, []}
-use Rattle.octets.specs.Octets.{patch}
-use Rattle.refusal.specs.Refusal.{unrefused}
+use Rattle.octets.specs.StringLaws.{patch-nothing}
+use Rattle.refusal.specs.RefusalLaws.{refused-old}
 use Rattle.protocol.specs.Refusals.{Checks}
 use Rattle.protocol.specs.Step.{State}
 use Rattle.protocol.specs.Calls.{Result, resultBy, submit, step, outAfter}
 use Rattle.protocol.specs.declared.Record.{Record}
 
 -- the record, the store and out are as they were lent
-abbrev pub Changed : Result → Record → List ℕ → List ℕ → Type 0
-Changed result r store out = (result .unit ≡ r) × (result .store ≡ store) × (result .written ≡ []) × (outAfter (result .written) out ≡ out)
+abbrev pub Unchanged : Result → Record → List ℕ → List ℕ → Type 0
+Unchanged result r store out = (result .unit ≡ r) × (result .store ≡ store) × (result .written ≡ []) × (outAfter (result .written) out ≡ out)
 
-refused-by : (refusal : ℕ) (s : State) (r : Record) (store out : List ℕ) → refusal ≢ 0 → Changed (resultBy refusal s r store) r store out
-unfolding resultBy unrefused outAfter patch
-refused-by zero s r store out h = absurd (h refl)
-refused-by (suc refusal) s r store out h = (refl, refl, refl, refl)
+refused-by : (refusal : ℕ) (s : State) (r : Record) (store out : List ℕ) → refusal ≢ 0 → Unchanged (resultBy refusal s r store) r store out
+unfolding resultBy outAfter
+refused-by refusal s r store out h = simp refused-old (refl, refl, refl, patch-nothing out)
 
 pub submit-refused : (checks : Checks) (keys : List ℕ) (r : Record) (store value signature out : List ℕ)
-    → submit checks keys r store value signature out .refusal ≢ 0 → Changed (submit checks keys r store value signature out) r store out
+    → submit checks keys r store value signature out .refusal ≢ 0 → Unchanged (submit checks keys r store value signature out) r store out
 unfolding submit resultBy
 submit-refused checks keys r store value signature out = refused-by _ _ r store out
 
 pub step-refused : (checks : Checks) (keys : List ℕ) (r : Record) (store bytes out : List ℕ)
-    → step checks keys r store bytes out .refusal ≢ 0 → Changed (step checks keys r store bytes out) r store out
+    → step checks keys r store bytes out .refusal ≢ 0 → Unchanged (step checks keys r store bytes out) r store out
 unfolding step resultBy
 step-refused checks keys r store bytes out = refused-by _ _ r store out

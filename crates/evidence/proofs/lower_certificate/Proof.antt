@@ -1,7 +1,4 @@
 -- `evidence::lower_certificate` meets its contract.
-use mathlib.Core.Path.{sym, _∙_}
-use mathlib.Core.List.{List}
-use Prim.Native.Nat.{ℕ}
 use denote.Ref.{now}
 use Rattle.evidence.specs.Passed.{Call, Clear, given, conflicting, both-taken}
 use Rattle.evidence.specs.Making.{lower-outside, lower-refused, first-lower, second-lower}
@@ -9,25 +6,13 @@ use borrow.Author.Needs.{needs}
 use Rattle.evidence.proofs.lower_certificate.Statement.{statement}
 use Rattle.evidence.proofs.lower_certificate.Tie as tie
 
--- what the call is given
-abbrev call : tie.Start → Call
-call s = record { n = s .args .n; round = s .args .round; keys = now (s .args .keys) }
-
-abbrev first : tie.Start → List ℕ
-first s = now (s .args .first)
-
-abbrev second : tie.Start → List ℕ
-second s = now (s .args .second)
-
-abbrev started-at : tie.After-outside-refusal → tie.Start
-started-at c = c .before .before .before .before
-
-abbrev started : tie.Else1 → tie.Start
-started c = started-at (c .before)
+-- arguments of the call
+abbrev call : tie.After-outside-refusal → Call
+call c = let args = c .before .before .before .before .args in record { n = args .n; round = args .round; keys = now (args .keys) }
 
 -- n, round and key table pass
-clear : (c : tie.Else1) → Clear (call (started c))
-clear c = sym (c .before .outside-refusal .ensures) ∙ c .if1 .left
+clear : (c : tie.Else1) → Clear (call (c .before))
+clear c = record { number = _; told = c .before .outside-refusal .ensures; none = c .if1 .left }
 
 -- the verdict on the two certificates
 abbrev verdict : tie.After-struct-known → tie.After-two-refusal
@@ -35,42 +20,31 @@ verdict c = c .before
 
 returns : tie.Need-returns
 returns c =
-    let refused = c .before in
-    let o = refused .before in
-    let s = started-at o in
-    lower-outside (call s) (first s) (second s) (c .nothing .ensures) (o .outside-refusal .ensures) (refused .if1 .taken)
+    let o = c .before .before in
+    lower-outside (call o) _ _ (c .nothing .ensures) (o .outside-refusal .ensures) (c .before .if1 .taken)
 
 two-refusal-requires : tie.Need-two-refusal-requires
-two-refusal-requires c κs = given (call (started c)) (clear c)
+two-refusal-requires c κs = given (clear c)
 
 returns-2 : tie.Need-returns-2
 returns-2 c =
-    let refused = c .before in
-    let v = verdict (refused .before) in
-    let s = started (v .before) in
-    lower-refused (call s) (first s) (second s) (c .nothing2 .ensures) (clear (v .before)) (v .two-refusal .ensures) (refused .if2 .taken)
+    let v = verdict (c .before .before) in
+    lower-refused (clear (v .before)) _ _ (v .two-refusal .ensures) (c .nothing2 .ensures) (c .before .if2 .taken)
 
 first-is-lower-requires : tie.Need-first-is-lower-requires
-first-is-lower-requires c κs =
-    let v = verdict (c .before) in
-    let s = started (v .before) in
-    both-taken (first s) (second s) (conflicting (call s) (first s) (second s) (v .two-refusal .ensures) (c .if2 .left))
+first-is-lower-requires c κs = let v = verdict (c .before) in both-taken _ _ (conflicting _ _ _ _ _ (v .two-refusal .ensures) (c .if2 .left))
 
 returns-3 : tie.Need-returns-3
 returns-3 c =
     let compared = c .before in
-    let right = compared .before in
-    let v = verdict (right .before) in
-    let s = started (v .before) in
-    first-lower (call s) (first s) (second s) (clear (v .before)) (v .two-refusal .ensures) (right .if2 .left) (compared .first-is-lower .ensures) (s .args .first) (s .args .second) (c .if3 .taken)
+    let v = verdict (compared .before .before) in
+    first-lower (clear (v .before)) _ _ (v .two-refusal .ensures) (compared .before .if2 .left) (compared .first-is-lower .ensures) _ _ (c .if3 .taken)
 
 returns-4 : tie.Need-returns-4
 returns-4 c =
     let compared = c .before in
-    let right = compared .before in
-    let v = verdict (right .before) in
-    let s = started (v .before) in
-    second-lower (call s) (first s) (second s) (clear (v .before)) (v .two-refusal .ensures) (right .if2 .left) (compared .first-is-lower .ensures) (s .args .first) (s .args .second) (c .if3 .left)
+    let v = verdict (compared .before .before) in
+    second-lower (clear (v .before)) _ _ (v .two-refusal .ensures) (compared .before .if2 .left) (compared .first-is-lower .ensures) _ _ (c .if3 .left)
 
 pub lower-certificate-spec : {M : Type 1} → statement M
 lower-certificate-spec =

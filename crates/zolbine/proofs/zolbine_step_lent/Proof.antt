@@ -80,7 +80,7 @@ machine = LL.vals R.the-type R′.the-laws
 -- what the answer says, field by field
 answered : (result : Result) (r : Stepped) → r ≡ answer result → (r .number ≡ result .refusal) × (r .written ≡ length (result .written)) × (r .unit ≡ result .unit)
 unfolding answer
-answered result r e = (ap (λ (s : Stepped). s .number) e, ap (λ (s : Stepped). s .written) e, ap (λ (s : Stepped). s .unit) e)
+answered result r e = (rw e, rw e, rw e)
 
 -- the contract that the proof cites
 abbrev Step : {M : Type 1} (𝓤 : URA M) (H : Heap 𝓤) (A : Atoms 𝓤) (mem : Memory → SProp 𝓤) (run : Routine → Fun 𝓤) → Contract 𝓤

@@ -1,6 +1,5 @@
 -- `evidence::certificates::first_is_lower` meets its contract.
 use mathlib.Core.Path.{_∙_}
-use denote.Ref.{now}
 use Rattle.evidence.specs.Making.{lower-told}
 use borrow.Author.Needs.{needs}
 use Rattle.evidence.proofs.certificates.first_is_lower.Statement.{statement}
@@ -9,8 +8,7 @@ use Rattle.evidence.proofs.certificates.first_is_lower.Tie as tie
 returns : tie.Need-returns
 returns c =
     let second = c .before .before .before in
-    let args = second .before .before .before .before .args in
-    c .lower .ensures ∙ lower-told (args .n) (now (args .first)) (now (args .second)) (second .before .certificate-value .ensures) (second .certificate-value2 .ensures)
+    c .lower .ensures ∙ lower-told _ _ _ (second .before .certificate-value .ensures) (second .certificate-value2 .ensures)
 
 pub first-is-lower-spec : {M : Type 1} → statement M
 first-is-lower-spec =
