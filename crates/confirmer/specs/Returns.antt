@@ -1,4 +1,4 @@
--- Submit and step: what they leave, from their refusals and their phases.
+-- Results of submit and step, from their refusals and their phases.
 -- Assumes nothing.
 use mathlib.Core.Path.{_≡_, refl, sym, ap, _∙_}
 use mathlib.Core.List.{List, _++_, append-assoc}
@@ -37,7 +37,7 @@ refused zero s r store out h = absurd (h refl)
 refused (suc n) s r store out h = (refl, refl, sym (take-append-drop 0 out))
 
 module _ (keys : List ℕ) (r : Record) (store out : List ℕ) where
-  -- record, key table, store and out refuse nothing
+  -- no refusal for record, key table, store and out
   abbrev pub Passed : Type 0
   Passed = 0 ≡ firstOf (recordConditions keys r store out)
 
@@ -59,7 +59,7 @@ module _ (keys : List ℕ) (r : Record) (store out : List ℕ) where
     pub part-ready : Ready r store (take room out)
     part-ready = record { possible = ready passed .possible; slots = ready passed .slots; room = omega (arith, stated, part-length) }
 
-    -- what the phases leave in it, and so in out
+    -- this part after the phases, and so out
     module _ (f : State → State) (unit : Record) (store′ out′ : List ℕ) (end : ℕ) (did : Did f r store (take room out) 0 unit store′ out′ end)
         (long : length out′ ≡ length (take room out)) where
       abbrev bytes : List ℕ

@@ -48,7 +48,7 @@ pub roomy-out : (n : ℕ) (out : List ℕ) → shortOut (evidenceOutLength n) ou
 unfolding shortOut
 roomy-out n out e = ltb-false (length out) (evidenceOutLength n) e
 
--- what is written
+-- the EVIDENCE of equal certificates
 pub wrote-evidence : (n round : ℕ) {ca cb a b : Certificate} {out after : List ℕ} {end : ℕ} → ca ≡ a → cb ≡ b
     → Wrote 0 (render (evidenceOf n round ca cb)) out after end → Wrote 0 (render (evidenceOf n round a b)) out after end
 wrote-evidence n round e f w = rw (← e, ← f) w
@@ -64,14 +64,14 @@ refused-by zero m out h = absurd (h refl)
 refused-by (suc q) m out h = (refl, sym (patch-nothing out))
 
 module _ (c : Call) (a b out : List ℕ) where
-  -- those after the first
+  -- the rows after those of n, round and key table
   abbrev rest : List Condition
   rest = OUT (evidenceOutLength (c .n)) out ∷ two c a b
 
   abbrev pub conflict : Message
   conflict = evidenceOf (c .n) (c .round) (certificateIn (read (c .n) a)) (certificateIn (read (c .n) b))
 
-  -- what the call answers and leaves
+  -- answer of the call, and `out` after it
   abbrev pub Makes : ℕ → ℕ → List ℕ → Type 0
   Makes number written after =
       let result = making (check c) (c .n) (c .round) (c .keys) a b out in
@@ -109,7 +109,7 @@ module _ (c : Call) (a b out : List ℕ) where
 
 -- ---- the lower certificate
 
--- the lowest of the call's numbers
+-- the number of the call
 abbrev pub lowerNumber : Checks → ℕ → ℕ → List ℕ → List ℕ → List ℕ → ℕ
 lowerNumber checks n round keys a b = firstOf (lowerConditions checks n round keys (read n a) (read n b))
 
@@ -130,7 +130,7 @@ module _ (c : Call) (a b : List ℕ) where
   abbrev lowest : ℕ
   lowest = lowerNumber (check c) (c .n) (c .round) (c .keys) a b
 
-  -- what the call hands back: a part, and of which buffer
+  -- the part that the call hands back, and its buffer
   abbrev pub Hands : List ℕ → Type 0 → Type 0
   Hands part buffer = (part ≡ lowerCertificate (check c) (c .n) (c .round) (c .keys) a b) × (lowest ≡ 0 → buffer)
 

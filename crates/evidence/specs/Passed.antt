@@ -1,4 +1,4 @@
--- Where n, round and key table aren't refused, and where two certificates aren't.
+-- Calls whose n, round and key table aren't refused, and two certificates that aren't.
 -- Assumes nothing.
 use mathlib.Core.Path.{_≡_, refl, sym, _∙_}
 use mathlib.Core.List.{List, _++_}
@@ -24,22 +24,22 @@ check c = checks (c .keys) (c .round)
 abbrev pub outside : Call → List Condition
 outside c = outsideConditions (c .n) (c .round) (c .keys)
 
--- they aren't refused
+-- n, round and key table aren't refused
 abbrev pub Clear : Call → Type 0
 Clear c = firstOf (outside c) ≡ 0
 
 pub given : (c : Call) → Clear c → Given (c .n) (c .round) (c .keys)
 given c z = outside-given (c .n) (c .round) (c .keys) (firstOf (outside c)) refl z
 
--- the number is that of the conditions after them
+-- the number of the call is that of the rows after them
 pub after-outside : (c : Call) → Clear c → (rest : List Condition) → firstOf rest ≡ firstOf (outside c ++ rest)
 after-outside c z rest = refused-later (outside c) rest (firstOf (outside c)) refl (outside-rises (c .n) (c .round) (c .keys)) z
 
--- the conditions of two certificates
+-- the rows of two certificates
 abbrev pub two : Call → List ℕ → List ℕ → List Condition
 two c a b = twoConditions (check c) (c .n) (c .round) (read (c .n) a) (read (c .n) b)
 
--- two that aren't refused
+-- two certificates that aren't refused
 pub conflicting : (c : Call) (a b : List ℕ) {number : ℕ} → number ≡ firstOf (two c a b) → number ≡ 0 → Conflict (c .n) (c .round) (read (c .n) a) (read (c .n) b)
 conflicting c a b e z = two-passed (check c) (c .n) (c .round) (read (c .n) a) (read (c .n) b) (sym e ∙ z)
 

@@ -29,7 +29,7 @@ module _ (c : Call) (bytes : List ℕ) where
   abbrev pack : List Condition
   pack = packConditions (check c) (c .n) (c .round) m
 
-  -- what the call answers
+  -- answer of the call
   abbrev pub Answers : ℕ → ℕ → Type 0
   Answers number mask = answered number mask ≡ evidenceCheck (check c) (c .n) (c .round) (c .keys) bytes
 
@@ -37,11 +37,11 @@ module _ (c : Call) (bytes : List ℕ) where
   unfolding evidenceCheck
   refused {number} e h = rw (evidence-parts (check c) (c .n) (c .round) m (c .keys), ← e) (refused-by number m h)
 
-  -- of what is given
+  -- refusal of n, round and key table
   pub outside-refused : {number : ℕ} → number ≡ firstOf (outside c) → (number ≡ 0 → ⊥) → Answers number 0
   outside-refused {number} e h = refused (refused-first (outside c) pack number e h) h
 
-  -- of the message, and nothing
+  -- refusal of the message, and no refusal
   module _ (clear : Clear c) {number : ℕ} (e : number ≡ firstOf (packConditions (check c) (c .n) (c .round) (read (c .n) bytes))) where
     later : number ≡ firstOf (outside c ++ pack)
     later = e ∙ after-outside c clear pack

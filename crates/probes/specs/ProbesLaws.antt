@@ -106,7 +106,7 @@ module _ (q : ℕ) (id seed digits out : List ℕ) where
       done _ _ out last (rw (le-ltb (length out) 1088 h, eq-eqb (length id) 16 e, eq-eqb (length seed) 32 f, eq-eqb (length digits) 34 g))
       (u ∙ rw (p, r, part-all id 16 e, part-all seed 32 f))
 
--- ---- a copy of what is handed back
+-- ---- a copy of the certificate handed back
 
 module _ (handed out : List ℕ) where
   pub copy-short : (part : List ℕ) → part ≡ handed → length out < length part

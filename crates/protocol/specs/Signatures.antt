@@ -1,5 +1,4 @@
--- A seat's signature in a round, and the calls of document 01 on keys and signatures, each a function from what it is given to
--- what it leaves.
+-- A seat's signature in a round, and the calls of document 01 on keys and signatures, each as a function of its arguments.
 use Prim.Native.Nat.{ℕ}
 use mathlib.Core.Bool.{Bool, cond, _&&_}
 use mathlib.Core.List.{List, [], _∷_, _++_}

@@ -1,5 +1,4 @@
--- What follows from the definitions of the calls: what an accepted signature is like, and what a call leaves, refused
--- or not.
+-- Laws of the calls on keys and signatures: accepted signatures, and the results of a call, refused or not.
 use mathlib.Core.Path.{_≡_, refl, sym, _∙_}
 use mathlib.Core.Bool.{Bool, true, false, not, _&&_, _||_, or-true, or-false, false≢true}
 use mathlib.Core.List.{List, [], _∷_}
@@ -22,13 +21,13 @@ use Rattle.rfc8554.specs.VerifyLaws.{sibling-within, ancestor-within, length-lm
 
 -- ---- the check
 
--- a verdict is what row 14 says
+-- the number of a verdict is that of row 14
 pub signature-row : (accepted : Bool) → signatureNumber accepted ≡ firstOf ((14, not accepted) ∷ [])
 unfolding signatureNumber firstOf
 signature-row true = refl
 signature-row false = refl
 
--- number 5 is what Algorithm 6 rejects of a key
+-- a key is refused as 5 exactly where Algorithm 6 rejects it
 pub keyInvalid-wrongKey : (key : List ℕ) → keyInvalid key ≡ wrongKey key
 unfolding keyInvalid wrongKey
 keyInvalid-wrongKey key = go (eqb (length key) 56) refl
@@ -43,7 +42,7 @@ first-false : (a b c : Bool) → (not a && b && c) ≡ true → a ≡ false
 first-false true b c e = absurd (false≢true e)
 first-false false b c e = refl
 
--- nothing is valid under a key that the check turns back
+-- no signature is valid under a key that is refused
 pub valid-key : (key message signature : List ℕ) → valid key message signature ≡ true → wrongKey key ≡ false
 unfolding valid
 valid-key key message signature e = sym (keyInvalid-wrongKey key) ∙ first-false (keyInvalid key) _ _ e
@@ -90,7 +89,7 @@ pub sign-refused : (leaf : ℕ) (message seed I C tree out : List ℕ) (n : ℕ)
 unfolding sign unrefused
 sign-refused leaf message seed I C tree out n e = rw e
 
--- where nothing is turned back, the key and the tree, or the signature
+-- ---- without a refusal: the key and the tree, or the signature
 
 module _ (seed I tree out : List ℕ) (s : length seed ≡ 32) (i : length I ≡ 16) (t : length tree ≡ 65536) where
   makeKeyRefusal-zero : 56 ≤ length out → makeKeyRefusal seed I tree out ≡ 0

@@ -115,7 +115,7 @@ reply-leaves r store = go (owesFull r)
     go true = refl
     go false = refl
 
--- n, seat, what is collected and what is held are as they were
+-- n, seat, own submission and first certificate are as they were
 record Alike (r u : Record) : Type 0 where
   n : u .n ≡ r .n
   seat : u .seat ≡ r .seat

@@ -1,4 +1,4 @@
--- What a message is, and what its bytes then say.
+-- The kind of a message, and the content of its bytes by kind.
 -- Assumes nothing.
 use mathlib.Core.Path.{_≡_, refl, ap, _∙_}
 use mathlib.Core.Bool.{Bool, true, false, cond}
@@ -61,7 +61,7 @@ kind-with Garbled = refl
 pub kind-told : (k : Kind) (m : Message) → commandOf k ≡ command m → k ≡ kindOf m
 kind-told k m e = with-own k ∙ ap kindWith e ∙ kind-with m
 
--- ---- what bytes of a kind say, and the test they pass
+-- ---- the message in bytes of a kind, and the test that they pass
 
 abbrev pub readAs : Kind → ℕ → List ℕ → Message
 readAs kind.Submit n bytes = readSubmit bytes
