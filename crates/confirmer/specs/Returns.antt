@@ -71,7 +71,7 @@ module _ (keys : List ℕ) (r : Record) (store out : List ℕ) where
           let size : length out′ ≡ length bytes + length (drop (0 + length bytes) (take room out)) = ap length (did .wrote .wrote) ∙ length-append bytes (drop (0 + length bytes) (take room out)) in
           omega (arith, size, long, part-length)
 
-      -- the bytes written are counted by 32 bits
+      -- the number of bytes written fits 32 bits
       pub end-small : end < 2 ^ 32
       unfolding k
       end-small = omega (arith, ready passed .possible .range .most, stated, out-figure (r .n), did .wrote .ends, written-within)

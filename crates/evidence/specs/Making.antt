@@ -25,7 +25,7 @@ use Rattle.wire_write.specs.Writing.{Wrote}
 use Rattle.validate.specs.Messages.{Formed}
 use Rattle.evidence.specs.Passed.{Call, check, outside, Clear, after-outside, two}
 
--- ---- a certificate as the source of what is written
+-- ---- a certificate as a source
 
 module _ {n round : ℕ} (bytes : List ℕ) (f : Formed n round (isFull (read n bytes)) (read n bytes)) {mask : ℕ} (set : mask ≡ setOf (entrySeats (read n bytes))) where
   pub readable : Readable n (inFull mask) bytes

@@ -43,7 +43,7 @@ maj-digit on off on = refl
 maj-digit on on off = refl
 maj-digit on on on = refl
 
--- ---- half of a result is the result of the halves, and its last digit that of the last digits
+-- ---- halves and last digits of a result
 
 differ-lt : {x y : ℕ} → Digit x → Digit y → differ x y < 2
 differ-lt off off = omega arith

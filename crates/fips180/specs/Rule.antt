@@ -88,7 +88,7 @@ test-says e t x h =
       bits = ltb→lt x (2 ^ 32) (both-right (first && second) third h);
     }
 
--- ---- the rule holds
+-- ---- the tables by the rule
 
 -- "the first sixty-four prime numbers", by computation, a constant for each, and eight words of the initial hash value
 pub sixty-four : (length primes ≡ 64) × (length constants ≡ 64) × (length initial ≡ 8)

@@ -18,7 +18,7 @@ fn byte_or_zero(bytes: &[u8], at: usize) -> u32
     wire::read::number_at(bytes, at)
 }
 
-// The length by the command and, for EVIDENCE, by its count. Bytes with another command have one too, and are garbled.
+// The length by the command and, for EVIDENCE, the count. Bytes with no command go by that count too, and are garbled.
 fn frame_length(n: u32, bytes: &[u8]) -> usize
     requires { ⌜ (1 ≤ n) × (n ≤ mostSeats) ⌝ }
     ensures { λ r. ⌜ (r ≡ frameLength n (now (bytes .entry))) × (r < 2 ^ 32) ⌝ }

@@ -1,4 +1,4 @@
-// Lengths and places in bytes, each equal to that of protocol's `Layout`, for all other code.
+// Lengths and places in bytes, each equal to that of protocol's `Layout`.
 ghost use mathlib.Core.Path.{_≡_};
 ghost use Prim.Native.Nat.{_+_, _*_, _<_, _≤_, _^_};
 ghost use Rattle.quorum.specs.Quorum.{mostSeats};

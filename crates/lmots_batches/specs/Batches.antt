@@ -13,7 +13,7 @@ pub record Ordered (places ends : List ℕ) : Type 0 where
   pub before : (i : ℕ) → i < 67 → getD places i 0 ≤ getD ends i 0
   pub within : (i : ℕ) → i < 67 → getD ends i 0 ≤ 255
 
--- chain i is where it was
+-- chain i stays at its place
 pub record Stayed (places z next z′ : List ℕ) (i : ℕ) : Type 0 where
   pub on : getD next i 0 ≡ getD places i 0
   pub value : part (32 * i) 32 z′ ≡ part (32 * i) 32 z

@@ -67,7 +67,7 @@ pub inners-turn : (I before tree new : List ℕ) (t : ℕ) → tree ≡ innersPu
 unfolding innersPut
 inners-turn I before tree new t e f = rw (add-one, ← e) f
 
--- ---- the buffer filled
+-- ---- the filled buffer
 
 module _ (I seed before : List ℕ) (e : length before ≡ 65536) where
   -- with all nodes after r in place, node r comes out right

@@ -67,7 +67,7 @@ fn known_ots(ots: u32) -> bool
 
 // ---- refusals before any hashing
 
-// Whether these are not the 56 bytes of a key of known types.
+// Whether a key isn't 56 bytes, or has a type that isn't known.
 pub(crate) fn key_refused(key: &[u8]) -> bool
     ensures { λ r. ⌜ r ≡ wrongKey (now (key .entry)) ⌝ }
 {

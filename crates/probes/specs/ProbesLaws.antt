@@ -29,7 +29,7 @@ module _ (f : ℕ → ℕ) (n : ℕ) where
     unfolding ofFleet
     fleet-threshold h r e = rw (le-leb 1 n some, le-leb n mostSeats h) e
 
--- ---- a refused probe writes nothing, another one all
+-- ---- bytes written by a probe, refused or not
 
 refused : (number answered : ℕ) (ws out : List ℕ) → suc number ≡ answered → (suc number ≡ answered) × (out ≡ patch 0 (unrefused answered ws []) out)
 unfolding unrefused

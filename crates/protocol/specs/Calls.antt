@@ -96,7 +96,7 @@ made result = record { number = result .refusal; written = length (result .writt
 unfoldable pub checkedBy : ℕ → Message → Checked
 checkedBy refusal m = record { number = refusal; mask = unrefused refusal (setOf (entrySeats m)) 0 }
 
--- n, round, key table, evidence
+-- the evidence check: n, round, key table, evidence
 unfoldable pub evidenceCheck : Checks → ℕ → ℕ → List ℕ → List ℕ → Checked
 evidenceCheck checks n round keys bytes = checkedBy (firstOf (evidenceConditions checks n round keys (read n bytes))) (read n bytes)
 

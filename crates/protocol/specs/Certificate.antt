@@ -66,12 +66,15 @@ certificateIn Garbled = certificateOf [] []
 
 -- ---- messages from certificates: "Entry seats rise."
 
+-- the entry of a seat
 abbrev pub entryOf : Certificate → ℕ → Entry
 entryOf c seat = record { seat = seat; signature = c .signature seat }
 
+-- the entries of all seats of a certificate
 unfoldable pub entriesOf : ℕ → Certificate → List Entry
 entriesOf n c = map (entryOf c) (seats n (c .seats))
 
+-- the FULL of a certificate
 unfoldable pub fullOf : ℕ → ℕ → ℕ → Certificate → Message
 fullOf n round sender c = Full round sender (c .value) (entriesOf n c)
 
@@ -84,6 +87,7 @@ pairOf low high seat =
 unfoldable pub pairsOf : ℕ → ℕ → Certificate → Certificate → List Pair
 pairsOf n mask low high = map (pairOf low high) (seats n mask)
 
+-- evidence from two certificates, the lower value first
 unfoldable pub orderedEvidence : ℕ → ℕ → Certificate → Certificate → Message
 orderedEvidence n round low high = Evidence round (low .value) (high .value) (pairsOf n (shared (low .seats) (high .seats)) low high)
 

@@ -72,7 +72,7 @@ module _
         ∷ OTHER-ROUND round m ∷ STRANGER n m ∷ DISORDER m ∷ EARLY (early r m) ∷ SIGNATURE checks m ∷ NO-CONFLICT-IN m ∷ KEY-MATERIAL seed I tree
         ∷ []
 
-    -- each stands in the order, in its place
+    -- their numbers are the order
     pub table-ordered : numbers table ≡ order
     unfolding numbers order
     table-ordered = refl

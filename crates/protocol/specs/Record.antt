@@ -28,7 +28,7 @@ lastRound = 1023
 unfoldable pub wrongRound : ℕ → Bool
 wrongRound round = ltb lastRound round
 
--- ---- records with little set
+-- ---- fresh records
 
 -- "the record with nothing else set": n, seat and round alone
 unfoldable pub fresh : ℕ → ℕ → ℕ → Record

@@ -64,7 +64,7 @@ pub length-signedBytes : (round seat : ℕ) (value : List ℕ) → length value 
 unfolding signedBytes
 length-signedBytes round seat value e = simp (length-append, length-be) (omega arith)
 
--- ---- the signer writes 1,452 bytes, whatever the tree's buffer holds
+-- ---- the length of what the signer writes: 1,452 bytes, whatever the tree's buffer holds
 
 module _ (I : List ℕ) (leaf : ℕ) (seed C message tree : List ℕ) (l : leaf ≤ 1023) (c : length C ≡ 32) (t : length tree ≡ 65536) where
   length-path : (i : ℕ) → i < height 6 → length (path tree (2 ^ height 6 + leaf) i) ≡ 32
@@ -77,7 +77,7 @@ module _ (I : List ℕ) (leaf : ℕ) (seed C message tree : List ℕ) (l : leaf 
   pub length-lmsSignature-six-four : length (lmsSignature 6 4 I leaf seed C message tree) ≡ signatureLength
   length-lmsSignature-six-four = length-lmsSignature 6 4 I leaf seed C message tree c length-path ∙ length-six-four
 
--- ---- the key maker and the signer: a refusal writes nothing, and leaves the tree as it was
+-- ---- refusals of the key maker and the signer: no bytes written, and the tree as it was
 
 pub makeKey-refused : (seed I tree out : List ℕ) (n : ℕ) → makeKeyRefusal seed I tree out ≡ suc n
     → makeKey seed I tree out ≡ record { refusal = suc n; written = []; tree = tree }

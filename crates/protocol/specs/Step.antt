@@ -86,7 +86,7 @@ unfoldable pub sendFull : State → State
 sendFull s =
     write (fullOf (s .unit .n) (s .unit .round) (s .unit .seat) (ownCertificate (s .unit) (s .store))) (withUnit s (withSent (s .unit)))
 
--- the same, in every submit and step
+-- the reply of every submit and step: FULL where it is owed
 unfoldable pub reply : State → State
 reply s = cond (owesFull (s .unit)) (sendFull s) s
 
@@ -140,9 +140,11 @@ confirmIfComplete s = cond (isComplete (s .unit)) (hearOwn (confirm s)) (reply s
 
 -- ---- the two calls
 
+-- submit: value, signature
 unfoldable pub submitted : List ℕ → List ℕ → State → State
 submitted value signature s = confirmIfComplete (submitOwn value signature s)
 
+-- a step, by its message; EVIDENCE and garbled bytes are refused before
 unfoldable pub stepped : Message → State → State
 stepped (Submit round seat value signature) s = confirmIfComplete (hearSubmit seat value signature s)
 stepped (Notice round seat value) s = reply (hear value s)

@@ -142,7 +142,7 @@ bit-all-outside s n = bit-outside s n (all n) (all-lt n)
 pub in-all : (s n : ℕ) → In s (all n) ↔ (s < n)
 in-all s n = (λ h. lt-of-not-le (λ l. omega (arith, bit-all-outside s n l)), bit-all-below s n)
 
--- ---- the seats decide the mask
+-- ---- a mask by its seats
 
 first-seat : (m : ℕ) → 0 < m → (s : ℕ) × In s m
 unfolding bit

@@ -151,7 +151,7 @@ module _ (lmsType otsType : ℕ) (I : List ℕ) (q : ℕ) (seed C message tree :
         length-before-path
         ∙ part-joined 32 _ _ each i h
 
--- ---- a valid signature fits: the length is that of its types, and the leaf stands in the tree
+-- ---- length and leaf of a valid signature: the length of its types, and a leaf of the tree
 
 signatureInvalid-fits : (lmsType otsType : ℕ) (signature : List ℕ) → signatureInvalid lmsType otsType signature ≡ false
     → (length signature ≡ signatureLength (height lmsType) (width otsType)) × (leafOf signature < 2 ^ height lmsType)
@@ -183,7 +183,7 @@ valid-fits key message signature e =
     signatureInvalid-fits (lmsTypeOf key) (otsTypeOf key) signature
     (second-false (keyInvalid key) (signatureInvalid (lmsTypeOf key) (otsTypeOf key) signature) _ e)
 
--- ---- a signature of section 5 is valid
+-- ---- validity of a signature of section 5
 
 -- Algorithm 4b rejects nothing that Algorithm 6a has let through
 pub otsInvalid-inside : (h otsType : ℕ) (signature : List ℕ)

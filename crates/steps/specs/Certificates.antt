@@ -75,7 +75,7 @@ module _ (r : Record) (store out : List ℕ) (at : ℕ) (out′ : List ℕ) (end
       saying (blame c) r store (evidenceOf (r .n) (r .round) (firstCertificate r store) c) out at (withGuilty r guilty) store out′ end refl
       (record { recorded = rw e; stored = refl }) (rw (← chosen) w)
 
--- ---- one way or the other
+-- ---- replies, and certificates held or blaming
 
 module _ (r : Record) (store out : List ℕ) (at : ℕ) where
   nothing-done : Did (λ s. s) r store out at r store out at

@@ -31,7 +31,7 @@ command m = byteAt (render m) 0
 
 -- ---- the next entry of a reader
 
--- "0x04, seat 1, signature 1,452": the entry found, its signature read where the answer says; none at the end
+-- "0x04, seat 1, signature 1,452": the entry found, with the signature at its place; none at the end
 unfoldable pub entryOf : Next → List ℕ → List Entry
 entryOf (next.Entry seat at) bytes = record { seat = seat; signature = readSignature at bytes } ∷ []
 entryOf next.End bytes = []

@@ -37,7 +37,7 @@ module _ (n : ℕ) (bytes : List ℕ) where
         unfolding commandOf command render read
         told-garbled h = rw (no-submit, no-notice, no-full, h)
 
--- ---- a kind is known by its command
+-- ---- the kind by its command
 
 kindWith : ℕ → Kind
 kindWith c = cond (eqb c 0x01) kind.Submit (cond (eqb c 0x02) kind.Notice (cond (eqb c 0x03) kind.Full (cond (eqb c 0x05) kind.Evidence kind.Garbled)))

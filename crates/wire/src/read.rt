@@ -33,7 +33,7 @@ pub fn number_at(m: &[u8], at: usize) -> u32
     wide(m[at])
 }
 
-// The round, two bytes after the command.
+// The round: the two bytes after the command.
 fn round_of(m: &[u8]) -> u32
     requires { ⌜ operandsAt ≤ length (now m) ⌝ }
     ensures { λ r. ⌜ r ≡ readRound (now (m .entry)) ⌝ }

@@ -58,8 +58,8 @@ keysAt = 5
 abbrev pub keysOf : List ℕ → List ℕ
 keysOf bytes = drop keysAt bytes
 
--- its length, as far as the bytes at its start tell it; "n above 7 prints `1 0`, and n = 0 too; both need no keys". One byte tells
--- what is no opening.
+-- its length, as far as the bytes at its start tell it; "n above 7 prints `1 0`, and n = 0 too; both need no keys". Without 0x10 it
+-- is 1.
 unfoldable pub openingLength : List ℕ → ℕ
 openingLength bytes = cond (isOpening bytes) (keysAt + cond (tooMany bytes) 0 (keyLength * byteAt bytes 1)) 1
 

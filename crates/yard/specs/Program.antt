@@ -45,7 +45,7 @@ module _ (checks : List ℕ → ℕ → Checks) (outs : ℕ → List ℕ) where
       let o = begun bytes in
       o .line ++ cond (o .ends) [] (ran limit (keysOf bytes) (o .unit) (o .store) (drop (length bytes) input))
 
--- ---- a command's length is told by its first bytes
+-- ---- a command's length, from its first bytes
 
 cond-by : (b : Bool) (x y z : ℕ) → (b ≡ true → x ≡ y) → cond b x z ≡ cond b y z
 cond-by true x y z h = h refl
@@ -139,7 +139,7 @@ opening-tells = record {
   tells = λ b rest. opening-start (openingLength (b ∷ [])) (b ∷ rest) (opening-some (b ∷ [])) (λ e. omega (arith, opening-first b e));
 }
 
--- reading in three parts comes to the whole command, or to what the input has of it
+-- reading in three parts comes to the command, as far as the input has it
 pub gathered-whole : (size : List ℕ → ℕ) → Tells size → (input : List ℕ) → gathered size input ≡ take (size input) input
 unfolding gathered
 gathered-whole size told [] = sym (take-nil (size []))

@@ -35,7 +35,7 @@ pub data Ran (checks : List ℕ → ℕ → Checks) : List ℕ → List ℕ → 
       → Reached checks (keysOf bytes) (begun bytes .unit) (begun bytes .store) yardOut input lines ends last store out
       → Ran checks (bytes ++ input) (begun bytes .line ++ lines) ends last
 
--- ---- a command that goes on is whole
+-- ---- whole commands
 
 module _ (size : List ℕ → ℕ) (t : Tells size) where
   taken-own : (bytes : List ℕ) → gathered size bytes ≡ bytes → take (size bytes) bytes ≡ bytes
@@ -73,7 +73,7 @@ whole-opening bytes g h = size-own openingLength opening-tells bytes g (framed-o
     framed true o e = e
     framed false o e = refl
 
--- ---- its lines are those of `printed` and `yard`
+-- ---- the lines of a run, by `printed` and `yard`
 
 module _ (checks : List ℕ → ℕ → Checks) where
   printed-enough : (m n : ℕ) (keys : List ℕ) (r : Record) (store input : List ℕ) → length input ≤ m → length input ≤ n

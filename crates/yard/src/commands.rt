@@ -40,7 +40,7 @@ fn two_at(bytes: &[u8], i: usize) -> u32
     byte_at(bytes, i) * 256 + byte_at(bytes, i + 1)
 }
 
-// The line for a command: none for no bytes, where the input has ended.
+// The line for a command; none for no bytes, at the end of the input.
 fn line_for(bytes: &[u8], number: u32, written: u32) -> Line
     ensures { λ r. ⌜ (r ≡ inSpace (lineFor (now (bytes .entry)) number written)) × Fits r ⌝ }
 {
