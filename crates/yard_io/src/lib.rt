@@ -70,7 +70,7 @@ struct Taken {
     unit: Record,
 }
 
-// Reads the first command, does it, and prints its line.
+// Reads the first command, does it, and prints its line. Scratch: the bytes of `input` after the command.
 fn first_command(input: &mut [u8]) -> Taken
     requires { ⌜ longestOpening ≤ length (now input) ⌝ }
     ensures { λ t. ⌜ First t (now (input .exit)) ⌝ }
@@ -87,7 +87,7 @@ fn first_command(input: &mut [u8]) -> Taken
     }
 }
 
-// Reads a later command, does it, and prints its line.
+// Reads a later command, does it, and prints its line. Scratch as in `first_command`.
 fn next_command(
     unit: Record,
     keys: &[u8],
