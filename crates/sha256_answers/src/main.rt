@@ -1,5 +1,5 @@
-// Digests of messages of each length from 0 to 259, over the edges of the padding, and of some long ones, for comparison
-// with an independent implementation: the file `stdout` has OpenSSL's.
+// Digests of messages of each length from 0 to 259, over the edges of the padding, and of some long ones, to compare
+// with an independent implementation's: the file `stdout` has OpenSSL's.
 ghost use mathlib.Core.Path.{_≡_};
 ghost use Prim.Native.Nat.{_≤_};
 ghost use lib.ListN.{length};
