@@ -37,6 +37,7 @@ fn fresh(n: u32, seat: u32, round: u32) -> Record
     }
 }
 
+// Answer of an opening: the record with nothing else set, or the refusal number and a record of zeros.
 pub fn open(n: u32, seat: u32, round: u32, keys: &[u8]) -> Opened
     ensures { λ r. ⌜ r ≡ opening n seat round (now (keys .entry)) ⌝ }
 {

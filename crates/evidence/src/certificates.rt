@@ -1,4 +1,4 @@
-// Two certificates in hand that conflict: which has the lower value, and what is written of them.
+// Two certificates in hand that conflict: the test for the lower value, and the evidence written from them.
 ghost use mathlib.Core.Path.{_≡_};
 ghost use Prim.Native.Nat.{_≤_};
 ghost use lib.ListN.{length};
@@ -25,7 +25,7 @@ pub(crate) fn first_is_lower(n: u32, first: &[u8], second: &[u8]) -> bool
     wire::values::lower(&a, &b)
 }
 
-// EVIDENCE of two certificates that conflict, from the start of `out`: the bytes written.
+// Writes the EVIDENCE of two certificates that conflict to the start of `out`, and answers its length.
 pub(crate) fn write_conflict(n: u32, round: u32, first: &[u8], second: &[u8], out: &mut [u8]) -> u32
     requires { ⌜ (1 ≤ n) × (n ≤ mostSeats) × Conflict n round (read n (now first)) (read n (now second)) × (evidenceOutLength n ≤ length (now out)) ⌝ }
     ensures { λ r. ⌜ Wrote 0 (render (evidenceOf n round (certificateIn (read n (now (first .entry)))) (certificateIn (read n (now (second .entry)))))) (now (out .entry)) (now (out .exit)) r ⌝ }

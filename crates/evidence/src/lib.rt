@@ -1,4 +1,4 @@
-// The evidence check, evidence from two certificates, and the lower of two.
+// The evidence check, evidence from two certificates, and the lower certificate of two.
 ghost use mathlib.Core.Path.{_≡_};
 ghost use mathlib.Core.List.{[]};
 ghost use Rattle.protocol.specs.Signatures.{checks};
@@ -15,8 +15,7 @@ use validate::calls::two_refusal;
 
 mod certificates;
 
-// The evidence check: the refusal's number and 0, or 0 and the seats that the evidence names. Signatures are checked after
-// everything cheaper.
+// The evidence check: the refusal number and no seats, or 0 and the seats that the evidence names.
 pub fn check_evidence(n: u32, round: u32, keys: &[u8], evidence: &[u8]) -> Checked
     ensures { λ r. ⌜ r ≡ evidenceCheck (checks (now (keys .entry)) round) n round (now (keys .entry)) (now (evidence .entry)) ⌝ }
 {
@@ -39,7 +38,7 @@ pub fn check_evidence(n: u32, round: u32, keys: &[u8], evidence: &[u8]) -> Check
     Checked { number: 0, mask }
 }
 
-// Evidence from two certificates, given in either order: the refusal's number and 0, or 0 and the bytes written to `out`.
+// Evidence from two certificates, given in either order: the refusal number and 0, or 0 and the number of bytes written to `out`.
 pub fn make_evidence(
     n: u32,
     round: u32,
@@ -86,8 +85,8 @@ fn nothing<'a>(m: &'a [u8]) -> &'a [u8]
 }
 
 // Of two certificates that conflict, the one with the lower value, as the whole of the buffer lent; a part of length 0 where
-// the call or either certificate is refused or they don't conflict. Of which buffer that is a part is free: document 01 says its
-// length alone.
+// the call or either certificate is refused or they don't conflict. The contract leaves the buffer of that part free: document 01
+// says only its length.
 pub fn lower_certificate<'a>(
     n: u32,
     round: u32,

@@ -19,7 +19,7 @@ use Rattle.fips180.specs.Pieces.{leftover, ended, oneBlock}
 
 -- ---- the schedule, as a loop fills it
 
--- W[t] looks at the words before it alone
+-- W[t] depends only on the words before it
 scheduled-take : (w : List ℕ) (t : ℕ) → 16 ≤ t → scheduled (take t w) t ≡ scheduled w t
 unfolding scheduled
 scheduled-take w t h =
@@ -92,7 +92,7 @@ hashed-back h xs ys s (suc t) e =
     let n : 64 * (s + t) ≡ length xs + 64 * t = omega arith in
     rw add-suc (ap₂ compress ih (ap (λ (l : List ℕ). words 16 (take 64 l)) (ap (λ (j : ℕ). drop j (xs ++ ys)) n ∙ drop-append-add xs ys (64 * t))))
 
--- m and what follows it: the whole blocks of m, then what is left of m with what follows
+-- m followed by z: the whole blocks of m, then the rest of m followed by z
 absorbed-append : (h m z : List ℕ) → absorbed h (m ++ z) ≡ absorbed (absorbed h m) (leftover m ++ z)
 unfolding absorbed leftover
 absorbed-append h m z =

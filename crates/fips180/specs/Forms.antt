@@ -7,7 +7,7 @@ use lib.Arith.{lt-one}
 use lib.Bits.{bitAnd, bitXor, differ, and-step, xor-step}
 use Rattle.fips180.specs.Fips.{complement, ch, maj}
 
--- one digit
+-- ---- one digit
 
 -- the digit 0 or 1
 data Digit : ℕ → Type 0 where
@@ -43,7 +43,7 @@ maj-digit on off on = refl
 maj-digit on on off = refl
 maj-digit on on on = refl
 
--- half of a result is the result of the halves, and its digit that of the digits
+-- ---- halves and last digits of a result
 
 differ-lt : {x y : ℕ} → Digit x → Digit y → differ x y < 2
 differ-lt off off = omega arith
@@ -66,7 +66,7 @@ xor-half a b = omega (arith, xor-step a b, differ-lt (digit a) (digit b))
 by-halves : (a b : ℕ) → a / 2 ≡ b / 2 → a % 2 ≡ b % 2 → a ≡ b
 by-halves a b p q = omega arith
 
--- numbers of k digits
+-- ---- numbers of k digits
 
 ch-form : (k x y z : ℕ) → x < 2 ^ k → y < 2 ^ k → z < 2 ^ k
     → bitXor z (bitAnd x (bitXor y z)) ≡ bitXor (bitAnd x y) (bitAnd (2 ^ k - 1 - x) z)
@@ -88,7 +88,7 @@ maj-form (suc k) x y z hx hy hz =
     (simp (xor-half, and-half) (maj-form k (x / 2) (y / 2) (z / 2) (omega arith) (omega arith) (omega arith)))
     (simp (xor-digit, and-digit) (maj-digit (digit x) (digit y) (digit z)))
 
--- words
+-- ---- words
 
 pub ch-word : (x y z : ℕ) → x < 2 ^ 32 → y < 2 ^ 32 → z < 2 ^ 32 → bitXor z (bitAnd x (bitXor y z)) ≡ ch x y z
 unfolding ch complement
@@ -98,7 +98,7 @@ pub maj-word : (x y z : ℕ) → x < 2 ^ 32 → y < 2 ^ 32 → z < 2 ^ 32 → bi
 unfolding maj
 maj-word x y z hx hy hz = maj-form 32 x y z hx hy hz
 
--- numbers of any length
+-- ---- numbers of any length
 
 below-power : (n : ℕ) → n < 2 ^ n
 below-power zero = omega arith

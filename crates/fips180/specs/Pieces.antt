@@ -1,4 +1,4 @@
--- Values on the code's way to a digest.
+-- Intermediate values of the code that makes a digest.
 use Prim.Native.Nat.{ℕ, _*_, _/_}
 use mathlib.Core.Bool.{cond}
 use mathlib.Core.List.{List}
@@ -12,7 +12,7 @@ use Rattle.fips180.specs.Fips.{compress}
 unfoldable pub leftover : List ℕ → List ℕ
 leftover m = drop (length m / 64 * 64) m
 
--- where the padding ends that follows a tail of n bytes
+-- the end of the padding after a tail of n bytes
 unfoldable pub ended : ℕ → ℕ
 ended n = cond (ltb n 56) 64 128
 

@@ -17,7 +17,7 @@ unfoldable pub divided : ℕ → ℕ → Bool
 divided m zero = false
 divided m (suc n) = cond (eqb (m % (n + 2)) 0) true (divided m n)
 
--- from 2 on: nothing from 2 to one less divides it
+-- a number from 2 on that no smaller one from 2 on divides
 unfoldable pub prime : ℕ → Bool
 prime zero = false
 prime (suc zero) = false
@@ -32,7 +32,7 @@ primesBelow (suc n) = cond (prime n) (primesBelow n ++ (n ∷ [])) (primesBelow 
 unfoldable pub primes : List ℕ
 primes = primesBelow 312
 
--- x is the first 32 bits of the fractional part of the e-th root of p: with a before the point, a and x are that root
+-- x is the first 32 bits of the fractional part of the e-th root of p: with `whole` before the point, both are that root
 -- times 2 to the 32, rounded down
 pub record FirstBits (e p x : ℕ) : Type 0 where
   pub whole : ℕ
@@ -88,9 +88,9 @@ test-says e t x h =
       bits = ltb→lt x (2 ^ 32) (both-right (first && second) third h);
     }
 
--- ---- the rule holds
+-- ---- the tables by the rule
 
--- "the first sixty-four prime numbers", found and not listed, and a constant for each; eight words of the initial hash value
+-- "the first sixty-four prime numbers", by computation, a constant for each, and eight words of the initial hash value
 pub sixty-four : (length primes ≡ 64) × (length constants ≡ 64) × (length initial ≡ 8)
 unfolding primes primesBelow prime divided constants initial
 sixty-four = (refl, refl, refl)

@@ -1,1 +1,1 @@
-// SHA-256 of FIPS 180-4 as definitions, in specs/: what the contracts of `sha256_words`, `sha256_block` and `sha256` cite. It has no code.
+// SHA-256 of FIPS 180-4 as definitions, for the contracts of the crates above; they are in specs/, and there is no code here.

@@ -1,4 +1,4 @@
--- Where the first message in a buffer ends (document 01, "Commands on the air": "Each starts with a one-byte command, then
+-- The end of the first message in a buffer (document 01, "Commands on the air": "Each starts with a one-byte command, then
 -- operands of fixed widths").
 -- Assumes nothing.
 use Prim.Native.Nat.{ℕ}

@@ -82,7 +82,7 @@ module _ (n : ℕ) (bytes : List ℕ) where
         unfolding messageLength wrongSize firstFrame
         told-kind = rw (ne-eqb n 0 some, le-ltb mostSeats n few, ← e, le-ltb (length bytes) l long, ← garbled-told c (read n (take l bytes)) told, ← q)
 
--- ---- the length by command and count: r is what the code answers, which fits a u32
+-- ---- the length by command and count: r is the code's answer, which fits a u32
 
 module _ (n : ℕ) (bytes : List ℕ) (c : ℕ) (e : c ≡ byteAt bytes 0) (r : ℕ) where
   abbrev Told : Type 0

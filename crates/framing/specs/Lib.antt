@@ -1,3 +1,3 @@
--- The length of the first message in a buffer, and the law that what a call writes is split by it exactly.
+-- The length of the first message in a buffer, and the law that it is exact for messages written.
 pub mod Framing
 pub mod FramingLaws

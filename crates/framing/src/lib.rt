@@ -18,7 +18,7 @@ fn byte_or_zero(bytes: &[u8], at: usize) -> u32
     wire::read::number_at(bytes, at)
 }
 
-// The length that the command says, and of an EVIDENCE its count.
+// The length by the command and, for EVIDENCE, the count. Bytes with no command go by that count too, and are garbled.
 fn frame_length(n: u32, bytes: &[u8]) -> usize
     requires { ⌜ (1 ≤ n) × (n ≤ mostSeats) ⌝ }
     ensures { λ r. ⌜ (r ≡ frameLength n (now (bytes .entry))) × (r < 2 ^ 32) ⌝ }
@@ -37,7 +37,7 @@ fn frame_length(n: u32, bytes: &[u8]) -> usize
     layout::evidence_length(count as usize)
 }
 
-// Whether bytes are no message.
+// Whether bytes of a kind are no message.
 fn is_garbled(kind: Kind) -> bool
     ensures { λ r. ⌜ r ≡ noMessage kind ⌝ }
 {

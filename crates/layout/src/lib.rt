@@ -1,4 +1,4 @@
-// Lengths and places in bytes, each the one of protocol's `Layout`. No other code has these numbers.
+// Lengths and places in bytes, each equal to that of protocol's `Layout`.
 ghost use mathlib.Core.Path.{_≡_};
 ghost use Prim.Native.Nat.{_+_, _*_, _<_, _≤_, _^_};
 ghost use Rattle.quorum.specs.Quorum.{mostSeats};
@@ -6,15 +6,15 @@ ghost use Rattle.protocol.specs.Layout as Layout;
 ghost use Rattle.protocol.specs.Record.{lastRound};
 ghost use Rattle.layout.specs.Places.{full, evidence, bankOf};
 
-// The bytes of a signature, also as an array's length.
+// The length of a signature, also for arrays.
 pub const SIGNATURE: usize = 1452;
 
-// Those of NOTICE and SUBMIT.
+// The lengths of NOTICE and SUBMIT.
 const NOTICE: usize = 36;
 
 const SUBMIT: usize = 1488;
 
-// The first entry of FULL and of EVIDENCE, and the bytes of one.
+// In FULL and in EVIDENCE: the place of the first entry, and the length of each.
 const FULL_START: usize = 37;
 
 const FULL_ENTRY: usize = 1454;
@@ -89,7 +89,7 @@ pub fn evidence_count_at() -> usize
 
 // ---- lists of entries
 
-// Where the entries of a message stand: the place of the first, the length of each, and how many there are.
+// The entries of a message: the place of the first, the length of each, and their number.
 pub struct Entries {
     pub start: usize,
     pub length: usize,
@@ -118,7 +118,7 @@ pub fn evidence_entries(count: usize) -> Entries
     }
 }
 
-// Where the entry of an index stands, counted from 0.
+// The place of an entry, by its index from 0.
 pub fn entry_at(entries: Entries, i: usize) -> usize
     requires { ⌜ Layout.entryAt (entries .start) (entries .length) i < 2 ^ 64 ⌝ }
     ensures { λ r. ⌜ r ≡ Layout.entryAt (entries .start) (entries .length) i ⌝ }
@@ -140,7 +140,7 @@ pub fn notice_length() -> usize
     NOTICE
 }
 
-// FULL of a fleet of n seats.
+// FULL in a fleet of n seats.
 pub fn full_length(n: u32) -> usize
     requires { ⌜ (1 ≤ n) × (n ≤ mostSeats) ⌝ }
     ensures { λ r. ⌜ r ≡ Layout.fullLength n ⌝ }
@@ -148,7 +148,7 @@ pub fn full_length(n: u32) -> usize
     FULL_START + FULL_ENTRY * (quorum::k(n) as usize)
 }
 
-// EVIDENCE with a number of entries.
+// EVIDENCE with `count` entries.
 pub fn evidence_length(count: usize) -> usize
     requires { ⌜ count < 2 ^ 32 ⌝ }
     ensures { λ r. ⌜ r ≡ Layout.evidenceLength count ⌝ }
@@ -158,7 +158,7 @@ pub fn evidence_length(count: usize) -> usize
 
 // ---- store and out
 
-// The banks of the store: signatures collected, and those of the first certificate.
+// The banks of the store: the signatures collected, and those of the first certificate.
 pub enum Bank {
     Collected,
     First,
@@ -171,7 +171,7 @@ pub fn store_length(n: u32) -> usize
     2 * SIGNATURE * (n as usize)
 }
 
-// The slot of a seat in a bank.
+// The place of a seat's slot in a bank.
 pub fn slot_at(n: u32, bank: Bank, seat: u32) -> usize
     requires { ⌜ (n ≤ mostSeats) × (seat < n) ⌝ }
     ensures { λ r. ⌜ (r ≡ Layout.slotAt n (bankOf bank) seat) × (r + Layout.slotLength (bankOf bank) ≤ Layout.storeLength n) ⌝ }
@@ -183,7 +183,7 @@ pub fn slot_at(n: u32, bank: Bank, seat: u32) -> usize
     }
 }
 
-// out of evidence from two certificates.
+// `out` for evidence from two certificates.
 pub fn evidence_out_length(n: u32) -> usize
     requires { ⌜ (1 ≤ n) × (n ≤ mostSeats) ⌝ }
     ensures { λ r. ⌜ r ≡ Layout.evidenceOutLength n ⌝ }
@@ -191,7 +191,7 @@ pub fn evidence_out_length(n: u32) -> usize
     evidence_length(quorum::k(n) as usize)
 }
 
-// out of a submit or a step: SUBMIT, NOTICE, FULL and EVIDENCE.
+// `out` for a submit or a step: SUBMIT, NOTICE, FULL and EVIDENCE.
 pub fn out_length(n: u32) -> usize
     requires { ⌜ (1 ≤ n) × (n ≤ mostSeats) ⌝ }
     ensures { λ r. ⌜ r ≡ Layout.outLength n ⌝ }
@@ -199,7 +199,7 @@ pub fn out_length(n: u32) -> usize
     SUBMIT + NOTICE + full_length(n) + evidence_out_length(n)
 }
 
-// ---- values, keys, and what is signed
+// ---- values, keys, trees, signed messages, rounds
 
 pub fn value_length() -> usize
     ensures { λ r. ⌜ r ≡ Layout.valueLength ⌝ }
@@ -213,7 +213,7 @@ pub fn key_length() -> usize
     56
 }
 
-// The key of a seat in the key table.
+// The place of a seat's key in the key table.
 pub fn key_at(seat: u32) -> usize
     ensures { λ r. ⌜ r ≡ Layout.keyAt seat ⌝ }
 {

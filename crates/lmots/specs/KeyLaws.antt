@@ -18,7 +18,7 @@ use Rattle.lmots_digits.specs.Pieces.{front}
 use Rattle.lmots_batches.specs.Batches.{Ordered, ended}
 use Rattle.lmots_batches.specs.BatchLaws.{all-set, written-next}
 
--- a signature's values
+-- a signature: 36 bytes, then its values
 pub length-values : (w : ℕ) → otsLength w ≡ 36 + 32 * chains w
 unfolding otsLength
 length-values w = omega arith

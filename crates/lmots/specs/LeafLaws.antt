@@ -41,7 +41,7 @@ ended-by id leaves seed i v v₁ v₂ hi filled first rest l h =
 
 -- ---- strings
 
--- a part that goes on with what is written behind it
+-- a part extended by a write right after it
 part-more : (a m : ℕ) (ws xs : List ℕ) → a + m ≤ length xs → part a (m + length ws) (patch (a + m) ws xs) ≡ part a m xs ++ ws
 part-more a m ws xs h =
     part-add a m (length ws) (patch (a + m) ws xs)

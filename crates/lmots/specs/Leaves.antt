@@ -12,7 +12,8 @@ use Rattle.rfc8554.specs.Ots.{keyInput, chainEnd}
 unfoldable pub string : List ℕ → ℕ → List ℕ → ℕ → List ℕ
 string I q seed n = keyInput I q (joined (chainEnd I q 8 seed) n)
 
--- z′ is z with column l's value at chain i's end of string l, for the columns before n
+-- z′ is z with the value of column l as the end of chain i in string l, for the columns before n; the rest of a string is
+-- free
 pub record Put (n i : ℕ) (v z z′ : List ℕ) : Type 0 where
   pub long : length z′ ≡ 17760
   pub new : (l : ℕ) → l < n → part (1110 * l) (22 + 32 * i + 32) z′ ≡ part (1110 * l) (22 + 32 * i) z ++ bytes (column l 8 v)

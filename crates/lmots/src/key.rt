@@ -17,7 +17,7 @@ use lmots_digits::digits::message_digits;
 use lmots_digits::digits::most;
 use lmots_digits::words::put_eight;
 
-// How many chains a key of width w has.
+// The number of chains of a key of width w.
 fn count(w: u32) -> usize
     requires { ⌜ (w ≡ 4) ⊎ (w ≡ 8) ⌝ }
     ensures { λ r. ⌜ (r ≡ Ots.chains w) × (r ≤ 67) ⌝ }
@@ -25,7 +25,7 @@ fn count(w: u32) -> usize
     if w == 8 { 34 } else { 67 }
 }
 
-// The first n digits of width w, as places of chains.
+// The first n digits of width w, as places of chains. Scratch: the places after them.
 fn digit_places(w: u32, digits: &[u8], n: usize) -> [u32; 67]
     requires { ⌜ ((w ≡ 4) ⊎ (w ≡ 8)) × (length (now digits) ≡ 34) × (n ≤ Ots.chains w) ⌝ }
     ensures { λ r. ⌜ ((i : ℕ) → i < n → getD r i 0 ≡ Ots.coef w (now (digits .entry)) i) × ((i : ℕ) → i < 67 → getD r i 0 ≤ 2 ^ w - 1) ⌝ }
@@ -124,7 +124,7 @@ fn write_completed(
     octets::copy(out, at, &z[..end]);
 }
 
-// A buffer for the hash input of a key of either width, with its front. Scratch: the bytes after it.
+// A buffer for the hash input of a key of either width, with its front. Scratch: the bytes after the front.
 fn key_buffer(id: [u32; 4], q: u32) -> [u8; 2166]
     ensures { λ r. ⌜ take 22 r ≡ Pieces.front (bytes id) q dPblc ⌝ }
 {
@@ -134,7 +134,7 @@ fn key_buffer(id: [u32; 4], q: u32) -> [u8; 2166]
     out
 }
 
-// The key that a signature of width w leads to.
+// The candidate key of a signature of width w.
 pub fn candidate(
     k: &[u32; 64],
     id: [u32; 4],

@@ -48,7 +48,7 @@ fn chain_ends(
     steps(k, id, leaves, &[i * 65536; 16], 255, v);
 }
 
-// Writes the ends of chain i to the strings of the leaves.
+// Writes the ends of chain i to the strings of the leaves. Scratch: the rest of each string.
 fn put_ends(v: &[u32; 128], i: usize, z: &mut [u8])
     requires { ⌜ (length (now v) ≡ 128) × (i < 34) × (length (now z) ≡ 17760) ⌝ }
     ensures { λ _. ⌜ Put 16 i (now (v .entry)) (now (z .entry)) (now (z .exit)) ⌝ }
@@ -61,7 +61,7 @@ fn put_ends(v: &[u32; 128], i: usize, z: &mut [u8])
     }
 }
 
-// Writes what the strings begin with. Scratch: the rest of each string.
+// Writes the fronts of the strings. Scratch: the rest of each string.
 fn put_fronts(id: [u32; 4], leaves: [u32; 16], z: &mut [u8])
     requires { ⌜ length (now z) ≡ 17760 ⌝ }
     ensures { λ _. ⌜ (length (now (z .exit)) ≡ 17760) × ((l : ℕ) → l < 16 → part (1110 * l) 22 (now (z .exit)) ≡ Pieces.front (bytes id) (getD leaves l 0) dPblc) ⌝ }

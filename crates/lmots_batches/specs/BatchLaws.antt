@@ -31,7 +31,7 @@ compare i j = go (ltb i j) refl
     go true e = inr (inl (ltb-true i j e))
     go false e = ⊎-elim (λ p. inl (sym p)) (λ h. inr (inr h)) (eq-or-lt-of-le (ltb-false i j e))
 
--- every element but one stays below n, and so does that one
+-- a bound n on the elements stays where one is set to a number below n
 pub all-set : (xs : List ℕ) (i x n m : ℕ) → i < length xs → x < n → ((j : ℕ) → j < m → getD xs j 0 < n) → (j : ℕ) → j < m → getD (set xs i x) j 0 < n
 all-set xs i x n m h k f j a =
     ⊎-elim

@@ -1,4 +1,4 @@
--- All chains of a leaf, sixteen at a time: up to 67 values of 32 bytes in z, and for each the place of its chain that it has come to.
+-- All chains of a leaf, sixteen at a time: up to 67 values of 32 bytes in z, each with its place in its chain.
 use mathlib.Core.Path.{_≡_}
 use mathlib.Core.Logic.{_⊎_}
 use mathlib.Core.List.{List}
@@ -13,12 +13,12 @@ pub record Ordered (places ends : List ℕ) : Type 0 where
   pub before : (i : ℕ) → i < 67 → getD places i 0 ≤ getD ends i 0
   pub within : (i : ℕ) → i < 67 → getD ends i 0 ≤ 255
 
--- chain i is where it was
+-- chain i stays at its place
 pub record Stayed (places z next z′ : List ℕ) (i : ℕ) : Type 0 where
   pub on : getD next i 0 ≡ getD places i 0
   pub value : part (32 * i) 32 z′ ≡ part (32 * i) 32 z
 
--- chain i has come `count` places on: its value is column `at` of v, one of the first n
+-- chain i has gone `count` places on: its value is column `at` of v, one of the first n
 pub record Advanced (n : ℕ) (picks places : List ℕ) (count : ℕ) (v next z′ : List ℕ) (i : ℕ) : Type 0 where
   pub at : ℕ
   pub early : at < n

@@ -1,4 +1,5 @@
-// All chains of a leaf, in batches of sixteen. The values of up to 67 chains stand one after the other in z.
+// All chains of a leaf, in batches of sixteen. The values of up to 67 chains stand one after the other in z. The contracts leave free
+// which chains go together and how far: each one comes to its own end.
 ghost use mathlib.Core.Path.{_≡_};
 ghost use mathlib.Core.Logic.{_⊎_};
 ghost use Prim.Native.Nat.{ℕ, _+_, _-_, _*_, _<_, _≤_};
@@ -13,14 +14,14 @@ use lmots_chains::sixteen::steps;
 use lmots_digits::words::eight;
 use lmots_digits::words::put_eight;
 
-// The steps from a place to an end.
+// The number of steps from a place to an end.
 fn left(place: u32, end: u32) -> u32
     ensures { λ r. ⌜ r ≡ end - place ⌝ }
 {
     if place < end { end - place } else { 0 }
 }
 
-// The steps that each chain has left.
+// The number of steps left, for each chain.
 fn lefts(places: [u32; 67], ends: [u32; 67]) -> [u32; 67]
     ensures { λ r. ⌜ ((i : ℕ) → i < 67 → getD r i 0 ≡ getD ends i 0 - getD places i 0) ⌝ }
 {
@@ -57,7 +58,7 @@ fn this_or(i: usize, steps: u32, other: usize) -> usize
     if 0 < steps { i } else { other }
 }
 
-// Sixteen of n chains, those with the most steps left. Where fewer have steps left, the first of them is taken again.
+// The sixteen of n chains with the most steps left. Where fewer than sixteen have steps left, the longest is taken again.
 fn choose(rests: [u32; 67], n: usize) -> [usize; 16]
     requires { ⌜ (0 < n) × (n ≤ 67) ⌝ }
     ensures { λ r. ⌜ ((l : ℕ) → l < 16 → getD r l 0 < n) ⌝ }
@@ -82,7 +83,7 @@ fn lesser(a: u32, b: u32) -> u32
     if a < b { a } else { b }
 }
 
-// How many steps sixteen chains go together before they are chosen anew.
+// The number of steps that sixteen chains go together: at most 64, and none past its end.
 fn together(places: [u32; 67], ends: [u32; 67], picks: [usize; 16]) -> u32
     requires { ⌜ ((l : ℕ) → l < 16 → getD picks l 0 < 67) ⌝ }
     ensures { λ r. ⌜ (r ≤ 64) × ((l : ℕ) → l < 16 → r ≤ getD ends (getD picks l 0) 0 - getD places (getD picks l 0) 0) ⌝ }
@@ -199,7 +200,7 @@ fn batch(
     scatter(&v, picks, places, count, z)
 }
 
-// The chains go on in batches until fewer than four have steps left.
+// Batches until fewer than four chains have steps left: at most 17,085, which is 67 chains times 255 steps.
 fn advance(
     k: &[u32; 64],
     id: [u32; 4],

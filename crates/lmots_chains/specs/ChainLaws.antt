@@ -30,7 +30,7 @@ be-across a b =
     let s : x % 256 ≡ b / 16777216 % 256 = omega arith in
     rw (be-four, p, q, r, s)
 
--- the words after a that begin a byte later, up to the bit 1
+-- the words of a value after its first, a, moved by one byte, up to the bit 1
 slid : ℕ → List ℕ → List ℕ
 slid a [] = across a 2147483648 ∷ []
 slid a (b ∷ bs) = across a b ∷ slid b bs
@@ -58,7 +58,7 @@ length-word : be 8 440 ≡ bytes (0 ∷ 440 ∷ [])
 unfolding be bytes
 length-word = refl
 
--- 55 bytes, padded: identifier, leaf number, chain number and place, then the value a byte later
+-- 55 bytes, padded: identifier, leaf number, chain number and place, then the value, moved by one byte
 slid-block : (I bs : List ℕ) (q i j a : ℕ) → i < 65536 → j < 256 → length I ≡ 4 → length bs ≡ 7
     → bytes (I ++ (q ∷ (i * 65536 + j * 256 + a / 16777216 % 256) ∷ slid a bs ++ (0 ∷ 440 ∷ [])))
     ≡ pad (chainInput (bytes I) q i j (bytes (a ∷ bs)))
@@ -94,7 +94,7 @@ prepared id tmp q i j x1 x2 x3 x4 x5 x6 x7 li lt hi hj e1 e2 e3 e4 e5 e6 e7 =
     q i j (getD tmp 0 0) hi hj refl refl
     ∙ ap₂ (λ (l m : List ℕ). pad (chainInput (bytes l) q i j (bytes m))) (as-four id li) (as-eight tmp lt))
 
--- one compression hashes what stands padded in one block
+-- one compression hashes a message that one padded block holds
 pub compressed : (m h r x : List ℕ) → length m ≡ 16 → ((i : ℕ) → getD m i 0 < 4294967296) → h ≡ initial → bytes m ≡ pad x
     → r ≡ compress h m → bytes r ≡ sha256 x
 unfolding oneBlock

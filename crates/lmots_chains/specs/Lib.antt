@@ -1,4 +1,4 @@
--- Chains: values on the code's way (`Pieces`, and `Sixteen` of sixteen side by side), and laws.
+-- Chains: intermediate values of the code (`Pieces`, and `Sixteen` for sixteen side by side), and laws.
 pub mod Pieces
 pub mod WordLaws
 pub mod ChainLaws

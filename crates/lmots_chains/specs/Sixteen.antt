@@ -1,4 +1,4 @@
--- Sixteen chains side by side, each of the leaf that its lane has: what the lanes' blocks hold.
+-- Sixteen chains side by side, each with the leaf of its lane: the content of the lanes' blocks.
 use mathlib.Core.Path.{_≡_}
 use mathlib.Core.Logic.{_⊎_}
 use mathlib.Core.List.{List, [], _∷_}
@@ -44,7 +44,7 @@ pub record Ready (id leaves w x s : List ℕ) : Type 0 where
   pub bits : (l : ℕ) → l < 16 → getD w (240 + l) 0 ≡ 440
   pub common : Common initial w x s
 
--- a step of every chain, for leaves for which w, x and s are ready
+-- a step of every chain, for all leaves that w, x and s are ready for
 unfoldable pub Stepped : List ℕ → ℕ → List ℕ → List ℕ → List ℕ → List ℕ → List ℕ → List ℕ → List ℕ → Type 0
 Stepped places t w x s v w′ s′ v′ =
     (id leaves : List ℕ) → Ready id leaves w x s
@@ -52,12 +52,12 @@ Stepped places t w x s v w′ s′ v′ =
     × ((l i j : ℕ) → l < 16 → i < 65536 → j + t < 256 → getD places l 0 ≡ i * 65536 + j * 256
     → bytes (column l 8 v′) ≡ H (chainInput (bytes id) (getD leaves l 0) i (j + t) (bytes (column l 8 v))))
 
--- every lane has come t places on from v₀ to v
+-- every lane has gone t places on, from v₀ to v
 unfoldable pub Walked : List ℕ → List ℕ → List ℕ → ℕ → List ℕ → List ℕ → Type 0
 Walked id leaves places t v₀ v =
     (l i j : ℕ) → l < 16 → i < 65536 → j + t ≤ 256 → getD places l 0 ≡ i * 65536 + j * 256
     → bytes (column l 8 v) ≡ chain (bytes id) (getD leaves l 0) i j t (bytes (column l 8 v₀))
 
--- the same, for all leaves for which w, x and s were ready
+-- the same, for all leaves that w, x and s were ready for
 unfoldable pub AllWalked : List ℕ → ℕ → List ℕ → List ℕ → List ℕ → List ℕ → List ℕ → List ℕ → List ℕ → Type 0
 AllWalked places t w₀ x s₀ v₀ w s v = (id leaves : List ℕ) → Ready id leaves w₀ x s₀ → Ready id leaves w x s × Walked id leaves places t v₀ v

@@ -195,7 +195,7 @@ stepped-by places t w x s v y z w′ s′ v′ placed slid same done id leaves r
       (after id leaves places t w x s v y z w′ s′ v′ placed slid same done ready .1 l hl),
 )
 
--- ---- made once
+-- ---- the part made once
 
 -- the lanes' blocks before the leaves' numbers are written
 unfoldable pub unnumbered : List ℕ → List ℕ
@@ -227,7 +227,7 @@ module _ (id leaves m w₀ w : List ℕ) (e : m ≡ unnumbered id) (f : (l : ℕ
       (λ a. n .old (16 * r + l) (inl (omega arith)) ∙ spread-word l r h (omega arith) ∙ four-first id (getD leaves l 0) r a)
       (eq-or-lt-of-le fits)
 
-  -- where the places will be
+  -- word 5, before the places are written
   pub no-place : (l : ℕ) → l < 16 → getD w (80 + l) 0 ≡ 0
   unfolding unnumbered
   no-place l h = n .old (80 + l) (inr (omega arith)) ∙ spread-word l 5 h (omega arith)

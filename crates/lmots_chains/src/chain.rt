@@ -17,7 +17,7 @@ pub(crate) fn across(a: u32, b: u32) -> u32
     a % 16777216 * 256 + b / 16777216 % 256
 }
 
-// The padded block of what is hashed at place j of chain i.
+// The hash input at place j of chain i, as a padded block.
 fn block(id: [u32; 4], q: u32, i: u32, j: u32, tmp: [u32; 8]) -> [u32; 16]
     requires { ⌜ (i < 65536) × (j < 256) ⌝ }
     ensures { λ r. ⌜ bytes r ≡ pad (chainInput (bytes id) q i j (bytes tmp)) ⌝ }

@@ -1,4 +1,4 @@
-// Chains of LM-OTS (RFC 8554, section 4.3 and Appendix A). A 32-byte value on its way through a chain is eight words and the key
-// identifier four, so that a chain step is one compression of a prepared block: of one chain by itself, or of sixteen side by side.
+// Chains of LM-OTS (RFC 8554, section 4.3 and Appendix A), one by itself or sixteen side by side. A value of 32 bytes is held
+// as eight words and the key identifier as four, so that a chain step is one compression of a prepared block.
 pub mod chain;
 pub mod sixteen;

@@ -1,4 +1,4 @@
-// Sixteen chains side by side, each of the leaf that its lane has: a step of all of them is one compression in each lane.
+// Sixteen chains side by side, each with the leaf of its lane: a step of all of them is one compression in each lane.
 ghost use mathlib.Core.Path.{_≡_};
 ghost use Prim.Native.Nat.{ℕ, _<_, _≤_};
 ghost use lib.ListN.{length, getD};
@@ -7,7 +7,7 @@ ghost use Rattle.lmots_chains.specs.Sixteen.{Slid, Placed, Numbered, Rea
 use crate::chain::across;
 use sha256::constants::initial_value;
 
-// Words 6 to 12 of the blocks: the values, a byte later.
+// Words 6 to 12 of the blocks: the values, moved by one byte.
 fn put_values(v: &[u32; 128], w: &mut [u32; 1024])
     requires { ⌜ (length (now v) ≡ 128) × (length (now w) ≡ 1024) ⌝ }
     ensures { λ _. ⌜ Slid 112 (now (v .entry)) (now (w .entry)) (now (w .exit)) ⌝ }
@@ -45,7 +45,7 @@ fn put_numbers(leaves: [u32; 16], w: &mut [u32; 1024])
     }
 }
 
-// One step of every chain, t places after the lane's own. Scratch: what `Ready` does not name of w and s.
+// One step of every chain, t places after the place of its lane. Scratch: the words of w and s that `Ready` does not name.
 fn step(
     k: &[u32; 64],
     places: &[u32; 16],
@@ -65,8 +65,8 @@ fn step(
     sha256_lanes::compress(k, w, x, s, v);
 }
 
-// The same in every step of a leaf's chains: the blocks' words around place and value, with their common start. Scratch: what `Ready`
-// does not name of w, x and s.
+// The part of the blocks that is the same in every step: the words around place and value, with their common start. Scratch: the
+// words of w, x and s that `Ready` does not name.
 fn prepare(
     k: &[u32; 64],
     id: [u32; 4],
@@ -104,7 +104,7 @@ fn prepare(
     sha256_lanes::begin(k, h, w, x, s);
 }
 
-// Steps of every chain, for leaves for which w, x and s are ready. Scratch as in `step`.
+// `count` steps of every chain, for leaves that w, x and s are ready for. Scratch as in `step`.
 fn walk(
     k: &[u32; 64],
     places: &[u32; 16],
@@ -126,7 +126,7 @@ fn walk(
     }
 }
 
-// The values of sixteen chains after `count` steps. A lane's place is 65536 times its chain's number and 256 times the place in it.
+// The values of sixteen chains after `count` steps. A lane's place is 65536 times the chain's number plus 256 times the place in it.
 pub fn steps(
     k: &[u32; 64],
     id: [u32; 4],

@@ -1,4 +1,4 @@
--- Digits: values on the code's way (`Pieces`), and laws of digits, of words and of writes.
+-- Digits: intermediate values of the code (`Pieces`), and laws of digits, of words and of writes.
 pub mod Pieces
 pub mod WordLaws
 pub mod WriteLaws

@@ -1,4 +1,4 @@
--- Values on the code's way.
+-- Intermediate values of the code.
 use Prim.Native.Nat.{ℕ}
 use mathlib.Core.List.{List, _++_}
 use Rattle.octets.specs.Octets.{be}

@@ -30,7 +30,7 @@ pub fn coef(w: u32, s: &[u8], i: usize) -> u32
     if i % 2 == 0 { b / 16 } else { b % 16 }
 }
 
-// How many digits of w bits a digest has.
+// The number of digits of w bits in a digest.
 fn count(w: u32) -> usize
     requires { ⌜ (w ≡ 4) ⊎ (w ≡ 8) ⌝ }
     ensures { λ r. ⌜ (r ≡ Ots.digits w) × (r ≤ 64) ⌝ }

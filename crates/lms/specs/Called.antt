@@ -1,4 +1,4 @@
--- The calls, by what their code found: one law for each return.
+-- The calls: one law for each return of the code.
 use mathlib.Core.Path.{_≡_, refl, sym, _∙_}
 use mathlib.Core.Bool.{Bool, true, false}
 use mathlib.Core.List.{List, []}
@@ -24,7 +24,7 @@ module _ (seed I tree out : List ℕ) (n : ℕ) (e : n ≡ makeKeyRefusal seed I
       go zero f d = absurd (d refl)
       go (suc m) f d = makeKey-refused seed I tree out m (sym f)
 
-  -- what isn't refused has the lengths that the code needs
+  -- the lengths where nothing is refused
   pub key-room : n ≡ 0 → (length seed ≡ 32) × (length I ≡ 16) × (length tree ≡ treeLength) × (keyLength ≤ length out)
   unfolding makeKeyRefusal makeKeyConditions shortOut
   key-room z =

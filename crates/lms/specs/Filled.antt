@@ -17,7 +17,7 @@ use Rattle.lmots.specs.LeafLaws.{length-otsKey}
 use Rattle.lms.specs.Pieces.{leafOver, leafAt, overChildren, innerPut, innersPut}
 use Rattle.lms.specs.LmsLaws.{length-leafOver, over-two}
 
--- ---- as the code writes them
+-- ---- nodes, as the code writes them
 
 -- one more of sixteen leaves, over its key
 pub sixteen-turn : (I keys before tree key new : List ℕ) (q l : ℕ) → 32 * (1024 + q) ≤ length before
@@ -67,7 +67,7 @@ pub inners-turn : (I before tree new : List ℕ) (t : ℕ) → tree ≡ innersPu
 unfolding innersPut
 inners-turn I before tree new t e f = rw (add-one, ← e) f
 
--- ---- what is there then
+-- ---- the filled buffer
 
 module _ (I seed before : List ℕ) (e : length before ≡ 65536) where
   -- with all nodes after r in place, node r comes out right

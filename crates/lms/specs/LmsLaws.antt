@@ -15,14 +15,14 @@ use Rattle.rfc8554.specs.Tree.{height, leafInput, innerInput, dIntr}
 use Rattle.rfc8554.specs.Verify.{leafOf, otsPart, levelUp, climbed, rootCandidate}
 use Rattle.lms.specs.Pieces.{leafOver, overChildren}
 
--- the part `xs[at..end]` with n bytes up to its end
+-- the part `xs[at..at + n]`
 pub part-lent : (at n : ℕ) (xs : List ℕ) → take (at + n - at) (drop at xs) ≡ part at n xs
 unfolding part
 part-lent at n xs = rw add-sub-cancel-left
 
 -- ---- nodes
 
--- a prefix that stands for q
+-- a hash over the prefix p, which is q
 pub prefixed : (p q m n : List ℕ) → p ≡ q → n ≡ sha256 (p ++ m) → n ≡ sha256 (q ++ m)
 prefixed p q m n e f = f ∙ rw e
 
@@ -30,13 +30,13 @@ pub length-leafOver : (I : List ℕ) (q : ℕ) (key : List ℕ) → length (leaf
 unfolding leafOver
 length-leafOver I q key = length-sha256 _
 
--- the leaf's node, written as its own function makes it
+-- the node of a leaf, written to the buffer
 pub leaf-put : (I key n tree new : List ℕ) (q : ℕ) → n ≡ H (leafInput I (1024 + q) key) → new ≡ patch (32 * (1024 + q)) n tree
     → new ≡ patch (32 * (1024 + q)) (leafOver I q key) tree
 unfolding leafOver
 leaf-put I key n tree new q e f = f ∙ rw e
 
--- children in one string are two
+-- two children in one string
 pub over-two : (I c left right n : List ℕ) (r : ℕ) → c ≡ left ++ right → n ≡ sha256 (overChildren I r c)
     → n ≡ sha256 (innerInput I r left right)
 unfolding overChildren innerInput
@@ -62,7 +62,7 @@ pub leaf-from : (I message signature sig key n : List ℕ) (w len q r : ℕ) →
     → n ≡ H (leafInput I r (candidate I q w message (otsPart w signature)))
 leaf-from I message signature sig key n w len q r d e f g = g ∙ rw (f, e, d)
 
--- and the root
+-- the root, from the pieces that the code finds
 pub root-from : (I message signature start n : List ℕ) (lms ots h w q m : ℕ) → h ≡ height lms → w ≡ width ots
     → 4 ≤ length signature → q ≡ wordAt signature 0 → m ≡ 2 ^ height lms
     → start ≡ H (leafInput I (m + q) (candidate I q w message (otsPart w signature)))

@@ -1,4 +1,4 @@
--- What is turned back, by the tests of the code: one law for each return.
+-- Refusals by the tests of the code: one law for each return.
 use mathlib.Core.Path.{_≡_, refl, sym, ap, _∙_}
 use mathlib.Core.Bool.{Bool, true, false, not, _||_, or-true, or-false, false≢true}
 use mathlib.Core.List.{List}
@@ -86,7 +86,7 @@ module _ (lms ots : ℕ) (s : List ℕ) where
               or-false (leb m z),
             )
 
-  -- what isn't turned back fits
+  -- a signature that isn't rejected has the length of its types and a leaf of the tree
   pub signature-fits : signatureInvalid lms ots s ≡ false
       → (length s ≡ signatureLength (height lms) (width ots)) × (leafOf s < 2 ^ height lms)
   unfolding signatureInvalid

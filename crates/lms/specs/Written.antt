@@ -40,7 +40,7 @@ module _ (tree : List ℕ) (r : ℕ) (t : length tree ≡ treeLength) (k : 1024 
       let within = way-within (r / 2 ^ i) i refl h in
       length-part _ 32 tree (omega (arith, sibling-within 1024 (r / 2 ^ i) (within .0) (within .1) .1))
 
-  -- one turn of the loop that writes the path
+  -- one pass of the loop that writes the path
   pub path-turn : (before out beside new : List ℕ) (at x i s : ℕ) → x ≡ r / 2 ^ i → i < 10 → s ≡ sibling x
       → beside ≡ part (32 * s) 32 tree → at ≤ length before → out ≡ patch at (joined (path tree r) i) before
       → new ≡ patch (at + 32 * i) beside out → new ≡ patch at (joined (path tree r) (i + 1)) before
@@ -51,11 +51,11 @@ module _ (tree : List ℕ) (r : ℕ) (t : length tree ≡ treeLength) (k : 1024 
 
 -- ---- a whole key, and a whole signature
 
--- the words of a string are the string
+-- the first n bytes of a string of n bytes
 pub whole-string : (xs ws : List ℕ) (n : ℕ) → length xs ≡ n → ws ≡ part 0 n xs → ws ≡ xs
 whole-string xs ws n e f = f ∙ part-all xs n e
 
--- what the key maker leaves: the tree, and the key with the root that is read from it
+-- result of the key maker: the tree, and the key with the root from the tree
 pub key-written : (I I′ seed seed′ before tree root out new : List ℕ) → length before ≡ treeLength → I′ ≡ I → seed′ ≡ seed
     → tree ≡ treeFilled I′ seed′ before → root ≡ part 32 32 tree → new ≡ patch 0 (be 4 6 ++ be 4 4 ++ I ++ root) out
     → (tree ≡ treeFilled I seed before) × (new ≡ patch 0 (publicKey 6 4 I seed) out)
@@ -73,7 +73,7 @@ pub values-for : (I seed digits S out new : List ℕ) (leaf : ℕ) → digits �
     → new ≡ patch 40 (joined (signed I leaf 8 seed S) 34) out
 values-for I seed digits S out new leaf e f = f ∙ rw e
 
--- what the signer writes: head, values and tail
+-- a whole signature: head, values and tail
 pub signature-written : (I I′ seed seed′ C message tree out a b c : List ℕ) (leaf : ℕ) → length C ≡ 32 → I′ ≡ I → seed′ ≡ seed
     → a ≡ patch 0 (be 4 leaf ++ be 4 4 ++ C) out
     → b ≡ patch 40 (joined (signed I′ leaf 8 seed′ (digested I′ leaf 8 C message)) 34) a

@@ -10,7 +10,7 @@ use crate::tree::make;
 use crate::verify;
 use protocol::Written;
 
-// The seed isn't 32 bytes, the identifier 16 or the tree 65,536.
+// Whether the seed is not 32 bytes, the identifier not 16 or the tree not 65,536.
 fn wrong_maker_material(seed: &[u8], identifier: &[u8], tree: &[u8]) -> bool
     ensures { λ r. ⌜ r ≡ wrongMakerMaterial (now (seed .entry)) (now (identifier .entry)) (now (tree .entry)) ⌝ }
 {
@@ -18,7 +18,7 @@ fn wrong_maker_material(seed: &[u8], identifier: &[u8], tree: &[u8]) -> bool
     (seed.len() != 32) | (identifier.len() != 16) | (tree.len() != length)
 }
 
-// These, or the randomizer isn't 32 bytes.
+// Whether the seed is not 32 bytes, the identifier not 16, the randomizer not 32 or the tree not 65,536.
 fn wrong_signer_material(seed: &[u8], identifier: &[u8], randomizer: &[u8], tree: &[u8]) -> bool
     ensures { λ r. ⌜ r ≡ wrongSignerMaterial (now (seed .entry)) (now (identifier .entry)) (now (randomizer .entry)) (now (tree .entry)) ⌝ }
 {
@@ -29,7 +29,7 @@ fn wrong_signer_material(seed: &[u8], identifier: &[u8], randomizer: &[u8], tree
         | (tree.len() != length)
 }
 
-// A message is too long to check or sign.
+// Whether a message is too long to check or sign.
 fn is_too_long(message: &[u8]) -> bool
     ensures { λ r. ⌜ r ≡ tooLong (now (message .entry)) ⌝ }
 {

@@ -28,7 +28,7 @@ pub(crate) fn write_key(id: &[u8], root: &[u8], out: &mut [u8])
     octets::copy(out, 24, root);
 }
 
-// What stands first in a signature: the leaf, the LM-OTS type and the randomizer.
+// The head of a signature: the leaf, the LM-OTS type and the randomizer.
 fn write_head(leaf: u32, randomizer: &[u8], out: &mut [u8])
     requires { ⌜ (length (now randomizer) ≡ 32) × (40 ≤ length (now out)) ⌝ }
     ensures { λ _. ⌜ now (out .exit) ≡ patch 0 (be 4 leaf ++ be 4 4 ++ now (randomizer .entry)) (now (out .entry)) ⌝ }
@@ -62,7 +62,7 @@ fn write_path(tree: &[u8], r: u32, out: &mut [u8], at: usize)
     }
 }
 
-// What stands last in a signature: the LMS type and the path of the leaf.
+// The tail of a signature: the LMS type and the path of the leaf.
 fn write_tail(tree: &[u8], leaf: u32, out: &mut [u8])
     requires { ⌜ (length (now tree) ≡ treeLength) × (leaf < 1024) × (1452 ≤ length (now out)) ⌝ }
     ensures { λ _. ⌜ now (out .exit) ≡ patch 1128 (be 4 6 ++ joined (path (now (tree .entry)) (1024 + leaf)) 10) (now (out .entry)) ⌝ }
@@ -71,7 +71,7 @@ fn write_tail(tree: &[u8], leaf: u32, out: &mut [u8])
     write_path(tree, 1024 + leaf, out, 1132);
 }
 
-// The values of the chains for a message.
+// The values of a signature, one from each chain.
 fn write_values(
     k: &[u32; 64],
     id: [u32; 4],

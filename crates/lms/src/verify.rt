@@ -65,9 +65,9 @@ fn known_ots(ots: u32) -> bool
     ots == 4
 }
 
-// ---- what is turned back before any hashing
+// ---- refusals before any hashing
 
-// Whether these are not the 56 bytes of a key of known types.
+// Whether a key isn't 56 bytes, or has a type that isn't known.
 pub(crate) fn key_refused(key: &[u8]) -> bool
     ensures { λ r. ⌜ r ≡ wrongKey (now (key .entry)) ⌝ }
 {
@@ -101,7 +101,7 @@ pub(crate) fn signature_refused(lms: u32, ots: u32, signature: &[u8]) -> bool
 
 // ---- the climb
 
-// One level up from the node r, with the node beside it.
+// The parent of the node r, from its value tmp and the node beside it.
 fn turned(k: &[u32; 64], id: [u32; 4], r: u32, beside: &[u8], tmp: &[u8]) -> [u8; 32]
     requires { ⌜ (now k ≡ constants) × (length (now beside) ≡ 32) × (length (now tmp) ≡ 32) ⌝ }
     ensures { λ n. ⌜ n ≡ levelUp (bytes id) r (now (beside .entry)) (now (tmp .entry)) ⌝ }
@@ -112,7 +112,7 @@ fn turned(k: &[u32; 64], id: [u32; 4], r: u32, beside: &[u8], tmp: &[u8]) -> [u8
     node::parent(k, id, r / 2, tmp, beside)
 }
 
-// From the leaf r, whose value is `start`, h turns up, with the path that the signature holds.
+// The node h levels above the leaf r, from the leaf's value `start` and the path in the signature.
 fn climb(
     k: &[u32; 64],
     id: [u32; 4],
@@ -141,7 +141,7 @@ fn climb(
 
 // ---- the root
 
-// The leaf r, over the LM-OTS key that the signature of leaf q leads to.
+// The leaf r, over the candidate key of the signature of leaf q.
 fn leaf_candidate(
     k: &[u32; 64],
     id: [u32; 4],
@@ -159,7 +159,7 @@ fn leaf_candidate(
     node::leaf(k, id, r, &key)
 }
 
-// The root that a signature leads to, for a key of these types.
+// The candidate root of a signature, for a key of these types.
 fn root_candidate(
     k: &[u32; 64],
     id: [u32; 4],

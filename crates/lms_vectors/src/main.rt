@@ -1,10 +1,10 @@
-// The signature vectors, run: the RFC's test cases level by level, and Bouncy Castle's, accepted and damaged; then the key maker
-// and the signer from the seeds of types 6 and 4. Standard input has the records as scripts/make_vectors.py writes them from the
-// files of vectors/, and the file `stdout` what those files say of each.
+// The signature vectors: the RFC's test cases level by level, and Bouncy Castle's, sound and damaged; then the key maker and the
+// signer with the seeds of keys of types 6 and 4. Standard input has the records that scripts/make_vectors.py writes from the
+// files of vectors/, and the file `stdout` the answers in those files.
 use libc::STDIN_FILENO;
 use libc::STDOUT_FILENO;
 
-// What reading an operand finds: its length, or the end of the input.
+// An operand read: its length, or the end of the input.
 enum Field {
     Of(usize),
     End,
@@ -19,7 +19,7 @@ fn length() -> Field {
     Field::Of((octets::wide(two[0]) * 256 + octets::wide(two[1])) as usize)
 }
 
-// An operand, its length before it, to the start of `space`.
+// Reads an operand, after its length, to the start of `space`.
 fn operand(space: &mut [u8]) -> Field {
     let Field::Of(n) = length() else {
         return Field::End;
@@ -54,7 +54,7 @@ fn print_bytes(bytes: &[u8]) {
     print(b"\n");
 }
 
-// A record to check: key, message, signature. Answers whether the input went on.
+// A record to check: key, message, signature. Answers whether the record was whole.
 fn check() -> bool {
     let mut key = [0u8; 256];
     let mut message = [0u8; 1024];
@@ -111,7 +111,7 @@ fn sign(seed: &[u8], identifier: &[u8], tree: &[u8]) -> bool {
     0 < l
 }
 
-// As many records to sign as are left.
+// `count` records to sign.
 fn sign_all(seed: &[u8], identifier: &[u8], tree: &[u8], count: u8) -> bool {
     let mut left = count;
     while 0 < left {
@@ -150,7 +150,7 @@ fn make_and_sign() -> bool {
     sign_all(secret, name, &tree, count[0])
 }
 
-// The name that starts each record is printed.
+// Prints the name at the start of a record.
 fn named() -> bool {
     let mut name = [0u8; 256];
     let Field::Of(n) = operand(&mut name) else {

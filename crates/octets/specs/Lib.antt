@@ -1,7 +1,7 @@
 -- Bytes as lists of numbers.
 --
--- `Octets` has the definitions on buffers, numbers and words, with `OctetLaws`; `Strings` those on whole byte strings, with
--- `StringLaws`; `WriteLaws` those of writes; `Table` has the law of a rule that a table meets.
+-- `Octets` has the definitions on buffers, numbers and words, `Strings` those on whole byte strings. `OctetLaws` and
+-- `StringLaws` have their laws, `WriteLaws` those of writes, `Table` the law of a rule for all entries of a table.
 pub mod Octets
 pub mod OctetLaws
 pub mod Strings

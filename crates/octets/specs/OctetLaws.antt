@@ -11,11 +11,11 @@ use Rattle.octets.specs.Octets.{part, patch, be, wordAt, words, bytes}
 
 -- ---- loops that fill a list from the front
 
--- a loop's count i has come to n: what holds of the first i elements holds of the first n
+-- the end of a loop that makes the first i elements those of m: its count i is n
 pub take-whole : (i n : ℕ) (w m : List ℕ) → i ≡ n → length m ≡ n → take i w ≡ take i m → take n w ≡ m
 take-whole i n w m e l h = subst (λ (k : ℕ). take k w ≡ take k m) e h ∙ subst (λ (k : ℕ). take k m ≡ m) l (take-length m)
 
--- and where w has no more than those, of the whole of w
+-- the same where w has n elements
 pub filled : (w : List ℕ) (f : ℕ → List ℕ) (i n : ℕ) → i ≡ n → length w ≡ n → take i w ≡ f i → w ≡ f n
 filled w f i n e l h = sym (subst (λ (k : ℕ). take k w ≡ w) l (take-length w)) ∙ subst (λ (k : ℕ). take k w ≡ f k) e h
 
@@ -161,7 +161,7 @@ bytes-next out ws i e h k =
     rw n (take-patch (4 * i) (be 4 (getD ws i 0)) out (omega arith)
     ∙ rw (e, add-one, take-suc ws i 0) (ap (λ (l : List ℕ). bytes (take i ws) ++ l) (sym last) ∙ sym (bytes-append (take i ws) (getD ws i 0 ∷ []))))
 
--- and its end
+-- the end of that loop
 pub bytes-done : (out ws : List ℕ) (i : ℕ) → i ≡ length ws → length out ≡ 4 * length ws → take (4 * i) out ≡ bytes (take i ws) → out ≡ bytes ws
 bytes-done out ws i e l h =
     let all : length out ≡ 4 * i = omega arith in

@@ -1,4 +1,4 @@
--- Bytes as lists of numbers below 256: parts of a buffer, what a write leaves, and numbers as big-endian bytes
+-- Bytes as lists of numbers below 256: parts of a buffer, a buffer after a write, and numbers as big-endian bytes
 -- (document 01: "Integers are big-endian").
 use Prim.Native.Nat.{ℕ, zero, suc, _+_, _*_, _/_, _%_}
 use mathlib.Core.List.{List, [], _∷_, _++_}
@@ -21,12 +21,12 @@ unfoldable pub be : ℕ → ℕ → List ℕ
 be zero n = []
 be (suc w) n = be w (n / 256) ++ (n % 256 ∷ [])
 
--- the number that big-endian bytes stand for, on top of what came before them
+-- the number of big-endian bytes, after n for the bytes before them
 unfoldable pub numberFrom : ℕ → List ℕ → ℕ
 numberFrom n [] = n
 numberFrom n (b ∷ bs) = numberFrom (n * 256 + b) bs
 
--- the number that big-endian bytes stand for
+-- the number of big-endian bytes
 unfoldable pub number : List ℕ → ℕ
 number bs = numberFrom 0 bs
 
@@ -36,7 +36,7 @@ number bs = numberFrom 0 bs
 abbrev pub word : ℕ → ℕ → ℕ → ℕ → ℕ
 word a b c d = a * 16777216 + b * 65536 + c * 256 + d
 
--- the word that stands at index `at`
+-- the word at index `at`
 abbrev pub wordAt : List ℕ → ℕ → ℕ
 wordAt xs at = word (getD xs at 0) (getD xs (at + 1) 0) (getD xs (at + 2) 0) (getD xs (at + 3) 0)
 

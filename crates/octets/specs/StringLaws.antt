@@ -16,12 +16,12 @@ use Rattle.octets.specs.Strings.{joined, same}
 
 -- ---- parts
 
--- past a front of length `at`
+-- a part past a front of length `at`
 pub part-skip : (front xs : List ℕ) (at i n : ℕ) → length front ≡ at → part (at + i) n (front ++ xs) ≡ part i n xs
 unfolding part
 part-skip front xs at i n e = rw (← e, drop-append-add)
 
--- before a rest
+-- a part before a rest
 pub part-left : (xs rest : List ℕ) (at n : ℕ) → at + n ≤ length xs → part at n (xs ++ rest) ≡ part at n xs
 unfolding part
 part-left xs rest at n h =
@@ -32,16 +32,16 @@ pub part-all : (xs : List ℕ) (n : ℕ) → length xs ≡ n → part 0 n xs ≡
 unfolding part
 part-all xs n e = take-all n xs (omega arith)
 
--- the string that stands first
+-- the string at the front
 pub part-front : (xs rest : List ℕ) (n : ℕ) → length xs ≡ n → part 0 n (xs ++ rest) ≡ xs
 part-front xs rest n e = part-left xs rest 0 n (omega arith) ∙ part-all xs n e
 
--- the string that stands after a front
+-- the string after a front
 pub part-end : (front xs : List ℕ) (at n : ℕ) → length front ≡ at → length xs ≡ n → part at n (front ++ xs) ≡ xs
 part-end front xs at n e k =
     ap (λ (a : ℕ). part a n (front ++ xs)) (sym (add-zero at)) ∙ part-skip front xs at 0 n e ∙ part-all xs n k
 
--- and before a rest
+-- the string between a front and a rest
 pub part-between : (front xs rest : List ℕ) (at n : ℕ) → length front ≡ at → length xs ≡ n → part at n (front ++ xs ++ rest) ≡ xs
 part-between front xs rest at n e k =
     part-left (front ++ xs) rest at n (rw length-append (omega arith)) ∙ part-end front xs at n e k
@@ -63,7 +63,7 @@ part-suc at n xs h = rw (drop-cons xs at 0)
 
 -- ---- patches
 
--- within what was written
+-- a part of the bytes written
 pub part-patch : (at i n : ℕ) (ws xs : List ℕ) → at ≤ length xs → i + n ≤ length ws → part (at + i) n (patch at ws xs) ≡ part i n ws
 unfolding patch
 part-patch at i n ws xs h k =
@@ -116,7 +116,7 @@ part-zero : (at : ℕ) (xs : List ℕ) → part at 0 xs ≡ []
 unfolding part
 part-zero at xs = refl
 
--- the number that four bytes of a string stand for, as code reads it
+-- the number of four bytes of a string, as code reads it
 pub number-part-four : (at : ℕ) (xs : List ℕ) → at + 4 ≤ length xs → number (part at 4 xs) ≡ wordAt xs at
 unfolding number numberFrom
 number-part-four at xs h =
@@ -187,7 +187,7 @@ same-false xs ys h = go (same xs ys) refl
     go true e = absurd (h (same-true xs ys e))
     go false e = refl
 
--- a comparison in code that answers true just where the strings are equal
+-- a comparison in code that answers true exactly where the strings are equal
 same-by : (r : Bool) (xs ys : List ℕ) → (r ≡ true → xs ≡ ys) → (xs ≡ ys → r ≡ true) → r ≡ same xs ys
 same-by true xs ys f g = rw (f refl) (sym (same-refl ys))
 same-by false xs ys f g = go (same xs ys) refl
@@ -196,7 +196,7 @@ same-by false xs ys f g = go (same xs ys) refl
     go true e = absurd (false≢true (g (same-true xs ys e)))
     go false e = sym e
 
--- as a loop compares them
+-- two strings compared in a loop
 module _ (a b : List ℕ) where
   pub differ-length : (length a ≡ length b → ⊥) → false ≡ same a b
   differ-length n = same-by false a b (λ e. absurd (false≢true e)) (λ e. absurd (n (ap length e)))

@@ -1,4 +1,4 @@
--- Laws of writes: what parts of a buffer hold after one, writes in a row, and loops that write.
+-- Laws of writes: parts of a buffer after one, writes in a row, and loops that write.
 use mathlib.Core.Path.{_≡_, sym, ap, _∙_}
 use mathlib.Core.List.{List, [], _∷_, _++_, append-assoc, append-nil}
 use Prim.Native.Nat.{ℕ, suc, _+_, _-_, _*_, _/_, _%_, _≤_, _<_}
@@ -12,7 +12,7 @@ use Rattle.octets.specs.Strings.{joined}
 use Rattle.octets.specs.OctetLaws.{length-bytes, bytes-append, patch-patch}
 use Rattle.octets.specs.StringLaws.{part-left, part-skip, part-patch, part-all, be-two}
 
--- ---- parts of what is written
+-- ---- parts of a buffer after a write
 
 pub part-add : (at n m : ℕ) (xs : List ℕ) → part at (n + m) xs ≡ part at n xs ++ part (at + n) m xs
 unfolding part
@@ -40,7 +40,7 @@ part-after a n b ws xs h k =
 
 -- ---- writes in a row
 
--- nothing written yet
+-- a buffer before the first write
 pub patch-none : (at : ℕ) (xs : List ℕ) → xs ≡ patch at [] xs
 unfolding patch
 patch-none at xs = sym (ap (λ (n : ℕ). take at xs ++ drop n xs) (add-zero at) ∙ take-append-drop at xs)

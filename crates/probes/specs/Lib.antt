@@ -1,3 +1,3 @@
--- What the probes answer, and the laws of their returns.
+-- Answers of the probes, and the laws of their returns.
 pub mod Probes
 pub mod ProbesLaws

@@ -48,7 +48,7 @@ signedRefusal id seed digits out =
 unfoldable pub signedWritten : ℕ → List ℕ → List ℕ → List ℕ → List ℕ → List ℕ
 signedWritten q id seed digits out = unrefused (signedRefusal id seed digits out) (joined (signed id q 8 seed digits) 34) []
 
--- an out buffer too short for a copy of what is handed back is refused as 7
+-- an out buffer too short for a copy of the certificate handed back is refused as 7
 unfoldable pub copyRefusal : List ℕ → List ℕ → ℕ
 copyRefusal handed out = firstOf ((7, ltb (length out) (length handed)) ∷ [])
 

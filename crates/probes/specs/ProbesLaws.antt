@@ -29,7 +29,7 @@ module _ (f : ℕ → ℕ) (n : ℕ) where
     unfolding ofFleet
     fleet-threshold h r e = rw (le-leb 1 n some, le-leb n mostSeats h) e
 
--- ---- a refused probe writes nothing, another one all
+-- ---- bytes written by a probe, refused or not
 
 refused : (number answered : ℕ) (ws out : List ℕ) → suc number ≡ answered → (suc number ≡ answered) × (out ≡ patch 0 (unrefused answered ws []) out)
 unfolding unrefused
@@ -106,7 +106,7 @@ module _ (q : ℕ) (id seed digits out : List ℕ) where
       done _ _ out last (rw (le-ltb (length out) 1088 h, eq-eqb (length id) 16 e, eq-eqb (length seed) 32 f, eq-eqb (length digits) 34 g))
       (u ∙ rw (p, r, part-all id 16 e, part-all seed 32 f))
 
--- ---- a copy of what is handed back
+-- ---- a copy of the certificate handed back
 
 module _ (handed out : List ℕ) where
   pub copy-short : (part : List ℕ) → part ≡ handed → length out < length part

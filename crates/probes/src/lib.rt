@@ -1,5 +1,5 @@
-// The layers below the library's calls, and a copy of the lower certificate, exported for measurement and comparison. The crate doesn't
-// ship.
+// The layers below the library's calls, and a copy of the lower certificate, exported for measurement and comparison. No part of what
+// ships.
 ghost use mathlib.Core.Path.{_≡_};
 ghost use Prim.Native.Nat.{_≤_};
 ghost use lib.ListN.{length};
@@ -10,7 +10,7 @@ ghost use Rattle.protocol.specs.Signatures.{checks};
 ghost use Rattle.protocol.specs.Calls.{lowerCertificate};
 ghost use Rattle.probes.specs.Probes.{ofFleet, digestRefusal, digestWritten, compressRefusal, compressWritten, repeated, signedRefusal, signedWritten, copyRefusal, copyWritten};
 
-// t0 of a fleet of n seats, 0 where there is none.
+// t0 of a fleet of n seats; 0 where no fleet has n.
 #[no_mangle]
 pub extern "C" fn probe_t0(n: u32) -> u32
     ensures { λ r. ⌜ r ≡ ofFleet Quorum.t0 n ⌝ }
@@ -24,7 +24,7 @@ pub extern "C" fn probe_t0(n: u32) -> u32
     quorum::t0(n)
 }
 
-// k of a fleet of n seats, 0 where there is none.
+// k of a fleet of n seats; 0 where no fleet has n.
 #[no_mangle]
 pub extern "C" fn probe_k(n: u32) -> u32
     ensures { λ r. ⌜ r ≡ ofFleet Quorum.k n ⌝ }

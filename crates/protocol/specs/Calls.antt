@@ -1,4 +1,4 @@
--- Each call as a function of what it is given. It answers the first number of its list whose condition holds (`Order`). "A refusal
+-- Each call as a function of its arguments. It answers the first number of its list whose condition holds (`Order`). "A refusal
 -- returns its number and 0 bytes written; record, store, tree and out keep every byte."
 -- Assumes nothing.
 use Prim.Native.Nat.{ℕ}
@@ -35,14 +35,14 @@ opening n seat round keys = openedBy (firstOf (openingConditions n seat round ke
 
 -- ---- submit and step
 
--- what either leaves: the refusal number or 0, the record and the store afterwards, and the bytes written
+-- result of either: the refusal number or 0, the record and the store afterwards, and the bytes written
 pub record Result : Type 0 where
   pub refusal : ℕ
   pub unit : Record
   pub store : List ℕ
   pub written : List ℕ
 
--- by its refusal number, from what it comes to where nothing is refused, and the record and store lent
+-- the result by its refusal number, from the state that it reaches where nothing is refused, and the record and store lent
 unfoldable pub resultBy : ℕ → State → Record → List ℕ → Result
 resultBy refusal s r store = record {
   refusal = refusal;
@@ -51,7 +51,7 @@ resultBy refusal s r store = record {
   written = unrefused refusal (renderAll (s .written)) [];
 }
 
--- where either starts
+-- state at the start of either
 abbrev pub start : Record → List ℕ → State
 start r store = record { unit = r; store = store; written = [] }
 
@@ -71,11 +71,12 @@ answer result = record { number = result .refusal; written = length (result .wri
 
 -- ---- evidence from two certificates
 
--- the refusal number or 0, and the bytes written
+-- its result: the refusal number or 0, and the bytes written
 pub record Making : Type 0 where
   pub refusal : ℕ
   pub written : List ℕ
 
+-- the result by its refusal number, from the message to write
 unfoldable pub makingBy : ℕ → Message → Making
 makingBy refusal m = record { refusal = refusal; written = unrefused refusal (render m) [] }
 
@@ -95,7 +96,7 @@ made result = record { number = result .refusal; written = length (result .writt
 unfoldable pub checkedBy : ℕ → Message → Checked
 checkedBy refusal m = record { number = refusal; mask = unrefused refusal (setOf (entrySeats m)) 0 }
 
--- n, round, key table, evidence
+-- the evidence check: n, round, key table, evidence
 unfoldable pub evidenceCheck : Checks → ℕ → ℕ → List ℕ → List ℕ → Checked
 evidenceCheck checks n round keys bytes = checkedBy (firstOf (evidenceConditions checks n round keys (read n bytes))) (read n bytes)
 

@@ -1,5 +1,5 @@
 -- Certificates: a value with the signatures of k seats over it. The unit's own, the first that it holds and a FULL heard
--- are one kind of thing, so that "heard", "held", "shared" and "evidence" are each written once.
+-- have one type, so that hearing, holding, sharing and evidence are each defined once.
 -- Assumes nothing.
 use Prim.Native.Nat.{ℕ}
 use mathlib.Core.Bool.{cond}
@@ -33,7 +33,7 @@ unfoldable pub fillEach : ℕ → ℕ → (ℕ → List ℕ) → List ℕ → Li
 fillEach n bank signature [] store = store
 fillEach n bank signature (seat ∷ rest) store = fillEach n bank signature rest (fill n bank seat (signature seat) store)
 
--- ---- makers
+-- ---- certificates
 
 -- the unit's own: its value and the signatures collected
 unfoldable pub ownCertificate : Record → List ℕ → Certificate
@@ -56,7 +56,7 @@ unfoldable pub certificateOf : List ℕ → List Entry → Certificate
 certificateOf value entries =
     record { value = value; seats = setOf (formSeats fullForm entries); signature = signatureOf entries }
 
--- the certificate in a message; no other command has one
+-- the certificate in a FULL; no other message has one
 unfoldable pub certificateIn : Message → Certificate
 certificateIn (Submit round seat value signature) = certificateOf [] []
 certificateIn (Notice round seat value) = certificateOf [] []
@@ -66,12 +66,15 @@ certificateIn Garbled = certificateOf [] []
 
 -- ---- messages from certificates: "Entry seats rise."
 
+-- the entry of a seat
 abbrev pub entryOf : Certificate → ℕ → Entry
 entryOf c seat = record { seat = seat; signature = c .signature seat }
 
+-- the entries of all seats of a certificate
 unfoldable pub entriesOf : ℕ → Certificate → List Entry
 entriesOf n c = map (entryOf c) (seats n (c .seats))
 
+-- the FULL of a certificate
 unfoldable pub fullOf : ℕ → ℕ → ℕ → Certificate → Message
 fullOf n round sender c = Full round sender (c .value) (entriesOf n c)
 
@@ -80,13 +83,14 @@ abbrev pub pairOf : Certificate → Certificate → ℕ → Pair
 pairOf low high seat =
     record { seat = seat; lowerValue = low .value; higherValue = high .value; lower = low .signature seat; higher = high .signature seat }
 
--- of the seats of a set
+-- the pairs of the seats of a set
 unfoldable pub pairsOf : ℕ → ℕ → Certificate → Certificate → List Pair
 pairsOf n mask low high = map (pairOf low high) (seats n mask)
 
+-- evidence from two certificates, the lower value first
 unfoldable pub orderedEvidence : ℕ → ℕ → Certificate → Certificate → Message
 orderedEvidence n round low high = Evidence round (low .value) (high .value) (pairsOf n (shared (low .seats) (high .seats)) low high)
 
--- two certificates of different values, in either order
+-- evidence from two certificates of different values, in either order
 unfoldable pub evidenceOf : ℕ → ℕ → Certificate → Certificate → Message
 evidenceOf n round c d = cond (isLower (c .value) (d .value)) (orderedEvidence n round c d) (orderedEvidence n round d c)

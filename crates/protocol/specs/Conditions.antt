@@ -20,7 +20,7 @@ use Rattle.protocol.specs.declared.Record.{Record}
 abbrev pub Checks : Type 0
 Checks = ℕ → List ℕ → List ℕ → Bool
 
--- the test holds of every one
+-- the test holds for every element
 unfoldable pub every {ℓ} : {A : Type ℓ} → (A → Bool) → List A → Bool
 every test [] = true
 every test (x ∷ xs) = test x && every test xs
@@ -38,6 +38,7 @@ keysAllowed (suc seat) keys = keysAllowed seat keys && keyAllowed seat keys
 unfoldable pub wrongKeys : ℕ → List ℕ → Bool
 wrongKeys n keys = not (eqb (length keys) (keyLength * n)) || not (keysAllowed n keys)
 
+-- a length other than n
 abbrev pub lengthIsnt : ℕ → List ℕ → Bool
 lengthIsnt n xs = not (eqb (length xs) n)
 

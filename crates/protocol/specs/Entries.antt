@@ -10,10 +10,11 @@ use lib.ListN.{length, getD}
 use Rattle.octets.specs.Octets.{part}
 use Rattle.protocol.specs.Layout.{entryLength, entryAt}
 
+-- the byte at an index; 0 past the end
 abbrev pub byteAt : List ℕ → ℕ → ℕ
 byteAt bytes i = getD bytes i 0
 
--- every one of a list
+-- a property of every element of a list
 abbrev pub Each {ℓ} : {A : Type ℓ} → (A → Type 0) → List A → Type ℓ
 Each {A = A} P xs = (x : A) → List·Memᴰ x xs → P x
 

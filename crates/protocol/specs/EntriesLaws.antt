@@ -17,7 +17,7 @@ use Rattle.octets.specs.WriteLaws.{part-add}
 use Rattle.protocol.specs.Layout.{entryLength}
 use Rattle.protocol.specs.Entries.{Form, Laid, byteAt, placeOf, renderEntry, renderEntries, entryCommands, readEntry, readEntries}
 
--- the count, a byte between what stands before it and the entries
+-- the count, a byte between a front and the entries
 pub byte-after : (front : List ℕ) (b : ℕ) (rest : List ℕ) (at : ℕ) → length front ≡ at → byteAt (front ++ b ∷ [] ++ rest) at ≡ b
 byte-after front b rest at l = ap (λ (xs : List ℕ). getD xs at 0) (append-snoc front b rest) ∙ getD-at front b rest 0 at l
 
@@ -65,7 +65,7 @@ module _ {A : Type 0} (form : Form A) where
   laid-at (e ∷ es) zero d h l = h e (List·Memᴰ·head refl)
   laid-at (e ∷ es) (suc t) d h l = laid-at es t d (rest-laid e es h) (omega arith)
 
-  -- the bytes have the entries at their place
+  -- bytes with the entries at their place
   module _ (bytes : List ℕ) (es : List A) (stand : drop (form .start) bytes ≡ renderEntries form es) (laid : Laid form es) where
     entry-stands : (t : ℕ) (d : A) → t < length es → drop (placeOf form t) bytes ≡ renderEntry form (getD es t d) ++ renderEntries form (drop (suc t) es)
     unfolding placeOf renderEntries

@@ -15,10 +15,11 @@ valueLength = 32
 unfoldable pub signatureLength : ℕ
 signatureLength = 1452
 
--- "Public key: 56 bytes"; the key of a seat in the key table
+-- "Public key: 56 bytes"
 abbrev pub keyLength : ℕ
 keyLength = 56
 
+-- place of a seat's key in the key table
 abbrev pub keyAt : ℕ → ℕ
 keyAt seat = keyLength * seat
 
@@ -57,7 +58,7 @@ submitSignatureAt = valueAt + valueLength
 unfoldable pub submitLength : ℕ
 submitLength = submitSignatureAt + signatureLength
 
--- ---- lists of entries: each entry has a command, a seat, and what it holds
+-- ---- lists of entries: each entry has a command, a seat, and bytes that it holds
 
 -- length of an entry that holds `held` bytes
 abbrev pub entryLength : ℕ → ℕ
@@ -123,12 +124,13 @@ unfoldable pub lengthOfBanks : List ℕ → ℕ
 lengthOfBanks [] = 0
 lengthOfBanks (slot ∷ rest) = slot + lengthOfBanks rest
 
--- the banks before one, and the length of its slots
+-- the banks before one
 unfoldable pub banksBefore : ℕ → List ℕ → List ℕ
 banksBefore bank [] = []
 banksBefore zero (slot ∷ rest) = []
 banksBefore (suc bank) (slot ∷ rest) = slot ∷ banksBefore bank rest
 
+-- length of a bank's slots
 unfoldable pub slotLengthIn : ℕ → List ℕ → ℕ
 slotLengthIn bank [] = 0
 slotLengthIn zero (slot ∷ rest) = slot
@@ -137,6 +139,7 @@ slotLengthIn (suc bank) (slot ∷ rest) = slotLengthIn bank rest
 unfoldable pub slotLength : ℕ → ℕ
 slotLength bank = slotLengthIn bank banks
 
+-- "The store has 2,904 × n bytes or more"
 unfoldable pub storeLength : ℕ → ℕ
 storeLength n = lengthOfBanks banks * n
 

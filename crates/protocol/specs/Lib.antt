@@ -1,10 +1,10 @@
 -- Document 01 as definitions, from bytes up to calls.
 --
--- `Layout` has lengths and places (`Figures`: document 01's), `Values` how values compare, `Entries` lists of entries, `Message`
--- the commands on the air, `Certificate` what FULL and EVIDENCE are made from, `Record` a unit's record, `Conditions` and `Refusals`
--- the causes of a refusal (`Order`: their order), `Step` what a submit and a step do, `Signatures` a seat's signature and the calls
--- on keys and signatures, and `Calls` each other call as a whole. `XLaws` has the laws of `X`. `SignatureClaim`: what the signer
--- makes, the check takes.
+-- `Layout` has lengths and places (`Figures`: document 01's), `Values` the order of values, `Entries` lists of entries, `Message`
+-- the commands on the air, `Certificate` the certificates behind FULL and EVIDENCE, `Record` a unit's record, `Conditions` and
+-- `Refusals` the causes of a refusal (`Order`: their order), `Step` submit and step once nothing is refused, `Signatures` a seat's
+-- signature and the calls on keys and signatures, and `Calls` each other call as a whole. `XLaws` has the laws of `X`,
+-- `SignatureClaim` the claim that signatures made by the signer are accepted.
 pub mod Layout
 pub mod LayoutLaws
 pub mod Figures

@@ -1,6 +1,6 @@
--- The order in which the table's numbers are looked at. Every call answers the first number in it whose condition holds; "over two
--- certificates, the first one's 9 to 14 come before the second's". The numbers rise in this order, and so, as document 01 says, "The
--- lowest number whose condition holds is returned".
+-- The order of the table's numbers. Every call answers the first number in it whose condition holds; "over two certificates, the
+-- first one's 9 to 14 come before the second's". The numbers rise in this order, and so, as document 01 says, "The lowest number
+-- whose condition holds is returned".
 -- Assumes nothing.
 use Prim.Native.Nat.{ℕ}
 use mathlib.Core.Path.{_≡_, refl, ap, _∙_}
@@ -72,12 +72,12 @@ module _
         ∷ OTHER-ROUND round m ∷ STRANGER n m ∷ DISORDER m ∷ EARLY (early r m) ∷ SIGNATURE checks m ∷ NO-CONFLICT-IN m ∷ KEY-MATERIAL seed I tree
         ∷ []
 
-    -- each stands in the order, in its place
+    -- their numbers are the order
     pub table-ordered : numbers table ≡ order
     unfolding numbers order
     table-ordered = refl
 
-    -- over two certificates: what the call is given besides, and one certificate's 9 to 14
+    -- over two certificates: the rows of the other arguments, and one certificate's 9 to 14
     abbrev pub making-given : List Condition
     making-given = outsideConditions n round keys ++ OUT (evidenceOutLength n) out ∷ []
 
@@ -109,12 +109,12 @@ module _
         ∷ of-second
         ∷ []
 
-    -- computed: a list's numbers don't hang on its conditions
+    -- by computation: a list's numbers don't depend on its conditions
     pub lists-follow : every (follows order) (map numbers lists) ≡ true
     unfolding every follows order numbers openingConditions submitConditions stepConditions evidenceConditions checkConditions makeKeyConditions signConditions outsideConditions recordConditions messageConditions certificateConditions
     lists-follow = refl
 
-    -- each call answers the number with this property; over two certificates, that of the call's own conditions comes first, then that of
+    -- each call answers the number with this property; over two certificates, that of the other arguments comes first, then that of
     -- the first certificate, that of the second, and 15
     pub record Answers (Is : ℕ → List Condition → Type 0) : Type 0 where
       pub opening : Is (calls.opening n seat round keys .number) (openingConditions n seat round keys)

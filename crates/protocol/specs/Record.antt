@@ -1,4 +1,4 @@
--- A unit's record: with nothing set, and impossible ones (document 01, "A unit's record and store").
+-- A unit's record: with nothing set, with one part set, and impossible (document 01, "A unit's record and store").
 -- Assumes nothing.
 use Prim.Native.Nat.{ℕ}
 use mathlib.Core.Bool.{Bool, true, false, not, _&&_, _||_}
@@ -28,7 +28,7 @@ lastRound = 1023
 unfoldable pub wrongRound : ℕ → Bool
 wrongRound round = ltb lastRound round
 
--- ---- records with little set
+-- ---- fresh records
 
 -- "the record with nothing else set": n, seat and round alone
 unfoldable pub fresh : ℕ → ℕ → ℕ → Record
@@ -48,7 +48,7 @@ fresh n seat round = record {
 unfoldable pub zeros : Record
 zeros = fresh 0 0 0
 
--- ---- one part set anew
+-- ---- records with one part set
 
 abbrev pub withOwn : Record → Own → Record
 withOwn r own = record { n = r .n; seat = r .seat; round = r .round; own = own; confirmed = r .confirmed; notices = r .notices; first = r .first; sent = r .sent; guilty = r .guilty }
@@ -89,7 +89,7 @@ holds r = not (eqb (r .first .seats) 0)
 unfoldable pub outOfRange : Record → Bool
 outOfRange r = wrongSize (r .n) || wrongSeat (r .n) (r .seat) || wrongRound (r .round)
 
--- the notices heard are none of the three: such a number stands for no record
+-- the number of notices heard is none of the three, and so stands for nothing
 unfoldable pub wrongHeard : Record → Bool
 wrongHeard r = ltb 2 (r .notices .heard)
 
@@ -130,5 +130,6 @@ wrongUnset r =
     || noneHeard r && not (same (r .notices .value) unset)
     || not (holds r) && not (same (r .first .value) unset)
 
+-- any of these
 unfoldable pub impossible : Record → Bool
 impossible r = outOfRange r || wrongHeard r || namesStranger r || wrongCollected r || wrongFirst r || lacksFirst r || wrongGuilty r || wrongSent r || wrongUnset r

@@ -1,4 +1,4 @@
--- Records that aren't impossible, and what follows for them (`Record` has the definition).
+-- Laws of records that aren't impossible (`Record` has the definition).
 -- Assumes nothing.
 use mathlib.Core.Path.{_≡_, refl, sym}
 use mathlib.Core.Bool.{Bool, true, false, not, _&&_, _||_, false≢true}
@@ -54,7 +54,7 @@ pub record Possible (r : Record) : Type 0 where
   pub unsaid : r .own .submitted ≡ false → r .own .collected ≡ 0
   pub few : size (r .own .collected) ≤ k (r .n)
   pub complete : size (r .own .collected) ≡ k (r .n) → r .confirmed ≡ true
-  -- the first certificate has none or k
+  -- the first certificate has at most k
   pub held : size (r .first .seats) ≤ k (r .n)
 
 -- a call's record, store and out, where 4, 6 and 7 are not refused

@@ -1,6 +1,6 @@
 -- "What is turned back" (document 01): the table's numbers, words and conditions in its order, and for each call the list of its
 -- rows, of which the first that holds is answered. The conditions in full are in `Conditions` and `Record`; those of `Conditions`
--- are passed on here.
+-- are exported from here too.
 -- Assumes nothing.
 unfoldable pub use Rattle.protocol.specs.Conditions.{Checks, every, keyAllowed, keysAllowed, wrongKeys, lengthIsnt, wrongKey, shortStore, shortOut, said, isForStep, isFull, isEvidence, wrongLengths, tooLong, otherRound, stranger, rising, disorder, early, badSignature, notLowerFirst, equalValues, wrongMakerMaterial, wrongSignerMaterial}
 use Prim.Native.Nat.{ℕ}
@@ -12,7 +12,7 @@ use Rattle.protocol.specs.Message.{Message, Submit}
 use Rattle.protocol.specs.Record.{wrongSize, wrongSeat, wrongRound, impossible}
 use Rattle.protocol.specs.declared.Record.{Record}
 
--- a row as a call has it: the number, and whether its condition holds
+-- a row of a call: the number, and whether its condition holds
 abbrev pub Condition : Type 0
 Condition = ℕ × Bool
 
@@ -102,7 +102,7 @@ KEY-MATERIAL seed I tree = (16, wrongMakerMaterial seed I tree)
 abbrev pub KEY-MATERIAL-SIGNING : List ℕ → List ℕ → List ℕ → List ℕ → Condition
 KEY-MATERIAL-SIGNING seed I C tree = (16, wrongSignerMaterial seed I C tree)
 
--- ---- what several calls have alike
+-- ---- rows of several calls
 
 -- "Numbers 1 and 3 are about what a call is given outside a record and a message": n, round and key table
 unfoldable pub outsideConditions : ℕ → ℕ → List ℕ → List Condition

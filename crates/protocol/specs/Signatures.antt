@@ -1,5 +1,4 @@
--- A seat's signature in a round, and the calls of document 01 on keys and signatures, each a function from what it is given to
--- what it leaves.
+-- A seat's signature in a round, and the calls of document 01 on keys and signatures, each as a function of its arguments.
 use Prim.Native.Nat.{ℕ}
 use mathlib.Core.Bool.{Bool, cond, _&&_}
 use mathlib.Core.List.{List, [], _∷_, _++_}
@@ -39,15 +38,17 @@ checkSignature key message signature = firstOf (checkConditions key message sign
 
 -- ---- the key maker, for types 6 and 4: the public key is written, and the tree filled
 
+-- its result: the refusal number or 0, the bytes written, and the tree afterwards
 pub record MadeKey : Type 0 where
   pub refusal : ℕ
   pub written : List ℕ
   pub tree : List ℕ
 
+-- its refusal number: seed, I, tree, out
 unfoldable pub makeKeyRefusal : List ℕ → List ℕ → List ℕ → List ℕ → ℕ
 makeKeyRefusal seed I tree out = firstOf (makeKeyConditions seed I tree out)
 
--- seed, I, tree, out
+-- the key maker: seed, I, tree, out
 unfoldable pub makeKey : List ℕ → List ℕ → List ℕ → List ℕ → MadeKey
 makeKey seed I tree out =
     let n = makeKeyRefusal seed I tree out in
@@ -55,14 +56,16 @@ makeKey seed I tree out =
 
 -- ---- the signer, for types 6 and 4: the path is read from the tree as it is lent
 
+-- its result: the refusal number or 0, and the bytes written
 pub record MadeSignature : Type 0 where
   pub refusal : ℕ
   pub written : List ℕ
 
+-- its refusal number: leaf, message, seed, I, randomizer, tree, out
 unfoldable pub signRefusal : ℕ → List ℕ → List ℕ → List ℕ → List ℕ → List ℕ → List ℕ → ℕ
 signRefusal leaf message seed I C tree out = firstOf (signConditions leaf message seed I C tree out)
 
--- leaf, message, seed, I, randomizer, tree, out
+-- the signer: leaf, message, seed, I, randomizer, tree, out
 unfoldable pub sign : ℕ → List ℕ → List ℕ → List ℕ → List ℕ → List ℕ → List ℕ → MadeSignature
 sign leaf message seed I C tree out =
     let n = signRefusal leaf message seed I C tree out in

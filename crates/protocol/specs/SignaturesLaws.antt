@@ -1,5 +1,4 @@
--- What follows from the definitions of the calls: what an accepted signature is like, and what a call leaves, refused
--- or not.
+-- Laws of the calls on keys and signatures: accepted signatures, and the results of a call, refused or not.
 use mathlib.Core.Path.{_≡_, refl, sym, _∙_}
 use mathlib.Core.Bool.{Bool, true, false, not, _&&_, _||_, or-true, or-false, false≢true}
 use mathlib.Core.List.{List, [], _∷_}
@@ -22,13 +21,13 @@ use Rattle.rfc8554.specs.VerifyLaws.{sibling-within, ancestor-within, length-lm
 
 -- ---- the check
 
--- a verdict is what row 14 says
+-- the number of a verdict is that of row 14
 pub signature-row : (accepted : Bool) → signatureNumber accepted ≡ firstOf ((14, not accepted) ∷ [])
 unfolding signatureNumber firstOf
 signature-row true = refl
 signature-row false = refl
 
--- number 5 is what Algorithm 6 rejects of a key
+-- a key is refused as 5 exactly where Algorithm 6 rejects it
 pub keyInvalid-wrongKey : (key : List ℕ) → keyInvalid key ≡ wrongKey key
 unfolding keyInvalid wrongKey
 keyInvalid-wrongKey key = go (eqb (length key) 56) refl
@@ -43,7 +42,7 @@ first-false : (a b c : Bool) → (not a && b && c) ≡ true → a ≡ false
 first-false true b c e = absurd (false≢true e)
 first-false false b c e = refl
 
--- nothing is valid under a key that the check turns back
+-- no signature is valid under a key that is refused
 pub valid-key : (key message signature : List ℕ) → valid key message signature ≡ true → wrongKey key ≡ false
 unfolding valid
 valid-key key message signature e = sym (keyInvalid-wrongKey key) ∙ first-false (keyInvalid key) _ _ e
@@ -65,7 +64,7 @@ pub length-signedBytes : (round seat : ℕ) (value : List ℕ) → length value 
 unfolding signedBytes
 length-signedBytes round seat value e = simp (length-append, length-be) (omega arith)
 
--- ---- the signer writes 1,452 bytes, whatever the tree's buffer holds
+-- ---- the length of what the signer writes: 1,452 bytes, whatever the tree's buffer holds
 
 module _ (I : List ℕ) (leaf : ℕ) (seed C message tree : List ℕ) (l : leaf ≤ 1023) (c : length C ≡ 32) (t : length tree ≡ 65536) where
   length-path : (i : ℕ) → i < height 6 → length (path tree (2 ^ height 6 + leaf) i) ≡ 32
@@ -78,7 +77,7 @@ module _ (I : List ℕ) (leaf : ℕ) (seed C message tree : List ℕ) (l : leaf 
   pub length-lmsSignature-six-four : length (lmsSignature 6 4 I leaf seed C message tree) ≡ signatureLength
   length-lmsSignature-six-four = length-lmsSignature 6 4 I leaf seed C message tree c length-path ∙ length-six-four
 
--- ---- the key maker and the signer: a refusal writes nothing, and leaves the tree as it was
+-- ---- refusals of the key maker and the signer: no bytes written, and the tree as it was
 
 pub makeKey-refused : (seed I tree out : List ℕ) (n : ℕ) → makeKeyRefusal seed I tree out ≡ suc n
     → makeKey seed I tree out ≡ record { refusal = suc n; written = []; tree = tree }
@@ -90,7 +89,7 @@ pub sign-refused : (leaf : ℕ) (message seed I C tree out : List ℕ) (n : ℕ)
 unfolding sign unrefused
 sign-refused leaf message seed I C tree out n e = rw e
 
--- where nothing is turned back, the key and the tree, or the signature
+-- ---- without a refusal: the key and the tree, or the signature
 
 module _ (seed I tree out : List ℕ) (s : length seed ≡ 32) (i : length I ≡ 16) (t : length tree ≡ 65536) where
   makeKeyRefusal-zero : 56 ≤ length out → makeKeyRefusal seed I tree out ≡ 0

@@ -1,4 +1,4 @@
--- What a submit and a step do once nothing is refused (document 01, "Steps").
+-- Submit and step once nothing is refused (document 01, "Steps").
 -- Assumes nothing.
 use Prim.Native.Nat.{ℕ}
 use mathlib.Core.Bool.{Bool, true, false, cond, not, _&&_}
@@ -19,6 +19,7 @@ pub record State : Type 0 where
   pub store : List ℕ
   pub written : List Message
 
+-- the state with another record
 abbrev pub withUnit : State → Record → State
 withUnit s r = record { unit = r; store = s .store; written = s .written }
 
@@ -85,7 +86,7 @@ unfoldable pub sendFull : State → State
 sendFull s =
     write (fullOf (s .unit .n) (s .unit .round) (s .unit .seat) (ownCertificate (s .unit) (s .store))) (withUnit s (withSent (s .unit)))
 
--- looked at in every submit and step
+-- the reply of every submit and step: FULL where it is owed
 unfoldable pub reply : State → State
 reply s = cond (owesFull (s .unit)) (sendFull s) s
 
@@ -114,8 +115,8 @@ blames c r = not (same (c .value) (r .first .value)) && eqb (r .guilty) 0
 unfoldable pub holdOrBlame : Certificate → State → State
 holdOrBlame c s = cond (holds (s .unit)) (cond (blames c (s .unit)) (blame c s) s) (hold c s)
 
--- "FULL heard: it counts as a notice for its value", and it is held or blamed. The reply comes in between, since
--- messages go to `out` "in the order SUBMIT, NOTICE, FULL, EVIDENCE": it looks at nothing that holding or blaming changes.
+-- "FULL heard: it counts as a notice for its value", and it is held or blames. The reply comes in between, since messages
+-- go to `out` "in the order SUBMIT, NOTICE, FULL, EVIDENCE": it depends on nothing that holding or blaming changes.
 unfoldable pub hearCertificate : Certificate → State → State
 hearCertificate c s = holdOrBlame c (reply (hear (c .value) s))
 
@@ -139,9 +140,11 @@ confirmIfComplete s = cond (isComplete (s .unit)) (hearOwn (confirm s)) (reply s
 
 -- ---- the two calls
 
+-- submit: value, signature
 unfoldable pub submitted : List ℕ → List ℕ → State → State
 submitted value signature s = confirmIfComplete (submitOwn value signature s)
 
+-- a step, by its message; EVIDENCE and garbled bytes are refused before
 unfoldable pub stepped : Message → State → State
 stepped (Submit round seat value signature) s = confirmIfComplete (hearSubmit seat value signature s)
 stepped (Notice round seat value) s = reply (hear value s)

@@ -1,4 +1,4 @@
--- The parts of a step only add to the messages written: what a part does to record and store, and what it writes, is the same
+-- The parts of a step only add to the messages written: the effect of a part on record and store, and its messages, are the same
 -- whatever was written before it.
 -- Assumes nothing.
 use mathlib.Core.Path.{_≡_, refl}

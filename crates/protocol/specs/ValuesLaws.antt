@@ -1,4 +1,4 @@
--- How values compare.
+-- The order of values.
 -- Assumes nothing.
 use mathlib.Core.Path.{_≡_, refl, sym}
 use mathlib.Core.Bool.{not}

@@ -1,10 +1,10 @@
-// What a unit keeps, and what its calls answer (document 01, "A unit's record and store"). The definitions of
-// every call over these types are in specs/.
+// A unit's record, and the answers of the calls (document 01, "A unit's record and store"). The definitions of every
+// call over these types are in specs/.
 ghost use mathlib.Core.Path.{_≡_};
 ghost use Rattle.protocol.specs.Signatures.{signatureNumber};
 use quorum::Mask;
 
-// What a unit has submitted: whether, its value, and the seats whose signatures over it are collected.
+// The own submission: whether there is one, its value, and the seats whose signatures over it are collected.
 #[repr(C)]
 pub struct Own {
     pub submitted: bool,
@@ -12,15 +12,15 @@ pub struct Own {
     pub collected: Mask,
 }
 
-// The notices heard: 0 for none, 1 for one value, 2 for two different ones. The first value is kept. It is a number and no
-// enum, since an exported function takes no struct that holds an enum; a record with another number is impossible.
+// The notices heard: 0 for none, 1 for one value, 2 for two different ones, of which the first is kept. A number and no
+// enum, since an exported function takes no struct with an enum in it; a record with another number is impossible.
 #[repr(C)]
 pub struct Notices {
     pub heard: u32,
     pub value: [u8; 32],
 }
 
-// The first certificate held: its value and its seats, none where none is held.
+// The first certificate held: its value and its seats; no seats where none is held.
 #[repr(C)]
 pub struct First {
     pub value: [u8; 32],
@@ -41,14 +41,14 @@ pub struct Record {
     pub guilty: Mask,
 }
 
-// What opening answers: the refusal number or 0, and the record (`unit`: antt has the word `record` for itself).
+// Answer of opening: the refusal number or 0, and the record (`unit`, since `record` is a word of antt).
 #[repr(C)]
 pub struct Opened {
     pub number: u32,
     pub unit: Record,
 }
 
-// What a submit or a step answers: the refusal number or 0, the bytes written, and the record.
+// Answer of a submit or a step: the refusal number or 0, the number of bytes written, and the record.
 #[repr(C)]
 pub struct Stepped {
     pub number: u32,
@@ -56,14 +56,15 @@ pub struct Stepped {
     pub unit: Record,
 }
 
-// Answer of the key maker, of the signer, and of evidence from two certificates: the refusal number or 0, and the bytes written.
+// Answer of the key maker, the signer, evidence from two certificates and the thin entry: the refusal number or 0, and the
+// number of bytes written.
 #[repr(C)]
 pub struct Written {
     pub number: u32,
     pub written: u32,
 }
 
-// What the evidence check answers: the refusal number or 0, and the seats named.
+// Answer of the evidence check: the refusal number or 0, and the seats named.
 #[repr(C)]
 pub struct Checked {
     pub number: u32,

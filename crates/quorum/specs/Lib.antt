@@ -1,2 +1,3 @@
+-- Seats and thresholds: definitions (`Quorum`), and laws (`QuorumLaws`).
 pub mod Quorum
 pub mod QuorumLaws

@@ -26,10 +26,11 @@ unfoldable pub bit : ℕ → ℕ → ℕ
 bit zero m = m % 2
 bit (suc s) m = bit s (m / 2)
 
--- seat s is in the set: the statement, and the test
+-- seat s is in the set
 abbrev pub In : ℕ → ℕ → Type 0
 In s m = bit s m ≡ 1
 
+-- the same, as a test
 unfoldable pub has : ℕ → ℕ → Bool
 has s m = eqb (bit s m) 1
 
@@ -41,10 +42,11 @@ size m = ones m
 abbrev pub one : ℕ → ℕ
 one s = 2 ^ s
 
--- the seats of either set, and the seats of both
+-- the seats of either set
 unfoldable pub union : ℕ → ℕ → ℕ
 union a b = bitOr a b
 
+-- the seats of both sets
 unfoldable pub shared : ℕ → ℕ → ℕ
 shared a b = bitAnd a b
 

@@ -142,7 +142,7 @@ bit-all-outside s n = bit-outside s n (all n) (all-lt n)
 pub in-all : (s n : ℕ) → In s (all n) ↔ (s < n)
 in-all s n = (λ h. lt-of-not-le (λ l. omega (arith, bit-all-outside s n l)), bit-all-below s n)
 
--- ---- the seats decide the mask
+-- ---- a mask by its seats
 
 first-seat : (m : ℕ) → 0 < m → (s : ℕ) × In s m
 unfolding bit
@@ -335,11 +335,11 @@ quorums-share : (n a b : ℕ) → 1 ≤ n → a < 2 ^ n → b < 2 ^ n → k n �
 unfolding k
 quorums-share n a b h la lb qa qb = omega (arith, t0-is-third n h, size-union-shared a b, size-le n (union a b) (union-lt n a b la lb))
 
--- of just k
+-- the same for two sets of just k seats
 pub k-of-n-share : (n a b : ℕ) → 1 ≤ n → a < 2 ^ n → b < 2 ^ n → size a ≡ k n → size b ≡ k n → t0 n + 1 ≤ size (shared a b)
 k-of-n-share n a b h la lb ea eb = quorums-share n a b h la lb (omega arith) (omega arith)
 
--- in masks of any width w that holds n, which name no seat at or above n; and in masks of 32 bits
+-- the same in masks of any width w from n on, with no seat at or above n; and in masks of 32 bits
 pub k-of-n-share-in : (w n a b : ℕ) → 1 ≤ n → n ≤ w → a < 2 ^ w → b < 2 ^ w → outside n a ≡ false → outside n b ≡ false
     → size a ≡ k n → size b ≡ k n → t0 n + 1 ≤ size (shared a b)
 k-of-n-share-in w n a b h _ _ _ oa ob = k-of-n-share n a b h (outside-false n a .0 oa) (outside-false n b .0 ob)

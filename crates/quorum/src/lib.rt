@@ -6,7 +6,7 @@ ghost use Rattle.quorum.specs.Quorum.{mostSeats, t0, k, has, size, one, 
 // A set of seats: seat s is the bit of worth 2 to the power s.
 pub type Mask = u32;
 
-// A fleet has at most as many seats as a mask has bits.
+// The most seats of a fleet: one for each bit of a mask.
 pub const MOST_SEATS: u32 = 32;
 
 // n/3 rounded up, less one.
@@ -17,7 +17,7 @@ pub fn t0(n: u32) -> u32
     (n + 2) / 3 - 1
 }
 
-// The seats that it takes to confirm: all but t0.
+// The number of seats that it takes to confirm: all but t0.
 pub fn k(n: u32) -> u32
     requires { ⌜ (1 ≤ n) × (n ≤ mostSeats) ⌝ }
     ensures { λ r. ⌜ r ≡ k n ⌝ }
@@ -56,7 +56,7 @@ pub fn with(m: Mask, s: u32) -> Mask
     m | one(s)
 }
 
-// The set of all n seats. No shift reaches the mask's width, so the widest fleet has a case of its own.
+// The set of all n seats. A shift must stay below the mask's width, so the largest fleet is a case of its own.
 pub fn all(n: u32) -> Mask
     requires { ⌜ n ≤ mostSeats ⌝ }
     ensures { λ r. ⌜ r ≡ all n ⌝ }
@@ -71,7 +71,7 @@ pub fn shared(a: Mask, b: Mask) -> Mask
     a & b
 }
 
-// How many seats two sets share.
+// The number of seats that two sets share.
 pub fn shared_count(a: Mask, b: Mask) -> u32
     ensures { λ r. ⌜ r ≡ size (shared a b) ⌝ }
 {

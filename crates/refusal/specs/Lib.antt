@@ -1,5 +1,5 @@
--- Refusals by number: `Refusal` has the definitions and `RefusalLaws` what follows from them; `Order` is about the order in which numbers are
--- looked at, and `Lowest` about an order in which they rise.
+-- Refusals by number: `Refusal` has the definitions and `RefusalLaws` their laws, `Order` the first number in a written
+-- order, and `Lowest` the lowest number where the order rises.
 pub mod Refusal
 pub mod RefusalLaws
 pub mod Order

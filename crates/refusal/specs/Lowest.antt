@@ -1,4 +1,4 @@
--- "The lowest number whose condition holds is returned": so it is in an order in which the numbers rise.
+-- "The lowest number whose condition holds is returned": the law for an order in which the numbers rise.
 use mathlib.Core.Path.{_≡_, refl}
 use mathlib.Core.Bool.{Bool, true, false, cond, _&&_, false≢true}
 use mathlib.Core.List.{List, [], _∷_}

@@ -1,4 +1,4 @@
--- A list's rows in a written order of numbers: the first of the list whose condition holds is the first of the order that does.
+-- Rows that follow a written order of numbers: the first row whose condition holds has the first number of the order that does.
 use mathlib.Core.Path.{_≡_, refl, sym}
 use mathlib.Core.Bool.{Bool, true, false, cond, not, _&&_, _||_, false≢true}
 use mathlib.Core.List.{List, [], _∷_}
@@ -13,12 +13,12 @@ unfoldable pub isIn : ℕ → List ℕ → Bool
 isIn n [] = false
 isIn n (m ∷ rest) = eqb m n || isIn n rest
 
--- no number is in it twice
+-- no number is in the list twice
 unfoldable pub distinct : List ℕ → Bool
 distinct [] = true
 distinct (n ∷ rest) = not (isIn n rest) && distinct rest
 
--- numbers of the order, one after another as they stand in it
+-- the numbers of the list stand in the order, one after another
 unfoldable pub follows : List ℕ → List ℕ → Bool
 follows order [] = true
 follows [] (n ∷ rest) = false
@@ -39,7 +39,7 @@ unfolding firstIn held
 none-held [] = refl
 none-held (n ∷ order) = none-held order
 
--- what isn't in the order isn't among the numbers that follow it, and no such row holds
+-- a number outside the order is in no list that follows it, and no row with that number holds
 absent : (o : ℕ) (order ns : List ℕ) → isIn o order ≡ false → follows order ns ≡ true → isIn o ns ≡ false
 unfolding isIn follows
 absent o order [] h f = refl

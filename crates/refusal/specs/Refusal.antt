@@ -10,7 +10,7 @@ unfoldable pub firstOf : List (ℕ × Bool) → ℕ
 firstOf [] = 0
 firstOf (c ∷ rest) = cond (c .1) (c .0) (firstOf rest)
 
--- what a call leaves, by its refusal number: the new where nothing is refused, else the old
+-- state after a call, by its refusal number: the new one for 0, else the old one
 unfoldable pub unrefused {ℓ} : {A : Type ℓ} → ℕ → A → A → A
 unrefused zero new old = new
 unrefused (suc n) new old = old
@@ -20,13 +20,13 @@ unfoldable pub numbers : List (ℕ × Bool) → List ℕ
 numbers [] = []
 numbers (c ∷ rest) = c .0 ∷ numbers rest
 
--- none of them is 0, which refuses nothing
+-- no number of the list is 0, which stands for no refusal
 unfoldable pub nonzero : List ℕ → Bool
 nonzero [] = true
 nonzero (n ∷ rest) = leb 1 n && nonzero rest
 
 infixr 20 _before_
--- one number before another: the first, where it isn't 0
+-- the first number where it isn't 0, else the second
 unfoldable pub _before_ : ℕ → ℕ → ℕ
 zero before n = n
 suc m before n = suc m

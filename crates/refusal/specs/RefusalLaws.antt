@@ -1,4 +1,4 @@
--- Laws of the refusal number: what it says of the conditions.
+-- Laws of the refusal number and of its conditions.
 use mathlib.Core.Path.{_≡_, refl, sym, _∙_}
 use mathlib.Core.Bool.{Bool, true, false, cond, _&&_, _||_, false≢true, true≢false}
 use mathlib.Core.List.{List, [], _∷_, _++_}
@@ -37,13 +37,13 @@ by-test : (b : Bool) (n old new : ℕ) → (cond b n old ≡ 0 → ⊥) → ((ol
 by-test true n old new h f = refl
 by-test false n old new h f = f h
 
--- a refusal by the first rows doesn't hang on the later ones
+-- a refusal by the first rows is the same with any rows after them
 pub firstOf-front : (xs ys : List (ℕ × Bool)) → (firstOf xs ≡ 0 → ⊥) → firstOf (xs ++ ys) ≡ firstOf xs
 unfolding firstOf
 firstOf-front [] ys h = absurd (h refl)
 firstOf-front (x ∷ xs) ys h = by-test (x .1) (x .0) (firstOf xs) (firstOf (xs ++ ys)) h (firstOf-front xs ys)
 
--- the first of some rows and of others after them
+-- the number of some rows with others after them
 pub firstOf-before : (xs ys : List (ℕ × Bool)) → nonzero (numbers xs) ≡ true → firstOf (xs ++ ys) ≡ (firstOf xs before firstOf ys)
 unfolding firstOf numbers nonzero _before_
 firstOf-before [] ys h = refl
@@ -64,12 +64,12 @@ module _ (xs ys : List (ℕ × Bool)) where
     pub refused-first : (number ≡ 0 → ⊥) → number ≡ firstOf (xs ++ ys)
     refused-first h = e ∙ sym (firstOf-front xs ys (λ z. h (e ∙ z)))
 
-    -- and, where they refuse nothing, one by the others
+    -- where they refuse nothing, a refusal by the others
     pub refused-later : nonzero (numbers xs) ≡ true → number ≡ 0 → firstOf ys ≡ firstOf (xs ++ ys)
     unfolding _before_
     refused-later some z = sym (firstOf-before xs ys some ∙ rw (sym e ∙ z))
 
-  -- nothing is refused: nothing by the first
+  -- where nothing is refused, nothing is refused by the first
   pub passed-first : firstOf (xs ++ ys) ≡ 0 → firstOf xs ≡ 0
   passed-first e = go (ℕ-discrete (firstOf xs) 0)
     where

@@ -1,4 +1,4 @@
--- Laws of LM-OTS: digits, lengths, and chains that go on where others stop.
+-- Laws of LM-OTS: digits, lengths, and chains that continue others.
 use mathlib.Core.Path.{_≡_, sym, ap, _∙_}
 use mathlib.Core.List.{List, _++_}
 use Prim.Native.Nat.{ℕ, zero, suc, _+_, _-_, _*_, _/_, _%_, _^_, _≤_, _<_}

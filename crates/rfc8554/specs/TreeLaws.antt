@@ -77,7 +77,7 @@ module _ (h w : ℕ) (I seed : List ℕ) where
   unfolding nodes
   length-nodes r n = length-joined 32 _ n (λ i _. length-T h w I seed (r + i))
 
-  -- more nodes behind
+  -- more nodes after them
   nodes-add : (r n m : ℕ) → nodes h w I seed r (n + m) ≡ nodes h w I seed r n ++ nodes h w I seed (r + n) m
   unfolding nodes
   nodes-add r n m = simp (joined-add, add-assoc)

@@ -1,5 +1,5 @@
--- Laws of verification: the fields of keys and signatures, and that Algorithm 6 accepts what the key maker and the signer of
--- section 5 make.
+-- Laws of verification: the fields of keys and signatures, and the validity of signatures made as in section 5, by
+-- Algorithm 6.
 use mathlib.Core.Path.{_≡_, refl, sym, ap, _∙_}
 use mathlib.Core.Bool.{Bool, true, false, not, cond, _&&_, _||_, or-true, false≢true}
 use mathlib.Core.List.{List, _++_}
@@ -36,7 +36,7 @@ pub sibling-within : (P x : ℕ) → 2 ≤ x → x < 2 * P → (2 ≤ sibling x)
 unfolding sibling
 sibling-within P x k l = ⊎-elim (λ (e : x % 2 ≡ 0). rw e (omega arith)) (λ (e : x % 2 ≡ 1). rw e (omega arith)) (parity x)
 
--- less than h levels above a leaf is below the root
+-- a node less than h levels above a leaf is below the root
 pub ancestor-within : (h r n : ℕ) → 2 ^ h ≤ r → r < 2 * 2 ^ h → n < h → (2 ≤ r / 2 ^ n) × (r / 2 ^ n < 2 * 2 ^ h)
 ancestor-within h r n k l m =
     (le-div-iff-mul-le (pow-pos n) .1 (omega (arith, pow-mono m)), omega (arith, shr-le r n))
@@ -151,7 +151,7 @@ module _ (lmsType otsType : ℕ) (I : List ℕ) (q : ℕ) (seed C message tree :
         length-before-path
         ∙ part-joined 32 _ _ each i h
 
--- ---- a valid signature fits: the length is that of its types, and the leaf stands in the tree
+-- ---- length and leaf of a valid signature: the length of its types, and a leaf of the tree
 
 signatureInvalid-fits : (lmsType otsType : ℕ) (signature : List ℕ) → signatureInvalid lmsType otsType signature ≡ false
     → (length signature ≡ signatureLength (height lmsType) (width otsType)) × (leafOf signature < 2 ^ height lmsType)
@@ -183,7 +183,7 @@ valid-fits key message signature e =
     signatureInvalid-fits (lmsTypeOf key) (otsTypeOf key) signature
     (second-false (keyInvalid key) (signatureInvalid (lmsTypeOf key) (otsTypeOf key) signature) _ e)
 
--- ---- a signature of section 5 is valid
+-- ---- validity of a signature of section 5
 
 -- Algorithm 4b rejects nothing that Algorithm 6a has let through
 pub otsInvalid-inside : (h otsType : ℕ) (signature : List ℕ)

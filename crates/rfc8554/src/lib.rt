@@ -1,1 +1,1 @@
-// RFC 8554 as definitions, in specs/: what the contracts of `lmots` and `lms` cite. It has no code.
+// RFC 8554 as definitions, for the contracts of the crates above; they are in specs/, and there is no code here.

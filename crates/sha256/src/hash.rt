@@ -56,14 +56,14 @@ pub fn digest(h: [u32; 8]) -> [u8; 32]
     out
 }
 
-// Where the padding ends that follows a tail of n bytes: one block, or two from 56 bytes on.
+// The end of the padding after a tail of n bytes: one block, or two from 56 bytes on.
 fn padded_end(n: usize) -> usize
     ensures { λ r. ⌜ (r ≡ ended n) × (64 ≤ r) × (r ≤ 128) ⌝ }
 {
     if n < 56 { 64 } else { 128 }
 }
 
-// A message's tail with the padding that follows the message of `total` bytes, in the first one or two blocks.
+// The tail of a message of `total` bytes with its padding, in one or two blocks. Scratch: the bytes after them.
 fn padded_tail(tail: &[u8], total: usize) -> [u8; 128]
     requires { ⌜ length (now tail) ≡ total % 64 ⌝ }
     ensures { λ r. ⌜ take (ended (length (now (tail .entry)))) r ≡ now (tail .entry) ++ padding total ⌝ }
@@ -80,7 +80,7 @@ fn padded_tail(tail: &[u8], total: usize) -> [u8; 128]
     block
 }
 
-// The digest of a message of `total` bytes: h is the hash value before its tail.
+// The digest of a message of `total` bytes, from the hash value h before its tail.
 fn finish(k: &[u32; 64], h: [u32; 8], tail: &[u8], total: usize) -> [u8; 32]
     requires { ⌜ (now k ≡ constants) × (length (now tail) ≡ total % 64) ⌝ }
     ensures { λ r. ⌜ r ≡ bytes (absorbed h (now (tail .entry) ++ padding total)) ⌝ }
@@ -102,7 +102,7 @@ pub fn sha256(k: &[u32; 64], m: &[u8]) -> [u8; 32]
     finish(k, s, &m[at..], m.len())
 }
 
-// A block that starts with two pieces, one after the other.
+// A block that starts with a and then b. Scratch: the bytes after them.
 fn joint(a: &[u8], b: &[u8]) -> [u8; 64]
     requires { ⌜ length (now a) + length (now b) ≤ 64 ⌝ }
     ensures { λ r. ⌜ take (length (now (a .entry)) + length (now (b .entry))) r ≡ now (a .entry) ++ now (b .entry) ⌝ }
@@ -113,7 +113,7 @@ fn joint(a: &[u8], b: &[u8]) -> [u8; 64]
     block
 }
 
-// The digest of a message of `total` bytes: h is the hash value before its tail, which m follows to the message's end.
+// The digest of a message of `total` bytes, from the hash value h before its last bytes: the tail and then m, less than a block.
 fn finish_short(k: &[u32; 64], h: [u32; 8], tail: &[u8], m: &[u8], total: usize) -> [u8; 32]
     requires { ⌜ (now k ≡ constants) × (length (now tail) + length (now m) < 64) × ((length (now tail) + length (now m)) % 64 ≡ total % 64) ⌝ }
     ensures { λ r. ⌜ r ≡ bytes (absorbed h (now (tail .entry) ++ (now (m .entry) ++ padding total))) ⌝ }
@@ -123,7 +123,7 @@ fn finish_short(k: &[u32; 64], h: [u32; 8], tail: &[u8], m: &[u8], total: usize)
     finish(k, h, &block[..n], total)
 }
 
-// The same where m fills the tail's block: the block, then the rest of m.
+// The same where tail and m are a block or more: that block, then the rest of m.
 fn finish_long(k: &[u32; 64], h: [u32; 8], tail: &[u8], m: &[u8], total: usize) -> [u8; 32]
     requires { ⌜ (now k ≡ constants) × (length (now tail) < 64) × (64 ≤ length (now tail) + length (now m)) × ((length (now tail) + length (now m)) % 64 ≡ total % 64) ⌝ }
     ensures { λ r. ⌜ r ≡ bytes (absorbed h (now (tail .entry) ++ (now (m .entry) ++ padding total))) ⌝ }
@@ -137,7 +137,7 @@ fn finish_long(k: &[u32; 64], h: [u32; 8], tail: &[u8], m: &[u8], total: usize) 
     finish(k, t, &rest[end..], total)
 }
 
-// The digest of a followed by b, which are not copied together.
+// The digest of a followed by b, which need not stand in one slice.
 pub fn sha256_two(k: &[u32; 64], a: &[u8], b: &[u8]) -> [u8; 32]
     requires { ⌜ now k ≡ constants ⌝ }
     ensures { λ r. ⌜ r ≡ Fips.sha256 (now (a .entry) ++ now (b .entry)) ⌝ }
@@ -153,7 +153,7 @@ pub fn sha256_two(k: &[u32; 64], a: &[u8], b: &[u8]) -> [u8; 32]
     }
 }
 
-// The digest of a message of at most 55 bytes that stands, padded, in one prepared block: one compression.
+// The digest of a message of at most 55 bytes, given as its one padded block: one compression.
 pub fn one_block(k: &[u32; 64], block: &[u8]) -> [u8; 32]
     requires { ⌜ (now k ≡ constants) × (length (now block) ≡ 64) ⌝ }
     ensures { λ r. ⌜ r ≡ oneBlock (now (block .entry)) ⌝ }

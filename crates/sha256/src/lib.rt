@@ -1,4 +1,4 @@
-// SHA-256, FIPS 180-4: the constants, and digests of whole messages. The round constants are lent, `k: &[u32; 64]`: whoever starts
-// a computation takes them once from `constants::round_constants`.
+// SHA-256, FIPS 180-4: the constants, and digests of whole messages. The round constants are lent as `k: &[u32; 64]`; a caller
+// takes them once from `constants::round_constants`.
 pub mod constants;
 pub mod hash;

@@ -1,5 +1,5 @@
-// Digests of messages of every length over the padding's edges, and of some long ones, to be compared with an
-// independent implementation's: the file `stdout` has OpenSSL's, and says how they were made.
+// Digests of messages of each length from 0 to 259, over the edges of the padding, and of some long ones, to compare
+// with an independent implementation's: the file `stdout` has OpenSSL's.
 ghost use mathlib.Core.Path.{_≡_};
 ghost use Prim.Native.Nat.{_≤_};
 ghost use lib.ListN.{length};

@@ -25,7 +25,7 @@ fn scheduled(w: &[u32; 64], t: usize) -> u32
     )
 }
 
-// The words of a block at the start of a schedule.
+// The words of a block at the start of a schedule. Scratch: the words after them.
 fn first_words(m: [u32; 16]) -> [u32; 64]
     ensures { λ r. ⌜ take 16 r ≡ m ⌝ }
 {
@@ -38,7 +38,7 @@ fn first_words(m: [u32; 16]) -> [u32; 64]
     w
 }
 
-// The schedule of a block, whose words are m.
+// The schedule of a block with the words m.
 fn schedule(m: [u32; 16]) -> [u32; 64]
     ensures { λ r. ⌜ r ≡ Fips.schedule m 48 ⌝ }
 {
@@ -84,7 +84,7 @@ fn sums(h: [u32; 8], s: [u32; 8]) -> [u32; 8]
     ]
 }
 
-// Eight rounds, from round t on: after eight, each working variable is in its place again.
+// Eight rounds from round t on, after which each working variable is in its first place again.
 fn eight(k: &[u32; 64], w: &[u32; 64], t: usize, s: [u32; 8]) -> [u32; 8]
     requires { ⌜ (now k ≡ constants) × (length (now w) ≡ 64) × (t + 8 ≤ 64) ⌝ }
     ensures { λ r. ⌜ ((h : List ℕ) → s ≡ Fips.rounds (now (w .entry)) h t → r ≡ Fips.rounds (now (w .entry)) h (t + 8)) ⌝ }
@@ -114,7 +114,7 @@ fn rounds(k: &[u32; 64], w: &[u32; 64], h: [u32; 8]) -> [u32; 8]
     s
 }
 
-// The hash value h after one more block, whose words are m.
+// The hash value h after one more block, with the words m.
 pub fn compress(k: &[u32; 64], h: [u32; 8], m: [u32; 16]) -> [u32; 8]
     requires { ⌜ now k ≡ constants ⌝ }
     ensures { λ r. ⌜ r ≡ Fips.compress h m ⌝ }

@@ -1,5 +1,5 @@
 -- Sixteen compressions of SHA-256 side by side.
 --
--- `Rows` says how the lanes stand in rows and what the code's pieces compute, `RowLaws` has the laws.
+-- `Rows` has the lanes in rows and the values of the code's pieces, `RowLaws` the laws.
 pub mod RowLaws
 pub mod Rows

@@ -363,7 +363,7 @@ module _ (k x n : ℕ) (s : List ℕ) (hn : n < 1024) (ls : length s ≡ 3264) w
   unfolding roundAt
   length-roundAt = simp length-set ls
 
-  -- working variables behind n
+  -- working variables after index n
   round-unchanged : (q : List ℕ) (m : ℕ) → n < m → m < 1040 → State q m s → State q m (roundAt k x n s)
   unfolding roundAt three two one
   round-unchanged q m h i g = three-unchanged s n _ _ _ hn ls q m i (inr h) (inr (omega arith)) (inr (omega arith)) (inr (omega arith)) g
@@ -455,7 +455,7 @@ pub rounded-then : (w : List ℕ) (a b d : ℕ) (s r z : List ℕ) → Rounded w
 unfolding Rounded
 rounded-then w a b d s r z f g l h k e = g l h k (f l h k e)
 
--- ---- round 5 but for its word
+-- ---- round 5 without its word
 
 -- a round's word is only added, to a and to e
 round-word : (k w : ℕ) (q : List ℕ)
@@ -469,7 +469,7 @@ round-word k w q =
     let u = Fips.temp2 (getD q 0 0) (getD q 1 0) (getD q 2 0) in
     rw (add-later t w u, ← add-group d (Fips.add t 0) w, add-nothing t w)
 
--- the rows of a and e after round 5, but for its word
+-- the rows of a and e after round 5 without its word
 unfoldable pub savedA : List ℕ → ℕ → ℕ
 savedA s l = getD s (928 + l) 0
 
@@ -598,7 +598,7 @@ summed-done n s v e f l h q k g u =
 
 -- ---- the compression
 
--- the first t rounds look at the first t words alone
+-- the first t rounds depend only on the first t words
 rounds-first : (w m h : List ℕ) (t : ℕ) → ((i : ℕ) → i < t → getD w i 0 ≡ getD m i 0) → Fips.rounds w h t ≡ Fips.rounds m h t
 unfolding Fips.rounds
 rounds-first w m h zero e = refl

@@ -31,7 +31,7 @@ scheduledAt w n =
     (Fips.add (Fips.add (Fips.smallSigma1 (getD w (n - 32) 0)) (getD w (n - 112) 0)) (Fips.smallSigma0 (getD w (n - 240) 0)))
     (getD w (n - 256) 0)
 
--- the share of the rows 15 and 16 before the word at n + 256
+-- the share of the words at n and n + 16 in the word at n + 256
 unfoldable pub shareAt : List ℕ → ℕ → ℕ
 shareAt w n = Fips.add (Fips.smallSigma0 (getD w (n + 16) 0)) (getD w n 0)
 
@@ -40,8 +40,8 @@ pub record Shares (w x : List ℕ) : Type 0 where
   pub first : (n : ℕ) → n < 32 → getD x n 0 ≡ Fips.add (Fips.smallSigma1 (getD w (n + 224) 0)) (shareAt w n)
   pub second : (n : ℕ) → n < 32 → getD x (n + 32) 0 ≡ shareAt w (n + 32)
 
--- ---- the rounds: 68 rows of the variable a, 68 of e, and 68 of b xor c, each from its last row to its first. What is b after a
--- round was a before it, and so on, so that four rows in a row are a, b, c, d, and four are e, f, g, h
+-- ---- the rounds: 68 rows of the variable a, 68 of e, and 68 of b xor c, each from its last row to its first. After a round, b is
+-- what a was before it, and so on: four rows one after another are a, b, c, d, and four are e, f, g, h
 
 -- the eight words whose a is at index `a` and whose e is at index `e`
 unfoldable pub eight : ℕ → ℕ → List ℕ → List ℕ
@@ -54,7 +54,7 @@ pub record State (q : List ℕ) (n : ℕ) (s : List ℕ) : Type 0 where
   pub words : eight n (n + 1088) s ≡ q
   pub differ : getD s (n + 2176) 0 ≡ bitXor (getD s (n + 16) 0) (getD s (n + 32) 0)
 
--- where the working variables of lane l are after t rounds
+-- place of the working variables of lane l after t rounds
 abbrev pub place : ℕ → ℕ → ℕ
 place t l = 16 * (64 - t) + l
 
@@ -81,14 +81,14 @@ Unchanged b s r = (q : List ℕ) (m : ℕ) → b ≤ m → m < 1040 → State q 
 
 -- ---- every lane
 
--- rounds from one to another with the schedule w
+-- rounds `from` to `to` - 1 with the schedule w
 unfoldable pub Rounded : List ℕ → ℕ → ℕ → List ℕ → List ℕ → Type 0
 Rounded w from to s r =
     (l : ℕ) (h : List ℕ) → l < 16
     → State (Fips.rounds (column l 64 w) h from) (place from l) s
     → State (Fips.rounds (column l 64 w) h to) (place to l) r
 
--- round 5 of lane l but for its word, for the working variables q before it: x has its a and e, s its b xor c
+-- round 5 of lane l without its word, from the working variables q: x has its a and e, s its b xor c
 pub record Held (q : List ℕ) (l : ℕ) (x s : List ℕ) : Type 0 where
   pub a : getD x (64 + l) 0 ≡ getD (Fips.round (getD constants 5 0) 0 q) 0 0
   pub e : getD x (80 + l) 0 ≡ getD (Fips.round (getD constants 5 0) 0 q) 4 0
@@ -99,14 +99,14 @@ unfoldable pub Resumed : List ℕ → List ℕ → List ℕ → List ℕ → Typ
 Resumed w x s r =
     (l : ℕ) (q : List ℕ) → l < 16 → State q (place 5 l) s → Held q l x s → State (Fips.round (getD constants 5 0) (getD w (80 + l) 0) q) (place 6 l) r
 
--- the common start of all blocks that are alike to w, after the hash value h
+-- the common start of all blocks that are `Alike` to w, after the hash value h
 pub record Common (h w x s : List ℕ) : Type 0 where
   pub shares : Shares w x
   pub start : (l : ℕ) → l < 16 → State h (place 0 l) s
   pub five : (l : ℕ) → l < 16 → State (Fips.rounds (column l 5 w) h 5) (place 5 l) s
   pub held : (l : ℕ) → l < 16 → Held (Fips.rounds (column l 5 w) h 5) l x s
 
--- compression of the blocks m; their common start is there after it
+-- compression of the blocks m, after which their common start still stands
 unfoldable pub Compressed : List ℕ → List ℕ → List ℕ → List ℕ → List ℕ → List ℕ → Type 0
 Compressed m x s w r v =
     (h : List ℕ) → Common h m x s → Common h w x r × ((l : ℕ) → l < 16 → column l 8 v ≡ Fips.compress h (column l 16 m))

@@ -1,10 +1,10 @@
-// SHA-256's compression of sixteen blocks side by side. The lanes stand in rows of sixteen words, and a loop over a row is one
-// that the compiler turns into vector code. Nothing is written over: a lane's schedule is a column of 64 words, and its working
-// variables are columns too, of 68 words, one more with each round.
+// SHA-256's compression of sixteen blocks side by side. The lanes stand in rows of sixteen words, and the compiler turns a loop
+// over a row into vector code. A lane's schedule is a column of 64 words; its working variables a and e, and b ^ c, are columns
+// of 68 words, and each round adds a word to each of them.
 //
-// Blocks that a lane has one after the other, with words 0 to 4, 14 and 15 and the hash value before them unchanged, share the first
-// five rounds, round 5 but for its word, and what the unchanged words bring to the schedule: `begin` makes it once, and `compress`
-// goes on from it.
+// Blocks of a lane that agree in words 0 to 4, 14 and 15, and in the hash value before them, have a common start: the first five
+// rounds, round 5 without its word, and the share of these words in the schedule. `begin` makes it once, and `compress` goes on
+// from it.
 ghost use mathlib.Core.Path.{_≡_};
 ghost use Prim.Native.Nat.{ℕ, _+_, _-_, _*_, _<_, _≤_};
 ghost use lib.Bits.{bitAnd, bitXor};
@@ -31,7 +31,7 @@ pub fn spread(m: [u32; 16], w: &mut [u32; 1024])
     }
 }
 
-// One hash value before its rounds, in every lane. Scratch: the rest of s.
+// One hash value as the working variables before the rounds, in every lane. Scratch: the rest of s.
 fn start(h: [u32; 8], s: &mut [u32; 3264])
     requires { ⌜ length (now s) ≡ 3264 ⌝ }
     ensures { λ _. ⌜ (length (now (s .exit)) ≡ 3264) × ((l : ℕ) → l < 16 → State h (place 0 l) (now (s .exit))) ⌝ }
@@ -54,7 +54,7 @@ fn share_at(w: &[u32; 1024], n: usize) -> u32
     add(small_sigma0(w[n + 16]), w[n])
 }
 
-// The shares of words 0 to 4, 14 and 15 in words 16 to 19.
+// The shares of words 0 to 4, 14 and 15 in words 16 to 19. Scratch: the last two rows of x.
 fn shares(w: &[u32; 1024], x: &mut [u32; 96])
     requires { ⌜ (length (now w) ≡ 1024) × (length (now x) ≡ 96) ⌝ }
     ensures { λ _. ⌜ (length (now (x .exit)) ≡ 96) × Shares (now (w .entry)) (now (x .exit)) ⌝ }
@@ -67,7 +67,7 @@ fn shares(w: &[u32; 1024], x: &mut [u32; 96])
     }
 }
 
-// The word at n of a schedule, one of words 16 and 17.
+// Word 16 or 17 of a schedule, at index n.
 fn scheduled_first(w: &[u32; 1024], x: &[u32; 96], n: usize) -> u32
     requires { ⌜ (256 ≤ n) × (n < 288) × (length (now w) ≡ 1024) × (length (now x) ≡ 96) ⌝ }
     ensures { λ r. ⌜ (Shares (now (w .entry)) (now (x .entry)) → r ≡ scheduledAt (now (w .entry)) n) ⌝ }
@@ -75,7 +75,7 @@ fn scheduled_first(w: &[u32; 1024], x: &[u32; 96], n: usize) -> u32
     add(w[n - 112], x[n - 256])
 }
 
-// One of words 18 and 19.
+// Word 18 or 19 of a schedule, at index n.
 fn scheduled_next(w: &[u32; 1024], x: &[u32; 96], n: usize) -> u32
     requires { ⌜ (288 ≤ n) × (n < 320) × (length (now w) ≡ 1024) × (length (now x) ≡ 96) ⌝ }
     ensures { λ r. ⌜ (Shares (now (w .entry)) (now (x .entry)) → r ≡ scheduledAt (now (w .entry)) n) ⌝ }
@@ -83,7 +83,7 @@ fn scheduled_next(w: &[u32; 1024], x: &[u32; 96], n: usize) -> u32
     add(add(small_sigma1(w[n - 32]), w[n - 112]), x[n - 256])
 }
 
-// Any word, from the rows before it.
+// Any word from 16 on, at index n, from the rows before it.
 fn scheduled(w: &[u32; 1024], n: usize) -> u32
     requires { ⌜ (256 ≤ n) × (n < 1024) × (length (now w) ≡ 1024) ⌝ }
     ensures { λ r. ⌜ r ≡ scheduledAt (now (w .entry)) n ⌝ }
@@ -121,7 +121,7 @@ fn schedule(w: &mut [u32; 1024], x: &[u32; 96])
     }
 }
 
-// Maj's value from its second argument and from what it differs in from its neighbours.
+// Maj of a, b and c, from b and the differences a ^ b and b ^ c.
 fn majority(b: u32, ab: u32, bc: u32) -> u32
     ensures { λ r. ⌜ r ≡ bitXor b (bitAnd ab bc) ⌝ }
 {
@@ -146,7 +146,7 @@ fn temp2_at(s: &[u32; 3264], n: usize) -> u32
     add(big_sigma0(a), majority(b, a ^ b, s[n + 2192]))
 }
 
-// One round of one lane: its working variables are at n + 16, and then at n.
+// One round of one lane, from the working variables at n + 16 to those at n.
 fn round_at(k: u32, x: u32, s: &mut [u32; 3264], n: usize)
     requires { ⌜ (n < 1024) × (length (now s) ≡ 3264) ⌝ }
     ensures { λ _. ⌜ now (s .exit) ≡ roundAt k x n (now (s .entry)) ⌝ }
@@ -160,7 +160,7 @@ fn round_at(k: u32, x: u32, s: &mut [u32; 3264], n: usize)
     s[n] = a;
 }
 
-// Round t of every lane.
+// Round t of every lane. Scratch: the rows of later rounds.
 fn round(k: u32, w: &[u32; 1024], s: &mut [u32; 3264], t: usize)
     requires { ⌜ (t < 64) × (k ≡ getD constants t 0) × (length (now w) ≡ 1024) × (length (now s) ≡ 3264) ⌝ }
     ensures { λ _. ⌜ (length (now (s .exit)) ≡ 3264) × Unchanged (1024 - 16 * t) (now (s .entry)) (now (s .exit)) ⌝ }
@@ -174,7 +174,7 @@ fn round(k: u32, w: &[u32; 1024], s: &mut [u32; 3264], t: usize)
     }
 }
 
-// The rounds of every lane, from one to another.
+// Rounds `from` to `to` - 1 of every lane. Scratch as in `round`.
 fn rounds(k: &[u32; 64], w: &[u32; 1024], s: &mut [u32; 3264], from: usize, to: usize)
     requires { ⌜ (now k ≡ constants) × (from ≤ to) × (to ≤ 64) × (length (now w) ≡ 1024) × (length (now s) ≡ 3264) ⌝ }
     ensures { λ _. ⌜ (length (now (s .exit)) ≡ 3264) × Unchanged (1024 - 16 * from) (now (s .entry)) (now (s .exit)) ⌝ }
@@ -187,7 +187,7 @@ fn rounds(k: &[u32; 64], w: &[u32; 1024], s: &mut [u32; 3264], from: usize, to: 
     }
 }
 
-// The hash value of every lane: the sum of the one before the rounds and of the working variables after them.
+// The hash value of every lane: the one before the rounds plus the working variables after them.
 fn sums(s: &[u32; 3264], v: &mut [u32; 128])
     requires { ⌜ (length (now s) ≡ 3264) × (length (now v) ≡ 128) ⌝ }
     ensures { λ _. ⌜ length (now (v .exit)) ≡ 128 ⌝ }
@@ -201,7 +201,7 @@ fn sums(s: &[u32; 3264], v: &mut [u32; 128])
     }
 }
 
-// Saves a and e after round 5, in the last two rows of x.
+// Saves a and e after round 5 in the last two rows of x.
 fn save(s: &[u32; 3264], x: &mut [u32; 96])
     requires { ⌜ (length (now s) ≡ 3264) × (length (now x) ≡ 96) ⌝ }
     ensures { λ _. ⌜ (length (now (x .exit)) ≡ 96) × Same 64 (now (x .entry)) (now (x .exit)) ⌝ }
@@ -215,7 +215,7 @@ fn save(s: &[u32; 3264], x: &mut [u32; 96])
     }
 }
 
-// Round 5 of every lane, from what is saved of it: its word is only added.
+// Round 5 of every lane: its word, added to the saved a and e. Scratch as in `round`.
 fn resume(w: &[u32; 1024], x: &[u32; 96], s: &mut [u32; 3264])
     requires { ⌜ (length (now w) ≡ 1024) × (length (now x) ≡ 96) × (length (now s) ≡ 3264) ⌝ }
     ensures { λ _. ⌜ (length (now (s .exit)) ≡ 3264) × Unchanged 944 (now (s .entry)) (now (s .exit)) ⌝ }
@@ -229,8 +229,8 @@ fn resume(w: &[u32; 1024], x: &[u32; 96], s: &mut [u32; 3264])
     }
 }
 
-// The common start of blocks whose words 0 to 4, 14 and 15 are those in w, after one hash value: `compress` goes on from it. Word 5
-// is zero in w, so that round 5 is without it. Scratch: what `Common` does not name of s.
+// The common start of blocks with words 0 to 4, 14 and 15 of w, after one hash value: `compress` goes on from it. Word 5 is zero in
+// w, so that round 5 is without it. Scratch: the words of s that `Common` does not name.
 pub fn begin(k: &[u32; 64], h: [u32; 8], w: &[u32; 1024], x: &mut [u32; 96], s: &mut [u32; 3264])
     requires { ⌜ (now k ≡ constants) × (length (now w) ≡ 1024) × (length (now x) ≡ 96) × (length (now s) ≡ 3264) × ((l : ℕ) → l < 16 → getD (now w) (80 + l) 0 ≡ 0) ⌝ }
     ensures { λ _. ⌜ (length (now (x .exit)) ≡ 96) × (length (now (s .exit)) ≡ 3264) × Common h (now (w .entry)) (now (x .exit)) (now (s .exit)) ⌝ }
@@ -242,8 +242,8 @@ pub fn begin(k: &[u32; 64], h: [u32; 8], w: &[u32; 1024], x: &mut [u32; 96], s: 
     save(s, x);
 }
 
-// The hash value of every lane after one more block, whose words are the first sixteen rows of w. Scratch: the rows of w from 16 on,
-// and what `Common` does not name of s.
+// The hash value of every lane after one more block, with the first sixteen rows of w as its words. Scratch: the rows of w from 16 on,
+// and the words of s that `Common` does not name.
 pub fn compress(
     k: &[u32; 64],
     w: &mut [u32; 1024],

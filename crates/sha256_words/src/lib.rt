@@ -17,7 +17,7 @@ fn rotr(x: u32, n: u32) -> u32
     (x >> n) | (x << (32 - n))
 }
 
-// The standard's value with fewer operations, and so is `maj`; in a run of rounds `x ^ y` is the next round's `y ^ z`.
+// `ch` and `maj`: the standard's values with fewer operations. In `maj`, `x ^ y` is the next round's `y ^ z`.
 fn ch(x: u32, y: u32, z: u32) -> u32
     ensures { λ r. ⌜ r ≡ Fips.ch x y z ⌝ }
 {

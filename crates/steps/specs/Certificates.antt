@@ -75,7 +75,7 @@ module _ (r : Record) (store out : List ℕ) (at : ℕ) (out′ : List ℕ) (end
       saying (blame c) r store (evidenceOf (r .n) (r .round) (firstCertificate r store) c) out at (withGuilty r guilty) store out′ end refl
       (record { recorded = rw e; stored = refl }) (rw (← chosen) w)
 
--- ---- one way or the other
+-- ---- replies, and certificates held or blaming
 
 module _ (r : Record) (store out : List ℕ) (at : ℕ) where
   nothing-done : Did (λ s. s) r store out at r store out at
@@ -115,7 +115,7 @@ reply-leaves r store = go (owesFull r)
     go true = refl
     go false = refl
 
--- n, seat, what is collected and what is held are as they were
+-- n, seat, own submission and first certificate are as they were
 record Alike (r u : Record) : Type 0 where
   n : u .n ≡ r .n
   seat : u .seat ≡ r .seat

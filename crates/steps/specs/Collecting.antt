@@ -77,7 +77,7 @@ k-some : (n : ℕ) → 1 ≤ n → 1 ≤ k n
 unfolding k t0
 k-some n h = omega arith
 
--- before confirming there are less than k, and a seat that is wanted is new
+-- fewer than k seats are collected before confirming, and a wanted seat is new
 one-more : (r : Record) → Possible r → (seat : ℕ) (value : List ℕ) → isWanted seat value r ≡ true → size (with seat (r .own .collected)) ≤ k (r .n)
 unfolding isWanted
 one-more r possible seat value e =

@@ -1,4 +1,4 @@
--- What a phase of submit and step leaves, and how two in a row are one.
+-- Results of a phase of submit and step, and two phases in a row as one.
 use mathlib.Core.Path.{_≡_, sym, ap, _∙_}
 use mathlib.Core.List.{List, [], _∷_, append-nil}
 use Prim.Native.Nat.{ℕ, _^_, _≤_, _<_}
@@ -26,7 +26,7 @@ pub record Did (f : State → State) (r : Record) (store out : List ℕ) (at : �
   pub changed : Changed f r store unit store′
   pub wrote : Wrote at (renderAll (f (start r store) .written)) out out′ end
 
--- what every phase finds, and leaves: n and the seat are in range, the masks name seats below n, each of them at most k, and the
+-- state before and after every phase: n and the seat are in range, the masks name seats below n, each of them at most k, and the
 -- store has a slot for every seat
 pub record Fits (r : Record) (store : List ℕ) : Type 0 where
   pub some : 1 ≤ r .n
@@ -38,7 +38,7 @@ pub record Fits (r : Record) (store : List ℕ) : Type 0 where
   pub held : size (r .first .seats) ≤ k (r .n)
   pub slots : storeLength (r .n) ≤ length store
 
--- a record and a store that are alike in this
+-- a record and a store that agree in this
 pub fits-like : (r u : Record) (store store′ : List ℕ) → Fits r store → u .n ≡ r .n → u .seat ≡ r .seat → u .own .collected ≡ r .own .collected
     → u .first .seats ≡ r .first .seats → length store′ ≡ length store → Fits u store′
 fits-like r u store store′ h n seat collected first long =
@@ -59,7 +59,7 @@ module _ (f : State → State) (r : Record) (store : List ℕ) where
   unfolding renderAll patch
   quietly out at unit store′ e k = record { changed = k; wrote = rw e (record { ends = sym (add-zero at); wrote = rw add-zero (sym (take-append-drop at out)) }) }
 
-  -- a phase that does there what f does
+  -- a phase g with the same result as f
   pub likewise-changed : (g : State → State) (unit : Record) (store′ : List ℕ) → f (start r store) ≡ g (start r store) → Changed f r store unit store′ → Changed g r store unit store′
   likewise-changed g unit store′ e k = record { recorded = k .recorded ∙ rw e; stored = k .stored ∙ rw e }
 

@@ -29,7 +29,7 @@ use Rattle.protocol.specs.RecordLaws.{Ready}
 use Rattle.steps.specs.Phases.{Changed, Did, Fits, likewise, quietly, next}
 use Rattle.steps.specs.Collecting.{hearSubmit-quiet}
 
--- ---- what a call finds
+-- ---- the start of a call
 
 pub ready-fits : (r : Record) (store out : List ℕ) → Ready r store out → Fits r store
 ready-fits r store out h =
@@ -50,11 +50,11 @@ pub all-fits : (n L : ℕ) → outLength n ≤ L → submitLength + noticeLength
 unfolding outLength
 all-fits n L h = omega arith
 
--- what is left of it after at most a SUBMIT
+-- the room left after at most a SUBMIT
 pub rest-fits : (n m at L : ℕ) → m ≡ n → at ≤ submitLength → outLength n ≤ L → at + noticeLength + fullLength m + evidenceLength (k m) ≤ L
 rest-fits n m at L e h room = rw e (omega (arith, all-fits n L room))
 
--- ---- what the message says
+-- ---- the content of the message
 
 module _ (n : ℕ) (m : List ℕ) where
   module _ (e : kind.Submit ≡ kindOf (read n m)) where
@@ -113,7 +113,7 @@ module _ (r : Record) (store out : List ℕ) (m : List ℕ) (u : Record) (v : Re
       likewise (hearCertificate (certificateFrom (r .n) (inFull seats) value m)) r store (stepped (read (r .n) m)) out 0 v store″ out″ e
       (rw (full-certificate (r .n) m (full-said (r .n) m said) known ordered seats set value at-value, read-as kind.Full (r .n) m said .0)) d
 
--- what no step takes changes nothing
+-- a message that no step takes changes nothing
 pub nothing-heard : (t : Kind) (r : Record) (store out m : List ℕ) → t ≡ kindOf (read (r .n) m) → (tag t ≡ 3) ⊎ (tag t ≡ 4)
     → Did (stepped (read (r .n) m)) r store out 0 r store out 0
 unfolding stepped readEvidence

@@ -1,4 +1,4 @@
-// Certificates: the first is held, and one with another value makes the shared seats guilty.
+// Certificates heard: the first is held, and one with another value makes the shared seats guilty.
 ghost use mathlib.Core.Path.{_≡_};
 ghost use mathlib.Core.Bool.{_&&_, not};
 ghost use Prim.Native.Nat.{_+_, _≤_};
@@ -29,7 +29,7 @@ fn with_first(r: Record, first: First) -> Record
     u
 }
 
-// A certificate is held. Its signatures stand in m or in the store.
+// Holds a certificate, whose signatures stand in m or in the store.
 fn hold(r: Record, store: &mut [u8], value: [u8; 32], source: Source, m: &[u8]) -> Record
     requires { ⌜ Fits r (now store) × Heard (r .n) source (now store) (now m) ⌝ }
     ensures { λ u. ⌜ Changed (hold (heard (r .n) source value (now (store .entry)) (now (m .entry)))) r (now (store .entry)) u (now (store .exit)) ⌝ }
@@ -40,7 +40,7 @@ fn hold(r: Record, store: &mut [u8], value: [u8; 32], source: Source, m: &[u8]) 
     with_first(r, first)
 }
 
-// Another value than the first certificate's, while guilty seats are empty.
+// Whether the value isn't the first certificate's, while guilty seats are empty.
 fn blames(r: Record, value: [u8; 32]) -> bool
     ensures { λ b. ⌜ b ≡ (not (same value (r .first .value)) && eqb (r .guilty) 0) ⌝ }
 {
@@ -49,7 +49,7 @@ fn blames(r: Record, value: [u8; 32]) -> bool
     !same & (r.guilty == 0)
 }
 
-// The shared seats become guilty, and EVIDENCE is written.
+// Makes the shared seats guilty, and writes EVIDENCE.
 fn blame<'a>(
     r: Record,
     store: &'a [u8],
@@ -86,7 +86,7 @@ fn blame<'a>(
     Phase { unit, at: end }
 }
 
-// A certificate is held where none is, or blames.
+// Holds a certificate where none is held; otherwise blames, where its value is another.
 fn hold_or_blame(
     r: Record,
     store: &mut [u8],
@@ -109,7 +109,7 @@ fn hold_or_blame(
     Phase { unit: r, at }
 }
 
-// A certificate counts as a notice for its value, and is held or blames; the reply comes in between.
+// A certificate heard: a notice for its value, then the reply, then the certificate held or the shared seats blamed.
 pub(crate) fn hear_certificate(
     r: Record,
     store: &mut [u8],

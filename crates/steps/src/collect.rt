@@ -1,4 +1,4 @@
-// Signatures over the own value, collected.
+// The own submission, and the signatures collected over its value.
 ghost use mathlib.Core.Path.{_≡_};
 ghost use Prim.Native.Nat.{_<_, _≤_};
 ghost use lib.ListN.{length};
@@ -14,7 +14,7 @@ use layout::Bank;
 use protocol::Own;
 use protocol::Record;
 
-// The record with its own part set anew.
+// The record with its own submission set.
 fn with_own(r: Record, own: Own) -> Record
     ensures { λ u. ⌜ u ≡ withOwn r own ⌝ }
 {
@@ -23,7 +23,7 @@ fn with_own(r: Record, own: Own) -> Record
     u
 }
 
-// A seat's signature over the own value is collected.
+// Collects a seat's signature over the own value.
 fn collect(r: Record, store: &mut [u8], seat: u32, signature: &[u8]) -> Record
     requires { ⌜ Fits r (now store) × (seat < r .n) × (length (now signature) ≡ signatureLength) ⌝ }
     ensures { λ u. ⌜ Changed (collect seat (now (signature .entry))) r (now (store .entry)) u (now (store .exit)) ⌝ }
@@ -39,7 +39,7 @@ fn collect(r: Record, store: &mut [u8], seat: u32, signature: &[u8]) -> Record
     with_own(r, own)
 }
 
-// The own value is kept.
+// The record with the own value kept.
 fn set_own_value(r: Record, value: [u8; 32]) -> Record
     ensures { λ u. ⌜ u ≡ setOwnValue value (start r []) .unit ⌝ }
 {
@@ -68,7 +68,7 @@ pub(crate) fn submit_own(
     Phase { unit, at }
 }
 
-// Not confirmed, the value is the own one and the seat is new.
+// Whether a signature is wanted: not confirmed, the value is the own one and the seat is new.
 fn is_wanted(r: Record, seat: u32, value: [u8; 32]) -> bool
     requires { ⌜ seat < mostSeats ⌝ }
     ensures { λ b. ⌜ b ≡ isWanted seat value r ⌝ }

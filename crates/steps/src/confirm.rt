@@ -15,7 +15,7 @@ use protocol::Record;
 use store::sources::Place;
 use store::sources::Source;
 
-// k seats are collected, and the unit hasn't confirmed.
+// Whether k seats are collected and the unit hasn't confirmed.
 fn is_complete(r: Record) -> bool
     requires { ⌜ (1 ≤ r .n) × (r .n ≤ mostSeats) ⌝ }
     ensures { λ b. ⌜ b ≡ isComplete r ⌝ }
@@ -25,7 +25,7 @@ fn is_complete(r: Record) -> bool
     !r.confirmed & (size == k)
 }
 
-// The unit confirms and writes NOTICE, whatever the store.
+// Confirms and writes NOTICE, with any store.
 fn confirm(r: Record, out: &mut [u8], at: usize) -> Phase
     requires { ⌜ (r .seat < mostSeats) × (at + noticeLength ≤ length (now out)) ⌝ }
     ensures { λ p. ⌜ ((store : List ℕ) → Did confirm r store (now (out .entry)) at (p .unit) store (now (out .exit)) (p .at)) × (p .at ≡ at + noticeLength) ⌝ }
@@ -37,7 +37,7 @@ fn confirm(r: Record, out: &mut [u8], at: usize) -> Phase
     Phase { unit, at: end }
 }
 
-// k seats collected: the unit confirms, and treats its own certificate like one heard. Else it may still owe FULL.
+// k seats collected: the unit confirms, and treats its own certificate like one heard. Otherwise the reply alone.
 pub(crate) fn confirm_if_complete(r: Record, store: &mut [u8], out: &mut [u8], at: usize) -> Phase
     requires { ⌜ Fits r (now store) × (at + noticeLength + fullLength (r .n) + evidenceLength (k (r .n)) ≤ length (now out)) ⌝ }
     ensures { λ p. ⌜ Did confirmIfComplete r (now (store .entry)) (now (out .entry)) at (p .unit) (now (store .exit)) (now (out .exit)) (p .at) ⌝ }

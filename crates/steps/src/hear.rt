@@ -5,7 +5,7 @@ ghost use Rattle.protocol.specs.Step.{noticesWith};
 use protocol::Notices;
 use protocol::Record;
 
-// The notices heard, and now this value: the first is kept.
+// The notices heard after one more value; the first is kept.
 fn notices_with(r: Record, value: [u8; 32]) -> Notices
     ensures { λ q. ⌜ q ≡ noticesWith value r ⌝ }
 {
@@ -25,7 +25,7 @@ fn notices_with(r: Record, value: [u8; 32]) -> Notices
     r.notices
 }
 
-// A notice for a value updates the notices heard.
+// The record after a notice for a value.
 pub(crate) fn hear(r: Record, value: [u8; 32]) -> Record
     ensures { λ u. ⌜ u ≡ withNotices r (noticesWith value r) ⌝ }
 {

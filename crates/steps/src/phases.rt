@@ -1,4 +1,4 @@
-// What a submit and a step do once nothing is refused (document 01, "Steps"): phases one after another.
+// Submit and step once nothing is refused (document 01, "Steps"), as phases one after another.
 ghost use mathlib.Core.Path.{_≡_};
 ghost use mathlib.Core.Bool.{false};
 ghost use lib.ListN.{length};
@@ -21,7 +21,7 @@ use store::sources::Place;
 use store::sources::Source;
 use wire::read::Kind;
 
-// What a phase comes to: the record, and the next place in `out`.
+// Result of a phase: the record, and the next place in `out`.
 pub struct Phase {
     pub unit: Record,
     pub at: usize,
@@ -80,7 +80,7 @@ fn step_full(r: Record, store: &mut [u8], out: &mut [u8], message: &[u8]) -> Pha
     hear_certificate(r, store, out, 0, value, source, message)
 }
 
-// A step, by what the message is.
+// A step, by the kind of its message.
 pub fn step_phase(r: Record, store: &mut [u8], out: &mut [u8], kind: Kind, message: &[u8]) -> Phase
     requires { ⌜ Ready r (now store) (now out) × (kind ≡ kindOf (read (r .n) (now message))) × (stranger (r .n) (read (r .n) (now message)) ≡ false) × (disorder (read (r .n) (now message)) ≡ false) ⌝ }
     ensures { λ p. ⌜ Did (stepped (read (r .n) (now (message .entry)))) r (now (store .entry)) (now (out .entry)) 0 (p .unit) (now (store .exit)) (now (out .exit)) (p .at) ⌝ }

@@ -11,7 +11,7 @@ use protocol::Record;
 use store::sources::Place;
 use store::sources::Source;
 
-// A value was heard that isn't the own one.
+// Whether a value was heard that isn't the own one.
 fn other_heard(r: Record) -> bool
     ensures { λ b. ⌜ b ≡ otherHeard r ⌝ }
 {
@@ -27,7 +27,7 @@ fn other_heard(r: Record) -> bool
     true
 }
 
-// Confirmed, FULL not sent, and another value heard.
+// Whether FULL is owed: confirmed, FULL not sent, and another value heard.
 fn owes_full(r: Record) -> bool
     ensures { λ b. ⌜ b ≡ owesFull r ⌝ }
 {
@@ -35,7 +35,7 @@ fn owes_full(r: Record) -> bool
     r.confirmed & !r.sent & other
 }
 
-// FULL is written from the own collected signatures.
+// Writes FULL from the own collected signatures.
 fn send_full(r: Record, store: &[u8], out: &mut [u8], at: usize) -> Phase
     requires { ⌜ Fits r (now store) × (at + fullLength (r .n) ≤ length (now out)) ⌝ }
     ensures { λ p. ⌜ Did sendFull r (now (store .entry)) (now (out .entry)) at (p .unit) (now (store .entry)) (now (out .exit)) (p .at) × (p .at ≤ at + fullLength (r .n)) ⌝ }
@@ -51,7 +51,7 @@ fn send_full(r: Record, store: &[u8], out: &mut [u8], at: usize) -> Phase
     Phase { unit, at: end }
 }
 
-// FULL is written where it is owed.
+// Writes FULL where it is owed.
 pub(crate) fn reply(r: Record, store: &[u8], out: &mut [u8], at: usize) -> Phase
     requires { ⌜ Fits r (now store) × (at + fullLength (r .n) ≤ length (now out)) ⌝ }
     ensures { λ p. ⌜ Did reply r (now (store .entry)) (now (out .entry)) at (p .unit) (now (store .entry)) (now (out .exit)) (p .at) × (p .at ≤ at + fullLength (r .n)) ⌝ }

@@ -1,4 +1,4 @@
--- Where the signatures of a certificate stand, and the laws of slots and of certificates held.
+-- Sources of a certificate's signatures, and the laws of slots and of certificates held.
 pub mod Sources
 pub mod SeatLaws
 pub mod StoreLaws

@@ -1,4 +1,4 @@
--- A rising list of seats and its set: each says the other, and where a seat stands in the list.
+-- A rising list of seats and its set: each gives the other, and the place of a seat in the list.
 -- Assumes nothing.
 use mathlib.Core.Path.{_≡_, refl, sym, ap, _∙_}
 use mathlib.Core.Bool.{Bool, true, and-eq-true-iff}
@@ -17,7 +17,7 @@ use Rattle.protocol.specs.Certificate.{setOf}
 use Rattle.protocol.specs.Refusals.{every, rising}
 use Rattle.protocol.specs.CertificateLaws.{in-set}
 
--- what holds of every one holds of each
+-- a test of every element holds for each
 pub every-at : (test : ℕ → Bool) (l : List ℕ) (x : ℕ) → every test l ≡ true → List·Memᴰ x l → test x ≡ true
 unfolding every
 every-at test [] x e d = absurd (List·Memᴰ·not-nil d)
@@ -93,7 +93,7 @@ set-lt n l e = lt-of-none-outside n (setOf l) (λ s h. go s h (bit-cases s (setO
 
 -- ---- the place of a seat in the list
 
--- what stands before a seat are the seats below it
+-- the seats before a seat are those below it
 pub seats-split : (n s m : ℕ) → s < n → In s m → (rest : List ℕ) × (seats n m ≡ seats s m ++ s ∷ rest)
 seats-split zero s m h i = absurd (omega arith)
 seats-split (suc n) s m h i =

@@ -1,4 +1,4 @@
--- A FULL whose entries rise has each seat's signature where its place among them says; a source's signature, as code reads it.
+-- The signature of a seat in a FULL whose entries rise, and in any source, as code reads it.
 -- Assumes nothing.
 use mathlib.Core.Path.{_≡_, refl, sym, ap, _∙_}
 use mathlib.Core.Bool.{Bool, true, false, cond, and-eq-true-iff, false≢true}
@@ -173,7 +173,7 @@ length-signature-from n source bytes readable s l i = go (source .place) refl
 
 -- ---- while a certificate is held
 
--- the signature of a seat is the one at the start where its slots are still as they were
+-- the signature of a seat stays the same while its slots do
 pub same-signature : (n : ℕ) (source : Source) (store before m : List ℕ) (s : ℕ)
     → ((b : ℕ) → b < length banks → slot n b store s ≡ slot n b before s)
     → signatureFrom n source (bytesOf (source .place) store m) s ≡ signatureFrom n source (bytesOf (source .place) before m) s
@@ -184,7 +184,7 @@ same-signature n source store before m s h = go (source .place)
     go place.Entries = refl
     go (place.Slots bank) = h (bankOf bank) (bank-listed bank)
 
--- and it can still be read
+-- a source stays readable
 pub still-readable : (n : ℕ) (source : Source) (store before m : List ℕ) → length store ≡ length before
     → Readable n source (bytesOf (source .place) before m) → Readable n source (bytesOf (source .place) store m)
 unfolding bytesOf

@@ -1,4 +1,4 @@
--- Where the signatures of a certificate stand: in the entries of a FULL, or in a bank of the store.
+-- Sources of a certificate's signatures: the entries of a FULL, or a bank of the store.
 -- Assumes nothing.
 use mathlib.Core.Path.{_≡_}
 use mathlib.Core.Bool.{true, false}
@@ -15,23 +15,23 @@ use Rattle.store.specs.declared.sources.Place.{Place}
 use Rattle.store.specs.declared.sources.Place.the-variants as place
 use Rattle.store.specs.declared.sources.Source.{Source}
 
--- the bytes that they stand in: those of the message, or the store
+-- the bytes with the signatures: the message, or the store
 unfoldable pub bytesOf : Place → List ℕ → List ℕ → List ℕ
 bytesOf place.Entries store m = m
 bytesOf (place.Slots bank) store m = store
 
--- bytes that are a FULL's, turned back neither for a seat nor for their order, with `seats` the set of the entries' seats
+-- the bytes of a FULL, refused neither for a seat nor for its order, with `seats` the set of its entries' seats
 pub record Sound (n : ℕ) (bytes : List ℕ) (seats : ℕ) : Type 0 where
   pub full : isFull (read n bytes) ≡ true
   pub known : stranger n (read n bytes) ≡ false
   pub ordered : disorder (read n bytes) ≡ false
   pub set : seats ≡ certificateIn (read n bytes) .seats
 
--- where such a FULL has a seat's signature: after the entries of the seats below it
+-- place of a seat's signature in such a FULL: after the entries of the seats below it
 unfoldable pub entryPlace : ℕ → ℕ → ℕ
 entryPlace seats seat = fullEntryAt (size (shared seats (all seat))) + 2
 
--- what the bytes are, so that a signature can be read
+-- condition on the bytes for reading signatures
 abbrev pub Stands : ℕ → Place → ℕ → List ℕ → Type 0
 Stands n place.Entries seats bytes = Sound n bytes seats
 Stands n (place.Slots bank) seats bytes = storeLength n ≤ length bytes

@@ -26,7 +26,7 @@ pub length-signature : (at : ℕ) (bytes : List ℕ) → at + signatureLength �
 unfolding readSignature
 length-signature at bytes h = length-part at signatureLength bytes h
 
--- the part of ws's length at `at`, lent and written whole, is back in its place
+-- a part of a buffer, lent and written whole, is a patch of the buffer
 pub patch-part : (at k : ℕ) (ws xs ys : List ℕ) → k ≡ length ws → at + length ws ≤ length xs → ys ≡ patch 0 ws (part at k xs) → putMid at k xs ys ≡ patch at ws xs
 unfolding patch
 patch-part at k ws xs ys w h e =
@@ -58,8 +58,8 @@ fill-leaves n a b s t signature store x y h k l r g =
 
 -- ---- a certificate held
 
--- what a loop over the seats of the set m has come to at seat s: the signatures f of the seats passed are in the first certificate's
--- bank, and the slots of the others are as they were
+-- state of a loop over the seats of the set m at seat s: the signatures f of the seats passed are in the first certificate's bank,
+-- and the slots of the others are as they were
 pub record Holding (n m : ℕ) (f : ℕ → List ℕ) (before : List ℕ) (s : ℕ) (store : List ℕ) : Type 0 where
   pub below : s ≤ n
   pub long : length store ≡ length before

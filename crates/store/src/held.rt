@@ -1,4 +1,4 @@
-// A certificate held: its signatures, seat by seat, in the first certificate's bank of the store.
+// Holding a certificate: its signatures go, seat by seat, to the first certificate's bank of the store.
 ghost use mathlib.Core.Path.{_≡_};
 ghost use Prim.Native.Nat.{_<_, _≤_};
 ghost use lib.ListN.{length};
@@ -12,7 +12,7 @@ use crate::sources::bytes_of;
 use crate::sources::signature_copy;
 use layout::Bank;
 
-// Copies the signature of one seat. It leaves the store in between: two slots of one store can't be lent at the same time.
+// Copies the signature of one seat, by way of an array: two slots of one store can't be lent at the same time.
 fn hold_seat(store: &mut [u8], n: u32, source: Source, seat: u32, m: &[u8])
     requires { ⌜ (n ≤ mostSeats) × (seat < n) × In seat (source .seats) × (storeLength n ≤ length (now store)) × Readable n source (bytesOf (source .place) (now store) (now m)) ⌝ }
     ensures { λ _. ⌜ now (store .exit) ≡ fill n firstBank seat (signatureFrom n source (bytesOf (source .place) (now (store .entry)) (now (m .entry))) seat) (now (store .entry)) ⌝ }

@@ -1,4 +1,4 @@
-// A unit's store: slots filled with signatures, where a certificate's signatures stand, and the first certificate held.
+// A unit's store: its slots, the places of a certificate's signatures, and the first certificate held.
 pub mod held;
 pub mod slots;
 pub mod sources;

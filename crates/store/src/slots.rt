@@ -10,7 +10,7 @@ ghost use Rattle.layout.specs.Places.{bankOf};
 use layout::Bank;
 use layout::SIGNATURE;
 
-// The signature that stands at index `at`.
+// The signature at index `at`.
 pub fn signature_at(m: &[u8], at: usize) -> &[u8]
     requires { ⌜ at + signatureLength ≤ length (now m) ⌝ }
     ensures { λ r. ⌜ now r ≡ readSignature at (now (m .entry)) ⌝ }
@@ -18,7 +18,7 @@ pub fn signature_at(m: &[u8], at: usize) -> &[u8]
     &m[at..at + SIGNATURE]
 }
 
-// A signature is copied into its seat's slot, and only that slot is written.
+// "A signature is copied into its seat's slot, and only that slot is written."
 pub fn fill(store: &mut [u8], n: u32, bank: Bank, seat: u32, signature: &[u8])
     requires { ⌜ (n ≤ mostSeats) × (seat < n) × (storeLength n ≤ length (now store)) × (length (now signature) ≡ signatureLength) ⌝ }
     ensures { λ _. ⌜ now (store .exit) ≡ fill n (bankOf bank) seat (now (signature .entry)) (now (store .entry)) ⌝ }

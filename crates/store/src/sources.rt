@@ -1,4 +1,4 @@
-// Where the signatures of a certificate stand: in the entries of a FULL, or in a bank of the store.
+// Sources of a certificate's signatures: the entries of a FULL, or a bank of the store.
 ghost use mathlib.Core.Path.{_≡_};
 ghost use Prim.Native.Nat.{_<_, _≤_};
 ghost use lib.ListN.{length};
@@ -14,13 +14,13 @@ pub enum Place {
     Slots(Bank),
 }
 
-// A certificate's seats, and where their signatures stand.
+// A certificate's seats, and the place of their signatures.
 pub struct Source {
     pub place: Place,
     pub seats: Mask,
 }
 
-// The bytes that the signatures stand in: those of the message m, or the store.
+// The bytes with the signatures: the message m, or the store.
 pub fn bytes_of<'a>(source: Source, store: &'a [u8], m: &'a [u8]) -> &'a [u8]
     ensures { λ r. ⌜ now r ≡ bytesOf (source .place) (now (store .entry)) (now (m .entry)) ⌝ }
 {
@@ -31,7 +31,7 @@ pub fn bytes_of<'a>(source: Source, store: &'a [u8], m: &'a [u8]) -> &'a [u8]
     }
 }
 
-// Where a FULL has the signature of a seat: after the entries of the seats below.
+// The place of a seat's signature in a FULL, after the entries of the seats below it.
 fn entry_place(seats: Mask, seat: u32) -> usize
     requires { ⌜ seat < mostSeats ⌝ }
     ensures { λ r. ⌜ r ≡ entryPlace seats seat ⌝ }
@@ -53,7 +53,7 @@ pub fn signature_of(source: Source, n: u32, seat: u32, bytes: &[u8]) -> &[u8]
     }
 }
 
-// A copy of it.
+// A copy of the signature of a seat.
 pub(crate) fn signature_copy(
     source: Source,
     n: u32,

@@ -1,4 +1,4 @@
--- What the calls turn back, by what their code found.
+-- Refusals of the calls, return by return.
 -- Assumes nothing.
 use mathlib.Core.Path.{_≡_, refl, sym, _∙_}
 use mathlib.Core.Bool.{Bool, true, false, not, and-true}
@@ -23,7 +23,7 @@ use Rattle.validate.specs.Entries.{FullTaken, EvidenceTaken}
 
 -- ---- the own submission
 
--- what submit turns back of it: 8, 9, 14
+-- its rows in submit: 8, 9, 14
 unfoldable pub ownConditions : Checks → Record → List ℕ → List ℕ → List Condition
 ownConditions checks r value signature = SAID r ∷ GARBLED-OWN value signature ∷ SIGNATURE checks (Submit (r .round) (r .seat) value signature) ∷ []
 
@@ -51,7 +51,7 @@ module _ (checks : Checks) (r : Record) (value signature : List ℕ) where
     unfolding ownConditions badSignature signed every firstOf
     own-verdict l number e = e ∙ rw (new, l, and-true) (signature-row (checks (r .seat) value signature))
 
-  -- an own submission that isn't turned back
+  -- an own submission that isn't refused
   pub own-passed : (number : ℕ) → number ≡ own → number ≡ 0 → (said r ≡ false) × (length value ≡ valueLength) × (length signature ≡ signatureLength)
   unfolding ownConditions
   own-passed number e z =
@@ -68,12 +68,12 @@ step-told checks r m taken due t d number e = rw (← t, ← d) e
 
 -- ---- EVIDENCE
 
--- what the evidence check turns back of it: 9 to 15
+-- its rows in the evidence check: 9 to 15
 unfoldable pub packConditions : Checks → ℕ → ℕ → Message → List Condition
 packConditions checks n round m = messageConditions checks n round (isEvidence m) false m ++ NO-CONFLICT-IN m ∷ []
 
 module _ (checks : Checks) (n round : ℕ) (m : Message) where
-  -- the evidence check's conditions are those of what it is given and these
+  -- the evidence check has the rows of its other arguments and these
   pub evidence-parts : (keys : List ℕ) → evidenceConditions checks n round keys m ≡ outsideConditions n round keys ++ packConditions checks n round m
   unfolding evidenceConditions outsideConditions packConditions
   evidence-parts keys = refl
@@ -97,7 +97,7 @@ module _ (checks : Checks) (n round : ℕ) (m : Message) where
       unfolding firstOf
       pack-right v = z ∙ (rw v at later)
 
-  -- EVIDENCE that isn't turned back
+  -- EVIDENCE that isn't refused
   pub pack-formed : (number : ℕ) → number ≡ firstOf (packConditions checks n round m) → number ≡ 0 → Formed n round (isEvidence m) m
   unfolding packConditions
   pack-formed number e z =
@@ -132,7 +132,7 @@ module _ (checks : Checks) (n round : ℕ) (m : Message) where
   unfolding certificateConditions
   certificate-formed number e z = message-formed n round (isFull m) false m number checks e z
 
--- neither is turned back, and their values differ
+-- neither is refused, and their values differ
 pub record Conflict (n round : ℕ) (a b : Message) : Type 0 where
   pub first : Formed n round (isFull a) a
   pub second : Formed n round (isFull b) b

@@ -1,4 +1,4 @@
--- What a message with no stranger in it says of its bytes, kind by kind, and of its signatures.
+-- Bytes and signatures of a message with no stranger in it, kind by kind.
 -- Assumes nothing.
 use mathlib.Core.Path.{_≡_, refl, sym, ap, _∙_}
 use mathlib.Core.Bool.{Bool, true, false, not, _&&_, and-eq-true-iff, false≢true}
@@ -32,7 +32,7 @@ use Rattle.validate.specs.Messages.{Formed, full-kind, evidence-kind}
 use Rattle.validate.specs.Places.{PairInside, pairPlaces}
 use Rattle.validate.specs.Signatures.{entryCheck, pairCheck, eachBelow, submit-bad, full-bad, evidence-bad, entry-inside, each-none, each-more, each-not}
 
--- ---- what its bytes say
+-- ---- its bytes
 
 pub record SubmitTaken (n : ℕ) (bytes : List ℕ) : Type 0 where
   pub says : read n bytes ≡ readSubmit bytes
@@ -92,7 +92,7 @@ module _ (n round : ℕ) (bytes : List ℕ) where
 
 -- ---- verdicts
 
--- what row 14 says of signatures that are bad or not
+-- the number of row 14, for signatures that are bad or not
 pub bad-row : (bad : Bool) → signatureNumber (not bad) ≡ firstOf ((14, bad) ∷ [])
 unfolding signatureNumber firstOf
 bad-row true = refl
@@ -197,7 +197,7 @@ unfolding signatureNumber
 zero-accepts true = refl
 zero-accepts false = refl
 
--- what a match on it tells
+-- the cases of a match on it
 module _ (s : Next) (n : ℕ) (bytes : List ℕ) where
   module _ (seat at : ℕ) (e : s ≡ next.Entry seat at) where
     pub fits-entry : Fits n bytes s → (seat < n) × (at + signatureLength ≤ length bytes)
@@ -234,7 +234,7 @@ module _ (n : ℕ) (bytes : List ℕ) (h : FullTaken n bytes) where
   unfolding nthEntry fullLength
   entry-past i l = rw (h .count, le-leb (fullEntryAt (k n)) (length bytes) (omega (arith, h .size)), le-ltb i (k n) l)
 
--- what a reader has come to that found s at index t: all entries before it check
+-- state of a reader that found s at index t: all entries before it check
 pub record Walked (checks : Checks) (n : ℕ) (bytes : List ℕ) (t : ℕ) (s : Next) : Type 0 where
   pub within : t ≤ k n
   pub found : Found t bytes s
@@ -252,7 +252,7 @@ module _ (checks : Checks) (n : ℕ) (bytes : List ℕ) (h : FullTaken n bytes) 
   walk-starts s f = record { within = omega arith; found = f; before = each-none (entryCheck checks bytes) }
 
   module _ (t : ℕ) where
-    -- what is found: an entry below k, and none at k
+    -- the answer of a reader: an entry below k, and none at k
     found-entry : (seat at : ℕ) → Walked checks n bytes t (next.Entry seat at) → (t < k n) × (seat ≡ byteAt bytes (fullEntryAt t + 1)) × (at ≡ fullEntryAt t + 2)
     unfolding entryOf readEntry fullForm headSeat
     found-entry seat at w = go (decLt t (k n))

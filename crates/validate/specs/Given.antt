@@ -1,4 +1,4 @@
--- What passes the first conditions of a call: n, round and key table, or the record, key table, store and out.
+-- Arguments that pass the first conditions of a call: n, round and key table, or the record, key table, store and out.
 -- Assumes nothing.
 use mathlib.Core.Path.{_≡_, refl, sym, _∙_}
 use mathlib.Core.Bool.{true, false}

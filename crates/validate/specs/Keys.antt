@@ -1,4 +1,4 @@
--- The key table: a loop over its keys, and the keys of a table that isn't turned back.
+-- The key table: a loop over its keys, and the keys of a table that isn't refused.
 -- Assumes nothing.
 use mathlib.Core.Path.{_≡_, refl, sym, ap, _∙_}
 use mathlib.Core.Bool.{Bool, true, false, not, and-false, false≢true}
@@ -60,7 +60,7 @@ module _ (keys : List ℕ) where
     unfolding wrongKeys
     keys-right e = rw (eq-eqb (length keys) (keyAt n) l, e)
 
-  -- ---- a table that isn't turned back
+  -- ---- a table that isn't refused
 
   allowed-at : (seat n : ℕ) → seat < n → keysAllowed n keys ≡ true → keyAllowed seat keys ≡ true
   allowed-at seat n h e = go (keyAllowed seat keys) refl

@@ -1,5 +1,5 @@
--- Laws of what is turned back: `Given` of what a call is given besides a message, `Keys` of the key table, `Messages` of a message's 9 to 14,
--- `Seats` of a seat's signature, `Places`, `Signatures` and `Entries` of the signatures of a message, `Calls` of what each call turns back.
+-- Laws of refusals: `Given` of the arguments besides a message, `Keys` of the key table, `Messages` of a message's 9 to 14,
+-- `Seats` of a seat's signature, `Places`, `Signatures` and `Entries` of the signatures of a message, `Calls` of each call.
 pub mod Given
 pub mod Keys
 pub mod Messages

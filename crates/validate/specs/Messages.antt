@@ -1,4 +1,4 @@
--- The commands that calls take, and a message's 9 to 14, by what the code found.
+-- The commands that calls take, and a message's 9 to 14, return by return.
 -- Assumes nothing.
 use mathlib.Core.Path.{_≡_, refl, sym, ap, _∙_}
 use mathlib.Core.Bool.{Bool, true, false, not, _&&_, false≢true}
@@ -89,7 +89,7 @@ evidence-kind Garbled e = absurd (false≢true e)
 
 -- ---- 9 to 14
 
--- 9 to 13, which look at no signature
+-- 9 to 13, without the signatures
 unfoldable pub formConditions : ℕ → ℕ → Bool → Bool → Message → List Condition
 formConditions n round taken early m = GARBLED taken ∷ OTHER-ROUND round m ∷ STRANGER n m ∷ DISORDER m ∷ EARLY early ∷ []
 
@@ -124,7 +124,7 @@ module _ (n round : ℕ) (taken early : Bool) (m : Message) (number : ℕ) where
       unfolding messageConditions formConditions nonzero numbers
       form-signed z v f = f ∙ refused-later (formConditions n round taken early m) (SIGNATURE checks m ∷ []) number e refl z
 
-  -- a message that isn't turned back
+  -- a message that isn't refused
   pub message-formed : (checks : Checks) → number ≡ firstOf (messageConditions checks n round taken early m) → number ≡ 0 → Formed n round taken m
   unfolding messageConditions formConditions
   message-formed checks f z =

@@ -1,4 +1,4 @@
--- Where signatures stand in a message, each with the value that it is over.
+-- Places of signatures in a message, each with the place of the value that it signs.
 -- Assumes nothing.
 use mathlib.Core.Bool.{Bool, _&&_}
 use mathlib.Core.List.{List}
@@ -10,14 +10,14 @@ use Rattle.protocol.specs.Refusals.{Checks}
 use Rattle.validate.specs.declared.signatures.Place.{Place}
 use Rattle.validate.specs.declared.signatures.Pair.{Pair}
 
--- both lie in the message
+-- value and signature lie in the message
 abbrev pub PlaceInside : Place → List ℕ → Type 0
 PlaceInside p bytes = (p .value + valueLength ≤ length bytes) × (p .signature + signatureLength ≤ length bytes)
 
 abbrev pub PairInside : ℕ → Pair → List ℕ → Type 0
 PairInside n p bytes = (p .seat < n) × PlaceInside (p .lower) bytes × PlaceInside (p .higher) bytes
 
--- the signature checks for a seat over its value; and both of a pair
+-- the signature checks for a seat over its value; and both signatures of a pair do
 abbrev pub placeChecks : Checks → List ℕ → ℕ → Place → Bool
 placeChecks checks bytes seat p = checks seat (readValue (p .value) bytes) (readSignature (p .signature) bytes)
 

@@ -14,7 +14,7 @@ use Rattle.octets.specs.WriteLaws.{pieces}
 use Rattle.rfc8554.specs.Verify.{leafOf, valid}
 use Rattle.protocol.specs.Signatures.{signedBytes, seatKey, checks, signatureNumber}
 
--- ---- what a seat signs
+-- ---- the bytes that a seat signs
 
 -- the command, the round and the seat, as one word
 head-word : (round seat : ℕ) → round ≤ 65535 → seat < 256 → be 4 (16777216 + round * 256 + seat) ≡ 1 ∷ be 2 round ++ be 1 seat

@@ -36,7 +36,7 @@ module _ (test : ℕ → Bool) where
   unfolding eachBelow
   each-more t e p = rw (add-one, e, p)
 
-  -- one that fails spoils the whole
+  -- one index that fails makes the whole fail
   pub each-not : (t n : ℕ) → t < n → test t ≡ false → eachBelow test n ≡ false
   unfolding eachBelow
   each-not t zero h p = absurd (omega arith)
@@ -100,7 +100,7 @@ module _ (checks : Checks) (bytes : List ℕ) where
   abbrev test : Signed → Bool
   test s = checks (s .seat) (s .value) (s .signature)
 
-  -- that of the entry of an index checks; and both of a pair
+  -- the signature of the entry at an index checks; and both of a pair do
   abbrev pub entryCheck : ℕ → Bool
   entryCheck i = checks (byteAt bytes (fullEntryAt i + 1)) (readValue valueAt bytes) (readSignature (fullEntryAt i + 2) bytes)
 

@@ -1,22 +1,22 @@
-// The numbers that a call is given outside a record and a message: 1, 2, 3.
+// Tests of n, seat and round outside a record and a message: 1, 2, 3.
 ghost use mathlib.Core.Path.{_≡_};
 ghost use Rattle.protocol.specs.Record.{wrongSize, wrongSeat, wrongRound};
 
-// n outside 1 to 32.
+// Whether n is outside 1 to 32.
 pub(crate) fn wrong_size(n: u32) -> bool
     ensures { λ r. ⌜ r ≡ wrongSize n ⌝ }
 {
     (n == 0) | (quorum::MOST_SEATS < n)
 }
 
-// The own seat at or above n.
+// Whether the own seat is at or above n.
 pub(crate) fn wrong_seat(n: u32, seat: u32) -> bool
     ensures { λ r. ⌜ r ≡ wrongSeat n seat ⌝ }
 {
     n <= seat
 }
 
-// A round above 1,023.
+// Whether a round is above 1,023.
 pub(crate) fn wrong_round(round: u32) -> bool
     ensures { λ r. ⌜ r ≡ wrongRound round ⌝ }
 {

@@ -1,4 +1,4 @@
-// Refusals of the calls. Each test comes after those of lower numbers, so that nothing is looked at twice.
+// Refusals of the calls. The tests stand in the order of the table, and a test relies on those before it.
 ghost use mathlib.Core.Path.{_≡_};
 ghost use Rattle.refusal.specs.Refusal.{firstOf};
 ghost use Rattle.protocol.specs.Signatures.{checks};
@@ -79,7 +79,7 @@ pub fn record_refusal(r: Record, keys: &[u8], store: &[u8], out: &[u8]) -> u32
     0
 }
 
-// A value isn't 32 bytes, or a signature isn't 1,452.
+// Whether a value isn't 32 bytes, or a signature isn't 1,452.
 fn wrong_lengths(value: &[u8], signature: &[u8]) -> bool
     ensures { λ r. ⌜ r ≡ wrongLengths (now (value .entry)) (now (signature .entry)) ⌝ }
 {

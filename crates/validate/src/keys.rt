@@ -1,4 +1,4 @@
-// The key table: 5.
+// Test of the key table: 5; and the keys in it.
 ghost use mathlib.Core.Path.{_≡_};
 ghost use Prim.Native.Nat.{_+_, _≤_};
 ghost use lib.ListN.{length};
@@ -15,7 +15,7 @@ fn key_allowed(seat: u32, keys: &[u8]) -> bool
     (octets::word_at(keys, at) == 6) & (octets::word_at(keys, at + 4) == 4)
 }
 
-// The key table isn't 56 × n bytes, or a key's types aren't allowed.
+// Whether the key table isn't 56 × n bytes, or a key's types aren't allowed.
 pub(crate) fn wrong_keys(n: u32, keys: &[u8]) -> bool
     ensures { λ r. ⌜ r ≡ wrongKeys n (now (keys .entry)) ⌝ }
 {

@@ -1,4 +1,4 @@
-// A message: its command, round, seats and order, and whether it comes early (9 to 13), then its signatures.
+// Tests of a message: command, round, seats, their order, and an early SUBMIT (9 to 13), then its signatures (14).
 ghost use mathlib.Core.Path.{_≡_};
 ghost use Prim.Native.Nat.{_≤_};
 ghost use Rattle.quorum.specs.Quorum.{mostSeats};
@@ -21,7 +21,7 @@ pub(crate) const FULL: u32 = 3;
 
 pub(crate) const EVIDENCE: u32 = 5;
 
-// The command of a message, or 0.
+// The command of a message; 0 where it is garbled.
 fn command(kind: Kind) -> u32
     ensures { λ r. ⌜ r ≡ commandOf kind ⌝ }
 {
@@ -65,8 +65,8 @@ fn form_refusal(n: u32, round: u32, taken: bool, early: bool, kind: Kind, m: &[u
     0
 }
 
-// Refusal of a message, for every call: 9 to 14. `taken`: the call takes its command. `early`: it comes before the own submit.
-// Signatures are checked last, after everything cheaper.
+// Refusal of a message, for every call: 9 to 14. `taken`: whether the call takes its command. `early`: whether it comes before the
+// own submit. Signatures, which cost most, are checked last.
 pub(crate) fn message_refusal(
     n: u32,
     round: u32,

@@ -24,14 +24,14 @@ fn is_holding(r: Record) -> bool
     r.first.seats != 0
 }
 
-// n, seat or round is out of range.
+// "n, seat or round is out of range"
 fn out_of_range(r: Record) -> bool
     ensures { λ b. ⌜ b ≡ outOfRange r ⌝ }
 {
     wrong_size(r.n) | wrong_seat(r.n, r.seat) | wrong_round(r.round)
 }
 
-// A mask names a seat at or above n.
+// "a mask names a seat at or above n"
 fn names_stranger(r: Record) -> bool
     requires { ⌜ InRange (r .n) (r .seat) (r .round) ⌝ }
     ensures { λ b. ⌜ b ≡ namesStranger r ⌝ }
@@ -42,8 +42,8 @@ fn names_stranger(r: Record) -> bool
     collected | first | guilty
 }
 
-// Collected seats are non-empty without a submission, lack the own seat after one, exceed k, or number k without confirmed or
-// the reverse.
+// "collected seats are non-empty without a submission, lack the own seat after one, exceed k, or number k without confirmed or
+// the reverse"
 fn wrong_collected(r: Record) -> bool
     requires { ⌜ InRange (r .n) (r .seat) (r .round) ⌝ }
     ensures { λ b. ⌜ b ≡ wrongCollected r ⌝ }
@@ -58,7 +58,7 @@ fn wrong_collected(r: Record) -> bool
     unsaid | lacking | (k < size) | silent | hasty
 }
 
-// The first certificate's seats number neither 0 nor k.
+// "the first certificate's seats number neither 0 nor k"
 fn wrong_first(r: Record) -> bool
     requires { ⌜ InRange (r .n) (r .seat) (r .round) ⌝ }
     ensures { λ b. ⌜ b ≡ wrongFirst r ⌝ }
@@ -68,28 +68,28 @@ fn wrong_first(r: Record) -> bool
     (size != 0) & (size != k)
 }
 
-// Confirmed, or guilty seats, stand without a first certificate.
+// "confirmed, or guilty seats, stand without a first certificate"
 fn lacks_first(r: Record) -> bool
     ensures { λ b. ⌜ b ≡ lacksFirst r ⌝ }
 {
     (r.confirmed | (r.guilty != 0)) & !is_holding(r)
 }
 
-// A guilty seat is outside it.
+// "a guilty seat is outside it"
 fn wrong_guilty(r: Record) -> bool
     ensures { λ b. ⌜ b ≡ wrongGuilty r ⌝ }
 {
     quorum::shared(r.guilty, r.first.seats) != r.guilty
 }
 
-// FULL was sent unconfirmed.
+// "FULL was sent unconfirmed"
 fn wrong_sent(r: Record) -> bool
     ensures { λ b. ⌜ b ≡ wrongSent r ⌝ }
 {
     r.sent & !r.confirmed
 }
 
-// An unset value is not zero.
+// "an unset value is not zero"
 fn wrong_unset(r: Record) -> bool
     ensures { λ b. ⌜ b ≡ wrongUnset r ⌝ }
 {

@@ -1,4 +1,4 @@
-// The signatures of a message, each under its seat's key and over the value that it stands for: 14.
+// Tests of the signatures of a message, each under its seat's key and over the value that it signs: 14.
 ghost use mathlib.Core.Path.{_≡_};
 ghost use mathlib.Core.Bool.{false};
 ghost use mathlib.Core.List.{[], _∷_};
@@ -53,7 +53,7 @@ pub(crate) fn seat_verdict(
     lms::verify::verified(k, key, &message, signature)
 }
 
-// A signature in a message: where it stands, and where the value stands that it is over.
+// A signature in a message: its place, and the place of the value that it signs.
 pub(crate) struct Place {
     pub value: usize,
     pub signature: usize,
@@ -133,7 +133,7 @@ fn is_entry(found: Next) -> bool
     }
 }
 
-// Whether one of FULL's signatures doesn't check: a reader is moved on while they do, and stands then before an entry or at the end.
+// Whether a signature of FULL doesn't check. A reader goes on while they check, to the first entry that doesn't or to the end.
 fn bad_in_full(k: &[u32; 64], n: u32, round: u32, keys: &[u8], m: &[u8]) -> bool
     requires { ⌜ (now k ≡ constants) × Given n round (now keys) × FullTaken n (now m) ⌝ }
     ensures { λ r. ⌜ r ≡ badSignature (checks (now (keys .entry)) round) (read n (now (m .entry))) ⌝ }
@@ -164,7 +164,7 @@ pub(crate) struct Pair {
     pub higher: Place,
 }
 
-// Verdict on a pair: both check.
+// Verdict on both signatures of a pair.
 fn pair_verdict(k: &[u32; 64], n: u32, round: u32, keys: &[u8], m: &[u8], pair: Pair) -> Verdict
     requires { ⌜ (now k ≡ constants) × Given n round (now keys) × PairInside n pair (now m) ⌝ }
     ensures { λ v. ⌜ v .number ≡ signatureNumber (pairChecks (checks (now (keys .entry)) round) (now (m .entry)) pair) ⌝ }

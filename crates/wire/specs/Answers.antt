@@ -15,7 +15,7 @@ use Rattle.wire.specs.declared.read.Kind.the-variants as kind
 use Rattle.wire.specs.declared.reader.Next.{Next}
 use Rattle.wire.specs.declared.reader.Next.the-variants as next
 
--- ---- what a message is
+-- ---- the kind of a message
 
 -- "0x01 SUBMIT", "0x02 NOTICE", "0x03 FULL", "0x05 EVIDENCE"; 0, which is no command, for bytes that are none of these
 unfoldable pub commandOf : Kind → ℕ
@@ -29,14 +29,14 @@ commandOf kind.Garbled = 0
 unfoldable pub command : Message → ℕ
 command m = byteAt (render m) 0
 
--- ---- what a reader finds
+-- ---- the next entry of a reader
 
--- "0x04, seat 1, signature 1,452": the entry found, its signature read where the answer says; none at the end
+-- "0x04, seat 1, signature 1,452": the entry found, with the signature at its place; none at the end
 unfoldable pub entryOf : Next → List ℕ → List Entry
 entryOf (next.Entry seat at) bytes = record { seat = seat; signature = readSignature at bytes } ∷ []
 entryOf next.End bytes = []
 
--- the entry of an index of a FULL, counted from 0; none past the last, or where the bytes haven't all entries that they count
+-- the entry of a FULL at an index from 0; none past the last, or where the bytes have fewer entries than they count
 unfoldable pub nthEntry : ℕ → List ℕ → List Entry
 nthEntry i bytes =
     let count = byteAt bytes fullCountAt in
@@ -47,6 +47,6 @@ abbrev pub Stands : ℕ → Next → Type 0
 Stands i (next.Entry seat at) = at ≡ fullEntryAt i + 2
 Stands i next.End = Unit {0}
 
--- what is found is the entry of an index: what it says, and where
+-- the answer is the entry at an index, in content and place
 abbrev pub Found : ℕ → List ℕ → Next → Type 0
 Found i bytes s = (entryOf s bytes ≡ nthEntry i bytes) × Stands i s

@@ -1,4 +1,4 @@
--- The tests for each command: return by return, and what the bytes are that pass.
+-- The tests for each command, return by return, and the bytes that pass.
 -- Assumes nothing.
 use mathlib.Core.Path.{_≡_, sym, _∙_}
 use mathlib.Core.Bool.{Bool, true, false, _&&_, and-false, and-eq-true-iff}

@@ -1,4 +1,4 @@
--- What a message is, and what its bytes then say.
+-- The kind of a message, and the content of its bytes by kind.
 -- Assumes nothing.
 use mathlib.Core.Path.{_≡_, refl, ap, _∙_}
 use mathlib.Core.Bool.{Bool, true, false, cond}
@@ -37,7 +37,7 @@ module _ (n : ℕ) (bytes : List ℕ) where
         unfolding commandOf command render read
         told-garbled h = rw (no-submit, no-notice, no-full, h)
 
--- ---- a kind is known by its command
+-- ---- the kind by its command
 
 kindWith : ℕ → Kind
 kindWith c = cond (eqb c 0x01) kind.Submit (cond (eqb c 0x02) kind.Notice (cond (eqb c 0x03) kind.Full (cond (eqb c 0x05) kind.Evidence kind.Garbled)))
@@ -61,7 +61,7 @@ kind-with Garbled = refl
 pub kind-told : (k : Kind) (m : Message) → commandOf k ≡ command m → k ≡ kindOf m
 kind-told k m e = with-own k ∙ ap kindWith e ∙ kind-with m
 
--- ---- what bytes of a kind say, and the test they pass
+-- ---- the message in bytes of a kind, and the test that they pass
 
 abbrev pub readAs : Kind → ℕ → List ℕ → Message
 readAs kind.Submit n bytes = readSubmit bytes

@@ -1,4 +1,4 @@
--- What the readers compute, with the laws that tie it to the definitions of `protocol`.
+-- Answers of the readers, with the laws that tie them to the definitions of `protocol`.
 pub mod Reading
 pub mod Answers
 pub mod StringLaws

@@ -1,4 +1,4 @@
--- The entry of an index, as the code finds it.
+-- The entry at an index, as the code finds it.
 -- Assumes nothing.
 use mathlib.Core.Path.{_≡_, refl}
 use mathlib.Core.List.{List}
@@ -12,7 +12,7 @@ use Rattle.protocol.specs.Message.{fullForm, byteAt, readSignature}
 use Rattle.wire.specs.Answers.{entryOf, nthEntry, Found}
 use Rattle.wire.specs.declared.reader.Next.the-variants as next
 
--- the entries that the bytes count aren't all there, the index is past them, or its entry is found
+-- three cases: the bytes have fewer entries than they count, the index is past the last, or its entry is found
 module _ (bytes : List ℕ) (i count : ℕ) (e : count ≡ byteAt bytes fullCountAt) where
   pub entry-short : length bytes < fullEntryAt count → Found i bytes next.End
   unfolding entryOf nthEntry

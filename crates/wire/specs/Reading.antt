@@ -1,4 +1,4 @@
--- What the readers answer.
+-- Kinds, entries and senders, as the readers answer them.
 -- Assumes nothing.
 use mathlib.Core.List.{List, [], _∷_, _++_}
 use Prim.Native.Nat.{ℕ, zero, suc, _+_, _<_}
@@ -9,7 +9,7 @@ use Rattle.layout.specs.declared.Entries.{Entries}
 use Rattle.wire.specs.declared.read.Kind.{Kind}
 use Rattle.wire.specs.declared.read.Kind.the-variants as kind
 
--- what a message is
+-- the kind of a message
 unfoldable pub kindOf : Message → Kind
 kindOf (Submit round seat value signature) = kind.Submit
 kindOf (Notice round seat value) = kind.Notice
@@ -19,12 +19,12 @@ kindOf Garbled = kind.Garbled
 
 -- ---- entries
 
--- one byte of each of the first t entries, where `place` says
+-- one byte of each of the first t entries, at the places of `place`
 unfoldable pub bytesAt : (ℕ → ℕ) → ℕ → List ℕ → List ℕ
 bytesAt place zero bytes = []
 bytesAt place (suc t) bytes = bytesAt place t bytes ++ byteAt bytes (place t) ∷ []
 
--- where an entry has its command, and its seat
+-- the places of an entry's command and seat
 abbrev pub commandPlace : Entries → ℕ → ℕ
 commandPlace entries i = entryAt (entries .start) (entries .length) i
 

@@ -1,5 +1,5 @@
--- What reads as a message is what writing that message gives. (That messages written are read back the same is a law of
--- `protocol`.)
+-- Bytes that are read as a message are the bytes written for that message. (The other way round is a law of `protocol`:
+-- "Messages written are read back the same".)
 -- Assumes nothing.
 use mathlib.Core.Path.{_≡_, refl, sym, ap, ap₂, _∙_}
 use mathlib.Core.Bool.{true}
@@ -34,7 +34,7 @@ module _ (bytes : List ℕ) where
   unfolding part
   one-byte at b h e = sym (part-suc at 0 bytes h ∙ ap (λ (x : ℕ). x ∷ []) e)
 
-  -- what stands before the entries, and then the entries
+  -- a front, and then the entries
   entries-after : {A : Type 0} (form : Form A) → Faithful form → (front : List ℕ) (t : ℕ) → front ≡ part 0 (form .start) bytes → length bytes ≡ placeOf form t → entryCommands form t bytes ≡ true
       → front ++ renderEntries form (readEntries form t bytes) ≡ bytes
   unfolding placeOf
@@ -43,7 +43,7 @@ module _ (bytes : List ℕ) where
       append-parts 0 (form .start) (entryLength (form .held) * t) (placeOf form t) front (renderEntries form (readEntries form t bytes)) f (rw place (entries-back form faithful bytes t (omega arith) c)) refl
       ∙ part-all bytes (placeOf form t) l
 
--- ---- what a message starts with
+-- ---- the start of a message
 
 -- the command and the round
 start-back : (bytes : List ℕ) (command : ℕ) → operandsAt ≤ length bytes → ((i : ℕ) → byteAt bytes i < 256) → byteAt bytes 0 ≡ command → command ∷ be 2 (readRound bytes) ≡ part 0 operandsAt bytes
@@ -118,6 +118,6 @@ back kind.Full n bytes e g b = let r = read-as kind.Full n bytes e in ap render 
 back kind.Evidence n bytes e g b = let r = read-as kind.Evidence n bytes e in ap render (r .0) ∙ evidence-back n bytes b (r .1)
 back kind.Garbled n bytes e g b = absurd (g refl)
 
--- bytes that are not garbled are those of the message that they say
+-- bytes that are not garbled are those of the message read from them
 pub render-read : (n : ℕ) (bytes : List ℕ) → (kindOf (read n bytes) ≡ kind.Garbled → ⊥) → ((i : ℕ) → byteAt bytes i < 256) → render (read n bytes) ≡ bytes
 render-read n bytes g b = back (kindOf (read n bytes)) n bytes refl g b

@@ -56,7 +56,7 @@ nothing-below (x ∷ xs) = refl
 pub lower-short : (xs ys : List ℕ) (i : ℕ) → length ys ≤ i → isLower (drop i xs) (drop i ys) ≡ isLower xs ys → false ≡ isLower xs ys
 lower-short xs ys i hy h = sym (rw (drop-of-length-le ys {i = i} hy) (nothing-below (drop i xs))) ∙ h
 
--- ---- what is copied
+-- ---- copies
 
 -- n bytes copied out of a message
 pub part-copied : (at n : ℕ) (bytes zeros copy : List ℕ) → at + n ≤ length bytes → length zeros ≡ n → copy ≡ patch 0 (part at n bytes) zeros → copy ≡ part at n bytes

@@ -34,7 +34,7 @@ module _ (place : ℕ → ℕ) (bytes : List ℕ) where
     every-step t = every-append test (bytesAt place t bytes) (byteAt bytes (place t) ∷ []) ∙ rw and-true
 
     module _ (count : ℕ) where
-      -- what a walk has come to at index t
+      -- state of a walk at index t
       abbrev pub Passed : ℕ → Type 0
       Passed t = (t ≤ count) × (every test (bytesAt place t bytes) ≡ true)
 
@@ -42,7 +42,7 @@ module _ (place : ℕ → ℕ) (bytes : List ℕ) where
       unfolding bytesAt every
       passed-none = (omega arith, refl)
 
-      -- the byte x of index t passes, or doesn't
+      -- the byte x at index t passes, or doesn't
       pub passed-turn : (t x : ℕ) → Passed t → t < count → x ≡ byteAt bytes (place t) → test x ≡ true → Passed (t + 1)
       passed-turn t x p l e h = (omega arith, rw (add-one, every-step t, p .1, ← e, h))
 
@@ -78,7 +78,7 @@ module _ (place : ℕ → ℕ) (bytes : List ℕ) where
       let b = byteAt bytes (place (suc t)) in
       ap rising (append-assoc (bytesAt place t bytes) (a ∷ []) (b ∷ [])) ∙ rising-snoc (bytesAt place t bytes) a b
 
-  -- what a walk has come to at index t, from 1 on
+  -- state of a walk at index t, from 1 on
   abbrev pub Rises : ℕ → ℕ → Type 0
   Rises count t = (1 ≤ t) × ((t ≤ count) ⊎ (t ≡ 1)) × (rising (bytesAt place t bytes) ≡ true)
 
@@ -112,7 +112,7 @@ module _ (place : ℕ → ℕ) (bytes : List ℕ) where
 
   -- ---- the set of seats
 
-  -- what a walk has come to at index t
+  -- state of a walk at index t
   abbrev pub Gathered : ℕ → ℕ → ℕ → Type 0
   Gathered count mask t = (t ≤ count) × (mask ≡ setOf (bytesAt place t bytes))
 

@@ -12,7 +12,7 @@ use layout::Entries;
 use octets::wide;
 use quorum::Mask;
 
-// The command of an entry, counted from 0.
+// The command of an entry, by its index from 0.
 pub(crate) fn command_of_entry(m: &[u8], entries: Entries, i: usize) -> u32
     requires { ⌜ Inside entries (now m) × (i < entries .count) ⌝ }
     ensures { λ r. ⌜ r ≡ byteAt (now (m .entry)) (commandPlace entries i) ⌝ }
@@ -78,7 +78,7 @@ pub(crate) fn seats_rise(m: &[u8], entries: Entries) -> bool
     true
 }
 
-// The set of the seats.
+// The set of all seats.
 pub(crate) fn seat_set(m: &[u8], entries: Entries) -> Mask
     requires { ⌜ Inside entries (now m) × (every (λ (x : ℕ). ltb x mostSeats) (seatsIn entries (now m)) ≡ true) ⌝ }
     ensures { λ r. ⌜ r ≡ setOf (seatsIn entries (now (m .entry))) ⌝ }

@@ -1,4 +1,4 @@
-// Readers: what the bytes of a message say, and the conditions on its seats.
+// Readers: the kind, operands and entries of a message from its bytes, and the conditions on its round and seats.
 ghost use mathlib.Core.Path.{_≡_};
 ghost use mathlib.Core.Bool.{false, not};
 ghost use Prim.Native.Nat.{ℕ, _<_, _≤_};
@@ -16,7 +16,7 @@ use layout::Entries;
 use octets::wide;
 use quorum::Mask;
 
-// What a message is.
+// The kinds of messages; `Garbled` is for bytes that are none.
 pub enum Kind {
     Submit,
     Notice,
@@ -33,7 +33,7 @@ pub fn number_at(m: &[u8], at: usize) -> u32
     wide(m[at])
 }
 
-// The round, two bytes after the command.
+// The round: the two bytes after the command.
 fn round_of(m: &[u8]) -> u32
     requires { ⌜ operandsAt ≤ length (now m) ⌝ }
     ensures { λ r. ⌜ r ≡ readRound (now (m .entry)) ⌝ }
@@ -54,7 +54,7 @@ fn is_submit(m: &[u8]) -> bool
     m[0] == 1
 }
 
-// Of a NOTICE.
+// Whether they are those of a NOTICE.
 fn is_notice(m: &[u8]) -> bool
     ensures { λ r. ⌜ r ≡ fitsNotice (now (m .entry)) ⌝ }
 {
@@ -64,7 +64,7 @@ fn is_notice(m: &[u8]) -> bool
     m[0] == 2
 }
 
-// Of a FULL: its code, length, count and entry commands.
+// Whether they are those of a FULL: its code, length, count and entry commands.
 fn is_full(n: u32, m: &[u8]) -> bool
     requires { ⌜ (1 ≤ n) × (n ≤ mostSeats) ⌝ }
     ensures { λ r. ⌜ r ≡ fitsFull n (now (m .entry)) ⌝ }
@@ -82,7 +82,7 @@ fn is_full(n: u32, m: &[u8]) -> bool
     entries::have_command(m, layout::full_entries(count as usize), 4)
 }
 
-// Of an EVIDENCE.
+// Whether they are those of an EVIDENCE.
 fn is_evidence(n: u32, m: &[u8]) -> bool
     requires { ⌜ (1 ≤ n) × (n ≤ mostSeats) ⌝ }
     ensures { λ r. ⌜ r ≡ fitsEvidence n (now (m .entry)) ⌝ }
@@ -107,7 +107,7 @@ fn is_evidence(n: u32, m: &[u8]) -> bool
     entries::have_command(m, layout::evidence_entries(count as usize), 6)
 }
 
-// What the bytes of a message are in a fleet of n seats.
+// The kind of a message in a fleet of n seats.
 pub fn classify(n: u32, m: &[u8]) -> Kind
     requires { ⌜ (1 ≤ n) × (n ≤ mostSeats) ⌝ }
     ensures { λ r. ⌜ commandOf r ≡ command (read n (now (m .entry))) ⌝ }
@@ -138,7 +138,7 @@ pub fn other_round(n: u32, kind: Kind, m: &[u8], round: u32) -> bool
     round_of(m) != round
 }
 
-// Whether the seat that sends a message is at or above n.
+// Whether a message names a sender at or above n.
 fn sender_outside(n: u32, kind: Kind, m: &[u8]) -> bool
     requires { ⌜ kind ≡ kindOf (read n (now m)) ⌝ }
     ensures { λ r. ⌜ r ≡ not (every (λ (s : ℕ). ltb s n) (sendersOf (read n (now (m .entry))))) ⌝ }

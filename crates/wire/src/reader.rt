@@ -1,5 +1,5 @@
-// A reader over one certificate: it carries the bytes of a FULL and the next entry. The functions over it are thin: `entry_at` does the
-// work on the bytes and an index.
+// A reader over one certificate: the bytes of a FULL, and the index of the next entry. The functions over it are thin: `entry_at`,
+// over bytes and an index, does the work.
 ghost use mathlib.Core.Path.{_≡_};
 ghost use Prim.Native.Nat.{_+_, _<_, _^_};
 ghost use Rattle.wire.specs.Answers.{Found};
@@ -11,13 +11,13 @@ pub struct Reader<'a> {
     pub next: usize,
 }
 
-// What a reader finds: the seat of the next entry and where its signature starts, or the end.
+// The next entry of a reader, by its seat and the place of its signature, or the end.
 pub enum Next {
     Entry { seat: u32, signature: usize },
     End,
 }
 
-// The entry at an index of a FULL, counted from 0, or the end where it has no such entry.
+// The entry of a FULL at an index from 0, or the end where there is none.
 fn entry_at(full: &[u8], next: usize) -> Next
     ensures { λ s. ⌜ Found next (now (full .entry)) s ⌝ }
 {

@@ -1,4 +1,4 @@
-// Values and other byte strings: compared, and read from a message.
+// Values: comparison, and reading from a message.
 ghost use mathlib.Core.Path.{_≡_};
 ghost use Prim.Native.Nat.{_+_, _≤_};
 ghost use lib.ListN.{length};

@@ -1,3 +1,3 @@
--- What the writers leave, with its laws.
+-- Buffers after the writers, with their laws.
 pub mod Writing
 pub mod WriteLaws

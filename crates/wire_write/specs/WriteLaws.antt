@@ -64,7 +64,7 @@ length-evidence-head round lower higher count l h = simp (length-append, length-
 
 -- ---- an entry for each seat of a set
 
--- what a loop over the seats of the set m has come to at seat s: the entry f is written for each seat passed
+-- state of a loop over the seats of the set m at seat s: the entry f is written for each seat passed
 pub record Going {A : Type 0} (form : Form A) (f : ℕ → A) (n m at : ℕ) (before : List ℕ) (s end : ℕ) (out : List ℕ) : Type 0 where
   pub below : s ≤ n
   pub long : length out ≡ length before
@@ -121,7 +121,7 @@ module _ {A : Type 0} (form : Form A) (f : ℕ → A) (n m at : ℕ) (before : L
     pub going-done : s ≡ n → Wrote at (renderEntries form (map f (seats n m))) before out end × (end ≡ at + entryLength (form .held) * length (seats n m))
     going-done e = rw (← e) (g .written, g .counted)
 
-  -- a message from its parts: what stands before the count, the count, and the entries
+  -- a message from its parts: a front, the count, and the entries
   pub list-written : (front : List ℕ) (count a end : ℕ) (one after : List ℕ) → at ≤ length before → m < 2 ^ n → count ≡ size m
       → Wrote at (front ++ count ∷ []) before one a → Wrote a (renderEntries form (map f (seats n m))) one after end
       → Wrote at (front ++ length (map f (seats n m)) ∷ [] ++ renderEntries form (map f (seats n m))) before after end
@@ -137,7 +137,7 @@ unfolding renderEntries renderEntry evidenceForm
 pairs-values n low lows high highs lower higher [] = refl
 pairs-values n low lows high highs lower higher (s ∷ l) = rw (pairs-values n low lows high highs lower higher l)
 
--- EVIDENCE from its parts: what it starts with, and the entries of the seats shared
+-- EVIDENCE from its parts: its start, and the entries of the shared seats
 pub evidence-written : (n round at mask count a e : ℕ) (lower : List ℕ) (low : Source) (lows higher : List ℕ) (high : Source) (highs before one after : List ℕ)
     → at ≤ length before → low .seats < 2 ^ n → high .seats < 2 ^ n → mask ≡ shared (low .seats) (high .seats) → count ≡ size mask
     → Wrote at (evidenceHead round lower higher count) before one a

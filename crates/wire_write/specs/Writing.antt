@@ -1,4 +1,4 @@
--- What the writers leave, and what their parts write.
+-- A buffer after a write, and the parts of messages that are written.
 -- Assumes nothing.
 use mathlib.Core.Path.{_≡_}
 use mathlib.Core.List.{List, [], _∷_, _++_}
@@ -14,11 +14,11 @@ pub record Wrote (at : ℕ) (bytes before after : List ℕ) (end : ℕ) : Type 0
   pub ends : end ≡ at + length bytes
   pub wrote : after ≡ patch at bytes before
 
--- what SUBMIT, NOTICE and FULL start with: "round 2, seat 1, value 32" after the command
+-- the start of SUBMIT, NOTICE and FULL: "round 2, seat 1, value 32" after the command
 abbrev pub head : ℕ → ℕ → ℕ → List ℕ → List ℕ
 head command round seat value = command ∷ be 2 round ++ seat ∷ [] ++ value
 
--- what EVIDENCE starts with: "round 2, lower value 32, higher value 32, count 1"
+-- the start of EVIDENCE: "round 2, lower value 32, higher value 32, count 1" after the command
 abbrev pub evidenceHead : ℕ → List ℕ → List ℕ → ℕ → List ℕ
 evidenceHead round lower higher count = 0x05 ∷ be 2 round ++ lower ++ higher ++ count ∷ []
 

@@ -34,7 +34,7 @@ fn put(out: &mut [u8], at: usize, src: &[u8]) -> usize
     at + src.len()
 }
 
-// What every command starts with: its code and the round.
+// The start of every command: its code and the round.
 fn put_command(out: &mut [u8], at: usize, command: u8, round: u32) -> usize
     requires { ⌜ at + operandsAt ≤ length (now out) ⌝ }
     ensures { λ r. ⌜ Wrote at (command ∷ be 2 round) (now (out .entry)) (now (out .exit)) r ⌝ }
@@ -45,7 +45,7 @@ fn put_command(out: &mut [u8], at: usize, command: u8, round: u32) -> usize
     at + 3
 }
 
-// What SUBMIT, NOTICE and FULL start with.
+// The start of SUBMIT, NOTICE and FULL: code, round, seat and value.
 fn write_head(out: &mut [u8], at: usize, command: u8, round: u32, seat: u32, value: &[u8]) -> usize
     requires { ⌜ (seat < 256) × (length (now value) ≡ valueLength) × (at + noticeLength ≤ length (now out)) ⌝ }
     ensures { λ r. ⌜ Wrote at (head command round seat (now (value .entry))) (now (out .entry)) (now (out .exit)) r × (r ≡ at + noticeLength) ⌝ }
@@ -79,7 +79,7 @@ pub fn write_submit(
     put(out, a, signature)
 }
 
-// What an entry starts with: its command and the seat.
+// The start of an entry: its command and the seat.
 fn put_tag(out: &mut [u8], at: usize, tag: u8, seat: u32) -> usize
     requires { ⌜ (seat < 256) × (at + 2 ≤ length (now out)) ⌝ }
     ensures { λ r. ⌜ Wrote at (tag ∷ seat ∷ []) (now (out .entry)) (now (out .exit)) r ⌝ }
@@ -171,7 +171,7 @@ fn write_pairs(
     end
 }
 
-// What EVIDENCE starts with.
+// The start of EVIDENCE: code, round, both values and the count.
 fn write_evidence_head(
     out: &mut [u8],
     at: usize,

@@ -109,7 +109,7 @@ pub opening-none : (keys : List ℕ) (o : Opened) (number : ℕ) → o ≡ openi
 unfolding opening openedBy openingConditions firstOf wrongSize unrefused
 opening-none keys o number e = rw e
 
--- ---- a whole command has its operands
+-- ---- the operands of a whole command
 
 pub framed-opening : (bytes : List ℕ) → misframedOpening bytes ≡ false → openingLength bytes ≤ length bytes
 unfolding misframedOpening

@@ -1,4 +1,4 @@
--- The commands that the yard's program takes, and what each does (document 01, "The yard's program").
+-- The commands of the yard's program, and their outcomes (document 01, "The yard's program").
 -- Assumes nothing.
 use Prim.Native.Nat.{ℕ, _+_, _*_}
 use mathlib.Core.Bool.{Bool, true, false, not, _||_, cond}
@@ -21,7 +21,7 @@ use Rattle.yard.specs.declared.commands.Answer.{Answer}
 abbrev pub twoAt : List ℕ → ℕ → ℕ
 twoAt bytes i = byteAt bytes i * 256 + byteAt bytes (i + 1)
 
--- ---- what a command comes to
+-- ---- the outcome of a command
 
 -- whether the program ends with it, record and store after it, the bytes written to `out`, and the line printed
 pub record Outcome : Type 0 where
@@ -51,22 +51,22 @@ isOpening bytes = eqb (byteAt bytes 0) 0x10
 abbrev pub tooMany : List ℕ → Bool
 tooMany bytes = ltb mostYardSeats (byteAt bytes 1)
 
--- where its keys start
+-- place of its keys
 abbrev pub keysAt : ℕ
 keysAt = 5
 
 abbrev pub keysOf : List ℕ → List ℕ
 keysOf bytes = drop keysAt bytes
 
--- its length, as far as the bytes at its start tell it; "n above 7 prints `1 0`, and n = 0 too; both need no keys". One byte tells
--- what is no opening.
+-- its length, as far as the bytes at its start tell it; "n above 7 prints `1 0`, and n = 0 too; both need no keys". Without 0x10 it
+-- is 1.
 unfoldable pub openingLength : List ℕ → ℕ
 openingLength bytes = cond (isOpening bytes) (keysAt + cond (tooMany bytes) 0 (keyLength * byteAt bytes 1)) 1
 
 abbrev pub longestOpening : ℕ
 longestOpening = keysAt + keyLength * mostYardSeats
 
--- "a short operand, a first command other than 0x10": over what the input has of the command
+-- "a short operand, a first command other than 0x10": over the command's bytes, as far as the input has them
 unfoldable pub misframedOpening : List ℕ → Bool
 misframedOpening bytes = ltb (length bytes) (openingLength bytes) || not (isOpening bytes)
 
@@ -101,7 +101,7 @@ isMessage bytes = eqb (byteAt bytes 0) 0x11
 abbrev pub isSubmit : List ℕ → Bool
 isSubmit bytes = eqb (byteAt bytes 0) 0x12
 
--- where the message starts, and where value and signature do
+-- places of the message, and of value and signature
 abbrev pub messageAt : ℕ
 messageAt = 3
 
@@ -130,11 +130,11 @@ endedBy r store bytes = record { ends = true; unit = r; store = store; written =
 abbrev pub goesOn : Result → Outcome
 goesOn a = record { ends = false; unit = a .unit; store = a .store; written = a .written; line = line (a .refusal) (length (a .written)) }
 
--- the same as the code's answer
+-- the code's answer to it
 unfoldable pub toldCall : Stepped → Answer
 toldCall a = record { ends = false; unit = a .unit; line = inSpace (line (a .number) (a .written)) }
 
--- with the signature check under a key table in a round: key table, record, store, out, and the command's bytes
+-- the outcome, with the signature check under a key table in a round: key table, record, store, out, and the command's bytes
 unfoldable pub called : (List ℕ → ℕ → Checks) → List ℕ → Record → List ℕ → List ℕ → List ℕ → Outcome
 called checks keys r store out bytes =
     cond (misframedCall bytes) (endedBy r store bytes)

@@ -1,7 +1,7 @@
 -- The yard's program.
 --
--- `Line` has what is printed for a call, `Commands` the commands of its input and what each one does, `Yard` the whole output of
--- a whole input, with worked examples in `Examples`. `Program` has the claim that reading command by command comes to the same;
+-- `Line` has the line printed for a call, `Commands` the commands of the input and their outcomes, `Yard` the whole output of a
+-- whole input, with worked examples in `Examples`. `Program` has the claim that reading command by command comes to the same;
 -- `Run` has the runs that the code promises, and the claim that their lines are the same too.
 pub mod Line
 pub mod Commands

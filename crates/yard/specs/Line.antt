@@ -1,4 +1,4 @@
--- What the yard's program prints for a call, in ASCII.
+-- The line that the yard's program prints for a call, in ASCII.
 -- Assumes nothing.
 use Prim.Native.Nat.{ℕ, zero, suc, _+_, _/_, _%_, _≤_}
 use mathlib.Core.Bool.{cond}
@@ -17,7 +17,7 @@ unfoldable pub decimalIn : ℕ → ℕ → List ℕ
 decimalIn zero x = digit x ∷ []
 decimalIn (suc more) x = cond (ltb x 10) (digit x ∷ []) (decimalIn more (x / 10) ++ (digit (x % 10) ∷ []))
 
--- no number has more digits after the first than its own worth
+-- a number x has at most x digits after the first
 unfoldable pub decimal : ℕ → List ℕ
 decimal x = decimalIn x x
 
@@ -25,7 +25,7 @@ decimal x = decimalIn x x
 unfoldable pub line : ℕ → ℕ → List ℕ
 line number written = decimal number ++ (32 ∷ []) ++ decimal written ++ (10 ∷ [])
 
--- a line of two 32-bit numbers has at most so many bytes
+-- the most bytes in a line of two 32-bit numbers
 abbrev pub lineLimit : ℕ
 lineLimit = 22
 

@@ -1,4 +1,4 @@
--- Decimal digits as code writes them, and how long a line gets.
+-- Decimal digits as code writes them, and the length of a line.
 -- Assumes nothing.
 use mathlib.Core.Path.{_≡_, refl, ap, _∙_}
 use mathlib.Core.List.{List, [], _∷_, _++_}

@@ -18,7 +18,7 @@ use Rattle.protocol.specs.declared.Record.{Record}
 use Rattle.yard.specs.Commands.{lineFor, twoAt, isOpening, tooMany, keysAt, keysOf, openingLength, yardOut, begun, isMessage, isSubmit, messageAt, ownSignatureAt, callLength, misframedCall, endedBy, called}
 use Rattle.yard.specs.Yard.{printed, yard}
 
--- The bytes of the input that are there after reading on to so many, or to its end, where some were there before.
+-- The bytes read after reading on, from those in `have`, to `to` bytes or to the end of the input.
 unfoldable pub readOn : List ℕ → ℕ → List ℕ → List ℕ
 readOn have to input = cond (leb to (length have)) have (take to input)
 
@@ -31,7 +31,7 @@ gathered size (b ∷ rest) =
     cond (ltb (length have) (size (b ∷ []))) have (readOn have (size have) (b ∷ rest))
 
 module _ (checks : List ℕ → ℕ → Checks) (outs : ℕ → List ℕ) where
-  -- the loop over the later commands, at most so many; each finds some bytes in the out buffer
+  -- the output of the loop over the later commands, at most `limit`; each finds some bytes in the out buffer
   unfoldable pub ran : ℕ → List ℕ → Record → List ℕ → List ℕ → List ℕ
   ran zero keys r store input = []
   ran (suc limit) keys r store input =
@@ -45,7 +45,7 @@ module _ (checks : List ℕ → ℕ → Checks) (outs : ℕ → List ℕ) where
       let o = begun bytes in
       o .line ++ cond (o .ends) [] (ran limit (keysOf bytes) (o .unit) (o .store) (drop (length bytes) input))
 
--- ---- a command's length is told by its first bytes
+-- ---- a command's length, from its first bytes
 
 cond-by : (b : Bool) (x y z : ℕ) → (b ≡ true → x ≡ y) → cond b x z ≡ cond b y z
 cond-by true x y z h = h refl
@@ -119,7 +119,7 @@ read-more input n m h = go (decLe m (length (take n input)))
         rw (le-leb m (length (take n input)) l, same)
     go (no l) = rw (lt-leb m (length (take n input)) (omega arith))
 
--- the first byte tells of no more than the whole input does, and of enough to know the rest
+-- the first byte tells a length no longer than the whole one, and that many bytes tell the whole one
 pub record Tells (size : List ℕ → ℕ) : Type 0 where
   pub some : (input : List ℕ) → 1 ≤ size input
   pub grows : (b : ℕ) (rest : List ℕ) → size (b ∷ []) ≤ size (b ∷ rest)
@@ -139,7 +139,7 @@ opening-tells = record {
   tells = λ b rest. opening-start (openingLength (b ∷ [])) (b ∷ rest) (opening-some (b ∷ [])) (λ e. omega (arith, opening-first b e));
 }
 
--- reading in three parts comes to the whole command, or to what the input has of it
+-- reading in three parts comes to the command, as far as the input has it
 pub gathered-whole : (size : List ℕ → ℕ) → Tells size → (input : List ℕ) → gathered size input ≡ take (size input) input
 unfolding gathered
 gathered-whole size told [] = sym (take-nil (size []))
@@ -158,7 +158,7 @@ gathered-whole size told (b ∷ rest) =
 
 -- ---- the run
 
--- a call looks at no byte of the out buffer
+-- a call depends on no byte of the out buffer
 pub called-out : (checks : List ℕ → ℕ → Checks) (keys : List ℕ) (r : Record) (store out out′ bytes : List ℕ) → length out ≡ length out′
     → called checks keys r store out bytes ≡ called checks keys r store out′ bytes
 unfolding called submit step submitConditions stepConditions recordConditions shortOut
@@ -169,7 +169,7 @@ drop-taken zero xs = refl
 drop-taken (suc n) [] = refl
 drop-taken (suc n) (x ∷ xs) = drop-taken n xs
 
--- where the input has ended
+-- a call at the end of the input
 called-none : (checks : List ℕ → ℕ → Checks) (keys : List ℕ) (r : Record) (store out : List ℕ) → called checks keys r store out [] ≡ endedBy r store []
 unfolding called misframedCall callLength
 called-none checks keys r store out = refl

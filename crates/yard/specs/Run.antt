@@ -1,5 +1,5 @@
--- A run of the program, command by command: what it has read and printed, with record and buffers. Its lines are those that
--- `yard` gives for what it has read.
+-- A run of the program, command by command: its input and its lines, with record and buffers. The lines are those that `yard`
+-- gives for the input.
 -- Assumes nothing.
 use mathlib.Core.Path.{_≡_, refl, sym, ap, _∙_}
 use mathlib.Core.Bool.{Bool, true, false, not, cond}
@@ -35,7 +35,7 @@ pub data Ran (checks : List ℕ → ℕ → Checks) : List ℕ → List ℕ → 
       → Reached checks (keysOf bytes) (begun bytes .unit) (begun bytes .store) yardOut input lines ends last store out
       → Ran checks (bytes ++ input) (begun bytes .line ++ lines) ends last
 
--- ---- a command that goes on is whole
+-- ---- whole commands
 
 module _ (size : List ℕ → ℕ) (t : Tells size) where
   taken-own : (bytes : List ℕ) → gathered size bytes ≡ bytes → take (size bytes) bytes ≡ bytes
@@ -44,7 +44,7 @@ module _ (size : List ℕ → ℕ) (t : Tells size) where
   size-own : (bytes : List ℕ) → gathered size bytes ≡ bytes → size bytes ≤ length bytes → length bytes ≡ size bytes
   size-own bytes g h = omega (arith, length-take (size bytes) bytes, ap length (taken-own bytes g))
 
-  -- what follows it changes nothing
+  -- bytes after it change nothing
   size-rest : (bytes rest : List ℕ) → length bytes ≡ size bytes → size (bytes ++ rest) ≡ length bytes
   size-rest [] rest e = absurd (omega (arith, t .some []))
   size-rest (b ∷ more) rest e =
@@ -73,7 +73,7 @@ whole-opening bytes g h = size-own openingLength opening-tells bytes g (framed-o
     framed true o e = e
     framed false o e = refl
 
--- ---- its lines are those of `printed` and `yard`
+-- ---- the lines of a run, by `printed` and `yard`
 
 module _ (checks : List ℕ → ℕ → Checks) where
   printed-enough : (m n : ℕ) (keys : List ℕ) (r : Record) (store input : List ℕ) → length input ≤ m → length input ≤ n

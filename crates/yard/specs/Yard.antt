@@ -9,7 +9,7 @@ use Rattle.protocol.specs.declared.Record.{Record}
 use Rattle.yard.specs.Commands.{keysOf, openingLength, yardOut, begun, callLength, called}
 
 module _ (checks : List ℕ → ℕ → Checks) where
-  -- what is printed for the rest of the input, at most so many commands: key table, record, store, input
+  -- the output for the rest of the input, for at most `count` commands: key table, record, store, input
   unfoldable pub printed : ℕ → List ℕ → Record → List ℕ → List ℕ → List ℕ
   printed zero keys r store input = []
   printed (suc count) keys r store input =

@@ -40,7 +40,7 @@ fn two_at(bytes: &[u8], i: usize) -> u32
     byte_at(bytes, i) * 256 + byte_at(bytes, i + 1)
 }
 
-// The line for a command: none for no bytes, where the input has ended.
+// The line for a command; none for no bytes, at the end of the input.
 fn line_for(bytes: &[u8], number: u32, written: u32) -> Line
     ensures { λ r. ⌜ (r ≡ inSpace (lineFor (now (bytes .entry)) number written)) × Fits r ⌝ }
 {
@@ -50,7 +50,7 @@ fn line_for(bytes: &[u8], number: u32, written: u32) -> Line
     line_of(number, written)
 }
 
-// The length of the first command, as far as the bytes at its start tell it: five tell it whole.
+// The length of the first command, as far as the bytes at its start tell it: two tell it whole.
 pub fn opening_length(bytes: &[u8]) -> usize
     ensures { λ r. ⌜ (r ≡ openingLength (now (bytes .entry))) × (r ≤ longestOpening) ⌝ }
 {
@@ -98,7 +98,7 @@ fn is_misframed_opening(bytes: &[u8]) -> bool
     byte_at(bytes, 0) != 0x10
 }
 
-// A refused opening, with its record of zeros: the opening of no seats gives that one.
+// A refused opening with its record of zeros, taken from an opening of no seats.
 fn refused_opening(number: u32) -> Opened
     ensures { λ r. ⌜ r ≡ refusedOpening number ⌝ }
 {
@@ -108,7 +108,7 @@ fn refused_opening(number: u32) -> Opened
     Opened { number, unit }
 }
 
-// The opening, from the bytes that the input has of it.
+// The opening from its bytes, as far as the input has them.
 fn open(bytes: &[u8]) -> Opened
     ensures { λ r. ⌜ r ≡ opened (now (bytes .entry)) ⌝ }
 {
@@ -165,7 +165,7 @@ fn goes_on(answer: Stepped) -> Answer
     }
 }
 
-// Answer of a later command, from the bytes that the input has of it.
+// Answer of a later command from its bytes, as far as the input has them.
 pub fn take_command(
     r: Record,
     keys: &[u8],

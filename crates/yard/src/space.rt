@@ -1,4 +1,4 @@
-// The buffers of the yard's program. An array's length is a constant: each stands here alone, and a contract ties it to its
+// The buffers of the yard's program. An array's length is a constant: each stands here only, and a contract ties it to its
 // definition.
 ghost use mathlib.Core.Path.{_≡_};
 ghost use lib.ListN.{length};
@@ -17,7 +17,7 @@ pub(crate) const OPENING_HEAD: usize = 5;
 
 pub(crate) const MESSAGE_HEAD: usize = 3;
 
-// Where a submit's signature starts, and where it ends.
+// The start and the end of a submit's signature.
 pub(crate) const SUBMIT_HEAD: usize = 1 + VALUE;
 
 pub(crate) const SUBMIT: usize = SUBMIT_HEAD + layout::SIGNATURE;

@@ -1,6 +1,6 @@
 -- The yard's program over its buffers.
 --
--- A contract doesn't know what is read. It stands in a buffer afterwards: `Reading` has what stands there, and `Run` what the
--- program makes of it, by the definitions of `yard`.
+-- A contract doesn't know the input, which stands in a buffer once it is read: `Reading` has the buffer after reading, and
+-- `Run` the program's results, by the definitions of `yard`.
 pub mod Reading
 pub mod Run

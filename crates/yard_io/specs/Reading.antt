@@ -1,4 +1,4 @@
--- What reading leaves in a buffer.
+-- A buffer after reading.
 -- Assumes nothing.
 use mathlib.Core.Path.{_≡_, refl, sym, ap, _∙_}
 use mathlib.Core.Bool.{Bool, true, false}
@@ -22,7 +22,7 @@ abbrev pub sizeOf : Bool → List ℕ → ℕ
 sizeOf true bytes = openingLength bytes
 sizeOf false bytes = callLength bytes
 
--- ---- what is left in the buffer
+-- ---- the buffer after reading
 
 -- reading on from index `have` to index `to`, after which r bytes are there: those below `have` stay
 pub record ReadOn (have to r : ℕ) (before after : List ℕ) : Type 0 where

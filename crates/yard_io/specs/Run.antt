@@ -1,4 +1,4 @@
--- What the program makes of the commands that it reads.
+-- Results of the commands that the program reads.
 -- Assumes nothing.
 use mathlib.Core.Path.{_≡_, sym, _∙_}
 use mathlib.Core.Bool.{Bool, true, false}
@@ -27,7 +27,7 @@ pub record Later (keys : List ℕ) (r : Record) (store out : List ℕ) (t : Take
   pub stored : store′ ≡ called checks keys r store out (take (t .have) input) .store
   pub written : out′ ≡ outAfter (called checks keys r store out (take (t .have) input) .written) out
 
--- ---- one after another: what was read and printed is some input and its lines
+-- ---- commands one after another, with some input and its lines
 
 -- some later commands, the last of which ends the program or not: record, store and out before and after
 pub record Commands (ends : Bool) (keys : List ℕ) (r : Record) (store out : List ℕ) (last : Record) (store′ out′ : List ℕ) : Type 0 where

@@ -1,5 +1,5 @@
-// The yard's program (document 01, "The yard's program"): its reading and printing. What a command does, and its line, is in the
-// crate `yard`. What was read stands in a buffer, and the contracts speak of it there.
+// The yard's program (document 01, "The yard's program"): its reading and printing. The commands and their lines are in the crate
+// `yard`. The contracts speak of the input as it stands in a buffer once it is read.
 ghost use mathlib.Core.Path.{_≡_};
 ghost use Prim.Native.Nat.{_≤_};
 ghost use lib.ListN.{length};
@@ -13,7 +13,8 @@ use protocol::Record;
 use yard::commands;
 use yard::line::Line;
 
-// Reads on from index `have` until there are `to` bytes or the input ends, and answers their number.
+// Reads on from index `have` until there are `to` bytes or the input ends, and answers their number. Scratch: the bytes after
+// them.
 fn read_on(space: &mut [u8], have: usize, to: usize) -> usize
     requires { ⌜ (have ≤ length (now space)) × (to ≤ length (now space)) ⌝ }
     ensures { λ r. ⌜ ReadOn have to r (now (space .entry)) (now (space .exit)) ⌝ }
@@ -34,8 +35,8 @@ fn told_length(first: bool, bytes: &[u8]) -> usize
     commands::call_length(bytes)
 }
 
-// Reads a command, or what the input has of it, and answers the number of its bytes: one byte first, then those that tell its
-// length, then the rest.
+// Reads a command, as far as the input has it, and answers the number of its bytes: one byte first, then those that tell its
+// length, then the rest. Scratch: the bytes after them.
 fn read_command(first: bool, space: &mut [u8]) -> usize
     requires { ⌜ room first ≤ length (now space) ⌝ }
     ensures { λ r. ⌜ Command first r (now (space .exit)) ⌝ }
@@ -69,7 +70,7 @@ struct Taken {
     unit: Record,
 }
 
-// Reads the first command, does it, and prints its line.
+// Reads the first command, does it, and prints its line. Scratch: the bytes of `input` after the command.
 fn first_command(input: &mut [u8]) -> Taken
     requires { ⌜ longestOpening ≤ length (now input) ⌝ }
     ensures { λ t. ⌜ First t (now (input .exit)) ⌝ }
@@ -86,7 +87,7 @@ fn first_command(input: &mut [u8]) -> Taken
     }
 }
 
-// Reads a later command, does it, and prints its line.
+// Reads a later command, does it, and prints its line. Scratch as in `first_command`.
 fn next_command(
     unit: Record,
     keys: &[u8],
@@ -109,8 +110,8 @@ fn next_command(
     }
 }
 
-// The later commands, and the record at the end. A proved loop has to end, and nothing says that the input does. So the loop
-// counts down from a number that no input uses up: each command takes a byte at least.
+// The later commands, and the record at the end. A proved loop has to end, but the input may not. So the loop counts down from a
+// number of commands that no input has: each takes at least one byte.
 fn run_calls(unit: Record, keys: &[u8], store: &mut [u8], out: &mut [u8]) -> Record
     ensures { λ r. ⌜ AfterCalls (now (keys .entry)) unit (now (store .entry)) (now (out .entry)) r (now (store .exit)) (now (out .exit)) ⌝ }
 {

@@ -1,3 +1,3 @@
--- The interface's version, and what the exported calls' contracts come to.
+-- The interface's version, and the law of refused calls.
 pub mod Version
 pub mod Refused

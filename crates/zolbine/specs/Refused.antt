@@ -1,5 +1,5 @@
--- "A refusal returns its number and 0 bytes written; record, store, tree and out keep every byte.": what the contracts of a
--- submit and of a step, by value and through the thin entry, come to where the call is refused.
+-- "A refusal returns its number and 0 bytes written; record, store, tree and out keep every byte.": the law for the results
+-- that the contracts of a submit and of a step, by value and through the thin entry, promise.
 -- Assumes nothing.
 use Prim.Native.Nat.{ℕ}
 use mathlib.Core.Path.{_≡_, refl}

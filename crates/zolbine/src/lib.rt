@@ -1,4 +1,4 @@
-// The C interface: what libzolbine.a exports, declared in include/zolbine.h. Each call is the proved function behind it.
+// The C interface: the functions that libzolbine.a exports, declared in include/zolbine.h. Each is thin over the crates below.
 ghost use mathlib.Core.Path.{_≡_};
 ghost use lib.ListN.{length};
 ghost use Rattle.octets.specs.Octets.{patch};
@@ -28,7 +28,7 @@ pub extern "C" fn zolbine_message_length(n: u32, bytes: &[u8]) -> u32
     framing::message_length(n, bytes)
 }
 
-// The stand-alone check of a signature: 0, or what is turned back.
+// The stand-alone check of a signature: the refusal number or 0.
 #[no_mangle]
 pub extern "C" fn zolbine_check_signature(key: &[u8], message: &[u8], signature: &[u8]) -> u32
     ensures { λ r. ⌜ r ≡ checkSignature (now (key .entry)) (now (message .entry)) (now (signature .entry)) ⌝ }
