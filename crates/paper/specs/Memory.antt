@@ -1,4 +1,4 @@
--- What a unit's record and store have of the machine: all else is forgotten.
+-- The part of the machine's state that a unit's record and store keep.
 -- Assumes nothing.
 use Prim.Native.Nat.{ℕ}
 use mathlib.Core.Path.{_≡_}
