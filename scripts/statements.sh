@@ -1,5 +1,5 @@
 #!/usr/bin/env bash
-# Fails where docs/STATEMENTS.md names something that stands nowhere: a definition, a law, a contract, an edit, a file or a test.
+# Fails if docs/STATEMENTS.md names something that doesn't exist: a definition, a law, a contract, an edit, a file or a test.
 # A name by itself is looked for in the file or the crate named before it in its cell, then among programs and tests.
 set -euo pipefail
 cd "$(dirname "$0")/.."

@@ -1,4 +1,4 @@
-//! A fleet's keys, and whatever its seats can be made to say: honest, twice, or with a wrong leaf.
+//! A fleet's keys, and the messages of its seats: honest ones, two of one seat, or with a wrong leaf.
 
 use std::sync::OnceLock;
 

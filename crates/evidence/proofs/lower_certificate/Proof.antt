@@ -9,7 +9,7 @@ use borrow.Author.Needs.{needs}
 use Rattle.evidence.proofs.lower_certificate.Statement.{statement}
 use Rattle.evidence.proofs.lower_certificate.Tie as tie
 
--- what the call is given
+-- arguments of the call
 abbrev call : tie.Start → Call
 call s = record { n = s .args .n; round = s .args .round; keys = now (s .args .keys) }
 

@@ -12,7 +12,7 @@ use borrow.Author.Needs.{needs}
 use Rattle.evidence.proofs.make_evidence.Statement.{statement}
 use Rattle.evidence.proofs.make_evidence.Tie as tie
 
--- what the call is given
+-- arguments of the call
 abbrev call : tie.Start → Call
 call s = record { n = s .args .n; round = s .args .round; keys = now (s .args .keys) }
 

@@ -14,7 +14,7 @@ use borrow.Author.Needs.{needs}
 use Rattle.confirmer.proofs.calls.submit.Statement.{statement}
 use Rattle.confirmer.proofs.calls.submit.Tie as tie
 
--- what the call is given, its conditions after the record's, and its phases
+-- arguments of the call, its conditions after the record's, and its phases
 module _ (s : tie.Start) where
   abbrev r : Record
   r = s .args .r

@@ -14,7 +14,7 @@ use borrow.Author.Needs.{needs}
 use Rattle.evidence.proofs.certificates.write_conflict.Statement.{statement}
 use Rattle.evidence.proofs.certificates.write_conflict.Tie as tie
 
--- what the function is given
+-- arguments of the function
 module _ (start : tie.Start) where
   abbrev n : ℕ
   n = start .args .n
@@ -41,7 +41,7 @@ values c = first-set c .before
 abbrev given : tie.After-entry-set2 → tie.Start
 given c = started (values c .before .before)
 
--- what was written
+-- the bytes written
 abbrev written : tie.After-slice-known2 → tie.After-write-evidence
 written c = c .before .before
 
