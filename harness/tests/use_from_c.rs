@@ -195,7 +195,7 @@ mod example {
         assert!(run.stdout == expected, "{command:?}: {}", told(&run));
     }
 
-    /// Its keys are those of the seed that it was made with.
+    /// By length and output, since the keys of the recorded round are those of the seed that it was made with.
     #[test]
     fn the_recorded_round_comes_to_what_its_script_says() {
         let runs = yard::runs(include_str!("../data/yard/radio.txt")).unwrap();

@@ -136,7 +136,7 @@ module _ (checks : Checks) (W : Relation) where
       (λ l. f (c .value) (d .value) (pairsOf n (shared (c .seats) (d .seats)) c d) (pairs-of n c d some y z l))
       (λ l. f (d .value) (c .value) (pairsOf n (shared (d .seats) (c .seats)) d c) (pairs-of n d c some z y (lower-other (c .value) (d .value) (y .sized ∙ sym (z .sized)) different ∙ ap not l)))
 
-  -- it names the seats that they share
+  -- evidence of two certificates names the seats that they share
   pub evidence-names : (n round : ℕ) (c d : Certificate) → Certifies checks W n c → Certifies checks W n d
       → setOf (entrySeats (evidenceOf n round c d)) ≡ shared (c .seats) (d .seats)
   unfolding evidenceOf orderedEvidence entrySeats formSeats evidenceForm

@@ -115,7 +115,7 @@ module _ (S : Setting) where
     submitted-of i value signature c (inl r) never = true≢false (sym c ∙ none i value signature r never)
     submitted-of i value signature c (inr s) never = never (s .1)
 
-    -- it has not submitted two layouts
+    -- an honest unit has not submitted two layouts
     one-layout : (i : I) (lower higher : List ℕ) → isLower lower higher ≡ true → ((Submits S (boat i) lower → ⊥) → ⊥) → ((Submits S (boat i) higher → ⊥) → ⊥) → ⊥
     one-layout i lower higher l a b =
         a (λ s. b (λ s′. lower-differs lower higher l (sym (submits-end (boat i) (opened i) lower s) ∙ submits-end (boat i) (opened i) higher s′)))

@@ -67,12 +67,12 @@ module _ (S : Setting) (u : Honest) (opened : IsOpened S u) where
   pub sends-what-it-received : Each (Received (u .seat) Took) actions
   sends-what-it-received a d = along .1 a d .0
 
-  -- In the bytes: every signature in a FULL that the unit writes was collected for its seat over that value,
+  -- In the bytes: every signature in a FULL that the unit writes was collected for its seat over that value.
   pub full-received : (ρ sender : ℕ) (value : List ℕ) (es : List Entry) → Writes S u (Full ρ sender value es)
       → IsSubmitted (u .seat) Took value × Each (λ (e : Entry). Collected (u .seat) Took (e .seat) value (e .signature)) es
   full-received ρ sender value es w = let a = writes-what-the-paper-does (Full ρ sender value es) .0 w in full-from (u .seat) round Took ρ sender value es (a .0) (a .2) (sends-what-it-received (a .0) (a .1))
 
-  -- and every two in an EVIDENCE came for their seat, the one over the lower value and the other over the higher.
+  -- In the bytes: the two signatures of every pair in an EVIDENCE came for their seat, over the lower value and over the higher.
   pub evidence-received : (ρ : ℕ) (lower higher : List ℕ) (ps : List Pair) → Writes S u (Evidence ρ lower higher ps)
       → Each (λ (p : Pair). Came (u .seat) Took (p .seat) lower (p .lower) × Came (u .seat) Took (p .seat) higher (p .higher)) ps
   evidence-received ρ lower higher ps w = let a = writes-what-the-paper-does (Evidence ρ lower higher ps) .0 w in evidence-from (u .seat) round Took ρ lower higher ps (a .0) (a .2) (sends-what-it-received (a .0) (a .1))

@@ -8,7 +8,7 @@
 -- (3) A full certificate has k = n − t0 messages and no more ("count 1 (always k)"): of a unit's own, the first k.
 -- (4) At line 25 the unit "treats its own certificate like one heard", without waiting until its broadcast comes back to it.
 -- (5) A FULL heard "counts as a notice for its value".
--- (6) `Confirm` and `Detect` are the sending of NOTICE and of EVIDENCE.
+-- (6) The outputs of `Confirm` and `Detect` are messages, NOTICE and EVIDENCE.
 -- (7) At line 18 "the signature [is] collected" in the submit itself, without waiting until its broadcast comes back to it.
 -- (8) The own signature comes with the submission, while the paper's unit makes it, and "is checked like any other".
 -- Assumes nothing.

@@ -30,7 +30,7 @@ struct Case {
     /// The answer of the maker, and the mask of the seats that its evidence names.
     made: Written,
     named: u32,
-    /// Which certificate is handed back as the lower one.
+    /// Index of the certificate handed back as the lower one.
     lower: Option<usize>,
 }
 
