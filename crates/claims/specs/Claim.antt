@@ -1,6 +1,6 @@
 -- Demand 3, whole: one claim about any family of honest units, one round and one key table, from end to end.
 --
--- Definitions to read in order to believe it; none of them is a proof:
+-- Statements and definitions to read in order to believe it, without any proof:
 -- 1. `demand-3`, in this file, and `Demand3` in `round/specs/Demand3`: the demand, sentence by sentence.
 -- 2. `round/specs/Round`: the words of the demand, beside document 01's "A round as a whole".
 -- 3. `protocol/specs/Calls`: the results of an opening, a submit, a step, a making of evidence and the evidence check; with the files

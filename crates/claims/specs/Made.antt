@@ -45,7 +45,7 @@ module _ (S : Setting) (outside : Outside (S .n) (S .round) (S .keys)) where
       let a = accepted-as ρ lower higher ps e z in
       (a .0, rw (a .1) (z .named))
 
--- evidence that the check accepts and that names exactly the seats of both certificates
+-- evidence that the check accepts and that names exactly the seats that two certificates share
 module _ (S : Setting) where
   open Setting S using (n, round, keys, checks)
 

@@ -184,6 +184,6 @@ module _ (S : Setting) (u : Honest) (opened : IsOpened S u) where
         (λ h. inr (h .0, h .1, innocent (h .0) (rw (h .2) (List·Memᴰ·head refl)) (h .1), are .1 ∙ ap renderAll (h .2) ∙ append-nil (render (h .0))))
         alone
 
-    -- after both, nothing is written
+    -- after FULL and EVIDENCE, nothing is written
     pub nothing-more : t .unit .sent ≡ true → t .unit .guilty ≢ 0 → writtenIn S t ≡ []
     nothing-more sent guilty = ⊎-elim (λ e. e) (λ h. absurd (guilty (h .2))) (quiet-once-sent sent)

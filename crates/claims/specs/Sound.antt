@@ -42,7 +42,7 @@ pub record Grows (r r′ : Record) : Type 0 where
   pub heard : (value : List ℕ) → Heard value r → Heard value r′
   pub held : (value : List ℕ) → Held value r → Held value r′
 
--- the flag of a record for a message of this kind sent
+-- a record's flag for messages of this kind sent
 abbrev pub flagOf : Kind → Record → Bool
 flagOf SUBMIT r = r .own .submitted
 flagOf NOTICE r = r .confirmed

@@ -25,7 +25,7 @@ use Rattle.reading.specs.Messages.{messages, allMessages, all-member, member-al
 use Rattle.claims.specs.Unrefused.{fresh-sound, fresh-settled}
 use Rattle.claims.specs.Journey.{lastOf, WorthyGiven, Worthy, At, Journey, journey}
 
--- ---- layout of the messages that a unit writes
+-- ---- form of the messages that a unit writes
 
 k-le : (n : ℕ) → k n ≤ n
 unfolding k
@@ -124,7 +124,7 @@ module _ (S : Setting) (u : Honest) (opened : IsOpened S u) where
       pub result-grows : Grows startOf (resultOf S t .unit)
       result-grows = grows-trans startOf (t .unit) (resultOf S t .unit) (stop .since) (stop .after .grows)
 
-      -- layout of the messages that the call writes
+      -- form of the messages that the call writes
       pub messages-formed : Each (WellFormed n) (messages S t)
       messages-formed m e =
           subst (λ i. WellFormed i m) (result-grows .n ∙ start-n) (good-formed checks W (resultOf S t .unit) m (stop .after .sound .range) (stop .after .good m e))

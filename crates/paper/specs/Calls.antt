@@ -272,7 +272,7 @@ module _ (n seat round : ℕ) where
 
     -- ---- NOTICE and FULL heard: lines 29 and 35
 
-    -- the rule of line 25 does nothing more
+    -- the rule of line 25 does nothing where `confirmed` tells whether k seats are collected
     quorum-quiet : (y : Reaction) → y .machine .confirmed ≡ leb (k n) (length (y .machine .collected)) → uponQuorum checks n seat y ≡ y
     unfolding uponQuorum
     quorum-quiet y h = go (leb (k n) (length (y .machine .collected))) h

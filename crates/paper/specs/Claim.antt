@@ -55,7 +55,7 @@ module _ (S : Setting) (u : Honest) (opened : IsOpened S u) where
   pub does-as-the-paper : DoesAs S (u .seat) init (listOf S u)
   does-as-the-paper = along .0
 
-  -- Over the whole list: a message is written (`Writes`, as in demand 3's claim) exactly where it is what an action of the machine is sent as.
+  -- Over the whole list: a message is written (`Writes`, as in demand 3's claim) exactly where it is the message of an action of the machine.
   pub writes-what-the-paper-does : (m : Message) → Writes S u m ↔ ((a : Action) × List·Memᴰ a actions × Says round (u .seat) a m)
   writes-what-the-paper-does m =
       let both = over-list S (u .seat) m init (listOf S u) does-as-the-paper (λ a d. along .1 a d .1) in (

@@ -26,7 +26,7 @@ use Rattle.paper.specs.Rules.{AtRest, rest-quiet}
 
 -- ---- meaning of a refusal number
 
--- the first row of a list, where the number is another one
+-- a first row with another number than the answer can be left out
 firstOf-other : (i j : ℕ) (b : Bool) (rest : List (ℕ × Bool)) → i ≢ j → firstOf ((i, b) ∷ rest) ≡ j → firstOf rest ≡ j
 unfolding firstOf
 firstOf-other i j true rest d e = absurd (d e)

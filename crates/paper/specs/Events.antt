@@ -67,7 +67,7 @@ module _ (S : Setting) (seat : ℕ) where
   actionsOver m [] = []
   actionsOver m (t ∷ ts) = reaction t m .actions ++ actionsOver (reaction t m .machine) ts
 
--- event of a call in a list that isn't refused
+-- an event of a call in the list that isn't refused
 abbrev pub TakenIn : Setting → List Called → Event → Type 0
 TakenIn S ts e = (t : Called) × List·Memᴰ t ts × (resultOf S t .refusal ≡ 0) × (eventOf (S .n) 0 (t .given) ≡ some e)
 

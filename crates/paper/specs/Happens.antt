@@ -40,7 +40,7 @@ module _ (S : Setting) (u : Honest) (opened : IsOpened S u) (c : Called) (inList
     outRoom = subst (λ i. outLength i ≤ length out) (sym size-is) out-room;
   }
 
-  -- the event of a call, in place of this one
+  -- the event of a call with this record and this store
   abbrev Happens : Call → Option Event → Type 0
   Happens g o = eventOf n (outcome S g (c .unit) (c .store) .refusal) g ≡ o
 

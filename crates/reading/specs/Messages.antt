@@ -35,7 +35,7 @@ outcome-is S (BySubmit value signature out) r store = refl
 outcome-is S (ByStep bytes out) r store = refl
 outcome-is S (ByThinEntry bytes out) r store = refl
 
--- both of a step, by value or through the thin entry
+-- refusal number and state of a step, by value or through the thin entry
 pub step-is : (S : Setting) (c : Call) (bytes out : List ℕ) (r : Record) (store : List ℕ) → IsStep c bytes out
     → (refusalOf S c r store ≡ firstOf (stepConditions (S .checks) (S .keys) r store (read (r .n) bytes) out)) × (cameTo c r store ≡ stepped (read (r .n) bytes) (start r store))
 unfolding refusalOf cameTo

@@ -55,7 +55,7 @@ module _ (S : Setting) (u : Honest) where
         true≢false (sym (rw (one SUBMIT, one NOTICE, one FULL, one EVIDENCE)) ∙ c);
   }
 
-  -- no record that comes out of a call is impossible
+  -- whether the record that comes out of a call is possible
   abbrev pub possible : Called → Bool
   possible c = not (impossible (resultOf S c .unit))
 
@@ -148,7 +148,7 @@ module _ (S : Setting) {I : Type 0} (crew : Crew I) (boat : I → Honest) where
 
   -- ---- safety
 
-  -- whether a signature isn't forged; one is, that is of the boat's seat, over a layout that it didn't submit, and checks
+  -- whether a signature isn't forged: of another seat than the boat's, or over a layout that it submitted, or one that doesn't check
   abbrev pub genuine : I → Signed → Bool
   genuine i s = not (eqb (s .seat) (boat i .seat)) || (submits S (boat i) (s .value) || not (checks (s .seat) (s .value) (s .signature)))
 

@@ -97,7 +97,7 @@ three = record { everyone = Zeroth ∷ First ∷ Second ∷ []; complete = three
 abbrev pub noticed : ℕ → ℕ → ℕ → ℕ → Honest
 noticed seat b other c = boatAt seat (hears (Notice 5 other (layout c)) ∷ says seat b ∷ hears (submitBy 2 b) ∷ hears (submitBy 3 b) ∷ [])
 
--- a boat with more calls after its own
+-- a boat with more calls at the end of its list
 abbrev pub then : Honest → List Call → Honest
 then u more = record { seat = u .seat; store = u .store; calls = u .calls ++ more; inHand = [] }
 
