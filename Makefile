@@ -1,4 +1,4 @@
-# make demo   a fleet plays two rounds, sound and then with double signers; DEMO="--help" tells what can be varied, as in
+# make demo   a fleet plays two rounds, sound and then with double signers; DEMO="--help" lists the options, as in
 #             make demo DEMO="--double-signers 2 --lost-link 0-3"
 # make test   the gate: every crate proved, every program run, the static libraries against the harness
 # make soak   the long version of the harness's tests: load, faults, every call, and plain C
@@ -48,6 +48,6 @@ zolbine probes: toolchain
 toolchain:
 	@scripts/tools.sh
 
-# OpenSSL's, for the bench alone
+# OpenSSL's libcrypto, for the bench alone
 libcrypto:
 	@echo '#include <openssl/sha.h>' | gcc -E - >/dev/null 2>&1 || apt-get install -qq -y libssl-dev

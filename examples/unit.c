@@ -1,11 +1,11 @@
-/* A unit's loop over a recorded round: what a display's firmware does with libzolbine.a.
+/* A unit's loop over a recorded round, as a display's firmware runs it with libzolbine.a.
  *
  *     gcc -std=c11 -Iinclude examples/unit.c target/staticlib/libzolbine.a -o unit && ./unit examples/round.bin
  *
- * The file holds what reached one boat, in the order in which it came: 0x10 with n (1 byte), own seat (1), round (2) and the
- * fleet's n public keys; then 0x12 with the own layout and the signature over it, or 0x11 with the length (2) of a message heard
- * and its bytes. A display gets the same from its plotter, its signer and its radio.
- * harness/data/yard/radio.txt is this round to read, and unit.txt what the program prints.
+ * The file holds the inputs of one boat, in order: 0x10 with n (1 byte), own seat (1), round (2) and the fleet's n public keys;
+ * then 0x12 with the own layout and the signature over it, or 0x11 with the length (2) of a message heard and its bytes. A
+ * display gets the same from its plotter, its signer and its radio. harness/data/yard/radio.txt is this round to read, and
+ * unit.txt the program's output.
  */
 #include "zolbine.h"
 
@@ -82,7 +82,7 @@ static const char *name_of(const uint8_t *message, size_t len)
     }
 }
 
-/* All of the bytes written go on the air, each message by itself. Here the messages are named. */
+/* Sends all of the bytes written, each message by itself. Here the messages' names are printed. */
 static void send_all(uint32_t n, const uint8_t *out, uint32_t written)
 {
     uint32_t len;
@@ -135,9 +135,9 @@ static void submit(struct unit *unit, FILE *file)
     }
 }
 
-/* Whether an early SUBMIT is to be given again: the first of its seat that is truly signed by it. A forged one is let go, so that no
- * number of them takes the place of a good one. The step has seen to length, round and seat before it answered ZOLBINE_EARLY; the
- * signature it hasn't looked at.
+/* Whether an early SUBMIT is to be given again: the first of its seat that the seat has signed. A forged one is let go, so that
+ * no number of them takes the place of a good one. The step has checked length, round and seat before it answered ZOLBINE_EARLY,
+ * but not the signature.
  */
 static bool worth_giving_again(const struct unit *unit, const uint8_t *message)
 {

@@ -22,7 +22,7 @@ extern "C" {
 
 uint32_t zolbine_version(void);
 
-/* What is turned back. The lowest number whose condition holds is answered. */
+/* Refusals. A call answers the first whose condition holds, in the order in which its comment below lists them. */
 enum {
     ZOLBINE_SIZE = 1,          /* n outside 1 to 32 */
     ZOLBINE_SEAT = 2,          /* own seat at or above n (opening) */
@@ -102,9 +102,9 @@ enum {
 /* out of zolbine_submit and of the steps: room for one message of each kind */
 #define ZOLBINE_OUT_LEN(n) (ZOLBINE_SUBMIT_LEN + ZOLBINE_NOTICE_LEN + ZOLBINE_FULL_LEN(n) + ZOLBINE_EVIDENCE_OUT_LEN(n))
 
-/* The length of the first message in a buffer, by which what a call wrote is split into messages: 0 where no message of a fleet
- * of n seats stands there whole, with its command, length, count and entry commands right. Also 0 for n outside 1 to 32. Seats,
- * round and signatures aren't looked at.
+/* The length of the first message in a buffer, for splitting the bytes that a call wrote into messages: 0 where no message of a
+ * fleet of n seats stands there whole, with its command, length, count and entry commands right. Also 0 for n outside 1 to 32.
+ * Seats, round and signatures aren't looked at.
  */
 uint32_t zolbine_message_length(uint32_t n, const uint8_t *bytes, size_t bytes_len);
 
@@ -181,7 +181,7 @@ struct zolbine_written zolbine_make_evidence(uint32_t n, uint32_t round,
  */
 struct zolbine_own {
     bool submitted;                   /* whether the unit has submitted */
-    uint8_t value[ZOLBINE_VALUE_LEN]; /* what it submitted */
+    uint8_t value[ZOLBINE_VALUE_LEN]; /* the value submitted */
     uint32_t collected;               /* the seats whose signatures over it are collected, the own one among them */
 };
 

@@ -1,6 +1,6 @@
 #!/usr/bin/env bash
-# Proves a library with the crates below it and writes target/staticlib/libNAME.a, telling each crate as it is proved.
-# All that rt says stands in target/log/staticlib-NAME.log, and is shown where it fails.
+# archive.sh NAME: proves a library with the crates below it and writes target/staticlib/libNAME.a; names each crate once it is proved.
+# rt's output is in target/log/staticlib-NAME.log, and is shown if rt fails.
 set -uo pipefail
 cd "$(dirname "$0")/.."
 name=$1

@@ -1,5 +1,5 @@
 #!/usr/bin/env bash
-# below.sh CRATE: the repository's crates below one, by crates.txt, a line for each and none before what it needs.
+# below.sh CRATE: the repository's crates below CRATE, by crates.txt, one on a line, each after those that it needs.
 set -euo pipefail
 cd "$(dirname "$0")/.."
 

@@ -1,5 +1,5 @@
 #!/usr/bin/env bash
-# install.sh ARCHIVE PREFIX [DESTDIR]: puts the header, the archive and zolbine.pc under PREFIX, all of it below DESTDIR.
+# install.sh ARCHIVE PREFIX [DESTDIR]: installs the header, the archive and zolbine.pc under PREFIX, below DESTDIR if there is one.
 set -euo pipefail
 archive=$1 prefix=$2 root=${3:-}
 cd "$(dirname "$0")/.."

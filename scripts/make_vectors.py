@@ -1,5 +1,5 @@
 #!/usr/bin/env python3
-"""Writes crates/lms_vectors/stdin and stdout from the files of vectors/: the records for the program, and what the files say of each.
+"""Writes crates/lms_vectors/stdin and stdout from the files of vectors/: the program's records, and the expected answer to each.
 
 A record starts with C (check) or K (make a key, then sign). Every operand has its length before it, in two bytes. C: name, key,
 message, signature. K: name, seed, identifier, a byte with the number of records to sign, and for each name, leaf, randomizer, message.
@@ -20,7 +20,7 @@ def data(text):
 
 
 def records(name):
-    """Each record's fields, with what the comment before it says of its making."""
+    """Each record's fields, with the parameters of its making from the comment before it."""
     made = None
     for line in (root / "vectors" / name).read_text().splitlines():
         if line.startswith("#"):

@@ -1,7 +1,7 @@
 #!/usr/bin/env bash
-# Tries each edit of mutations/ on a copy of the repository: on its run the checker must prove that the claim which it names is
-# false. An edit of mutations/harmless/ must be found harmless. Needs the crates below `trials` proved in target/.
-# Logs: target/mutations/NAME.log. With an edit as argument: that one alone.
+# mutations.sh [EDIT]: tries the edits of mutations/, or one alone, each on a copy of the repository. On the edit's run the checker must
+# prove that the claim it names is false; an edit of mutations/harmless/ must be found harmless. Needs the crates below `trials` proved
+# in target/. Logs: target/mutations/NAME.log.
 set -euo pipefail
 cd "$(dirname "$0")/.."
 
@@ -12,13 +12,13 @@ label=mutations
 work=
 said=
 
-# an answer, after which the script may end
+# prints an answer; the script may end after one
 say() {
     said=yes
     echo "$label: $*"
 }
 
-# whatever ends the script, it says so
+# message at an end without an answer
 ended() {
     local status=$?
     [ -z "$work" ] || rm -rf "$work"
@@ -73,7 +73,7 @@ work=$(mktemp -d)
 
 field() { sed -n "s/^$1: //p" "$2"; }
 
-# a copy of what the trials stand on, with what is proved of it
+# copies `trials` and the crates below it, with their proofs
 copy() {
     mkdir -p "$1/crates" && cp crates.txt "$1/" || return
     local name kind part
@@ -88,7 +88,7 @@ copy() {
     done
 }
 
-# the edit's texts, each of which stands once in its file, are put into the copy
+# puts the edit's texts into the copy; each old text must stand exactly once in its file
 apply() {
     LC_ALL=C awk -v root="$2" '
         function put(    path, text, line, at, rest) {
@@ -108,7 +108,7 @@ apply() {
         END { if (!failed) put() }' "$1"
 }
 
-# the run's answer, and what follows of the claim where its premises hold and its conclusion does not
+# writes the statement of the run's answer; and, for a conclusion that doesn't hold, of the claim's falsehood
 assert() {
     cat >"$2/crates/trials/specs/Verdict.antt" <<ANTT
 -- Assumes nothing.
@@ -128,7 +128,7 @@ claim-fails = refuted $1 verdict
 ANTT
 }
 
-# is the answer proved with the edit? 0: yes. 1: no, and for nothing else than the answer. 2: the edit shows nothing, as was said
+# whether the answer is proved with the edit. 0: yes. 1: no, because of the answer alone. 2: the trial failed, with a message
 proved() {
     local answer=$1 name status=0
     name=$(basename "$edit" .edit)
@@ -165,7 +165,7 @@ refutes() {
     return "$status"
 }
 
-# an edit that must leave it as it is: the script refuses it, and the run's answer is that of the definitions as they stand
+# an edit that must leave its claim true: the checker refutes nothing, and the run's answer is as without the edit
 harmless() {
     local status=0
     proved false || status=$?

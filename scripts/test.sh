@@ -18,7 +18,7 @@ verdict=$(tail -n 1 "$log")
 mkdir -p target/log
 cp "$log" target/log/gate-rt-ci.log
 
-# the mutations beside what comes next, which waits for the linker and for cargo
+# the mutations run beside the builds, which wait for the linker and for cargo
 scripts/mutations.sh >target/log/gate-mutations.log 2>&1 &
 mutations=$!
 make --no-print-directory archives

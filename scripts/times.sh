@@ -1,4 +1,4 @@
 #!/usr/bin/env bash
-# times.sh TARGET: how long `make TARGET` takes, as README.md has it; nothing where it doesn't say.
+# times.sh TARGET: duration of `make TARGET` in README.md's table; nothing if it has none.
 set -euo pipefail
 sed -n "s/^| \`make $1\` |.*| \([^|]*\) |\$/\1/p" "$(dirname "$0")/../README.md"

@@ -1,5 +1,5 @@
 #!/usr/bin/env bash
-# Says which of the tools are missing or too old, and which versions are needed. With g++ as argument: that one too.
+# Lists the tools that are missing or too old, with the versions needed. With g++ as argument: that one too.
 set -uo pipefail
 cd "$(dirname "$0")/.."
 

@@ -1,6 +1,6 @@
 /* A round in which two double signers split a fleet of four: two honest boats confirm different layouts, and each then holds
  * evidence that names both. It is written from include/zolbine.h, docs/HOST.md and docs/PROTOCOL.md alone, as a display's firmware
- * would be, in C11 that is C++ too. It tells what happens, and ends with 1 where something goes wrong.
+ * would be, in C11 that is C++ too. It prints what happens, and ends with 1 if something goes wrong.
  */
 #include "zolbine.h"
 
@@ -28,7 +28,7 @@ struct display {
     uint8_t early[N][ZOLBINE_SUBMIT_LEN]; /* a SUBMIT of each seat that came before the own one */
     bool is_early[N];
     bool leaf_used;
-    uint8_t evidence[ZOLBINE_EVIDENCE_LEN(N)]; /* what this boat wrote */
+    uint8_t evidence[ZOLBINE_EVIDENCE_LEN(N)]; /* written by this boat */
     size_t evidence_len;
 };
 
@@ -104,7 +104,7 @@ static void make_submit(uint32_t seat, const uint8_t *layout, uint8_t *submit)
         stop("signing", made.number);
 }
 
-/* What a call wrote goes out message by message. */
+/* Sends the messages that a call wrote, one by one. */
 static void send_all(uint32_t seat, uint32_t written)
 {
     struct display *display = &displays[seat];
@@ -174,7 +174,7 @@ static void hear(uint32_t seat, const uint8_t *bytes, size_t len)
     send_all(seat, answer.written);
 }
 
-/* The own layout: the leaf is noted as used, then signed with, then submitted. What came early is given again. */
+/* Submits the own layout: the leaf is noted as used, then signed with. SUBMITs that came early are given again. */
 static void submit(uint32_t seat, const uint8_t *layout)
 {
     struct display *display = &displays[seat];
@@ -211,7 +211,7 @@ static void deceive(uint32_t signer, uint32_t seat, const uint8_t *layout)
     hear(seat, bytes, sizeof bytes);
 }
 
-/* What is on the air reaches the other honest boat, and what that sends in turn. */
+/* Gives every message on the air to the other honest boat, and the answers in turn. */
 static void deliver(void)
 {
     uint32_t seat;

@@ -1,5 +1,6 @@
-/* The lengths that include/zolbine.h names are those that the calls ask for, for every n: a byte less is refused, and a byte more
- * where a length is exact. The places that it names are those where the calls read. Prints the number of comparisons, and ends with 1 at the first that goes wrong. C11 that is C++ too.
+/* The lengths of include/zolbine.h against those that the calls ask for, for every n: a byte less is refused, and a byte more
+ * where a length is exact. Its places against those where the calls read. Prints the number of comparisons, and ends with 1 at
+ * the first that fails. C11 that is C++ too.
  */
 #include "zolbine.h"
 
@@ -74,7 +75,7 @@ static uint32_t made_evidence(uint32_t n, size_t len, size_t out_len)
     return zolbine_make_evidence(n, ROUND, keys, ZOLBINE_KEYS_LEN(n), message, len, message, len, out, out_len).number;
 }
 
-/* The message that stands in the buffer has this length: to the helper, and to a step or the evidence check. */
+/* The message in the buffer has this length for the helper, and for a step or the evidence check. */
 static void message_is(const char *what, struct zolbine_record record, size_t len)
 {
     uint32_t n = record.n;

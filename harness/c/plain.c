@@ -1,3 +1,4 @@
+/* The calls of plain.h: SHA-256, LM-OTS and LMS in plain C. */
 #include "plain.h"
 
 #include <string.h>

@@ -1,4 +1,4 @@
-/* The measure of speed: the library's calls as a C programmer would write them, without intrinsics.
+/* Plain C for the measure of speed: the library's calls as a C programmer would write them, without intrinsics.
    A slice passes as pointer and length; refusals are document 01's numbers. */
 #ifndef PLAIN_H
 #define PLAIN_H
@@ -28,7 +28,7 @@ struct plain_written plain_sign(uint32_t leaf,
                                 const uint8_t *message, size_t message_len,
                                 uint8_t *out, size_t out_len);
 
-/* The layers below: 0, or 7 when out is shorter than 32 bytes.
+/* The layers below the calls. They answer 0, or 7 when out is shorter than 32 bytes.
    A state is eight big-endian words in 32 bytes, a block 64 bytes. */
 uint32_t plain_sha256(const uint8_t *message, size_t message_len, uint8_t *out, size_t out_len);
 

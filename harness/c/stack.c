@@ -1,3 +1,4 @@
+/* The measure of stack.h: work on a painted stack of its own. */
 #define _XOPEN_SOURCE 700
 
 #include "stack.h"

@@ -1,4 +1,4 @@
-/* The library from C: a line for each step, and an end with 1 at the first that goes wrong. */
+/* The library from C: a line for each step, and an end with 1 at the first that fails. */
 #include "zolbine.h"
 
 #include <stdio.h>

@@ -6,11 +6,11 @@ use std::{env, fs};
 
 /// A part of the reference that is copied whole around a fault in one of its files.
 struct Part {
-    /// How mutants of it are tested: a variant of `Subject`, and the macro that gives the copies' calls to a type.
+    /// Tests of its mutants: a variant of `Subject`, and the macro that gives the copies' calls to a type.
     subject: &'static str,
     calls: &'static str,
     files: &'static [&'static str],
-    /// What the copies use as it is.
+    /// Modules that the copies use unchanged.
     whole: &'static str,
 }
 
@@ -81,8 +81,8 @@ fn main() {
     fs::write(out.join("mutants.rs"), text).expect("the folder for what is made");
 }
 
-/// A block of the file: what is wrong, `FILE, BATTERY` with `, harmless` behind it or not, the right lines and the wrong ones.
-/// Comments are no block.
+/// A block of the file: the fault in words, `FILE, BATTERY` or `FILE, BATTERY, harmless`, the right lines and the wrong ones.
+/// None for a comment.
 fn fault(block: &str) -> Option<Fault> {
     let mut fault = Fault::default();
     for line in block.lines().filter(|line| !line.starts_with('#')) {

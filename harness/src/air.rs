@@ -1,4 +1,4 @@
-//! What goes over the air: the messages that a call wrote, taken apart, and messages garbled on their way.
+//! Messages on the air: those that a call wrote, taken apart, and messages garbled on their way.
 
 use crate::fleet;
 use crate::reference::layout::{self, ENTRY_SEAT_AT, ENTRY_SIGNATURE_AT, FULL_ENTRIES_AT, ROUND_AT, SEAT_AT};
@@ -29,7 +29,7 @@ pub fn messages(n: u32, mut written: &[u8]) -> Vec<Vec<u8>> {
     messages
 }
 
-/// A message as a bad link or a bad sender leaves it, and what was done to it. Some come out right by chance.
+/// A message garbled by a bad link or a bad sender, and the name of the change. Some are right by chance.
 pub fn garbled(message: &[u8], rng: &mut Rng) -> (&'static str, Vec<u8>) {
     let mut garbled = message.to_vec();
     let length = message.len();

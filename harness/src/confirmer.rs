@@ -47,7 +47,7 @@ pub trait LowerCopy: Sync {
     fn copy_lower(&self, n: u32, round: u32, keys: &[u8], first: &[u8], second: &[u8], out: &mut [u8]) -> u32;
 }
 
-/// What hands the lower one back can copy it.
+/// A subject that hands the lower one back can copy it.
 impl<T: Lower> LowerCopy for T {
     fn copy_lower(&self, n: u32, round: u32, keys: &[u8], first: &[u8], second: &[u8], out: &mut [u8]) -> u32 {
         let lower = self.lower_certificate(n, round, keys, first, second);

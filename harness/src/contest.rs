@@ -1,11 +1,11 @@
-//! Two contestants measured in turn in one run, so that what else the machine does meets both alike.
+//! Two contestants measured in turn in one run, so that the machine's other work disturbs both alike.
 
 use crate::cpu_time::nanoseconds;
 
 /// Work that a subject of kind `S` does.
 pub struct Contest<S: ?Sized> {
     pub name: String,
-    /// Operations in one go of the work.
+    /// Operations in one run of the work.
     pub operations: usize,
     pub repetitions: usize,
     pub work: Box<dyn Fn(&S)>,
@@ -30,7 +30,7 @@ impl<S: ?Sized> Contest<S> {
         (nanoseconds() - start) as f64 / self.operations as f64
     }
 
-    /// The two go first by turns, and a ratio is one of neighbours in time.
+    /// Each of the two goes first in turn, and a ratio is of two neighbours in time.
     pub fn run(&self, proved: Option<&S>, plain: &S) -> Times {
         let (mut proved_times, mut plain_times) = (Vec::new(), Vec::new());
         for repetition in 0..self.repetitions {

@@ -1,4 +1,4 @@
-//! A fleet's keys, and whatever its seats can be made to say: honest, twice, or with a wrong leaf.
+//! A fleet's keys, and the messages of its seats: honest ones, two of one seat, or with a wrong leaf.
 
 use std::sync::OnceLock;
 
@@ -115,7 +115,7 @@ pub fn sign(seat: u32, leaf: u32, message: &[u8], hand: u32) -> Vec<u8> {
     })
 }
 
-/// So many of n seats, rising.
+/// This many of n seats, rising.
 pub fn some_seats(n: u32, count: u32, rng: &mut Rng) -> Vec<u32> {
     let mut seats: Vec<u32> = (0..n).collect();
     while seats.len() > count as usize {

@@ -28,7 +28,7 @@ impl Guarded {
         &mut self.whole[MARGIN..end]
     }
 
-    /// Says what is wrong where the guards are touched or the contents are not the expected ones.
+    /// An error if the guards are touched or the contents are not the expected ones.
     pub fn expect(&self, name: &str, contents: &[u8]) -> Result<(), String> {
         if self.whole[..MARGIN] != self.guards[0] {
             return Err(format!("{name}: bytes before it were written"));
@@ -62,7 +62,7 @@ impl<T> GuardedItem<T> {
         &mut self.item
     }
 
-    /// What stands there, where the guards are as they were.
+    /// The contents, if the guards are as they were.
     pub fn taken(self, name: &str) -> Result<T, String> {
         if [self.before, self.after] == self.guards {
             Ok(self.item)

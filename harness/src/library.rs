@@ -160,7 +160,7 @@ mod probes {
     }
 }
 
-/// Hands out the library behind a face where the feature links what stands behind it.
+/// The library behind a face, where the feature links its archive.
 macro_rules! linked {
     ($($name:ident: $face:path, $feature:literal;)*) => {
         $(pub fn $name() -> Option<&'static dyn $face> {

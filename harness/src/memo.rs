@@ -1,4 +1,4 @@
-//! Answers kept, where the batteries ask the same question many times.
+//! Answers kept for questions that the batteries ask many times.
 
 use std::collections::BTreeMap;
 use std::sync::Mutex;

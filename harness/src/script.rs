@@ -1,4 +1,4 @@
-//! Rounds written for a person to read: data/rounds/README.md tells the language.
+//! Rounds written for a person to read, in the language of data/rounds/README.md.
 
 use std::collections::BTreeMap;
 
@@ -19,7 +19,7 @@ pub struct Calls<'a> {
     pub lower: &'a dyn LowerCopy,
 }
 
-/// What stands in `out` and in a store before anything is written there.
+/// Content of `out` and of a store before anything is written there.
 const BLANK: u8 = 0xa5;
 
 /// Runs every script of data/rounds.
@@ -27,7 +27,7 @@ pub fn all(calls: Calls) {
     each_script("rounds", |text| run(text, calls));
 }
 
-/// Runs a script, and tells the line at which an answer isn't the expected one.
+/// Runs a script; the error names the line at which an answer isn't the expected one.
 pub fn run(text: &str, calls: Calls) -> Result<(), String> {
     let mut script = Script { calls, terms: Terms::default(), units: BTreeMap::new(), answer: None };
     each_line(text, |words| script.line(words))?;
@@ -140,7 +140,7 @@ impl Script<'_> {
         self.call(seat, &lent, |record, keys, store, out| engine.step(record, keys, store, &message, out))
     }
 
-    /// A call on a unit's record and store; what a refusal must leave alone is looked at here.
+    /// A call on a unit's record and store, with a test of everything that a refusal must leave as it was.
     fn call(
         &mut self,
         seat: u32,
@@ -202,7 +202,7 @@ impl Script<'_> {
         Ok((first, second, lent))
     }
 
-    /// What is done to a message before it is heard, and to the lent buffers.
+    /// Changes to a message before it is heard, and to the lent buffers.
     fn changes(&self, words: &mut Words, message: &mut Vec<u8>) -> Result<Lent, String> {
         let mut lent = Lent::default();
         while let Some(word) = words.next_if(|&word| word != "and") {
@@ -235,7 +235,7 @@ impl Script<'_> {
         }
     }
 
-    /// The whole record: what isn't told is unset.
+    /// Test of a whole record: parts that aren't named are unset.
     fn has(&self, seat: u32, words: &mut Words) -> Result<(), String> {
         let Fleet { n, round } = self.terms.fleet;
         let mut record = Record { n, seat, round, ..Record::default() };

@@ -1,4 +1,4 @@
-//! How deep work goes on the stack.
+//! Depth of work on the stack.
 
 use std::ffi::c_void;
 

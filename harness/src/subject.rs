@@ -1,4 +1,4 @@
-//! What is tested and measured: C functions behind safe faces.
+//! Subjects of tests and measurements: C functions behind safe faces.
 
 use crate::reference::lms::N;
 use crate::reference::record::Written;

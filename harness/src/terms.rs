@@ -23,7 +23,7 @@ pub fn each_script(folder: &str, mut run: impl FnMut(&str) -> Result<(), String>
     }
 }
 
-/// Takes each line of a script that has more than a comment, to its last word, and tells the line that isn't taken.
+/// Takes each line of a script that has more than a comment, to its last word; the error names the line that isn't taken.
 pub fn each_line(text: &str, mut take: impl FnMut(&mut Words) -> Result<(), String>) -> Result<(), String> {
     for (number, line) in (1..).zip(text.lines()) {
         let line = line.split('#').next().unwrap_or_default().replace(',', " , ");
@@ -40,7 +40,7 @@ pub fn each_line(text: &str, mut take: impl FnMut(&mut Words) -> Result<(), Stri
     Ok(())
 }
 
-/// What a script's messages are about.
+/// Fleet and layouts of a script's messages.
 pub struct Terms {
     pub fleet: Fleet,
     layouts: BTreeMap<String, Value>,

@@ -3,16 +3,16 @@
 use crate::hex;
 use crate::reference::lms::Types;
 
-/// A public key, a message and a signature with the verdict that they are owed.
+/// A public key, a message and a signature with the expected verdict.
 pub struct Record {
     pub accept: bool,
     pub name: String,
     pub key: Vec<u8>,
     pub message: Vec<u8>,
     pub signature: Vec<u8>,
-    /// What was done to a damaged record and which step of the RFC rejects it.
+    /// The damage to a record, and the step of the RFC that rejects it.
     pub comment: String,
-    /// Where the file tells it, what the signature was made of.
+    /// The parameters of the signature's making, where the file has them.
     pub made: Option<Made>,
 }
 

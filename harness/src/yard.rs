@@ -1,4 +1,4 @@
-//! Inputs of the yard's program with their outputs, written for a person to read: data/yard/README.md tells the language.
+//! Inputs of the yard's program with their outputs, written for a person to read, in the language of data/yard/README.md.
 
 use std::io::{Read, Write};
 use std::process::{Command, Stdio};
@@ -21,7 +21,7 @@ pub struct Run {
     pub output: String,
 }
 
-/// Compares each output of data/yard with what a subject prints for its input.
+/// Compares each output of data/yard with a subject's output for its input.
 pub fn all(prints: impl Fn(&[u8]) -> String) {
     each_script("yard", |text| {
         for run in runs(text)? {
@@ -132,7 +132,7 @@ pub fn random_input(rng: &mut Rng) -> Vec<u8> {
     input
 }
 
-/// One in three has something wrong.
+/// An opening, one in three of them wrong.
 fn random_opening(fleet: Fleet, seat: u32, rng: &mut Rng) -> Vec<u8> {
     let Fleet { n, round } = fleet;
     let mut keys = fleet.key_table();
@@ -150,7 +150,7 @@ fn random_opening(fleet: Fleet, seat: u32, rng: &mut Rng) -> Vec<u8> {
     }
 }
 
-/// What a program prints for an input that comes in pieces of the length.
+/// Output of a program for an input in pieces of the length.
 pub fn printed(program: &mut Command, input: &[u8], piece: usize) -> String {
     let mut child = program.stdin(Stdio::piped()).stdout(Stdio::piped()).spawn().expect("the program starts");
     let (mut stdin, mut stdout) = (child.stdin.take().expect("piped"), child.stdout.take().expect("piped"));

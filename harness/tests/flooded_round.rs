@@ -46,7 +46,7 @@ fn forged(seat: u32, value: &Value, rng: &mut Rng) -> Vec<u8> {
     Submit { round, seat, value: *value, signature }.write()
 }
 
-/// What reaches boat 0 before its submit: forged SUBMITs of each seat, and the good ones in the middle of the flood.
+/// Messages to boat 0 before its submit: forged SUBMITs of each seat, and the good ones in the middle of the flood.
 fn flood(value: &Value, rng: &mut Rng) -> Vec<(Vec<u8>, bool)> {
     let of_each_seat = |rng: &mut Rng| {
         let seats = (0..FORGED).flat_map(|_| FLEET.seats());

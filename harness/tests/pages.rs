@@ -1,4 +1,4 @@
-//! What docs/HOST.md and docs/PROTOCOL.md say of the header and of lengths is so.
+//! Lengths, names and refusals in docs/HOST.md, docs/PROTOCOL.md and README.md against the header and the reference.
 
 use harness::reference::layout;
 use harness::reference::quorum::{k, t0};

@@ -1,4 +1,4 @@
-//! Plain C against the reference: what the proved code is measured against is right too.
+//! Plain C, the measure of the proved code's speed, against the reference.
 
 use harness::compare::{check_signature, hashes, make_key, sign};
 use harness::plain::Plain;

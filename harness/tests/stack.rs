@@ -1,4 +1,4 @@
-//! The stack that the calls need is what docs/HOST.md states.
+//! The stack that the calls need against docs/HOST.md's figures.
 #![cfg(feature = "zolbine")]
 
 use std::cell::RefCell;
@@ -19,12 +19,12 @@ use harness::reference::record::Record;
 use harness::stack::used;
 use harness::subject::Calls;
 
-/// In KiB, as docs/HOST.md has it: for any call, and for one that comes to no signature.
+/// In KiB, as in docs/HOST.md: for any call, and for one that comes to no signature.
 const STATED: usize = 40;
 const UNSIGNED: usize = 4;
 
-/// The answers that a call gives before it comes to a signature, and what is stated for them. Each is measured; any other answer
-/// may take what is stated for a call. Of two certificates the second is looked at after the first one's signatures.
+/// The answers that a call gives before it comes to a signature, and the stack stated for them. Each is measured; any other answer
+/// may take the stack stated for a call. Of two certificates the second is looked at after the first one's signatures.
 const BEFORE_SIGNATURES: [(&str, &[u32], usize); 15] = [
     ("version", &[0], UNSIGNED),
     ("message_length", &[0], UNSIGNED),
@@ -43,7 +43,7 @@ const BEFORE_SIGNATURES: [(&str, &[u32], usize); 15] = [
     ("step_lent, FULL", &[4, 5, 6, 7, 9, 10, 11, 12], UNSIGNED),
 ];
 
-/// The deepest that each call went, by the number that it answered.
+/// The greatest depth of each call, by the number that it answered.
 #[derive(Default)]
 struct Depths(RefCell<BTreeMap<(String, u32), usize>>);
 

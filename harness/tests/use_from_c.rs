@@ -21,7 +21,7 @@ fn told(run: &Output) -> String {
     format!("{}{}", String::from_utf8_lossy(&run.stdout), String::from_utf8_lossy(&run.stderr))
 }
 
-/// What a program prints that ends well.
+/// Output of a program that ends well.
 fn printed(program: &Path) -> String {
     let run = Command::new(program).output().unwrap();
     assert!(run.status.success() && run.stderr.is_empty(), "{}: {}", program.display(), told(&run));
@@ -33,7 +33,7 @@ fn a_c_program_makes_a_key_signs_and_checks() {
     printed(&compiled("harness/c/use_zolbine.c", "use_zolbine", &[]));
 }
 
-/// The header's lengths for every n against what the calls take.
+/// The header's lengths for every n against those that the calls take.
 #[test]
 fn the_headers_lengths_are_those_of_the_calls() {
     let c = printed(&compiled("harness/c/lengths.c", "lengths", &SANITIZED));
@@ -189,7 +189,7 @@ mod installed {
     }
 }
 
-/// As docs/HOST.md has it: no variables, and little of the C library.
+/// As in docs/HOST.md: no variables, and little of the C library.
 #[test]
 fn the_archive_shares_nothing() {
     let symbols = Command::new("nm").arg("--format=posix").arg(env!("ZOLBINE_ARCHIVE")).output().unwrap();
@@ -224,7 +224,7 @@ mod example {
         assert!(run.stdout == expected, "{command:?}: {}", told(&run));
     }
 
-    /// Its keys are those of the seed that it was made with.
+    /// By length and output, since the keys of the recorded round are those of the seed that it was made with.
     #[test]
     fn the_recorded_round_comes_to_what_its_script_says() {
         let runs = yard::runs(include_str!("../data/yard/radio.txt")).unwrap();

@@ -1,4 +1,4 @@
-//! The yard's program: the runs of data/yard, random inputs, and what the gate's programs must print.
+//! The yard's program: the runs of data/yard, random inputs, and the held output of the gate's programs.
 
 use harness::yard::runs;
 use harness::{reference, yard};

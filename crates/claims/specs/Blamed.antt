@@ -36,7 +36,7 @@ use Rattle.claims.specs.Units.{any-worthy, startOf, endOf, opened-range,
 use Rattle.claims.specs.Safe.{evidence-cases}
 use Rattle.claims.specs.Made.{evidence-accepted}
 
--- a message that is FULL
+-- the only case of a message that is a FULL
 full-cases : (P : Message → Type 0) (m : Message) → isFull m ≡ true → ((ρ sender : ℕ) (value : List ℕ) (es : List Entry) → P (Full ρ sender value es)) → P m
 unfolding isFull
 full-cases P (Submit ρ seat value signature) e f = absurd (false≢true e)
@@ -45,12 +45,12 @@ full-cases P (Full ρ sender value es) e f = f ρ sender value es
 full-cases P (Evidence ρ lower higher ps) e f = absurd (false≢true e)
 full-cases P Garbled e f = absurd (false≢true e)
 
--- a certificate of each of two values has been held or compared: there are guilty seats
+-- guilty seats, where a certificate of each of two values has been held or compared
 both-held : (a b : List ℕ) (r : Record) → a ≢ b → Held a r → Held b r → r .guilty ≢ 0
 both-held a b r d ha hb g =
     ⊎-elim (λ p. ⊎-elim (λ q. d (sym p ∙ q)) (λ q. q g) (hb .1)) (λ p. p g) (ha .1)
 
--- nothing owed, confirmed and another value heard: FULL was sent
+-- a unit that confirmed, heard another value and owes no FULL has sent it
 sent-of : (r : Record) → owesFull r ≡ false → r .confirmed ≡ true → otherHeard r ≡ true → r .sent ≡ true
 unfolding owesFull
 sent-of r owes confirmed other =
@@ -60,7 +60,7 @@ sent-of r owes confirmed other =
 module _ (S : Setting) where
   open Setting S using (n, round, keys, checks)
 
-  -- the mask that the check answers is the seats that the evidence names
+  -- the seats of the check's mask are those that the evidence names
   pub mask-names : (evidence : List ℕ) (seat : ℕ) → Accepted S evidence → In seat (evidenceCheck checks n round keys evidence .mask) ↔ Names S evidence seat
   unfolding evidenceCheck checkedBy unrefused
   mask-names evidence seat a = rw a (in-set seat (entrySeats (read n evidence)))
@@ -74,7 +74,7 @@ module _ (S : Setting) where
     abbrev end : Record
     end = endOf S u opened
 
-    -- a message that reaches the unit, with no cause of a refusal in itself, is taken
+    -- a message that reaches the unit, and in which there is no cause for a refusal
     module _ (m : Message) (formed : WellFormed n m) (forStep : isForStep m ≡ true) (timely : (r : Record) → early r m ≡ false) (taken : Taken checks n round m) (h : Reached S u (render m)) where
       abbrev t : Called
       t = h .step .call
@@ -114,7 +114,7 @@ module _ (S : Setting) where
           let is = step-is S (t .given) (render m) out (t .unit) (t .store) (h .step .isStep) in
           result-came S t (is .0 ∙ unrefused-here) ∙ ap (λ (s : State). s .unit) (is .1) ∙ ap (λ x. stepped x (start (t .unit) (t .store)) .unit) reads
 
-      -- what the step comes to, and what grows, holds at the end
+      -- a fact about the record after the step that later calls keep is a fact about the record at the end
       pub reached-end : (P : Record → Type 0) → ((r r′ : Record) → Grows r r′ → P r → P r′)
           → ((r : Record) (store : List ℕ) → r .n ≡ n → Sound checks Any r store → storeLength (r .n) ≤ length store → Settled r → P (stepped m (start r store) .unit)) → P end
       reached-end P grows f =
@@ -144,7 +144,7 @@ module _ (S : Setting) where
         (λ r r′ g. g .held value)
         (λ r store e z room settled. full-held checks Any (start r store) z room settled round sender value es (subst (λ i. Entries checks Any i value es) (sym e) entries))
 
-    -- ---- what the unit confirmed and sent
+    -- ---- the unit's NOTICE and FULL
 
     abbrev Own : ℕ → ℕ → List ℕ → Type 0
     Own ρ seat value = (ρ ≡ round) × (seat ≡ u .seat) × (value ≡ end .own .value)
@@ -165,7 +165,7 @@ module _ (S : Setting) where
           subst (λ ρ. Writes S u (Notice ρ (u .seat) value)) (own .0) (subst (λ t. Writes S u (Notice (c .0) t value)) (own .1) (c .2)),
         )
 
-    -- a FULL that it wrote is of its own value
+    -- the unit has written a FULL of the value
     abbrev WroteFull : List ℕ → Type 0
     WroteFull value = (es : List Entry) × Entries checks Any n value es × Writes S u (Full round (u .seat) value es)
 
@@ -183,7 +183,7 @@ module _ (S : Setting) where
         ))
         (f .2)
 
-    -- ---- evidence that it wrote
+    -- ---- evidence that the unit wrote
 
     pub guilty-blames : end .guilty ≢ 0 → Blames S u
     guilty-blames guilty =
@@ -205,7 +205,7 @@ module _ (S : Setting) where
         })
         (f .1) (f .2)
 
-  -- ---- all of them
+  -- ---- all units
 
   module _ {I : Type 0} (boat : I → Honest) (opened : (i : I) → IsOpened S (boat i)) where
     abbrev endAt : I → Record
@@ -230,7 +230,7 @@ module _ (S : Setting) where
         let heard = reached-heard (boat i) (opened i) (boat j .seat) b (inside j) (y .2) (reached i other .notice round (boat j .seat) b (y .3)) in
         sent-of (endAt i) (settled i .owes) (x .0) (other-heard b (endAt i) heard (λ e. different (sym (x .1) ∙ sym e)))
 
-    -- and every unit has held a certificate of its layout, or compared one
+    -- every unit has held or compared a certificate of a layout whose FULL was sent
     each-held : (i : I) (a : List ℕ) → Confirms S (boat i) a → endAt i .sent ≡ true → ReachedOthers S boat i → (l : I) → (Held a (endAt l) → ⊥) → ⊥
     each-held i a ca sent reached l never =
         let x = confirmed i a ca in

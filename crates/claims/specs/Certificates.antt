@@ -1,5 +1,5 @@
--- Certificates and what is made from them: a FULL's entries are a certificate, and a certificate's are a FULL's; two
--- certificates of different values are evidence that names t0 + 1 seats or more.
+-- Certificates, and the messages made from them: a FULL's entries make a certificate, and a certificate makes a FULL's entries;
+-- two certificates of different values make evidence that names t0 + 1 seats or more.
 -- Assumes nothing.
 use mathlib.Core.Path.{_≡_, refl, sym, ap, subst, _∙_}
 use mathlib.Core.Bool.{true, not}
@@ -61,7 +61,7 @@ unfolding pairsOf
 pair-seats n mask c d = map-map (λ (p : Pair). p .seat) (pairOf c d) (seats n mask) ∙ map-id (seats n mask)
 
 module _ (checks : Checks) (W : Relation) where
-  -- the entries of either are of their form
+  -- the form of a FULL's entries and of an EVIDENCE's pairs
   pub entries-laid : (n : ℕ) (value : List ℕ) (es : List Entry) → Entries checks W n value es → Laid fullForm es
   unfolding fullForm
   entries-laid n value es z e d = (z .attested e d .sized, refl)
@@ -72,7 +72,7 @@ module _ (checks : Checks) (W : Relation) where
       let own = z .values p d in
       pair-laid lower higher p (sym (own .0)) (sym (own .1)) (z .lows p d .sized) (z .highs p d .sized)
 
-  -- a certificate's FULL
+  -- the FULL of a certificate
   pub entries-of : (n : ℕ) (c : Certificate) → Certifies checks W n c → Entries checks W n (c .value) (entriesOf n c)
   unfolding entriesOf
   entries-of n c z = record {
@@ -83,7 +83,7 @@ module _ (checks : Checks) (W : Relation) where
     attested = each-map (λ (e : Entry). Attested checks W (e .seat) (c .value) (e .signature)) (entryOf c) (seats n (c .seats)) (λ s d. z .attested s (seats-in-set n (c .seats) s d));
   }
 
-  -- a FULL's certificate
+  -- the certificate of a FULL
   signature-attested : (value : List ℕ) (es : List Entry) (s : ℕ) → Each (λ (e : Entry). Attested checks W (e .seat) value (e .signature)) es → List·Memᴰ s (map (λ (e : Entry). e .seat) es) → Attested checks W s value (signatureOf es s)
   unfolding signatureOf
   signature-attested value [] s h d = absurd (List·Memᴰ·not-nil d)
@@ -101,7 +101,7 @@ module _ (checks : Checks) (W : Relation) where
     attested = λ s i. signature-attested value es s (z .attested) (in-set s (map (λ (e : Entry). e .seat) es) .0 i);
   }
 
-  -- the evidence of two, the lower first
+  -- the evidence of two certificates, the lower first
   pub pairs-of : (n : ℕ) (c d : Certificate) → 1 ≤ n → Certifies checks W n c → Certifies checks W n d → isLower (c .value) (d .value) ≡ true
       → Pairs checks W n (c .value) (d .value) (pairsOf n (shared (c .seats) (d .seats)) c d)
   unfolding pairsOf
@@ -127,7 +127,7 @@ module _ (checks : Checks) (W : Relation) where
         highs = each-map (λ (p : Pair). Attested checks W (p .seat) (d .value) (p .higher)) pair (seats n both) (λ s m. z .attested s (in-shared s (c .seats) (d .seats) .0 (seats-in-set n both s m) .1));
       }
 
-  -- in either order
+  -- the evidence of two certificates, in either order
   pub evidence-elim : (P : Message → Type 0) (n round : ℕ) (c d : Certificate) → 1 ≤ n → Certifies checks W n c → Certifies checks W n d → c .value ≢ d .value
       → ((lower higher : List ℕ) (ps : List Pair) → Pairs checks W n lower higher ps → P (Evidence round lower higher ps)) → P (evidenceOf n round c d)
   unfolding evidenceOf orderedEvidence
@@ -136,7 +136,7 @@ module _ (checks : Checks) (W : Relation) where
       (λ l. f (c .value) (d .value) (pairsOf n (shared (c .seats) (d .seats)) c d) (pairs-of n c d some y z l))
       (λ l. f (d .value) (c .value) (pairsOf n (shared (d .seats) (c .seats)) d c) (pairs-of n d c some z y (lower-other (c .value) (d .value) (y .sized ∙ sym (z .sized)) different ∙ ap not l)))
 
-  -- it names the seats that they share
+  -- evidence of two certificates names the seats that they share
   pub evidence-names : (n round : ℕ) (c d : Certificate) → Certifies checks W n c → Certifies checks W n d
       → setOf (entrySeats (evidenceOf n round c d)) ≡ shared (c .seats) (d .seats)
   unfolding evidenceOf orderedEvidence entrySeats formSeats evidenceForm

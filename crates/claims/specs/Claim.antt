@@ -1,13 +1,13 @@
 -- Demand 3, whole: one claim about any family of honest units, one round and one key table, from end to end.
 --
--- What a reader has to read in order to believe it; no proof is among it:
+-- Statements and definitions to read in order to believe it, without any proof:
 -- 1. `demand-3`, in this file, and `Demand3` in `round/specs/Demand3`: the demand, sentence by sentence.
 -- 2. `round/specs/Round`: the words of the demand, beside document 01's "A round as a whole".
--- 3. `protocol/specs/Calls`: what an opening, a submit, a step, a making of evidence and the evidence check do; with the files of
---    `protocol/specs` that it is put together from (`Step`, `Refusals`, `Conditions`, `Record`, `Certificate`, `Message`, `Entries`,
---    `Layout`, `Values`), and `quorum/specs/Quorum`: t0, k, sets of seats and their sizes.
+-- 3. `protocol/specs/Calls`: the results of an opening, a submit, a step, a making of evidence and the evidence check; with the files
+--    of `protocol/specs` under it (`Step`, `Refusals`, `Conditions`, `Record`, `Certificate`, `Message`, `Entries`, `Layout`,
+--    `Values`), and `quorum/specs/Quorum`: t0, k, sets of seats and their sizes.
 -- 4. `protocol/specs/Signatures: checks`: the signature check, by `rfc8554/specs`' `Verify`, `Tree` and `Ots`, and `fips180/specs/Fips`.
--- 5. `as-promised`, in this file: the lists are those that the contracts of the code come to.
+-- 5. `as-promised`, in this file: the lists of the claim are the lists by the contracts of the code.
 -- Assumes nothing.
 use mathlib.Core.Path.{_≡_, refl, ap, _∙_}
 use mathlib.Core.List.{List, [], _∷_, map, List·Memᴰ, List·Memᴰ·head, List·Memᴰ·tail}
@@ -24,7 +24,7 @@ use Rattle.claims.specs.Blamed.{blamed}
 
 -- ---- the claim
 
--- beyond the demand: nothing hangs on "each alone in its seat"
+-- beyond the demand: the same without "each alone in its seat"
 pub wherever-seated : (S : Setting) {I : Type 0} (boat : I → Honest) → ((i : I) → IsOpened S (boat i)) → Demand3 S boat
 wherever-seated S boat opened = record { safety = safe-delivered S boat opened; accountability = blamed S boat opened; safety-however = safe S boat opened }
 
@@ -40,7 +40,7 @@ setting n round keys = record { n = n; round = round; keys = keys; checks = chec
 pub demand-3 : (n round : ℕ) (keys : List ℕ) {I : Type 0} (boat : I → Honest) → Family (setting n round keys) boat → Demand3 (setting n round keys) boat
 demand-3 n round keys = demand-3-any (setting n round keys)
 
--- ---- the lists are of calls as the code's contracts state them
+-- ---- lists of calls by the code's contracts
 
 -- Calls one after another from a record and a store, each with its result as the contract of submit, step or thin entry promises it:
 -- signatures are checked in the round of the record that the call is given.
@@ -73,7 +73,7 @@ module _ (n round : ℕ) (keys : List ℕ) where
       rw (same-outcome c r store (h first (List·Memᴰ·head refl)))
       (ap (λ (rest : List (Called × Result)). (first, result) ∷ rest) (same-list (result .unit) (result .store) cs (λ x d. h x (List·Memᴰ·tail d))))
 
-  -- from an opening without a refusal they are, call by call and result by result, the list that the claim is about
+  -- after an opening without a refusal: call by call and result by result the list of the claim
   pub as-promised : (u : Honest) → IsOpened S u → promised keys (opening n (u .seat) round keys .unit) (u .store) (u .calls) ≡ map withResult (listOf S u)
   as-promised u opened =
       same-list (opening n (u .seat) round keys .unit) (u .store) (u .calls)

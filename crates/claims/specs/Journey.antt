@@ -1,5 +1,5 @@
--- A list of calls from end to end: the invariant stands before and after each, what was said, heard and held only grows, and
--- over the whole list a message is written just where its flag comes to be set.
+-- A list of calls from end to end: the invariant holds before and after each; values said, heard and held stay; and over the whole
+-- list a message is written exactly where its flag becomes set.
 -- Assumes nothing.
 use mathlib.Core.Path.{_≡_, refl, ap, _∙_}
 use mathlib.Core.Bool.{true}
@@ -29,12 +29,12 @@ unfoldable pub lastOf : Setting → Record → List ℕ → List Call → Record
 lastOf S r store [] = r
 lastOf S r store (c ∷ cs) = lastOf S (outcome S c r store .unit) (outcome S c r store .store) cs
 
--- ---- what holds of a call
+-- ---- the invariant over one call
 
 module _ (S : Setting) (W : Relation) where
   open Setting S using (keys, checks)
 
-  -- worth of the signatures that a call takes
+  -- the relation holds of the signatures that a call takes
   abbrev pub WorthyGiven : Call → Record → Type 0
   WorthyGiven (BySubmit value signature out) r = W (r .seat) value signature
   WorthyGiven (ByStep bytes out) r = EachSigned W (read (r .n) bytes)
@@ -57,7 +57,7 @@ module _ (S : Setting) (W : Relation) where
       let t = step-fit checks keys r store bytes out q in
       stepped-done checks W (start r store) z (t .lent .storeRoom) e m (brings checks W r m (t .message) (t .timely) (read-sized (r .n) bytes) w)
 
-  -- the value of a submit that isn't refused is the own one
+  -- the own value after a submit that isn't refused
   pub submit-value : (value signature out : List ℕ) (r : Record) (store : List ℕ) → Sound checks W r store → refusalOf S (BySubmit value signature out) r store ≡ 0 → W (r .seat) value signature
       → (cameTo (BySubmit value signature out) r store .unit .own .submitted ≡ true) × (cameTo (BySubmit value signature out) r store .unit .own .value ≡ value)
   unfolding refusalOf cameTo
@@ -65,7 +65,7 @@ module _ (S : Setting) (W : Relation) where
       let t = submit-fit checks keys r store value signature out q in
       submitted-value checks W value signature (start r store) z (t .lent .storeRoom) (t .first) (t .sizedValue) (record { checked = t .checked; sized = t .sizedSignature; worthy = w })
 
-  -- from the record and store that it gets to those that it leaves
+  -- facts about a call, from the record and store that it gets to those that it leaves
   pub record Passed (r : Record) (store : List ℕ) (r′ : Record) (store′ : List ℕ) (ms : List Message) : Type 0 where
     pub sound : Sound checks W r′ store′
     pub settled : Settled r′
@@ -97,9 +97,9 @@ module _ (S : Setting) (W : Relation) where
       (passed-by (refusalOf S (t .given) (t .unit) (t .store)) (cameTo (t .given) (t .unit) (t .store)) (t .unit) (t .store) z e
       (λ q. done (t .given) (t .unit) (t .store) z e q (w (ap (λ (x : Result). x .refusal) is ∙ q))))
 
-  -- ---- what holds of a list
+  -- ---- the invariant over a list
 
-  -- at a call of it
+  -- facts at one call of a list
   pub record At (r : Record) (t : Called) (end : Record) : Type 0 where
     pub since : Grows r (t .unit)
     pub sound : Sound checks W (t .unit) (t .store)

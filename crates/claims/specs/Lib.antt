@@ -1,11 +1,11 @@
 -- Demands 1 and 3 over whole lists of calls, proved. Their statements are definitions of crate `round`.
 --
--- The claims are in `Claim` (demand 3, whole, with the order in which to read it) and at the end of `Once` (demand 1); the two halves of
--- demand 3 are at the end of `Safe` and of `Blamed`, and what evidence made of two certificates is worth is at the end of `Made`. Crate
--- `examples` shows that they say something.
+-- The claims are in `Claim` (the whole of demand 3, with an order of reading) and at the end of `Once` (demand 1); the two halves of
+-- demand 3 are at the end of `Safe` and of `Blamed`, and the claim about evidence made from two certificates is at the end of `Made`.
+-- Crate `examples` has rounds in which their premises hold.
 --
--- `Sound` has what holds of record and store all along a list; `Parts` and `Whole` show it of the parts of a step and of a whole
--- one, `Journey` and `Units` of a list. The other files have the laws that these stand on.
+-- `Sound` has the invariant of record and store along a list; `Parts` and `Whole` prove it for the parts of a step and for a whole
+-- step, `Journey` and `Units` for a list. The other files have laws for these.
 
 pub mod Slots
 pub mod Sound

@@ -1,4 +1,4 @@
--- Evidence made from two certificates in hand, where the call isn't refused: the check accepts it, and it names exactly the seats that
+-- Evidence made from two certificates in hand by a call that isn't refused: the check accepts it, and it names exactly the seats that
 -- the two share, t0 + 1 or more. For all inputs, and for any signature check.
 -- Assumes nothing.
 use mathlib.Core.Path.{_≡_, refl, subst, _∙_}
@@ -24,7 +24,7 @@ use Rattle.claims.specs.Safe.{conditions, evidenceFrom, making-bytes, ce
 module _ (S : Setting) (outside : Outside (S .n) (S .round) (S .keys)) where
   open Setting S using (n, round, keys, checks)
 
-  -- evidence of t0 + 1 pairs or more is accepted, and what it is read as names its seats
+  -- evidence of t0 + 1 pairs or more is accepted, and the check's mask has its seats
   accepted-as : (ρ : ℕ) (lower higher : List ℕ) (ps : List Pair) → ρ ≡ round → Pairs checks Any n lower higher ps
       → (evidenceCheck checks n round keys (render (Evidence ρ lower higher ps)) .number ≡ 0)
       × (evidenceCheck checks n round keys (render (Evidence ρ lower higher ps)) .mask ≡ setOf (entrySeats (Evidence ρ lower higher ps)))
@@ -45,7 +45,7 @@ module _ (S : Setting) (outside : Outside (S .n) (S .round) (S .keys)) where
       let a = accepted-as ρ lower higher ps e z in
       (a .0, rw (a .1) (z .named))
 
--- bytes that the check accepts, and that name exactly the seats which two certificates share
+-- evidence that the check accepts and that names exactly the seats that two certificates share
 module _ (S : Setting) where
   open Setting S using (n, round, keys, checks)
 
@@ -76,7 +76,7 @@ module _ (S : Setting) (h : InHand) (unrefused-making : making (S .checks) (S .n
   second : Certifies checks Any n (certificateIn b)
   second = certifies-in checks Any n round b (taken .secondFull) (taken .second) (read-sized n (h .b)) (λ s m. tt)
 
-  -- the claim, of the bytes that the call's answer counts
+  -- the claim, about the bytes that the call's answer counts
   pub made-accepted : Accuses S (h .a) (h .b) (makingOf S h)
   unfolding unrefused
   made-accepted =

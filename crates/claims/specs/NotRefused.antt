@@ -1,6 +1,7 @@
--- When a call is not refused (demand 1: "for a cause in the table and for no other"): just where none of its numbers has a cause. Each
--- record has what a call asks, number by number in the table's words. The claims are both ways, and over every record, possible or not,
--- every message and every buffer. So a call that refuses anything else, or all, doesn't meet them; the last claim shows it of a step.
+-- Calls that are not refused (demand 1: "for a cause in document 01's table, .. and for no other"): exactly those for which no number has
+-- a cause. Each record type lists what a call asks, number by number in the table's words. The claims go both ways, for every record of
+-- a unit, possible or not, every message and every buffer. So a call that refuses more, or everything, doesn't meet them; the last claim
+-- shows it for a step.
 -- Assumes nothing.
 use Prim.Native.Nat.{ℕ, zero, suc, _+_, _*_, _≤_, _<_}
 use mathlib.Core.Path.{_≡_, refl, sym, subst, _∙_}
@@ -120,7 +121,7 @@ module _ (n seat round : ℕ) (keys : List ℕ) where
 
 -- ---- submit and step
 
--- what both are lent
+-- arguments of both calls
 pub record Lent (keys : List ℕ) (r : Record) (store out : List ℕ) : Type 0 where
   -- 4: the record is possible
   pub possible : impossible r ≡ false
@@ -131,7 +132,7 @@ pub record Lent (keys : List ℕ) (r : Record) (store out : List ℕ) : Type 0 w
   -- 7: "Out buffer: 1,629 + 4,360 × k bytes or more"
   pub outRoom : outLength (r .n) ≤ length out
 
--- and what is left of their lists
+-- the rest of both lists of conditions
 lent-of : (keys : List ℕ) (r : Record) (store out : List ℕ) (rest : List Condition) → firstOf (recordConditions keys r store out ++ rest) ≡ 0 → Lent keys r store out × (firstOf rest ≡ 0)
 unfolding recordConditions shortStore shortOut
 lent-of keys r store out rest e =
@@ -215,7 +216,7 @@ module _ (checks : Checks) (keys : List ℕ) (r : Record) (store bytes out : Lis
   unfolding step resultBy
   step-not-refused = (step-fit, fit-step)
 
--- a message as document 01 lays it out
+-- a step with a message as document 01 lays it out
 pub message-not-refused : (checks : Checks) (keys : List ℕ) (r : Record) (store out : List ℕ) (m : Message) → Lent keys r store out → WellFormed (r .n) m → isForStep m ≡ true → Taken checks (r .n) (r .round) m
     → early r m ≡ false → step checks keys r store (render m) out .refusal ≡ 0
 message-not-refused checks keys r store out m lent formed forStep taken timely =
@@ -230,7 +231,7 @@ message-not-refused checks keys r store out m lent formed forStep taken timely =
 
 -- ---- the evidence check, and evidence from two certificates
 
--- what both are given beside messages
+-- arguments of both calls beside messages
 pub record Outside (n round : ℕ) (keys : List ℕ) : Type 0 where
   -- 1: n is 1 to 32
   pub some : 1 ≤ n
@@ -448,7 +449,7 @@ module _ (leaf : ℕ) (message seed I C tree out : List ℕ) where
 
 -- ---- the premises can be met
 
--- a unit just opened takes a NOTICE: a step that refused all, with 9 or with any number, would not be this one
+-- a unit just opened takes a NOTICE, so a step that refuses every message doesn't meet these claims
 pub first-notice-taken : (checks : Checks) (n seat round : ℕ) (keys store out : List ℕ) (sender : ℕ) (value : List ℕ) → OpeningFit n seat round keys → storeLength n ≤ length store → outLength n ≤ length out
     → sender < n → length value ≡ valueLength → step checks keys (fresh n seat round) store (render (Notice round sender value)) out .refusal ≡ 0
 unfolding fresh roundOf seatsOf entrySeats signed rising early isForStep

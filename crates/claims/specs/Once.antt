@@ -32,7 +32,7 @@ use Rattle.claims.specs.Units.{any-worthy, endOf, start-n, start-sound, 
 
 -- ---- messages by kind
 
--- each message is of one kind
+-- number of messages, kind by kind
 kinds : List Message → ℕ
 kinds ms = count (isOf SUBMIT) ms + count (isOf NOTICE) ms + count (isOf FULL) ms + count (isOf EVIDENCE) ms
 
@@ -59,14 +59,14 @@ out-filled : (n : ℕ) → submitLength + noticeLength + fullEntryAt (k n) + evi
 unfolding outLength fullLength evidenceLength
 out-filled n = refl
 
--- none but evidence, and one at most
+-- messages that are all EVIDENCE, one at most: none, or a single one
 evidence-alone : (ms : List Message) → length ms ≡ count (isOf EVIDENCE) ms → count (isOf EVIDENCE) ms ≤ 1 → (ms ≡ []) ⊎ ((m : Message) × (isEvidence m ≡ true) × (ms ≡ m ∷ []))
 unfolding count
 evidence-alone [] e l = inl refl
 evidence-alone (m ∷ []) e l = inr (m, true-of-worth (isEvidence m) (omega arith), refl)
 evidence-alone (m ∷ m′ ∷ ms) e l = absurd (omega arith)
 
--- the bytes that messages of each kind take
+-- bytes of messages, kind by kind
 module _ (checks : Checks) (W : Relation) (r : Record) where
   bytes-by-kind : (ms : List Message) → Each (Good checks W r) ms
       → length (renderAll ms) ≤ count (isOf SUBMIT) ms * submitLength + count (isOf NOTICE) ms * noticeLength + count (isOf FULL) ms * fullEntryAt (k (r .n)) + count (isOf EVIDENCE) ms * evidenceEntryAt (k (r .n))
@@ -107,7 +107,7 @@ module _ (S : Setting) (u : Honest) (opened : IsOpened S u) where
   pub written-messages : (ms : List Message) × Are n (writtenOver S ts) ms
   written-messages = (allMessages S ts, all-are S u opened)
 
-  -- and at most one of each kind: SUBMIT, NOTICE, FULL and EVIDENCE
+  -- the claim: at most one of each kind, SUBMIT, NOTICE, FULL and EVIDENCE
   pub at-most-one : AtMostOne S u
   at-most-one ms a κ =
       let e = are-unique n (writtenOver S ts) ms (allMessages S ts) a (all-are S u opened) in
@@ -133,14 +133,14 @@ module _ (S : Setting) (u : Honest) (opened : IsOpened S u) where
     abbrev here : Passed S Any (t .unit) (t .store) (resultOf S t .unit) (resultOf S t .store) (messages S t)
     here = stop S u opened Any any t d .after
 
-    -- and no record that comes out is
+    -- no record that comes out of a call is impossible
     pub none-impossible : impossible (resultOf S t .unit) ≡ false
     none-impossible = possible checks Any (resultOf S t .unit) (resultOf S t .store) (here .sound) (here .settled)
 
     counted-once : (κ : Kind) → count (isOf κ) (messages S t) ≤ 1
     counted-once κ = let c = here .counts κ in let l = worth-le-one (flagOf κ (resultOf S t .unit)) in omega arith
 
-    -- what is written fits the stated out
+    -- the bytes written fit the stated out
     pub written-fits : length (writtenIn S t) ≤ outLength n
     written-fits =
         let ms = messages S t in
@@ -168,7 +168,7 @@ module _ (S : Setting) (u : Honest) (opened : IsOpened S u) where
         go (yes q) = q
         go (no q) = absurd (omega (arith, count-pos (isOf EVIDENCE) (messages S t) m e is, none-of EVIDENCE (rw (ne-eqb (t .unit .guilty) 0 q))))
 
-    -- once FULL is sent, a call writes nothing, or one EVIDENCE; and that only while guilty seats are empty
+    -- once FULL is sent, a call writes nothing, or one EVIDENCE, and that only while no seat is guilty
     pub quiet-once-sent : t .unit .sent ≡ true
         → (writtenIn S t ≡ []) ⊎ ((m : Message) × (isEvidence m ≡ true) × (t .unit .guilty ≡ 0) × (writtenIn S t ≡ render m))
     unfolding kinds renderAll
@@ -184,6 +184,6 @@ module _ (S : Setting) (u : Honest) (opened : IsOpened S u) where
         (λ h. inr (h .0, h .1, innocent (h .0) (rw (h .2) (List·Memᴰ·head refl)) (h .1), are .1 ∙ ap renderAll (h .2) ∙ append-nil (render (h .0))))
         alone
 
-    -- so with both, nothing is ever written again
+    -- after FULL and EVIDENCE, nothing is written
     pub nothing-more : t .unit .sent ≡ true → t .unit .guilty ≢ 0 → writtenIn S t ≡ []
     nothing-more sent guilty = ⊎-elim (λ e. e) (λ h. absurd (guilty (h .2))) (quiet-once-sent sent)

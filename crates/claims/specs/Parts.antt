@@ -1,5 +1,5 @@
--- The parts of a submit and a step: each leaves record and store sound, only adds to what stood, and writes a message just
--- where its flag comes to be set.
+-- The parts of a submit and a step: each leaves record and store sound, keeps values said, heard and held, and writes a message
+-- exactly where its flag becomes set.
 -- Assumes nothing.
 use mathlib.Core.Path.{_≡_, refl, sym, ap, subst, _∙_}
 use mathlib.Core.Bool.{Bool, true, false, cond, not, _&&_, true≢false}
@@ -85,7 +85,7 @@ same-flags r r′ a b c d NOTICE = b
 same-flags r r′ a b c d FULL = c
 same-flags r r′ a b c d EVIDENCE = rw d
 
--- the notices with one more value: none heard, another one heard, or nothing new
+-- the three cases of one more value heard: the first, another one, or nothing new
 notices-elim : (P : Notices → Type 0) (value : List ℕ) (r : Record) → (r .notices .heard ≡ 0 → P (record { heard = 1; value = value }))
     → (r .notices .heard ≡ 1 → value ≢ r .notices .value → P (record { heard = 2; value = r .notices .value }))
     → (r .notices .heard ≢ 0 → (r .notices .heard ≡ 1 → value ≡ r .notices .value) → P (r .notices)) → P (noticesWith value r)
@@ -100,7 +100,7 @@ notices-elim P value r none other known =
     (λ e. known (eqb-false h 0 z)
     (λ one. ⊎-elim (λ q. absurd (eqb-false h 1 q one)) (λ q. same-true value v (not-false (same value v) q)) (and-false-either (eqb h 1) (not (same value v)) e))))
 
--- a value that isn't the own one, among those heard: FULL is owed until it is sent
+-- another value than the own one among those heard
 pub other-heard : (value : List ℕ) (r : Record) → Heard value r → value ≢ r .own .value → otherHeard r ≡ true
 unfolding otherHeard noneHeard oneHeard
 other-heard value r h d =
@@ -110,7 +110,7 @@ other-heard value r h d =
     (λ q. rw (same-false (r .notices .value) (r .own .value) (λ p. d (sym (h .1 (eqb-true e 1 q)) ∙ p)))) (λ q. refl))
 
 module _ (checks : Checks) (W : Relation) where
-  -- a message that the unit has written stays what it was
+  -- a message that the unit has written stays good as the record grows
   pub good-grows : (r r′ : Record) → Grows r r′ → (m : Message) → Good checks W r m → Good checks W r′ m
   good-grows r r′ g (Submit ρ seat value signature) h = (said-grows r r′ ρ seat value g (h .0), h .1)
   good-grows r r′ g (Notice ρ seat value) h = said-grows r r′ ρ seat value g h
@@ -127,7 +127,7 @@ module _ (checks : Checks) (W : Relation) where
     good = λ h. b .good (a .good h);
   }
 
-  -- a later state has room where the first has
+  -- room in a later state
   pub room-leads : (s s′ : State) → Leads checks W s s′ → Room s → Room s′
   room-leads s s′ a room = rw (a .stored, a .grows .n) room
 
@@ -155,7 +155,7 @@ module _ (checks : Checks) (W : Relation) where
 
   -- ---- collect
 
-  -- a new seat's signature over the value
+  -- the collection with the signature of a new seat
   pub collection-with : (n seat : ℕ) (own : Own) (signature store : List ℕ) → seat < n → storeLength n ≤ length store → bit seat (own .collected) ≡ 0
       → size (own .collected) < k n → Attested checks W seat (own .value) signature → Collection checks W n own store
       → Collection checks W n (record { submitted = own .submitted; value = own .value; collected = with seat (own .collected) }) (fill n collectedBank seat signature store)
@@ -173,7 +173,7 @@ module _ (checks : Checks) (W : Relation) where
           rw (slot-fill-other n collectedBank seat signature store collected-bank inside room (g .sized) collectedBank s (collected-bank .0) (in-below n s (own .collected) (z .below) old) (λ _ q. d (sym q)))
           (z .attested s old)
 
-  -- the first certificate's bank is as it was
+  -- the first certificate beside a new signature in the other bank
   pub holding-beside : (n seat guilty : ℕ) (r : Record) (signature store : List ℕ) → seat < n → storeLength n ≤ length store → length signature ≡ signatureLength
       → Holding checks W n (r .first) guilty store → Holding checks W n (r .first) guilty (fill n collectedBank seat signature store)
   holding-beside n seat guilty r signature store inside room sized z = record {
@@ -302,7 +302,7 @@ module _ (checks : Checks) (W : Relation) where
         notices-elim (λ x. (x .heard ≢ 0) × (x .heard ≡ 1 → x .value ≡ value)) value (s .unit) (λ e. ((λ q. omega arith), λ q. refl)) (λ e d. ((λ q. omega arith), λ q. absurd (omega arith)))
         (λ a b. (a, λ e. sym (b e)))
 
-  -- ---- certificates of the unit's own
+  -- ---- the unit's own certificate
 
   -- a unit that has collected a seat has submitted
   pub collected-submitted : (r : Record) (store : List ℕ) → Sound checks W r store → 1 ≤ size (r .own .collected) → r .own .submitted ≡ true
@@ -323,7 +323,7 @@ module _ (checks : Checks) (W : Relation) where
 
   -- ---- reply
 
-  -- confirmed, and so k seats collected, and so submitted
+  -- a unit that has confirmed has collected k seats, and so has submitted
   pub confirmed-submitted : (r : Record) (store : List ℕ) → Sound checks W r store → r .confirmed ≡ true → r .own .submitted ≡ true
   confirmed-submitted r store z e = collected-submitted r store z (let f = z .flags .full e in let p = k-pos (r .n) (z .range .some) in omega arith)
 
@@ -470,7 +470,7 @@ module _ (checks : Checks) (W : Relation) where
         (λ e. leads-refl s z))
         (λ empty. hold-leads (eqb-true (r .first .seats) 0 (not-false (eqb (r .first .seats) 0) empty)))
 
-    -- the certificate has been held, or compared with the one held
+    -- the certificate is held, or compared with the one held
     pub holdOrBlame-held : Held (c .value) (holdOrBlame c s .unit)
     unfolding holdOrBlame blames holds hold blame write
     holdOrBlame-held =

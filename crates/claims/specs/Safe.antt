@@ -38,7 +38,7 @@ lower-self (x ∷ v) = rw (le-ltb x x (omega arith), eq-eqb x x refl) (lower-sel
 lower-differs : (lower higher : List ℕ) → isLower lower higher ≡ true → lower ≢ higher
 lower-differs lower higher l e = true≢false (sym l ∙ subst (λ v. isLower v higher ≡ false) (sym e) (lower-self higher))
 
--- a message that is EVIDENCE
+-- the only case of a message that is an EVIDENCE
 pub evidence-cases : (P : Message → Type 0) (m : Message) → isEvidence m ≡ true → ((ρ : ℕ) (lower higher : List ℕ) (ps : List Pair) → P (Evidence ρ lower higher ps)) → P m
 unfolding isEvidence
 evidence-cases P (Submit ρ seat value signature) e f = absurd (false≢true e)
@@ -47,7 +47,7 @@ evidence-cases P (Full ρ sender value es) e f = absurd (false≢true e)
 evidence-cases P (Evidence ρ lower higher ps) e f = f ρ lower higher ps
 evidence-cases P Garbled e f = absurd (false≢true e)
 
--- the certificate of a FULL that a making takes
+-- the certificate of a FULL that a making of evidence takes
 pub certifies-in : (checks : Checks) (R : Relation) (n round : ℕ) (m : Message) → isFull m ≡ true → Taken checks n round m → Sized n m → EachSigned R m → Certifies checks R n (certificateIn m)
 unfolding isFull certificateIn
 certifies-in checks R n round (Submit ρ seat value signature) e t l w = absurd (false≢true e)
@@ -59,7 +59,7 @@ certifies-in checks R n round Garbled e t l w = absurd (false≢true e)
 module _ (S : Setting) where
   open Setting S using (n, round, keys, checks)
 
-  -- ---- what a making writes
+  -- ---- bytes that a making of evidence writes
 
   abbrev pub conditions : InHand → List (ℕ × Bool)
   conditions h = makingConditions checks n round keys (read n (h .a)) (read n (h .b)) (h .out)
@@ -71,7 +71,7 @@ module _ (S : Setting) where
   unfolding making makingBy made
   making-bytes h = counted-written (making checks n round keys (h .a) (h .b) (h .out) .written) (h .out)
 
-  -- ---- an honest unit submits one layout
+  -- ---- the one layout of an honest unit
 
   module _ (u : Honest) (opened : IsOpened S u) where
     pub submits-end : (value : List ℕ) → Submits S u value → endOf S u opened .own .value ≡ value
@@ -86,9 +86,9 @@ module _ (S : Setting) where
         at .before .said (ap (λ (r : Record). r .own .submitted) came ∙ v .0) .1 ∙ ap (λ (r : Record). r .own .value) came ∙ v .1
 
   module _ {I : Type 0} (boat : I → Honest) (opened : (i : I) → IsOpened S (boat i)) (R : Relation) (takes : Takes S boat R) (none : NoneForged S boat R) where
-    -- ---- what a unit has stored
+    -- ---- signatures in a unit's store
 
-    -- a signature that a unit has stored was delivered, or is its own over what it submitted
+    -- origin of a signature in a unit's store: delivered, or the unit's own over a layout that it submitted
     abbrev Backed : I → Relation
     Backed j seat value signature = R seat value signature ⊎ ((seat ≡ boat j .seat) × Submits S (boat j) value)
 
@@ -110,17 +110,17 @@ module _ (S : Setting) where
 
     -- ---- an honest seat
 
-    -- it submitted the layout of a signature of its own that was delivered, or that it has stored itself
+    -- the honest unit has submitted the layout of each signature of its seat that checks and is delivered or in its store
     submitted-of : (i : I) (value signature : List ℕ) → checks (boat i .seat) value signature ≡ true → Backed i (boat i .seat) value signature → (Submits S (boat i) value → ⊥) → ⊥
     submitted-of i value signature c (inl r) never = true≢false (sym c ∙ none i value signature r never)
     submitted-of i value signature c (inr s) never = never (s .1)
 
-    -- and it submitted one layout alone
+    -- an honest unit has not submitted two layouts
     one-layout : (i : I) (lower higher : List ℕ) → isLower lower higher ≡ true → ((Submits S (boat i) lower → ⊥) → ⊥) → ((Submits S (boat i) higher → ⊥) → ⊥) → ⊥
     one-layout i lower higher l a b =
         a (λ s. b (λ s′. lower-differs lower higher l (sym (submits-end (boat i) (opened i) lower s) ∙ submits-end (boat i) (opened i) higher s′)))
 
-    -- so it is in no entry whose two signatures check and are backed
+    -- both signatures of an entry check and are backed, which no entry of an honest seat meets
     abbrev Both : I → List ℕ → List ℕ → Pair → Type 0
     Both j lower higher p =
         (checks (p .seat) lower (p .lower) ≡ true) × Backed j (p .seat) lower (p .lower)
@@ -132,7 +132,7 @@ module _ (S : Setting) where
         subst (λ s. (checks s lower (p .lower) ≡ true) × Backed i s lower (p .lower) × (checks s higher (p .higher) ≡ true) × Backed i s higher (p .higher)) (sym e) h in
         one-layout i lower higher l (submitted-of i lower (p .lower) (b .0) (b .1)) (submitted-of i higher (p .higher) (b .2) (b .3))
 
-    -- a signature of another's list is delivered, or of its own seat
+    -- the same for an entry that another unit has stored
     unnamed-at : (i j : I) (lower higher : List ℕ) (p : Pair) → isLower lower higher ≡ true → boat i .seat ≡ p .seat → checks (p .seat) lower (p .lower) ≡ true → Backed j (p .seat) lower (p .lower) → checks (p .seat) higher (p .higher) ≡ true → Backed j (p .seat) higher (p .higher) → ⊥
     unnamed-at i j lower higher p l e c (inl a) d (inl b) = not-both i lower higher p l e (c, inl a, d, inl b)
     unnamed-at i j lower higher p l e c (inr a) d b = not-both j lower higher p l (sym (a .0)) (c, inr a, d, b)
@@ -217,7 +217,7 @@ module _ (S : Setting) where
 
 -- ---- the claim
 
--- for every relation that holds at least of the signatures that calls took
+-- safety, for every relation that holds at least of the signatures that calls took
 pub safe : (S : Setting) {I : Type 0} (boat : I → Honest) → ((i : I) → IsOpened S (boat i))
     → (R : Relation) → Takes S boat R → NoneForged S boat R → NoneBlamed S boat R
 safe S boat opened R takes none = record {
@@ -226,7 +226,7 @@ safe S boat opened R takes none = record {
   accepted = accepted-safe S boat opened R takes none;
 }
 
--- and for the signatures that document 01 calls delivered
+-- safety, for the signatures that document 01 calls delivered
 pub safe-delivered : (S : Setting) {I : Type 0} (boat : I → Honest) → ((i : I) → IsOpened S (boat i))
     → NoneForged S boat (Delivered S boat) → NoneBlamed S boat (Delivered S boat)
 safe-delivered S boat opened none = safe S boat opened (Delivered S boat) takes none

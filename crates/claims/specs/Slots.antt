@@ -1,4 +1,4 @@
--- The store: a signature stands in its slot, and every other slot is as it was.
+-- Slots of the store: one that is filled has its signature, and every other is as before.
 -- Assumes nothing.
 use mathlib.Core.Path.{_≡_, refl, _∙_}
 use mathlib.Core.List.{List, [], _∷_, List·Memᴰ, List·Memᴰ·head, List·Memᴰ·tail, List·Memᴰ·not-nil, List·Memᴰ·cases-cons}
@@ -53,7 +53,7 @@ module _ (n bank : ℕ) (f : ℕ → List ℕ) (b : ForSignatures bank) where
       let l = fill-length n bank x (f x) store b (h .0) room (h .1) in
       fillEach-length xs (fill n bank x (f x) store) (λ s d. fit s (List·Memᴰ·tail d)) (omega arith) ∙ l
 
-  -- a slot that isn't among them
+  -- a slot that isn't among those filled
   pub slot-fillEach-other : (xs store : List ℕ) (bank′ seat′ : ℕ) → Fit xs → storeLength n ≤ length store → bank′ < length banks → seat′ < n → Each (λ s. bank ≡ bank′ → s ≡ seat′ → ⊥) xs
       → slot n bank′ (fillEach n bank f xs store) seat′ ≡ slot n bank′ store seat′
   unfolding fillEach
@@ -64,7 +64,7 @@ module _ (n bank : ℕ) (f : ℕ → List ℕ) (b : ForSignatures bank) where
       slot-fillEach-other xs (fill n bank x (f x) store) bank′ seat′ (λ s d. fit s (List·Memᴰ·tail d)) (omega arith) b′ s′ (λ s d. other s (List·Memᴰ·tail d))
       ∙ slot-fill-other n bank x (f x) store b (h .0) room (h .1) bank′ seat′ b′ s′ (other x (List·Memᴰ·head refl))
 
-  -- a slot that has its signature still has it
+  -- a slot that had its signature before
   slot-fillEach-still : (xs store : List ℕ) (seat : ℕ) → seat < n → Fit xs → storeLength n ≤ length store → slot n bank store seat ≡ f seat → slot n bank (fillEach n bank f xs store) seat ≡ f seat
   unfolding fillEach
   slot-fillEach-still [] store seat s fit room e = e

@@ -1,5 +1,5 @@
--- The invariant of record and store along a list of calls, with the worth of a stored signature as a parameter; and the growth of a
--- record from call to call.
+-- The invariant of record and store along a list of calls, with a relation for stored signatures as a parameter; and the growth of
+-- a record from call to call.
 -- Assumes nothing.
 use mathlib.Core.Path.{_≡_}
 use mathlib.Core.Bool.{Bool, true, false, not}
@@ -25,7 +25,7 @@ use Rattle.round.specs.Demand1.{Kind, SUBMIT, NOTICE, FULL, EVIDENCE, isOf, wor
 
 -- ---- growth of a record
 
--- the value is among the notices heard, or two others are
+-- the value is the one heard, or two values are heard
 abbrev pub Heard : List ℕ → Record → Type 0
 Heard value r = (r .notices .heard ≢ 0) × (r .notices .heard ≡ 1 → r .notices .value ≡ value)
 
@@ -33,7 +33,7 @@ Heard value r = (r .notices .heard ≢ 0) × (r .notices .heard ≡ 1 → r .not
 abbrev pub Held : List ℕ → Record → Type 0
 Held value r = (r .first .seats ≢ 0) × ((r .first .value ≡ value) ⊎ (r .guilty ≢ 0))
 
--- what was said, heard and held stays
+-- values said, heard and held stay
 pub record Grows (r r′ : Record) : Type 0 where
   pub n : r′ .n ≡ r .n
   pub seat : r′ .seat ≡ r .seat
@@ -42,18 +42,18 @@ pub record Grows (r r′ : Record) : Type 0 where
   pub heard : (value : List ℕ) → Heard value r → Heard value r′
   pub held : (value : List ℕ) → Held value r → Held value r′
 
--- the part of a record that says a unit has sent one of a kind
+-- a record's flag for messages of this kind sent
 abbrev pub flagOf : Kind → Record → Bool
 flagOf SUBMIT r = r .own .submitted
 flagOf NOTICE r = r .confirmed
 flagOf FULL r = r .sent
 flagOf EVIDENCE r = not (eqb (r .guilty) 0)
 
--- messages written, and the flag set: a message is written just where its flag comes to be set
+-- a message is written exactly where its flag becomes set
 abbrev pub Counts : Record → List Message → Record → Type 0
 Counts r ms r′ = (κ : Kind) → count (isOf κ) ms + worth (flagOf κ r) ≡ worth (flagOf κ r′)
 
--- every signature is worth something
+-- the relation that holds of every signature
 abbrev pub Any : Relation
 Any seat value signature = Unit {0}
 
@@ -71,7 +71,7 @@ pub record Flags (n collected : ℕ) (isConfirmed isSent : Bool) : Type 0 where
   pub full : isConfirmed ≡ true → size collected ≡ k n
   pub confirmed : isSent ≡ true → isConfirmed ≡ true
 
--- ---- what stands at the end of a call
+-- ---- facts at the end of a call
 
 pub record Settled (r : Record) : Type 0 where
   pub complete : size (r .own .collected) ≡ k (r .n) → r .confirmed ≡ true
@@ -89,7 +89,7 @@ pub record Said (r : Record) (ρ seat : ℕ) (value : List ℕ) : Type 0 where
 module _ (checks : Checks) (W : Relation) where
   -- ---- signatures
 
-  -- a signature that a unit has taken: it checks, has its length, and is worth what the parameter says
+  -- a signature that a unit has taken: it checks, has its length, and the relation holds of it
   pub record Attested (seat : ℕ) (value signature : List ℕ) : Type 0 where
     pub checked : checks seat value signature ≡ true
     pub sized : length signature ≡ signatureLength
@@ -143,13 +143,13 @@ module _ (checks : Checks) (W : Relation) where
     pub guiltyWithin : shared guilty (first .seats) ≡ guilty
     pub unheld : first .seats ≡ 0 → (first .value ≡ unset) × (guilty ≡ 0)
 
-  -- what the unit has submitted and collected
+  -- the value submitted and the seats collected
   pub record Submitted (n seat : ℕ) (own : Own) (store : List ℕ) : Type 0 where
     pub collection : Collection n own store
     pub unsaid : own .submitted ≡ false → (own .collected ≡ 0) × (own .value ≡ unset)
     pub said : own .submitted ≡ true → In seat (own .collected)
 
-  -- after every part of a call
+  -- the invariant after every part of a call
   pub record Sound (r : Record) (store : List ℕ) : Type 0 where
     pub range : InRange (r .n) (r .seat) (r .round)
     pub own : Submitted (r .n) (r .seat) (r .own) store
@@ -159,7 +159,7 @@ module _ (checks : Checks) (W : Relation) where
 
   -- ---- messages
 
-  -- what holds of a message that the unit has written
+  -- facts about a message that the unit has written
   abbrev pub Good : Record → Message → Type 0
   Good r (Submit ρ seat value signature) = Said r ρ seat value × Attested seat value signature
   Good r (Notice ρ seat value) = Said r ρ seat value

@@ -1,4 +1,4 @@
--- An honest unit's list: it starts from the record with nothing set, and what its calls write are messages one after another.
+-- An honest unit's list: it starts from the record with nothing set, and its calls write messages one after another.
 -- Assumes nothing.
 use mathlib.Core.Path.{_≡_, refl, sym, ap, subst, _∙_}
 use mathlib.Core.Bool.{true}
@@ -25,7 +25,7 @@ use Rattle.reading.specs.Messages.{messages, allMessages, all-member, member-al
 use Rattle.claims.specs.Unrefused.{fresh-sound, fresh-settled}
 use Rattle.claims.specs.Journey.{lastOf, WorthyGiven, Worthy, At, Journey, journey}
 
--- ---- messages that a unit writes are laid out as document 01 says
+-- ---- form of the messages that a unit writes
 
 k-le : (n : ℕ) → k n ≤ n
 unfolding k
@@ -103,7 +103,7 @@ module _ (S : Setting) (u : Honest) (opened : IsOpened S u) where
   unfolding fresh
   start-round = ap (λ (r : Record). r .round) opened-fresh
 
-  -- nothing is set
+  -- no flag is set at the start
   pub start-flag : (κ : Kind) → worth (flagOf κ startOf) ≡ 0
   start-flag κ = rw opened-fresh (fresh-flag n (u .seat) round κ)
 
@@ -124,7 +124,7 @@ module _ (S : Setting) (u : Honest) (opened : IsOpened S u) where
       pub result-grows : Grows startOf (resultOf S t .unit)
       result-grows = grows-trans startOf (t .unit) (resultOf S t .unit) (stop .since) (stop .after .grows)
 
-      -- the bytes that the call writes are its messages
+      -- form of the messages that the call writes
       pub messages-formed : Each (WellFormed n) (messages S t)
       messages-formed m e =
           subst (λ i. WellFormed i m) (result-grows .n ∙ start-n) (good-formed checks W (resultOf S t .unit) m (stop .after .sound .range) (stop .after .good m e))
@@ -132,12 +132,12 @@ module _ (S : Setting) (u : Honest) (opened : IsOpened S u) where
       pub written-are : Are n (writtenIn S t) (messages S t)
       written-are = (messages-formed, written-is S t)
 
-      -- a message that stands in them is one of those
+      -- a message in the bytes that the call writes is one of its messages
       pub stands-message : (m : Message) → StandsIn n m (writtenIn S t) → List·Memᴰ m (messages S t)
       stands-message m s =
           subst (λ ms. List·Memᴰ m ms) (are-unique n (writtenIn S t) (s .0) (messages S t) (s .1) written-are) (s .2)
 
-      -- and good at the end of the list too
+      -- a message in these bytes is good at the end of the list too
       pub stands-good : (m : Message) → StandsIn n m (writtenIn S t) → Good checks W endOf m
       stands-good m s =
           good-grows checks W (resultOf S t .unit) endOf (stop .before) m (stop .after .good m (stands-message m s))
@@ -151,7 +151,7 @@ module _ (S : Setting) (u : Honest) (opened : IsOpened S u) where
     pub end-round : endOf .round ≡ round
     end-round = trip .grows .round ∙ start-round
 
-    -- a message is written in the list just where its flag is set at the end
+    -- a message is written in the list exactly where its flag is set at the end
     pub written-flag : (κ : Kind) (m : Message) → isOf κ m ≡ true → Writes S u m → flagOf κ endOf ≡ true
     written-flag κ m is h =
         let d = all-member S ts (h .call) m (h .inList) (stands-message (h .call) (h .inList) m (h .stands)) in
@@ -166,6 +166,6 @@ module _ (S : Setting) (u : Honest) (opened : IsOpened S u) where
     pub writes-good : (m : Message) → Writes S u m → Good checks W endOf m
     writes-good m h = stands-good (h .call) (h .inList) m (h .stands)
 
-  -- all that the list writes
+  -- all bytes that the list writes
   pub all-are : Are n (writtenOver S ts) (allMessages S ts)
   all-are = over-are S n ts (λ t d. written-are Any (any-worthy S ts) t d)

@@ -1,4 +1,4 @@
--- Records that aren't impossible, messages that aren't refused, and what such a message brings.
+-- Records that aren't impossible, messages that aren't refused, and facts that such a message brings.
 -- Assumes nothing.
 use mathlib.Core.Path.{_≡_, refl, ap, _∙_}
 use mathlib.Core.Bool.{Bool, true, false, not, _&&_, _||_, false≢true}
@@ -42,7 +42,7 @@ pub round-right : (round : ℕ) → round ≤ lastRound → wrongRound round ≡
 unfolding wrongRound
 round-right round h = le-ltb lastRound round h
 
--- ---- no record for which the invariant holds is impossible
+-- ---- records for which the invariant holds are possible
 
 implied : (a b : Bool) → (a ≡ true → b ≡ true) → (a && not b) ≡ false
 implied true b h = rw (h refl)
@@ -106,7 +106,7 @@ module _ (checks : Checks) (W : Relation) (r : Record) (store : List ℕ) (z : S
   unfolding impossible
   possible = rw (in-range, heard-right, no-stranger, collected-right, first-right, first-there, guilty-right, sent-right, unset-right)
 
--- ---- nor is the one with nothing set, with any store
+-- ---- the invariant of the record with nothing set, with any store
 
 pub fresh-sound : (checks : Checks) (W : Relation) (n seat round : ℕ) (store : List ℕ) → InRange n seat round → Sound checks W (fresh n seat round) store
 unfolding fresh unset
@@ -160,7 +160,7 @@ module _ (P : Relation) where
   abbrev pub ForPair : List ℕ → List ℕ → Pair → Type 0
   ForPair lower higher p = P (p .seat) lower (p .lower) × P (p .seat) higher (p .higher)
 
-  -- over the message's values, which are each pair's own
+  -- pairs with the message's two values
   module _ (lower higher : List ℕ) where
     abbrev OwnValues : Pair → Type 0
     OwnValues p = (lower ≡ p .lowerValue) × (higher ≡ p .higherValue)
@@ -184,7 +184,7 @@ module _ (P : Relation) where
 
 -- ---- a message that isn't refused
 
--- form and signatures, in any call
+-- facts about form and signatures, in any call
 pub record Taken (checks : Checks) (n round : ℕ) (m : Message) : Type 0 where
   pub inRound : roundOf m ≡ round
   pub inside : Each (λ s. s < n) (seatsOf m)
@@ -229,7 +229,7 @@ module _ (checks : Checks) (n round : ℕ) (takes comes-early : Bool) (m : Messa
       let h = of-taken checks n round m t in
       rw (f, h .0, h .1, h .2, g, h .3)
 
--- ---- what it brings
+-- ---- facts that a message brings
 
 module _ (checks : Checks) (W : Relation) where
   entries-attested : (value : List ℕ) (es : List Entry) → EachSigned (λ s v g. checks s v g ≡ true) (Full 0 0 value es) → EachSigned W (Full 0 0 value es) → Each (λ (e : Entry). length (e .signature) ≡ signatureLength) es
@@ -252,7 +252,7 @@ module _ (checks : Checks) (W : Relation) where
     attested = entries-attested value es (t .checked) w (λ e d. l .2 e d .0);
   }
 
-  -- a FULL that a unit wrote, to another
+  -- a FULL that a unit wrote, as another takes it
   pub full-taken : (n ρ sender : ℕ) (value : List ℕ) (es : List Entry) → sender < n → Entries checks W n value es → Taken checks n ρ (Full ρ sender value es)
   unfolding roundOf signed seatsOf entrySeats formSeats fullForm
   full-taken n ρ sender value es l z = record {

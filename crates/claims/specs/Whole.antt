@@ -25,7 +25,7 @@ use Rattle.claims.specs.Sound.{flagOf, Heard, Held, Grows, Room, Settled
 use Rattle.claims.specs.Certificates.{certifies-of}
 use Rattle.claims.specs.Parts.{k-pos, room-leads, leads-trans, leads-writing, leads-refl, collect-leads, submitOwn-leads, hear-leads, hear-heard, reply-leads, holdOrBlame-leads, holdOrBlame-held, own-certifies, collected-submitted, confirmed-submitted}
 
--- ---- what hearing leaves alone
+-- ---- parts of a record that hearing leaves as they are
 
 pub record Stays (r r′ : Record) : Type 0 where
   pub own : r′ .own ≡ r .own
@@ -39,7 +39,7 @@ unfolding reply sendFull write
 reply-stays s =
     cond-elim (λ x. Stays (s .unit) (x .unit)) (owesFull (s .unit)) (sendFull s) s (λ e. record { own = refl; confirmed = refl }) (λ e. record { own = refl; confirmed = refl })
 
--- the cause of FULL stays too
+-- the same, and whether FULL is owed
 pub record Quiet (r r′ : Record) : Type 0 where
   pub stays : Stays r r′
   pub owes : owesFull r′ ≡ owesFull r
@@ -53,7 +53,7 @@ holdOrBlame-quiet c s =
     (λ h. cond-elim P (blames c (s .unit)) (blame c s) s (λ e. record { stays = record { own = refl; confirmed = refl }; owes = refl }) (λ e. record { stays = still; owes = refl }))
     (λ h. record { stays = record { own = refl; confirmed = refl }; owes = refl })
 
--- once looked at, nothing is owed
+-- no FULL is owed after a reply
 reply-owes : (s : State) → owesFull (reply s .unit) ≡ false
 unfolding reply sendFull write owesFull
 reply-owes s =
@@ -113,7 +113,7 @@ module _ (checks : Checks) (W : Relation) where
     pub leads : Leads checks W s s′
     pub settled : Settled (s′ .unit)
 
-  -- what was complete and held stays so where own value, collected seats and confirmed stay
+  -- a record stays settled where own value, collected seats and confirmed stay
   settled-stays : (r r′ : Record) → Grows r r′ → Stays r r′ → owesFull r′ ≡ false → (size (r .own .collected) ≡ k (r .n) → r .confirmed ≡ true) → (r .confirmed ≡ true → Held (r .own .value) r) → Settled r′
   settled-stays r r′ g t owes complete held = record {
     complete = λ e. t .confirmed ∙ complete (sym (ap (λ o. size (o .collected)) (t .own)) ∙ e ∙ ap k (g .n));

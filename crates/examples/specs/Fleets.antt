@@ -1,6 +1,6 @@
--- Fleets that double signers split, with RFC 8554's check, keys that our key maker made and signatures that our signer made. Of the
--- fleets of 4 and of 7 the sets of seats and their sizes are computed; all else is deduced, for any seeds, identifiers,
--- randomizers, rounds and layouts.
+-- Fleets that double signers split, with RFC 8554's check, keys by our key maker and signatures by our signer. For the fleets of 4
+-- and of 7 the sets of seats and their sizes are computed; all else is deduced, for any seeds, identifiers, randomizers, rounds and
+-- layouts.
 -- Assumes nothing.
 use Prim.Native.Nat.{ℕ, _≤_}
 use mathlib.Core.Path.{_≡_, refl, sym, ap, _∙_}
@@ -23,7 +23,7 @@ use Rattle.examples.specs.Split.{Role, Fleet, Fits, Plan, Split}
 use Rattle.examples.specs.SplitProof.{split}
 use Rattle.examples.specs.MadeKeys.{Material, Stated, madeKeys, madeSignature, made-table, signature-sized, signature-checks}
 
--- a leader's role: it hears all who sign its layout
+-- a leader's role: it hears all signers of its layout
 abbrev leading : ℕ → ℕ → Bool → ℕ → Role
 leading n seat side signers = record { seat = seat; side = side; hears = seats n signers }
 
@@ -65,7 +65,7 @@ unfolding shared
 twice-of-4 = refl
 
 -- ---- a fleet of 7: seats 4, 5 and 6 sign both layouts, and beside the leaders a third honest unit submits, which hears no other's
--- SUBMIT. A split takes n − 2 t0 double signers or more, so that 2 t0 units at most are honest: with less than 7 seats there is no third.
+-- SUBMIT. A split takes n − 2 t0 double signers or more, so that 2 t0 units at most are honest: with fewer than 7 seats no third one.
 
 abbrev pub signersOf7 : Bool → ℕ
 signersOf7 false = 0b1110101
@@ -107,7 +107,7 @@ pub twice-of-7 : shared (signersOf7 false) (signersOf7 true) ≡ 0b1110000
 unfolding shared
 twice-of-7 = refl
 
--- ---- with keys and signatures made
+-- ---- fleets with keys and signatures made
 
 module _ (round : ℕ) (layout : Bool → List ℕ) (M : Material) (store out : List ℕ) where
   abbrev pub planWith : {I : Type 0} → Fleet I → Plan I
@@ -136,7 +136,7 @@ module _ (round : ℕ) (layout : Bool → List ℕ) (M : Material) (store out : 
     pub fleet-of-7 : storeLength 7 ≤ length store → outLength 7 ≤ length out → Split (setting 7 round (madeKeys M 7)) (planWith fleetOf7)
     fleet-of-7 = split-made 7 fleetOf7 fits-7
 
--- ---- with nothing left to assume: zeros for material, and layouts of the bytes 7 and 9
+-- ---- a fleet of 7 without assumptions: zeros for material, and layouts of the bytes 7 and 9
 
 abbrev zeros : ℕ → List ℕ
 zeros n = replicate n 0

@@ -1,5 +1,5 @@
--- That safety's premise is needed: a small run in which a signature is forged, computed with a toy for the signature check that
--- compares two bytes (`trials/specs/Toy: toy`).
+-- Need of safety's premise: a small run with a forged signature, in which an honest seat is blamed; computed with a toy signature check
+-- that compares two bytes (`trials/specs/Toy: toy`).
 -- Assumes nothing.
 use Prim.Native.Nat.{ℕ}
 use mathlib.Core.Path.{_≡_, refl, sym, ap, _∙_}
@@ -41,7 +41,7 @@ named = refl
 honest-blamed : (evidence : List ℕ) × WritesEvidence four (boat true) evidence × Names four evidence 0
 honest-blamed = accuses-says four (boat true) well-formed 0 named
 
--- so safety's premise fails there, as it must
+-- safety's premise fails in this run
 pub premise-fails : NoneForged four boat (Delivered four boat) → ⊥
 premise-fails none =
     let e = honest-blamed in

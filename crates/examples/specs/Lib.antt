@@ -1,11 +1,11 @@
--- Runs of the definitions, which show that the claims say something.
+-- Runs of the definitions: the premises of the claims can be met, and are needed.
 --
 -- Deduced: a round that double signers split, so that demand 3's premises hold and its conclusions follow. `Split` has the round over any
 -- fleet and any signature check, `SplitProof` the proof; `MadeKeys` has keys and signatures of our key maker and signer, and `Fleets` the
 -- round with these under RFC 8554's check, for any fleet, and of 4 and 7 seats.
 --
--- Computed, with a toy for the signature check: whole calls (`Runs`) and a forged signature (`Guard`). `Trials` ties the trials of edits to the claims.
--- `Marked` has document 01's marked cases.
+-- Computed, with a toy signature check: whole calls (`Runs`) and a forged signature (`Guard`). `Trials` has the runs of the trials under
+-- the definitions as they stand, and `Marked` document 01's marked cases.
 pub mod Marked
 pub mod Runs
 pub mod Guard

@@ -1,5 +1,5 @@
--- A fleet whose keys our key maker made and whose signatures our signer made, from any seeds, identifiers and randomizers: its key
--- table isn't refused, and RFC 8554 accepts every signature. Deduced; no hash is computed.
+-- A fleet with keys by our key maker and signatures by our signer, from any seeds, identifiers and randomizers: its key table isn't
+-- refused, and RFC 8554 accepts every signature. Deduced; no hash is computed.
 -- Assumes nothing.
 use Prim.Native.Nat.{ℕ, _+_, _*_, _≤_, _<_}
 use mathlib.Core.Path.{_≡_, sym, ap, _∙_}
@@ -21,7 +21,7 @@ use Rattle.protocol.specs.SignatureClaim.{made-signature-checks}
 use Rattle.protocol.specs.Layout.{valueLength, signatureLength}
 use Rattle.claims.specs.NotRefused.{Table}
 
--- what key maker and signer are given: seed, identifier and tree of each seat, its randomizer for each layout, and the outs
+-- arguments of key maker and signer: seed, identifier and tree of each seat, its randomizer for each layout, and the outs
 pub record Material : Type 0 where
   pub seed : ℕ → List ℕ
   pub identifier : ℕ → List ℕ
@@ -30,7 +30,7 @@ pub record Material : Type 0 where
   pub keyOut : List ℕ
   pub signOut : List ℕ
 
--- of the stated lengths
+-- material of the stated lengths
 pub record Stated (M : Material) : Type 0 where
   pub seeds : (s : ℕ) → length (M .seed s) ≡ 32
   pub identifiers : (s : ℕ) → length (M .identifier s) ≡ 16

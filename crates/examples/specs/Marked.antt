@@ -17,7 +17,7 @@ pub data Case : Type 0 where
   -- "All bytes b: c = .., digits .. and .." of a digest, for width 8
   Bytes : (b c high low : ℕ) → Case
 
--- the table, in the document's order. That c is 0 where all bytes are 255 goes without saying there.
+-- the table, in the document's order. For bytes of 255 the document leaves out c, which is 0.
 unfoldable pub marked : List Case
 marked =
     Fleet 1 0 1
@@ -34,7 +34,7 @@ marked =
     ∷ Bytes 255 0 0 0
     ∷ []
 
--- a row with what the definitions give in place of its results
+-- a row with the definitions' results in place of its own
 unfoldable pub computed : Case → Case
 computed (Fleet n least quorum) = Fleet n (t0 n) (k n)
 computed (Masks a b m c) = Masks a b (shared a b) (size (shared a b))

@@ -15,7 +15,7 @@ use Rattle.protocol.specs.Step.{submitted}
 use Rattle.protocol.specs.Calls.{opening, Result, submit, step, making, made, evidenceCheck, lowerCertificate}
 use Rattle.trials.specs.Toy.{unfolded, toy, layout, sign, keys, submitBy, entryBy, fullBy}
 
--- ---- what the runs are given
+-- ---- calls of the runs
 
 -- the unit of seat 0 among n in round 5, after an opening and before its first call
 abbrev opened : ℕ → Result
@@ -33,13 +33,13 @@ given r bytes = step toy (keys (r .unit .n)) (r .unit) (r .store) bytes (room (o
 abbrev hears : Result → Message → Result
 hears r m = given r (render m)
 
--- ---- what they come to
+-- ---- results of the runs
 
--- not refused, with these messages written
+-- whether a call isn't refused and writes these messages
 abbrev writes : Result → List Message → Bool
 writes r ms = eqb (r .refusal) 0 && same (r .written) (renderAll ms)
 
--- refused by this number, with nothing written
+-- whether a call is refused by this number and writes nothing
 abbrev refuses : Result → ℕ → Bool
 refuses r number = eqb (r .refusal) number && eqb (length (r .written)) 0
 
@@ -87,7 +87,7 @@ threeConfirm-run : T threeConfirm
 unfolding threeConfirm
 threeConfirm-run = tt
 
--- "Forgetting notices heard before the own submit, so that FULL is never sent." It is sent on confirming, and once.
+-- "Forgetting notices heard before the own submit, so that FULL is never sent." It is sent with the confirmation, once.
 noticeFirst : Bool
 unfolding unfolded
 noticeFirst =
@@ -159,7 +159,7 @@ heardConflicts-run : T heardConflicts
 unfolding heardConflicts
 heardConflicts-run = tt
 
--- the same from two certificates in hand, in either order; the check names the two seats; the lower certificate
+-- the same EVIDENCE from two certificates in hand, in either order; the seats that the check answers; the lower certificate
 evidenceCalls : Bool
 unfolding unfolded
 evidenceCalls =
@@ -254,7 +254,7 @@ impossibles-run : T impossibles
 unfolding impossibles
 impossibles-run = tt
 
--- possible, though no list of calls comes to it: FULL is owed from an earlier call, and sent in this one; with nothing heard
+-- possible records that no list of calls reaches: FULL is owed from an earlier call and sent in this one; with no other value heard
 -- none is owed
 owed : Bool
 unfolding unfolded

@@ -1,5 +1,5 @@
--- A round that double signers split: what is asked of it and what then holds, over any fleet and any check under which the
--- signatures of the round check. `SplitProof` deduces it from the laws of crate `claims`; nothing is computed.
+-- A round that double signers split: its premises and conclusions, for any fleet and any check that accepts the signatures of the
+-- round. `SplitProof` deduces it from the laws of crate `claims`; nothing is computed.
 -- Assumes nothing.
 use Prim.Native.Nat.{ℕ, _^_, _≤_, _<_}
 use mathlib.Core.Path.{_≡_}
@@ -19,19 +19,19 @@ use Rattle.round.specs.Demand3.{NoneForged, NoneBlamed, ReachedOthers, Blames}
 use Rattle.claims.specs.NotRefused.{Table}
 use Rattle.claims.specs.Made.{Accuses}
 
--- what an honest unit does: it submits one of the two layouts, and hears the SUBMITs of these seats for it
+-- role of an honest unit: its seat, the one of two layouts that it submits, and the seats whose SUBMITs for that layout it hears
 pub record Role : Type 0 where
   pub seat : ℕ
   pub side : Bool
   pub hears : List ℕ
 
--- which seats sign which of two layouts, `false` and `true`; the roles of the honest units; and for each layout a leader
+-- the signers of each of two layouts, `false` and `true`; the roles of the honest units; and a leader for each layout
 pub record Fleet (I : Type 0) : Type 0 where
   pub signers : Bool → ℕ
   pub role : I → Role
   pub leader : Bool → I
 
--- in n seats
+-- a fleet of n seats
 pub record Fits (n : ℕ) {I : Type 0} (F : Fleet I) : Type 0 where
   pub some : 1 ≤ n
   pub most : n ≤ mostSeats
@@ -43,11 +43,11 @@ pub record Fits (n : ℕ) {I : Type 0} (F : Fleet I) : Type 0 where
   pub signs : (i : I) → In (F .role i .seat) (F .signers (F .role i .side))
   pub once : (i : I) → bit (F .role i .seat) (F .signers (not (F .role i .side))) ≡ 0
   pub hearsSigners : (i : I) → Each (λ s. In s (F .signers (F .role i .side))) (F .role i .hears)
-  -- a leader hears all who sign its layout
+  -- a leader hears all signers of its layout
   pub leads : (side : Bool) → F .role (F .leader side) .side ≡ side
   pub hearsAll : (side : Bool) → F .role (F .leader side) .hears ≡ seats n (F .signers side)
 
--- with the layouts, the signatures of their signers, and the store and out that every unit is lent
+-- a fleet with the layouts, the signatures of their signers, and the store and out that every unit is lent
 pub record Plan (I : Type 0) : Type 0 where
   pub fleet : Fleet I
   pub layout : Bool → List ℕ
@@ -60,7 +60,7 @@ module _ (S : Setting) {I : Type 0} (P : Plan I) where
   open Plan P using (fleet, layout, signature, store, out)
   open Fleet fleet using (signers, role, leader)
 
-  -- ---- what is sent
+  -- ---- messages of the round
 
   abbrev pub certificate : Bool → Certificate
   certificate side = record { value = layout side; seats = signers side; signature = signature side }
@@ -88,14 +88,14 @@ module _ (S : Setting) {I : Type 0} (P : Plan I) where
   abbrev pub ownSubmit : I → Call
   ownSubmit i = BySubmit (layout (role i .side)) (signature (role i .side) (role i .seat)) out
 
-  -- and each has both certificates in hand
+  -- both certificates, in hand at each unit
   abbrev pub inHand : InHand
   inHand = record { a = render (fullBy false); b = render (fullBy true); out = out }
 
   abbrev pub boat : I → Honest
   boat i = record { seat = role i .seat; store = store; calls = ownSubmit i ∷ map given (heard i); inHand = inHand ∷ [] }
 
-  -- ---- what is asked
+  -- ---- premises
 
   pub record Splits : Type 0 where
     pub fits : Fits n fleet
@@ -104,13 +104,13 @@ module _ (S : Setting) {I : Type 0} (P : Plan I) where
     pub table : Table n keys
     pub storeRoom : storeLength n ≤ length store
     pub outRoom : outLength n ≤ length out
-    -- two layouts, and for each the signatures of those who sign it, which check
+    -- two layouts, and for each the signatures of its signers, which check
     pub layouts : (side : Bool) → length (layout side) ≡ valueLength
     pub different : layout false ≢ layout true
     pub sized : (side : Bool) (seat : ℕ) → In seat (signers side) → length (signature side seat) ≡ signatureLength
     pub checked : (side : Bool) (seat : ℕ) → In seat (signers side) → checks seat (layout side) (signature side seat) ≡ true
 
-  -- ---- what then holds
+  -- ---- conclusions
 
   pub record Split : Type 0 where
     -- the premises of demand 3, both halves
@@ -118,7 +118,7 @@ module _ (S : Setting) {I : Type 0} (P : Plan I) where
     pub confirm : (side : Bool) → Confirms S (boat (leader side)) (layout side)
     pub reached : (side : Bool) → ReachedOthers S boat (leader side)
     pub unforged : NoneForged S boat (Delivered S boat)
-    -- and so its conclusions
+    -- the conclusions of demand 3
     pub blame : (i : I) → Blames S (boat i)
     pub unblamed : NoneBlamed S boat (Delivered S boat)
     -- evidence made from the two certificates, which names exactly the double signers

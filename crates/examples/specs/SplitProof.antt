@@ -1,4 +1,4 @@
--- What `Split` says of a round that double signers split, deduced.
+-- Proof of `Split`'s conclusions from its premises.
 -- Assumes nothing.
 use Prim.Native.Nat.{ℕ, _≤_, _<_}
 use mathlib.Core.Path.{_≡_, refl, sym, ap, ap₂, subst, subst₂, _∙_}
@@ -79,9 +79,9 @@ rising-same (x ∷ xs) (y ∷ ys) p q f g =
     (λ s d. ⊎-elim (λ e. absurd (let l = b .1 s d in omega arith)) (λ t. t) (List·Memᴰ·cases-cons (g s (List·Memᴰ·tail d)))) in
     cc
 
--- ---- what a call does
+-- ---- effects of calls
 
--- a message that is NOTICE
+-- the only case of a message that is a NOTICE
 notice-cases : (Q : Message → Type 0) (m : Message) → isNotice m ≡ true → ((ρ seat : ℕ) (value : List ℕ) → Q (Notice ρ seat value)) → Q m
 unfolding isNotice
 notice-cases Q (Submit ρ seat value signature) e f = absurd (false≢true e)
@@ -99,7 +99,7 @@ said-timely r (Full ρ sender value es) e = refl
 said-timely r (Evidence ρ lower higher ps) e = refl
 said-timely r Garbled e = refl
 
--- confirming leaves the own value and the seats collected
+-- own value and collected seats stay at confirming
 confirm-own : (s : State) → confirmIfComplete s .unit .own ≡ s .unit .own
 unfolding confirmIfComplete hearOwn confirm write
 confirm-own s =
@@ -164,7 +164,7 @@ module _ (S : Setting) {I : Type 0} (P : Plan I) (z : Splits S P) where
   entries : (side : Bool) → Entries checks W n (layout side) (entriesOf n (certificate S P side))
   entries side = entries-of checks W n (certificate S P side) (certifies side)
 
-  -- ---- its messages
+  -- ---- the messages of the round
 
   record Sent (m : Message) : Type 0 where
     formed : WellFormed n m
@@ -331,7 +331,7 @@ module _ (S : Setting) {I : Type 0} (P : Plan I) (z : Splits S P) where
           let c = done .leads .counts NOTICE in
           true-of-worth (t .unit .confirmed) (omega (arith, count-nil (isOf NOTICE), worth-true (r .confirmed) e, worth-le-one (t .unit .confirmed)))
 
-    -- every call of it has room
+    -- room in the store for every call of a unit's list
     abbrev Room : Called → Type 0
     Room c = storeLength n ≤ length (c .store)
 
@@ -345,7 +345,7 @@ module _ (S : Setting) {I : Type 0} (P : Plan I) (z : Splits S P) where
         each-cons Room (record { given = given S P m; unit = r; store = s }) (listFrom S (after .unit) (after .store) (map (given S P) ms)) (y .room)
         (subst (λ (o : Result). Each Room (listFrom S (o .unit) (o .store) (map (given S P) ms))) (sym (leaves r s y m sent)) (rooms ms (t .unit) (t .store) (next r s y m sent) (λ a d. x a (List·Memᴰ·tail d))))
 
-    -- once confirmed, it stays so
+    -- a unit that has confirmed stays so
     confirmed-last : (ms : List Message) (r : Record) (s : List ℕ) → Ready r s → Each Sent ms → r .confirmed ≡ true → lastOf S r s (map (given S P) ms) .confirmed ≡ true
     unfolding lastOf resultBy unrefused
     confirmed-last [] r s y x e = e
@@ -355,7 +355,7 @@ module _ (S : Setting) {I : Type 0} (P : Plan I) (z : Splits S P) where
         subst (λ (o : Result). lastOf S (o .unit) (o .store) (map (given S P) ms) .confirmed ≡ true) (sym (leaves r s y m sent))
         (confirmed-last ms (t .unit) (t .store) (next r s y m sent) (λ a d. x a (List·Memᴰ·tail d)) (confirmed-next r s y m sent e))
 
-    -- it has confirmed, or each signer is collected or still to be heard
+    -- the unit has confirmed, or each signer is collected or still to be heard
     abbrev Awaits : List ℕ → Record → Type 0
     Awaits xs r = (r .confirmed ≡ true) ⊎ ((s : ℕ) → In s (signers side) → In s (r .own .collected) ⊎ List·Memᴰ s xs)
 
@@ -372,7 +372,7 @@ module _ (S : Setting) {I : Type 0} (P : Plan I) (z : Splits S P) where
       in-with a h (yes e) = rw e (bit-with-same x (r .own .collected))
       in-with a h (no d) = bit-with-other a x (r .own .collected) d ∙ h
 
-      -- it was confirmed, or the seat was collected
+      -- cause for a SUBMIT that isn't wanted: the unit has confirmed, or the seat is collected
       unwanted : isWanted x (layout side) r ≡ false → (r .confirmed ≡ true) ⊎ In x (r .own .collected)
       unfolding isWanted
       unwanted w =
@@ -394,7 +394,7 @@ module _ (S : Setting) {I : Type 0} (P : Plan I) (z : Splits S P) where
               let is = collected-unwanted round x (layout side) (signature side x) (start r s) w in
               ⊎-elim (λ e. inl (confirmed-next r s y (submitBy S P side x) (submit-sent side x j) e)) (λ h. awaits-from (λ a c. rw is c) (rw is h) f) (unwanted w)
 
-    -- with all of them heard, it has confirmed
+    -- with all signers heard, the unit has confirmed
     collected-all : (r : Record) (s : List ℕ) → Ready r s → Awaits [] r → r .confirmed ≡ true
     collected-all r s y (inl e) = e
     collected-all r s y (inr f) =
@@ -421,7 +421,7 @@ module _ (S : Setting) {I : Type 0} (P : Plan I) (z : Splits S P) where
         subst (λ (o : Result). lastOf S (o .unit) (o .store) (map (given S P) (map (submitBy S P side) xs ++ ms)) .confirmed ≡ true) (sym (leaves r s y m sent))
         (confirms-last xs ms (t .unit) (t .store) (next r s y m sent) (λ b d. j b (List·Memᴰ·tail d)) x (awaits-next a xs r s y h w))
 
-    -- ---- its submit
+    -- ---- the unit's submit
 
     abbrev start-record : Record
     start-record = startOf S u (opened i)
@@ -490,7 +490,7 @@ module _ (S : Setting) {I : Type 0} (P : Plan I) (z : Splits S P) where
       unrefused = ap (λ (o : Result). o .refusal) submit-leaves;
     }
 
-    -- ---- what it is given has reached it
+    -- ---- messages that have reached the unit
 
     list-room : Each Room (listOf S u)
     unfolding listFrom resultBy unrefused
@@ -508,7 +508,7 @@ module _ (S : Setting) {I : Type 0} (P : Plan I) (z : Splits S P) where
           outRoom = z .outRoom;
         }
 
-    -- ---- what it writes
+    -- ---- messages that the unit writes
 
     end-value : endOf S u (opened i) .own .value ≡ layout side
     end-value = submits-end S u (opened i) (layout side) submits
@@ -617,7 +617,7 @@ module _ (S : Setting) {I : Type 0} (P : Plan I) (z : Splits S P) where
       (λ e. subst (λ x. EachSigned W (read n x)) (sym (e ∙ ap (λ h. h .b) is)) (full-worthy true))
       (g .either)
 
-  -- an honest seat's is over its own layout
+  -- an honest seat's signature is over its own layout
   own-side : (seat : ℕ) (a b : Bool) → In seat (signers a) → bit seat (signers (not b)) ≡ 0 → a ≡ b
   own-side seat false false i o = refl
   own-side seat false true i o = absurd (omega arith)
@@ -666,7 +666,7 @@ module _ (S : Setting) {I : Type 0} (P : Plan I) (z : Splits S P) where
   unfolding fullOf certificateIn certificateOf formSeats fullForm
   full-signers b = rw (read-render n (fullBy S P b) (full-sent b .formed), entry-seats n (certificate S P b)) (set-seats n (signers b) (z .fits .below b))
 
-  -- it is one EVIDENCE
+  -- the bytes made are one EVIDENCE
   made : (i : I) → MakesEvidence S (boat S P i) (makingOf S (inHand S P))
   unfolding making makingBy unrefused renderAll isEvidence
   made i =

@@ -1,5 +1,5 @@
--- The trials of edits on the definitions as they stand: where the premises hold, so does the conclusion. A run that an edited
--- premise lets in is kept out by the premise.
+-- The runs of the trials under the definitions as they stand: where the premises hold, so does the conclusion. In the runs for edited
+-- premises the premises don't hold.
 -- Assumes nothing.
 use mathlib.Core.Path.{_≡_, refl}
 use mathlib.Core.Bool.{true, false}
@@ -59,7 +59,7 @@ possible : answer sharingBoat ≡ (true, true)
 unfolding unfoldedTrials sharingBoat
 possible = refl
 
--- demand 1's claims, of the boats on which they are tried
+-- demand 1's claims, for the boats of their trials
 once-claimed : claimOf answeringBoat
 once-claimed = at-most-one four answering
 

@@ -78,7 +78,7 @@ module _ (S : Setting) (seat : ℕ) (some-seats : 1 ≤ S .n) (inside : seat < S
   comes (ByStep bytes out) m store z q = step-comes bytes out m store z q
   comes (ByThinEntry bytes out) m store z q = step-comes bytes out m store z q
 
-  -- ---- a call that is
+  -- ---- a call that is refused
 
   step-quiet : (bytes out : List ℕ) (m : Machine) (store : List ℕ) → AtRest n m → (refusal : ℕ) → refusal ≢ 0 → firstOf (stepConditions checks keys (recordOf n seat round m) store (read n bytes) out) ≡ refusal
       → reactTo checks n seat (cond (isDelivered refusal) (delivered (read n bytes)) none) m ≡ record { machine = m; actions = [] }
@@ -139,7 +139,7 @@ module _ (S : Setting) (seat : ℕ) (some-seats : 1 ≤ S .n) (inside : seat < S
   reaction-rest none m rest = rest
   reaction-rest (some e) m rest = rules-rest checks n seat (uponEvent checks n seat e (record { machine = m; actions = [] }))
 
-  -- ---- what a call brings, in a list of calls
+  -- ---- events of the calls in a list
 
   module _ (all : List Called) where
     abbrev Happened : Event → Type 0

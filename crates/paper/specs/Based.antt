@@ -1,4 +1,4 @@
--- All along, what the machine has was received, and what it sends is made of it.
+-- Origin of the machine's state and of its messages: everything that it has was received, and everything that it sends is made of that.
 -- Assumes nothing.
 use Prim.Native.Nat.{ℕ, _≤_, _<_}
 use mathlib.Core.Path.{_≡_, refl, sym, ap, subst, _∙_}
@@ -33,7 +33,7 @@ own-value v none e = absurd (false≢true e)
 own-value v (some w) e = (same-true v w e, λ h. some-none w (some w) refl h)
 
 module _ (checks : Checks) (n own : ℕ) (Happened : Event → Type 0) (some-seats : 1 ≤ n) (inside : own < n) where
-  -- a submission with its value
+  -- a submission with its value has happened, where there is a value
   abbrev SaidBy : Option (List ℕ) → Type 0
   SaidBy none = Unit {0}
   SaidBy (some v) = (length v ≡ valueLength) × IsSubmitted own Happened v
@@ -46,7 +46,7 @@ module _ (checks : Checks) (n own : ℕ) (Happened : Event → Type 0) (some-sea
   abbrev Certified : FullCertificate → Type 0
   Certified c = Formed n c × Obtained own Happened c
 
-  -- what the machine has was received
+  -- everything that the machine has was received
   pub record Based (value : Option (List ℕ)) (confirmed : Bool) (collected : List Entry) (obtained : List FullCertificate) : Type 0 where
     pub said : SaidBy value
     pub unsaid : value ≡ none → (collected ≡ []) × (confirmed ≡ false)
@@ -56,7 +56,7 @@ module _ (checks : Checks) (n own : ℕ) (Happened : Event → Type 0) (some-sea
   abbrev pub BasedOn : Machine → Type 0
   BasedOn m = Based (m .value) (m .confirmed) (m .collected) (m .obtained)
 
-  -- and what it has done was made of it
+  -- an action made of received values and signatures, which can be sent
   abbrev pub Sent : Action → Type 0
   Sent a = Received own Happened a × FormedAction n a
 
@@ -132,7 +132,7 @@ module _ (checks : Checks) (n own : ℕ) (Happened : Event → Type 0) (some-sea
       (λ h. obtain-good c x (record { sized = sized; below = below; apart = both-true many (distinct (c .entries)) (both-true (many && distinct (c .entries)) valid h .0) .1 }, inr came) z)
       (λ h. z)
 
-  -- the own certificate, once there is a submission
+  -- the own value, once there is a submission
   own-sized : (o : Option (List ℕ)) → SaidBy o → o ≢ none → (length (ownValue o) ≡ valueLength) × IsSubmitted own Happened (ownValue o)
   unfolding ownValue
   own-sized none s h = absurd (h refl)
@@ -147,7 +147,7 @@ module _ (checks : Checks) (n own : ℕ) (Happened : Event → Type 0) (some-sea
         record { submitted = v .1; collected = each-take (λ (e : Entry). Collected own Happened (e .seat) (ownValue (m .value)) (e .signature)) (k n) (m .collected) (c .collected) },
       )
 
-  -- k seats collected: so there is a submission
+  -- where k seats are collected, there is a submission
   complete-said : (m : Machine) → BasedOn m → quorumDue n m ≡ true → m .value ≢ none
   complete-said m z h q =
       let many = leb-true (k n) (length (m .collected)) (both-true (not (m .confirmed)) (leb (k n) (length (m .collected))) h .1) in
@@ -202,7 +202,7 @@ module _ (checks : Checks) (n own : ℕ) (Happened : Event → Type 0) (some-sea
 
   -- ---- at every event
 
-  -- what a call that isn't refused brings: a submission is the first, values have their length and seats are below n
+  -- facts about the event of a call that isn't refused: a submission is the first, values have their length and seats are below n
   abbrev pub Brought : Event → Machine → Type 0
   Brought (Submitted v g) m = (m .value ≡ none) × (length v ≡ valueLength)
   Brought (SubmitDelivered s v g) m = s < n
@@ -228,10 +228,10 @@ module _ (checks : Checks) (n own : ℕ) (Happened : Event → Type 0) (some-sea
   unfolding init ownValue
   init-based = record { said = tt; unsaid = λ q. (refl, refl); collection = empty unset; certified = each-nil Certified }
 
--- ---- what stands in a message that an action is sent as
+-- ---- signatures in the messages sent
 
 module _ (seat round : ℕ) (Happened : Event → Type 0) where
-  -- every signature of a certificate obtained came
+  -- every signature of a certificate that was obtained came
   entry-came : (c : FullCertificate) → Obtained seat Happened c → (e : Entry) → List·Memᴰ e (c .entries) → Came seat Happened (e .seat) (c .value) (e .signature)
   entry-came c (inl o) e d = inl (o .collected e d)
   entry-came c (inr h) e d = inr (c .entries, h, d)

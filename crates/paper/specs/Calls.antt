@@ -81,7 +81,7 @@ module _ (n seat round : ℕ) where
       written = map (spoken n round seat) (x .actions);
     }
 
-    -- one of the first k
+    -- a signature among the first k
     module _ (few : length before < k n) where
       all-before : take (k n) before ≡ before
       all-before = take-all (k n) before (omega arith)
@@ -131,7 +131,7 @@ module _ (n seat round : ℕ) where
                   ∙ z .first t i;
             }
 
-    -- one after the first k: the machine has it, and the record is as it was
+    -- a signature after the first k: the machine has it, and the record is as before
     module _ (many : k n ≤ length before) where
       same-taken : take (k n) (before ++ e ∷ []) ≡ take (k n) before
       same-taken = take-append-le (k n) before (e ∷ []) many
@@ -206,7 +206,7 @@ module _ (n seat round : ℕ) where
             mirrors = a .mirrors;
           })
 
-      -- the two tests
+      -- the engine's test and the machine's
       wanted-is : isWanted s v (recordOf n seat round m) ≡ (not (m .confirmed) && same v (ownValue (m .value)) && not (has s (seatsIn (take (k n) (m .collected)))))
       unfolding isWanted recordOf
       wanted-is = refl
@@ -272,7 +272,7 @@ module _ (n seat round : ℕ) where
 
     -- ---- NOTICE and FULL heard: lines 29 and 35
 
-    -- the rule of line 25 is done
+    -- the rule of line 25 does nothing where `confirmed` tells whether k seats are collected
     quorum-quiet : (y : Reaction) → y .machine .confirmed ≡ leb (k n) (length (y .machine .collected)) → uponQuorum checks n seat y ≡ y
     unfolding uponQuorum
     quorum-quiet y h = go (leb (k n) (length (y .machine .collected))) h

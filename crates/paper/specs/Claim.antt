@@ -1,5 +1,5 @@
--- The claim: over any list of calls from an opening, the engine does exactly what the paper's machine does. (Which calls are the
--- machine's events is in `Happens`.)
+-- The claim: over any list of calls from an opening, the engine does exactly what the paper's machine does. (`Happens` shows which calls
+-- are the machine's events.)
 -- Assumes nothing.
 use Prim.Native.Nat.{ℕ, _≤_, _<_}
 use mathlib.Core.Path.{_≡_}
@@ -20,11 +20,11 @@ use Rattle.paper.specs.Received.{Collected, IsSubmitted, Came, Received}
 use Rattle.paper.specs.Based.{Sent, init-based, full-from, evidence-from}
 use Rattle.paper.specs.Along.{does-as, init-recorded, init-mirrors, init-rest, over-list}
 
--- For any list of calls of a unit that an opening gave, with any signature check, any store and any out buffers:
+-- For any list of calls of a unit after an opening without a refusal, with any signature check, any store and any out buffers:
 module _ (S : Setting) (u : Honest) (opened : IsOpened S u) where
   open Setting S using (n, round, keys, checks)
 
-  -- what the machine does over the list
+  -- the machine's actions over the list
   abbrev pub actions : List Action
   actions = actionsOver S (u .seat) init (listOf S u)
 
@@ -50,12 +50,12 @@ module _ (S : Setting) (u : Honest) (opened : IsOpened S u) where
       (λ t d. d)
       (λ t d. written-are S u opened Any (any-worthy S (listOf S u)) t d)
 
-  -- At each call the engine writes exactly what the paper's machine, which forgets nothing, then broadcasts or detects; and its
-  -- record and store, before and after, are those of the machine's state. So this short memory loses nothing.
+  -- At each call the engine writes exactly what the paper's machine, which forgets nothing, broadcasts or detects at that call; and its
+  -- record and store, before and after, are those of the machine's state. So the engine's short memory loses nothing.
   pub does-as-the-paper : DoesAs S (u .seat) init (listOf S u)
   does-as-the-paper = along .0
 
-  -- So over the list as a whole: a message is written (as demand 3's claim says it) just where the machine does the action that is sent so.
+  -- Over the whole list: a message is written (`Writes`, as in demand 3's claim) exactly where it is the message of an action of the machine.
   pub writes-what-the-paper-does : (m : Message) → Writes S u m ↔ ((a : Action) × List·Memᴰ a actions × Says round (u .seat) a m)
   writes-what-the-paper-does m =
       let both = over-list S (u .seat) m init (listOf S u) does-as-the-paper (λ a d. along .1 a d .1) in (
@@ -63,17 +63,16 @@ module _ (S : Setting) (u : Honest) (opened : IsOpened S u) where
         λ a. let w = both .1 a in record { call = w .0; inList = w .1; stands = w .2 },
       )
 
-  -- Everything that is sent was received, by a call of the list that isn't refused. The list is any, so that of what a call sends it says
-  -- that it was received by then.
+  -- Everything sent was received, by a call of the list that isn't refused. As the list is any, what a call sends was received by then.
   pub sends-what-it-received : Each (Received (u .seat) Took) actions
   sends-what-it-received a d = along .1 a d .0
 
-  -- In the bytes: every signature in a FULL that the unit writes was collected for its seat over that value,
+  -- In the bytes: every signature in a FULL that the unit writes was collected for its seat over that value.
   pub full-received : (ρ sender : ℕ) (value : List ℕ) (es : List Entry) → Writes S u (Full ρ sender value es)
       → IsSubmitted (u .seat) Took value × Each (λ (e : Entry). Collected (u .seat) Took (e .seat) value (e .signature)) es
   full-received ρ sender value es w = let a = writes-what-the-paper-does (Full ρ sender value es) .0 w in full-from (u .seat) round Took ρ sender value es (a .0) (a .2) (sends-what-it-received (a .0) (a .1))
 
-  -- and every two in an EVIDENCE came for their seat, the one over the lower value and the other over the higher.
+  -- In the bytes: the two signatures of every pair in an EVIDENCE came for their seat, over the lower value and over the higher.
   pub evidence-received : (ρ : ℕ) (lower higher : List ℕ) (ps : List Pair) → Writes S u (Evidence ρ lower higher ps)
       → Each (λ (p : Pair). Came (u .seat) Took (p .seat) lower (p .lower) × Came (u .seat) Took (p .seat) higher (p .higher)) ps
   evidence-received ρ lower higher ps w = let a = writes-what-the-paper-does (Evidence ρ lower higher ps) .0 w in evidence-from (u .seat) round Took ρ lower higher ps (a .0) (a .2) (sends-what-it-received (a .0) (a .1))

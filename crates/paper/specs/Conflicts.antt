@@ -1,4 +1,4 @@
--- Two of a list that conflict: found just where there are two, and always the first of the list with the first that conflicts
+-- Conflicts in a list: a pair is found exactly where two members conflict, and it is the first member with the first that conflicts
 -- with it.
 -- Assumes nothing.
 use Prim.Native.Nat.{ℕ}
@@ -25,7 +25,7 @@ unfolding isSome
 some-none a o p q = true≢false (sym (ap isSome p) ∙ ap isSome q)
 
 module _ {A : Type 0} (valueOf : A → List ℕ) where
-  -- none that conflicts with a value: all have that value
+  -- where none conflicts with a value, all have that value
   pub other-none : (v : List ℕ) (xs : List A) → other valueOf v xs ≡ none → Each (λ x. valueOf x ≡ v) xs
   unfolding other
   other-none v [] e = each-nil (λ x. valueOf x ≡ v)
@@ -35,7 +35,7 @@ module _ {A : Type 0} (valueOf : A → List ℕ) where
       go true q p rest = each-cons (λ y. valueOf y ≡ v) x xs (sym (same-true v (valueOf x) q)) (rest p)
       go false q p rest = absurd (some-none x (some x) refl p)
 
-  -- one more at the end
+  -- a list with one more member at the end
   pub other-more : (v : List ℕ) (xs : List A) (y : A) → other valueOf v xs ≡ none → other valueOf v (xs ++ y ∷ []) ≡ cond (same v (valueOf y)) none (some y)
   unfolding other
   other-more v [] y e = refl
@@ -85,7 +85,7 @@ module _ {A : Type 0} (valueOf : A → List ℕ) where
       go none p = refl
       go (some y) p = absurd (some-none (x, y) (some (x, y)) refl p)
 
-  -- so that where none is found, any two of the list have the same value
+  -- where no pair is found, any two members have the same value
   pub conflict-any : (xs : List A) → conflict valueOf xs ≡ none → (x y : A) → List·Memᴰ x xs → List·Memᴰ y xs → valueOf x ≡ valueOf y
   conflict-any [] e x y d f = absurd (List·Memᴰ·not-nil d)
   conflict-any (z ∷ xs) e x y d f = of x d ∙ sym (of y f)
@@ -93,7 +93,7 @@ module _ {A : Type 0} (valueOf : A → List ℕ) where
       of : (w : A) → List·Memᴰ w (z ∷ xs) → valueOf w ≡ valueOf z
       of w m = ⊎-elim (λ q. ap valueOf q) (λ t. other-none (valueOf z) xs (head-none z xs e) w t) (List·Memᴰ·cases-cons m)
 
-  -- and where one is, the two are of the list and conflict
+  -- where a pair is found, the two are members and conflict
   other-found : (v : List ℕ) (xs : List A) (y : A) → other valueOf v xs ≡ some y → List·Memᴰ y xs × (v ≢ valueOf y)
   unfolding other
   other-found v [] y e = absurd (some-none y none e refl)

@@ -1,4 +1,4 @@
--- A message that a step turns back as early or for a signature is one that the machine discards: nothing changes and nothing is sent.
+-- Messages that a step refuses as early (13) or for a signature (14): the machine discards them, changes nothing and sends nothing.
 -- Assumes nothing.
 use Prim.Native.Nat.{ℕ, _<_}
 use mathlib.Core.Path.{_≡_, refl, sym, ap, _∙_}
@@ -24,9 +24,9 @@ use Rattle.paper.specs.Memory.{recordOf}
 use Rattle.paper.specs.Events.{delivered, isDelivered, reactTo}
 use Rattle.paper.specs.Rules.{AtRest, rest-quiet}
 
--- ---- what a refusal number says
+-- ---- meaning of a refusal number
 
--- a number that is another one is passed over
+-- a first row with another number than the answer can be left out
 firstOf-other : (i j : ℕ) (b : Bool) (rest : List (ℕ × Bool)) → i ≢ j → firstOf ((i, b) ∷ rest) ≡ j → firstOf rest ≡ j
 unfolding firstOf
 firstOf-other i j true rest d e = absurd (d e)
@@ -60,7 +60,7 @@ module _ (checks : Checks) (keys : List ℕ) (r : Record) (store : List ℕ) (m 
       (firstOf-other 13 14 (early r m) ((14, badSignature checks m) ∷ []) (λ q. omega arith)
       (past-form 14 (λ q. omega arith) (λ q. omega arith) (λ q. omega arith) (λ q. omega arith) (λ q. omega arith) (λ q. omega arith) (λ q. omega arith) (λ q. omega arith) e))
 
-  -- where nothing but these two can be refused, the message is delivered
+  -- a message with no cause for any other refusal is delivered
   pub fit-delivered : Lent keys r store out → isForStep m ≡ true → roundOf m ≡ r .round → Each (λ s. s < r .n) (seatsOf m) → rising (entrySeats m) ≡ true → isDelivered (firstOf (stepConditions checks keys r store m out)) ≡ true
   unfolding stepConditions recordConditions messageConditions shortStore shortOut firstOf isDelivered
   fit-delivered lent for-step in-round inside rises =
@@ -82,7 +82,7 @@ module _ (checks : Checks) (keys : List ℕ) (r : Record) (store : List ℕ) (m 
       either false true = refl
       either false false = refl
 
--- ---- what the machine does with such a message
+-- ---- the machine's reaction to such a message
 
 unsaid-own : (v : List ℕ) (o : Option (List ℕ)) → isSome o ≡ false → isOwn v o ≡ false
 unfolding isSome isOwn
@@ -119,7 +119,7 @@ module _ (checks : Checks) (n round : ℕ) (keys : List ℕ) (seat : ℕ) (m : M
   early-discarded (Evidence ρ lower higher ps) e = absurd (false≢true e)
   early-discarded Garbled e = absurd (false≢true e)
 
-  -- "Any SUBMIT message that is not properly signed is discarded.", and a set of them that aren't all is no full certificate
+  -- "Any SUBMIT message that is not properly signed is discarded.", and a set with such a message is no full certificate
   pub unsigned-discarded : (msg : Message) → badSignature checks msg ≡ true → reactTo checks n seat (delivered msg) m ≡ still
   unfolding badSignature signed every delivered reactTo react uponEvent isCollected isFullCertificate
   unsigned-discarded (Submit ρ s v g) e =

@@ -38,7 +38,7 @@ pub seats-below : (n : ℕ) (es : List Entry) → Each (λ (e : Entry). e .seat 
 unfolding seatsIn
 seats-below n es h = set-below n (map (λ (e : Entry). e .seat) es) (each-map (λ s. s < n) (λ (e : Entry). e .seat) es h)
 
--- a seat is in the set just where an entry is from it
+-- a seat is in the set exactly where an entry is from it
 pub from-seats : (s : ℕ) (es : List Entry) → isFrom s es ≡ has s (seatsIn es)
 unfolding isFrom seatsIn setOf
 from-seats s [] = sym (has-false s 0 .1 (bit-empty s))
@@ -74,7 +74,7 @@ unfolding signatureOf
 signature-old s [] e d = rw (ne-eqb (e .seat) s d)
 signature-old s (x ∷ es) e d = ap (cond (eqb (x .seat) s) (x .signature)) (signature-old s es e d)
 
--- what holds of each entry holds of the signature of a seat among them
+-- a fact about each entry, for the signature of a seat among them
 pub signature-each : (P : ℕ → List ℕ → Type 0) (es : List Entry) (s : ℕ) → Each (λ (e : Entry). P (e .seat) (e .signature)) es → In s (seatsIn es) → P s (signatureOf es s)
 unfolding seatsIn signatureOf
 signature-each P es s h i = go es h (in-set s (map (λ (e : Entry). e .seat) es) .0 i)
@@ -90,7 +90,7 @@ signature-each P es s h i = go es h (in-set s (map (λ (e : Entry). e .seat) es)
 pub signature-member : (es : List Entry) (s : ℕ) → In s (seatsIn es) → List·Memᴰ (record { seat = s; signature = signatureOf es s }) es
 signature-member es s i = signature-each (λ t g. List·Memᴰ (record { seat = t; signature = g }) es) es s (λ e d. d) i
 
--- and where the seats are different, of each entry
+-- where the seats are different, each entry's signature is that of its seat
 pub signature-is : (es : List Entry) → distinct es ≡ true → (e : Entry) → List·Memᴰ e es → signatureOf es (e .seat) ≡ e .signature
 unfolding distinct signatureOf
 signature-is [] h e d = absurd (List·Memᴰ·not-nil d)
@@ -102,7 +102,7 @@ signature-is (x ∷ es) h e d =
     rw (ne-eqb (x .seat) (e .seat) apart) (signature-is es (both .1) e t))
     (List·Memᴰ·cases-cons d)
 
--- ---- messages: only the signatures of the seats of a certificate stand in them
+-- ---- messages: only the signatures of the certificate's seats matter
 
 pub map-same : {A : Type 0} (f g : ℕ → A) (xs : List ℕ) → Each (λ (s : ℕ). f s ≡ g s) xs → map f xs ≡ map g xs
 map-same f g [] h = refl
@@ -147,7 +147,7 @@ distinct-more (x ∷ es) e h d =
     let new = both-false (eqb (x .seat) (e .seat)) (isFrom (e .seat) es) d in
     rw (from-more (x .seat) es e (not-true (isFrom (x .seat) es) (both .0)) (λ q. eqb-false (x .seat) (e .seat) (new .0) (sym q))) (distinct-more es e (both .1) (new .1))
 
--- the first of a list
+-- a fact about each, for the first i of a list
 pub each-take {ℓ} : {A : Type ℓ} (P : A → Type 0) (i : ℕ) (xs : List A) → Each P xs → Each P (take i xs)
 each-take P zero xs h = each-nil P
 each-take P (suc i) [] h = each-nil P
@@ -167,7 +167,7 @@ distinct-take (suc i) (e ∷ es) h =
     let both = both-true (not (isFrom (e .seat) es)) (distinct es) h in
     rw (from-take i (e .seat) es (not-true (isFrom (e .seat) es) (both .0))) (distinct-take i es (both .1))
 
--- ---- entries whose seats rise are from distinct seats
+-- ---- rising seats are different
 
 from-above : (s : ℕ) (es : List Entry) → Each (λ t. s < t) (map (λ (e : Entry). e .seat) es) → isFrom s es ≡ false
 unfolding isFrom

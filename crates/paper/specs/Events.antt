@@ -1,4 +1,4 @@
--- The calls of a list as the machine's events, and what it does at each of them.
+-- The calls of a list as the machine's events, and its reaction to each.
 -- Assumes nothing.
 use Prim.Native.Nat.{ℕ, _≤_, _<_}
 use mathlib.Core.Path.{_≡_}
@@ -15,7 +15,7 @@ use Rattle.round.specs.Round.{Setting, Each, Call, BySubmit, ByStep, ByThinEntr
 use Rattle.paper.specs.Machine.{Machine, Event, Submitted, SubmitDelivered, NoticeDelivered, FullDelivered, Action, Reaction, react, SaysEach}
 use Rattle.paper.specs.Memory.{Recorded}
 
--- a message delivered; EVIDENCE is none of the paper's, and no step takes it
+-- event of a message delivered; EVIDENCE is none of the paper's, and no step takes it
 unfoldable pub delivered : Message → Option Event
 delivered (Submit ρ seat value signature) = some (SubmitDelivered seat value signature)
 delivered (Notice ρ seat value) = some (NoticeDelivered value)
@@ -23,12 +23,12 @@ delivered (Full ρ sender value entries) = some (FullDelivered (record { value =
 delivered (Evidence ρ lower higher entries) = none
 delivered Garbled = none
 
--- A message refused as early (13) or for a signature (14) is delivered all the same: the machine has its own `if` for these. Every
--- other refusal is document 01's own, and such a call is none of the paper's.
+-- Whether a step with this refusal number is an event. A message refused as early (13) or for a signature (14) is delivered all the
+-- same: the machine has its own `if` for these. Every other refusal is document 01's own, and such a call is none of the paper's.
 unfoldable pub isDelivered : ℕ → Bool
 isDelivered refusal = eqb refusal 0 || eqb refusal 13 || eqb refusal 14
 
--- a call by its refusal number; a refused submit is no event
+-- event of a call with its refusal number; a refused submit is none
 unfoldable pub eventOf : ℕ → ℕ → Call → Option Event
 eventOf n refusal (BySubmit value signature out) = unrefused refusal (some (Submitted value signature)) none
 eventOf n refusal (ByStep bytes out) = cond (isDelivered refusal) (delivered (read n bytes)) none
@@ -41,7 +41,7 @@ reactTo checks n seat (some e) m = react checks n seat e m
 module _ (S : Setting) (seat : ℕ) where
   open Setting S using (n, round, checks)
 
-  -- what the machine does at a call
+  -- the machine's reaction to a call
   unfoldable pub reaction : Called → Machine → Reaction
   reaction t m = reactTo checks n seat (eventOf n (resultOf S t .refusal) (t .given)) m
 
@@ -49,32 +49,32 @@ module _ (S : Setting) (seat : ℕ) where
   pub record AtCall (m : Machine) (t : Called) : Type 0 where
     -- the record and the store that it gets are those of the machine's state;
     pub gets : Recorded n seat round m (t .unit) (t .store)
-    -- the bytes that it writes are what the machine does at that event, each action sent as its command, one after another. (`Are`
-    -- says that they are these messages and no others: bytes are messages in one way only, `claims/specs/Reading: are-unique`.)
+    -- the bytes that it writes are the machine's actions at that event, each sent as its command, one after another. (`Are` says that
+    -- they are these messages and no others: bytes are messages in one way only, `reading/specs/Reading: are-unique`.)
     pub sends : List Message
     pub writes : Are n (writtenIn S t) sends
     pub says : SaysEach round seat (reaction t m .actions) sends
     -- the record and the store that it leaves are those of the machine's next state.
     pub leaves : Recorded n seat round (reaction t m .machine) (resultOf S t .unit) (resultOf S t .store)
 
-  -- at each call of a list, to the last
+  -- the same at each call of a list
   abbrev pub DoesAs : Machine → List Called → Type 0
   DoesAs m [] = Unit {0}
   DoesAs m (t ∷ ts) = AtCall m t × DoesAs (reaction t m .machine) ts
 
-  -- all that the machine does over a list
+  -- the machine's actions over a list
   unfoldable pub actionsOver : Machine → List Called → List Action
   actionsOver m [] = []
   actionsOver m (t ∷ ts) = reaction t m .actions ++ actionsOver (reaction t m .machine) ts
 
--- an event that a call of a list brings, and that isn't refused
+-- an event of a call in the list that isn't refused
 abbrev pub TakenIn : Setting → List Called → Event → Type 0
 TakenIn S ts e = (t : Called) × List·Memᴰ t ts × (resultOf S t .refusal ≡ 0) × (eventOf (S .n) 0 (t .given) ≡ some e)
 
--- ---- which calls are events
+-- ---- calls that are events
 
--- a submit that document 01 has no refusal for, by number: in a list every record is possible (4), and the key table was looked at in
--- the opening (5)
+-- a submit without a cause for a refusal, by number: in a list every record is possible (4), and the opening has checked the key
+-- table (5)
 pub record FitSubmit (S : Setting) (seat : ℕ) (c : Called) (value signature : List ℕ) : Type 0 where
   pub out : List ℕ
   pub isSubmit : c .given ≡ BySubmit value signature out
@@ -90,7 +90,7 @@ pub record FitSubmit (S : Setting) (seat : ℕ) (c : Called) (value signature : 
   -- 14
   pub checked : S .checks seat value signature ≡ true
 
--- a step that document 01 has no refusal for, but early (13) and signature (14)
+-- a step without a cause for a refusal other than early (13) and signature (14)
 pub record FitStep (S : Setting) (c : Called) (bytes : List ℕ) : Type 0 where
   pub out : List ℕ
   pub isStep : IsStep (c .given) bytes out

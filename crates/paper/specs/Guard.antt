@@ -1,4 +1,4 @@
--- That the claim says something: what the machine does over small runs, computed.
+-- Small runs of the machine, computed: its actions and the messages sent for them.
 -- Assumes nothing.
 use Prim.Native.Nat.{ℕ, _<_}
 use mathlib.Core.Path.{_≡_, refl, ap}
@@ -19,16 +19,16 @@ use Rattle.reading.specs.Lists.{each-one, each-cons}
 use Rattle.paper.specs.Machine.{FullCertificate, Machine, init, Event, Submitted, SubmitDelivered, NoticeDelivered, FullDelivered, Action, BroadcastSubmit, ConfirmAndNotice, BroadcastFull, Detect, act, isSome, isOwn, ownValue, isFrom, distinct, other, pairOr, conflict, isFullCertificate, ownFull, isCollected, uponSubmitDelivered, uponSubmit, uponNoticeDelivered, obtain, uponFullDelivered, confirming, uponQuorum, sending, uponNoticesConflict, detecting, uponFullsConflict, uponEvent, uponRules, react, Says}
 use Rattle.paper.specs.Spoken.{spoken, Formed, spoken-says}
 
--- a toy for the signature check: a signature is its seat
+-- toy signature check: a signature's first byte is its seat
 abbrev toy : ℕ → List ℕ → List ℕ → Bool
 toy seat value signature = eqb (getD signature 0 0) seat
 
--- the machine of seat 0 in a fleet of n: what it does at each event
+-- actions of the machine of seat 0 in a fleet of n, event by event
 unfoldable does : ℕ → Machine → List Event → List (List Action)
 does n m [] = []
 does n m (e ∷ es) = react toy n 0 e m .actions ∷ does n (react toy n 0 e m .machine) es
 
--- every definition, open
+-- a name that unfolds every definition
 unfolded : Bool
 unfolding does t0 k same every init act isSome isOwn ownValue isFrom distinct other pairOr conflict isFullCertificate ownFull isCollected uponSubmitDelivered uponSubmit uponNoticeDelivered obtain uponFullDelivered confirming uponQuorum sending uponNoticesConflict detecting uponFullsConflict uponEvent uponRules react
 unfolded = true
@@ -82,8 +82,8 @@ confirms-then-detects = refl
 
 -- ---- a unit hears before it submits
 
--- a SUBMIT before the own value is discarded, and so is a certificate with a message that isn't properly signed; what was noticed
--- and obtained before the own submission counts when the unit confirms
+-- a SUBMIT before the own value is discarded, and so is a certificate with a message that isn't properly signed; values noticed and
+-- certificates obtained before the own submission count when the unit confirms
 hears-before-submitting : does 4 init (
     hears 2 seven
     ∷ FullDelivered (by nine 1 2 3)
@@ -110,7 +110,7 @@ one-seat : does 1 init (Submitted seven (0 ∷ []) ∷ []) ≡ (BroadcastSubmit 
 unfolding unfolded
 one-seat = refl
 
--- ---- what is sent
+-- ---- messages sent
 
 abbrev long : ℕ → List ℕ
 long b = replicate 32 b
@@ -129,7 +129,7 @@ below b s t u h i j =
 formed : (b s t u : ℕ) → s < 4 → t < 4 → u < 4 → distinct (three b s t u .entries) ≡ true → Formed 4 (three b s t u)
 formed b s t u h i j d = record { sized = refl; below = below b s t u h i j; apart = d }
 
--- every definition of what is sent, open
+-- a name that unfolds every definition of a message sent
 unfoldedSent : Bool
 unfolding bit union shared with seats isLower setOf signatureOf certificateOf formSeats fullForm entriesOf fullOf pairsOf orderedEvidence evidenceOf distinct isFrom spoken
 unfoldedSent = true

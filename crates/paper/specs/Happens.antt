@@ -1,5 +1,5 @@
--- Which calls are events: in a unit's list, every submit and every step that document 01 has no refusal of its own for. So a step that
--- turned all back, say with 9, would not meet this.
+-- Calls that are events: in a unit's list, every submit and every step for which document 01 has no refusal of its own. So a step that
+-- refuses every message, say with 9, doesn't meet this.
 -- Assumes nothing.
 use Prim.Native.Nat.{ℕ, _≤_, _<_}
 use mathlib.Core.Path.{_≡_, sym, ap, subst, _∙_}
@@ -40,7 +40,7 @@ module _ (S : Setting) (u : Honest) (opened : IsOpened S u) (c : Called) (inList
     outRoom = subst (λ i. outLength i ≤ length out) (sym size-is) out-room;
   }
 
-  -- what an event is hangs on the call alone
+  -- the event of a call with this record and this store
   abbrev Happens : Call → Option Event → Type 0
   Happens g o = eventOf n (outcome S g (c .unit) (c .store) .refusal) g ≡ o
 

@@ -1,14 +1,14 @@
 -- The ABC paper's accountable confirmer, and the claim that the engine does exactly what it does (demand 2).
 --
--- To read, in this order: `Machine` has the paper's Algorithm 2 as an abstract machine that forgets nothing, and what its actions are on
--- the air; `Memory` what a unit's record and store have of it; `Events` the calls of a list as its events, with what the claim says;
--- `Received` where everything that is sent comes from. The claims are in `Claim`, and in `Happens` that no call is passed over that should
--- be an event. `Guard` has runs that show that they say something; docs/PAPER.md has the paper's lines beside the definitions.
+-- To read, in this order: `Machine` has the paper's Algorithm 2 as an abstract machine that forgets nothing, and the messages of its
+-- actions; `Memory` has the part of its state that a unit's record and store keep; `Events` the calls of a list as its events, and the
+-- statement of the claim; `Received` the source of everything sent. The claims are in `Claim`; `Happens` shows that every call that should
+-- be an event is one. `Guard` has small runs; docs/PAPER.md has the paper's lines beside the definitions.
 --
--- `Conflicts` says which two certificates are found, `Rules` that no rule is left to do after an event, and `Remembers` that the machine
--- forgets nothing. `Mirror` has what holds between two events, `Parts` and `Calls` show it of the parts of a call and of a whole one,
--- `Discards` of one that is refused, and `Along` of a list. `Spoken` has what is sent, with the engine's functions; `Based` shows that it
--- was received. `Entries` has the laws on lists of entries that these stand on.
+-- `Conflicts` shows which two certificates are found, `Rules` that no rule is left to do after an event, and `Remembers` that the machine
+-- forgets nothing. `Mirror` has the invariant between two events; `Parts` and `Calls` prove it for the parts of a call and for a whole
+-- call, `Discards` for a refused one, and `Along` for a list. `Spoken` has the messages sent, by the engine's functions; `Based` shows
+-- that they were received. `Entries` has laws of lists of entries.
 pub mod Machine
 pub mod Memory
 pub mod Events

@@ -1,16 +1,16 @@
 -- The accountable confirmer of the ABC paper (source document 002, Algorithm 2) as an abstract machine that forgets nothing: each
--- variable and each `upon` beside its lines, with what document 01 changes at the place.
+-- variable and each `upon` beside its lines, with document 01's changes at their places.
 --
--- What document 01 changes:
+-- Document 01's changes:
 -- (1) No threshold signatures: `share`, `lightCertificate_i` and `Combine` of lines 12, 18, 22 and 28 are gone.
 -- (2) So "the papers' light certificate becomes an unsigned notice: it proves nothing and only prompts a full certificate": the
 --     `if` of line 30 is gone.
 -- (3) A full certificate has k = n − t0 messages and no more ("count 1 (always k)"): of a unit's own, the first k.
 -- (4) At line 25 the unit "treats its own certificate like one heard", without waiting until its broadcast comes back to it.
 -- (5) A FULL heard "counts as a notice for its value".
--- (6) What `confirm` and `detect` hand up is what is sent, as NOTICE and as EVIDENCE.
+-- (6) The outputs of `Confirm` and `Detect` are messages, NOTICE and EVIDENCE.
 -- (7) At line 18 "the signature [is] collected" in the submit itself, without waiting until its broadcast comes back to it.
--- (8) The own signature comes with the submission, where the paper's unit makes it, and "is checked like any other".
+-- (8) The own signature comes with the submission, while the paper's unit makes it, and "is checked like any other".
 -- Assumes nothing.
 use Prim.Native.Nat.{ℕ}
 use mathlib.Core.Path.{_≡_}
@@ -33,7 +33,7 @@ pub record FullCertificate : Type 0 where
   pub value : List ℕ
   pub entries : List Entry
 
--- lines 8 to 15, "upon event ⟨ac, Init⟩ do". A list has what came, all of it, in the order in which it came.
+-- lines 8 to 15, "upon event ⟨ac, Init⟩ do". A list has everything that came, in order.
 pub record Machine : Type 0 where
   -- "value_i ← ⊥"
   pub value : Option (List ℕ)
@@ -43,17 +43,17 @@ pub record Machine : Type 0 where
   pub collected : List Entry
   -- "obtainedLightCertificates_i ← ∅": the values of all notices
   pub noticed : List (List ℕ)
-  -- "obtainedFullCertificates_i ← ∅": all of them
+  -- "obtainedFullCertificates_i ← ∅": all certificates
   pub obtained : List FullCertificate
-  -- "Rules at lines 25, 33 and 39 are activated at most once.": that of line 33 was, and that of line 39, with the two certificates.
-  -- That of line 25 was where `confirmed` is set.
+  -- "Rules at lines 25, 33 and 39 are activated at most once.": whether line 33's was, and the two certificates if line 39's was.
+  -- Line 25's was where `confirmed` is set.
   pub sent : Bool
   pub detected : Option (FullCertificate × FullCertificate)
 
 unfoldable pub init : Machine
 init = record { value = none; confirmed = false; collected = []; noticed = []; obtained = []; sent = false; detected = none }
 
--- ---- what comes in and what goes out
+-- ---- events and actions
 
 pub data Event : Type 0 where
   -- "⟨ac, Submit | v⟩", with the own signature over it; (8)
@@ -75,7 +75,7 @@ pub data Action : Type 0 where
   -- "trigger ⟨ac, Detect | F, proof⟩": the proof is the two certificates, and F the seats that they share; (6)
   Detect : FullCertificate → FullCertificate → Action
 
--- the machine on its way through one event, and what it has done so far
+-- the machine within one event, and its actions so far
 pub record Reaction : Type 0 where
   pub machine : Machine
   pub actions : List Action
@@ -240,17 +240,17 @@ module _ (checks : Checks) (n own : ℕ) where
   uponEvent (NoticeDelivered v) x = uponNoticeDelivered v x
   uponEvent (FullDelivered c) x = uponFullDelivered c x
 
-  -- the rules of lines 25, 33 and 39, each looked at once after each event: what that of line 25 does the others see, and they
-  -- let none come about
+  -- the rules of lines 25, 33 and 39, each tried once after each event: those of lines 33 and 39 see the effect of line 25's, and
+  -- make none due (`Rules`)
   unfoldable pub uponRules : Reaction → Reaction
   uponRules x = uponFullsConflict (uponNoticesConflict (uponQuorum x))
 
   unfoldable pub react : Event → Machine → Reaction
   react e m = uponRules (uponEvent e (record { machine = m; actions = [] }))
 
--- ---- what an action is on the air
+-- ---- the message of an action
 
--- "Entry seats rise.": just these, in the order of their seats
+-- "Entry seats rise.": exactly these, in the order of their seats
 pub record InOrder {A : Type 0} (seatOf : A → ℕ) (These : A → Type 0) (xs : List A) : Type 0 where
   pub rise : rising (map seatOf xs) ≡ true
   pub just : (x : A) → List·Memᴰ x xs ↔ These x
@@ -263,7 +263,7 @@ PairOf low high p =
     × (p .lowerValue ≡ low .value)
     × (p .higherValue ≡ high .value)
 
--- by a unit at a seat in a round
+-- messages of a unit at a seat in a round
 module _ (round seat : ℕ) where
   -- EVIDENCE, with the lower value first: every such pair of the two certificates
   abbrev pub SaysConflict : FullCertificate → FullCertificate → Message → Type 0
@@ -271,7 +271,7 @@ module _ (round seat : ℕ) where
       (ps : List Pair) × (isLower (low .value) (high .value) ≡ true) × (m ≡ Evidence round (low .value) (high .value) ps)
       × InOrder (λ (p : Pair). p .seat) (PairOf low high) ps
 
-  -- the command that an action is sent as. A FULL has the entries of the certificate, each with the signature that it has there.
+  -- the message that an action is sent as. A FULL has the entries of the certificate, each with its signature there.
   abbrev pub Says : Action → Message → Type 0
   Says (BroadcastSubmit v signature) m = m ≡ Submit round seat v signature
   Says (ConfirmAndNotice v) m = m ≡ Notice round seat v
@@ -279,7 +279,7 @@ module _ (round seat : ℕ) where
       (es : List Entry) × (m ≡ Full round seat (c .value) es) × InOrder (λ (e : Entry). e .seat) (λ (e : Entry). List·Memᴰ e (c .entries)) es
   Says (Detect c d) m = SaysConflict c d m ⊎ SaysConflict d c m
 
-  -- actions, one after another
+  -- messages of actions, one after another
   abbrev pub SaysEach : List Action → List Message → Type 0
   SaysEach [] [] = Unit {0}
   SaysEach [] (m ∷ ms) = ⊥

@@ -1,4 +1,4 @@
--- What a unit's record and store have of the machine: all else is forgotten.
+-- The part of the machine's state that a unit's record and store keep.
 -- Assumes nothing.
 use Prim.Native.Nat.{ℕ}
 use mathlib.Core.Path.{_≡_}
@@ -21,17 +21,17 @@ use Rattle.paper.specs.Machine.{FullCertificate, Machine, isSome, ownVal
 unfoldable pub seatsIn : List Entry → ℕ
 seatsIn es = setOf (map (λ (e : Entry). e .seat) es)
 
--- of all notices, "none, one value, or two different, the first kept"
+-- the record's part of all notices: "none, one value, or two different, the first kept"
 unfoldable pub noticesOf : List (List ℕ) → Notices
 noticesOf [] = record { heard = 0; value = unset }
 noticesOf (v ∷ vs) = record { heard = cond (isSome (other valueOfNotice v vs)) 2 1; value = v }
 
--- of all certificates, "the first certificate held (value and seats)"
+-- the record's part of all certificates: "the first certificate held (value and seats)"
 unfoldable pub heldFirst : List FullCertificate → First
 heldFirst [] = record { value = unset; seats = 0 }
 heldFirst (c ∷ cs) = record { value = c .value; seats = seatsIn (c .entries) }
 
--- of the two that were detected, "the shared seats"
+-- the record's part of the two certificates detected: "the shared seats"
 unfoldable pub guiltyOf : Option (FullCertificate × FullCertificate) → ℕ
 guiltyOf none = 0
 guiltyOf (some p) = shared (seatsIn (p .0 .entries)) (seatsIn (p .1 .entries))

@@ -1,4 +1,4 @@
--- What holds of the machine, and of the store beside it, between two events.
+-- The invariant of the machine, and of the store beside it, between two events.
 -- Assumes nothing.
 use Prim.Native.Nat.{ℕ, _^_, _<_}
 use mathlib.Core.Path.{_≡_}
@@ -40,7 +40,7 @@ pub record Stored (n : ℕ) (store : List ℕ) (collected : List Entry) (obtaine
   pub own : (s : ℕ) → In s (seatsIn (take (k n) collected)) → slot n collectedBank store s ≡ signatureOf (take (k n) collected) s
   pub first : (s : ℕ) → In s (heldFirst obtained .seats) → slot n firstBank store s ≡ signatureOf (firstEntries obtained) s
 
--- the rule of line 25 is done, and its own value is among those noticed
+-- the rule of line 25 isn't due, and once it was done the own value is among those noticed
 pub record Resting (n : ℕ) (value : Option (List ℕ)) (confirmed : Bool) (collected : List Entry) (noticed : List (List ℕ)) : Type 0 where
   pub complete : confirmed ≡ leb (k n) (length collected)
   pub heard : confirmed ≡ true → List·Memᴰ (ownValue value) noticed

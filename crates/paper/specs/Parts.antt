@@ -1,5 +1,5 @@
--- The parts of a submit and a step, each beside the machine's `upon`: from the record of the machine's state it comes to
--- the record of the machine's next state, and writes what the machine sends.
+-- The parts of a submit and a step, each beside the machine's `upon`: from the record of the machine's state to the record of its
+-- next state, with the machine's messages written.
 -- Assumes nothing.
 use Prim.Native.Nat.{ℕ, _^_, _≤_, _<_}
 use mathlib.Core.Path.{_≡_, refl, sym, ap, subst, _∙_}
@@ -60,7 +60,7 @@ notices-more v (w ∷ vs) r e = rw e (go (other valueOfNotice w vs) refl)
     go none q = rw (other-more valueOfNotice w vs v q) (first (same v w) refl)
     go (some u) q = rw (other-still valueOfNotice w vs v u q)
 
--- where the own value is among those noticed, one that isn't the own one is heard just where two conflict
+-- where the own value is among those noticed: another one is heard exactly where two conflict
 other-heard-is : (vs : List (List ℕ)) (r : Record) → r .notices ≡ noticesOf vs → List·Memᴰ (r .own .value) vs → otherHeard r ≡ isSome (conflict valueOfNotice vs)
 unfolding otherHeard noneHeard oneHeard noticesOf isSome pairOr
 other-heard-is [] r e d = absurd (List·Memᴰ·not-nil d)
@@ -89,7 +89,7 @@ module _ (n seat round : ℕ) where
   abbrev pub at : Reaction → List ℕ → State
   at x store = record { unit = recordOf n seat round (x .machine); store = store; written = map (spoken n round seat) (x .actions) }
 
-  -- a state beside the machine's
+  -- a state of the engine that mirrors the machine's
   pub record Comes (s : State) (x : Reaction) : Type 0 where
     pub store : List ℕ
     pub is : s ≡ at x store
@@ -222,12 +222,12 @@ module _ (n seat round : ℕ) where
           unfolding holdOrBlame
           quiet-is detected z b = rw (held detected z, b) (still detected)
 
-          -- while guilty seats are empty, one with another value is blamed
+          -- while no seat is guilty, a certificate with another value is blamed
           blames-is : blames c (recordOf n seat round (with-certificates (f ∷ rest) none .machine)) ≡ not (same (f .value) (q .value))
           unfolding blames recordOf heldFirst guiltyOf
           blames-is = and-true (not (same (q .value) (f .value))) ∙ ap not (same-sym (q .value) (f .value))
 
-          -- and after that none is
+          -- once seats are guilty, none is blamed
           blames-none : (p : FullCertificate × FullCertificate) → guiltyOf (some p) ≢ 0 → blames c (recordOf n seat round (with-certificates (f ∷ rest) (some p) .machine)) ≡ false
           unfolding blames recordOf heldFirst
           blames-none p g = rw (ne-eqb (guiltyOf (some p)) 0 g) (and-false (not (same (q .value) (f .value))))
@@ -297,7 +297,7 @@ module _ (n seat round : ℕ) where
 
       -- ---- a certificate heard, or the unit's own
 
-      -- the rule of line 33 looks at no full certificate
+      -- the rule of line 33 doesn't depend on full certificates
       conflict-obtained : (x : Reaction) → uponNoticesConflict checks n seat (addObtained q x) ≡ addObtained q (uponNoticesConflict checks n seat x)
       unfolding uponNoticesConflict sending act ownFull
       conflict-obtained x = go (x .machine .confirmed && not (x .machine .sent) && isSome (conflict valueOfNotice (x .machine .noticed)))

@@ -8,7 +8,7 @@ use Rattle.protocol.specs.Message.{Entry}
 use Rattle.round.specs.Round.{Each}
 use Rattle.paper.specs.Machine.{FullCertificate, Event, Submitted, SubmitDelivered, FullDelivered, Action, BroadcastSubmit, ConfirmAndNotice, BroadcastFull, Detect}
 
--- by the events that have happened, at a seat
+-- at a seat, with the events that have happened
 module _ (own : ℕ) (Happened : Event → Type 0) where
   -- a signature for a seat over a value: the own one came with the submission, another's in a SUBMIT
   abbrev pub Collected : ℕ → List ℕ → List ℕ → Type 0
@@ -23,7 +23,7 @@ module _ (own : ℕ) (Happened : Event → Type 0) where
     pub submitted : IsSubmitted (c .value)
     pub collected : Each (λ (e : Entry). Collected (e .seat) (c .value) (e .signature)) (c .entries)
 
-  -- or one that came whole, in a FULL
+  -- a certificate of the unit's own, or one that came in a FULL
   abbrev pub Obtained : FullCertificate → Type 0
   Obtained c = IsOwnFull c ⊎ Happened (FullDelivered c)
 
@@ -33,7 +33,7 @@ module _ (own : ℕ) (Happened : Event → Type 0) where
       Collected seat v signature
       ⊎ ((es : List Entry) × Happened (FullDelivered (record { value = v; entries = es })) × List·Memᴰ (record { seat = seat; signature = signature }) es)
 
-  -- what is sent is made of what was received
+  -- an action made of received values and signatures
   abbrev pub Received : Action → Type 0
   Received (BroadcastSubmit v signature) = Happened (Submitted v signature)
   Received (ConfirmAndNotice v) = IsSubmitted v

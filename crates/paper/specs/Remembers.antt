@@ -1,4 +1,4 @@
--- The machine forgets nothing: what it has collected, noticed and obtained stays, and what is delivered and not discarded is added.
+-- The machine forgets nothing: everything collected, noticed and obtained stays, and everything delivered and not discarded is added.
 -- Assumes nothing.
 use Prim.Native.Nat.{ℕ}
 use mathlib.Core.Path.{_≡_, refl, sym, subst}
@@ -98,7 +98,7 @@ module _ (checks : Checks) (n own : ℕ) where
       let x : Reaction = record { machine = m; actions = [] } in
       remembers-trans m (uponEvent checks n own e x .machine) (react checks n own e m .machine) (event-remembers e x) (rules-remember (uponEvent checks n own e x))
 
-  -- ---- what is delivered
+  -- ---- additions at a delivery
 
   pub submit-added : (s : ℕ) (v g : List ℕ) (m : Machine) → isCollected checks n own s v g m ≡ true → List·Memᴰ (record { seat = s; signature = g }) (react checks n own (SubmitDelivered s v g) m .machine .collected)
   unfolding react uponEvent uponSubmitDelivered

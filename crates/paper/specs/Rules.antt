@@ -1,4 +1,4 @@
--- The rules of lines 25, 33 and 39: after each event they are done, so that looking at each of them once is enough.
+-- The rules of lines 25, 33 and 39: none is due after each was tried once, so that once after each event is enough.
 -- Assumes nothing.
 use Prim.Native.Nat.{ℕ}
 use mathlib.Core.Path.{_≡_, refl, ap, _∙_}
@@ -12,14 +12,14 @@ use Rattle.reading.specs.Lists.{cond-elim}
 use Rattle.paper.specs.Machine.{FullCertificate, Machine, Detect, Reaction, act, setDetected, isSome, conflict, valueOfNotice, valueOfFull, uponNoticeDelivered, obtain, confirming, uponQuorum, sending, uponNoticesConflict, detecting, uponFullsConflict, uponRules}
 use Rattle.paper.specs.Conflicts.{some-none}
 
--- what the rules of lines 25 and 33 wait for
+-- whether the rules of lines 25 and 33 are due
 abbrev pub quorumDue : ℕ → Machine → Bool
 quorumDue n m = not (m .confirmed) && leb (k n) (length (m .collected))
 
 abbrev pub noticesDue : Machine → Bool
 noticesDue m = m .confirmed && not (m .sent) && isSome (conflict valueOfNotice (m .noticed))
 
--- nothing is due
+-- no rule is due
 pub record AtRest (n : ℕ) (m : Machine) : Type 0 where
   pub quorum : quorumDue n m ≡ false
   pub notices : noticesDue m ≡ false
@@ -35,7 +35,7 @@ module _ (checks : Checks) (n own : ℕ) where
       go none h = rw (h refl)
       go (some p) h = refl
 
-  -- at rest, the rules do nothing
+  -- the rules do nothing at rest
   pub rest-quiet : (x : Reaction) → AtRest n (x .machine) → uponRules checks n own x ≡ x
   unfolding uponRules uponQuorum uponNoticesConflict
   rest-quiet x r =
@@ -43,7 +43,7 @@ module _ (checks : Checks) (n own : ℕ) where
       ∙ ap (λ (b : Bool). uponFullsConflict checks n own (cond b (sending checks n own x) x)) (r .notices)
       ∙ fulls-quiet x (r .fulls)
 
-  -- ---- and after the rules the machine is at rest
+  -- ---- the machine at rest after the rules
 
   quorum-done : (x : Reaction) → quorumDue n (uponQuorum checks n own x .machine) ≡ false
   unfolding uponQuorum confirming obtain uponNoticeDelivered act
@@ -64,7 +64,7 @@ module _ (checks : Checks) (n own : ℕ) where
   detecting-elim P none x f g = f
   detecting-elim P (some p) x f g = g p
 
-  -- that of line 39 changes nothing that the others wait for
+  -- line 39's rule doesn't make the others due
   fulls-fill : (x : Reaction) → (quorumDue n (uponFullsConflict checks n own x .machine) ≡ quorumDue n (x .machine)) × (noticesDue (uponFullsConflict checks n own x .machine) ≡ noticesDue (x .machine))
   unfolding uponFullsConflict act
   fulls-fill x =

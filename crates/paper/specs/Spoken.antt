@@ -1,4 +1,4 @@
--- What the machine sends, written with the engine's functions: that `Says` says it of each action, and says it of no other message.
+-- The message of each action, by the engine's functions: it meets `Says`, and no other message does.
 -- Assumes nothing.
 use Prim.Native.Nat.{ℕ, _<_}
 use mathlib.Core.Path.{_≡_, refl, sym, ap, subst, _∙_}
@@ -43,7 +43,7 @@ FormedAction n (ConfirmAndNotice v) = Unit {0}
 FormedAction n (BroadcastFull c) = Formed n c
 FormedAction n (Detect c d) = Formed n c × Formed n d × (c .value ≢ d .value)
 
--- ---- FULL and EVIDENCE have just the entries of the certificates
+-- ---- entries of FULL and EVIDENCE: those of the certificates
 
 abbrev certificate : FullCertificate → Certificate
 certificate c = certificateOf (c .value) (c .entries)
@@ -98,7 +98,7 @@ module _ (n : ℕ) where
       pair-is : (p : Pair) → certificate c .signature (p .seat) ≡ p .lower → certificate d .signature (p .seat) ≡ p .higher → c .value ≡ p .lowerValue → d .value ≡ p .higherValue → pairOf (certificate c) (certificate d) (p .seat) ≡ p
       pair-is p a b v w = rw (a, b, v, w)
 
--- ---- what is sent is what `Says` says
+-- ---- messages that meet `Says`
 
 module _ (n round seat : ℕ) where
   conflict-says : (c d : FullCertificate) → Formed n c → Formed n d → isLower (c .value) (d .value) ≡ true → SaysConflict round seat c d (orderedEvidence n round (certificate c) (certificate d))
@@ -123,9 +123,9 @@ module _ (n round seat : ℕ) where
   each-says [] f = tt
   each-says (a ∷ acts) f = (spoken-says a (f a (List·Memᴰ·head refl)), each-says acts (λ x d. f x (List·Memᴰ·tail d)))
 
--- ---- and nothing else is
+-- ---- no other message meets it
 
--- the same in the order of their seats are the same list
+-- two lists of the same members in the order of their seats are the same
 pub in-order-unique : {A : Type 0} (seatOf : A → ℕ) (These : A → Type 0) (xs ys : List A) → InOrder seatOf These xs → InOrder seatOf These ys → xs ≡ ys
 in-order-unique {A = A} seatOf These xs ys a b = go xs ys (a .rise) (b .rise) (λ x d. b .just x .1 (a .just x .0 d)) (λ y d. a .just y .1 (b .just y .0 d))
   where
@@ -162,7 +162,7 @@ module _ (n round seat : ℕ) where
   says-unique (Detect c d) f m m′ (inr p) (inl q) = absurd (true≢false (sym (p .1) ∙ other-lower n round seat c d f ∙ ap not (q .1)))
   says-unique (Detect c d) f m m′ (inr p) (inr q) = conflict-unique d c m m′ p q
 
-  -- ---- bytes that are what some actions are sent as
+  -- ---- bytes of the messages of actions
 
   said : (acts : List Action) (ms : List Message) → SaysEach round seat acts ms → (m : Message) → List·Memᴰ m ms → (a : Action) × List·Memᴰ a acts × Says round seat a m
   said [] [] s m d = absurd (List·Memᴰ·not-nil d)
@@ -179,7 +179,7 @@ module _ (n round seat : ℕ) where
       ⊎-elim (λ q. List·Memᴰ·head (says-unique b (f b (List·Memᴰ·head refl)) m x (subst (λ (y : Action). Says round seat y m) q p) (s .0)))
       (λ t. List·Memᴰ·tail (sent acts ms (λ y e. f y (List·Memᴰ·tail e)) (s .1) a t m p)) (List·Memᴰ·cases-cons d)
 
-  -- a message stands in them just where it is what one of the actions is sent as
+  -- a message stands in the bytes exactly where it is the message of one of the actions
   pub stands-sent : (bytes : List ℕ) (acts : List Action) (ms : List Message) → Each (FormedAction n) acts → Are n bytes ms → SaysEach round seat acts ms → (m : Message)
       → StandsIn n m bytes ↔ ((a : Action) × List·Memᴰ a acts × Says round seat a m)
   stands-sent bytes acts ms f are s m =

@@ -1,5 +1,5 @@
--- The bytes of a list of calls: they are messages one after another in one way only (`Reading`), and `Messages` has those that a call
--- writes. The claims and the trials of edits both stand on it.
+-- Bytes that a list of calls writes: their only reading as messages (`Reading`), and the messages of each call (`Messages`). The claims
+-- and the trials of edits both stand on it.
 pub mod Lists
 pub mod Reading
 pub mod Messages

@@ -46,7 +46,7 @@ unfolding worth
 true-of-worth true e = refl
 true-of-worth false e = absurd (omega arith)
 
--- ---- every one of a list
+-- ---- all members of a list
 
 module _ {ℓ} {A : Type ℓ} (P : A → Type 0) where
   pub each-nil : Each P []
@@ -76,7 +76,7 @@ unfolding every
 each-every test [] p = refl
 each-every test (x ∷ xs) p = rw (p x (List·Memᴰ·head refl)) (each-every test xs (λ y d. p y (List·Memᴰ·tail d)))
 
--- ---- how many of a list pass a test
+-- ---- number of members that pass a test
 
 pub count-append {ℓ} : {A : Type ℓ} (test : A → Bool) (xs ys : List A) → count test (xs ++ ys) ≡ count test xs + count test ys
 unfolding count

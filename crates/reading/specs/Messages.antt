@@ -35,14 +35,14 @@ outcome-is S (BySubmit value signature out) r store = refl
 outcome-is S (ByStep bytes out) r store = refl
 outcome-is S (ByThinEntry bytes out) r store = refl
 
--- by value or through the thin entry
+-- refusal number and state of a step, by value or through the thin entry
 pub step-is : (S : Setting) (c : Call) (bytes out : List ℕ) (r : Record) (store : List ℕ) → IsStep c bytes out
     → (refusalOf S c r store ≡ firstOf (stepConditions (S .checks) (S .keys) r store (read (r .n) bytes) out)) × (cameTo c r store ≡ stepped (read (r .n) bytes) (start r store))
 unfolding refusalOf cameTo
 step-is S c bytes out r store (inl e) = (ap (λ x. refusalOf S x r store) e, ap (λ x. cameTo x r store) e)
 step-is S c bytes out r store (inr e) = (ap (λ x. refusalOf S x r store) e, ap (λ x. cameTo x r store) e)
 
--- a call that isn't refused leaves what it comes to
+-- the record after a call that isn't refused
 pub result-came : (S : Setting) (t : Called) → refusalOf S (t .given) (t .unit) (t .store) ≡ 0 → resultOf S t .unit ≡ cameTo (t .given) (t .unit) (t .store) .unit
 unfolding resultBy unrefused
 result-came S t e = ap (λ (x : Result). x .unit) (outcome-is S (t .given) (t .unit) (t .store)) ∙ rw e
@@ -54,11 +54,11 @@ unrefused-result S t q =
     let e : refusalOf S (t .given) (t .unit) (t .store) ≡ 0 = sym (ap (λ (x : Result). x .refusal) (outcome-is S (t .given) (t .unit) (t .store))) ∙ q in
     (e, result-came S t e)
 
--- the messages that it writes
+-- the messages that a call writes
 abbrev pub messages : Setting → Called → List Message
 messages S t = unrefused (refusalOf S (t .given) (t .unit) (t .store)) (cameTo (t .given) (t .unit) (t .store) .written) []
 
--- and those of a list
+-- the messages that the calls of a list write
 unfoldable pub allMessages : Setting → List Called → List Message
 allMessages S [] = []
 allMessages S (t ∷ ts) = messages S t ++ allMessages S ts
@@ -92,7 +92,7 @@ written-is S t =
     counted-written (resultOf S t .written) (outOf (t .given)) ∙ ap (λ (x : Result). x .written) (outcome-is S (t .given) (t .unit) (t .store))
     ∙ unrefused-render (refusalOf S (t .given) (t .unit) (t .store)) (cameTo (t .given) (t .unit) (t .store) .written)
 
--- the bytes of the calls of a list, one after another, are the messages of each
+-- the bytes that the calls of a list write are the messages of the calls, one after another
 pub over-are : (S : Setting) (n : ℕ) (ts : List Called) → Each (λ t. Are n (writtenIn S t) (messages S t)) ts → Are n (writtenOver S ts) (allMessages S ts)
 unfolding writtenOver allMessages renderAll
 over-are S n [] h = (each-nil (WellFormed n), refl)

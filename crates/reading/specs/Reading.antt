@@ -1,5 +1,4 @@
--- Bytes and messages: the operands of a message that was read have their widths, and bytes are messages one after another in one way
--- only.
+-- Bytes read as messages: the operands of a message have their widths, and bytes are messages one after another in one way only.
 -- Assumes nothing.
 use mathlib.Core.Path.{_≡_, refl, sym, ap, ap₂, _∙_}
 use mathlib.Core.Bool.{true, cond, _&&_}
@@ -40,7 +39,7 @@ module _ {A : Type 0} (form : Form A) (faithful : Faithful form) (bytes : List �
       let more : entryLength (form .held) * suc t ≡ entryLength (form .held) * t + entryLength (form .held) = mul-suc (entryLength (form .held)) t in
       each-append _ (readEntries form t bytes) (readEntry form (placeOf form t) bytes ∷ []) (entries-laid t (omega arith)) (entry-laid (placeOf form t) (omega arith))
 
--- a message's operands have their widths
+-- widths of a message's operands
 abbrev pub Sized : ℕ → Message → Type 0
 Sized n (Submit ρ seat value signature) = (length value ≡ valueLength) × (length signature ≡ signatureLength)
 Sized n (Notice ρ seat value) = length value ≡ valueLength
@@ -85,9 +84,9 @@ module _ (n : ℕ) (bytes : List ℕ) where
       (λ b. cond-elim (Sized n) (fitsFull n bytes) (readFull n bytes) _ full-sized
       (λ c. cond-elim (Sized n) (fitsEvidence n bytes) (readEvidence bytes) Garbled evidence-sized (λ d. tt))))
 
--- ---- where a message ends
+-- ---- the end of a message
 
--- the length of the message that stands first, by its command and count
+-- length of the first message, by its command and count
 unfoldable pub frameLength : ℕ → List ℕ → ℕ
 frameLength n bytes =
     cond (eqb (byteAt bytes 0) 0x01) submitLength

@@ -8,12 +8,12 @@ use Rattle.protocol.specs.Message.{Message, Submit, Notice, Full, Evidence, Gar
 use Rattle.protocol.specs.Refusals.{isFull, isEvidence}
 use Rattle.round.specs.Round.{Setting, Honest, Called, listOf, writtenIn, Are}
 
--- everything that calls write, one after another
+-- the bytes that calls write, one after another
 unfoldable pub writtenOver : Setting → List Called → List ℕ
 writtenOver S [] = []
 writtenOver S (c ∷ cs) = writtenIn S c ++ writtenOver S cs
 
--- what a unit sends
+-- kinds of message that a unit sends
 pub data Kind : Type 0 where
   SUBMIT NOTICE FULL EVIDENCE : Kind
 
@@ -37,7 +37,7 @@ isOf NOTICE m = isNotice m
 isOf FULL m = isFull m
 isOf EVIDENCE m = isEvidence m
 
--- how many of a list pass a test
+-- number of members of a list that pass a test
 unfoldable pub worth : Bool → ℕ
 worth true = 1
 worth false = 0
@@ -46,6 +46,6 @@ unfoldable pub count {ℓ} : {A : Type ℓ} → (A → Bool) → List A → ℕ
 count test [] = 0
 count test (x ∷ xs) = worth (test x) + count test xs
 
--- whatever messages the bytes are that a unit's list writes, at most one of each kind is among them
+-- at most one message of each kind among those that a unit's list writes, for every reading of the bytes as messages
 abbrev pub AtMostOne : Setting → Honest → Type 0
 AtMostOne S u = (ms : List Message) → Are (S .n) (writtenOver S (listOf S u)) ms → (κ : Kind) → count (isOf κ) ms ≤ 1

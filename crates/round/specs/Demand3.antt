@@ -1,4 +1,4 @@
--- Demand 3 of any setting and any family of honest units, in the words of `Round`.
+-- Demand 3 for any setting and any family of honest units, in the words of `Round`.
 -- Assumes nothing.
 use Prim.Native.Nat.{ℕ, _+_, _≤_}
 use mathlib.Core.Path.{_≡_}
@@ -44,8 +44,8 @@ module _ (S : Setting) where
     pub answered : evidenceCheck checks n round keys evidence .mask ≡ seats
 
   module _ {I : Type 0} (boat : I → Honest) where
-    -- beyond the demand: a relation that holds of every signature in what a step in a list, or a making, is given and doesn't
-    -- refuse. What a refused call's bytes are read as doesn't matter to it.
+    -- beyond the demand: a relation that holds of every signature in the messages that a step in a list, or a making of evidence,
+    -- is given and doesn't refuse. The bytes given to a refused call don't matter.
     pub record Takes (R : Relation) : Type 0 where
       pub steps : (i : I) (bytes : List ℕ) (g : StepGiven S (boat i) bytes) → resultOf S (g .call) .refusal ≡ 0 → EachSigned R (read n bytes)
       pub makings : (i : I) (h : InHand) → List·Memᴰ h (boat i .inHand) → making checks n round keys (h .a) (h .b) (h .out) .refusal ≡ 0
@@ -60,5 +60,5 @@ module _ (S : Setting) where
       -- and that every unit accepts."
       pub accountability : (i j : I) (a b : List ℕ) → a ≢ b → Confirms S (boat i) a → Confirms S (boat j) b → ReachedOthers boat i → ReachedOthers boat j
           → (l : I) → Blames (boat l)
-      -- beyond the demand: safety for every other reading of "delivered" that has at least the signatures that calls took
+      -- beyond the demand: safety for every other meaning of "delivered" that has at least the signatures that calls took
       pub safety-however : (R : Relation) → Takes R → NoneForged boat R → NoneBlamed boat R

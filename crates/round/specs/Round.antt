@@ -51,7 +51,7 @@ pub record Called : Type 0 where
 module _ (S : Setting) where
   open Setting S using (n, round, keys, checks)
 
-  -- "each doing what these papers say of it": what a call makes of a record and a store
+  -- "each doing what these papers say of it": result of a call with a record and a store
   unfoldable pub outcome : Call → Record → List ℕ → Result
   outcome (BySubmit value signature out) r store = submit checks keys r store value signature out
   outcome (ByStep bytes out) r store = step checks keys r store bytes out
@@ -80,9 +80,9 @@ module _ (S : Setting) where
     pub opened : (i : I) → IsOpened (boat i)
     pub apart : (i j : I) → i ≢ j → boat i .seat ≢ boat j .seat
 
--- ---- what is written, and what has reached a unit
+-- ---- messages written, and messages that have reached a unit
 
--- "the bytes that a call's answer counts": the first so many of out as the call leaves it
+-- "the bytes that a call's answer counts": that many bytes at the start of out, as the call leaves it
 abbrev pub counted : ℕ → List ℕ → List ℕ → List ℕ
 counted count written out = take count (outAfter written out)
 
@@ -91,7 +91,7 @@ outOf (BySubmit value signature out) = out
 outOf (ByStep bytes out) = out
 outOf (ByThinEntry bytes out) = out
 
--- bytes are these messages one after another, each of them as document 01 lays it out
+-- the bytes are these messages, one after another, each as document 01 lays it out
 abbrev pub Are : ℕ → List ℕ → List Message → Type 0
 Are n bytes ms = Each (WellFormed n) ms × (bytes ≡ renderAll ms)
 
@@ -155,7 +155,7 @@ module _ (S : Setting) where
 abbrev pub Relation : Type 1
 Relation = ℕ → List ℕ → List ℕ → Type 0
 
--- it holds of every signature in a message, with the seat and the layout that the signature stands for there
+-- the relation holds of every signature in a message, with the seat and the layout that the signature stands for there
 abbrev pub EachSigned : Relation → Message → Type 0
 EachSigned R m = Each (λ (s : Signed). R (s .seat) (s .value) (s .signature)) (signed m)
 

@@ -1,5 +1,5 @@
--- Tests of lists of calls that can be computed, each with its meaning in the words of `Round` and `Demand3`. Nothing here stands on a
--- proof of the claims, so that it holds where a definition is edited too.
+-- Computable tests of lists of calls, each with its meaning in the words of `Round` and `Demand3`. Nothing here uses a proof of the
+-- claims, so that all of it holds for an edited definition too.
 -- Assumes nothing.
 use Prim.Native.Nat.{ℕ, _+_, _≤_}
 use mathlib.Core.Path.{_≡_, refl, sym, ap, subst, _∙_}
@@ -26,7 +26,7 @@ use Rattle.reading.specs.Lists.{and-false-either, or-true-either, every-each}
 use Rattle.reading.specs.Reading.{are-unique}
 use Rattle.reading.specs.Messages.{messages, allMessages, all-member, member-all, written-is, over-are}
 
--- ---- one of a list
+-- ---- a member of a list
 
 unfoldable pub found {ℓ} : {A : Type ℓ} → (A → Bool) → List A → Bool
 found test [] = false
@@ -53,7 +53,7 @@ every-false test (x ∷ xs) e =
 
 -- ---- messages
 
--- an entry's signatures have their length, and a pair has the values of its message
+-- whether an entry's signatures have their length, and a pair has the values of its message
 unfoldable pub entrySized : Entry → Bool
 entrySized e = eqb (length (e .signature)) signatureLength
 
@@ -159,7 +159,7 @@ submit-of layout (BySubmit value signature out) e = (signature, out, ap (λ v. B
 submit-of layout (ByStep bytes out) e = absurd (false≢true e)
 submit-of layout (ByThinEntry bytes out) e = absurd (false≢true e)
 
--- the signatures in what a step is given
+-- the signatures in a step's message
 unfoldable pub signedIn : ℕ → Call → List Signed
 signedIn n (BySubmit value signature out) = []
 signedIn n (ByStep bytes out) = signed (read n bytes)
@@ -200,7 +200,7 @@ module _ (S : Setting) where
   unfolding isOpened
   isOpened-says u e = eqb-true (opening n (u .seat) round keys .number) 0 e
 
-  -- the messages that its list writes
+  -- the messages that a unit's list writes
   unfoldable pub all : Honest → List Message
   all u = allMessages S (listOf S u)
 
@@ -268,7 +268,7 @@ module _ (S : Setting) where
   unfoldable pub accuses : Honest → ℕ → Bool
   accuses u seat = found (isEvidenceOn seat) (all u)
 
-  -- where each of its messages is well-formed, what its list writes are these
+  -- a unit whose messages are all well-formed: its list writes these messages
   module _ (u : Honest) (f : formed u ≡ true) where
     all-formed : Each (WellFormed n) (all u)
     unfolding formed
@@ -288,7 +288,7 @@ module _ (S : Setting) where
         all-member S (listOf S u) c m (w .inList)
         (subst (λ ms. List·Memᴰ m ms) (are-unique n (writtenIn S c) (w .stands .0) (messages S c) (w .stands .1) (formed, written-is S c)) (w .stands .2))
 
-    -- and all of them
+    -- the whole list writes these messages
     pub all-are : Are n (writtenOver S (listOf S u)) (all u)
     unfolding all
     all-are = over-are S n (listOf S u) (λ c d. (λ m e. all-formed m (all-member S (listOf S u) c m d e), written-is S c))
@@ -309,7 +309,7 @@ module _ (S : Setting) where
           full = λ ρ sender layout es w. reached-says other (render (Full ρ sender layout es)) (each (Full ρ sender layout es) (writes-member (Full ρ sender layout es) w));
         }
 
-    -- no evidence that it wrote is accepted and names enough
+    -- a unit that fails the test has written no evidence that is accepted and names enough seats
     pub blames-not : blames u ≡ false → Blames S u → ⊥
     unfolding blames blamesIn
     blames-not e b =

@@ -1,4 +1,4 @@
--- For the runs: every definition of a call, open, and a toy for the signature check.
+-- A toy signature check for the runs, and the definitions of calls, unfolded.
 -- Assumes nothing.
 use Prim.Native.Nat.{ℕ, zero, suc, _-_}
 use mathlib.Core.Bool.{Bool, true, _&&_}
@@ -20,12 +20,12 @@ use Rattle.protocol.specs.Refusals.{every, keyAllowed, keysAllowed, wrongKeys, 
 use Rattle.protocol.specs.Step.{write, collect, setOwnValue, submitOwn, isWanted, hearSubmit, noticesWith, hear, otherHeard, owesFull, sendFull, reply, hold, blame, blames, holdOrBlame, hearCertificate, isComplete, confirm, hearOwn, confirmIfComplete, submitted, stepped}
 use Rattle.protocol.specs.Calls.{outAfter, openedBy, opening, resultBy, submit, step, answer, makingBy, making, made, checkedBy, evidenceCheck, lowerOf, lowerCertificate}
 
--- every definition of a call, open
+-- a name that unfolds every definition of a call
 unfoldable pub unfolded : Bool
 unfolding ones part patch be t0 k bit has union shared with outside seats firstOf unrefused signatureLength submitLength noticeLength fullEntryLength fullEntryAt fullLength evidenceEntryLength evidenceEntryAt evidenceLength banks lengthOfBanks banksBefore slotLengthIn slotLength storeLength slotAt outLength evidenceOutLength unset same isLower placeOf renderEntry renderEntries entryCommands readEntry readEntries formSeats fullForm evidenceForm render renderAll readRound readValue readSignature fitsSubmit fitsNotice fitsFull fitsEvidence readSubmit readNotice readFull readEvidence read roundOf entrySeats seatsOf signedEntries signedPairs signed slot fill fillEach ownCertificate firstCertificate setOf signatureOf certificateOf certificateIn entriesOf fullOf pairsOf orderedEvidence evidenceOf wrongSize wrongSeat wrongRound fresh zeros noneHeard oneHeard holds outOfRange wrongHeard namesStranger wrongCollected wrongFirst lacksFirst wrongGuilty wrongSent wrongUnset impossible every keyAllowed keysAllowed wrongKeys shortStore shortOut said isForStep isFull isEvidence wrongLengths otherRound stranger rising disorder early badSignature notLowerFirst equalValues messageConditions outsideConditions recordConditions openingConditions submitConditions stepConditions evidenceConditions certificateConditions twoConditions makingConditions lowerConditions write collect setOwnValue submitOwn isWanted hearSubmit noticesWith hear otherHeard owesFull sendFull reply hold blame blames holdOrBlame hearCertificate isComplete confirm hearOwn confirmIfComplete submitted stepped outAfter openedBy opening resultBy submit step answer makingBy making made checkedBy evidenceCheck lowerOf lowerCertificate
 unfolded = true
 
--- a toy for the signature check: a signature's first byte is its seat, and the second is the first of its value
+-- toy signature check: a signature's first byte is its seat, its second the first byte of its value
 abbrev pub toy : ℕ → List ℕ → List ℕ → Bool
 toy seat value signature = eqb (byteAt signature 0) seat && eqb (byteAt signature 1) (byteAt value 0)
 
@@ -39,7 +39,7 @@ abbrev pub keys : ℕ → List ℕ
 keys zero = []
 keys (suc n) = keys n ++ 0 ∷ 0 ∷ 0 ∷ 6 ∷ 0 ∷ 0 ∷ 0 ∷ 4 ∷ replicate 48 0
 
--- a SUBMIT of a seat for the layout of a byte, and a certificate of it by three seats
+-- a SUBMIT of a seat for the layout of a byte, and a FULL of that layout by three seats
 abbrev pub submitBy : ℕ → ℕ → Message
 submitBy seat b = Submit 5 seat (layout b) (sign seat b)
 

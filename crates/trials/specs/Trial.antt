@@ -1,5 +1,5 @@
--- A trial of a claim: a run, and from two computed answers, that the claim's premises hold there and that its conclusion doesn't,
--- the proof that the claim is false.
+-- A trial of a claim: a run, and a proof that the claim is false if the run answers that the claim's premises hold there and its
+-- conclusion doesn't.
 -- Assumes nothing.
 use Prim.Native.Nat.{ℕ}
 use mathlib.Core.Path.{_≡_, refl, sym, ap, subst, _∙_}
@@ -29,7 +29,7 @@ pub record Trial {ℓ} (claim : Type ℓ) : Type ℓ where
 abbrev pub claimOf {ℓ} : {C : Type ℓ} → Trial C → Type ℓ
 claimOf {C = C} t = C
 
--- what the run answers: do the claim's premises hold, and does its conclusion?
+-- answer of a run: whether the claim's premises hold, and whether its conclusion does
 abbrev pub answer {ℓ} : {C : Type ℓ} → Trial C → Bool × Bool
 answer t = (t .premises, t .conclusion)
 
@@ -44,7 +44,7 @@ module _ (S : Setting) (u : Honest) where
   abbrev pub once : Kind → Bool
   once κ = leb (count (isOf κ) (all S u)) 1
 
-  -- at most one of each message
+  -- at most one message of each kind
   unfoldable pub onceEach : Trial (IsOpened S u → AtMostOne S u)
   onceEach = record {
     premises = isOpened S u && formed S u;
@@ -55,7 +55,7 @@ module _ (S : Setting) (u : Honest) where
         true≢false (sym (rw (one SUBMIT, one NOTICE, one FULL, one EVIDENCE)) ∙ c);
   }
 
-  -- no record that comes out of a call is impossible
+  -- whether the record that comes out of a call is possible
   abbrev pub possible : Called → Bool
   possible c = not (impossible (resultOf S c .unit))
 
@@ -70,7 +70,7 @@ module _ (S : Setting) (u : Honest) where
 
 -- ---- demand 3: some boats
 
--- all of them, each with a place of its own
+-- all boats, each with a number of its own
 pub record Crew (I : Type 0) : Type 0 where
   pub everyone : List I
   pub complete : (i : I) → List·Memᴰ i everyone
@@ -96,7 +96,7 @@ module _ (S : Setting) {I : Type 0} (crew : Crew I) (boat : I → Honest) where
   abbrev pub someone : (I → Bool) → Bool
   someone test = found test (crew .everyone)
 
-  -- "openings not refused, and each its own seat"; and what each writes is well-formed messages
+  -- openings that aren't refused, each boat in its own seat, and well-formed messages written
   abbrev pub apart : I → I → Bool
   apart i j = alike i j || not (eqb (boat i .seat) (boat j .seat))
 
@@ -126,7 +126,7 @@ module _ (S : Setting) {I : Type 0} (crew : Crew I) (boat : I → Honest) where
       ⊎-elim (λ q. absurd (other (alike-same l i q))) (λ q. haveReached-says S (boat i) f (boat l) q)
       (or-true-either (alike l i) (haveReached S (boat i) (boat l)) (each-says (λ x. alike x i || haveReached S (boat i) (boat x)) e l))
 
-  -- two boats confirm two layouts: does every boat blame?
+  -- whether every boat blames, where two boats confirm two layouts
   unfoldable pub accountability : I → I → List ℕ → List ℕ → Trial (Family S boat → Demand3 S boat)
   accountability i j a b = record {
     premises = family && (not (same a b) && (confirms S (boat i) a && (confirms S (boat j) b && (reachedOthers i && reachedOthers j))));
@@ -148,14 +148,14 @@ module _ (S : Setting) {I : Type 0} (crew : Crew I) (boat : I → Honest) where
 
   -- ---- safety
 
-  -- none of its signatures is forged: of the seat, over a layout that it didn't submit, and yet it checks
+  -- whether a signature isn't forged: of another seat than the boat's, or over a layout that it submitted, or one that doesn't check
   abbrev pub genuine : I → Signed → Bool
   genuine i s = not (eqb (s .seat) (boat i .seat)) || (submits S (boat i) (s .value) || not (checks (s .seat) (s .value) (s .signature)))
 
   abbrev pub noneForged : Bool
   noneForged = each (λ i. each (λ j. every (λ (c : Called). every (genuine i) (signedIn n (c .given))) (listOf S (boat j))))
 
-  -- no evidence is made from certificates in hand
+  -- whether no boat has certificates in hand
   abbrev pub noneInHand : Bool
   noneInHand = each (λ i. every (λ (h : InHand). false) (boat i .inHand))
 
@@ -179,7 +179,7 @@ module _ (S : Setting) {I : Type 0} (crew : Crew I) (boat : I → Honest) where
       made : MadeFrom S (boat (d .to)) (d .bytes) → checks (boat i .seat) layout signature ≡ false
       made h = absurd (true≢false (sym (every-each (λ (x : InHand). false) (boat (d .to) .inHand) (each-says (λ l. every (λ (x : InHand). false) (boat l .inHand)) empty (d .to)) (h .hand) (h .has))))
 
-  -- a signature stands in what a step in a list is given
+  -- whether a signature is in the message of a step in a list
   abbrev pub delivered : Signed → Bool
   delivered s = someone (λ i. found (λ (c : Called). found (sameSigned s) (signedIn n (c .given))) (listOf S (boat i)))
 
@@ -191,7 +191,7 @@ module _ (S : Setting) {I : Type 0} (crew : Crew I) (boat : I → Honest) where
       let g = signed-given n (c .0 .given) s (subst (λ x. List·Memᴰ x (signedIn n (c .0 .given))) (sym (same-signed s (z .0) (z .2))) (z .1)) in
       record { to = i .0; bytes = g .0; given = inl (record { call = c .0; inList = c .1; out = g .1; isStep = g .2 }); stands = g .3 }
 
-  -- evidence is accepted from delivered signatures, and names the boat's seat
+  -- whether evidence is accepted from delivered signatures and names the boat's seat
   abbrev pub framed : I → List ℕ → Bool
   framed i evidence =
       eqb (evidenceCheck checks n round keys evidence .number) 0
@@ -205,7 +205,8 @@ module _ (S : Setting) {I : Type 0} (crew : Crew I) (boat : I → Honest) where
       let b = both-true (every delivered (signed m)) (found (eqb (boat i .seat)) (entrySeats m)) (a .1) in
       ((eqb-true number 0 (a .0), λ s d. delivered-says s (every-each delivered (signed m) (b .0) s d)), found-seat (boat i .seat) (entrySeats m) (b .1))
 
-  -- no signature is forged: is no boat's seat in evidence that a boat writes, nor in any of these, accepted from delivered ones?
+  -- whether no boat's seat is in evidence that a boat writes, or in one of these that is accepted from delivered signatures, where no
+  -- signature is forged
   unfoldable pub safety : List (List ℕ) → Trial (Family S boat → Demand3 S boat)
   safety tried = record {
     premises = family && (noneForged && noneInHand);

@@ -1,5 +1,5 @@
--- The runs on which edits of definitions are tried: four seats, two or three boats with short lists of calls, and a toy for the
--- signature check. A run may give a boat what another has written, so that it goes as the definitions say, edited or not.
+-- Runs for trials of edited definitions: four seats, one to three boats with short lists of calls, and a toy signature check. A run
+-- may give a boat the messages that another writes by the definitions, edited or not.
 -- Assumes nothing.
 use Prim.Native.Nat.{ℕ, zero, suc}
 use mathlib.Core.Path.{_≡_, refl}
@@ -18,7 +18,7 @@ use Rattle.trials.specs.Toy.{unfolded, toy, layout, sign, keys, submitBy
 use Rattle.trials.specs.Tests.{found, entrySized, pairSized, wellFormed, isNoticeOf, isEvidenceOn, isStepOf, isSubmitOf, signedIn, sameSigned, isOpened, all, formed, submits, reached, confirms, mustReach, haveReached, blamesIn, blames, accuses}
 use Rattle.trials.specs.Trial.{Trial, onceEach, possibleEach, Crew, accountability, safety}
 
--- ---- what the runs are given
+-- ---- setting and calls of the runs
 
 abbrev pub four : Setting
 four = record { n = 4; round = 5; keys = keys 4; checks = toy }
@@ -35,7 +35,7 @@ hears m = ByStep (render m) room
 abbrev pub boatAt : ℕ → List Call → Honest
 boatAt seat calls = record { seat = seat; store = replicate (storeLength 4) 1; calls = calls; inHand = [] }
 
--- those of a list that pass a test
+-- the members of a list that pass a test
 unfoldable pub those {ℓ} : {A : Type ℓ} → (A → Bool) → List A → List A
 those test [] = []
 those test (x ∷ xs) = cond (test x) (x ∷ those test xs) (those test xs)
@@ -93,11 +93,11 @@ three = record { everyone = Zeroth ∷ First ∷ Second ∷ []; complete = three
 
 -- ---- accountability: seats 2 and 3 sign twice, and seats 0 and 1 confirm different layouts
 
--- a boat hears a NOTICE of the other's layout, submits its own and collects what seats 2 and 3 signed
+-- a boat hears a NOTICE of the other's layout, submits its own and collects the signatures of seats 2 and 3
 abbrev pub noticed : ℕ → ℕ → ℕ → ℕ → Honest
 noticed seat b other c = boatAt seat (hears (Notice 5 other (layout c)) ∷ says seat b ∷ hears (submitBy 2 b) ∷ hears (submitBy 3 b) ∷ [])
 
--- then what the other has written comes
+-- a boat with more calls at the end of its list
 abbrev pub then : Honest → List Call → Honest
 then u more = record { seat = u .seat; store = u .store; calls = u .calls ++ more; inHand = [] }
 
@@ -113,14 +113,14 @@ divided = ofTwo (then seven (map hears (sentBy nine))) (then nine (map hears (se
 unfoldable pub dividedBoats : Trial (Family four divided → Demand3 four divided)
 dividedBoats = accountability four two divided false true (layout 7) (layout 9)
 
--- the NOTICE that each hears before it submits is all that it hears of the other's; what FULL the other writes comes after
+-- each boat hears a NOTICE of the other's layout before it submits, and of the other's messages only the FULL
 abbrev pub forewarned : Bool → Honest
 forewarned = ofTwo (then seven (map hears (those isFull (all four nine)))) (then nine (map hears (those isFull (all four seven))))
 
 unfoldable pub forewarnedBoats : Trial (Family four forewarned → Demand3 four forewarned)
 forewarnedBoats = accountability four two forewarned false true (layout 7) (layout 9)
 
--- a third boat that has submitted nothing gets what both have written
+-- a third boat, which has submitted nothing, hears the NOTICE and FULL of both
 abbrev pub witnessed : Three → Honest
 witnessed = ofThree (divided false) (divided true) (boatAt 2 (map hears (sentBy seven ++ sentBy nine)))
 
@@ -134,14 +134,14 @@ shortStored = ofThree (divided false) (divided true) (record { seat = 2; store =
 unfoldable pub shortStoredBoats : Trial (Family four shortStored → Demand3 four shortStored)
 shortStoredBoats = accountability four three shortStored Zeroth First (layout 7) (layout 9)
 
--- one boat's out is a byte short when the other's NOTICE and FULL come
+-- one boat's out is a byte short for the other's NOTICE and FULL
 abbrev pub shortOuted : Bool → Honest
 shortOuted = ofTwo (divided false) (then nine (map (λ m. ByStep (render m) (replicate 14708 0)) (sentBy seven)))
 
 unfoldable pub shortOutedBoats : Trial (Family four shortOuted → Demand3 four shortOuted)
 shortOutedBoats = accountability four two shortOuted false true (layout 7) (layout 9)
 
--- neither hears the other's NOTICE, and what FULL either writes comes
+-- neither boat hears a NOTICE; each hears the FULL that the other writes, if any
 abbrev pub confirming : ℕ → ℕ → Honest
 confirming seat b = boatAt seat (says seat b ∷ hears (submitBy 2 b) ∷ hears (submitBy 3 b) ∷ [])
 
@@ -153,7 +153,7 @@ unheardBoats = accountability four two unheard false true (layout 7) (layout 9)
 
 -- ---- safety: seat 0 submits the layout 7 and nobody forges
 
--- a certificate of the layout 9 with a signature of seat 0 that doesn't check comes after one of the layout 7
+-- seat 1 hears a certificate of the layout 7, then one of the layout 9 with a signature of seat 0 that doesn't check
 abbrev pub unsigned : Bool → Honest
 unsigned = ofTwo (boatAt 0 (says 0 7 ∷ [])) (boatAt 1 (hears (fullBy 7 0 2 3) ∷ hears (Full 5 2 (layout 9) (entryBy 7 0 ∷ entryBy 9 2 ∷ entryBy 9 3 ∷ [])) ∷ []))
 
@@ -189,7 +189,7 @@ holding = ofTwo (boatAt 0 (hears (fullBy 9 1 2 3) ∷ says 0 7 ∷ hears (submit
 unfoldable pub holdingBoats : Trial (Family four holding → Demand3 four holding)
 holdingBoats = safety four two holding []
 
--- seat 0's SUBMIT is heard, and one of another layout with the same signature; evidence of both, and of the first twice
+-- seat 1 hears seat 0's SUBMIT, and one of another layout with the same signature; evidence of both layouts, and of one layout twice
 abbrev pub heardTwice : Bool → Honest
 heardTwice = ofTwo (boatAt 0 (says 0 7 ∷ [])) (boatAt 1 (hears (submitBy 0 7) ∷ hears (Submit 5 0 (layout 9) (sign 0 7)) ∷ []))
 
@@ -204,7 +204,7 @@ equalEvidence = safety four two heardTwice (framing 7 7 ∷ [])
 
 -- ---- demand 1: one boat
 
--- a boat that confirmed hears another layout's NOTICE twice
+-- a boat hears another layout's NOTICE before its submit, and again after it has confirmed
 abbrev pub answering : Honest
 answering = then seven (hears (Notice 5 1 (layout 9)) ∷ [])
 
@@ -218,7 +218,7 @@ sharing = boatAt 0 (hears (fullBy 7 0 1 2) ∷ hears (fullBy 9 1 2 3) ∷ [])
 unfoldable pub sharingBoat : Trial (IsOpened four sharing → (c : Called) → List·Memᴰ c (listOf four sharing) → impossible (resultOf four c .unit) ≡ false)
 sharingBoat = possibleEach four sharing
 
--- every definition of a run, open
+-- a name that unfolds every definition of a run
 unfoldable pub unfoldedTrials : Bool
 unfolding unfolded outcome listFrom isSubmit isNotice worth count refusalOf cameTo allMessages found entrySized pairSized wellFormed isNoticeOf isEvidenceOn isStepOf isSubmitOf signedIn sameSigned isOpened all formed submits reached confirms mustReach haveReached blamesIn blames accuses onceEach possibleEach accountability safety those sentBy certified certifiedEach two three
 unfoldedTrials = true

@@ -1,1 +1,2 @@
+-- Modules that the proofs share.
 pub mod Tags

@@ -1,4 +1,4 @@
-//! The reference with a fault planted, once for each fault of faults.txt. `cargo test -p mutants` sees whether the
+//! The reference with a fault planted, once for each fault of faults.txt. `cargo test -p mutants` tests whether the
 //! batteries catch them.
 
 use harness::confirmer::Confirmer;

@@ -1,4 +1,4 @@
-//! Every planted fault is caught by the battery that is there for it, and an edit without a meaning is not.
+//! Every planted fault is caught by its battery, and an edit that changes no meaning is not.
 
 use std::panic::{catch_unwind, set_hook, take_hook, AssertUnwindSafe};
 
@@ -56,7 +56,7 @@ fn run(battery: &str, subject: Subject) {
     }
 }
 
-/// The confirmer's batteries let the reference itself pass; those of signatures have an edit without a meaning.
+/// The confirmer's batteries let the reference itself pass; those of signatures have an edit that changes no meaning.
 #[test]
 fn faults_are_caught() {
     for battery in OF_THE_CONFIRMER {
@@ -68,7 +68,7 @@ fn faults_are_caught() {
     for Mutant { fault, battery, subject, .. } in mutants::ALL {
         assert!(batteries(subject).contains(&battery), "{fault}: no battery {battery} for its file");
     }
-    // A caught fault is no news.
+    // No message for a caught fault.
     set_hook(Box::new(|_| ()));
     let mut wrong = Vec::new();
     for mutant in mutants::ALL {

@@ -1,5 +1,5 @@
 //! The proved code beside plain C, and under the feature `libcrypto` beside OpenSSL's block function. The verdict is the ratio;
-//! nanoseconds are told for information.
+//! nanoseconds are printed for information.
 //! `bench WORD` runs only the contests whose names contain the word.
 
 use harness::contest::Contest;

@@ -1,4 +1,4 @@
-//! What a call outside a record is given: n, round and key table, and each of them made wrong.
+//! Arguments of a call outside a record: n, round and key table, and each of them made wrong.
 
 use super::noise;
 use super::refusals::{on_part, spoiler, Spoiler};

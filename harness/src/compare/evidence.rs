@@ -27,7 +27,7 @@ fn compare(subject: &dyn EvidenceCheck, case: &Case, rng: &mut Rng) -> Result<()
     told.map_err(|difference| format!("n = {}, {}: {difference}", case.arguments.n, case.what))
 }
 
-/// The verdict of the reference and the subject, or how they differ.
+/// The verdict of the reference and the subject, or their difference.
 fn both(subject: &dyn EvidenceCheck, arguments: &Arguments, evidence: &[u8], rng: &mut Rng) -> Result<Verdict, String> {
     let Arguments { n, round, keys } = arguments;
     let lent_keys = Guarded::new(keys, rng);

@@ -1,5 +1,5 @@
 //! The length of the first message in a buffer: each command whole, with bytes behind it, cut short and damaged, and random
-//! bytes. Rounds, seats, values and signatures are random: they aren't looked at.
+//! bytes. Rounds, seats, values and signatures are random: the length doesn't depend on them.
 
 use super::arguments::untouched;
 use super::{equal, for_each_n, sized};
@@ -150,7 +150,7 @@ impl Compared<'_> {
         equal(&format!("{what}: the reference's answer"), answer, length as u32)
     }
 
-    /// The answer of the reference and the subject, or how they differ.
+    /// The answer of the reference and the subject, or their difference.
     fn agree(&mut self, what: &str, n: u32, bytes: &[u8]) -> Result<u32, String> {
         self.calls += 1;
         let lent = Guarded::new(bytes, self.rng);

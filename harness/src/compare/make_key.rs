@@ -41,7 +41,7 @@ fn compare(subject: &dyn Calls, case: &Case, rng: &mut Rng) -> Result<u32, Strin
 /// An answer, and tree and out after it.
 type Made = (Written, Vec<u8>, Vec<u8>);
 
-/// What the reference comes to. A whole key takes long, so it is made once.
+/// Result of the reference. A whole key takes long, so it is made once.
 fn reference(case: &Case) -> Made {
     static WHOLE: Memo<[Vec<u8>; 4], Made> = Memo::new();
     let Case { seed, identifier, tree, out, .. } = case;
@@ -76,7 +76,7 @@ pub fn battery(subject: &dyn Calls) {
     run("make_key", &cases, |case, rng| compare(subject, case, rng));
 }
 
-/// A call with random bytes; a tree of the right length would have a key made.
+/// A call with random bytes, and a short tree: one of the right length would have a key made.
 pub fn noise(subject: &dyn Calls, rng: &mut Rng) -> Result<u32, String> {
     let tree = rng.below(200);
     let case = Case {

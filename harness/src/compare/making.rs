@@ -14,7 +14,7 @@ use crate::reference::record::{Verdict, Written};
 use crate::reference::seats::mask;
 use crate::rng::{seed, Rng};
 
-/// What is tested; the lower certificate only where there is one.
+/// The calls under test; the lower certificate only where there is one.
 #[derive(Clone, Copy)]
 pub struct Subject<'a> {
     pub making: &'a dyn Making,
@@ -30,7 +30,7 @@ struct Case {
     /// The answer of the maker, and the mask of the seats that its evidence names.
     made: Written,
     named: u32,
-    /// Which certificate is handed back as the lower one.
+    /// Index of the certificate handed back as the lower one.
     lower: Option<usize>,
 }
 
@@ -52,7 +52,7 @@ fn compare(subject: Subject, case: &Case, rng: &mut Rng) -> Result<(), String> {
     told().map_err(|difference| format!("n = {n}, {}: {difference}", case.what))
 }
 
-/// The answer of the reference and the subject and what `out` holds then, or how they differ.
+/// The answer of the reference and the subject with `out` after it, or their difference.
 fn both(
     subject: &dyn Making,
     arguments: &Arguments,

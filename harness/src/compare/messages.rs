@@ -124,7 +124,7 @@ fn stranger(n: u32, name: &str, at: usize) -> Vec<Wrong> {
     seats.map(|seat| set(11, format!("{name} is {seat}"), at, seat as u8)).collect()
 }
 
-/// Where a message's entries stand.
+/// The places of a message's entries.
 struct Entries {
     start: usize,
     width: usize,

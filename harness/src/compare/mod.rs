@@ -32,7 +32,7 @@ fn long() -> bool {
     std::env::var("ZOLBINE_LONG").is_ok_and(|value| value == "1")
 }
 
-/// So many cases in the long batteries, half as many else.
+/// This many cases in the long batteries, half as many otherwise.
 fn sized(count: usize) -> usize {
     if long() {
         count
@@ -52,7 +52,7 @@ pub fn lengths(subjects: noise::Subjects) {
     });
 }
 
-/// Runs what makes calls for one n, and tells how many there were for all.
+/// Runs a comparison for each n, and prints the number of its calls.
 fn for_each_n(title: &str, compare: impl Fn(u32, &mut Rng) -> Result<usize, String> + Sync) {
     let sizes: Vec<u32> = (1..=32).rev().collect();
     let calls = run(&format!("{title}, for each n"), &sizes, |&n, rng| compare(n, rng));
@@ -62,7 +62,7 @@ fn for_each_n(title: &str, compare: impl Fn(u32, &mut Rng) -> Result<usize, Stri
 /// Differences after which the other cases are passed over.
 const ENOUGH: usize = 5;
 
-/// Runs all cases in parallel, fails with the first differences and the seed, and else hands back what the cases gave.
+/// Runs all cases in parallel, and fails with the first differences and the seed, or returns the cases' results.
 fn run<C: Sync, R: Send>(
     title: &str,
     cases: &[C],

@@ -1,4 +1,4 @@
-//! Random bytes as every operand: mostly turned back for one cause, now and then for a later one.
+//! Random bytes as every operand: mostly refused for one cause, now and then for a later one.
 
 use std::collections::BTreeMap;
 
@@ -22,7 +22,7 @@ pub struct Subjects<'a> {
 
 const BATCH: usize = 1000;
 
-/// The numbers that each call must come by.
+/// The numbers that each call must answer at some time.
 const COVERED: [(&str, &[u32]); 8] = [
     ("check_signature", &[5, 14]),
     ("make_key", &[7, 16]),

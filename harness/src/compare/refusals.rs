@@ -6,7 +6,7 @@ type Spoil<C> = Box<dyn Fn(&mut C, &mut Rng)>;
 
 /// A change to a right case that calls for a refusal.
 pub struct Spoiler<C> {
-    /// Its number, where the call's numbers count in rising order; see `after`.
+    /// The place of its condition in the call's order: its number, but for `after`.
     place: u32,
     what: String,
     spoil: Spoil<C>,

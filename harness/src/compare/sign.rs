@@ -84,7 +84,7 @@ fn cases() -> Vec<Case> {
     cases
 }
 
-/// What a key and its tree sign is accepted.
+/// Signatures by a key and its tree, which are accepted.
 fn honest(keys: &[&Key], rng: &mut Rng) -> Vec<Case> {
     let trees: Vec<Arc<Vec<u8>>> = keys.iter().map(|key| Arc::new(key.lent_tree(&rng.bytes(N)))).collect();
     let mut cases = Vec::new();

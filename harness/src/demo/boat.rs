@@ -53,7 +53,7 @@ pub struct Unit<'a> {
     out: Vec<u8>,
 }
 
-/// What came of a call: a refusal's number or 0, the record before and after it, and the bytes to send.
+/// Result of a call: a refusal's number or 0, the record before and after it, and the bytes to send.
 pub struct Answer {
     pub number: u32,
     pub before: Record,

@@ -1,4 +1,4 @@
-//! What a fleet is promised of a round in which every message arrives in the end, held against the round as it was played.
+//! Promises to a fleet for a round in which every message arrives in the end, compared with the round as it was played.
 
 use super::round::{Event, Given, Played, Sent};
 use crate::air;
@@ -6,7 +6,7 @@ use crate::fleet::fewest_to_split;
 use crate::reference::record::{Record, Verdict};
 use crate::reference::seats::{mask, size};
 
-/// What is otherwise; nothing where all is well.
+/// The promises that the round broke.
 pub fn faults(n: u32, played: &Played) -> Vec<String> {
     let mut faults: Vec<String> =
         played.stages().into_iter().flat_map(|stage| &stage.events).filter_map(refusal).collect();

@@ -1,5 +1,5 @@
-//! The demonstration: a fleet in the terminal, sound and then with double signers. What it tells follows from what the calls
-//! answer, and where they answer otherwise than a fleet is promised, it says so.
+//! The demonstration: a fleet in the terminal, sound and then with double signers. Its text follows from the calls' answers,
+//! and an answer that breaks a promise to the fleet is reported.
 
 mod boat;
 mod expected;
@@ -28,13 +28,13 @@ pub struct Calls<'a> {
     pub evidence: &'a dyn EvidenceCheck,
 }
 
-/// What is shown, and what is not as a fleet is promised: nothing where all is well.
+/// The text shown, and the promises broken, none where all is well.
 pub struct Told {
     pub text: String,
     pub faults: Vec<String>,
 }
 
-/// Boats with their keys; how they come along is told on standard error.
+/// Boats with their keys; progress goes to standard error.
 pub fn boats(calls: Calls, n: u32, seed: u64) -> Vec<Boat> {
     let made = AtomicU32::new(0);
     let seats: Vec<u32> = (0..n).collect();

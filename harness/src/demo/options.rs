@@ -1,4 +1,4 @@
-//! The demonstration's numbers, from flags or by default, and what is wrong with numbers that make no sense.
+//! The demonstration's numbers, from flags or by default, and the errors for numbers that make no sense.
 
 use crate::fleet::fewest_to_split;
 
@@ -6,7 +6,7 @@ use crate::fleet::fewest_to_split;
 pub struct Options {
     /// Boats in the fleet.
     pub n: u32,
-    /// How many of them sign both layouts.
+    /// Boats that sign both layouts.
     pub double_signers: u32,
     /// Pairs of boats that don't hear each other at first.
     pub lost_links: Vec<(u32, u32)>,
@@ -14,7 +14,7 @@ pub struct Options {
     pub forged: Option<u32>,
     /// The boat that submits before all others.
     pub early: Option<u32>,
-    /// Keys, layouts and randomizers follow from it.
+    /// Source of keys, layouts and randomizers.
     pub seed: u64,
 }
 

@@ -1,4 +1,4 @@
-//! A round played over the calls: what each unit is given, what came of it, and what is lost on the way.
+//! A round played over the calls: the inputs of each unit, its answers, and the messages lost on the way.
 
 use std::collections::BTreeMap;
 
@@ -69,9 +69,9 @@ pub struct Played {
     pub submits: Stage,
     pub notices: Stage,
     pub fulls: Stage,
-    /// What was lost is sent again, and what it calls forth.
+    /// The lost messages, sent again, and the answers to them.
     pub late: Stage,
-    /// What the check says of each EVIDENCE.
+    /// The check's verdict on each EVIDENCE.
     pub evidence: Vec<(Sent, Verdict)>,
     /// Every message of the round, heard a second time.
     pub again: Stage,
@@ -139,7 +139,7 @@ fn of_command(messages: Vec<Sent>, command: u8) -> Vec<Sent> {
     messages.into_iter().filter(|sent| sent.bytes[0] == command).collect()
 }
 
-/// The units, and what is between them.
+/// The units, and the messages between them.
 struct Air<'a> {
     fleet: &'a Fleet<'a>,
     units: Vec<Unit<'a>>,
@@ -147,7 +147,7 @@ struct Air<'a> {
     signed: BTreeMap<(u32, Layout), Submit>,
     /// The SUBMIT in the name of `forged`, for each layout.
     forged: BTreeMap<Layout, Sent>,
-    /// What didn't reach a seat.
+    /// Messages that didn't reach a seat.
     lost: Vec<(u32, Sent)>,
     /// Whether every link holds.
     whole: bool,
@@ -211,7 +211,7 @@ impl<'a> Air<'a> {
         events
     }
 
-    /// The SUBMIT of a boat that reaches a unit with such a layout: a double signer shows that very layout.
+    /// The SUBMIT that a boat sends to a unit with this layout; a double signer sends one of that layout.
     fn shown_to(&self, own: Layout, from: u32) -> Sent {
         let signed = self.signed.get(&(from, own));
         let other = || self.signed.iter().find(|((seat, _), _)| *seat == from).map(|(_, submit)| submit);
@@ -231,8 +231,8 @@ impl<'a> Air<'a> {
         self.stage(events)
     }
 
-    /// The links are back: what was lost reaches its boats, and the answers go round until all is said. Evidence is for the
-    /// check, and not for a unit.
+    /// The links are back: lost messages reach their boats, and the answers go round until there are no more. Evidence is for
+    /// the check, and not for a unit.
     fn late(&mut self, unheard: Vec<Sent>) -> Stage {
         self.whole = true;
         let mut events: Vec<Event> = Vec::new();

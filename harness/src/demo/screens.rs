@@ -14,7 +14,7 @@ use crate::reference::quorum::k;
 use crate::reference::record::Record;
 use crate::reference::seats::{list, mask, size};
 
-/// The text under way.
+/// The text so far.
 pub struct Screens<'a> {
     options: &'a Options,
     layouts: [Layout; 2],
@@ -177,7 +177,7 @@ impl<'a> Screens<'a> {
         self.text += &picture(self.options.n, signers);
     }
 
-    /// What the options do to messages.
+    /// Effects of the options on messages.
     fn radio(&mut self) {
         let Options { lost_links, forged, early, .. } = self.options;
         let mut told = Vec::new();
@@ -228,7 +228,7 @@ impl<'a> Screens<'a> {
         }
     }
 
-    /// What came of a SUBMIT.
+    /// Result of a SUBMIT.
     fn came_of(&self, event: &Event) -> String {
         let Some(Answer { number, before, after, written }) = &event.answer else {
             return "lost: the link is down".to_string();
@@ -267,7 +267,7 @@ impl<'a> Screens<'a> {
         self.rows(&rows);
     }
 
-    /// What the boats answer to the notices.
+    /// The boats' answers to the notices.
     fn notices(&mut self, played: &Played) {
         let notices = &played.notices;
         if notices.events.is_empty() {
@@ -313,7 +313,7 @@ impl<'a> Screens<'a> {
         }
     }
 
-    /// What the boats find in the full certificates.
+    /// The boats' findings in the full certificates.
     fn fulls(&mut self, played: &Played) {
         if played.fulls.events.is_empty() {
             return;
@@ -358,7 +358,7 @@ impl<'a> Screens<'a> {
         ]
     }
 
-    /// What comes of the messages that were lost at first.
+    /// Results of the messages that were lost at first.
     fn late(&mut self, played: &Played) {
         if self.options.lost_links.is_empty() {
             return;
@@ -404,7 +404,7 @@ impl<'a> Screens<'a> {
         self.rows(&rows);
     }
 
-    /// Who has confirmed, and who holds evidence.
+    /// Boats that have confirmed, and boats that hold evidence.
     fn outcome(&mut self, played: &Played) {
         self.line("");
         let sides: Vec<String> = played.sides.iter().map(|side| self.has_confirmed(played, side)).collect();
@@ -425,7 +425,7 @@ impl<'a> Screens<'a> {
         }
     }
 
-    /// What the check accepted, by its masks.
+    /// The evidence that the check accepted, by its masks.
     fn blame(&mut self, played: &Played) {
         let n = self.options.n;
         let honest = played.honest();
@@ -452,7 +452,7 @@ impl<'a> Screens<'a> {
         self.prose(&told);
     }
 
-    /// Why the fleet isn't split.
+    /// The reason why the fleet isn't split.
     fn lesson(&mut self) {
         let Options { n, double_signers, .. } = *self.options;
         if double_signers == 0 {

@@ -53,7 +53,7 @@ pub fn and(words: &[impl AsRef<str>]) -> String {
     }
 }
 
-/// The signers of two layouts as rows of letters over n boats, and below them who stands in both.
+/// The signers of two layouts as rows of letters over n boats, and below them those in both.
 pub fn picture(n: u32, signers: [u32; 2]) -> String {
     let wide = n <= 16;
     let row = |title: &str, cell: &dyn Fn(u32) -> String, end: String| {
@@ -76,7 +76,7 @@ pub fn picture(n: u32, signers: [u32; 2]) -> String {
     above + &rows.concat()
 }
 
-/// The seats of a mask, as [`boats`] tells them.
+/// The seats of a mask, as [`boats`] lists them.
 pub fn boats_of(mask: u32) -> String {
     boats(&list(mask))
 }

@@ -69,7 +69,7 @@ pub fn step_lent(record: &mut Record, keys: &[u8], store: &mut [u8], message: &[
     Written { number: stepped.number, written: stepped.written }
 }
 
-/// 4 to 7.
+/// Refusals 4 to 7.
 fn buffers(record: &Record, keys: &[u8], store: &[u8], out: &[u8]) -> Passed {
     refuse(4, impossible(record))?;
     key_table(record.n, keys)?;
@@ -77,7 +77,7 @@ fn buffers(record: &Record, keys: &[u8], store: &[u8], out: &[u8]) -> Passed {
     refuse(7, out.len() < layout::out(record.n))
 }
 
-/// 9 to 14 of a SUBMIT.
+/// Refusals 9 to 14 of a SUBMIT.
 fn heard_submit(record: &Record, keys: &[u8], message: &[u8]) -> Passed<Submit> {
     let submit = Submit::read(message).ok_or(9u32)?;
     places(record.n, record.round, submit.round, Some(submit.seat), &[])?;
@@ -86,7 +86,7 @@ fn heard_submit(record: &Record, keys: &[u8], message: &[u8]) -> Passed<Submit> 
     Ok(submit)
 }
 
-/// 9 to 11 of a NOTICE.
+/// Refusals 9 to 11 of a NOTICE.
 fn heard_notice(record: &Record, message: &[u8]) -> Passed<Notice> {
     let notice = Notice::read(message).ok_or(9u32)?;
     places(record.n, record.round, notice.round, Some(notice.seat), &[])?;
@@ -178,7 +178,7 @@ impl Unit {
         }
     }
 
-    /// Confirmed, FULL not sent, and a value heard that isn't its own.
+    /// FULL, where the unit has confirmed, hasn't sent it yet and has heard another value than its own.
     fn send_full(&mut self) {
         let Record { own, confirmed, notices, sent, .. } = self.record;
         let another_heard = notices.heard == 2 || notices.heard == 1 && notices.value != own.value;

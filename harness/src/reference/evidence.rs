@@ -53,7 +53,7 @@ pub fn lower_certificate<'a>(n: u32, round: u32, keys: &[u8], first: &'a [u8], s
     }
 }
 
-/// The first one's 9 to 14, the second's, then 15.
+/// Refusals 9 to 14 of the first one, then of the second, then 15.
 fn conflicting(n: u32, round: u32, keys: &[u8], first: &[u8], second: &[u8]) -> Passed<(Full, Full)> {
     let first = certificate(n, round, keys, first)?;
     let second = certificate(n, round, keys, second)?;
@@ -61,7 +61,7 @@ fn conflicting(n: u32, round: u32, keys: &[u8], first: &[u8], second: &[u8]) -> 
     Ok((first, second))
 }
 
-/// The seats that stand in both certificates, each with what it signed twice.
+/// Evidence of the seats in both certificates, each with its two signatures.
 pub fn of_conflict(one: &Full, other: &Full) -> Evidence {
     let (lower, higher) = if one.value < other.value { (one, other) } else { (other, one) };
     let shared = |entry: &FullEntry| {

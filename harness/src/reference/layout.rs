@@ -11,7 +11,7 @@ const ROUND: usize = 2;
 const SEAT: usize = 1;
 const COUNT: usize = 1;
 pub const VALUE: usize = 32;
-/// Of the engine's types.
+/// A signature of the engine's types.
 pub const SIGNATURE: usize = Types::ENGINE.signature();
 
 // Commands start with the command and the round.

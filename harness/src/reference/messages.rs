@@ -209,7 +209,7 @@ fn whole<M>(message: &[u8], first: impl FnOnce(&mut Rest) -> Option<M>) -> Optio
     rest.0.is_empty().then_some(read)
 }
 
-/// What is left to read.
+/// The bytes left to read.
 struct Rest<'a>(&'a [u8]);
 
 impl Rest<'_> {

@@ -1,5 +1,5 @@
 //! A second implementation of the standards and of document 01 in the plainest style: slow, and short enough to read. It is
-//! no second reading of them: README.md tells what it shows and what the outside vectors do.
+//! no independent reading of them: README.md says what it shows, and what the outside vectors show.
 
 pub mod calls;
 pub mod engine;

@@ -17,7 +17,7 @@ pub fn refuse(number: u32, condition: bool) -> Passed {
     }
 }
 
-/// What a call outside a record is given: 1, 3 and 5.
+/// Refusals of the arguments of a call outside a record: 1, 3 and 5.
 pub fn arguments(n: u32, round: u32, keys: &[u8]) -> Passed {
     refuse(1, !is_size(n))?;
     refuse(3, round > MAX_LEAF)?;

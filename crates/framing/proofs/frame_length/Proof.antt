@@ -10,7 +10,7 @@ use Rattle.framing.specs.FramingLaws.{frame-submit, frame-notice, frame-
 use Rattle.framing.proofs.frame_length.Statement.{statement}
 use Rattle.framing.proofs.frame_length.Tie as tie
 
--- what the call is given, and the command that it reads
+-- arguments of the call, and the command read
 module _ (c : tie.After-byte-or-zero) where
   abbrev start : tie.Start
   start = c .before .before

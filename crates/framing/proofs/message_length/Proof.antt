@@ -10,7 +10,7 @@ use Rattle.framing.specs.FramingLaws.{told-none, told-many, told-short, 
 use Rattle.framing.proofs.message_length.Statement.{statement}
 use Rattle.framing.proofs.message_length.Tie as tie
 
--- the answer, by what the first bytes are
+-- the answer, by the first bytes
 told : (c : tie.After-is-garbled) →
     let frame = c .before .before .before .before in
     let args = frame .before .before .before .before .args in

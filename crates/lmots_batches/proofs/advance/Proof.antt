@@ -20,7 +20,7 @@ abbrev μ-loop : tie.MeasureT-loop
 abbrev started : tie.At-loop Inv-loop μ-loop → tie.Start Inv-loop μ-loop
 started c = c .before .before
 
--- the loop, from where the chains are chosen and from where the batch runs
+-- back to the loop, from the choice of the chains and from the run of the batch
 abbrev chosen : tie.After-choose Inv-loop μ-loop → tie.At-loop Inv-loop μ-loop
 chosen c = c .before .before .before
 

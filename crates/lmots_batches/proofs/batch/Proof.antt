@@ -9,7 +9,7 @@ use Rattle.lmots_batches.proofs.batch.Tie as tie
 abbrev started : tie.After-together → tie.Start
 started c = c .before .before
 
--- the chains chosen, from where they are gathered, go and are written back
+-- back to the chains chosen, from their gathering, their steps and their writing
 abbrev gathered : tie.After-gather → tie.After-row
 gathered c = c .before .before .before
 

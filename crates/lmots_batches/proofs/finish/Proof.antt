@@ -22,7 +22,7 @@ abbrev μ-loop : tie.MeasureT-loop
 abbrev started : tie.At-loop Inv-loop μ-loop → tie.Start Inv-loop μ-loop
 started c = c .before .before
 
--- the loop, from where a value is read and from where it is written
+-- back to the loop, from the reading of a value and from its writing
 abbrev read : tie.After-eight Inv-loop μ-loop → tie.At-loop Inv-loop μ-loop
 read c = c .before .before .before
 

@@ -23,7 +23,7 @@ started c = c .before .before
 some : (c : tie.In-loop Inv-loop μ-loop) → getD (started (c .before) .args .t2) (c .before .loop .l) 0 < 67
 some c = started (c .before) .pre .2 (c .before .loop .l) (omega arith)
 
--- the loop, from where a column is written
+-- back to the loop, from the writing of a column
 abbrev written : tie.After-put-column-arg Inv-loop μ-loop → tie.At-loop Inv-loop μ-loop
 written c = c .before .before .before
 

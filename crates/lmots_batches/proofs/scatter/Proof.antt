@@ -23,7 +23,7 @@ started c = c .before .before .before
 some : (c : tie.In-loop Inv-loop μ-loop) → getD (started c .args .t2) (c .before .loop .l) 0 < 67
 some c = started c .pre .2 (c .before .loop .l) (omega arith)
 
--- the loop, from where the value is written and from where the place is
+-- back to the loop, from the writing of the value and from that of the place
 abbrev written : tie.After-put-eight-arg Inv-loop μ-loop → tie.In-loop Inv-loop μ-loop
 written c = c .before .before
 

@@ -7,7 +7,7 @@ use borrow.Author.Needs.{needs}
 use Rattle.probes.proofs.probe_compress_many.Statement.{statement}
 use Rattle.probes.proofs.probe_compress_many.Tie as tie
 
--- what the probe is given
+-- arguments of the probe
 module _ (c : tie.After-slice-known) where
   abbrev start : tie.Start
   start = c .before .before .before

@@ -16,7 +16,7 @@ module _ (c : tie.After-lower-certificate) where
   abbrev out : List ℕ
   out = now (start .args .out)
 
-  -- what is handed back, by its definition
+  -- the bytes handed back, by their definition
   abbrev handed : List ℕ
   handed =
       let args = start .args in

@@ -1,4 +1,4 @@
--- `quorum::all` meets its contract: by a shift below the mask's width, and by the mask of ones at it.
+-- `quorum::all` meets its contract: by a shift below the mask's width, and by the mask of ones at that width.
 -- Assumes nothing.
 use mathlib.Core.Path.{_≡_}
 use native.Mathlib.Omega.{arith}

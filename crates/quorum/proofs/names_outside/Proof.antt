@@ -1,4 +1,4 @@
--- `quorum::names_outside` meets its contract: above the set of all n seats is 2 to the n or more.
+-- `quorum::names_outside` meets its contract: a mask above that of all n seats is 2 to the n or more.
 -- Assumes nothing.
 use borrow.Author.Needs.{needs}
 use lib.Pow.{suc-ones}

@@ -23,7 +23,7 @@ sized c = c .before .before
 abbrev started : tie.After-write-head → tie.Start
 started c = sized c .before .before .before .before
 
--- what it starts with is written, then the count
+-- the head is written, then the count
 abbrev counting : tie.After-put-byte-arg → tie.After-write-head
 counting c = c .before .before .before
 

@@ -34,7 +34,7 @@ started c = c .before .before .before .before
 abbrev looped : tie.After-has Inv-loop μ-loop → tie.At-loop Inv-loop μ-loop
 looped c = c .before .before
 
--- what the test for a seat says
+-- meaning of the test for a seat
 test-in : (c : tie.After-has Inv-loop μ-loop) → c .has .result ≡ true → In (looped c .loop .s) (started (looped c) .args .mask)
 test-in c t = has-true _ _ .0 (sym (c .has .ensures) ∙ t)
 

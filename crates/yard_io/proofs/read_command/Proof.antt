@@ -9,7 +9,7 @@ use borrow.Author.Needs.{needs}
 use Rattle.yard_io.proofs.read_command.Statement.{statement}
 use Rattle.yard_io.proofs.read_command.Tie as tie
 
--- whether it is the first command; what the reads before a point gave
+-- whether it is the first command; the results of the reads before a point
 abbrev first : tie.After-read-on → Bool
 first c = c .before .before .before .args .first
 

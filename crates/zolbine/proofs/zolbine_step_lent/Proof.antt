@@ -1,5 +1,7 @@
--- `zolbine::zolbine_step_lent` meets its contract: a walk of its MIR, by hand. The borrow of the record is opened and the record copied; `step` is called on the copy, with the slices passed on at their own lifetimes, shares and names and so given up for good; the record that it answers is stored behind the borrow, which is closed at it.
--- All that the proof knows of `step` is that it meets its contract.
+-- `zolbine::zolbine_step_lent` meets its contract: a walk of its MIR, by hand.
+-- The borrow of the record is opened and the record copied. `step` is called with the copy; the slices are passed on with their own
+-- lifetimes, shares and names, and so given up for good. The record of the answer is stored behind the borrow, and the borrow closed.
+-- The proof uses `step`'s contract alone.
 -- Assumes nothing.
 use mathlib.Core.Path.{_≡_, refl, ap}
 use Prim.Native.Nat.{ℕ}
@@ -69,7 +71,7 @@ RecordS = plain (λ _. R.the-row)
 abbrev ByteS : Slot 5
 ByteS = plain (λ _. u8)
 
--- at exit the record's borrow is still owned, and of the slices only their last lists are had
+-- ownership at exit: the record's borrow, and of the slices only their last lists
 abbrev stayed : Stays (f.ended .signature .params) (f.ended .kept)
 stayed = (stay-ref (0 ∷ []) tt RecordS, (stay-dropped (shrSliceOf (1 ∷ []) tt ByteS) yes, (gave-slice (2 ∷ []) tt ByteS, (stay-dropped (shrSliceOf (3 ∷ []) tt ByteS) yes, (gave-slice (4 ∷ []) tt ByteS, tt)))))
 
@@ -77,7 +79,7 @@ stayed = (stay-ref (0 ∷ []) tt RecordS, (stay-dropped (shrSliceOf (1 ∷ []) t
 abbrev machine : Record → List Val
 machine = LL.vals R.the-type R′.the-laws
 
--- what the answer says, field by field
+-- the answer, field by field
 answered : (result : Result) (r : Stepped) → r ≡ answer result → (r .number ≡ result .refusal) × (r .written ≡ length (result .written)) × (r .unit ≡ result .unit)
 unfolding answer
 answered result r e = (rw e, rw e, rw e)
@@ -99,14 +101,14 @@ module _ {M : Type 1} (𝓤 : URA M) (H : Heap 𝓤) (A : Atoms 𝓤) (W : Given
   abbrev result : Result
   result = calls.step (checks (now keys) (h .round)) (now keys) h (now store) (now message) (now out)
 
-  -- the tokens of the slices' lifetimes, and what the slices own
+  -- the tokens of the slices' lifetimes, and the slices' resources
   abbrev Tokens : Item 𝓤
   Tokens = raw (alive 𝓤 H A step.signature κs qs)
 
   abbrev Slices : Fml
   Slices = owns (ShrSlice (named 1) (κs .0) u8 ∷ MutSlice (named 2) (κs .1 .0) u8 ∷ ShrSlice (named 3) (κs .1 .1 .0) u8 ∷ MutSlice (named 4) (κs .1 .1 .1 .0) u8 ∷ []) (a .1) (vals .1)
 
-  -- what the function's triple binds outside, and what `step`'s does: the record's copy, and the slices as they are
+  -- bound variables of the function's triple, and of `step`'s: the record's copy, and the slices as they are
   abbrev y : walkOf 𝓤 H A f.ended stayed (f.clauses 𝓤 H A at-mem run) .Ghost
   y = (((κ, κs), (q, qs), tt, a, vals), tt)
 
@@ -119,7 +121,7 @@ module _ {M : Type 1} (𝓤 : URA M) (H : Heap 𝓤) (A : Atoms 𝓤) (W : Given
   goes : Is R.the-row h (machine h) → ent 𝓤 (⋆ 𝓤 H A (Tokens ∷ ‵ Slices ∷ [])) (Step 𝓤 H A at-mem run .pre to-step)
   goes g = qed W (Tokens ∷ ‵ Slices ∷ []) ∵ owned ! R.the-row (Is R.the-row) (LL.makes R.the-type R′.the-plain 𝓤 H A) h _ g $ move ! (0 ∷ 2 ∷ []) $ fjoin ! $ move ! (1 ∷ 0 ∷ []) $ join ! $ frame ! $ done !
 
-  -- what is had at exit, of the answer r and the slices' last lists
+  -- resources at exit, for the answer r and the slices' last lists
   module _ (r : Stepped) (zs : Lasts step.ended κs (h, a .1)) where
     abbrev made : Written
     made = record { number = r .number; written = r .written }
@@ -136,7 +138,7 @@ module _ {M : Type 1} (𝓤 : URA M) (H : Heap 𝓤) (A : Atoms 𝓤) (W : Given
     abbrev had : List (Item 𝓤)
     had = ‵ (fobs (name u) (R.the-row .coded .code (r .unit))) ∷ ‵ (fbor κ (Body (mem R.the-row) (ptr u .0) (ptr u .1) (name u))) ∷ ‵ (flft κ q) ∷ Tokens ∷ ‵ (finally u8 (name out) out-last) ∷ ‵ (finally u8 (name store) store-last) ∷ []
 
-    -- what `step` ensures
+    -- `step`'s `ensures`
     abbrev Leaves : Type 0
     Leaves = (r ≡ answer result) × (store-last ≡ result .store) × (out-last ≡ outAfter (result .written) (now out))
 
@@ -144,7 +146,7 @@ module _ {M : Type 1} (𝓤 : URA M) (H : Heap 𝓤) (A : Atoms 𝓤) (W : Given
     abbrev ends : Lasts f.ended (κ, κs) a
     ends = (r .unit, (tt, (store-last, (tt, (out-last, tt)))))
 
-    -- what the function ensures, of that
+    -- the function's `ensures`, from that
     meant : Leaves → ent 𝓤 (emp 𝓤) (f.clauses 𝓤 H A at-mem run (κ, κs) a .ensures tt made (atExit f.ended (κ, κs) a ends))
     meant left =
         let fields = answered result r (left .0) in
@@ -154,7 +156,7 @@ module _ {M : Type 1} (𝓤 : URA M) (H : Heap 𝓤) (A : Atoms 𝓤) (W : Given
     exits m l l′ left =
         qed W had ∵ suffices ! _ (ends-at 𝓤 H A f.ended stayed (f.clauses 𝓤 H A at-mem run) W y made-val made ends (tt, (tt, (l, (tt, (l′, tt)))))) $
         nothing ! $ move ! (5 ∷ 0 ∷ []) $ fjoin ! $ nothing ! $ fjoin ! $ move ! (5 ∷ 0 ∷ []) $ fjoin ! $ nothing ! $ fjoin ! $ move ! (1 ∷ 2 ∷ []) $ feqI ! (List Val) (ptr-vals u) (ptr-vals u) refl $ fjoin3 ! $ fjoin ! $
-        -- [what is had of the parameters; the record's token; the slices' tokens]
+        -- [the parameters' resources; the record's token; the slices' tokens]
         owned ! T.the-row (Is T.the-row) (LL.makes T.the-type T′.the-plain 𝓤 H A) made _ m $ move ! (1 ∷ 0 ∷ []) $ join ! $ move ! (1 ∷ 2 ∷ []) $ join ! $ join ! $ frame ! $ by ! (meant left)
 
   module _ (C : Calls 𝓤 H) (Λ : Loops 𝓤 H) (fm : FmC 𝓤 H (W .laws) C) (known : Triple 𝓤 (C #confirmer·calls·step) (Step 𝓤 H A at-mem run)) where
@@ -162,14 +164,14 @@ module _ {M : Type 1} (𝓤 : URA M) (H : Heap 𝓤) (A : Atoms 𝓤) (W : Given
         → ent 𝓤 (onEntry 𝓤 H A f.signature (κ, κs) (q, qs) a vals) (WpFn 𝓤 H C Λ code.function (flat (typesAt (f.signature .params) (κ, κs)) vals) Post)
     walk keys-fit store-fits message-fits out-fits =
         qed W ((‵ (flft κ q) ⊛ Tokens) ∷ ‵ (fsep (MutRef (named 0) κ R.the-row .own u (ptr-vals u)) Slices) ∷ []) ∵ split ! $ move ! (2 ∷ []) $ fsplit ! $ fsplit3 ! $ drop ! $ move ! (0 ∷ 1 ∷ 3 ∷ []) $
-        -- [obs; the record's borrow; its token; what the slices own; their tokens]
+        -- [obs; the record's borrow; its token; the slices' resources; their tokens]
         enter ! C Λ code.function _ _ $
         alloc1 ! (λ l₀. alloc1 ! (λ l₁. alloc1 ! (λ l₂. alloc1 ! (λ l₃. alloc1 ! (λ l₄. alloc1 ! (λ l₅. alloc1 ! (λ l₆. alloc1 ! (λ l₇. alloc1 ! (λ l₈. alloc1 ! (λ l₉. alloc1 ! (λ l₁₀. alloc1 ! (λ l₁₁. alloc0 ! $ params1 ! $ pass1 ! (init ! 20 refl (tt, tt)) $
         pass1 ! (init ! 18 refl (tt, (tt, (record { fits = keys-fit .0 }, tt)))) $ pass1 ! (init ! 16 refl (tt, (tt, (record { fits = store-fits .0 }, tt)))) $ pass1 ! (init ! 14 refl (tt, (tt, (record { fits = message-fits .0 }, tt)))) $ pass1 ! (init ! 12 refl (tt, (tt, (record { fits = out-fits .0 }, tt)))) $ pass0 ! $
-        -- the borrow is opened: of the record's values only facts are owned
+        -- the borrow is opened: the record's values own facts alone
         move ! (24 ∷ 25 ∷ 26 ∷ []) $ opens ! tt R.the-row {h = h} (ptr u .0) (ptr u .1) (λ vs. spelt ! R.the-row (Is R.the-row) (shows 𝓤 H A R.the-row) machine (LL.tells R.the-type R′.the-laws) fullShare h vs (ptr u .0) (ptr u .1) $
         move ! (1 ∷ []) $ facts ! R.the-row (Is R.the-row) (shows 𝓤 H A R.the-row) h (machine h) (λ g.
-        -- [the record's cell; the open borrow; obs; auth; _11; …; _10; …; _9; …; _8; …; _7; …; _6; …; _5; …; _4; …; _3; …; _2; …; _1; …; room for _0; …; what the slices own; their tokens]
+        -- [the record's cell; the open borrow; obs; auth; _11; …; _10; …; _9; …; _8; …; _7; …; _6; …; _5; …; _4; …; _3; …; _2; …; _1; …; room for _0; …; the slices' resources; their tokens]
         assigns ! (of-opd ! (load ! (from ! (hop ! (look ! 24 refl) (stop !))) (look-raw ! 0 refl))) (from ! (stop !)) (init ! 12 refl (LL.lawful R.the-type R′.the-laws 𝓤 H A W .typed h _ g .0)) $
         assigns ! (addr ! (from ! (fld ! refl (hop ! (look-in ! 20 (sub ! 0 refl (whole !))) (stop !))))) (from ! (stop !)) (init ! 10 refl (tt, tt)) $
         assigns ! (agg ! (and-then ! (load ! (from ! (stop !)) (look ! 10 refl)) (and-then ! (load ! (from ! (fld ! refl (stop !))) (look-in ! 20 (sub ! 1 refl (whole !)))) (no-more !)))) (from ! (stop !)) (init ! 8 refl (tt, (tt, (record { fits = store-fits .0 }, tt)))) $
@@ -179,7 +181,7 @@ module _ {M : Type 1} (𝓤 : URA M) (H : Heap 𝓤) (A : Atoms 𝓤) (W : Given
         move ! (29 ∷ 28 ∷ []) $ use2 W (raw (Step 𝓤 H A at-mem run .pre to-step)) (goes g) $
         calls-at ! fm (Step 𝓤 H A at-mem run) known to-step (and-then ! (load ! (from ! (stop !)) (look ! 13 refl)) (and-then ! (load ! (from ! (stop !)) (look ! 23 refl)) (and-then ! (load ! (from ! (stop !)) (look ! 9 refl)) (and-then ! (load ! (from ! (stop !)) (look ! 19 refl)) (and-then ! (load ! (from ! (stop !)) (look ! 5 refl)) (no-more !)))))) (λ w.
         use1 W (later (some (λ (r : Stepped). (Tokens ⊛ ‵ (S.the-row .own r (w ∷ []))) ⊛ raw (ensured 𝓤 H A step.ended (step.clauses 𝓤 H A at-mem run) κs (h, a .1) tt r)))) (id⊢ 𝓤 _) $ await ! tt $ pick ! (λ r.
-        -- what `step` ensures, at some last lists
+        -- `step`'s `ensures`, at some last lists
         split ! $ move ! (1 ∷ []) $ use1 W (some (λ (zs : Lasts step.ended κs (h, a .1)). ‵ (lasts step.ended κs (h, a .1) zs) ⊛ raw (fact 𝓤 (Leaves r zs)))) (id⊢ 𝓤 _) $ pick ! (λ zs.
         split ! $ move ! (1 ∷ []) $ heard ! (Leaves r zs) (λ left.
         fsplit ! $ drop ! $ fsplit ! $ drop ! $ fsplit ! $ fsplit ! $ move ! (1 ∷ []) $ feqL ! (λ l. move ! (1 ∷ []) $ fsplit ! $ drop ! $ fsplit ! $ fsplit ! $ move ! (1 ∷ []) $ feqL ! (λ l′.
@@ -190,7 +192,7 @@ module _ {M : Type 1} (𝓤 : URA M) (H : Heap 𝓤) (A : Atoms 𝓤) (W : Given
         let fields = LL.owed S.the-type S′.the-laws r _ is in
         assigns ! (of-opd ! (load ! (from ! (fld ! refl (stop !))) (look-in ! 18 (sub ! 2 refl (whole !))))) (from ! (hop ! (look ! 28 refl) (stop !))) (store-raw ! 4 refl (LL.lawful R.the-type R′.the-laws 𝓤 H A W .typed (r .unit) (machine (r .unit)) (fields .1 .1 .0) .0)) $
         assigns ! (agg ! (and-then ! (load ! (from ! (fld ! refl (stop !))) (look-in ! 18 (sub ! 0 refl (whole !)))) (and-then ! (load ! (from ! (fld ! refl (stop !))) (look-in ! 18 (sub ! 1 refl (whole !)))) (no-more !)))) (from ! (stop !)) (init ! 30 refl (tt, (record { fits = fields .0 .1 }, (record { fits = fields .1 .0 .1 }, tt)))) $
-        -- the borrow is closed at the record answered
+        -- the borrow is closed at the record of the answer
         owned ! R.the-row (Is R.the-row) (LL.makes R.the-type R′.the-plain 𝓤 H A) (r .unit) (machine (r .unit)) (fields .1 .1 .0) $ move ! (5 ∷ 0 ∷ 6 ∷ 7 ∷ 8 ∷ []) $ closes ! tt R.the-row (r .unit) (machine (r .unit)) (ptr u .0) (ptr u .1) $
         -- [obs; the record's borrow; its token; the slices' tokens; out's last list; true; store's; _11; …; _0; …]
         returns ! (look ! 29 refl) $ forget ! 7 refl $ forget ! 9 refl $ forget ! 11 refl $ forget ! 13 refl $ forget ! 15 refl $ forget ! 17 refl $ forget ! 19 refl $ forget ! 21 refl $ forget ! 23 refl $ forget ! 25 refl $ forget ! 27 refl $ forget ! 29 refl $

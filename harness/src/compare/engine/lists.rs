@@ -20,7 +20,7 @@ use crate::rng::Rng;
 #[derive(Debug)]
 struct Plan {
     fleet: Fleet,
-    /// Units under test, and the layouts that are about.
+    /// Numbers of units under test and of layouts.
     boats: u32,
     layouts: usize,
     calls: usize,
@@ -28,7 +28,7 @@ struct Plan {
     fair: bool,
 }
 
-/// How often a call came to a number, or wrote messages together.
+/// Counts of calls by their answer, or by the messages that they wrote together.
 type Tally = BTreeMap<String, usize>;
 
 /// Hundreds of calls for each n, ten thousand in the long battery.
@@ -68,7 +68,7 @@ pub fn whole_rounds(subject: Subject) {
     assert_eq!(tally.get("disagreement"), Some(&count), "each round splits the fleet");
 }
 
-/// Plays the lists, and counts what they came by.
+/// Plays the lists, and counts their answers.
 fn played(title: &str, subject: Subject, plans: &[Plan]) -> Tally {
     let tallies = run(title, plans, |plan, rng| {
         let mut sea = Sea::new(subject, plan, rng);
@@ -84,7 +84,7 @@ fn played(title: &str, subject: Subject, plans: &[Plan]) -> Tally {
     tally
 }
 
-/// The lists mean nothing if they don't come by every answer and every choice of messages.
+/// Fails unless the lists came to every answer and every choice of messages.
 fn covered(tally: &Tally) {
     let steps = [0, 4, 5, 6, 7, 9, 10, 11, 12, 13, 14].map(|number| format!("step {number}"));
     let submits = [0, 4, 5, 6, 7, 8, 9, 14].map(|number| format!("submit {number}"));
@@ -145,7 +145,7 @@ impl<'a> Sea<'a> {
         Sea { subject, plan, layouts: chosen, boats, air: Vec::new(), calls: Vec::new(), tally: Tally::new() }
     }
 
-    /// The last calls, for a difference to be told with.
+    /// The last calls, for the report of a difference.
     fn trail(&self) -> String {
         let first = self.calls.len().saturating_sub(8);
         format!("call {} after\n  {}", self.calls.len(), self.calls[first..].join("\n  "))
@@ -338,7 +338,7 @@ impl<'a> Sea<'a> {
         Case { record: *record, keys: fleet.key_table(), store: store.clone(), call, out: rng.bytes(out) }
     }
 
-    /// A call beside the boat's list, for some of which a submit serves as well as a step.
+    /// A refused call beside the boat's list, now and then a submit in place of the step.
     fn refused_call(
         &mut self,
         boat: usize,

@@ -13,7 +13,7 @@ use crate::reference::engine;
 use crate::reference::record::{Record, Stepped};
 use crate::rng::Rng;
 
-/// What is tested; about every other step goes through the one that is lent its record.
+/// The calls under test; about every other step goes through the one that is lent its record.
 #[derive(Clone, Copy)]
 pub struct Subject<'a> {
     pub engine: &'a dyn Engine,
@@ -35,7 +35,7 @@ pub struct Case {
     pub out: Vec<u8>,
 }
 
-/// What the reference and, with it, the subject came to.
+/// Result of the reference, and so of the subject.
 #[derive(Debug)]
 pub struct After {
     pub number: u32,
@@ -44,7 +44,7 @@ pub struct After {
     pub written: Vec<u8>,
 }
 
-/// The case given to both, or how they differ.
+/// Result of the case given to both, or their difference.
 pub fn both(subject: Subject, case: &Case, rng: &mut Rng) -> Result<After, String> {
     let (mut store, mut out) = (case.store.clone(), case.out.clone());
     let expected = match &case.call {

@@ -118,7 +118,7 @@ fn impossible(fleet: Fleet, rng: &mut Rng) -> Vec<(&'static str, Record)> {
     list
 }
 
-/// A guilty seat at or above n stands outside the first certificate too, or names a stranger there too.
+/// Records with a guilty seat at or above n, outside the first certificate or a stranger in it too.
 fn guilty_strangers(fleet: Fleet, rng: &mut Rng) -> Vec<Record> {
     if fleet.n == 32 {
         return Vec::new();
@@ -172,7 +172,7 @@ pub fn any_possible(fleet: Fleet, values: &[Value], rng: &mut Rng) -> Record {
     record
 }
 
-/// Calls that would go well with a possible record.
+/// A call that fits a possible record.
 pub fn any_call(fleet: Fleet, record: &Record, values: &[Value], rng: &mut Rng) -> Call {
     let seat = rng.below(fleet.n as usize) as u32;
     let value = if rng.one_in(2) { record.own.value } else { *rng.pick(values) };

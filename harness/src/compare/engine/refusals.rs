@@ -41,7 +41,7 @@ struct Base {
     case: Case,
 }
 
-/// What is right in a fleet: a seat's layout, and a message of each kind.
+/// Right operands in a fleet: a seat's layout, and a message of each kind.
 struct Right {
     seat: u32,
     value: Value,
@@ -103,7 +103,7 @@ pub fn lengths_around(subject: Subject, n: u32, rng: &mut Rng) -> Result<usize, 
 
 type Part = fn(&mut Case) -> &mut Vec<u8>;
 
-/// The four kinds of call, each right, with what can be wrong in it alone.
+/// The four kinds of call, each right, with the changes that make that kind alone wrong.
 fn kinds(fleet: Fleet, rng: &mut Rng) -> Vec<(Base, Vec<Spoiler<Case>>)> {
     let right = Right::new(fleet, rng);
     let unsaid = opened(fleet, right.seat);
@@ -139,7 +139,7 @@ fn signature_of(case: &mut Case) -> &mut Vec<u8> {
     }
 }
 
-/// What can be wrong in a submit alone.
+/// Changes that make a submit alone wrong.
 fn own_spoilers(fleet: Fleet, seat: u32, value: Value) -> Vec<Spoiler<Case>> {
     let mut spoilers = Vec::new();
     spoilers.push(spoiler(8, "a second time", move |case: &mut Case, _| case.record = submitted(fleet, seat, value)));

@@ -1,4 +1,4 @@
-//! The last screen: what the mate sees at each stage.
+//! The last screen: the mate's display at each stage.
 
 use super::super::round::{Given, Played};
 use super::super::words::seats;
@@ -35,7 +35,7 @@ impl Screens<'_> {
         self.meanings(&stages.iter().flat_map(|(_, records)| *records).collect::<Vec<_>>());
     }
 
-    /// What a display can say of a record.
+    /// A display's text for a record.
     fn display(&self, record: &Record) -> String {
         if record.guilty != 0 {
             return format!("DOUBLE SIGNERS {}", seats(&list(record.guilty)));
@@ -58,7 +58,7 @@ impl Screens<'_> {
         other.then(|| if self.name(&record.own.value) == a { b } else { a })
     }
 
-    /// What each kind of display means to the mate.
+    /// Meaning of each kind of display for the mate.
     fn meanings(&mut self, seen: &[Record]) {
         let any = |kind: &dyn Fn(&Record) -> bool| seen.iter().any(kind);
         let calm = |record: &Record| record.guilty == 0 && self.spoken_of(record).is_none();

@@ -12,7 +12,7 @@ use Rattle.lmots.proofs.key.candidate.Tie as tie
 abbrev started : tie.After-key-buffer → tie.Start
 started c = c .before .before .before .before .before
 
--- the buffer, from where the ends are written to it
+-- back to the buffer, from the writing of the ends
 abbrev buffered : tie.After-all → tie.After-key-buffer
 buffered c = c .before .before
 

@@ -14,11 +14,11 @@ use Rattle.lmots.proofs.key.completed.Tie as tie
 abbrev started : tie.After-z → tie.Start
 started c = c .before .before .before .before .before
 
--- what the signature holds after type and randomizer
+-- length of the signature: type, randomizer and values
 values : (c : tie.After-z) → let args = started c .args in length (now (args .sig)) ≡ 36 + 32 * chains (args .w)
 values c = started c .pre .3 ∙ length-values (started c .args .w)
 
--- the values, from where the chains run
+-- back to the values, from the run of the chains
 abbrev running : tie.After-z3 → tie.After-z
 running c = c .before .before .before .before
 

@@ -17,7 +17,7 @@ Inv-loop k q z out₀ l₀ out l = (l ≤ 16) × (length z ≡ 17760) × (length
 abbrev μ-loop : tie.MeasureT-loop
 μ-loop k q z out₀ l₀ out l = 16 - l
 
--- the strings, from the loop, and the loop, from where a string is hashed
+-- back to the strings from the loop, and to the loop from the hash of a string
 abbrev written : tie.At-loop Inv-loop μ-loop → tie.After-put-strings Inv-loop μ-loop
 written c = c .before .before
 

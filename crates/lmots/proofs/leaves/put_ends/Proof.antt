@@ -18,7 +18,7 @@ abbrev μ-loop : tie.MeasureT-loop
 abbrev started : tie.At-loop Inv-loop μ-loop → tie.Start Inv-loop μ-loop
 started c = c .before .before
 
--- the column read, from where its value is written
+-- back to the column read, from the writing of its value
 abbrev writing : tie.After-put-eight-arg Inv-loop μ-loop → tie.After-column Inv-loop μ-loop
 writing c = c .before
 

@@ -15,7 +15,7 @@ Inv-loop k id leaves seed z₀ v₀ i₀ z v i = (i ≤ 34) × (length z ≡ 177
 abbrev μ-loop : tie.MeasureT-loop
 μ-loop k id leaves seed z₀ v₀ i₀ z v i = 34 - i
 
--- the call, from before the loop, and the loop, from where ends are made and written
+-- back to the call from before the loop, and to the loop from the making and the writing of ends
 abbrev started : tie.After-slice-known2 Inv-loop μ-loop → tie.Start Inv-loop μ-loop
 started c = c .before .before .before .before .before
 

@@ -14,7 +14,7 @@ use Rattle.lmots_chains.proofs.sixteen.prepare.Tie as tie
 abbrev started : tie.After-spread → tie.Start
 started c = c .before .before .before
 
--- the blocks, from where `begin` is called
+-- back to the blocks, from the call of `begin`
 abbrev numbering : tie.After-begin-arg3 → tie.After-put-numbers
 numbering c = c .before .before .before
 
@@ -29,7 +29,7 @@ begin-requires c κs =
     let pre = start .pre in
     (pre .0, numbered .ensures .long, pre .2, pre .3, no-place (args .t2) (args .leaves) _ _ _ refl (filled .ensures .1) (numbered .ensures))
 
--- what the types of the arguments say
+-- lengths by the types of the arguments
 long-id : (c : tie.Start) → length (c .args .t2) ≡ 4
 long-id c = search needs
 

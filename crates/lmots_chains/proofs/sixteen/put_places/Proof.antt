@@ -15,7 +15,7 @@ Inv-loop places t v w₀ l₀ w l = (l ≤ 16) × Placed l places t v w₀ w
 abbrev μ-loop : tie.MeasureT-loop
 μ-loop places t v w₀ l₀ w l = 16 - l
 
--- the loop, from where a place is made
+-- back to the loop, from the making of a place
 abbrev making : tie.After-x Inv-loop μ-loop → tie.At-loop Inv-loop μ-loop
 making c = c .before .before
 

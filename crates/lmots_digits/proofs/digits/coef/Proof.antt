@@ -18,7 +18,7 @@ narrow-start c = c .before .before
 four : (c : tie.Else1) → narrow-start c .args .w ≡ 4
 four c = narrow _ (narrow-start c .pre .0) (c .if1 .left)
 
--- width 4, from where the byte is read
+-- width 4: back from the reading of the byte
 abbrev halves : tie.After-wide2 → tie.Else1
 halves c = c .before .before
 

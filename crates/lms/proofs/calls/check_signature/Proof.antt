@@ -11,7 +11,7 @@ use borrow.Author.Needs.{needs}
 use Rattle.lms.proofs.calls.check_signature.Statement.{statement}
 use Rattle.lms.proofs.calls.check_signature.Tie as tie
 
--- what the call is given
+-- arguments of the call
 module _ (start : tie.Start) where
   abbrev key : List ℕ
   key = now (start .args .key)
@@ -25,7 +25,7 @@ module _ (start : tie.Start) where
 abbrev started : tie.After-key-refused → tie.Start
 started c = c .before .before .before .before
 
--- the key isn't turned back
+-- the key isn't refused
 right-key : (c : tie.Else1) → wrongKey (key (started (c .before))) ≡ false
 right-key c = sym (c .before .key-refused .ensures) ∙ c .if1 .left
 

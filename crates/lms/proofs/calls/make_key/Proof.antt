@@ -13,7 +13,7 @@ use borrow.Author.Needs.{needs}
 use Rattle.lms.proofs.calls.make_key.Statement.{statement}
 use Rattle.lms.proofs.calls.make_key.Tie as tie
 
--- what the call is given
+-- arguments of the call
 module _ (start : tie.Start) where
   abbrev seed : List ℕ
   seed = now (start .args .seed)
@@ -30,7 +30,7 @@ module _ (start : tie.Start) where
 abbrev started : tie.After-make-key-refusal → tie.Start
 started c = c .before .before .before .before .before .before .before
 
--- nothing is turned back: the lengths are right
+-- no refusal: the lengths are right
 room : (c : tie.Else1)
     → let s = started (c .before) in (length (seed s) ≡ 32) × (length (id s) ≡ 16) × (length (tree s) ≡ treeLength) × (keyLength ≤ length (out s))
 room c =

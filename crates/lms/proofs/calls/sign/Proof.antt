@@ -14,7 +14,7 @@ use borrow.Author.Needs.{needs}
 use Rattle.lms.proofs.calls.sign.Statement.{statement}
 use Rattle.lms.proofs.calls.sign.Tie as tie
 
--- what the call is given
+-- arguments of the call
 module _ (start : tie.Start) where
   abbrev message : List ℕ
   message = now (start .args .message)
@@ -40,7 +40,7 @@ module _ (start : tie.Start) where
 abbrev started : tie.After-sign-refusal → tie.Start
 started c = c .before .before .before .before .before .before .before .before
 
--- nothing is turned back: leaf and lengths are right
+-- no refusal: leaf and lengths are right
 room : (c : tie.Else1)
     → let s = started (c .before) in (leaf s ≤ lastRound) × (signatureLength ≤ length (out s)) × (length (message s) ≤ messageLimit)
     × (length (seed s) ≡ 32) × (length (id s) ≡ 16) × (length (randomizer s) ≡ 32) × (length (tree s) ≡ treeLength)

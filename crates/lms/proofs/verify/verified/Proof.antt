@@ -9,7 +9,7 @@ use borrow.Author.Needs.{needs}
 use Rattle.lms.proofs.verify.verified.Statement.{statement}
 use Rattle.lms.proofs.verify.verified.Tie as tie
 
--- what the check is given
+-- arguments of the check
 module _ (start : tie.Start) where
   abbrev key : List ℕ
   key = now (start .args .key)

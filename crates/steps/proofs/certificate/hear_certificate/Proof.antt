@@ -11,7 +11,7 @@ use borrow.Author.Needs.{needs}
 use Rattle.steps.proofs.certificate.hear_certificate.Statement.{statement}
 use Rattle.steps.proofs.certificate.hear_certificate.Tie as tie
 
--- the notices after it
+-- the notices after the certificate
 abbrev notices : tie.Start → Notices
 notices s = noticesWith (s .args .value) (s .args .r)
 

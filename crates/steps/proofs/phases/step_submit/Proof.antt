@@ -13,7 +13,7 @@ use borrow.Author.Needs.{needs}
 use Rattle.steps.proofs.phases.step_submit.Statement.{statement}
 use Rattle.steps.proofs.phases.step_submit.Tie as tie
 
--- what is read: the value, then the signature, then the seat
+-- the parts read: the value, then the signature, then the seat
 abbrev started : tie.After-value-at2 → tie.Start
 started c = c .before .before .before .before .before
 

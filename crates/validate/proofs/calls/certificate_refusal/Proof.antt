@@ -11,7 +11,7 @@ use Rattle.validate.specs.Calls.{certificate-told}
 use Rattle.validate.proofs.calls.certificate_refusal.Statement.{statement}
 use Rattle.validate.proofs.calls.certificate_refusal.Tie as tie
 
--- what the function is given
+-- arguments of the function
 module _ (start : tie.Start) where
   abbrev check : Checks
   check = checks (now (start .args .keys)) (start .args .round)

@@ -14,7 +14,7 @@ use Rattle.validate.specs.Calls.{pack-refused, pack-equal, pack-right}
 use Rattle.validate.proofs.calls.evidence_refusal.Statement.{statement}
 use Rattle.validate.proofs.calls.evidence_refusal.Tie as tie
 
--- what the function is given
+-- arguments of the function
 module _ (start : tie.Start) where
   abbrev check : Checks
   check = checks (now (start .args .keys)) (start .args .round)
@@ -31,7 +31,7 @@ module _ (start : tie.Start) where
 abbrev started : tie.After-message-refusal → tie.Start
 started c = c .before .before .before .before
 
--- what is turned back of its 9 to 14
+-- the message's number from 9 to 14
 told : (c : tie.After-message-refusal)
     → let s = started c in c .message-refusal .result .number ≡ firstOf (messageConditions (check s) (n s) (round s) (isEvidence (m s)) false (m s))
 told c =
@@ -39,7 +39,7 @@ told c =
     let taken = c .before .is-within in
     rw (evidence-takes (m s) (s .args .kind) (s .pre .1) (taken .result) (taken .ensures)) at (c .message-refusal .ensures)
 
--- nothing is
+-- no number from 9 to 14
 abbrev tested : tie.Else1 → tie.After-message-refusal
 tested c = c .before .before
 

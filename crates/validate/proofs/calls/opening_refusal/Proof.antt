@@ -11,7 +11,7 @@ use Rattle.protocol.specs.Refusals.{wrongKeys, openingConditions}
 use Rattle.validate.proofs.calls.opening_refusal.Statement.{statement}
 use Rattle.validate.proofs.calls.opening_refusal.Tie as tie
 
--- what the function is given
+-- arguments of the function
 module _ (start : tie.Start) where
   abbrev n : ℕ
   n = start .args .n

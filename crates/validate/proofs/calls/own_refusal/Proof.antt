@@ -12,7 +12,7 @@ use Rattle.validate.specs.Calls.{right-lengths, own-said, own-lengths, o
 use Rattle.validate.proofs.calls.own_refusal.Statement.{statement}
 use Rattle.validate.proofs.calls.own_refusal.Tie as tie
 
--- what the function is given
+-- arguments of the function
 module _ (start : tie.Start) where
   abbrev r : Record
   r = start .args .r

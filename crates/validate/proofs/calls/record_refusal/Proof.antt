@@ -14,7 +14,7 @@ use Rattle.protocol.specs.declared.Record.{Record}
 use Rattle.validate.proofs.calls.record_refusal.Statement.{statement}
 use Rattle.validate.proofs.calls.record_refusal.Tie as tie
 
--- what the function is given
+-- arguments of the function
 module _ (start : tie.Start) where
   abbrev r : Record
   r = start .args .r
@@ -56,7 +56,7 @@ after3 c = c .before .before .before
 short-is : (c : tie.After-short-out) → let s = started (after1 (after2 (c .before .before))) in c .short-out .result ≡ shortOut (outLength (r s .n)) (out s)
 short-is c = c .short-out .ensures ∙ rw (c .before .out-length .ensures)
 
--- and so is out
+-- out is long enough
 long-out : (c : tie.Else4) → let s = started (after1 (after2 (after3 c))) in shortOut (outLength (r s .n)) (out s) ≡ false
 long-out c = sym (short-is (c .before)) ∙ c .if4 .left
 

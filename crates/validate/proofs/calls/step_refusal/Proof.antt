@@ -10,7 +10,7 @@ use Rattle.validate.specs.Calls.{step-told}
 use Rattle.validate.proofs.calls.step_refusal.Statement.{statement}
 use Rattle.validate.proofs.calls.step_refusal.Tie as tie
 
--- what the function is given
+-- arguments of the function
 module _ (start : tie.Start) where
   abbrev r : Record
   r = start .args .r

@@ -11,7 +11,7 @@ use Rattle.validate.specs.Calls.{certificate-formed, first-refused, seco
 use Rattle.validate.proofs.calls.two_refusal.Statement.{statement}
 use Rattle.validate.proofs.calls.two_refusal.Tie as tie
 
--- what the function is given
+-- arguments of the function
 module _ (start : tie.Start) where
   abbrev check : Checks
   check = checks (now (start .args .keys)) (start .args .round)
@@ -31,7 +31,7 @@ module _ (start : tie.Start) where
 abbrev started : tie.After-certificate-refusal → tie.Start
 started c = c .before .before .before .before
 
--- once the first has passed
+-- after the first certificate
 abbrev of-first : tie.Else1 → tie.After-certificate-refusal
 of-first c = c .before .before
 
@@ -41,7 +41,7 @@ first-taken c =
     let one = of-first c .certificate-refusal in
     certificate-taken (n s) (round s) (now (s .args .first)) (certificate-formed (check s) (n s) (round s) (first s) (one .result .number) (one .ensures) (c .if1 .left))
 
--- once both have
+-- after both certificates
 abbrev of-second : tie.Else2 → tie.After-certificate-refusal2
 of-second c = c .before .before
 

@@ -11,7 +11,7 @@ use Rattle.validate.specs.Messages.{formConditions}
 use Rattle.validate.proofs.message.form_refusal.Statement.{statement}
 use Rattle.validate.proofs.message.form_refusal.Tie as tie
 
--- what the function is given
+-- arguments of the function
 module _ (start : tie.Start) where
   abbrev n : ℕ
   n = start .args .n

@@ -10,7 +10,7 @@ use Rattle.validate.specs.Messages.{Formed, form-passed, form-refused, f
 use Rattle.validate.proofs.message.message_refusal.Statement.{statement}
 use Rattle.validate.proofs.message.message_refusal.Tie as tie
 
--- what the function is given
+-- arguments of the function
 module _ (start : tie.Start) where
   abbrev check : Checks
   check = checks (now (start .args .keys)) (start .args .round)

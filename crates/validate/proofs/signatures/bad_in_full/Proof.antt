@@ -1,6 +1,7 @@
--- `validate::signatures::bad_in_full` meets its contract: a walk of its MIR, by hand. A reader is opened over the message, and a loop moves it on, entry by entry.
--- All that the proof knows of the functions called is that they meet their contracts. What an entry is worth is told by the laws of `Entries`: the walk carries `Walked` from turn to turn.
--- A `&` is Copy: at each call the callee gets its own copy of what the references own, beside the lifetimes' tokens, which come back.
+-- `validate::signatures::bad_in_full` meets its contract: a walk of its MIR, by hand.
+-- A reader is opened over the message, and a loop moves it on, entry by entry. The proof uses the contracts alone of the functions called;
+-- the facts about an entry are laws of `Entries`, with `Walked` carried from turn to turn. A `&` is Copy: at each call the callee gets its
+-- own copy of the references, with the lifetimes' tokens, which come back.
 -- Assumes nothing.
 use mathlib.Core.Path.{_≡_, refl, sym, ap, subst, _∙_}
 use mathlib.Core.Bool.{Bool, true, false}
@@ -85,7 +86,7 @@ use Rattle.validate.proofs.signatures.bad_in_full.Statement as stated
 use Rattle.validate.proofs.signatures.bad_in_full.Code as code
 use Rattle.validate.proofs.signatures.bad_in_full.Code.Mir as pieces
 
--- the slots of the references and of the numbers, of which nothing is had at exit
+-- the slots of the references and of the numbers, without resources at exit
 abbrev WordsS : Slot 3
 WordsS = RefOf (0 ∷ []) tt (ArrayOf (plain (λ _. u32)) (λ _. tt) 64) (λ _. tt)
 
@@ -101,7 +102,7 @@ MessageS = SliceRefOf (2 ∷ []) tt (plain (λ _. u8)) (λ _. tt)
 abbrev stayed : Stays (f.ended .signature .params) (f.ended .kept)
 stayed = (stay-dropped WordsS yes, (stay-dropped NumberS yes, (stay-dropped NumberS yes, (stay-dropped KeysS yes, (stay-dropped MessageS yes, tt)))))
 
--- a test comes out one way or the other
+-- the two cases of a test
 either : {X : Type 1} (b : Bool) → (b ≡ true → X) → (b ≡ false → X) → X
 either true on off = on refl
 either false on off = off refl
@@ -128,12 +129,12 @@ module _ {M : Type 1} (𝓤 : URA M) (H : Heap 𝓤) (A : Atoms 𝓤) (mem : Mem
   abbrev IsEntry : Contract 𝓤
   IsEntry = tripleOf 𝓤 H A is-entry.signature (is-entry.spec 𝓤 H A mem run)
 
--- what is found by a reader over m, at t
+-- the entry that a reader over m finds at t
 found-at : (r : Reader) (s : Next) (t : ℕ) {m : RefT (List ℕ)} → r .full ≡ m → r .next ≡ t → Found (r .next) (now (r .full)) s → Found t (now m) s
 found-at r s t {m} whole here found =
     subst (λ (x : RefT (List ℕ)). Found t (now x) s) whole (subst (λ (i : ℕ). Found i (now (r .full)) s) here found)
 
--- where a turn starts: the reader and what it found, with their machine values
+-- start of a turn: the reader and what it found, with their machine values
 record Turn (checked : Checks) (n : ℕ) (m : RefT (List ℕ)) : Type 0 where
   t : ℕ
   r : Reader
@@ -163,7 +164,7 @@ module _ {M : Type 1} (𝓤 : URA M) (H : Heap 𝓤) (A : Atoms 𝓤) (W : Given
   abbrev Post : Val → SProp 𝓤
   Post = walkOf 𝓤 H A f.ended stayed (f.clauses 𝓤 H A mem run) .post y
 
-  -- what the references own, and the readers and steps
+  -- the resources of the references and of the reader
   abbrev OwnWords : Fml
   OwnWords = ShrRef (named 0) κ₀ (Array u32 64) .own words (ptr-vals words)
 
@@ -179,7 +180,7 @@ module _ {M : Type 1} (𝓤 : URA M) (H : Heap 𝓤) (A : Atoms 𝓤) (W : Given
   abbrev OwnReader : Reader → Val → Fml
   OwnReader r u = B .own r (u ∷ [])
 
-  -- the tokens and the references: what no call uses up, whole, and without the message's token
+  -- the tokens and the references, which no call uses up: all of them, and all but the message's token
   abbrev Tokens : Item 𝓤
   Tokens = ‵ (flft κ₀ q₀) ⊛ (‵ (flft κ₁ q₁) ⊛ (‵ (flft κ₂ q₂) ⊛ ‵ ftrue))
 
@@ -203,7 +204,7 @@ module _ {M : Type 1} (𝓤 : URA M) (H : Heap 𝓤) (A : Atoms 𝓤) (W : Given
   together =
       qed W (Token ∷ Others ∷ []) ∵ move ! (1 ∷ []) $ split ! $ split ! $ move ! (1 ∷ 3 ∷ []) $ join ! $ move ! (1 ∷ 0 ∷ []) $ join ! $ frame ! $ done !
 
-  -- ---- the calls: what each is passed, what it asks, and what is known of its result
+  -- ---- the calls: arguments, precondition and result of each
 
   abbrev to-open : Open 𝓤 H A mem run .Ghost
   to-open = (((κ₂, tt), (q₂, tt), tt, (m, tt), (slice-vals m, tt)), tt)
@@ -289,7 +290,7 @@ module _ {M : Type 1} (𝓤 : URA M) (H : Heap 𝓤) (A : Atoms 𝓤) (W : Given
       qed W (‵ (bool .own b (v ∷ [])) ∷ Held ∷ []) ∵ suffices ! _ (ends-at 𝓤 H A f.ended stayed (f.clauses 𝓤 H A mem run) W y v b (tt, (tt, (tt, (tt, (tt, tt))))) (tt, (tt, (tt, (tt, (tt, tt)))))) $ says ! e $
       move ! (1 ∷ []) $ split ! $ frame ! $ drop ! $ nothing ! $ nothing ! $ fjoin ! $ nothing ! $ fjoin ! $ nothing ! $ fjoin ! $ nothing ! $ fjoin ! $ nothing ! $ fjoin ! $ frame ! $ done !
 
-  -- the reader's type as a local of a body has it
+  -- the reader's type in a local of a body
   abbrev αᵉ : NamedLft
   αᵉ = record { mir = erased; lft = κ₂ }
 
@@ -342,7 +343,7 @@ module _ {M : Type 1} (𝓤 : URA M) (H : Heap 𝓤) (A : Atoms 𝓤) (W : Given
   Nearer-wf : WellFounded Nearer
   Nearer-wf = InvImage·wf (λ (x : Mine). k n - x .t) (Nat·lt-wfRel .wf)
 
-  -- ---- a local's type, as MIR has it
+  -- ---- MIR's type of a local
   abbrev ReaderTy : Ty
   ReaderTy = T′.mir erased
 
@@ -376,7 +377,7 @@ module _ {M : Type 1} (𝓤 : URA M) (H : Heap 𝓤) (A : Atoms 𝓤) (W : Given
           ∷ ‵ (fat fullShare NumberTy l₃ 0 (vint w32 round)) ∷ ‵ (fdies NumberTy l₃) ∷ ‵ (fat fullShare NumberTy l₂ 0 (vint w32 n)) ∷ ‵ (fdies NumberTy l₂)
           ∷ ‵ (fat fullShare WordsTy l₁ 0 (only (ptr-vals words))) ∷ ‵ (fdies WordsTy l₁) ∷ ‵ (froom tyBool l₀ 0) ∷ ‵ (fdies tyBool l₀) ∷ []
 
-      -- with the reader r, the machine values u of the reader and w of what it found
+      -- with the reader r, its machine value u, and the machine value w of what it found
       abbrev Around : Reader → Val → Val → List (Item 𝓤)
       Around r u w = Held ∷ ‵ (OwnReader r u) ∷ ‵ (froom ReaderTy l₁₁ 0) ∷ ‵ (fdies ReaderTy l₁₁) ∷ ‵ (froom ReaderTy l₁₀ 0) ∷ ‵ (fdies ReaderTy l₁₀) ∷ ‵ (froom tyBool l₉ 0) ∷ ‵ (fdies tyBool l₉)
           ∷ ‵ (froom ReaderTy l₈ 0) ∷ ‵ (fdies ReaderTy l₈) ∷ ‵ (fat fullShare S′.mir l₇ 0 w) ∷ ‵ (fdies S′.mir l₇) ∷ ‵ (fat fullShare ReaderTy l₆ 0 u) ∷ ‵ (fdies ReaderTy l₆) ∷ Params
@@ -384,7 +385,7 @@ module _ {M : Type 1} (𝓤 : URA M) (H : Heap 𝓤) (A : Atoms 𝓤) (W : Given
       abbrev At : Mine → List (Item 𝓤)
       At x = Around (x .r) (x .u) (x .w)
 
-      -- when the loop is left, the rest of the body runs
+      -- the rest of the body, after the loop
       abbrev Left : Out → SProp 𝓤
       Left = afterBlock 𝓤 H (afterSeq 𝓤 H (Wp 𝓤 H C Λ En pieces.t-5 (atReturn 𝓤 H En Post)) (atReturn 𝓤 H En Post))
 
@@ -396,7 +397,7 @@ module _ {M : Type 1} (𝓤 : URA M) (H : Heap 𝓤) (A : Atoms 𝓤) (W : Given
       turns x =
           let past = walk-on checked n (now m) taken (x .t) (x .s) (x .so-far) in
           use1 W (raw (FoundChecks 𝓤 H A mem run .pre (to-checks (x .s) (x .w))) ⊛ Refs) (goes-checks (x .s) (x .w) (x .is) (walk-fits checked n (now m) taken (x .t) (x .s) (x .so-far))) $ split ! $
-          -- [what the call asks; the references; the reader; _11; …; _10; …; _9; …; _8; …; _7; …; _6; …; _5; …; _1; …; _0; …]
+          -- [the call's precondition; the references; the reader; _11; …; _10; …; _9; …; _8; …; _7; …; _6; …; _5; …; _1; …; _0; …]
           calls-at ! fm (FoundChecks 𝓤 H A mem run) known-checks (to-checks (x .s) (x .w))
           (and-then ! (load ! (from ! (stop !)) (look ! 23 refl)) (and-then ! (load ! (from ! (stop !)) (look ! 21 refl)) (and-then ! (load ! (from ! (stop !)) (look ! 19 refl)) (and-then ! (load ! (from ! (stop !)) (look ! 17 refl)) (and-then ! (load ! (from ! (stop !)) (look ! 15 refl)) (and-then ! (load ! (from ! (stop !)) (look ! 11 refl)) (no-more !))))))) (λ v.
           use1 W (later (some (λ (b : Bool). (Tokens ⊛ ‵ (bool .own b (v ∷ []))) ⊛ raw (ensured 𝓤 H A found-checks.ended (found-checks.clauses 𝓤 H A mem run) (κ₀, (κ₁, (κ₂, tt))) (args-checks (x .s)) tt b)))) (id⊢ 𝓤 _) $ await ! tt $ pick ! (λ b.
@@ -430,7 +431,7 @@ module _ {M : Type 1} (𝓤 : URA M) (H : Heap 𝓤) (A : Atoms 𝓤) (W : Given
           again ! Nearer At x (next-turn x r′ u′ s′ w′ moved typed is′ found (good .1)) (nearer x (good .0)))))))))))
           (λ off. rewrite ! 6 (λ (z : Bool). ‵ (fat fullShare tyBool l₉ 0 (vbool z))) off refl $ leaves-loop ! (load ! (from ! (stop !)) (look ! 6 refl)) $ exec ! C Λ En pieces.t-5 (atRet En Post) $
           owned ! S.the-row (Is S.the-row) (EL.makes S.the-type S′.the-plain 𝓤 H A) (x .s) _ (x .is) $ use1 W (raw (IsEntry 𝓤 H A mem run .pre (to-is-entry (x .s) (x .w)))) (goes-is-entry (x .s) (x .w)) $
-          -- [what the call asks; what is held; the reader; _11; …]
+          -- [the call's precondition; what is held; the reader; _11; …]
           calls-at ! fm (IsEntry 𝓤 H A mem run) known-is (to-is-entry (x .s) (x .w)) (and-then ! (load ! (from ! (stop !)) (look ! 11 refl)) (no-more !)) (λ v′.
           use1 W (later (some (λ (c : Bool). (‵ ftrue ⊛ ‵ (bool .own c (v′ ∷ []))) ⊛ raw (ensured 𝓤 H A is-entry.ended (is-entry.clauses 𝓤 H A mem run) tt (x .s, tt) tt c)))) (id⊢ 𝓤 _) $ await ! tt $ pick ! (λ c.
           split ! $ move ! (1 ∷ []) $ use1 W (raw (fact 𝓤 (c ≡ isEntry (x .s)))) (is-entry-said (x .s) c) $ heard ! (c ≡ isEntry (x .s)) (λ e′. split ! $ drop ! $
@@ -450,7 +451,7 @@ module _ {M : Type 1} (𝓤 : URA M) (H : Heap 𝓤) (A : Atoms 𝓤) (W : Given
         → ent 𝓤 (onEntry 𝓤 H A f.signature (κ₀, (κ₁, (κ₂, tt))) (q₀, (q₁, (q₂, tt))) a vals) (WpFn 𝓤 H C Λ code.function (only (ptr-vals words) ∷ vint w32 n ∷ vint w32 round ∷ sliceVal (ptr keys) (length (now keys)) ∷ sliceVal (ptr m) (length (now m)) ∷ []) Post)
     walk is-words is-keys is-message =
         qed W (Tokens ∷ ‵ (owns (ShrRef (named 0) κ₀ (Array u32 64) ∷ u32 ∷ u32 ∷ ShrSlice (named 1) κ₁ u8 ∷ ShrSlice (named 2) κ₂ u8 ∷ []) a vals) ∷ []) ∵
-        -- what is held, of the tokens and of what the references own
+        -- what is held: the tokens and the references
         move ! (1 ∷ []) $ fsplit ! $ move ! (1 ∷ []) $ fsplit ! $ drop ! $ fsplit ! $ drop ! $ fsplit ! $ move ! (1 ∷ []) $ fsplit ! $ move ! (1 ∷ []) $ drop ! $
         -- [m; keys; words; the tokens]
         move ! (1 ∷ 0 ∷ []) $ join ! $ move ! (1 ∷ 0 ∷ []) $ join ! $ move ! (1 ∷ 0 ∷ []) $ join ! $

@@ -24,7 +24,7 @@ Inv-loop k n round keys m count entries t₀ t = Checked (checks keys round) m t
 abbrev μ-loop : tie.MeasureT-loop
 μ-loop k n round keys m count entries t₀ t = byteAt m evidenceCountAt - t
 
--- what the function is given
+-- arguments of the function
 module _ (start : tie.Start Inv-loop μ-loop) where
   abbrev check : Checks
   check = checks (now (start .args .keys)) (start .args .round)
@@ -45,7 +45,7 @@ count-read c = let number = c .before in number .number-at .ensures .0 ∙ ap (�
 abbrev loop-at : tie.After-entry-at Inv-loop μ-loop → tie.At-loop Inv-loop μ-loop
 loop-at c = c .before .before
 
--- an index below it
+-- the loop's index is below that number
 inside : (c : tie.After-entry-at Inv-loop μ-loop) → loop-at c .loop .t < byteAt (m (started (loop-at c .before))) evidenceCountAt
 inside c = let counted = count-read (loop-at c .before) in omega arith
 
@@ -55,7 +55,7 @@ unfolding evidenceEntryAt
 place c =
     c .entry-at .ensures ∙ ap (λ (e : Entries). entryAt (e .start) (e .length) (loop-at c .loop .t)) (loop-at c .before .evidence-entries .ensures)
 
--- and of its pair
+-- the pair of its entry
 pair-is : (c : tie.After-pair-at Inv-loop μ-loop)
     → let at-loop = loop-at (c .before) in let at = evidenceEntryAt (at-loop .loop .t) in
     c .pair-at .result ≡ pairPlaces (byteAt (m (started (at-loop .before))) (at + 1)) at
@@ -63,7 +63,7 @@ pair-is c =
     let s = started (loop-at (c .before) .before) in
     c .pair-at .ensures ∙ ap (λ (at : ℕ). pairPlaces (byteAt (m s) (at + 1)) at) (place (c .before))
 
--- the verdict on it
+-- the verdict on the pair
 said : (c : tie.After-pair-verdict Inv-loop μ-loop)
     → let at-loop = loop-at (c .before .before) in let s = started (at-loop .before) in
     c .pair-verdict .result .number ≡ signatureNumber (pairCheck (check s) (m s) (at-loop .loop .t))

@@ -9,7 +9,7 @@ use Rattle.validate.specs.Entries.{submit-taken, full-taken, evidence-ta
 use Rattle.validate.proofs.signatures.message_verdict.Statement.{statement}
 use Rattle.validate.proofs.signatures.message_verdict.Tie as tie
 
--- what the function is given
+-- arguments of the function
 module _ (start : tie.Start) where
   abbrev check : Checks
   check = checks (now (start .args .keys)) (start .args .round)

@@ -12,7 +12,7 @@ use Rattle.validate.specs.Seats.{leaf-differs, leaf-agrees}
 use Rattle.validate.proofs.signatures.seat_verdict.Statement.{statement}
 use Rattle.validate.proofs.signatures.seat_verdict.Tie as tie
 
--- what the function is given
+-- arguments of the function
 module _ (start : tie.Start) where
   abbrev n : ℕ
   n = start .args .n

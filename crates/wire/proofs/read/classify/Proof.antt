@@ -19,7 +19,7 @@ n c = start c .args .n
 abbrev bytes : tie.After-is-submit → List ℕ
 bytes c = now (start c .args .m)
 
--- each test that fails
+-- meaning of each test that fails
 no-submit : (c : tie.Else1) → fitsSubmit (bytes (c .before)) ≡ false
 no-submit c = sym (c .before .is-submit .ensures) ∙ c .if1 .left
 

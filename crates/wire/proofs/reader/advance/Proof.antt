@@ -1,5 +1,6 @@
--- `wire::reader::advance` meets its contract: a walk of its MIR, by hand. A reader is made anew of the bytes that the one passed holds, and the next number.
--- The struct is Copy: what it owns is had twice, one copy is kept whole for the exit, and the other, with the facts of the number in the place of `next`'s, is what the result owns.
+-- `wire::reader::advance` meets its contract: a walk of its MIR, by hand.
+-- A new reader is made from the bytes of the one passed and the next number. The struct is Copy: of its two copies one is kept whole
+-- for the exit, and the other, with the facts of the new number in place of `next`'s, is the result's.
 -- Assumes nothing.
 use mathlib.Core.Path.{refl}
 use Prim.Native.Nat.{_+_, _<_, _^_}
@@ -67,7 +68,7 @@ module _ {M : Type 1} (𝓤 : URA M) (H : Heap 𝓤) (A : Atoms 𝓤) (W : Given
       qed W ((‵ (flft κ q) ⊛ ‵ ftrue) ∷ ‵ (owns (B (κ, tt) ∷ []) (d, tt) (mach ∷ [], tt)) ∷ []) ∵
       suffices ! _ (ends-at 𝓤 H A advance.ended stayed (advance.clauses 𝓤 H A mem run) W (((κ, tt), (q, tt), tt, (d, tt), (mach ∷ [], tt)), tt) (T′.lowered d′) d′ (tt, tt) (tt, tt)) $ says ! (refl, refl) $
       frame ! $ fsplit ! $ use1 W (‵ Own ⊛ ‵ Own) (LL.copy (T.the-type (namedLft 1 0 tt (κ, tt))) (T′.the-copy (namedLft 1 0 tt (κ, tt))) 𝓤 H A W .twice d (mach ∷ [])) $ split ! $ move ! (0 ∷ 2 ∷ []) $ fjoin ! $ frame ! $
-      -- [what the struct owns]: the number's facts take the place of `next`'s
+      -- [the struct]: the new number's facts take the place of `next`'s
       owned ! usize (Is usize) (uint-makes 𝓤 H A W w64) (d .next + 1) _ (refl, ok) $ move ! (1 ∷ 0 ∷ []) $ by ! (own-put 𝓤 H A W (T.the-type (namedLft 1 0 tt (κ, tt))) (T′.the-laws (namedLft 1 0 tt (κ, tt))) 1 (d .full, (d .next, tt)) (d .next + 1) mach)
 
   module _ (C : Calls 𝓤 H) (Λ : Loops 𝓤 H) where

@@ -13,7 +13,7 @@ use borrow.Author.Needs.{needs}
 use Rattle.yard.proofs.commands.take_command.Statement.{statement}
 use Rattle.yard.proofs.commands.take_command.Tie as tie
 
--- what the command is given
+-- arguments of the command
 module _ (c : tie.After-is-misframed-call) where
   abbrev start : tie.Start
   start = c .before .before .before .before .before

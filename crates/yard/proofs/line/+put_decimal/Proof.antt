@@ -18,7 +18,7 @@ abbrev μ : Measures 1 put-decimal-kinds.ps ℕ
 μ κs a = a .1 .1 .0
 
 module _ (t : ℕ) where
-  -- at a number t, with what is known of the calls: of its own, for a number below t
+  -- a call at a number t, and the claims about its calls: about its own, for a number below t
   abbrev Pre : In 1 put-decimal-kinds.ps
   Pre = and 1 put-decimal-kinds.ps (is 1 put-decimal-kinds.ps μ t) put-decimal.Pre
 
@@ -43,7 +43,7 @@ module _ (t : ℕ) where
   abbrev many : lts.Else1 calls Pre put-decimal.Post → Start
   many c = c .before .before
 
-  -- more than one, where all but the last are written
+  -- more than one digit, all but the last written
   abbrev tested : lts.After-put-decimal calls Pre put-decimal.Post → lts.Else1 calls Pre put-decimal.Post
   tested c = c .before .before
 
