@@ -3,8 +3,8 @@
 -- `Layout` has lengths and places (`Figures`: document 01's), `Values` how values compare, `Entries` lists of entries, `Message`
 -- the commands on the air, `Certificate` what FULL and EVIDENCE are made from, `Record` a unit's record, `Conditions` and `Refusals`
 -- the causes of a refusal (`Order`: their order), `Step` what a submit and a step do, `Signatures` a seat's signature and the calls
--- on keys and signatures, and `Calls` each other call as a whole. `XLaws` has the laws of `X`. `SignatureClaim`: what the signer
--- makes, the check takes.
+-- on keys and signatures, and `Calls` each other call as a whole. `XLaws` has the laws of `X`. `RoundTrip`: what is read, written
+-- back, is the same. `SignatureClaim`: what the signer makes, the check takes.
 pub mod Layout
 pub mod LayoutLaws
 pub mod Figures
@@ -14,6 +14,7 @@ pub mod Entries
 pub mod EntriesLaws
 pub mod Message
 pub mod MessageLaws
+pub mod RoundTrip
 pub mod Certificate
 pub mod CertificateLaws
 pub mod Record

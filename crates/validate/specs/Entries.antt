@@ -14,13 +14,13 @@ use Rattle.quorum.specs.Quorum.{k}
 use Rattle.protocol.specs.Layout.{valueLength, signatureLength, seatAt, valueAt, submitSignatureAt, submitLength, fullCountAt, fullEntryLength, fullEntryAt, fullLength, evidenceCountAt, evidenceEntryLength, evidenceEntryAt, evidenceLength}
 use Rattle.protocol.specs.Entries.{readEntry}
 use Rattle.protocol.specs.Message.{Entry, fullForm, byteAt, readValue, readSignature, read, readSubmit, readNotice, readFull, readEvidence, seatsOf, signed}
+use Rattle.protocol.specs.MessageLaws.{submit-fits, full-fits, evidence-fits}
 use Rattle.protocol.specs.Refusals.{Checks, every, isFull, isEvidence, stranger, badSignature, SIGNATURE}
 use Rattle.protocol.specs.Signatures.{signatureNumber}
 use Rattle.protocol.specs.SignaturesLaws.{signature-row}
 use Rattle.layout.specs.Places.{full, evidence}
 use Rattle.wire.specs.Reading.{kindOf, seatPlace, seatsIn}
 use Rattle.wire.specs.KindLaws.{read-as}
-use Rattle.wire.specs.FormLaws.{submit-length, full-fits, evidence-fits}
 use Rattle.wire.specs.MessageLaws.{known-entries, full-seats, evidence-seats}
 use Rattle.wire.specs.WalkLaws.{below-at}
 use Rattle.wire.specs.Answers.{entryOf, nthEntry, Found}
@@ -61,7 +61,7 @@ module _ (n : ℕ) (bytes : List ℕ) (t : Kind) (e : t ≡ kindOf (read n bytes
   pub submit-taken : t ≡ kind.Submit → SubmitTaken n bytes
   submit-taken g =
       let r = read-as kind.Submit n bytes (sym g ∙ e) in
-      record { says = r .0; size = submit-length bytes (r .1) .0; known = submit-known n bytes (rw (r .0) at s) }
+      record { says = r .0; size = submit-fits bytes (r .1) .0; known = submit-known n bytes (rw (r .0) at s) }
 
   pub full-taken : t ≡ kind.Full → FullTaken n bytes
   unfolding fullEntryAt
