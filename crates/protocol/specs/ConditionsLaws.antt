@@ -1,11 +1,18 @@
--- Tests of lists that grow at their end, as loops build them, and of what each entry of a list brings.
+-- Tests of lists that grow at their end, as loops build them, and of what each entry of a list brings; a key table that isn't turned back.
 -- Assumes nothing.
 use mathlib.Core.Path.{_≡_, refl, _∙_}
-use mathlib.Core.Bool.{Bool, _&&_, and-assoc, and-true}
+use mathlib.Core.Bool.{Bool, false, not, _&&_, and-assoc, and-true}
+use mathlib.Core.Logic.{_↔_}
 use mathlib.Core.List.{List, [], _∷_, _++_, flatMap}
-use Prim.Native.Nat.{ℕ}
-use lib.Dec.{ltb}
-use Rattle.protocol.specs.Conditions.{every, rising}
+use Prim.Native.Nat.{ℕ, _+_, _<_}
+use lib.Dec.{ltb, eqb}
+use lib.ListN.{length}
+use borrow.Author.Tests.{eq-eqb, eqb-true, not-false}
+use Rattle.octets.specs.Octets.{wordAt}
+use Rattle.refusal.specs.RefusalLaws.{both-true, both-false}
+use Rattle.protocol.specs.Layout.{keyAt}
+use Rattle.protocol.specs.EntriesLaws.{each-at, each-all}
+use Rattle.protocol.specs.Conditions.{every, keyAllowed, keysAllowed, wrongKeys, rising}
 
 pub every-append {ℓ} : {A : Type ℓ} (test : A → Bool) (xs ys : List A) → every test (xs ++ ys) ≡ (every test xs && every test ys)
 unfolding every
@@ -22,3 +29,20 @@ unfolding rising
 rising-snoc [] a b = and-true (ltb a b)
 rising-snoc (x ∷ []) a b = simp and-true
 rising-snoc (x ∷ y ∷ xs) a b = rw (rising-snoc (y ∷ xs) a b, and-assoc)
+
+-- 5: the table has its length, and every seat's key the types 6 and 4
+pub table-right : (n : ℕ) (keys : List ℕ)
+    → (wrongKeys n keys ≡ false) ↔ ((length keys ≡ keyAt n) × ((seat : ℕ) → seat < n → (wordAt keys (keyAt seat) ≡ 6) × (wordAt keys (keyAt seat + 4) ≡ 4)))
+unfolding wrongKeys keysAllowed keyAllowed
+table-right n keys = (
+  λ e.
+      let two = both-false (not (eqb (length keys) (keyAt n))) (not (keysAllowed n keys)) e in (
+        eqb-true (length keys) (keyAt n) (not-false _ (two .0)),
+        λ seat l.
+            let types = both-true (eqb (wordAt keys (keyAt seat)) 6) (eqb (wordAt keys (keyAt seat + 4)) 4) (each-at _ seat n l (not-false _ (two .1))) in
+            (eqb-true _ 6 (types .0), eqb-true _ 4 (types .1)),
+      ),
+  λ right.
+      let allowed = each-all (λ (seat : ℕ). keyAllowed seat keys) n (λ seat l. rw (eq-eqb _ 6 (right .1 seat l .0), eq-eqb _ 4 (right .1 seat l .1))) in
+      rw (eq-eqb (length keys) (keyAt n) (right .0), allowed),
+)

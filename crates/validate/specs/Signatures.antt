@@ -1,12 +1,9 @@
 -- The signatures of a message, one entry after another.
 -- Assumes nothing.
 use mathlib.Core.Path.{_≡_, refl, ap, _∙_}
-use mathlib.Core.Bool.{Bool, true, false, not, _&&_, and-false, and-true}
+use mathlib.Core.Bool.{Bool, not, and-true}
 use mathlib.Core.List.{List, [], _∷_, flatMap}
-use mathlib.Core.Logic.{⊎-elim}
 use Prim.Native.Nat.{ℕ, zero, suc, _+_, _≤_, _<_}
-use native.Mathlib.Nat.{eq-or-lt-of-le, suc-inj, le-of-suc-le-suc}
-use native.Mathlib.Numerals.{add-one}
 use native.Mathlib.Omega.{arith}
 use lib.ListN.{length, take, drop}
 use lib.Seq.{take-add, take-at, drop-at, drop-drop}
@@ -14,37 +11,11 @@ use Rattle.octets.specs.Octets.{part}
 use Rattle.octets.specs.OctetLaws.{length-part}
 use Rattle.quorum.specs.Quorum.{k}
 use Rattle.protocol.specs.Layout.{signatureLength, seatAt, valueAt, submitSignatureAt, fullEntryLength, fullEntryAt, evidenceCountAt, evidenceEntryLength, evidenceEntryAt, evidenceLength}
-use Rattle.protocol.specs.Entries.{Form, placeOf, readEntry, readEntries}
+use Rattle.protocol.specs.Entries.{eachBelow, Form, placeOf, readEntry, readEntries}
 use Rattle.protocol.specs.Message.{Signed, byteAt, fullForm, evidenceForm, formOf, readValue, readSignature, readSubmit, readFull, readEvidence, signedEntry, signedPair, signed}
 use Rattle.protocol.specs.Refusals.{Checks, every, badSignature}
 use Rattle.protocol.specs.ConditionsLaws.{every-append, every-flat}
 use Rattle.validate.specs.Places.{pairChecks, pairPlaces}
-
--- a test holds of every index below t
-unfoldable pub eachBelow : (ℕ → Bool) → ℕ → Bool
-eachBelow test zero = true
-eachBelow test (suc t) = eachBelow test t && test t
-
--- ---- the loop
-
-module _ (test : ℕ → Bool) where
-  pub each-none : eachBelow test 0 ≡ true
-  unfolding eachBelow
-  each-none = refl
-
-  pub each-more : (t : ℕ) → eachBelow test t ≡ true → test t ≡ true → eachBelow test (t + 1) ≡ true
-  unfolding eachBelow
-  each-more t e p = rw (add-one, e, p)
-
-  -- one that fails spoils the whole
-  pub each-not : (t n : ℕ) → t < n → test t ≡ false → eachBelow test n ≡ false
-  unfolding eachBelow
-  each-not t zero h p = absurd (omega arith)
-  each-not t (suc n) h p =
-      ⊎-elim
-      (λ (s : suc t ≡ suc n). rw (← suc-inj s, p) (and-false (eachBelow test t)))
-      (λ (l : suc t < suc n). rw (each-not t n (le-of-suc-le-suc l) p))
-      (eq-or-lt-of-le h)
 
 -- two tests that agree below t
 each-same : (f g : ℕ → Bool) (t : ℕ) → ((i : ℕ) → i < t → f i ≡ g i) → eachBelow f t ≡ eachBelow g t

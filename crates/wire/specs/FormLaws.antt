@@ -5,27 +5,14 @@ use mathlib.Core.Bool.{Bool, false, and-false}
 use mathlib.Core.List.{List}
 use Prim.Native.Nat.{ℕ, _≤_, _<_}
 use native.Mathlib.Omega.{arith}
-use lib.Dec.{eqb}
 use lib.ListN.{length, List·getD-eq-default}
 use borrow.Author.Tests.{le-leb, lt-leb, eq-eqb, ne-eqb}
 use Rattle.quorum.specs.Quorum.{k}
 use Rattle.protocol.specs.Layout.{fullCountAt, fullEntryLength, fullLength, evidenceCountAt, evidenceEntryLength, evidenceLength}
 use Rattle.protocol.specs.Entries.{placeOf, entryCommands}
-use Rattle.protocol.specs.Message.{byteAt, fullForm, evidenceForm, formOf, fitsFull, fitsEvidence}
-use Rattle.protocol.specs.Refusals.{every}
+use Rattle.protocol.specs.Message.{byteAt, fullForm, evidenceForm, fitsFull, fitsEvidence}
 use Rattle.layout.specs.Places.{full, evidence}
-use Rattle.wire.specs.Reading.{commandsIn}
-use Rattle.wire.specs.WalkLaws.{commands-walked}
-
--- ---- the commands of entries
-
-full-commands : (t : ℕ) (bytes : List ℕ) → entryCommands fullForm t bytes ≡ every (λ (x : ℕ). eqb x 0x04) (commandsIn (full t) bytes)
-unfolding fullForm placeOf fullEntryLength
-full-commands t bytes = commands-walked fullForm bytes t
-
-evidence-commands : (t : ℕ) (bytes : List ℕ) → entryCommands (formOf bytes) t bytes ≡ every (λ (x : ℕ). eqb x 0x06) (commandsIn (evidence t) bytes)
-unfolding evidenceForm placeOf evidenceEntryLength
-evidence-commands t bytes = commands-walked (formOf bytes) bytes t
+use Rattle.wire.specs.Reading.{commandsAre}
 
 -- ---- FULL
 
@@ -43,14 +30,13 @@ module _ (n : ℕ) (bytes : List ℕ) where
   full-count h = sym (rw (ne-eqb (byteAt bytes fullCountAt) (k n) h, and-false))
 
   pub full-entries : (r : Bool) → length bytes ≡ fullLength n → byteAt bytes 0 ≡ 0x03 → byteAt bytes fullCountAt ≡ k n
-      → r ≡ every (λ (x : ℕ). eqb x 0x04) (commandsIn (full (k n)) bytes) → r ≡ fitsFull n bytes
-  unfolding fitsFull
+      → r ≡ commandsAre 0x04 (full (k n)) bytes → r ≡ fitsFull n bytes
+  unfolding fitsFull entryCommands fullForm placeOf fullEntryLength
   full-entries r l z e h =
       h ∙ sym (rw (
         eq-eqb (length bytes) (fullLength n) l,
         eq-eqb (byteAt bytes 0) 0x03 z,
         eq-eqb (byteAt bytes fullCountAt) (k n) e,
-        full-commands (k n) bytes,
       ))
 
 -- ---- EVIDENCE
@@ -81,13 +67,12 @@ module _ (n : ℕ) (bytes : List ℕ) where
   evidence-size size e h = sym (rw (ne-eqb (length bytes) (evidenceLength counted) (λ q. h (q ∙ sym e)), and-false))
 
   pub evidence-entries : (r : Bool) → byteAt bytes 0 ≡ 0x05 → 1 ≤ counted → counted ≤ n → length bytes ≡ evidenceLength counted
-      → r ≡ every (λ (x : ℕ). eqb x 0x06) (commandsIn (evidence counted) bytes) → r ≡ fitsEvidence n bytes
-  unfolding fitsEvidence
+      → r ≡ commandsAre 0x06 (evidence counted) bytes → r ≡ fitsEvidence n bytes
+  unfolding fitsEvidence entryCommands evidenceForm placeOf evidenceEntryLength
   evidence-entries r z a b l h =
       h ∙ sym (rw (
         eq-eqb (byteAt bytes 0) 0x05 z,
         le-leb 1 counted a,
         le-leb counted n b,
         eq-eqb (length bytes) (evidenceLength counted) l,
-        evidence-commands counted bytes,
       ))

@@ -1,19 +1,19 @@
--- Laws of walks over entries: a byte of each, at its place; and the walks that read a form's commands and seats.
+-- Laws of walks over entries: a byte of each, at its place; and the walk that reads a form's seats.
 -- Assumes nothing.
 use mathlib.Core.Path.{_≡_, refl, sym, ap, _∙_}
-use mathlib.Core.Bool.{Bool, true, false, _&&_, and-true, and-false, false≢true}
+use mathlib.Core.Bool.{Bool, true, false, _&&_, and-true, and-false}
 use mathlib.Core.Logic.{_⊎_, inl, inr, ⊎-elim}
 use mathlib.Core.List.{List, [], _∷_, append-assoc, map-append}
 use Prim.Native.Nat.{ℕ, zero, suc, _+_, _≤_, _<_}
-use native.Mathlib.Nat.{mul-suc, mul-le-mul-left, eq-or-lt-of-le, le-of-suc-le-suc}
+use native.Mathlib.Nat.{mul-suc, mul-le-mul-left, eq-or-lt-of-le}
 use native.Mathlib.Numerals.{add-one}
 use native.Mathlib.Omega.{arith}
-use lib.Dec.{ltb, eqb}
+use lib.Dec.{ltb}
 use lib.ListN.{length}
 use borrow.Author.Tests.{ltb-true, lt-ltb, le-ltb}
 use Rattle.quorum.specs.Quorum.{with}
-use Rattle.protocol.specs.Entries.{Form, byteAt, placeOf, entryCommands, readEntry, readEntries, formSeats}
-use Rattle.protocol.specs.EntriesLaws.{Faithful}
+use Rattle.protocol.specs.Entries.{eachBelow, Form, byteAt, placeOf, readEntry, readEntries, formSeats}
+use Rattle.protocol.specs.EntriesLaws.{each-at, Faithful}
 use Rattle.protocol.specs.Certificate.{setOf}
 use Rattle.protocol.specs.Refusals.{every, rising}
 use Rattle.protocol.specs.ConditionsLaws.{every-append, rising-snoc}
@@ -28,45 +28,14 @@ entry-inside entries bytes i h l = omega (arith, mul-le-mul-left (entries .lengt
 module _ (place : ℕ → ℕ) (bytes : List ℕ) where
   -- ---- a test of every byte
 
-  module _ (test : ℕ → Bool) where
-    every-step : (t : ℕ) → every test (bytesAt place (suc t) bytes) ≡ (every test (bytesAt place t bytes) && test (byteAt bytes (place t)))
-    unfolding bytesAt every
-    every-step t = every-append test (bytesAt place t bytes) (byteAt bytes (place t) ∷ []) ∙ rw and-true
-
-    module _ (count : ℕ) where
-      -- what a walk has come to at index t
-      abbrev pub Passed : ℕ → Type 0
-      Passed t = (t ≤ count) × (every test (bytesAt place t bytes) ≡ true)
-
-      pub passed-none : Passed 0
-      unfolding bytesAt every
-      passed-none = (omega arith, refl)
-
-      -- the byte x of index t passes, or doesn't
-      pub passed-turn : (t x : ℕ) → Passed t → t < count → x ≡ byteAt bytes (place t) → test x ≡ true → Passed (t + 1)
-      passed-turn t x p l e h = (omega arith, rw (add-one, every-step t, p .1, ← e, h))
-
-    pub failed : (count t x : ℕ) → t < count → x ≡ byteAt bytes (place t) → test x ≡ false → false ≡ every test (bytesAt place count bytes)
-    failed zero t x l e h = absurd (omega arith)
-    failed (suc count) t x l e h =
-        ⊎-elim
-        (λ (q : t ≡ count). sym (rw (every-step count, ← q, ← e, h, and-false)))
-        (λ (b : t < count). sym (rw (every-step count, ← failed count t x b e h)))
-        (eq-or-lt-of-le (le-of-suc-le-suc l))
-
-    pub passed-all : (count t : ℕ) → Passed count t → count ≤ t → true ≡ every test (bytesAt place count bytes)
-    passed-all count t p l = let q : t ≡ count = omega arith in sym (rw q at (p .1))
-
-    passed-at : (count t : ℕ) → t < count → every test (bytesAt place count bytes) ≡ true → test (byteAt bytes (place t)) ≡ true
-    passed-at count t l h = go (test (byteAt bytes (place t))) refl
-      where
-        go : (b : Bool) → test (byteAt bytes (place t)) ≡ b → b ≡ true
-        go true e = refl
-        go false e = absurd (false≢true (failed count t (byteAt bytes (place t)) l refl e ∙ h))
+  pub every-byte : (test : ℕ → Bool) (t : ℕ) → every test (bytesAt place t bytes) ≡ eachBelow (λ (i : ℕ). test (byteAt bytes (place i))) t
+  unfolding bytesAt every eachBelow
+  every-byte test zero = refl
+  every-byte test (suc t) = every-append test (bytesAt place t bytes) (byteAt bytes (place t) ∷ []) ∙ rw (every-byte test t, and-true)
 
   -- a byte of those that are all below n
   pub below-at : (n count t : ℕ) → t < count → every (λ (x : ℕ). ltb x n) (bytesAt place count bytes) ≡ true → byteAt bytes (place t) < n
-  below-at n count t l h = ltb-true _ n (passed-at (λ (x : ℕ). ltb x n) count t l h)
+  below-at n count t l h = ltb-true _ n (each-at _ t count l (sym (every-byte (λ (x : ℕ). ltb x n) count) ∙ h))
 
   -- ---- rising bytes
 
@@ -127,14 +96,9 @@ module _ (place : ℕ → ℕ) (bytes : List ℕ) where
   pub gathered-all : (count mask t : ℕ) → Gathered count mask t → count ≤ t → mask ≡ setOf (bytesAt place count bytes)
   gathered-all count mask t h l = let q : t ≡ count = omega arith in h .1 ∙ rw q
 
--- ---- the entries of a form
+-- ---- the seats of a form
 
 module _ {A : Type 0} (form : Form A) (bytes : List ℕ) where
-  pub commands-walked : (t : ℕ) → entryCommands form t bytes ≡ every (λ (x : ℕ). eqb x (form .command)) (bytesAt (placeOf form) t bytes)
-  unfolding entryCommands bytesAt every
-  commands-walked zero = refl
-  commands-walked (suc t) = rw (commands-walked t) (sym (every-step (placeOf form) bytes (λ (x : ℕ). eqb x (form .command)) t))
-
   pub seats-walked : Faithful form → (t : ℕ) → bytesAt (λ (i : ℕ). placeOf form i + 1) t bytes ≡ formSeats form (readEntries form t bytes)
   unfolding bytesAt formSeats readEntries readEntry
   seats-walked faithful zero = refl
