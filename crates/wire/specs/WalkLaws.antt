@@ -4,7 +4,7 @@ use mathlib.Core.Path.{_≡_, refl, sym, ap, _∙_}
 use mathlib.Core.Bool.{Bool, true, false, _&&_, and-true, and-false}
 use mathlib.Core.Logic.{_⊎_, inl, inr, ⊎-elim}
 use mathlib.Core.List.{List, [], _∷_, append-assoc, map-append}
-use Prim.Native.Nat.{ℕ, zero, suc, _+_, _≤_, _<_}
+use Prim.Native.Nat.{ℕ, zero, suc, _+_, _-_, _≤_, _<_}
 use native.Mathlib.Nat.{mul-suc, mul-le-mul-left, eq-or-lt-of-le}
 use native.Mathlib.Numerals.{add-one}
 use native.Mathlib.Omega.{arith}
@@ -47,54 +47,69 @@ module _ (place : ℕ → ℕ) (bytes : List ℕ) where
       let b = byteAt bytes (place (suc t)) in
       ap rising (append-assoc (bytesAt place t bytes) (a ∷ []) (b ∷ [])) ∙ rising-snoc (bytesAt place t bytes) a b
 
-  -- what a walk has come to at index t, from 1 on
-  abbrev pub Rises : ℕ → ℕ → Type 0
-  Rises count t = (1 ≤ t) × ((t ≤ count) ⊎ (t ≡ 1)) × (rising (bytesAt place t bytes) ≡ true)
-
-  pub rises-first : (count : ℕ) → Rises count 1
-  unfolding bytesAt rising
-  rises-first count = (omega arith, inr refl, refl)
-
-  pub rises-turn : (count t u : ℕ) → t ≡ suc u → Rises count t → t < count → byteAt bytes (place u) < byteAt bytes (place t) → Rises count (t + 1)
-  rises-turn count t u q h c l =
-      let h′ : rising (bytesAt place (suc u) bytes) ≡ true = rw q at (h .2) in
-      let l′ : byteAt bytes (place u) < byteAt bytes (place (suc u)) = rw q at l in
-      (omega arith, inl (omega arith), rw (q, add-one, rising-step u, h′, lt-ltb _ _ l′))
-
-  pub rises-not : (count t u : ℕ) → t ≡ suc u → t < count → byteAt bytes (place t) ≤ byteAt bytes (place u) → false ≡ rising (bytesAt place count bytes)
-  rises-not zero t u q l e = absurd (omega arith)
-  rises-not (suc zero) t u q l e = absurd (omega arith)
-  rises-not (suc (suc count)) t u q l e =
+  rises-not : (count u : ℕ) → suc u < count → byteAt bytes (place (suc u)) ≤ byteAt bytes (place u) → rising (bytesAt place count bytes) ≡ false
+  rises-not zero u l e = absurd (omega arith)
+  rises-not (suc zero) u l e = absurd (omega arith)
+  rises-not (suc (suc count)) u l e =
       ⊎-elim
-      (λ (p : u ≡ count).
-      let e′ : byteAt bytes (place (suc u)) ≤ byteAt bytes (place u) = rw q at e in
-      rw (← p) (sym (rw (rising-step u, le-ltb _ _ e′, and-false))))
-      (λ (b : u < count). sym (rw (rising-step count, ← rises-not (suc count) t u q (omega arith) e)))
+      (λ (p : u ≡ count). rw (← p, rising-step u, le-ltb _ _ e, and-false))
+      (λ (b : u < count). rw (rising-step count, rises-not (suc count) u (omega arith) e))
       (eq-or-lt-of-le (omega arith))
 
-  pub rises-all : (count t : ℕ) → Rises count t → count ≤ t → true ≡ rising (bytesAt place count bytes)
+-- what a walk has come to at index t, from 1 on
+pub record Rises (place : ℕ → ℕ) (bytes : List ℕ) (count t : ℕ) : Type 0 where
+  pub some : 1 ≤ t
+  pub within : (t ≤ count) ⊎ (t ≡ 1)
+  pub rises : rising (bytesAt place t bytes) ≡ true
+
+pub rises-first : {place : ℕ → ℕ} {bytes : List ℕ} {count : ℕ} → Rises place bytes count 1
+unfolding bytesAt rising
+rises-first = record { some = omega arith; within = inr refl; rises = refl }
+
+module _ {place : ℕ → ℕ} {bytes : List ℕ} {count t : ℕ} (h : Rises place bytes count t) where
+  before : t ≡ suc (t - 1)
+  before = omega (arith, h .some)
+
+  -- the byte of index t is above the one before it, or isn't
+  pub rises-turn : t < count → byteAt bytes (place (t - 1)) < byteAt bytes (place t) → Rises place bytes count (t + 1)
+  rises-turn l e =
+      let e′ : byteAt bytes (place (t - 1)) < byteAt bytes (place (suc (t - 1))) = rw (← before) e in
+      let so-far : rising (bytesAt place (suc (t - 1)) bytes) ≡ true = rw (← before) (h .rises) in
+      let more : rising (bytesAt place (suc (suc (t - 1))) bytes) ≡ true = rw (rising-step place bytes (t - 1), so-far, lt-ltb _ _ e′) in
+      record { some = omega arith; within = inl (omega arith); rises = rw (add-one, before) more }
+
+  pub rises-fails : t < count → byteAt bytes (place t) ≤ byteAt bytes (place (t - 1)) → rising (bytesAt place count bytes) ≡ false
+  rises-fails l e = rises-not place bytes count (t - 1) (omega (arith, before)) (rw (← before) e)
+
+  pub rises-all : count ≤ t → rising (bytesAt place count bytes) ≡ true
   unfolding bytesAt rising
-  rises-all zero t h g = refl
-  rises-all (suc count) t h g =
-      let q : t ≡ suc count = ⊎-elim (λ a. omega arith) (λ b. omega arith) (h .1) in
-      sym (rw q at (h .2))
+  rises-all g = at-end count refl g
+    where
+      at-end : (n : ℕ) → count ≡ n → n ≤ t → rising (bytesAt place n bytes) ≡ true
+      at-end zero q l = refl
+      at-end (suc n) q l =
+          let e : t ≡ suc n = ⊎-elim (λ a. omega arith) (λ b. omega (arith, h .some)) (h .within) in
+          rw e at (h .rises)
 
-  -- ---- the set of seats
+-- ---- the set of seats
 
-  -- what a walk has come to at index t
-  abbrev pub Gathered : ℕ → ℕ → ℕ → Type 0
-  Gathered count mask t = (t ≤ count) × (mask ≡ setOf (bytesAt place t bytes))
+-- what a walk has come to at index t
+pub record Gathered (place : ℕ → ℕ) (bytes : List ℕ) (count mask t : ℕ) : Type 0 where
+  pub within : t ≤ count
+  pub set : mask ≡ setOf (bytesAt place t bytes)
 
-  pub gathered-none : (count : ℕ) → Gathered count 0 0
-  unfolding bytesAt setOf
-  gathered-none count = (omega arith, refl)
+pub gathered-none : {place : ℕ → ℕ} {bytes : List ℕ} {count : ℕ} → Gathered place bytes count 0 0
+unfolding bytesAt setOf
+gathered-none = record { within = omega arith; set = refl }
 
-  pub gathered-turn : (count mask t x r : ℕ) → Gathered count mask t → t < count → x ≡ byteAt bytes (place t) → r ≡ with x mask → Gathered count r (t + 1)
+module _ {place : ℕ → ℕ} {bytes : List ℕ} {count mask t : ℕ} (h : Gathered place bytes count mask t) where
+  pub gathered-turn : {x r : ℕ} → t < count → x ≡ byteAt bytes (place t) → r ≡ with x mask → Gathered place bytes count r (t + 1)
   unfolding bytesAt
-  gathered-turn count mask t x r h l e q = (omega arith, q ∙ rw (e, h .1, add-one, set-snoc (bytesAt place t bytes) (byteAt bytes (place t))))
+  gathered-turn l e q =
+      record { within = omega arith; set = q ∙ rw (e, h .set, add-one, set-snoc (bytesAt place t bytes) (byteAt bytes (place t))) }
 
-  pub gathered-all : (count mask t : ℕ) → Gathered count mask t → count ≤ t → mask ≡ setOf (bytesAt place count bytes)
-  gathered-all count mask t h l = let q : t ≡ count = omega arith in h .1 ∙ rw q
+  pub gathered-all : count ≤ t → mask ≡ setOf (bytesAt place count bytes)
+  gathered-all l = let q : t ≡ count = omega arith in h .set ∙ rw q
 
 -- ---- the seats of a form
 
