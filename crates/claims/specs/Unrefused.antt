@@ -20,13 +20,14 @@ use Rattle.protocol.specs.Layout.{signatureLength}
 use Rattle.protocol.specs.Values.{unset}
 use Rattle.protocol.specs.Entries.{formSeats}
 use Rattle.protocol.specs.EntriesLaws.{each-flat}
+use Rattle.protocol.specs.ConditionsLaws.{every-each, each-every}
 use Rattle.protocol.specs.Message.{Entry, Pair, Message, Submit, Notice, Full, Evidence, Garbled, fullForm, evidenceForm, Signed, signedEntry, signedPair, signed, roundOf, entrySeats, seatsOf}
 use Rattle.protocol.specs.Record.{fresh, lastRound, wrongSize, wrongSeat, wrongRound, noneHeard, holds, outOfRange, wrongHeard, namesStranger, wrongCollected, wrongFirst, lacksFirst, wrongGuilty, wrongSent, wrongUnset, impossible}
 use Rattle.protocol.specs.Refusals.{Condition, Checks, every, said, otherRound, stranger, rising, disorder, early, badSignature, messageConditions}
 use Rattle.protocol.specs.Step.{owesFull}
 use Rattle.protocol.specs.declared.Record.{Record}
 use Rattle.round.specs.Round.{Each, Relation, EachSigned}
-use Rattle.reading.specs.Lists.{or-true-either, each-cons, each-one, each-map, every-each, each-every}
+use Rattle.reading.specs.Lists.{or-true-either, each-cons, each-one, each-map}
 use Rattle.claims.specs.Sound.{Settled, Attested, Entries, Pairs, Sound}
 use Rattle.protocol.specs.RecordLaws.{InRange}
 use Rattle.claims.specs.Parts.{shared-none, k-pos}

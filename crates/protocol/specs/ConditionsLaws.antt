@@ -1,9 +1,10 @@
--- Tests of lists that grow at their end, as loops build them, and of what each entry of a list brings; a key table that isn't turned back.
+-- Tests of every one of a list, of lists that grow at their end, as loops build them, and of what each entry of a list brings. A key
+-- table that isn't turned back.
 -- Assumes nothing.
 use mathlib.Core.Path.{_≡_, refl, _∙_}
-use mathlib.Core.Bool.{Bool, false, not, _&&_, and-assoc, and-true}
-use mathlib.Core.Logic.{_↔_}
-use mathlib.Core.List.{List, [], _∷_, _++_, flatMap}
+use mathlib.Core.Bool.{Bool, true, false, not, _&&_, and-assoc, and-true}
+use mathlib.Core.Logic.{_↔_, ⊎-elim}
+use mathlib.Core.List.{List, [], _∷_, _++_, flatMap, List·Memᴰ·head, List·Memᴰ·tail, List·Memᴰ·not-nil, List·Memᴰ·cases-cons}
 use Prim.Native.Nat.{ℕ, _+_, _<_}
 use lib.Dec.{ltb, eqb}
 use lib.ListN.{length}
@@ -11,8 +12,21 @@ use borrow.Author.Tests.{eq-eqb, eqb-true, not-false}
 use Rattle.octets.specs.Octets.{wordAt}
 use Rattle.refusal.specs.RefusalLaws.{both-true, both-false}
 use Rattle.protocol.specs.Layout.{keyAt}
+use Rattle.protocol.specs.Entries.{Each}
 use Rattle.protocol.specs.EntriesLaws.{each-at, each-all}
 use Rattle.protocol.specs.Conditions.{every, keyAllowed, keysAllowed, wrongKeys, rising}
+
+pub every-each {ℓ} : {A : Type ℓ} (test : A → Bool) (xs : List A) → every test xs ≡ true → Each (λ x. test x ≡ true) xs
+unfolding every
+every-each test [] e x d = absurd (List·Memᴰ·not-nil d)
+every-each test (y ∷ xs) e x d =
+    let both = both-true (test y) (every test xs) e in
+    ⊎-elim (λ (q : x ≡ y). rw q (both .0)) (λ t. every-each test xs (both .1) x t) (List·Memᴰ·cases-cons d)
+
+pub each-every {ℓ} : {A : Type ℓ} (test : A → Bool) (xs : List A) → Each (λ x. test x ≡ true) xs → every test xs ≡ true
+unfolding every
+each-every test [] p = refl
+each-every test (x ∷ xs) p = rw (p x (List·Memᴰ·head refl)) (each-every test xs (λ y d. p y (List·Memᴰ·tail d)))
 
 pub every-append {ℓ} : {A : Type ℓ} (test : A → Bool) (xs ys : List A) → every test (xs ++ ys) ≡ (every test xs && every test ys)
 unfolding every

@@ -1,4 +1,5 @@
--- A test of every index; lists of entries of any form: lengths; entries written and read back; entries read and written back; what each entry brings.
+-- A test of every index below a bound. Lists of entries of any form: lengths; entries written and read back; entries read and
+-- written back; what each entry brings.
 -- Assumes nothing.
 use mathlib.Core.Path.{_≡_, refl, sym, ap, ap₂, subst, _∙_}
 use mathlib.Core.Bool.{Bool, true, false, and-false, and-eq-true-iff, false≢true}

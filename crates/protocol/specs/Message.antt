@@ -177,7 +177,7 @@ pub record Signed : Type 0 where
   pub value : List ℕ
   pub signature : List ℕ
 
--- an entry's, over the message's value; and a pair's two, over its own values
+-- an entry's one, over the message's value, and a pair's two, over its own values
 unfoldable pub signedEntry : List ℕ → Entry → List Signed
 signedEntry value e = record { seat = e .seat; value = value; signature = e .signature } ∷ []
 
