@@ -3,13 +3,12 @@
 -- a unit, possible or not, every message and every buffer. So a call that refuses more, or everything, doesn't meet them; the last claim
 -- shows it for a step.
 -- Assumes nothing.
-use Prim.Native.Nat.{ℕ, zero, suc, _+_, _*_, _≤_, _<_}
+use Prim.Native.Nat.{ℕ, _+_, _*_, _≤_, _<_}
 use mathlib.Core.Path.{_≡_, refl, sym, subst, _∙_}
 use mathlib.Core.Bool.{true, false, not, _&&_, _||_, true≢false}
 use mathlib.Core.List.{List, [], _∷_, _++_, List·Memᴰ·not-nil}
 use mathlib.Core.Logic.{_≢_, _↔_}
 use native.Mathlib.Omega.{arith}
-use native.Mathlib.Decide.{ℕ-discrete}
 use lib.Dec.{ltb, eqb}
 use lib.ListN.{length}
 use borrow.Author.Tests.{ltb-false, le-ltb, lt-leb, leb-false, eqb-true, eqb-false, eq-eqb, not-false}
@@ -27,7 +26,8 @@ use Rattle.protocol.specs.Message.{Message, Notice, render, read, signed, seats
 use Rattle.protocol.specs.MessageLaws.{read-render}
 use Rattle.protocol.specs.Certificate.{certificateIn}
 use Rattle.protocol.specs.Record.{lastRound, wrongSize, wrongSeat, wrongRound, impossible, fresh}
-use Rattle.protocol.specs.Refusals.{Condition, OUT, NO-CONFLICT-IN, NO-CONFLICT-BETWEEN, Checks, every, lengthIsnt, wrongKey, certificateConditions, checkConditions, makeKeyConditions, signConditions, keyAllowed, keysAllowed, wrongKeys, shortStore, shortOut, said, isForStep, isFull, isEvidence, wrongLengths, rising, early, badSignature, notLowerFirst, equalValues, messageConditions, outsideConditions, recordConditions, openingConditions, submitConditions, stepConditions, evidenceConditions, twoConditions, makingConditions}
+use Rattle.protocol.specs.Refusals.{Condition, OUT, NO-CONFLICT-IN, NO-CONFLICT-BETWEEN, Checks, every, lengthIsnt, wrongKey, certificateConditions, checkConditions, makeKeyConditions, signConditions, wrongKeys, shortStore, shortOut, said, isForStep, isFull, isEvidence, wrongLengths, rising, early, badSignature, notLowerFirst, equalValues, messageConditions, outsideConditions, recordConditions, openingConditions, submitConditions, stepConditions, evidenceConditions, twoConditions, makingConditions}
+use Rattle.protocol.specs.ConditionsLaws.{table-right}
 use Rattle.protocol.specs.Signatures.{checkSignature, makeKeyRefusal, makeKey, signRefusal, sign}
 use Rattle.protocol.specs.Calls.{openedBy, opening, resultBy, submit, step, makingBy, making, checkedBy, evidenceCheck}
 use Rattle.protocol.specs.declared.Record.{Record}
@@ -48,41 +48,10 @@ pub record Table (n : ℕ) (keys : List ℕ) : Type 0 where
   pub sized : length keys ≡ keyLength * n
   pub types : (seat : ℕ) → seat < n → (wordAt keys (keyAt seat) ≡ 6) × (wordAt keys (keyAt seat + 4) ≡ 4)
 
-module _ (keys : List ℕ) where
-  abbrev Types : ℕ → Type 0
-  Types seat = (wordAt keys (keyAt seat) ≡ 6) × (wordAt keys (keyAt seat + 4) ≡ 4)
-
-  allowed-types : (n : ℕ) → keysAllowed n keys ≡ true → (seat : ℕ) → seat < n → Types seat
-  unfolding keysAllowed keyAllowed
-  allowed-types zero h seat l = absurd (omega arith)
-  allowed-types (suc n) h seat l =
-      let both = both-true (keysAllowed n keys) (eqb (wordAt keys (keyAt n)) 6 && eqb (wordAt keys (keyAt n + 4)) 4) h in
-      by (both .1) (λ m. allowed-types n (both .0) seat m) (ℕ-discrete seat n)
-    where
-      by : (eqb (wordAt keys (keyAt n)) 6 && eqb (wordAt keys (keyAt n + 4)) 4) ≡ true → (seat < n → Types seat) → Dec (seat ≡ n) → Types seat
-      by last rest (yes q) =
-          let both = both-true (eqb (wordAt keys (keyAt n)) 6) (eqb (wordAt keys (keyAt n + 4)) 4) last in
-          subst Types (sym q) (eqb-true (wordAt keys (keyAt n)) 6 (both .0), eqb-true (wordAt keys (keyAt n + 4)) 4 (both .1))
-      by last rest (no d) = rest (omega arith)
-
-  types-allowed : (n : ℕ) → ((seat : ℕ) → seat < n → Types seat) → keysAllowed n keys ≡ true
-  unfolding keysAllowed keyAllowed
-  types-allowed zero h = refl
-  types-allowed (suc n) h =
-      let last = h n (omega arith) in
-      rw (types-allowed n (λ s l. h s (omega arith)), eq-eqb (wordAt keys (keyAt n)) 6 (last .0), eq-eqb (wordAt keys (keyAt n + 4)) 4 (last .1))
-
-  pub keys-right : (n : ℕ) → (wrongKeys n keys ≡ false) ↔ Table n keys
-  unfolding wrongKeys
-  keys-right n = (
-    λ e.
-        let both = both-false (not (eqb (length keys) (keyLength * n))) (not (keysAllowed n keys)) e in
-        record {
-          sized = eqb-true (length keys) (keyLength * n) (not-false (eqb (length keys) (keyLength * n)) (both .0));
-          types = allowed-types n (not-false (keysAllowed n keys) (both .1));
-        },
-    λ t. rw (eq-eqb (length keys) (keyLength * n) (t .sized), types-allowed n (t .types)),
-  )
+pub keys-right : (keys : List ℕ) (n : ℕ) → (wrongKeys n keys ≡ false) ↔ Table n keys
+keys-right keys n =
+    let right = table-right n keys in
+    (λ e. let r = right .0 e in record { sized = r .0; types = r .1 }, λ t. right .1 (t .sized, t .types))
 
 -- ---- the opening
 

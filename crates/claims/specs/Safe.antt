@@ -210,8 +210,8 @@ module _ (S : Setting) where
         let own = laid-values lower higher ps sized in
         unnamed i i lower higher ps (not-false (isLower lower higher) low)
         (λ p m.
-        let c = signed-pairs (λ s v g. checks s v g ≡ true) lower higher ps own (taken .checked) p m in
-        let b = signed-pairs R lower higher ps own r p m in
+        let c = signed-pairs (λ s v g. checks s v g ≡ true) lower higher ps own .0 (taken .checked) p m in
+        let b = signed-pairs R lower higher ps own .0 r p m in
         (c .0, inl (b .0), c .1, inl (b .1))) e)
         (t .message) (t .conflict) (read-sized n evidence) (a .1) d
 

@@ -2,8 +2,8 @@
 -- Assumes nothing.
 use mathlib.Core.Path.{_≡_, refl, ap, _∙_}
 use mathlib.Core.Bool.{Bool, true, false, not, _&&_, _||_, false≢true}
-use mathlib.Core.List.{List, [], _∷_, _++_, map, List·Memᴰ·head, List·Memᴰ·tail, Memᴰ·map}
-use mathlib.Core.Logic.{inl, ⊎-elim}
+use mathlib.Core.List.{List, [], _++_, map, flatMap, List·Memᴰ·head, List·Memᴰ·tail, Memᴰ·map}
+use mathlib.Core.Logic.{_↔_, inl, ⊎-elim}
 use Prim.Native.Nat.{ℕ, _≤_, _<_}
 use native.Mathlib.Omega.{arith}
 use lib.Dec.{ltb, eqb}
@@ -19,13 +19,15 @@ use Rattle.refusal.specs.RefusalLaws.{firstOf-zero}
 use Rattle.protocol.specs.Layout.{signatureLength}
 use Rattle.protocol.specs.Values.{unset}
 use Rattle.protocol.specs.Entries.{formSeats}
-use Rattle.protocol.specs.Message.{Entry, Pair, Message, Submit, Notice, Full, Evidence, Garbled, fullForm, evidenceForm, Signed, signedEntries, signedPairs, signed, roundOf, entrySeats, seatsOf}
+use Rattle.protocol.specs.EntriesLaws.{each-flat}
+use Rattle.protocol.specs.ConditionsLaws.{every-each, each-every}
+use Rattle.protocol.specs.Message.{Entry, Pair, Message, Submit, Notice, Full, Evidence, Garbled, fullForm, evidenceForm, Signed, signedEntry, signedPair, signed, roundOf, entrySeats, seatsOf}
 use Rattle.protocol.specs.Record.{fresh, lastRound, wrongSize, wrongSeat, wrongRound, noneHeard, holds, outOfRange, wrongHeard, namesStranger, wrongCollected, wrongFirst, lacksFirst, wrongGuilty, wrongSent, wrongUnset, impossible}
 use Rattle.protocol.specs.Refusals.{Condition, Checks, every, said, otherRound, stranger, rising, disorder, early, badSignature, messageConditions}
 use Rattle.protocol.specs.Step.{owesFull}
 use Rattle.protocol.specs.declared.Record.{Record}
 use Rattle.round.specs.Round.{Each, Relation, EachSigned}
-use Rattle.reading.specs.Lists.{or-true-either, each-nil, each-cons, each-map, every-each, each-every}
+use Rattle.reading.specs.Lists.{or-true-either, each-cons, each-one, each-map}
 use Rattle.claims.specs.Sound.{Settled, Attested, Entries, Pairs, Sound}
 use Rattle.protocol.specs.RecordLaws.{InRange}
 use Rattle.claims.specs.Parts.{shared-none, k-pos}
@@ -144,43 +146,23 @@ module _ (P : Relation) where
   abbrev ForSigned : Signed → Type 0
   ForSigned s = P (s .seat) (s .value) (s .signature)
 
-  pub signed-entries : (value : List ℕ) (es : List Entry) → Each ForSigned (signedEntries value es) → Each (λ (e : Entry). P (e .seat) value (e .signature)) es
-  unfolding signedEntries
-  signed-entries value [] h = each-nil (λ (e : Entry). P (e .seat) value (e .signature))
-  signed-entries value (e ∷ es) h =
-      each-cons (λ (x : Entry). P (x .seat) value (x .signature)) e es (h _ (List·Memᴰ·head refl)) (signed-entries value es (λ s d. h s (List·Memᴰ·tail d)))
+  pub signed-entries : (value : List ℕ) (es : List Entry) → Each ForSigned (flatMap (signedEntry value) es) ↔ Each (λ (e : Entry). P (e .seat) value (e .signature)) es
+  unfolding signedEntry
+  signed-entries value es =
+      let each = each-flat (signedEntry value) ForSigned es in
+      (λ h e d. each .0 h e d _ (List·Memᴰ·head refl), λ h. each .1 (λ e d. each-one ForSigned _ (h e d)))
 
-  pub entries-signed : (value : List ℕ) (es : List Entry) → Each (λ (e : Entry). P (e .seat) value (e .signature)) es → Each ForSigned (signedEntries value es)
-  unfolding signedEntries
-  entries-signed value [] h = each-nil ForSigned
-  entries-signed value (e ∷ es) h =
-      each-cons ForSigned (record { seat = e .seat; value = value; signature = e .signature }) (signedEntries value es) (h e (List·Memᴰ·head refl))
-      (entries-signed value es (λ x d. h x (List·Memᴰ·tail d)))
-
-  abbrev pub ForPair : List ℕ → List ℕ → Pair → Type 0
-  ForPair lower higher p = P (p .seat) lower (p .lower) × P (p .seat) higher (p .higher)
-
-  -- pairs with the message's two values
-  module _ (lower higher : List ℕ) where
-    abbrev OwnValues : Pair → Type 0
-    OwnValues p = (lower ≡ p .lowerValue) × (higher ≡ p .higherValue)
-
-    pub signed-pairs : (ps : List Pair) → Each OwnValues ps → Each ForSigned (signedPairs ps) → Each (ForPair lower higher) ps
-    unfolding signedPairs
-    signed-pairs [] v h = each-nil (ForPair lower higher)
-    signed-pairs (p ∷ ps) v h =
-        let own = v p (List·Memᴰ·head refl) in
-        each-cons (ForPair lower higher) p ps (rw (own .0) (h _ (List·Memᴰ·head refl)), rw (own .1) (h _ (List·Memᴰ·tail (List·Memᴰ·head refl))))
-        (signed-pairs ps (λ x d. v x (List·Memᴰ·tail d)) (λ s d. h s (List·Memᴰ·tail (List·Memᴰ·tail d))))
-
-    pub pairs-signed : (ps : List Pair) → Each OwnValues ps → Each (ForPair lower higher) ps → Each ForSigned (signedPairs ps)
-    unfolding signedPairs
-    pairs-signed [] v h = each-nil ForSigned
-    pairs-signed (p ∷ ps) v h =
-        let own = v p (List·Memᴰ·head refl) in
-        let both = h p (List·Memᴰ·head refl) in
-        each-cons ForSigned _ _ (rw (← own .0) (both .0))
-        (each-cons ForSigned _ (signedPairs ps) (rw (← own .1) (both .1)) (pairs-signed ps (λ x d. v x (List·Memᴰ·tail d)) (λ x d. h x (List·Memᴰ·tail d))))
+  -- a pair's two, over the message's values, which are each pair's own
+  pub signed-pairs : (lower higher : List ℕ) (ps : List Pair) → Each (λ (p : Pair). (lower ≡ p .lowerValue) × (higher ≡ p .higherValue)) ps
+      → Each ForSigned (flatMap signedPair ps) ↔ Each (λ (p : Pair). P (p .seat) lower (p .lower) × P (p .seat) higher (p .higher)) ps
+  unfolding signedPair
+  signed-pairs lower higher ps own =
+      let each = each-flat signedPair ForSigned ps in (
+        λ h p d.
+            let both = each .0 h p d in
+            (rw (own p d .0) (both _ (List·Memᴰ·head refl)), rw (own p d .1) (both _ (List·Memᴰ·tail (List·Memᴰ·head refl)))),
+        λ h. each .1 (λ p d. each-cons ForSigned _ _ (rw (← own p d .0) (h p d .0)) (each-one ForSigned _ (rw (← own p d .1) (h p d .1)))),
+      )
 
 -- ---- a message that isn't refused
 
@@ -236,9 +218,9 @@ module _ (checks : Checks) (W : Relation) where
       → Each (λ (e : Entry). Attested checks W (e .seat) value (e .signature)) es
   unfolding signed
   entries-attested value es c w l e d = record {
-    checked = signed-entries (λ s v g. checks s v g ≡ true) value es c e d;
+    checked = signed-entries (λ s v g. checks s v g ≡ true) value es .0 c e d;
     sized = l e d;
-    worthy = signed-entries W value es w e d;
+    worthy = signed-entries W value es .0 w e d;
   }
 
   -- a FULL that a call takes
@@ -259,7 +241,7 @@ module _ (checks : Checks) (W : Relation) where
     inRound = refl;
     inside = each-cons (λ s. s < n) sender (map (λ (e : Entry). e .seat) es) l (each-map (λ s. s < n) (λ (e : Entry). e .seat) es (z .below));
     rises = z .rise;
-    checked = entries-signed (λ s v g. checks s v g ≡ true) value es (λ e d. z .attested e d .checked);
+    checked = signed-entries (λ s v g. checks s v g ≡ true) value es .1 (λ e d. z .attested e d .checked);
   }
 
   pub evidence-taken : (n ρ : ℕ) (lower higher : List ℕ) (ps : List Pair) → Pairs checks W n lower higher ps → Taken checks n ρ (Evidence ρ lower higher ps)
@@ -268,7 +250,7 @@ module _ (checks : Checks) (W : Relation) where
     inRound = refl;
     inside = each-map (λ s. s < n) (λ (p : Pair). p .seat) ps (z .below);
     rises = z .rise;
-    checked = pairs-signed (λ s v g. checks s v g ≡ true) lower higher ps (z .values) (λ p d. (z .lows p d .checked, z .highs p d .checked));
+    checked = signed-pairs (λ s v g. checks s v g ≡ true) lower higher ps (z .values) .1 (λ p d. (z .lows p d .checked, z .highs p d .checked));
   }
 
   pub brings : (r : Record) (m : Message) → Taken checks (r .n) (r .round) m → early r m ≡ false → Sized (r .n) m → EachSigned W m → Brings checks W r m

@@ -34,7 +34,7 @@ use Rattle.claims.specs.Parts.{in-below}
 use Rattle.claims.specs.Whole.{reply-stays, hearing-stays, Done, submitted-done, submitted-value, stepped-done}
 use Rattle.reading.specs.Reading.{Sized, read-sized}
 use Rattle.reading.specs.Messages.{refusalOf, cameTo, outcome-is, step-is}
-use Rattle.claims.specs.Unrefused.{possible, Taken, entries-signed, full-taken, brings}
+use Rattle.claims.specs.Unrefused.{possible, Taken, signed-entries, full-taken, brings}
 use Rattle.claims.specs.Journey.{lastOf, WorthyGiven, Worthy}
 use Rattle.claims.specs.Units.{any-worthy, startOf, endOf, start-n, start-seat, start-round, start-flag, start-sound, start-settled, stop, end-n, end-seat, end-round, flag-written, writes-good, pairs-formed}
 use Rattle.claims.specs.NotRefused.{opening-not-refused, submit-not-refused, message-not-refused, making-not-refused, making-fit}
@@ -212,7 +212,7 @@ module _ (S : Setting) {I : Type 0} (P : Plan I) (z : Splits S P) where
         formed = (short, z .layouts side, entries side .many, entries-laid checks W n (layout side) es (entries side));
         forStep = refl;
         taken = full-taken checks W n round s (layout side) es (inside side s (sender-in side)) (entries side);
-        worthy = entries-signed W (layout side) es (λ e d. entries side .attested e d .worthy);
+        worthy = signed-entries W (layout side) es .1 (λ e d. entries side .attested e d .worthy);
       }
 
   leaders-sent : Each Sent (leaders S P)

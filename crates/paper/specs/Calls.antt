@@ -22,8 +22,9 @@ use Rattle.protocol.specs.Entries.{Each, formSeats}
 use Rattle.protocol.specs.Message.{Entry, Message, Submit, Notice, Full, Evidence, Garbled, fullForm}
 use Rattle.protocol.specs.Certificate.{slot, fill, signatureOf, certificateOf, certificateIn}
 use Rattle.protocol.specs.Refusals.{Checks}
+use Rattle.protocol.specs.ConditionsLaws.{each-every}
 use Rattle.protocol.specs.Step.{State, write, collect, setOwnValue, submitOwn, isWanted, hearSubmit, hear, reply, confirmIfComplete, submitted, stepped}
-use Rattle.reading.specs.Lists.{each-one, each-append, each-every}
+use Rattle.reading.specs.Lists.{each-one, each-append}
 use Rattle.claims.specs.Slots.{fill-length, slot-fill-same, slot-fill-other}
 use Rattle.claims.specs.Sound.{Any, Entries}
 use Rattle.claims.specs.Certificates.{certifies-of}

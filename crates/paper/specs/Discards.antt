@@ -1,9 +1,9 @@
 -- Messages that a step refuses as early (13) or for a signature (14): the machine discards them, changes nothing and sends nothing.
 -- Assumes nothing.
 use Prim.Native.Nat.{ℕ, _<_}
-use mathlib.Core.Path.{_≡_, refl, sym, ap, _∙_}
+use mathlib.Core.Path.{_≡_, refl, sym, ap, fun-ext, _∙_}
 use mathlib.Core.Bool.{Bool, true, false, cond, not, _&&_, and-true, and-false, true≢false, false≢true}
-use mathlib.Core.List.{List, [], _∷_}
+use mathlib.Core.List.{List, [], _∷_, flatMap}
 use mathlib.Core.Logic.{_≢_}
 use mathlib.Core.Option.{Option, none, some}
 use native.Mathlib.Omega.{arith}
@@ -13,8 +13,9 @@ use borrow.Author.Tests.{le-ltb, not-true}
 use Rattle.quorum.specs.Quorum.{k}
 use Rattle.refusal.specs.Refusal.{firstOf}
 use Rattle.protocol.specs.Layout.{storeLength, outLength}
-use Rattle.protocol.specs.Message.{Entry, Message, Submit, Notice, Full, Evidence, Garbled, Signed, signedEntries, signed, roundOf, entrySeats, seatsOf}
+use Rattle.protocol.specs.Message.{Entry, Message, Submit, Notice, Full, Evidence, Garbled, Signed, signedEntry, signed, roundOf, entrySeats, seatsOf}
 use Rattle.protocol.specs.Refusals.{Checks, every, shortStore, shortOut, isForStep, rising, early, badSignature, messageConditions, recordConditions, stepConditions}
+use Rattle.protocol.specs.ConditionsLaws.{every-flat}
 use Rattle.protocol.specs.declared.Record.{Record}
 use Rattle.round.specs.Round.{Each}
 use Rattle.claims.specs.Unrefused.{of-taken}
@@ -89,10 +90,10 @@ unfolding isSome isOwn
 unsaid-own v none e = refl
 unsaid-own v (some w) e = absurd (true≢false e)
 
-signed-every : (checks : Checks) (v : List ℕ) (es : List Entry) → every (λ (s : Signed). checks (s .seat) (s .value) (s .signature)) (signedEntries v es) ≡ every (λ (e : Entry). checks (e .seat) v (e .signature)) es
-unfolding every signedEntries
-signed-every checks v [] = refl
-signed-every checks v (e ∷ es) = ap (λ (b : Bool). checks (e .seat) v (e .signature) && b) (signed-every checks v es)
+signed-every : (checks : Checks) (v : List ℕ) (es : List Entry)
+    → every (λ (s : Signed). checks (s .seat) (s .value) (s .signature)) (flatMap (signedEntry v) es) ≡ every (λ (e : Entry). checks (e .seat) v (e .signature)) es
+unfolding every signedEntry
+signed-every checks v es = every-flat _ (signedEntry v) es ∙ ap (λ (test : Entry → Bool). every test es) (fun-ext (λ e. and-true _))
 
 module _ (checks : Checks) (n round : ℕ) (keys : List ℕ) (seat : ℕ) (m : Machine) (rest : AtRest n m) where
   abbrev still : Reaction
@@ -128,7 +129,7 @@ module _ (checks : Checks) (n round : ℕ) (keys : List ℕ) (seat : ℕ) (m : M
   unsigned-discarded (Notice ρ s v) e = absurd (false≢true e)
   unsigned-discarded (Full ρ sender v es) e =
       let unsigned : every (λ (a : Entry). checks (a .seat) v (a .signature)) es ≡ false =
-      sym (signed-every checks v es) ∙ not-true (every (λ (s : Signed). checks (s .seat) (s .value) (s .signature)) (signedEntries v es)) e in
+      sym (signed-every checks v es) ∙ not-true (every (λ (s : Signed). checks (s .seat) (s .value) (s .signature)) (flatMap (signedEntry v) es)) e in
       not-obtained (record { value = v; entries = es })
       (ap (λ (b : Bool). leb (k n) (length es) && distinct es && b) unsigned ∙ and-false (leb (k n) (length es) && distinct es))
   unsigned-discarded (Evidence ρ lower higher ps) e = refl

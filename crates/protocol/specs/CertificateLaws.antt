@@ -1,14 +1,18 @@
--- Sets and lists of seats, and slots filled one after another.
+-- Sets and lists of seats, a seat's signature among entries, and slots filled one after another.
 -- Assumes nothing.
-use mathlib.Core.Path.{_≡_, refl}
+use mathlib.Core.Path.{_≡_, refl, ap}
 use mathlib.Core.List.{List, [], _∷_, _++_, List·Memᴰ, List·Memᴰ·head, List·Memᴰ·tail, List·Memᴰ·not-nil, List·Memᴰ·cases-cons}
 use mathlib.Core.Logic.{_⊎_, inl, inr, ⊎-elim, _↔_}
-use Prim.Native.Nat.{ℕ, _^_, _<_}
+use Prim.Native.Nat.{ℕ, suc, _^_, _<_}
 use native.Mathlib.Omega.{arith}
 use native.Mathlib.Decide.{decLt, ℕ-discrete}
+use lib.ListN.{length, getD}
+use borrow.Author.Tests.{eq-eqb, ne-eqb}
 use Rattle.quorum.specs.Quorum.{In, bit, with, union, one, seats}
 use Rattle.quorum.specs.QuorumLaws.{bit-cases, bit-empty, bit-one-same, bit-one-other, bit-outside, bit-union, in-union, same-seats, mem-seats}
-use Rattle.protocol.specs.Certificate.{fill, fillEach, setOf}
+use Rattle.protocol.specs.Entries.{formSeats}
+use Rattle.protocol.specs.Message.{Entry, fullForm}
+use Rattle.protocol.specs.Certificate.{fill, fillEach, setOf, signatureOf}
 
 with-with : (s t m : ℕ) → with s (with t m) ≡ with t (with s m)
 unfolding with
@@ -51,6 +55,21 @@ set-seats n m l = same-seats (setOf (seats n m)) m (λ s. go s (bit-cases s m) (
     go s (inl z) (inr i) = absurd (omega (arith, mem-seats n s m .0 (in-set s (seats n m) .0 i) .1))
     go s (inr i) (inl y) = absurd (omega (arith, in-set s (seats n m) .1 (mem-seats n s m .1 (below s i (decLt s n), i))))
     go s (inr i) (inr j) = omega arith
+
+-- the signature of a seat is that of the entry which has the seat
+pub signature-after : (es : List Entry) (before : List ℕ) (s : ℕ) (rest : List ℕ) (d : Entry) → formSeats fullForm es ≡ before ++ s ∷ rest
+    → ((i : ℕ) → i < length before → getD before i 0 < s) → signatureOf es s ≡ getD es (length before) d .signature
+unfolding signatureOf formSeats fullForm
+signature-after [] [] s rest d e h = absurd (omega (arith, ap length e))
+signature-after [] (b ∷ before) s rest d e h = absurd (omega (arith, ap length e))
+signature-after (x ∷ es) [] s rest d e h =
+    let here : x .seat ≡ s = cc in
+    rw (eq-eqb (x .seat) s here)
+signature-after (x ∷ es) (b ∷ before) s rest d e h =
+    let here : x .seat ≡ b = cc in
+    let after : formSeats fullForm es ≡ before ++ s ∷ rest = cc in
+    rw (ne-eqb (x .seat) s (λ q. omega (arith, h 0 (omega arith))))
+    (signature-after es before s rest d after (λ i l. h (suc i) (omega arith)))
 
 pub fill-snoc : (n bank : ℕ) (f : ℕ → List ℕ) (xs : List ℕ) (s : ℕ) (store : List ℕ) → fillEach n bank f (xs ++ s ∷ []) store ≡ fill n bank s (f s) (fillEach n bank f xs store)
 unfolding fillEach

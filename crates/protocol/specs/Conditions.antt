@@ -1,6 +1,6 @@
 -- The conditions of document 01's table "What is turned back", in its order. The table itself is in `Refusals`.
 -- Assumes nothing.
-use Prim.Native.Nat.{ℕ, zero, suc, _+_, _*_}
+use Prim.Native.Nat.{ℕ, _+_, _*_}
 use mathlib.Core.Bool.{Bool, true, false, not, _&&_, _||_}
 use mathlib.Core.List.{List, [], _∷_}
 use lib.Dec.{ltb, eqb}
@@ -12,6 +12,7 @@ use Rattle.rfc8554.specs.Tree.{knownLms}
 use Rattle.rfc8554.specs.Verify.{lmsTypeOf, otsTypeOf}
 use Rattle.protocol.specs.Layout.{valueLength, signatureLength, keyLength, keyAt, treeLength, messageLimit, storeLength}
 use Rattle.protocol.specs.Values.{isLower}
+use Rattle.protocol.specs.Entries.{eachBelow}
 use Rattle.protocol.specs.Message.{Message, Submit, Notice, Full, Evidence, Garbled, Signed, roundOf, entrySeats, seatsOf, signed}
 use Rattle.protocol.specs.Certificate.{certificateIn}
 use Rattle.protocol.specs.declared.Record.{Record}
@@ -32,8 +33,7 @@ unfoldable pub keyAllowed : ℕ → List ℕ → Bool
 keyAllowed seat keys = eqb (wordAt keys (keyAt seat)) 6 && eqb (wordAt keys (keyAt seat + 4)) 4
 
 unfoldable pub keysAllowed : ℕ → List ℕ → Bool
-keysAllowed zero keys = true
-keysAllowed (suc seat) keys = keysAllowed seat keys && keyAllowed seat keys
+keysAllowed n keys = eachBelow (λ (seat : ℕ). keyAllowed seat keys) n
 
 unfoldable pub wrongKeys : ℕ → List ℕ → Bool
 wrongKeys n keys = not (eqb (length keys) (keyLength * n)) || not (keysAllowed n keys)

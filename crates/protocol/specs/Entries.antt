@@ -18,6 +18,11 @@ byteAt bytes i = getD bytes i 0
 abbrev pub Each {ℓ} : {A : Type ℓ} → (A → Type 0) → List A → Type ℓ
 Each {A = A} P xs = (x : A) → List·Memᴰ x xs → P x
 
+-- the test holds of every index below t
+unfoldable pub eachBelow : (ℕ → Bool) → ℕ → Bool
+eachBelow test zero = true
+eachBelow test (suc t) = eachBelow test t && test t
+
 -- the form of a list: place of its first entry in the message; command of an entry, and number of bytes that it holds; an entry's seat and
 -- bytes, and the entry made of a seat and bytes
 pub record Form (A : Type 0) : Type 0 where
@@ -49,8 +54,7 @@ renderEntries form (e ∷ es) = renderEntry form e ++ renderEntries form es
 
 -- the first t entries have their command
 unfoldable pub entryCommands : {A : Type 0} → Form A → ℕ → List ℕ → Bool
-entryCommands form zero bytes = true
-entryCommands form (suc t) bytes = entryCommands form t bytes && eqb (byteAt bytes (placeOf form t)) (form .command)
+entryCommands form t bytes = eachBelow (λ (i : ℕ). eqb (byteAt bytes (placeOf form i)) (form .command)) t
 
 -- the entry at a place
 unfoldable pub readEntry : {A : Type 0} → Form A → ℕ → List ℕ → A

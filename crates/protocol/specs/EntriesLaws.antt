@@ -1,21 +1,67 @@
--- Lists of entries of any form: lengths; entries written and read back; entries read and written back.
+-- A test of every index below a bound. Lists of entries of any form: lengths; entries written and read back; entries read and
+-- written back; what each entry brings.
 -- Assumes nothing.
-use mathlib.Core.Path.{_≡_, refl, sym, ap, ap₂, _∙_}
-use mathlib.Core.Bool.{true, and-eq-true-iff}
-use mathlib.Core.List.{List, [], _∷_, _++_, append-assoc, append-nil, List·Memᴰ·head, List·Memᴰ·tail}
+use mathlib.Core.Path.{_≡_, refl, sym, ap, ap₂, subst, _∙_}
+use mathlib.Core.Bool.{Bool, true, false, and-false, and-eq-true-iff, false≢true}
+use mathlib.Core.Logic.{_↔_, ⊎-elim}
+use mathlib.Core.List.{List, [], _∷_, _++_, append-assoc, append-nil, flatMap, List·Memᴰ, List·Memᴰ·head, List·Memᴰ·tail, List·Memᴰ·not-nil, List·Memᴰ·cases-cons, List·Memᴰ·append-cases, Memᴰ·append-left, Memᴰ·append-right}
 use Prim.Native.Nat.{ℕ, zero, suc, _+_, _*_, _≤_, _<_}
-use native.Mathlib.Nat.{add-zero, add-comm, mul-zero, mul-suc}
+use native.Mathlib.Nat.{add-zero, add-comm, mul-zero, mul-suc, eq-or-lt-of-le, le-of-suc-le-suc}
 use native.Mathlib.Numerals.{add-one}
 use native.Mathlib.Omega.{arith}
 use lib.Dec.{eqb}
-use lib.ListN.{length, take, drop, getD, length-append}
+use lib.ListN.{length, take, drop, getD, length-append, List·getD-append}
 use lib.Seq.{take-at, drop-at, take-suc, drop-cons, drop-drop, drop-nil, getD-drop, append-snoc, getD-at}
 use borrow.Author.Tests.{eqb-true, eq-eqb}
 use Rattle.octets.specs.Octets.{part}
 use Rattle.octets.specs.StringLaws.{part-suc}
 use Rattle.octets.specs.WriteLaws.{part-add}
 use Rattle.protocol.specs.Layout.{entryLength}
-use Rattle.protocol.specs.Entries.{Form, Laid, byteAt, placeOf, renderEntry, renderEntries, entryCommands, readEntry, readEntries}
+use Rattle.protocol.specs.Entries.{Each, eachBelow, Form, Laid, byteAt, placeOf, renderEntry, renderEntries, entryCommands, readEntry, readEntries}
+
+-- ---- a test of every index below a bound
+
+module _ (test : ℕ → Bool) where
+  -- one that fails spoils the whole
+  pub each-not : (t n : ℕ) → t < n → test t ≡ false → eachBelow test n ≡ false
+  unfolding eachBelow
+  each-not t zero l e = absurd (omega arith)
+  each-not t (suc n) l e =
+      ⊎-elim
+      (λ (q : t ≡ n). rw (← q, e) (and-false (eachBelow test t)))
+      (λ (b : t < n). rw (each-not t n b e))
+      (eq-or-lt-of-le (le-of-suc-le-suc l))
+
+  pub each-at : (t n : ℕ) → t < n → eachBelow test n ≡ true → test t ≡ true
+  each-at t n l h = go (test t) refl
+    where
+      go : (b : Bool) → test t ≡ b → b ≡ true
+      go true e = refl
+      go false e = absurd (false≢true (sym (each-not t n l e) ∙ h))
+
+  pub each-all : (n : ℕ) → ((t : ℕ) → t < n → test t ≡ true) → eachBelow test n ≡ true
+  unfolding eachBelow
+  each-all zero h = refl
+  each-all (suc n) h = rw (each-all n (λ t l. h t (omega arith)), h n (omega arith))
+
+-- what a loop up to a bound has come to at index t
+pub record Passed (test : ℕ → Bool) (bound t : ℕ) : Type 0 where
+  pub within : t ≤ bound
+  pub passed : eachBelow test t ≡ true
+
+pub passed-none : {test : ℕ → Bool} {bound : ℕ} → Passed test bound 0
+unfolding eachBelow
+passed-none = record { within = omega arith; passed = refl }
+
+module _ {test : ℕ → Bool} {bound t : ℕ} (p : Passed test bound t) where
+  pub passed-turn : t < bound → test t ≡ true → Passed test bound (t + 1)
+  unfolding eachBelow
+  passed-turn l e = record { within = omega arith; passed = rw (add-one, p .passed, e) }
+
+  pub passed-all : bound ≤ t → eachBelow test bound ≡ true
+  passed-all l = let q : t ≡ bound = omega arith in rw q at (p .passed)
+
+-- ---- lists of entries
 
 -- the count, a byte between a front and the entries
 pub byte-after : (front : List ℕ) (b : ℕ) (rest : List ℕ) (at : ℕ) → length front ≡ at → byteAt (front ++ b ∷ [] ++ rest) at ≡ b
@@ -46,6 +92,19 @@ module _ {A : Type 0} (form : Form A) where
   unfolding readEntries
   length-read zero bytes = refl
   length-read (suc t) bytes = simp length-append (omega (arith, length-read t bytes))
+
+  -- the entry of an index among those read
+  pub entry-at : (t i : ℕ) (bytes : List ℕ) (d : A) → i < t → getD (readEntries form t bytes) i d ≡ readEntry form (placeOf form i) bytes
+  unfolding readEntries
+  entry-at zero i bytes d h = absurd (omega arith)
+  entry-at (suc t) i bytes d h =
+      let before = readEntries form t bytes in
+      let last = readEntry form (placeOf form t) bytes in
+      let l = length-read t bytes in
+      ⊎-elim
+      (λ (e : i ≡ t). rw e (getD-at before last [] d t l))
+      (λ (b : i < t). List·getD-append before (last ∷ []) d i (omega arith) ∙ entry-at t i bytes d b)
+      (eq-or-lt-of-le (le-of-suc-le-suc h))
 
   -- ---- entries written are read back the same
 
@@ -90,8 +149,7 @@ module _ {A : Type 0} (form : Form A) where
 
     pub commands-right : (t : ℕ) → t ≤ length es → entryCommands form t bytes ≡ true
     unfolding entryCommands
-    commands-right zero l = refl
-    commands-right (suc t) l = rw (commands-right t (omega arith), command-right t l) (eq-eqb (form .command) (form .command) refl)
+    commands-right t l = each-all _ t (λ i b. eq-eqb _ (form .command) (command-right i (omega arith)))
 
     pub entries-read : (t : ℕ) → t ≤ length es → readEntries form t bytes ≡ take t es
     unfolding readEntries
@@ -114,7 +172,7 @@ module _ {A : Type 0} (form : Form A) where
 
     pub entries-back : (t : ℕ) → placeOf form t ≤ length bytes → entryCommands form t bytes ≡ true
         → renderEntries form (readEntries form t bytes) ≡ part (form .start) (entryLength (form .held) * t) bytes
-    unfolding renderEntries readEntries entryCommands placeOf part
+    unfolding renderEntries readEntries entryCommands eachBelow placeOf part
     entries-back zero h c = rw mul-zero refl
     entries-back (suc t) h c =
         let each = entryLength (form .held) in
@@ -128,3 +186,19 @@ module _ {A : Type 0} (form : Form A) where
           more,
           part-add (form .start) (each * t) each bytes,
         )
+
+-- ---- what each entry brings, one after another
+
+module _ {A B : Type 0} (f : A → List B) (P : B → Type 0) where
+  pub each-flat : (xs : List A) → Each P (flatMap f xs) ↔ Each (λ (x : A). Each P (f x)) xs
+  unfolding flatMap
+  each-flat [] = (λ h x d. absurd (List·Memᴰ·not-nil d), λ h b m. absurd (List·Memᴰ·not-nil m))
+  each-flat (y ∷ xs) =
+      let rest = each-flat xs in (
+        λ h x d b m.
+            ⊎-elim
+            (λ (e : x ≡ y). h b (Memᴰ·append-left (flatMap f xs) (subst (λ z. List·Memᴰ b (f z)) e m)))
+            (λ t. rest .0 (λ c l. h c (Memᴰ·append-right (f y) l)) x t b m)
+            (List·Memᴰ·cases-cons d),
+        λ h b m. ⊎-elim (λ l. h y (List·Memᴰ·head refl) b l) (λ r. rest .1 (λ x d. h x (List·Memᴰ·tail d)) b r) (List·Memᴰ·append-cases (f y) m),
+      )

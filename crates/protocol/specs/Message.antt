@@ -3,7 +3,7 @@
 use Prim.Native.Nat.{ℕ, _+_, _*_, _≤_, _<_}
 use mathlib.Core.Path.{_≡_}
 use mathlib.Core.Bool.{Bool, cond, _&&_}
-use mathlib.Core.List.{List, [], _∷_, _++_}
+use mathlib.Core.List.{List, [], _∷_, _++_, flatMap}
 use lib.Dec.{leb, eqb}
 use lib.ListN.{length, take, drop}
 use Rattle.octets.specs.Octets.{part, be}
@@ -177,22 +177,20 @@ pub record Signed : Type 0 where
   pub value : List ℕ
   pub signature : List ℕ
 
-unfoldable pub signedEntries : List ℕ → List Entry → List Signed
-signedEntries value [] = []
-signedEntries value (e ∷ es) = record { seat = e .seat; value = value; signature = e .signature } ∷ signedEntries value es
+-- an entry's one, over the message's value, and a pair's two, over its own values
+unfoldable pub signedEntry : List ℕ → Entry → List Signed
+signedEntry value e = record { seat = e .seat; value = value; signature = e .signature } ∷ []
 
--- a pair's two, over its own values
-unfoldable pub signedPairs : List Pair → List Signed
-signedPairs [] = []
-signedPairs (p ∷ ps) =
+unfoldable pub signedPair : Pair → List Signed
+signedPair p =
     record { seat = p .seat; value = p .lowerValue; signature = p .lower }
     ∷ record { seat = p .seat; value = p .higherValue; signature = p .higher }
-    ∷ signedPairs ps
+    ∷ []
 
--- every signature of a message
+-- every signature of a message, entry by entry
 unfoldable pub signed : Message → List Signed
 signed (Submit round seat value signature) = record { seat = seat; value = value; signature = signature } ∷ []
 signed (Notice round seat value) = []
-signed (Full round sender value entries) = signedEntries value entries
-signed (Evidence round lower higher entries) = signedPairs entries
+signed (Full round sender value entries) = flatMap (signedEntry value) entries
+signed (Evidence round lower higher entries) = flatMap signedPair entries
 signed Garbled = []

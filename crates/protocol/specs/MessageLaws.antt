@@ -1,22 +1,24 @@
--- Messages and their bytes: lengths, and "messages written are read back the same".
+-- Messages and their bytes: lengths, bytes that read as a message, and "messages written are read back the same".
 -- Assumes nothing.
 use mathlib.Core.Path.{_≡_, refl, sym, ap, _∙_}
-use mathlib.Core.Bool.{true, false, and-false}
+use mathlib.Core.Bool.{Bool, true, false, cond, _&&_, and-false, false≢true}
 use mathlib.Core.List.{List, [], _∷_, _++_, append-assoc}
 use Prim.Native.Nat.{ℕ, _+_, _*_, _/_, _%_, _≤_, _<_}
 use native.Mathlib.Omega.{arith}
-use lib.Dec.{eqb}
+use lib.Dec.{leb, eqb}
 use lib.ListN.{length, drop, length-append, take-append-drop}
 use lib.Seq.{take-at, drop-at, take-all, take-length}
-use borrow.Author.Tests.{eq-eqb, le-leb}
+use borrow.Author.Tests.{eq-eqb, eqb-true, le-leb, leb-true}
 use Rattle.octets.specs.Octets.{be, part}
 use Rattle.octets.specs.OctetLaws.{length-be}
 use Rattle.octets.specs.StringLaws.{part-left, part-between}
 use Rattle.quorum.specs.Quorum.{k}
+use Rattle.refusal.specs.RefusalLaws.{both-true}
 use Rattle.protocol.specs.Layout.{valueLength, signatureLength, valueAt, submitLength, noticeLength, fullCountAt, fullStart, fullEntryLength, fullEntryAt, fullLength, lowerAt, higherAt, evidenceCountAt, evidenceStart, evidenceEntryLength, evidenceEntryAt, evidenceLength}
-use Rattle.protocol.specs.Entries.{Each, Form, Laid, renderEntries}
+use Rattle.protocol.specs.Entries.{Each, Form, Laid, renderEntries, entryCommands}
 use Rattle.protocol.specs.EntriesLaws.{byte-after, Faithful, length-entries, commands-right, entries-read}
-use Rattle.protocol.specs.Message.{Entry, Pair, Message, Submit, Notice, Full, Evidence, Garbled, WellFormed, fullForm, evidenceForm, render, renderAll, byteAt, readRound, readValue, readSignature, fitsSubmit, fitsNotice, fitsFull, fitsEvidence, readSubmit, readNotice, readFull, readEvidence, read}
+use Rattle.protocol.specs.Message.{Entry, Pair, Message, Submit, Notice, Full, Evidence, Garbled, WellFormed, fullForm, evidenceForm, formOf, render, renderAll, byteAt, readRound, readValue, readSignature, fitsSubmit, fitsNotice, fitsFull, fitsEvidence, readSubmit, readNotice, readFull, readEvidence, read}
+use Rattle.protocol.specs.Conditions.{isFull}
 
 -- ---- messages one after another
 
@@ -67,6 +69,91 @@ pub laid-values : (lower higher : List ℕ) (ps : List Pair) → Laid (evidenceF
 unfolding evidenceForm
 laid-values lower higher ps h p d = let made = h p d .1 in (ap (λ (x : Pair). x .lowerValue) made, ap (λ (x : Pair). x .higherValue) made)
 
+-- ---- bytes that pass the test of a command
+
+pub submit-fits : (bytes : List ℕ) → fitsSubmit bytes ≡ true → (length bytes ≡ submitLength) × (byteAt bytes 0 ≡ 0x01)
+unfolding fitsSubmit
+submit-fits bytes h =
+    let both = both-true (eqb (length bytes) submitLength) (eqb (byteAt bytes 0) 0x01) h in
+    (eqb-true (length bytes) submitLength (both .0), eqb-true (byteAt bytes 0) 0x01 (both .1))
+
+pub notice-fits : (bytes : List ℕ) → fitsNotice bytes ≡ true → (length bytes ≡ noticeLength) × (byteAt bytes 0 ≡ 0x02)
+unfolding fitsNotice
+notice-fits bytes h =
+    let both = both-true (eqb (length bytes) noticeLength) (eqb (byteAt bytes 0) 0x02) h in
+    (eqb-true (length bytes) noticeLength (both .0), eqb-true (byteAt bytes 0) 0x02 (both .1))
+
+module _ (n : ℕ) (bytes : List ℕ) where
+  pub record FullFits : Type 0 where
+    pub size : length bytes ≡ fullLength n
+    pub code : byteAt bytes 0 ≡ 0x03
+    pub count : byteAt bytes fullCountAt ≡ k n
+    pub commands : entryCommands fullForm (k n) bytes ≡ true
+
+  pub full-fits : fitsFull n bytes ≡ true → FullFits
+  unfolding fitsFull
+  full-fits h =
+      let size = eqb (length bytes) (fullLength n) in
+      let code = eqb (byteAt bytes 0) 0x03 in
+      let count = eqb (byteAt bytes fullCountAt) (k n) in
+      let three = both-true (size && code && count) (entryCommands fullForm (k n) bytes) h in
+      let two = both-true (size && code) count (three .0) in
+      let one = both-true size code (two .0) in
+      record {
+        size = eqb-true (length bytes) (fullLength n) (one .0);
+        code = eqb-true (byteAt bytes 0) 0x03 (one .1);
+        count = eqb-true (byteAt bytes fullCountAt) (k n) (two .1);
+        commands = three .1;
+      }
+
+  abbrev counted : ℕ
+  counted = byteAt bytes evidenceCountAt
+
+  pub record EvidenceFits : Type 0 where
+    pub code : byteAt bytes 0 ≡ 0x05
+    pub few : counted ≤ n
+    pub size : length bytes ≡ evidenceLength counted
+    pub commands : entryCommands (formOf bytes) counted bytes ≡ true
+
+  pub evidence-fits : fitsEvidence n bytes ≡ true → EvidenceFits
+  unfolding fitsEvidence
+  evidence-fits h =
+      let code = eqb (byteAt bytes 0) 0x05 in
+      let size = eqb (length bytes) (evidenceLength counted) in
+      let four = both-true (code && leb 1 counted && leb counted n && size) (entryCommands (formOf bytes) counted bytes) h in
+      let three = both-true (code && leb 1 counted && leb counted n) size (four .0) in
+      let two = both-true (code && leb 1 counted) (leb counted n) (three .0) in
+      record {
+        code = eqb-true (byteAt bytes 0) 0x05 (both-true code (leb 1 counted) (two .0) .0);
+        few = leb-true counted n (two .1);
+        size = eqb-true (length bytes) (evidenceLength counted) (three .1);
+        commands = four .1;
+      }
+
+-- ---- the message in given bytes
+
+choose : (P : Message → Type 0) (b : Bool) (m other : Message) → (b ≡ true → P m) → P other → P (cond b m other)
+choose P true m other p q = p refl
+choose P false m other p q = q
+
+-- it is the one whose test the bytes pass
+pub read-cases : (P : Message → Type 0) (n : ℕ) (bytes : List ℕ)
+    → (fitsSubmit bytes ≡ true → P (readSubmit bytes)) → (fitsNotice bytes ≡ true → P (readNotice bytes)) → (fitsFull n bytes ≡ true → P (readFull n bytes))
+    → (fitsEvidence n bytes ≡ true → P (readEvidence bytes)) → P Garbled → P (read n bytes)
+unfolding read
+read-cases P n bytes submit notice full evidence garbled =
+    choose P (fitsSubmit bytes) (readSubmit bytes) _ submit
+    (choose P (fitsNotice bytes) (readNotice bytes) _ notice
+    (choose P (fitsFull n bytes) (readFull n bytes) _ full
+    (choose P (fitsEvidence n bytes) (readEvidence bytes) Garbled evidence garbled)))
+
+-- bytes that are a FULL's
+pub read-is-full : (n : ℕ) (bytes : List ℕ) → isFull (read n bytes) ≡ true → (fitsFull n bytes ≡ true) × (read n bytes ≡ readFull n bytes)
+unfolding isFull readSubmit readNotice readEvidence
+read-is-full n bytes =
+    read-cases (λ m. isFull m ≡ true → (fitsFull n bytes ≡ true) × (m ≡ readFull n bytes)) n bytes
+    (λ f h. absurd (false≢true h)) (λ f h. absurd (false≢true h)) (λ f h. (f, refl)) (λ f h. absurd (false≢true h)) (λ h. absurd (false≢true h))
+
 -- ---- SUBMIT and NOTICE
 
 no-submit : (bytes : List ℕ) → eqb (byteAt bytes 0) 0x01 ≡ false → fitsSubmit bytes ≡ false
@@ -86,9 +173,9 @@ round-read round h = omega arith
 
 module _ (n round seat : ℕ) (value : List ℕ) (h : round < 65536) (v : length value ≡ valueLength) where
   module _ (signature : List ℕ) (g : length signature ≡ signatureLength) where
-    submit-fits : fitsSubmit (render (Submit round seat value signature)) ≡ true
+    submit-passes : fitsSubmit (render (Submit round seat value signature)) ≡ true
     unfolding fitsSubmit submitLength render
-    submit-fits = rw (length-submit round seat value signature v g, eq-eqb submitLength submitLength refl)
+    submit-passes = rw (length-submit round seat value signature v g, eq-eqb submitLength submitLength refl)
 
     submit-reads : readSubmit (render (Submit round seat value signature)) ≡ Submit round seat value signature
     unfolding readSubmit readRound readValue readSignature part render be
@@ -96,11 +183,11 @@ module _ (n round seat : ℕ) (value : List ℕ) (h : round < 65536) (v : length
 
     read-submit : read n (render (Submit round seat value signature)) ≡ Submit round seat value signature
     unfolding read
-    read-submit = rw (submit-fits, submit-reads)
+    read-submit = rw (submit-passes, submit-reads)
 
-  notice-fits : fitsNotice (render (Notice round seat value)) ≡ true
+  notice-passes : fitsNotice (render (Notice round seat value)) ≡ true
   unfolding fitsNotice noticeLength render
-  notice-fits = rw (length-notice round seat value v)
+  notice-passes = rw (length-notice round seat value v)
 
   notice-reads : readNotice (render (Notice round seat value)) ≡ Notice round seat value
   unfolding readNotice readRound readValue part render be
@@ -108,7 +195,7 @@ module _ (n round seat : ℕ) (value : List ℕ) (h : round < 65536) (v : length
 
   read-notice : read n (render (Notice round seat value)) ≡ Notice round seat value
   unfolding read render
-  read-notice = rw (no-submit (render (Notice round seat value)) refl, notice-fits, notice-reads)
+  read-notice = rw (no-submit (render (Notice round seat value)) refl, notice-passes, notice-reads)
 
 -- ---- FULL
 
@@ -134,9 +221,9 @@ module _ (n round sender : ℕ) (value : List ℕ) (es : List Entry) (h : round 
       part-left (full-head ++ value ++ length es ∷ []) (renderEntries fullForm es) valueAt valueLength (simp (length-append, length-be) (omega arith))
       ∙ part-between full-head value (length es ∷ []) valueAt valueLength (simp (length-append, length-be) (omega arith)) v
 
-  full-fits : fitsFull n full ≡ true
+  full-passes : fitsFull n full ≡ true
   unfolding fitsFull fullLength render
-  full-fits =
+  full-passes =
       rw (
         commands-right fullForm full es full-entries g (k n) (omega arith),
         length-full round sender value es v g,
@@ -153,7 +240,7 @@ module _ (n round sender : ℕ) (value : List ℕ) (es : List Entry) (h : round 
 
   read-full : read n full ≡ Full round sender value es
   unfolding read render
-  read-full = rw (no-submit full refl, no-notice full refl, full-fits, full-reads)
+  read-full = rw (no-submit full refl, no-notice full refl, full-passes, full-reads)
 
 -- ---- EVIDENCE
 
@@ -193,9 +280,9 @@ module _ (n round : ℕ) (lower higher : List ℕ) (ps : List Pair) (h : round <
       part-left evidence-front (renderEntries form ps) higherAt valueLength (simp (length-append, length-be) (omega arith))
       ∙ part-between (evidence-head ++ lower) higher (length ps ∷ []) higherAt valueLength (simp (length-append, length-be) (omega arith)) w
 
-  evidence-fits : fitsEvidence n evidence ≡ true
+  evidence-passes : fitsEvidence n evidence ≡ true
   unfolding fitsEvidence evidenceLength render
-  evidence-fits =
+  evidence-passes =
       rw (
         evidence-count,
         evidence-lower,
@@ -214,7 +301,7 @@ module _ (n round : ℕ) (lower higher : List ℕ) (ps : List Pair) (h : round <
 
   read-evidence : read n evidence ≡ Evidence round lower higher ps
   unfolding read render
-  read-evidence = rw (no-submit evidence refl, no-notice evidence refl, no-full n evidence refl, evidence-fits, evidence-reads)
+  read-evidence = rw (no-submit evidence refl, no-notice evidence refl, no-full n evidence refl, evidence-passes, evidence-reads)
 
 -- ---- any message
 

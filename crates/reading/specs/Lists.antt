@@ -10,7 +10,7 @@ use lib.Dec.{ltb}
 use borrow.Author.Tests.{ltb-true, lt-ltb}
 use Rattle.quorum.specs.Quorum.{Rises}
 use Rattle.refusal.specs.RefusalLaws.{both-true}
-use Rattle.protocol.specs.Refusals.{every, rising}
+use Rattle.protocol.specs.Refusals.{rising}
 use Rattle.round.specs.Round.{Each}
 use Rattle.round.specs.Demand1.{worth, count}
 
@@ -64,19 +64,7 @@ module _ {ℓ} {A : Type ℓ} (P : A → Type 0) where
 pub each-map {ℓ κ} : {A : Type ℓ} {B : Type κ} (P : B → Type 0) (f : A → B) (xs : List A) → Each (λ x. P (f x)) xs → Each P (map f xs)
 each-map P f xs p y d = let m = Memᴰ·of-map f xs d in subst P (m .2) (p (m .0) (m .1))
 
-pub every-each {ℓ} : {A : Type ℓ} (test : A → Bool) (xs : List A) → every test xs ≡ true → Each (λ x. test x ≡ true) xs
-unfolding every
-every-each test [] e = each-nil (λ x. test x ≡ true)
-every-each test (x ∷ xs) e =
-    let both = both-true (test x) (every test xs) e in
-    each-cons (λ y. test y ≡ true) x xs (both .0) (every-each test xs (both .1))
-
-pub each-every {ℓ} : {A : Type ℓ} (test : A → Bool) (xs : List A) → Each (λ x. test x ≡ true) xs → every test xs ≡ true
-unfolding every
-each-every test [] p = refl
-each-every test (x ∷ xs) p = rw (p x (List·Memᴰ·head refl)) (each-every test xs (λ y d. p y (List·Memᴰ·tail d)))
-
--- ---- number of members that pass a test
+-- ---- how many of a list pass a test
 
 pub count-append {ℓ} : {A : Type ℓ} (test : A → Bool) (xs ys : List A) → count test (xs ++ ys) ≡ count test xs + count test ys
 unfolding count

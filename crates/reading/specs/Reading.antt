@@ -1,26 +1,24 @@
 -- Bytes read as messages: the operands of a message have their widths, and bytes are messages one after another in one way only.
 -- Assumes nothing.
 use mathlib.Core.Path.{_≡_, refl, sym, ap, ap₂, _∙_}
-use mathlib.Core.Bool.{true, cond, _&&_}
+use mathlib.Core.Bool.{true, cond}
 use mathlib.Core.List.{List, [], _∷_, _++_, append-assoc, List·Memᴰ·head, List·Memᴰ·tail}
 use Prim.Native.Nat.{ℕ, zero, suc, _+_, _*_, _≤_}
 use native.Mathlib.Nat.{mul-suc}
 use native.Mathlib.Omega.{arith}
-use lib.Dec.{leb, eqb}
+use lib.Dec.{eqb}
 use lib.ListN.{length, take, drop, length-append}
 use lib.Seq.{take-at, drop-at, take-append-seam}
-use borrow.Author.Tests.{eqb-true}
 use Rattle.octets.specs.Octets.{be, part}
 use Rattle.octets.specs.OctetLaws.{length-be, length-part}
 use Rattle.quorum.specs.Quorum.{k}
-use Rattle.refusal.specs.RefusalLaws.{both-true}
-use Rattle.protocol.specs.Layout.{valueLength, signatureLength, entryLength, valueAt, submitSignatureAt, submitLength, noticeLength, fullCountAt, fullEntryLength, fullEntryAt, fullLength, lowerAt, higherAt, evidenceCountAt, evidenceEntryLength, evidenceEntryAt, evidenceLength}
-use Rattle.protocol.specs.Entries.{Form, Laid, placeOf, renderEntries, entryCommands, readEntry, readEntries}
+use Rattle.protocol.specs.Layout.{valueLength, signatureLength, entryLength, valueAt, submitSignatureAt, submitLength, noticeLength, fullEntryLength, fullEntryAt, fullLength, lowerAt, higherAt, evidenceCountAt, evidenceEntryLength, evidenceEntryAt, evidenceLength}
+use Rattle.protocol.specs.Entries.{Form, Laid, placeOf, renderEntries, readEntry, readEntries}
 use Rattle.protocol.specs.EntriesLaws.{byte-after, Faithful, length-read}
 use Rattle.protocol.specs.Message.{Pair, Message, Submit, Notice, Full, Evidence, Garbled, WellFormed, fullForm, evidenceForm, formOf, render, renderAll, byteAt, readValue, readSignature, fitsSubmit, fitsNotice, fitsFull, fitsEvidence, readSubmit, readNotice, readFull, readEvidence, read}
-use Rattle.protocol.specs.MessageLaws.{length-submit, length-notice, length-full, length-evidence, full-faithful, evidence-faithful, read-render}
+use Rattle.protocol.specs.MessageLaws.{length-submit, length-notice, length-full, length-evidence, full-faithful, evidence-faithful, submit-fits, notice-fits, full-fits, evidence-fits, read-cases, read-render}
 use Rattle.round.specs.Round.{Each, Are}
-use Rattle.reading.specs.Lists.{cond-elim, each-nil, each-one, each-append}
+use Rattle.reading.specs.Lists.{each-nil, each-one, each-append}
 
 -- ---- a message that was read
 
@@ -49,40 +47,28 @@ Sized n Garbled = Unit {0}
 
 module _ (n : ℕ) (bytes : List ℕ) where
   submit-sized : fitsSubmit bytes ≡ true → Sized n (readSubmit bytes)
-  unfolding fitsSubmit readSubmit readValue readSignature submitLength signatureLength
+  unfolding readSubmit readValue readSignature submitLength signatureLength
   submit-sized e =
-      let l = eqb-true (length bytes) submitLength (both-true (eqb (length bytes) submitLength) (eqb (byteAt bytes 0) 0x01) e .0) in
+      let l = submit-fits bytes e .0 in
       (length-part valueAt valueLength bytes (omega arith), length-part submitSignatureAt signatureLength bytes (omega arith))
 
   notice-sized : fitsNotice bytes ≡ true → Sized n (readNotice bytes)
-  unfolding fitsNotice readNotice readValue noticeLength
-  notice-sized e =
-      let l = eqb-true (length bytes) noticeLength (both-true (eqb (length bytes) noticeLength) (eqb (byteAt bytes 0) 0x02) e .0) in
-      length-part valueAt valueLength bytes (omega arith)
+  unfolding readNotice readValue noticeLength
+  notice-sized e = length-part valueAt valueLength bytes (omega (arith, notice-fits bytes e .0))
 
   full-sized : fitsFull n bytes ≡ true → Sized n (readFull n bytes)
-  unfolding fitsFull readFull readValue fullLength fullEntryAt fullEntryLength fullForm placeOf
+  unfolding readFull readValue fullLength fullEntryAt fullEntryLength fullForm placeOf
   full-sized e =
-      let a = both-true (eqb (length bytes) (fullLength n) && eqb (byteAt bytes 0) 0x03 && eqb (byteAt bytes fullCountAt) (k n)) (entryCommands fullForm (k n) bytes) e .0 in
-      let b = both-true (eqb (length bytes) (fullLength n) && eqb (byteAt bytes 0) 0x03) (eqb (byteAt bytes fullCountAt) (k n)) a .0 in
-      let l = eqb-true (length bytes) (fullLength n) (both-true (eqb (length bytes) (fullLength n)) (eqb (byteAt bytes 0) 0x03) b .0) in
+      let l = full-fits n bytes e .size in
       (length-part valueAt valueLength bytes (omega arith), length-read fullForm (k n) bytes, entries-laid fullForm full-faithful bytes (k n) (omega arith))
 
   evidence-sized : fitsEvidence n bytes ≡ true → Sized n (readEvidence bytes)
-  unfolding fitsEvidence readEvidence evidenceLength evidenceEntryAt evidenceEntryLength evidenceForm placeOf
+  unfolding readEvidence evidenceLength evidenceEntryAt evidenceEntryLength evidenceForm placeOf
   evidence-sized e =
-      let count = byteAt bytes evidenceCountAt in
-      let a = both-true (eqb (byteAt bytes 0) 0x05 && leb 1 count && leb count n && eqb (length bytes) (evidenceLength count)) (entryCommands (formOf bytes) count bytes) e .0 in
-      let l = eqb-true (length bytes) (evidenceLength count) (both-true (eqb (byteAt bytes 0) 0x05 && leb 1 count && leb count n) (eqb (length bytes) (evidenceLength count)) a .1) in
-      entries-laid (formOf bytes) (evidence-faithful (readValue lowerAt bytes) (readValue higherAt bytes)) bytes count (omega arith)
+      entries-laid (formOf bytes) (evidence-faithful (readValue lowerAt bytes) (readValue higherAt bytes)) bytes (byteAt bytes evidenceCountAt) (omega (arith, evidence-fits n bytes e .size))
 
   pub read-sized : Sized n (read n bytes)
-  unfolding read
-  read-sized =
-      cond-elim (Sized n) (fitsSubmit bytes) (readSubmit bytes) _ submit-sized
-      (λ a. cond-elim (Sized n) (fitsNotice bytes) (readNotice bytes) _ notice-sized
-      (λ b. cond-elim (Sized n) (fitsFull n bytes) (readFull n bytes) _ full-sized
-      (λ c. cond-elim (Sized n) (fitsEvidence n bytes) (readEvidence bytes) Garbled evidence-sized (λ d. tt))))
+  read-sized = read-cases (Sized n) n bytes submit-sized notice-sized full-sized evidence-sized tt
 
 -- ---- the end of a message
 

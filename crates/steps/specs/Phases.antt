@@ -87,5 +87,5 @@ next f g adds r store out at u store′ out′ a v store″ out″ e room d h =
     let both : g s ≡ after (s .written) t = ap g whole ∙ adds (s .written) (start (s .unit) (s .store)) ∙ ap (λ (x : State). after (s .written) (g x)) same in
     record {
       changed = record { recorded = h .changed .recorded ∙ rw both; stored = h .changed .stored ∙ rw both };
-      wrote = rw (both, all-append) (then at a e (renderAll (s .written)) (renderAll (t .written)) out out′ out″ room (d .wrote) (h .wrote));
+      wrote = rw (both, all-append) (then (d .wrote) (h .wrote) room);
     }

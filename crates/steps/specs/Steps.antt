@@ -18,7 +18,7 @@ use Rattle.protocol.specs.Step.{noticesWith, hear, reply, hearCertificate, subm
 use Rattle.protocol.specs.StepLaws.{reply-after, confirmIfComplete-after}
 use Rattle.protocol.specs.declared.Record.{Record}
 use Rattle.wire.specs.Reading.{kindOf}
-use Rattle.wire.specs.FormLaws.{submit-length}
+use Rattle.protocol.specs.MessageLaws.{submit-fits}
 use Rattle.wire.specs.KindLaws.{read-as, tag}
 use Rattle.store.specs.StoreLaws.{length-signature}
 use Rattle.store.specs.Sources.{certificateFrom}
@@ -63,7 +63,7 @@ module _ (n : ℕ) (m : List ℕ) where
 
     pub submit-long : length m ≡ submitSignatureAt + signatureLength
     unfolding submitLength
-    submit-long = submit-length m (is-submit .1) .0
+    submit-long = submit-fits m (is-submit .1) .0
 
     pub submit-signature : (g : List ℕ) → g ≡ readSignature submitSignatureAt m → length g ≡ signatureLength
     submit-signature g q = rw q (length-signature submitSignatureAt m (omega (arith, submit-long)))

@@ -1,7 +1,7 @@
 -- A rising list of seats and its set: each gives the other, and the place of a seat in the list.
 -- Assumes nothing.
 use mathlib.Core.Path.{_≡_, refl, sym, ap, _∙_}
-use mathlib.Core.Bool.{Bool, true, and-eq-true-iff}
+use mathlib.Core.Bool.{true, and-eq-true-iff}
 use mathlib.Core.Logic.{_⊎_, inl, inr, ⊎-elim}
 use mathlib.Core.List.{List, [], _∷_, _++_, append-assoc, List·Memᴰ, List·Memᴰ·head, List·Memᴰ·tail, List·Memᴰ·not-nil, List·Memᴰ·cases-cons, List·Memᴰ·append-cases, List·Memᴰ·eq-of-singleton}
 use Prim.Native.Nat.{ℕ, zero, suc, _^_, _≤_, _<_}
@@ -15,15 +15,8 @@ use Rattle.quorum.specs.Quorum.{bit, In, size, shared, all, seats}
 use Rattle.quorum.specs.QuorumLaws.{bit-cases, bit-shared, bit-lt-two, bit-all-below, seats-in, seats-out, length-seats, all-lt, bit-outside, lt-of-none-outside, mem-seats}
 use Rattle.protocol.specs.Certificate.{setOf}
 use Rattle.protocol.specs.Refusals.{every, rising}
+use Rattle.protocol.specs.ConditionsLaws.{every-each}
 use Rattle.protocol.specs.CertificateLaws.{in-set}
-
--- a test of every element holds for each
-pub every-at : (test : ℕ → Bool) (l : List ℕ) (x : ℕ) → every test l ≡ true → List·Memᴰ x l → test x ≡ true
-unfolding every
-every-at test [] x e d = absurd (List·Memᴰ·not-nil d)
-every-at test (y ∷ l) x e d =
-    let both = and-eq-true-iff (test y) (every test l) .0 e in
-    ⊎-elim (λ (q : x ≡ y). rw q (both .0)) (λ t. every-at test l x (both .1) t) (List·Memᴰ·cases-cons d)
 
 -- ---- rising lists
 
@@ -82,14 +75,14 @@ pub seats-set : (n : ℕ) (l : List ℕ) → rising l ≡ true → every (λ (s 
 seats-set n l r e =
     same-sorted (seats n (setOf l)) l (sorted-seats n (setOf l)) (sorted-rising l r)
     (λ s d. in-set s l .0 (mem-seats n s (setOf l) .0 d .1))
-    (λ s d. mem-seats n s (setOf l) .1 (ltb-true s n (every-at (λ (t : ℕ). ltb t n) l s e d), in-set s l .1 d))
+    (λ s d. mem-seats n s (setOf l) .1 (ltb-true s n (every-each (λ (t : ℕ). ltb t n) l e s d), in-set s l .1 d))
 
 pub set-lt : (n : ℕ) (l : List ℕ) → every (λ (s : ℕ). ltb s n) l ≡ true → setOf l < 2 ^ n
 set-lt n l e = lt-of-none-outside n (setOf l) (λ s h. go s h (bit-cases s (setOf l)))
   where
     go : (s : ℕ) → n ≤ s → (bit s (setOf l) ≡ 0) ⊎ In s (setOf l) → bit s (setOf l) ≡ 0
     go s h (inl z) = z
-    go s h (inr i) = absurd (omega (arith, ltb-true s n (every-at (λ (t : ℕ). ltb t n) l s e (in-set s l .0 i))))
+    go s h (inr i) = absurd (omega (arith, ltb-true s n (every-each (λ (t : ℕ). ltb t n) l e s (in-set s l .0 i))))
 
 -- ---- the place of a seat in the list
 

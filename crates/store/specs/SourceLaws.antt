@@ -1,23 +1,22 @@
 -- The signature of a seat in a FULL whose entries rise, and in any source, as code reads it.
 -- Assumes nothing.
 use mathlib.Core.Path.{_≡_, refl, sym, ap, _∙_}
-use mathlib.Core.Bool.{Bool, true, false, cond, and-eq-true-iff, false≢true}
-use mathlib.Core.Logic.{⊎-elim}
-use mathlib.Core.List.{List, [], _∷_, _++_}
-use Prim.Native.Nat.{ℕ, zero, suc, _+_, _^_, _≤_, _<_}
-use native.Mathlib.Nat.{eq-or-lt-of-le, le-of-suc-le-suc}
+use mathlib.Core.Bool.{true, false, and-eq-true-iff}
+use mathlib.Core.List.{List, [], _∷_}
+use Prim.Native.Nat.{ℕ, _+_, _^_, _≤_, _<_}
 use native.Mathlib.Omega.{arith}
-use lib.Dec.{ltb, eqb}
-use lib.ListN.{length, getD, length-append, length-map, List·getD-append}
-use lib.Seq.{getD-at}
-use borrow.Author.Tests.{eqb-true, eq-eqb, ne-eqb, not-false}
+use lib.Dec.{ltb}
+use lib.ListN.{length, length-append, length-map}
+use borrow.Author.Tests.{not-false}
 use Rattle.quorum.specs.Quorum.{k, In, size, shared, all, seats}
 use Rattle.quorum.specs.QuorumLaws.{seat-at, length-seats}
-use Rattle.protocol.specs.Layout.{signatureLength, valueAt, seatAt, fullCountAt, fullEntryLength, fullEntryAt, fullLength, banks, storeLength, slotAt}
+use Rattle.protocol.specs.Layout.{signatureLength, valueAt, seatAt, fullEntryLength, fullEntryAt, fullLength, banks, storeLength, slotAt}
 use Rattle.protocol.specs.LayoutLaws.{slot-fits}
-use Rattle.protocol.specs.EntriesLaws.{length-read}
-use Rattle.protocol.specs.Entries.{Form, placeOf, readEntry, readEntries, entryCommands, formSeats}
-use Rattle.protocol.specs.Message.{Entry, Message, byteAt, read, fullForm, readValue, readSignature, readFull, readSubmit, readNotice, readEvidence, fitsSubmit, fitsNotice, fitsFull, fitsEvidence, entrySeats, seatsOf, Garbled}
+use Rattle.protocol.specs.EntriesLaws.{length-read, entry-at}
+use Rattle.protocol.specs.Entries.{placeOf, readEntry, readEntries, formSeats}
+use Rattle.protocol.specs.Message.{Entry, byteAt, read, fullForm, readValue, readSignature, readFull, fitsFull, entrySeats, seatsOf}
+use Rattle.protocol.specs.MessageLaws.{full-fits, read-is-full}
+use Rattle.protocol.specs.CertificateLaws.{signature-after}
 use Rattle.protocol.specs.Certificate.{slot, setOf, signatureOf, certificateOf, certificateIn}
 use Rattle.protocol.specs.Refusals.{every, rising, isFull, stranger, disorder}
 use Rattle.layout.specs.Places.{bankOf}
@@ -28,55 +27,6 @@ use Rattle.store.specs.SeatLaws.{seats-set, set-lt, seats-split, count-b
 use Rattle.store.specs.declared.sources.Place.{Place}
 use Rattle.store.specs.declared.sources.Place.the-variants as place
 use Rattle.store.specs.declared.sources.Source.{Source}
-
--- ---- bytes that are a FULL's
-
-pick : (a b c d : Bool) (s t f e g : Message) → isFull s ≡ false → isFull t ≡ false → isFull e ≡ false → isFull g ≡ false
-    → isFull (cond a s (cond b t (cond c f (cond d e g)))) ≡ true → (c ≡ true) × (cond a s (cond b t (cond c f (cond d e g))) ≡ f)
-pick true b c d s t f e g hs ht he hg h = absurd (false≢true (sym hs ∙ h))
-pick false true c d s t f e g hs ht he hg h = absurd (false≢true (sym ht ∙ h))
-pick false false true d s t f e g hs ht he hg h = (refl, refl)
-pick false false false true s t f e g hs ht he hg h = absurd (false≢true (sym he ∙ h))
-pick false false false false s t f e g hs ht he hg h = absurd (false≢true (sym hg ∙ h))
-
-pub read-is-full : (n : ℕ) (bytes : List ℕ) → isFull (read n bytes) ≡ true → (fitsFull n bytes ≡ true) × (read n bytes ≡ readFull n bytes)
-unfolding read isFull readSubmit readNotice readEvidence
-read-is-full n bytes h =
-    pick (fitsSubmit bytes) (fitsNotice bytes) (fitsFull n bytes) (fitsEvidence n bytes) (readSubmit bytes) (readNotice bytes) (readFull n bytes) (readEvidence bytes) Garbled refl refl refl refl h
-
-pub full-length : (n : ℕ) (bytes : List ℕ) → fitsFull n bytes ≡ true → length bytes ≡ fullLength n
-unfolding fitsFull
-full-length n bytes h =
-    let front = and-eq-true-iff _ (entryCommands fullForm (k n) bytes) .0 h .0 in
-    let two = and-eq-true-iff _ (eqb (byteAt bytes fullCountAt) (k n)) .0 front .0 in
-    eqb-true (length bytes) (fullLength n) (and-eq-true-iff (eqb (length bytes) (fullLength n)) _ .0 two .0)
-
--- ---- entries
-
-entry-read : {A : Type 0} (form : Form A) (t i : ℕ) (bytes : List ℕ) (d : A) → i < t → getD (readEntries form t bytes) i d ≡ readEntry form (placeOf form i) bytes
-unfolding readEntries
-entry-read form zero i bytes d h = absurd (omega arith)
-entry-read form (suc t) i bytes d h =
-    let l = length-read form t bytes in
-    ⊎-elim
-    (λ (e : i ≡ t). rw e (getD-at (readEntries form t bytes) (readEntry form (placeOf form t) bytes) [] d t l))
-    (λ (b : i < t). List·getD-append (readEntries form t bytes) (readEntry form (placeOf form t) bytes ∷ []) d i (omega arith) ∙ entry-read form t i bytes d b)
-    (eq-or-lt-of-le (le-of-suc-le-suc h))
-
--- the signature of a seat is that of the entry which has the seat
-signature-after : (es : List Entry) (before : List ℕ) (s : ℕ) (rest : List ℕ) (d : Entry) → formSeats fullForm es ≡ before ++ s ∷ rest
-    → ((i : ℕ) → i < length before → getD before i 0 < s) → signatureOf es s ≡ getD es (length before) d .signature
-unfolding signatureOf formSeats fullForm
-signature-after [] [] s rest d e h = absurd (omega (arith, ap length e))
-signature-after [] (b ∷ before) s rest d e h = absurd (omega (arith, ap length e))
-signature-after (x ∷ es) [] s rest d e h =
-    let here : x .seat ≡ s = cc in
-    rw (eq-eqb (x .seat) s here)
-signature-after (x ∷ es) (b ∷ before) s rest d e h =
-    let here : x .seat ≡ b = cc in
-    let after : formSeats fullForm es ≡ before ++ s ∷ rest = cc in
-    rw (ne-eqb (x .seat) s (λ q. omega (arith, h 0 (omega arith))))
-    (signature-after es before s rest d after (λ i l. h (suc i) (omega arith)))
 
 -- ---- a FULL whose entries rise
 
@@ -123,7 +73,7 @@ module _ (n : ℕ) (bytes : List ℕ) (mask : ℕ) (h : Sound n bytes mask) wher
 
     pub entry-inside : entryPlace mask s + signatureLength ≤ length bytes
     unfolding entryPlace fullLength fullEntryAt fullEntryLength signatureLength
-    entry-inside = omega (arith, entry-index, full-length n bytes (is-full .0))
+    entry-inside = omega (arith, entry-index, full-fits n bytes (is-full .0) .size)
 
     pub entry-signature : readSignature (entryPlace mask s) bytes ≡ certificateIn (read n bytes) .signature s
     unfolding entryPlace fullEntryAt fullEntryLength placeOf readEntry fullForm readSignature
@@ -131,7 +81,7 @@ module _ (n : ℕ) (bytes : List ℕ) (mask : ℕ) (h : Sound n bytes mask) wher
         let f = seats-split n s mask l i in
         let d : Entry = record { seat = 0; signature = [] } in
         let found = signature-after (entriesIn n bytes) (seats s mask) s (f .0) d (sym sound-seats ∙ f .1) (λ j b. seat-at s mask j b .0) in
-        let read = entry-read fullForm (k n) (size (shared mask (all s))) bytes d entry-index in
+        let read = entry-at fullForm (k n) (size (shared mask (all s))) bytes d entry-index in
         rw (sound-signature, found, count-below s mask, read)
 
 -- ---- a source's signature, as code reads it at place p

@@ -22,7 +22,8 @@ use Rattle.protocol.specs.Calls.{opening, evidenceCheck}
 use Rattle.round.specs.Round.{Each, Are, Setting, Call, BySubmit, ByStep, ByThinEntry, IsStep, Honest, Called, outOf, resultOf, listOf, Writes, Submits, Confirms, Reached, HaveReached, writtenIn, WritesEvidence, Names, IsOpened}
 use Rattle.round.specs.Demand1.{isNotice, writtenOver}
 use Rattle.round.specs.Demand3.{Blames}
-use Rattle.reading.specs.Lists.{and-false-either, or-true-either, every-each}
+use Rattle.protocol.specs.ConditionsLaws.{every-each}
+use Rattle.reading.specs.Lists.{and-false-either, or-true-either}
 use Rattle.reading.specs.Reading.{are-unique}
 use Rattle.reading.specs.Messages.{messages, allMessages, all-member, member-all, written-is, over-are}
 

@@ -18,7 +18,8 @@ use Rattle.protocol.specs.Calls.{evidenceCheck}
 use Rattle.round.specs.Round.{Setting, InHand, Honest, Called, IsOpened, Family, resultOf, listOf, StepGiven, MadeFrom, Delivered, AcceptedFrom, Names}
 use Rattle.round.specs.Demand1.{Kind, SUBMIT, NOTICE, FULL, EVIDENCE, isOf, count, AtMostOne}
 use Rattle.round.specs.Demand3.{NoneForged, NoneBlamed, ReachedOthers, Demand3}
-use Rattle.reading.specs.Lists.{or-true-either, every-each}
+use Rattle.protocol.specs.ConditionsLaws.{every-each}
+use Rattle.reading.specs.Lists.{or-true-either}
 use Rattle.trials.specs.Tests.{found, found-one, every-false, found-seat, signedIn, given-signed, signed-given, sameSigned, same-signed, isOpened, isOpened-says, all, formed, submits, submits-says, confirms, confirms-says, haveReached, haveReached-says, blames, blames-not, accuses, accuses-says, all-are}
 
 pub record Trial {ℓ} (claim : Type ℓ) : Type ℓ where

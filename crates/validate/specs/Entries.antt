@@ -12,15 +12,16 @@ use borrow.Author.Tests.{le-leb, lt-ltb, le-ltb, ltb-true, not-false}
 use Rattle.refusal.specs.Refusal.{firstOf}
 use Rattle.quorum.specs.Quorum.{k}
 use Rattle.protocol.specs.Layout.{valueLength, signatureLength, seatAt, valueAt, submitSignatureAt, submitLength, fullCountAt, fullEntryLength, fullEntryAt, fullLength, evidenceCountAt, evidenceEntryLength, evidenceEntryAt, evidenceLength}
-use Rattle.protocol.specs.Entries.{readEntry}
+use Rattle.protocol.specs.Entries.{eachBelow, readEntry}
+use Rattle.protocol.specs.EntriesLaws.{Passed, passed-none, passed-turn, passed-all, each-not}
 use Rattle.protocol.specs.Message.{Entry, fullForm, byteAt, readValue, readSignature, read, readSubmit, readNotice, readFull, readEvidence, seatsOf, signed}
+use Rattle.protocol.specs.MessageLaws.{submit-fits, full-fits, evidence-fits}
 use Rattle.protocol.specs.Refusals.{Checks, every, isFull, isEvidence, stranger, badSignature, SIGNATURE}
 use Rattle.protocol.specs.Signatures.{signatureNumber}
 use Rattle.protocol.specs.SignaturesLaws.{signature-row}
 use Rattle.layout.specs.Places.{full, evidence}
 use Rattle.wire.specs.Reading.{kindOf, seatPlace, seatsIn}
 use Rattle.wire.specs.KindLaws.{read-as}
-use Rattle.wire.specs.FormLaws.{submit-length, full-fits, evidence-fits}
 use Rattle.wire.specs.MessageLaws.{known-entries, full-seats, evidence-seats}
 use Rattle.wire.specs.WalkLaws.{below-at}
 use Rattle.wire.specs.Answers.{entryOf, nthEntry, Found}
@@ -30,7 +31,7 @@ use Rattle.wire.specs.declared.read.Kind.{Kind}
 use Rattle.wire.specs.declared.read.Kind.the-variants as kind
 use Rattle.validate.specs.Messages.{Formed, full-kind, evidence-kind}
 use Rattle.validate.specs.Places.{PairInside, pairPlaces}
-use Rattle.validate.specs.Signatures.{entryCheck, pairCheck, eachBelow, submit-bad, full-bad, evidence-bad, entry-inside, each-none, each-more, each-not}
+use Rattle.validate.specs.Signatures.{entryCheck, pairCheck, submit-bad, full-bad, evidence-bad, entry-inside}
 
 -- ---- its bytes
 
@@ -61,7 +62,7 @@ module _ (n : ℕ) (bytes : List ℕ) (t : Kind) (e : t ≡ kindOf (read n bytes
   pub submit-taken : t ≡ kind.Submit → SubmitTaken n bytes
   submit-taken g =
       let r = read-as kind.Submit n bytes (sym g ∙ e) in
-      record { says = r .0; size = submit-length bytes (r .1) .0; known = submit-known n bytes (rw (r .0) at s) }
+      record { says = r .0; size = submit-fits bytes (r .1) .0; known = submit-known n bytes (rw (r .0) at s) }
 
   pub full-taken : t ≡ kind.Full → FullTaken n bytes
   unfolding fullEntryAt
@@ -143,10 +144,7 @@ rejects false number e h = (refl, e)
 
 -- the loop over the pairs: all before index t check
 abbrev pub Checked : Checks → List ℕ → ℕ → Type 0
-Checked checks bytes t = (t ≤ byteAt bytes evidenceCountAt) × (eachBelow (pairCheck checks bytes) t ≡ true)
-
-pub checked-none : (checks : Checks) (bytes : List ℕ) → Checked checks bytes 0
-checked-none checks bytes = (omega arith, each-none (pairCheck checks bytes))
+Checked checks bytes t = Passed (pairCheck checks bytes) (byteAt bytes evidenceCountAt) t
 
 module _ (checks : Checks) (n : ℕ) (bytes : List ℕ) (h : EvidenceTaken n bytes) where
   abbrev count : ℕ
@@ -161,7 +159,7 @@ module _ (checks : Checks) (n : ℕ) (bytes : List ℕ) (h : EvidenceTaken n byt
 
   module _ (t number : ℕ) (l : t < byteAt bytes evidenceCountAt) (v : number ≡ signatureNumber (pairCheck checks bytes t)) where
     pub checked-more : Checked checks bytes t → number ≡ 0 → Checked checks bytes (t + 1)
-    checked-more c z = (omega arith, each-more (pairCheck checks bytes) t (c .1) (accepts (pairCheck checks bytes t) number v z))
+    checked-more c z = passed-turn c l (accepts (pairCheck checks bytes t) number v z)
 
     pub checked-not : (number ≡ 0 → ⊥) → number ≡ firstOf (SIGNATURE checks (read n bytes) ∷ [])
     unfolding firstOf
@@ -171,10 +169,7 @@ module _ (checks : Checks) (n : ℕ) (bytes : List ℕ) (h : EvidenceTaken n byt
 
   pub checked-all : (t : ℕ) → Checked checks bytes t → byteAt bytes evidenceCountAt ≤ t → 0 ≡ firstOf (SIGNATURE checks (read n bytes) ∷ [])
   unfolding firstOf
-  checked-all t c l =
-      let e : t ≡ count = omega arith in
-      let all : eachBelow (pairCheck checks bytes) count ≡ true = rw e at (c .1) in
-      rw (h .says, evidence-bad checks bytes (h .size), all)
+  checked-all t c l = rw (h .says, evidence-bad checks bytes (h .size), passed-all c l)
 
 -- ---- the entries of FULL, as a reader finds them
 
@@ -236,9 +231,8 @@ module _ (n : ℕ) (bytes : List ℕ) (h : FullTaken n bytes) where
 
 -- state of a reader that found s at index t: all entries before it check
 pub record Walked (checks : Checks) (n : ℕ) (bytes : List ℕ) (t : ℕ) (s : Next) : Type 0 where
-  pub within : t ≤ k n
   pub found : Found t bytes s
-  pub before : eachBelow (entryCheck checks bytes) t ≡ true
+  pub before : Passed (entryCheck checks bytes) (k n) t
 
 module _ (checks : Checks) (n : ℕ) (bytes : List ℕ) (h : FullTaken n bytes) where
   -- one of the signatures doesn't check, or all do
@@ -249,7 +243,7 @@ module _ (checks : Checks) (n : ℕ) (bytes : List ℕ) (h : FullTaken n bytes) 
   full-all e = rw (h .says, full-bad checks bytes n, e)
 
   pub walk-starts : (s : Next) → Found 0 bytes s → Walked checks n bytes 0 s
-  walk-starts s f = record { within = omega arith; found = f; before = each-none (entryCheck checks bytes) }
+  walk-starts s f = record { found = f; before = passed-none }
 
   module _ (t : ℕ) where
     -- the answer of a reader: an entry below k, and none at k
@@ -269,7 +263,7 @@ module _ (checks : Checks) (n : ℕ) (bytes : List ℕ) (h : FullTaken n bytes) 
       where
         go : Dec (t < k n) → t ≡ k n
         go (yes l) = absurd (ne-nil (sym (w .found .0 ∙ entry-below n bytes h t l)))
-        go (no l) = let m = w .within in omega arith
+        go (no l) = let m = w .before .within in omega arith
 
     -- its seat is one of n, and its signature lies in the message
     pub walk-fits : (s : Next) → Walked checks n bytes t s → Fits n bytes s
@@ -290,17 +284,13 @@ module _ (checks : Checks) (n : ℕ) (bytes : List ℕ) (h : FullTaken n bytes) 
     walk-on (next.Entry seat at) w e =
         let is = found-entry seat at w in (
           is .0,
-          λ s′ f. record {
-            within = omega (arith, is .0);
-            found = f;
-            before = each-more (entryCheck checks bytes) t (w .before) (entry-checked seat at w ∙ e);
-          },
+          λ s′ f. record { found = f; before = passed-turn (w .before) (is .0) (entry-checked seat at w ∙ e) },
         )
 
     -- it doesn't, or there is none: the reader stands before an entry where a signature is bad
     pub walk-ends : (s : Next) → Walked checks n bytes t s → foundChecks checks bytes s ≡ false → isEntry s ≡ badSignature checks (read n bytes)
     unfolding foundChecks isEntry
-    walk-ends next.End w e = full-all (rw (← found-end w) (w .before))
+    walk-ends next.End w e = full-all (passed-all (w .before) (omega (arith, found-end w)))
     walk-ends (next.Entry seat at) w e =
         let is = found-entry seat at w in
         full-not t (is .0) (entry-checked seat at w ∙ e)

@@ -1,12 +1,9 @@
 -- The signatures of a message, one entry after another.
 -- Assumes nothing.
 use mathlib.Core.Path.{_≡_, refl, ap, _∙_}
-use mathlib.Core.Bool.{Bool, true, false, not, _&&_, and-assoc, and-false, and-true}
-use mathlib.Core.List.{List, [], _∷_, _++_, append-nil}
-use mathlib.Core.Logic.{⊎-elim}
+use mathlib.Core.Bool.{Bool, not, and-true}
+use mathlib.Core.List.{List, [], _∷_, flatMap}
 use Prim.Native.Nat.{ℕ, zero, suc, _+_, _≤_, _<_}
-use native.Mathlib.Nat.{eq-or-lt-of-le, suc-inj, le-of-suc-le-suc}
-use native.Mathlib.Numerals.{add-one}
 use native.Mathlib.Omega.{arith}
 use lib.ListN.{length, take, drop}
 use lib.Seq.{take-add, take-at, drop-at, drop-drop}
@@ -14,37 +11,11 @@ use Rattle.octets.specs.Octets.{part}
 use Rattle.octets.specs.OctetLaws.{length-part}
 use Rattle.quorum.specs.Quorum.{k}
 use Rattle.protocol.specs.Layout.{signatureLength, seatAt, valueAt, submitSignatureAt, fullEntryLength, fullEntryAt, evidenceCountAt, evidenceEntryLength, evidenceEntryAt, evidenceLength}
-use Rattle.protocol.specs.Entries.{Form, placeOf, readEntry, readEntries}
-use Rattle.protocol.specs.Message.{Entry, Pair, Signed, byteAt, fullForm, evidenceForm, formOf, readValue, readSignature, readSubmit, readFull, readEvidence, signedEntries, signedPairs, signed}
+use Rattle.protocol.specs.Entries.{eachBelow, Form, placeOf, readEntry, readEntries}
+use Rattle.protocol.specs.Message.{Signed, byteAt, fullForm, evidenceForm, formOf, readValue, readSignature, readSubmit, readFull, readEvidence, signedEntry, signedPair, signed}
 use Rattle.protocol.specs.Refusals.{Checks, every, badSignature}
-use Rattle.protocol.specs.ConditionsLaws.{every-append}
+use Rattle.protocol.specs.ConditionsLaws.{every-append, every-flat}
 use Rattle.validate.specs.Places.{pairChecks, pairPlaces}
-
--- a test holds of every index below t
-unfoldable pub eachBelow : (ℕ → Bool) → ℕ → Bool
-eachBelow test zero = true
-eachBelow test (suc t) = eachBelow test t && test t
-
--- ---- the loop
-
-module _ (test : ℕ → Bool) where
-  pub each-none : eachBelow test 0 ≡ true
-  unfolding eachBelow
-  each-none = refl
-
-  pub each-more : (t : ℕ) → eachBelow test t ≡ true → test t ≡ true → eachBelow test (t + 1) ≡ true
-  unfolding eachBelow
-  each-more t e p = rw (add-one, e, p)
-
-  -- one index that fails makes the whole fail
-  pub each-not : (t n : ℕ) → t < n → test t ≡ false → eachBelow test n ≡ false
-  unfolding eachBelow
-  each-not t zero h p = absurd (omega arith)
-  each-not t (suc n) h p =
-      ⊎-elim
-      (λ (s : suc t ≡ suc n). rw (← suc-inj s, p) (and-false (eachBelow test t)))
-      (λ (l : suc t < suc n). rw (each-not t n (le-of-suc-le-suc l) p))
-      (eq-or-lt-of-le h)
 
 -- two tests that agree below t
 each-same : (f g : ℕ → Bool) (t : ℕ) → ((i : ℕ) → i < t → f i ≡ g i) → eachBelow f t ≡ eachBelow g t
@@ -52,25 +23,13 @@ unfolding eachBelow
 each-same f g zero h = refl
 each-same f g (suc t) h = rw (each-same f g t (λ i l. h i (omega arith)), h t (omega arith))
 
--- ---- a list of entries, whatever they hold: `all` the signatures of a list, `of` those of one entry
-
-module _
-    {A : Type 0} (test : Signed → Bool) (form : Form A) (all : List A → List Signed) (of : A → List Signed)
-    (nil : all [] ≡ []) (cons : (x : A) (xs : List A) → all (x ∷ xs) ≡ of x ++ all xs)
-  where
-    snoc : (xs : List A) (x : A) → every test (all (xs ++ x ∷ [])) ≡ (every test (all xs) && every test (of x))
-    unfolding every
-    snoc [] x = rw (cons x [], nil, append-nil (of x))
-    snoc (y ∷ xs) x =
-        rw (cons y (xs ++ x ∷ []), cons y xs, every-append test (of y) (all (xs ++ x ∷ [])), every-append test (of y) (all xs), snoc xs x, and-assoc)
-
-    each-read : (bytes : List ℕ) (t : ℕ)
-        → every test (all (readEntries form t bytes)) ≡ eachBelow (λ (i : ℕ). every test (of (readEntry form (placeOf form i) bytes))) t
-    unfolding every readEntries eachBelow
-    each-read bytes zero = rw nil
-    each-read bytes (suc t) =
-        snoc (readEntries form t bytes) (readEntry form (placeOf form t) bytes)
-        ∙ ap (λ (b : Bool). b && every test (of (readEntry form (placeOf form t) bytes))) (each-read bytes t)
+-- a test of every entry read, whatever entries hold
+each-read : {A : Type 0} (test : A → Bool) (form : Form A) (bytes : List ℕ) (t : ℕ)
+    → every test (readEntries form t bytes) ≡ eachBelow (λ (i : ℕ). test (readEntry form (placeOf form i) bytes)) t
+unfolding every readEntries eachBelow
+each-read test form bytes zero = refl
+each-read test form bytes (suc t) =
+    every-append test (readEntries form t bytes) (readEntry form (placeOf form t) bytes ∷ []) ∙ rw (each-read test form bytes t, and-true)
 
 -- ---- the signatures of a message
 
@@ -111,34 +70,30 @@ module _ (checks : Checks) (bytes : List ℕ) where
   unfolding badSignature signed readSubmit every
   submit-bad = ap not (and-true (checks (byteAt bytes seatAt) (readValue valueAt bytes) (readSignature submitSignatureAt bytes)))
 
-  abbrev ofEntry : List ℕ → Entry → List Signed
-  ofEntry value e = record { seat = e .seat; value = value; signature = e .signature } ∷ []
+  -- the signatures of entries read, in a list where `of` are those of an entry
+  each-signed : {A : Type 0} (form : Form A) (of : A → List Signed) (own : ℕ → Bool) (t : ℕ)
+      → ((i : ℕ) → i < t → every test (of (readEntry form (placeOf form i) bytes)) ≡ own i)
+      → not (every test (flatMap of (readEntries form t bytes))) ≡ not (eachBelow own t)
+  each-signed {A = A} form of own t h =
+      ap not (every-flat test of (readEntries form t bytes) ∙ each-read (λ (x : A). every test (of x)) form bytes t ∙ each-same _ own t h)
 
-  abbrev ofPair : Pair → List Signed
-  ofPair p =
-      record { seat = p .seat; value = p .lowerValue; signature = p .lower } ∷ record { seat = p .seat; value = p .higherValue; signature = p .higher } ∷ []
-
-  entry-is : (i : ℕ) → every test (ofEntry (readValue valueAt bytes) (readEntry fullForm (placeOf fullForm i) bytes)) ≡ entryCheck i
-  unfolding every readEntry fullForm placeOf fullEntryAt fullEntryLength readSignature
+  entry-is : (i : ℕ) → every test (signedEntry (readValue valueAt bytes) (readEntry fullForm (placeOf fullForm i) bytes)) ≡ entryCheck i
+  unfolding every signedEntry readEntry fullForm placeOf fullEntryAt fullEntryLength readSignature
   entry-is i = and-true _
 
   pub full-bad : (n : ℕ) → badSignature checks (readFull n bytes) ≡ not (eachBelow entryCheck (k n))
-  unfolding badSignature signed readFull signedEntries
-  full-bad n =
-      let value = readValue valueAt bytes in
-      ap not (each-read test fullForm (signedEntries value) (ofEntry value) refl (λ x xs. refl) bytes (k n)
-      ∙ each-same _ entryCheck (k n) (λ i h. entry-is i))
+  unfolding badSignature signed readFull
+  full-bad n = each-signed fullForm (signedEntry (readValue valueAt bytes)) entryCheck (k n) (λ i h. entry-is i)
 
-  pair-is : (i : ℕ) → evidenceEntryAt i + evidenceEntryLength ≤ length bytes → every test (ofPair (readEntry (formOf bytes) (placeOf (formOf bytes) i) bytes)) ≡ pairCheck i
-  unfolding every readEntry evidenceForm placeOf evidenceEntryAt evidenceEntryLength readSignature
+  pair-is : (i : ℕ) → evidenceEntryAt i + evidenceEntryLength ≤ length bytes → every test (signedPair (readEntry (formOf bytes) (placeOf (formOf bytes) i) bytes)) ≡ pairCheck i
+  unfolding every signedPair readEntry evidenceForm placeOf evidenceEntryAt evidenceEntryLength readSignature
   pair-is i h =
       let two = halves (evidenceEntryAt i + 2) signatureLength signatureLength bytes (first-inside (evidenceEntryAt i) (length bytes) h) in
       rw (two .0, two .1, and-true)
 
   pub evidence-bad : length bytes ≡ evidenceLength (byteAt bytes evidenceCountAt)
       → badSignature checks (readEvidence bytes) ≡ not (eachBelow pairCheck (byteAt bytes evidenceCountAt))
-  unfolding badSignature signed readEvidence signedPairs
+  unfolding badSignature signed readEvidence
   evidence-bad l =
       let count = byteAt bytes evidenceCountAt in
-      ap not (each-read test (formOf bytes) signedPairs ofPair refl (λ x xs. refl) bytes count
-      ∙ each-same _ pairCheck count (λ i h. pair-is i (entry-inside bytes count i l h)))
+      each-signed (formOf bytes) signedPair pairCheck count (λ i h. pair-is i (entry-inside bytes count i l h))

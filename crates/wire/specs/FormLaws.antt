@@ -1,45 +1,18 @@
--- The tests for each command, return by return, and the bytes that pass.
+-- The tests for FULL and EVIDENCE, return by return.
 -- Assumes nothing.
 use mathlib.Core.Path.{_≡_, sym, _∙_}
-use mathlib.Core.Bool.{Bool, true, false, _&&_, and-false, and-eq-true-iff}
+use mathlib.Core.Bool.{Bool, false, and-false}
 use mathlib.Core.List.{List}
 use Prim.Native.Nat.{ℕ, _≤_, _<_}
 use native.Mathlib.Omega.{arith}
-use lib.Dec.{leb, eqb}
 use lib.ListN.{length, List·getD-eq-default}
-use borrow.Author.Tests.{le-leb, lt-leb, leb-true, eq-eqb, ne-eqb, eqb-true}
+use borrow.Author.Tests.{le-leb, lt-leb, eq-eqb, ne-eqb}
 use Rattle.quorum.specs.Quorum.{k}
-use Rattle.protocol.specs.Layout.{submitLength, noticeLength, fullCountAt, fullEntryLength, fullLength, evidenceCountAt, evidenceEntryLength, evidenceLength}
+use Rattle.protocol.specs.Layout.{fullCountAt, fullEntryLength, fullLength, evidenceCountAt, evidenceEntryLength, evidenceLength}
 use Rattle.protocol.specs.Entries.{placeOf, entryCommands}
-use Rattle.protocol.specs.Message.{byteAt, fullForm, evidenceForm, formOf, fitsSubmit, fitsNotice, fitsFull, fitsEvidence}
-use Rattle.protocol.specs.Refusals.{every}
+use Rattle.protocol.specs.Message.{byteAt, fullForm, evidenceForm, fitsFull, fitsEvidence}
 use Rattle.layout.specs.Places.{full, evidence}
-use Rattle.wire.specs.Reading.{commandsIn}
-use Rattle.wire.specs.WalkLaws.{commands-walked}
-
--- ---- the commands of entries
-
-full-commands : (t : ℕ) (bytes : List ℕ) → entryCommands fullForm t bytes ≡ every (λ (x : ℕ). eqb x 0x04) (commandsIn (full t) bytes)
-unfolding fullForm placeOf fullEntryLength
-full-commands t bytes = commands-walked fullForm bytes t
-
-evidence-commands : (t : ℕ) (bytes : List ℕ) → entryCommands (formOf bytes) t bytes ≡ every (λ (x : ℕ). eqb x 0x06) (commandsIn (evidence t) bytes)
-unfolding evidenceForm placeOf evidenceEntryLength
-evidence-commands t bytes = commands-walked (formOf bytes) bytes t
-
--- ---- SUBMIT and NOTICE
-
-pub submit-length : (bytes : List ℕ) → fitsSubmit bytes ≡ true → (length bytes ≡ submitLength) × (byteAt bytes 0 ≡ 0x01)
-unfolding fitsSubmit
-submit-length bytes h =
-    let both = and-eq-true-iff (eqb (length bytes) submitLength) (eqb (byteAt bytes 0) 0x01) .0 h in
-    (eqb-true (length bytes) submitLength (both .0), eqb-true (byteAt bytes 0) 0x01 (both .1))
-
-pub notice-length : (bytes : List ℕ) → fitsNotice bytes ≡ true → (length bytes ≡ noticeLength) × (byteAt bytes 0 ≡ 0x02)
-unfolding fitsNotice
-notice-length bytes h =
-    let both = and-eq-true-iff (eqb (length bytes) noticeLength) (eqb (byteAt bytes 0) 0x02) .0 h in
-    (eqb-true (length bytes) noticeLength (both .0), eqb-true (byteAt bytes 0) 0x02 (both .1))
+use Rattle.wire.specs.Reading.{commandsAre}
 
 -- ---- FULL
 
@@ -57,37 +30,14 @@ module _ (n : ℕ) (bytes : List ℕ) where
   full-count h = sym (rw (ne-eqb (byteAt bytes fullCountAt) (k n) h, and-false))
 
   pub full-entries : (r : Bool) → length bytes ≡ fullLength n → byteAt bytes 0 ≡ 0x03 → byteAt bytes fullCountAt ≡ k n
-      → r ≡ every (λ (x : ℕ). eqb x 0x04) (commandsIn (full (k n)) bytes) → r ≡ fitsFull n bytes
-  unfolding fitsFull
+      → r ≡ commandsAre 0x04 (full (k n)) bytes → r ≡ fitsFull n bytes
+  unfolding fitsFull entryCommands fullForm placeOf fullEntryLength
   full-entries r l z e h =
       h ∙ sym (rw (
         eq-eqb (length bytes) (fullLength n) l,
         eq-eqb (byteAt bytes 0) 0x03 z,
         eq-eqb (byteAt bytes fullCountAt) (k n) e,
-        full-commands (k n) bytes,
       ))
-
-  pub record FullFits : Type 0 where
-    pub size : length bytes ≡ fullLength n
-    pub code : byteAt bytes 0 ≡ 0x03
-    pub count : byteAt bytes fullCountAt ≡ k n
-    pub commands : entryCommands fullForm (k n) bytes ≡ true
-
-  pub full-fits : fitsFull n bytes ≡ true → FullFits
-  unfolding fitsFull
-  full-fits h =
-      let size = eqb (length bytes) (fullLength n) in
-      let code = eqb (byteAt bytes 0) 0x03 in
-      let count = eqb (byteAt bytes fullCountAt) (k n) in
-      let three = and-eq-true-iff (size && code && count) (entryCommands fullForm (k n) bytes) .0 h in
-      let two = and-eq-true-iff (size && code) count .0 (three .0) in
-      let one = and-eq-true-iff size code .0 (two .0) in
-      record {
-        size = eqb-true (length bytes) (fullLength n) (one .0);
-        code = eqb-true (byteAt bytes 0) 0x03 (one .1);
-        count = eqb-true (byteAt bytes fullCountAt) (k n) (two .1);
-        commands = three .1;
-      }
 
 -- ---- EVIDENCE
 
@@ -117,35 +67,12 @@ module _ (n : ℕ) (bytes : List ℕ) where
   evidence-size size e h = sym (rw (ne-eqb (length bytes) (evidenceLength counted) (λ q. h (q ∙ sym e)), and-false))
 
   pub evidence-entries : (r : Bool) → byteAt bytes 0 ≡ 0x05 → 1 ≤ counted → counted ≤ n → length bytes ≡ evidenceLength counted
-      → r ≡ every (λ (x : ℕ). eqb x 0x06) (commandsIn (evidence counted) bytes) → r ≡ fitsEvidence n bytes
-  unfolding fitsEvidence
+      → r ≡ commandsAre 0x06 (evidence counted) bytes → r ≡ fitsEvidence n bytes
+  unfolding fitsEvidence entryCommands evidenceForm placeOf evidenceEntryLength
   evidence-entries r z a b l h =
       h ∙ sym (rw (
         eq-eqb (byteAt bytes 0) 0x05 z,
         le-leb 1 counted a,
         le-leb counted n b,
         eq-eqb (length bytes) (evidenceLength counted) l,
-        evidence-commands counted bytes,
       ))
-
-  pub record EvidenceFits : Type 0 where
-    pub code : byteAt bytes 0 ≡ 0x05
-    pub few : counted ≤ n
-    pub size : length bytes ≡ evidenceLength counted
-    pub commands : entryCommands (formOf bytes) counted bytes ≡ true
-
-  pub evidence-fits : fitsEvidence n bytes ≡ true → EvidenceFits
-  unfolding fitsEvidence
-  evidence-fits h =
-      let code = eqb (byteAt bytes 0) 0x05 in
-      let size = eqb (length bytes) (evidenceLength counted) in
-      let four = and-eq-true-iff (code && leb 1 counted && leb counted n && size) (entryCommands (formOf bytes) counted bytes) .0 h in
-      let three = and-eq-true-iff (code && leb 1 counted && leb counted n) size .0 (four .0) in
-      let two = and-eq-true-iff (code && leb 1 counted) (leb counted n) .0 (three .0) in
-      let one = and-eq-true-iff code (leb 1 counted) .0 (two .0) in
-      record {
-        code = eqb-true (byteAt bytes 0) 0x05 (one .0);
-        few = leb-true counted n (two .1);
-        size = eqb-true (length bytes) (evidenceLength counted) (three .1);
-        commands = four .1;
-      }

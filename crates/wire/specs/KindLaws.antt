@@ -6,6 +6,7 @@ use mathlib.Core.List.{List}
 use Prim.Native.Nat.{ℕ}
 use lib.Dec.{eqb}
 use Rattle.protocol.specs.Message.{Message, Submit, Notice, Full, Evidence, Garbled, render, readSubmit, readNotice, readFull, readEvidence, fitsSubmit, fitsNotice, fitsFull, fitsEvidence, read}
+use Rattle.protocol.specs.MessageLaws.{read-cases}
 use Rattle.wire.specs.Reading.{kindOf}
 use Rattle.wire.specs.Answers.{commandOf, command}
 use Rattle.wire.specs.declared.read.Kind.{Kind}
@@ -78,16 +79,10 @@ fitsAs kind.Evidence n bytes = fitsEvidence n bytes
 fitsAs kind.Garbled n bytes = true
 
 pub read-as : (k : Kind) (n : ℕ) (bytes : List ℕ) → k ≡ kindOf (read n bytes) → (read n bytes ≡ readAs k n bytes) × (fitsAs k n bytes ≡ true)
-unfolding read kindOf readSubmit readNotice readFull readEvidence
-read-as k n bytes e = go (fitsSubmit bytes) refl (fitsNotice bytes) refl (fitsFull n bytes) refl (fitsEvidence n bytes) refl
-  where
-    go : (a : Bool) → fitsSubmit bytes ≡ a → (b : Bool) → fitsNotice bytes ≡ b → (c : Bool) → fitsFull n bytes ≡ c → (d : Bool) → fitsEvidence n bytes ≡ d
-        → (read n bytes ≡ readAs k n bytes) × (fitsAs k n bytes ≡ true)
-    go true p b q c r d s = let h : k ≡ kind.Submit = e ∙ rw p in rw (h, p) (refl, refl)
-    go false p true q c r d s = let h : k ≡ kind.Notice = e ∙ rw (p, q) in rw (h, p, q) (refl, refl)
-    go false p false q true r d s = let h : k ≡ kind.Full = e ∙ rw (p, q, r) in rw (h, p, q, r) (refl, refl)
-    go false p false q false r true s = let h : k ≡ kind.Evidence = e ∙ rw (p, q, r, s) in rw (h, p, q, r, s) (refl, refl)
-    go false p false q false r false s = let h : k ≡ kind.Garbled = e ∙ rw (p, q, r, s) in rw (h, p, q, r, s) (refl, refl)
+unfolding kindOf readSubmit readNotice readFull readEvidence
+read-as k n bytes =
+    read-cases (λ m. k ≡ kindOf m → (m ≡ readAs k n bytes) × (fitsAs k n bytes ≡ true)) n bytes
+    (λ f e. rw e (refl, f)) (λ f e. rw e (refl, f)) (λ f e. rw e (refl, f)) (λ f e. rw e (refl, f)) (λ e. rw e (refl, refl))
 
 -- the number that the compiler gives each kind, for proofs about a `match`
 abbrev pub tag : Kind → ℕ

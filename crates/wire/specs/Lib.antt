@@ -7,4 +7,3 @@ pub mod FormLaws
 pub mod KindLaws
 pub mod MessageLaws
 pub mod NextLaws
-pub mod RoundTrip

@@ -17,11 +17,10 @@ use Rattle.protocol.specs.Entries.{placeOf}
 use Rattle.protocol.specs.Message.{Message, Submit, Notice, Full, Evidence, Garbled, fullForm, evidenceForm, formOf, byteAt, readRound, readValue, readSubmit, readNotice, readFull, readEvidence, read, roundOf, entrySeats, seatsOf}
 use Rattle.protocol.specs.Refusals.{every, rising, otherRound, stranger, disorder}
 use Rattle.protocol.specs.ConditionsLaws.{every-append}
-use Rattle.protocol.specs.MessageLaws.{full-faithful, evidence-faithful}
+use Rattle.protocol.specs.MessageLaws.{full-faithful, evidence-faithful, submit-fits, notice-fits, full-fits, evidence-fits}
 use Rattle.layout.specs.Places.{full, evidence}
 use Rattle.wire.specs.Reading.{kindOf, bytesAt, seatsIn, Inside, sendersOf}
 use Rattle.wire.specs.WalkLaws.{seats-walked}
-use Rattle.wire.specs.FormLaws.{submit-length, notice-length, full-fits, evidence-fits}
 use Rattle.wire.specs.KindLaws.{read-as, tag}
 use Rattle.wire.specs.declared.read.Kind.{Kind}
 use Rattle.wire.specs.declared.read.Kind.the-variants as kind
@@ -30,8 +29,8 @@ use Rattle.wire.specs.declared.read.Kind.the-variants as kind
 
 -- every command but a garbled one is as long as a NOTICE or longer
 pub long-enough : (t : Kind) (n : ℕ) (bytes : List ℕ) → t ≡ kindOf (read n bytes) → (tag t ≡ 4 → ⊥) → valueAt + valueLength ≤ length bytes
-long-enough kind.Submit n bytes e h = omega (arith, submit-length bytes (read-as kind.Submit n bytes e .1) .0, submit-figure)
-long-enough kind.Notice n bytes e h = omega (arith, notice-length bytes (read-as kind.Notice n bytes e .1) .0, notice-figure)
+long-enough kind.Submit n bytes e h = omega (arith, submit-fits bytes (read-as kind.Submit n bytes e .1) .0, submit-figure)
+long-enough kind.Notice n bytes e h = omega (arith, notice-fits bytes (read-as kind.Notice n bytes e .1) .0, notice-figure)
 long-enough kind.Full n bytes e h = omega (arith, full-fits n bytes (read-as kind.Full n bytes e .1) .size, full-figure n)
 long-enough kind.Evidence n bytes e h = omega (arith, evidence-fits n bytes (read-as kind.Evidence n bytes e .1) .size, evidence-figure (byteAt bytes evidenceCountAt))
 long-enough kind.Garbled n bytes e h = absurd (h refl)

@@ -1,9 +1,12 @@
 -- Kinds, entries and senders, as the readers answer them.
 -- Assumes nothing.
+use mathlib.Core.Bool.{Bool}
 use mathlib.Core.List.{List, [], _∷_, _++_}
 use Prim.Native.Nat.{ℕ, zero, suc, _+_, _<_}
+use lib.Dec.{eqb}
 use lib.ListN.{length}
 use Rattle.protocol.specs.Layout.{entryAt}
+use Rattle.protocol.specs.Entries.{eachBelow}
 use Rattle.protocol.specs.Message.{Message, Submit, Notice, Full, Evidence, Garbled, byteAt}
 use Rattle.layout.specs.declared.Entries.{Entries}
 use Rattle.wire.specs.declared.read.Kind.{Kind}
@@ -31,8 +34,9 @@ commandPlace entries i = entryAt (entries .start) (entries .length) i
 abbrev pub seatPlace : Entries → ℕ → ℕ
 seatPlace entries i = entryAt (entries .start) (entries .length) i + 1
 
-abbrev pub commandsIn : Entries → List ℕ → List ℕ
-commandsIn entries bytes = bytesAt (commandPlace entries) (entries .count) bytes
+-- every entry has the command
+abbrev pub commandsAre : ℕ → Entries → List ℕ → Bool
+commandsAre command entries bytes = eachBelow (λ (i : ℕ). eqb (byteAt bytes (commandPlace entries i)) command) (entries .count)
 
 abbrev pub seatsIn : Entries → List ℕ → List ℕ
 seatsIn entries bytes = bytesAt (seatPlace entries) (entries .count) bytes

@@ -1,19 +1,19 @@
--- Laws of walks over entries: a byte of each, at its place; and the walks that read a form's commands and seats.
+-- Laws of walks over entries: a byte of each, at its place; and the walk that reads a form's seats.
 -- Assumes nothing.
 use mathlib.Core.Path.{_≡_, refl, sym, ap, _∙_}
-use mathlib.Core.Bool.{Bool, true, false, _&&_, and-true, and-false, false≢true}
+use mathlib.Core.Bool.{Bool, true, false, _&&_, and-true, and-false}
 use mathlib.Core.Logic.{_⊎_, inl, inr, ⊎-elim}
 use mathlib.Core.List.{List, [], _∷_, append-assoc, map-append}
-use Prim.Native.Nat.{ℕ, zero, suc, _+_, _≤_, _<_}
-use native.Mathlib.Nat.{mul-suc, mul-le-mul-left, eq-or-lt-of-le, le-of-suc-le-suc}
+use Prim.Native.Nat.{ℕ, zero, suc, _+_, _-_, _≤_, _<_}
+use native.Mathlib.Nat.{mul-suc, mul-le-mul-left, eq-or-lt-of-le}
 use native.Mathlib.Numerals.{add-one}
 use native.Mathlib.Omega.{arith}
-use lib.Dec.{ltb, eqb}
+use lib.Dec.{ltb}
 use lib.ListN.{length}
 use borrow.Author.Tests.{ltb-true, lt-ltb, le-ltb}
 use Rattle.quorum.specs.Quorum.{with}
-use Rattle.protocol.specs.Entries.{Form, byteAt, placeOf, entryCommands, readEntry, readEntries, formSeats}
-use Rattle.protocol.specs.EntriesLaws.{Faithful}
+use Rattle.protocol.specs.Entries.{eachBelow, Form, byteAt, placeOf, readEntry, readEntries, formSeats}
+use Rattle.protocol.specs.EntriesLaws.{each-at, Faithful}
 use Rattle.protocol.specs.Certificate.{setOf}
 use Rattle.protocol.specs.Refusals.{every, rising}
 use Rattle.protocol.specs.ConditionsLaws.{every-append, rising-snoc}
@@ -28,45 +28,14 @@ entry-inside entries bytes i h l = omega (arith, mul-le-mul-left (entries .lengt
 module _ (place : ℕ → ℕ) (bytes : List ℕ) where
   -- ---- a test of every byte
 
-  module _ (test : ℕ → Bool) where
-    every-step : (t : ℕ) → every test (bytesAt place (suc t) bytes) ≡ (every test (bytesAt place t bytes) && test (byteAt bytes (place t)))
-    unfolding bytesAt every
-    every-step t = every-append test (bytesAt place t bytes) (byteAt bytes (place t) ∷ []) ∙ rw and-true
-
-    module _ (count : ℕ) where
-      -- state of a walk at index t
-      abbrev pub Passed : ℕ → Type 0
-      Passed t = (t ≤ count) × (every test (bytesAt place t bytes) ≡ true)
-
-      pub passed-none : Passed 0
-      unfolding bytesAt every
-      passed-none = (omega arith, refl)
-
-      -- the byte x at index t passes, or doesn't
-      pub passed-turn : (t x : ℕ) → Passed t → t < count → x ≡ byteAt bytes (place t) → test x ≡ true → Passed (t + 1)
-      passed-turn t x p l e h = (omega arith, rw (add-one, every-step t, p .1, ← e, h))
-
-    pub failed : (count t x : ℕ) → t < count → x ≡ byteAt bytes (place t) → test x ≡ false → false ≡ every test (bytesAt place count bytes)
-    failed zero t x l e h = absurd (omega arith)
-    failed (suc count) t x l e h =
-        ⊎-elim
-        (λ (q : t ≡ count). sym (rw (every-step count, ← q, ← e, h, and-false)))
-        (λ (b : t < count). sym (rw (every-step count, ← failed count t x b e h)))
-        (eq-or-lt-of-le (le-of-suc-le-suc l))
-
-    pub passed-all : (count t : ℕ) → Passed count t → count ≤ t → true ≡ every test (bytesAt place count bytes)
-    passed-all count t p l = let q : t ≡ count = omega arith in sym (rw q at (p .1))
-
-    passed-at : (count t : ℕ) → t < count → every test (bytesAt place count bytes) ≡ true → test (byteAt bytes (place t)) ≡ true
-    passed-at count t l h = go (test (byteAt bytes (place t))) refl
-      where
-        go : (b : Bool) → test (byteAt bytes (place t)) ≡ b → b ≡ true
-        go true e = refl
-        go false e = absurd (false≢true (failed count t (byteAt bytes (place t)) l refl e ∙ h))
+  pub every-byte : (test : ℕ → Bool) (t : ℕ) → every test (bytesAt place t bytes) ≡ eachBelow (λ (i : ℕ). test (byteAt bytes (place i))) t
+  unfolding bytesAt every eachBelow
+  every-byte test zero = refl
+  every-byte test (suc t) = every-append test (bytesAt place t bytes) (byteAt bytes (place t) ∷ []) ∙ rw (every-byte test t, and-true)
 
   -- a byte of those that are all below n
   pub below-at : (n count t : ℕ) → t < count → every (λ (x : ℕ). ltb x n) (bytesAt place count bytes) ≡ true → byteAt bytes (place t) < n
-  below-at n count t l h = ltb-true _ n (passed-at (λ (x : ℕ). ltb x n) count t l h)
+  below-at n count t l h = ltb-true _ n (each-at _ t count l (sym (every-byte (λ (x : ℕ). ltb x n) count) ∙ h))
 
   -- ---- rising bytes
 
@@ -78,63 +47,73 @@ module _ (place : ℕ → ℕ) (bytes : List ℕ) where
       let b = byteAt bytes (place (suc t)) in
       ap rising (append-assoc (bytesAt place t bytes) (a ∷ []) (b ∷ [])) ∙ rising-snoc (bytesAt place t bytes) a b
 
-  -- state of a walk at index t, from 1 on
-  abbrev pub Rises : ℕ → ℕ → Type 0
-  Rises count t = (1 ≤ t) × ((t ≤ count) ⊎ (t ≡ 1)) × (rising (bytesAt place t bytes) ≡ true)
-
-  pub rises-first : (count : ℕ) → Rises count 1
-  unfolding bytesAt rising
-  rises-first count = (omega arith, inr refl, refl)
-
-  pub rises-turn : (count t u : ℕ) → t ≡ suc u → Rises count t → t < count → byteAt bytes (place u) < byteAt bytes (place t) → Rises count (t + 1)
-  rises-turn count t u q h c l =
-      let h′ : rising (bytesAt place (suc u) bytes) ≡ true = rw q at (h .2) in
-      let l′ : byteAt bytes (place u) < byteAt bytes (place (suc u)) = rw q at l in
-      (omega arith, inl (omega arith), rw (q, add-one, rising-step u, h′, lt-ltb _ _ l′))
-
-  pub rises-not : (count t u : ℕ) → t ≡ suc u → t < count → byteAt bytes (place t) ≤ byteAt bytes (place u) → false ≡ rising (bytesAt place count bytes)
-  rises-not zero t u q l e = absurd (omega arith)
-  rises-not (suc zero) t u q l e = absurd (omega arith)
-  rises-not (suc (suc count)) t u q l e =
+  rises-not : (count u : ℕ) → suc u < count → byteAt bytes (place (suc u)) ≤ byteAt bytes (place u) → rising (bytesAt place count bytes) ≡ false
+  rises-not zero u l e = absurd (omega arith)
+  rises-not (suc zero) u l e = absurd (omega arith)
+  rises-not (suc (suc count)) u l e =
       ⊎-elim
-      (λ (p : u ≡ count).
-      let e′ : byteAt bytes (place (suc u)) ≤ byteAt bytes (place u) = rw q at e in
-      rw (← p) (sym (rw (rising-step u, le-ltb _ _ e′, and-false))))
-      (λ (b : u < count). sym (rw (rising-step count, ← rises-not (suc count) t u q (omega arith) e)))
+      (λ (p : u ≡ count). rw (← p, rising-step u, le-ltb _ _ e, and-false))
+      (λ (b : u < count). rw (rising-step count, rises-not (suc count) u (omega arith) e))
       (eq-or-lt-of-le (omega arith))
 
-  pub rises-all : (count t : ℕ) → Rises count t → count ≤ t → true ≡ rising (bytesAt place count bytes)
+-- state of a walk at index t, from 1 on
+pub record Rises (place : ℕ → ℕ) (bytes : List ℕ) (count t : ℕ) : Type 0 where
+  pub some : 1 ≤ t
+  pub within : (t ≤ count) ⊎ (t ≡ 1)
+  pub rises : rising (bytesAt place t bytes) ≡ true
+
+pub rises-first : {place : ℕ → ℕ} {bytes : List ℕ} {count : ℕ} → Rises place bytes count 1
+unfolding bytesAt rising
+rises-first = record { some = omega arith; within = inr refl; rises = refl }
+
+module _ {place : ℕ → ℕ} {bytes : List ℕ} {count t : ℕ} (h : Rises place bytes count t) where
+  before : t ≡ suc (t - 1)
+  before = omega (arith, h .some)
+
+  -- the byte of index t is above the one before it, or isn't
+  pub rises-turn : t < count → byteAt bytes (place (t - 1)) < byteAt bytes (place t) → Rises place bytes count (t + 1)
+  rises-turn l e =
+      let e′ : byteAt bytes (place (t - 1)) < byteAt bytes (place (suc (t - 1))) = rw (← before) e in
+      let so-far : rising (bytesAt place (suc (t - 1)) bytes) ≡ true = rw (← before) (h .rises) in
+      let more : rising (bytesAt place (suc (suc (t - 1))) bytes) ≡ true = rw (rising-step place bytes (t - 1), so-far, lt-ltb _ _ e′) in
+      record { some = omega arith; within = inl (omega arith); rises = rw (add-one, before) more }
+
+  pub rises-fails : t < count → byteAt bytes (place t) ≤ byteAt bytes (place (t - 1)) → rising (bytesAt place count bytes) ≡ false
+  rises-fails l e = rises-not place bytes count (t - 1) (omega (arith, before)) (rw (← before) e)
+
+  pub rises-all : count ≤ t → rising (bytesAt place count bytes) ≡ true
   unfolding bytesAt rising
-  rises-all zero t h g = refl
-  rises-all (suc count) t h g =
-      let q : t ≡ suc count = ⊎-elim (λ a. omega arith) (λ b. omega arith) (h .1) in
-      sym (rw q at (h .2))
+  rises-all g = at-end count refl g
+    where
+      at-end : (n : ℕ) → count ≡ n → n ≤ t → rising (bytesAt place n bytes) ≡ true
+      at-end zero q l = refl
+      at-end (suc n) q l =
+          let e : t ≡ suc n = ⊎-elim (λ a. omega arith) (λ b. omega (arith, h .some)) (h .within) in
+          rw e at (h .rises)
 
-  -- ---- the set of seats
+-- ---- the set of seats
 
-  -- state of a walk at index t
-  abbrev pub Gathered : ℕ → ℕ → ℕ → Type 0
-  Gathered count mask t = (t ≤ count) × (mask ≡ setOf (bytesAt place t bytes))
+-- state of a walk at index t
+pub record Gathered (place : ℕ → ℕ) (bytes : List ℕ) (count mask t : ℕ) : Type 0 where
+  pub within : t ≤ count
+  pub set : mask ≡ setOf (bytesAt place t bytes)
 
-  pub gathered-none : (count : ℕ) → Gathered count 0 0
-  unfolding bytesAt setOf
-  gathered-none count = (omega arith, refl)
+pub gathered-none : {place : ℕ → ℕ} {bytes : List ℕ} {count : ℕ} → Gathered place bytes count 0 0
+unfolding bytesAt setOf
+gathered-none = record { within = omega arith; set = refl }
 
-  pub gathered-turn : (count mask t x r : ℕ) → Gathered count mask t → t < count → x ≡ byteAt bytes (place t) → r ≡ with x mask → Gathered count r (t + 1)
+module _ {place : ℕ → ℕ} {bytes : List ℕ} {count mask t : ℕ} (h : Gathered place bytes count mask t) where
+  pub gathered-turn : {x r : ℕ} → t < count → x ≡ byteAt bytes (place t) → r ≡ with x mask → Gathered place bytes count r (t + 1)
   unfolding bytesAt
-  gathered-turn count mask t x r h l e q = (omega arith, q ∙ rw (e, h .1, add-one, set-snoc (bytesAt place t bytes) (byteAt bytes (place t))))
+  gathered-turn l e q =
+      record { within = omega arith; set = q ∙ rw (e, h .set, add-one, set-snoc (bytesAt place t bytes) (byteAt bytes (place t))) }
 
-  pub gathered-all : (count mask t : ℕ) → Gathered count mask t → count ≤ t → mask ≡ setOf (bytesAt place count bytes)
-  gathered-all count mask t h l = let q : t ≡ count = omega arith in h .1 ∙ rw q
+  pub gathered-all : count ≤ t → mask ≡ setOf (bytesAt place count bytes)
+  gathered-all l = let q : t ≡ count = omega arith in h .set ∙ rw q
 
--- ---- the entries of a form
+-- ---- the seats of a form
 
 module _ {A : Type 0} (form : Form A) (bytes : List ℕ) where
-  pub commands-walked : (t : ℕ) → entryCommands form t bytes ≡ every (λ (x : ℕ). eqb x (form .command)) (bytesAt (placeOf form) t bytes)
-  unfolding entryCommands bytesAt every
-  commands-walked zero = refl
-  commands-walked (suc t) = rw (commands-walked t) (sym (every-step (placeOf form) bytes (λ (x : ℕ). eqb x (form .command)) t))
-
   pub seats-walked : Faithful form → (t : ℕ) → bytesAt (λ (i : ℕ). placeOf form i + 1) t bytes ≡ formSeats form (readEntries form t bytes)
   unfolding bytesAt formSeats readEntries readEntry
   seats-walked faithful zero = refl

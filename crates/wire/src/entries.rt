@@ -2,12 +2,12 @@
 ghost use mathlib.Core.Path.{_≡_};
 ghost use mathlib.Core.Bool.{true};
 ghost use Prim.Native.Nat.{ℕ, _<_};
-ghost use lib.Dec.{ltb, eqb};
+ghost use lib.Dec.{ltb};
 ghost use Rattle.quorum.specs.Quorum.{mostSeats};
 ghost use Rattle.protocol.specs.Message.{byteAt};
 ghost use Rattle.protocol.specs.Certificate.{setOf};
 ghost use Rattle.protocol.specs.Refusals.{every, rising};
-ghost use Rattle.wire.specs.Reading.{commandPlace, seatPlace, commandsIn, seatsIn, Inside};
+ghost use Rattle.wire.specs.Reading.{commandPlace, seatPlace, commandsAre, seatsIn, Inside};
 use layout::Entries;
 use octets::wide;
 use quorum::Mask;
@@ -33,7 +33,7 @@ pub fn seat_of_entry(m: &[u8], entries: Entries, i: usize) -> u32
 // Whether every entry has the command.
 pub(crate) fn have_command(m: &[u8], entries: Entries, command: u32) -> bool
     requires { ⌜ Inside entries (now m) ⌝ }
-    ensures { λ r. ⌜ r ≡ every (λ (x : ℕ). eqb x command) (commandsIn entries (now (m .entry))) ⌝ }
+    ensures { λ r. ⌜ r ≡ commandsAre command entries (now (m .entry)) ⌝ }
 {
     let count = entries.count;
     let mut i = 0;

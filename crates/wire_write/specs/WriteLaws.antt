@@ -31,9 +31,9 @@ pub one-byte : (at b : ℕ) (xs : List ℕ) → at < length xs → Wrote at (b �
 unfolding patch
 one-byte at b xs h = record { ends = refl; wrote = set-split xs at b h ∙ rw (← add-one at) }
 
-pub then : (at a e : ℕ) (us vs before between after : List ℕ) → at ≤ length before
-    → Wrote at us before between a → Wrote a vs between after e → Wrote at (us ++ vs) before after e
-then at a e us vs before between after h u v =
+pub then : {at a e : ℕ} {us vs before between after : List ℕ} → Wrote at us before between a → Wrote a vs between after e
+    → at ≤ length before → Wrote at (us ++ vs) before after e
+then {at} {a} {e} {us} {vs} {before} u v h =
     record {
       ends = rw length-append (omega (arith, u .ends, v .ends));
       wrote = v .wrote ∙ rw (u .wrote, u .ends) (patch-patch at us vs before h);
@@ -71,7 +71,7 @@ pub record Going {A : Type 0} (form : Form A) (f : ℕ → A) (n m at : ℕ) (be
   pub counted : end ≡ at + entryLength (form .held) * length (seats s m)
   pub written : Wrote at (renderEntries form (map f (seats s m))) before out end
 
-module _ {A : Type 0} (form : Form A) (f : ℕ → A) (n m at : ℕ) (before : List ℕ) where
+module _ {A : Type 0} {form : Form A} {f : ℕ → A} {n m at : ℕ} {before : List ℕ} where
   pub going-none : at ≤ length before → Going form f n m at before 0 at before
   unfolding renderEntries seats patch
   going-none h =
@@ -82,7 +82,7 @@ module _ {A : Type 0} (form : Form A) (f : ℕ → A) (n m at : ℕ) (before : L
         written = record { ends = sym (add-zero at); wrote = rw add-zero (sym (take-append-drop at before)) };
       }
 
-  module _ (s end : ℕ) (out : List ℕ) (g : Going form f n m at before s end out) where
+  module _ {s end : ℕ} {out : List ℕ} (g : Going form f n m at before s end out) where
     pub going-skip : s < n → bit s m ≡ 0 → Going form f n m at before (s + 1) end out
     going-skip l z =
         record {
@@ -101,10 +101,10 @@ module _ {A : Type 0} (form : Form A) (f : ℕ → A) (n m at : ℕ) (before : L
           omega (arith, mul-le-mul-left w more, mul-suc w (length (seats s m)), g .counted, g .long)
 
       -- the entry e is written
-      pub going-on : (e : A) → e ≡ f s → length (form .bytes e) ≡ form .held → (next : ℕ) (after : List ℕ) → Wrote end (renderEntry form e) out after next
+      pub going-on : (e : A) → e ≡ f s → length (form .bytes e) ≡ form .held → {next : ℕ} {after : List ℕ} → Wrote end (renderEntry form e) out after next
           → Going form f n m at before (s + 1) next after
       unfolding renderEntries
-      going-on e q h next after v =
+      going-on e q h v =
           let sized = length-entry form e h in
           let fits : end + length (renderEntry form e) ≤ length out = rw sized going-room in
           let passed = renderEntries form (map f (seats s m)) in
@@ -114,20 +114,21 @@ module _ {A : Type 0} (form : Form A) (f : ℕ → A) (n m at : ℕ) (before : L
             below = omega arith;
             long = rw (v .wrote) (length-patch end (renderEntry form e) out fits ∙ g .long);
             counted = rw (seats-in s m i, length-append (seats s m) (s ∷ []), add-one, mul-suc) (omega (arith, v .ends, sized, g .counted));
-            written = rw all (then at end next passed (renderEntry form e) before out after (omega (arith, room)) (g .written) v);
+            written = rw all (then (g .written) v (omega (arith, room)));
           }
 
     -- the loop's end
     pub going-done : s ≡ n → Wrote at (renderEntries form (map f (seats n m))) before out end × (end ≡ at + entryLength (form .held) * length (seats n m))
     going-done e = rw (← e) (g .written, g .counted)
 
-  -- a message from its parts: a front, the count, and the entries
-  pub list-written : (front : List ℕ) (count a end : ℕ) (one after : List ℕ) → at ≤ length before → m < 2 ^ n → count ≡ size m
-      → Wrote at (front ++ count ∷ []) before one a → Wrote a (renderEntries form (map f (seats n m))) one after end
-      → Wrote at (front ++ length (map f (seats n m)) ∷ [] ++ renderEntries form (map f (seats n m))) before after end
-  list-written front count a end one after h inside c u v =
-      let counted : length (map f (seats n m)) ≡ count = length-map (seats n m) f ∙ length-seats n m inside ∙ sym c in
-      rw counted (then at a end (front ++ count ∷ []) (renderEntries form (map f (seats n m))) before one after h u v)
+-- a message from its parts: a front, the count, and the entries
+pub list-written : {A : Type 0} (form : Form A) (f : ℕ → A) (n m : ℕ) (front : List ℕ) {at count a end : ℕ} {before one after : List ℕ}
+    → Wrote at (front ++ count ∷ []) before one a → Wrote a (renderEntries form (map f (seats n m))) one after end
+    → at ≤ length before → m < 2 ^ n → count ≡ size m
+    → Wrote at (front ++ length (map f (seats n m)) ∷ [] ++ renderEntries form (map f (seats n m))) before after end
+list-written form f n m front {count = count} u v h inside c =
+    let counted : length (map f (seats n m)) ≡ count = length-map (seats n m) f ∙ length-seats n m inside ∙ sym c in
+    rw counted (then u v h)
 
 -- the bytes of pairs don't say their values
 pub pairs-values : (n : ℕ) (low : Source) (lows : List ℕ) (high : Source) (highs lower higher l : List ℕ)
@@ -138,19 +139,19 @@ pairs-values n low lows high highs lower higher [] = refl
 pairs-values n low lows high highs lower higher (s ∷ l) = rw (pairs-values n low lows high highs lower higher l)
 
 -- EVIDENCE from its parts: its start, and the entries of the shared seats
-pub evidence-written : (n round at mask count a e : ℕ) (lower : List ℕ) (low : Source) (lows higher : List ℕ) (high : Source) (highs before one after : List ℕ)
-    → at ≤ length before → low .seats < 2 ^ n → high .seats < 2 ^ n → mask ≡ shared (low .seats) (high .seats) → count ≡ size mask
-    → Wrote at (evidenceHead round lower higher count) before one a
+pub evidence-written : (n round mask : ℕ) (lower : List ℕ) (low : Source) (lows higher : List ℕ) (high : Source) (highs : List ℕ)
+    → {at count a e : ℕ} {before one after : List ℕ} → Wrote at (evidenceHead round lower higher count) before one a
     → Wrote a (renderEntries (evidenceForm [] []) (pairsOf n mask (certificateFrom n low [] lows) (certificateFrom n high [] highs))) one after e
+    → at ≤ length before → low .seats < 2 ^ n → high .seats < 2 ^ n → mask ≡ shared (low .seats) (high .seats) → count ≡ size mask
     → Wrote at (render (orderedEvidence n round (certificateFrom n low lower lows) (certificateFrom n high higher highs))) before after e
 unfolding render orderedEvidence pairsOf
-evidence-written n round at mask count a e lower low lows higher high highs before one after h x y q c u v =
+evidence-written n round mask lower low lows higher high highs u v h x y q c =
     let both = shared (low .seats) (high .seats) in
-    list-written (evidenceForm lower higher) (pairOf (certificateFrom n low lower lows) (certificateFrom n high higher highs)) n both at before (0x05 ∷ be 2 round ++ lower ++ higher) count a e one after h
-    (shared-lt n (low .seats) (high .seats) x y) (c ∙ ap size q) u (rw (q, pairs-values n low lows high highs lower higher (seats n both)) at v)
+    list-written (evidenceForm lower higher) (pairOf (certificateFrom n low lower lows) (certificateFrom n high higher highs)) n both (0x05 ∷ be 2 round ++ lower ++ higher) u (rw (q, pairs-values n low lows high highs lower higher (seats n both)) at v) h
+    (shared-lt n (low .seats) (high .seats) x y) (c ∙ ap size q)
 
 -- EVIDENCE from two certificates in either order, by a test of their values
-module _ (n round : ℕ) (c d : Certificate) (t : Bool) (e : t ≡ isLower (c .value) (d .value)) (at : ℕ) (before after : List ℕ) (end : ℕ) where
+module _ (n round : ℕ) (c d : Certificate) {t : Bool} (e : t ≡ isLower (c .value) (d .value)) {at : ℕ} {before after : List ℕ} {end : ℕ} where
   pub given-lower : t ≡ true → Wrote at (render (orderedEvidence n round c d)) before after end → Wrote at (render (evidenceOf n round c d)) before after end
   unfolding evidenceOf
   given-lower f w = rw (← e, f) w

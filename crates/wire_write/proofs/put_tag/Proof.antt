@@ -1,7 +1,6 @@
 -- `wire_write::put_tag` meets its contract.
 use native.Mathlib.Omega.{arith}
 use borrow.Author.Needs.{needs}
-use denote.Ref.{now}
 use Rattle.wire_write.specs.WriteLaws.{then}
 use Rattle.wire_write.proofs.put_tag.Statement.{statement}
 use Rattle.wire_write.proofs.put_tag.Tie as tie
@@ -11,8 +10,7 @@ returns c =
     let second = c .before .before in
     let first = second .before .before .before .before in
     let start = first .before .before .before in
-    then (start .args .at) (first .put-byte .result) (second .put-byte2 .result) _ _ (now (start .args .out)) (first .put-byte .last .0) (second .put-byte2 .last .0) (omega (arith, start .pre))
-    (first .put-byte .ensures) (second .put-byte2 .ensures)
+    then (first .put-byte .ensures) (second .put-byte2 .ensures) (omega (arith, start .pre))
 
 pub put-tag-spec : {M : Type 1} → statement M
 put-tag-spec =

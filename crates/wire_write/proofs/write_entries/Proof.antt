@@ -37,9 +37,7 @@ test-out : (c : tie.After-has Inv-loop μ-loop) → c .has .result ≡ false →
 test-out c t = has-false _ _ .0 (sym (c .has .ensures) ∙ t)
 
 loop-holds : tie.Need-loop-holds Inv-loop μ-loop
-loop-holds c =
-    let args = c .before .before .args in
-    going-none fullForm _ (args .n) (args .source .seats) (args .at) (now (args .out)) (omega arith)
+loop-holds c = going-none (omega arith)
 
 has-requires : tie.Need-has-requires Inv-loop μ-loop
 has-requires c κs = omega arith
@@ -55,13 +53,8 @@ unfolding fullForm fullEntryLength
 write-entry-requires c κs =
     let taken = c .before .before in
     let at-loop = looped (taken .before) in
-    let start = started at-loop in
-    let args = start .args in
-    let loop = at-loop .loop in (
-      omega (arith, start .pre .0),
-      c .signature-of .ensures .1,
-      going-room fullForm _ (args .n) (args .source .seats) (args .at) (now (args .out)) (loop .s) (loop .end) (loop .out) (loop .inv) (omega arith) (test-in (taken .before) (taken .if1 .taken)) (start .pre .2),
-    )
+    let pre = started at-loop .pre in
+    (omega (arith, pre .0), c .signature-of .ensures .1, going-room (at-loop .loop .inv) (omega arith) (test-in (taken .before) (taken .if1 .taken)) (pre .2))
 
 add-s : tie.Need-add-s Inv-loop μ-loop
 add-s c = omega arith
@@ -74,19 +67,13 @@ unfolding fullForm fullEntryLength
 loop-again c =
     let tested = c .before in
     let at-loop = looped tested in
-    let start = started at-loop in
-    let args = start .args in
     let loop = at-loop .loop in
-    let s = loop .s in
-    let out = now (args .out) in
     ⊎-elim
     (λ w.
+    let written = entry (loop .s) in
     rw (w .6, w .7)
-    (going-on fullForm _ (args .n) (args .source .seats) (args .at) out s (loop .end) (loop .out) (loop .inv) (omega arith) (test-in tested (w .0 .taken)) (start .pre .2)
-    (entry s (now (w .2 .result))) (ap (entry s) (w .2 .ensures .0)) (w .2 .ensures .1) (w .3 .result) (w .3 .last .0) (w .3 .ensures)))
-    (λ w.
-    rw (w .1, w .2)
-    (going-skip fullForm _ (args .n) (args .source .seats) (args .at) out s (loop .end) (loop .out) (loop .inv) (omega arith) (test-out tested (w .0 .left))))
+    (going-on (loop .inv) (omega arith) (test-in tested (w .0 .taken)) (started at-loop .pre .2) (written (now (w .2 .result))) (ap written (w .2 .ensures .0)) (w .2 .ensures .1) (w .3 .ensures)))
+    (λ w. rw (w .1, w .2) (going-skip (loop .inv) (omega arith) (test-out tested (w .0 .left))))
     (c .if1 .came)
 
 same-length : tie.Need-same-length Inv-loop μ-loop
@@ -94,11 +81,7 @@ same-length c = omega arith
 
 returns : tie.Need-returns Inv-loop μ-loop
 unfolding fullForm fullEntryLength entriesOf
-returns c =
-    let at-loop = c .before in
-    let args = started at-loop .args in
-    let loop = at-loop .loop in
-    going-done fullForm _ (args .n) (args .source .seats) (args .at) (now (args .out)) (loop .s) (loop .end) (loop .out) (loop .inv) (omega arith)
+returns c = going-done (c .before .loop .inv) (omega arith)
 
 pub write-entries-spec : {M : Type 1} → statement M
 write-entries-spec =

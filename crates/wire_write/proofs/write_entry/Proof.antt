@@ -1,7 +1,6 @@
 -- `wire_write::write_entry` meets its contract.
 use native.Mathlib.Omega.{arith}
 use borrow.Author.Needs.{needs}
-use denote.Ref.{now}
 use Rattle.protocol.specs.Layout.{signatureLength, fullEntryLength}
 use Rattle.protocol.specs.Entries.{renderEntry}
 use Rattle.protocol.specs.Message.{fullForm}
@@ -23,8 +22,7 @@ returns c =
     let second = c .before .before in
     let first = second .before .before .before .before in
     let start = first .before .before .before .before in
-    then (start .args .at) (first .put-tag .result) (second .put .result) _ (now (start .args .signature)) (now (start .args .out)) (first .put-tag .last .0) (second .put .last .0) (omega (arith, start .pre))
-    (first .put-tag .ensures) (second .put .ensures)
+    then (first .put-tag .ensures) (second .put .ensures) (omega (arith, start .pre))
 
 pub write-entry-spec : {M : Type 1} → statement M
 write-entry-spec = tie.close (tie.spec put-tag-requires put-requires (λ c. search needs) returns)

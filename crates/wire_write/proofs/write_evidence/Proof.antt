@@ -34,8 +34,7 @@ returns c =
     let test = branch .before in
     let start = started test in
     let wrote = done .write-ordered in (
-      given-lower (start .args .n) (start .args .round) (one start) (two start) (test .lower .result) (test .lower .ensures) (start .args .at) (now (start .args .out)) (wrote .last .0) (wrote .result)
-          (branch .if1 .taken) (wrote .ensures .0),
+      given-lower (start .args .n) (start .args .round) (one start) (two start) (test .lower .ensures) (branch .if1 .taken) (wrote .ensures .0),
       wrote .ensures .1,
     )
 
@@ -52,8 +51,7 @@ returns-2 c =
     let test = branch .before in
     let start = started test in
     let wrote = done .write-ordered2 in (
-      given-higher (start .args .n) (start .args .round) (one start) (two start) (test .lower .result) (test .lower .ensures) (start .args .at) (now (start .args .out)) (wrote .last .0) (wrote .result)
-          (branch .if1 .left) (wrote .ensures .0),
+      given-higher (start .args .n) (start .args .round) (one start) (two start) (test .lower .ensures) (branch .if1 .left) (wrote .ensures .0),
       wrote .ensures .1 ∙ ap (λ (l : ℕ). start .args .at + l) (swapped start),
     )
 

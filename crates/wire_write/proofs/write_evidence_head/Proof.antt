@@ -47,13 +47,9 @@ returns c =
     let first = commanded second in
     let start = started first in
     let args = start .args in
-    let out = now (args .out) in
     let h = start .pre in
-    let wrote =
-    then (args .at) (third .put2 .result) (fourth .put-byte .result) _ _ out (third .put2 .last .0) (fourth .put-byte .last .0) (omega arith)
-    (then (args .at) (second .put .result) (third .put2 .result) _ (now (args .higher)) out (second .put .last .0) (third .put2 .last .0) (omega arith)
-    (then (args .at) (first .put-command .result) (second .put .result) _ (now (args .lower)) out (first .put-command .last .0) (second .put .last .0) (omega arith)
-    (first .put-command .ensures) (second .put .ensures)) (third .put2 .ensures)) (fourth .put-byte .ensures) in
+    let two = then (first .put-command .ensures) (second .put .ensures) (omega arith) in
+    let wrote = then (then two (third .put2 .ensures) (omega arith)) (fourth .put-byte .ensures) (omega arith) in
     (wrote, wrote .ends ∙ ap (λ (l : ℕ). args .at + l) (length-evidence-head (args .round) (now (args .lower)) (now (args .higher)) (args .count) (h .1) (h .2)))
 
 pub write-evidence-head-spec : {M : Type 1} → statement M

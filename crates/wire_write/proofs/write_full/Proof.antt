@@ -1,6 +1,6 @@
 -- `wire_write::write_full` meets its contract.
 use mathlib.Core.Path.{_∙_}
-use mathlib.Core.List.{_∷_, []}
+use mathlib.Core.List.{[]}
 use Prim.Native.Nat.{_≤_}
 use native.Mathlib.Omega.{arith}
 use lib.ListN.{length}
@@ -63,16 +63,11 @@ returns c =
     let start = started first in
     let args = start .args in
     let n = args .n in
-    let out = now (args .out) in
     let value = now (args .value) in
-    let front = head 0x03 (args .round) (args .sender) value in
-    let count = sized first .size in
-    let room : args .at ≤ length out = omega (arith, start .pre .4) in
+    let room : args .at ≤ length (now (args .out)) = omega (arith, start .pre .4) in
     let counted = length-seats n (args .source .seats) (start .pre .3 .inside) in (
-      list-written fullForm (entryOf (certificateFrom n (args .source) value (now (args .m)))) n (args .source .seats) (args .at) out front (count .result) (second .put-byte .result) (third .write-entries .result)
-          (second .put-byte .last .0) (third .write-entries .last .0) room (start .pre .3 .inside) (count .ensures)
-          (then (args .at) (first .write-head .result) (second .put-byte .result) front (count .result ∷ []) out (first .write-head .last .0) (second .put-byte .last .0) room (first .write-head .ensures .0) (second .put-byte .ensures))
-          (third .write-entries .ensures .0),
+      list-written fullForm (entryOf (certificateFrom n (args .source) value (now (args .m)))) n (args .source .seats) (head 0x03 (args .round) (args .sender) value)
+          (then (first .write-head .ensures .0) (second .put-byte .ensures) room) (third .write-entries .ensures .0) room (start .pre .3 .inside) (sized first .size .ensures),
       third .write-entries .ensures .1 ∙ rw counted (omega (arith, first .write-head .ensures .1, second .put-byte .ensures .ends)),
     )
 

@@ -39,11 +39,7 @@ returns c =
     let command = commanded byte in
     let start = started command in
     let args = start .args in
-    let out = now (args .out) in
-    let wrote =
-    then (args .at) (byte .put-byte .result) (last .put .result) _ (now (args .value)) out (byte .put-byte .last .0) (last .put .last .0) (omega (arith, start .pre))
-    (then (args .at) (command .put-command .result) (byte .put-byte .result) _ _ out (command .put-command .last .0) (byte .put-byte .last .0) (omega (arith, start .pre)) (command .put-command .ensures) (byte .put-byte .ensures))
-    (last .put .ensures) in
+    let wrote = then (then (command .put-command .ensures) (byte .put-byte .ensures) (omega (arith, start .pre))) (last .put .ensures) (omega (arith, start .pre)) in
     (wrote, wrote .ends ∙ ap (λ (l : ℕ). args .at + l) (length-head (args .command) (args .round) (args .seat) (now (args .value)) (start .pre .1)))
 
 pub write-head-spec : {M : Type 1} → statement M

@@ -71,9 +71,8 @@ returns c =
     let start = started sized in
     let args = start .args in
     let pre = start .pre in (
-      evidence-written (args .n) (args .round) (args .at) (mask sized) (sized .size .result) (first .write-evidence-head .result) (second .write-pairs .result) (now (args .lower)) (args .low) (now (args .lows))
-          (now (args .higher)) (args .high) (now (args .highs)) (now (args .out)) (first .write-evidence-head .last .0) (second .write-pairs .last .0) (omega (arith, pre .5))
-          (pre .2 .inside) (pre .4 .inside) (mask-is sized) (sized .size .ensures) (first .write-evidence-head .ensures .0) (second .write-pairs .ensures .0),
+      evidence-written (args .n) (args .round) (mask sized) (now (args .lower)) (args .low) (now (args .lows)) (now (args .higher)) (args .high) (now (args .highs)) (first .write-evidence-head .ensures .0)
+          (second .write-pairs .ensures .0) (omega (arith, pre .5)) (pre .2 .inside) (pre .4 .inside) (mask-is sized) (sized .size .ensures),
       second .write-pairs .ensures .1 ∙ rw (many sized) (omega (arith, first .write-evidence-head .ensures .1)),
     )
 

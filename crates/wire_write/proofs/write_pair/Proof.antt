@@ -1,7 +1,6 @@
 -- `wire_write::write_pair` meets its contract.
 use native.Mathlib.Omega.{arith}
 use borrow.Author.Needs.{needs}
-use denote.Ref.{now}
 use Rattle.protocol.specs.Layout.{signatureLength, evidenceEntryLength}
 use Rattle.protocol.specs.Entries.{renderEntry}
 use Rattle.protocol.specs.Message.{evidenceForm}
@@ -34,11 +33,7 @@ returns c =
     let second = third .before .before .before .before in
     let first = tagged second in
     let start = started first in
-    let args = start .args in
-    let out = now (args .out) in
-    then (args .at) (second .put .result) (third .put2 .result) _ (now (args .higher)) out (second .put .last .0) (third .put2 .last .0) (omega (arith, start .pre))
-    (then (args .at) (first .put-tag .result) (second .put .result) _ (now (args .lower)) out (first .put-tag .last .0) (second .put .last .0) (omega (arith, start .pre)) (first .put-tag .ensures) (second .put .ensures))
-    (third .put2 .ensures)
+    then (then (first .put-tag .ensures) (second .put .ensures) (omega (arith, start .pre))) (third .put2 .ensures) (omega (arith, start .pre))
 
 pub write-pair-spec : {M : Type 1} → statement M
 write-pair-spec =

@@ -42,9 +42,7 @@ test-out : (c : tie.After-has Inv-loop μ-loop) → c .has .result ≡ false →
 test-out c t = has-false _ _ .0 (sym (c .has .ensures) ∙ t)
 
 loop-holds : tie.Need-loop-holds Inv-loop μ-loop
-loop-holds c =
-    let args = c .before .before .before .args in
-    going-none form _ (args .n) (args .mask) (args .at) (now (args .out)) (omega arith)
+loop-holds c = going-none (omega arith)
 
 has-requires : tie.Need-has-requires Inv-loop μ-loop
 has-requires c κs = omega arith
@@ -69,13 +67,11 @@ write-pair-requires c κs =
     let first = second .before in
     let taken = first .before in
     let at-loop = looped (taken .before) in
-    let start = started at-loop in
-    let args = start .args in
-    let loop = at-loop .loop in (
-      omega (arith, start .pre .0),
+    let pre = started at-loop .pre in (
+      omega (arith, pre .0),
       first .signature-of .ensures .1,
       second .signature-of2 .ensures .1,
-      going-room form _ (args .n) (args .mask) (args .at) (now (args .out)) (loop .s) (loop .end) (loop .out) (loop .inv) (omega arith) (test-in (taken .before) (taken .if1 .taken)) (start .pre .5),
+      going-room (at-loop .loop .inv) (omega arith) (test-in (taken .before) (taken .if1 .taken)) (pre .5),
     )
 
 add-s : tie.Need-add-s Inv-loop μ-loop
@@ -89,22 +85,17 @@ unfolding evidenceForm evidenceEntryLength
 loop-again c =
     let tested = c .before in
     let at-loop = looped tested in
-    let start = started at-loop in
-    let args = start .args in
     let loop = at-loop .loop in
-    let s = loop .s in
-    let out = now (args .out) in
     ⊎-elim
     (λ w.
     let lower = w .1 in
     let higher = w .2 in
+    let written = pair (loop .s) in
     let two = length-append (now (lower .result)) (now (higher .result)) in
     rw (w .7, w .8)
-    (going-on form _ (args .n) (args .mask) (args .at) out s (loop .end) (loop .out) (loop .inv) (omega arith) (test-in tested (w .0 .taken)) (start .pre .5)
-    (pair s (now (lower .result)) (now (higher .result))) (ap₂ (pair s) (lower .ensures .0) (higher .ensures .0)) (two ∙ rw (lower .ensures .1, higher .ensures .1)) (w .4 .result) (w .4 .last .0) (w .4 .ensures)))
-    (λ w.
-    rw (w .1, w .2)
-    (going-skip form _ (args .n) (args .mask) (args .at) out s (loop .end) (loop .out) (loop .inv) (omega arith) (test-out tested (w .0 .left))))
+    (going-on (loop .inv) (omega arith) (test-in tested (w .0 .taken)) (started at-loop .pre .5) (written (now (lower .result)) (now (higher .result))) (ap₂ written (lower .ensures .0) (higher .ensures .0))
+    (two ∙ rw (lower .ensures .1, higher .ensures .1)) (w .4 .ensures)))
+    (λ w. rw (w .1, w .2) (going-skip (loop .inv) (omega arith) (test-out tested (w .0 .left))))
     (c .if1 .came)
 
 same-length : tie.Need-same-length Inv-loop μ-loop
@@ -112,11 +103,7 @@ same-length c = omega arith
 
 returns : tie.Need-returns Inv-loop μ-loop
 unfolding evidenceForm evidenceEntryLength pairsOf
-returns c =
-    let at-loop = c .before in
-    let args = started at-loop .args in
-    let loop = at-loop .loop in
-    going-done form _ (args .n) (args .mask) (args .at) (now (args .out)) (loop .s) (loop .end) (loop .out) (loop .inv) (omega arith)
+returns c = going-done (c .before .loop .inv) (omega arith)
 
 pub write-pairs-spec : {M : Type 1} → statement M
 write-pairs-spec =

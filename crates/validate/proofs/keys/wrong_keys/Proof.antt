@@ -1,20 +1,20 @@
 -- `validate::keys::wrong_keys` meets its contract.
 use mathlib.Core.Path.{_≡_, sym, _∙_}
-use mathlib.Core.Bool.{true}
-use Prim.Native.Nat.{_-_, _≤_}
+use Prim.Native.Nat.{ℕ, _-_}
 use native.Mathlib.Omega.{arith}
 use lib.ListN.{length}
 use borrow.Author.Tests.{not-true, not-false}
 use denote.Ref.{now}
 use borrow.Author.Needs.{needs}
 use Rattle.protocol.specs.Layout.{keyAt}
-use Rattle.protocol.specs.Refusals.{keysAllowed}
-use Rattle.validate.specs.Keys.{keys-length, keys-none, keys-more, keys-not, keys-right}
+use Rattle.protocol.specs.EntriesLaws.{Passed, passed-none, passed-turn, passed-all}
+use Rattle.protocol.specs.Refusals.{keyAllowed}
+use Rattle.validate.specs.Keys.{keys-length, keys-not, keys-all}
 use Rattle.validate.proofs.keys.wrong_keys.Statement.{statement}
 use Rattle.validate.proofs.keys.wrong_keys.Tie as tie
 
 abbrev Inv-loop : tie.InvT-loop
-Inv-loop n keys seat₀ seat = (seat ≤ n) × (length keys ≡ keyAt n) × (keysAllowed seat keys ≡ true)
+Inv-loop n keys seat₀ seat = (length keys ≡ keyAt n) × Passed (λ (s : ℕ). keyAllowed s keys) n seat
 
 abbrev μ-loop : tie.MeasureT-loop
 μ-loop n keys seat₀ seat = n - seat
@@ -31,9 +31,7 @@ returns c =
     keys-length (now (c .before .before .before .args .keys)) (c .before .before .before .args .n) (λ e. c .if1 .taken (e ∙ sym (c .before .key-at .ensures)))
 
 loop-holds : tie.Need-loop-holds Inv-loop μ-loop
-loop-holds c =
-    let s = c .before .before .before in
-    (omega arith, long c, keys-none (now (s .args .keys)))
+loop-holds c = (long c, passed-none)
 
 key-allowed-requires : tie.Need-key-allowed-requires Inv-loop μ-loop
 key-allowed-requires c κs = omega arith
@@ -42,7 +40,7 @@ returns-2 : tie.Need-returns-2 Inv-loop μ-loop
 returns-2 c =
     let at-loop = c .before .before .before in
     let s = c .before .before .before .before .before .before .before in
-    keys-not (now (s .args .keys)) (s .args .n) (at-loop .loop .inv .1) (at-loop .loop .seat) (omega arith)
+    keys-not (now (s .args .keys)) (s .args .n) (at-loop .loop .inv .0) (at-loop .loop .seat) (omega arith)
     (sym (c .before .key-allowed .ensures) ∙ not-true _ (c .if2 .taken))
 
 add-seat : tie.Need-add-seat Inv-loop μ-loop
@@ -54,15 +52,13 @@ loop-less c = omega arith
 loop-again : tie.Need-loop-again Inv-loop μ-loop
 loop-again c =
     let at-loop = c .before .before .before in
-    let more = keys-more (now (c .before .before .before .before .before .before .before .args .keys)) (at-loop .loop .seat) (at-loop .loop .inv .2) (sym (c .before .key-allowed .ensures) ∙ not-false _ (c .if2 .left)) in
-    (omega arith, at-loop .loop .inv .1, more)
+    (at-loop .loop .inv .0, passed-turn (at-loop .loop .inv .1) (omega arith) (sym (c .before .key-allowed .ensures) ∙ not-false _ (c .if2 .left)))
 
 returns-3 : tie.Need-returns-3 Inv-loop μ-loop
 returns-3 c =
     let at-loop = c .before in
     let s = c .before .before .before .before .before in
-    let all : at-loop .loop .seat ≡ s .args .n = omega arith in
-    keys-right (now (s .args .keys)) (s .args .n) (at-loop .loop .inv .1) (rw all at (at-loop .loop .inv .2))
+    keys-all (now (s .args .keys)) (s .args .n) (at-loop .loop .inv .0) (passed-all (at-loop .loop .inv .1) (omega arith))
 
 pub wrong-keys-spec : {M : Type 1} → statement M
 wrong-keys-spec =

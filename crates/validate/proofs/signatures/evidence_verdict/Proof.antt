@@ -7,6 +7,7 @@ use lib.ListN.{length}
 use borrow.Author.Needs.{needs}
 use denote.Ref.{now}
 use Rattle.protocol.specs.Layout.{signatureLength, evidenceCountAt, evidenceEntryLength, evidenceEntryAt, evidenceLength, entryAt}
+use Rattle.protocol.specs.EntriesLaws.{passed-none}
 use Rattle.protocol.specs.Message.{byteAt}
 use Rattle.protocol.specs.Refusals.{Checks}
 use Rattle.protocol.specs.Signatures.{checks, signatureNumber}
@@ -14,7 +15,7 @@ use Rattle.layout.specs.declared.Entries.{Entries}
 use Rattle.validate.specs.Places.{PairInside, pairChecks, pairPlaces}
 use Rattle.validate.specs.declared.signatures.Pair.{Pair}
 use Rattle.validate.specs.Signatures.{pairCheck, entry-inside}
-use Rattle.validate.specs.Entries.{pair-inside, Checked, checked-none, checked-more, checked-not, checked-all}
+use Rattle.validate.specs.Entries.{pair-inside, Checked, checked-more, checked-not, checked-all}
 use Rattle.validate.proofs.signatures.evidence_verdict.Statement.{statement}
 use Rattle.validate.proofs.signatures.evidence_verdict.Tie as tie
 
@@ -86,9 +87,7 @@ evidence-entries-requires : tie.Need-evidence-entries-requires Inv-loop μ-loop
 evidence-entries-requires c κs = search needs
 
 loop-holds : tie.Need-loop-holds Inv-loop μ-loop
-loop-holds c =
-    let s = started c in
-    checked-none (check s) (m s)
+loop-holds c = passed-none
 
 entry-at-requires : tie.Need-entry-at-requires Inv-loop μ-loop
 unfolding evidenceEntryLength signatureLength

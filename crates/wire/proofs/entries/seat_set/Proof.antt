@@ -21,9 +21,7 @@ abbrev at-loop : tie.After-seat-of-entry Inv-loop μ-loop → tie.At-loop Inv-lo
 at-loop c = c .before .before
 
 loop-holds : tie.Need-loop-holds Inv-loop μ-loop
-loop-holds c =
-    let args = c .before .args in
-    gathered-none (seatPlace (args .entries)) (now (args .m)) (args .entries .count)
+loop-holds c = gathered-none
 
 seat-of-entry-requires : tie.Need-seat-of-entry-requires Inv-loop μ-loop
 seat-of-entry-requires c κs = (start (c .before) .pre .0, omega arith)
@@ -42,17 +40,10 @@ loop-less : tie.Need-loop-less Inv-loop μ-loop
 loop-less c = omega arith
 
 loop-again : tie.Need-loop-again Inv-loop μ-loop
-loop-again c =
-    let seat = c .before .seat-of-entry in
-    let l = at-loop (c .before) in
-    let args = start l .args in
-    gathered-turn (seatPlace (args .entries)) (now (args .m)) (args .entries .count) (l .loop .mask) (l .loop .i) (seat .result) (c .with .result) (l .loop .inv) (omega arith) (seat .ensures .0) (c .with .ensures)
+loop-again c = let read = c .before in gathered-turn (at-loop read .loop .inv) (omega arith) (read .seat-of-entry .ensures .0) (c .with .ensures)
 
 returns : tie.Need-returns Inv-loop μ-loop
-returns c =
-    let l = c .before in
-    let args = start l .args in
-    gathered-all (seatPlace (args .entries)) (now (args .m)) (args .entries .count) (l .loop .mask) (l .loop .i) (l .loop .inv) (omega arith)
+returns c = gathered-all (c .before .loop .inv) (omega arith)
 
 pub seat-set-spec : {M : Type 1} → statement M
 seat-set-spec =

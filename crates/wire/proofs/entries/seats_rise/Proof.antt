@@ -1,9 +1,9 @@
 -- `wire::entries::seats_rise` meets its contract.
+use mathlib.Core.Path.{sym}
 use Prim.Native.Nat.{_-_}
 use native.Mathlib.Omega.{arith}
-use denote.Ref.{now}
 use Rattle.wire.specs.Reading.{seatPlace}
-use Rattle.wire.specs.WalkLaws.{Rises, rises-first, rises-turn, rises-not, rises-all}
+use Rattle.wire.specs.WalkLaws.{Rises, rises-first, rises-turn, rises-fails, rises-all}
 use Rattle.wire.proofs.entries.seats_rise.Statement.{statement}
 use Rattle.wire.proofs.entries.seats_rise.Tie as tie
 
@@ -20,9 +20,7 @@ abbrev at-loop : tie.After-seat-of-entry2 Inv-loop μ-loop → tie.At-loop Inv-l
 at-loop c = c .before .before .before
 
 loop-holds : tie.Need-loop-holds Inv-loop μ-loop
-loop-holds c =
-    let args = c .before .args in
-    rises-first (seatPlace (args .entries)) (now (args .m)) (args .entries .count)
+loop-holds c = rises-first
 
 seat-of-entry-requires : tie.Need-seat-of-entry-requires Inv-loop μ-loop
 seat-of-entry-requires c κs = (start (c .before) .pre, omega arith)
@@ -31,14 +29,10 @@ sub-seat-of-entry : tie.Need-sub-seat-of-entry Inv-loop μ-loop
 sub-seat-of-entry c = omega arith
 
 seat-of-entry-requires-2 : tie.Need-seat-of-entry-requires-2 Inv-loop μ-loop
-seat-of-entry-requires-2 c κs = let l = c .before .before in (start l .pre, omega arith)
+seat-of-entry-requires-2 c κs = (start (c .before .before) .pre, omega arith)
 
 returns : tie.Need-returns Inv-loop μ-loop
-returns c =
-    let l = at-loop (c .before) in
-    let args = start l .args in
-    let i = l .loop .i in
-    rises-not (seatPlace (args .entries)) (now (args .m)) (args .entries .count) i (i - 1) (omega arith) (omega arith) (omega arith)
+returns c = sym (rises-fails (at-loop (c .before) .loop .inv) (omega arith) (omega arith))
 
 add-i : tie.Need-add-i Inv-loop μ-loop
 add-i c = omega arith
@@ -47,17 +41,10 @@ loop-less : tie.Need-loop-less Inv-loop μ-loop
 loop-less c = omega arith
 
 loop-again : tie.Need-loop-again Inv-loop μ-loop
-loop-again c =
-    let l = at-loop (c .before) in
-    let args = start l .args in
-    let i = l .loop .i in
-    rises-turn (seatPlace (args .entries)) (now (args .m)) (args .entries .count) i (i - 1) (omega arith) (l .loop .inv) (omega arith) (omega arith)
+loop-again c = rises-turn (at-loop (c .before) .loop .inv) (omega arith) (omega arith)
 
 returns-2 : tie.Need-returns-2 Inv-loop μ-loop
-returns-2 c =
-    let l = c .before in
-    let args = start l .args in
-    rises-all (seatPlace (args .entries)) (now (args .m)) (args .entries .count) (l .loop .i) (l .loop .inv) (omega arith)
+returns-2 c = sym (rises-all (c .before .loop .inv) (omega arith))
 
 pub seats-rise-spec : {M : Type 1} → statement M
 seats-rise-spec =

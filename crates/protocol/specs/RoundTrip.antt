@@ -1,5 +1,5 @@
--- Bytes that are read as a message are the bytes written for that message. (The other way round is a law of `protocol`:
--- "Messages written are read back the same".)
+-- Bytes that are read as a message are the bytes written for that message. (`MessageLaws` has the other way round: messages
+-- written are read back the same.)
 -- Assumes nothing.
 use mathlib.Core.Path.{_≡_, refl, sym, ap, ap₂, _∙_}
 use mathlib.Core.Bool.{true}
@@ -11,17 +11,12 @@ use Rattle.octets.specs.Octets.{part, be}
 use Rattle.octets.specs.StringLaws.{be-two, part-suc, part-all}
 use Rattle.octets.specs.WriteLaws.{part-add}
 use Rattle.quorum.specs.Quorum.{k}
 use Rattle.protocol.specs.Layout.{valueLength, signatureLength, operandsAt, seatAt, valueAt, submitSignatureAt, submitLength, noticeLength, entryLength, fullCountAt, fullStart, fullEntryLength, fullEntryAt, fullLength, lowerAt, higherAt, evidenceCountAt, evidenceStart, evidenceEntryLength, evidenceEntryAt, evidenceLength}
 use Rattle.protocol.specs.Figures.{submit-figure, notice-figure, full-figure, evidence-figure}
 use Rattle.protocol.specs.Entries.{Form, placeOf, renderEntries, entryCommands, readEntries}
 use Rattle.protocol.specs.EntriesLaws.{Faithful, length-read, entries-back}
-use Rattle.protocol.specs.Message.{fullForm, evidenceForm, formOf, render, byteAt, readRound, readValue, readSignature, readSubmit, readNotice, readFull, readEvidence, fitsSubmit, fitsNotice, fitsFull, fitsEvidence, read}
-use Rattle.protocol.specs.MessageLaws.{full-faithful, evidence-faithful}
-use Rattle.wire.specs.Reading.{kindOf}
-use Rattle.wire.specs.FormLaws.{submit-length, notice-length, full-fits, evidence-fits}
-use Rattle.wire.specs.KindLaws.{read-as}
-use Rattle.wire.specs.declared.read.Kind.{Kind}
-use Rattle.wire.specs.declared.read.Kind.the-variants as kind
+use Rattle.protocol.specs.Message.{Garbled, fullForm, evidenceForm, formOf, render, byteAt, readRound, readValue, readSignature, readSubmit, readNotice, readFull, readEvidence, fitsSubmit, fitsNotice, fitsFull, fitsEvidence, read}
+use Rattle.protocol.specs.MessageLaws.{full-faithful, evidence-faithful, submit-fits, notice-fits, full-fits, evidence-fits, read-cases}
 
 -- ---- parts one after another
 
@@ -72,7 +67,7 @@ head-back bytes command h b e =
 submit-back : (bytes : List ℕ) → ((i : ℕ) → byteAt bytes i < 256) → fitsSubmit bytes ≡ true → render (readSubmit bytes) ≡ bytes
 unfolding render readSubmit readSignature submitLength
 submit-back bytes b h =
-    let fits = submit-length bytes h in
+    let fits = submit-fits bytes h in
     let head = head-back bytes 0x01 (omega (arith, submit-figure)) b (fits .1) in
     append-parts bytes 0 submitSignatureAt signatureLength submitLength (0x01 ∷ be 2 (readRound bytes) ++ byteAt bytes seatAt ∷ [] ++ readValue valueAt bytes) (part submitSignatureAt signatureLength bytes) head refl refl
     ∙ part-all bytes submitLength (fits .0)
@@ -80,7 +75,7 @@ submit-back bytes b h =
 notice-back : (bytes : List ℕ) → ((i : ℕ) → byteAt bytes i < 256) → fitsNotice bytes ≡ true → render (readNotice bytes) ≡ bytes
 unfolding render readNotice noticeLength
 notice-back bytes b h =
-    let fits = notice-length bytes h in
+    let fits = notice-fits bytes h in
     head-back bytes 0x02 (omega (arith, notice-figure)) b (fits .1) ∙ part-all bytes noticeLength (fits .0)
 
 full-back : (n : ℕ) (bytes : List ℕ) → ((i : ℕ) → byteAt bytes i < 256) → fitsFull n bytes ≡ true → render (readFull n bytes) ≡ bytes
@@ -111,13 +106,8 @@ evidence-back n bytes b h =
 
 -- ---- any message
 
-back : (t : Kind) (n : ℕ) (bytes : List ℕ) → t ≡ kindOf (read n bytes) → (t ≡ kind.Garbled → ⊥) → ((i : ℕ) → byteAt bytes i < 256) → render (read n bytes) ≡ bytes
-back kind.Submit n bytes e g b = let r = read-as kind.Submit n bytes e in ap render (r .0) ∙ submit-back bytes b (r .1)
-back kind.Notice n bytes e g b = let r = read-as kind.Notice n bytes e in ap render (r .0) ∙ notice-back bytes b (r .1)
-back kind.Full n bytes e g b = let r = read-as kind.Full n bytes e in ap render (r .0) ∙ full-back n bytes b (r .1)
-back kind.Evidence n bytes e g b = let r = read-as kind.Evidence n bytes e in ap render (r .0) ∙ evidence-back n bytes b (r .1)
-back kind.Garbled n bytes e g b = absurd (g refl)
-
 -- bytes that are not garbled are those of the message read from them
-pub render-read : (n : ℕ) (bytes : List ℕ) → (kindOf (read n bytes) ≡ kind.Garbled → ⊥) → ((i : ℕ) → byteAt bytes i < 256) → render (read n bytes) ≡ bytes
-render-read n bytes g b = back (kindOf (read n bytes)) n bytes refl g b
+pub render-read : (n : ℕ) (bytes : List ℕ) → (read n bytes ≡ Garbled → ⊥) → ((i : ℕ) → byteAt bytes i < 256) → render (read n bytes) ≡ bytes
+render-read n bytes g b =
+    read-cases (λ m. (m ≡ Garbled → ⊥) → render m ≡ bytes) n bytes
+    (λ h said. submit-back bytes b h) (λ h said. notice-back bytes b h) (λ h said. full-back n bytes b h) (λ h said. evidence-back n bytes b h) (λ said. absurd (said refl)) g
