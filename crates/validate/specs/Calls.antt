@@ -85,14 +85,14 @@ evidence-right checks n round bytes number e z =
 -- ---- values
 
 module _ (n : ℕ) (bytes : List ℕ) where
-  pub pack-order : EvidenceTaken n bytes → (lower higher : List ℕ) (b : Bool) → lower ≡ readValue lowerAt bytes → higher ≡ readValue higherAt bytes
+  pub pack-order : EvidenceTaken n bytes → (i j : ℕ) → i ≡ lowerAt → j ≡ higherAt → (lower higher : List ℕ) (b : Bool) → lower ≡ readValue i bytes → higher ≡ readValue j bytes
       → b ≡ isLower lower higher → not b ≡ notLowerFirst (read n bytes)
   unfolding notLowerFirst readEvidence
-  pack-order h lower higher b p q e = rw (h .says, e, p, q)
+  pack-order h i j f g lower higher b p q e = rw (h .says, e, p, q, f, g)
 
-  pub certificate-says : FullTaken n bytes → (value : List ℕ) → value ≡ readValue valueAt bytes → value ≡ certificateIn (read n bytes) .value
+  pub certificate-says : FullTaken n bytes → (at : ℕ) → at ≡ valueAt → (value : List ℕ) → value ≡ readValue at bytes → value ≡ certificateIn (read n bytes) .value
   unfolding certificateIn certificateOf readFull
-  certificate-says h value e = rw (h .says) e
+  certificate-says h at f value e = rw (h .says, ← f) e
 
 pub values-told : (a b : Message) (x y : List ℕ) (r : Bool) → x ≡ certificateIn a .value → y ≡ certificateIn b .value → r ≡ same x y → r ≡ equalValues a b
 unfolding equalValues

@@ -38,8 +38,11 @@ first-set c = c .before
 abbrev values : tie.After-entry-set2 → tie.After-certificate-value2
 values c = first-set c .before
 
+abbrev valued : tie.After-certificate-value2 → tie.Start
+valued c = started (c .before .before)
+
 abbrev given : tie.After-entry-set2 → tie.Start
-given c = started (values c .before .before)
+given c = valued (values c)
 
 -- what was written
 abbrev written : tie.After-slice-known2 → tie.After-write-evidence
@@ -56,13 +59,13 @@ certificate-value-requires-2 c κs = let s = started (c .before) in both-taken (
 
 entry-set-requires : tie.Need-entry-set-requires
 entry-set-requires c κs =
-    let s = started (c .before .before) in
+    let s = valued c in
     let f = s .pre .2 .first in
     (s .pre .0, s .pre .1, full-kind (read (n s) (first s)) (f .is), f .known)
 
 entry-set-requires-2 : tie.Need-entry-set-requires-2
 entry-set-requires-2 c κs =
-    let s = started (c .before .before .before) in
+    let s = valued (c .before) in
     let f = s .pre .2 .second in
     (s .pre .0, s .pre .1, full-kind (read (n s) (second s)) (f .is), f .known)
 
