@@ -27,8 +27,11 @@ short-is : (c : tie.After-short-out)
     → let a = started (sound (keyed (c .before .before))) .args in c .short-out .result ≡ shortOut (outLength (a .r .n)) (now (a .out))
 short-is c = c .short-out .ensures ∙ rw (c .before .out-length .ensures)
 
+short-store-requires : tie.Need-short-store-requires
+short-store-requires c κs = let range = ranged (sound c) in search needs
+
 out-length-requires : tie.Need-out-length-requires
-out-length-requires c κs = let range = ranged (sound (keyed c)) in (range .some, range .most)
+out-length-requires c κs = let range = ranged (sound (keyed c)) in search needs
 
 pub record-refusal-spec : {M : Type 1} → statement M
 unfolding recordConditions
@@ -39,7 +42,7 @@ record-refusal-spec =
     (λ c. search rows)
     (λ c κs. search needs)
     (λ c. search rows)
-    (λ c κs. ranged (sound c) .most)
+    short-store-requires
     (λ c. search rows)
     out-length-requires
     (λ c κs. search needs)
