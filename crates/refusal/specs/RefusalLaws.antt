@@ -76,3 +76,37 @@ module _ (xs ys : List (ℕ × Bool)) where
       go : Dec (firstOf xs ≡ 0) → firstOf xs ≡ 0
       go (yes z) = z
       go (no d) = absurd (d (sym (firstOf-front xs ys d) ∙ e))
+
+-- ---- code that tests one row after another
+
+-- no row is left
+pub none-left : (number : ℕ) → number ≡ 0 → number ≡ firstOf []
+unfolding firstOf
+none-left number z = z
+
+module _ (n : ℕ) (test : Bool) (rest : List (ℕ × Bool)) where
+  -- a row that holds is the answer
+  pub row-held : test ≡ true → n ≡ firstOf ((n, test) ∷ rest)
+  unfolding firstOf
+  row-held e = rw e
+
+  -- after one that doesn't, the answer is that of the rest
+  pub row-passed : (number : ℕ) → test ≡ false → number ≡ firstOf rest → number ≡ firstOf ((n, test) ∷ rest)
+  unfolding firstOf
+  row-passed number e f = rw e f
+
+  -- the same of a test that the code made
+  module _ (b : Bool) (e : b ≡ test) where
+    pub test-held : b ≡ true → n ≡ firstOf ((n, test) ∷ rest)
+    test-held h = row-held (sym e ∙ h)
+
+    pub test-passed : (number : ℕ) → b ≡ false → number ≡ firstOf rest → number ≡ firstOf ((n, test) ∷ rest)
+    test-passed number h f = row-passed number (sym e ∙ h) f
+
+-- and of some rows that the code tested together
+module _ (xs ys : List (ℕ × Bool)) (x : ℕ) (e : x ≡ firstOf xs) where
+  pub rows-passed : nonzero (numbers xs) ≡ true → x ≡ 0 → (number : ℕ) → number ≡ firstOf ys → number ≡ firstOf (xs ++ ys)
+  rows-passed some z number f = f ∙ refused-later xs ys x e some z
+
+-- for `search`: the answer, by the tests that led to it
+pub ruleset rows = (none-left, row-held, row-passed, test-held, test-passed, refused-first, rows-passed)

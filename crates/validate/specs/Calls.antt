@@ -9,7 +9,7 @@ use lib.ListN.{length}
 use borrow.Author.Tests.{eqb-true, not-false}
 use Rattle.octets.specs.Strings.{same}
 use Rattle.refusal.specs.Refusal.{firstOf, numbers, nonzero}
-use Rattle.refusal.specs.RefusalLaws.{both-false, firstOf-zero, refused-first, refused-later, passed-first}
+use Rattle.refusal.specs.RefusalLaws.{both-false, firstOf-zero, refused-later, passed-first, rows-passed}
 use Rattle.protocol.specs.Layout.{valueLength, signatureLength, valueAt, lowerAt, higherAt}
 use Rattle.protocol.specs.Values.{isLower}
 use Rattle.protocol.specs.Message.{Message, Submit, readValue, read, readFull, readEvidence, signed}
@@ -19,7 +19,7 @@ use Rattle.protocol.specs.Signatures.{signatureNumber}
 use Rattle.protocol.specs.SignaturesLaws.{signature-row}
 use Rattle.protocol.specs.declared.Record.{Record}
 use Rattle.validate.specs.Messages.{Formed, message-rises, message-formed}
-use Rattle.validate.specs.Entries.{FullTaken, EvidenceTaken}
+use Rattle.validate.specs.Entries.{FullTaken, EvidenceTaken, certificate-taken, pack-taken}
 
 -- ---- the own submission
 
@@ -35,24 +35,14 @@ module _ (value signature : List ℕ) where
       (eqb-true (length value) valueLength (not-false _ (two .0)), eqb-true (length signature) signatureLength (not-false _ (two .1)))
 
 module _ (checks : Checks) (r : Record) (value signature : List ℕ) where
-  abbrev own : ℕ
-  own = firstOf (ownConditions checks r value signature)
-
-  pub own-said : said r ≡ true → 8 ≡ own
-  unfolding ownConditions firstOf
-  own-said s = rw s
-
-  module _ (new : said r ≡ false) where
-    pub own-lengths : wrongLengths value signature ≡ true → 9 ≡ own
-    unfolding ownConditions firstOf
-    own-lengths l = rw (new, l)
-
-    pub own-verdict : wrongLengths value signature ≡ false → (number : ℕ) → number ≡ signatureNumber (checks (r .seat) value signature) → number ≡ own
-    unfolding ownConditions badSignature signed every firstOf
-    own-verdict l number e = e ∙ rw (new, l, and-true) (signature-row (checks (r .seat) value signature))
+  -- its last row, by the verdict on the signature
+  pub own-verdict : (number : ℕ) → number ≡ signatureNumber (checks (r .seat) value signature)
+      → number ≡ firstOf (SIGNATURE checks (Submit (r .round) (r .seat) value signature) ∷ [])
+  unfolding badSignature signed every
+  own-verdict number e = e ∙ rw and-true (signature-row (checks (r .seat) value signature))
 
   -- an own submission that isn't refused
-  pub own-passed : (number : ℕ) → number ≡ own → number ≡ 0 → (said r ≡ false) × (length value ≡ valueLength) × (length signature ≡ signatureLength)
+  pub own-passed : (number : ℕ) → number ≡ firstOf (ownConditions checks r value signature) → number ≡ 0 → (said r ≡ false) × (length value ≡ valueLength) × (length signature ≡ signatureLength)
   unfolding ownConditions
   own-passed number e z =
       let s = firstOf-zero 7 _ _ (sym e ∙ z) in
@@ -78,25 +68,6 @@ module _ (checks : Checks) (n round : ℕ) (m : Message) where
   unfolding evidenceConditions outsideConditions packConditions
   evidence-parts keys = refl
 
-  module _ (number : ℕ) (e : number ≡ firstOf (messageConditions checks n round (isEvidence m) false m)) where
-    pub pack-refused : (number ≡ 0 → ⊥) → number ≡ firstOf (packConditions checks n round m)
-    unfolding packConditions
-    pack-refused h = refused-first (messageConditions checks n round (isEvidence m) false m) (NO-CONFLICT-IN m ∷ []) number e h
-
-    module _ (z : number ≡ 0) where
-      later : firstOf (NO-CONFLICT-IN m ∷ []) ≡ firstOf (packConditions checks n round m)
-      unfolding packConditions
-      later =
-          refused-later (messageConditions checks n round (isEvidence m) false m) (NO-CONFLICT-IN m ∷ []) number e (message-rises checks n round (isEvidence m) false m) z
-
-      pub pack-equal : notLowerFirst m ≡ true → 15 ≡ firstOf (packConditions checks n round m)
-      unfolding firstOf
-      pack-equal v = rw v at later
-
-      pub pack-right : notLowerFirst m ≡ false → number ≡ firstOf (packConditions checks n round m)
-      unfolding firstOf
-      pack-right v = z ∙ (rw v at later)
-
   -- EVIDENCE that isn't refused
   pub pack-formed : (number : ℕ) → number ≡ firstOf (packConditions checks n round m) → number ≡ 0 → Formed n round (isEvidence m) m
   unfolding packConditions
@@ -104,17 +75,24 @@ module _ (checks : Checks) (n round : ℕ) (m : Message) where
       let first = passed-first (messageConditions checks n round (isEvidence m) false m) (NO-CONFLICT-IN m ∷ []) (sym e ∙ z) in
       message-formed n round (isEvidence m) false m 0 checks (sym first) refl
 
+-- the same of bytes, by their 9 to 14 alone
+pub evidence-right : (checks : Checks) (n round : ℕ) (bytes : List ℕ) (number : ℕ)
+    → number ≡ firstOf (messageConditions checks n round (isEvidence (read n bytes)) false (read n bytes)) → number ≡ 0 → EvidenceTaken n bytes
+evidence-right checks n round bytes number e z =
+    let m = read n bytes in
+    pack-taken n round bytes (message-formed n round (isEvidence m) false m number checks e z)
+
 -- ---- values
 
 module _ (n : ℕ) (bytes : List ℕ) where
-  pub pack-order : EvidenceTaken n bytes → (lower higher : List ℕ) (b : Bool) → lower ≡ readValue lowerAt bytes → higher ≡ readValue higherAt bytes
+  pub pack-order : EvidenceTaken n bytes → (i j : ℕ) → i ≡ lowerAt → j ≡ higherAt → (lower higher : List ℕ) (b : Bool) → lower ≡ readValue i bytes → higher ≡ readValue j bytes
       → b ≡ isLower lower higher → not b ≡ notLowerFirst (read n bytes)
   unfolding notLowerFirst readEvidence
-  pack-order h lower higher b p q e = rw (h .says, e, p, q)
+  pack-order h i j f g lower higher b p q e = rw (h .says, e, p, q, f, g)
 
-  pub certificate-says : FullTaken n bytes → (value : List ℕ) → value ≡ readValue valueAt bytes → value ≡ certificateIn (read n bytes) .value
+  pub certificate-says : FullTaken n bytes → (at : ℕ) → at ≡ valueAt → (value : List ℕ) → value ≡ readValue at bytes → value ≡ certificateIn (read n bytes) .value
   unfolding certificateIn certificateOf readFull
-  certificate-says h value e = rw (h .says) e
+  certificate-says h at f value e = rw (h .says, ← f) e
 
 pub values-told : (a b : Message) (x y : List ℕ) (r : Bool) → x ≡ certificateIn a .value → y ≡ certificateIn b .value → r ≡ same x y → r ≡ equalValues a b
 unfolding equalValues
@@ -131,6 +109,15 @@ module _ (checks : Checks) (n round : ℕ) (m : Message) where
   pub certificate-formed : (number : ℕ) → number ≡ firstOf (certificateConditions checks n round m) → number ≡ 0 → Formed n round (isFull m) m
   unfolding certificateConditions
   certificate-formed number e z = message-formed n round (isFull m) false m number checks e z
+
+  pub certificate-rises : nonzero (numbers (certificateConditions checks n round m)) ≡ true
+  unfolding certificateConditions
+  certificate-rises = message-rises checks n round (isFull m) false m
+
+-- one that isn't refused
+pub certificate-right : (checks : Checks) (n round : ℕ) (bytes : List ℕ) (number : ℕ)
+    → number ≡ firstOf (certificateConditions checks n round (read n bytes)) → number ≡ 0 → FullTaken n bytes
+certificate-right checks n round bytes number e z = certificate-taken n round bytes (certificate-formed checks n round (read n bytes) number e z)
 
 -- neither is refused, and their values differ
 pub record Conflict (n round : ℕ) (a b : Message) : Type 0 where
@@ -155,40 +142,21 @@ module _ (checks : Checks) (n round : ℕ) (a b : Message) where
   unfolding twoConditions certificateConditions messageConditions
   in-order = refl
 
-  rises : (m : Message) → nonzero (numbers (certificateConditions checks n round m)) ≡ true
-  unfolding certificateConditions
-  rises m = message-rises checks n round (isFull m) false m
-
-  module _ (x : ℕ) (e : x ≡ firstOf (certificateConditions checks n round a)) where
-    pub first-refused : (x ≡ 0 → ⊥) → x ≡ firstOf (twoConditions checks n round a b)
-    first-refused h = refused-first ofFirst (ofSecond ++ last) x e h ∙ in-order
-
-    module _ (p : x ≡ 0) (y : ℕ) (f : y ≡ firstOf (certificateConditions checks n round b)) where
-      after-first : firstOf (ofSecond ++ last) ≡ two
-      after-first = refused-later ofFirst (ofSecond ++ last) x e (rises a) p ∙ in-order
-
-      pub second-refused : (y ≡ 0 → ⊥) → y ≡ firstOf (twoConditions checks n round a b)
-      second-refused h = refused-first ofSecond last y f h ∙ after-first
-
-      module _ (q : y ≡ 0) where
-        after-second : firstOf last ≡ two
-        after-second = refused-later ofSecond last y f (rises b) q ∙ after-first
-
-        pub values-equal : equalValues a b ≡ true → 15 ≡ firstOf (twoConditions checks n round a b)
-        unfolding firstOf
-        values-equal v = rw v at after-second
-
-        pub values-apart : equalValues a b ≡ false → y ≡ firstOf (twoConditions checks n round a b)
-        unfolding firstOf
-        values-apart v = q ∙ (rw v at after-second)
+  -- both pass: the answer is that of the last row
+  pub both-passed : (x : ℕ) → x ≡ firstOf (certificateConditions checks n round a) → x ≡ 0 → (y : ℕ) → y ≡ firstOf (certificateConditions checks n round b) → y ≡ 0
+      → (number : ℕ) → number ≡ firstOf (NO-CONFLICT-BETWEEN a b ∷ []) → number ≡ firstOf (twoConditions checks n round a b)
+  both-passed x e p y f q number g =
+      rows-passed ofFirst (ofSecond ++ last) x e (certificate-rises checks n round a) p number
+      (rows-passed ofSecond last y f (certificate-rises checks n round b) q number g)
+      ∙ in-order
 
   pub two-passed : firstOf (twoConditions checks n round a b) ≡ 0 → Conflict n round a b
   unfolding firstOf
   two-passed z =
       let p = passed-first ofFirst (ofSecond ++ last) (in-order ∙ z) in
-      let rest = refused-later ofFirst (ofSecond ++ last) 0 (sym p) (rises a) refl ∙ in-order ∙ z in
+      let rest = refused-later ofFirst (ofSecond ++ last) 0 (sym p) (certificate-rises checks n round a) refl ∙ in-order ∙ z in
       let q = passed-first ofSecond last rest in
-      let none = refused-later ofSecond last 0 (sym q) (rises b) refl ∙ rest in
+      let none = refused-later ofSecond last 0 (sym q) (certificate-rises checks n round b) refl ∙ rest in
       record {
         first = certificate-formed checks n round a 0 (sym p) refl;
         second = certificate-formed checks n round b 0 (sym q) refl;

@@ -103,9 +103,10 @@ module _ (checks : Checks) (n : ℕ) (bytes : List ℕ) where
   abbrev row : ℕ
   row = firstOf (SIGNATURE checks (read n bytes) ∷ [])
 
-  pub submit-row : SubmitTaken n bytes → (seat number : ℕ) → seat ≡ byteAt bytes seatAt
-      → number ≡ signatureNumber (checks seat (readValue valueAt bytes) (readSignature submitSignatureAt bytes)) → number ≡ row
-  submit-row h seat number e q = q ∙ rw (h .says, submit-bad checks bytes, e) (signature-row _)
+  -- SUBMIT's, by the places that the code found
+  pub submit-row : SubmitTaken n bytes → (p v q : ℕ) → p ≡ seatAt → v ≡ valueAt → q ≡ submitSignatureAt → (seat number : ℕ) → seat ≡ byteAt bytes p
+      → number ≡ signatureNumber (checks seat (readValue v bytes) (readSignature q bytes)) → number ≡ row
+  submit-row h p v q f g i seat number e j = j ∙ rw (h .says, submit-bad checks bytes, e, f, g, i) (signature-row _)
 
   pub full-row : (bad : Bool) → bad ≡ badSignature checks (read n bytes) → (number : ℕ) → number ≡ signatureNumber (not bad) → number ≡ row
   full-row bad e number q = q ∙ rw e (bad-row (badSignature checks (read n bytes)))
@@ -198,10 +199,10 @@ module _ (s : Next) (n : ℕ) (bytes : List ℕ) where
     pub fits-entry : Fits n bytes s → (seat < n) × (at + signatureLength ≤ length bytes)
     fits-entry f = rw e at f
 
-    pub checks-entry : (checks : Checks) (number : ℕ) → number ≡ signatureNumber (checks seat (readValue valueAt bytes) (readSignature at bytes))
+    pub checks-entry : (checks : Checks) (v : ℕ) → v ≡ valueAt → (number : ℕ) → number ≡ signatureNumber (checks seat (readValue v bytes) (readSignature at bytes))
         → eqb number 0 ≡ foundChecks checks bytes s
     unfolding foundChecks
-    checks-entry checks number q = rw (e, q) (zero-accepts (checks seat (readValue valueAt bytes) (readSignature at bytes)))
+    checks-entry checks v f number q = rw (e, q, f) (zero-accepts (checks seat (readValue valueAt bytes) (readSignature at bytes)))
 
   pub checks-end : s ≡ next.End → (checks : Checks) → false ≡ foundChecks checks bytes s
   unfolding foundChecks

@@ -12,6 +12,7 @@ use Rattle.octets.specs.OctetLaws.{length-be, be-four}
 use Rattle.octets.specs.StringLaws.{be-one, be-two, number-part-four}
 use Rattle.octets.specs.WriteLaws.{pieces}
 use Rattle.rfc8554.specs.Verify.{leafOf, valid}
+use Rattle.protocol.specs.Layout.{signatureLength}
 use Rattle.protocol.specs.Signatures.{signedBytes, seatKey, checks, signatureNumber}
 
 -- ---- the bytes that a seat signs
@@ -36,9 +37,10 @@ seat-signed value zs p q round seat h k u v l =
 
 -- ---- the check
 
-module _ (keys : List ℕ) (round seat : ℕ) (value s : List ℕ) (h : 4 ≤ length s) (q : ℕ) (e : q ≡ wordAt s 0) where
+module _ (keys : List ℕ) (round seat : ℕ) (value s : List ℕ) (h : length s ≡ signatureLength) (q : ℕ) (e : q ≡ wordAt s 0) where
   leaf-field : leafOf s ≡ q
-  leaf-field = number-part-four 0 s h ∙ sym e
+  unfolding signatureLength
+  leaf-field = number-part-four 0 s (omega (arith, h)) ∙ sym e
 
   pub leaf-differs : (q ≡ round → ⊥) → 14 ≡ signatureNumber (checks keys round seat value s)
   unfolding checks signatureNumber

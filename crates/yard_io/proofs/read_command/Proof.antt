@@ -9,12 +9,18 @@ use borrow.Author.Needs.{needs}
 use Rattle.yard_io.proofs.read_command.Statement.{statement}
 use Rattle.yard_io.proofs.read_command.Tie as tie
 
--- whether it is the first command; the results of the reads before a point
+abbrev opened : tie.After-read-on-arg → tie.Start
+opened c = c .before .before
+
+-- whether it is the first command; what the reads before a point gave
 abbrev first : tie.After-read-on → Bool
-first c = c .before .before .before .args .first
+first c = opened (c .before) .args .first
+
+abbrev byte : tie.After-slice-known2 → tie.After-read-on
+byte c = c .before .before
 
 abbrev one : tie.Else1 → tie.After-read-on
-one c = c .before .before .before
+one c = byte (c .before)
 
 only : (c : tie.Else1) → one c .read-on .result ≡ 1
 only c = omega arith
@@ -22,23 +28,26 @@ only c = omega arith
 abbrev begun : tie.After-told-length → tie.Else1
 begun c = c .before .before
 
+abbrev head : tie.After-slice-known3 → tie.After-read-on2
+head c = c .before .before
+
 abbrev start : tie.After-read-on2 → tie.After-told-length
 start c = c .before .before
 
 read-on-requires : tie.Need-read-on-requires
 read-on-requires c κs =
-    let begin = c .before .before in
+    let begin = opened c in
     (search needs, room-some (begin .args .first) (length (now (begin .args .space))) (begin .pre))
 
 returns : tie.Need-returns
-returns c = command-none (first (c .before .before .before))
+returns c = command-none (first (byte (c .before)))
 
 slice-aggregate-told-length : tie.Need-slice-aggregate-told-length
 slice-aggregate-told-length c = simp length-take (omega arith)
 
 returns-2 : tie.Need-returns-2
 returns-2 c =
-    let more = c .before .before .before in
+    let more = head (c .before) in
     let told = start more in
     let some = begun told in
     command-short (first (one some)) (only some) (told .told-length .ensures .0) (more .read-on2 .ensures) (c .if2 .taken)
@@ -51,7 +60,7 @@ returns-3 c =
     let last = c .before .before in
     let sized = last .before .before in
     let whole = sized .before .before in
-    let more = whole .before .before .before in
+    let more = head (whole .before) in
     let told = start more in
     let some = begun told in
     command-whole (first (one some)) (only some) (told .told-length .ensures .0) (more .read-on2 .ensures)

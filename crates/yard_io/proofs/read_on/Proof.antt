@@ -8,12 +8,13 @@ use Rattle.yard_io.proofs.read_on.Tie as tie
 
 returns-2 : tie.Need-returns-2
 returns-2 c =
-    let args = c .before .before .before .before .before .before .args in
+    let done = c .before .before in
+    let args = done .before .before .before .before .args in
     record {
       more = search needs;
       most = search needs;
       there = search needs;
-      stays = take-put (args .have) (args .to - args .have) (now (args .space)) (c .before .before .read-full .last .1 .0) (search needs);
+      stays = take-put (args .have) (args .to - args .have) (now (args .space)) (done .read-full .last .1 .0) (search needs);
     }
 
 pub read-on-spec : {M : Type 1} → statement M

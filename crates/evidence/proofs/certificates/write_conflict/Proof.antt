@@ -23,8 +23,11 @@ first-set c = c .before
 abbrev values : tie.After-entry-set2 → tie.After-certificate-value2
 values c = first-set c .before
 
+abbrev valued : tie.After-certificate-value2 → tie.Start
+valued c = started (c .before .before)
+
 abbrev given : tie.After-entry-set2 → tie.Start
-given c = started (values c .before .before)
+given c = valued (values c)
 
 -- the bytes written
 abbrev written : tie.After-slice-known2 → tie.After-write-evidence
@@ -41,12 +44,12 @@ certificate-value-requires-2 c κs = both-taken _ _ (started (c .before) .pre .2
 
 entry-set-requires : tie.Need-entry-set-requires
 entry-set-requires c κs =
-    let pre = started (c .before .before) .pre in
+    let pre = valued c .pre in
     (pre .0, pre .1, full-kind _ (pre .2 .first .is), pre .2 .first .known)
 
 entry-set-requires-2 : tie.Need-entry-set-requires-2
 entry-set-requires-2 c κs =
-    let pre = started (c .before .before .before) .pre in
+    let pre = valued (c .before) .pre in
     (pre .0, pre .1, full-kind _ (pre .2 .second .is), pre .2 .second .known)
 
 write-evidence-requires : tie.Need-write-evidence-requires

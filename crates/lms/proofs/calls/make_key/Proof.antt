@@ -37,8 +37,11 @@ room c =
     let s = started (c .before) in
     key-room (seed s) (id s) (tree s) (out s) (c .before .make-key-refusal .result) (c .before .make-key-refusal .ensures) (c .if1 .left)
 
-abbrev passed : tie.After-key-length → tie.Else1
-passed c = c .before .before .before .before .before .before .before .before
+abbrev asked : tie.After-make-arg2 → tie.Else1
+asked c = c .before .before
+
+abbrev filled : tie.After-key-length → tie.After-make
+filled c = c .before .before .before .before .before
 
 returns : tie.Need-returns
 returns c =
@@ -48,14 +51,15 @@ returns c =
     (refl, refl, refl, sym (patch-nothing (out s)))
 
 make-requires : tie.Need-make-requires
-make-requires c κs = room (c .before .before)
+make-requires c κs = room (asked c)
 
 returns-2 : tie.Need-returns-2
 unfolding treeLength
 returns-2 c =
-    let s = started (passed c .before) in
-    let r = room (passed c) in
-    let made = c .before .before .before .before .before .make .ensures in
+    let passed = asked (filled c .before) in
+    let s = started (passed .before) in
+    let r = room passed in
+    let made = filled c .make .ensures in
     rw (makeKey-unrefused (seed s) (id s) (tree s) (out s) (r .0) (r .1) (r .2) (r .3))
     (refl, c .key-length .ensures ∙ sym (length-publicKey 6 4 (id s) (seed s) (r .1)), made .0, made .1)
 

@@ -49,8 +49,11 @@ room c =
     signer-room (leaf s) (message s) (seed s) (id s) (randomizer s) (tree s) (out s) (c .before .sign-refusal .result) (c .before .sign-refusal .ensures)
     (c .if1 .left)
 
+abbrev wrote : tie.After-signature-length → tie.After-write-signature
+wrote c = c .before .before .before
+
 abbrev passed : tie.After-signature-length → tie.Else1
-passed c = c .before .before .before .before .before
+passed c = wrote c .before .before
 
 returns : tie.Need-returns
 returns c =
@@ -77,7 +80,7 @@ returns-2 c =
     let r = room (passed c) in
     rw
     (sign-unrefused (seed s) (id s) (tree s) (out s) (r .3) (r .4) (r .6) (leaf s) (message s) (randomizer s) (r .0) (r .2) (r .5) (r .1))
-    (refl, c .signature-length .ensures ∙ sym (length-lmsSignature-six-four (id s) (leaf s) (seed s) (randomizer s) (message s) (tree s) (r .0) (r .5) (r .6)), c .before .before .before .write-signature .ensures)
+    (refl, c .signature-length .ensures ∙ sym (length-lmsSignature-six-four (id s) (leaf s) (seed s) (randomizer s) (message s) (tree s) (r .0) (r .5) (r .6)), wrote c .write-signature .ensures)
 
 pub sign-spec : {M : Type 1} → statement M
 sign-spec =

@@ -48,17 +48,22 @@ returns-2 c =
 returns-3 : tie.Need-returns-3
 unfolding signRefusal signConditions wrongRound shortOut firstOf
 returns-3 c =
-    rw (le-ltb lastRound _ (leaf-known (before-out (c .before .before))), le-ltb _ signatureLength (roomy (c .before .before)), sym (c .before .is-too-long .ensures) ∙ c .if3 .taken)
+    let fits = c .before .before in
+    rw (le-ltb lastRound _ (leaf-known (before-out fits)), le-ltb _ signatureLength (roomy fits), sym (c .before .is-too-long .ensures) ∙ c .if3 .taken)
 
 returns-4 : tie.Need-returns-4
 unfolding signRefusal signConditions wrongRound shortOut firstOf
 returns-4 c =
-    rw (le-ltb lastRound _ (leaf-known (before-out (before-message (c .before .before)))), le-ltb _ signatureLength (roomy (before-message (c .before .before))), short-message (c .before .before), sym (c .before .wrong-signer-material .ensures) ∙ c .if4 .taken)
+    let short = c .before .before in
+    let fits = before-message short in
+    rw (le-ltb lastRound _ (leaf-known (before-out fits)), le-ltb _ signatureLength (roomy fits), short-message short, sym (c .before .wrong-signer-material .ensures) ∙ c .if4 .taken)
 
 returns-5 : tie.Need-returns-5
 unfolding signRefusal signConditions wrongRound shortOut firstOf
 returns-5 c =
-    rw (le-ltb lastRound _ (leaf-known (before-out (before-message (c .before .before)))), le-ltb _ signatureLength (roomy (before-message (c .before .before))), short-message (c .before .before), sym (c .before .wrong-signer-material .ensures) ∙ c .if4 .left)
+    let short = c .before .before in
+    let fits = before-message short in
+    rw (le-ltb lastRound _ (leaf-known (before-out fits)), le-ltb _ signatureLength (roomy fits), short-message short, sym (c .before .wrong-signer-material .ensures) ∙ c .if4 .left)
 
 pub sign-refusal-spec : {M : Type 1} → statement M
 sign-refusal-spec =

@@ -1,6 +1,5 @@
 -- `lms::node::inner` meets its contract.
 use borrow.Author.Needs.{needs}
-use denote.Ref.{now}
 use Rattle.lmots_digits.specs.Pieces.{front}
 use Rattle.lms.specs.LmsLaws.{prefixed}
 use Rattle.lms.specs.Pieces.{overChildren}
@@ -9,10 +8,7 @@ use Rattle.lms.proofs.node.inner.Tie as tie
 
 returns : tie.Need-returns
 unfolding overChildren front
-returns c =
-    let args = c .before .before .before .before .args in
-    prefixed (c .before .before .front .result) _ (now (args .children)) (c .sha256-two .result) (c .before .before .front .ensures)
-    (c .sha256-two .ensures)
+returns c = search prefixed
 
 pub inner-spec : {M : Type 1} → statement M
 inner-spec =

@@ -1,6 +1,5 @@
 -- `lms::node::leaf` meets its contract.
 use borrow.Author.Needs.{needs}
-use denote.Ref.{now}
 use Rattle.rfc8554.specs.Tree.{leafInput}
 use Rattle.lmots_digits.specs.Pieces.{front}
 use Rattle.lms.specs.LmsLaws.{prefixed}
@@ -9,10 +8,7 @@ use Rattle.lms.proofs.node.leaf.Tie as tie
 
 returns : tie.Need-returns
 unfolding leafInput front
-returns c =
-    let args = c .before .before .before .before .args in
-    prefixed (c .before .before .front .result) _ (now (args .key)) (c .sha256-two .result) (c .before .before .front .ensures)
-    (c .sha256-two .ensures)
+returns c = search prefixed
 
 pub leaf-spec : {M : Type 1} → statement M
 leaf-spec =

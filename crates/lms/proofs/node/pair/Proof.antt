@@ -8,9 +8,11 @@ use Rattle.lms.proofs.node.pair.Tie as tie
 
 returns : tie.Need-returns
 returns c =
-    let start = c .before .before .before .before .before .before .before .before in
+    let after-copy2 = c .before in
+    let after-copy = after-copy2 .before .before .before in
+    let start = after-copy .before .before .before .before in
     let args = start .args in
-    pieces 32 (now (args .left)) (now (args .right)) _ _ (c .before .copy2 .last .0) (c .before .before .before .before .copy .ensures) (omega arith) (omega arith) (c .before .copy2 .ensures)
+    pieces 32 (now (args .left)) (now (args .right)) _ _ (after-copy2 .copy2 .last .0) (after-copy .copy .ensures) (omega arith) (omega arith) (after-copy2 .copy2 .ensures)
 
 pub pair-spec : {M : Type 1} → statement M
 pair-spec =

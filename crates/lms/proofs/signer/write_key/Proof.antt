@@ -11,10 +11,14 @@ use Rattle.lms.proofs.signer.write_key.Tie as tie
 returns : tie.Need-returns
 unfolding be
 returns c =
-    let first = c .before .before .before .before .before .before .before .before .before .before .before .before .before .before in
-    let args = first .before .before .before .before .before .args in
-    four-writes 0 (be 4 6) (be 4 4) (now (args .id)) (now (args .out)) (first .put-word .last .0) (c .before .before .before .before .before .before .before .before .before .before .put-word2 .last .0) (c .before .before .before .before .before .before .copy .last .0) 4 8 (omega arith)
-    (first .put-word .ensures) (c .before .before .before .before .before .before .before .before .before .before .put-word2 .ensures) (c .before .before .before .before .before .before .copy .ensures) refl refl (now (args .root)) (c .before .before .copy2 .last .0) 24 (c .before .before .copy2 .ensures) (omega arith)
+    let after-copy2 = c .before .before in
+    let after-copy = after-copy2 .before .before .before .before in
+    let after-put-word2 = after-copy .before .before .before .before in
+    let first = after-put-word2 .before .before .before .before in
+    let start = first .before .before .before .before .before in
+    let args = start .args in
+    four-writes 0 (be 4 6) (be 4 4) (now (args .id)) (now (args .out)) (first .put-word .last .0) (after-put-word2 .put-word2 .last .0) (after-copy .copy .last .0) 4 8 (omega arith)
+    (first .put-word .ensures) (after-put-word2 .put-word2 .ensures) (after-copy .copy .ensures) refl refl (now (args .root)) (after-copy2 .copy2 .last .0) 24 (after-copy2 .copy2 .ensures) (omega arith)
 
 pub write-key-spec : {M : Type 1} → statement M
 write-key-spec =

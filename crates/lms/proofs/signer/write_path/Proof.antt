@@ -23,6 +23,12 @@ Inv-loop tree r out₀ at x₀ i₀ out x i = (i ≤ 10) × (length out ≡ leng
 abbrev μ-loop : tie.MeasureT-loop
 μ-loop tree r out₀ at x₀ i₀ out x i = 10 - i
 
+abbrev looped : tie.At-loop Inv-loop μ-loop → tie.Start Inv-loop μ-loop
+looped c = c .before .before .before
+
+abbrev loop-at : tie.After-sibling Inv-loop μ-loop → tie.At-loop Inv-loop μ-loop
+loop-at c = c .before .before
+
 loop-holds : tie.Need-loop-holds Inv-loop μ-loop
 unfolding joined
 loop-holds c = (omega arith, refl, sym (div-one _), patch-none _ _)
@@ -30,7 +36,7 @@ loop-holds c = (omega arith, refl, sym (div-one _), patch-none _ _)
 sibling-requires : tie.Need-sibling-requires Inv-loop μ-loop
 sibling-requires c κs =
     let at-loop = c .before in
-    let start = at-loop .before .before .before in
+    let start = looped at-loop in
     let args = start .args in
     way-within (now (args .tree)) (args .r) (start .pre .0) (start .pre .1) (start .pre .2) (at-loop .loop .x) (at-loop .loop .i)
     (at-loop .loop .inv .2) (omega arith)
@@ -54,9 +60,12 @@ add-copy c = omega arith
 copy-requires : tie.Need-copy-requires Inv-loop μ-loop
 unfolding treeLength
 copy-requires c κs =
-    let tree = now (c .before .before .before .before .before .before .before .args .tree) in
-    let s = c .before .before .sibling .result in
-    let long : length (now (c .before .bytes-at .result)) ≡ 32 = rw (c .before .bytes-at .ensures) (length-part (32 * s) 32 tree (omega arith)) in
+    let after-bytes-at = c .before in
+    let after-sibling = after-bytes-at .before in
+    let start = looped (loop-at after-sibling) in
+    let tree = now (start .args .tree) in
+    let s = after-sibling .sibling .result in
+    let long : length (now (after-bytes-at .bytes-at .result)) ≡ 32 = rw (after-bytes-at .bytes-at .ensures) (length-part (32 * s) 32 tree (omega arith)) in
     omega arith
 
 add-i : tie.Need-add-i Inv-loop μ-loop
@@ -67,12 +76,15 @@ loop-less c = omega arith
 
 loop-again : tie.Need-loop-again Inv-loop μ-loop
 loop-again c =
-    let at-loop = c .before .before .before .before .before .before .before in
-    let start = at-loop .before .before .before in
+    let after-copy = c .before .before in
+    let after-bytes-at = after-copy .before .before in
+    let after-sibling = after-bytes-at .before in
+    let at-loop = loop-at after-sibling in
+    let start = looped at-loop in
     let args = start .args in
     let x = at-loop .loop .x in
     let i = at-loop .loop .i in
-    (omega arith, omega arith, half-turn x (args .r) i (at-loop .loop .inv .2), path-turn (now (args .tree)) (args .r) (start .pre .0) (start .pre .1) (start .pre .2) (now (args .out)) (at-loop .loop .out) (now (c .before .before .before .before .bytes-at .result)) (c .before .before .copy .last .0) (args .at) x i (c .before .before .before .before .before .sibling .result) (at-loop .loop .inv .2) (omega arith) (c .before .before .before .before .before .sibling .ensures .0) (c .before .before .before .before .bytes-at .ensures) (omega arith) (at-loop .loop .inv .3) (c .before .before .copy .ensures))
+    (omega arith, omega arith, half-turn x (args .r) i (at-loop .loop .inv .2), path-turn (now (args .tree)) (args .r) (start .pre .0) (start .pre .1) (start .pre .2) (now (args .out)) (at-loop .loop .out) (now (after-bytes-at .bytes-at .result)) (after-copy .copy .last .0) (args .at) x i (after-sibling .sibling .result) (at-loop .loop .inv .2) (omega arith) (after-sibling .sibling .ensures .0) (after-bytes-at .bytes-at .ensures) (omega arith) (at-loop .loop .inv .3) (after-copy .copy .ensures))
 
 same-length : tie.Need-same-length Inv-loop μ-loop
 same-length c = omega arith
@@ -80,7 +92,8 @@ same-length c = omega arith
 returns : tie.Need-returns Inv-loop μ-loop
 returns c =
     let at-loop = c .before in
-    let args = at-loop .before .before .before .args in
+    let start = looped at-loop in
+    let args = start .args in
     let all : at-loop .loop .i ≡ 10 = omega arith in
     at-loop .loop .inv .3 ∙ ap (λ i. patch (args .at) (joined (path (now (args .tree)) (args .r)) i) (now (args .out))) all
 

@@ -11,8 +11,11 @@ use Rattle.lms.proofs.signer.write_tail.Tie as tie
 returns : tie.Need-returns
 unfolding be
 returns c =
-    let args = c .before .before .before .before .before .before .before .before .before .before .args in
-    patch-next 1128 1132 (be 4 6) _ (now (args .out)) (c .before .before .before .before .before .before .put-word .last .0) (c .before .before .write-path .last .1 .1 .0) (c .before .before .before .before .before .before .put-word .ensures) refl (omega arith) (c .before .before .write-path .ensures)
+    let after-write-path = c .before .before in
+    let after-put-word = after-write-path .before .before .before .before in
+    let start = after-put-word .before .before .before .before in
+    let args = start .args in
+    patch-next 1128 1132 (be 4 6) _ (now (args .out)) (after-put-word .put-word .last .0) (after-write-path .write-path .last .1 .1 .0) (after-put-word .put-word .ensures) refl (omega arith) (after-write-path .write-path .ensures)
 
 pub write-tail-spec : {M : Type 1} → statement M
 write-tail-spec =

@@ -1,8 +1,6 @@
 -- `lms::tree::put_inner` meets its contract.
 use native.Mathlib.Omega.{arith}
 use borrow.Author.Needs.{needs}
-use denote.Ref.{now}
-use Rattle.octets.specs.Octets.{bytes}
 use Rattle.protocol.specs.Layout.{treeLength}
 use Rattle.lms.specs.Filled.{inner-put}
 use Rattle.lms.proofs.tree.put_inner.Statement.{statement}
@@ -16,14 +14,6 @@ copy-requires : tie.Need-copy-requires
 unfolding treeLength
 copy-requires c κs = omega arith
 
-returns : tie.Need-returns
-returns c =
-    let args = c .before .before .before .before .before .before .before .before .before .args in
-    inner-put (bytes (args .id)) (now (args .tree)) (now (c .before .before .before .before .before .before .bytes-at .result))
-    (c .before .before .before .before .before .inner .result) (c .before .before .copy .last .0) (args .r)
-    (c .before .before .before .before .before .before .bytes-at .ensures) (c .before .before .before .before .before .inner .ensures)
-    (c .before .before .copy .ensures)
-
 pub put-inner-spec : {M : Type 1} → statement M
 put-inner-spec =
     tie.close
@@ -35,4 +25,4 @@ put-inner-spec =
     (λ c. search needs)
     copy-requires
     (λ c. search needs)
-    returns)
+    (λ c. search inner-put))

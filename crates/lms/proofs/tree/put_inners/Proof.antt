@@ -16,6 +16,12 @@ Inv-loop k id tree₀ t₀ tree t = (t ≤ 1023) × (length tree ≡ length tree
 abbrev μ-loop : tie.MeasureT-loop
 μ-loop k id tree₀ t₀ tree t = 1023 - t
 
+abbrev looped : tie.At-loop Inv-loop μ-loop → tie.Start Inv-loop μ-loop
+looped c = c .before .before
+
+abbrev loop-at : tie.After-put-inner-arg Inv-loop μ-loop → tie.At-loop Inv-loop μ-loop
+loop-at c = c .before .before
+
 loop-holds : tie.Need-loop-holds Inv-loop μ-loop
 unfolding innersPut
 loop-holds c = (omega arith, refl, refl)
@@ -25,7 +31,7 @@ sub-put-inner c = omega arith
 
 put-inner-requires : tie.Need-put-inner-requires Inv-loop μ-loop
 put-inner-requires c κs =
-    let start = c .before .before .before .before in
+    let start = looped (loop-at c) in
     (start .pre .0, omega arith, omega arith)
 
 add-t : tie.Need-add-t Inv-loop μ-loop
@@ -36,9 +42,11 @@ loop-less c = omega arith
 
 loop-again : tie.Need-loop-again Inv-loop μ-loop
 loop-again c =
-    let at-loop = c .before .before .before .before .before in
-    let args = at-loop .before .before .args in
-    (omega arith, omega arith, inners-turn (bytes (args .id)) (now (args .tree)) (at-loop .loop .tree) (c .before .before .put-inner .last .1 .1 .1 .0) (at-loop .loop .t) (at-loop .loop .inv .2) (c .before .before .put-inner .ensures))
+    let after-put-inner = c .before .before in
+    let at-loop = loop-at (after-put-inner .before) in
+    let start = looped at-loop in
+    let args = start .args in
+    (omega arith, omega arith, inners-turn (bytes (args .id)) (now (args .tree)) (at-loop .loop .tree) (after-put-inner .put-inner .last .1 .1 .1 .0) (at-loop .loop .t) (at-loop .loop .inv .2) (after-put-inner .put-inner .ensures))
 
 same-length : tie.Need-same-length Inv-loop μ-loop
 same-length c = omega arith
@@ -46,7 +54,8 @@ same-length c = omega arith
 returns : tie.Need-returns Inv-loop μ-loop
 returns c =
     let at-loop = c .before in
-    let args = at-loop .before .before .args in
+    let start = looped at-loop in
+    let args = start .args in
     let all : at-loop .loop .t ≡ 1023 = omega arith in
     at-loop .loop .inv .2 ∙ ap (λ t. innersPut (bytes (args .id)) t (now (args .tree))) all
 

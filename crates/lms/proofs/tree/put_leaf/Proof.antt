@@ -1,8 +1,6 @@
 -- `lms::tree::put_leaf` meets its contract.
 use native.Mathlib.Omega.{arith}
 use borrow.Author.Needs.{needs}
-use denote.Ref.{now}
-use Rattle.octets.specs.Octets.{bytes}
 use Rattle.protocol.specs.Layout.{treeLength}
 use Rattle.lms.specs.LmsLaws.{leaf-put}
 use Rattle.lms.proofs.tree.put_leaf.Statement.{statement}
@@ -11,13 +9,6 @@ use Rattle.lms.proofs.tree.put_leaf.Tie as tie
 copy-requires : tie.Need-copy-requires
 unfolding treeLength
 copy-requires c κs = omega arith
-
-returns : tie.Need-returns
-returns c =
-    let args = c .before .before .before .before .before .before .before .before .args in
-    let leaf = c .before .before .before .before .before .leaf in
-    let copied = c .before .before .copy in
-    leaf-put (bytes (args .id)) (now (args .key)) (leaf .result) (now (args .tree)) (copied .last .0) (args .q) (leaf .ensures) (copied .ensures)
 
 pub put-leaf-spec : {M : Type 1} → statement M
 put-leaf-spec =
@@ -30,4 +21,4 @@ put-leaf-spec =
     (λ c. search needs)
     copy-requires
     (λ c. search needs)
-    returns)
+    (λ c. search leaf-put))

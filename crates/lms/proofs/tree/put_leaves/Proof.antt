@@ -19,6 +19,12 @@ Inv-loop k id seed tree₀ n₀ tree n = (n ≤ 64) × (length tree ≡ length t
 abbrev μ-loop : tie.MeasureT-loop
 μ-loop k id seed tree₀ n₀ tree n = 64 - n
 
+abbrev looped : tie.At-loop Inv-loop μ-loop → tie.Start Inv-loop μ-loop
+looped c = c .before .before
+
+abbrev loop-at : tie.After-put-sixteen-arg Inv-loop μ-loop → tie.At-loop Inv-loop μ-loop
+loop-at c = c .before .before
+
 loop-holds : tie.Need-loop-holds Inv-loop μ-loop
 unfolding nodes joined
 loop-holds c = (omega arith, refl, patch-none _ _)
@@ -27,7 +33,9 @@ mul-put-sixteen : tie.Need-mul-put-sixteen Inv-loop μ-loop
 mul-put-sixteen c = omega arith
 
 put-sixteen-requires : tie.Need-put-sixteen-requires Inv-loop μ-loop
-put-sixteen-requires c κs = (c .before .before .before .before .pre .0, omega arith, omega arith)
+put-sixteen-requires c κs =
+    let start = looped (loop-at c) in
+    (start .pre .0, omega arith, omega arith)
 
 add-n : tie.Need-add-n Inv-loop μ-loop
 add-n c = omega arith
@@ -38,9 +46,12 @@ loop-less c = omega arith
 loop-again : tie.Need-loop-again Inv-loop μ-loop
 unfolding treeLength
 loop-again c =
-    let loop = c .before .before .before .before .before .loop in
-    let args = c .before .before .before .before .before .before .before .args in
-    let put = c .before .before .put-sixteen in (
+    let after-put-sixteen = c .before .before in
+    let at-loop = loop-at (after-put-sixteen .before) in
+    let start = looped at-loop in
+    let loop = at-loop .loop in
+    let args = start .args in
+    let put = after-put-sixteen .put-sixteen in (
       omega arith,
       omega arith,
       leaves-turn (bytes (args .id)) (bytes (args .seed)) (now (args .tree)) (loop .tree) (put .last .1 .1 .1 .1 .0) (loop .n) (omega arith) (loop .inv .2) (put .ensures),
@@ -51,8 +62,10 @@ same-length c = omega arith
 
 returns : tie.Need-returns Inv-loop μ-loop
 returns c =
-    let loop = c .before .loop in
-    let args = c .before .before .before .args in
+    let at-loop = c .before in
+    let start = looped at-loop in
+    let loop = at-loop .loop in
+    let args = start .args in
     let all : loop .n ≡ 64 = omega arith in
     loop .inv .2 ∙ ap (λ (n : ℕ). patch (32 * 1024) (nodes 10 8 (bytes (args .id)) (bytes (args .seed)) 1024 (16 * n)) (now (args .tree))) all
 

@@ -21,6 +21,12 @@ Inv-loop k id q tree₀ keys l₀ tree l =
 abbrev μ-loop : tie.MeasureT-loop
 μ-loop k id q tree₀ keys l₀ tree l = 16 - l
 
+abbrev keyed : tie.After-ots-keys Inv-loop μ-loop → tie.Start Inv-loop μ-loop
+keyed c = c .before .before
+
+abbrev loop-at : tie.After-bytes-at Inv-loop μ-loop → tie.At-loop Inv-loop μ-loop
+loop-at c = c .before .before .before
+
 ots-keys-requires : tie.Need-ots-keys-requires Inv-loop μ-loop
 ots-keys-requires c κs = search needs
 
@@ -44,7 +50,9 @@ bytes-at-requires : tie.Need-bytes-at-requires Inv-loop μ-loop
 bytes-at-requires c κs = omega arith
 
 put-leaf-requires : tie.Need-put-leaf-requires Inv-loop μ-loop
-put-leaf-requires c κs = (c .before .before .before .before .before .before .before .pre .0, omega arith, omega arith)
+put-leaf-requires c κs =
+    let start = keyed (loop-at (c .before) .before) in
+    (start .pre .0, omega arith, omega arith)
 
 add-l : tie.Need-add-l Inv-loop μ-loop
 add-l c = omega arith
@@ -55,11 +63,16 @@ loop-less c = omega arith
 loop-again : tie.Need-loop-again Inv-loop μ-loop
 unfolding treeLength
 loop-again c =
-    let loop = c .before .before .before .before .before .before .before .loop in
-    let keys = c .before .before .before .before .before .before .before .before .ots-keys in
-    let args = c .before .before .before .before .before .before .before .before .before .before .args in
-    let key = c .before .before .before .before .bytes-at in
-    let put = c .before .before .put-leaf in (
+    let after-put-leaf = c .before .before in
+    let after-bytes-at = after-put-leaf .before .before in
+    let at-loop = loop-at after-bytes-at in
+    let after-ots-keys = at-loop .before in
+    let start = keyed after-ots-keys in
+    let loop = at-loop .loop in
+    let keys = after-ots-keys .ots-keys in
+    let args = start .args in
+    let key = after-bytes-at .bytes-at in
+    let put = after-put-leaf .put-leaf in (
       omega arith,
       omega arith,
       sixteen-turn (bytes (args .id)) (keys .result) (now (args .tree)) (loop .tree) (now (key .result)) (put .last .1 .1 .1 .1 .0) (args .q) (loop .l) (omega arith)
@@ -71,9 +84,12 @@ same-length c = omega arith
 
 returns : tie.Need-returns Inv-loop μ-loop
 returns c =
-    let loop = c .before .loop in
-    let keys = c .before .before .ots-keys in
-    let args = c .before .before .before .before .args in
+    let at-loop = c .before in
+    let after-ots-keys = at-loop .before in
+    let start = keyed after-ots-keys in
+    let loop = at-loop .loop in
+    let keys = after-ots-keys .ots-keys in
+    let args = start .args in
     sixteen-done (bytes (args .id)) (bytes (args .seed)) (keys .result) (now (args .tree)) (loop .tree) (args .q) (loop .l) (omega arith) (keys .ensures) (loop .inv .2)
 
 pub put-sixteen-spec : {M : Type 1} → statement M

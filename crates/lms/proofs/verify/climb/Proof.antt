@@ -19,6 +19,12 @@ Inv-loop k id h w r signature at tmp₀ x₀ i₀ tmp x i = (i ≤ h) × (length
 abbrev μ-loop : tie.MeasureT-loop
 μ-loop k id h w r signature at tmp₀ x₀ i₀ tmp x i = h - i
 
+abbrev sized : tie.After-ots-length Inv-loop μ-loop → tie.Start Inv-loop μ-loop
+sized c = c .before .before
+
+abbrev loop-at : tie.After-bytes-at Inv-loop μ-loop → tie.At-loop Inv-loop μ-loop
+loop-at c = c .before .before
+
 ots-length-requires : tie.Need-ots-length-requires Inv-loop μ-loop
 ots-length-requires c κs = tt
 
@@ -47,11 +53,13 @@ slice-aggregate-turned c = search needs
 turned-requires : tie.Need-turned-requires Inv-loop μ-loop
 unfolding signatureLength
 turned-requires c κs =
-    let at-loop = c .before .before .before in
-    let start = at-loop .before .before .before in
-    let n = at-loop .before .ots-length .result in
+    let after-bytes-at = c .before in
+    let at-loop = loop-at after-bytes-at in
+    let after-ots-length = at-loop .before in
+    let start = sized after-ots-length in
+    let n = after-ots-length .ots-length .result in
     let i = at-loop .loop .i in
-    (start .pre .0, rw (c .before .bytes-at .ensures) (length-part (8 + n + 32 * i) 32 (now (start .args .signature)) (omega arith)), at-loop .loop .inv .1)
+    (start .pre .0, rw (after-bytes-at .bytes-at .ensures) (length-part (8 + n + 32 * i) 32 (now (start .args .signature)) (omega arith)), at-loop .loop .inv .1)
 
 add-i : tie.Need-add-i Inv-loop μ-loop
 add-i c = omega arith
@@ -61,23 +69,26 @@ loop-less c = omega arith
 
 loop-again : tie.Need-loop-again Inv-loop μ-loop
 loop-again c =
-    let at-loop = c .before .before .before .before in
-    let start = at-loop .before .before .before in
+    let after-bytes-at = c .before .before in
+    let at-loop = loop-at after-bytes-at in
+    let after-ots-length = at-loop .before in
+    let start = sized after-ots-length in
     let args = start .args in
     let x = at-loop .loop .x in
     let i = at-loop .loop .i in (
       omega arith,
       search needs,
       half-turn x (args .r) i (at-loop .loop .inv .2),
-      climbed-turn (bytes (args .id)) (now (args .signature)) (args .start) (at-loop .loop .tmp) (now (c .before .before .bytes-at .result)) (c .turned .result)
-          (args .w) (at-loop .before .ots-length .result) (args .r) x i (at-loop .before .ots-length .ensures .0) (at-loop .loop .inv .2) (at-loop .loop .inv .3)
-          (c .before .before .bytes-at .ensures) (c .turned .ensures),
+      climbed-turn (bytes (args .id)) (now (args .signature)) (args .start) (at-loop .loop .tmp) (now (after-bytes-at .bytes-at .result)) (c .turned .result)
+          (args .w) (after-ots-length .ots-length .result) (args .r) x i (after-ots-length .ots-length .ensures .0) (at-loop .loop .inv .2) (at-loop .loop .inv .3)
+          (after-bytes-at .bytes-at .ensures) (c .turned .ensures),
     )
 
 returns : tie.Need-returns Inv-loop μ-loop
 returns c =
     let at-loop = c .before in
-    let args = at-loop .before .before .before .args in
+    let start = sized (at-loop .before) in
+    let args = start .args in
     let all : at-loop .loop .i ≡ args .h = omega arith in
     at-loop .loop .inv .3 ∙ ap (climbed (bytes (args .id)) (args .w) (args .r) (now (args .signature)) (args .start)) all
 

@@ -11,8 +11,9 @@ started c = c .before .before .before
 
 returns : tie.Need-returns
 returns c =
-    let done = c .before .before .collect in
-    let chosen = c .before .before .before .before in
+    let collected = c .before .before in
+    let done = collected .collect in
+    let chosen = collected .before .before in
     let args = started (chosen .before) .args in
     wanted (args .r) (now (args .store)) (args .seat) (args .value) (now (args .signature)) (done .result) (done .last .1 .0) (sym (chosen .before .is-wanted .ensures) ∙ chosen .if1 .taken) (done .ensures)
 

@@ -12,10 +12,10 @@ use Rattle.steps.proofs.confirm.confirm.Tie as tie
 returns : tie.Need-returns
 unfolding confirm write
 returns c =
-    let start = c .before .before .before .before .before .before .before in
-    let args = start .args in
+    let written = c .before .before in
+    let args = written .before .before .before .before .before .args in
     let r = args .r in
-    let wrote = c .before .before .write-notice in (
+    let wrote = written .write-notice in (
       λ store.
           saying confirm r store (Notice (r .round) (r .seat) (r .own .value)) (now (args .out)) (args .at) (withConfirmed r) store (wrote .last .0) (wrote .result) refl
           (record { recorded = refl; stored = refl }) (wrote .ensures .0),

@@ -20,6 +20,9 @@ started c = c .before .before .before .before
 abbrev read : tie.After-hear-certificate-arg2 → tie.After-entry-set
 read c = c .before .before
 
+abbrev placed : tie.After-entry-set → tie.After-value-at
+placed c = c .before .before
+
 abbrev done : tie.After-slice-known4 → tie.After-hear-certificate
 done c = c .before .before .before .before
 
@@ -32,7 +35,7 @@ hear-certificate-requires : tie.Need-hear-certificate-requires
 unfolding bytesOf
 hear-certificate-requires c κs =
     let set = read c .entry-set in
-    let start = started (read c .before .before) in
+    let start = started (placed (read c)) in
     let args = start .args in
     let n = args .r .n in
     let m = now (args .message) in (
@@ -48,7 +51,7 @@ returns c =
     let point = read (done c .before) in
     let set = point .entry-set in
     let value = point .before .value-at2 in
-    let place = point .before .before in
+    let place = placed point in
     let start = started place in
     let args = start .args in
     full-heard (args .r) (now (args .store)) (now (args .out)) (now (args .message)) (args .r) (heard .result .unit) (heard .last .1 .0) (heard .last .1 .1 .0) (heard .result .at)

@@ -13,9 +13,12 @@ use borrow.Author.Needs.{needs}
 use Rattle.steps.proofs.phases.step_submit.Statement.{statement}
 use Rattle.steps.proofs.phases.step_submit.Tie as tie
 
--- the parts read: the value, then the signature, then the seat
+-- what is read: the value, then the signature, then the seat
+abbrev opened : tie.After-value-at → tie.Start
+opened c = c .before .before .before .before
+
 abbrev started : tie.After-value-at2 → tie.Start
-started c = c .before .before .before .before .before
+started c = opened (c .before)
 
 abbrev valued : tie.After-signature-at → tie.After-value-at2
 valued c = c .before .before
@@ -63,9 +66,7 @@ seat-known c =
     submit-seat (start .args .r .n) (now (start .args .message)) (start .pre .1) (c .number-at .result) (seat-read c) (start .pre .2)
 
 value-at-requires-2 : tie.Need-value-at-requires-2
-value-at-requires-2 c κs =
-    let start = c .before .before .before .before in
-    omega (arith, c .value-at .ensures, long start)
+value-at-requires-2 c κs = omega (arith, c .value-at .ensures, long (opened c))
 
 signature-at-requires : tie.Need-signature-at-requires
 signature-at-requires c κs = omega (arith, c .submit-signature-at .ensures, long (started (c .before)))

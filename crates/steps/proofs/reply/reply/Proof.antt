@@ -12,8 +12,9 @@ started c = c .before .before .before
 
 returns : tie.Need-returns
 returns c =
-    let sent = c .before .before .send-full in
-    let chosen = c .before .before .before .before in
+    let replied-at = c .before .before in
+    let sent = replied-at .send-full in
+    let chosen = replied-at .before .before in
     let start = started (chosen .before) in
     let owed = sym (chosen .before .owes-full .ensures) ∙ chosen .if1 .taken in (
       replied (start .args .r) (now (start .args .store)) (now (start .args .out)) (start .args .at) (sent .result .unit) (now (start .args .store)) (sent .last .1 .1 .0) (sent .result .at) owed (sent .ensures .0),

@@ -19,16 +19,26 @@ Inv-loop n keys seat₀ seat = (length keys ≡ keyAt n) × Passed (λ (s : ℕ)
 abbrev μ-loop : tie.MeasureT-loop
 μ-loop n keys seat₀ seat = n - seat
 
+abbrev started : tie.After-key-at Inv-loop μ-loop → tie.Start Inv-loop μ-loop
+started c = c .before .before
+
 -- the table has its length
-long : (c : tie.Else1 Inv-loop μ-loop) → let s = c .before .before .before in length (now (s .args .keys)) ≡ keyAt (s .args .n)
+long : (c : tie.Else1 Inv-loop μ-loop) → let s = started (c .before) in length (now (s .args .keys)) ≡ keyAt (s .args .n)
 long c = c .if1 .left ∙ c .before .key-at .ensures
+
+abbrev looped : tie.At-loop Inv-loop μ-loop → tie.Start Inv-loop μ-loop
+looped c = started (c .before .before)
+
+abbrev loop-at : tie.After-key-allowed Inv-loop μ-loop → tie.At-loop Inv-loop μ-loop
+loop-at c = c .before .before
 
 key-at-requires : tie.Need-key-at-requires Inv-loop μ-loop
 key-at-requires c κs = search needs
 
 returns : tie.Need-returns Inv-loop μ-loop
 returns c =
-    keys-length (now (c .before .before .before .args .keys)) (c .before .before .before .args .n) (λ e. c .if1 .taken (e ∙ sym (c .before .key-at .ensures)))
+    let s = started (c .before) in
+    keys-length (now (s .args .keys)) (s .args .n) (λ e. c .if1 .taken (e ∙ sym (c .before .key-at .ensures)))
 
 loop-holds : tie.Need-loop-holds Inv-loop μ-loop
 loop-holds c = (long c, passed-none)
@@ -38,8 +48,8 @@ key-allowed-requires c κs = omega arith
 
 returns-2 : tie.Need-returns-2 Inv-loop μ-loop
 returns-2 c =
-    let at-loop = c .before .before .before in
-    let s = c .before .before .before .before .before .before .before in
+    let at-loop = loop-at (c .before) in
+    let s = looped at-loop in
     keys-not (now (s .args .keys)) (s .args .n) (at-loop .loop .inv .0) (at-loop .loop .seat) (omega arith)
     (sym (c .before .key-allowed .ensures) ∙ not-true _ (c .if2 .taken))
 
@@ -51,13 +61,13 @@ loop-less c = omega arith
 
 loop-again : tie.Need-loop-again Inv-loop μ-loop
 loop-again c =
-    let at-loop = c .before .before .before in
+    let at-loop = loop-at (c .before) in
     (at-loop .loop .inv .0, passed-turn (at-loop .loop .inv .1) (omega arith) (sym (c .before .key-allowed .ensures) ∙ not-false _ (c .if2 .left)))
 
 returns-3 : tie.Need-returns-3 Inv-loop μ-loop
 returns-3 c =
     let at-loop = c .before in
-    let s = c .before .before .before .before .before in
+    let s = looped at-loop in
     keys-all (now (s .args .keys)) (s .args .n) (at-loop .loop .inv .0) (passed-all (at-loop .loop .inv .1) (omega arith))
 
 pub wrong-keys-spec : {M : Type 1} → statement M

@@ -11,22 +11,17 @@ use Rattle.validate.proofs.record.is_impossible.Tie as tie
 ranged : (c : tie.Else1) → outOfRange (c .before .before .args .r) ≡ false
 ranged c = sym (c .before .out-of-range .ensures) ∙ c .if1 .left
 
+-- and that is known where collected and first seats are tested
+abbrev known : tie.After-names-stranger → tie.Else1
+known c = c .before .before
+
 returns : tie.Need-returns
 unfolding impossible
 returns c = rw (sym (c .before .out-of-range .ensures) ∙ c .if1 .taken)
 
-names-stranger-requires : tie.Need-names-stranger-requires
-names-stranger-requires c κs = in-range _ (ranged (c .before))
-
-wrong-collected-requires : tie.Need-wrong-collected-requires
-wrong-collected-requires c κs = in-range _ (ranged (c .before .before))
-
-wrong-first-requires : tie.Need-wrong-first-requires
-wrong-first-requires c κs = in-range _ (ranged (c .before .before .before))
-
 returns-2 : tie.Need-returns-2
 unfolding impossible wrongHeard
-returns-2 c = rw (ranged (c .before .before .before .before .before .before .before .before)) (cc)
+returns-2 c = rw (ranged (known (c .before .before .before .before .before .before))) (cc)
 
 pub is-impossible-spec : {M : Type 1} → statement M
 is-impossible-spec =
@@ -34,9 +29,9 @@ is-impossible-spec =
     (tie.spec
     (λ c κs. search needs)
     returns
-    names-stranger-requires
-    wrong-collected-requires
-    wrong-first-requires
+    (λ c κs. in-range _ (ranged (c .before)))
+    (λ c κs. in-range _ (ranged (known c)))
+    (λ c κs. in-range _ (ranged (known (c .before))))
     (λ c κs. search needs)
     (λ c κs. search needs)
     (λ c κs. search needs)

@@ -46,8 +46,11 @@ count-read c = let number = c .before in number .number-at .ensures .0 ∙ ap (�
 abbrev loop-at : tie.After-entry-at Inv-loop μ-loop → tie.At-loop Inv-loop μ-loop
 loop-at c = c .before .before
 
--- the loop's index is below that number
-inside : (c : tie.After-entry-at Inv-loop μ-loop) → loop-at c .loop .t < byteAt (m (started (loop-at c .before))) evidenceCountAt
+abbrev given : tie.After-entry-at Inv-loop μ-loop → tie.Start Inv-loop μ-loop
+given c = started (loop-at c .before)
+
+-- an index below it
+inside : (c : tie.After-entry-at Inv-loop μ-loop) → loop-at c .loop .t < byteAt (m (given c)) evidenceCountAt
 inside c = let counted = count-read (loop-at c .before) in omega arith
 
 -- the place of its entry
@@ -58,20 +61,20 @@ place c =
 
 -- the pair of its entry
 pair-is : (c : tie.After-pair-at Inv-loop μ-loop)
-    → let at-loop = loop-at (c .before) in let at = evidenceEntryAt (at-loop .loop .t) in
-    c .pair-at .result ≡ pairPlaces (byteAt (m (started (at-loop .before))) (at + 1)) at
+    → let at = evidenceEntryAt (loop-at (c .before) .loop .t) in c .pair-at .result ≡ pairPlaces (byteAt (m (given (c .before))) (at + 1)) at
 pair-is c =
-    let s = started (loop-at (c .before) .before) in
+    let s = given (c .before) in
     c .pair-at .ensures ∙ ap (λ (at : ℕ). pairPlaces (byteAt (m s) (at + 1)) at) (place (c .before))
 
--- the verdict on the pair
+abbrev entry-of : tie.After-pair-verdict Inv-loop μ-loop → tie.After-entry-at Inv-loop μ-loop
+entry-of c = c .before .before
+
+-- the verdict on it
 said : (c : tie.After-pair-verdict Inv-loop μ-loop)
-    → let at-loop = loop-at (c .before .before) in let s = started (at-loop .before) in
-    c .pair-verdict .result .number ≡ signatureNumber (pairCheck (check s) (m s) (at-loop .loop .t))
+    → let s = given (entry-of c) in c .pair-verdict .result .number ≡ signatureNumber (pairCheck (check s) (m s) (loop-at (entry-of c) .loop .t))
 said c =
-    let pair = c .before in
-    let s = started (loop-at (pair .before) .before) in
-    c .pair-verdict .ensures ∙ ap (λ (p : Pair). signatureNumber (pairChecks (check s) (m s) p)) (pair-is pair)
+    let s = given (entry-of c) in
+    c .pair-verdict .ensures ∙ ap (λ (p : Pair). signatureNumber (pairChecks (check s) (m s) p)) (pair-is (c .before))
 
 evidence-count-at-requires : tie.Need-evidence-count-at-requires Inv-loop μ-loop
 evidence-count-at-requires c κs = search needs
@@ -98,42 +101,48 @@ entry-at-requires c κs =
 
 pair-at-requires : tie.Need-pair-at-requires Inv-loop μ-loop
 pair-at-requires c κs =
-    let made = c .before .before .before in
-    let s = started made in
+    let s = given c in
     subst (λ (at : ℕ). at + evidenceEntryLength ≤ length (m s)) (sym (place c))
     (entry-inside (m s) (byteAt (m s) evidenceCountAt) (loop-at c .loop .t) (s .pre .2 .size) (inside c))
 
 pair-verdict-requires : tie.Need-pair-verdict-requires Inv-loop μ-loop
 pair-verdict-requires c κs =
     let entry = c .before in
-    let s = started (c .before .before .before .before) in
+    let s = given entry in
     let fits = pair-inside (check s) (n s) (m s) (s .pre .2) (loop-at entry .loop .t) (inside entry) in
     (s .pre .0, s .pre .1, subst (λ (p : Pair). PairInside (n s) p (m s)) (sym (pair-is c)) fits)
 
 returns : tie.Need-returns Inv-loop μ-loop
 returns c =
-    let entry = c .before .before .before .before in
-    let s = started (c .before .before .before .before .before .before .before) in
-    checked-not (check s) (n s) (m s) (s .pre .2) (loop-at entry .loop .t) (c .before .before .pair-verdict .result .number) (inside entry) (said (c .before .before)) (c .if1 .taken)
+    let known = c .before in
+    let v = known .before in
+    let entry = entry-of v in
+    let s = given entry in
+    checked-not (check s) (n s) (m s) (s .pre .2) (loop-at entry .loop .t) (v .pair-verdict .result .number) (inside entry) (said v) (c .if1 .taken)
 
 add-t : tie.Need-add-t Inv-loop μ-loop
 add-t c = omega arith
 
 loop-less : tie.Need-loop-less Inv-loop μ-loop
-loop-less c = let counted = count-read (c .before .before .before .before .before .before .before) in omega arith
+loop-less c =
+    let known = c .before in
+    let counted = count-read (loop-at (entry-of (known .before)) .before) in
+    omega arith
 
 loop-again : tie.Need-loop-again Inv-loop μ-loop
 loop-again c =
-    let entry = c .before .before .before .before in
-    let s = started (c .before .before .before .before .before .before .before) in
+    let known = c .before in
+    let v = known .before in
+    let entry = entry-of v in
+    let s = given entry in
     let at-loop = loop-at entry in
-    checked-more (check s) (n s) (m s) (s .pre .2) (at-loop .loop .t) (c .before .before .pair-verdict .result .number) (inside entry) (said (c .before .before)) (at-loop .loop .inv) (c .if1 .left)
+    checked-more (check s) (n s) (m s) (s .pre .2) (at-loop .loop .t) (v .pair-verdict .result .number) (inside entry) (said v) (at-loop .loop .inv) (c .if1 .left)
 
 returns-2 : tie.Need-returns-2 Inv-loop μ-loop
 returns-2 c =
     let at-loop = c .before in
-    let s = started (c .before .before) in
-    let counted = count-read (c .before .before) in
+    let s = started (at-loop .before) in
+    let counted = count-read (at-loop .before) in
     checked-all (check s) (n s) (m s) (s .pre .2) (at-loop .loop .t) (at-loop .loop .inv) (omega arith)
 
 pub evidence-verdict-spec : {M : Type 1} → statement M

@@ -13,10 +13,6 @@ number-at-requires : tie.Need-number-at-requires
 unfolding evidenceEntryLength signatureLength
 number-at-requires c κs = omega arith
 
-returns : tie.Need-returns
-returns c =
-    rw (c .number-at .ensures .0, c .before .signature-length .ensures, c .before .before .higher-at .ensures, c .before .before .before .lower-at .ensures)
-
 pub pair-at-spec : {M : Type 1} → statement M
 pair-at-spec =
     tie.close
@@ -29,4 +25,4 @@ pair-at-spec =
     add-t8
     (λ c. search needs)
     number-at-requires
-    returns)
+    (λ c. cc))

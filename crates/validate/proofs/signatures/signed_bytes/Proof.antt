@@ -8,10 +8,10 @@ use Rattle.validate.proofs.signatures.signed_bytes.Tie as tie
 
 returns : tie.Need-returns
 returns c =
-    let start = c .before .before .before .before .before .before .before in
-    let args = start .args in
-    seat-signed (now (args .value)) _ _ (c .before .copy .last .0) (args .round) (args .seat) (start .pre .0) (start .pre .1)
-    (c .before .before .before .before .put-word .ensures) (c .before .copy .ensures) (omega arith)
+    let copied = c .before in
+    let put = copied .before .before .before in
+    let s = put .before .before .before in
+    seat-signed (now (s .args .value)) _ _ (copied .copy .last .0) (s .args .round) (s .args .seat) (s .pre .0) (s .pre .1) (put .put-word .ensures) (copied .copy .ensures) (omega arith)
 
 pub signed-bytes-spec : {M : Type 1} → statement M
 signed-bytes-spec =

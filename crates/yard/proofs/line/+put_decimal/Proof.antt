@@ -47,6 +47,9 @@ module _ (t : ℕ) where
   abbrev tested : lts.After-put-decimal calls Pre put-decimal.Post → lts.Else1 calls Pre put-decimal.Post
   tested c = c .before .before
 
+  abbrev front-of : lts.After-put-byte-arg2 calls Pre put-decimal.Post → lts.After-put-decimal calls Pre put-decimal.Post
+  front-of c = c .before .before .before
+
   add-put-byte : lts.Need-add-put-byte calls Pre put-decimal.Post
   add-put-byte c = omega arith
 
@@ -81,7 +84,7 @@ module _ (t : ℕ) where
 
   put-byte-requires-2 : lts.Need-put-byte-requires-2 calls Pre put-decimal.Post
   put-byte-requires-2 c κs =
-      let front = c .before .before .before in
+      let front = front-of c in
       let more = tested front in
       let s = many more in
       last-fits (out s) (s .args .at) (s .args .x) (s .pre .1) (more .if1 .left) (front .put-decimal .last .0) (front .put-decimal .result) (front .put-decimal .ensures .0) (front .put-decimal .ensures .1)
@@ -92,7 +95,7 @@ module _ (t : ℕ) where
   returns-2 : lts.Need-returns-2 calls Pre put-decimal.Post
   returns-2 c =
       let put = c .before .before in
-      let front = put .before .before .before .before in
+      let front = front-of (put .before) in
       let more = tested front in
       let s = many more in
       wrote-last (out s) (s .args .at) (s .args .x) (s .pre .1) (more .if1 .left) (front .put-decimal .last .0) (front .put-decimal .result) (front .put-decimal .ensures .0) (front .put-decimal .ensures .1)
