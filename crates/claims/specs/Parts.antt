@@ -167,10 +167,10 @@ module _ (checks : Checks) (W : Relation) where
   }
     where
       go : (s : ℕ) → In s (with seat (own .collected)) → Dec (s ≡ seat) → Attested checks W s (own .value) (slot n collectedBank (fill n collectedBank seat signature store) s)
-      go s i (yes e) = rw (e, slot-fill-same n collectedBank seat signature store collected-bank inside room (g .sized)) g
+      go s i (yes e) = rw (e, slot-fill-same n collectedBank seat signature store (collected-bank .0) inside room (g .sized ∙ sym (collected-bank .1))) g
       go s i (no d) =
           let old : In s (own .collected) = sym (bit-with-other s seat (own .collected) d) ∙ i in
-          rw (slot-fill-other n collectedBank seat signature store collected-bank inside room (g .sized) collectedBank s (collected-bank .0) (in-below n s (own .collected) (z .below) old) (λ _ q. d (sym q)))
+          rw (slot-fill-other n collectedBank seat signature store (collected-bank .0) inside room (g .sized ∙ sym (collected-bank .1)) collectedBank s (collected-bank .0) (in-below n s (own .collected) (z .below) old) (λ _ q. d (sym q)))
           (z .attested s old)
 
   -- the first certificate's bank is as it was
@@ -180,7 +180,7 @@ module _ (checks : Checks) (W : Relation) where
     sized = z .sized;
     below = z .below;
     enough = z .enough;
-    attested = λ s i. rw (slot-fill-other n collectedBank seat signature store collected-bank inside room sized firstBank s (first-bank .0) (in-below n s (r .first .seats) (z .below) i) (λ q _. omega arith)) (z .attested s i);
+    attested = λ s i. rw (slot-fill-other n collectedBank seat signature store (collected-bank .0) inside room (sized ∙ sym (collected-bank .1)) firstBank s (first-bank .0) (in-below n s (r .first .seats) (z .below) i) (λ q _. omega arith)) (z .attested s i);
     guiltyBelow = z .guiltyBelow;
     guiltyWithin = z .guiltyWithin;
     unheld = z .unheld;
@@ -213,7 +213,7 @@ module _ (checks : Checks) (W : Relation) where
           first = holding-beside (r .n) seat (r .guilty) r signature (s .store) inside room (g .sized) (z .first);
           flags = record { full = λ e. absurd (true≢false (sym e ∙ unconfirmed)); confirmed = z .flags .confirmed };
         })
-        (fill-length (r .n) collectedBank seat signature (s .store) collected-bank inside room (g .sized))
+        (fill-length (r .n) collectedBank seat signature (s .store) (collected-bank .0) inside room (g .sized ∙ sym (collected-bank .1)))
         (record { n = refl; seat = refl; round = refl; said = λ e. (e, refl); heard = λ v h. h; held = λ v h. h })
         refl
         (same-flags r (collect seat signature s .unit) refl refl refl refl)
@@ -252,7 +252,7 @@ module _ (checks : Checks) (W : Relation) where
           first = holding-beside (r .n) (r .seat) (r .guilty) r signature (s .store) (z .range .seated) room (g .sized) (z .first);
           flags = record { full = λ e. absurd (let f = z .flags .full e in omega arith); confirmed = z .flags .confirmed };
         })
-        (fill-length (r .n) collectedBank (r .seat) signature (s .store) collected-bank (z .range .seated) room (g .sized))
+        (fill-length (r .n) collectedBank (r .seat) signature (s .store) (collected-bank .0) (z .range .seated) room (g .sized ∙ sym (collected-bank .1)))
         (record { n = refl; seat = refl; round = refl; said = λ e. absurd (true≢false (sym e ∙ unsaid)); heard = λ v h. h; held = λ v h. h })
         refl
         (record { ofRound = refl; ofSeat = refl; ofValue = refl; submitted = refl; sized = sized }, g)
