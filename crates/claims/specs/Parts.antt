@@ -26,6 +26,7 @@ use Rattle.protocol.specs.Record.{noneHeard, oneHeard, holds}
 use Rattle.protocol.specs.Refusals.{Checks, isFull, isEvidence}
 use Rattle.protocol.specs.Step.{State, write, collect, setOwnValue, submitOwn, isWanted, noticesWith, hear, otherHeard, owesFull, sendFull, reply, hold, blame, blames, holdOrBlame}
 use Rattle.protocol.specs.declared.Own.{Own}
+use Rattle.protocol.specs.declared.First.{First}
 use Rattle.protocol.specs.declared.Notices.{Notices}
 use Rattle.protocol.specs.declared.Record.{Record}
 use Rattle.round.specs.Round.{Each, Relation}
@@ -173,18 +174,30 @@ module _ (checks : Checks) (W : Relation) where
           rw (slot-fill-other n collectedBank seat signature store (collected-bank .0) inside room (g .sized ∙ sym (collected-bank .1)) collectedBank s (collected-bank .0) (in-below n s (own .collected) (z .below) old) (λ _ q. d (sym q)))
           (z .attested s old)
 
-  -- the first certificate's bank is as it was
-  pub holding-beside : (n seat guilty : ℕ) (r : Record) (signature store : List ℕ) → seat < n → storeLength n ≤ length store → length signature ≡ signatureLength
-      → Holding checks W n (r .first) guilty store → Holding checks W n (r .first) guilty (fill n collectedBank seat signature store)
-  holding-beside n seat guilty r signature store inside room sized z = record {
+  -- what stands in slots that are as they were
+  pub collection-like : (n : ℕ) (own : Own) (store store′ : List ℕ) → Collection checks W n own store → ((t : ℕ) → t < n → slot n collectedBank store′ t ≡ slot n collectedBank store t)
+      → Collection checks W n own store′
+  collection-like n own store store′ z same =
+      record { sized = z .sized; below = z .below; few = z .few; attested = λ t i. rw (same t (in-below n t (own .collected) (z .below) i)) (z .attested t i) }
+
+  pub holding-like : (n : ℕ) (first : First) (guilty : ℕ) (store store′ : List ℕ) → Holding checks W n first guilty store → ((t : ℕ) → t < n → slot n firstBank store′ t ≡ slot n firstBank store t)
+      → Holding checks W n first guilty store′
+  holding-like n first guilty store store′ z same = record {
     sized = z .sized;
     below = z .below;
     enough = z .enough;
-    attested = λ s i. rw (slot-fill-other n collectedBank seat signature store (collected-bank .0) inside room (sized ∙ sym (collected-bank .1)) firstBank s (first-bank .0) (in-below n s (r .first .seats) (z .below) i) (λ q _. omega arith)) (z .attested s i);
+    attested = λ t i. rw (same t (in-below n t (first .seats) (z .below) i)) (z .attested t i);
     guiltyBelow = z .guiltyBelow;
     guiltyWithin = z .guiltyWithin;
     unheld = z .unheld;
   }
+
+  -- the first certificate's bank is as it was
+  pub holding-beside : (n seat guilty : ℕ) (r : Record) (signature store : List ℕ) → seat < n → storeLength n ≤ length store → length signature ≡ signatureLength
+      → Holding checks W n (r .first) guilty store → Holding checks W n (r .first) guilty (fill n collectedBank seat signature store)
+  holding-beside n seat guilty r signature store inside room sized z =
+      holding-like n (r .first) guilty store (fill n collectedBank seat signature store) z
+      (λ t l. slot-fill-other n collectedBank seat signature store (collected-bank .0) inside room (sized ∙ sym (collected-bank .1)) firstBank t (first-bank .0) l (λ q _. omega arith))
 
   module _ (seat : ℕ) (value signature : List ℕ) (s : State) (z : Sound checks W (s .unit) (s .store)) (room : Room s) where
     -- "the value is the own one and the seat is new, its signature is collected"
@@ -387,12 +400,8 @@ module _ (checks : Checks) (W : Relation) where
         (record {
           range = z .range;
           own = record {
-            collection = record {
-              sized = z .own .collection .sized;
-              below = z .own .collection .below;
-              few = z .own .collection .few;
-              attested = λ t i. rw (slot-fillEach-other (r .n) firstBank (c .signature) first-bank (seats (r .n) (c .seats)) (s .store) collectedBank t certificate-fit room (collected-bank .0) (in-below (r .n) t (r .own .collected) (z .own .collection .below) i) (λ u d q _. omega arith)) (z .own .collection .attested t i);
-            };
+            collection = collection-like (r .n) (r .own) (s .store) store (z .own .collection)
+                (λ t l. slot-fillEach-other (r .n) firstBank (c .signature) first-bank (seats (r .n) (c .seats)) (s .store) collectedBank t certificate-fit room (collected-bank .0) l (λ u d q _. omega arith));
             unsaid = z .own .unsaid;
             said = z .own .said;
           };
