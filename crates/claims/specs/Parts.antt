@@ -26,6 +26,7 @@ use Rattle.protocol.specs.Record.{noneHeard, oneHeard, holds}
 use Rattle.protocol.specs.Refusals.{Checks, isFull, isEvidence}
 use Rattle.protocol.specs.Step.{State, write, collect, setOwnValue, submitOwn, isWanted, noticesWith, hear, otherHeard, owesFull, sendFull, reply, hold, blame, blames, holdOrBlame}
 use Rattle.protocol.specs.declared.Own.{Own}
+use Rattle.protocol.specs.declared.First.{First}
 use Rattle.protocol.specs.declared.Notices.{Notices}
 use Rattle.protocol.specs.declared.Record.{Record}
 use Rattle.round.specs.Round.{Each, Relation}
@@ -167,24 +168,36 @@ module _ (checks : Checks) (W : Relation) where
   }
     where
       go : (s : ℕ) → In s (with seat (own .collected)) → Dec (s ≡ seat) → Attested checks W s (own .value) (slot n collectedBank (fill n collectedBank seat signature store) s)
-      go s i (yes e) = rw (e, slot-fill-same n collectedBank seat signature store collected-bank inside room (g .sized)) g
+      go s i (yes e) = rw (e, slot-fill-same n collectedBank seat signature store (collected-bank .0) inside room (g .sized ∙ sym (collected-bank .1))) g
       go s i (no d) =
           let old : In s (own .collected) = sym (bit-with-other s seat (own .collected) d) ∙ i in
-          rw (slot-fill-other n collectedBank seat signature store collected-bank inside room (g .sized) collectedBank s (collected-bank .0) (in-below n s (own .collected) (z .below) old) (λ _ q. d (sym q)))
+          rw (slot-fill-other n collectedBank seat signature store (collected-bank .0) inside room (g .sized ∙ sym (collected-bank .1)) collectedBank s (collected-bank .0) (in-below n s (own .collected) (z .below) old) (λ _ q. d (sym q)))
           (z .attested s old)
 
-  -- the first certificate beside a new signature in the other bank
-  pub holding-beside : (n seat guilty : ℕ) (r : Record) (signature store : List ℕ) → seat < n → storeLength n ≤ length store → length signature ≡ signatureLength
-      → Holding checks W n (r .first) guilty store → Holding checks W n (r .first) guilty (fill n collectedBank seat signature store)
-  holding-beside n seat guilty r signature store inside room sized z = record {
+  -- signatures in slots that are as they were
+  pub collection-like : (n : ℕ) (own : Own) (store store′ : List ℕ) → Collection checks W n own store → ((t : ℕ) → t < n → slot n collectedBank store′ t ≡ slot n collectedBank store t)
+      → Collection checks W n own store′
+  collection-like n own store store′ z same =
+      record { sized = z .sized; below = z .below; few = z .few; attested = λ t i. rw (same t (in-below n t (own .collected) (z .below) i)) (z .attested t i) }
+
+  pub holding-like : (n : ℕ) (first : First) (guilty : ℕ) (store store′ : List ℕ) → Holding checks W n first guilty store → ((t : ℕ) → t < n → slot n firstBank store′ t ≡ slot n firstBank store t)
+      → Holding checks W n first guilty store′
+  holding-like n first guilty store store′ z same = record {
     sized = z .sized;
     below = z .below;
     enough = z .enough;
-    attested = λ s i. rw (slot-fill-other n collectedBank seat signature store collected-bank inside room sized firstBank s (first-bank .0) (in-below n s (r .first .seats) (z .below) i) (λ q _. omega arith)) (z .attested s i);
+    attested = λ t i. rw (same t (in-below n t (first .seats) (z .below) i)) (z .attested t i);
     guiltyBelow = z .guiltyBelow;
     guiltyWithin = z .guiltyWithin;
     unheld = z .unheld;
   }
+
+  -- the first certificate's bank is as it was
+  pub holding-beside : (n seat guilty : ℕ) (r : Record) (signature store : List ℕ) → seat < n → storeLength n ≤ length store → length signature ≡ signatureLength
+      → Holding checks W n (r .first) guilty store → Holding checks W n (r .first) guilty (fill n collectedBank seat signature store)
+  holding-beside n seat guilty r signature store inside room sized z =
+      holding-like n (r .first) guilty store (fill n collectedBank seat signature store) z
+      (λ t l. slot-fill-other n collectedBank seat signature store (collected-bank .0) inside room (sized ∙ sym (collected-bank .1)) firstBank t (first-bank .0) l (λ q _. omega arith))
 
   module _ (seat : ℕ) (value signature : List ℕ) (s : State) (z : Sound checks W (s .unit) (s .store)) (room : Room s) where
     -- "the value is the own one and the seat is new, its signature is collected"
@@ -213,7 +226,7 @@ module _ (checks : Checks) (W : Relation) where
           first = holding-beside (r .n) seat (r .guilty) r signature (s .store) inside room (g .sized) (z .first);
           flags = record { full = λ e. absurd (true≢false (sym e ∙ unconfirmed)); confirmed = z .flags .confirmed };
         })
-        (fill-length (r .n) collectedBank seat signature (s .store) collected-bank inside room (g .sized))
+        (fill-length (r .n) collectedBank seat signature (s .store) (collected-bank .0) inside room (g .sized ∙ sym (collected-bank .1)))
         (record { n = refl; seat = refl; round = refl; said = λ e. (e, refl); heard = λ v h. h; held = λ v h. h })
         refl
         (same-flags r (collect seat signature s .unit) refl refl refl refl)
@@ -252,7 +265,7 @@ module _ (checks : Checks) (W : Relation) where
           first = holding-beside (r .n) (r .seat) (r .guilty) r signature (s .store) (z .range .seated) room (g .sized) (z .first);
           flags = record { full = λ e. absurd (let f = z .flags .full e in omega arith); confirmed = z .flags .confirmed };
         })
-        (fill-length (r .n) collectedBank (r .seat) signature (s .store) collected-bank (z .range .seated) room (g .sized))
+        (fill-length (r .n) collectedBank (r .seat) signature (s .store) (collected-bank .0) (z .range .seated) room (g .sized ∙ sym (collected-bank .1)))
         (record { n = refl; seat = refl; round = refl; said = λ e. absurd (true≢false (sym e ∙ unsaid)); heard = λ v h. h; held = λ v h. h })
         refl
         (record { ofRound = refl; ofSeat = refl; ofValue = refl; submitted = refl; sized = sized }, g)
@@ -387,12 +400,8 @@ module _ (checks : Checks) (W : Relation) where
         (record {
           range = z .range;
           own = record {
-            collection = record {
-              sized = z .own .collection .sized;
-              below = z .own .collection .below;
-              few = z .own .collection .few;
-              attested = λ t i. rw (slot-fillEach-other (r .n) firstBank (c .signature) first-bank (seats (r .n) (c .seats)) (s .store) collectedBank t certificate-fit room (collected-bank .0) (in-below (r .n) t (r .own .collected) (z .own .collection .below) i) (λ u d q _. omega arith)) (z .own .collection .attested t i);
-            };
+            collection = collection-like (r .n) (r .own) (s .store) store (z .own .collection)
+                (λ t l. slot-fillEach-other (r .n) firstBank (c .signature) first-bank (seats (r .n) (c .seats)) (s .store) collectedBank t certificate-fit room (collected-bank .0) l (λ u d q _. omega arith));
             unsaid = z .own .unsaid;
             said = z .own .said;
           };

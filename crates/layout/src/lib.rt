@@ -164,11 +164,14 @@ pub enum Bank {
     First,
 }
 
+// Bytes of the store for one seat: a slot in each bank.
+const SEAT: usize = 2 * SIGNATURE;
+
 pub fn store_length(n: u32) -> usize
     requires { ⌜ n ≤ mostSeats ⌝ }
     ensures { λ r. ⌜ r ≡ Layout.storeLength n ⌝ }
 {
-    2 * SIGNATURE * (n as usize)
+    SEAT * (n as usize)
 }
 
 // The place of a seat's slot in a bank.

@@ -112,10 +112,10 @@ module _ (n seat round : ℕ) where
           (below : Each (λ (a : Entry). a .seat < n) before) (quorums : Each (Quorum n) (x .machine .obtained)) where
         slot-after : ((t : ℕ) → In t (seatsIn before) → slot n collectedBank store t ≡ signatureOf before t) → (t : ℕ) → In t (with s (seatsIn before)) → Dec (t ≡ s)
             → slot n collectedBank (fill n collectedBank s g store) t ≡ signatureOf (before ++ e ∷ []) t
-        slot-after own t i (yes q) = rw q (slot-fill-same n collectedBank s g store collected-bank inside room sized ∙ sym (signature-new s g before new))
+        slot-after own t i (yes q) = rw q (slot-fill-same n collectedBank s g store (collected-bank .0) inside room (sized ∙ sym (collected-bank .1)) ∙ sym (signature-new s g before new))
         slot-after own t i (no d) =
             let old : In t (seatsIn before) = sym (bit-with-other t s (seatsIn before) d) ∙ i in
-            slot-fill-other n collectedBank s g store collected-bank inside room sized collectedBank t (collected-bank .0) (in-below n t (seatsIn before) (seats-below n before below) old) (λ _ q. d (sym q))
+            slot-fill-other n collectedBank s g store (collected-bank .0) inside room (sized ∙ sym (collected-bank .1)) collectedBank t (collected-bank .0) (in-below n t (seatsIn before) (seats-below n before below) old) (λ _ q. d (sym q))
             ∙ own t old
             ∙ sym (signature-old t before e (λ q. d (sym q)))
 
@@ -128,7 +128,7 @@ module _ (n seat round : ℕ) where
             record {
               own = subst (λ (es : List Entry). (t : ℕ) → In t (seatsIn es) → slot n collectedBank (fill n collectedBank s g store) t ≡ signatureOf es t) (sym all-after) after;
               first = λ t i.
-                  slot-fill-other n collectedBank s g store collected-bank inside room sized firstBank t (first-bank .0) (in-below n t (heldFirst (x .machine .obtained) .seats) (first-below n (x .machine .obtained) quorums) i) (λ q _. omega arith)
+                  slot-fill-other n collectedBank s g store (collected-bank .0) inside room (sized ∙ sym (collected-bank .1)) firstBank t (first-bank .0) (in-below n t (heldFirst (x .machine .obtained) .seats) (first-below n (x .machine .obtained) quorums) i) (λ q _. omega arith)
                   ∙ z .first t i;
             }
 
@@ -186,7 +186,7 @@ module _ (n seat round : ℕ) where
       unfolding hearSubmit uponSubmitDelivered
       both few new p q =
           let unconfirmed : m .confirmed ≡ false = z .resting .complete ∙ lt-leb (k n) (length (m .collected)) few in
-          let a = confirm-is n seat round checks some-seats (addCollected (e s g x) x) (fill n collectedBank s g store) (subst (λ (l : ℕ). storeLength n ≤ l) (sym (fill-length n collectedBank s g store collected-bank inside room sized)) room)
+          let a = confirm-is n seat round checks some-seats (addCollected (e s g x) x) (fill n collectedBank s g store) (subst (λ (l : ℕ). storeLength n ≤ l) (sym (fill-length n collectedBank s g store (collected-bank .0) inside room (sized ∙ sym (collected-bank .1)))) room)
           (collect-collecting s g x few inside sized new (some-is (m .value) said) (z .collecting)) (z .obtaining) (collect-stored s g x few store room inside sized new (z .collecting .below) (z .obtaining .quorums) (z .stored)) (λ h. absurd (true≢false (sym h ∙ unconfirmed))) in
           subst (Comes n seat round (confirmIfComplete (hearSubmit s v g (at n seat round x store)))) (ap (λ (b : Bool). uponRules checks n seat (cond b (addCollected (e s g x) x) x)) (sym q))
           (record {
@@ -266,7 +266,7 @@ module _ (n seat round : ℕ) where
       unfolding submitted uponSubmit uponSubmitDelivered act
       submit-is =
           let y = act (BroadcastSubmit v g) (setValue v x) in
-          let a = confirm-is n seat round checks some-seats (addCollected (e seat g x) y) (fill n collectedBank seat g store) (subst (λ (l : ℕ). storeLength n ≤ l) (sym (fill-length n collectedBank seat g store collected-bank inside room sized)) room)
+          let a = confirm-is n seat round checks some-seats (addCollected (e seat g x) y) (fill n collectedBank seat g store) (subst (λ (l : ℕ). storeLength n ≤ l) (sym (fill-length n collectedBank seat g store (collected-bank .0) inside room (sized ∙ sym (collected-bank .1)))) room)
           (collect-collecting seat g (setValue v x) few inside sized new-seat (λ h. some-none v (some v) refl h) collecting-own) (z .obtaining) (collect-stored seat g (setValue v x) few store room inside sized new-seat (z .collecting .below) (z .obtaining .quorums) (z .stored)) (λ h. absurd (true≢false (sym h ∙ unconfirmed))) in
           subst (Comes n seat round (submitted v g (at n seat round x store))) (ap (λ (b : Bool). uponRules checks n seat (cond b (addCollected (e seat g x) y) y)) (sym own-collected))
           (record { store = a .store; is = ap confirmIfComplete own-is-recorded ∙ a .is; mirrors = a .mirrors })

@@ -7,9 +7,10 @@ ghost use Rattle.protocol.specs.Layout.{storeLength, firstBank};
 ghost use Rattle.protocol.specs.Certificate.{fill, fillEach};
 ghost use Rattle.store.specs.Sources.{bytesOf, Readable, signatureFrom};
 use crate::slots::fill;
+use crate::slots::signature_copy;
 use crate::sources::Source;
 use crate::sources::bytes_of;
-use crate::sources::signature_copy;
+use crate::sources::signature_of;
 use layout::Bank;
 
 // Copies the signature of one seat, by way of an array: two slots of one store can't be lent at the same time.
@@ -17,7 +18,7 @@ fn hold_seat(store: &mut [u8], n: u32, source: Source, seat: u32, m: &[u8])
     requires { ⌜ (n ≤ mostSeats) × (seat < n) × In seat (source .seats) × (storeLength n ≤ length (now store)) × Readable n source (bytesOf (source .place) (now store) (now m)) ⌝ }
     ensures { λ _. ⌜ now (store .exit) ≡ fill n firstBank seat (signatureFrom n source (bytesOf (source .place) (now (store .entry)) (now (m .entry))) seat) (now (store .entry)) ⌝ }
 {
-    let signature = signature_copy(source, n, seat, bytes_of(source, store, m));
+    let signature = signature_copy(signature_of(source, n, seat, bytes_of(source, store, m)));
     fill(store, n, Bank::First, seat, &signature);
 }
 

@@ -26,3 +26,13 @@ pub fn fill(store: &mut [u8], n: u32, bank: Bank, seat: u32, signature: &[u8])
     let at = layout::slot_at(n, bank, seat);
     octets::copy(&mut store[at..at + SIGNATURE], 0, signature);
 }
+
+// A copy of a signature.
+pub fn signature_copy(signature: &[u8]) -> [u8; SIGNATURE]
+    requires { ⌜ length (now signature) ≡ signatureLength ⌝ }
+    ensures { λ r. ⌜ r ≡ now (signature .entry) ⌝ }
+{
+    let mut copy = [0u8; SIGNATURE];
+    octets::copy(&mut copy, 0, signature);
+    copy
+}

@@ -52,18 +52,3 @@ pub fn signature_of(source: Source, n: u32, seat: u32, bytes: &[u8]) -> &[u8]
         Place::Slots(bank) => signature_at(bytes, layout::slot_at(n, bank, seat)),
     }
 }
-
-// A copy of the signature of a seat.
-pub(crate) fn signature_copy(
-    source: Source,
-    n: u32,
-    seat: u32,
-    bytes: &[u8],
-) -> [u8; layout::SIGNATURE]
-    requires { ⌜ (n ≤ mostSeats) × (seat < n) × In seat (source .seats) × Readable n source (now bytes) ⌝ }
-    ensures { λ r. ⌜ r ≡ signatureFrom n source (now (bytes .entry)) seat ⌝ }
-{
-    let mut signature = [0u8; layout::SIGNATURE];
-    octets::copy(&mut signature, 0, signature_of(source, n, seat, bytes));
-    signature
-}

@@ -10,4 +10,4 @@ unfolding storeLength lengthOfBanks banks signatureLength
 returns c = omega arith
 
 pub store-length-spec : {M : Type 1} → statement M
-store-length-spec = tie.close (tie.spec (λ c. search needs) (λ c. search needs) returns)
+store-length-spec = tie.close (tie.spec (λ c. search needs) returns)

@@ -9,8 +9,8 @@ use Rattle.store.proofs.held.hold_seat.Tie as tie
 abbrev started : tie.After-bytes-of → tie.Start
 started c = c .before .before .before .before
 
-signature-copy-requires : tie.Need-signature-copy-requires
-signature-copy-requires c κs =
+signature-of-requires : tie.Need-signature-of-requires
+signature-of-requires c κs =
     let pre = started c .pre in
     (pre .0, pre .1, pre .2, rw (c .bytes-of .ensures) (pre .4))
 
@@ -23,14 +23,16 @@ unfolding bankOf
 returns c =
     let filled = c .before .before in
     let copied = filled .before .before .before in
-    filled .fill .ensures ∙ rw (copied .signature-copy .ensures, copied .before .bytes-of .ensures)
+    let found = copied .before in
+    filled .fill .ensures ∙ rw (copied .signature-copy .ensures, found .signature-of .ensures .0, found .before .bytes-of .ensures)
 
 pub hold-seat-spec : {M : Type 1} → statement M
 hold-seat-spec =
     tie.close
     (tie.spec
     (λ c κs. search needs)
-    signature-copy-requires
+    signature-of-requires
+    (λ c κs. search needs)
     (λ c. search needs)
     fill-requires
     (λ c. search needs)
