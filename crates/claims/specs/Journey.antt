@@ -6,9 +6,10 @@ use mathlib.Core.Bool.{true}
 use mathlib.Core.List.{List, [], _∷_, List·Memᴰ·head, List·Memᴰ·tail}
 use Prim.Native.Nat.{ℕ, zero, suc}
 use native.Mathlib.Omega.{arith}
-use Rattle.refusal.specs.Refusal.{unrefused}
+use Rattle.refusal.specs.Refusal.{firstOf, unrefused}
 use Rattle.protocol.specs.Message.{Message, read}
-use Rattle.protocol.specs.Step.{State, submitted}
+use Rattle.protocol.specs.Refusals.{stepConditions}
+use Rattle.protocol.specs.Step.{State, submitted, stepped}
 use Rattle.protocol.specs.Calls.{Result, resultBy, start}
 use Rattle.protocol.specs.declared.Record.{Record}
 use Rattle.round.specs.Round.{Each, Relation, EachSigned, Call, BySubmit, ByStep, ByThinEntry, Setting, Called, outcome, resultOf, listFrom}
@@ -18,9 +19,7 @@ use Rattle.reading.specs.Lists.{count-append, count-nil, each-nil, each-cons}
 use Rattle.claims.specs.Sound.{Grows, Counts, Settled, Sound, Good}
 use Rattle.claims.specs.Parts.{grows-refl, grows-trans}
 use Rattle.claims.specs.Whole.{Done, submitted-done, submitted-value, stepped-done}
-use Rattle.reading.specs.Reading.{read-sized}
-use Rattle.claims.specs.Unrefused.{brings}
-use Rattle.claims.specs.NotRefused.{submit-fit, step-fit}
+use Rattle.claims.specs.NotRefused.{submit-fit, step-fit, brings}
 
 -- ---- the end of a list
 
@@ -43,19 +42,20 @@ module _ (S : Setting) (W : Relation) where
   abbrev pub Worthy : Called → Type 0
   Worthy t = resultOf S t .refusal ≡ 0 → WorthyGiven (t .given) (t .unit)
 
+  -- a step that isn't refused
+  pub step-done : (bytes out : List ℕ) (r : Record) (store : List ℕ) → Sound checks W r store → Settled r → firstOf (stepConditions checks keys r store (read (r .n) bytes) out) ≡ 0 → EachSigned W (read (r .n) bytes)
+      → Done checks W (start r store) (stepped (read (r .n) bytes) (start r store))
+  step-done bytes out r store z e q w =
+      let t = step-fit checks keys r store bytes out q in
+      stepped-done checks W (start r store) z (t .lent .storeRoom) e (read (r .n) bytes) (brings checks keys r store bytes out W t w)
+
   done : (c : Call) (r : Record) (store : List ℕ) → Sound checks W r store → Settled r → refusalOf S c r store ≡ 0 → WorthyGiven c r → Done checks W (start r store) (cameTo c r store)
   unfolding refusalOf cameTo
   done (BySubmit value signature out) r store z e q w =
       let t = submit-fit checks keys r store value signature out q in
       submitted-done checks W value signature (start r store) z (t .lent .storeRoom) (t .first) (t .sizedValue) (record { checked = t .checked; sized = t .sizedSignature; worthy = w })
-  done (ByStep bytes out) r store z e q w =
-      let m = read (r .n) bytes in
-      let t = step-fit checks keys r store bytes out q in
-      stepped-done checks W (start r store) z (t .lent .storeRoom) e m (brings checks W r m (t .message) (t .timely) (read-sized (r .n) bytes) w)
-  done (ByThinEntry bytes out) r store z e q w =
-      let m = read (r .n) bytes in
-      let t = step-fit checks keys r store bytes out q in
-      stepped-done checks W (start r store) z (t .lent .storeRoom) e m (brings checks W r m (t .message) (t .timely) (read-sized (r .n) bytes) w)
+  done (ByStep bytes out) r store z e q w = step-done bytes out r store z e q w
+  done (ByThinEntry bytes out) r store z e q w = step-done bytes out r store z e q w
 
   -- the own value after a submit that isn't refused
   pub submit-value : (value signature out : List ℕ) (r : Record) (store : List ℕ) → Sound checks W r store → refusalOf S (BySubmit value signature out) r store ≡ 0 → W (r .seat) value signature

@@ -6,7 +6,7 @@
 use Prim.Native.Nat.{ℕ, _+_, _*_, _≤_, _<_}
 use mathlib.Core.Path.{_≡_, refl, sym, subst, _∙_}
 use mathlib.Core.Bool.{true, false, not, _&&_, _||_, true≢false}
-use mathlib.Core.List.{List, [], _∷_, _++_, List·Memᴰ·not-nil}
+use mathlib.Core.List.{List, [], _∷_, _++_, List·Memᴰ·head, List·Memᴰ·not-nil}
 use mathlib.Core.Logic.{_≢_, _↔_}
 use native.Mathlib.Omega.{arith}
 use lib.Dec.{ltb, eqb}
@@ -22,7 +22,7 @@ use Rattle.rfc8554.specs.Ots.{knownOts}
 use Rattle.rfc8554.specs.Tree.{knownLms}
 use Rattle.rfc8554.specs.Verify.{lmsTypeOf, otsTypeOf, valid}
 use Rattle.protocol.specs.Layout.{valueLength, signatureLength, treeLength, messageLimit, keyLength, keyAt, storeLength, outLength, evidenceOutLength}
-use Rattle.protocol.specs.Message.{Message, Notice, render, read, signed, seatsOf, entrySeats, roundOf, WellFormed}
+use Rattle.protocol.specs.Message.{Message, Submit, Notice, Full, Evidence, Garbled, render, read, signed, seatsOf, entrySeats, roundOf, WellFormed}
 use Rattle.protocol.specs.MessageLaws.{read-render}
 use Rattle.protocol.specs.Certificate.{certificateIn}
 use Rattle.protocol.specs.Record.{lastRound, wrongSize, wrongSeat, wrongRound, impossible, fresh}
@@ -31,10 +31,13 @@ use Rattle.protocol.specs.ConditionsLaws.{table-right}
 use Rattle.protocol.specs.Signatures.{checkSignature, makeKeyRefusal, makeKey, signRefusal, sign}
 use Rattle.protocol.specs.Calls.{openedBy, opening, resultBy, submit, step, makingBy, making, checkedBy, evidenceCheck}
 use Rattle.protocol.specs.declared.Record.{Record}
+use Rattle.round.specs.Round.{Relation, EachSigned}
 use Rattle.reading.specs.Lists.{each-one}
+use Rattle.reading.specs.Reading.{Sized, read-sized}
 use Rattle.claims.specs.Sound.{Any}
+use Rattle.claims.specs.Whole.{Brings}
 use Rattle.protocol.specs.RecordLaws.{InRange}
-use Rattle.claims.specs.Unrefused.{size-right, round-right, possible, fresh-sound, fresh-settled, Taken, message-taken, message-passes}
+use Rattle.claims.specs.Unrefused.{size-right, round-right, possible, fresh-sound, fresh-settled, Taken, message-taken, message-passes, entries-taken}
 
 -- ---- lengths
 
@@ -184,6 +187,22 @@ module _ (checks : Checks) (keys : List ℕ) (r : Record) (store bytes out : Lis
   pub step-not-refused : (step checks keys r store bytes out .refusal ≡ 0) ↔ StepFit checks keys r store bytes out
   unfolding step resultBy
   step-not-refused = (step-fit, fit-step)
+
+  -- facts that its message brings
+  pub brings : (W : Relation) → StepFit checks keys r store bytes out → EachSigned W heard → Brings checks W r heard
+  unfolding early signed seatsOf
+  brings W t w = go heard (t .message) (t .timely) (read-sized (r .n) bytes) w
+    where
+      go : (m : Message) → Taken checks (r .n) (r .round) m → early r m ≡ false → Sized (r .n) m → EachSigned W m → Brings checks W r m
+      go (Submit ρ seat value signature) t e l w = (
+        not-false (r .own .submitted) e,
+        t .inside seat (List·Memᴰ·head refl),
+        record { checked = t .checked _ (List·Memᴰ·head refl); sized = l .1; worthy = w _ (List·Memᴰ·head refl) },
+      )
+      go (Notice ρ seat value) t e l w = tt
+      go (Full ρ sender value es) t e l w = entries-taken checks W (r .n) (r .round) ρ sender value es t l w
+      go (Evidence ρ lower higher ps) t e l w = tt
+      go Garbled t e l w = tt
 
 -- a step with a message as document 01 lays it out
 pub message-not-refused : (checks : Checks) (keys : List ℕ) (r : Record) (store out : List ℕ) (m : Message) → Lent keys r store out → WellFormed (r .n) m → isForStep m ≡ true → Taken checks (r .n) (r .round) m

@@ -2,7 +2,7 @@
 -- Assumes nothing.
 use mathlib.Core.Path.{_≡_, refl, ap, _∙_}
 use mathlib.Core.Bool.{Bool, true, false, not, _&&_, _||_, false≢true}
-use mathlib.Core.List.{List, [], _++_, map, flatMap, List·Memᴰ·head, List·Memᴰ·tail, Memᴰ·map}
+use mathlib.Core.List.{List, _++_, map, flatMap, List·Memᴰ·head, List·Memᴰ·tail, Memᴰ·map}
 use mathlib.Core.Logic.{_↔_, inl, ⊎-elim}
 use Prim.Native.Nat.{ℕ, _≤_, _<_}
 use native.Mathlib.Omega.{arith}
@@ -21,9 +21,9 @@ use Rattle.protocol.specs.Values.{unset}
 use Rattle.protocol.specs.Entries.{formSeats}
 use Rattle.protocol.specs.EntriesLaws.{each-flat}
 use Rattle.protocol.specs.ConditionsLaws.{every-each, each-every}
-use Rattle.protocol.specs.Message.{Entry, Pair, Message, Submit, Notice, Full, Evidence, Garbled, fullForm, evidenceForm, Signed, signedEntry, signedPair, signed, roundOf, entrySeats, seatsOf}
+use Rattle.protocol.specs.Message.{Entry, Pair, Message, Full, Evidence, fullForm, evidenceForm, Signed, signedEntry, signedPair, signed, roundOf, entrySeats, seatsOf}
 use Rattle.protocol.specs.Record.{fresh, lastRound, wrongSize, wrongSeat, wrongRound, noneHeard, holds, outOfRange, wrongHeard, namesStranger, wrongCollected, wrongFirst, lacksFirst, wrongGuilty, wrongSent, wrongUnset, impossible}
-use Rattle.protocol.specs.Refusals.{Condition, Checks, every, said, otherRound, stranger, rising, disorder, early, badSignature, messageConditions}
+use Rattle.protocol.specs.Refusals.{Condition, Checks, every, said, otherRound, stranger, rising, disorder, badSignature, messageConditions}
 use Rattle.protocol.specs.Step.{owesFull}
 use Rattle.protocol.specs.declared.Record.{Record}
 use Rattle.round.specs.Round.{Each, Relation, EachSigned}
@@ -31,7 +31,6 @@ use Rattle.reading.specs.Lists.{or-true-either, each-cons, each-one, each-map}
 use Rattle.claims.specs.Sound.{Settled, Attested, Entries, Pairs, Sound}
 use Rattle.protocol.specs.RecordLaws.{InRange}
 use Rattle.claims.specs.Parts.{shared-none, k-pos}
-use Rattle.claims.specs.Whole.{Brings}
 use Rattle.reading.specs.Reading.{Sized}
 
 -- ---- ranges
@@ -252,15 +251,3 @@ module _ (checks : Checks) (W : Relation) where
     rises = z .rise;
     checked = signed-pairs (λ s v g. checks s v g ≡ true) lower higher ps (z .values) .1 (λ p d. (z .lows p d .checked, z .highs p d .checked));
   }
-
-  pub brings : (r : Record) (m : Message) → Taken checks (r .n) (r .round) m → early r m ≡ false → Sized (r .n) m → EachSigned W m → Brings checks W r m
-  unfolding early signed seatsOf
-  brings r (Submit ρ seat value signature) t e l w = (
-    not-false (r .own .submitted) e,
-    t .inside seat (List·Memᴰ·head refl),
-    record { checked = t .checked _ (List·Memᴰ·head refl); sized = l .1; worthy = w _ (List·Memᴰ·head refl) },
-  )
-  brings r (Notice ρ seat value) t e l w = tt
-  brings r (Full ρ sender value es) t e l w = entries-taken (r .n) (r .round) ρ sender value es t l w
-  brings r (Evidence ρ lower higher ps) t e l w = tt
-  brings r Garbled t e l w = tt

@@ -10,7 +10,7 @@ use Rattle.octets.specs.Strings.{same}
 use Rattle.protocol.specs.Layout.{signatureLength, storeLength, outLength, evidenceOutLength}
 use Rattle.protocol.specs.Message.{Entry, Pair, Message, Submit, Notice, Full, Evidence, render, renderAll}
 use Rattle.protocol.specs.declared.Record.{Record}
-use Rattle.protocol.specs.Record.{withOwn, withNotices, withFirst, withSent, withGuilty, fresh, zeros, impossible}
+use Rattle.protocol.specs.Record.{withOwn, withConfirmed, withNotices, withFirst, withSent, withGuilty, fresh, zeros, impossible}
 use Rattle.protocol.specs.Step.{submitted}
 use Rattle.protocol.specs.Calls.{opening, Result, submit, step, making, made, evidenceCheck, lowerCertificate}
 use Rattle.trials.specs.Toy.{unfolded, toy, layout, sign, keys, submitBy, entryBy, fullBy}
@@ -35,6 +35,10 @@ hears r m = given r (render m)
 
 -- ---- results of the runs
 
+-- the store of n seats with these slots at its start and the others as they were
+abbrev storeWith : ℕ → List ℕ → List ℕ
+storeWith n slots = slots ++ replicate (storeLength n - length slots) 1
+
 -- whether a call isn't refused and writes these messages
 abbrev writes : Result → List Message → Bool
 writes r ms = eqb (r .refusal) 0 && same (r .written) (renderAll ms)
@@ -54,7 +58,7 @@ alone =
     && eqb (r .unit .first .seats) 1
     && eqb (r .unit .notices .heard) 1
     && not (r .unit .sent)
-    && same (r .store) (sign 0 7 ++ sign 0 7)
+    && same (r .store) (storeWith 1 (sign 0 7 ++ sign 0 7))
 
 alone-run : T alone
 unfolding alone
@@ -81,7 +85,7 @@ threeConfirm =
     && not (f .unit .sent)
     && eqb (f .unit .own .collected) 13
     && eqb (f .unit .first .seats) 13
-    && same (f .store) (sign 0 7 ++ replicate signatureLength 1 ++ sign 2 7 ++ sign 3 7 ++ sign 0 7 ++ replicate signatureLength 1 ++ sign 2 7 ++ sign 3 7)
+    && same (f .store) (storeWith 4 (sign 0 7 ++ replicate signatureLength 1 ++ sign 2 7 ++ sign 3 7 ++ sign 0 7 ++ replicate signatureLength 1 ++ sign 2 7 ++ sign 3 7))
 
 threeConfirm-run : T threeConfirm
 unfolding threeConfirm
@@ -127,7 +131,7 @@ conflict =
     && writes c (Notice 5 0 (layout 7) ∷ fullBy 7 0 1 2 ∷ evidenceBoth ∷ [])
     && eqb (c .unit .guilty) 6
     && c .unit .sent
-    && same (c .store) (sign 0 7 ++ sign 1 7 ++ sign 2 7 ++ replicate signatureLength 1 ++ replicate signatureLength 1 ++ sign 1 9 ++ sign 2 9 ++ sign 3 9)
+    && same (c .store) (storeWith 4 (sign 0 7 ++ sign 1 7 ++ sign 2 7 ++ replicate signatureLength 1 ++ replicate signatureLength 1 ++ sign 1 9 ++ sign 2 9 ++ sign 3 9))
     && writes d []
     && eqb (d .unit .guilty) 6
 
@@ -186,24 +190,16 @@ evidenceCalls-run = tt
 
 -- records of four seats, one that has confirmed the layout 7, with two guilty seats, and others with one part set
 
-abbrev confirmedWith : Bool → ℕ → List ℕ → Record
-confirmedWith sent heard value = record {
-  n = 4;
-  seat = 0;
-  round = 5;
-  own = record { submitted = true; value = layout 7; collected = 7 };
-  confirmed = true;
-  notices = record { heard = heard; value = value };
-  first = record { value = layout 9; seats = 14 };
-  sent = sent;
-  guilty = 6;
-}
-
-abbrev full4 : Record
-full4 = confirmedWith true 2 (layout 9)
-
 abbrev ownWith : Bool → List ℕ → ℕ → Record
 ownWith submitted value collected = withOwn (fresh 4 0 5) (record { submitted = submitted; value = value; collected = collected })
+
+abbrev confirmedWith : ℕ → List ℕ → Record
+confirmedWith heard value =
+    let own = withConfirmed (ownWith true (layout 7) 7) in
+    withGuilty (withFirst (withNotices own (record { heard = heard; value = value })) (record { value = layout 9; seats = 14 })) 6
+
+abbrev full4 : Record
+full4 = withSent (confirmedWith 2 (layout 9))
 
 abbrev heardWith : ℕ → List ℕ → Record
 heardWith heard value = withNotices (fresh 4 0 5) (record { heard = heard; value = value })
@@ -261,9 +257,9 @@ unfolding unfolded
 owed =
     let at : Record → Result = λ r. record { refusal = 0; unit = r; store = replicate (storeLength 4) 1; written = [] } in
     let entry : ℕ → Entry = λ seat. record { seat = seat; signature = replicate signatureLength 1 } in
-    writes (hears (at (confirmedWith false 2 (layout 9))) (submitBy 3 7)) (Full 5 0 (layout 7) (entry 0 ∷ entry 1 ∷ entry 2 ∷ []) ∷ [])
-    && writes (hears (at (confirmedWith false 0 (layout 0))) (submitBy 3 7)) []
-    && writes (hears (at (confirmedWith false 1 (layout 7))) (submitBy 3 7)) []
+    writes (hears (at (confirmedWith 2 (layout 9))) (submitBy 3 7)) (Full 5 0 (layout 7) (entry 0 ∷ entry 1 ∷ entry 2 ∷ []) ∷ [])
+    && writes (hears (at (confirmedWith 0 (layout 0))) (submitBy 3 7)) []
+    && writes (hears (at (confirmedWith 1 (layout 7))) (submitBy 3 7)) []
 
 owed-run : T owed
 unfolding owed

@@ -20,7 +20,7 @@ use Rattle.protocol.specs.Message.{Entry, Message, Submit, Notice, Full, Eviden
 use Rattle.protocol.specs.MessageLaws.{read-render}
 use Rattle.protocol.specs.CertificateLaws.{in-set, set-seats}
 use Rattle.protocol.specs.Certificate.{setOf, ownCertificate, certificateOf, certificateIn, entryOf, entriesOf, fullOf}
-use Rattle.protocol.specs.Refusals.{isForStep, isFull, isEvidence, rising, early}
+use Rattle.protocol.specs.Refusals.{isForStep, isFull, isEvidence, rising, early, stepConditions}
 use Rattle.protocol.specs.Step.{State, write, collect, isWanted, hearSubmit, reply, isComplete, confirm, hearOwn, confirmIfComplete, submitted, stepped}
 use Rattle.protocol.specs.Calls.{Result, resultBy, start, submit, step, makingBy, making}
 use Rattle.protocol.specs.declared.Record.{Record}
@@ -31,11 +31,11 @@ use Rattle.reading.specs.Lists.{cond-elim, and-false-either, worth-le-one, wort
 use Rattle.claims.specs.Sound.{Any, Settled, Attested, Certifies, Entries, Sound, Said}
 use Rattle.claims.specs.Certificates.{set-size, seats-rising, entries-laid, entry-seats, entries-of, evidence-elim}
 use Rattle.claims.specs.Parts.{in-below}
-use Rattle.claims.specs.Whole.{reply-stays, hearing-stays, Done, submitted-done, submitted-value, stepped-done}
-use Rattle.reading.specs.Reading.{Sized, read-sized}
+use Rattle.claims.specs.Whole.{reply-stays, hearing-stays, Done, submitted-done, submitted-value}
+use Rattle.reading.specs.Reading.{read-sized}
 use Rattle.reading.specs.Messages.{refusalOf, cameTo, outcome-is, step-is}
-use Rattle.claims.specs.Unrefused.{possible, Taken, signed-entries, full-taken, brings}
-use Rattle.claims.specs.Journey.{lastOf, WorthyGiven, Worthy}
+use Rattle.claims.specs.Unrefused.{possible, Taken, signed-entries, full-taken}
+use Rattle.claims.specs.Journey.{lastOf, WorthyGiven, Worthy, step-done}
 use Rattle.claims.specs.Units.{any-worthy, startOf, endOf, start-n, start-seat, start-round, start-flag, start-sound, start-settled, stop, end-n, end-seat, end-round, flag-written, writes-good, pairs-formed}
 use Rattle.claims.specs.NotRefused.{opening-not-refused, submit-not-refused, message-not-refused, making-not-refused, making-fit}
 use Rattle.claims.specs.Safe.{conditions, evidenceFrom, making-bytes, certifies-in, submits-end}
@@ -289,28 +289,21 @@ module _ (S : Setting) {I : Type 0} (P : Plan I) (z : Splits S P) where
       reads : read (r .n) (render m) ≡ m
       reads = rw (y .size-is) (read-render n m (x .formed))
 
-      roomy : storeLength (r .n) ≤ length s
-      roomy = rw (y .size-is) (y .room)
-
-      taken-here : Taken checks (r .n) (r .round) m
-      taken-here = subst₂ (λ a b. Taken checks a b m) (sym (y .size-is)) (sym (y .round-is)) (x .taken)
-
-      timely : early r m ≡ false
-      timely = said-timely r m (y .submitted)
+      unrefused-here : firstOf (stepConditions checks keys r s (read (r .n) (render m)) out) ≡ 0
+      unfolding step resultBy
+      unrefused-here =
+          message-not-refused checks keys r s out m
+          (record { possible = possible checks W r s (y .sound) (y .settled); table = rw (y .size-is) (z .table); storeRoom = rw (y .size-is) (y .room); outRoom = rw (y .size-is) (z .outRoom) })
+          (rw (y .size-is) (x .formed)) (x .forStep) (subst₂ (λ a b. Taken checks a b m) (sym (y .size-is)) (sym (y .round-is)) (x .taken)) (said-timely r m (y .submitted))
 
       passes : refusalOf S (given S P m) r s ≡ 0
-      unfolding step resultBy
-      passes =
-          step-is S (given S P m) (render m) out r s (given-step m) .0
-          ∙ message-not-refused checks keys r s out m
-          (record { possible = possible checks W r s (y .sound) (y .settled); table = rw (y .size-is) (z .table); storeRoom = roomy; outRoom = rw (y .size-is) (z .outRoom) })
-          (rw (y .size-is) (x .formed)) (x .forStep) taken-here timely
+      passes = step-is S (given S P m) (render m) out r s (given-step m) .0 ∙ unrefused-here
 
       leaves : outcome S (given S P m) r s ≡ resultBy 0 t r s
       leaves = outcome-is S (given S P m) r s ∙ rw (passes, step-is S (given S P m) (render m) out r s (given-step m) .1, reads)
 
       done : Done checks W (start r s) t
-      done = stepped-done checks W (start r s) (y .sound) roomy (y .settled) m (brings checks W r m taken-here timely (subst (Sized (r .n)) reads (read-sized (r .n) (render m))) (x .worthy))
+      done = subst (λ (v : Message). Done checks W (start r s) (stepped v (start r s))) reads (step-done S W (render m) out r s (y .sound) (y .settled) unrefused-here (rw reads (x .worthy)))
 
       next : Ready (t .unit) (t .store)
       next =

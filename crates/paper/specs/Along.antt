@@ -27,8 +27,8 @@ use Rattle.reading.specs.Lists.{cond-elim, or-true-either, each-nil, each-appen
 use Rattle.claims.specs.Sound.{Any}
 use Rattle.claims.specs.Parts.{k-pos}
 use Rattle.reading.specs.Reading.{Sized, read-sized}
-use Rattle.claims.specs.Unrefused.{Taken, brings}
-use Rattle.claims.specs.NotRefused.{submit-fit, step-fit}
+use Rattle.claims.specs.Unrefused.{Taken}
+use Rattle.claims.specs.NotRefused.{submit-fit, step-fit, brings}
 use Rattle.reading.specs.Messages.{refusalOf, cameTo, outcome-is, messages}
 use Rattle.paper.specs.Machine.{FullCertificate, Machine, init, Event, Submitted, SubmitDelivered, NoticeDelivered, FullDelivered, Action, Reaction, isSome, ownValue, distinct, conflict, uponEvent, react, Says}
 use Rattle.paper.specs.Memory.{seatsIn, noticesOf, heldFirst, guiltyOf, recordOf, firstEntries, Recorded}
@@ -67,7 +67,7 @@ module _ (S : Setting) (seat : ℕ) (some-seats : 1 ≤ S .n) (inside : seat < S
       let r = recordOf n seat round m in
       let msg = read n bytes in
       let t = step-fit checks keys r store bytes out q in
-      step-is n seat round checks keys m store msg some-seats (t .lent .storeRoom) z (brings checks Any r msg (t .message) (t .timely) (read-sized n bytes) (λ s d. tt))
+      step-is n seat round checks keys m store msg some-seats (t .lent .storeRoom) z (brings checks keys r store bytes out Any t (λ s d. tt))
 
   comes : (c : Call) (m : Machine) (store : List ℕ) → Mirrors n store m → refusalOf S c (recordOf n seat round m) store ≡ 0
       → Comes n seat round (cameTo c (recordOf n seat round m) store) (reactTo checks n seat (eventOf n 0 c) m)

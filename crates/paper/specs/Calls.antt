@@ -3,7 +3,7 @@
 use Prim.Native.Nat.{ℕ, _≤_, _<_}
 use mathlib.Core.Path.{_≡_, refl, sym, ap, subst, _∙_}
 use mathlib.Core.Bool.{Bool, true, false, cond, not, _&&_, and-false, true≢false, false≢true}
-use mathlib.Core.List.{List, [], _∷_, _++_, map, List·Memᴰ, Memᴰ·append-left}
+use mathlib.Core.List.{List, [], _∷_, _++_, List·Memᴰ, Memᴰ·append-left}
 use mathlib.Core.Logic.{_≢_}
 use mathlib.Core.Option.{Option, none, some}
 use native.Mathlib.Omega.{arith}
@@ -21,9 +21,10 @@ use Rattle.protocol.specs.LayoutLaws.{collected-bank, first-bank}
 use Rattle.protocol.specs.Entries.{Each, formSeats}
 use Rattle.protocol.specs.Message.{Entry, Message, Submit, Notice, Full, Evidence, Garbled, fullForm}
 use Rattle.protocol.specs.Certificate.{slot, fill, signatureOf, certificateOf, certificateIn}
+use Rattle.protocol.specs.Record.{withOwn}
 use Rattle.protocol.specs.Refusals.{Checks}
 use Rattle.protocol.specs.ConditionsLaws.{each-every}
-use Rattle.protocol.specs.Step.{State, write, collect, setOwnValue, submitOwn, isWanted, hearSubmit, hear, reply, confirmIfComplete, submitted, stepped}
+use Rattle.protocol.specs.Step.{State, withUnit, write, collect, setOwnValue, submitOwn, isWanted, hearSubmit, hear, reply, confirmIfComplete, submitted, stepped}
 use Rattle.reading.specs.Lists.{each-one, each-append}
 use Rattle.claims.specs.Slots.{fill-length, slot-fill-same, slot-fill-other}
 use Rattle.claims.specs.Sound.{Any, Entries}
@@ -31,7 +32,7 @@ use Rattle.claims.specs.Certificates.{certifies-of}
 use Rattle.claims.specs.Parts.{k-pos, in-below}
 use Rattle.claims.specs.Whole.{Brings}
 use Rattle.paper.specs.Machine.{FullCertificate, Machine, BroadcastSubmit, Reaction, act, setValue, addCollected, addNoticed, isSome, isOwn, ownValue, isFrom, isFullCertificate, isCollected, uponSubmitDelivered, uponSubmit, uponNoticeDelivered, obtain, uponFullDelivered, confirming, uponQuorum, uponNoticesConflict, uponFullsConflict, uponEvent, uponRules, react}
-use Rattle.paper.specs.Memory.{seatsIn, noticesOf, heldFirst, guiltyOf, recordOf}
+use Rattle.paper.specs.Memory.{seatsIn, heldFirst, recordOf}
 use Rattle.paper.specs.Events.{delivered, reactTo}
 use Rattle.paper.specs.Conflicts.{some-none}
 use Rattle.paper.specs.Entries.{seats-more, seats-below, from-seats, signature-new, signature-old, rising-distinct}
@@ -66,21 +67,9 @@ module _ (n seat round : ℕ) where
 
     -- the record with other seats collected
     abbrev collecting-to : ℕ → List ℕ → State
-    collecting-to mask store = record {
-      unit = record {
-        n = n;
-        seat = seat;
-        round = round;
-        own = record { submitted = isSome (x .machine .value); value = ownValue (x .machine .value); collected = mask };
-        confirmed = x .machine .confirmed;
-        notices = noticesOf (x .machine .noticed);
-        first = heldFirst (x .machine .obtained);
-        sent = x .machine .sent;
-        guilty = guiltyOf (x .machine .detected);
-      };
-      store = store;
-      written = map (spoken n round seat) (x .actions);
-    }
+    collecting-to mask store =
+        let r = recordOf n seat round (x .machine) in
+        withUnit (at n seat round x store) (withOwn r (record { submitted = r .own .submitted; value = r .own .value; collected = mask }))
 
     -- a signature among the first k
     module _ (few : length before < k n) where

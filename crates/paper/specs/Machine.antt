@@ -83,28 +83,36 @@ pub record Reaction : Type 0 where
 unfoldable pub act : Action → Reaction → Reaction
 act a x = record { machine = x .machine; actions = x .actions ++ a ∷ [] }
 
--- ---- one variable set anew
+-- ---- variables set anew
+
+-- the unit's own: value_i, confirmed_i, and the signatures collected
+abbrev pub setOwn : Option (List ℕ) → Bool → List Entry → Reaction → Reaction
+setOwn value confirmed collected x = let m = x .machine in record { machine = record { value = value; confirmed = confirmed; collected = collected; noticed = m .noticed; obtained = m .obtained; sent = m .sent; detected = m .detected }; actions = x .actions }
+
+-- certificates, light and full, and whether the rules of lines 33 and 39 were activated
+abbrev pub setCertificates : List (List ℕ) → List FullCertificate → Bool → Option (FullCertificate × FullCertificate) → Reaction → Reaction
+setCertificates noticed obtained sent detected x = let m = x .machine in record { machine = record { value = m .value; confirmed = m .confirmed; collected = m .collected; noticed = noticed; obtained = obtained; sent = sent; detected = detected }; actions = x .actions }
 
 abbrev pub setValue : List ℕ → Reaction → Reaction
-setValue v x = let m = x .machine in record { machine = record { value = some v; confirmed = m .confirmed; collected = m .collected; noticed = m .noticed; obtained = m .obtained; sent = m .sent; detected = m .detected }; actions = x .actions }
+setValue v x = let m = x .machine in setOwn (some v) (m .confirmed) (m .collected) x
 
 abbrev pub setConfirmed : Reaction → Reaction
-setConfirmed x = let m = x .machine in record { machine = record { value = m .value; confirmed = true; collected = m .collected; noticed = m .noticed; obtained = m .obtained; sent = m .sent; detected = m .detected }; actions = x .actions }
+setConfirmed x = let m = x .machine in setOwn (m .value) true (m .collected) x
 
 abbrev pub addCollected : Entry → Reaction → Reaction
-addCollected e x = let m = x .machine in record { machine = record { value = m .value; confirmed = m .confirmed; collected = m .collected ++ e ∷ []; noticed = m .noticed; obtained = m .obtained; sent = m .sent; detected = m .detected }; actions = x .actions }
+addCollected e x = let m = x .machine in setOwn (m .value) (m .confirmed) (m .collected ++ e ∷ []) x
 
 abbrev pub addNoticed : List ℕ → Reaction → Reaction
-addNoticed v x = let m = x .machine in record { machine = record { value = m .value; confirmed = m .confirmed; collected = m .collected; noticed = m .noticed ++ v ∷ []; obtained = m .obtained; sent = m .sent; detected = m .detected }; actions = x .actions }
+addNoticed v x = let m = x .machine in setCertificates (m .noticed ++ v ∷ []) (m .obtained) (m .sent) (m .detected) x
 
 abbrev pub addObtained : FullCertificate → Reaction → Reaction
-addObtained c x = let m = x .machine in record { machine = record { value = m .value; confirmed = m .confirmed; collected = m .collected; noticed = m .noticed; obtained = m .obtained ++ c ∷ []; sent = m .sent; detected = m .detected }; actions = x .actions }
+addObtained c x = let m = x .machine in setCertificates (m .noticed) (m .obtained ++ c ∷ []) (m .sent) (m .detected) x
 
 abbrev pub setSent : Reaction → Reaction
-setSent x = let m = x .machine in record { machine = record { value = m .value; confirmed = m .confirmed; collected = m .collected; noticed = m .noticed; obtained = m .obtained; sent = true; detected = m .detected }; actions = x .actions }
+setSent x = let m = x .machine in setCertificates (m .noticed) (m .obtained) true (m .detected) x
 
 abbrev pub setDetected : FullCertificate × FullCertificate → Reaction → Reaction
-setDetected p x = let m = x .machine in record { machine = record { value = m .value; confirmed = m .confirmed; collected = m .collected; noticed = m .noticed; obtained = m .obtained; sent = m .sent; detected = some p }; actions = x .actions }
+setDetected p x = let m = x .machine in setCertificates (m .noticed) (m .obtained) (m .sent) (some p) x
 
 -- ---- tests
 

@@ -45,11 +45,8 @@ pub record Resting (n : ℕ) (value : Option (List ℕ)) (confirmed : Bool) (col
   pub complete : confirmed ≡ leb (k n) (length collected)
   pub heard : confirmed ≡ true → List·Memᴰ (ownValue value) noticed
 
-pub record Mirror (n : ℕ) (store : List ℕ) (value : Option (List ℕ)) (confirmed : Bool) (collected : List Entry) (noticed : List (List ℕ)) (obtained : List FullCertificate) (detected : Option (FullCertificate × FullCertificate)) : Type 0 where
-  pub collecting : Collecting n value collected
-  pub obtaining : Obtaining n obtained detected
-  pub stored : Stored n store collected obtained
-  pub resting : Resting n value confirmed collected noticed
-
-abbrev pub Mirrors : ℕ → List ℕ → Machine → Type 0
-Mirrors n store m = Mirror n store (m .value) (m .confirmed) (m .collected) (m .noticed) (m .obtained) (m .detected)
+pub record Mirrors (n : ℕ) (store : List ℕ) (m : Machine) : Type 0 where
+  pub collecting : Collecting n (m .value) (m .collected)
+  pub obtaining : Obtaining n (m .obtained) (m .detected)
+  pub stored : Stored n store (m .collected) (m .obtained)
+  pub resting : Resting n (m .value) (m .confirmed) (m .collected) (m .noticed)

@@ -22,22 +22,22 @@ use Rattle.protocol.specs.LayoutLaws.{collected-bank, first-bank}
 use Rattle.protocol.specs.Entries.{formSeats}
 use Rattle.protocol.specs.Message.{Entry, Message, fullForm}
 use Rattle.protocol.specs.Certificate.{Certificate, slot, fillEach, ownCertificate, firstCertificate, signatureOf, certificateOf}
-use Rattle.protocol.specs.Record.{noneHeard, oneHeard, holds}
+use Rattle.protocol.specs.Record.{withNotices, noneHeard, oneHeard, holds}
 use Rattle.protocol.specs.Refusals.{Checks}
-use Rattle.protocol.specs.Step.{State, write, noticesWith, hear, otherHeard, owesFull, sendFull, reply, hold, blame, blames, holdOrBlame, hearCertificate, isComplete, confirm, hearOwn, confirmIfComplete}
+use Rattle.protocol.specs.Step.{State, withUnit, write, noticesWith, hear, otherHeard, owesFull, sendFull, reply, hold, blame, blames, holdOrBlame, hearCertificate, isComplete, confirm, hearOwn, confirmIfComplete}
 use Rattle.protocol.specs.declared.Notices.{Notices}
 use Rattle.protocol.specs.declared.Record.{Record}
 use Rattle.round.specs.Round.{Each}
 use Rattle.reading.specs.Lists.{cond-elim, each-one, each-append}
 use Rattle.claims.specs.Parts.{k-pos, in-below}
 use Rattle.claims.specs.Slots.{slot-fillEach-other, slot-fillEach-same}
-use Rattle.paper.specs.Machine.{FullCertificate, Machine, Action, ConfirmAndNotice, BroadcastFull, Detect, Reaction, act, setConfirmed, addNoticed, addObtained, setSent, isSome, ownValue, other, pairOr, conflict, valueOfNotice, valueOfFull, ownFull, uponNoticeDelivered, obtain, confirming, uponQuorum, sending, uponNoticesConflict, detecting, uponFullsConflict, uponRules}
+use Rattle.paper.specs.Machine.{FullCertificate, Machine, Action, ConfirmAndNotice, BroadcastFull, Detect, Reaction, act, setConfirmed, addNoticed, addObtained, setCertificates, setSent, isSome, ownValue, other, pairOr, conflict, valueOfNotice, valueOfFull, ownFull, uponNoticeDelivered, obtain, confirming, uponQuorum, sending, uponNoticesConflict, detecting, uponFullsConflict, uponRules}
 use Rattle.paper.specs.Memory.{seatsIn, noticesOf, heldFirst, guiltyOf, recordOf, firstEntries}
 use Rattle.paper.specs.Conflicts.{same-sym, some-none, other-none, other-more, other-still, conflict-head, head-none}
 use Rattle.paper.specs.Entries.{seats-below, signature-each, full-same, evidence-same, each-take}
 use Rattle.paper.specs.Spoken.{spoken}
 use Rattle.paper.specs.Rules.{fulls-quiet}
-use Rattle.paper.specs.Mirror.{Collecting, Quorum, Obtaining, Stored, Mirror, Mirrors}
+use Rattle.paper.specs.Mirror.{Collecting, Quorum, Obtaining, Stored, Mirrors}
 
 -- ---- notices
 
@@ -107,21 +107,7 @@ module _ (n seat round : ℕ) where
   pub hear-is : (v : List ℕ) (x : Reaction) (store : List ℕ) → hear v (at x store) ≡ at (addNoticed v x) store
   unfolding hear recordOf
   hear-is v x store =
-      ap (λ (y : Notices). record {
-        unit = record {
-          n = n;
-          seat = seat;
-          round = round;
-          own = record { submitted = isSome (x .machine .value); value = ownValue (x .machine .value); collected = seatsIn (take (k n) (x .machine .collected)) };
-          confirmed = x .machine .confirmed;
-          notices = y;
-          first = heldFirst (x .machine .obtained);
-          sent = x .machine .sent;
-          guilty = guiltyOf (x .machine .detected);
-        };
-        store = store;
-        written = map (spoken n round seat) (x .actions);
-      })
+      ap (λ (y : Notices). withUnit (at x store) (withNotices (recordOf n seat round (x .machine)) y))
       (notices-more v (x .machine .noticed) (recordOf n seat round (x .machine)) refl)
 
   -- ---- reply: line 33
@@ -155,7 +141,8 @@ module _ (n seat round : ℕ) where
     pub reply-mirrors : (x : Reaction) (store : List ℕ) → Mirrors n store (x .machine) → Mirrors n store (uponNoticesConflict checks n seat x .machine)
     unfolding uponNoticesConflict sending act
     reply-mirrors x store z =
-        cond-elim (λ y. Mirrors n store (y .machine)) (x .machine .confirmed && not (x .machine .sent) && isSome (conflict valueOfNotice (x .machine .noticed))) (sending checks n seat x) x (λ e. z) (λ e. z)
+        cond-elim (λ y. Mirrors n store (y .machine)) (x .machine .confirmed && not (x .machine .sent) && isSome (conflict valueOfNotice (x .machine .noticed))) (sending checks n seat x) x
+        (λ e. record { collecting = z .collecting; obtaining = z .obtaining; stored = z .stored; resting = z .resting }) (λ e. z)
 
     -- ---- hold or blame: line 39
 
@@ -169,16 +156,16 @@ module _ (n seat round : ℕ) where
       fit : Each (λ s. (s < n) × (length (signature s) ≡ signatureLength)) (seats n (seatsIn (q .entries)))
       fit s d = let m = mem-seats n s (seatsIn (q .entries)) .0 d in (m .0, ap length (agree s (m .1)) ∙ y .sized s (m .1))
 
-      module _ (value : Option (List ℕ)) (confirmed : Bool) (collected : List Entry) (noticed : List (List ℕ)) (sent : Bool) (actions : List Action) (store : List ℕ) (room : storeLength n ≤ length store) where
+      module _ (x : Reaction) (store : List ℕ) (room : storeLength n ≤ length store) where
         abbrev with-certificates : List FullCertificate → Option (FullCertificate × FullCertificate) → Reaction
-        with-certificates obtained detected = record {
-          machine = record { value = value; confirmed = confirmed; collected = collected; noticed = noticed; obtained = obtained; sent = sent; detected = detected };
-          actions = actions;
-        }
+        with-certificates obtained detected = setCertificates (x .machine .noticed) obtained (x .machine .sent) detected x
+
+        abbrev Mirrored : List FullCertificate → Option (FullCertificate × FullCertificate) → Type 0
+        Mirrored obtained detected = Mirrors n store (with-certificates obtained detected .machine)
 
         -- "The first is held."
-        hold-mirror : (detected : Option (FullCertificate × FullCertificate)) → Mirror n store value confirmed collected noticed [] detected
-            → Mirror n (fillEach n firstBank signature (seats n (seatsIn (q .entries))) store) value confirmed collected noticed (q ∷ []) detected
+        hold-mirror : (detected : Option (FullCertificate × FullCertificate)) → Mirrored [] detected
+            → Mirrors n (fillEach n firstBank signature (seats n (seatsIn (q .entries))) store) (with-certificates (q ∷ []) detected .machine)
         unfolding heldFirst firstEntries conflict other pairOr
         hold-mirror detected z = record {
           collecting = z .collecting;
@@ -186,7 +173,7 @@ module _ (n seat round : ℕ) where
           stored = record {
             own = λ s i.
                 slot-fillEach-other n firstBank signature first-bank (seats n (seatsIn (q .entries))) store collectedBank s fit room (collected-bank .0)
-                (in-below n s (seatsIn (take (k n) collected)) (taken-below n collected (z .collecting .below)) i) (λ u d p _. omega arith)
+                (in-below n s (seatsIn (take (k n) (x .machine .collected))) (taken-below n (x .machine .collected) (z .collecting .below)) i) (λ u d p _. omega arith)
                 ∙ z .stored .own s i;
             first = λ s i.
                 slot-fillEach-same n firstBank signature first-bank (seats n (seatsIn (q .entries))) store s fit room (mem-seats n s (seatsIn (q .entries)) .1 (in-below n s (seatsIn (q .entries)) (y .below) i, i))
@@ -196,9 +183,9 @@ module _ (n seat round : ℕ) where
         }
 
         -- another certificate, where one is held
-        more-mirror : (f : FullCertificate) (rest : List FullCertificate) (old new : Option (FullCertificate × FullCertificate)) → Mirror n store value confirmed collected noticed (f ∷ rest) old
+        more-mirror : (f : FullCertificate) (rest : List FullCertificate) (old new : Option (FullCertificate × FullCertificate)) → Mirrored (f ∷ rest) old
             → (new ≡ none → conflict valueOfFull (f ∷ (rest ++ q ∷ [])) ≡ none) → ((p : FullCertificate × FullCertificate) → new ≡ some p → guiltyOf (some p) ≢ 0)
-            → Mirror n store value confirmed collected noticed (f ∷ (rest ++ q ∷ [])) new
+            → Mirrored (f ∷ (rest ++ q ∷ [])) new
         unfolding heldFirst firstEntries
         more-mirror f rest old new z agreed guilty = record {
           collecting = z .collecting;
@@ -208,7 +195,7 @@ module _ (n seat round : ℕ) where
         }
 
         module _ (f : FullCertificate) (rest : List FullCertificate) where
-          held : (detected : Option (FullCertificate × FullCertificate)) → Mirror n store value confirmed collected noticed (f ∷ rest) detected → holds (recordOf n seat round (with-certificates (f ∷ rest) detected .machine)) ≡ true
+          held : (detected : Option (FullCertificate × FullCertificate)) → Mirrored (f ∷ rest) detected → holds (recordOf n seat round (with-certificates (f ∷ rest) detected .machine)) ≡ true
           unfolding holds recordOf heldFirst
           held detected z = rw (ne-eqb (seatsIn (f .entries)) 0 (quorum-some f (z .obtaining .quorums f (List·Memᴰ·head refl))))
 
@@ -217,7 +204,7 @@ module _ (n seat round : ℕ) where
           unfolding recordOf heldFirst
           still detected = refl
 
-          quiet-is : (detected : Option (FullCertificate × FullCertificate)) → Mirror n store value confirmed collected noticed (f ∷ rest) detected → blames c (recordOf n seat round (with-certificates (f ∷ rest) detected .machine)) ≡ false
+          quiet-is : (detected : Option (FullCertificate × FullCertificate)) → Mirrored (f ∷ rest) detected → blames c (recordOf n seat round (with-certificates (f ∷ rest) detected .machine)) ≡ false
               → holdOrBlame c (at (with-certificates (f ∷ rest) detected) store) ≡ at (with-certificates (f ∷ (rest ++ q ∷ [])) detected) store
           unfolding holdOrBlame
           quiet-is detected z b = rw (held detected z, b) (still detected)
@@ -240,7 +227,7 @@ module _ (n seat round : ℕ) where
               (evidence-same n round (f .value) (q .value) (seatsIn (f .entries)) (seatsIn (q .entries)) (slot n firstBank store) (signatureOf (f .entries)) signature (signatureOf (q .entries)) first agree)
               ∙ write-is (Detect f q) (with-certificates (f ∷ (rest ++ q ∷ [])) (some (f, q))) store
 
-          blame-guilty : Mirror n store value confirmed collected noticed (f ∷ rest) none → (p : FullCertificate × FullCertificate) → _≡_ {A = Option (FullCertificate × FullCertificate)} (some (f, q)) (some p) → guiltyOf (some p) ≢ 0
+          blame-guilty : Mirrored (f ∷ rest) none → (p : FullCertificate × FullCertificate) → _≡_ {A = Option (FullCertificate × FullCertificate)} (some (f, q)) (some p) → guiltyOf (some p) ≢ 0
           unfolding guiltyOf
           blame-guilty z p e =
               let is : _≡_ {A = FullCertificate × FullCertificate} (f, q) p = cc in
@@ -249,12 +236,12 @@ module _ (n seat round : ℕ) where
               subst (λ (w : FullCertificate × FullCertificate). shared (seatsIn (w .0 .entries)) (seatsIn (w .1 .entries)) ≢ 0) is
               (λ h. let none-in = ap size h ∙ size-empty in omega arith)
 
-          more-conflict : Mirror n store value confirmed collected noticed (f ∷ rest) none → conflict valueOfFull (f ∷ (rest ++ q ∷ [])) ≡ pairOr f (cond (same (f .value) (q .value)) none (some q)) none
+          more-conflict : Mirrored (f ∷ rest) none → conflict valueOfFull (f ∷ (rest ++ q ∷ [])) ≡ pairOr f (cond (same (f .value) (q .value)) none (some q)) none
           more-conflict z =
               conflict-head valueOfFull f (rest ++ q ∷ [])
               ∙ ap (λ (o : Option FullCertificate). pairOr f o none) (other-more valueOfFull (f .value) rest q (head-none valueOfFull f rest (z .obtaining .agreed refl)))
 
-          blame-comes : Mirror n store value confirmed collected noticed (f ∷ rest) none → (b : Bool) → same (f .value) (q .value) ≡ b
+          blame-comes : Mirrored (f ∷ rest) none → (b : Bool) → same (f .value) (q .value) ≡ b
               → Comes (holdOrBlame c (at (with-certificates (f ∷ rest) none) store)) (uponFullsConflict checks n seat (with-certificates (f ∷ (rest ++ q ∷ [])) none))
           unfolding uponFullsConflict isSome detecting pairOr holdOrBlame act heldFirst firstEntries
           blame-comes z true e =
@@ -276,14 +263,14 @@ module _ (n seat round : ℕ) where
                 mirrors = more-mirror f rest none (some (f, q)) z (λ h. absurd (some-none (f, q) (some (f, q)) refl h)) (blame-guilty z);
               })
 
-        hold-comes : (detected : Option (FullCertificate × FullCertificate)) → Mirror n store value confirmed collected noticed [] detected
+        hold-comes : (detected : Option (FullCertificate × FullCertificate)) → Mirrored [] detected
             → Comes (holdOrBlame c (at (with-certificates [] detected) store)) (uponFullsConflict checks n seat (with-certificates (q ∷ []) detected))
         unfolding holdOrBlame hold holds recordOf heldFirst conflict other pairOr
         hold-comes detected z =
             subst (Comes (holdOrBlame c (at (with-certificates [] detected) store))) (sym (fulls-quiet checks n seat (with-certificates (q ∷ []) detected) (λ h. refl)))
             (record { store = fillEach n firstBank signature (seats n (seatsIn (q .entries))) store; is = refl; mirrors = hold-mirror detected z })
 
-        hold-is : (obtained : List FullCertificate) (detected : Option (FullCertificate × FullCertificate)) → Mirror n store value confirmed collected noticed obtained detected
+        hold-is : (obtained : List FullCertificate) (detected : Option (FullCertificate × FullCertificate)) → Mirrored obtained detected
             → Comes (holdOrBlame c (at (with-certificates obtained detected) store)) (uponFullsConflict checks n seat (addObtained q (with-certificates obtained detected)))
         hold-is [] detected z = hold-comes detected z
         hold-is (f ∷ rest) none z = blame-comes f rest z (same (f .value) (q .value)) refl
@@ -312,8 +299,7 @@ module _ (n seat round : ℕ) where
       certificate-is x store room z =
           let heard = addNoticed (q .value) x in
           let replied = uponNoticesConflict checks n seat heard in
-          let m = replied .machine in
-          let a = hold-is (m .value) (m .confirmed) (m .collected) (m .noticed) (m .sent) (replied .actions) store room (m .obtained) (m .detected) (reply-mirrors heard store z) in
+          let a = hold-is replied store room (replied .machine .obtained) (replied .machine .detected) (reply-mirrors heard store z) in
           let before : hearCertificate c (at x store) ≡ holdOrBlame c (at replied store) = ap (λ (s : State). holdOrBlame c (reply s)) (hear-is (q .value) x store) ∙ ap (holdOrBlame c) (reply-is heard store z) in
           let machine : uponFullsConflict checks n seat (uponNoticesConflict checks n seat (addObtained q heard)) ≡ uponFullsConflict checks n seat (addObtained q replied) = ap (uponFullsConflict checks n seat) (conflict-obtained heard) in
           subst (Comes (hearCertificate c (at x store))) (sym machine) (record { store = a .store; is = before ∙ a .is; mirrors = a .mirrors })

@@ -16,6 +16,9 @@ pub record Remembers (m m′ : Machine) : Type 0 where
   pub noticed : Each (λ (v : List ℕ). List·Memᴰ v (m′ .noticed)) (m .noticed)
   pub obtained : Each (λ (c : FullCertificate). List·Memᴰ c (m′ .obtained)) (m .obtained)
 
+remembers-refl : (m : Machine) → Remembers m m
+remembers-refl m = record { collected = λ a d. d; noticed = λ a d. d; obtained = λ a d. d }
+
 remembers-trans : (a b c : Machine) → Remembers a b → Remembers b c → Remembers a c
 remembers-trans a b c p q = record {
   collected = λ e d. q .collected e (p .collected e d);
@@ -29,8 +32,7 @@ module _ (checks : Checks) (n own : ℕ) where
   submit-remembers s v g x =
       let e : Entry = record { seat = s; signature = g } in
       cond-elim (λ y. Remembers (x .machine) (y .machine)) (isCollected checks n own s v g (x .machine)) (addCollected e x) x
-      (λ h. record { collected = λ a d. Memᴰ·append-left (e ∷ []) d; noticed = λ a d. d; obtained = λ a d. d })
-      (λ h. record { collected = λ a d. d; noticed = λ a d. d; obtained = λ a d. d })
+      (λ h. record { collected = λ a d. Memᴰ·append-left (e ∷ []) d; noticed = λ a d. d; obtained = λ a d. d }) (λ h. remembers-refl (x .machine))
 
   own-remembers : (v g : List ℕ) (x : Reaction) → Remembers (x .machine) (uponSubmit checks n own v g x .machine)
   unfolding uponSubmit act
@@ -50,7 +52,7 @@ module _ (checks : Checks) (n own : ℕ) where
   unfolding uponFullDelivered
   full-remembers c x =
       cond-elim (λ y. Remembers (x .machine) (y .machine)) (isFullCertificate checks n own c) (obtain checks n own c x) x (λ h. obtain-remembers c x)
-      (λ h. record { collected = λ a d. d; noticed = λ a d. d; obtained = λ a d. d })
+      (λ h. remembers-refl (x .machine))
 
   quorum-remembers : (x : Reaction) → Remembers (x .machine) (uponQuorum checks n own x .machine)
   unfolding uponQuorum confirming act
@@ -59,19 +61,19 @@ module _ (checks : Checks) (n own : ℕ) where
       (λ h.
       let after = obtain-remembers (ownFull checks n own (x .machine)) (act (ConfirmAndNotice (ownValue (x .machine .value))) (setConfirmed x)) in
       record { collected = after .collected; noticed = after .noticed; obtained = after .obtained })
-      (λ h. record { collected = λ a d. d; noticed = λ a d. d; obtained = λ a d. d })
+      (λ h. remembers-refl (x .machine))
 
   notices-remember : (x : Reaction) → Remembers (x .machine) (uponNoticesConflict checks n own x .machine)
   unfolding uponNoticesConflict sending act
   notices-remember x =
       cond-elim (λ y. Remembers (x .machine) (y .machine)) (noticesDue (x .machine)) (sending checks n own x) x
-      (λ h. record { collected = λ a d. d; noticed = λ a d. d; obtained = λ a d. d }) (λ h. record { collected = λ a d. d; noticed = λ a d. d; obtained = λ a d. d })
+      (λ h. record { collected = λ a d. d; noticed = λ a d. d; obtained = λ a d. d }) (λ h. remembers-refl (x .machine))
 
   fulls-remember : (x : Reaction) → Remembers (x .machine) (uponFullsConflict checks n own x .machine)
   unfolding uponFullsConflict act
   fulls-remember x =
       let P : Reaction → Type 0 = λ y. Remembers (x .machine) (y .machine) in
-      let all : P x = record { collected = λ a d. d; noticed = λ a d. d; obtained = λ a d. d } in
+      let all : P x = remembers-refl (x .machine) in
       cond-elim P (isSome (x .machine .detected)) x (detecting checks n own (conflict valueOfFull (x .machine .obtained)) x) (λ h. all)
       (λ h. detecting-elim checks n own P (conflict valueOfFull (x .machine .obtained)) x all (λ p. record { collected = λ a d. d; noticed = λ a d. d; obtained = λ a d. d }))
 

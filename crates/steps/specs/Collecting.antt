@@ -78,7 +78,7 @@ unfolding k t0
 k-some n h = omega arith
 
 -- fewer than k seats are collected before confirming, and a wanted seat is new
-one-more : (r : Record) → Possible r → (seat : ℕ) (value : List ℕ) → isWanted seat value r ≡ true → size (with seat (r .own .collected)) ≤ k (r .n)
+pub one-more : (r : Record) → Possible r → (seat : ℕ) (value : List ℕ) → isWanted seat value r ≡ true → size (with seat (r .own .collected)) ≤ k (r .n)
 unfolding isWanted
 one-more r possible seat value e =
     let a = and-eq-true-iff (not (r .confirmed) && same value (r .own .value)) (not (has seat (r .own .collected))) .0 e in
@@ -100,14 +100,16 @@ module _ (r : Record) (possible : Possible r) (store : List ℕ) (fits : Fits r 
       rw none (omega (arith, size-with-new (r .seat) 0 (bit-empty (r .seat)), size-empty, k-some (r .n) (fits .some))) in
       (fits-with r u store store′ (r .seat) fits (fits .seated) one (rw (done .recorded)) (rw (done .recorded)) (rw (done .recorded)) (rw (done .recorded)) long, rw (done .recorded))
 
-  pub heard-submit-fits : (seat : ℕ) (value signature : List ℕ) → seat < r .n → Changed (hearSubmit seat value signature) r store u store′ → Fits u store′ × (u .n ≡ r .n)
-  unfolding hearSubmit collect
-  heard-submit-fits seat value signature l done = go (isWanted seat value r) refl
-    where
-      go : (b : Bool) → isWanted seat value r ≡ b → Fits u store′ × (u .n ≡ r .n)
-      go true e =
-          let same : u ≡ collect seat signature (start r store) .unit = done .recorded ∙ rw e in
-          (fits-with r u store store′ seat fits l (one-more r possible seat value e) (rw same) (rw same) (rw same) (rw same) long, rw same)
-      go false e =
-          let same : u ≡ r = done .recorded ∙ rw e in
-          (fits-like r u store store′ fits (rw same) (rw same) (rw same) (rw same) long, rw same)
+-- a signature collected where it is wanted and there is room for one more
+pub wanted-fits : (r : Record) (store : List ℕ) → Fits r store → (u : Record) (store′ : List ℕ) → length store′ ≡ length store → (seat : ℕ) (value signature : List ℕ) → seat < r .n
+    → (isWanted seat value r ≡ true → size (with seat (r .own .collected)) ≤ k (r .n)) → Changed (hearSubmit seat value signature) r store u store′ → Fits u store′ × (u .n ≡ r .n)
+unfolding hearSubmit collect
+wanted-fits r store fits u store′ long seat value signature l more done = go (isWanted seat value r) refl
+  where
+    go : (b : Bool) → isWanted seat value r ≡ b → Fits u store′ × (u .n ≡ r .n)
+    go true e =
+        let same : u ≡ collect seat signature (start r store) .unit = done .recorded ∙ rw e in
+        (fits-with r u store store′ seat fits l (more e) (rw same) (rw same) (rw same) (rw same) long, rw same)
+    go false e =
+        let same : u ≡ r = done .recorded ∙ rw e in
+        (fits-like r u store store′ fits (rw same) (rw same) (rw same) (rw same) long, rw same)
