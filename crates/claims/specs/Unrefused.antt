@@ -19,7 +19,7 @@ use Rattle.refusal.specs.RefusalLaws.{firstOf-zero}
 use Rattle.protocol.specs.Layout.{signatureLength}
 use Rattle.protocol.specs.Values.{unset}
 use Rattle.protocol.specs.Entries.{formSeats}
-use Rattle.protocol.specs.Message.{Entry, Pair, Message, Submit, Notice, Full, Evidence, Garbled, fullForm, evidenceForm, Signed, signedEntries, signedPairs, signed, roundOf, entrySeats, seatsOf}
+use Rattle.protocol.specs.Message.{Entry, Pair, Pack, Message, Submit, Notice, Full, Evidence, Garbled, fullForm, evidenceForm, Signed, signedEntries, signedPairs, signed, roundOf, entrySeats, seatsOf}
 use Rattle.protocol.specs.Record.{fresh, lastRound, wrongSize, wrongSeat, wrongRound, noneHeard, holds, outOfRange, wrongHeard, namesStranger, wrongCollected, wrongFirst, lacksFirst, wrongGuilty, wrongSent, wrongUnset, impossible}
 use Rattle.protocol.specs.Refusals.{Condition, Checks, every, said, otherRound, stranger, rising, disorder, early, badSignature, messageConditions}
 use Rattle.protocol.specs.Step.{owesFull}
@@ -157,30 +157,21 @@ module _ (P : Relation) where
       each-cons ForSigned (record { seat = e .seat; value = value; signature = e .signature }) (signedEntries value es) (h e (List·Memᴰ·head refl))
       (entries-signed value es (λ x d. h x (List·Memᴰ·tail d)))
 
-  abbrev pub ForPair : List ℕ → List ℕ → Pair → Type 0
-  ForPair lower higher p = P (p .seat) lower (p .lower) × P (p .seat) higher (p .higher)
+  abbrev pub ForPair : Pair → Type 0
+  ForPair p = P (p .seat) (p .lowerValue) (p .lower) × P (p .seat) (p .higherValue) (p .higher)
 
-  -- over the message's values, which are each pair's own
-  module _ (lower higher : List ℕ) where
-    abbrev OwnValues : Pair → Type 0
-    OwnValues p = (lower ≡ p .lowerValue) × (higher ≡ p .higherValue)
+  pub signed-pairs : (ps : List Pair) → Each ForSigned (signedPairs ps) → Each ForPair ps
+  unfolding signedPairs
+  signed-pairs [] h = each-nil ForPair
+  signed-pairs (p ∷ ps) h =
+      each-cons ForPair p ps (h _ (List·Memᴰ·head refl), h _ (List·Memᴰ·tail (List·Memᴰ·head refl))) (signed-pairs ps (λ s d. h s (List·Memᴰ·tail (List·Memᴰ·tail d))))
 
-    pub signed-pairs : (ps : List Pair) → Each OwnValues ps → Each ForSigned (signedPairs ps) → Each (ForPair lower higher) ps
-    unfolding signedPairs
-    signed-pairs [] v h = each-nil (ForPair lower higher)
-    signed-pairs (p ∷ ps) v h =
-        let own = v p (List·Memᴰ·head refl) in
-        each-cons (ForPair lower higher) p ps (rw (own .0) (h _ (List·Memᴰ·head refl)), rw (own .1) (h _ (List·Memᴰ·tail (List·Memᴰ·head refl))))
-        (signed-pairs ps (λ x d. v x (List·Memᴰ·tail d)) (λ s d. h s (List·Memᴰ·tail (List·Memᴰ·tail d))))
-
-    pub pairs-signed : (ps : List Pair) → Each OwnValues ps → Each (ForPair lower higher) ps → Each ForSigned (signedPairs ps)
-    unfolding signedPairs
-    pairs-signed [] v h = each-nil ForSigned
-    pairs-signed (p ∷ ps) v h =
-        let own = v p (List·Memᴰ·head refl) in
-        let both = h p (List·Memᴰ·head refl) in
-        each-cons ForSigned _ _ (rw (← own .0) (both .0))
-        (each-cons ForSigned _ (signedPairs ps) (rw (← own .1) (both .1)) (pairs-signed ps (λ x d. v x (List·Memᴰ·tail d)) (λ x d. h x (List·Memᴰ·tail d))))
+  pub pairs-signed : (ps : List Pair) → Each ForPair ps → Each ForSigned (signedPairs ps)
+  unfolding signedPairs
+  pairs-signed [] h = each-nil ForSigned
+  pairs-signed (p ∷ ps) h =
+      let both = h p (List·Memᴰ·head refl) in
+      each-cons ForSigned _ _ (both .0) (each-cons ForSigned _ (signedPairs ps) (both .1) (pairs-signed ps (λ x d. h x (List·Memᴰ·tail d))))
 
 -- ---- a message that isn't refused
 
@@ -262,13 +253,13 @@ module _ (checks : Checks) (W : Relation) where
     checked = entries-signed (λ s v g. checks s v g ≡ true) value es (λ e d. z .attested e d .checked);
   }
 
-  pub evidence-taken : (n ρ : ℕ) (lower higher : List ℕ) (ps : List Pair) → Pairs checks W n lower higher ps → Taken checks n ρ (Evidence ρ lower higher ps)
+  pub evidence-taken : (n ρ : ℕ) (pack : Pack) (ps : List Pair) → Pairs checks W n pack ps → Taken checks n ρ (Evidence ρ pack ps)
   unfolding roundOf signed seatsOf entrySeats formSeats evidenceForm
-  evidence-taken n ρ lower higher ps z = record {
+  evidence-taken n ρ pack ps z = record {
     inRound = refl;
     inside = each-map (λ s. s < n) (λ (p : Pair). p .seat) ps (z .below);
     rises = z .rise;
-    checked = pairs-signed (λ s v g. checks s v g ≡ true) lower higher ps (z .values) (λ p d. (z .lows p d .checked, z .highs p d .checked));
+    checked = pairs-signed (λ s v g. checks s v g ≡ true) ps (λ p d. (z .lows p d .checked, z .highs p d .checked));
   }
 
   pub brings : (r : Record) (m : Message) → Taken checks (r .n) (r .round) m → early r m ≡ false → Sized (r .n) m → EachSigned W m → Brings checks W r m
@@ -280,5 +271,5 @@ module _ (checks : Checks) (W : Relation) where
   )
   brings r (Notice ρ seat value) t e l w = tt
   brings r (Full ρ sender value es) t e l w = entries-taken (r .n) (r .round) ρ sender value es t l w
-  brings r (Evidence ρ lower higher ps) t e l w = tt
+  brings r (Evidence ρ pack ps) t e l w = tt
   brings r Garbled t e l w = tt
