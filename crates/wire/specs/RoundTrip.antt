@@ -15,7 +15,7 @@ use Rattle.protocol.specs.Layout.{valueLength, signatureLength, operandsAt, sea
 use Rattle.protocol.specs.Figures.{submit-figure, notice-figure, full-figure, evidence-figure}
 use Rattle.protocol.specs.Entries.{Form, placeOf, renderEntries, entryCommands, readEntries}
 use Rattle.protocol.specs.EntriesLaws.{Faithful, length-read, entries-back}
-use Rattle.protocol.specs.Message.{fullForm, evidenceForm, formOf, render, byteAt, readRound, readValue, readSignature, readSubmit, readNotice, readFull, readEvidence, fitsSubmit, fitsNotice, fitsFull, fitsEvidence, read}
+use Rattle.protocol.specs.Message.{fullForm, evidenceForm, packOf, formOf, render, byteAt, readRound, readValue, readSignature, readSubmit, readNotice, readFull, readEvidence, fitsSubmit, fitsNotice, fitsFull, fitsEvidence, read}
 use Rattle.protocol.specs.MessageLaws.{full-faithful, evidence-faithful}
 use Rattle.wire.specs.Reading.{kindOf}
 use Rattle.wire.specs.FormLaws.{submit-length, notice-length, full-fits, evidence-fits}
@@ -106,7 +106,7 @@ evidence-back n bytes b h =
     let front =
     append-parts bytes 0 evidenceCountAt 1 evidenceStart (0x05 ∷ be 2 (readRound bytes) ++ part lowerAt valueLength bytes ++ part higherAt valueLength bytes) (many ∷ []) higher
     (one-byte bytes evidenceCountAt many (omega arith) (sym (length-read (formOf bytes) counted bytes))) refl in
-    entries-after bytes (formOf bytes) (evidence-faithful (readValue lowerAt bytes) (readValue higherAt bytes))
+    entries-after bytes (formOf bytes) (evidence-faithful (packOf bytes))
     (0x05 ∷ be 2 (readRound bytes) ++ part lowerAt valueLength bytes ++ part higherAt valueLength bytes ++ many ∷ []) counted front (fits .size) (fits .commands)
 
 -- ---- any message

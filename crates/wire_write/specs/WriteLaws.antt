@@ -12,8 +12,8 @@ use lib.Seq.{set-split, sets-eq}
 use Rattle.octets.specs.Octets.{patch, be}
 use Rattle.octets.specs.OctetLaws.{length-be, patch-patch, length-patch}
 use Rattle.octets.specs.StringLaws.{be-two}
-use Rattle.quorum.specs.Quorum.{bit, In, seats, size, shared}
-use Rattle.quorum.specs.QuorumLaws.{seats-in, seats-out, length-seats, shared-lt}
+use Rattle.quorum.specs.Quorum.{bit, In, seats, size}
+use Rattle.quorum.specs.QuorumLaws.{seats-in, seats-out, length-seats}
 use Rattle.protocol.specs.Layout.{valueLength, operandsAt, noticeLength, entryLength, evidenceStart}
 use Rattle.protocol.specs.Values.{isLower}
 use Rattle.protocol.specs.Entries.{Form, renderEntry, renderEntries}
@@ -23,7 +23,7 @@ use Rattle.protocol.specs.Certificate.{Certificate, pairOf, pairsOf, orderedEvi
 use Rattle.store.specs.Sources.{certificateFrom}
 use Rattle.store.specs.SeatLaws.{seats-split}
 use Rattle.store.specs.declared.sources.Source.{Source}
-use Rattle.wire_write.specs.Writing.{Wrote, head, evidenceHead}
+use Rattle.wire_write.specs.Writing.{Wrote, silent, head, evidenceHead}
 
 -- ---- one write after another
 
@@ -131,30 +131,29 @@ module _ {A : Type 0} (form : Form A) (f : ℕ → A) (n m at : ℕ) (before : L
 
 -- the bytes of pairs don't say their values
 pub pairs-values : (n : ℕ) (low : Source) (lows : List ℕ) (high : Source) (highs lower higher l : List ℕ)
-    → renderEntries (evidenceForm [] []) (map (pairOf (certificateFrom n low [] lows) (certificateFrom n high [] highs)) l)
-    ≡ renderEntries (evidenceForm lower higher) (map (pairOf (certificateFrom n low lower lows) (certificateFrom n high higher highs)) l)
+    → renderEntries (evidenceForm silent) (map (pairOf (certificateFrom n low [] lows) (certificateFrom n high [] highs)) l)
+    ≡ renderEntries (evidenceForm (record { lower = lower; higher = higher })) (map (pairOf (certificateFrom n low lower lows) (certificateFrom n high higher highs)) l)
 unfolding renderEntries renderEntry evidenceForm
 pairs-values n low lows high highs lower higher [] = refl
 pairs-values n low lows high highs lower higher (s ∷ l) = rw (pairs-values n low lows high highs lower higher l)
 
--- EVIDENCE from its parts: what it starts with, and the entries of the seats shared
+-- EVIDENCE from its parts: what it starts with, and the entries of the seats of a set
 pub evidence-written : (n round at mask count a e : ℕ) (lower : List ℕ) (low : Source) (lows higher : List ℕ) (high : Source) (highs before one after : List ℕ)
-    → at ≤ length before → low .seats < 2 ^ n → high .seats < 2 ^ n → mask ≡ shared (low .seats) (high .seats) → count ≡ size mask
+    → at ≤ length before → mask < 2 ^ n → count ≡ size mask
     → Wrote at (evidenceHead round lower higher count) before one a
-    → Wrote a (renderEntries (evidenceForm [] []) (pairsOf n mask (certificateFrom n low [] lows) (certificateFrom n high [] highs))) one after e
-    → Wrote at (render (orderedEvidence n round (certificateFrom n low lower lows) (certificateFrom n high higher highs))) before after e
+    → Wrote a (renderEntries (evidenceForm silent) (pairsOf n mask (certificateFrom n low [] lows) (certificateFrom n high [] highs))) one after e
+    → Wrote at (render (orderedEvidence n round mask (certificateFrom n low lower lows) (certificateFrom n high higher highs))) before after e
 unfolding render orderedEvidence pairsOf
-evidence-written n round at mask count a e lower low lows higher high highs before one after h x y q c u v =
-    let both = shared (low .seats) (high .seats) in
-    list-written (evidenceForm lower higher) (pairOf (certificateFrom n low lower lows) (certificateFrom n high higher highs)) n both at before (0x05 ∷ be 2 round ++ lower ++ higher) count a e one after h
-    (shared-lt n (low .seats) (high .seats) x y) (c ∙ ap size q) u (rw (q, pairs-values n low lows high highs lower higher (seats n both)) at v)
+evidence-written n round at mask count a e lower low lows higher high highs before one after h inside c u v =
+    list-written (evidenceForm (record { lower = lower; higher = higher })) (pairOf (certificateFrom n low lower lows) (certificateFrom n high higher highs)) n mask at before (0x05 ∷ be 2 round ++ lower ++ higher) count a e one after h
+    inside c u (rw (pairs-values n low lows high highs lower higher (seats n mask)) at v)
 
 -- EVIDENCE from two certificates in either order, by a test of their values
-module _ (n round : ℕ) (c d : Certificate) (t : Bool) (e : t ≡ isLower (c .value) (d .value)) (at : ℕ) (before after : List ℕ) (end : ℕ) where
-  pub given-lower : t ≡ true → Wrote at (render (orderedEvidence n round c d)) before after end → Wrote at (render (evidenceOf n round c d)) before after end
+module _ (n round mask : ℕ) (c d : Certificate) (t : Bool) (e : t ≡ isLower (c .value) (d .value)) (at : ℕ) (before after : List ℕ) (end : ℕ) where
+  pub given-lower : t ≡ true → Wrote at (render (orderedEvidence n round mask c d)) before after end → Wrote at (render (evidenceOf n round mask c d)) before after end
   unfolding evidenceOf
   given-lower f w = rw (← e, f) w
 
-  pub given-higher : t ≡ false → Wrote at (render (orderedEvidence n round d c)) before after end → Wrote at (render (evidenceOf n round c d)) before after end
+  pub given-higher : t ≡ false → Wrote at (render (orderedEvidence n round mask d c)) before after end → Wrote at (render (evidenceOf n round mask c d)) before after end
   unfolding evidenceOf
   given-higher f w = rw (← e, f) w

@@ -6,7 +6,7 @@ use Prim.Native.Nat.{ℕ, _+_}
 use lib.ListN.{length}
 use Rattle.octets.specs.Octets.{patch, be}
 use Rattle.quorum.specs.Quorum.{In}
-use Rattle.protocol.specs.Message.{Entry, Pair}
+use Rattle.protocol.specs.Message.{Entry, Pair, Pack}
 use Rattle.store.specs.declared.sources.Source.{Source}
 
 -- a buffer after `bytes` were written from index `at`: every other byte keeps what it held, and `end` is the place after them
@@ -23,6 +23,9 @@ abbrev pub evidenceHead : ℕ → List ℕ → List ℕ → ℕ → List ℕ
 evidenceHead round lower higher count = 0x05 ∷ be 2 round ++ lower ++ higher ++ count ∷ []
 
 -- entries, as they are written: the bytes of a pair don't say its values
+abbrev pub silent : Pack
+silent = record { lower = []; higher = [] }
+
 abbrev pub entry : ℕ → List ℕ → Entry
 entry seat signature = record { seat = seat; signature = signature }
 
