@@ -4,12 +4,11 @@ use Prim.Native.Nat.{ℕ}
 use native.Mathlib.Omega.{arith}
 use denote.Ref.{now}
 use Rattle.quorum.specs.Quorum.{k}
-use Rattle.quorum.specs.QuorumLaws.{size-shared-le}
 use Rattle.protocol.specs.Layout.{signatureLength, evidenceEntryLength, evidenceEntryAt, evidenceLength}
 use Rattle.protocol.specs.Message.{read}
 use Rattle.validate.specs.Messages.{full-kind}
 use Rattle.evidence.specs.Passed.{both-taken}
-use Rattle.evidence.specs.Making.{readable, sized, certificate-is, evidence-room, wrote-evidence}
+use Rattle.evidence.specs.Making.{readable, sized, certificate-is, mask-few, evidence-room, mask-below, in-first, in-second, wrote-evidence}
 use borrow.Author.Needs.{needs}
 use Rattle.evidence.proofs.certificates.write_conflict.Statement.{statement}
 use Rattle.evidence.proofs.certificates.write_conflict.Tie as tie
@@ -29,8 +28,11 @@ abbrev started : tie.After-slice-known → tie.Start
 started c = c .before .before .before
 
 -- the sets of seats, and the values
+abbrev shared-at : tie.After-vb → tie.After-shared
+shared-at c = c .before .before .before
+
 abbrev sets : tie.After-vb → tie.After-entry-set2
-sets c = c .before .before .before
+sets c = shared-at c .before
 
 abbrev first-set : tie.After-entry-set2 → tie.After-entry-set
 first-set c = c .before
@@ -72,13 +74,19 @@ write-evidence-requires c κs =
     let s = given b in
     let conflict = s .pre .2 in
     let sa = first-set b .entry-set in
-    let sb = b .entry-set2 in (
+    let sb = b .entry-set2 in
+    let mask = shared-at c .shared in
+    let ra = readable (first s) (conflict .first) (sa .ensures) in
+    let rb = readable (second s) (conflict .second) (sb .ensures) in (
       s .pre .1,
       search needs,
-      readable (first s) (conflict .first) (sa .ensures),
+      ra,
       search needs,
-      readable (second s) (conflict .second) (sb .ensures),
-      evidence-room (n s) (sa .result) (sb .result) (sized (first s) (conflict .first) (sa .ensures)) (s .pre .3),
+      rb,
+      mask-below (n s) (sa .result) (sb .result) (mask .result) (mask .ensures) (ra .inside) (rb .inside),
+      in-first (n s) (sa .result) (sb .result) (mask .result) (mask .ensures),
+      in-second (n s) (sa .result) (sb .result) (mask .result) (mask .ensures),
+      evidence-room (n s) (sa .result) (sb .result) (mask .result) (mask .ensures) (sized (first s) (conflict .first) (sa .ensures)) (s .pre .3),
     )
 
 cast-result : tie.Need-cast-result
@@ -87,7 +95,8 @@ cast-result c =
     let b = sources c in
     let s = given b in
     let sa = first-set b .entry-set in
-    omega (arith, size-shared-le (sa .result) (b .entry-set2 .result), sized (first s) (s .pre .2 .first) (sa .ensures), written c .write-evidence .ensures .1)
+    let mask = shared-at (written c .before) .shared in
+    omega (arith, mask-few (n s) (sa .result) (b .entry-set2 .result) (mask .result) (mask .ensures) (sized (first s) (s .pre .2 .first) (sa .ensures)), written c .write-evidence .ensures .1)
 
 returns : tie.Need-returns
 returns c =
@@ -97,7 +106,7 @@ returns c =
     let conflict = s .pre .2 in
     let ca = certificate-is (first s) (conflict .first) (first-set b .entry-set .ensures) (v .before .certificate-value .ensures) in
     let cb = certificate-is (second s) (conflict .second) (b .entry-set2 .ensures) (v .certificate-value2 .ensures) in
-    wrote-evidence (n s) (s .args .round) ca cb (written c .write-evidence .ensures .0)
+    wrote-evidence (n s) (s .args .round) (shared-at (written c .before) .shared .result) (shared-at (written c .before) .shared .ensures) ca cb (written c .write-evidence .ensures .0)
 
 pub write-conflict-spec : {M : Type 1} → statement M
 write-conflict-spec =
