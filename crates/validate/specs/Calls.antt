@@ -1,9 +1,10 @@
 -- What the calls turn back, by what their code found.
 -- Assumes nothing.
 use mathlib.Core.Path.{_≡_, refl, sym, _∙_}
-use mathlib.Core.Bool.{Bool, true, false, not, and-true}
+use mathlib.Core.Bool.{Bool, true, false, not, _&&_, and-true}
 use mathlib.Core.List.{List, [], _∷_, _++_}
-use Prim.Native.Nat.{ℕ}
+use Prim.Native.Nat.{ℕ, zero, suc, _≤_}
+use native.Mathlib.Omega.{arith}
 use lib.Dec.{eqb}
 use lib.ListN.{length}
 use borrow.Author.Tests.{eqb-true, not-false}
@@ -12,7 +13,9 @@ use Rattle.refusal.specs.Refusal.{firstOf, numbers, nonzero}
 use Rattle.refusal.specs.RefusalLaws.{both-false, firstOf-zero, refused-first, refused-later, passed-first}
 use Rattle.protocol.specs.Layout.{valueLength, signatureLength, valueAt, lowerAt, higherAt}
 use Rattle.protocol.specs.Values.{isLower}
-use Rattle.protocol.specs.Message.{Message, Submit, readValue, read, readFull, readEvidence, signed}
+use Rattle.protocol.specs.Entries.{placeOf, readEntry, readEntries}
+use Rattle.protocol.specs.ConditionsLaws.{every-append}
+use Rattle.protocol.specs.Message.{Pair, Message, Submit, evidenceForm, formOf, countOf, readValue, read, readFull, readEvidence, signed}
 use Rattle.protocol.specs.Certificate.{certificateOf, certificateIn}
 use Rattle.protocol.specs.Refusals.{Checks, Condition, every, said, wrongLengths, isForStep, isFull, isEvidence, early, badSignature, notLowerFirst, equalValues, SAID, GARBLED-OWN, SIGNATURE, NO-CONFLICT-IN, NO-CONFLICT-BETWEEN, outsideConditions, messageConditions, certificateConditions, twoConditions, evidenceConditions}
 use Rattle.protocol.specs.Signatures.{signatureNumber}
@@ -106,11 +109,29 @@ module _ (checks : Checks) (n round : ℕ) (m : Message) where
 
 -- ---- values
 
+-- each pair that was read has the pack's values
+and-again : (b : Bool) → (b && (b && true)) ≡ b
+and-again true = refl
+and-again false = refl
+
+pairs-ordered : (bytes : List ℕ) (t : ℕ)
+    → every (λ (p : Pair). isLower (p .lowerValue) (p .higherValue)) (readEntries (formOf bytes) (suc t) bytes) ≡ isLower (readValue lowerAt bytes) (readValue higherAt bytes)
+unfolding readEntries readEntry evidenceForm every
+pairs-ordered bytes zero = and-true (isLower (readValue lowerAt bytes) (readValue higherAt bytes))
+pairs-ordered bytes (suc t) =
+    every-append (λ (p : Pair). isLower (p .lowerValue) (p .higherValue)) (readEntries (formOf bytes) (suc t) bytes) (readEntry (formOf bytes) (placeOf (formOf bytes) (suc t)) bytes ∷ [])
+    ∙ rw (pairs-ordered bytes t) (and-again (isLower (readValue lowerAt bytes) (readValue higherAt bytes)))
+
+ordered-some : (bytes : List ℕ) (count : ℕ) → 1 ≤ count
+    → every (λ (p : Pair). isLower (p .lowerValue) (p .higherValue)) (readEntries (formOf bytes) count bytes) ≡ isLower (readValue lowerAt bytes) (readValue higherAt bytes)
+ordered-some bytes zero h = absurd (omega arith)
+ordered-some bytes (suc t) h = pairs-ordered bytes t
+
 module _ (n : ℕ) (bytes : List ℕ) where
   pub pack-order : EvidenceTaken n bytes → (lower higher : List ℕ) (b : Bool) → lower ≡ readValue lowerAt bytes → higher ≡ readValue higherAt bytes
       → b ≡ isLower lower higher → not b ≡ notLowerFirst (read n bytes)
   unfolding notLowerFirst readEvidence
-  pack-order h lower higher b p q e = rw (h .says, e, p, q)
+  pack-order h lower higher b p q e = rw (h .says, ordered-some bytes (countOf bytes) (h .some), e, p, q)
 
   pub certificate-says : FullTaken n bytes → (value : List ℕ) → value ≡ readValue valueAt bytes → value ≡ certificateIn (read n bytes) .value
   unfolding certificateIn certificateOf readFull

@@ -48,6 +48,7 @@ pub record FullTaken (n : ℕ) (bytes : List ℕ) : Type 0 where
 pub record EvidenceTaken (n : ℕ) (bytes : List ℕ) : Type 0 where
   pub says : read n bytes ≡ readEvidence bytes
   pub size : length bytes ≡ evidenceLength (byteAt bytes evidenceCountAt)
+  pub some : 1 ≤ byteAt bytes evidenceCountAt
   pub few : byteAt bytes evidenceCountAt ≤ n
   pub known : (i : ℕ) → i < byteAt bytes evidenceCountAt → byteAt bytes (evidenceEntryAt i + 1) < n
 
@@ -80,7 +81,7 @@ module _ (n : ℕ) (bytes : List ℕ) (t : Kind) (e : t ≡ kindOf (read n bytes
       let count = byteAt bytes evidenceCountAt in
       let seats = evidence-seats t n bytes e count g refl .0 in
       let below = known-entries n (read n bytes) (seatsIn (evidence count) bytes) n (omega arith) s seats in
-      record { says = r .0; size = fits .size; few = fits .few; known = λ i h. below-at (seatPlace (evidence count)) bytes n count i h below }
+      record { says = r .0; size = fits .size; some = fits .some; few = fits .few; known = λ i h. below-at (seatPlace (evidence count)) bytes n count i h below }
 
 -- a certificate, and an EVIDENCE, that a call takes
 module _ (n round : ℕ) (bytes : List ℕ) where

@@ -130,6 +130,7 @@ module _ (n : ℕ) (bytes : List ℕ) where
 
   pub record EvidenceFits : Type 0 where
     pub code : byteAt bytes 0 ≡ 0x05
+    pub some : 1 ≤ counted
     pub few : counted ≤ n
     pub size : length bytes ≡ evidenceLength counted
     pub commands : entryCommands (formOf bytes) counted bytes ≡ true
@@ -145,6 +146,7 @@ module _ (n : ℕ) (bytes : List ℕ) where
       let one = and-eq-true-iff code (leb 1 counted) .0 (two .0) in
       record {
         code = eqb-true (byteAt bytes 0) 0x05 (one .0);
+        some = leb-true 1 counted (one .1);
         few = leb-true counted n (two .1);
         size = eqb-true (length bytes) (evidenceLength counted) (three .1);
         commands = four .1;
