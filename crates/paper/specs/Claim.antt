@@ -7,7 +7,7 @@ use mathlib.Core.List.{List, List·Memᴰ}
 use mathlib.Core.Logic.{_↔_}
 use mathlib.Core.Option.{some}
 use Rattle.refusal.specs.Refusal.{unrefused}
-use Rattle.protocol.specs.Message.{Entry, Pair, Message, Full, Evidence}
+use Rattle.protocol.specs.Message.{Entry, Pair, Pack, Message, Full, Evidence}
 use Rattle.protocol.specs.Calls.{opening, openedBy}
 use Rattle.round.specs.Round.{Setting, IsOpened, Each, Honest, listOf, Writes}
 use Rattle.claims.specs.Sound.{Any}
@@ -74,6 +74,6 @@ module _ (S : Setting) (u : Honest) (opened : IsOpened S u) where
   full-received ρ sender value es w = let a = writes-what-the-paper-does (Full ρ sender value es) .0 w in full-from (u .seat) round Took ρ sender value es (a .0) (a .2) (sends-what-it-received (a .0) (a .1))
 
   -- and every two in an EVIDENCE came for their seat, the one over the lower value and the other over the higher.
-  pub evidence-received : (ρ : ℕ) (lower higher : List ℕ) (ps : List Pair) → Writes S u (Evidence ρ lower higher ps)
-      → Each (λ (p : Pair). Came (u .seat) Took (p .seat) lower (p .lower) × Came (u .seat) Took (p .seat) higher (p .higher)) ps
-  evidence-received ρ lower higher ps w = let a = writes-what-the-paper-does (Evidence ρ lower higher ps) .0 w in evidence-from (u .seat) round Took ρ lower higher ps (a .0) (a .2) (sends-what-it-received (a .0) (a .1))
+  pub evidence-received : (ρ : ℕ) (pack : Pack) (ps : List Pair) → Writes S u (Evidence ρ pack ps)
+      → Each (λ (p : Pair). Came (u .seat) Took (p .seat) (p .lowerValue) (p .lower) × Came (u .seat) Took (p .seat) (p .higherValue) (p .higher)) ps
+  evidence-received ρ pack ps w = let a = writes-what-the-paper-does (Evidence ρ pack ps) .0 w in evidence-from (u .seat) round Took ρ pack ps (a .0) (a .2) (sends-what-it-received (a .0) (a .1))
