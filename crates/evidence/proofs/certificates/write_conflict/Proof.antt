@@ -116,6 +116,7 @@ write-conflict-spec =
     certificate-value-requires-2
     entry-set-requires
     entry-set-requires-2
+    (λ c κs. search needs)
     (λ c. search needs)
     (λ c. search needs)
     write-evidence-requires
