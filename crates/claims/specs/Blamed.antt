@@ -42,7 +42,7 @@ unfolding isFull
 full-cases P (Submit ρ seat value signature) e f = absurd (false≢true e)
 full-cases P (Notice ρ seat value) e f = absurd (false≢true e)
 full-cases P (Full ρ sender value es) e f = f ρ sender value es
-full-cases P (Evidence ρ lower higher ps) e f = absurd (false≢true e)
+full-cases P (Evidence ρ values ps) e f = absurd (false≢true e)
 full-cases P Garbled e f = absurd (false≢true e)
 
 -- guilty seats, where a certificate of each of two values has been held or compared
@@ -189,14 +189,14 @@ module _ (S : Setting) where
     guilty-blames guilty =
         let f = flag-written S u opened Any any EVIDENCE (rw (ne-eqb (end .guilty) 0 guilty)) in
         evidence-cases (λ m. isEvidence m ≡ true → Writes S u m → Blames S u) (f .0) (f .1)
-        (λ ρ lower higher ps is w.
-        let g = writes-good S u opened Any any (Evidence ρ lower higher ps) w in
-        let pairs = subst (λ i. Pairs checks Any i lower higher ps) (end-n S u opened Any any) (g .1) in
-        let accept = evidence-accepted S (opened-outside S u opened) ρ lower higher ps (g .0 ∙ end-round S u opened Any any) pairs in
-        let evidence = render (Evidence ρ lower higher ps) in
+        (λ ρ values ps is w.
+        let g = writes-good S u opened Any any (Evidence ρ values ps) w in
+        let pairs = subst (λ i. Pairs checks Any i values ps) (end-n S u opened Any any) (g .1) in
+        let accept = evidence-accepted S (opened-outside S u opened) ρ values ps (g .0 ∙ end-round S u opened Any any) pairs in
+        let evidence = render (Evidence ρ values ps) in
         record {
           evidence = evidence;
-          written = record { message = Evidence ρ lower higher ps; kind = is; bytes = refl; writes = w };
+          written = record { message = Evidence ρ values ps; kind = is; bytes = refl; writes = w };
           seats = evidenceCheck checks n round keys evidence .mask;
           named = λ seat. mask-names evidence seat (accept .0);
           enough = accept .1;

@@ -12,10 +12,10 @@ use lib.ListN.{length, length-map}
 use lib.Pow.{pow-pos}
 use borrow.Author.Tests.{eqb-true, eqb-false}
 use Rattle.quorum.specs.Quorum.{t0, k, In, size, shared, seats}
-use Rattle.quorum.specs.QuorumLaws.{bit-cases, in-shared, shared-lt, shared-comm, with-lt, size-empty, size-shared-le, size-with-new, length-seats, mem-seats, seats-rise, k-of-n-share}
+use Rattle.quorum.specs.QuorumLaws.{bit-cases, in-shared, shared-lt, with-lt, size-empty, size-shared-le, size-with-new, length-seats, mem-seats, seats-rise, k-of-n-share}
 use Rattle.protocol.specs.Values.{isLower}
-use Rattle.protocol.specs.Message.{Entry, Pair, Message, Evidence, fullForm, evidenceForm, entrySeats}
-use Rattle.protocol.specs.Certificate.{Certificate, setOf, signatureOf, certificateOf, entryOf, entriesOf, pairOf, pairsOf, orderedEvidence, evidenceOf}
+use Rattle.protocol.specs.Message.{Entry, Pair, PairValues, Message, Evidence, fullForm, evidenceForm, entrySeats}
+use Rattle.protocol.specs.Certificate.{Certificate, setOf, signatureOf, certificateOf, entryOf, entriesOf, pairOf, pairsOf, valuesOf, orderedEvidence, evidenceOf}
 use Rattle.protocol.specs.ValuesLaws.{lower-other}
 use Rattle.protocol.specs.CertificateLaws.{in-set, set-seats}
 use Rattle.protocol.specs.Entries.{Laid, formSeats}
@@ -66,12 +66,6 @@ module _ (checks : Checks) (W : Relation) where
   unfolding fullForm
   entries-laid n value es z e d = (z .attested e d .sized, refl)
 
-  pub pairs-laid : (n : ℕ) (lower higher : List ℕ) (ps : List Pair) → Pairs checks W n lower higher ps → Laid (evidenceForm lower higher) ps
-  unfolding evidenceForm
-  pairs-laid n lower higher ps z p d =
-      let own = z .values p d in
-      pair-laid lower higher p (sym (own .0)) (sym (own .1)) (z .lows p d .sized) (z .highs p d .sized)
-
   -- the FULL of a certificate
   pub entries-of : (n : ℕ) (c : Certificate) → Certifies checks W n c → Entries checks W n (c .value) (entriesOf n c)
   unfolding entriesOf
@@ -101,46 +95,55 @@ module _ (checks : Checks) (W : Relation) where
     attested = λ s i. signature-attested value es s (z .attested) (in-set s (map (λ (e : Entry). e .seat) es) .0 i);
   }
 
-  -- the evidence of two certificates, the lower first
-  pub pairs-of : (n : ℕ) (c d : Certificate) → 1 ≤ n → Certifies checks W n c → Certifies checks W n d → isLower (c .value) (d .value) ≡ true
-      → Pairs checks W n (c .value) (d .value) (pairsOf n (shared (c .seats) (d .seats)) c d)
-  unfolding pairsOf
-  pairs-of n c d some y z l =
-      let both = shared (c .seats) (d .seats) in
+  -- the evidence of two certificates for a set of seats that both have, the lower value first
+  pub pairs-of : (n mask : ℕ) (c d : Certificate) → mask < 2 ^ n → ((s : ℕ) → In s mask → In s (c .seats) × In s (d .seats)) → t0 n + 1 ≤ size mask → size mask ≤ k n
+      → Certifies checks W n c → Certifies checks W n d → isLower (c .value) (d .value) ≡ true → Pairs checks W n (valuesOf c d) (pairsOf n mask c d)
+  unfolding pairsOf evidenceForm
+  pairs-of n mask c d below both enough few y z l =
       let pair : ℕ → Pair = pairOf c d in
-      let below : both < 2 ^ n = shared-lt n (c .seats) (d .seats) (y .below) (z .below) in
-      let sized : length (pairsOf n both c d) ≡ size both = length-map (seats n both) pair ∙ length-seats n both below in
-      let enough : t0 n + 1 ≤ size both = k-of-n-share n (c .seats) (d .seats) some (y .below) (z .below) (y .enough) (z .enough) in
-      let few : size both ≤ size (c .seats) = size-shared-le (c .seats) (d .seats) in
-      let exact : k n ≡ size (c .seats) = sym (y .enough) in
+      let sized : length (pairsOf n mask c d) ≡ size mask = length-map (seats n mask) pair ∙ length-seats n mask below in
+      let low : (s : ℕ) → List·Memᴰ s (seats n mask) → Attested checks W s (c .value) (c .signature s) = λ s m. y .attested s (both s (seats-in-set n mask s m) .0) in
+      let high : (s : ℕ) → List·Memᴰ s (seats n mask) → Attested checks W s (d .value) (d .signature s) = λ s m. z .attested s (both s (seats-in-set n mask s m) .1) in
       record {
-        sizedLower = y .sized;
-        sizedHigher = z .sized;
-        values = each-map (λ (p : Pair). (c .value ≡ p .lowerValue) × (d .value ≡ p .higherValue)) pair (seats n both) (λ s m. (refl, refl));
+        formed = (y .sized, z .sized);
+        laid = each-map _ pair (seats n mask) (λ s m. pair-laid (valuesOf c d) (pair s) refl refl (low s m .sized) (high s m .sized));
         ordered = l;
-        named = rw (pair-seats n (shared (c .seats) (d .seats)) c d, set-seats n both below) enough;
+        named = rw (pair-seats n mask c d, set-seats n mask below) enough;
         some = omega arith;
         few = omega arith;
-        rise = ap rising (pair-seats n (shared (c .seats) (d .seats)) c d) ∙ seats-rising n both;
-        below = each-map (λ (p : Pair). p .seat < n) pair (seats n both) (seats-below n both);
-        lows = each-map (λ (p : Pair). Attested checks W (p .seat) (c .value) (p .lower)) pair (seats n both) (λ s m. y .attested s (in-shared s (c .seats) (d .seats) .0 (seats-in-set n both s m) .0));
-        highs = each-map (λ (p : Pair). Attested checks W (p .seat) (d .value) (p .higher)) pair (seats n both) (λ s m. z .attested s (in-shared s (c .seats) (d .seats) .0 (seats-in-set n both s m) .1));
+        rise = ap rising (pair-seats n mask c d) ∙ seats-rising n mask;
+        below = each-map (λ (p : Pair). p .seat < n) pair (seats n mask) (seats-below n mask);
+        lows = each-map (λ (p : Pair). Attested checks W (p .seat) (p .lowerValue) (p .lower)) pair (seats n mask) low;
+        highs = each-map (λ (p : Pair). Attested checks W (p .seat) (p .higherValue) (p .higher)) pair (seats n mask) high;
       }
 
-  -- the evidence of two certificates, in either order
-  pub evidence-elim : (P : Message → Type 0) (n round : ℕ) (c d : Certificate) → 1 ≤ n → Certifies checks W n c → Certifies checks W n d → c .value ≢ d .value
-      → ((lower higher : List ℕ) (ps : List Pair) → Pairs checks W n lower higher ps → P (Evidence round lower higher ps)) → P (evidenceOf n round c d)
-  unfolding evidenceOf orderedEvidence
-  evidence-elim P n round c d some y z different f =
-      cond-elim P (isLower (c .value) (d .value)) (orderedEvidence n round c d) (orderedEvidence n round d c)
-      (λ l. f (c .value) (d .value) (pairsOf n (shared (c .seats) (d .seats)) c d) (pairs-of n c d some y z l))
-      (λ l. f (d .value) (c .value) (pairsOf n (shared (d .seats) (c .seats)) d c) (pairs-of n d c some z y (lower-other (c .value) (d .value) (y .sized ∙ sym (z .sized)) different ∙ ap not l)))
+  -- the evidence of two certificates for all seats that they share, in either order
+  module _ (n : ℕ) (c d : Certificate) (some : 1 ≤ n) (y : Certifies checks W n c) (z : Certifies checks W n d) where
+    abbrev both : ℕ
+    both = shared (c .seats) (d .seats)
 
-  -- evidence of two certificates names the seats that they share
-  pub evidence-names : (n round : ℕ) (c d : Certificate) → Certifies checks W n c → Certifies checks W n d
-      → setOf (entrySeats (evidenceOf n round c d)) ≡ shared (c .seats) (d .seats)
+    both-below : both < 2 ^ n
+    both-below = shared-lt n (c .seats) (d .seats) (y .below) (z .below)
+
+    both-enough : t0 n + 1 ≤ size both
+    both-enough = k-of-n-share n (c .seats) (d .seats) some (y .below) (z .below) (y .enough) (z .enough)
+
+    both-few : size both ≤ k n
+    both-few = omega (arith, size-shared-le (c .seats) (d .seats), y .enough)
+
+    pub evidence-elim : (P : Message → Type 0) (round : ℕ) → c .value ≢ d .value
+        → ((values : PairValues) (ps : List Pair) → Pairs checks W n values ps → P (Evidence round values ps)) → P (evidenceOf n round both c d)
+    unfolding evidenceOf orderedEvidence
+    evidence-elim P round different f =
+        cond-elim P (isLower (c .value) (d .value)) (orderedEvidence n round both c d) (orderedEvidence n round both d c)
+        (λ l. f (valuesOf c d) (pairsOf n both c d) (pairs-of n both c d both-below (λ s i. in-shared s (c .seats) (d .seats) .0 i) both-enough both-few y z l))
+        (λ l. f (valuesOf d c) (pairsOf n both d c)
+        (pairs-of n both d c both-below (λ s i. let h = in-shared s (c .seats) (d .seats) .0 i in (h .1, h .0)) both-enough both-few z y (lower-other (c .value) (d .value) (y .sized ∙ sym (z .sized)) different ∙ ap not l)))
+
+  -- evidence for a set of seats names the seats of the set
+  pub evidence-names : (n round mask : ℕ) (c d : Certificate) → mask < 2 ^ n → setOf (entrySeats (evidenceOf n round mask c d)) ≡ mask
   unfolding evidenceOf orderedEvidence entrySeats formSeats evidenceForm
-  evidence-names n round c d y z =
-      cond-elim (λ m. setOf (entrySeats m) ≡ shared (c .seats) (d .seats)) (isLower (c .value) (d .value)) (orderedEvidence n round c d) (orderedEvidence n round d c)
-      (λ _. rw (pair-seats n (shared (c .seats) (d .seats)) c d, set-seats n (shared (c .seats) (d .seats)) (shared-lt n (c .seats) (d .seats) (y .below) (z .below))))
-      (λ _. rw (pair-seats n (shared (d .seats) (c .seats)) d c, set-seats n (shared (d .seats) (c .seats)) (shared-lt n (d .seats) (c .seats) (z .below) (y .below))) (shared-comm (d .seats) (c .seats)))
+  evidence-names n round mask c d below =
+      cond-elim (λ m. setOf (entrySeats m) ≡ mask) (isLower (c .value) (d .value)) (orderedEvidence n round mask c d) (orderedEvidence n round mask d c)
+      (λ _. rw (pair-seats n mask c d, set-seats n mask below))
+      (λ _. rw (pair-seats n mask d c, set-seats n mask below))

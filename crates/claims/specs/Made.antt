@@ -5,11 +5,12 @@ use mathlib.Core.Path.{_≡_, refl, subst, _∙_}
 use mathlib.Core.List.{List}
 use Prim.Native.Nat.{ℕ, _+_, _≤_}
 use Rattle.quorum.specs.Quorum.{t0, size, shared}
+use Rattle.quorum.specs.QuorumLaws.{shared-lt}
 use Rattle.refusal.specs.Refusal.{firstOf, unrefused}
 use Rattle.protocol.specs.Entries.{formSeats}
-use Rattle.protocol.specs.Message.{Pair, Message, Evidence, evidenceForm, render, read, entrySeats}
+use Rattle.protocol.specs.Message.{Pair, PairValues, Message, Evidence, evidenceForm, render, read, entrySeats}
 use Rattle.protocol.specs.MessageLaws.{read-render}
-use Rattle.protocol.specs.Certificate.{setOf, certificateIn}
+use Rattle.protocol.specs.Certificate.{setOf, certificateIn, conflictOf}
 use Rattle.protocol.specs.Refusals.{isEvidence, notLowerFirst}
 use Rattle.protocol.specs.Calls.{makingBy, making, checkedBy, evidenceCheck}
 use Rattle.round.specs.Round.{Setting, InHand, makingOf, Accepted}
@@ -25,24 +26,24 @@ module _ (S : Setting) (outside : Outside (S .n) (S .round) (S .keys)) where
   open Setting S using (n, round, keys, checks)
 
   -- evidence of t0 + 1 pairs or more is accepted, and the check's mask has its seats
-  accepted-as : (ρ : ℕ) (lower higher : List ℕ) (ps : List Pair) → ρ ≡ round → Pairs checks Any n lower higher ps
-      → (evidenceCheck checks n round keys (render (Evidence ρ lower higher ps)) .number ≡ 0)
-      × (evidenceCheck checks n round keys (render (Evidence ρ lower higher ps)) .mask ≡ setOf (entrySeats (Evidence ρ lower higher ps)))
+  accepted-as : (ρ : ℕ) (values : PairValues) (ps : List Pair) → ρ ≡ round → Pairs checks Any n values ps
+      → (evidenceCheck checks n round keys (render (Evidence ρ values ps)) .number ≡ 0)
+      × (evidenceCheck checks n round keys (render (Evidence ρ values ps)) .mask ≡ setOf (entrySeats (Evidence ρ values ps)))
   unfolding evidenceCheck checkedBy unrefused isEvidence notLowerFirst
-  accepted-as ρ lower higher ps e z =
-      let m = Evidence ρ lower higher ps in
-      let formed = pairs-formed checks Any n ρ lower higher ps (rw e (outside .inTime)) z in
-      let taken = subst (λ r. Taken checks n r m) e (evidence-taken checks Any n ρ lower higher ps z) in
+  accepted-as ρ values ps e z =
+      let m = Evidence ρ values ps in
+      let formed = pairs-formed checks Any n ρ values ps (rw e (outside .inTime)) z in
+      let taken = subst (λ r. Taken checks n r m) e (evidence-taken checks Any n ρ values ps z) in
       let reads = read-render n m formed in
       let zero = evidence-not-refused checks n round keys (render m) .1 (record { outside = outside; isOne = rw reads; message = rw reads taken; conflict = rw (reads, z .ordered) }) in
       (zero, rw (zero, reads))
 
-  pub evidence-accepted : (ρ : ℕ) (lower higher : List ℕ) (ps : List Pair) → ρ ≡ round → Pairs checks Any n lower higher ps
-      → (evidenceCheck checks n round keys (render (Evidence ρ lower higher ps)) .number ≡ 0)
-      × (t0 n + 1 ≤ size (evidenceCheck checks n round keys (render (Evidence ρ lower higher ps)) .mask))
+  pub evidence-accepted : (ρ : ℕ) (values : PairValues) (ps : List Pair) → ρ ≡ round → Pairs checks Any n values ps
+      → (evidenceCheck checks n round keys (render (Evidence ρ values ps)) .number ≡ 0)
+      × (t0 n + 1 ≤ size (evidenceCheck checks n round keys (render (Evidence ρ values ps)) .mask))
   unfolding entrySeats formSeats evidenceForm
-  evidence-accepted ρ lower higher ps e z =
-      let a = accepted-as ρ lower higher ps e z in
+  evidence-accepted ρ values ps e z =
+      let a = accepted-as ρ values ps e z in
       (a .0, rw (a .1) (z .named))
 
 -- evidence that the check accepts and that names exactly the seats that two certificates share
@@ -78,15 +79,15 @@ module _ (S : Setting) (h : InHand) (unrefused-making : making (S .checks) (S .n
 
   -- the claim, about the bytes that the call's answer counts
   pub made-accepted : Accuses S (h .a) (h .b) (makingOf S h)
-  unfolding unrefused
+  unfolding unrefused conflictOf
   made-accepted =
       let bytes : makingOf S h ≡ render (evidenceFrom S h) = making-bytes S h ∙ rw zero in
       let c = certificateIn a in
       let d = certificateIn b in
-      let named = evidence-names checks Any n round c d first second in
-      let accuses = evidence-elim checks Any (λ m. setOf (entrySeats m) ≡ shared (c .seats) (d .seats) → Accuses S (h .a) (h .b) (render m)) n round c d (taken .outside .some) first second (taken .conflict)
-      (λ lower higher ps z e.
-      let p = accepted-as S (taken .outside) round lower higher ps refl z in
-      let q = evidence-accepted S (taken .outside) round lower higher ps refl z in
+      let named = evidence-names checks Any n round (shared (c .seats) (d .seats)) c d (shared-lt n (c .seats) (d .seats) (first .below) (second .below)) in
+      let accuses = evidence-elim checks Any n c d (taken .outside .some) first second (λ m. setOf (entrySeats m) ≡ shared (c .seats) (d .seats) → Accuses S (h .a) (h .b) (render m)) round (taken .conflict)
+      (λ values ps z e.
+      let p = accepted-as S (taken .outside) round values ps refl z in
+      let q = evidence-accepted S (taken .outside) round values ps refl z in
       record { accepted = p .0; names = p .1 ∙ e; enough = q .1 }) in
       rw bytes (accuses named)

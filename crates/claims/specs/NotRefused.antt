@@ -201,7 +201,7 @@ module _ (checks : Checks) (keys : List ℕ) (r : Record) (store bytes out : Lis
       )
       go (Notice ρ seat value) t e l w = tt
       go (Full ρ sender value es) t e l w = entries-taken checks W (r .n) (r .round) ρ sender value es t l w
-      go (Evidence ρ lower higher ps) t e l w = tt
+      go (Evidence ρ values ps) t e l w = tt
       go Garbled t e l w = tt
 
 -- a step with a message as document 01 lays it out

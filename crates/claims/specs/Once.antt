@@ -22,7 +22,7 @@ use Rattle.round.specs.Round.{Setting, IsOpened, Each, Relation, Honest, Called
 use Rattle.round.specs.Demand1.{Kind, SUBMIT, NOTICE, FULL, EVIDENCE, isOf, isSubmit, isNotice, worth, count, writtenOver, AtMostOne}
 use Rattle.reading.specs.Lists.{worth-le-one, worth-true, true-of-worth, count-pos}
 use Rattle.claims.specs.Sound.{Any, flagOf, Good}
-use Rattle.claims.specs.Certificates.{entries-laid, pairs-laid}
+use Rattle.claims.specs.Certificates.{entries-laid}
 use Rattle.claims.specs.Parts.{confirmed-submitted}
 use Rattle.reading.specs.Reading.{are-unique}
 use Rattle.claims.specs.Unrefused.{possible}
@@ -42,7 +42,7 @@ kinds-all n [] w = refl
 kinds-all n (Submit ρ seat value signature ∷ ms) w = omega (arith, kinds-all n ms (λ m d. w m (List·Memᴰ·tail d)))
 kinds-all n (Notice ρ seat value ∷ ms) w = omega (arith, kinds-all n ms (λ m d. w m (List·Memᴰ·tail d)))
 kinds-all n (Full ρ sender value es ∷ ms) w = omega (arith, kinds-all n ms (λ m d. w m (List·Memᴰ·tail d)))
-kinds-all n (Evidence ρ lower higher ps ∷ ms) w = omega (arith, kinds-all n ms (λ m d. w m (List·Memᴰ·tail d)))
+kinds-all n (Evidence ρ values ps ∷ ms) w = omega (arith, kinds-all n ms (λ m d. w m (List·Memᴰ·tail d)))
 kinds-all n (Garbled ∷ ms) w = absurd (w Garbled (List·Memᴰ·head refl))
 
 evidence-room : (a b : ℕ) → a ≤ b → evidenceEntryAt a ≤ evidenceEntryAt b
@@ -85,11 +85,11 @@ module _ (checks : Checks) (W : Relation) (r : Record) where
       let l : length (render (Full ρ sender value es)) ≡ fullEntryAt (k (r .n)) =
       length-full ρ sender value es (h .0 .sized) (entries-laid checks W (r .n) value es (h .1)) ∙ ap fullEntryAt (h .1 .many) in
       omega (arith, length-append (render (Full ρ sender value es)) (renderAll ms), bytes-by-kind ms (λ m d. g m (List·Memᴰ·tail d)))
-  bytes-by-kind (Evidence ρ lower higher ps ∷ ms) g =
-      let h = g (Evidence ρ lower higher ps) (List·Memᴰ·head refl) in
-      let l = length-evidence ρ lower higher ps (h .1 .sizedLower) (h .1 .sizedHigher) (pairs-laid checks W (r .n) lower higher ps (h .1)) in
+  bytes-by-kind (Evidence ρ values ps ∷ ms) g =
+      let h = g (Evidence ρ values ps) (List·Memᴰ·head refl) in
+      let l = length-evidence ρ values ps (h .1 .formed) (h .1 .laid) in
       let f = evidence-room (length ps) (k (r .n)) (h .1 .few) in
-      omega (arith, length-append (render (Evidence ρ lower higher ps)) (renderAll ms), bytes-by-kind ms (λ m d. g m (List·Memᴰ·tail d)))
+      omega (arith, length-append (render (Evidence ρ values ps)) (renderAll ms), bytes-by-kind ms (λ m d. g m (List·Memᴰ·tail d)))
   bytes-by-kind (Garbled ∷ ms) g = absurd (g Garbled (List·Memᴰ·head refl))
 
 -- ---- an honest unit's list

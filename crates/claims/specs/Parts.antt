@@ -19,12 +19,12 @@ use Rattle.quorum.specs.QuorumLaws.{bit-empty, bit-with-other, bit-with-same, h
 use Rattle.refusal.specs.RefusalLaws.{both-true}
 use Rattle.protocol.specs.Layout.{valueLength, signatureLength, storeLength, collectedBank, firstBank}
 use Rattle.protocol.specs.Values.{unset}
-use Rattle.protocol.specs.Message.{Pair, Message, Submit, Notice, Full, Evidence, Garbled}
+use Rattle.protocol.specs.Message.{Pair, PairValues, Message, Submit, Notice, Full, Evidence, Garbled}
 use Rattle.protocol.specs.LayoutLaws.{collected-bank, first-bank}
 use Rattle.protocol.specs.Certificate.{Certificate, slot, fill, fillEach, ownCertificate, firstCertificate, fullOf, evidenceOf}
 use Rattle.protocol.specs.Record.{noneHeard, oneHeard, holds}
 use Rattle.protocol.specs.Refusals.{Checks, isFull, isEvidence}
-use Rattle.protocol.specs.Step.{State, write, collect, setOwnValue, submitOwn, isWanted, noticesWith, hear, otherHeard, owesFull, sendFull, reply, hold, blame, blames, holdOrBlame}
+use Rattle.protocol.specs.Step.{State, write, collect, setOwnValue, submitOwn, isWanted, noticesWith, hear, otherHeard, owesFull, sendFull, reply, hold, found, blame, blames, holdOrBlame}
 use Rattle.protocol.specs.declared.Own.{Own}
 use Rattle.protocol.specs.declared.First.{First}
 use Rattle.protocol.specs.declared.Notices.{Notices}
@@ -116,7 +116,7 @@ module _ (checks : Checks) (W : Relation) where
   good-grows r r′ g (Submit ρ seat value signature) h = (said-grows r r′ ρ seat value g (h .0), h .1)
   good-grows r r′ g (Notice ρ seat value) h = said-grows r r′ ρ seat value g h
   good-grows r r′ g (Full ρ sender value entries) h = (said-grows r r′ ρ sender value g (h .0), rw (g .n) (h .1))
-  good-grows r r′ g (Evidence ρ lower higher entries) h = (h .0 ∙ sym (g .round), rw (g .n) (h .1))
+  good-grows r r′ g (Evidence ρ values entries) h = (h .0 ∙ sym (g .round), rw (g .n) (h .1))
   good-grows r r′ g Garbled h = h
 
   pub leads-trans : (s s′ s″ : State) → Leads checks W s s′ → Leads checks W s′ s″ → Leads checks W s s″
@@ -432,13 +432,13 @@ module _ (checks : Checks) (W : Relation) where
         omega arith
 
     blame-leads : s .unit .first .seats ≢ 0 → s .unit .first .value ≢ c .value → s .unit .guilty ≡ 0 → Leads checks W s (blame c s)
-    unfolding blame write firstCertificate isSubmit isNotice isFull isEvidence worth
+    unfolding blame found write firstCertificate isSubmit isNotice isFull isEvidence worth
     blame-leads held other innocent =
         let r = s .unit in
         let first = firstCertificate r (s .store) in
         let guilty = shared (r .first .seats) (c .seats) in
         let f = first-certifies r (s .store) z held in
-        leads-writing s (blame c s) (evidenceOf (r .n) (r .round) first c)
+        leads-writing s (blame c s) (evidenceOf (r .n) (r .round) guilty first c)
         (record {
           range = z .range;
           own = z .own;
@@ -457,15 +457,15 @@ module _ (checks : Checks) (W : Relation) where
         refl
         (record { n = refl; seat = refl; round = refl; said = λ e. (e, refl); heard = λ v h. h; held = λ v h. (held, ⊎-elim inl (λ g. absurd (g innocent)) (h .1)) })
         refl
-        (evidence-elim checks W (Good checks W (blame c s .unit)) (r .n) (r .round) first c (z .range .some) f y other (λ lower higher ps p. (refl, p)))
-        (evidence-elim checks W (λ m. (κ : Kind) → worth (isOf κ m) + worth (flagOf κ r) ≡ worth (flagOf κ (blame c s .unit))) (r .n) (r .round) first c (z .range .some) f y other flags)
+        (evidence-elim checks W (r .n) first c (z .range .some) f y (Good checks W (blame c s .unit)) (r .round) other (λ values ps p. (refl, p)))
+        (evidence-elim checks W (r .n) first c (z .range .some) f y (λ m. (κ : Kind) → worth (isOf κ m) + worth (flagOf κ r) ≡ worth (flagOf κ (blame c s .unit))) (r .round) other flags)
       where
-        flags : (lower higher : List ℕ) (ps : List Pair) → Pairs checks W (s .unit .n) lower higher ps → (κ : Kind)
-            → worth (isOf κ (Evidence (s .unit .round) lower higher ps)) + worth (flagOf κ (s .unit)) ≡ worth (flagOf κ (blame c s .unit))
-        flags lower higher ps p SUBMIT = omega arith
-        flags lower higher ps p NOTICE = omega arith
-        flags lower higher ps p FULL = omega arith
-        flags lower higher ps p EVIDENCE = rw (innocent, ne-eqb (shared (s .unit .first .seats) (c .seats)) 0 (shared-guilty held))
+        flags : (values : PairValues) (ps : List Pair) → Pairs checks W (s .unit .n) values ps → (κ : Kind)
+            → worth (isOf κ (Evidence (s .unit .round) values ps)) + worth (flagOf κ (s .unit)) ≡ worth (flagOf κ (blame c s .unit))
+        flags values ps p SUBMIT = omega arith
+        flags values ps p NOTICE = omega arith
+        flags values ps p FULL = omega arith
+        flags values ps p EVIDENCE = rw (innocent, ne-eqb (shared (s .unit .first .seats) (c .seats)) 0 (shared-guilty held))
 
     pub holdOrBlame-leads : Leads checks W s (holdOrBlame c s)
     unfolding holdOrBlame blames holds
@@ -481,7 +481,7 @@ module _ (checks : Checks) (W : Relation) where
 
     -- the certificate is held, or compared with the one held
     pub holdOrBlame-held : Held (c .value) (holdOrBlame c s .unit)
-    unfolding holdOrBlame blames holds hold blame write
+    unfolding holdOrBlame blames holds hold blame found write
     holdOrBlame-held =
         let r = s .unit in
         let same-value = same (c .value) (r .first .value) in

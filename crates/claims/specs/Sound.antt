@@ -12,7 +12,8 @@ use Rattle.quorum.specs.Quorum.{t0, k, In, size, shared}
 use Rattle.protocol.specs.RecordLaws.{InRange}
 use Rattle.protocol.specs.Layout.{valueLength, signatureLength, storeLength, collectedBank, firstBank}
 use Rattle.protocol.specs.Values.{unset, isLower}
-use Rattle.protocol.specs.Message.{Entry, Pair, Message, Submit, Notice, Full, Evidence, Garbled}
+use Rattle.protocol.specs.Message.{Entry, Pair, PairValues, Message, Submit, Notice, Full, Evidence, Garbled, evidenceForm, ValuesFormed}
+use Rattle.protocol.specs.Entries.{Laid}
 use Rattle.protocol.specs.Certificate.{Certificate, slot, setOf}
 use Rattle.protocol.specs.Refusals.{Checks, rising}
 use Rattle.protocol.specs.Step.{State, owesFull}
@@ -111,18 +112,17 @@ module _ (checks : Checks) (W : Relation) where
     pub attested : Each (λ (e : Entry). Attested (e .seat) value (e .signature)) es
 
   -- the entries of an EVIDENCE
-  pub record Pairs (n : ℕ) (lower higher : List ℕ) (ps : List Pair) : Type 0 where
-    pub sizedLower : length lower ≡ valueLength
-    pub sizedHigher : length higher ≡ valueLength
-    pub values : Each (λ (p : Pair). (lower ≡ p .lowerValue) × (higher ≡ p .higherValue)) ps
-    pub ordered : isLower lower higher ≡ true
+  pub record Pairs (n : ℕ) (values : PairValues) (ps : List Pair) : Type 0 where
+    pub formed : ValuesFormed values
+    pub laid : Laid (evidenceForm values) ps
+    pub ordered : isLower (values .lower) (values .higher) ≡ true
     pub named : t0 n + 1 ≤ size (setOf (map (λ (p : Pair). p .seat) ps))
     pub some : 1 ≤ length ps
     pub few : length ps ≤ k n
     pub rise : rising (map (λ (p : Pair). p .seat) ps) ≡ true
     pub below : Each (λ (p : Pair). p .seat < n) ps
-    pub lows : Each (λ (p : Pair). Attested (p .seat) lower (p .lower)) ps
-    pub highs : Each (λ (p : Pair). Attested (p .seat) higher (p .higher)) ps
+    pub lows : Each (λ (p : Pair). Attested (p .seat) (p .lowerValue) (p .lower)) ps
+    pub highs : Each (λ (p : Pair). Attested (p .seat) (p .higherValue) (p .higher)) ps
 
   -- ---- record and store
 
@@ -164,7 +164,7 @@ module _ (checks : Checks) (W : Relation) where
   Good r (Submit ρ seat value signature) = Said r ρ seat value × Attested seat value signature
   Good r (Notice ρ seat value) = Said r ρ seat value
   Good r (Full ρ sender value entries) = Said r ρ sender value × Entries (r .n) value entries
-  Good r (Evidence ρ lower higher entries) = (ρ ≡ r .round) × Pairs (r .n) lower higher entries
+  Good r (Evidence ρ values entries) = (ρ ≡ r .round) × Pairs (r .n) values entries
   Good r Garbled = ⊥
 
   -- ---- from one state of a call to a later one

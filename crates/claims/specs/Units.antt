@@ -7,7 +7,7 @@ use Prim.Native.Nat.{ℕ, _≤_}
 use native.Mathlib.Omega.{arith}
 use Rattle.quorum.specs.Quorum.{k}
 use Rattle.refusal.specs.Refusal.{unrefused}
-use Rattle.protocol.specs.Message.{Pair, Message, Submit, Notice, Full, Evidence, Garbled, WellFormed}
+use Rattle.protocol.specs.Message.{Pair, PairValues, Message, Submit, Notice, Full, Evidence, Garbled, WellFormed}
 use Rattle.protocol.specs.Record.{fresh, lastRound}
 use Rattle.protocol.specs.Refusals.{Checks}
 use Rattle.protocol.specs.Calls.{openedBy, opening}
@@ -17,7 +17,7 @@ use Rattle.round.specs.Demand1.{Kind, SUBMIT, NOTICE, FULL, EVIDENCE, isOf, wor
 use Rattle.reading.specs.Lists.{worth-le-one, worth-true, true-of-worth, count-pos, count-member}
 use Rattle.claims.specs.Sound.{Any, flagOf, Grows, Settled, Pairs, Sound, Good}
 use Rattle.protocol.specs.RecordLaws.{InRange}
-use Rattle.claims.specs.Certificates.{entries-laid, pairs-laid}
+use Rattle.claims.specs.Certificates.{entries-laid}
 use Rattle.claims.specs.Parts.{grows-trans, good-grows}
 use Rattle.reading.specs.Reading.{are-unique}
 use Rattle.claims.specs.NotRefused.{OpeningFit, opening-not-refused, Outside}
@@ -31,14 +31,13 @@ k-le : (n : ℕ) → k n ≤ n
 unfolding k
 k-le n = omega arith
 
-pub pairs-formed : (checks : Checks) (W : Relation) (n round : ℕ) (lower higher : List ℕ) (ps : List Pair) → round ≤ lastRound → Pairs checks W n lower higher ps → WellFormed n (Evidence round lower higher ps)
-pairs-formed checks W n round lower higher ps early z = (
+pub pairs-formed : (checks : Checks) (W : Relation) (n round : ℕ) (values : PairValues) (ps : List Pair) → round ≤ lastRound → Pairs checks W n values ps → WellFormed n (Evidence round values ps)
+pairs-formed checks W n round values ps early z = (
   omega arith,
-  z .sizedLower,
-  z .sizedHigher,
+  z .formed,
   z .some,
   (let f = z .few in let h = k-le n in omega arith),
-  pairs-laid checks W n lower higher ps z,
+  z .laid,
 )
 
 pub good-formed : (checks : Checks) (W : Relation) (r : Record) (m : Message) → InRange (r .n) (r .seat) (r .round) → Good checks W r m → WellFormed (r .n) m
@@ -46,7 +45,7 @@ good-formed checks W r (Submit ρ seat value signature) range g = (rw (g .0 .ofR
 good-formed checks W r (Notice ρ seat value) range g = (rw (g .ofRound) (let e = range .dated in omega arith), g .sized)
 good-formed checks W r (Full ρ sender value es) range g =
     (rw (g .0 .ofRound) (let e = range .dated in omega arith), g .0 .sized, g .1 .many, entries-laid checks W (r .n) value es (g .1))
-good-formed checks W r (Evidence ρ lower higher ps) range g = pairs-formed checks W (r .n) ρ lower higher ps (rw (g .0) (range .dated)) (g .1)
+good-formed checks W r (Evidence ρ values ps) range g = pairs-formed checks W (r .n) ρ values ps (rw (g .0) (range .dated)) (g .1)
 good-formed checks W r Garbled range g = absurd g
 
 any-given : (S : Setting) (c : Call) (r : Record) → WorthyGiven S Any c r

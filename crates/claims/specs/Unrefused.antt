@@ -21,7 +21,7 @@ use Rattle.protocol.specs.Values.{unset}
 use Rattle.protocol.specs.Entries.{formSeats}
 use Rattle.protocol.specs.EntriesLaws.{each-flat}
 use Rattle.protocol.specs.ConditionsLaws.{every-each, each-every}
-use Rattle.protocol.specs.Message.{Entry, Pair, Message, Full, Evidence, fullForm, evidenceForm, Signed, signedEntry, signedPair, signed, roundOf, entrySeats, seatsOf}
+use Rattle.protocol.specs.Message.{Entry, Pair, PairValues, Message, Full, Evidence, fullForm, evidenceForm, Signed, signedEntry, signedPair, signed, roundOf, entrySeats, seatsOf}
 use Rattle.protocol.specs.Record.{fresh, lastRound, wrongSize, wrongSeat, wrongRound, noneHeard, holds, outOfRange, wrongHeard, namesStranger, wrongCollected, wrongFirst, lacksFirst, wrongGuilty, wrongSent, wrongUnset, impossible}
 use Rattle.protocol.specs.Refusals.{Condition, Checks, every, said, otherRound, stranger, rising, disorder, badSignature, messageConditions}
 use Rattle.protocol.specs.Step.{owesFull}
@@ -151,16 +151,13 @@ module _ (P : Relation) where
       let each = each-flat (signedEntry value) ForSigned es in
       (λ h e d. each .0 h e d _ (List·Memᴰ·head refl), λ h. each .1 (λ e d. each-one ForSigned _ (h e d)))
 
-  -- a pair's two, over the message's values, which are each pair's own
-  pub signed-pairs : (lower higher : List ℕ) (ps : List Pair) → Each (λ (p : Pair). (lower ≡ p .lowerValue) × (higher ≡ p .higherValue)) ps
-      → Each ForSigned (flatMap signedPair ps) ↔ Each (λ (p : Pair). P (p .seat) lower (p .lower) × P (p .seat) higher (p .higher)) ps
+  -- a pair's two, over its own values
+  pub signed-pairs : (ps : List Pair) → Each ForSigned (flatMap signedPair ps) ↔ Each (λ (p : Pair). P (p .seat) (p .lowerValue) (p .lower) × P (p .seat) (p .higherValue) (p .higher)) ps
   unfolding signedPair
-  signed-pairs lower higher ps own =
+  signed-pairs ps =
       let each = each-flat signedPair ForSigned ps in (
-        λ h p d.
-            let both = each .0 h p d in
-            (rw (own p d .0) (both _ (List·Memᴰ·head refl)), rw (own p d .1) (both _ (List·Memᴰ·tail (List·Memᴰ·head refl)))),
-        λ h. each .1 (λ p d. each-cons ForSigned _ _ (rw (← own p d .0) (h p d .0)) (each-one ForSigned _ (rw (← own p d .1) (h p d .1)))),
+        λ h p d. let both = each .0 h p d in (both _ (List·Memᴰ·head refl), both _ (List·Memᴰ·tail (List·Memᴰ·head refl))),
+        λ h. each .1 (λ p d. each-cons ForSigned _ _ (h p d .0) (each-one ForSigned _ (h p d .1))),
       )
 
 -- ---- a message that isn't refused
@@ -243,11 +240,11 @@ module _ (checks : Checks) (W : Relation) where
     checked = signed-entries (λ s v g. checks s v g ≡ true) value es .1 (λ e d. z .attested e d .checked);
   }
 
-  pub evidence-taken : (n ρ : ℕ) (lower higher : List ℕ) (ps : List Pair) → Pairs checks W n lower higher ps → Taken checks n ρ (Evidence ρ lower higher ps)
+  pub evidence-taken : (n ρ : ℕ) (values : PairValues) (ps : List Pair) → Pairs checks W n values ps → Taken checks n ρ (Evidence ρ values ps)
   unfolding roundOf signed seatsOf entrySeats formSeats evidenceForm
-  evidence-taken n ρ lower higher ps z = record {
+  evidence-taken n ρ values ps z = record {
     inRound = refl;
     inside = each-map (λ s. s < n) (λ (p : Pair). p .seat) ps (z .below);
     rises = z .rise;
-    checked = signed-pairs (λ s v g. checks s v g ≡ true) lower higher ps (z .values) .1 (λ p d. (z .lows p d .checked, z .highs p d .checked));
+    checked = signed-pairs (λ s v g. checks s v g ≡ true) ps .1 (λ p d. (z .lows p d .checked, z .highs p d .checked));
   }

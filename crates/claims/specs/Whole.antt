@@ -218,7 +218,7 @@ module _ (checks : Checks) (W : Relation) where
   Brings r (Submit ρ seat value signature) = (r .own .submitted ≡ true) × (seat < r .n) × Attested checks W seat value signature
   Brings r (Notice ρ seat value) = Unit {0}
   Brings r (Full ρ sender value entries) = Entries checks W (r .n) value entries
-  Brings r (Evidence ρ lower higher entries) = Unit {0}
+  Brings r (Evidence ρ values entries) = Unit {0}
   Brings r Garbled = Unit {0}
 
   module _ (s : State) (z : Sound checks W (s .unit) (s .store)) (room : Room s) (e : Settled (s .unit)) where
@@ -248,7 +248,7 @@ module _ (checks : Checks) (W : Relation) where
         let c = certificateIn (Full ρ sender value entries) in
         let a = hearing-leads c s z room (certifies-of checks W (s .unit .n) value entries w) in
         record { leads = a; settled = settled-stays (s .unit) (hearCertificate c s .unit) (a .grows) (hearing-stays c s) (hearing-owes c s) (e .complete) (e .holds) }
-    stepped-done (Evidence ρ lower higher entries) w = record { leads = leads-refl checks W s z; settled = e }
+    stepped-done (Evidence ρ values entries) w = record { leads = leads-refl checks W s z; settled = e }
     stepped-done Garbled w = record { leads = leads-refl checks W s z; settled = e }
 
     -- a NOTICE taken is heard, and a FULL taken is held or compared

@@ -9,13 +9,12 @@ use lib.ListN.{length}
 use borrow.Author.Tests.{ltb-false}
 use Rattle.octets.specs.StringLaws.{patch-nothing}
 use Rattle.quorum.specs.Quorum.{k, size, shared}
-use Rattle.quorum.specs.QuorumLaws.{size-shared-le}
 use Rattle.refusal.specs.Refusal.{firstOf, unrefused}
 use Rattle.refusal.specs.RefusalLaws.{refused-old, refused-first}
 use Rattle.protocol.specs.Values.{isLower}
-use Rattle.protocol.specs.Layout.{evidenceLength, evidenceEntryAt, evidenceEntryLength, evidenceOutLength, signatureLength}
+use Rattle.protocol.specs.Layout.{evidenceOutLength}
 use Rattle.protocol.specs.Message.{Message, render, read, entrySeats}
-use Rattle.protocol.specs.Certificate.{Certificate, setOf, certificateIn, evidenceOf}
+use Rattle.protocol.specs.Certificate.{Certificate, setOf, certificateIn, evidenceOf, conflictOf}
 use Rattle.protocol.specs.Refusals.{Checks, Condition, shortOut, isFull, OUT, outsideConditions, makingConditions, lowerConditions}
 use Rattle.protocol.specs.Calls.{outAfter, makingBy, making, made, lowerOf, lowerCertificate}
 use Rattle.protocol.specs.declared.Written.{Written}
@@ -39,19 +38,15 @@ module _ {n round : ℕ} (bytes : List ℕ) (f : Formed n round (isFull (read n 
 
 -- ---- evidence
 
--- EVIDENCE has an entry for each shared seat, so at most k
-pub evidence-room : (n a b : ℕ) {L : ℕ} → size a ≡ k n → evidenceOutLength n ≤ L → 0 + evidenceLength (size (shared a b)) ≤ L
-unfolding evidenceOutLength evidenceLength evidenceEntryAt evidenceEntryLength signatureLength
-evidence-room n a b e h = omega (arith, size-shared-le a b)
-
 pub roomy-out : (n : ℕ) (out : List ℕ) → shortOut (evidenceOutLength n) out ≡ false → evidenceOutLength n ≤ length out
 unfolding shortOut
 roomy-out n out e = ltb-false (length out) (evidenceOutLength n) e
 
--- the EVIDENCE of equal certificates
-pub wrote-evidence : (n round : ℕ) {ca cb a b : Certificate} {out after : List ℕ} {end : ℕ} → ca ≡ a → cb ≡ b
-    → Wrote 0 (render (evidenceOf n round ca cb)) out after end → Wrote 0 (render (evidenceOf n round a b)) out after end
-wrote-evidence n round e f w = rw (← e, ← f) w
+-- the EVIDENCE of equal certificates, for the seats that they share
+pub wrote-evidence : (n round mask : ℕ) {ca cb a b : Certificate} {out after : List ℕ} {end : ℕ} → mask ≡ shared (ca .seats) (cb .seats) → ca ≡ a → cb ≡ b
+    → Wrote 0 (render (evidenceOf n round mask ca cb)) out after end → Wrote 0 (render (conflictOf n round a b)) out after end
+unfolding conflictOf
+wrote-evidence n round mask is e f w = rw (← e, ← f, ← is) w
 
 abbrev answered : ℕ → ℕ → Written
 answered number written = record { number = number; written = written }
@@ -62,7 +57,7 @@ module _ (c : Call) (a b out : List ℕ) where
   rest = OUT (evidenceOutLength (c .n)) out ∷ two c a b
 
   abbrev conflict : Message
-  conflict = evidenceOf (c .n) (c .round) (certificateIn (read (c .n) a)) (certificateIn (read (c .n) b))
+  conflict = conflictOf (c .n) (c .round) (certificateIn (read (c .n) a)) (certificateIn (read (c .n) b))
 
   -- answer of the call, and `out` after it
   abbrev Makes : ℕ → ℕ → List ℕ → Type 0

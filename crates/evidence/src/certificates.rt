@@ -6,7 +6,7 @@ ghost use Rattle.quorum.specs.Quorum.{mostSeats};
 ghost use Rattle.protocol.specs.Values.{isLower};
 ghost use Rattle.protocol.specs.Layout.{evidenceOutLength};
 ghost use Rattle.protocol.specs.Message.{read, render};
-ghost use Rattle.protocol.specs.Certificate.{certificateIn, evidenceOf};
+ghost use Rattle.protocol.specs.Certificate.{certificateIn, conflictOf};
 ghost use Rattle.wire_write.specs.Writing.{Wrote};
 ghost use Rattle.validate.specs.Entries.{FullTaken};
 ghost use Rattle.validate.specs.Calls.{Conflict};
@@ -28,7 +28,7 @@ pub(crate) fn first_is_lower(n: u32, first: &[u8], second: &[u8]) -> bool
 // Writes the EVIDENCE of two certificates that conflict to the start of `out`, and answers its length.
 pub(crate) fn write_conflict(n: u32, round: u32, first: &[u8], second: &[u8], out: &mut [u8]) -> u32
     requires { ⌜ (1 ≤ n) × (n ≤ mostSeats) × Conflict n round (read n (now first)) (read n (now second)) × (evidenceOutLength n ≤ length (now out)) ⌝ }
-    ensures { λ r. ⌜ Wrote 0 (render (evidenceOf n round (certificateIn (read n (now (first .entry)))) (certificateIn (read n (now (second .entry)))))) (now (out .entry)) (now (out .exit)) r ⌝ }
+    ensures { λ r. ⌜ Wrote 0 (render (conflictOf n round (certificateIn (read n (now (first .entry)))) (certificateIn (read n (now (second .entry)))))) (now (out .entry)) (now (out .exit)) r ⌝ }
 {
     let va = certificate_value(n, first);
     let vb = certificate_value(n, second);
@@ -40,6 +40,7 @@ pub(crate) fn write_conflict(n: u32, round: u32, first: &[u8], second: &[u8], ou
         place: Place::Entries,
         seats: wire::read::entry_set(n, Kind::Full, second),
     };
-    let end = wire_write::write_evidence(out, 0, n, round, &va, a, first, &vb, b, second);
+    let mask = quorum::shared(a.seats, b.seats);
+    let end = wire_write::write_evidence(out, 0, n, round, mask, &va, a, first, &vb, b, second);
     end as u32
 }

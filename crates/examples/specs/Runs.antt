@@ -8,7 +8,7 @@ use lib.ListN.{length, replicate}
 use Rattle.quorum.specs.Quorum.{seats}
 use Rattle.octets.specs.Strings.{same}
 use Rattle.protocol.specs.Layout.{signatureLength, storeLength, outLength, evidenceOutLength}
-use Rattle.protocol.specs.Message.{Entry, Pair, Message, Submit, Notice, Full, Evidence, render, renderAll}
+use Rattle.protocol.specs.Message.{Entry, Pair, PairValues, Message, Submit, Notice, Full, Evidence, render, renderAll}
 use Rattle.protocol.specs.declared.Record.{Record}
 use Rattle.protocol.specs.Record.{withOwn, withConfirmed, withNotices, withFirst, withSent, withGuilty, fresh, zeros, impossible}
 use Rattle.protocol.specs.Step.{submitted}
@@ -114,8 +114,11 @@ noticeFirst-run = tt
 abbrev pairBy : ℕ → ℕ → ℕ → Pair
 pairBy low high seat = record { seat = seat; lowerValue = layout low; higherValue = layout high; lower = sign seat low; higher = sign seat high }
 
+abbrev values : ℕ → ℕ → PairValues
+values low high = record { lower = layout low; higher = layout high }
+
 abbrev evidenceBoth : Message
-evidenceBoth = Evidence 5 (layout 7) (layout 9) (pairBy 7 9 1 ∷ pairBy 7 9 2 ∷ [])
+evidenceBoth = Evidence 5 (values 7 9) (pairBy 7 9 1 ∷ pairBy 7 9 2 ∷ [])
 
 -- the unit holds a certificate of the layout 9 and confirms the layout 7; a third certificate is answered by nothing
 conflict : Bool
@@ -151,7 +154,7 @@ heardConflicts =
     let silent = hears (hears (opened 4) (fullBy 7 0 1 2)) (fullBy 9 1 2 3) in
     writes higher (fullBy 7 0 1 2 ∷ evidenceBoth ∷ [])
     && eqb (higher .unit .guilty) 6
-    && writes lower (fullBy 7 0 1 2 ∷ Evidence 5 (layout 3) (layout 7) (pairBy 3 7 1 ∷ pairBy 3 7 2 ∷ []) ∷ [])
+    && writes lower (fullBy 7 0 1 2 ∷ Evidence 5 (values 3 7) (pairBy 3 7 1 ∷ pairBy 3 7 2 ∷ []) ∷ [])
     && writes held []
     && same (held .store) (a .store)
     && eqb (held .unit .first .seats) 7
@@ -336,20 +339,20 @@ evidenceRefused =
     let seven = render (fullBy 7 0 1 2) in
     let nine = render (fullBy 9 1 2 3) in
     let bad = render (Full 5 1 (layout 9) (entryBy 9 1 ∷ entryBy 9 2 ∷ entryBy 7 3 ∷ [])) in
-    let twice : Pair → Message = λ p. Evidence 5 (layout 7) (layout 9) (p ∷ p ∷ []) in
+    let twice : Pair → Message = λ p. Evidence 5 (values 7 9) (p ∷ p ∷ []) in
     let made : List ℕ → List ℕ → ℕ = λ a b. making toy 4 5 (keys 4) a b (room (evidenceOutLength 4)) .refusal in
     eqb (evidenceCheck toy 33 1024 [] [] .number) 1
     && eqb (evidenceCheck toy 4 1024 [] [] .number) 3
     && eqb (evidenceCheck toy 4 5 (keys 3) [] .number) 5
     && eqb (evidenceCheck toy 4 5 (keys 4) [] .number) 9
-    && eqb (check (Evidence 5 (layout 7) (layout 9) [])) 9
+    && eqb (check (Evidence 5 (values 7 9) [])) 9
     && eqb (check (fullBy 7 0 1 2)) 9
-    && eqb (check (Evidence 6 (layout 7) (layout 9) (pairBy 7 9 1 ∷ []))) 10
-    && eqb (check (Evidence 5 (layout 7) (layout 9) (pairBy 7 9 4 ∷ []))) 11
+    && eqb (check (Evidence 6 (values 7 9) (pairBy 7 9 1 ∷ []))) 10
+    && eqb (check (Evidence 5 (values 7 9) (pairBy 7 9 4 ∷ []))) 11
     && eqb (check (twice (pairBy 7 9 1))) 12
-    && eqb (check (Evidence 5 (layout 9) (layout 7) (pairBy 7 9 1 ∷ []))) 14
-    && eqb (check (Evidence 5 (layout 9) (layout 7) (pairBy 9 7 1 ∷ []))) 15
-    && eqb (check (Evidence 5 (layout 7) (layout 7) (pairBy 7 7 1 ∷ []))) 15
+    && eqb (check (Evidence 5 (values 9 7) (pairBy 7 9 1 ∷ []))) 14
+    && eqb (check (Evidence 5 (values 9 7) (pairBy 9 7 1 ∷ []))) 15
+    && eqb (check (Evidence 5 (values 7 7) (pairBy 7 7 1 ∷ []))) 15
     && eqb (making toy 4 5 (keys 4) [] [] (room (evidenceOutLength 4 - 1)) .refusal) 7
     && eqb (made bad []) 14
     && eqb (made seven []) 9

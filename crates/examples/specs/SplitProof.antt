@@ -19,7 +19,7 @@ use Rattle.protocol.specs.Entries.{formSeats}
 use Rattle.protocol.specs.Message.{Entry, Message, Submit, Notice, Full, Evidence, Garbled, Signed, render, renderAll, read, roundOf, entrySeats, seatsOf, signed, WellFormed, fullForm}
 use Rattle.protocol.specs.MessageLaws.{read-render}
 use Rattle.protocol.specs.CertificateLaws.{in-set, set-seats}
-use Rattle.protocol.specs.Certificate.{setOf, ownCertificate, certificateOf, certificateIn, entryOf, entriesOf, fullOf}
+use Rattle.protocol.specs.Certificate.{setOf, ownCertificate, certificateOf, certificateIn, entryOf, entriesOf, fullOf, conflictOf}
 use Rattle.protocol.specs.Refusals.{isForStep, isFull, isEvidence, rising, early, stepConditions}
 use Rattle.protocol.specs.Step.{State, write, collect, isWanted, hearSubmit, reply, isComplete, confirm, hearOwn, confirmIfComplete, submitted, stepped}
 use Rattle.protocol.specs.Calls.{Result, resultBy, start, submit, step, makingBy, making}
@@ -87,7 +87,7 @@ unfolding isNotice
 notice-cases Q (Submit ρ seat value signature) e f = absurd (false≢true e)
 notice-cases Q (Notice ρ seat value) e f = f ρ seat value
 notice-cases Q (Full ρ sender value es) e f = absurd (false≢true e)
-notice-cases Q (Evidence ρ lower higher ps) e f = absurd (false≢true e)
+notice-cases Q (Evidence ρ values ps) e f = absurd (false≢true e)
 notice-cases Q Garbled e f = absurd (false≢true e)
 
 -- after the own submit nothing is early
@@ -96,7 +96,7 @@ unfolding early
 said-timely r (Submit ρ seat value signature) e = rw e
 said-timely r (Notice ρ seat value) e = refl
 said-timely r (Full ρ sender value es) e = refl
-said-timely r (Evidence ρ lower higher ps) e = refl
+said-timely r (Evidence ρ values ps) e = refl
 said-timely r Garbled e = refl
 
 -- own value and collected seats stay at confirming
@@ -661,7 +661,7 @@ module _ (S : Setting) {I : Type 0} (P : Plan I) (z : Splits S P) where
 
   -- the bytes made are one EVIDENCE
   made : (i : I) → MakesEvidence S (boat S P i) (makingOf S (inHand S P))
-  unfolding making makingBy unrefused renderAll isEvidence
+  unfolding making makingBy unrefused renderAll isEvidence conflictOf
   made i =
       let h = inHand S P in
       let zero : firstOf (conditions S h) ≡ 0 = making-passes in
@@ -669,16 +669,16 @@ module _ (S : Setting) {I : Type 0} (P : Plan I) (z : Splits S P) where
       let ca = certifies-in checks Any n round (read n (h .a)) (t .firstFull) (t .first) (read-sized n (h .a)) (λ s d. tt) in
       let cb = certifies-in checks Any n round (read n (h .b)) (t .secondFull) (t .second) (read-sized n (h .b)) (λ s d. tt) in
       let bytes : makingOf S h ≡ render (evidenceFrom S h) = making-bytes S h ∙ rw zero in
-      evidence-elim checks Any (λ m. makingOf S h ≡ render m → MakesEvidence S (boat S P i) (makingOf S h)) n round (certificateIn (read n (h .a))) (certificateIn (read n (h .b))) (z .fits .some) ca cb (t .conflict)
-      (λ lower higher ps y is.
-      let m = Evidence round lower higher ps in
+      evidence-elim checks Any n (certificateIn (read n (h .a))) (certificateIn (read n (h .b))) (z .fits .some) ca cb (λ m. makingOf S h ≡ render m → MakesEvidence S (boat S P i) (makingOf S h)) round (t .conflict)
+      (λ values ps y is.
+      let m = Evidence round values ps in
       record {
         hand = h;
         has = List·Memᴰ·head refl;
         message = m;
         kind = refl;
         bytes = is;
-        stands = (m ∷ [], (each-one (WellFormed n) m (pairs-formed checks Any n round lower higher ps (z .early) y), is ∙ sym (append-nil (render m))), List·Memᴰ·head refl);
+        stands = (m ∷ [], (each-one (WellFormed n) m (pairs-formed checks Any n round values ps (z .early) y), is ∙ sym (append-nil (render m))), List·Memᴰ·head refl);
       })
       bytes
 

@@ -15,7 +15,7 @@ unfoldable pub isGarbled : Message → Bool
 isGarbled (Submit round seat value signature) = false
 isGarbled (Notice round seat value) = false
 isGarbled (Full round sender value entries) = false
-isGarbled (Evidence round lower higher entries) = false
+isGarbled (Evidence round values entries) = false
 isGarbled Garbled = true
 
 -- the bytes of the first message, by its command and count

@@ -30,7 +30,7 @@ unfolding isGarbled
 well-formed-said n (Submit round seat value signature) w = refl
 well-formed-said n (Notice round seat value) w = refl
 well-formed-said n (Full round sender value entries) w = refl
-well-formed-said n (Evidence round lower higher entries) w = refl
+well-formed-said n (Evidence round values entries) w = refl
 well-formed-said n Garbled w = absurd w
 
 pub first-length : (n : ℕ) (m : Message) (rest : List ℕ) → wrongSize n ≡ false → WellFormed n m → messageLength n (render m ++ rest) ≡ length (render m)
@@ -54,7 +54,7 @@ unfolding kindOf isGarbled
 kind-garbled (Submit round seat value signature) = refl
 kind-garbled (Notice round seat value) = refl
 kind-garbled (Full round sender value entries) = refl
-kind-garbled (Evidence round lower higher entries) = refl
+kind-garbled (Evidence round values entries) = refl
 kind-garbled Garbled = refl
 
 garbled-told : (c : Kind) (m : Message) → commandOf c ≡ command m → noMessage c ≡ isGarbled m

@@ -161,7 +161,7 @@ module _ (S : Setting) (seat : ℕ) (some-seats : 1 ≤ S .n) (inside : seat < S
     step-good (Full ρ sender v es) m t l came z =
         let c : FullCertificate = record { value = v; entries = es } in
         react-good checks n seat Happened some-seats inside (FullDelivered c) m (came (FullDelivered c) refl) (l .0, λ e d. t .inside (e .seat) (List·Memᴰ·tail (Memᴰ·map (λ (x : Entry). x .seat) d))) z
-    step-good (Evidence ρ lower higher ps) m t l came z = still-good m z
+    step-good (Evidence ρ values ps) m t l came z = still-good m z
     step-good Garbled m t l came z = still-good m z
 
     react-is : (e : Event) (m : Machine) → Done (react checks n seat e m) → Done (reactTo checks n seat (some e) m)

@@ -15,7 +15,7 @@ use Rattle.quorum.specs.Quorum.{k}
 use Rattle.refusal.specs.RefusalLaws.{both-true}
 use Rattle.protocol.specs.Layout.{valueLength}
 use Rattle.protocol.specs.Values.{unset}
-use Rattle.protocol.specs.Message.{Entry, Pair, Full, Evidence}
+use Rattle.protocol.specs.Message.{Entry, Pair, PairValues, Full, Evidence}
 use Rattle.protocol.specs.Refusals.{Checks, every, isFull, isEvidence}
 use Rattle.round.specs.Round.{Each}
 use Rattle.reading.specs.Lists.{cond-elim, each-nil, each-one, each-append}
@@ -251,25 +251,24 @@ module _ (seat round : ℕ) (Happened : Event → Type 0) where
   full-from ρ sender value es (Detect c d) (inl s) r = absurd (true≢false (ap isFull (s .2)))
   full-from ρ sender value es (Detect c d) (inr s) r = absurd (true≢false (ap isFull (s .2)))
 
-  abbrev pub BothCame : List ℕ → List ℕ → Pair → Type 0
-  BothCame lower higher p = Came seat Happened (p .seat) lower (p .lower) × Came seat Happened (p .seat) higher (p .higher)
+  abbrev pub BothCame : PairValues → Pair → Type 0
+  BothCame values p = Came seat Happened (p .seat) (values .lower) (p .lower) × Came seat Happened (p .seat) (values .higher) (p .higher)
 
-  conflict-from : (ρ : ℕ) (lower higher : List ℕ) (ps : List Pair) (c d : FullCertificate) → SaysConflict round seat c d (Evidence ρ lower higher ps) → Obtained seat Happened c → Obtained seat Happened d
-      → Each (BothCame lower higher) ps
-  conflict-from ρ lower higher ps c d s a b p e =
+  conflict-from : (ρ : ℕ) (values : PairValues) (ps : List Pair) (c d : FullCertificate) → SaysConflict round seat c d (Evidence ρ values ps) → Obtained seat Happened c → Obtained seat Happened d
+      → Each (BothCame values) ps
+  conflict-from ρ values ps c d s a b p e =
       let is = s .2 in
-      let low : c .value ≡ lower = cc in
-      let high : d .value ≡ higher = cc in
+      let same-values : record { lower = c .value; higher = d .value } ≡ values = cc in
       let same-pairs : ps ≡ s .0 = cc in
       let of = s .3 .just p .0 (subst (λ (xs : List Pair). List·Memᴰ p xs) same-pairs e) in (
-        subst (λ (v : List ℕ). Came seat Happened (p .seat) v (p .lower)) low (entry-came c a (record { seat = p .seat; signature = p .lower }) (of .0)),
-        subst (λ (v : List ℕ). Came seat Happened (p .seat) v (p .higher)) high (entry-came d b (record { seat = p .seat; signature = p .higher }) (of .1)),
+        subst (λ (v : PairValues). Came seat Happened (p .seat) (v .lower) (p .lower)) same-values (entry-came c a (record { seat = p .seat; signature = p .lower }) (of .0)),
+        subst (λ (v : PairValues). Came seat Happened (p .seat) (v .higher) (p .higher)) same-values (entry-came d b (record { seat = p .seat; signature = p .higher }) (of .1)),
       )
 
-  pub evidence-from : (ρ : ℕ) (lower higher : List ℕ) (ps : List Pair) (a : Action) → Says round seat a (Evidence ρ lower higher ps) → Received seat Happened a → Each (BothCame lower higher) ps
+  pub evidence-from : (ρ : ℕ) (values : PairValues) (ps : List Pair) (a : Action) → Says round seat a (Evidence ρ values ps) → Received seat Happened a → Each (BothCame values) ps
   unfolding isEvidence
-  evidence-from ρ lower higher ps (BroadcastSubmit v g) s r = absurd (true≢false (ap isEvidence s))
-  evidence-from ρ lower higher ps (ConfirmAndNotice v) s r = absurd (true≢false (ap isEvidence s))
-  evidence-from ρ lower higher ps (BroadcastFull c) s r = absurd (true≢false (ap isEvidence (s .1)))
-  evidence-from ρ lower higher ps (Detect c d) (inl s) r = conflict-from ρ lower higher ps c d s (r .0) (r .1)
-  evidence-from ρ lower higher ps (Detect c d) (inr s) r = conflict-from ρ lower higher ps d c s (r .1) (r .0)
+  evidence-from ρ values ps (BroadcastSubmit v g) s r = absurd (true≢false (ap isEvidence s))
+  evidence-from ρ values ps (ConfirmAndNotice v) s r = absurd (true≢false (ap isEvidence s))
+  evidence-from ρ values ps (BroadcastFull c) s r = absurd (true≢false (ap isEvidence (s .1)))
+  evidence-from ρ values ps (Detect c d) (inl s) r = conflict-from ρ values ps c d s (r .0) (r .1)
+  evidence-from ρ values ps (Detect c d) (inr s) r = conflict-from ρ values ps d c s (r .1) (r .0)

@@ -330,5 +330,5 @@ module _ (n seat round : ℕ) where
   step-is checks keys m store (Submit ρ s v g) some-seats room z b = submit-heard checks some-seats (still m) store room z s v g (b .0) (b .1) (b .2 .sized) (b .2 .checked)
   step-is checks keys m store (Notice ρ s v) some-seats room z b = notice-is checks some-seats (still m) store room z v
   step-is checks keys m store (Full ρ sender v es) some-seats room z b = full-is checks some-seats (still m) store room z ρ sender v es b
-  step-is checks keys m store (Evidence ρ lower higher ps) some-seats room z b = record { store = store; is = refl; mirrors = z }
+  step-is checks keys m store (Evidence ρ values ps) some-seats room z b = record { store = store; is = refl; mirrors = z }
   step-is checks keys m store Garbled some-seats room z b = record { store = store; is = refl; mirrors = z }

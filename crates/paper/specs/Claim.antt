@@ -7,7 +7,7 @@ use mathlib.Core.List.{List, List·Memᴰ}
 use mathlib.Core.Logic.{_↔_}
 use mathlib.Core.Option.{some}
 use Rattle.refusal.specs.Refusal.{unrefused}
-use Rattle.protocol.specs.Message.{Entry, Pair, Message, Full, Evidence}
+use Rattle.protocol.specs.Message.{Entry, Pair, PairValues, Message, Full, Evidence}
 use Rattle.protocol.specs.Calls.{opening, openedBy}
 use Rattle.round.specs.Round.{Setting, IsOpened, Each, Honest, listOf, Writes}
 use Rattle.claims.specs.Sound.{Any}
@@ -73,6 +73,6 @@ module _ (S : Setting) (u : Honest) (opened : IsOpened S u) where
   full-received ρ sender value es w = let a = writes-what-the-paper-does (Full ρ sender value es) .0 w in full-from (u .seat) round Took ρ sender value es (a .0) (a .2) (sends-what-it-received (a .0) (a .1))
 
   -- In the bytes: the two signatures of every pair in an EVIDENCE came for their seat, over the lower value and over the higher.
-  pub evidence-received : (ρ : ℕ) (lower higher : List ℕ) (ps : List Pair) → Writes S u (Evidence ρ lower higher ps)
-      → Each (λ (p : Pair). Came (u .seat) Took (p .seat) lower (p .lower) × Came (u .seat) Took (p .seat) higher (p .higher)) ps
-  evidence-received ρ lower higher ps w = let a = writes-what-the-paper-does (Evidence ρ lower higher ps) .0 w in evidence-from (u .seat) round Took ρ lower higher ps (a .0) (a .2) (sends-what-it-received (a .0) (a .1))
+  pub evidence-received : (ρ : ℕ) (values : PairValues) (ps : List Pair) → Writes S u (Evidence ρ values ps)
+      → Each (λ (p : Pair). Came (u .seat) Took (p .seat) (values .lower) (p .lower) × Came (u .seat) Took (p .seat) (values .higher) (p .higher)) ps
+  evidence-received ρ values ps w = let a = writes-what-the-paper-does (Evidence ρ values ps) .0 w in evidence-from (u .seat) round Took ρ values ps (a .0) (a .2) (sends-what-it-received (a .0) (a .1))

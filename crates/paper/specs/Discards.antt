@@ -117,7 +117,7 @@ module _ (checks : Checks) (n round : ℕ) (keys : List ℕ) (seat : ℕ) (m : M
       ∙ ap (λ (b : Bool). b && not (isFrom s (m .collected))) (and-false (checks s v g)))
   early-discarded (Notice ρ s v) e = absurd (false≢true e)
   early-discarded (Full ρ sender v es) e = absurd (false≢true e)
-  early-discarded (Evidence ρ lower higher ps) e = absurd (false≢true e)
+  early-discarded (Evidence ρ values ps) e = absurd (false≢true e)
   early-discarded Garbled e = absurd (false≢true e)
 
   -- "Any SUBMIT message that is not properly signed is discarded.", and a set with such a message is no full certificate
@@ -132,5 +132,5 @@ module _ (checks : Checks) (n round : ℕ) (keys : List ℕ) (seat : ℕ) (m : M
       sym (signed-every checks v es) ∙ not-true (every (λ (s : Signed). checks (s .seat) (s .value) (s .signature)) (flatMap (signedEntry v) es)) e in
       not-obtained (record { value = v; entries = es })
       (ap (λ (b : Bool). leb (k n) (length es) && distinct es && b) unsigned ∙ and-false (leb (k n) (length es) && distinct es))
-  unsigned-discarded (Evidence ρ lower higher ps) e = refl
+  unsigned-discarded (Evidence ρ values ps) e = refl
   unsigned-discarded Garbled e = refl

@@ -117,20 +117,23 @@ module _ (n round : ℕ) where
       (map-same (λ (s : ℕ). record { seat = s; signature = f s }) (λ (s : ℕ). record { seat = s; signature = g s }) (seats n m)
       (λ s d. ap (λ (x : List ℕ). record { seat = s; signature = x }) (h s (mem-seats n s m .0 d .1))))
 
-  module _ (v w : List ℕ) (a b : ℕ) (f f′ g g′ : ℕ → List ℕ) (p : (s : ℕ) → In s a → f s ≡ f′ s) (q : (s : ℕ) → In s b → g s ≡ g′ s) where
-    pairs-same : pairsOf n (shared a b) (record { value = v; seats = a; signature = f }) (record { value = w; seats = b; signature = g }) ≡ pairsOf n (shared a b) (record { value = v; seats = a; signature = f′ }) (record { value = w; seats = b; signature = g′ })
+  module _ (mask : ℕ) (v w : List ℕ) (a b : ℕ) (f f′ g g′ : ℕ → List ℕ) (p : (s : ℕ) → In s mask → f s ≡ f′ s) (q : (s : ℕ) → In s mask → g s ≡ g′ s) where
+    pairs-same : pairsOf n mask (record { value = v; seats = a; signature = f }) (record { value = w; seats = b; signature = g }) ≡ pairsOf n mask (record { value = v; seats = a; signature = f′ }) (record { value = w; seats = b; signature = g′ })
     unfolding pairsOf
     pairs-same =
-        map-same (pairOf (record { value = v; seats = a; signature = f }) (record { value = w; seats = b; signature = g })) (pairOf (record { value = v; seats = a; signature = f′ }) (record { value = w; seats = b; signature = g′ })) (seats n (shared a b))
+        map-same (pairOf (record { value = v; seats = a; signature = f }) (record { value = w; seats = b; signature = g })) (pairOf (record { value = v; seats = a; signature = f′ }) (record { value = w; seats = b; signature = g′ })) (seats n mask)
         (λ s d.
-        let i = in-shared s a b .0 (mem-seats n s (shared a b) .0 d .1) in
-        ap₂ (λ (x y : List ℕ). record { seat = s; lowerValue = v; higherValue = w; lower = x; higher = y }) (p s (i .0)) (q s (i .1)))
+        let i = mem-seats n s mask .0 d .1 in
+        ap₂ (λ (x y : List ℕ). record { seat = s; lowerValue = v; higherValue = w; lower = x; higher = y }) (p s i) (q s i))
 
   pub evidence-same : (v w : List ℕ) (a b : ℕ) (f f′ g g′ : ℕ → List ℕ) → ((s : ℕ) → In s a → f s ≡ f′ s) → ((s : ℕ) → In s b → g s ≡ g′ s)
-      → evidenceOf n round (record { value = v; seats = a; signature = f }) (record { value = w; seats = b; signature = g }) ≡ evidenceOf n round (record { value = v; seats = a; signature = f′ }) (record { value = w; seats = b; signature = g′ })
+      → evidenceOf n round (shared a b) (record { value = v; seats = a; signature = f }) (record { value = w; seats = b; signature = g }) ≡ evidenceOf n round (shared a b) (record { value = v; seats = a; signature = f′ }) (record { value = w; seats = b; signature = g′ })
   unfolding evidenceOf orderedEvidence
   evidence-same v w a b f f′ g g′ p q =
-      ap₂ (cond (isLower v w)) (ap (Evidence round v w) (pairs-same v w a b f f′ g g′ p q)) (ap (Evidence round w v) (pairs-same w v b a g g′ f f′ q p))
+      let x : (s : ℕ) → In s (shared a b) → f s ≡ f′ s = λ s i. p s (in-shared s a b .0 i .0) in
+      let y : (s : ℕ) → In s (shared a b) → g s ≡ g′ s = λ s i. q s (in-shared s a b .0 i .1) in
+      ap₂ (cond (isLower v w)) (ap (Evidence round (record { lower = v; higher = w })) (pairs-same (shared a b) v w a b f f′ g g′ x y))
+      (ap (Evidence round (record { lower = w; higher = v })) (pairs-same (shared a b) w v b a g g′ f f′ y x))
 
 -- ---- different seats
 

@@ -12,7 +12,7 @@ use Rattle.quorum.specs.Quorum.{t0, k, bit, union, shared, with, seats}
 use Rattle.protocol.specs.Values.{isLower}
 use Rattle.protocol.specs.Entries.{formSeats}
 use Rattle.protocol.specs.Message.{Entry, Pair, Full, Evidence, fullForm}
-use Rattle.protocol.specs.Certificate.{setOf, signatureOf, certificateOf, entriesOf, fullOf, pairsOf, orderedEvidence, evidenceOf}
+use Rattle.protocol.specs.Certificate.{setOf, signatureOf, certificateOf, entriesOf, fullOf, pairsOf, orderedEvidence, evidenceOf, conflictOf}
 use Rattle.protocol.specs.Refusals.{every}
 use Rattle.round.specs.Round.{Each}
 use Rattle.reading.specs.Lists.{each-one, each-cons}
@@ -131,7 +131,7 @@ formed b s t u h i j d = record { sized = refl; below = below b s t u h i j; apa
 
 -- a name that unfolds every definition of a message sent
 unfoldedSent : Bool
-unfolding bit union shared with seats isLower setOf signatureOf certificateOf formSeats fullForm entriesOf fullOf pairsOf orderedEvidence evidenceOf distinct isFrom spoken
+unfolding bit union shared with seats isLower setOf signatureOf certificateOf formSeats fullForm entriesOf fullOf pairsOf orderedEvidence evidenceOf conflictOf distinct isFrom spoken
 unfoldedSent = true
 
 -- a certificate whose entries came in another order is sent with seats rising
@@ -144,7 +144,7 @@ abbrev both : ℕ → Pair
 both seat = record { seat = seat; lowerValue = long 7; higherValue = long 9; lower = signedBy 7 seat .signature; higher = signedBy 9 seat .signature }
 
 -- the evidence of two certificates has the seats of both, with the signature over the lower value first
-evidence-of-both : Says 5 0 (Detect (three 9 1 2 3) (three 7 0 3 2)) (Evidence 5 (long 7) (long 9) (both 2 ∷ both 3 ∷ []))
+evidence-of-both : Says 5 0 (Detect (three 9 1 2 3) (three 7 0 3 2)) (Evidence 5 (record { lower = long 7; higher = long 9 }) (both 2 ∷ both 3 ∷ []))
 unfolding unfoldedSent
 evidence-of-both =
     spoken-says 4 5 0 (Detect (three 9 1 2 3) (three 7 0 3 2)) (

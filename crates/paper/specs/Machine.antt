@@ -276,7 +276,7 @@ module _ (round seat : ℕ) where
   -- EVIDENCE, with the lower value first: every such pair of the two certificates
   abbrev pub SaysConflict : FullCertificate → FullCertificate → Message → Type 0
   SaysConflict low high m =
-      (ps : List Pair) × (isLower (low .value) (high .value) ≡ true) × (m ≡ Evidence round (low .value) (high .value) ps)
+      (ps : List Pair) × (isLower (low .value) (high .value) ≡ true) × (m ≡ Evidence round (record { lower = low .value; higher = high .value }) ps)
       × InOrder (λ (p : Pair). p .seat) (PairOf low high) ps
 
   -- the message that an action is sent as. A FULL has the entries of the certificate, each with its signature there.

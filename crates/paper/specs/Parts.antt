@@ -21,10 +21,10 @@ use Rattle.protocol.specs.Layout.{signatureLength, storeLength, collectedBank, 
 use Rattle.protocol.specs.LayoutLaws.{collected-bank, first-bank}
 use Rattle.protocol.specs.Entries.{formSeats}
 use Rattle.protocol.specs.Message.{Entry, Message, fullForm}
-use Rattle.protocol.specs.Certificate.{Certificate, slot, fillEach, ownCertificate, firstCertificate, signatureOf, certificateOf}
+use Rattle.protocol.specs.Certificate.{Certificate, slot, fillEach, ownCertificate, firstCertificate, signatureOf, certificateOf, conflictOf}
 use Rattle.protocol.specs.Record.{withNotices, noneHeard, oneHeard, holds}
 use Rattle.protocol.specs.Refusals.{Checks}
-use Rattle.protocol.specs.Step.{State, withUnit, write, noticesWith, hear, otherHeard, owesFull, sendFull, reply, hold, blame, blames, holdOrBlame, hearCertificate, isComplete, confirm, hearOwn, confirmIfComplete}
+use Rattle.protocol.specs.Step.{State, withUnit, write, noticesWith, hear, otherHeard, owesFull, sendFull, reply, hold, found, blame, blames, holdOrBlame, hearCertificate, isComplete, confirm, hearOwn, confirmIfComplete}
 use Rattle.protocol.specs.declared.Notices.{Notices}
 use Rattle.protocol.specs.declared.Record.{Record}
 use Rattle.round.specs.Round.{Each}
@@ -221,7 +221,7 @@ module _ (n seat round : ℕ) where
 
           blame-is : ((s : ℕ) → In s (seatsIn (f .entries)) → slot n firstBank store s ≡ signatureOf (f .entries) s)
               → blame c (at (with-certificates (f ∷ rest) none) store) ≡ at (act (Detect f q) (with-certificates (f ∷ (rest ++ q ∷ [])) (some (f, q)))) store
-          unfolding blame firstCertificate recordOf heldFirst guiltyOf spoken certificateOf formSeats fullForm seatsIn
+          unfolding blame found firstCertificate recordOf heldFirst guiltyOf spoken conflictOf certificateOf formSeats fullForm seatsIn
           blame-is first =
               ap (λ (m : Message). write m (at (with-certificates (f ∷ (rest ++ q ∷ [])) (some (f, q))) store))
               (evidence-same n round (f .value) (q .value) (seatsIn (f .entries)) (seatsIn (q .entries)) (slot n firstBank store) (signatureOf (f .entries)) signature (signatureOf (q .entries)) first agree)

@@ -8,12 +8,12 @@ use mathlib.Core.Logic.{inl, inr, ⊎-elim, _≢_, _↔_}
 use native.Mathlib.Omega.{arith}
 use lib.ListN.{length}
 use Rattle.quorum.specs.Quorum.{In, shared, seats}
-use Rattle.quorum.specs.QuorumLaws.{mem-seats, in-shared}
+use Rattle.quorum.specs.QuorumLaws.{mem-seats, in-shared, shared-comm}
 use Rattle.protocol.specs.Layout.{valueLength}
 use Rattle.protocol.specs.Values.{isLower}
 use Rattle.protocol.specs.Entries.{formSeats}
 use Rattle.protocol.specs.Message.{Entry, Pair, Message, Submit, Notice, Full, Evidence, fullForm}
-use Rattle.protocol.specs.Certificate.{Certificate, certificateOf, entryOf, entriesOf, fullOf, pairOf, pairsOf, orderedEvidence, evidenceOf}
+use Rattle.protocol.specs.Certificate.{Certificate, certificateOf, entryOf, entriesOf, fullOf, pairOf, pairsOf, orderedEvidence, evidenceOf, conflictOf}
 use Rattle.protocol.specs.ValuesLaws.{lower-other}
 use Rattle.protocol.specs.CertificateLaws.{in-set}
 use Rattle.protocol.specs.Refusals.{rising}
@@ -29,7 +29,7 @@ unfoldable pub spoken : ℕ → ℕ → ℕ → Action → Message
 spoken n round seat (BroadcastSubmit v signature) = Submit round seat v signature
 spoken n round seat (ConfirmAndNotice v) = Notice round seat v
 spoken n round seat (BroadcastFull c) = fullOf n round seat (certificateOf (c .value) (c .entries))
-spoken n round seat (Detect c d) = evidenceOf n round (certificateOf (c .value) (c .entries)) (certificateOf (d .value) (d .entries))
+spoken n round seat (Detect c d) = conflictOf n round (certificateOf (c .value) (c .entries)) (certificateOf (d .value) (d .entries))
 
 -- a certificate that can be sent: a value of its length, and entries of different seats below n
 pub record Formed (n : ℕ) (c : FullCertificate) : Type 0 where
@@ -101,7 +101,7 @@ module _ (n : ℕ) where
 -- ---- messages that meet `Says`
 
 module _ (n round seat : ℕ) where
-  conflict-says : (c d : FullCertificate) → Formed n c → Formed n d → isLower (c .value) (d .value) ≡ true → SaysConflict round seat c d (orderedEvidence n round (certificate c) (certificate d))
+  conflict-says : (c d : FullCertificate) → Formed n c → Formed n d → isLower (c .value) (d .value) ≡ true → SaysConflict round seat c d (orderedEvidence n round (shared (certificate c .seats) (certificate d .seats)) (certificate c) (certificate d))
   unfolding orderedEvidence certificateOf
   conflict-says c d f g l = (pairsOf n (shared (certificate c .seats) (certificate d .seats)) (certificate c) (certificate d), l, refl, evidence-pairs n c d f g)
 
@@ -110,14 +110,14 @@ module _ (n round seat : ℕ) where
   other-lower c d f = lower-other (c .value) (d .value) (f .0 .sized ∙ sym (f .1 .sized)) (f .2)
 
   pub spoken-says : (a : Action) → FormedAction n a → Says round seat a (spoken n round seat a)
-  unfolding spoken fullOf evidenceOf certificateOf
+  unfolding spoken fullOf conflictOf evidenceOf certificateOf
   spoken-says (BroadcastSubmit v signature) f = refl
   spoken-says (ConfirmAndNotice v) f = refl
   spoken-says (BroadcastFull c) f = (entriesOf n (certificate c), refl, full-entries n c f)
   spoken-says (Detect c d) f =
-      cond-elim (Says round seat (Detect c d)) (isLower (c .value) (d .value)) (orderedEvidence n round (certificate c) (certificate d)) (orderedEvidence n round (certificate d) (certificate c))
+      cond-elim (Says round seat (Detect c d)) (isLower (c .value) (d .value)) (orderedEvidence n round (shared (certificate c .seats) (certificate d .seats)) (certificate c) (certificate d)) (orderedEvidence n round (shared (certificate c .seats) (certificate d .seats)) (certificate d) (certificate c))
       (λ l. inl (conflict-says c d (f .0) (f .1) l))
-      (λ l. inr (conflict-says d c (f .1) (f .0) (other-lower c d f ∙ ap not l)))
+      (λ l. inr (subst (λ (both : ℕ). SaysConflict round seat d c (orderedEvidence n round both (certificate d) (certificate c))) (shared-comm (certificate d .seats) (certificate c .seats)) (conflict-says d c (f .1) (f .0) (other-lower c d f ∙ ap not l))))
 
   pub each-says : (acts : List Action) → Each (FormedAction n) acts → SaysEach round seat acts (map (spoken n round seat) acts)
   each-says [] f = tt
@@ -150,7 +150,7 @@ in-order-unique {A = A} seatOf These xs ys a b = go xs ys (a .rise) (b .rise) (�
 module _ (n round seat : ℕ) where
   conflict-unique : (c d : FullCertificate) (m m′ : Message) → SaysConflict round seat c d m → SaysConflict round seat c d m′ → m ≡ m′
   conflict-unique c d m m′ a b =
-      a .2 ∙ ap (Evidence round (c .value) (d .value)) (in-order-unique (λ (p : Pair). p .seat) (PairOf c d) (a .0) (b .0) (a .3) (b .3)) ∙ sym (b .2)
+      a .2 ∙ ap (Evidence round (record { lower = c .value; higher = d .value })) (in-order-unique (λ (p : Pair). p .seat) (PairOf c d) (a .0) (b .0) (a .3) (b .3)) ∙ sym (b .2)
 
   pub says-unique : (a : Action) → FormedAction n a → (m m′ : Message) → Says round seat a m → Says round seat a m′ → m ≡ m′
   says-unique (BroadcastSubmit v signature) f m m′ p q = p ∙ sym q

@@ -9,7 +9,7 @@ use Rattle.octets.specs.Octets.{patch}
 use Rattle.refusal.specs.Refusal.{firstOf, unrefused}
 use Rattle.protocol.specs.Values.{isLower}
 use Rattle.protocol.specs.Message.{Message, read, render, renderAll, entrySeats}
-use Rattle.protocol.specs.Certificate.{certificateIn, setOf, evidenceOf}
+use Rattle.protocol.specs.Certificate.{certificateIn, setOf, conflictOf}
 use Rattle.protocol.specs.Record.{fresh, zeros}
 use Rattle.protocol.specs.Refusals.{Checks, openingConditions, submitConditions, stepConditions, evidenceConditions, makingConditions, lowerConditions}
 use Rattle.protocol.specs.Step.{State, submitted, stepped}
@@ -84,7 +84,7 @@ makingBy refusal m = record { refusal = refusal; written = unrefused refusal (re
 -- certificates, out
 unfoldable pub making : Checks → ℕ → ℕ → List ℕ → List ℕ → List ℕ → List ℕ → Making
 making checks n round keys a b out =
-    makingBy (firstOf (makingConditions checks n round keys (read n a) (read n b) out)) (evidenceOf n round (certificateIn (read n a)) (certificateIn (read n b)))
+    makingBy (firstOf (makingConditions checks n round keys (read n a) (read n b) out)) (conflictOf n round (certificateIn (read n a)) (certificateIn (read n b)))
 
 -- its answer
 unfoldable pub made : Making → Written

@@ -10,7 +10,7 @@ use Rattle.quorum.specs.Quorum.{shared, with, seats}
 use Rattle.protocol.specs.Layout.{collectedBank, firstBank, slotLength, slotAt}
 use Rattle.protocol.specs.Values.{isLower}
 use Rattle.protocol.specs.Entries.{formSeats}
-use Rattle.protocol.specs.Message.{Entry, Pair, Message, Submit, Notice, Full, Evidence, Garbled, fullForm}
+use Rattle.protocol.specs.Message.{Entry, Pair, PairValues, Message, Submit, Notice, Full, Evidence, Garbled, fullForm}
 use Rattle.protocol.specs.declared.Record.{Record}
 
 pub record Certificate : Type 0 where
@@ -61,7 +61,7 @@ unfoldable pub certificateIn : Message → Certificate
 certificateIn (Submit round seat value signature) = certificateOf [] []
 certificateIn (Notice round seat value) = certificateOf [] []
 certificateIn (Full round sender value entries) = certificateOf value entries
-certificateIn (Evidence round lower higher entries) = certificateOf [] []
+certificateIn (Evidence round values entries) = certificateOf [] []
 certificateIn Garbled = certificateOf [] []
 
 -- ---- messages from certificates: "Entry seats rise."
@@ -87,10 +87,18 @@ pairOf low high seat =
 unfoldable pub pairsOf : ℕ → ℕ → Certificate → Certificate → List Pair
 pairsOf n mask low high = map (pairOf low high) (seats n mask)
 
--- evidence from two certificates, the lower value first
-unfoldable pub orderedEvidence : ℕ → ℕ → Certificate → Certificate → Message
-orderedEvidence n round low high = Evidence round (low .value) (high .value) (pairsOf n (shared (low .seats) (high .seats)) low high)
+-- the values of evidence from two certificates, the lower value first
+abbrev pub valuesOf : Certificate → Certificate → PairValues
+valuesOf low high = record { lower = low .value; higher = high .value }
 
--- evidence from two certificates of different values, in either order
-unfoldable pub evidenceOf : ℕ → ℕ → Certificate → Certificate → Message
-evidenceOf n round c d = cond (isLower (c .value) (d .value)) (orderedEvidence n round c d) (orderedEvidence n round d c)
+-- evidence from two certificates for the seats of a set, the lower value first
+unfoldable pub orderedEvidence : ℕ → ℕ → ℕ → Certificate → Certificate → Message
+orderedEvidence n round mask low high = Evidence round (valuesOf low high) (pairsOf n mask low high)
+
+-- evidence from two certificates of different values for the seats of a set, in either order
+unfoldable pub evidenceOf : ℕ → ℕ → ℕ → Certificate → Certificate → Message
+evidenceOf n round mask c d = cond (isLower (c .value) (d .value)) (orderedEvidence n round mask c d) (orderedEvidence n round mask d c)
+
+-- evidence from two certificates of different values for all seats that they share
+unfoldable pub conflictOf : ℕ → ℕ → Certificate → Certificate → Message
+conflictOf n round c d = evidenceOf n round (shared (c .seats) (d .seats)) c d

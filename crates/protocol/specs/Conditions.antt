@@ -64,21 +64,21 @@ unfoldable pub isForStep : Message → Bool
 isForStep (Submit round seat value signature) = true
 isForStep (Notice round seat value) = true
 isForStep (Full round sender value entries) = true
-isForStep (Evidence round lower higher entries) = false
+isForStep (Evidence round values entries) = false
 isForStep Garbled = false
 
 unfoldable pub isFull : Message → Bool
 isFull (Submit round seat value signature) = false
 isFull (Notice round seat value) = false
 isFull (Full round sender value entries) = true
-isFull (Evidence round lower higher entries) = false
+isFull (Evidence round values entries) = false
 isFull Garbled = false
 
 unfoldable pub isEvidence : Message → Bool
 isEvidence (Submit round seat value signature) = false
 isEvidence (Notice round seat value) = false
 isEvidence (Full round sender value entries) = false
-isEvidence (Evidence round lower higher entries) = true
+isEvidence (Evidence round values entries) = true
 isEvidence Garbled = false
 
 unfoldable pub wrongLengths : List ℕ → List ℕ → Bool
@@ -110,7 +110,7 @@ unfoldable pub early : Record → Message → Bool
 early r (Submit round seat value signature) = not (r .own .submitted)
 early r (Notice round seat value) = false
 early r (Full round sender value entries) = false
-early r (Evidence round lower higher entries) = false
+early r (Evidence round values entries) = false
 early r Garbled = false
 
 -- 14: "one doesn't check, or its leaf isn't the round"; every signature that the call is given is checked
@@ -122,7 +122,7 @@ unfoldable pub notLowerFirst : Message → Bool
 notLowerFirst (Submit round seat value signature) = false
 notLowerFirst (Notice round seat value) = false
 notLowerFirst (Full round sender value entries) = false
-notLowerFirst (Evidence round lower higher entries) = not (isLower lower higher)
+notLowerFirst (Evidence round values entries) = not (isLower (values .lower) (values .higher))
 notLowerFirst Garbled = false
 
 unfoldable pub equalValues : Message → Message → Bool

@@ -27,6 +27,11 @@ pub record Pair : Type 0 where
   pub lower : List ℕ
   pub higher : List ℕ
 
+-- the two values that EVIDENCE has once for all its pairs
+pub record PairValues : Type 0 where
+  pub lower : List ℕ
+  pub higher : List ℕ
+
 -- "SUBMIT: round 2, seat 1, value 32, signature 1,452."
 -- "NOTICE: round 2, seat 1, value 32."
 -- "FULL: round 2, sender seat 1, value 32, count 1 (always k), then k entries"
@@ -36,7 +41,7 @@ pub data Message : Type 0 where
   Submit : (round seat : ℕ) (value signature : List ℕ) → Message
   Notice : (round seat : ℕ) (value : List ℕ) → Message
   Full : (round sender : ℕ) (value : List ℕ) (entries : List Entry) → Message
-  Evidence : (round : ℕ) (lower higher : List ℕ) (entries : List Pair) → Message
+  Evidence : (round : ℕ) (values : PairValues) (entries : List Pair) → Message
   Garbled : Message
 
 -- ---- the lists of entries
@@ -53,16 +58,20 @@ fullForm = record {
 }
 
 -- EVIDENCE's, over its two values: "0x06, seat 1, the signature over the lower value, the signature over the higher"
-unfoldable pub evidenceForm : List ℕ → List ℕ → Form Pair
-evidenceForm lower higher = record {
+unfoldable pub evidenceForm : PairValues → Form Pair
+evidenceForm values = record {
   start = evidenceStart;
   command = 0x06;
   held = signatureLength + signatureLength;
   seat = λ (p : Pair). p .seat;
   bytes = λ (p : Pair). p .lower ++ p .higher;
   make = λ (seat : ℕ) (held : List ℕ).
-      record { seat = seat; lowerValue = lower; higherValue = higher; lower = take signatureLength held; higher = drop signatureLength held };
+      record { seat = seat; lowerValue = values .lower; higherValue = values .higher; lower = take signatureLength held; higher = drop signatureLength held };
 }
+
+-- the two values have their length
+abbrev pub ValuesFormed : PairValues → Type 0
+ValuesFormed values = (length (values .lower) ≡ valueLength) × (length (values .higher) ≡ valueLength)
 
 -- ---- the bytes of a message
 
@@ -71,7 +80,7 @@ unfoldable pub render : Message → List ℕ
 render (Submit round seat value signature) = 0x01 ∷ be 2 round ++ seat ∷ [] ++ value ++ signature
 render (Notice round seat value) = 0x02 ∷ be 2 round ++ seat ∷ [] ++ value
 render (Full round sender value entries) = 0x03 ∷ be 2 round ++ sender ∷ [] ++ value ++ length entries ∷ [] ++ renderEntries fullForm entries
-render (Evidence round lower higher entries) = 0x05 ∷ be 2 round ++ lower ++ higher ++ length entries ∷ [] ++ renderEntries (evidenceForm lower higher) entries
+render (Evidence round values entries) = 0x05 ∷ be 2 round ++ values .lower ++ values .higher ++ length entries ∷ [] ++ renderEntries (evidenceForm values) entries
 render Garbled = []
 
 -- a message that can be written in a fleet of n seats: operands of their widths, and as many entries as document 01 says
@@ -79,8 +88,8 @@ abbrev pub WellFormed : ℕ → Message → Type 0
 WellFormed n (Submit round seat value signature) = (round < 65536) × (length value ≡ valueLength) × (length signature ≡ signatureLength)
 WellFormed n (Notice round seat value) = (round < 65536) × (length value ≡ valueLength)
 WellFormed n (Full round sender value es) = (round < 65536) × (length value ≡ valueLength) × (length es ≡ k n) × Laid fullForm es
-WellFormed n (Evidence round lower higher ps) =
-    (round < 65536) × (length lower ≡ valueLength) × (length higher ≡ valueLength) × (1 ≤ length ps) × (length ps ≤ n) × Laid (evidenceForm lower higher) ps
+WellFormed n (Evidence round values ps) =
+    (round < 65536) × ValuesFormed values × (1 ≤ length ps) × (length ps ≤ n) × Laid (evidenceForm values) ps
 WellFormed n Garbled = ⊥
 
 -- "Messages go to `out` one after another"
@@ -100,9 +109,15 @@ readValue at bytes = part at valueLength bytes
 unfoldable pub readSignature : ℕ → List ℕ → List ℕ
 readSignature at bytes = part at signatureLength bytes
 
--- the form of EVIDENCE's entries in these bytes, over their two values
+-- the two values in the bytes of an EVIDENCE, the form of its entries and their count
+abbrev pub readValues : List ℕ → PairValues
+readValues bytes = record { lower = readValue lowerAt bytes; higher = readValue higherAt bytes }
+
 abbrev pub formOf : List ℕ → Form Pair
-formOf bytes = evidenceForm (readValue lowerAt bytes) (readValue higherAt bytes)
+formOf bytes = evidenceForm (readValues bytes)
+
+abbrev pub countOf : List ℕ → ℕ
+countOf bytes = byteAt bytes evidenceCountAt
 
 -- the bytes are those of a command: its code, length, count and entry commands are right. A byte past the end counts
 -- as 0, which is no command and no count.
@@ -117,7 +132,7 @@ fitsFull n bytes = eqb (length bytes) (fullLength n) && eqb (byteAt bytes 0) 0x0
 
 unfoldable pub fitsEvidence : ℕ → List ℕ → Bool
 fitsEvidence n bytes =
-    let count = byteAt bytes evidenceCountAt in
+    let count = countOf bytes in
     eqb (byteAt bytes 0) 0x05
     && leb 1 count
     && leb count n
@@ -135,7 +150,7 @@ readFull n bytes = Full (readRound bytes) (byteAt bytes seatAt) (readValue value
 
 unfoldable pub readEvidence : List ℕ → Message
 readEvidence bytes =
-    Evidence (readRound bytes) (readValue lowerAt bytes) (readValue higherAt bytes) (readEntries (formOf bytes) (byteAt bytes evidenceCountAt) bytes)
+    Evidence (readRound bytes) (readValues bytes) (readEntries (formOf bytes) (countOf bytes) bytes)
 
 -- the message in these bytes, in a fleet of n seats
 unfoldable pub read : ℕ → List ℕ → Message
@@ -152,7 +167,7 @@ unfoldable pub roundOf : Message → ℕ
 roundOf (Submit round seat value signature) = round
 roundOf (Notice round seat value) = round
 roundOf (Full round sender value entries) = round
-roundOf (Evidence round lower higher entries) = round
+roundOf (Evidence round values entries) = round
 roundOf Garbled = 0
 
 -- the seats of the entries, in their order
@@ -160,7 +175,7 @@ unfoldable pub entrySeats : Message → List ℕ
 entrySeats (Submit round seat value signature) = []
 entrySeats (Notice round seat value) = []
 entrySeats (Full round sender value entries) = formSeats fullForm entries
-entrySeats (Evidence round lower higher entries) = formSeats (evidenceForm lower higher) entries
+entrySeats (Evidence round values entries) = formSeats (evidenceForm values) entries
 entrySeats Garbled = []
 
 -- every seat: the sender's, where there is one, and those of the entries
@@ -168,7 +183,7 @@ unfoldable pub seatsOf : Message → List ℕ
 seatsOf (Submit round seat value signature) = seat ∷ []
 seatsOf (Notice round seat value) = seat ∷ []
 seatsOf (Full round sender value entries) = sender ∷ entrySeats (Full round sender value entries)
-seatsOf (Evidence round lower higher entries) = entrySeats (Evidence round lower higher entries)
+seatsOf (Evidence round values entries) = entrySeats (Evidence round values entries)
 seatsOf Garbled = []
 
 -- a signature in a message, with its seat and its value
@@ -192,5 +207,5 @@ unfoldable pub signed : Message → List Signed
 signed (Submit round seat value signature) = record { seat = seat; value = value; signature = signature } ∷ []
 signed (Notice round seat value) = []
 signed (Full round sender value entries) = flatMap (signedEntry value) entries
-signed (Evidence round lower higher entries) = flatMap signedPair entries
+signed (Evidence round values entries) = flatMap signedPair entries
 signed Garbled = []

@@ -17,7 +17,7 @@ use Rattle.refusal.specs.RefusalLaws.{both-true}
 use Rattle.protocol.specs.Layout.{valueLength, signatureLength, valueAt, submitLength, noticeLength, fullCountAt, fullStart, fullEntryLength, fullEntryAt, fullLength, lowerAt, higherAt, evidenceCountAt, evidenceStart, evidenceEntryLength, evidenceEntryAt, evidenceLength}
 use Rattle.protocol.specs.Entries.{Each, Form, Laid, renderEntries, entryCommands}
 use Rattle.protocol.specs.EntriesLaws.{byte-after, Faithful, length-entries, commands-right, entries-read}
-use Rattle.protocol.specs.Message.{Entry, Pair, Message, Submit, Notice, Full, Evidence, Garbled, WellFormed, fullForm, evidenceForm, formOf, render, renderAll, byteAt, readRound, readValue, readSignature, fitsSubmit, fitsNotice, fitsFull, fitsEvidence, readSubmit, readNotice, readFull, readEvidence, read}
+use Rattle.protocol.specs.Message.{Entry, Pair, PairValues, Message, Submit, Notice, Full, Evidence, Garbled, WellFormed, fullForm, evidenceForm, ValuesFormed, formOf, countOf, render, renderAll, byteAt, readRound, readValue, readSignature, fitsSubmit, fitsNotice, fitsFull, fitsEvidence, readSubmit, readNotice, readFull, readEvidence, read}
 use Rattle.protocol.specs.Conditions.{isFull}
 
 -- ---- messages one after another
@@ -41,10 +41,10 @@ pub length-full : (round sender : ℕ) (value : List ℕ) (es : List Entry) → 
 unfolding render fullForm fullEntryAt fullEntryLength
 length-full round sender value es v h = simp (length-append, length-be) (omega (arith, length-entries fullForm es h))
 
-pub length-evidence : (round : ℕ) (lower higher : List ℕ) (ps : List Pair) → length lower ≡ valueLength → length higher ≡ valueLength → Laid (evidenceForm lower higher) ps
-    → length (render (Evidence round lower higher ps)) ≡ evidenceEntryAt (length ps)
+pub length-evidence : (round : ℕ) (values : PairValues) (ps : List Pair) → ValuesFormed values → Laid (evidenceForm values) ps
+    → length (render (Evidence round values ps)) ≡ evidenceEntryAt (length ps)
 unfolding render evidenceForm evidenceEntryAt evidenceEntryLength
-length-evidence round lower higher ps l g h = simp (length-append, length-be) (omega (arith, length-entries (evidenceForm lower higher) ps h))
+length-evidence round values ps f h = simp (length-append, length-be) (omega (arith, f, length-entries (evidenceForm values) ps h))
 
 -- ---- the two lists of entries
 
@@ -52,22 +52,22 @@ pub full-faithful : Faithful fullForm
 unfolding fullForm
 full-faithful seat bytes = (refl, refl)
 
-pub evidence-faithful : (lower higher : List ℕ) → Faithful (evidenceForm lower higher)
+pub evidence-faithful : (values : PairValues) → Faithful (evidenceForm values)
 unfolding evidenceForm
-evidence-faithful lower higher seat bytes = (refl, take-append-drop signatureLength bytes)
+evidence-faithful values seat bytes = (refl, take-append-drop signatureLength bytes)
 
 -- a pair of the form: its values are the message's, and its signatures have their length
-pub pair-laid : (lower higher : List ℕ) (p : Pair) → p .lowerValue ≡ lower → p .higherValue ≡ higher → length (p .lower) ≡ signatureLength → length (p .higher) ≡ signatureLength
-    → (length (p .lower ++ p .higher) ≡ evidenceForm lower higher .held) × (evidenceForm lower higher .make (p .seat) (p .lower ++ p .higher) ≡ p)
+pub pair-laid : (values : PairValues) (p : Pair) → p .lowerValue ≡ values .lower → p .higherValue ≡ values .higher → length (p .lower) ≡ signatureLength → length (p .higher) ≡ signatureLength
+    → (length (p .lower ++ p .higher) ≡ evidenceForm values .held) × (evidenceForm values .make (p .seat) (p .lower ++ p .higher) ≡ p)
 unfolding evidenceForm
-pair-laid lower higher p v w l h = (
+pair-laid values p v w l h = (
   simp length-append (omega arith),
   rw (take-at (p .lower) (p .higher) signatureLength l, drop-at (p .lower) (p .higher) signatureLength l, ← v, ← w),
 )
 
-pub laid-values : (lower higher : List ℕ) (ps : List Pair) → Laid (evidenceForm lower higher) ps → Each (λ (p : Pair). (lower ≡ p .lowerValue) × (higher ≡ p .higherValue)) ps
+pub laid-values : (values : PairValues) (ps : List Pair) → Laid (evidenceForm values) ps → Each (λ (p : Pair). (values .lower ≡ p .lowerValue) × (values .higher ≡ p .higherValue)) ps
 unfolding evidenceForm
-laid-values lower higher ps h p d = let made = h p d .1 in (ap (λ (x : Pair). x .lowerValue) made, ap (λ (x : Pair). x .higherValue) made)
+laid-values values ps h p d = let made = h p d .1 in (ap (λ (x : Pair). x .lowerValue) made, ap (λ (x : Pair). x .higherValue) made)
 
 -- ---- bytes that pass the test of a command
 
@@ -107,7 +107,7 @@ module _ (n : ℕ) (bytes : List ℕ) where
       }
 
   abbrev counted : ℕ
-  counted = byteAt bytes evidenceCountAt
+  counted = countOf bytes
 
   pub record EvidenceFits : Type 0 where
     pub code : byteAt bytes 0 ≡ 0x05
@@ -244,13 +244,15 @@ module _ (n round sender : ℕ) (value : List ℕ) (es : List Entry) (h : round 
 
 -- ---- EVIDENCE
 
-module _ (n round : ℕ) (lower higher : List ℕ) (ps : List Pair) (h : round < 65536) (v : length lower ≡ valueLength) (w : length higher ≡ valueLength)
-    (few : 1 ≤ length ps) (many : length ps ≤ n) (g : Laid (evidenceForm lower higher) ps) where
+module _ (n round : ℕ) (values : PairValues) (ps : List Pair) (h : round < 65536) (f : ValuesFormed values) (few : 1 ≤ length ps) (many : length ps ≤ n)
+    (g : Laid (evidenceForm values) ps) where
+  open PairValues values using (lower, higher)
+
   abbrev form : Form Pair
-  form = evidenceForm lower higher
+  form = evidenceForm values
 
   abbrev evidence : List ℕ
-  evidence = render (Evidence round lower higher ps)
+  evidence = render (Evidence round values ps)
 
   -- command and round; up to the count
   abbrev evidence-head : List ℕ
@@ -272,13 +274,13 @@ module _ (n round : ℕ) (lower higher : List ℕ) (ps : List Pair) (h : round <
   evidence-lower =
       part-left evidence-front (renderEntries form ps) lowerAt valueLength (simp (length-append, length-be) (omega arith))
       ∙ part-left (evidence-head ++ lower ++ higher) (length ps ∷ []) lowerAt valueLength (simp (length-append, length-be) (omega arith))
-      ∙ part-between evidence-head lower higher lowerAt valueLength (simp length-be) v
+      ∙ part-between evidence-head lower higher lowerAt valueLength (simp length-be) (f .0)
 
   evidence-higher : readValue higherAt evidence ≡ higher
   unfolding readValue render
   evidence-higher =
       part-left evidence-front (renderEntries form ps) higherAt valueLength (simp (length-append, length-be) (omega arith))
-      ∙ part-between (evidence-head ++ lower) higher (length ps ∷ []) higherAt valueLength (simp (length-append, length-be) (omega arith)) w
+      ∙ part-between (evidence-head ++ lower) higher (length ps ∷ []) higherAt valueLength (simp (length-append, length-be) (omega arith)) (f .1)
 
   evidence-passes : fitsEvidence n evidence ≡ true
   unfolding fitsEvidence evidenceLength render
@@ -287,19 +289,19 @@ module _ (n round : ℕ) (lower higher : List ℕ) (ps : List Pair) (h : round <
         evidence-count,
         evidence-lower,
         evidence-higher,
-        length-evidence round lower higher ps v w g,
+        length-evidence round values ps f g,
         le-leb 1 (length ps) few,
         le-leb (length ps) n many,
         commands-right form evidence ps evidence-entries g (length ps) (omega arith),
         eq-eqb (evidenceEntryAt (length ps)) (evidenceEntryAt (length ps)) refl,
       )
 
-  evidence-reads : readEvidence evidence ≡ Evidence round lower higher ps
+  evidence-reads : readEvidence evidence ≡ Evidence round values ps
   unfolding readEvidence readRound render be
   evidence-reads =
       rw (round-read round h, evidence-lower, evidence-higher, evidence-count, entries-read form evidence ps evidence-entries g (length ps) (omega arith), take-length ps)
 
-  read-evidence : read n evidence ≡ Evidence round lower higher ps
+  read-evidence : read n evidence ≡ Evidence round values ps
   unfolding read render
   read-evidence = rw (no-submit evidence refl, no-notice evidence refl, no-full n evidence refl, evidence-passes, evidence-reads)
 
@@ -309,5 +311,5 @@ pub read-render : (n : ℕ) (m : Message) → WellFormed n m → read n (render 
 read-render n (Submit round seat value signature) w = read-submit n round seat value (w .0) (w .1) signature (w .2)
 read-render n (Notice round seat value) w = read-notice n round seat value (w .0) (w .1)
 read-render n (Full round sender value es) w = read-full n round sender value es (w .0) (w .1) (w .2) (w .3)
-read-render n (Evidence round lower higher ps) w = read-evidence n round lower higher ps (w .0) (w .1) (w .2) (w .3) (w .4) (w .5)
+read-render n (Evidence round values ps) w = read-evidence n round values ps (w .0) (w .1) (w .2) (w .3) (w .4)
 read-render n Garbled w = absurd w

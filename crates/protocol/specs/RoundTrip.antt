@@ -15,7 +15,7 @@ use Rattle.protocol.specs.Layout.{valueLength, signatureLength, operands
 use Rattle.protocol.specs.Figures.{submit-figure, notice-figure, full-figure, evidence-figure}
 use Rattle.protocol.specs.Entries.{Form, placeOf, renderEntries, entryCommands, readEntries}
 use Rattle.protocol.specs.EntriesLaws.{Faithful, length-read, entries-back}
-use Rattle.protocol.specs.Message.{Garbled, fullForm, evidenceForm, formOf, render, byteAt, readRound, readValue, readSignature, readSubmit, readNotice, readFull, readEvidence, fitsSubmit, fitsNotice, fitsFull, fitsEvidence, read}
+use Rattle.protocol.specs.Message.{Garbled, fullForm, evidenceForm, readValues, formOf, countOf, render, byteAt, readRound, readValue, readSignature, readSubmit, readNotice, readFull, readEvidence, fitsSubmit, fitsNotice, fitsFull, fitsEvidence, read}
 use Rattle.protocol.specs.MessageLaws.{full-faithful, evidence-faithful, submit-fits, notice-fits, full-fits, evidence-fits, read-cases}
 
 -- ---- parts one after another
@@ -92,7 +92,7 @@ evidence-back : (n : ℕ) (bytes : List ℕ) → ((i : ℕ) → byteAt bytes i <
 unfolding render readEvidence readValue evidenceForm placeOf evidenceLength evidenceEntryAt evidenceEntryLength
 evidence-back n bytes b h =
     let fits = evidence-fits n bytes h in
-    let counted = byteAt bytes evidenceCountAt in
+    let counted = countOf bytes in
     let long : evidenceStart ≤ length bytes = omega (arith, evidence-figure counted) in
     let many = length (readEntries (formOf bytes) counted bytes) in
     let start = start-back bytes 0x05 (omega arith) b (fits .code) in
@@ -101,7 +101,7 @@ evidence-back n bytes b h =
     let front =
     append-parts bytes 0 evidenceCountAt 1 evidenceStart (0x05 ∷ be 2 (readRound bytes) ++ part lowerAt valueLength bytes ++ part higherAt valueLength bytes) (many ∷ []) higher
     (one-byte bytes evidenceCountAt many (omega arith) (sym (length-read (formOf bytes) counted bytes))) refl in
-    entries-after bytes (formOf bytes) (evidence-faithful (readValue lowerAt bytes) (readValue higherAt bytes))
+    entries-after bytes (formOf bytes) (evidence-faithful (readValues bytes))
     (0x05 ∷ be 2 (readRound bytes) ++ part lowerAt valueLength bytes ++ part higherAt valueLength bytes ++ many ∷ []) counted front (fits .size) (fits .commands)
 
 -- ---- any message

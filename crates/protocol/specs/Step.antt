@@ -100,11 +100,15 @@ hold c s = record {
   written = s .written;
 }
 
+-- the seats that a certificate makes guilty: "the shared seats"
+unfoldable pub found : Certificate → Record → ℕ
+found c r = shared (r .first .seats) (c .seats)
+
 -- "makes the shared seats guilty and EVIDENCE is written"
 unfoldable pub blame : Certificate → State → State
 blame c s =
-    write (evidenceOf (s .unit .n) (s .unit .round) (firstCertificate (s .unit) (s .store)) c)
-    (withUnit s (withGuilty (s .unit) (shared (s .unit .first .seats) (c .seats))))
+    write (evidenceOf (s .unit .n) (s .unit .round) (found c (s .unit)) (firstCertificate (s .unit) (s .store)) c)
+    (withUnit s (withGuilty (s .unit) (found c (s .unit))))
 
 -- "One with another value, while guilty seats are empty"
 unfoldable pub blames : Certificate → Record → Bool
@@ -149,5 +153,5 @@ unfoldable pub stepped : Message → State → State
 stepped (Submit round seat value signature) s = confirmIfComplete (hearSubmit seat value signature s)
 stepped (Notice round seat value) s = reply (hear value s)
 stepped (Full round sender value entries) s = hearCertificate (certificateIn (Full round sender value entries)) s
-stepped (Evidence round lower higher entries) s = s
+stepped (Evidence round values entries) s = s
 stepped Garbled s = s

@@ -12,10 +12,10 @@ use lib.Seq.{take-at, drop-at, take-append-seam}
 use Rattle.octets.specs.Octets.{be, part}
 use Rattle.octets.specs.OctetLaws.{length-be, length-part}
 use Rattle.quorum.specs.Quorum.{k}
-use Rattle.protocol.specs.Layout.{valueLength, signatureLength, entryLength, valueAt, submitSignatureAt, submitLength, noticeLength, fullEntryLength, fullEntryAt, fullLength, lowerAt, higherAt, evidenceCountAt, evidenceEntryLength, evidenceEntryAt, evidenceLength}
+use Rattle.protocol.specs.Layout.{valueLength, signatureLength, entryLength, valueAt, submitSignatureAt, submitLength, noticeLength, fullEntryLength, fullEntryAt, fullLength, evidenceCountAt, evidenceEntryLength, evidenceEntryAt, evidenceLength}
 use Rattle.protocol.specs.Entries.{Form, Laid, placeOf, renderEntries, readEntry, readEntries}
 use Rattle.protocol.specs.EntriesLaws.{byte-after, Faithful, length-read}
-use Rattle.protocol.specs.Message.{Pair, Message, Submit, Notice, Full, Evidence, Garbled, WellFormed, fullForm, evidenceForm, formOf, render, renderAll, byteAt, readValue, readSignature, fitsSubmit, fitsNotice, fitsFull, fitsEvidence, readSubmit, readNotice, readFull, readEvidence, read}
+use Rattle.protocol.specs.Message.{Pair, PairValues, Message, Submit, Notice, Full, Evidence, Garbled, WellFormed, fullForm, evidenceForm, ValuesFormed, readValues, formOf, countOf, render, renderAll, byteAt, readValue, readSignature, fitsSubmit, fitsNotice, fitsFull, fitsEvidence, readSubmit, readNotice, readFull, readEvidence, read}
 use Rattle.protocol.specs.MessageLaws.{length-submit, length-notice, length-full, length-evidence, full-faithful, evidence-faithful, submit-fits, notice-fits, full-fits, evidence-fits, read-cases, read-render}
 use Rattle.round.specs.Round.{Each, Are}
 use Rattle.reading.specs.Lists.{each-nil, each-one, each-append}
@@ -42,7 +42,7 @@ abbrev pub Sized : ℕ → Message → Type 0
 Sized n (Submit ρ seat value signature) = (length value ≡ valueLength) × (length signature ≡ signatureLength)
 Sized n (Notice ρ seat value) = length value ≡ valueLength
 Sized n (Full ρ sender value es) = (length value ≡ valueLength) × (length es ≡ k n) × Laid fullForm es
-Sized n (Evidence ρ lower higher ps) = Laid (evidenceForm lower higher) ps
+Sized n (Evidence ρ values ps) = Laid (evidenceForm values) ps
 Sized n Garbled = Unit {0}
 
 module _ (n : ℕ) (bytes : List ℕ) where
@@ -65,7 +65,7 @@ module _ (n : ℕ) (bytes : List ℕ) where
   evidence-sized : fitsEvidence n bytes ≡ true → Sized n (readEvidence bytes)
   unfolding readEvidence evidenceLength evidenceEntryAt evidenceEntryLength evidenceForm placeOf
   evidence-sized e =
-      entries-laid (formOf bytes) (evidence-faithful (readValue lowerAt bytes) (readValue higherAt bytes)) bytes (byteAt bytes evidenceCountAt) (omega (arith, evidence-fits n bytes e .size))
+      entries-laid (formOf bytes) (evidence-faithful (readValues bytes)) bytes (countOf bytes) (omega (arith, evidence-fits n bytes e .size))
 
   pub read-sized : Sized n (read n bytes)
   read-sized = read-cases (Sized n) n bytes submit-sized notice-sized full-sized evidence-sized tt
@@ -77,23 +77,22 @@ unfoldable pub frameLength : ℕ → List ℕ → ℕ
 frameLength n bytes =
     cond (eqb (byteAt bytes 0) 0x01) submitLength
     (cond (eqb (byteAt bytes 0) 0x02) noticeLength
-    (cond (eqb (byteAt bytes 0) 0x03) (fullLength n) (evidenceLength (byteAt bytes evidenceCountAt))))
+    (cond (eqb (byteAt bytes 0) 0x03) (fullLength n) (evidenceLength (countOf bytes))))
 
-evidence-counted : (ρ : ℕ) (lower higher : List ℕ) (ps : List Pair) (rest : List ℕ) → length lower ≡ valueLength → length higher ≡ valueLength
-    → byteAt (render (Evidence ρ lower higher ps) ++ rest) evidenceCountAt ≡ length ps
+evidence-counted : (ρ : ℕ) (values : PairValues) (ps : List Pair) (rest : List ℕ) → ValuesFormed values → countOf (render (Evidence ρ values ps) ++ rest) ≡ length ps
 unfolding render
-evidence-counted ρ lower higher ps rest l h =
-    let front = 0x05 ∷ be 2 ρ ++ lower ++ higher in
-    let entries = renderEntries (evidenceForm lower higher) ps in
+evidence-counted ρ values ps rest f =
+    let front = 0x05 ∷ be 2 ρ ++ values .lower ++ values .higher in
+    let entries = renderEntries (evidenceForm values) ps in
     ap (λ (b : List ℕ). byteAt b evidenceCountAt) (append-assoc (front ++ length ps ∷ []) entries rest)
-    ∙ byte-after front (length ps) (entries ++ rest) evidenceCountAt (simp (length-append, length-be) (omega arith))
+    ∙ byte-after front (length ps) (entries ++ rest) evidenceCountAt (simp (length-append, length-be) (omega (arith, f)))
 
 pub frame-length : (n : ℕ) (m : Message) (rest : List ℕ) → WellFormed n m → frameLength n (render m ++ rest) ≡ length (render m)
 unfolding frameLength render fullLength evidenceLength
 frame-length n (Submit ρ seat value signature) rest w = sym (length-submit ρ seat value signature (w .1) (w .2))
 frame-length n (Notice ρ seat value) rest w = sym (length-notice ρ seat value (w .1))
 frame-length n (Full ρ sender value es) rest w = ap fullEntryAt (sym (w .2)) ∙ sym (length-full ρ sender value es (w .1) (w .3))
-frame-length n (Evidence ρ lower higher ps) rest w = ap evidenceEntryAt (evidence-counted ρ lower higher ps rest (w .1) (w .2)) ∙ sym (length-evidence ρ lower higher ps (w .1) (w .2) (w .5))
+frame-length n (Evidence ρ values ps) rest w = ap evidenceEntryAt (evidence-counted ρ values ps rest (w .1)) ∙ sym (length-evidence ρ values ps (w .1) (w .4))
 frame-length n Garbled rest w = absurd w
 
 render-some : (n : ℕ) (m : Message) → WellFormed n m → 1 ≤ length (render m)
@@ -101,7 +100,7 @@ unfolding render
 render-some n (Submit ρ seat value signature) w = omega arith
 render-some n (Notice ρ seat value) w = omega arith
 render-some n (Full ρ sender value es) w = omega arith
-render-some n (Evidence ρ lower higher ps) w = omega arith
+render-some n (Evidence ρ values ps) w = omega arith
 render-some n Garbled w = absurd w
 
 -- bytes are messages one after another in one way only

@@ -21,14 +21,14 @@ unfoldable pub isSubmit : Message → Bool
 isSubmit (Submit ρ seat value signature) = true
 isSubmit (Notice ρ seat value) = false
 isSubmit (Full ρ sender value entries) = false
-isSubmit (Evidence ρ lower higher entries) = false
+isSubmit (Evidence ρ values entries) = false
 isSubmit Garbled = false
 
 unfoldable pub isNotice : Message → Bool
 isNotice (Submit ρ seat value signature) = false
 isNotice (Notice ρ seat value) = true
 isNotice (Full ρ sender value entries) = false
-isNotice (Evidence ρ lower higher entries) = false
+isNotice (Evidence ρ values entries) = false
 isNotice Garbled = false
 
 abbrev pub isOf : Kind → Message → Bool

@@ -9,14 +9,13 @@ use lib.Dec.{eqb}
 use lib.ListN.{length}
 use borrow.Author.Tests.{eq-eqb, ne-eqb}
 use Rattle.octets.specs.Strings.{same}
-use Rattle.quorum.specs.Quorum.{k, size, shared}
-use Rattle.quorum.specs.QuorumLaws.{size-shared-le}
-use Rattle.protocol.specs.Layout.{storeLength, fullEntryLength, fullEntryAt, fullLength, evidenceEntryLength, evidenceEntryAt, evidenceLength}
+use Rattle.quorum.specs.Quorum.{k, shared}
+use Rattle.protocol.specs.Layout.{storeLength, fullEntryLength, fullEntryAt, fullLength, evidenceLength}
 use Rattle.protocol.specs.Message.{render}
 use Rattle.protocol.specs.Calls.{start}
 use Rattle.protocol.specs.Certificate.{Certificate, ownCertificate, firstCertificate, fullOf, evidenceOf}
 use Rattle.protocol.specs.Record.{withNotices, withSent, withGuilty, holds}
-use Rattle.protocol.specs.Step.{write, noticesWith, hear, owesFull, sendFull, reply, hold, blame, blames, holdOrBlame, hearCertificate}
+use Rattle.protocol.specs.Step.{write, noticesWith, hear, owesFull, sendFull, reply, hold, found, blame, blames, holdOrBlame, hearCertificate}
 use Rattle.protocol.specs.StepLaws.{reply-after, holdOrBlame-after}
 use Rattle.protocol.specs.declared.Notices.{Notices}
 use Rattle.protocol.specs.declared.Record.{Record}
@@ -49,13 +48,6 @@ pub full-bound : (n size : ℕ) → size ≤ k n → fullEntryAt size ≤ fullLe
 unfolding fullLength fullEntryAt
 full-bound n size h = omega (arith, mul-le-mul-left fullEntryLength h)
 
--- EVIDENCE has an entry for each seat that is in both, so at most k
-pub evidence-bound : (n a b : ℕ) → size a ≤ k n → evidenceLength (size (shared a b)) ≤ evidenceLength (k n)
-unfolding evidenceLength evidenceEntryAt
-evidence-bound n a b h =
-    let most : size (shared a b) ≤ k n = omega (arith, size-shared-le a b) in
-    omega (arith, mul-le-mul-left evidenceEntryLength most)
-
 -- ---- messages written
 
 module _ (r : Record) (store out : List ℕ) (at : ℕ) (out′ : List ℕ) (end : ℕ) where
@@ -67,13 +59,13 @@ module _ (r : Record) (store out : List ℕ) (at : ℕ) (out′ : List ℕ) (end
       (record { recorded = refl; stored = refl }) w
 
   pub evidence-sent : (source : Source) (value m bytes : List ℕ) (guilty : ℕ) → bytes ≡ bytesOf (source .place) store m → guilty ≡ shared (r .first .seats) (source .seats)
-      → Wrote at (render (evidenceOf (r .n) (r .round) (certificateFrom (r .n) (inBank bank.First (r .first .seats)) (r .first .value) store) (certificateFrom (r .n) source value bytes))) out out′ end
+      → Wrote at (render (evidenceOf (r .n) (r .round) guilty (certificateFrom (r .n) (inBank bank.First (r .first .seats)) (r .first .value) store) (certificateFrom (r .n) source value bytes))) out out′ end
       → Did (blame (heard (r .n) source value store m)) r store out at (withGuilty r guilty) store out′ end
-  unfolding blame write firstCertificate signatureAt bankOf
+  unfolding blame found write firstCertificate signatureAt bankOf
   evidence-sent source value m bytes guilty chosen e w =
       let c = heard (r .n) source value store m in
-      saying (blame c) r store (evidenceOf (r .n) (r .round) (firstCertificate r store) c) out at (withGuilty r guilty) store out′ end refl
-      (record { recorded = rw e; stored = refl }) (rw (← chosen) w)
+      saying (blame c) r store (evidenceOf (r .n) (r .round) (found c r) (firstCertificate r store) c) out at (withGuilty r guilty) store out′ end refl
+      (record { recorded = rw e; stored = refl }) (rw (← e, ← chosen) w)
 
 -- ---- replies, and certificates held or blaming
 

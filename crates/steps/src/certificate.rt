@@ -5,7 +5,7 @@ ghost use Prim.Native.Nat.{_+_, _≤_};
 ghost use lib.Dec.{eqb};
 ghost use lib.ListN.{length};
 ghost use Rattle.octets.specs.Strings.{same};
-ghost use Rattle.quorum.specs.Quorum.{k};
+ghost use Rattle.quorum.specs.Quorum.{k, shared};
 ghost use Rattle.protocol.specs.Layout.{fullLength, evidenceLength};
 ghost use Rattle.protocol.specs.Record.{withFirst};
 ghost use Rattle.protocol.specs.Step.{hold, blame, holdOrBlame, hearCertificate};
@@ -17,6 +17,7 @@ use crate::reply::reply;
 use layout::Bank;
 use protocol::First;
 use protocol::Record;
+use quorum::Mask;
 use store::sources::Place;
 use store::sources::Source;
 
@@ -58,8 +59,9 @@ fn blame<'a>(
     value: [u8; 32],
     source: Source,
     m: &'a [u8],
+    guilty: Mask,
 ) -> Phase
-    requires { ⌜ Fits r (now store) × Heard (r .n) source (now store) (now m) × (at + evidenceLength (k (r .n)) ≤ length (now out)) ⌝ }
+    requires { ⌜ Fits r (now store) × Heard (r .n) source (now store) (now m) × (at + evidenceLength (k (r .n)) ≤ length (now out)) × (guilty ≡ shared (r .first .seats) (source .seats)) ⌝ }
     ensures { λ p. ⌜ Did (blame (heard (r .n) source value (now (store .entry)) (now (m .entry)))) r (now (store .entry)) (now (out .entry)) at (p .unit) (now (store .entry)) (now (out .exit)) (p .at) ⌝ }
 {
     let first_value = r.first.value;
@@ -73,6 +75,7 @@ fn blame<'a>(
         at,
         r.n,
         r.round,
+        guilty,
         &first_value,
         first,
         store,
@@ -80,7 +83,6 @@ fn blame<'a>(
         source,
         bytes,
     );
-    let guilty = quorum::shared(r.first.seats, source.seats);
     let mut unit = r;
     unit.guilty = guilty;
     Phase { unit, at: end }
@@ -104,7 +106,8 @@ fn hold_or_blame(
         return Phase { unit, at };
     }
     if blames(r, value) {
-        return blame(r, store, out, at, value, source, m);
+        let guilty = quorum::shared(r.first.seats, source.seats);
+        return blame(r, store, out, at, value, source, m, guilty);
     }
     Phase { unit: r, at }
 }

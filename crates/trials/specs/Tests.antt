@@ -14,7 +14,7 @@ use Rattle.octets.specs.StringLaws.{same-true}
 use Rattle.quorum.specs.Quorum.{t0, k, size}
 use Rattle.refusal.specs.RefusalLaws.{both-true, both-false}
 use Rattle.protocol.specs.Layout.{valueLength, signatureLength, storeLength, outLength}
-use Rattle.protocol.specs.Message.{Entry, Pair, Message, Submit, Notice, Full, Evidence, Garbled, fullForm, evidenceForm, Signed, render, read, signed, entrySeats, WellFormed}
+use Rattle.protocol.specs.Message.{Entry, Pair, PairValues, Message, Submit, Notice, Full, Evidence, Garbled, fullForm, evidenceForm, Signed, render, read, signed, entrySeats, WellFormed}
 use Rattle.protocol.specs.Entries.{Laid}
 use Rattle.protocol.specs.MessageLaws.{pair-laid, read-render}
 use Rattle.protocol.specs.Refusals.{every, isFull, isEvidence}
@@ -58,30 +58,32 @@ every-false test (x ∷ xs) e =
 unfoldable pub entrySized : Entry → Bool
 entrySized e = eqb (length (e .signature)) signatureLength
 
-unfoldable pub pairSized : List ℕ → List ℕ → Pair → Bool
-pairSized lower higher p =
-    same (p .lowerValue) lower && (same (p .higherValue) higher && (eqb (length (p .lower)) signatureLength && eqb (length (p .higher)) signatureLength))
+unfoldable pub pairSized : PairValues → Pair → Bool
+pairSized values p =
+    same (p .lowerValue) (values .lower) && (same (p .higherValue) (values .higher) && (eqb (length (p .lower)) signatureLength && eqb (length (p .higher)) signatureLength))
 
 unfoldable pub wellFormed : ℕ → Message → Bool
 wellFormed n (Submit ρ seat value signature) = ltb ρ 65536 && (eqb (length value) valueLength && eqb (length signature) signatureLength)
 wellFormed n (Notice ρ seat value) = ltb ρ 65536 && eqb (length value) valueLength
 wellFormed n (Full ρ sender value es) = ltb ρ 65536 && (eqb (length value) valueLength && (eqb (length es) (k n) && every entrySized es))
-wellFormed n (Evidence ρ lower higher ps) =
-    ltb ρ 65536 && (eqb (length lower) valueLength && (eqb (length higher) valueLength && (leb 1 (length ps) && (leb (length ps) n && every (pairSized lower higher) ps))))
+wellFormed n (Evidence ρ values ps) =
+    ltb ρ 65536 && (eqb (length (values .lower)) valueLength && (eqb (length (values .higher)) valueLength && (leb 1 (length ps) && (leb (length ps) n && every (pairSized values) ps))))
 wellFormed n Garbled = false
 
 entries-laid : (es : List Entry) → every entrySized es ≡ true → Laid fullForm es
 unfolding fullForm entrySized
 entries-laid es h e d = (eqb-true (length (e .signature)) signatureLength (every-each entrySized es h e d), refl)
 
-pairs-laid : (lower higher : List ℕ) (ps : List Pair) → every (pairSized lower higher) ps ≡ true → Laid (evidenceForm lower higher) ps
+pairs-laid : (values : PairValues) (ps : List Pair) → every (pairSized values) ps ≡ true → Laid (evidenceForm values) ps
 unfolding evidenceForm pairSized
-pairs-laid lower higher ps h p d =
+pairs-laid values ps h p d =
+    let lower = values .lower in
+    let higher = values .higher in
     let sizes = eqb (length (p .lower)) signatureLength && eqb (length (p .higher)) signatureLength in
-    let a = both-true (same (p .lowerValue) lower) (same (p .higherValue) higher && sizes) (every-each (pairSized lower higher) ps h p d) in
+    let a = both-true (same (p .lowerValue) lower) (same (p .higherValue) higher && sizes) (every-each (pairSized values) ps h p d) in
     let b = both-true (same (p .higherValue) higher) sizes (a .1) in
     let c = both-true (eqb (length (p .lower)) signatureLength) (eqb (length (p .higher)) signatureLength) (b .1) in
-    pair-laid lower higher p (same-true (p .lowerValue) lower (a .0)) (same-true (p .higherValue) higher (b .0)) (eqb-true (length (p .lower)) signatureLength (c .0)) (eqb-true (length (p .higher)) signatureLength (c .1))
+    pair-laid values p (same-true (p .lowerValue) lower (a .0)) (same-true (p .higherValue) higher (b .0)) (eqb-true (length (p .lower)) signatureLength (c .0)) (eqb-true (length (p .higher)) signatureLength (c .1))
 
 wellFormed-says : (n : ℕ) (m : Message) → wellFormed n m ≡ true → WellFormed n m
 unfolding wellFormed
@@ -97,19 +99,20 @@ wellFormed-says n (Full ρ sender value es) h =
     let b = both-true (eqb (length value) valueLength) (eqb (length es) (k n) && every entrySized es) (a .1) in
     let c = both-true (eqb (length es) (k n)) (every entrySized es) (b .1) in
     (ltb-true ρ 65536 (a .0), eqb-true (length value) valueLength (b .0), eqb-true (length es) (k n) (c .0), entries-laid es (c .1))
-wellFormed-says n (Evidence ρ lower higher ps) h =
-    let rest = leb 1 (length ps) && (leb (length ps) n && every (pairSized lower higher) ps) in
+wellFormed-says n (Evidence ρ values ps) h =
+    let lower = values .lower in
+    let higher = values .higher in
+    let rest = leb 1 (length ps) && (leb (length ps) n && every (pairSized values) ps) in
     let a = both-true (ltb ρ 65536) (eqb (length lower) valueLength && (eqb (length higher) valueLength && rest)) h in
     let b = both-true (eqb (length lower) valueLength) (eqb (length higher) valueLength && rest) (a .1) in
     let c = both-true (eqb (length higher) valueLength) rest (b .1) in
-    let d = both-true (leb 1 (length ps)) (leb (length ps) n && every (pairSized lower higher) ps) (c .1) in
-    let e = both-true (leb (length ps) n) (every (pairSized lower higher) ps) (d .1) in (
+    let d = both-true (leb 1 (length ps)) (leb (length ps) n && every (pairSized values) ps) (c .1) in
+    let e = both-true (leb (length ps) n) (every (pairSized values) ps) (d .1) in (
       ltb-true ρ 65536 (a .0),
-      eqb-true (length lower) valueLength (b .0),
-      eqb-true (length higher) valueLength (c .0),
+      (eqb-true (length lower) valueLength (b .0), eqb-true (length higher) valueLength (c .0)),
       leb-true 1 (length ps) (d .0),
       leb-true (length ps) n (e .0),
-      pairs-laid lower higher ps (e .1),
+      pairs-laid values ps (e .1),
     )
 wellFormed-says n Garbled h = absurd (false≢true h)
 
@@ -117,7 +120,7 @@ unfoldable pub isNoticeOf : List ℕ → Message → Bool
 isNoticeOf layout (Submit ρ seat value signature) = false
 isNoticeOf layout (Notice ρ seat value) = same value layout
 isNoticeOf layout (Full ρ sender value es) = false
-isNoticeOf layout (Evidence ρ lower higher ps) = false
+isNoticeOf layout (Evidence ρ values ps) = false
 isNoticeOf layout Garbled = false
 
 notice-of : (layout : List ℕ) (m : Message) → isNoticeOf layout m ≡ true → (ρ seat : ℕ) × (m ≡ Notice ρ seat layout)
@@ -125,7 +128,7 @@ unfolding isNoticeOf
 notice-of layout (Submit ρ seat value signature) e = absurd (false≢true e)
 notice-of layout (Notice ρ seat value) e = (ρ, seat, ap (Notice ρ seat) (same-true value layout e))
 notice-of layout (Full ρ sender value es) e = absurd (false≢true e)
-notice-of layout (Evidence ρ lower higher ps) e = absurd (false≢true e)
+notice-of layout (Evidence ρ values ps) e = absurd (false≢true e)
 notice-of layout Garbled e = absurd (false≢true e)
 
 unfoldable pub isEvidenceOn : ℕ → Message → Bool

@@ -166,7 +166,7 @@ certified (Submit ρ seat value signature) =
     hears (Full ρ 2 value (record { seat = seat; signature = signature } ∷ entryBy (byteAt value 0) 2 ∷ entryBy (byteAt value 0) 3 ∷ [])) ∷ []
 certified (Notice ρ seat value) = []
 certified (Full ρ sender value entries) = []
-certified (Evidence ρ lower higher entries) = []
+certified (Evidence ρ values entries) = []
 certified Garbled = []
 
 unfoldable pub certifiedEach : List Message → List Call
@@ -194,7 +194,7 @@ abbrev pub heardTwice : Bool → Honest
 heardTwice = ofTwo (boatAt 0 (says 0 7 ∷ [])) (boatAt 1 (hears (submitBy 0 7) ∷ hears (Submit 5 0 (layout 9) (sign 0 7)) ∷ []))
 
 abbrev pub framing : ℕ → ℕ → List ℕ
-framing b c = render (Evidence 5 (layout b) (layout c) (record { seat = 0; lowerValue = layout b; higherValue = layout c; lower = sign 0 7; higher = sign 0 7 } ∷ []))
+framing b c = render (Evidence 5 (record { lower = layout b; higher = layout c }) (record { seat = 0; lowerValue = layout b; higherValue = layout c; lower = sign 0 7; higher = sign 0 7 } ∷ []))
 
 unfoldable pub unsignedEvidence : Trial (Family four heardTwice → Demand3 four heardTwice)
 unsignedEvidence = safety four two heardTwice (framing 7 9 ∷ [])

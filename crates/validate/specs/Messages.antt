@@ -28,7 +28,7 @@ unfolding within commandOf kindOf isForStep
 for-step (Submit round seat value signature) = refl
 for-step (Notice round seat value) = refl
 for-step (Full round sender value entries) = refl
-for-step (Evidence round lower higher entries) = refl
+for-step (Evidence round values entries) = refl
 for-step Garbled = refl
 
 -- a certificate is "0x03 FULL"
@@ -37,7 +37,7 @@ unfolding within commandOf kindOf isFull
 for-certificate (Submit round seat value signature) = refl
 for-certificate (Notice round seat value) = refl
 for-certificate (Full round sender value entries) = refl
-for-certificate (Evidence round lower higher entries) = refl
+for-certificate (Evidence round values entries) = refl
 for-certificate Garbled = refl
 
 -- "EVIDENCE goes to its own check": 0x05
@@ -46,7 +46,7 @@ unfolding within commandOf kindOf isEvidence
 for-evidence (Submit round seat value signature) = refl
 for-evidence (Notice round seat value) = refl
 for-evidence (Full round sender value entries) = refl
-for-evidence (Evidence round lower higher entries) = refl
+for-evidence (Evidence round values entries) = refl
 for-evidence Garbled = refl
 
 -- "SUBMIT heard before the own submit"
@@ -55,7 +55,7 @@ unfolding within commandOf kindOf early
 for-early r (Submit round seat value signature) = refl
 for-early r (Notice round seat value) = refl
 for-early r (Full round sender value entries) = refl
-for-early r (Evidence round lower higher entries) = refl
+for-early r (Evidence round values entries) = refl
 for-early r Garbled = refl
 
 module _ (m : Message) (t : Kind) (e : t ≡ kindOf m) (b : Bool) where
@@ -76,7 +76,7 @@ unfolding kindOf isFull
 full-kind (Submit round seat value signature) e = absurd (false≢true e)
 full-kind (Notice round seat value) e = absurd (false≢true e)
 full-kind (Full round sender value entries) e = refl
-full-kind (Evidence round lower higher entries) e = absurd (false≢true e)
+full-kind (Evidence round values entries) e = absurd (false≢true e)
 full-kind Garbled e = absurd (false≢true e)
 
 pub evidence-kind : (m : Message) → isEvidence m ≡ true → kind.Evidence ≡ kindOf m
@@ -84,7 +84,7 @@ unfolding kindOf isEvidence
 evidence-kind (Submit round seat value signature) e = absurd (false≢true e)
 evidence-kind (Notice round seat value) e = absurd (false≢true e)
 evidence-kind (Full round sender value entries) e = absurd (false≢true e)
-evidence-kind (Evidence round lower higher entries) e = refl
+evidence-kind (Evidence round values entries) e = refl
 evidence-kind Garbled e = absurd (false≢true e)
 
 -- ---- 9 to 14

@@ -56,7 +56,7 @@ unfolding kindWith command render kindOf
 kind-with (Submit round seat value signature) = refl
 kind-with (Notice round seat value) = refl
 kind-with (Full round sender value entries) = refl
-kind-with (Evidence round lower higher entries) = refl
+kind-with (Evidence round values entries) = refl
 kind-with Garbled = refl
 
 pub kind-told : (k : Kind) (m : Message) → commandOf k ≡ command m → k ≡ kindOf m

@@ -11,10 +11,10 @@ use lib.Dec.{leb, ltb, eqb}
 use lib.ListN.{length}
 use borrow.Author.Tests.{ltb-true, lt-ltb, le-ltb, le-leb, lt-leb, ne-eqb, not-true, not-false}
 use Rattle.quorum.specs.Quorum.{k}
-use Rattle.protocol.specs.Layout.{valueLength, signatureLength, seatAt, valueAt, fullEntryLength, lowerAt, higherAt, evidenceCountAt, evidenceEntryLength}
+use Rattle.protocol.specs.Layout.{valueLength, signatureLength, seatAt, valueAt, fullEntryLength, evidenceCountAt, evidenceEntryLength}
 use Rattle.protocol.specs.Figures.{submit-figure, notice-figure, full-figure, evidence-figure}
 use Rattle.protocol.specs.Entries.{placeOf}
-use Rattle.protocol.specs.Message.{Message, Submit, Notice, Full, Evidence, Garbled, fullForm, evidenceForm, formOf, byteAt, readRound, readValue, readSubmit, readNotice, readFull, readEvidence, read, roundOf, entrySeats, seatsOf}
+use Rattle.protocol.specs.Message.{Message, Submit, Notice, Full, Evidence, Garbled, fullForm, evidenceForm, readValues, formOf, byteAt, readRound, readSubmit, readNotice, readFull, readEvidence, read, roundOf, entrySeats, seatsOf}
 use Rattle.protocol.specs.Refusals.{every, rising, otherRound, stranger, disorder}
 use Rattle.protocol.specs.ConditionsLaws.{every-append}
 use Rattle.protocol.specs.MessageLaws.{full-faithful, evidence-faithful, submit-fits, notice-fits, full-fits, evidence-fits}
@@ -101,7 +101,7 @@ unfolding seatsOf sendersOf entrySeats
 seats-parts (Submit round seat value signature) = refl
 seats-parts (Notice round seat value) = refl
 seats-parts (Full round sender value entries) = refl
-seats-parts (Evidence round lower higher entries) = refl
+seats-parts (Evidence round values entries) = refl
 seats-parts Garbled = refl
 
 module _ (n : ℕ) (m : Message) where
@@ -147,7 +147,7 @@ module _ (t : Kind) (n : ℕ) (bytes : List ℕ) (e : t ≡ kindOf (read n bytes
   unfolding entrySeats readEvidence evidenceForm placeOf evidenceEntryLength signatureLength
   evidence-seats g q =
       let r = read-as kind.Evidence n bytes (sym g ∙ e) in
-      (rw (r .0, q) (seats-walked (formOf bytes) bytes (evidence-faithful (readValue lowerAt bytes) (readValue higherAt bytes)) (byteAt bytes evidenceCountAt)), omega (arith, evidence-fits n bytes (r .1) .size, evidence-figure (byteAt bytes evidenceCountAt)))
+      (rw (r .0, q) (seats-walked (formOf bytes) bytes (evidence-faithful (readValues bytes)) (byteAt bytes evidenceCountAt)), omega (arith, evidence-fits n bytes (r .1) .size, evidence-figure (byteAt bytes evidenceCountAt)))
 
 -- the others have no entries
 pub no-seats : (t : Kind) (n : ℕ) (bytes : List ℕ) → t ≡ kindOf (read n bytes) → (tag t ≡ 0) ⊎ ((tag t ≡ 1) ⊎ (tag t ≡ 4))

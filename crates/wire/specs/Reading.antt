@@ -17,7 +17,7 @@ unfoldable pub kindOf : Message → Kind
 kindOf (Submit round seat value signature) = kind.Submit
 kindOf (Notice round seat value) = kind.Notice
 kindOf (Full round sender value entries) = kind.Full
-kindOf (Evidence round lower higher entries) = kind.Evidence
+kindOf (Evidence round values entries) = kind.Evidence
 kindOf Garbled = kind.Garbled
 
 -- ---- entries
@@ -52,5 +52,5 @@ unfoldable pub sendersOf : Message → List ℕ
 sendersOf (Submit round seat value signature) = seat ∷ []
 sendersOf (Notice round seat value) = seat ∷ []
 sendersOf (Full round sender value entries) = sender ∷ []
-sendersOf (Evidence round lower higher entries) = []
+sendersOf (Evidence round values entries) = []
 sendersOf Garbled = []

@@ -12,9 +12,9 @@ use lib.Seq.{set-split, sets-eq}
 use Rattle.octets.specs.Octets.{patch, be}
 use Rattle.octets.specs.OctetLaws.{length-be, patch-patch, length-patch}
 use Rattle.octets.specs.StringLaws.{be-two}
-use Rattle.quorum.specs.Quorum.{bit, In, seats, size, shared}
-use Rattle.quorum.specs.QuorumLaws.{seats-in, seats-out, length-seats, shared-lt}
-use Rattle.protocol.specs.Layout.{valueLength, operandsAt, noticeLength, entryLength, evidenceStart}
+use Rattle.quorum.specs.Quorum.{k, bit, In, shared, seats, size}
+use Rattle.quorum.specs.QuorumLaws.{in-shared, shared-lt, size-shared-le, seats-in, seats-out, length-seats}
+use Rattle.protocol.specs.Layout.{valueLength, operandsAt, noticeLength, entryLength, evidenceStart, evidenceEntryLength, evidenceEntryAt, evidenceLength}
 use Rattle.protocol.specs.Values.{isLower}
 use Rattle.protocol.specs.Entries.{Form, renderEntry, renderEntries}
 use Rattle.protocol.specs.EntriesLaws.{entries-append, length-entry}
@@ -23,7 +23,7 @@ use Rattle.protocol.specs.Certificate.{Certificate, pairOf, pairsOf, orderedEvi
 use Rattle.store.specs.Sources.{certificateFrom}
 use Rattle.store.specs.SeatLaws.{seats-split}
 use Rattle.store.specs.declared.sources.Source.{Source}
-use Rattle.wire_write.specs.Writing.{Wrote, head, evidenceHead}
+use Rattle.wire_write.specs.Writing.{Wrote, noValues, head, evidenceHead}
 
 -- ---- one write after another
 
@@ -132,30 +132,41 @@ list-written form f n m front {count = count} u v h inside c =
 
 -- the bytes of pairs don't say their values
 pub pairs-values : (n : ℕ) (low : Source) (lows : List ℕ) (high : Source) (highs lower higher l : List ℕ)
-    → renderEntries (evidenceForm [] []) (map (pairOf (certificateFrom n low [] lows) (certificateFrom n high [] highs)) l)
-    ≡ renderEntries (evidenceForm lower higher) (map (pairOf (certificateFrom n low lower lows) (certificateFrom n high higher highs)) l)
+    → renderEntries (evidenceForm noValues) (map (pairOf (certificateFrom n low [] lows) (certificateFrom n high [] highs)) l)
+    ≡ renderEntries (evidenceForm (record { lower = lower; higher = higher })) (map (pairOf (certificateFrom n low lower lows) (certificateFrom n high higher highs)) l)
 unfolding renderEntries renderEntry evidenceForm
 pairs-values n low lows high highs lower higher [] = refl
 pairs-values n low lows high highs lower higher (s ∷ l) = rw (pairs-values n low lows high highs lower higher l)
 
--- EVIDENCE from its parts: its start, and the entries of the shared seats
+-- EVIDENCE from its parts: its start, and the entries of a set of seats
 pub evidence-written : (n round mask : ℕ) (lower : List ℕ) (low : Source) (lows higher : List ℕ) (high : Source) (highs : List ℕ)
     → {at count a e : ℕ} {before one after : List ℕ} → Wrote at (evidenceHead round lower higher count) before one a
-    → Wrote a (renderEntries (evidenceForm [] []) (pairsOf n mask (certificateFrom n low [] lows) (certificateFrom n high [] highs))) one after e
-    → at ≤ length before → low .seats < 2 ^ n → high .seats < 2 ^ n → mask ≡ shared (low .seats) (high .seats) → count ≡ size mask
-    → Wrote at (render (orderedEvidence n round (certificateFrom n low lower lows) (certificateFrom n high higher highs))) before after e
+    → Wrote a (renderEntries (evidenceForm noValues) (pairsOf n mask (certificateFrom n low [] lows) (certificateFrom n high [] highs))) one after e
+    → at ≤ length before → mask < 2 ^ n → count ≡ size mask
+    → Wrote at (render (orderedEvidence n round mask (certificateFrom n low lower lows) (certificateFrom n high higher highs))) before after e
 unfolding render orderedEvidence pairsOf
-evidence-written n round mask lower low lows higher high highs u v h x y q c =
-    let both = shared (low .seats) (high .seats) in
-    list-written (evidenceForm lower higher) (pairOf (certificateFrom n low lower lows) (certificateFrom n high higher highs)) n both (0x05 ∷ be 2 round ++ lower ++ higher) u (rw (q, pairs-values n low lows high highs lower higher (seats n both)) at v) h
-    (shared-lt n (low .seats) (high .seats) x y) (c ∙ ap size q)
+evidence-written n round mask lower low lows higher high highs u v h inside c =
+    list-written (evidenceForm (record { lower = lower; higher = higher })) (pairOf (certificateFrom n low lower lows) (certificateFrom n high higher highs)) n mask (0x05 ∷ be 2 round ++ lower ++ higher) u
+    (rw (pairs-values n low lows high highs lower higher (seats n mask)) at v) h inside c
 
 -- EVIDENCE from two certificates in either order, by a test of their values
-module _ (n round : ℕ) (c d : Certificate) {t : Bool} (e : t ≡ isLower (c .value) (d .value)) {at : ℕ} {before after : List ℕ} {end : ℕ} where
-  pub given-lower : t ≡ true → Wrote at (render (orderedEvidence n round c d)) before after end → Wrote at (render (evidenceOf n round c d)) before after end
+module _ (n round mask : ℕ) (c d : Certificate) {t : Bool} (e : t ≡ isLower (c .value) (d .value)) {at : ℕ} {before after : List ℕ} {end : ℕ} where
+  pub given-lower : t ≡ true → Wrote at (render (orderedEvidence n round mask c d)) before after end → Wrote at (render (evidenceOf n round mask c d)) before after end
   unfolding evidenceOf
   given-lower f w = rw (← e, f) w
 
-  pub given-higher : t ≡ false → Wrote at (render (orderedEvidence n round d c)) before after end → Wrote at (render (evidenceOf n round c d)) before after end
+  pub given-higher : t ≡ false → Wrote at (render (orderedEvidence n round mask d c)) before after end → Wrote at (render (evidenceOf n round mask c d)) before after end
   unfolding evidenceOf
   given-higher f w = rw (← e, f) w
+
+-- the seats that two sets share, as the set to write: all are below n and in both
+module _ (n a b : ℕ) {mask : ℕ} (is : mask ≡ shared a b) where
+  pub shared-seats : a < 2 ^ n → b < 2 ^ n → (mask < 2 ^ n) × ((s : ℕ) → In s mask → In s a) × ((s : ℕ) → In s mask → In s b)
+  shared-seats x y = rw is (shared-lt n a b x y, λ s i. in-shared s a b .0 i .0, λ s i. in-shared s a b .0 i .1)
+
+  -- they are at most k, where the first set has no more
+  pub shared-room : size a ≤ k n → evidenceLength (size mask) ≤ evidenceLength (k n)
+  unfolding evidenceLength evidenceEntryAt
+  shared-room h =
+      let few : size mask ≤ k n = rw is (omega (arith, size-shared-le a b)) in
+      omega (arith, mul-le-mul-left evidenceEntryLength few)

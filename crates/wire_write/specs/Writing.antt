@@ -6,7 +6,7 @@ use Prim.Native.Nat.{ℕ, _+_}
 use lib.ListN.{length}
 use Rattle.octets.specs.Octets.{patch, be}
 use Rattle.quorum.specs.Quorum.{In}
-use Rattle.protocol.specs.Message.{Entry, Pair}
+use Rattle.protocol.specs.Message.{Entry, Pair, PairValues}
 use Rattle.store.specs.declared.sources.Source.{Source}
 
 -- a buffer after `bytes` were written from index `at`: every other byte keeps what it held, and `end` is the place after them
@@ -25,6 +25,9 @@ evidenceHead round lower higher count = 0x05 ∷ be 2 round ++ lower ++ higher +
 -- entries, as they are written: the bytes of a pair don't say its values
 abbrev pub entry : ℕ → List ℕ → Entry
 entry seat signature = record { seat = seat; signature = signature }
+
+abbrev pub noValues : PairValues
+noValues = record { lower = []; higher = [] }
 
 abbrev pub pair : ℕ → List ℕ → List ℕ → Pair
 pair seat lower higher = record { seat = seat; lowerValue = []; higherValue = []; lower = lower; higher = higher }

@@ -1,16 +1,16 @@
 // Writers: each writes one command, or a part of one, from an index of `out` on, and answers the index after it.
 ghost use mathlib.Core.Path.{_≡_};
 ghost use mathlib.Core.List.{[], _∷_};
-ghost use Prim.Native.Nat.{_+_, _*_, _<_, _≤_};
+ghost use Prim.Native.Nat.{_+_, _*_, _^_, _<_, _≤_};
 ghost use lib.ListN.{length};
 ghost use Rattle.octets.specs.Octets.{be};
-ghost use Rattle.quorum.specs.Quorum.{mostSeats, seats, shared, size};
+ghost use Rattle.quorum.specs.Quorum.{mostSeats, seats, size};
 ghost use Rattle.protocol.specs.Layout.{valueLength, signatureLength, operandsAt, submitLength, noticeLength, fullEntryLength, fullEntryAt, evidenceStart, evidenceEntryLength, evidenceLength};
 ghost use Rattle.protocol.specs.Entries.{renderEntry, renderEntries};
 ghost use Rattle.protocol.specs.Message.{Submit, Notice, fullForm, evidenceForm, render};
 ghost use Rattle.protocol.specs.Certificate.{entriesOf, fullOf, pairsOf, orderedEvidence, evidenceOf};
 ghost use Rattle.store.specs.Sources.{Readable, certificateFrom};
-ghost use Rattle.wire_write.specs.Writing.{Wrote, Within, head, evidenceHead, entry, pair};
+ghost use Rattle.wire_write.specs.Writing.{Wrote, Within, noValues, head, evidenceHead, entry, pair};
 use quorum::Mask;
 use store::sources::Source;
 use store::sources::signature_of;
@@ -100,7 +100,7 @@ fn write_entry(out: &mut [u8], at: usize, seat: u32, signature: &[u8]) -> usize
 // An entry of EVIDENCE.
 fn write_pair(out: &mut [u8], at: usize, seat: u32, lower: &[u8], higher: &[u8]) -> usize
     requires { ⌜ (seat < 256) × (length (now lower) ≡ signatureLength) × (length (now higher) ≡ signatureLength) × (at + evidenceEntryLength ≤ length (now out)) ⌝ }
-    ensures { λ r. ⌜ Wrote at (renderEntry (evidenceForm [] []) (pair seat (now (lower .entry)) (now (higher .entry)))) (now (out .entry)) (now (out .exit)) r ⌝ }
+    ensures { λ r. ⌜ Wrote at (renderEntry (evidenceForm noValues) (pair seat (now (lower .entry)) (now (higher .entry)))) (now (out .entry)) (now (out .exit)) r ⌝ }
 {
     let a = put_tag(out, at, 6, seat);
     let b = put(out, a, lower);
@@ -156,7 +156,7 @@ fn write_pairs(
     highs: &[u8],
 ) -> usize
     requires { ⌜ (n ≤ mostSeats) × Within mask low × Readable n low (now lows) × Within mask high × Readable n high (now highs) × (at + evidenceEntryLength * length (seats n mask) ≤ length (now out)) ⌝ }
-    ensures { λ r. ⌜ Wrote at (renderEntries (evidenceForm [] []) (pairsOf n mask (certificateFrom n low [] (now (lows .entry))) (certificateFrom n high [] (now (highs .entry))))) (now (out .entry)) (now (out .exit)) r × (r ≡ at + evidenceEntryLength * length (seats n mask)) ⌝ }
+    ensures { λ r. ⌜ Wrote at (renderEntries (evidenceForm noValues) (pairsOf n mask (certificateFrom n low [] (now (lows .entry))) (certificateFrom n high [] (now (highs .entry))))) (now (out .entry)) (now (out .exit)) r × (r ≡ at + evidenceEntryLength * length (seats n mask)) ⌝ }
 {
     let mut end = at;
     let mut s = 0;
@@ -189,12 +189,13 @@ fn write_evidence_head(
     put_byte(out, c, count as u8)
 }
 
-// EVIDENCE from two certificates, the one with the lower value first.
+// EVIDENCE from two certificates for a set of seats that both have, the one with the lower value first.
 fn write_ordered(
     out: &mut [u8],
     at: usize,
     n: u32,
     round: u32,
+    mask: Mask,
     lower: &[u8],
     low: Source,
     lows: &[u8],
@@ -202,21 +203,21 @@ fn write_ordered(
     high: Source,
     highs: &[u8],
 ) -> usize
-    requires { ⌜ (n ≤ mostSeats) × (length (now lower) ≡ valueLength) × Readable n low (now lows) × (length (now higher) ≡ valueLength) × Readable n high (now highs) × (at + evidenceLength (size (shared (low .seats) (high .seats))) ≤ length (now out)) ⌝ }
-    ensures { λ r. ⌜ Wrote at (render (orderedEvidence n round (certificateFrom n low (now (lower .entry)) (now (lows .entry))) (certificateFrom n high (now (higher .entry)) (now (highs .entry))))) (now (out .entry)) (now (out .exit)) r × (r ≡ at + evidenceLength (size (shared (low .seats) (high .seats)))) ⌝ }
+    requires { ⌜ (n ≤ mostSeats) × (length (now lower) ≡ valueLength) × Readable n low (now lows) × (length (now higher) ≡ valueLength) × Readable n high (now highs) × (mask < 2 ^ n) × Within mask low × Within mask high × (at + evidenceLength (size mask) ≤ length (now out)) ⌝ }
+    ensures { λ r. ⌜ Wrote at (render (orderedEvidence n round mask (certificateFrom n low (now (lower .entry)) (now (lows .entry))) (certificateFrom n high (now (higher .entry)) (now (highs .entry))))) (now (out .entry)) (now (out .exit)) r × (r ≡ at + evidenceLength (size mask)) ⌝ }
 {
-    let mask = quorum::shared(low.seats, high.seats);
     let count = quorum::size(mask);
     let a = write_evidence_head(out, at, round, lower, higher, count);
     write_pairs(out, a, n, mask, low, lows, high, highs)
 }
 
-// EVIDENCE from two certificates, given in either order: values va and vb, signatures from ma and mb.
+// EVIDENCE from two certificates for a set of seats that both have, in either order: values va and vb, signatures from ma and mb.
 pub fn write_evidence(
     out: &mut [u8],
     at: usize,
     n: u32,
     round: u32,
+    mask: Mask,
     va: &[u8],
     a: Source,
     ma: &[u8],
@@ -224,11 +225,11 @@ pub fn write_evidence(
     b: Source,
     mb: &[u8],
 ) -> usize
-    requires { ⌜ (n ≤ mostSeats) × (length (now va) ≡ valueLength) × Readable n a (now ma) × (length (now vb) ≡ valueLength) × Readable n b (now mb) × (at + evidenceLength (size (shared (a .seats) (b .seats))) ≤ length (now out)) ⌝ }
-    ensures { λ r. ⌜ Wrote at (render (evidenceOf n round (certificateFrom n a (now (va .entry)) (now (ma .entry))) (certificateFrom n b (now (vb .entry)) (now (mb .entry))))) (now (out .entry)) (now (out .exit)) r × (r ≡ at + evidenceLength (size (shared (a .seats) (b .seats)))) ⌝ }
+    requires { ⌜ (n ≤ mostSeats) × (length (now va) ≡ valueLength) × Readable n a (now ma) × (length (now vb) ≡ valueLength) × Readable n b (now mb) × (mask < 2 ^ n) × Within mask a × Within mask b × (at + evidenceLength (size mask) ≤ length (now out)) ⌝ }
+    ensures { λ r. ⌜ Wrote at (render (evidenceOf n round mask (certificateFrom n a (now (va .entry)) (now (ma .entry))) (certificateFrom n b (now (vb .entry)) (now (mb .entry))))) (now (out .entry)) (now (out .exit)) r × (r ≡ at + evidenceLength (size mask)) ⌝ }
 {
     if lower(va, vb) {
-        return write_ordered(out, at, n, round, va, a, ma, vb, b, mb);
+        return write_ordered(out, at, n, round, mask, va, a, ma, vb, b, mb);
     }
-    write_ordered(out, at, n, round, vb, b, mb, va, a, ma)
+    write_ordered(out, at, n, round, mask, vb, b, mb, va, a, ma)
 }

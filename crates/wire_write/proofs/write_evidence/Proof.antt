@@ -1,12 +1,6 @@
 -- `wire_write::write_evidence` meets its contract.
-use mathlib.Core.Path.{_≡_, ap, _∙_}
-use Prim.Native.Nat.{ℕ, _+_}
-use native.Mathlib.Omega.{arith}
 use borrow.Author.Needs.{needs}
 use denote.Ref.{now}
-use Rattle.quorum.specs.Quorum.{size, shared}
-use Rattle.quorum.specs.QuorumLaws.{shared-comm}
-use Rattle.protocol.specs.Layout.{evidenceLength}
 use Rattle.protocol.specs.Certificate.{Certificate}
 use Rattle.store.specs.Sources.{certificateFrom}
 use Rattle.wire_write.specs.WriteLaws.{given-lower, given-higher}
@@ -23,10 +17,6 @@ one c = certificateFrom (c .args .n) (c .args .a) (now (c .args .va)) (now (c .a
 abbrev two : tie.Start → Certificate
 two c = certificateFrom (c .args .n) (c .args .b) (now (c .args .vb)) (now (c .args .mb))
 
--- as many seats are shared in either order
-swapped : (c : tie.Start) → evidenceLength (size (shared (c .args .b .seats) (c .args .a .seats))) ≡ evidenceLength (size (shared (c .args .a .seats) (c .args .b .seats)))
-swapped c = ap (λ (x : ℕ). evidenceLength (size x)) (shared-comm (c .args .b .seats) (c .args .a .seats))
-
 returns : tie.Need-returns
 returns c =
     let done = c .before .before in
@@ -34,7 +24,7 @@ returns c =
     let test = branch .before in
     let start = started test in
     let wrote = done .write-ordered in (
-      given-lower (start .args .n) (start .args .round) (one start) (two start) (test .lower .ensures) (branch .if1 .taken) (wrote .ensures .0),
+      given-lower (start .args .n) (start .args .round) (start .args .mask) (one start) (two start) (test .lower .ensures) (branch .if1 .taken) (wrote .ensures .0),
       wrote .ensures .1,
     )
 
@@ -42,7 +32,7 @@ write-ordered-requires-2 : tie.Need-write-ordered-requires-2
 write-ordered-requires-2 c κs =
     let start = started (c .before .before) in
     let pre = start .pre in
-    (pre .0, pre .3, pre .4, pre .1, pre .2, omega (arith, swapped start, pre .5))
+    (pre .0, pre .3, pre .4, pre .1, pre .2, pre .5, pre .7, pre .6, pre .8)
 
 returns-2 : tie.Need-returns-2
 returns-2 c =
@@ -51,8 +41,8 @@ returns-2 c =
     let test = branch .before in
     let start = started test in
     let wrote = done .write-ordered2 in (
-      given-higher (start .args .n) (start .args .round) (one start) (two start) (test .lower .ensures) (branch .if1 .left) (wrote .ensures .0),
-      wrote .ensures .1 ∙ ap (λ (l : ℕ). start .args .at + l) (swapped start),
+      given-higher (start .args .n) (start .args .round) (start .args .mask) (one start) (two start) (test .lower .ensures) (branch .if1 .left) (wrote .ensures .0),
+      wrote .ensures .1,
     )
 
 pub write-evidence-spec : {M : Type 1} → statement M

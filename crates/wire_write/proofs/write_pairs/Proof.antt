@@ -14,13 +14,13 @@ use Rattle.protocol.specs.Entries.{Form}
 use Rattle.protocol.specs.Message.{Pair, evidenceForm}
 use Rattle.protocol.specs.Certificate.{pairOf, pairsOf}
 use Rattle.store.specs.Sources.{certificateFrom}
-use Rattle.wire_write.specs.Writing.{pair}
+use Rattle.wire_write.specs.Writing.{noValues, pair}
 use Rattle.wire_write.specs.WriteLaws.{Going, going-none, going-skip, going-room, going-on, going-done}
 use Rattle.wire_write.proofs.write_pairs.Statement.{statement}
 use Rattle.wire_write.proofs.write_pairs.Tie as tie
 
 abbrev form : Form Pair
-form = evidenceForm [] []
+form = evidenceForm noValues
 
 abbrev Inv-loop : tie.InvT-loop
 Inv-loop out₀ at n mask low lows high highs end₀ s₀ out end s = Going form (pairOf (certificateFrom n low [] lows) (certificateFrom n high [] highs)) n mask at out₀ s end out

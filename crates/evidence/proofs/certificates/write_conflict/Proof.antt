@@ -1,11 +1,12 @@
 -- `evidence::certificates::write_conflict` meets its contract.
 use native.Mathlib.Omega.{arith}
-use Rattle.quorum.specs.Quorum.{k}
-use Rattle.quorum.specs.QuorumLaws.{size-shared-le}
-use Rattle.protocol.specs.Layout.{signatureLength, evidenceEntryLength, evidenceEntryAt, evidenceLength}
+use Prim.Native.Nat.{_≤_}
+use Rattle.quorum.specs.Quorum.{k, size}
+use Rattle.protocol.specs.Layout.{signatureLength, evidenceEntryLength, evidenceEntryAt, evidenceLength, evidenceOutLength}
 use Rattle.validate.specs.Messages.{full-kind}
 use Rattle.evidence.specs.Passed.{both-taken}
-use Rattle.evidence.specs.Making.{readable, sized, certificate-is, evidence-room, wrote-evidence}
+use Rattle.wire_write.specs.WriteLaws.{shared-seats, shared-room}
+use Rattle.evidence.specs.Making.{readable, sized, certificate-is, wrote-evidence}
 use borrow.Author.Needs.{needs}
 use Rattle.evidence.proofs.certificates.write_conflict.Statement.{statement}
 use Rattle.evidence.proofs.certificates.write_conflict.Tie as tie
@@ -14,8 +15,11 @@ abbrev started : tie.After-slice-known → tie.Start
 started c = c .before .before .before
 
 -- the sets of seats, and the values
+abbrev shared-at : tie.After-vb → tie.After-shared
+shared-at c = c .before .before .before
+
 abbrev sets : tie.After-vb → tie.After-entry-set2
-sets c = c .before .before .before
+sets c = shared-at c .before
 
 abbrev first-set : tie.After-entry-set2 → tie.After-entry-set
 first-set c = c .before
@@ -52,25 +56,36 @@ entry-set-requires-2 c κs =
     let pre = valued (c .before) .pre in
     (pre .0, pre .1, full-kind _ (pre .2 .second .is), pre .2 .second .known)
 
+-- the first certificate has k seats, so that EVIDENCE fits
+few : (b : tie.After-entry-set2) → size (first-set b .entry-set .result) ≤ k (given b .args .n)
+few b = omega (arith, sized _ (given b .pre .2 .first) (first-set b .entry-set .ensures))
+
 write-evidence-requires : tie.Need-write-evidence-requires
+unfolding evidenceOutLength
 write-evidence-requires c κs =
     let b = sets c in
     let pre = given b .pre in
-    let sa = first-set b .entry-set in (
+    let sa = first-set b .entry-set in
+    let is = shared-at c .shared .ensures in
+    let ra = readable _ (pre .2 .first) (sa .ensures) in
+    let rb = readable _ (pre .2 .second) (b .entry-set2 .ensures) in
+    let shared = shared-seats _ _ _ is (ra .inside) (rb .inside) in (
       pre .1,
       search needs,
-      readable _ (pre .2 .first) (sa .ensures),
+      ra,
       search needs,
-      readable _ (pre .2 .second) (b .entry-set2 .ensures),
-      evidence-room _ _ _ (sized _ (pre .2 .first) (sa .ensures)) (pre .3),
+      rb,
+      shared .0,
+      shared .1,
+      shared .2,
+      omega (arith, shared-room _ _ _ is (few b), pre .3),
     )
 
 cast-result : tie.Need-cast-result
 unfolding evidenceLength evidenceEntryAt evidenceEntryLength signatureLength k
 cast-result c =
     let b = sources c in
-    let sa = first-set b .entry-set in
-    omega (arith, size-shared-le (sa .result) (b .entry-set2 .result), sized _ (given b .pre .2 .first) (sa .ensures), written c .write-evidence .ensures .1)
+    omega (arith, shared-room _ _ _ (shared-at (written c .before) .shared .ensures) (few b), written c .write-evidence .ensures .1)
 
 returns : tie.Need-returns
 returns c =
@@ -79,7 +94,7 @@ returns c =
     let conflict = given b .pre .2 in
     let ca = certificate-is _ (conflict .first) (first-set b .entry-set .ensures) (v .before .certificate-value .ensures) in
     let cb = certificate-is _ (conflict .second) (b .entry-set2 .ensures) (v .certificate-value2 .ensures) in
-    wrote-evidence _ _ ca cb (written c .write-evidence .ensures .0)
+    wrote-evidence _ _ _ (shared-at (written c .before) .shared .ensures) ca cb (written c .write-evidence .ensures .0)
 
 pub write-conflict-spec : {M : Type 1} → statement M
 write-conflict-spec =
@@ -89,6 +104,7 @@ write-conflict-spec =
     certificate-value-requires-2
     entry-set-requires
     entry-set-requires-2
+    (λ c κs. search needs)
     (λ c. search needs)
     (λ c. search needs)
     write-evidence-requires

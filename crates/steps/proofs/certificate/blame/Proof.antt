@@ -5,7 +5,8 @@ use Rattle.protocol.specs.Layout.{valueLength}
 use Rattle.layout.specs.declared.Bank.the-variants as bank
 use native.Mathlib.Omega.{arith}
 use denote.Ref.{now}
-use Rattle.steps.specs.Certificates.{readable-bank, evidence-bound, evidence-sent}
+use Rattle.wire_write.specs.WriteLaws.{shared-seats, shared-room}
+use Rattle.steps.specs.Certificates.{readable-bank, evidence-sent}
 use borrow.Author.Needs.{needs}
 use Rattle.steps.proofs.certificate.blame.Statement.{statement}
 use Rattle.steps.proofs.certificate.blame.Tie as tie
@@ -16,8 +17,8 @@ started c = c .before .before .before .before .before
 abbrev chosen : tie.After-value → tie.After-bytes-of
 chosen c = c .before .before .before
 
-abbrev written : tie.After-shared → tie.After-write-evidence
-written c = c .before .before .before
+abbrev written : tie.After-slice-known2 → tie.After-write-evidence
+written c = c .before .before
 
 slice-aggregate-write-evidence : tie.Need-slice-aggregate-write-evidence
 slice-aggregate-write-evidence c = search needs
@@ -30,19 +31,21 @@ write-evidence-requires c κs =
     let start = started (chosen c) in
     let r = start .args .r in
     let fits = start .pre .0 in
-    let room = evidence-bound (r .n) (r .first .seats) (start .args .source .seats) (fits .held) in
+    let is = start .pre .3 in
+    let shared = shared-seats _ _ _ is (fits .first) (start .pre .1 .inside) in
     let readable = readable-bank (r .n) bank.First (r .first .seats) (now (start .args .store)) (fits .first) (fits .slots) in
     let long : length (r .first .value) ≡ valueLength = sym (slice-aggregate-write-evidence (c .before)) in
     let long-too : length (start .args .t5) ≡ valueLength = sym (slice-aggregate-write-evidence-2 c) in
-    (fits .most, long, readable, long-too, rw (chosen c .bytes-of .ensures) (start .pre .1), omega (arith, room, start .pre .2))
+    (fits .most, long, readable, long-too, rw (chosen c .bytes-of .ensures) (start .pre .1), shared .0, shared .1, shared .2, omega (arith, shared-room _ _ _ is (fits .held), start .pre .2))
 
 returns : tie.Need-returns
 returns c =
     let wrote = written c .write-evidence in
     let bytes = chosen (written c .before) .bytes-of in
-    let args = started (chosen (written c .before)) .args in
+    let start = started (chosen (written c .before)) in
+    let args = start .args in
     evidence-sent (args .r) (now (args .store)) (now (args .out)) (args .at) (wrote .last .0) (wrote .result)
-    (args .source) (args .t5) (now (args .m)) (now (bytes .result)) (c .shared .result) (bytes .ensures) (c .shared .ensures) (wrote .ensures .0)
+    (args .source) (args .t5) (now (args .m)) (now (bytes .result)) (args .guilty) (bytes .ensures) (start .pre .3) (wrote .ensures .0)
 
 pub blame-spec : {M : Type 1} → statement M
 blame-spec =
@@ -52,6 +55,5 @@ blame-spec =
     slice-aggregate-write-evidence
     slice-aggregate-write-evidence-2
     write-evidence-requires
-    (λ c κs. search needs)
     (λ c. search needs)
     returns)

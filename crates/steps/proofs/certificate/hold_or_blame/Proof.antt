@@ -20,7 +20,7 @@ abbrev taken : tie.After-hold → tie.Then1
 taken c = c .before .before
 
 abbrev tested : tie.After-blame → tie.Then2
-tested c = c .before .before .before
+tested c = c .before .before .before .before
 
 returns : tie.Need-returns
 returns c =
@@ -54,6 +54,7 @@ hold-or-blame-spec =
     (λ c κs. search needs)
     (λ c. search needs)
     returns
+    (λ c κs. search needs)
     (λ c κs. search needs)
     (λ c κs. search needs)
     (λ c. search needs)
