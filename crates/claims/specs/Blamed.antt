@@ -30,7 +30,7 @@ use Rattle.claims.specs.Parts.{other-heard}
 use Rattle.claims.specs.Whole.{notice-heard, full-held}
 use Rattle.claims.specs.Unrefused.{possible, Taken, full-taken}
 use Rattle.claims.specs.NotRefused.{Table, message-not-refused}
-use Rattle.reading.specs.Messages.{step-is, result-came}
+use Rattle.reading.specs.Messages.{step-is, unrefused-unit}
 use Rattle.claims.specs.Journey.{Worthy, At}
 use Rattle.claims.specs.Units.{any-worthy, startOf, endOf, opened-range, opened-fit, opened-outside, start-n, start-round, trip, stop, end-n, end-seat, end-round, written-flag, flag-written, writes-good}
 use Rattle.claims.specs.Safe.{evidence-cases}
@@ -112,16 +112,16 @@ module _ (S : Setting) where
       result-stepped : resultOf S t .unit ≡ stepped m (start (t .unit) (t .store)) .unit
       result-stepped =
           let is = step-is S (t .given) (render m) out (t .unit) (t .store) (h .step .isStep) in
-          result-came S t (is .0 ∙ unrefused-here) ∙ ap (λ (s : State). s .unit) (is .1) ∙ ap (λ x. stepped x (start (t .unit) (t .store)) .unit) reads
+          unrefused-unit S t (is .0 ∙ unrefused-here) ∙ ap (λ (s : State). s .unit) (is .1) ∙ ap (λ x. stepped x (start (t .unit) (t .store)) .unit) reads
 
       -- a fact about the record after the step that later calls keep is a fact about the record at the end
-      pub reached-end : (P : Record → Type 0) → ((r r′ : Record) → Grows r r′ → P r → P r′)
+      reached-end : (P : Record → Type 0) → ((r r′ : Record) → Grows r r′ → P r → P r′)
           → ((r : Record) (store : List ℕ) → r .n ≡ n → Sound checks Any r store → storeLength (r .n) ≤ length store → Settled r → P (stepped m (start r store) .unit)) → P end
       reached-end P grows f =
           grows (resultOf S t .unit) end (at .before) (subst P (sym result-stepped) (f (t .unit) (t .store) size-is (at .sound) room (at .settled)))
 
     -- a NOTICE that reached the unit is heard at the end
-    pub reached-heard : (seat : ℕ) (value : List ℕ) → seat < n → length value ≡ valueLength → Reached S u (render (Notice round seat value)) → Heard value end
+    reached-heard : (seat : ℕ) (value : List ℕ) → seat < n → length value ≡ valueLength → Reached S u (render (Notice round seat value)) → Heard value end
     unfolding isForStep early roundOf seatsOf entrySeats signed rising
     reached-heard seat value inside sized h =
         let range = opened-range S u opened in
@@ -133,7 +133,7 @@ module _ (S : Setting) where
         (λ r store e z room settled. notice-heard checks Any (start r store) z room settled round seat value)
 
     -- a FULL that reached the unit is held at the end, or was compared with the one held
-    pub reached-held : (sender : ℕ) (value : List ℕ) (es : List Entry) → sender < n → Entries checks Any n value es → Reached S u (render (Full round sender value es)) → Held value end
+    reached-held : (sender : ℕ) (value : List ℕ) (es : List Entry) → sender < n → Entries checks Any n value es → Reached S u (render (Full round sender value es)) → Held value end
     unfolding isForStep early
     reached-held sender value es inside entries h =
         let range = opened-range S u opened in
@@ -153,7 +153,7 @@ module _ (S : Setting) where
     own-said ρ seat value s =
         (s .ofRound ∙ end-round S u opened Any any, s .ofSeat ∙ end-seat S u opened Any any, s .ofValue)
 
-    pub confirms-end : (value : List ℕ) → Confirms S u value → (end .confirmed ≡ true) × (end .own .value ≡ value) × (length value ≡ valueLength) × Writes S u (Notice round (u .seat) value)
+    confirms-end : (value : List ℕ) → Confirms S u value → (end .confirmed ≡ true) × (end .own .value ≡ value) × (length value ≡ valueLength) × Writes S u (Notice round (u .seat) value)
     unfolding isNotice
     confirms-end value c =
         let m = Notice (c .0) (c .1) value in
@@ -169,7 +169,7 @@ module _ (S : Setting) where
     abbrev WroteFull : List ℕ → Type 0
     WroteFull value = (es : List Entry) × Entries checks Any n value es × Writes S u (Full round (u .seat) value es)
 
-    pub sent-full : end .sent ≡ true → WroteFull (end .own .value)
+    sent-full : end .sent ≡ true → WroteFull (end .own .value)
     sent-full e =
         let f = flag-written S u opened Any any FULL e in
         full-cases (λ m. Writes S u m → WroteFull (end .own .value)) (f .0) (f .1)
@@ -185,7 +185,7 @@ module _ (S : Setting) where
 
     -- ---- evidence that the unit wrote
 
-    pub guilty-blames : end .guilty ≢ 0 → Blames S u
+    guilty-blames : end .guilty ≢ 0 → Blames S u
     guilty-blames guilty =
         let f = flag-written S u opened Any any EVIDENCE (rw (ne-eqb (end .guilty) 0 guilty)) in
         evidence-cases (λ m. isEvidence m ≡ true → Writes S u m → Blames S u) (f .0) (f .1)

@@ -44,7 +44,7 @@ module _ (n m : ℕ) where
   pub seats-rising : rising (seats n m) ≡ true
   seats-rising = rising-of-rises (seats n m) (seats-rise n m)
 
-  pub seats-below : Each (λ s. s < n) (seats n m)
+  seats-below : Each (λ s. s < n) (seats n m)
   seats-below s d = mem-seats n s m .0 d .0
 
   pub seats-in-set : Each (λ s. In s m) (seats n m)
@@ -96,7 +96,7 @@ module _ (checks : Checks) (W : Relation) where
   }
 
   -- the evidence of two certificates for a set of seats that both have, the lower value first
-  pub pairs-of : (n mask : ℕ) (c d : Certificate) → mask < 2 ^ n → ((s : ℕ) → In s mask → In s (c .seats) × In s (d .seats)) → t0 n + 1 ≤ size mask → size mask ≤ k n
+  pairs-of : (n mask : ℕ) (c d : Certificate) → mask < 2 ^ n → ((s : ℕ) → In s mask → In s (c .seats) × In s (d .seats)) → t0 n + 1 ≤ size mask → size mask ≤ k n
       → Certifies checks W n c → Certifies checks W n d → isLower (c .value) (d .value) ≡ true → Pairs checks W n (valuesOf c d) (pairsOf n mask c d)
   unfolding pairsOf evidenceForm
   pairs-of n mask c d below both enough few y z l =

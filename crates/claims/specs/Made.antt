@@ -26,11 +26,11 @@ module _ (S : Setting) (outside : Outside (S .n) (S .round) (S .keys)) where
   open Setting S using (n, round, keys, checks)
 
   -- evidence of t0 + 1 pairs or more is accepted, and the check's mask has its seats
-  accepted-as : (ρ : ℕ) (values : PairValues) (ps : List Pair) → ρ ≡ round → Pairs checks Any n values ps
+  accepted-mask : (ρ : ℕ) (values : PairValues) (ps : List Pair) → ρ ≡ round → Pairs checks Any n values ps
       → (evidenceCheck checks n round keys (render (Evidence ρ values ps)) .number ≡ 0)
       × (evidenceCheck checks n round keys (render (Evidence ρ values ps)) .mask ≡ setOf (entrySeats (Evidence ρ values ps)))
   unfolding evidenceCheck checkedBy unrefused isEvidence notLowerFirst
-  accepted-as ρ values ps e z =
+  accepted-mask ρ values ps e z =
       let m = Evidence ρ values ps in
       let formed = pairs-formed checks Any n ρ values ps (rw e (outside .inTime)) z in
       let taken = subst (λ r. Taken checks n r m) e (evidence-taken checks Any n ρ values ps z) in
@@ -43,7 +43,7 @@ module _ (S : Setting) (outside : Outside (S .n) (S .round) (S .keys)) where
       × (t0 n + 1 ≤ size (evidenceCheck checks n round keys (render (Evidence ρ values ps)) .mask))
   unfolding entrySeats formSeats evidenceForm
   evidence-accepted ρ values ps e z =
-      let a = accepted-as ρ values ps e z in
+      let a = accepted-mask ρ values ps e z in
       (a .0, rw (a .1) (z .named))
 
 -- evidence that the check accepts and that names exactly the seats that two certificates share
@@ -87,7 +87,7 @@ module _ (S : Setting) (h : InHand) (unrefused-making : making (S .checks) (S .n
       let named = evidence-names checks Any n round (shared (c .seats) (d .seats)) c d (shared-lt n (c .seats) (d .seats) (first .below) (second .below)) in
       let accuses = evidence-elim checks Any n c d (taken .outside .some) first second (λ m. setOf (entrySeats m) ≡ shared (c .seats) (d .seats) → Accuses S (h .a) (h .b) (render m)) round (taken .conflict)
       (λ values ps z e.
-      let p = accepted-as S (taken .outside) round values ps refl z in
+      let p = accepted-mask S (taken .outside) round values ps refl z in
       let q = evidence-accepted S (taken .outside) round values ps refl z in
       record { accepted = p .0; names = p .1 ∙ e; enough = q .1 }) in
       rw bytes (accuses named)

@@ -14,7 +14,7 @@ use lib.ListN.{length}
 use borrow.Author.Tests.{ltb-false, le-ltb, lt-leb, leb-false, eqb-true, eqb-false, eq-eqb, not-false}
 use Rattle.octets.specs.Octets.{wordAt}
 use Rattle.octets.specs.Strings.{same}
-use Rattle.octets.specs.StringLaws.{same-refl, same-false}
+use Rattle.octets.specs.StringsLaws.{same-refl, same-false}
 use Rattle.quorum.specs.Quorum.{mostSeats}
 use Rattle.refusal.specs.Refusal.{firstOf}
 use Rattle.refusal.specs.RefusalLaws.{both-true, both-false, firstOf-zero}

@@ -13,9 +13,9 @@ use lib.Dec.{eqb}
 use lib.ListN.{length}
 use borrow.Author.Tests.{eqb-true, eqb-false, ne-eqb, not-true, not-false}
 use Rattle.octets.specs.Strings.{same}
-use Rattle.octets.specs.StringLaws.{same-refl, same-true, same-false}
+use Rattle.octets.specs.StringsLaws.{same-refl, same-true, same-false}
 use Rattle.quorum.specs.Quorum.{k, bit, In, has, size, shared, with, seats}
-use Rattle.quorum.specs.QuorumLaws.{bit-empty, bit-with-other, bit-with-same, has-false, bit-shared, same-seats, shared-lt, with-lt, size-empty, size-with-new, bit-outside, mem-seats, t0-is-third, k-of-n-share}
+use Rattle.quorum.specs.QuorumLaws.{bit-empty, bit-with-other, bit-with-same, has-false, bit-shared, same-seats, shared-lt, with-lt, size-empty, size-with-new, bit-outside, mem-seats, t0-below-third, k-of-n-share}
 use Rattle.refusal.specs.RefusalLaws.{both-true}
 use Rattle.protocol.specs.Layout.{valueLength, signatureLength, storeLength, collectedBank, firstBank}
 use Rattle.protocol.specs.Values.{unset}
@@ -54,7 +54,7 @@ grows-trans r r′ r″ a b = record {
 -- a fleet of one seat or more has a threshold of one or more
 pub k-pos : (n : ℕ) → 1 ≤ n → 1 ≤ k n
 unfolding k
-k-pos n h = omega (arith, t0-is-third n h)
+k-pos n h = omega (arith, t0-below-third n h)
 
 said-grows : (r r′ : Record) (ρ seat : ℕ) (value : List ℕ) → Grows r r′ → Said r ρ seat value → Said r′ ρ seat value
 said-grows r r′ ρ seat value g s =
@@ -80,7 +80,7 @@ unfolding shared
 shared-none m = and-zero-l m
 
 -- a part that leaves every flag as it was
-pub same-flags : (r r′ : Record) → r′ .own .submitted ≡ r .own .submitted → r′ .confirmed ≡ r .confirmed → r′ .sent ≡ r .sent → r′ .guilty ≡ r .guilty → (κ : Kind) → flagOf κ r′ ≡ flagOf κ r
+same-flags : (r r′ : Record) → r′ .own .submitted ≡ r .own .submitted → r′ .confirmed ≡ r .confirmed → r′ .sent ≡ r .sent → r′ .guilty ≡ r .guilty → (κ : Kind) → flagOf κ r′ ≡ flagOf κ r
 same-flags r r′ a b c d SUBMIT = a
 same-flags r r′ a b c d NOTICE = b
 same-flags r r′ a b c d FULL = c
@@ -133,7 +133,7 @@ module _ (checks : Checks) (W : Relation) where
   room-leads s s′ a room = rw (a .stored, a .grows .n) room
 
   -- a part that writes nothing and sets no flag
-  pub leads-quiet : (s s′ : State) → Sound checks W (s′ .unit) (s′ .store) → length (s′ .store) ≡ length (s .store) → Grows (s .unit) (s′ .unit) → s′ .written ≡ s .written
+  leads-quiet : (s s′ : State) → Sound checks W (s′ .unit) (s′ .store) → length (s′ .store) ≡ length (s .store) → Grows (s .unit) (s′ .unit) → s′ .written ≡ s .written
       → ((κ : Kind) → flagOf κ (s′ .unit) ≡ flagOf κ (s .unit)) → Leads checks W s s′
   leads-quiet s s′ sound stored grows e flags = record {
     sound = sound;
@@ -157,7 +157,7 @@ module _ (checks : Checks) (W : Relation) where
   -- ---- collect
 
   -- the collection with the signature of a new seat
-  pub collection-with : (n seat : ℕ) (own : Own) (signature store : List ℕ) → seat < n → storeLength n ≤ length store → bit seat (own .collected) ≡ 0
+  collection-with : (n seat : ℕ) (own : Own) (signature store : List ℕ) → seat < n → storeLength n ≤ length store → bit seat (own .collected) ≡ 0
       → size (own .collected) < k n → Attested checks W seat (own .value) signature → Collection checks W n own store
       → Collection checks W n (record { submitted = own .submitted; value = own .value; collected = with seat (own .collected) }) (fill n collectedBank seat signature store)
   collection-with n seat own signature store inside room new few g z = record {
@@ -175,12 +175,12 @@ module _ (checks : Checks) (W : Relation) where
           (z .attested s old)
 
   -- signatures in slots that are as they were
-  pub collection-like : (n : ℕ) (own : Own) (store store′ : List ℕ) → Collection checks W n own store → ((t : ℕ) → t < n → slot n collectedBank store′ t ≡ slot n collectedBank store t)
+  collection-like : (n : ℕ) (own : Own) (store store′ : List ℕ) → Collection checks W n own store → ((t : ℕ) → t < n → slot n collectedBank store′ t ≡ slot n collectedBank store t)
       → Collection checks W n own store′
   collection-like n own store store′ z same =
       record { sized = z .sized; below = z .below; few = z .few; attested = λ t i. rw (same t (in-below n t (own .collected) (z .below) i)) (z .attested t i) }
 
-  pub holding-like : (n : ℕ) (first : First) (guilty : ℕ) (store store′ : List ℕ) → Holding checks W n first guilty store → ((t : ℕ) → t < n → slot n firstBank store′ t ≡ slot n firstBank store t)
+  holding-like : (n : ℕ) (first : First) (guilty : ℕ) (store store′ : List ℕ) → Holding checks W n first guilty store → ((t : ℕ) → t < n → slot n firstBank store′ t ≡ slot n firstBank store t)
       → Holding checks W n first guilty store′
   holding-like n first guilty store store′ z same = record {
     sized = z .sized;
@@ -193,7 +193,7 @@ module _ (checks : Checks) (W : Relation) where
   }
 
   -- the first certificate's bank is as it was
-  pub holding-beside : (n seat guilty : ℕ) (r : Record) (signature store : List ℕ) → seat < n → storeLength n ≤ length store → length signature ≡ signatureLength
+  holding-beside : (n seat guilty : ℕ) (r : Record) (signature store : List ℕ) → seat < n → storeLength n ≤ length store → length signature ≡ signatureLength
       → Holding checks W n (r .first) guilty store → Holding checks W n (r .first) guilty (fill n collectedBank seat signature store)
   holding-beside n seat guilty r signature store inside room sized z =
       holding-like n (r .first) guilty store (fill n collectedBank seat signature store) z
@@ -329,7 +329,7 @@ module _ (checks : Checks) (W : Relation) where
   unfolding ownCertificate
   own-certifies r store z e = record { sized = z .own .collection .sized; below = z .own .collection .below; enough = e; attested = z .own .collection .attested }
 
-  pub first-certifies : (r : Record) (store : List ℕ) → Sound checks W r store → r .first .seats ≢ 0 → Certifies checks W (r .n) (firstCertificate r store)
+  first-certifies : (r : Record) (store : List ℕ) → Sound checks W r store → r .first .seats ≢ 0 → Certifies checks W (r .n) (firstCertificate r store)
   unfolding firstCertificate
   first-certifies r store z held =
       record { sized = z .first .sized; below = z .first .below; enough = ⊎-elim (λ e. absurd (held e)) (λ e. e) (z .first .enough); attested = z .first .attested }
@@ -423,8 +423,8 @@ module _ (checks : Checks) (W : Relation) where
         (same-flags r (hold c s .unit) refl refl refl refl)
 
     -- "makes the shared seats guilty and EVIDENCE is written"
-    shared-guilty : s .unit .first .seats ≢ 0 → shared (s .unit .first .seats) (c .seats) ≢ 0
-    shared-guilty held e =
+    shared-some : s .unit .first .seats ≢ 0 → shared (s .unit .first .seats) (c .seats) ≢ 0
+    shared-some held e =
         let r = s .unit in
         let enough : size (r .first .seats) ≡ k (r .n) = ⊎-elim (λ q. absurd (held q)) (λ q. q) (z .first .enough) in
         let many = k-of-n-share (r .n) (r .first .seats) (c .seats) (z .range .some) (z .first .below) (y .below) enough (y .enough) in
@@ -465,7 +465,7 @@ module _ (checks : Checks) (W : Relation) where
         flags values ps p SUBMIT = omega arith
         flags values ps p NOTICE = omega arith
         flags values ps p FULL = omega arith
-        flags values ps p EVIDENCE = rw (innocent, ne-eqb (shared (s .unit .first .seats) (c .seats)) 0 (shared-guilty held))
+        flags values ps p EVIDENCE = rw (innocent, ne-eqb (shared (s .unit .first .seats) (c .seats)) 0 (shared-some held))
 
     pub holdOrBlame-leads : Leads checks W s (holdOrBlame c s)
     unfolding holdOrBlame blames holds
@@ -488,6 +488,6 @@ module _ (checks : Checks) (W : Relation) where
         cond-elim (λ x. Held (c .value) (x .unit)) (not (eqb (r .first .seats) 0)) (cond (not same-value && eqb (r .guilty) 0) (blame c s) s) (hold c s)
         (λ h. let held = eqb-false (r .first .seats) 0 (not-true (eqb (r .first .seats) 0) h) in
         cond-elim (λ x. Held (c .value) (x .unit)) (not same-value && eqb (r .guilty) 0) (blame c s) s
-        (λ e. (held, inr (shared-guilty held)))
+        (λ e. (held, inr (shared-some held)))
         (λ e. (held, ⊎-elim (λ q. inl (sym (same-true (c .value) (r .first .value) (not-false same-value q)))) (λ q. inr (eqb-false (r .guilty) 0 q)) (and-false-either (not same-value) (eqb (r .guilty) 0) e))))
         (λ empty. (certificate-some, inl refl))

@@ -7,7 +7,7 @@ use Prim.Native.Nat.{ℕ, _+_, _≤_, _<_}
 use native.Mathlib.Omega.{arith}
 use native.Mathlib.Decide.{ℕ-discrete}
 use lib.ListN.{length}
-use Rattle.octets.specs.OctetLaws.{length-patch}
+use Rattle.octets.specs.OctetsLaws.{length-patch}
 use Rattle.octets.specs.WriteLaws.{part-own, part-before, part-after}
 use Rattle.protocol.specs.Layout.{signatureLength, banks, storeLength, slotLength, slotAt}
 use Rattle.protocol.specs.LayoutLaws.{ForSignatures, slot-fits, slots-apart}

@@ -21,7 +21,7 @@ use Rattle.claims.specs.Certificates.{entries-laid}
 use Rattle.claims.specs.Parts.{grows-trans, good-grows}
 use Rattle.reading.specs.Reading.{are-unique}
 use Rattle.claims.specs.NotRefused.{OpeningFit, opening-not-refused, Outside}
-use Rattle.reading.specs.Messages.{messages, allMessages, all-member, member-all, written-is, over-are}
+use Rattle.reading.specs.Messages.{messages, allMessages, all-member, member-all, written-is, list-are}
 use Rattle.claims.specs.Unrefused.{fresh-sound, fresh-settled}
 use Rattle.claims.specs.Journey.{lastOf, WorthyGiven, Worthy, At, Journey, journey}
 
@@ -40,7 +40,7 @@ pairs-formed checks W n round values ps early z = (
   z .laid,
 )
 
-pub good-formed : (checks : Checks) (W : Relation) (r : Record) (m : Message) → InRange (r .n) (r .seat) (r .round) → Good checks W r m → WellFormed (r .n) m
+good-formed : (checks : Checks) (W : Relation) (r : Record) (m : Message) → InRange (r .n) (r .seat) (r .round) → Good checks W r m → WellFormed (r .n) m
 good-formed checks W r (Submit ρ seat value signature) range g = (rw (g .0 .ofRound) (let e = range .dated in omega arith), g .0 .sized, g .1 .sized)
 good-formed checks W r (Notice ρ seat value) range g = (rw (g .ofRound) (let e = range .dated in omega arith), g .sized)
 good-formed checks W r (Full ρ sender value es) range g =
@@ -103,8 +103,8 @@ module _ (S : Setting) (u : Honest) (opened : IsOpened S u) where
   start-round = ap (λ (r : Record). r .round) opened-fresh
 
   -- no flag is set at the start
-  pub start-flag : (κ : Kind) → worth (flagOf κ startOf) ≡ 0
-  start-flag κ = rw opened-fresh (fresh-flag n (u .seat) round κ)
+  pub start-unset : (κ : Kind) → worth (flagOf κ startOf) ≡ 0
+  start-unset κ = rw opened-fresh (fresh-flag n (u .seat) round κ)
 
   pub start-sound : (W : Relation) → Sound checks W startOf (u .store)
   start-sound W = subst (λ r. Sound checks W r (u .store)) (sym opened-fresh) (fresh-sound checks W n (u .seat) round (u .store) opened-range)
@@ -124,7 +124,7 @@ module _ (S : Setting) (u : Honest) (opened : IsOpened S u) where
       result-grows = grows-trans startOf (t .unit) (resultOf S t .unit) (stop .since) (stop .after .grows)
 
       -- form of the messages that the call writes
-      pub messages-formed : Each (WellFormed n) (messages S t)
+      messages-formed : Each (WellFormed n) (messages S t)
       messages-formed m e =
           subst (λ i. WellFormed i m) (result-grows .n ∙ start-n) (good-formed checks W (resultOf S t .unit) m (stop .after .sound .range) (stop .after .good m e))
 
@@ -132,12 +132,12 @@ module _ (S : Setting) (u : Honest) (opened : IsOpened S u) where
       written-are = (messages-formed, written-is S t)
 
       -- a message in the bytes that the call writes is one of its messages
-      pub stands-message : (m : Message) → StandsIn n m (writtenIn S t) → List·Memᴰ m (messages S t)
+      stands-message : (m : Message) → StandsIn n m (writtenIn S t) → List·Memᴰ m (messages S t)
       stands-message m s =
           subst (λ ms. List·Memᴰ m ms) (are-unique n (writtenIn S t) (s .0) (messages S t) (s .1) written-are) (s .2)
 
       -- a message in these bytes is good at the end of the list too
-      pub stands-good : (m : Message) → StandsIn n m (writtenIn S t) → Good checks W endOf m
+      stands-good : (m : Message) → StandsIn n m (writtenIn S t) → Good checks W endOf m
       stands-good m s =
           good-grows checks W (resultOf S t .unit) endOf (stop .before) m (stop .after .good m (stands-message m s))
 
@@ -158,7 +158,7 @@ module _ (S : Setting) (u : Honest) (opened : IsOpened S u) where
 
     pub flag-written : (κ : Kind) → flagOf κ endOf ≡ true → (m : Message) × (isOf κ m ≡ true) × Writes S u m
     flag-written κ e =
-        let c = count-member (isOf κ) (allMessages S ts) (omega (arith, trip .counts κ, start-flag κ, worth-true (flagOf κ endOf) e)) in
+        let c = count-member (isOf κ) (allMessages S ts) (omega (arith, trip .counts κ, start-unset κ, worth-true (flagOf κ endOf) e)) in
         let h = member-all S ts (c .0) (c .1) in
         (c .0, c .2, record { call = h .0; inList = h .1; stands = (messages S (h .0), written-are (h .0) (h .1), h .2) })
 
@@ -167,4 +167,4 @@ module _ (S : Setting) (u : Honest) (opened : IsOpened S u) where
 
   -- all bytes that the list writes
   pub all-are : Are n (writtenOver S ts) (allMessages S ts)
-  all-are = over-are S n ts (λ t d. written-are Any (any-worthy S ts) t d)
+  all-are = list-are S n ts (λ t d. written-are Any (any-worthy S ts) t d)

@@ -11,7 +11,7 @@ use lib.ListN.{length}
 use lib.Pow.{pow-pos}
 use borrow.Author.Tests.{ltb-true, lt-ltb, le-ltb, lt-leb, eqb-true, eqb-false, eq-eqb, ne-eqb, not-true, not-false}
 use Rattle.octets.specs.Strings.{same}
-use Rattle.octets.specs.StringLaws.{same-refl}
+use Rattle.octets.specs.StringsLaws.{same-refl}
 use Rattle.quorum.specs.Quorum.{mostSeats, k, has, size, shared}
 use Rattle.quorum.specs.QuorumLaws.{has-true, outside-false, bit-empty, size-empty}
 use Rattle.refusal.specs.Refusal.{firstOf}

@@ -98,12 +98,12 @@ module _ (checks : Checks) (W : Relation) where
     heard-room : Room (reply (hear (c .value) s))
     heard-room = room-leads checks W s (reply (hear (c .value) s)) heard-leads room
 
-    pub hearing-leads : Leads checks W s (hearCertificate c s)
+    hearing-leads : Leads checks W s (hearCertificate c s)
     unfolding hearCertificate
     hearing-leads =
         leads-trans checks W s (reply (hear (c .value) s)) (hearCertificate c s) heard-leads (holdOrBlame-leads checks W c (reply (hear (c .value) s)) (heard-leads .sound) heard-room heard-certifies)
 
-    pub hearing-held : Held (c .value) (hearCertificate c s .unit)
+    hearing-held : Held (c .value) (hearCertificate c s .unit)
     unfolding hearCertificate
     hearing-held = holdOrBlame-held checks W c (reply (hear (c .value) s)) (heard-leads .sound) heard-room heard-certifies
 
@@ -186,7 +186,7 @@ module _ (checks : Checks) (W : Relation) where
         λ q. ⊎-elim (not-false (r .confirmed)) (λ p. absurd (eqb-false (size (r .own .collected)) (k (r .n)) p q)) (and-false-either (not (r .confirmed)) (eqb (size (r .own .collected)) (k (r .n))) e) in
         record { leads = a; settled = settled-stays r (reply s .unit) (a .grows) (reply-stays s) (reply-owes s) complete held }
 
-    pub confirmIfComplete-done : (s .unit .confirmed ≡ true → Held (s .unit .own .value) (s .unit)) → Done s (confirmIfComplete s)
+    confirmIfComplete-done : (s .unit .confirmed ≡ true → Held (s .unit .own .value) (s .unit)) → Done s (confirmIfComplete s)
     unfolding confirmIfComplete
     confirmIfComplete-done held =
         cond-elim (Done s) (isComplete (s .unit)) (hearOwn (confirm s)) (reply s) confirmed-done (λ e. unconfirmed-done e held)

@@ -8,7 +8,7 @@ use native.Mathlib.Omega.{arith}
 use lib.ListN.{length, take, drop, length-append, take-append-drop}
 use lib.Seq.{drop-append-le, length-take-le}
 use Rattle.octets.specs.Octets.{patch}
-use Rattle.octets.specs.StringLaws.{patch-nothing}
+use Rattle.octets.specs.StringsLaws.{patch-nothing}
 use Rattle.quorum.specs.Quorum.{mostSeats, k}
 use Rattle.refusal.specs.Refusal.{firstOf, unrefused}
 use Rattle.refusal.specs.RefusalLaws.{refused-old, refused-first, refused-later}
@@ -21,7 +21,7 @@ use Rattle.protocol.specs.Step.{State}
 use Rattle.protocol.specs.Calls.{outAfter, resultBy, start, answer}
 use Rattle.protocol.specs.declared.Record.{Record}
 use Rattle.protocol.specs.declared.Stepped.{Stepped}
-use Rattle.validate.specs.Given.{Given, record-ready, record-given, record-rises}
+use Rattle.validate.specs.Given.{Given, record-ready, record-given, record-nonzero}
 use Rattle.steps.specs.Phases.{Did}
 use Rattle.steps.specs.declared.phases.Phase.{Phase}
 
@@ -95,7 +95,7 @@ module _ {c : Call} (passed : Passed c) where
   sized = (given .some, given .most)
 
   after-record : firstOf (c .rest) ≡ firstOf (first c ++ c .rest)
-  after-record = refused-later (first c) (c .rest) (passed .number) (passed .told) (record-rises (c .keys) (c .unit) (c .store) (c .out)) (passed .none)
+  after-record = refused-later (first c) (c .rest) (passed .number) (passed .told) (record-nonzero (c .keys) (c .unit) (c .store) (c .out)) (passed .none)
 
   pub refused-by-rest : {number : ℕ} {a : Stepped} → (number ≡ 0 → ⊥) → a ≡ answered number 0 (c .unit) → number ≡ firstOf (c .rest) → Leaves c a (c .store) (c .out)
   refused-by-rest h is e = refused c h is (e ∙ after-record)

@@ -14,7 +14,7 @@ use validate::calls::record_refusal;
 use validate::calls::step_refusal;
 
 // Answer of a refused call: its number, no byte written, the record as it was.
-fn turned_back(number: u32, r: Record) -> Stepped
+fn refused(number: u32, r: Record) -> Stepped
     ensures { λ a. ⌜ a ≡ answered number 0 r ⌝ }
 {
     Stepped {
@@ -56,11 +56,11 @@ pub fn submit(
 {
     let given = record_refusal(r, keys, store, out);
     if given != 0 {
-        return turned_back(given, r);
+        return refused(given, r);
     }
     let own = own_refusal(r, keys, value, signature);
     if own.number != 0 {
-        return turned_back(own.number, r);
+        return refused(own.number, r);
     }
     let room = layout::out_length(r.n);
     let p = submit_phase(r, store, &mut out[..room], value, signature);
@@ -78,12 +78,12 @@ pub fn step(r: Record, keys: &[u8], store: &mut [u8], message: &[u8], out: &mut 
 {
     let given = record_refusal(r, keys, store, out);
     if given != 0 {
-        return turned_back(given, r);
+        return refused(given, r);
     }
     let kind = wire::read::classify(r.n, message);
     let heard = step_refusal(r, keys, kind, message);
     if heard.number != 0 {
-        return turned_back(heard.number, r);
+        return refused(heard.number, r);
     }
     let room = layout::out_length(r.n);
     let p = step_phase(r, store, &mut out[..room], kind, message);

@@ -7,7 +7,7 @@ use Prim.Native.Nat.{ℕ, _+_, _≤_}
 use native.Mathlib.Omega.{arith}
 use lib.ListN.{length}
 use borrow.Author.Tests.{ltb-false}
-use Rattle.octets.specs.StringLaws.{patch-nothing}
+use Rattle.octets.specs.StringsLaws.{patch-nothing}
 use Rattle.quorum.specs.Quorum.{k, size, shared}
 use Rattle.refusal.specs.Refusal.{firstOf, unrefused}
 use Rattle.refusal.specs.RefusalLaws.{refused-old, refused-first}
@@ -19,7 +19,7 @@ use Rattle.protocol.specs.Refusals.{Checks, Condition, shortOut, isFull, OUT, o
 use Rattle.protocol.specs.Calls.{outAfter, makingBy, making, made, lowerOf, lowerCertificate}
 use Rattle.protocol.specs.declared.Written.{Written}
 use Rattle.store.specs.Sources.{Readable, certificateFrom}
-use Rattle.store.specs.SourceLaws.{inFull, full-value, full-readable, full-certificate, full-size}
+use Rattle.store.specs.SourcesLaws.{inFull, full-value, full-readable, full-certificate, full-size}
 use Rattle.wire_write.specs.Writing.{Wrote}
 use Rattle.validate.specs.Messages.{Formed}
 use Rattle.evidence.specs.Passed.{Call, check, outside, Clear, after-outside, two}

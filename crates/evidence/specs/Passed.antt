@@ -9,7 +9,7 @@ use Rattle.refusal.specs.RefusalLaws.{refused-later}
 use Rattle.protocol.specs.Message.{Message, read}
 use Rattle.protocol.specs.Refusals.{Checks, Condition, outsideConditions, twoConditions}
 use Rattle.protocol.specs.Signatures.{checks}
-use Rattle.validate.specs.Given.{Given, outside-given, outside-rises}
+use Rattle.validate.specs.Given.{Given, outside-given, outside-nonzero}
 use Rattle.validate.specs.Entries.{FullTaken, certificate-taken}
 use Rattle.validate.specs.Calls.{Conflict, two-passed}
 
@@ -40,7 +40,7 @@ module _ {c : Call} (clear : Clear c) where
 
   -- the number of the call is that of the rows after them
   pub after-outside : (rest : List Condition) → firstOf rest ≡ firstOf (outside c ++ rest)
-  after-outside rest = refused-later (outside c) rest (clear .number) (clear .told) (outside-rises (c .n) (c .round) (c .keys)) (clear .none)
+  after-outside rest = refused-later (outside c) rest (clear .number) (clear .told) (outside-nonzero (c .n) (c .round) (c .keys)) (clear .none)
 
 -- the rows of two certificates
 abbrev pub two : Call → List ℕ → List ℕ → List Condition

@@ -9,9 +9,9 @@ use native.Mathlib.Nat.{add-zero}
 use native.Mathlib.Omega.{arith}
 use lib.ListN.{length}
 use Rattle.octets.specs.Octets.{part, number, wordAt}
-use Rattle.octets.specs.OctetLaws.{wordAt-part}
+use Rattle.octets.specs.OctetsLaws.{wordAt-part}
 use Rattle.octets.specs.Strings.{joined}
-use Rattle.octets.specs.StringLaws.{number-part-four, length-joined, part-joined}
+use Rattle.octets.specs.StringsLaws.{number-part-four, length-joined, part-joined}
 use Rattle.rfc8554.specs.Tree.{publicKey, treeFilled}
 use Rattle.rfc8554.specs.TreeLaws.{length-treeFilled}
 use Rattle.rfc8554.specs.VerifyLaws.{length-publicKey, lmsType-publicKey, otsType-publicKey}

@@ -10,7 +10,7 @@ use native.Mathlib.Decide.{ℕ-discrete}
 use lib.ListN.{length, length-map}
 use borrow.Author.Tests.{not-false}
 use Rattle.octets.specs.Strings.{same}
-use Rattle.octets.specs.StringLaws.{same-refl}
+use Rattle.octets.specs.StringsLaws.{same-refl}
 use Rattle.quorum.specs.Quorum.{k, bit, In, has, size, shared, with, seats}
 use Rattle.quorum.specs.QuorumLaws.{bit-cases, has-true, bit-with-same, bit-with-other, bit-shared, same-seats, shared-comm, size-shared-le, size-with-new, mem-seats}
 use Rattle.refusal.specs.Refusal.{firstOf, unrefused}
@@ -36,7 +36,7 @@ use Rattle.reading.specs.Reading.{read-sized}
 use Rattle.reading.specs.Messages.{refusalOf, cameTo, outcome-is, step-is}
 use Rattle.claims.specs.Unrefused.{possible, Taken, signed-entries, full-taken}
 use Rattle.claims.specs.Journey.{lastOf, WorthyGiven, Worthy, step-done}
-use Rattle.claims.specs.Units.{any-worthy, startOf, endOf, start-n, start-seat, start-round, start-flag, start-sound, start-settled, stop, end-n, end-seat, end-round, flag-written, writes-good, pairs-formed}
+use Rattle.claims.specs.Units.{any-worthy, startOf, endOf, start-n, start-seat, start-round, start-unset, start-sound, start-settled, stop, end-n, end-seat, end-round, flag-written, writes-good, pairs-formed}
 use Rattle.claims.specs.NotRefused.{opening-not-refused, submit-not-refused, message-not-refused, making-not-refused, making-fit}
 use Rattle.claims.specs.Safe.{conditions, evidenceFrom, making-bytes, certifies-in, submits-end}
 use Rattle.claims.specs.Made.{Accuses, made-accepted}
@@ -423,7 +423,7 @@ module _ (S : Setting) {I : Type 0} (P : Plan I) (z : Splits S P) where
     unsaid = go (start-record .own .submitted) refl
       where
         go : (b : Bool) → start-record .own .submitted ≡ b → start-record .own .submitted ≡ false
-        go true e = absurd (omega (arith, start-flag S u (opened i) SUBMIT, worth-true (start-record .own .submitted) e))
+        go true e = absurd (omega (arith, start-unset S u (opened i) SUBMIT, worth-true (start-record .own .submitted) e))
         go false e = e
 
     own-attested : Attested checks W (start-record .seat) (layout side) (signature side (role i .seat))

@@ -12,7 +12,7 @@ use lib.Dec.{ltb}
 use lib.ListN.{drop-of-length-le, replicate, length-replicate, length, getD, take, drop, set, length-append, length-take, length-drop, take-append-drop}
 use lib.Seq.{set-append-seam, take-append-add, take-all, take-append-le, drop-append-le, drop-append-add, take-length, take-suc-set, getD-take}
 use Rattle.octets.specs.Octets.{part, patch, be, words, bytes}
-use Rattle.octets.specs.OctetLaws.{take-rest, drop-replicate, take-replicate, patch-patch, take-patch, length-be, length-bytes}
+use Rattle.octets.specs.OctetsLaws.{take-rest, drop-replicate, take-replicate, patch-patch, take-patch, length-be, length-bytes}
 use Rattle.fips180.specs.Constants.{constants, initial}
 use Rattle.fips180.specs.Fips.{scheduled, schedule, round, rounds, sums, compress, padding, pad, hashed, absorbed, sha256}
 use Rattle.fips180.specs.Pieces.{leftover, ended, oneBlock}

@@ -63,24 +63,24 @@ garbled-told c m e = ap noMessage (kind-told c m e) ∙ kind-garbled m
 -- ---- the function, return by return
 
 module _ (n : ℕ) (bytes : List ℕ) where
-  pub told-none : n ≡ 0 → 0 ≡ messageLength n bytes
+  pub length-none : n ≡ 0 → 0 ≡ messageLength n bytes
   unfolding messageLength wrongSize
-  told-none h = rw h
+  length-none h = rw h
 
   module _ (some : n ≡ 0 → ⊥) where
-    pub told-many : mostSeats < n → 0 ≡ messageLength n bytes
+    pub length-many : mostSeats < n → 0 ≡ messageLength n bytes
     unfolding messageLength wrongSize
-    told-many h = rw (ne-eqb n 0 some, lt-ltb mostSeats n h)
+    length-many h = rw (ne-eqb n 0 some, lt-ltb mostSeats n h)
 
     module _ (few : n ≤ mostSeats) (l : ℕ) (e : l ≡ frameLength n bytes) where
-      pub told-short : length bytes < l → 0 ≡ messageLength n bytes
+      pub length-short : length bytes < l → 0 ≡ messageLength n bytes
       unfolding messageLength wrongSize
-      told-short h = rw (ne-eqb n 0 some, le-ltb mostSeats n few, ← e, lt-ltb (length bytes) l h)
+      length-short h = rw (ne-eqb n 0 some, le-ltb mostSeats n few, ← e, lt-ltb (length bytes) l h)
 
       module _ (long : l ≤ length bytes) (c : Kind) (told : commandOf c ≡ command (read n (take l bytes))) (t : Bool) (q : t ≡ noMessage c) where
-        pub told-kind : cond t 0 l ≡ messageLength n bytes
+        pub length-kind : cond t 0 l ≡ messageLength n bytes
         unfolding messageLength wrongSize firstFrame
-        told-kind = rw (ne-eqb n 0 some, le-ltb mostSeats n few, ← e, le-ltb (length bytes) l long, ← garbled-told c (read n (take l bytes)) told, ← q)
+        length-kind = rw (ne-eqb n 0 some, le-ltb mostSeats n few, ← e, le-ltb (length bytes) l long, ← garbled-told c (read n (take l bytes)) told, ← q)
 
 -- ---- the length by command and count: r is the code's answer, which fits a u32
 

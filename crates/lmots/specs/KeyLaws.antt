@@ -9,14 +9,14 @@ use lib.ListN.{length, take, drop, getD, set, replicate, getD-replicate, length-
 use lib.Seq.{drop-drop}
 use Rattle.octets.specs.Octets.{part, patch, bytes}
 use Rattle.octets.specs.Strings.{joined}
-use Rattle.octets.specs.OctetLaws.{take-patch, take-rest}
-use Rattle.octets.specs.StringLaws.{length-joined, joined-same, part-patch, part-joined}
+use Rattle.octets.specs.OctetsLaws.{take-patch, take-rest}
+use Rattle.octets.specs.StringsLaws.{length-joined, joined-same, part-patch, part-joined}
 use Rattle.fips180.specs.Fips.{sha256}
 use Rattle.rfc8554.specs.Ots.{coef, chains, otsLength, candidate, dPblc, chain, start, keyInput, digested, signed, completed}
 use Rattle.rfc8554.specs.OtsLaws.{length-start, length-completed}
 use Rattle.lmots_digits.specs.Pieces.{front}
 use Rattle.lmots_batches.specs.Batches.{Ordered, ended}
-use Rattle.lmots_batches.specs.BatchLaws.{all-set, written-next}
+use Rattle.lmots_batches.specs.BatchesLaws.{all-set, written-next}
 
 -- a signature: 36 bytes, then its values
 pub length-values : (w : ℕ) → otsLength w ≡ 36 + 32 * chains w

@@ -6,19 +6,19 @@ use native.Mathlib.Numerals.{add-one}
 use native.Mathlib.Omega.{arith}
 use lib.ListN.{length, getD, replicate, getD-replicate}
 use Rattle.octets.specs.Octets.{part, patch, bytes}
-use Rattle.octets.specs.OctetLaws.{length-patch, length-bytes}
+use Rattle.octets.specs.OctetsLaws.{length-patch, length-bytes}
 use Rattle.octets.specs.Strings.{joined}
-use Rattle.octets.specs.StringLaws.{length-joined, joined-same}
+use Rattle.octets.specs.StringsLaws.{length-joined, joined-same}
 use Rattle.octets.specs.WriteLaws.{part-add, part-own, part-before, part-after, patch-whole}
 use Rattle.fips180.specs.Fips.{sha256}
 use Rattle.fips180.specs.FipsLaws.{length-sha256}
 use Rattle.sha256_lanes.specs.Rows.{column}
-use Rattle.sha256_lanes.specs.RowLaws.{one-more}
+use Rattle.sha256_lanes.specs.RowsLaws.{one-more}
 use Rattle.rfc8554.specs.Ots.{H, chainInput, chain, start, keyInput, chainEnd, chains, otsKey, dPblc}
 use Rattle.lmots.specs.Leaves.{string, Put}
 use Rattle.lmots_digits.specs.Pieces.{front}
 use Rattle.lmots_chains.specs.Sixteen.{Walked}
-use Rattle.lmots_batches.specs.BatchLaws.{written-next}
+use Rattle.lmots_batches.specs.BatchesLaws.{written-next}
 
 -- ---- columns
 

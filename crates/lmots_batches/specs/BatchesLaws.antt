@@ -12,11 +12,11 @@ use lib.ListN.{length, take, getD, set, replicate, getD-replicate}
 use lib.Seq.{ext-getD}
 use Rattle.octets.specs.Octets.{part, patch, bytes}
 use Rattle.octets.specs.Strings.{joined}
-use Rattle.octets.specs.OctetLaws.{length-part, length-patch, take-patch, length-bytes}
-use Rattle.octets.specs.StringLaws.{length-joined, joined-same}
+use Rattle.octets.specs.OctetsLaws.{length-part, length-patch, take-patch, length-bytes}
+use Rattle.octets.specs.StringsLaws.{length-joined, joined-same}
 use Rattle.octets.specs.WriteLaws.{part-own, part-before, part-after, joined-written}
 use Rattle.sha256_lanes.specs.Rows.{column}
-use Rattle.sha256_lanes.specs.RowLaws.{Apart, other, there, one-more, fill-next, length-column, getD-column, column-same}
+use Rattle.sha256_lanes.specs.RowsLaws.{Apart, other, there, one-more, fill-next, length-column, getD-column, column-same}
 use Rattle.rfc8554.specs.Ots.{chain}
 use Rattle.rfc8554.specs.OtsLaws.{chain-add, length-chain}
 use Rattle.lmots_chains.specs.Sixteen.{Walked}

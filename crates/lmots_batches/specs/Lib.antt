@@ -1,3 +1,3 @@
--- All chains of a leaf in batches of sixteen: their places and values (`Batches`), and the laws (`BatchLaws`).
+-- All chains of a leaf in batches of sixteen: their places and values (`Batches`), and the laws (`BatchesLaws`).
 pub mod Batches
-pub mod BatchLaws
+pub mod BatchesLaws

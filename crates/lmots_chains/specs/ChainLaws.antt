@@ -7,7 +7,7 @@ use native.Mathlib.Omega.{arith}
 use lib.ListN.{length, getD}
 use lib.Seq.{take-all}
 use Rattle.octets.specs.Octets.{be, words, bytes}
-use Rattle.octets.specs.OctetLaws.{as-four, as-eight, be-four, length-bytes, bytes-append}
+use Rattle.octets.specs.OctetsLaws.{as-four, as-eight, be-four, length-bytes, bytes-append}
 use Rattle.fips180.specs.Constants.{initial}
 use Rattle.fips180.specs.Fips.{compress, pad, sha256}
 use Rattle.fips180.specs.Pieces.{oneBlock}

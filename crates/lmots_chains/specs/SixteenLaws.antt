@@ -10,7 +10,7 @@ use Rattle.octets.specs.Octets.{bytes}
 use Rattle.fips180.specs.Constants.{initial}
 use Rattle.fips180.specs.Fips.{compress, pad, sha256}
 use Rattle.sha256_lanes.specs.Rows.{column, Same, Alike, Common, Compressed}
-use Rattle.sha256_lanes.specs.RowLaws.{below, above, fill-next, length-column, getD-column, common-alike}
+use Rattle.sha256_lanes.specs.RowsLaws.{below, above, fill-next, length-column, getD-column, common-alike}
 use Rattle.rfc8554.specs.Ots.{chain, chainInput}
 use Rattle.lmots_chains.specs.ChainLaws.{prepared, compressed, chain-next}
 use Rattle.lmots_chains.specs.Pieces.{across}

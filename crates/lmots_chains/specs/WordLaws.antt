@@ -7,7 +7,7 @@ use native.Mathlib.Omega.{arith}
 use lib.ListN.{length, take, getD}
 use lib.Seq.{take-suc}
 use Rattle.octets.specs.Octets.{wordAt, words, bytes}
-use Rattle.octets.specs.OctetLaws.{be-four}
+use Rattle.octets.specs.OctetsLaws.{be-four}
 
 word-of : (w : ℕ) → w < 4294967296 → w / 16777216 % 256 * 16777216 + w / 65536 % 256 * 65536 + w / 256 % 256 * 256 + w % 256 ≡ w
 word-of w h =

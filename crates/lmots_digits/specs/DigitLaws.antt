@@ -7,7 +7,7 @@ use native.Mathlib.Numerals.{add-one}
 use native.Mathlib.Omega.{arith}
 use lib.ListN.{length, getD, set}
 use Rattle.octets.specs.Octets.{patch, be}
-use Rattle.octets.specs.OctetLaws.{length-be, length-patch}
+use Rattle.octets.specs.OctetsLaws.{length-be, length-patch}
 use Rattle.octets.specs.WriteLaws.{pieces, stores-two}
 use Rattle.fips180.specs.Fips.{sha256}
 use Rattle.rfc8554.specs.Ots.{coef, digits, chains, leftShift, dMesg, sum, checksum, withChecksum, messageInput, digested}
@@ -17,8 +17,8 @@ use Rattle.lmots_digits.specs.Pieces.{front}
 -- ---- digits
 
 -- the width that is not 8
-pub narrow : (w : ℕ) → (w ≡ 4) ⊎ (w ≡ 8) → (w ≡ 8 → ⊥) → w ≡ 4
-narrow w h n = ⊎-elim (λ e. e) (λ e. absurd (n e)) h
+pub width-four : (w : ℕ) → (w ≡ 4) ⊎ (w ≡ 8) → (w ≡ 8 → ⊥) → w ≡ 4
+width-four w h n = ⊎-elim (λ e. e) (λ e. absurd (n e)) h
 
 -- the byte that holds digit i
 pub place-eight : (w i n : ℕ) → w ≡ 8 → i * w / 8 < n → i < n

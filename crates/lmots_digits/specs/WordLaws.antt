@@ -7,8 +7,8 @@ use native.Mathlib.Omega.{arith}
 use lib.ListN.{length, take, drop, getD}
 use lib.Seq.{take-add, drop-drop}
 use Rattle.octets.specs.Octets.{part, be, wordAt, bytes}
-use Rattle.octets.specs.OctetLaws.{as-four, be-four, bytes-append}
-use Rattle.octets.specs.StringLaws.{part-suc}
+use Rattle.octets.specs.OctetsLaws.{as-four, be-four, bytes-append}
+use Rattle.octets.specs.StringsLaws.{part-suc}
 
 be-word : (a b c d : ℕ) → a < 256 → b < 256 → c < 256 → d < 256
     → be 4 (a * 16777216 + b * 65536 + c * 256 + d) ≡ a ∷ b ∷ c ∷ d ∷ []

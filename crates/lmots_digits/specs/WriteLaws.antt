@@ -5,7 +5,7 @@ use Prim.Native.Nat.{ℕ, _+_, _/_, _%_}
 use native.Mathlib.Omega.{arith}
 use lib.ListN.{length, getD, set, length-append}
 use Rattle.octets.specs.Octets.{patch, be, bytes}
-use Rattle.octets.specs.OctetLaws.{as-four, length-be, length-patch}
+use Rattle.octets.specs.OctetsLaws.{as-four, length-be, length-patch}
 use Rattle.octets.specs.WriteLaws.{stores-two, patch-next, patch-whole}
 use Rattle.lmots_digits.specs.Pieces.{front}
 

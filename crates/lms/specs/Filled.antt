@@ -8,23 +8,23 @@ use native.Mathlib.Omega.{arith}
 use lib.ListN.{length}
 use Rattle.octets.specs.Octets.{part, patch}
 use Rattle.octets.specs.Strings.{joined}
-use Rattle.octets.specs.StringLaws.{patch-before, length-joined, part-joined, joined-same, joined-add}
+use Rattle.octets.specs.StringsLaws.{patch-before, length-joined, part-joined, joined-same, joined-add}
 use Rattle.octets.specs.WriteLaws.{part-add, patch-next, joined-written}
 use Rattle.rfc8554.specs.Ots.{H, otsKey}
 use Rattle.rfc8554.specs.Tree.{T, nodes, treeFilled}
 use Rattle.rfc8554.specs.TreeLaws.{T-leaf, T-inner, length-T, length-nodes, nodes-suc, part-nodes}
-use Rattle.lmots.specs.LeafLaws.{length-otsKey}
+use Rattle.lmots.specs.LeavesLaws.{length-otsKey}
 use Rattle.lms.specs.Pieces.{leafOver, leafAt, overChildren, innerPut, innersPut}
 use Rattle.lms.specs.LmsLaws.{length-leafOver, over-two}
 
 -- ---- nodes, as the code writes them
 
 -- one more of sixteen leaves, over its key
-pub sixteen-turn : (I keys before tree key new : List ℕ) (q l : ℕ) → 32 * (1024 + q) ≤ length before
+pub sixteen-next : (I keys before tree key new : List ℕ) (q l : ℕ) → 32 * (1024 + q) ≤ length before
     → tree ≡ patch (32 * (1024 + q)) (joined (leafAt I q keys) l) before → key ≡ part (32 * l) 32 keys
     → new ≡ patch (32 * (1024 + (q + l))) (leafOver I (q + l) key) tree → new ≡ patch (32 * (1024 + q)) (joined (leafAt I q keys) (l + 1)) before
 unfolding leafAt
-sixteen-turn I keys before tree key new q l h e k f =
+sixteen-next I keys before tree key new q l h e k f =
     let next : 32 * (1024 + (q + l)) ≡ 32 * (1024 + q) + 32 * l = omega arith in
     joined-written (leafAt I q keys) (32 * (1024 + q)) l before tree _ new (length-joined 32 _ l (λ i _. length-leafOver I (q + i) _)) h e (ap (leafOver I (q + l)) k)
     (rw next at f)
@@ -44,12 +44,12 @@ module _ (I seed : List ℕ) where
   sixteen-done keys before new q l e k f =
       (rw e at f) ∙ ap (λ (ns : List ℕ). patch (32 * (1024 + q)) ns before) (joined-same _ _ 16 (λ i h. leaf-node keys q i h k))
 
-  pub leaves-turn : (before tree new : List ℕ) (n : ℕ) → 32 * 1024 ≤ length before
+  pub leaves-next : (before tree new : List ℕ) (n : ℕ) → 32 * 1024 ≤ length before
       → tree ≡ patch (32 * 1024) (nodes 10 8 I seed 1024 (16 * n)) before
       → new ≡ patch (32 * (1024 + 16 * n)) (nodes 10 8 I seed (1024 + 16 * n) 16) tree
       → new ≡ patch (32 * 1024) (nodes 10 8 I seed 1024 (16 * (n + 1))) before
   unfolding nodes
-  leaves-turn before tree new n h e f =
+  leaves-next before tree new n h e f =
       let more : 16 * (n + 1) ≡ 16 * n + 16 = omega arith in
       let at : 32 * (1024 + 16 * n) ≡ 32 * 1024 + length (nodes 10 8 I seed 1024 (16 * n)) = rw (length-nodes 10 8 I seed 1024 (16 * n)) (omega arith) in
       patch-next (32 * 1024) (32 * (1024 + 16 * n)) (nodes 10 8 I seed 1024 (16 * n)) (nodes 10 8 I seed (1024 + 16 * n) 16) before tree new e at h f
@@ -62,10 +62,10 @@ pub inner-put : (I tree children n new : List ℕ) (r : ℕ) → children ≡ pa
 unfolding innerPut
 inner-put I tree children n new r e f g = rw (← e, ← f) g
 
-pub inners-turn : (I before tree new : List ℕ) (t : ℕ) → tree ≡ innersPut I t before → new ≡ innerPut I (1023 - t) tree
+pub inners-next : (I before tree new : List ℕ) (t : ℕ) → tree ≡ innersPut I t before → new ≡ innerPut I (1023 - t) tree
     → new ≡ innersPut I (t + 1) before
 unfolding innersPut
-inners-turn I before tree new t e f = rw (add-one, ← e) f
+inners-next I before tree new t e f = rw (add-one, ← e) f
 
 -- ---- the filled buffer
 

@@ -7,7 +7,7 @@ use native.Mathlib.Numerals.{add-one}
 use lib.ListN.{length, take, drop}
 use lib.Pow.{shr-shr}
 use Rattle.octets.specs.Octets.{part, patch, be, wordAt}
-use Rattle.octets.specs.StringLaws.{number-part-four}
+use Rattle.octets.specs.StringsLaws.{number-part-four}
 use Rattle.fips180.specs.Fips.{sha256}
 use Rattle.fips180.specs.FipsLaws.{length-sha256}
 use Rattle.rfc8554.specs.Ots.{H, width, otsLength, candidate}
@@ -45,14 +45,14 @@ over-two I c left right n r e f = f ∙ rw e (ap sha256 (sym (append-assoc (I ++
 -- ---- the climb
 
 -- half of the node's number is that of its parent
-pub half-turn : (x r i : ℕ) → x ≡ r / 2 ^ i → x / 2 ≡ r / 2 ^ (i + 1)
-half-turn x r i e = rw e (shr-shr r i 1)
+pub half-next : (x r i : ℕ) → x ≡ r / 2 ^ i → x / 2 ≡ r / 2 ^ (i + 1)
+half-next x r i e = rw e (shr-shr r i 1)
 
-pub climbed-turn : (I signature start tmp beside new : List ℕ) (w n r x i : ℕ) → n ≡ otsLength w → x ≡ r / 2 ^ i
+pub climbed-next : (I signature start tmp beside new : List ℕ) (w n r x i : ℕ) → n ≡ otsLength w → x ≡ r / 2 ^ i
     → tmp ≡ climbed I w r signature start i → beside ≡ part (8 + n + 32 * i) 32 signature → new ≡ levelUp I x beside tmp
     → new ≡ climbed I w r signature start (i + 1)
 unfolding climbed
-climbed-turn I signature start tmp beside new w n r x i d e f g k = rw (add-one, ← d, ← e, ← f, ← g) k
+climbed-next I signature start tmp beside new w n r x i d e f g k = rw (add-one, ← d, ← e, ← f, ← g) k
 
 -- ---- the root
 

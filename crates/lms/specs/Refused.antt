@@ -9,7 +9,7 @@ use lib.Dec.{leb, eqb}
 use lib.ListN.{length}
 use Rattle.octets.specs.Octets.{part, wordAt}
 use Rattle.octets.specs.Strings.{same}
-use Rattle.octets.specs.StringLaws.{number-part-four}
+use Rattle.octets.specs.StringsLaws.{number-part-four}
 use Rattle.rfc8554.specs.Ots.{u32At, knownOts, width, otsLength}
 use Rattle.rfc8554.specs.Tree.{knownLms, height}
 use Rattle.rfc8554.specs.Verify.{lmsTypeOf, otsTypeOf, leafOf, sigTypeOf, rootCandidate, signatureLength, signatureInvalid, valid}
@@ -118,9 +118,9 @@ module _ (key message s : List ℕ) (l : length key ≡ 56) (known : wrongKey ke
     key-field-ots : otsTypeOf key ≡ y
     key-field-ots = number-part-four 4 key (omega arith) ∙ sym f
 
-    pub signature-turned-back : (b : Bool) → b ≡ signatureInvalid x y s → b ≡ true → 14 ≡ signatureNumber (valid key message s)
+    pub signature-rejected : (b : Bool) → b ≡ signatureInvalid x y s → b ≡ true → 14 ≡ signatureNumber (valid key message s)
     unfolding valid signatureNumber
-    signature-turned-back b g t = rw (keyInvalid-wrongKey key, known, key-field, key-field-ots, ← g, t)
+    signature-rejected b g t = rw (keyInvalid-wrongKey key, known, key-field, key-field-ots, ← g, t)
 
     pub signature-compared : (b : Bool) → b ≡ signatureInvalid x y s → b ≡ false
         → (I root last : List ℕ) (r : Bool) → I ≡ part 8 16 key → root ≡ rootCandidate (height x) (width y) I message s

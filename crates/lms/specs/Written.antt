@@ -5,9 +5,9 @@ use Prim.Native.Nat.{ℕ, _+_, _*_, _/_, _^_, _≤_, _<_}
 use native.Mathlib.Omega.{arith}
 use lib.ListN.{length, length-append}
 use Rattle.octets.specs.Octets.{part, patch, be}
-use Rattle.octets.specs.OctetLaws.{length-part, length-be}
+use Rattle.octets.specs.OctetsLaws.{length-part, length-be}
 use Rattle.octets.specs.Strings.{joined}
-use Rattle.octets.specs.StringLaws.{part-all, length-joined}
+use Rattle.octets.specs.StringsLaws.{part-all, length-joined}
 use Rattle.octets.specs.WriteLaws.{patch-next, joined-written}
 use Rattle.rfc8554.specs.Ots.{width, chains, digested, signed, otsSignature}
 use Rattle.rfc8554.specs.OtsLaws.{length-signed}
@@ -41,11 +41,11 @@ module _ (tree : List ℕ) (r : ℕ) (t : length tree ≡ treeLength) (k : 1024 
       length-part _ 32 tree (omega (arith, sibling-within 1024 (r / 2 ^ i) (within .0) (within .1) .1))
 
   -- one pass of the loop that writes the path
-  pub path-turn : (before out beside new : List ℕ) (at x i s : ℕ) → x ≡ r / 2 ^ i → i < 10 → s ≡ sibling x
+  pub path-next : (before out beside new : List ℕ) (at x i s : ℕ) → x ≡ r / 2 ^ i → i < 10 → s ≡ sibling x
       → beside ≡ part (32 * s) 32 tree → at ≤ length before → out ≡ patch at (joined (path tree r) i) before
       → new ≡ patch (at + 32 * i) beside out → new ≡ patch at (joined (path tree r) (i + 1)) before
   unfolding path
-  path-turn before out beside new at x i s e h f g a u v =
+  path-next before out beside new at x i s e h f g a u v =
       let long : length (joined (path tree r) i) ≡ 32 * i = length-joined 32 (path tree r) i (λ j b. length-path j (omega arith)) in
       joined-written (path tree r) at i before out beside new long a u (g ∙ rw (f, e)) v
 

@@ -102,7 +102,7 @@ pub(crate) fn signature_refused(lms: u32, ots: u32, signature: &[u8]) -> bool
 // ---- the climb
 
 // The parent of the node r, from its value tmp and the node beside it.
-fn turned(k: &[u32; 64], id: [u32; 4], r: u32, beside: &[u8], tmp: &[u8]) -> [u8; 32]
+fn level_up(k: &[u32; 64], id: [u32; 4], r: u32, beside: &[u8], tmp: &[u8]) -> [u8; 32]
     requires { ⌜ (now k ≡ constants) × (length (now beside) ≡ 32) × (length (now tmp) ≡ 32) ⌝ }
     ensures { λ n. ⌜ n ≡ levelUp (bytes id) r (now (beside .entry)) (now (tmp .entry)) ⌝ }
 {
@@ -131,7 +131,7 @@ fn climb(
     let mut i = 0;
     while i < h {
         let beside = node::bytes_at(signature, at + 32 * i, 32);
-        let n = turned(k, id, x, beside, &tmp);
+        let n = level_up(k, id, x, beside, &tmp);
         tmp = n;
         x = x / 2;
         i += 1;

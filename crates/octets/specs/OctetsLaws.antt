@@ -78,7 +78,7 @@ take-patch at ws xs h =
     ap (take (at + length ws)) (sym (append-assoc (take at xs) ws (drop (at + length ws) xs)))
     ∙ take-at (take at xs ++ ws) (drop (at + length ws) xs) (at + length ws) (simp (length-append, length-take) (omega arith))
 
-pub drop-patch : (at : ℕ) (ws xs : List ℕ) → at ≤ length xs → drop (at + length ws) (patch at ws xs) ≡ drop (at + length ws) xs
+drop-patch : (at : ℕ) (ws xs : List ℕ) → at ≤ length xs → drop (at + length ws) (patch at ws xs) ≡ drop (at + length ws) xs
 unfolding patch
 drop-patch at ws xs h =
     ap (drop (at + length ws)) (sym (append-assoc (take at xs) ws (drop (at + length ws) xs)))

@@ -9,8 +9,8 @@ use lib.ListN.{length, take, drop, getD, set, take-append-drop, length-append, d
 use lib.Seq.{length-take-le, take-suc, take-add, drop-drop, sets-eq}
 use Rattle.octets.specs.Octets.{part, patch, be, bytes}
 use Rattle.octets.specs.Strings.{joined}
-use Rattle.octets.specs.OctetLaws.{length-bytes, bytes-append, patch-patch}
-use Rattle.octets.specs.StringLaws.{part-left, part-skip, part-patch, part-all, be-two}
+use Rattle.octets.specs.OctetsLaws.{length-bytes, bytes-append, patch-patch}
+use Rattle.octets.specs.StringsLaws.{part-left, part-skip, part-patch, part-all, be-two}
 
 -- ---- parts of a buffer after a write
 

@@ -177,10 +177,10 @@ module _ (S : Setting) (seat : ℕ) (some-seats : 1 ≤ S .n) (inside : seat < S
     taken-good (ByStep bytes out) m store q came z = step-good (read n bytes) m (step-fit checks keys (recordOf n seat round m) store bytes out q .message) (read-sized n bytes) came z
     taken-good (ByThinEntry bytes out) m store q came z = step-good (read n bytes) m (step-fit checks keys (recordOf n seat round m) store bytes out q .message) (read-sized n bytes) came z
 
-    turn-good : (c : Call) (m : Machine) (store : List ℕ) → AtRest n m → Has m
+    call-good : (c : Call) (m : Machine) (store : List ℕ) → AtRest n m → Has m
         → let t : Called = record { given = c; unit = recordOf n seat round m; store = store } in List·Memᴰ t all → Done (reaction S seat t m)
     unfolding reaction resultBy
-    turn-good c m store rest z d =
+    call-good c m store rest z d =
         let r = recordOf n seat round m in
         let is = outcome-is S c r store in
         rw is (by (refusalOf S c r store) refl)
@@ -224,7 +224,7 @@ module _ (S : Setting) (seat : ℕ) (some-seats : 1 ≤ S .n) (inside : seat < S
         let g : Done now =
         subst (λ (y : Record).
         let u : Called = record { given = c; unit = y; store = store } in
-        List·Memᴰ u all → Done (reaction S seat u m)) (sym e) (turn-good c m store rest b) (in-all t (List·Memᴰ·head refl)) in
+        List·Memᴰ u all → Done (reaction S seat u m)) (sym e) (call-good c m store rest b) (in-all t (List·Memᴰ·head refl)) in
         let later = does-as (outcome S c r store .unit) (outcome S c r store .store) cs (now .machine) (a .unit) (a .mirrors) (reaction-rest (eventOf n (resultOf S t .refusal) c) m rest) (g .0) (λ u d. in-all u (List·Memᴰ·tail d)) (λ u d. are u (List·Memᴰ·tail d)) in (
           (
             record {

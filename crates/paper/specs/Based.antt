@@ -10,7 +10,7 @@ use native.Mathlib.Omega.{arith}
 use lib.Dec.{leb}
 use lib.ListN.{length}
 use borrow.Author.Tests.{leb-true, not-true}
-use Rattle.octets.specs.StringLaws.{same-true}
+use Rattle.octets.specs.StringsLaws.{same-true}
 use Rattle.quorum.specs.Quorum.{k}
 use Rattle.refusal.specs.RefusalLaws.{both-true}
 use Rattle.protocol.specs.Layout.{valueLength}
@@ -133,15 +133,15 @@ module _ (checks : Checks) (n own : ℕ) (Happened : Event → Type 0) (some-sea
       (λ h. z)
 
   -- the own value, once there is a submission
-  own-sized : (o : Option (List ℕ)) → SaidBy o → o ≢ none → (length (ownValue o) ≡ valueLength) × IsSubmitted own Happened (ownValue o)
+  own-said : (o : Option (List ℕ)) → SaidBy o → o ≢ none → (length (ownValue o) ≡ valueLength) × IsSubmitted own Happened (ownValue o)
   unfolding ownValue
-  own-sized none s h = absurd (h refl)
-  own-sized (some v) s h = (s .0, s .1)
+  own-said none s h = absurd (h refl)
+  own-said (some v) s h = (s .0, s .1)
 
   own-certified : (m : Machine) → BasedOn m → m .value ≢ none → Formed n (ownFull checks n own m) × IsOwnFull own Happened (ownFull checks n own m)
   unfolding ownFull
   own-certified m z h =
-      let v = own-sized (m .value) (z .said) h in
+      let v = own-said (m .value) (z .said) h in
       let c = z .collection in (
         record { sized = v .0; below = each-take (λ (e : Entry). e .seat < n) (k n) (m .collected) (c .below); apart = distinct-take (k n) (m .collected) (c .apart) },
         record { submitted = v .1; collected = each-take (λ (e : Entry). Collected own Happened (e .seat) (ownValue (m .value)) (e .signature)) (k n) (m .collected) (c .collected) },
@@ -166,7 +166,7 @@ module _ (checks : Checks) (n own : ℕ) (Happened : Event → Type 0) (some-sea
       let c = own-certified m (z .0) said in
       obtain-good (ownFull checks n own m) (act notice (setConfirmed x)) (c .0, inl (c .1)) (
         record { said = z .0 .said; unsaid = λ q. absurd (said q); collection = z .0 .collection; certified = z .0 .certified },
-        each-append Sent (x .actions) (notice ∷ []) (z .1) (each-one Sent notice (own-sized (m .value) (z .0 .said) said .1, tt)),
+        each-append Sent (x .actions) (notice ∷ []) (z .1) (each-one Sent notice (own-said (m .value) (z .0 .said) said .1, tt)),
       ))
       (λ h. z)
 

@@ -13,7 +13,7 @@ use lib.ListN.{length, take, length-append}
 use lib.Seq.{take-all, take-append-le}
 use borrow.Author.Tests.{leb-true, leb-false, le-leb, lt-leb}
 use Rattle.octets.specs.Strings.{same}
-use Rattle.octets.specs.StringLaws.{same-refl}
+use Rattle.octets.specs.StringsLaws.{same-refl}
 use Rattle.quorum.specs.Quorum.{k, bit, In, has, size, with}
 use Rattle.quorum.specs.QuorumLaws.{bit-with-other, has-false, size-with-new}
 use Rattle.protocol.specs.Layout.{signatureLength, storeLength, collectedBank, firstBank}
@@ -205,7 +205,7 @@ module _ (n seat round : ℕ) where
       unfolding isCollected
       collected-is = rw (checked, own-is v (m .value) said)
 
-      pub submit-heard : Result
+      submit-heard : Result
       submit-heard = go (m .confirmed) refl (same v (ownValue (m .value))) refl (isFrom s (m .collected)) refl
         where
           new : (d : Bool) → length (m .collected) < k n → isWanted s v (recordOf n seat round m) ≡ not d → isCollected checks n seat s v g m ≡ not d → isFrom s (m .collected) ≡ d → Result
@@ -279,7 +279,7 @@ module _ (n seat round : ℕ) where
       resting = record { complete = z .resting .complete; heard = λ h. Memᴰ·append-left (v ∷ []) (z .resting .heard h) };
     }
 
-    pub notice-is : (v : List ℕ) → Comes n seat round (reply (hear v (at n seat round x store))) (uponRules checks n seat (uponNoticeDelivered checks n seat v x))
+    notice-is : (v : List ℕ) → Comes n seat round (reply (hear v (at n seat round x store))) (uponRules checks n seat (uponNoticeDelivered checks n seat v x))
     unfolding uponRules uponNoticeDelivered
     notice-is v =
         let y = addNoticed v x in
@@ -307,7 +307,7 @@ module _ (n seat round : ℕ) where
         let c = certifies-of checks Any n v es h in
         record { below = c .below; enough = c .enough; sized = λ s i. c .attested s i .sized }
 
-    pub full-is : (ρ sender : ℕ) (v : List ℕ) (es : List Entry) → Entries checks Any n v es
+    full-is : (ρ sender : ℕ) (v : List ℕ) (es : List Entry) → Entries checks Any n v es
         → Comes n seat round (stepped (Full ρ sender v es) (at n seat round x store)) (uponRules checks n seat (uponFullDelivered checks n seat (record { value = v; entries = es }) x))
     unfolding stepped certificateIn certificateOf formSeats fullForm seatsIn uponFullDelivered uponRules obtain uponNoticeDelivered
     full-is ρ sender v es h =

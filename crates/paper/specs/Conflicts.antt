@@ -8,7 +8,7 @@ use mathlib.Core.List.{List, [], _∷_, _++_, List·Memᴰ, List·Memᴰ·head, 
 use mathlib.Core.Logic.{⊎-elim, _≢_}
 use mathlib.Core.Option.{Option, none, some}
 use Rattle.octets.specs.Strings.{same}
-use Rattle.octets.specs.StringLaws.{same-refl, same-true, same-false}
+use Rattle.octets.specs.StringsLaws.{same-refl, same-true, same-false}
 use Rattle.round.specs.Round.{Each}
 use Rattle.reading.specs.Lists.{each-nil, each-cons}
 use Rattle.paper.specs.Machine.{isSome, other, pairOr, conflict}
@@ -56,7 +56,7 @@ module _ {A : Type 0} (valueOf : A → List ℕ) where
       go false p rest = p
 
   -- where all have one value, no two conflict
-  pub conflict-none : (v : List ℕ) (xs : List A) → other valueOf v xs ≡ none → conflict valueOf xs ≡ none
+  conflict-none : (v : List ℕ) (xs : List A) → other valueOf v xs ≡ none → conflict valueOf xs ≡ none
   unfolding conflict other pairOr
   conflict-none v [] e = refl
   conflict-none v (x ∷ xs) e = go (same v (valueOf x)) refl e (λ p. conflict-none v xs p)

@@ -33,16 +33,16 @@ unfolding firstOf
 firstOf-other i j true rest d e = absurd (d e)
 firstOf-other i j false rest d e = e
 
-last-held : (i : ℕ) (b : Bool) → i ≢ 0 → firstOf ((i, b) ∷ []) ≡ i → b ≡ true
+last-holds : (i : ℕ) (b : Bool) → i ≢ 0 → firstOf ((i, b) ∷ []) ≡ i → b ≡ true
 unfolding firstOf
-last-held i true d e = refl
-last-held i false d e = absurd (d (sym e))
+last-holds i true d e = refl
+last-holds i false d e = absurd (d (sym e))
 
-before-last : (i j : ℕ) (a b : Bool) → j ≢ 0 → i ≢ j → firstOf ((i, b) ∷ (j, a) ∷ []) ≡ i → i ≢ 0 → b ≡ true
+first-of-two-holds : (i j : ℕ) (a b : Bool) → j ≢ 0 → i ≢ j → firstOf ((i, b) ∷ (j, a) ∷ []) ≡ i → i ≢ 0 → b ≡ true
 unfolding firstOf
-before-last i j a true p q e r = refl
-before-last i j true false p q e r = absurd (q (sym e))
-before-last i j false false p q e r = absurd (r (sym e))
+first-of-two-holds i j a true p q e r = refl
+first-of-two-holds i j true false p q e r = absurd (q (sym e))
+first-of-two-holds i j false false p q e r = absurd (r (sym e))
 
 module _ (checks : Checks) (keys : List ℕ) (r : Record) (store : List ℕ) (m : Message) (out : List ℕ) where
   past-form : (j : ℕ) → 12 ≢ j → 11 ≢ j → 10 ≢ j → 9 ≢ j → 7 ≢ j → 6 ≢ j → 5 ≢ j → 4 ≢ j → firstOf (stepConditions checks keys r store m out) ≡ j → firstOf ((13, early r m) ∷ (14, badSignature checks m) ∷ []) ≡ j
@@ -52,12 +52,12 @@ module _ (checks : Checks) (keys : List ℕ) (r : Record) (store : List ℕ) (m 
 
   pub refused-early : firstOf (stepConditions checks keys r store m out) ≡ 13 → early r m ≡ true
   refused-early e =
-      before-last 13 14 (badSignature checks m) (early r m) (λ q. omega arith) (λ q. omega arith)
+      first-of-two-holds 13 14 (badSignature checks m) (early r m) (λ q. omega arith) (λ q. omega arith)
       (past-form 13 (λ q. omega arith) (λ q. omega arith) (λ q. omega arith) (λ q. omega arith) (λ q. omega arith) (λ q. omega arith) (λ q. omega arith) (λ q. omega arith) e) (λ q. omega arith)
 
   pub refused-signature : firstOf (stepConditions checks keys r store m out) ≡ 14 → badSignature checks m ≡ true
   refused-signature e =
-      last-held 14 (badSignature checks m) (λ q. omega arith)
+      last-holds 14 (badSignature checks m) (λ q. omega arith)
       (firstOf-other 13 14 (early r m) ((14, badSignature checks m) ∷ []) (λ q. omega arith)
       (past-form 14 (λ q. omega arith) (λ q. omega arith) (λ q. omega arith) (λ q. omega arith) (λ q. omega arith) (λ q. omega arith) (λ q. omega arith) (λ q. omega arith) e))
 

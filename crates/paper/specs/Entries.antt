@@ -104,7 +104,7 @@ signature-is (x ∷ es) h e d =
 
 -- ---- messages: only the signatures of the certificate's seats matter
 
-pub map-same : {A : Type 0} (f g : ℕ → A) (xs : List ℕ) → Each (λ (s : ℕ). f s ≡ g s) xs → map f xs ≡ map g xs
+map-same : {A : Type 0} (f g : ℕ → A) (xs : List ℕ) → Each (λ (s : ℕ). f s ≡ g s) xs → map f xs ≡ map g xs
 map-same f g [] h = refl
 map-same f g (x ∷ xs) h = ap₂ _∷_ (h x (List·Memᴰ·head refl)) (map-same f g xs (λ s d. h s (List·Memᴰ·tail d)))
 

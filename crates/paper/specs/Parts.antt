@@ -14,7 +14,7 @@ use lib.ListN.{length, take}
 use lib.Seq.{take-all, length-take-le}
 use borrow.Author.Tests.{leb-true, leb-false, eq-eqb, ne-eqb}
 use Rattle.octets.specs.Strings.{same}
-use Rattle.octets.specs.StringLaws.{same-refl}
+use Rattle.octets.specs.StringsLaws.{same-refl}
 use Rattle.quorum.specs.Quorum.{k, In, size, shared, seats}
 use Rattle.quorum.specs.QuorumLaws.{size-empty, mem-seats, k-of-n-share}
 use Rattle.protocol.specs.Layout.{signatureLength, storeLength, collectedBank, firstBank}
@@ -75,7 +75,7 @@ other-heard-is (v ∷ vs) r e d = rw (e, conflict-head valueOfNotice v vs) (go (
 
 -- ---- the first of a list
 
-pub taken-below : (n : ℕ) (es : List Entry) → Each (λ (e : Entry). e .seat < n) es → seatsIn (take (k n) es) < 2 ^ n
+taken-below : (n : ℕ) (es : List Entry) → Each (λ (e : Entry). e .seat < n) es → seatsIn (take (k n) es) < 2 ^ n
 taken-below n es h = seats-below n (take (k n) es) (each-take (λ (e : Entry). e .seat < n) (k n) es h)
 
 pub first-below : (n : ℕ) (obtained : List FullCertificate) → Each (Quorum n) obtained → heldFirst obtained .seats < 2 ^ n
@@ -95,7 +95,7 @@ module _ (n seat round : ℕ) where
     pub is : s ≡ at x store
     pub mirrors : Mirrors n store (x .machine)
 
-  pub at-cond : (b : Bool) (x y : Reaction) (store : List ℕ) → cond b (at x store) (at y store) ≡ at (cond b x y) store
+  at-cond : (b : Bool) (x y : Reaction) (store : List ℕ) → cond b (at x store) (at y store) ≡ at (cond b x y) store
   at-cond true x y store = refl
   at-cond false x y store = refl
 
@@ -285,9 +285,9 @@ module _ (n seat round : ℕ) where
       -- ---- a certificate heard, or the unit's own
 
       -- the rule of line 33 doesn't depend on full certificates
-      conflict-obtained : (x : Reaction) → uponNoticesConflict checks n seat (addObtained q x) ≡ addObtained q (uponNoticesConflict checks n seat x)
+      notices-obtained : (x : Reaction) → uponNoticesConflict checks n seat (addObtained q x) ≡ addObtained q (uponNoticesConflict checks n seat x)
       unfolding uponNoticesConflict sending act ownFull
-      conflict-obtained x = go (x .machine .confirmed && not (x .machine .sent) && isSome (conflict valueOfNotice (x .machine .noticed)))
+      notices-obtained x = go (x .machine .confirmed && not (x .machine .sent) && isSome (conflict valueOfNotice (x .machine .noticed)))
         where
           go : (b : Bool) → cond b (sending checks n seat (addObtained q x)) (addObtained q x) ≡ addObtained q (cond b (sending checks n seat x) x)
           go true = refl
@@ -301,7 +301,7 @@ module _ (n seat round : ℕ) where
           let replied = uponNoticesConflict checks n seat heard in
           let a = hold-is replied store room (replied .machine .obtained) (replied .machine .detected) (reply-mirrors heard store z) in
           let before : hearCertificate c (at x store) ≡ holdOrBlame c (at replied store) = ap (λ (s : State). holdOrBlame c (reply s)) (hear-is (q .value) x store) ∙ ap (holdOrBlame c) (reply-is heard store z) in
-          let machine : uponFullsConflict checks n seat (uponNoticesConflict checks n seat (addObtained q heard)) ≡ uponFullsConflict checks n seat (addObtained q replied) = ap (uponFullsConflict checks n seat) (conflict-obtained heard) in
+          let machine : uponFullsConflict checks n seat (uponNoticesConflict checks n seat (addObtained q heard)) ≡ uponFullsConflict checks n seat (addObtained q replied) = ap (uponFullsConflict checks n seat) (notices-obtained heard) in
           subst (Comes (hearCertificate c (at x store))) (sym machine) (record { store = a .store; is = before ∙ a .is; mirrors = a .mirrors })
 
     -- ---- confirm: line 25

@@ -65,9 +65,9 @@ module _ (checks : Checks) (n own : ℕ) where
   detecting-elim P (some p) x f g = g p
 
   -- line 39's rule doesn't make the others due
-  fulls-fill : (x : Reaction) → (quorumDue n (uponFullsConflict checks n own x .machine) ≡ quorumDue n (x .machine)) × (noticesDue (uponFullsConflict checks n own x .machine) ≡ noticesDue (x .machine))
+  fulls-due : (x : Reaction) → (quorumDue n (uponFullsConflict checks n own x .machine) ≡ quorumDue n (x .machine)) × (noticesDue (uponFullsConflict checks n own x .machine) ≡ noticesDue (x .machine))
   unfolding uponFullsConflict act
-  fulls-fill x =
+  fulls-due x =
       let P : Reaction → Type 0 = λ y. (quorumDue n (y .machine) ≡ quorumDue n (x .machine)) × (noticesDue (y .machine) ≡ noticesDue (x .machine)) in
       cond-elim P (isSome (x .machine .detected)) x (detecting checks n own (conflict valueOfFull (x .machine .obtained)) x)
       (λ e. (refl, refl)) (λ e. detecting-elim P (conflict valueOfFull (x .machine .obtained)) x (refl, refl) (λ p. (refl, refl)))
@@ -88,7 +88,7 @@ module _ (checks : Checks) (n own : ℕ) where
       let a = uponQuorum checks n own x in
       let b = uponNoticesConflict checks n own a in
       record {
-        quorum = fulls-fill b .0 ∙ notices-quorum a ∙ quorum-done x;
-        notices = fulls-fill b .1 ∙ notices-done a;
+        quorum = fulls-due b .0 ∙ notices-quorum a ∙ quorum-done x;
+        notices = fulls-due b .1 ∙ notices-done a;
         fulls = fulls-done b;
       }

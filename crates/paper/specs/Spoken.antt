@@ -126,7 +126,7 @@ module _ (n round seat : ℕ) where
 -- ---- no other message meets it
 
 -- two lists of the same members in the order of their seats are the same
-pub in-order-unique : {A : Type 0} (seatOf : A → ℕ) (These : A → Type 0) (xs ys : List A) → InOrder seatOf These xs → InOrder seatOf These ys → xs ≡ ys
+in-order-unique : {A : Type 0} (seatOf : A → ℕ) (These : A → Type 0) (xs ys : List A) → InOrder seatOf These xs → InOrder seatOf These ys → xs ≡ ys
 in-order-unique {A = A} seatOf These xs ys a b = go xs ys (a .rise) (b .rise) (λ x d. b .just x .1 (a .just x .0 d)) (λ y d. a .just y .1 (b .just y .0 d))
   where
     above : (x : A) (zs : List A) → rising (seatOf x ∷ map seatOf zs) ≡ true → (z : A) → List·Memᴰ z zs → seatOf x < seatOf z

@@ -5,7 +5,7 @@ use Prim.Native.Nat.{ℕ, suc, _≤_, _<_}
 use lib.ListN.{length}
 use borrow.Author.Tests.{lt-ltb, le-ltb, le-leb, lt-leb, eq-eqb, ne-eqb}
 use Rattle.octets.specs.Octets.{patch, part, words, bytes}
-use Rattle.octets.specs.StringLaws.{patch-nothing, part-all}
+use Rattle.octets.specs.StringsLaws.{patch-nothing, part-all}
 use Rattle.octets.specs.Strings.{joined}
 use Rattle.quorum.specs.Quorum.{mostSeats}
 use Rattle.refusal.specs.Refusal.{firstOf, unrefused}

@@ -14,7 +14,7 @@ use lib.ListN.{length, take, drop, getD, length-append, List·getD-append}
 use lib.Seq.{take-at, drop-at, take-suc, drop-cons, drop-drop, drop-nil, getD-drop, append-snoc, getD-at}
 use borrow.Author.Tests.{eqb-true, eq-eqb}
 use Rattle.octets.specs.Octets.{part}
-use Rattle.octets.specs.StringLaws.{part-suc}
+use Rattle.octets.specs.StringsLaws.{part-suc}
 use Rattle.octets.specs.WriteLaws.{part-add}
 use Rattle.protocol.specs.Layout.{entryLength}
 use Rattle.protocol.specs.Entries.{Each, eachBelow, Form, Laid, byteAt, placeOf, renderEntry, renderEntries, entryCommands, readEntry, readEntries}
@@ -54,9 +54,9 @@ unfolding eachBelow
 passed-none = record { within = omega arith; passed = refl }
 
 module _ {test : ℕ → Bool} {bound t : ℕ} (p : Passed test bound t) where
-  pub passed-turn : t < bound → test t ≡ true → Passed test bound (t + 1)
+  pub passed-next : t < bound → test t ≡ true → Passed test bound (t + 1)
   unfolding eachBelow
-  passed-turn l e = record { within = omega arith; passed = rw (add-one, p .passed, e) }
+  passed-next l e = record { within = omega arith; passed = rw (add-one, p .passed, e) }
 
   pub passed-all : bound ≤ t → eachBelow test bound ≡ true
   passed-all l = let q : t ≡ bound = omega arith in rw q at (p .passed)

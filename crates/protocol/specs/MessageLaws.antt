@@ -10,8 +10,8 @@ use lib.ListN.{length, drop, length-append, take-append-drop}
 use lib.Seq.{take-at, drop-at, take-all, take-length}
 use borrow.Author.Tests.{eq-eqb, eqb-true, le-leb, leb-true}
 use Rattle.octets.specs.Octets.{be, part}
-use Rattle.octets.specs.OctetLaws.{length-be}
-use Rattle.octets.specs.StringLaws.{part-left, part-between}
+use Rattle.octets.specs.OctetsLaws.{length-be}
+use Rattle.octets.specs.StringsLaws.{part-left, part-between}
 use Rattle.quorum.specs.Quorum.{k}
 use Rattle.refusal.specs.RefusalLaws.{both-true}
 use Rattle.protocol.specs.Layout.{valueLength, signatureLength, valueAt, submitLength, noticeLength, fullCountAt, fullStart, fullEntryLength, fullEntryAt, fullLength, lowerAt, higherAt, evidenceCountAt, evidenceStart, evidenceEntryLength, evidenceEntryAt, evidenceLength}

@@ -8,7 +8,7 @@ use Prim.Native.Nat.{ℕ, _+_, _*_, _/_, _%_, _≤_, _<_}
 use native.Mathlib.Omega.{arith}
 use lib.ListN.{length}
 use Rattle.octets.specs.Octets.{part, be}
-use Rattle.octets.specs.StringLaws.{be-two, part-suc, part-all}
+use Rattle.octets.specs.StringsLaws.{be-two, part-suc, part-all}
 use Rattle.octets.specs.WriteLaws.{part-add}
 use Rattle.quorum.specs.Quorum.{k}
 use Rattle.protocol.specs.Layout.{valueLength, signatureLength, operandsAt, seatAt, valueAt, submitSignatureAt, submitLength, noticeLength, entryLength, fullCountAt, fullStart, fullEntryLength, fullEntryAt, fullLength, lowerAt, higherAt, evidenceCountAt, evidenceStart, evidenceEntryLength, evidenceEntryAt, evidenceLength}

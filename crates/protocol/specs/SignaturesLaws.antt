@@ -7,7 +7,7 @@ use native.Mathlib.Omega.{arith}
 use lib.Dec.{eqb, ltb}
 use lib.ListN.{length, length-append}
 use borrow.Author.Tests.{le-ltb, eqb-true, not-false}
-use Rattle.octets.specs.OctetLaws.{length-be, length-part}
+use Rattle.octets.specs.OctetsLaws.{length-be, length-part}
 use Rattle.refusal.specs.Refusal.{firstOf, unrefused}
 use Rattle.rfc8554.specs.Ots.{chains, otsLength, knownOts, width}
 use Rattle.rfc8554.specs.Tree.{knownLms, height, publicKey, treeFilled, path, lmsSignature}
@@ -56,7 +56,7 @@ accepted-fits key message signature e =
     let late = firstOf-zero 8 _ _ (firstOf-zero 4 _ _ e .1) .1 in
     valid-fits key message signature (not-false _ (firstOf-zero 13 _ [] late .0))
 
-pub length-six-four : lengthOfTypes (height 6) (width 4) ≡ signatureLength
+length-six-four : lengthOfTypes (height 6) (width 4) ≡ signatureLength
 unfolding lengthOfTypes otsLength chains height width signatureLength
 length-six-four = refl
 

@@ -14,15 +14,15 @@ use Rattle.protocol.specs.Step.{State, write, hear, owesFull, sendFull, 
 abbrev pub after : List Message → State → State
 after ms s = record { unit = s .unit; store = s .store; written = ms ++ s .written }
 
-pub after-cond : (ms : List Message) (b : Bool) (s t : State) → cond b (after ms s) (after ms t) ≡ after ms (cond b s t)
+after-cond : (ms : List Message) (b : Bool) (s t : State) → cond b (after ms s) (after ms t) ≡ after ms (cond b s t)
 after-cond ms true s t = refl
 after-cond ms false s t = refl
 
-pub hear-after : (value : List ℕ) (ms : List Message) (s : State) → hear value (after ms s) ≡ after ms (hear value s)
+hear-after : (value : List ℕ) (ms : List Message) (s : State) → hear value (after ms s) ≡ after ms (hear value s)
 unfolding hear
 hear-after value ms s = refl
 
-pub sendFull-after : (ms : List Message) (s : State) → sendFull (after ms s) ≡ after ms (sendFull s)
+sendFull-after : (ms : List Message) (s : State) → sendFull (after ms s) ≡ after ms (sendFull s)
 unfolding sendFull write
 sendFull-after ms s = rw append-assoc
 
@@ -30,11 +30,11 @@ pub reply-after : (ms : List Message) (s : State) → reply (after ms s) ≡ aft
 unfolding reply
 reply-after ms s = rw (sendFull-after ms s) (after-cond ms (owesFull (s .unit)) (sendFull s) s)
 
-pub hold-after : (c : Certificate) (ms : List Message) (s : State) → hold c (after ms s) ≡ after ms (hold c s)
+hold-after : (c : Certificate) (ms : List Message) (s : State) → hold c (after ms s) ≡ after ms (hold c s)
 unfolding hold
 hold-after c ms s = refl
 
-pub blame-after : (c : Certificate) (ms : List Message) (s : State) → blame c (after ms s) ≡ after ms (blame c s)
+blame-after : (c : Certificate) (ms : List Message) (s : State) → blame c (after ms s) ≡ after ms (blame c s)
 unfolding blame write
 blame-after c ms s = rw append-assoc
 
@@ -44,12 +44,12 @@ holdOrBlame-after c ms s =
     rw (blame-after c ms s, hold-after c ms s, after-cond ms (blames c (s .unit)) (blame c s) s)
     (after-cond ms (holds (s .unit)) (cond (blames c (s .unit)) (blame c s) s) (hold c s))
 
-pub hearCertificate-after : (c : Certificate) (ms : List Message) (s : State) → hearCertificate c (after ms s) ≡ after ms (hearCertificate c s)
+hearCertificate-after : (c : Certificate) (ms : List Message) (s : State) → hearCertificate c (after ms s) ≡ after ms (hearCertificate c s)
 unfolding hearCertificate
 hearCertificate-after c ms s =
     rw (hear-after (c .value) ms s, reply-after ms (hear (c .value) s), holdOrBlame-after c ms (reply (hear (c .value) s)))
 
-pub confirm-after : (ms : List Message) (s : State) → confirm (after ms s) ≡ after ms (confirm s)
+confirm-after : (ms : List Message) (s : State) → confirm (after ms s) ≡ after ms (confirm s)
 unfolding confirm write
 confirm-after ms s = rw append-assoc
 

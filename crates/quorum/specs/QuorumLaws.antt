@@ -326,14 +326,14 @@ seats-rise (suc n) m =
 -- ---- two quorums
 
 -- t0 is the largest number below n/3
-pub t0-is-third : (n : ℕ) → 1 ≤ n → (3 * t0 n < n) × (n ≤ 3 * t0 n + 3)
+pub t0-below-third : (n : ℕ) → 1 ≤ n → (3 * t0 n < n) × (n ≤ 3 * t0 n + 3)
 unfolding t0
-t0-is-third n h = omega arith
+t0-below-third n h = omega arith
 
 -- any two sets of k or more of the n seats share at least t0 + 1, whatever the width of the masks that hold them
 quorums-share : (n a b : ℕ) → 1 ≤ n → a < 2 ^ n → b < 2 ^ n → k n ≤ size a → k n ≤ size b → t0 n + 1 ≤ size (shared a b)
 unfolding k
-quorums-share n a b h la lb qa qb = omega (arith, t0-is-third n h, size-union-shared a b, size-le n (union a b) (union-lt n a b la lb))
+quorums-share n a b h la lb qa qb = omega (arith, t0-below-third n h, size-union-shared a b, size-le n (union a b) (union-lt n a b la lb))
 
 -- the same for two sets of just k seats
 pub k-of-n-share : (n a b : ℕ) → 1 ≤ n → a < 2 ^ n → b < 2 ^ n → size a ≡ k n → size b ≡ k n → t0 n + 1 ≤ size (shared a b)

@@ -37,7 +37,7 @@ pub worth-true : (b : Bool) → b ≡ true → worth b ≡ 1
 unfolding worth
 worth-true b e = rw e
 
-pub worth-false : (b : Bool) → b ≡ false → worth b ≡ 0
+worth-false : (b : Bool) → b ≡ false → worth b ≡ 0
 unfolding worth
 worth-false b e = rw e
 

@@ -43,16 +43,16 @@ step-is S c bytes out r store (inl e) = (ap (λ x. refusalOf S x r store) e, ap 
 step-is S c bytes out r store (inr e) = (ap (λ x. refusalOf S x r store) e, ap (λ x. cameTo x r store) e)
 
 -- the record after a call that isn't refused
-pub result-came : (S : Setting) (t : Called) → refusalOf S (t .given) (t .unit) (t .store) ≡ 0 → resultOf S t .unit ≡ cameTo (t .given) (t .unit) (t .store) .unit
+pub unrefused-unit : (S : Setting) (t : Called) → refusalOf S (t .given) (t .unit) (t .store) ≡ 0 → resultOf S t .unit ≡ cameTo (t .given) (t .unit) (t .store) .unit
 unfolding resultBy unrefused
-result-came S t e = ap (λ (x : Result). x .unit) (outcome-is S (t .given) (t .unit) (t .store)) ∙ rw e
+unrefused-unit S t e = ap (λ (x : Result). x .unit) (outcome-is S (t .given) (t .unit) (t .store)) ∙ rw e
 
 pub unrefused-result : (S : Setting) (t : Called) → resultOf S t .refusal ≡ 0
     → (refusalOf S (t .given) (t .unit) (t .store) ≡ 0) × (resultOf S t .unit ≡ cameTo (t .given) (t .unit) (t .store) .unit)
 unfolding resultBy
 unrefused-result S t q =
     let e : refusalOf S (t .given) (t .unit) (t .store) ≡ 0 = sym (ap (λ (x : Result). x .refusal) (outcome-is S (t .given) (t .unit) (t .store))) ∙ q in
-    (e, result-came S t e)
+    (e, unrefused-unit S t e)
 
 -- the messages that a call writes
 abbrev pub messages : Setting → Called → List Message
@@ -93,12 +93,12 @@ written-is S t =
     ∙ unrefused-render (refusalOf S (t .given) (t .unit) (t .store)) (cameTo (t .given) (t .unit) (t .store) .written)
 
 -- the bytes that the calls of a list write are the messages of the calls, one after another
-pub over-are : (S : Setting) (n : ℕ) (ts : List Called) → Each (λ t. Are n (writtenIn S t) (messages S t)) ts → Are n (writtenOver S ts) (allMessages S ts)
+pub list-are : (S : Setting) (n : ℕ) (ts : List Called) → Each (λ t. Are n (writtenIn S t) (messages S t)) ts → Are n (writtenOver S ts) (allMessages S ts)
 unfolding writtenOver allMessages renderAll
-over-are S n [] h = (each-nil (WellFormed n), refl)
-over-are S n (t ∷ ts) h =
+list-are S n [] h = (each-nil (WellFormed n), refl)
+list-are S n (t ∷ ts) h =
     let a = h t (List·Memᴰ·head refl) in
-    let b = over-are S n ts (λ x d. h x (List·Memᴰ·tail d)) in (
+    let b = list-are S n ts (λ x d. h x (List·Memᴰ·tail d)) in (
       each-append (WellFormed n) (messages S t) (allMessages S ts) (a .0) (b .0),
       rw (a .1, b .1) (sym (all-append (messages S t) (allMessages S ts))),
     )

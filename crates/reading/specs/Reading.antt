@@ -10,7 +10,7 @@ use lib.Dec.{eqb}
 use lib.ListN.{length, take, drop, length-append}
 use lib.Seq.{take-at, drop-at, take-append-seam}
 use Rattle.octets.specs.Octets.{be, part}
-use Rattle.octets.specs.OctetLaws.{length-be, length-part}
+use Rattle.octets.specs.OctetsLaws.{length-be, length-part}
 use Rattle.quorum.specs.Quorum.{k}
 use Rattle.protocol.specs.Layout.{valueLength, signatureLength, entryLength, valueAt, submitSignatureAt, submitLength, noticeLength, fullEntryLength, fullEntryAt, fullLength, evidenceCountAt, evidenceEntryLength, evidenceEntryAt, evidenceLength}
 use Rattle.protocol.specs.Entries.{Form, Laid, placeOf, renderEntries, readEntry, readEntries}

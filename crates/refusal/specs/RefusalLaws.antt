@@ -38,7 +38,7 @@ by-test true n old new h f = refl
 by-test false n old new h f = f h
 
 -- a refusal by the first rows is the same with any rows after them
-pub firstOf-front : (xs ys : List (ℕ × Bool)) → (firstOf xs ≡ 0 → ⊥) → firstOf (xs ++ ys) ≡ firstOf xs
+firstOf-front : (xs ys : List (ℕ × Bool)) → (firstOf xs ≡ 0 → ⊥) → firstOf (xs ++ ys) ≡ firstOf xs
 unfolding firstOf
 firstOf-front [] ys h = absurd (h refl)
 firstOf-front (x ∷ xs) ys h = by-test (x .1) (x .0) (firstOf xs) (firstOf (xs ++ ys)) h (firstOf-front xs ys)
@@ -80,27 +80,27 @@ module _ (xs ys : List (ℕ × Bool)) where
 -- ---- code that tests one row after another
 
 -- no row is left
-pub none-left : (number : ℕ) → number ≡ 0 → number ≡ firstOf []
+none-left : (number : ℕ) → number ≡ 0 → number ≡ firstOf []
 unfolding firstOf
 none-left number z = z
 
 module _ (n : ℕ) (test : Bool) (rest : List (ℕ × Bool)) where
   -- a row that holds is the answer
-  pub row-held : test ≡ true → n ≡ firstOf ((n, test) ∷ rest)
+  row-held : test ≡ true → n ≡ firstOf ((n, test) ∷ rest)
   unfolding firstOf
   row-held e = rw e
 
   -- after one that doesn't, the answer is that of the rest
-  pub row-passed : (number : ℕ) → test ≡ false → number ≡ firstOf rest → number ≡ firstOf ((n, test) ∷ rest)
+  row-passed : (number : ℕ) → test ≡ false → number ≡ firstOf rest → number ≡ firstOf ((n, test) ∷ rest)
   unfolding firstOf
   row-passed number e f = rw e f
 
   -- the same of a test that the code made
   module _ (b : Bool) (e : b ≡ test) where
-    pub test-held : b ≡ true → n ≡ firstOf ((n, test) ∷ rest)
+    test-held : b ≡ true → n ≡ firstOf ((n, test) ∷ rest)
     test-held h = row-held (sym e ∙ h)
 
-    pub test-passed : (number : ℕ) → b ≡ false → number ≡ firstOf rest → number ≡ firstOf ((n, test) ∷ rest)
+    test-passed : (number : ℕ) → b ≡ false → number ≡ firstOf rest → number ≡ firstOf ((n, test) ∷ rest)
     test-passed number h f = row-passed number (sym e ∙ h) f
 
 -- and of some rows that the code tested together

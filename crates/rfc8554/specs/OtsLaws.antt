@@ -7,10 +7,10 @@ use native.Mathlib.Omega.{arith}
 use lib.Bits.{and-comm, and-mask, and-le-l}
 use lib.ListN.{length, getD, length-append}
 use Rattle.octets.specs.Octets.{part}
-use Rattle.octets.specs.OctetLaws.{length-be, length-part}
+use Rattle.octets.specs.OctetsLaws.{length-be, length-part}
 use Rattle.fips180.specs.FipsLaws.{length-sha256}
 use Rattle.rfc8554.specs.Ots.{H, u32str, coef, width, chains, otsLength, chainInput, chain, start, keyInput, chainEnd, otsKey, digested, signed, otsSignature, completed, candidate}
-use Rattle.octets.specs.StringLaws.{part-skip, part-left, part-front, part-between, length-joined, part-joined, joined-same}
+use Rattle.octets.specs.StringsLaws.{part-skip, part-left, part-front, part-between, length-joined, part-joined, joined-same}
 
 -- ---- digits
 

@@ -10,12 +10,12 @@ use lib.Dec.{leb}
 use lib.ListN.{length}
 use borrow.Author.Tests.{le-leb, lt-leb}
 use Rattle.octets.specs.Octets.{part, patch}
-use Rattle.octets.specs.OctetLaws.{length-patch}
+use Rattle.octets.specs.OctetsLaws.{length-patch}
 use Rattle.fips180.specs.FipsLaws.{length-sha256}
 use Rattle.octets.specs.Strings.{joined}
 use Rattle.rfc8554.specs.Ots.{H, otsKey}
 use Rattle.rfc8554.specs.Tree.{leafInput, innerInput, node, T, nodes, treeFilled}
-use Rattle.octets.specs.StringLaws.{part-patch, length-joined, part-joined, joined-add}
+use Rattle.octets.specs.StringsLaws.{part-patch, length-joined, part-joined, joined-add}
 
 -- ---- T[r] (section 5.3)
 

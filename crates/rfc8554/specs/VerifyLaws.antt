@@ -13,11 +13,11 @@ use lib.ListN.{length, length-append}
 use lib.Pow.{pow-mono, pow-pos, shr-shr, shr-le, high}
 use borrow.Author.Tests.{lt-leb, le-ltb, eq-eqb, eqb-true, leb-false}
 use Rattle.octets.specs.Octets.{part, number}
-use Rattle.octets.specs.OctetLaws.{length-be, length-part}
+use Rattle.octets.specs.OctetsLaws.{length-be, length-part}
 use Rattle.rfc8554.specs.Ots.{H, u32str, u32At, knownOts, width, otsLength, otsKey, otsSignature, otsInvalid}
 use Rattle.rfc8554.specs.Tree.{knownLms, height, leafInput, innerInput, T, publicKey, sibling, path, lmsSignature}
 use Rattle.rfc8554.specs.Verify.{lmsTypeOf, otsTypeOf, identifierOf, rootOf, leafOf, otsPart, sigTypeOf, pathAt, signatureLength, signatureInvalid, levelUp, climbed, rootCandidate, keyInvalid, valid}
-use Rattle.octets.specs.StringLaws.{part-skip, part-left, part-front, part-end, part-between, part-part, number-be, length-joined, part-joined, same-refl}
+use Rattle.octets.specs.StringsLaws.{part-skip, part-left, part-front, part-end, part-between, part-part, number-be, length-joined, part-joined, same-refl}
 use Rattle.rfc8554.specs.OtsLaws.{four-le-otsLength, length-otsSignature, type-otsSignature, candidate-otsSignature}
 use Rattle.rfc8554.specs.TreeLaws.{T-leaf, T-inner, length-T}
 

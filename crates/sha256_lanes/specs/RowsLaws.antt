@@ -9,7 +9,7 @@ use native.Mathlib.Omega.{arith}
 use lib.Bits.{bitXor}
 use lib.ListN.{length, getD, set, length-append, length-set, List·getD-append}
 use lib.Seq.{getD-set-same, getD-set-other, getD-at, ext-getD}
-use Rattle.octets.specs.OctetLaws.{as-eight}
+use Rattle.octets.specs.OctetsLaws.{as-eight}
 use Rattle.fips180.specs.Constants.{constants}
 use Rattle.fips180.specs.Forms.{maj-any}
 use Rattle.fips180.specs.Fips as Fips
@@ -132,7 +132,7 @@ module _ (w : List ℕ) (l u n : ℕ) (e : 16 * (16 + u) + l ≡ n) where
       )
 
 -- the words before index n are those of the schedules of the blocks in m
-pub Filled : ℕ → List ℕ → List ℕ → Type 0
+Filled : ℕ → List ℕ → List ℕ → Type 0
 Filled n m w = (l t : ℕ) → l < 16 → 16 * (16 + t) + l < n + 16 → column l (16 + t) w ≡ Fips.schedule (column l 16 m) t
 
 filled-none : (m : List ℕ) → Filled 256 m m

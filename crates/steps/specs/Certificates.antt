@@ -26,7 +26,7 @@ use Rattle.store.specs.Sources.{bytesOf, Readable, signatureAt, certificateFrom
 use Rattle.store.specs.declared.sources.Place.the-variants as place
 use Rattle.store.specs.declared.sources.Source.{Source}
 use Rattle.wire_write.specs.Writing.{Wrote}
-use Rattle.steps.specs.Phases.{Changed, Did, Fits, fits-like, likewise, quietly, saying, next}
+use Rattle.steps.specs.Phases.{Changed, Did, Fits, fits-like, did-same, did-writing-none, did-writing-one, next}
 
 -- ---- sources and room
 
@@ -55,7 +55,7 @@ module _ (r : Record) (store out : List ℕ) (at : ℕ) (out′ : List ℕ) (end
       → Did sendFull r store out at (withSent r) store out′ end
   unfolding sendFull write ownCertificate signatureAt bankOf
   full-sent w =
-      saying sendFull r store (fullOf (r .n) (r .round) (r .seat) (ownCertificate r store)) out at (withSent r) store out′ end refl
+      did-writing-one sendFull r store (fullOf (r .n) (r .round) (r .seat) (ownCertificate r store)) out at (withSent r) store out′ end refl
       (record { recorded = refl; stored = refl }) w
 
   pub evidence-sent : (source : Source) (value m bytes : List ℕ) (guilty : ℕ) → bytes ≡ bytesOf (source .place) store m → guilty ≡ shared (r .first .seats) (source .seats)
@@ -64,38 +64,38 @@ module _ (r : Record) (store out : List ℕ) (at : ℕ) (out′ : List ℕ) (end
   unfolding blame found write firstCertificate signatureAt bankOf
   evidence-sent source value m bytes guilty chosen e w =
       let c = heard (r .n) source value store m in
-      saying (blame c) r store (evidenceOf (r .n) (r .round) (found c r) (firstCertificate r store) c) out at (withGuilty r guilty) store out′ end refl
+      did-writing-one (blame c) r store (evidenceOf (r .n) (r .round) (found c r) (firstCertificate r store) c) out at (withGuilty r guilty) store out′ end refl
       (record { recorded = rw e; stored = refl }) (rw (← e, ← chosen) w)
 
 -- ---- replies, and certificates held or blaming
 
 module _ (r : Record) (store out : List ℕ) (at : ℕ) where
   nothing-done : Did (λ s. s) r store out at r store out at
-  nothing-done = quietly (λ s. s) r store out at r store refl (record { recorded = refl; stored = refl })
+  nothing-done = did-writing-none (λ s. s) r store out at r store refl (record { recorded = refl; stored = refl })
 
   pub replied : (unit : Record) (store′ out′ : List ℕ) (end : ℕ) → owesFull r ≡ true → Did sendFull r store out at unit store′ out′ end → Did reply r store out at unit store′ out′ end
   unfolding reply
-  replied unit store′ out′ end e d = likewise sendFull r store reply out at unit store′ out′ end (rw e) d
+  replied unit store′ out′ end e d = did-same sendFull r store reply out at unit store′ out′ end (rw e) d
 
   pub silent : owesFull r ≡ false → Did reply r store out at r store out at
   unfolding reply
-  silent e = likewise (λ s. s) r store reply out at r store out at (rw e) nothing-done
+  silent e = did-same (λ s. s) r store reply out at r store out at (rw e) nothing-done
 
   module _ (c : Certificate) where
     pub first-held : (unit : Record) (store′ : List ℕ) → r .first .seats ≡ 0 → Changed (hold c) r store unit store′ → Did (holdOrBlame c) r store out at unit store′ out at
     unfolding holdOrBlame holds hold
     first-held unit store′ e h =
-        likewise (hold c) r store (holdOrBlame c) out at unit store′ out at (rw (eq-eqb (r .first .seats) 0 e)) (quietly (hold c) r store out at unit store′ refl h)
+        did-same (hold c) r store (holdOrBlame c) out at unit store′ out at (rw (eq-eqb (r .first .seats) 0 e)) (did-writing-none (hold c) r store out at unit store′ refl h)
 
     module _ (some : r .first .seats ≡ 0 → ⊥) (b : Bool) (tested : b ≡ (not (same (c .value) (r .first .value)) && eqb (r .guilty) 0)) where
       pub blamed : (unit : Record) (store′ out′ : List ℕ) (end : ℕ) → b ≡ true → Did (blame c) r store out at unit store′ out′ end → Did (holdOrBlame c) r store out at unit store′ out′ end
       unfolding holdOrBlame holds blames
       blamed unit store′ out′ end e d =
-          likewise (blame c) r store (holdOrBlame c) out at unit store′ out′ end (rw (ne-eqb (r .first .seats) 0 some, ← tested, e)) d
+          did-same (blame c) r store (holdOrBlame c) out at unit store′ out′ end (rw (ne-eqb (r .first .seats) 0 some, ← tested, e)) d
 
       pub not-blamed : b ≡ false → Did (holdOrBlame c) r store out at r store out at
       unfolding holdOrBlame holds blames
-      not-blamed e = likewise (λ s. s) r store (holdOrBlame c) out at r store out at (rw (ne-eqb (r .first .seats) 0 some, ← tested, e)) nothing-done
+      not-blamed e = did-same (λ s. s) r store (holdOrBlame c) out at r store out at (rw (ne-eqb (r .first .seats) 0 some, ← tested, e)) nothing-done
 
 -- ---- hearing and replying
 
@@ -155,6 +155,6 @@ module _ (r : Record) (store out : List ℕ) (at : ℕ) (room : at ≤ length ou
       let same = replied-n r store (noticesWith value r) u told v store (replied .changed) in
       let held-here = subst (λ (n : ℕ). Did (holdOrBlame (heard n source value store m)) v store out′ a w store″ out″ e) same held in
       let c = heard (r .n) source value store m in
-      let first = quietly (hear value) r store out at u store refl (record { recorded = told; stored = refl }) in
+      let first = did-writing-none (hear value) r store out at u store refl (record { recorded = told; stored = refl }) in
       let second = next (hear value) reply reply-after r store out at u store out at v store out′ a room first replied in
       next (λ s. reply (hear value s)) (holdOrBlame c) (holdOrBlame-after c) r store out at v store out′ a w store″ out″ e room second held-here

@@ -8,7 +8,7 @@ use native.Mathlib.Decide.{ℕ-discrete}
 use lib.ListN.{length}
 use borrow.Author.Tests.{not-true}
 use Rattle.octets.specs.Strings.{same}
-use Rattle.octets.specs.StringLaws.{part-all}
+use Rattle.octets.specs.StringsLaws.{part-all}
 use Rattle.quorum.specs.Quorum.{t0, k, has, size, with}
 use Rattle.quorum.specs.QuorumLaws.{has-false, with-lt, size-with-new, bit-empty, size-empty}
 use Rattle.protocol.specs.Layout.{valueLength}
@@ -18,7 +18,7 @@ use Rattle.protocol.specs.Refusals.{said}
 use Rattle.protocol.specs.Step.{write, setOwnValue, collect, submitOwn, isWanted, hearSubmit}
 use Rattle.protocol.specs.declared.Record.{Record}
 use Rattle.wire_write.specs.Writing.{Wrote}
-use Rattle.steps.specs.Phases.{Changed, Did, Fits, fits-like, likewise-changed, saying}
+use Rattle.steps.specs.Phases.{Changed, Did, Fits, fits-like, likewise-changed, did-writing-one}
 use Rattle.protocol.specs.RecordLaws.{Possible}
 
 -- ---- submit
@@ -35,7 +35,7 @@ module _ (r : Record) (value : List ℕ) (u : Record) (told : u ≡ setOwnValue 
   unfolding submitOwn write collect setOwnValue readValue
   own-submitted given signature store out l e v store′ out′ end c w =
       let whole : value ≡ given = e ∙ part-all given valueLength l in
-      saying (submitOwn given signature) r store (Submit (r .round) (r .seat) given signature) out 0 v store′ out′ end refl
+      did-writing-one (submitOwn given signature) r store (Submit (r .round) (r .seat) given signature) out 0 v store′ out′ end refl
       (record { recorded = c .recorded ∙ rw (told, whole); stored = c .stored ∙ rw told }) w
 
 -- ---- SUBMIT heard

@@ -55,24 +55,24 @@ fits-like r u store store′ h n seat collected first long =
 
 module _ (f : State → State) (r : Record) (store : List ℕ) where
   -- a phase that writes nothing
-  pub quietly : (out : List ℕ) (at : ℕ) (unit : Record) (store′ : List ℕ) → f (start r store) .written ≡ [] → Changed f r store unit store′ → Did f r store out at unit store′ out at
+  pub did-writing-none : (out : List ℕ) (at : ℕ) (unit : Record) (store′ : List ℕ) → f (start r store) .written ≡ [] → Changed f r store unit store′ → Did f r store out at unit store′ out at
   unfolding renderAll patch
-  quietly out at unit store′ e k = record { changed = k; wrote = rw e (record { ends = sym (add-zero at); wrote = rw add-zero (sym (take-append-drop at out)) }) }
+  did-writing-none out at unit store′ e k = record { changed = k; wrote = rw e (record { ends = sym (add-zero at); wrote = rw add-zero (sym (take-append-drop at out)) }) }
 
   -- a phase g with the same result as f
   pub likewise-changed : (g : State → State) (unit : Record) (store′ : List ℕ) → f (start r store) ≡ g (start r store) → Changed f r store unit store′ → Changed g r store unit store′
   likewise-changed g unit store′ e k = record { recorded = k .recorded ∙ rw e; stored = k .stored ∙ rw e }
 
-  pub likewise : (g : State → State) (out : List ℕ) (at : ℕ) (unit : Record) (store′ out′ : List ℕ) (end : ℕ) → f (start r store) ≡ g (start r store)
+  pub did-same : (g : State → State) (out : List ℕ) (at : ℕ) (unit : Record) (store′ out′ : List ℕ) (end : ℕ) → f (start r store) ≡ g (start r store)
       → Did f r store out at unit store′ out′ end → Did g r store out at unit store′ out′ end
-  likewise g out at unit store′ out′ end e d =
+  did-same g out at unit store′ out′ end e d =
       record { changed = likewise-changed g unit store′ e (d .changed); wrote = rw (← e) (d .wrote) }
 
   -- a phase that writes one message
-  pub saying : (m : Message) (out : List ℕ) (at : ℕ) (unit : Record) (store′ out′ : List ℕ) (end : ℕ) → f (start r store) .written ≡ m ∷ []
+  pub did-writing-one : (m : Message) (out : List ℕ) (at : ℕ) (unit : Record) (store′ out′ : List ℕ) (end : ℕ) → f (start r store) .written ≡ m ∷ []
       → Changed f r store unit store′ → Wrote at (render m) out out′ end → Did f r store out at unit store′ out′ end
   unfolding renderAll
-  saying m out at unit store′ out′ end e k w = record { changed = k; wrote = rw (e, append-nil) w }
+  did-writing-one m out at unit store′ out′ end e k w = record { changed = k; wrote = rw (e, append-nil) w }
 
 -- one phase after another, where the second only adds to the messages
 pub next : (f g : State → State) → ((ms : List Message) (s : State) → g (after ms s) ≡ after ms (g s))

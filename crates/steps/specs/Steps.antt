@@ -22,11 +22,11 @@ use Rattle.protocol.specs.MessageLaws.{submit-fits}
 use Rattle.wire.specs.KindLaws.{read-as, tag}
 use Rattle.store.specs.StoreLaws.{length-signature}
 use Rattle.store.specs.Sources.{certificateFrom}
-use Rattle.store.specs.SourceLaws.{inFull, full-certificate}
+use Rattle.store.specs.SourcesLaws.{inFull, full-certificate}
 use Rattle.wire.specs.declared.read.Kind.{Kind}
 use Rattle.wire.specs.declared.read.Kind.the-variants as kind
 use Rattle.protocol.specs.RecordLaws.{Ready}
-use Rattle.steps.specs.Phases.{Changed, Did, Fits, likewise, quietly, next}
+use Rattle.steps.specs.Phases.{Changed, Did, Fits, did-same, did-writing-none, next}
 use Rattle.steps.specs.Collecting.{hearSubmit-quiet}
 
 -- ---- the start of a call
@@ -93,7 +93,7 @@ module _ (r : Record) (store out : List ℕ) (m : List ℕ) (u : Record) (v : Re
   unfolding stepped readSubmit
   submit-heard seat value signature store′ said at-seat at-value at-signature first second =
       let f = hearSubmit seat value signature in
-      let quiet = quietly f r store out 0 u store′ (hearSubmit-quiet r store seat value signature) first in
+      let quiet = did-writing-none f r store out 0 u store′ (hearSubmit-quiet r store seat value signature) first in
       rw (is-submit (r .n) m said .0, ← at-seat, ← at-value, ← at-signature)
       (next f confirmIfComplete confirmIfComplete-after r store out 0 u store′ out 0 v store″ out″ e (omega arith) quiet second)
 
@@ -102,7 +102,7 @@ module _ (r : Record) (store out : List ℕ) (m : List ℕ) (u : Record) (v : Re
   unfolding stepped readNotice hear
   notice-heard value said at-value first second =
       let f = hear value in
-      let quiet = quietly f r store out 0 u store refl (record { recorded = first; stored = refl }) in
+      let quiet = did-writing-none f r store out 0 u store refl (record { recorded = first; stored = refl }) in
       rw (read-as kind.Notice (r .n) m said .0, ← at-value) (next f reply reply-after r store out 0 u store out 0 v store″ out″ e (omega arith) quiet second)
 
   pub full-heard : (seats : ℕ) (value : List ℕ) → kind.Full ≡ kindOf (read (r .n) m) → stranger (r .n) (read (r .n) m) ≡ false → disorder (read (r .n) m) ≡ false
@@ -110,7 +110,7 @@ module _ (r : Record) (store out : List ℕ) (m : List ℕ) (u : Record) (v : Re
       → Did (stepped (read (r .n) m)) r store out 0 v store″ out″ e
   unfolding stepped readFull
   full-heard seats value said known ordered set at-value d =
-      likewise (hearCertificate (certificateFrom (r .n) (inFull seats) value m)) r store (stepped (read (r .n) m)) out 0 v store″ out″ e
+      did-same (hearCertificate (certificateFrom (r .n) (inFull seats) value m)) r store (stepped (read (r .n) m)) out 0 v store″ out″ e
       (rw (full-certificate (r .n) m (full-said (r .n) m said) known ordered seats set value at-value, read-as kind.Full (r .n) m said .0)) d
 
 -- a message that no step takes changes nothing
@@ -122,7 +122,7 @@ nothing-heard kind.Notice r store out m e h = absurd (⊎-elim (λ a. omega arit
 nothing-heard kind.Full r store out m e h = absurd (⊎-elim (λ a. omega arith) (λ a. omega arith) h)
 nothing-heard kind.Evidence r store out m e h =
     let same = read-as kind.Evidence (r .n) m e .0 in
-    quietly (stepped (read (r .n) m)) r store out 0 r store (rw same) (record { recorded = rw same; stored = rw same })
+    did-writing-none (stepped (read (r .n) m)) r store out 0 r store (rw same) (record { recorded = rw same; stored = rw same })
 nothing-heard kind.Garbled r store out m e h =
     let same = read-as kind.Garbled (r .n) m e .0 in
-    quietly (stepped (read (r .n) m)) r store out 0 r store (rw same) (record { recorded = rw same; stored = rw same })
+    did-writing-none (stepped (read (r .n) m)) r store out 0 r store (rw same) (record { recorded = rw same; stored = rw same })

@@ -2,4 +2,4 @@
 pub mod Sources
 pub mod SeatLaws
 pub mod StoreLaws
-pub mod SourceLaws
+pub mod SourcesLaws

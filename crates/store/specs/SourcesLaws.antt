@@ -37,11 +37,11 @@ module _ (n : ℕ) (bytes : List ℕ) (mask : ℕ) (h : Sound n bytes mask) wher
   is-full : (fitsFull n bytes ≡ true) × (read n bytes ≡ readFull n bytes)
   is-full = read-is-full n bytes (h .full)
 
-  pub sound-set : mask ≡ setOf (formSeats fullForm (entriesIn n bytes))
+  sound-set : mask ≡ setOf (formSeats fullForm (entriesIn n bytes))
   unfolding certificateIn readFull certificateOf
   sound-set = h .set ∙ rw (is-full .1)
 
-  pub sound-signature : certificateIn (read n bytes) .signature ≡ signatureOf (entriesIn n bytes)
+  sound-signature : certificateIn (read n bytes) .signature ≡ signatureOf (entriesIn n bytes)
   unfolding certificateIn readFull certificateOf
   sound-signature = rw (is-full .1)
 
@@ -55,13 +55,13 @@ module _ (n : ℕ) (bytes : List ℕ) (mask : ℕ) (h : Sound n bytes mask) wher
   unfolding disorder entrySeats readFull
   sound-ordered = not-false _ (rw (is-full .1) at (h .ordered))
 
-  pub sound-lt : mask < 2 ^ n
+  sound-lt : mask < 2 ^ n
   sound-lt = rw sound-set (set-lt n (formSeats fullForm (entriesIn n bytes)) sound-known)
 
-  pub sound-seats : seats n mask ≡ formSeats fullForm (entriesIn n bytes)
+  sound-seats : seats n mask ≡ formSeats fullForm (entriesIn n bytes)
   sound-seats = rw sound-set (seats-set n (formSeats fullForm (entriesIn n bytes)) sound-ordered sound-known)
 
-  pub sound-many : length (seats n mask) ≡ k n
+  sound-many : length (seats n mask) ≡ k n
   unfolding formSeats
   sound-many = ap length sound-seats ∙ length-map (entriesIn n bytes) (fullForm .seat) ∙ length-read fullForm (k n) bytes
 
@@ -71,11 +71,11 @@ module _ (n : ℕ) (bytes : List ℕ) (mask : ℕ) (h : Sound n bytes mask) wher
         let f = seats-split n s mask l i in
         omega (arith, sound-many, count-below s mask, ap length (f .1), length-append (seats s mask) (s ∷ f .0))
 
-    pub entry-inside : entryPlace mask s + signatureLength ≤ length bytes
+    entry-inside : entryPlace mask s + signatureLength ≤ length bytes
     unfolding entryPlace fullLength fullEntryAt fullEntryLength signatureLength
     entry-inside = omega (arith, entry-index, full-fits n bytes (is-full .0) .size)
 
-    pub entry-signature : readSignature (entryPlace mask s) bytes ≡ certificateIn (read n bytes) .signature s
+    entry-signature : readSignature (entryPlace mask s) bytes ≡ certificateIn (read n bytes) .signature s
     unfolding entryPlace fullEntryAt fullEntryLength placeOf readEntry fullForm readSignature
     entry-signature =
         let f = seats-split n s mask l i in

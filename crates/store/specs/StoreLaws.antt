@@ -9,7 +9,7 @@ use lib.ListN.{length}
 use lib.Seq.{drop-drop}
 use borrow.Rule.Slice.PartMut.{putMid}
 use Rattle.octets.specs.Octets.{part, patch}
-use Rattle.octets.specs.OctetLaws.{length-part, length-patch}
+use Rattle.octets.specs.OctetsLaws.{length-part, length-patch}
 use Rattle.octets.specs.WriteLaws.{part-before, part-after, patch-all}
 use Rattle.quorum.specs.Quorum.{bit, In, seats}
 use Rattle.quorum.specs.QuorumLaws.{seats-in, seats-out}

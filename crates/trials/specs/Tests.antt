@@ -10,7 +10,7 @@ use lib.Dec.{eqb, leb, ltb}
 use lib.ListN.{length}
 use borrow.Author.Tests.{eqb-true, eq-eqb, leb-true, le-leb, ltb-true}
 use Rattle.octets.specs.Strings.{same}
-use Rattle.octets.specs.StringLaws.{same-true}
+use Rattle.octets.specs.StringsLaws.{same-true}
 use Rattle.quorum.specs.Quorum.{t0, k, size}
 use Rattle.refusal.specs.RefusalLaws.{both-true, both-false}
 use Rattle.protocol.specs.Layout.{valueLength, signatureLength, storeLength, outLength}
@@ -25,7 +25,7 @@ use Rattle.round.specs.Demand3.{Blames}
 use Rattle.protocol.specs.ConditionsLaws.{every-each}
 use Rattle.reading.specs.Lists.{and-false-either, or-true-either}
 use Rattle.reading.specs.Reading.{are-unique}
-use Rattle.reading.specs.Messages.{messages, allMessages, all-member, member-all, written-is, over-are}
+use Rattle.reading.specs.Messages.{messages, allMessages, all-member, member-all, written-is, list-are}
 
 -- ---- a member of a list
 
@@ -39,7 +39,7 @@ found-one test [] e = absurd (false≢true e)
 found-one test (x ∷ xs) e =
     ⊎-elim (λ p. (x, List·Memᴰ·head refl, p)) (λ p. let r = found-one test xs p in (r .0, List·Memᴰ·tail (r .1), r .2)) (or-true-either (test x) (found test xs) e)
 
-pub found-none {ℓ} : {A : Type ℓ} (test : A → Bool) (xs : List A) → found test xs ≡ false → Each (λ x. test x ≡ false) xs
+found-none {ℓ} : {A : Type ℓ} (test : A → Bool) (xs : List A) → found test xs ≡ false → Each (λ x. test x ≡ false) xs
 unfolding found
 found-none test [] e x d = absurd (List·Memᴰ·not-nil d)
 found-none test (y ∷ xs) e x d =
@@ -295,7 +295,7 @@ module _ (S : Setting) where
     -- the whole list writes these messages
     pub all-are : Are n (writtenOver S (listOf S u)) (all u)
     unfolding all
-    all-are = over-are S n (listOf S u) (λ c d. (λ m e. all-formed m (all-member S (listOf S u) c m d e), written-is S c))
+    all-are = list-are S n (listOf S u) (λ c d. (λ m e. all-formed m (all-member S (listOf S u) c m d e), written-is S c))
 
     pub confirms-says : (layout : List ℕ) → confirms u layout ≡ true → Confirms S u layout
     unfolding confirms

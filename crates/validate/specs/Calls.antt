@@ -18,7 +18,7 @@ use Rattle.protocol.specs.Refusals.{Checks, Condition, every, said, wrongLength
 use Rattle.protocol.specs.Signatures.{signatureNumber}
 use Rattle.protocol.specs.SignaturesLaws.{signature-row}
 use Rattle.protocol.specs.declared.Record.{Record}
-use Rattle.validate.specs.Messages.{Formed, message-rises, message-formed}
+use Rattle.validate.specs.Messages.{Formed, message-nonzero, message-formed}
 use Rattle.validate.specs.Entries.{FullTaken, EvidenceTaken, certificate-taken, pack-taken}
 
 -- ---- the own submission
@@ -106,13 +106,13 @@ module _ (checks : Checks) (n round : ℕ) (m : Message) where
   unfolding certificateConditions
   certificate-told taken t number e = rw (← t) e
 
-  pub certificate-formed : (number : ℕ) → number ≡ firstOf (certificateConditions checks n round m) → number ≡ 0 → Formed n round (isFull m) m
+  certificate-formed : (number : ℕ) → number ≡ firstOf (certificateConditions checks n round m) → number ≡ 0 → Formed n round (isFull m) m
   unfolding certificateConditions
   certificate-formed number e z = message-formed n round (isFull m) false m number checks e z
 
-  pub certificate-rises : nonzero (numbers (certificateConditions checks n round m)) ≡ true
+  pub certificate-nonzero : nonzero (numbers (certificateConditions checks n round m)) ≡ true
   unfolding certificateConditions
-  certificate-rises = message-rises checks n round (isFull m) false m
+  certificate-nonzero = message-nonzero checks n round (isFull m) false m
 
 -- one that isn't refused
 pub certificate-right : (checks : Checks) (n round : ℕ) (bytes : List ℕ) (number : ℕ)
@@ -146,17 +146,17 @@ module _ (checks : Checks) (n round : ℕ) (a b : Message) where
   pub both-passed : (x : ℕ) → x ≡ firstOf (certificateConditions checks n round a) → x ≡ 0 → (y : ℕ) → y ≡ firstOf (certificateConditions checks n round b) → y ≡ 0
       → (number : ℕ) → number ≡ firstOf (NO-CONFLICT-BETWEEN a b ∷ []) → number ≡ firstOf (twoConditions checks n round a b)
   both-passed x e p y f q number g =
-      rows-passed ofFirst (ofSecond ++ last) x e (certificate-rises checks n round a) p number
-      (rows-passed ofSecond last y f (certificate-rises checks n round b) q number g)
+      rows-passed ofFirst (ofSecond ++ last) x e (certificate-nonzero checks n round a) p number
+      (rows-passed ofSecond last y f (certificate-nonzero checks n round b) q number g)
       ∙ in-order
 
   pub two-passed : firstOf (twoConditions checks n round a b) ≡ 0 → Conflict n round a b
   unfolding firstOf
   two-passed z =
       let p = passed-first ofFirst (ofSecond ++ last) (in-order ∙ z) in
-      let rest = refused-later ofFirst (ofSecond ++ last) 0 (sym p) (certificate-rises checks n round a) refl ∙ in-order ∙ z in
+      let rest = refused-later ofFirst (ofSecond ++ last) 0 (sym p) (certificate-nonzero checks n round a) refl ∙ in-order ∙ z in
       let q = passed-first ofSecond last rest in
-      let none = refused-later ofSecond last 0 (sym q) (certificate-rises checks n round b) refl ∙ rest in
+      let none = refused-later ofSecond last 0 (sym q) (certificate-nonzero checks n round b) refl ∙ rest in
       record {
         first = certificate-formed checks n round a 0 (sym p) refl;
         second = certificate-formed checks n round b 0 (sym q) refl;

@@ -13,7 +13,7 @@ use Rattle.refusal.specs.Refusal.{firstOf}
 use Rattle.quorum.specs.Quorum.{k}
 use Rattle.protocol.specs.Layout.{valueLength, signatureLength, seatAt, valueAt, submitSignatureAt, submitLength, fullCountAt, fullEntryLength, fullEntryAt, fullLength, evidenceCountAt, evidenceEntryLength, evidenceEntryAt, evidenceLength}
 use Rattle.protocol.specs.Entries.{eachBelow, readEntry}
-use Rattle.protocol.specs.EntriesLaws.{Passed, passed-none, passed-turn, passed-all, each-not}
+use Rattle.protocol.specs.EntriesLaws.{Passed, passed-none, passed-next, passed-all, each-not}
 use Rattle.protocol.specs.Message.{Entry, fullForm, byteAt, readValue, readSignature, read, readSubmit, readNotice, readFull, readEvidence, seatsOf, signed}
 use Rattle.protocol.specs.MessageLaws.{submit-fits, full-fits, evidence-fits}
 use Rattle.protocol.specs.Refusals.{Checks, every, isFull, isEvidence, stranger, badSignature, SIGNATURE}
@@ -94,7 +94,7 @@ module _ (n round : ℕ) (bytes : List ℕ) where
 -- ---- verdicts
 
 -- the number of row 14, for signatures that are bad or not
-pub bad-row : (bad : Bool) → signatureNumber (not bad) ≡ firstOf ((14, bad) ∷ [])
+bad-row : (bad : Bool) → signatureNumber (not bad) ≡ firstOf ((14, bad) ∷ [])
 unfolding signatureNumber firstOf
 bad-row true = refl
 bad-row false = refl
@@ -160,7 +160,7 @@ module _ (checks : Checks) (n : ℕ) (bytes : List ℕ) (h : EvidenceTaken n byt
 
   module _ (t number : ℕ) (l : t < byteAt bytes evidenceCountAt) (v : number ≡ signatureNumber (pairCheck checks bytes t)) where
     pub checked-more : Checked checks bytes t → number ≡ 0 → Checked checks bytes (t + 1)
-    checked-more c z = passed-turn c l (accepts (pairCheck checks bytes t) number v z)
+    checked-more c z = passed-next c l (accepts (pairCheck checks bytes t) number v z)
 
     pub checked-not : (number ≡ 0 → ⊥) → number ≡ firstOf (SIGNATURE checks (read n bytes) ∷ [])
     unfolding firstOf
@@ -285,7 +285,7 @@ module _ (checks : Checks) (n : ℕ) (bytes : List ℕ) (h : FullTaken n bytes) 
     walk-on (next.Entry seat at) w e =
         let is = found-entry seat at w in (
           is .0,
-          λ s′ f. record { found = f; before = passed-turn (w .before) (is .0) (entry-checked seat at w ∙ e) },
+          λ s′ f. record { found = f; before = passed-next (w .before) (is .0) (entry-checked seat at w ∙ e) },
         )
 
     -- it doesn't, or there is none: the reader stands before an entry where a signature is bad

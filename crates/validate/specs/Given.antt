@@ -33,16 +33,16 @@ module _ (n round : ℕ) (keys : List ℕ) where
       let size = right-size n (a .0) in
       record { some = size .0; most = size .1; dated = right-round round (b .0); table = firstOf-zero 4 _ [] (b .1) .0 }
 
-  pub outside-rises : nonzero (numbers (outsideConditions n round keys)) ≡ true
+  pub outside-nonzero : nonzero (numbers (outsideConditions n round keys)) ≡ true
   unfolding outsideConditions nonzero numbers
-  outside-rises = refl
+  outside-nonzero = refl
 
 -- ---- with a record
 
 module _ (keys : List ℕ) (r : Record) (store out : List ℕ) where
-  pub record-rises : nonzero (numbers (recordConditions keys r store out)) ≡ true
+  pub record-nonzero : nonzero (numbers (recordConditions keys r store out)) ≡ true
   unfolding recordConditions nonzero numbers
-  record-rises = refl
+  record-nonzero = refl
 
   module _ (number : ℕ) (e : number ≡ firstOf (recordConditions keys r store out)) (z : number ≡ 0) where
     passed : (impossible r ≡ false) × (wrongKeys (r .n) keys ≡ false) × (shortStore (r .n) store ≡ false) × (shortOut (outLength (r .n)) out ≡ false)

@@ -9,8 +9,8 @@ use native.Mathlib.Omega.{arith}
 use lib.ListN.{length}
 use borrow.Author.Tests.{eq-eqb, ne-eqb}
 use Rattle.octets.specs.Octets.{part, number, wordAt}
-use Rattle.octets.specs.OctetLaws.{length-part}
-use Rattle.octets.specs.StringLaws.{part-part, number-part-four}
+use Rattle.octets.specs.OctetsLaws.{length-part}
+use Rattle.octets.specs.StringsLaws.{part-part, number-part-four}
 use Rattle.rfc8554.specs.Ots.{knownOts}
 use Rattle.rfc8554.specs.Tree.{knownLms}
 use Rattle.rfc8554.specs.Verify.{lmsTypeOf, otsTypeOf}

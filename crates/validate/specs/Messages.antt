@@ -100,9 +100,9 @@ pub record Formed (n round : ℕ) (taken : Bool) (m : Message) : Type 0 where
   pub known : stranger n m ≡ false
   pub ordered : disorder m ≡ false
 
-pub message-rises : (checks : Checks) (n round : ℕ) (taken early : Bool) (m : Message) → nonzero (numbers (messageConditions checks n round taken early m)) ≡ true
+pub message-nonzero : (checks : Checks) (n round : ℕ) (taken early : Bool) (m : Message) → nonzero (numbers (messageConditions checks n round taken early m)) ≡ true
 unfolding messageConditions nonzero numbers
-message-rises checks n round taken early m = refl
+message-nonzero checks n round taken early m = refl
 
 module _ (n round : ℕ) (taken early : Bool) (m : Message) (number : ℕ) where
   module _ (e : number ≡ firstOf (formConditions n round taken early m)) where

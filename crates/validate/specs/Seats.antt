@@ -8,8 +8,8 @@ use native.Mathlib.Omega.{arith}
 use lib.ListN.{length}
 use borrow.Author.Tests.{eq-eqb, ne-eqb}
 use Rattle.octets.specs.Octets.{patch, be, wordAt}
-use Rattle.octets.specs.OctetLaws.{length-be, be-four}
-use Rattle.octets.specs.StringLaws.{be-one, be-two, number-part-four}
+use Rattle.octets.specs.OctetsLaws.{length-be, be-four}
+use Rattle.octets.specs.StringsLaws.{be-one, be-two, number-part-four}
 use Rattle.octets.specs.WriteLaws.{pieces}
 use Rattle.rfc8554.specs.Verify.{leafOf, valid}
 use Rattle.protocol.specs.Layout.{signatureLength}

@@ -63,7 +63,7 @@ round-garbled t n bytes e g round = rw (read-as kind.Garbled n bytes (sym g ∙ 
 
 -- ---- strangers
 
-pub names-sender : (t : Kind) (n : ℕ) (bytes : List ℕ) → t ≡ kindOf (read n bytes) → (tag t ≡ 0) ⊎ ((tag t ≡ 1) ⊎ (tag t ≡ 2)) → sendersOf (read n bytes) ≡ byteAt bytes seatAt ∷ []
+names-sender : (t : Kind) (n : ℕ) (bytes : List ℕ) → t ≡ kindOf (read n bytes) → (tag t ≡ 0) ⊎ ((tag t ≡ 1) ⊎ (tag t ≡ 2)) → sendersOf (read n bytes) ≡ byteAt bytes seatAt ∷ []
 unfolding sendersOf readSubmit readNotice readFull
 names-sender kind.Submit n bytes e h = rw (read-as kind.Submit n bytes e .0)
 names-sender kind.Notice n bytes e h = rw (read-as kind.Notice n bytes e .0)

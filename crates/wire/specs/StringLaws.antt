@@ -10,16 +10,16 @@ use lib.ListN.{length, drop, getD, drop-of-length-le}
 use lib.Seq.{drop-cons}
 use borrow.Author.Tests.{lt-ltb, le-ltb, eq-eqb, ne-eqb}
 use Rattle.octets.specs.Octets.{part, patch}
-use Rattle.octets.specs.OctetLaws.{length-part}
+use Rattle.octets.specs.OctetsLaws.{length-part}
 use Rattle.octets.specs.WriteLaws.{patch-all}
 use Rattle.protocol.specs.Values.{isLower}
 
 -- ---- values compared byte by byte
 
 module _ (xs ys : List ℕ) (i : ℕ) (hx : i < length xs) (hy : i < length ys) where
-  pub lower-turn : getD xs i 0 ≡ getD ys i 0 → isLower (drop i xs) (drop i ys) ≡ isLower xs ys → isLower (drop (i + 1) xs) (drop (i + 1) ys) ≡ isLower xs ys
+  pub lower-next : getD xs i 0 ≡ getD ys i 0 → isLower (drop i xs) (drop i ys) ≡ isLower xs ys → isLower (drop (i + 1) xs) (drop (i + 1) ys) ≡ isLower xs ys
   unfolding isLower
-  lower-turn e h =
+  lower-next e h =
       rw add-one (sym (rw (
         drop-cons xs i 0 hx,
         drop-cons ys i 0 hy,

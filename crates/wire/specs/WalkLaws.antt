@@ -71,8 +71,8 @@ module _ {place : ℕ → ℕ} {bytes : List ℕ} {count t : ℕ} (h : Rises pla
   before = omega (arith, h .some)
 
   -- the byte of index t is above the one before it, or isn't
-  pub rises-turn : t < count → byteAt bytes (place (t - 1)) < byteAt bytes (place t) → Rises place bytes count (t + 1)
-  rises-turn l e =
+  pub rises-next : t < count → byteAt bytes (place (t - 1)) < byteAt bytes (place t) → Rises place bytes count (t + 1)
+  rises-next l e =
       let e′ : byteAt bytes (place (t - 1)) < byteAt bytes (place (suc (t - 1))) = rw (← before) e in
       let so-far : rising (bytesAt place (suc (t - 1)) bytes) ≡ true = rw (← before) (h .rises) in
       let more : rising (bytesAt place (suc (suc (t - 1))) bytes) ≡ true = rw (rising-step place bytes (t - 1), so-far, lt-ltb _ _ e′) in
@@ -103,9 +103,9 @@ unfolding bytesAt setOf
 gathered-none = record { within = omega arith; set = refl }
 
 module _ {place : ℕ → ℕ} {bytes : List ℕ} {count mask t : ℕ} (h : Gathered place bytes count mask t) where
-  pub gathered-turn : {x r : ℕ} → t < count → x ≡ byteAt bytes (place t) → r ≡ with x mask → Gathered place bytes count r (t + 1)
+  pub gathered-next : {x r : ℕ} → t < count → x ≡ byteAt bytes (place t) → r ≡ with x mask → Gathered place bytes count r (t + 1)
   unfolding bytesAt
-  gathered-turn l e q =
+  gathered-next l e q =
       record { within = omega arith; set = q ∙ rw (e, h .set, add-one, set-snoc (bytesAt place t bytes) (byteAt bytes (place t))) }
 
   pub gathered-all : count ≤ t → mask ≡ setOf (bytesAt place count bytes)

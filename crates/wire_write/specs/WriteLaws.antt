@@ -10,8 +10,8 @@ use native.Mathlib.Omega.{arith}
 use lib.ListN.{length, take, drop, set, length-append, length-map, take-append-drop}
 use lib.Seq.{set-split, sets-eq}
 use Rattle.octets.specs.Octets.{patch, be}
-use Rattle.octets.specs.OctetLaws.{length-be, patch-patch, length-patch}
-use Rattle.octets.specs.StringLaws.{be-two}
+use Rattle.octets.specs.OctetsLaws.{length-be, patch-patch, length-patch}
+use Rattle.octets.specs.StringsLaws.{be-two}
 use Rattle.quorum.specs.Quorum.{k, bit, In, shared, seats, size}
 use Rattle.quorum.specs.QuorumLaws.{in-shared, shared-lt, size-shared-le, seats-in, seats-out, length-seats}
 use Rattle.protocol.specs.Layout.{valueLength, operandsAt, noticeLength, entryLength, evidenceStart, evidenceEntryLength, evidenceEntryAt, evidenceLength}
@@ -131,7 +131,7 @@ list-written form f n m front {count = count} u v h inside c =
     rw counted (then u v h)
 
 -- the bytes of pairs don't say their values
-pub pairs-values : (n : ℕ) (low : Source) (lows : List ℕ) (high : Source) (highs lower higher l : List ℕ)
+pairs-values : (n : ℕ) (low : Source) (lows : List ℕ) (high : Source) (highs lower higher l : List ℕ)
     → renderEntries (evidenceForm noValues) (map (pairOf (certificateFrom n low [] lows) (certificateFrom n high [] highs)) l)
     ≡ renderEntries (evidenceForm (record { lower = lower; higher = higher })) (map (pairOf (certificateFrom n low lower lows) (certificateFrom n high higher highs)) l)
 unfolding renderEntries renderEntry evidenceForm

@@ -127,8 +127,8 @@ abbrev pub endedBy : Record → List ℕ → List ℕ → Outcome
 endedBy r store bytes = record { ends = true; unit = r; store = store; written = []; line = lineFor bytes 9 0 }
 
 -- a call of the confirmer, refused or not
-abbrev pub goesOn : Result → Outcome
-goesOn a = record { ends = false; unit = a .unit; store = a .store; written = a .written; line = line (a .refusal) (length (a .written)) }
+abbrev pub callAnswer : Result → Outcome
+callAnswer a = record { ends = false; unit = a .unit; store = a .store; written = a .written; line = line (a .refusal) (length (a .written)) }
 
 -- the code's answer to it
 unfoldable pub toldCall : Stepped → Answer
@@ -139,5 +139,5 @@ unfoldable pub called : (List ℕ → ℕ → Checks) → List ℕ → Record �
 called checks keys r store out bytes =
     cond (misframedCall bytes) (endedBy r store bytes)
     (cond (isMessage bytes)
-    (goesOn (step (checks keys (r .round)) keys r store (drop messageAt bytes) out))
-    (goesOn (submit (checks keys (r .round)) keys r store (part ownValueAt valueLength bytes) (drop ownSignatureAt bytes) out)))
+    (callAnswer (step (checks keys (r .round)) keys r store (drop messageAt bytes) out))
+    (callAnswer (submit (checks keys (r .round)) keys r store (part ownValueAt valueLength bytes) (drop ownSignatureAt bytes) out)))

@@ -9,8 +9,8 @@ use lib.Dec.{ltb, eqb}
 use lib.ListN.{length, take, drop, drop-of-length-le, List·getD-eq-default}
 use borrow.Author.Tests.{eq-eqb, ne-eqb, lt-ltb, le-ltb, ltb-false, not-false}
 use Rattle.octets.specs.Octets.{part}
-use Rattle.octets.specs.OctetLaws.{take-rest}
-use Rattle.octets.specs.StringLaws.{patch-nothing}
+use Rattle.octets.specs.OctetsLaws.{take-rest}
+use Rattle.octets.specs.StringsLaws.{patch-nothing}
 use Rattle.refusal.specs.Refusal.{firstOf, unrefused}
 use Rattle.refusal.specs.RefusalLaws.{both-false}
 use Rattle.protocol.specs.Layout.{valueLength, signatureLength, keyLength}

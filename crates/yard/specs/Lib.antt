@@ -8,6 +8,6 @@ pub mod Commands
 pub mod Yard
 pub mod Examples
 pub mod LineLaws
-pub mod CommandLaws
+pub mod CommandsLaws
 pub mod Program
 pub mod Run

@@ -12,7 +12,7 @@ use lib.ListN.{length, set, replicate, length-append, length-replicate}
 use lib.Seq.{set-split}
 use borrow.Author.Tests.{lt-ltb, le-ltb}
 use Rattle.octets.specs.Octets.{patch}
-use Rattle.octets.specs.OctetLaws.{patch-patch, length-patch}
+use Rattle.octets.specs.OctetsLaws.{patch-patch, length-patch}
 use Rattle.yard.specs.Line.{digit, decimalIn, decimal, line, lineLimit, inSpace}
 
 -- ---- digits

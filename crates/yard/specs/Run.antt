@@ -15,7 +15,7 @@ use Rattle.protocol.specs.declared.Record.{Record}
 use Rattle.protocol.specs.declared.Opened.{Opened}
 use Rattle.yard.specs.Commands.{Outcome, keysOf, openingLength, misframedOpening, refusedOpening, opened, yardOut, begun, callLength, misframedCall, endedBy, called}
 use Rattle.yard.specs.Yard.{printed, yard}
-use Rattle.yard.specs.CommandLaws.{framed-opening, framed-call}
+use Rattle.yard.specs.CommandsLaws.{framed-opening, framed-call}
 use Rattle.yard.specs.Program.{gathered, Tells, call-tells, opening-tells, gathered-whole, called-out, ran-printed}
 
 -- Later commands, one after another, from a first record, store and out: their bytes, their lines, whether the last one ends the

@@ -153,7 +153,7 @@ fn is_misframed_call(bytes: &[u8]) -> bool
 }
 
 // Answer of a call of the confirmer, refused or not.
-fn goes_on(answer: Stepped) -> Answer
+fn call_answer(answer: Stepped) -> Answer
     ensures { λ t. ⌜ (t ≡ toldCall answer) × Fits (t .line) ⌝ }
 {
     let line = line_of(answer.number, answer.written);
@@ -189,7 +189,7 @@ pub fn take_command(
     }
     if byte_at(bytes, 0) == 0x11 {
         let answer = confirmer::calls::step(r, keys, store, &bytes[space::MESSAGE_HEAD..], out);
-        return goes_on(answer);
+        return call_answer(answer);
     }
     let answer = confirmer::calls::submit(
         r,
@@ -199,5 +199,5 @@ pub fn take_command(
         &bytes[space::SUBMIT_HEAD..],
         out,
     );
-    goes_on(answer)
+    call_answer(answer)
 }

@@ -5,7 +5,7 @@ use Prim.Native.Nat.{ℕ}
 use mathlib.Core.Path.{_≡_, refl}
 use mathlib.Core.Logic.{_≢_}
 use mathlib.Core.List.{List, []}
-use Rattle.octets.specs.StringLaws.{patch-nothing}
+use Rattle.octets.specs.StringsLaws.{patch-nothing}
 use Rattle.refusal.specs.RefusalLaws.{refused-old}
 use Rattle.protocol.specs.Refusals.{Checks}
 use Rattle.protocol.specs.Step.{State}

@@ -9,7 +9,7 @@ use super::messages::{Evidence, Full, FullEntry, Notice, Submit, Value, FULL, NO
 use super::quorum;
 use super::record::{First, Notices, Opened, Record, Stepped, Written};
 use super::seats::{contains, list, mask, size};
-use super::turned_back::{certificate, is_size, key_table, places, refuse, signature, Passed};
+use super::refusals::{certificate, is_size, key_table, places, refuse, signature, Passed};
 
 pub fn open(n: u32, seat: u32, round: u32, keys: &[u8]) -> Opened {
     let tested = || {

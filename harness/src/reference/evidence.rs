@@ -4,7 +4,7 @@ use super::layout;
 use super::messages::{Evidence, EvidenceEntry, Full, FullEntry};
 use super::record::{Verdict, Written};
 use super::seats::mask;
-use super::turned_back::{arguments, certificate, places, refuse, signature, Passed};
+use super::refusals::{arguments, certificate, places, refuse, signature, Passed};
 
 pub fn check_evidence(n: u32, round: u32, keys: &[u8], evidence: &[u8]) -> Verdict {
     let named = || {

@@ -13,6 +13,6 @@ pub mod quorum;
 pub mod record;
 pub mod seats;
 pub mod sha256;
-pub mod turned_back;
+pub mod refusals;
 pub mod verdicts;
 pub mod yard;

@@ -6,7 +6,7 @@ use borrow.Author.Needs.{needs}
 use denote.Ref.{now}
 use lib.ListN.{length-take}
 use Rattle.framing.specs.Framing.{messageLength}
-use Rattle.framing.specs.FramingLaws.{told-none, told-many, told-short, told-kind}
+use Rattle.framing.specs.FramingLaws.{length-none, length-many, length-short, length-kind}
 use Rattle.framing.proofs.message_length.Statement.{statement}
 use Rattle.framing.proofs.message_length.Tie as tie
 
@@ -19,24 +19,24 @@ told c =
     let short = c .before .before .before in
     let frame = short .before in
     let args = frame .before .before .before .before .args in
-    told-kind (args .n) (now (args .bytes)) (frame .before .before .if1 .left) (frame .before .if2 .left) (frame .frame-length .result) (frame .frame-length .ensures .0) (short .if3 .left)
+    length-kind (args .n) (now (args .bytes)) (frame .before .before .if1 .left) (frame .before .if2 .left) (frame .frame-length .result) (frame .frame-length .ensures .0) (short .if3 .left)
     (c .before .classify .result) (c .before .classify .ensures) (c .is-garbled .result) (c .is-garbled .ensures)
 
 returns : tie.Need-returns
 returns c =
     let args = c .before .before .args in
-    told-none (args .n) (now (args .bytes)) (c .if1 .taken)
+    length-none (args .n) (now (args .bytes)) (c .if1 .taken)
 
 returns-2 : tie.Need-returns-2
 returns-2 c =
     let args = c .before .before .before .args in
-    told-many (args .n) (now (args .bytes)) (c .before .if1 .left) (c .if2 .taken)
+    length-many (args .n) (now (args .bytes)) (c .before .if1 .left) (c .if2 .taken)
 
 returns-3 : tie.Need-returns-3
 returns-3 c =
     let frame = c .before in
     let args = frame .before .before .before .before .args in
-    told-short (args .n) (now (args .bytes)) (frame .before .before .if1 .left) (frame .before .if2 .left) (frame .frame-length .result) (frame .frame-length .ensures .0) (c .if3 .taken)
+    length-short (args .n) (now (args .bytes)) (frame .before .before .if1 .left) (frame .before .if2 .left) (frame .frame-length .result) (frame .frame-length .ensures .0) (c .if3 .taken)
 
 slice-aggregate-classify : tie.Need-slice-aggregate-classify
 slice-aggregate-classify c = simp length-take (omega arith)

@@ -7,7 +7,7 @@ use denote.Ref.{now}
 use lib.ListN.{length}
 use Rattle.octets.specs.Octets.{bytes}
 use Rattle.lmots_batches.specs.Batches.{Ordered, Moved}
-use Rattle.lmots_batches.specs.BatchLaws.{moved-none, moved-ordered, moved-then}
+use Rattle.lmots_batches.specs.BatchesLaws.{moved-none, moved-ordered, moved-then}
 use Rattle.lmots_batches.proofs.advance.Statement.{statement}
 use Rattle.lmots_batches.proofs.advance.Tie as tie
 

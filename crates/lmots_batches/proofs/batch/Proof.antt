@@ -1,7 +1,7 @@
 -- `lmots_batches::batch` meets its contract.
 use native.Mathlib.Omega.{arith}
 use denote.Ref.{now}
-use Rattle.lmots_batches.specs.BatchLaws.{moved-by}
+use Rattle.lmots_batches.specs.BatchesLaws.{moved-by}
 use borrow.Author.Needs.{needs}
 use Rattle.lmots_batches.proofs.batch.Statement.{statement}
 use Rattle.lmots_batches.proofs.batch.Tie as tie

@@ -5,7 +5,7 @@ use Prim.Native.Nat.{ℕ, _-_, _<_, _≤_}
 use native.Mathlib.Omega.{arith}
 use borrow.Author.Needs.{needs}
 use lib.ListN.{length, getD, length-set, getD-replicate}
-use Rattle.lmots_batches.specs.BatchLaws.{all-set}
+use Rattle.lmots_batches.specs.BatchesLaws.{all-set}
 use Rattle.lmots_batches.proofs.choose.Statement.{statement}
 use Rattle.lmots_batches.proofs.choose.Tie as tie
 

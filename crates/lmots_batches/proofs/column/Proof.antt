@@ -4,8 +4,8 @@ use Prim.Native.Nat.{ℕ, _+_, _-_, _*_, _<_, _≤_}
 use native.Mathlib.Omega.{arith}
 use borrow.Author.Needs.{needs}
 use lib.ListN.{length, getD, length-set}
-use Rattle.sha256_lanes.specs.RowLaws.{front-next}
-use Rattle.lmots_batches.specs.BatchLaws.{column-read}
+use Rattle.sha256_lanes.specs.RowsLaws.{front-next}
+use Rattle.lmots_batches.specs.BatchesLaws.{column-read}
 use Rattle.lmots_batches.proofs.column.Statement.{statement}
 use Rattle.lmots_batches.proofs.column.Tie as tie
 

@@ -9,7 +9,7 @@ use Rattle.octets.specs.Octets.{patch, bytes}
 use Rattle.octets.specs.Strings.{joined}
 use Rattle.octets.specs.WriteLaws.{patch-none}
 use Rattle.lmots_batches.specs.Batches.{ended}
-use Rattle.lmots_batches.specs.BatchLaws.{finish-next, length-written, finished}
+use Rattle.lmots_batches.specs.BatchesLaws.{finish-next, length-written, finished}
 use Rattle.lmots_batches.proofs.finish.Statement.{statement}
 use Rattle.lmots_batches.proofs.finish.Tie as tie
 

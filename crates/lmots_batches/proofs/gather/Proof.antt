@@ -6,7 +6,7 @@ use denote.Ref.{now}
 use lib.ListN.{length, getD}
 use Rattle.octets.specs.Octets.{part, bytes}
 use Rattle.sha256_lanes.specs.Rows.{column}
-use Rattle.lmots_batches.specs.BatchLaws.{gather-next}
+use Rattle.lmots_batches.specs.BatchesLaws.{gather-next}
 use Rattle.lmots_batches.proofs.gather.Statement.{statement}
 use Rattle.lmots_batches.proofs.gather.Tie as tie
 

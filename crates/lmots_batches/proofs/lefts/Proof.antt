@@ -4,7 +4,7 @@ use Prim.Native.Nat.{ℕ, _-_, _<_, _≤_}
 use native.Mathlib.Omega.{arith}
 use borrow.Author.Needs.{needs}
 use lib.ListN.{length, getD, length-set}
-use Rattle.sha256_lanes.specs.RowLaws.{front-next}
+use Rattle.sha256_lanes.specs.RowsLaws.{front-next}
 use Rattle.lmots_batches.proofs.lefts.Statement.{statement}
 use Rattle.lmots_batches.proofs.lefts.Tie as tie
 

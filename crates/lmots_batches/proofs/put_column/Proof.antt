@@ -6,7 +6,7 @@ use borrow.Author.Needs.{needs}
 use denote.Ref.{now}
 use lib.ListN.{length, getD, length-set}
 use Rattle.sha256_lanes.specs.Rows.{column}
-use Rattle.lmots_batches.specs.BatchLaws.{column-next, column-others, column-done}
+use Rattle.lmots_batches.specs.BatchesLaws.{column-next, column-others, column-done}
 use Rattle.lmots_batches.proofs.put_column.Statement.{statement}
 use Rattle.lmots_batches.proofs.put_column.Tie as tie
 

@@ -1,7 +1,7 @@
 -- `lmots_batches::run` meets its contract.
 use denote.Ref.{now}
 use Rattle.octets.specs.Octets.{bytes}
-use Rattle.lmots_batches.specs.BatchLaws.{moved-ordered, run-by}
+use Rattle.lmots_batches.specs.BatchesLaws.{moved-ordered, run-by}
 use borrow.Author.Needs.{needs}
 use Rattle.lmots_batches.proofs.run.Statement.{statement}
 use Rattle.lmots_batches.proofs.run.Tie as tie

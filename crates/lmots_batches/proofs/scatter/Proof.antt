@@ -6,7 +6,7 @@ use borrow.Author.Needs.{needs}
 use denote.Ref.{now}
 use lib.ListN.{length, getD, length-set}
 use Rattle.lmots_batches.specs.Batches.{Scattered}
-use Rattle.lmots_batches.specs.BatchLaws.{scattered-none, scattered-next, length-written}
+use Rattle.lmots_batches.specs.BatchesLaws.{scattered-none, scattered-next, length-written}
 use Rattle.lmots_batches.proofs.scatter.Statement.{statement}
 use Rattle.lmots_batches.proofs.scatter.Tie as tie
 

@@ -3,7 +3,7 @@ use Prim.Native.Nat.{ℕ, _-_, _<_, _≤_}
 use native.Mathlib.Omega.{arith}
 use borrow.Author.Needs.{needs}
 use lib.ListN.{getD}
-use Rattle.lmots_batches.specs.BatchLaws.{bound-more}
+use Rattle.lmots_batches.specs.BatchesLaws.{bound-more}
 use Rattle.lmots_batches.proofs.together.Statement.{statement}
 use Rattle.lmots_batches.proofs.together.Tie as tie
 

@@ -5,7 +5,7 @@ use native.Mathlib.Omega.{arith}
 use lib.ListN.{length, length-set}
 use denote.Ref.{now}
 use lib.Seq.{paste, paste-zero}
-use Rattle.octets.specs.OctetLaws.{paste-next, patch-paste}
+use Rattle.octets.specs.OctetsLaws.{paste-next, patch-paste}
 use Rattle.octets.proofs.copy.Statement.{statement}
 use Rattle.octets.proofs.copy.Tie as tie
 

@@ -3,7 +3,7 @@ use borrow.Author.Needs.{needs}
 use native.Mathlib.Omega.{arith}
 use lib.ListN.{length-set}
 use denote.Ref.{now}
-use Rattle.octets.specs.OctetLaws.{stores-four}
+use Rattle.octets.specs.OctetsLaws.{stores-four}
 use Rattle.octets.proofs.put_word.Statement.{statement}
 use Rattle.octets.proofs.put_word.Tie as tie
 

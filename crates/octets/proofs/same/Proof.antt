@@ -5,7 +5,7 @@ use native.Mathlib.Omega.{arith}
 use borrow.Author.Count.{below-none, below-more}
 use lib.ListN.{length, getD}
 use denote.Ref.{now}
-use Rattle.octets.specs.StringLaws.{differ-length, differ-at, equal-all}
+use Rattle.octets.specs.StringsLaws.{differ-length, differ-at, equal-all}
 use Rattle.octets.proofs.same.Statement.{statement}
 use Rattle.octets.proofs.same.Tie as tie
 

@@ -6,7 +6,7 @@ use native.Mathlib.Omega.{arith}
 use lib.ListN.{length, take, length-set}
 use denote.Ref.{now}
 use Rattle.octets.specs.Octets.{words}
-use Rattle.octets.specs.OctetLaws.{filled, words-next}
+use Rattle.octets.specs.OctetsLaws.{filled, words-next}
 use Rattle.probes.proofs.eight_words.Statement.{statement}
 use Rattle.probes.proofs.eight_words.Tie as tie
 

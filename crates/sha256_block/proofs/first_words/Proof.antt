@@ -4,7 +4,7 @@ use Prim.Native.Nat.{_-_, _≤_, _<_}
 use native.Mathlib.Omega.{arith}
 use lib.ListN.{length, take, length-set}
 use lib.Seq.{take-suc, take-suc-set}
-use Rattle.octets.specs.OctetLaws.{take-whole}
+use Rattle.octets.specs.OctetsLaws.{take-whole}
 use native.Mathlib.Numerals.{add-one}
 use borrow.Author.Needs.{needs}
 use Rattle.sha256_block.proofs.first_words.Statement.{statement}

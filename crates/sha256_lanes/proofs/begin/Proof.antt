@@ -1,6 +1,6 @@
 -- `sha256_lanes::begin` meets its contract.
 use denote.Ref.{now}
-use Rattle.sha256_lanes.specs.RowLaws.{common-by}
+use Rattle.sha256_lanes.specs.RowsLaws.{common-by}
 use borrow.Author.Needs.{needs}
 use Rattle.sha256_lanes.proofs.begin.Statement.{statement}
 use Rattle.sha256_lanes.proofs.begin.Tie as tie

@@ -1,6 +1,6 @@
 -- `sha256_lanes::compress` meets its contract.
 use denote.Ref.{now}
-use Rattle.sha256_lanes.specs.RowLaws.{compressed-by}
+use Rattle.sha256_lanes.specs.RowsLaws.{compressed-by}
 use borrow.Author.Needs.{needs}
 use Rattle.sha256_lanes.proofs.compress.Statement.{statement}
 use Rattle.sha256_lanes.proofs.compress.Tie as tie

@@ -5,7 +5,7 @@ use native.Mathlib.Omega.{arith}
 use lib.ListN.{length, getD}
 use denote.Ref.{now}
 use Rattle.sha256_lanes.specs.Rows.{Unchanged, roundAt}
-use Rattle.sha256_lanes.specs.RowLaws.{Part, part-none, part-unchanged, part-next, part-done, unchanged-all, length-roundAt}
+use Rattle.sha256_lanes.specs.RowsLaws.{Part, part-none, part-unchanged, part-next, part-done, unchanged-all, length-roundAt}
 use Rattle.sha256_lanes.proofs.round.Statement.{statement}
 use Rattle.sha256_lanes.proofs.round.Tie as tie
 

@@ -6,7 +6,7 @@ use native.Mathlib.Omega.{arith}
 use lib.ListN.{length, getD}
 use denote.Ref.{now}
 use Rattle.sha256_lanes.specs.Rows.{Unchanged, Rounded}
-use Rattle.sha256_lanes.specs.RowLaws.{unchanged-all, unchanged-then, rounded-none, rounded-then}
+use Rattle.sha256_lanes.specs.RowsLaws.{unchanged-all, unchanged-then, rounded-none, rounded-then}
 use Rattle.sha256_lanes.proofs.rounds.Statement.{statement}
 use Rattle.sha256_lanes.proofs.rounds.Tie as tie
 

@@ -5,7 +5,7 @@ use Prim.Native.Nat.{ℕ, _-_, _≤_}
 use native.Mathlib.Omega.{arith}
 use lib.ListN.{length, length-set}
 use denote.Ref.{now}
-use Rattle.sha256_lanes.specs.RowLaws.{Going, going-none, going-next, going-done}
+use Rattle.sha256_lanes.specs.RowsLaws.{Going, going-none, going-next, going-done}
 use Rattle.sha256_lanes.proofs.schedule.Statement.{statement}
 use Rattle.sha256_lanes.proofs.schedule.Tie as tie
 

@@ -2,7 +2,7 @@
 use native.Mathlib.Omega.{arith}
 use borrow.Author.Needs.{needs}
 use denote.Ref.{now}
-use Rattle.sha256_lanes.specs.RowLaws.{shared-next}
+use Rattle.sha256_lanes.specs.RowsLaws.{shared-next}
 use Rattle.sha256_lanes.proofs.scheduled_next.Statement.{statement}
 use Rattle.sha256_lanes.proofs.scheduled_next.Tie as tie
 

@@ -4,7 +4,7 @@ use Prim.Native.Nat.{_-_, _≤_}
 use native.Mathlib.Omega.{arith}
 use borrow.Author.Needs.{needs}
 use lib.ListN.{length, length-set}
-use Rattle.sha256_lanes.specs.RowLaws.{Spread, spread-none, spread-next, spread-done}
+use Rattle.sha256_lanes.specs.RowsLaws.{Spread, spread-none, spread-next, spread-done}
 use Rattle.sha256_lanes.proofs.spread.Statement.{statement}
 use Rattle.sha256_lanes.proofs.spread.Tie as tie
 

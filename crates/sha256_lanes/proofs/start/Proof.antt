@@ -5,7 +5,7 @@ use native.Mathlib.Omega.{arith}
 use borrow.Author.Needs.{needs}
 use lib.Bits.{bitXor}
 use lib.ListN.{length, getD, length-set}
-use Rattle.sha256_lanes.specs.RowLaws.{Begun, begun-none, begun-next, begun-done}
+use Rattle.sha256_lanes.specs.RowsLaws.{Begun, begun-none, begun-next, begun-done}
 use Rattle.sha256_lanes.proofs.start.Statement.{statement}
 use Rattle.sha256_lanes.proofs.start.Tie as tie
 

@@ -4,7 +4,7 @@ use Prim.Native.Nat.{_-_, _≤_}
 use native.Mathlib.Omega.{arith}
 use lib.ListN.{length, length-set}
 use denote.Ref.{now}
-use Rattle.sha256_lanes.specs.RowLaws.{Summed, summed-none, summed-next, summed-done}
+use Rattle.sha256_lanes.specs.RowsLaws.{Summed, summed-none, summed-next, summed-done}
 use Rattle.sha256_lanes.proofs.sums.Statement.{statement}
 use Rattle.sha256_lanes.proofs.sums.Tie as tie
 

@@ -69,7 +69,7 @@ phase c = c .before .before .before .before
 
 returns : tie.Need-returns
 unfolding step stepConditions
-returns c = let first = c .before .before in refused-by-record (call first) (c .before .if1 .taken) (c .turned-back .ensures) (first .record-refusal .ensures)
+returns c = let first = c .before .before in refused-by-record (call first) (c .before .if1 .taken) (c .refused .ensures) (first .record-refusal .ensures)
 
 classify-requires : tie.Need-classify-requires
 classify-requires c κs = sized (passed c)
@@ -79,7 +79,7 @@ step-refusal-requires c κs = (given (passed (c .before)), known c)
 
 returns-2 : tie.Need-returns-2
 unfolding step stepConditions
-returns-2 c = let second = c .before .before .before in refused-by-rest (passed (second .before .before)) (c .before .if2 .taken) (c .turned-back2 .ensures) (second .step-refusal .ensures)
+returns-2 c = let second = c .before .before .before in refused-by-rest (passed (second .before .before)) (c .before .if2 .taken) (c .refused2 .ensures) (second .step-refusal .ensures)
 
 out-length-requires : tie.Need-out-length-requires
 out-length-requires c κs = sized (passed (heard c .before .before))

@@ -54,14 +54,14 @@ phase c = c .before .before .before .before
 
 returns : tie.Need-returns
 unfolding submit submitConditions ownConditions
-returns c = let first = c .before .before in refused-by-record (call first) (c .before .if1 .taken) (c .turned-back .ensures) (first .record-refusal .ensures)
+returns c = let first = c .before .before in refused-by-record (call first) (c .before .if1 .taken) (c .refused .ensures) (first .record-refusal .ensures)
 
 own-refusal-requires : tie.Need-own-refusal-requires
 own-refusal-requires c κs = (ready (passed c) .possible .range, given (passed c))
 
 returns-2 : tie.Need-returns-2
 unfolding submit submitConditions ownConditions
-returns-2 c = let second = c .before .before .before in refused-by-rest (passed (second .before)) (c .before .if2 .taken) (c .turned-back2 .ensures) (second .own-refusal .ensures)
+returns-2 c = let second = c .before .before .before in refused-by-rest (passed (second .before)) (c .before .if2 .taken) (c .refused2 .ensures) (second .own-refusal .ensures)
 
 out-length-requires : tie.Need-out-length-requires
 out-length-requires c κs = sized (passed (own c .before))

@@ -7,7 +7,7 @@ use lib.ListN.{length, getD, length-set, getD-replicate}
 use Rattle.rfc8554.specs.Ots.{coef, chains}
 use Rattle.lmots_digits.specs.DigitLaws.{chain-place}
 use Rattle.lmots.specs.KeyLaws.{chains-le, digit-more}
-use Rattle.sha256_lanes.specs.RowLaws.{front-next}
+use Rattle.sha256_lanes.specs.RowsLaws.{front-next}
 use Rattle.lmots.proofs.key.digit_places.Statement.{statement}
 use Rattle.lmots.proofs.key.digit_places.Tie as tie
 

@@ -10,7 +10,7 @@ use Rattle.octets.specs.Strings.{joined}
 use Rattle.octets.specs.WriteLaws.{patch-none}
 use Rattle.rfc8554.specs.Ots.{start}
 use Rattle.lmots.specs.KeyLaws.{starts-next}
-use Rattle.lmots_batches.specs.BatchLaws.{length-written}
+use Rattle.lmots_batches.specs.BatchesLaws.{length-written}
 use Rattle.lmots.proofs.key.write_starts.Statement.{statement}
 use Rattle.lmots.proofs.key.write_starts.Tie as tie
 

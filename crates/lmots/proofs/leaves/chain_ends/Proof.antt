@@ -3,7 +3,7 @@ use Prim.Native.Nat.{ℕ, _+_, _*_, _<_}
 use native.Mathlib.Omega.{arith}
 use borrow.Author.Needs.{needs}
 use lib.ListN.{getD, replicate, getD-replicate}
-use Rattle.lmots.specs.LeafLaws.{ended-by}
+use Rattle.lmots.specs.LeavesLaws.{ended-by}
 use Rattle.lmots.proofs.leaves.chain_ends.Statement.{statement}
 use Rattle.lmots.proofs.leaves.chain_ends.Tie as tie
 

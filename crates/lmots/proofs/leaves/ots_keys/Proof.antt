@@ -7,7 +7,7 @@ use lib.ListN.{length}
 use Rattle.octets.specs.Octets.{patch, bytes}
 use Rattle.octets.specs.Strings.{joined}
 use Rattle.octets.specs.WriteLaws.{patch-none}
-use Rattle.lmots.specs.LeafLaws.{hash, keys-next, keys-done}
+use Rattle.lmots.specs.LeavesLaws.{hash, keys-next, keys-done}
 use Rattle.lmots.proofs.leaves.ots_keys.Statement.{statement}
 use Rattle.lmots.proofs.leaves.ots_keys.Tie as tie
 

@@ -4,7 +4,7 @@ use Prim.Native.Nat.{ℕ, _-_, _<_, _≤_}
 use native.Mathlib.Omega.{arith}
 use lib.ListN.{length}
 use Rattle.sha256_lanes.specs.Rows.{column}
-use Rattle.lmots.specs.LeafLaws.{filled-next}
+use Rattle.lmots.specs.LeavesLaws.{filled-next}
 use Rattle.lmots.proofs.leaves.put_all.Statement.{statement}
 use Rattle.lmots.proofs.leaves.put_all.Tie as tie
 

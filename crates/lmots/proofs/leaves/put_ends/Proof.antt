@@ -5,7 +5,7 @@ use native.Mathlib.Omega.{arith}
 use borrow.Author.Needs.{needs}
 use denote.Ref.{now}
 use Rattle.lmots.specs.Leaves.{Put}
-use Rattle.lmots.specs.LeafLaws.{put-none, put-next}
+use Rattle.lmots.specs.LeavesLaws.{put-none, put-next}
 use Rattle.lmots.proofs.leaves.put_ends.Statement.{statement}
 use Rattle.lmots.proofs.leaves.put_ends.Tie as tie
 

@@ -5,10 +5,10 @@ use native.Mathlib.Omega.{arith}
 use borrow.Author.Needs.{needs}
 use lib.ListN.{length, getD}
 use Rattle.octets.specs.Octets.{part, bytes}
-use Rattle.octets.specs.OctetLaws.{length-patch}
+use Rattle.octets.specs.OctetsLaws.{length-patch}
 use Rattle.rfc8554.specs.Ots.{dPblc}
 use Rattle.lmots_digits.specs.Pieces.{front}
-use Rattle.lmots.specs.LeafLaws.{fronts-next}
+use Rattle.lmots.specs.LeavesLaws.{fronts-next}
 use Rattle.lmots.proofs.leaves.put_fronts.Statement.{statement}
 use Rattle.lmots.proofs.leaves.put_fronts.Tie as tie
 

@@ -5,7 +5,7 @@ use native.Mathlib.Omega.{arith}
 use borrow.Author.Needs.{needs}
 use lib.ListN.{length}
 use Rattle.octets.specs.Octets.{bytes}
-use Rattle.lmots.specs.LeafLaws.{Strings, strings-none, strings-next, strings-done}
+use Rattle.lmots.specs.LeavesLaws.{Strings, strings-none, strings-next, strings-done}
 use Rattle.lmots.proofs.leaves.put_strings.Statement.{statement}
 use Rattle.lmots.proofs.leaves.put_strings.Tie as tie
 

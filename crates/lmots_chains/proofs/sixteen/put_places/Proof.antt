@@ -4,7 +4,7 @@ use Prim.Native.Nat.{ℕ, _-_, _<_, _≤_}
 use native.Mathlib.Omega.{arith}
 use denote.Ref.{now}
 use lib.ListN.{getD}
-use Rattle.sha256_lanes.specs.RowLaws.{two-none, two-next}
+use Rattle.sha256_lanes.specs.RowsLaws.{two-none, two-next}
 use Rattle.lmots_chains.specs.Sixteen.{Placed}
 use Rattle.lmots_chains.proofs.sixteen.put_places.Statement.{statement}
 use Rattle.lmots_chains.proofs.sixteen.put_places.Tie as tie

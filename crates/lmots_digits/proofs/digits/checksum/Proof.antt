@@ -5,7 +5,7 @@ use native.Mathlib.Omega.{arith}
 use denote.Ref.{now}
 use Rattle.rfc8554.specs.Ots.{sum}
 use Rattle.rfc8554.specs.Ots as Ots
-use Rattle.lmots_digits.specs.DigitLaws.{narrow, digest-place, sum-next, checksum-eight, checksum-four}
+use Rattle.lmots_digits.specs.DigitLaws.{width-four, digest-place, sum-next, checksum-eight, checksum-four}
 use Rattle.lmots_digits.proofs.digits.checksum.Statement.{statement}
 use Rattle.lmots_digits.proofs.digits.checksum.Tie as tie
 
@@ -64,7 +64,7 @@ returns-2 : tie.Need-returns-2 Inv-loop μ-loop
 returns-2 c =
     let at-loop = c .before .before in
     let start = started at-loop in
-    checksum-four (start .args .w) (at-loop .loop .sum) (at-loop .loop .i) (now (start .args .digest)) (narrow _ (start .pre .0) (c .if1 .left)) (omega arith) (at-loop .loop .inv .2)
+    checksum-four (start .args .w) (at-loop .loop .sum) (at-loop .loop .i) (now (start .args .digest)) (width-four _ (start .pre .0) (c .if1 .left)) (omega arith) (at-loop .loop .inv .2)
 
 pub checksum-spec : {M : Type 1} → statement M
 checksum-spec =

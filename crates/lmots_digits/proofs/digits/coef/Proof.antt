@@ -3,7 +3,7 @@ use mathlib.Core.Path.{_≡_}
 use native.Mathlib.Omega.{arith}
 use denote.Ref.{now}
 use lib.ListN.{length}
-use Rattle.lmots_digits.specs.DigitLaws.{narrow, place-eight, place-four, digit-eight, digit-high, digit-low}
+use Rattle.lmots_digits.specs.DigitLaws.{width-four, place-eight, place-four, digit-eight, digit-high, digit-low}
 use borrow.Author.Needs.{needs}
 use Rattle.lmots_digits.proofs.digits.coef.Statement.{statement}
 use Rattle.lmots_digits.proofs.digits.coef.Tie as tie
@@ -16,7 +16,7 @@ abbrev narrow-start : tie.Else1 → tie.Start
 narrow-start c = c .before .before
 
 four : (c : tie.Else1) → narrow-start c .args .w ≡ 4
-four c = narrow _ (narrow-start c .pre .0) (c .if1 .left)
+four c = width-four _ (narrow-start c .pre .0) (c .if1 .left)
 
 -- width 4: back from the reading of the byte
 abbrev halves : tie.After-wide2 → tie.Else1

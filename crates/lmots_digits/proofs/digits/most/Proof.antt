@@ -1,6 +1,6 @@
 -- `lmots_digits::digits::most` meets its contract.
 use native.Mathlib.Omega.{arith}
-use Rattle.lmots_digits.specs.DigitLaws.{narrow}
+use Rattle.lmots_digits.specs.DigitLaws.{width-four}
 use Rattle.lmots_digits.proofs.digits.most.Statement.{statement}
 use Rattle.lmots_digits.proofs.digits.most.Tie as tie
 
@@ -8,7 +8,7 @@ returns : tie.Need-returns
 returns c = (rw (c .if1 .taken), omega arith)
 
 returns-2 : tie.Need-returns-2
-returns-2 c = (rw (narrow _ (c .before .pre) (c .if1 .left)), omega arith)
+returns-2 c = (rw (width-four _ (c .before .pre) (c .if1 .left)), omega arith)
 
 pub most-spec : {M : Type 1} → statement M
 most-spec = tie.close (tie.spec returns returns-2)

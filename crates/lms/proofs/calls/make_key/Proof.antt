@@ -4,7 +4,7 @@ use mathlib.Core.List.{List}
 use Prim.Native.Nat.{ℕ, _≤_}
 use lib.ListN.{length}
 use denote.Ref.{now}
-use Rattle.octets.specs.StringLaws.{patch-nothing}
+use Rattle.octets.specs.StringsLaws.{patch-nothing}
 use Rattle.rfc8554.specs.VerifyLaws.{length-publicKey}
 use Rattle.protocol.specs.Layout.{keyLength, treeLength}
 use Rattle.protocol.specs.SignaturesLaws.{makeKey-unrefused}

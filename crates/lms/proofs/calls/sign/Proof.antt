@@ -5,7 +5,7 @@ use Prim.Native.Nat.{ℕ, _≤_}
 use native.Mathlib.Omega.{arith}
 use lib.ListN.{length}
 use denote.Ref.{now}
-use Rattle.octets.specs.StringLaws.{patch-nothing}
+use Rattle.octets.specs.StringsLaws.{patch-nothing}
 use Rattle.protocol.specs.Layout.{signatureLength, treeLength, messageLimit}
 use Rattle.protocol.specs.Record.{lastRound}
 use Rattle.protocol.specs.SignaturesLaws.{sign-unrefused, length-lmsSignature-six-four}

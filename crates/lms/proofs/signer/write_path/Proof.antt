@@ -6,14 +6,14 @@ use native.Mathlib.Omega.{arith}
 use borrow.Author.Needs.{needs}
 use lib.ListN.{length}
 use denote.Ref.{now}
-use Rattle.octets.specs.OctetLaws.{length-part}
+use Rattle.octets.specs.OctetsLaws.{length-part}
 use Rattle.octets.specs.Strings.{joined}
 use Rattle.octets.specs.Octets.{patch}
 use Rattle.octets.specs.WriteLaws.{patch-none}
 use Rattle.protocol.specs.Layout.{treeLength}
 use Rattle.rfc8554.specs.Tree.{path}
-use Rattle.lms.specs.Written.{way-within, path-turn}
-use Rattle.lms.specs.LmsLaws.{half-turn}
+use Rattle.lms.specs.Written.{way-within, path-next}
+use Rattle.lms.specs.LmsLaws.{half-next}
 use Rattle.lms.proofs.signer.write_path.Statement.{statement}
 use Rattle.lms.proofs.signer.write_path.Tie as tie
 
@@ -84,7 +84,7 @@ loop-again c =
     let args = start .args in
     let x = at-loop .loop .x in
     let i = at-loop .loop .i in
-    (omega arith, omega arith, half-turn x (args .r) i (at-loop .loop .inv .2), path-turn (now (args .tree)) (args .r) (start .pre .0) (start .pre .1) (start .pre .2) (now (args .out)) (at-loop .loop .out) (now (after-bytes-at .bytes-at .result)) (after-copy .copy .last .0) (args .at) x i (after-sibling .sibling .result) (at-loop .loop .inv .2) (omega arith) (after-sibling .sibling .ensures .0) (after-bytes-at .bytes-at .ensures) (omega arith) (at-loop .loop .inv .3) (after-copy .copy .ensures))
+    (omega arith, omega arith, half-next x (args .r) i (at-loop .loop .inv .2), path-next (now (args .tree)) (args .r) (start .pre .0) (start .pre .1) (start .pre .2) (now (args .out)) (at-loop .loop .out) (now (after-bytes-at .bytes-at .result)) (after-copy .copy .last .0) (args .at) x i (after-sibling .sibling .result) (at-loop .loop .inv .2) (omega arith) (after-sibling .sibling .ensures .0) (after-bytes-at .bytes-at .ensures) (omega arith) (at-loop .loop .inv .3) (after-copy .copy .ensures))
 
 same-length : tie.Need-same-length Inv-loop μ-loop
 same-length c = omega arith

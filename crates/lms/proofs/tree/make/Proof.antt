@@ -2,7 +2,7 @@
 use native.Mathlib.Omega.{arith}
 use borrow.Author.Needs.{needs}
 use denote.Ref.{now}
-use Rattle.octets.specs.OctetLaws.{length-part}
+use Rattle.octets.specs.OctetsLaws.{length-part}
 use Rattle.octets.specs.Octets.{bytes}
 use Rattle.protocol.specs.Layout.{treeLength}
 use Rattle.lms.specs.Written.{whole-string, key-written}

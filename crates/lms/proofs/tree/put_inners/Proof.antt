@@ -5,7 +5,7 @@ use native.Mathlib.Omega.{arith}
 use lib.ListN.{length}
 use denote.Ref.{now}
 use Rattle.octets.specs.Octets.{bytes}
-use Rattle.lms.specs.Filled.{inners-turn}
+use Rattle.lms.specs.Filled.{inners-next}
 use Rattle.lms.specs.Pieces.{innersPut}
 use Rattle.lms.proofs.tree.put_inners.Statement.{statement}
 use Rattle.lms.proofs.tree.put_inners.Tie as tie
@@ -46,7 +46,7 @@ loop-again c =
     let at-loop = loop-at (after-put-inner .before) in
     let start = looped at-loop in
     let args = start .args in
-    (omega arith, omega arith, inners-turn (bytes (args .id)) (now (args .tree)) (at-loop .loop .tree) (after-put-inner .put-inner .last .1 .1 .1 .0) (at-loop .loop .t) (at-loop .loop .inv .2) (after-put-inner .put-inner .ensures))
+    (omega arith, omega arith, inners-next (bytes (args .id)) (now (args .tree)) (at-loop .loop .tree) (after-put-inner .put-inner .last .1 .1 .1 .0) (at-loop .loop .t) (at-loop .loop .inv .2) (after-put-inner .put-inner .ensures))
 
 same-length : tie.Need-same-length Inv-loop μ-loop
 same-length c = omega arith

@@ -9,7 +9,7 @@ use Rattle.octets.specs.Strings.{joined}
 use Rattle.octets.specs.WriteLaws.{patch-none}
 use Rattle.protocol.specs.Layout.{treeLength}
 use Rattle.rfc8554.specs.Tree.{nodes}
-use Rattle.lms.specs.Filled.{leaves-turn}
+use Rattle.lms.specs.Filled.{leaves-next}
 use Rattle.lms.proofs.tree.put_leaves.Statement.{statement}
 use Rattle.lms.proofs.tree.put_leaves.Tie as tie
 
@@ -54,7 +54,7 @@ loop-again c =
     let put = after-put-sixteen .put-sixteen in (
       omega arith,
       omega arith,
-      leaves-turn (bytes (args .id)) (bytes (args .seed)) (now (args .tree)) (loop .tree) (put .last .1 .1 .1 .1 .0) (loop .n) (omega arith) (loop .inv .2) (put .ensures),
+      leaves-next (bytes (args .id)) (bytes (args .seed)) (now (args .tree)) (loop .tree) (put .last .1 .1 .1 .1 .0) (loop .n) (omega arith) (loop .inv .2) (put .ensures),
     )
 
 same-length : tie.Need-same-length Inv-loop μ-loop

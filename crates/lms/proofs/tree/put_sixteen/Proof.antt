@@ -9,7 +9,7 @@ use Rattle.octets.specs.Octets.{patch, bytes}
 use Rattle.octets.specs.Strings.{joined}
 use Rattle.octets.specs.WriteLaws.{patch-none}
 use Rattle.protocol.specs.Layout.{treeLength}
-use Rattle.lms.specs.Filled.{sixteen-turn, sixteen-done}
+use Rattle.lms.specs.Filled.{sixteen-next, sixteen-done}
 use Rattle.lms.specs.Pieces.{leafAt}
 use Rattle.lms.proofs.tree.put_sixteen.Statement.{statement}
 use Rattle.lms.proofs.tree.put_sixteen.Tie as tie
@@ -75,7 +75,7 @@ loop-again c =
     let put = after-put-leaf .put-leaf in (
       omega arith,
       omega arith,
-      sixteen-turn (bytes (args .id)) (keys .result) (now (args .tree)) (loop .tree) (now (key .result)) (put .last .1 .1 .1 .1 .0) (args .q) (loop .l) (omega arith)
+      sixteen-next (bytes (args .id)) (keys .result) (now (args .tree)) (loop .tree) (now (key .result)) (put .last .1 .1 .1 .1 .0) (args .q) (loop .l) (omega arith)
           (loop .inv .2) (key .ensures) (put .ensures),
     )
 

@@ -6,10 +6,10 @@ use native.Mathlib.Omega.{arith}
 use borrow.Author.Needs.{needs}
 use lib.ListN.{length}
 use denote.Ref.{now}
-use Rattle.octets.specs.OctetLaws.{length-part}
+use Rattle.octets.specs.OctetsLaws.{length-part}
 use Rattle.octets.specs.Octets.{bytes}
 use Rattle.rfc8554.specs.Verify.{climbed, signatureLength}
-use Rattle.lms.specs.LmsLaws.{half-turn, climbed-turn}
+use Rattle.lms.specs.LmsLaws.{half-next, climbed-next}
 use Rattle.lms.proofs.verify.climb.Statement.{statement}
 use Rattle.lms.proofs.verify.climb.Tie as tie
 
@@ -47,12 +47,12 @@ bytes-at-requires : tie.Need-bytes-at-requires Inv-loop μ-loop
 unfolding signatureLength
 bytes-at-requires c κs = omega arith
 
-slice-aggregate-turned : tie.Need-slice-aggregate-turned Inv-loop μ-loop
-slice-aggregate-turned c = search needs
+slice-aggregate-level-up : tie.Need-slice-aggregate-level-up Inv-loop μ-loop
+slice-aggregate-level-up c = search needs
 
-turned-requires : tie.Need-turned-requires Inv-loop μ-loop
+level-up-requires : tie.Need-level-up-requires Inv-loop μ-loop
 unfolding signatureLength
-turned-requires c κs =
+level-up-requires c κs =
     let after-bytes-at = c .before in
     let at-loop = loop-at after-bytes-at in
     let after-ots-length = at-loop .before in
@@ -78,10 +78,10 @@ loop-again c =
     let i = at-loop .loop .i in (
       omega arith,
       search needs,
-      half-turn x (args .r) i (at-loop .loop .inv .2),
-      climbed-turn (bytes (args .id)) (now (args .signature)) (args .start) (at-loop .loop .tmp) (now (after-bytes-at .bytes-at .result)) (c .turned .result)
+      half-next x (args .r) i (at-loop .loop .inv .2),
+      climbed-next (bytes (args .id)) (now (args .signature)) (args .start) (at-loop .loop .tmp) (now (after-bytes-at .bytes-at .result)) (c .level-up .result)
           (args .w) (after-ots-length .ots-length .result) (args .r) x i (after-ots-length .ots-length .ensures .0) (at-loop .loop .inv .2) (at-loop .loop .inv .3)
-          (after-bytes-at .bytes-at .ensures) (c .turned .ensures),
+          (after-bytes-at .bytes-at .ensures) (c .level-up .ensures),
     )
 
 returns : tie.Need-returns Inv-loop μ-loop
@@ -104,8 +104,8 @@ climb-spec =
     mul-bytes-at
     add-bytes-at
     bytes-at-requires
-    slice-aggregate-turned
-    turned-requires
+    slice-aggregate-level-up
+    level-up-requires
     add-i
     loop-less
     loop-again

@@ -3,7 +3,7 @@ use mathlib.Core.Path.{_∙_}
 use native.Mathlib.Omega.{arith}
 use borrow.Author.Needs.{needs}
 use denote.Ref.{now}
-use Rattle.octets.specs.OctetLaws.{length-part}
+use Rattle.octets.specs.OctetsLaws.{length-part}
 use Rattle.lms.specs.LmsLaws.{leaf-from}
 use Rattle.lms.proofs.verify.leaf_candidate.Statement.{statement}
 use Rattle.lms.proofs.verify.leaf_candidate.Tie as tie

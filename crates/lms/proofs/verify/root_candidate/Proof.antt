@@ -3,7 +3,7 @@ use mathlib.Core.Path.{_≡_, sym, _∙_}
 use native.Mathlib.Omega.{arith}
 use borrow.Author.Needs.{needs}
 use denote.Ref.{now}
-use Rattle.octets.specs.StringLaws.{number-part-four}
+use Rattle.octets.specs.StringsLaws.{number-part-four}
 use Rattle.octets.specs.Octets.{bytes}
 use Rattle.rfc8554.specs.Verify.{leafOf, signatureLength}
 use Rattle.lms.specs.LmsLaws.{root-from}

@@ -1,6 +1,6 @@
 -- `lms::verify::verified` meets its contract.
 use mathlib.Core.Path.{sym, _∙_}
-use Rattle.lms.specs.Refused.{signature-fits, signature-turned-back, signature-compared}
+use Rattle.lms.specs.Refused.{signature-fits, signature-rejected, signature-compared}
 use borrow.Author.Needs.{needs}
 use Rattle.lms.proofs.verify.verified.Statement.{statement}
 use Rattle.lms.proofs.verify.verified.Tie as tie
@@ -19,7 +19,7 @@ verified-spec =
     (λ c κs. search needs)
     (λ c κs. search needs)
     (λ c κs. search needs)
-    (λ c. search signature-turned-back)
+    (λ c. search signature-rejected)
     (λ c κs. search needs)
     root-candidate-requires
     (λ c. search needs)

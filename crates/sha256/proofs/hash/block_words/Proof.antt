@@ -5,7 +5,7 @@ use native.Mathlib.Omega.{arith}
 use lib.ListN.{length, take, length-set}
 use denote.Ref.{now}
 use Rattle.octets.specs.Octets.{part, words}
-use Rattle.octets.specs.OctetLaws.{filled, wordAt-part, words-next}
+use Rattle.octets.specs.OctetsLaws.{filled, wordAt-part, words-next}
 use Rattle.sha256.proofs.hash.block_words.Statement.{statement}
 use Rattle.sha256.proofs.hash.block_words.Tie as tie
 

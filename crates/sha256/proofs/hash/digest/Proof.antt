@@ -5,7 +5,7 @@ use native.Mathlib.Omega.{arith}
 use borrow.Author.Needs.{needs}
 use lib.ListN.{length, take, getD}
 use Rattle.octets.specs.Octets.{patch, be, bytes}
-use Rattle.octets.specs.OctetLaws.{bytes-next, bytes-done}
+use Rattle.octets.specs.OctetsLaws.{bytes-next, bytes-done}
 use Rattle.sha256.proofs.hash.digest.Statement.{statement}
 use Rattle.sha256.proofs.hash.digest.Tie as tie
 

@@ -1,5 +1,5 @@
 -- `steps::confirm::confirm` meets its contract.
-use Rattle.steps.specs.Phases.{saying}
+use Rattle.steps.specs.Phases.{did-writing-one}
 use Rattle.protocol.specs.Step.{confirm, write}
 use Rattle.protocol.specs.Message.{Notice}
 use Rattle.protocol.specs.Record.{withConfirmed}
@@ -17,7 +17,7 @@ returns c =
     let r = args .r in
     let wrote = written .write-notice in (
       λ store.
-          saying confirm r store (Notice (r .round) (r .seat) (r .own .value)) (now (args .out)) (args .at) (withConfirmed r) store (wrote .last .0) (wrote .result) refl
+          did-writing-one confirm r store (Notice (r .round) (r .seat) (r .own .value)) (now (args .out)) (args .at) (withConfirmed r) store (wrote .last .0) (wrote .result) refl
           (record { recorded = refl; stored = refl }) (wrote .ensures .0),
       wrote .ensures .1,
     )

@@ -6,7 +6,7 @@ use native.Mathlib.Omega.{arith}
 use denote.Ref.{now}
 use Rattle.protocol.specs.Message.{readValue}
 use Rattle.store.specs.Sources.{bytesOf}
-use Rattle.store.specs.SourceLaws.{full-readable}
+use Rattle.store.specs.SourcesLaws.{full-readable}
 use Rattle.wire.specs.MessageLaws.{long-enough}
 use Rattle.wire.specs.declared.read.Kind.the-variants as kind
 use Rattle.steps.specs.Steps.{ready-fits, all-fits, full-said, full-heard}

@@ -7,7 +7,7 @@ use denote.Ref.{now}
 use Rattle.quorum.specs.QuorumLaws.{has-true, has-false}
 use Rattle.store.specs.Sources.{bytesOf, signatureFrom}
 use Rattle.store.specs.StoreLaws.{Holding, holding-none, holding-skip, holding-fill}
-use Rattle.store.specs.SourceLaws.{same-signature, still-readable, length-signature-from}
+use Rattle.store.specs.SourcesLaws.{same-signature, still-readable, length-signature-from}
 use Rattle.store.proofs.held.hold.Statement.{statement}
 use Rattle.store.proofs.held.hold.Tie as tie
 

@@ -1,7 +1,7 @@
 -- `store::sources::signature_of` meets its contract.
 use borrow.Author.Needs.{needs}
 use denote.Ref.{now}
-use Rattle.store.specs.SourceLaws.{entries-inside, slots-inside, entries-signature, slots-signature}
+use Rattle.store.specs.SourcesLaws.{entries-inside, slots-inside, entries-signature, slots-signature}
 use Rattle.store.proofs.sources.signature_of.Statement.{statement}
 use Rattle.store.proofs.sources.signature_of.Tie as tie
 

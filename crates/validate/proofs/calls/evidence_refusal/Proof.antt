@@ -8,7 +8,7 @@ use Rattle.refusal.specs.RefusalLaws.{rows}
 use Rattle.protocol.specs.Message.{read}
 use Rattle.protocol.specs.Refusals.{isEvidence, messageConditions}
 use Rattle.protocol.specs.Signatures.{checks}
-use Rattle.validate.specs.Messages.{evidence-takes, message-rises}
+use Rattle.validate.specs.Messages.{evidence-takes, message-nonzero}
 use Rattle.validate.specs.Calls.{packConditions, evidence-right}
 use Rattle.validate.proofs.calls.evidence_refusal.Statement.{statement}
 use Rattle.validate.proofs.calls.evidence_refusal.Tie as tie
@@ -35,5 +35,5 @@ evidence-refusal-spec =
     (λ c κs. search needs)
     (λ c. search (rows, told (c .before .before)))
     (λ c κs. evidence-right _ _ _ _ _ (told (tested c)) (c .if1 .left))
-    (λ c. search (rows, message-rises, told (tested (c .before .before))))
-    (λ c. search (rows, message-rises, told (tested (c .before .before)))))
+    (λ c. search (rows, message-nonzero, told (tested (c .before .before))))
+    (λ c. search (rows, message-nonzero, told (tested (c .before .before)))))

@@ -2,7 +2,7 @@
 use borrow.Author.Needs.{needs}
 use Rattle.refusal.specs.RefusalLaws.{rows}
 use Rattle.protocol.specs.Refusals.{twoConditions}
-use Rattle.validate.specs.Calls.{certificate-rises, certificate-right, both-passed}
+use Rattle.validate.specs.Calls.{certificate-nonzero, certificate-right, both-passed}
 use Rattle.validate.proofs.calls.two_refusal.Statement.{statement}
 use Rattle.validate.proofs.calls.two_refusal.Tie as tie
 
@@ -29,7 +29,7 @@ two-refusal-spec =
     (λ c κs. search needs)
     (λ c. search rows)
     (λ c κs. search needs)
-    (λ c. search (rows, certificate-rises))
+    (λ c. search (rows, certificate-nonzero))
     equal-values-requires
     (λ c. search (rows, both-passed))
     (λ c. search (rows, both-passed)))

@@ -7,7 +7,7 @@ use borrow.Author.Tests.{not-true, not-false}
 use denote.Ref.{now}
 use borrow.Author.Needs.{needs}
 use Rattle.protocol.specs.Layout.{keyAt}
-use Rattle.protocol.specs.EntriesLaws.{Passed, passed-none, passed-turn, passed-all}
+use Rattle.protocol.specs.EntriesLaws.{Passed, passed-none, passed-next, passed-all}
 use Rattle.protocol.specs.Refusals.{keyAllowed}
 use Rattle.validate.specs.Keys.{keys-length, keys-not, keys-all}
 use Rattle.validate.proofs.keys.wrong_keys.Statement.{statement}
@@ -62,7 +62,7 @@ loop-less c = omega arith
 loop-again : tie.Need-loop-again Inv-loop μ-loop
 loop-again c =
     let at-loop = loop-at (c .before) in
-    (at-loop .loop .inv .0, passed-turn (at-loop .loop .inv .1) (omega arith) (sym (c .before .key-allowed .ensures) ∙ not-false _ (c .if2 .left)))
+    (at-loop .loop .inv .0, passed-next (at-loop .loop .inv .1) (omega arith) (sym (c .before .key-allowed .ensures) ∙ not-false _ (c .if2 .left)))
 
 returns-3 : tie.Need-returns-3 Inv-loop μ-loop
 returns-3 c =

@@ -5,7 +5,7 @@ use native.Mathlib.Omega.{arith}
 use lib.ListN.{length}
 use denote.Ref.{now}
 use borrow.Author.Needs.{needs}
-use Rattle.octets.specs.OctetLaws.{length-part}
+use Rattle.octets.specs.OctetsLaws.{length-part}
 use Rattle.protocol.specs.Layout.{signatureLength}
 use Rattle.protocol.specs.Message.{readSignature}
 use Rattle.validate.proofs.signatures.place_verdict.Statement.{statement}

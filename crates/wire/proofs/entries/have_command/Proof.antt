@@ -4,7 +4,7 @@ use Prim.Native.Nat.{ℕ, _-_}
 use native.Mathlib.Omega.{arith}
 use lib.Dec.{eqb}
 use borrow.Author.Tests.{eq-eqb, ne-eqb}
-use Rattle.protocol.specs.EntriesLaws.{Passed, passed-none, passed-turn, passed-all, each-not}
+use Rattle.protocol.specs.EntriesLaws.{Passed, passed-none, passed-next, passed-all, each-not}
 use Rattle.protocol.specs.Message.{byteAt}
 use Rattle.wire.specs.Reading.{commandPlace}
 use Rattle.wire.proofs.entries.have_command.Statement.{statement}
@@ -39,7 +39,7 @@ loop-less c = omega arith
 loop-again : tie.Need-loop-again Inv-loop μ-loop
 loop-again c =
     let read = c .before .command-of-entry in
-    passed-turn (at-loop (c .before) .loop .inv) (omega arith) (eq-eqb _ _ (sym (read .ensures) ∙ c .if1 .left))
+    passed-next (at-loop (c .before) .loop .inv) (omega arith) (eq-eqb _ _ (sym (read .ensures) ∙ c .if1 .left))
 
 returns-2 : tie.Need-returns-2 Inv-loop μ-loop
 returns-2 c = sym (passed-all (c .before .loop .inv) (omega arith))

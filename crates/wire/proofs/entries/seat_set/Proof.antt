@@ -4,7 +4,7 @@ use native.Mathlib.Omega.{arith}
 use denote.Ref.{now}
 use Rattle.quorum.specs.Quorum.{mostSeats}
 use Rattle.wire.specs.Reading.{seatPlace}
-use Rattle.wire.specs.WalkLaws.{Gathered, gathered-none, gathered-turn, gathered-all, below-at}
+use Rattle.wire.specs.WalkLaws.{Gathered, gathered-none, gathered-next, gathered-all, below-at}
 use Rattle.wire.proofs.entries.seat_set.Statement.{statement}
 use Rattle.wire.proofs.entries.seat_set.Tie as tie
 
@@ -40,7 +40,7 @@ loop-less : tie.Need-loop-less Inv-loop μ-loop
 loop-less c = omega arith
 
 loop-again : tie.Need-loop-again Inv-loop μ-loop
-loop-again c = let read = c .before in gathered-turn (at-loop read .loop .inv) (omega arith) (read .seat-of-entry .ensures .0) (c .with .ensures)
+loop-again c = let read = c .before in gathered-next (at-loop read .loop .inv) (omega arith) (read .seat-of-entry .ensures .0) (c .with .ensures)
 
 returns : tie.Need-returns Inv-loop μ-loop
 returns c = gathered-all (c .before .loop .inv) (omega arith)

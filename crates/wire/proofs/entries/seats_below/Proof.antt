@@ -6,7 +6,7 @@ use lib.Dec.{ltb}
 use borrow.Author.Tests.{lt-ltb, le-ltb}
 use denote.Ref.{now}
 use Rattle.protocol.specs.Entries.{eachBelow}
-use Rattle.protocol.specs.EntriesLaws.{Passed, passed-none, passed-turn, passed-all, each-not}
+use Rattle.protocol.specs.EntriesLaws.{Passed, passed-none, passed-next, passed-all, each-not}
 use Rattle.protocol.specs.Message.{byteAt}
 use Rattle.protocol.specs.Refusals.{every}
 use Rattle.wire.specs.Reading.{seatPlace, seatsIn}
@@ -49,7 +49,7 @@ loop-less : tie.Need-loop-less Inv-loop μ-loop
 loop-less c = omega arith
 
 loop-again : tie.Need-loop-again Inv-loop μ-loop
-loop-again c = passed-turn (at-loop (c .before) .loop .inv) (omega arith) (lt-ltb _ _ (rw (c .before .seat-of-entry .ensures .0) at (c .if1 .left)))
+loop-again c = passed-next (at-loop (c .before) .loop .inv) (omega arith) (lt-ltb _ _ (rw (c .before .seat-of-entry .ensures .0) at (c .if1 .left)))
 
 returns-2 : tie.Need-returns-2 Inv-loop μ-loop
 returns-2 c = sym (by-index (start (c .before)) ∙ passed-all (c .before .loop .inv) (omega arith))

@@ -3,7 +3,7 @@ use mathlib.Core.Path.{sym}
 use Prim.Native.Nat.{_-_}
 use native.Mathlib.Omega.{arith}
 use Rattle.wire.specs.Reading.{seatPlace}
-use Rattle.wire.specs.WalkLaws.{Rises, rises-first, rises-turn, rises-fails, rises-all}
+use Rattle.wire.specs.WalkLaws.{Rises, rises-first, rises-next, rises-fails, rises-all}
 use Rattle.wire.proofs.entries.seats_rise.Statement.{statement}
 use Rattle.wire.proofs.entries.seats_rise.Tie as tie
 
@@ -41,7 +41,7 @@ loop-less : tie.Need-loop-less Inv-loop μ-loop
 loop-less c = omega arith
 
 loop-again : tie.Need-loop-again Inv-loop μ-loop
-loop-again c = rises-turn (at-loop (c .before) .loop .inv) (omega arith) (omega arith)
+loop-again c = rises-next (at-loop (c .before) .loop .inv) (omega arith) (omega arith)
 
 returns-2 : tie.Need-returns-2 Inv-loop μ-loop
 returns-2 c = sym (rises-all (c .before .loop .inv) (omega arith))

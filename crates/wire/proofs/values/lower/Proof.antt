@@ -5,7 +5,7 @@ use native.Mathlib.Omega.{arith}
 use lib.ListN.{length, drop}
 use denote.Ref.{now}
 use Rattle.protocol.specs.Values.{isLower}
-use Rattle.wire.specs.StringLaws.{lower-turn, lower-found, lower-missed, lower-short, lower-ends}
+use Rattle.wire.specs.StringLaws.{lower-next, lower-found, lower-missed, lower-short, lower-ends}
 use Rattle.wire.proofs.values.lower.Statement.{statement}
 use Rattle.wire.proofs.values.lower.Tie as tie
 
@@ -68,7 +68,7 @@ loop-again : tie.Need-loop-again Inv-loop μ-loop
 loop-again c =
     let l = again (c .before) in
     let args = start l .args in
-    (omega arith, lower-turn (now (args .a)) (now (args .b)) (l .loop .i) (omega arith) (omega arith) (omega arith) (l .loop .inv .1))
+    (omega arith, lower-next (now (args .a)) (now (args .b)) (l .loop .i) (omega arith) (omega arith) (omega arith) (l .loop .inv .1))
 
 returns-4 : tie.Need-returns-4 Inv-loop μ-loop
 returns-4 c =

@@ -1,7 +1,7 @@
 -- `yard::commands::begin` meets its contract.
 use denote.Ref.{now}
 use borrow.Author.Needs.{needs}
-use Rattle.yard.specs.CommandLaws.{begun-told}
+use Rattle.yard.specs.CommandsLaws.{begun-told}
 use Rattle.yard.proofs.commands.begin.Statement.{statement}
 use Rattle.yard.proofs.commands.begin.Tie as tie
 

@@ -1,6 +1,6 @@
 -- `yard::commands::byte_at` meets its contract.
 use denote.Ref.{now}
-use Rattle.yard.specs.CommandLaws.{past-end}
+use Rattle.yard.specs.CommandsLaws.{past-end}
 use borrow.Author.Needs.{needs}
 use Rattle.yard.proofs.commands.byte_at.Statement.{statement}
 use Rattle.yard.proofs.commands.byte_at.Tie as tie

@@ -2,7 +2,7 @@
 use Prim.Native.Nat.{ℕ}
 use mathlib.Core.List.{List}
 use denote.Ref.{now}
-use Rattle.yard.specs.CommandLaws.{call-message, call-submit, call-other}
+use Rattle.yard.specs.CommandsLaws.{call-message, call-submit, call-other}
 use Rattle.protocol.specs.Layout.{signatureLength}
 use borrow.Author.Needs.{needs}
 use Rattle.yard.proofs.commands.call_length.Statement.{statement}

@@ -2,7 +2,7 @@
 use Prim.Native.Nat.{ℕ}
 use mathlib.Core.List.{List}
 use denote.Ref.{now}
-use Rattle.yard.specs.CommandLaws.{call-short, call-whole-message, call-whole-other}
+use Rattle.yard.specs.CommandsLaws.{call-short, call-whole-message, call-whole-other}
 use borrow.Author.Needs.{needs}
 use Rattle.yard.proofs.commands.is_misframed_call.Statement.{statement}
 use Rattle.yard.proofs.commands.is_misframed_call.Tie as tie

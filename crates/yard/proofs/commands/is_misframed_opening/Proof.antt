@@ -2,7 +2,7 @@
 use Prim.Native.Nat.{ℕ}
 use mathlib.Core.List.{List}
 use denote.Ref.{now}
-use Rattle.yard.specs.CommandLaws.{opening-short, opening-whole}
+use Rattle.yard.specs.CommandsLaws.{opening-short, opening-whole}
 use borrow.Author.Needs.{needs}
 use Rattle.yard.proofs.commands.is_misframed_opening.Statement.{statement}
 use Rattle.yard.proofs.commands.is_misframed_opening.Tie as tie

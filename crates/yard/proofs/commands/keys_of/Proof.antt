@@ -2,7 +2,7 @@
 use Prim.Native.Nat.{ℕ}
 use mathlib.Core.List.{List}
 use denote.Ref.{now}
-use Rattle.yard.specs.CommandLaws.{keys-none, keys-rest}
+use Rattle.yard.specs.CommandsLaws.{keys-none, keys-rest}
 use borrow.Author.Needs.{needs}
 use Rattle.yard.proofs.commands.keys_of.Statement.{statement}
 use Rattle.yard.proofs.commands.keys_of.Tie as tie

@@ -1,7 +1,7 @@
 -- `yard::commands::line_for` meets its contract.
 use denote.Ref.{now}
 use borrow.Author.Needs.{needs}
-use Rattle.yard.specs.CommandLaws.{line-none, line-some}
+use Rattle.yard.specs.CommandsLaws.{line-none, line-some}
 use Rattle.yard.proofs.commands.line_for.Statement.{statement}
 use Rattle.yard.proofs.commands.line_for.Tie as tie
 

@@ -5,7 +5,7 @@ use mathlib.Core.List.{List}
 use Prim.Native.Nat.{ℕ}
 use denote.Ref.{now}
 use Rattle.yard.specs.Commands.{misframedOpening}
-use Rattle.yard.specs.CommandLaws.{open-misframed, open-many, open-few}
+use Rattle.yard.specs.CommandsLaws.{open-misframed, open-many, open-few}
 use borrow.Author.Needs.{needs}
 use Rattle.yard.proofs.commands.open.Statement.{statement}
 use Rattle.yard.proofs.commands.open.Tie as tie

@@ -2,7 +2,7 @@
 use Prim.Native.Nat.{ℕ}
 use mathlib.Core.List.{List}
 use denote.Ref.{now}
-use Rattle.yard.specs.CommandLaws.{opening-other, opening-many, opening-few}
+use Rattle.yard.specs.CommandsLaws.{opening-other, opening-many, opening-few}
 use borrow.Author.Needs.{needs}
 use Rattle.yard.proofs.commands.opening_length.Statement.{statement}
 use Rattle.yard.proofs.commands.opening_length.Tie as tie

@@ -1,5 +1,5 @@
 -- `yard::commands::refused_opening` meets its contract.
-use Rattle.yard.specs.CommandLaws.{opening-none}
+use Rattle.yard.specs.CommandsLaws.{opening-none}
 use borrow.Author.Needs.{needs}
 use Rattle.yard.proofs.commands.refused_opening.Statement.{statement}
 use Rattle.yard.proofs.commands.refused_opening.Tie as tie

@@ -8,7 +8,7 @@ use denote.Ref.{now}
 use Rattle.protocol.specs.Signatures.{checks}
 use Rattle.protocol.specs.declared.Record.{Record}
 use Rattle.yard.specs.Commands.{messageAt, ownSignatureAt, misframedCall}
-use Rattle.yard.specs.CommandLaws.{message-whole, submit-whole, called-misframed, called-message, called-submit}
+use Rattle.yard.specs.CommandsLaws.{message-whole, submit-whole, called-misframed, called-message, called-submit}
 use borrow.Author.Needs.{needs}
 use Rattle.yard.proofs.commands.take_command.Statement.{statement}
 use Rattle.yard.proofs.commands.take_command.Tie as tie
@@ -69,7 +69,7 @@ returns-2 c =
     let read = tested .before in
     let g = given read in
     called-message checks (keys g) (r g) (store g) (out g) (bytes g) (framed (read .before)) (read .byte-at .result) (read .byte-at .ensures .0)
-    (step .step .result) (c .goes-on .result) (c .goes-on .ensures) (step .step .last .1 .1 .0) (step .step .last .1 .1 .1 .1 .0) (tested .if2 .taken) _ refl
+    (step .step .result) (c .call-answer .result) (c .call-answer .ensures) (step .step .last .1 .1 .0) (step .step .last .1 .1 .1 .1 .0) (tested .if2 .taken) _ refl
     (step .step .ensures .0) (step .step .ensures .1) (step .step .ensures .2)
 
 part-submit-end : tie.Need-part-submit-end
@@ -88,7 +88,7 @@ returns-3 c =
     let read = tested .before in
     let g = given read in
     called-submit checks (keys g) (r g) (store g) (out g) (bytes g) (framed (read .before)) (read .byte-at .result) (read .byte-at .ensures .0)
-    (submit .submit .result) (c .goes-on2 .result) (c .goes-on2 .ensures) (submit .submit .last .1 .1 .0) (submit .submit .last .1 .1 .1 .1 .1 .0) (tested .if2 .left) _ _ refl refl
+    (submit .submit .result) (c .call-answer2 .result) (c .call-answer2 .ensures) (submit .submit .last .1 .1 .0) (submit .submit .last .1 .1 .1 .1 .1 .0) (tested .if2 .left) _ _ refl refl
     (submit .submit .ensures .0) (submit .submit .ensures .1) (submit .submit .ensures .2)
 
 pub take-command-spec : {M : Type 1} → statement M
