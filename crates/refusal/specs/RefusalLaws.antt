@@ -80,27 +80,27 @@ module _ (xs ys : List (ℕ × Bool)) where
 -- ---- code that tests one row after another
 
 -- no row is left
-none-left : (number : ℕ) → number ≡ 0 → number ≡ firstOf []
+pub none-left : (number : ℕ) → number ≡ 0 → number ≡ firstOf []
 unfolding firstOf
 none-left number z = z
 
 module _ (n : ℕ) (test : Bool) (rest : List (ℕ × Bool)) where
   -- a row that holds is the answer
-  row-held : test ≡ true → n ≡ firstOf ((n, test) ∷ rest)
+  pub row-held : test ≡ true → n ≡ firstOf ((n, test) ∷ rest)
   unfolding firstOf
   row-held e = rw e
 
   -- after one that doesn't, the answer is that of the rest
-  row-passed : (number : ℕ) → test ≡ false → number ≡ firstOf rest → number ≡ firstOf ((n, test) ∷ rest)
+  pub row-passed : (number : ℕ) → test ≡ false → number ≡ firstOf rest → number ≡ firstOf ((n, test) ∷ rest)
   unfolding firstOf
   row-passed number e f = rw e f
 
   -- the same of a test that the code made
   module _ (b : Bool) (e : b ≡ test) where
-    test-held : b ≡ true → n ≡ firstOf ((n, test) ∷ rest)
+    pub test-held : b ≡ true → n ≡ firstOf ((n, test) ∷ rest)
     test-held h = row-held (sym e ∙ h)
 
-    test-passed : (number : ℕ) → b ≡ false → number ≡ firstOf rest → number ≡ firstOf ((n, test) ∷ rest)
+    pub test-passed : (number : ℕ) → b ≡ false → number ≡ firstOf rest → number ≡ firstOf ((n, test) ∷ rest)
     test-passed number h f = row-passed number (sym e ∙ h) f
 
 -- and of some rows that the code tested together

@@ -132,7 +132,7 @@ module _ (w : List ℕ) (l u n : ℕ) (e : 16 * (16 + u) + l ≡ n) where
       )
 
 -- the words before index n are those of the schedules of the blocks in m
-Filled : ℕ → List ℕ → List ℕ → Type 0
+pub Filled : ℕ → List ℕ → List ℕ → Type 0
 Filled n m w = (l t : ℕ) → l < 16 → 16 * (16 + t) + l < n + 16 → column l (16 + t) w ≡ Fips.schedule (column l 16 m) t
 
 filled-none : (m : List ℕ) → Filled 256 m m

@@ -1,6 +1,6 @@
 -- `evidence::certificates::write_conflict` meets its contract.
-use native.Mathlib.Omega.{arith}
 use Prim.Native.Nat.{_≤_}
+use native.Mathlib.Omega.{arith}
 use Rattle.quorum.specs.Quorum.{k, size}
 use Rattle.protocol.specs.Layout.{signatureLength, evidenceEntryLength, evidenceEntryAt, evidenceLength, evidenceOutLength}
 use Rattle.validate.specs.Messages.{full-kind}
@@ -14,7 +14,7 @@ use Rattle.evidence.proofs.certificates.write_conflict.Tie as tie
 abbrev started : tie.After-slice-known → tie.Start
 started c = c .before .before .before
 
--- the sets of seats, and the values
+-- the seats that both sets have, the sets, and the values
 abbrev shared-at : tie.After-vb → tie.After-shared
 shared-at c = c .before .before .before
 
@@ -37,8 +37,11 @@ given c = valued (values c)
 abbrev written : tie.After-slice-known2 → tie.After-write-evidence
 written c = c .before .before
 
+abbrev chosen : tie.After-slice-known2 → tie.After-shared
+chosen c = shared-at (written c .before)
+
 abbrev sources : tie.After-slice-known2 → tie.After-entry-set2
-sources c = sets (written c .before)
+sources c = chosen c .before
 
 certificate-value-requires : tie.Need-certificate-value-requires
 certificate-value-requires c κs = both-taken _ _ (started c .pre .2) .0
@@ -85,7 +88,7 @@ cast-result : tie.Need-cast-result
 unfolding evidenceLength evidenceEntryAt evidenceEntryLength signatureLength k
 cast-result c =
     let b = sources c in
-    omega (arith, shared-room _ _ _ (shared-at (written c .before) .shared .ensures) (few b), written c .write-evidence .ensures .1)
+    omega (arith, shared-room _ _ _ (chosen c .shared .ensures) (few b), written c .write-evidence .ensures .1)
 
 returns : tie.Need-returns
 returns c =
@@ -94,7 +97,7 @@ returns c =
     let conflict = given b .pre .2 in
     let ca = certificate-is _ (conflict .first) (first-set b .entry-set .ensures) (v .before .certificate-value .ensures) in
     let cb = certificate-is _ (conflict .second) (b .entry-set2 .ensures) (v .certificate-value2 .ensures) in
-    wrote-evidence _ _ _ (shared-at (written c .before) .shared .ensures) ca cb (written c .write-evidence .ensures .0)
+    wrote-evidence _ _ _ (chosen c .shared .ensures) ca cb (written c .write-evidence .ensures .0)
 
 pub write-conflict-spec : {M : Type 1} → statement M
 write-conflict-spec =
