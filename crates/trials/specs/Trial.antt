@@ -104,7 +104,7 @@ module _ (S : Setting) {I : Type 0} (crew : Crew I) (boat : I → Honest) where
   abbrev pub family : Bool
   family = each (λ i. isOpened S (boat i)) && (each (λ i. each (apart i)) && each (λ i. formed S (boat i)))
 
-  family-says : family ≡ true → Family S boat × ((i : I) → formed S (boat i) ≡ true)
+  pub family-says : family ≡ true → Family S boat × ((i : I) → formed S (boat i) ≡ true)
   family-says e =
       let a = both-true (each (λ i. isOpened S (boat i))) (each (λ i. each (apart i)) && each (λ i. formed S (boat i))) e in
       let b = both-true (each (λ i. each (apart i))) (each (λ i. formed S (boat i))) (a .1) in (
@@ -122,7 +122,7 @@ module _ (S : Setting) {I : Type 0} (crew : Crew I) (boat : I → Honest) where
   abbrev pub reachedOthers : I → Bool
   reachedOthers i = each (λ l. alike l i || haveReached S (boat i) (boat l))
 
-  reachedOthers-says : (i : I) → formed S (boat i) ≡ true → reachedOthers i ≡ true → ReachedOthers S boat i
+  pub reachedOthers-says : (i : I) → formed S (boat i) ≡ true → reachedOthers i ≡ true → ReachedOthers S boat i
   reachedOthers-says i f e l other =
       ⊎-elim (λ q. absurd (other (alike-same l i q))) (λ q. haveReached-says S (boat i) f (boat l) q)
       (or-true-either (alike l i) (haveReached S (boat i) (boat l)) (each-says (λ x. alike x i || haveReached S (boat i) (boat x)) e l))
@@ -160,7 +160,7 @@ module _ (S : Setting) {I : Type 0} (crew : Crew I) (boat : I → Honest) where
   abbrev pub noneInHand : Bool
   noneInHand = each (λ i. every (λ (h : InHand). false) (boat i .inHand))
 
-  noneForged-says : noneForged ≡ true → noneInHand ≡ true → NoneForged S boat (Delivered S boat)
+  pub noneForged-says : noneForged ≡ true → noneInHand ≡ true → NoneForged S boat (Delivered S boat)
   noneForged-says e empty i layout signature d never = ⊎-elim stepped made (d .given)
     where
       s : Signed
@@ -198,7 +198,7 @@ module _ (S : Setting) {I : Type 0} (crew : Crew I) (boat : I → Honest) where
       eqb (evidenceCheck checks n round keys evidence .number) 0
       && (every delivered (signed (read n evidence)) && found (eqb (boat i .seat)) (entrySeats (read n evidence)))
 
-  framed-says : (i : I) (evidence : List ℕ) → framed i evidence ≡ true → AcceptedFrom S (Delivered S boat) evidence × Names S evidence (boat i .seat)
+  pub framed-says : (i : I) (evidence : List ℕ) → framed i evidence ≡ true → AcceptedFrom S (Delivered S boat) evidence × Names S evidence (boat i .seat)
   framed-says i evidence e =
       let m = read n evidence in
       let number = evidenceCheck checks n round keys evidence .number in

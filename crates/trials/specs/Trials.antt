@@ -62,11 +62,11 @@ abbrev pub atTwo : ℕ → Bool
 atTwo zero = false
 atTwo (suc i) = true
 
-two-complete : (i : Bool) → List·Memᴰ i (false ∷ true ∷ [])
+pub two-complete : (i : Bool) → List·Memᴰ i (false ∷ true ∷ [])
 two-complete false = List·Memᴰ·head refl
 two-complete true = List·Memᴰ·tail (List·Memᴰ·head refl)
 
-two-at : (i : Bool) → atTwo (ofTwo 0 1 i) ≡ i
+pub two-at : (i : Bool) → atTwo (ofTwo 0 1 i) ≡ i
 two-at false = refl
 two-at true = refl
 
@@ -78,12 +78,12 @@ atThree zero = Zeroth
 atThree (suc zero) = First
 atThree (suc (suc i)) = Second
 
-three-complete : (i : Three) → List·Memᴰ i (Zeroth ∷ First ∷ Second ∷ [])
+pub three-complete : (i : Three) → List·Memᴰ i (Zeroth ∷ First ∷ Second ∷ [])
 three-complete Zeroth = List·Memᴰ·head refl
 three-complete First = List·Memᴰ·tail (List·Memᴰ·head refl)
 three-complete Second = List·Memᴰ·tail (List·Memᴰ·tail (List·Memᴰ·head refl))
 
-three-at : (i : Three) → atThree (ofThree 0 1 2 i) ≡ i
+pub three-at : (i : Three) → atThree (ofThree 0 1 2 i) ≡ i
 three-at Zeroth = refl
 three-at First = refl
 three-at Second = refl
