@@ -20,14 +20,14 @@ use protocol::Verdict;
 // ---- parameters
 
 // The width of an LM-OTS type.
-pub(crate) fn width(ots: u32) -> u32
+fn width(ots: u32) -> u32
     ensures { λ w. ⌜ (w ≡ Ots.width ots) × ((w ≡ 4) ⊎ (w ≡ 8)) ⌝ }
 {
     if ots == 3 { 4 } else { 8 }
 }
 
 // The height of an LMS type.
-pub(crate) fn height(lms: u32) -> usize
+fn height(lms: u32) -> usize
     ensures { λ h. ⌜ (h ≡ Tree.height lms) × (h ≤ 10) ⌝ }
 {
     if lms == 5 { 5 } else { 10 }
@@ -41,7 +41,7 @@ pub(crate) fn leaves(lms: u32) -> u32
 }
 
 // The length of an LM-OTS signature of width w.
-pub(crate) fn ots_length(w: u32) -> usize
+fn ots_length(w: u32) -> usize
     ensures { λ n. ⌜ (n ≡ otsLength w) × (n ≤ 2180) ⌝ }
 {
     if w == 4 { 2180 } else { 1124 }
@@ -83,7 +83,7 @@ pub(crate) fn key_refused(key: &[u8]) -> bool
 }
 
 // Whether Algorithm 6a rejects the signature for its length, its types or its leaf.
-pub(crate) fn signature_refused(lms: u32, ots: u32, signature: &[u8]) -> bool
+fn signature_refused(lms: u32, ots: u32, signature: &[u8]) -> bool
     ensures { λ r. ⌜ r ≡ signatureInvalid lms ots (now (signature .entry)) ⌝ }
 {
     let at = 4 + ots_length(width(ots));

@@ -28,7 +28,7 @@ pub fn fill(store: &mut [u8], n: u32, bank: Bank, seat: u32, signature: &[u8])
 }
 
 // A copy of a signature.
-pub fn signature_copy(signature: &[u8]) -> [u8; SIGNATURE]
+pub(crate) fn signature_copy(signature: &[u8]) -> [u8; SIGNATURE]
     requires { ⌜ length (now signature) ≡ signatureLength ⌝ }
     ensures { λ r. ⌜ r ≡ now (signature .entry) ⌝ }
 {

@@ -13,7 +13,7 @@ use octets::wide;
 use quorum::Mask;
 
 // The command of an entry, by its index from 0.
-pub(crate) fn command_of_entry(m: &[u8], entries: Entries, i: usize) -> u32
+fn command_of_entry(m: &[u8], entries: Entries, i: usize) -> u32
     requires { ⌜ Inside entries (now m) × (i < entries .count) ⌝ }
     ensures { λ r. ⌜ r ≡ byteAt (now (m .entry)) (commandPlace entries i) ⌝ }
 {
@@ -22,7 +22,7 @@ pub(crate) fn command_of_entry(m: &[u8], entries: Entries, i: usize) -> u32
 }
 
 // The seat of an entry.
-pub fn seat_of_entry(m: &[u8], entries: Entries, i: usize) -> u32
+pub(crate) fn seat_of_entry(m: &[u8], entries: Entries, i: usize) -> u32
     requires { ⌜ Inside entries (now m) × (i < entries .count) ⌝ }
     ensures { λ r. ⌜ (r ≡ byteAt (now (m .entry)) (seatPlace entries i)) × (r < 256) ⌝ }
 {
