@@ -18,6 +18,9 @@ clear c = record { number = _; told = c .before .outside-refusal .ensures; none 
 abbrev verdict : tie.After-struct-known → tie.After-two-refusal
 verdict c = c .before
 
+abbrev weighed : tie.After-first-is-lower → tie.After-two-refusal
+weighed c = verdict (c .before .before)
+
 returns : tie.Need-returns
 returns c =
     let o = c .before .before in
@@ -37,13 +40,13 @@ first-is-lower-requires c κs = let v = verdict (c .before) in both-taken _ _ (c
 returns-3 : tie.Need-returns-3
 returns-3 c =
     let compared = c .before in
-    let v = verdict (compared .before .before) in
+    let v = weighed compared in
     first-lower (clear (v .before)) _ _ (v .two-refusal .ensures) (compared .before .if2 .left) (compared .first-is-lower .ensures) _ _ (c .if3 .taken)
 
 returns-4 : tie.Need-returns-4
 returns-4 c =
     let compared = c .before in
-    let v = verdict (compared .before .before) in
+    let v = weighed compared in
     second-lower (clear (v .before)) _ _ (v .two-refusal .ensures) (compared .before .if2 .left) (compared .first-is-lower .ensures) _ _ (c .if3 .left)
 
 pub lower-certificate-spec : {M : Type 1} → statement M

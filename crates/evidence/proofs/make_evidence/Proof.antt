@@ -38,8 +38,11 @@ roomy c = sym (short (c .before)) ∙ c .if2 .left
 abbrev verdict : tie.After-struct-known → tie.After-two-refusal
 verdict c = c .before
 
-outside : (v : tie.After-two-refusal) → Clear (call (passed (v .before .before) .before))
-outside v = clear (passed (v .before .before))
+abbrev outer : tie.After-two-refusal → tie.Else1
+outer v = passed (v .before .before)
+
+outside : (v : tie.After-two-refusal) → Clear (call (outer v .before))
+outside v = clear (outer v)
 
 returns : tie.Need-returns
 returns c = making-outside (call (c .before)) _ _ _ (c .before .outside-refusal .ensures) (c .if1 .taken)

@@ -48,12 +48,15 @@ known c = kind-told _ _ (c .classify .ensures)
 abbrev heard : tie.Else2 → tie.After-step-refusal
 heard c = c .before .before
 
+abbrev opened : tie.After-step-refusal → tie.Else1
+opened c = c .before .before
+
 abbrev called : tie.Else2 → Call
-called c = call (heard c .before .before .before)
+called c = call (opened (heard c) .before)
 
 -- a part of out is lent
 lent : (c : tie.After-out-length) → Lent (called (c .before)) (c .out-length .result)
-lent c = record { passed = passed (heard (c .before) .before .before); number = _; told = heard (c .before) .step-refusal .ensures; none = c .before .if2 .left; stated = c .out-length .ensures }
+lent c = record { passed = passed (opened (heard (c .before))); number = _; told = heard (c .before) .step-refusal .ensures; none = c .before .if2 .left; stated = c .out-length .ensures }
 
 abbrev room : tie.After-step-phase-arg2 → tie.After-out-length
 room c = c .before .before
@@ -79,10 +82,10 @@ step-refusal-requires c κs = (given (passed (c .before)), known c)
 
 returns-2 : tie.Need-returns-2
 unfolding step stepConditions
-returns-2 c = let second = c .before .before .before in refused-by-rest (passed (second .before .before)) (c .before .if2 .taken) (c .refused2 .ensures) (second .step-refusal .ensures)
+returns-2 c = let second = c .before .before .before in refused-by-rest (passed (opened second)) (c .before .if2 .taken) (c .refused2 .ensures) (second .step-refusal .ensures)
 
 out-length-requires : tie.Need-out-length-requires
-out-length-requires c κs = sized (passed (heard c .before .before))
+out-length-requires c κs = sized (passed (opened (heard c)))
 
 slice-relend-prefix-step-phase : tie.Need-slice-relend-prefix-step-phase
 slice-relend-prefix-step-phase c = part-within (lent (c .before))
