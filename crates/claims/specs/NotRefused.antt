@@ -9,9 +9,9 @@ use mathlib.Core.Bool.{true, false, not, _&&_, _||_, true≢false}
 use mathlib.Core.List.{List, [], _∷_, _++_, List·Memᴰ·head, List·Memᴰ·not-nil}
 use mathlib.Core.Logic.{_≢_, _↔_}
 use native.Mathlib.Omega.{arith}
-use lib.Dec.{ltb, eqb}
+use lib.Dec.{eqb}
 use lib.ListN.{length}
-use borrow.Author.Tests.{ltb-false, le-ltb, lt-leb, leb-false, eqb-true, eqb-false, eq-eqb, not-false}
+use borrow.Author.Tests.{ltb-false, le-ltb, lt-leb, leb-false, eqb-true, eq-eqb, not-false}
 use Rattle.octets.specs.Octets.{wordAt}
 use Rattle.octets.specs.Strings.{same}
 use Rattle.octets.specs.StringsLaws.{same-refl, same-false}
@@ -25,7 +25,7 @@ use Rattle.protocol.specs.Layout.{valueLength, signatureLength, treeLength, mes
 use Rattle.protocol.specs.Message.{Message, Submit, Notice, Full, Evidence, Garbled, render, read, signed, seatsOf, entrySeats, roundOf, WellFormed}
 use Rattle.protocol.specs.MessageLaws.{read-render}
 use Rattle.protocol.specs.Certificate.{certificateIn}
-use Rattle.protocol.specs.Record.{lastRound, wrongSize, wrongSeat, wrongRound, impossible, fresh}
+use Rattle.protocol.specs.Record.{lastRound, wrongSeat, impossible, fresh}
 use Rattle.protocol.specs.Refusals.{Condition, OUT, NO-CONFLICT-IN, NO-CONFLICT-BETWEEN, Checks, every, lengthIsnt, wrongKey, certificateConditions, checkConditions, makeKeyConditions, signConditions, wrongKeys, shortStore, shortOut, said, isForStep, isFull, isEvidence, wrongLengths, rising, early, badSignature, notLowerFirst, equalValues, messageConditions, outsideConditions, recordConditions, openingConditions, submitConditions, stepConditions, evidenceConditions, twoConditions, makingConditions}
 use Rattle.protocol.specs.ConditionsLaws.{table-right}
 use Rattle.protocol.specs.Signatures.{checkSignature, makeKeyRefusal, makeKey, signRefusal, sign}
@@ -36,8 +36,8 @@ use Rattle.reading.specs.Lists.{each-one}
 use Rattle.reading.specs.Reading.{Sized, read-sized}
 use Rattle.claims.specs.Sound.{Any}
 use Rattle.claims.specs.Whole.{Brings}
-use Rattle.protocol.specs.RecordLaws.{InRange}
-use Rattle.claims.specs.Unrefused.{size-right, round-right, possible, fresh-sound, fresh-settled, Taken, message-taken, message-passes, entries-taken}
+use Rattle.protocol.specs.RecordLaws.{right-size, right-round, size-right, round-right, InRange}
+use Rattle.claims.specs.Unrefused.{possible, fresh-sound, fresh-settled, Taken, message-taken, message-passes, entries-taken}
 
 -- ---- lengths
 
@@ -58,13 +58,6 @@ keys-right keys n =
 
 -- ---- the opening
 
-some-of : (n : ℕ) → wrongSize n ≡ false → (1 ≤ n) × (n ≤ mostSeats)
-unfolding wrongSize
-some-of n e =
-    let s = both-false (eqb n 0) (ltb mostSeats n) e in
-    let nonzero = eqb-false n 0 (s .0) in
-    (omega arith, ltb-false mostSeats n (s .1))
-
 pub record OpeningFit (n seat round : ℕ) (keys : List ℕ) : Type 0 where
   -- 1, 2, 3: n is 1 to 32, the own seat below n, the round 1,023 at most
   pub range : InRange n seat round
@@ -73,14 +66,14 @@ pub record OpeningFit (n seat round : ℕ) (keys : List ℕ) : Type 0 where
 
 module _ (n seat round : ℕ) (keys : List ℕ) where
   opening-fit : firstOf (openingConditions n seat round keys) ≡ 0 → OpeningFit n seat round keys
-  unfolding openingConditions wrongSeat wrongRound
+  unfolding openingConditions wrongSeat
   opening-fit e =
       let a = firstOf-zero 0 _ _ e in
       let b = firstOf-zero 1 _ _ (a .1) in
       let c = firstOf-zero 2 _ _ (b .1) in
-      let s = some-of n (a .0) in
+      let s = right-size n (a .0) in
       record {
-        range = record { some = s .0; most = s .1; seated = leb-false n seat (b .0); dated = ltb-false lastRound round (c .0) };
+        range = record { some = s .0; most = s .1; seated = leb-false n seat (b .0); dated = right-round round (c .0) };
         table = keys-right keys n .0 (firstOf-zero 4 _ _ (c .1) .0);
       }
 
@@ -240,13 +233,13 @@ pub record EvidenceFit (checks : Checks) (n round : ℕ) (keys bytes : List ℕ)
   pub conflict : notLowerFirst (read n bytes) ≡ false
 
 outside-of : (n round : ℕ) (keys : List ℕ) (rest : List Condition) → firstOf (outsideConditions n round keys ++ rest) ≡ 0 → Outside n round keys × (firstOf rest ≡ 0)
-unfolding outsideConditions wrongRound
+unfolding outsideConditions
 outside-of n round keys rest e =
     let a = firstOf-zero 0 _ _ e in
     let b = firstOf-zero 2 _ _ (a .1) in
     let c = firstOf-zero 4 _ _ (b .1) in
-    let s = some-of n (a .0) in
-    (record { some = s .0; most = s .1; inTime = ltb-false lastRound round (b .0); table = keys-right keys n .0 (c .0) }, c .1)
+    let s = right-size n (a .0) in
+    (record { some = s .0; most = s .1; inTime = right-round round (b .0); table = keys-right keys n .0 (c .0) }, c .1)
 
 of-outside : (n round : ℕ) (keys : List ℕ) (rest : List Condition) → Outside n round keys → firstOf (outsideConditions n round keys ++ rest) ≡ firstOf rest
 unfolding outsideConditions firstOf
@@ -399,7 +392,7 @@ pub record SignFit (leaf : ℕ) (message seed I C tree out : List ℕ) : Type 0 
 
 module _ (leaf : ℕ) (message seed I C tree out : List ℕ) where
   sign-fit : signRefusal leaf message seed I C tree out ≡ 0 → SignFit leaf message seed I C tree out
-  unfolding signRefusal signConditions wrongRound shortOut
+  unfolding signRefusal signConditions shortOut
   sign-fit e =
       let a = firstOf-zero 2 _ _ e in
       let b = firstOf-zero 6 _ _ (a .1) in
@@ -409,7 +402,7 @@ module _ (leaf : ℕ) (message seed I C tree out : List ℕ) where
       let secrets = both-false (lengthIsnt 32 seed || lengthIsnt 16 I) (lengthIsnt 32 C) (lengths .0) in
       let first = both-false (lengthIsnt 32 seed) (lengthIsnt 16 I) (secrets .0) in
       record {
-        inTime = ltb-false lastRound leaf (a .0);
+        inTime = right-round leaf (a .0);
         outRoom = ltb-false (length out) signatureLength (b .0);
         signable = ltb-false messageLimit (length message) (c .0);
         sizedSeed = length-is 32 seed (first .0);
@@ -419,10 +412,10 @@ module _ (leaf : ℕ) (message seed I C tree out : List ℕ) where
       }
 
   fit-sign : SignFit leaf message seed I C tree out → signRefusal leaf message seed I C tree out ≡ 0
-  unfolding signRefusal signConditions wrongRound shortOut firstOf
+  unfolding signRefusal signConditions shortOut firstOf
   fit-sign t =
       rw (
-        le-ltb lastRound leaf (t .inTime),
+        round-right leaf (t .inTime),
         le-ltb (length out) signatureLength (t .outRoom),
         le-ltb messageLimit (length message) (t .signable),
         eq-eqb (length seed) 32 (t .sizedSeed),

@@ -12,7 +12,7 @@ use lib.Pow.{pow-pos}
 use borrow.Author.Tests.{ltb-true, lt-ltb, le-ltb, lt-leb, eqb-true, eqb-false, eq-eqb, ne-eqb, not-true, not-false}
 use Rattle.octets.specs.Strings.{same}
 use Rattle.octets.specs.StringsLaws.{same-refl}
-use Rattle.quorum.specs.Quorum.{mostSeats, k, has, size, shared}
+use Rattle.quorum.specs.Quorum.{k, has, size, shared}
 use Rattle.quorum.specs.QuorumLaws.{has-true, outside-false, bit-empty, size-empty}
 use Rattle.refusal.specs.Refusal.{firstOf}
 use Rattle.refusal.specs.RefusalLaws.{firstOf-zero}
@@ -22,26 +22,16 @@ use Rattle.protocol.specs.Entries.{formSeats}
 use Rattle.protocol.specs.EntriesLaws.{each-flat}
 use Rattle.protocol.specs.ConditionsLaws.{every-each, each-every}
 use Rattle.protocol.specs.Message.{Entry, Pair, PairValues, Message, Full, Evidence, fullForm, evidenceForm, Signed, signedEntry, signedPair, signed, roundOf, entrySeats, seatsOf}
-use Rattle.protocol.specs.Record.{fresh, lastRound, wrongSize, wrongSeat, wrongRound, noneHeard, holds, outOfRange, wrongHeard, namesStranger, wrongCollected, wrongFirst, lacksFirst, wrongGuilty, wrongSent, wrongUnset, impossible}
+use Rattle.protocol.specs.Record.{fresh, wrongSeat, noneHeard, holds, outOfRange, wrongHeard, namesStranger, wrongCollected, wrongFirst, lacksFirst, wrongGuilty, wrongSent, wrongUnset, impossible}
 use Rattle.protocol.specs.Refusals.{Condition, Checks, every, said, otherRound, stranger, rising, disorder, badSignature, messageConditions}
 use Rattle.protocol.specs.Step.{owesFull}
 use Rattle.protocol.specs.declared.Record.{Record}
 use Rattle.round.specs.Round.{Each, Relation, EachSigned}
 use Rattle.reading.specs.Lists.{or-true-either, each-cons, each-one, each-map}
 use Rattle.claims.specs.Sound.{Settled, Attested, Entries, Pairs, Sound}
-use Rattle.protocol.specs.RecordLaws.{InRange}
+use Rattle.protocol.specs.RecordLaws.{size-right, round-right, InRange}
 use Rattle.claims.specs.Parts.{shared-none, k-pos}
 use Rattle.reading.specs.Reading.{Sized}
-
--- ---- ranges
-
-pub size-right : (n : ℕ) → 1 ≤ n → n ≤ mostSeats → wrongSize n ≡ false
-unfolding wrongSize
-size-right n some most = rw (ne-eqb n 0 (λ e. omega arith), le-ltb mostSeats n most)
-
-pub round-right : (round : ℕ) → round ≤ lastRound → wrongRound round ≡ false
-unfolding wrongRound
-round-right round h = le-ltb lastRound round h
 
 -- ---- records for which the invariant holds are possible
 

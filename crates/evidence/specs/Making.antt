@@ -2,25 +2,24 @@
 -- Assumes nothing.
 use mathlib.Core.Path.{_≡_, refl, sym, ap, _∙_}
 use mathlib.Core.Bool.{Bool, true, false, cond}
-use mathlib.Core.List.{List, [], _∷_, _++_}
-use Prim.Native.Nat.{ℕ, _+_, _≤_}
+use mathlib.Core.List.{List, [], _++_}
+use Prim.Native.Nat.{ℕ, _+_}
 use native.Mathlib.Omega.{arith}
 use lib.ListN.{length}
-use borrow.Author.Tests.{ltb-false}
 use Rattle.octets.specs.StringsLaws.{patch-nothing}
 use Rattle.quorum.specs.Quorum.{k, size, shared}
 use Rattle.refusal.specs.Refusal.{firstOf, unrefused}
-use Rattle.refusal.specs.RefusalLaws.{refused-old, refused-first}
+use Rattle.refusal.specs.RefusalLaws.{refused-old, refused-first, refused-later}
 use Rattle.protocol.specs.Values.{isLower}
-use Rattle.protocol.specs.Layout.{evidenceOutLength}
 use Rattle.protocol.specs.Message.{Message, render, read, entrySeats}
 use Rattle.protocol.specs.Certificate.{Certificate, setOf, certificateIn, evidenceOf, conflictOf}
-use Rattle.protocol.specs.Refusals.{Checks, Condition, shortOut, isFull, OUT, outsideConditions, makingConditions, lowerConditions}
+use Rattle.protocol.specs.Refusals.{Checks, Condition, isFull, outsideConditions, makingConditions, lowerConditions}
 use Rattle.protocol.specs.Calls.{outAfter, makingBy, making, made, lowerOf, lowerCertificate}
 use Rattle.protocol.specs.declared.Written.{Written}
 use Rattle.store.specs.Sources.{Readable, certificateFrom}
 use Rattle.store.specs.SourcesLaws.{inFull, full-value, full-readable, full-certificate, full-size}
 use Rattle.wire_write.specs.Writing.{Wrote}
+use Rattle.validate.specs.Given.{givenConditions, given-nonzero}
 use Rattle.validate.specs.Messages.{Formed}
 use Rattle.evidence.specs.Passed.{Call, check, outside, Clear, after-outside, two}
 
@@ -38,11 +37,7 @@ module _ {n round : ℕ} (bytes : List ℕ) (f : Formed n round (isFull (read n 
 
 -- ---- evidence
 
-pub roomy-out : (n : ℕ) (out : List ℕ) → shortOut (evidenceOutLength n) out ≡ false → evidenceOutLength n ≤ length out
-unfolding shortOut
-roomy-out n out e = ltb-false (length out) (evidenceOutLength n) e
-
--- the EVIDENCE of equal certificates, for the seats that they share
+-- EVIDENCE from the two certificates as read, for the seats that they share
 pub wrote-evidence : (n round mask : ℕ) {ca cb a b : Certificate} {out after : List ℕ} {end : ℕ} → mask ≡ shared (ca .seats) (cb .seats) → ca ≡ a → cb ≡ b
     → Wrote 0 (render (evidenceOf n round mask ca cb)) out after end → Wrote 0 (render (conflictOf n round a b)) out after end
 unfolding conflictOf
@@ -52,9 +47,9 @@ abbrev answered : ℕ → ℕ → Written
 answered number written = record { number = number; written = written }
 
 module _ (c : Call) (a b out : List ℕ) where
-  -- the rows after those of n, round and key table
-  abbrev rest : List Condition
-  rest = OUT (evidenceOutLength (c .n)) out ∷ two c a b
+  -- the rows of n, round, key table and out
+  abbrev given : List Condition
+  given = givenConditions (c .n) (c .round) (c .keys) out
 
   abbrev conflict : Message
   conflict = conflictOf (c .n) (c .round) (certificateIn (read (c .n) a)) (certificateIn (read (c .n) b))
@@ -65,36 +60,31 @@ module _ (c : Call) (a b out : List ℕ) where
       let result = making (check c) (c .n) (c .round) (c .keys) a b out in
       (answered number written ≡ made result) × (after ≡ outAfter (result .written) out)
 
-  in-order : makingConditions (check c) (c .n) (c .round) (c .keys) (read (c .n) a) (read (c .n) b) out ≡ outside c ++ rest
-  unfolding makingConditions outsideConditions
+  in-order : makingConditions (check c) (c .n) (c .round) (c .keys) (read (c .n) a) (read (c .n) b) out ≡ given ++ two c a b
+  unfolding makingConditions outsideConditions givenConditions
   in-order = refl
 
   -- a refusal writes nothing
-  by-number : {number : ℕ} → number ≡ firstOf (outside c ++ rest) → (number ≡ 0 → ⊥) → Makes number 0 out
+  by-number : {number : ℕ} → number ≡ firstOf (given ++ two c a b) → (number ≡ 0 → ⊥) → Makes number 0 out
   unfolding making made makingBy outAfter
   by-number e h = rw (in-order, ← e, refused-old) (refl, sym (patch-nothing out))
 
-  pub making-outside : {number : ℕ} → number ≡ firstOf (outside c) → (number ≡ 0 → ⊥) → Makes number 0 out
-  making-outside {number} e h = by-number (refused-first (outside c) rest number e h) h
+  module _ {first : ℕ} (told : first ≡ firstOf given) where
+    pub given-refused : (first ≡ 0 → ⊥) → Makes first 0 out
+    given-refused h = by-number (refused-first given (two c a b) first told h) h
 
-module _ {c : Call} (clear : Clear c) (a b out : List ℕ) where
-  pub making-short : shortOut (evidenceOutLength (c .n)) out ≡ true → Makes c a b out 7 0 out
-  unfolding firstOf
-  making-short l = let short : 7 ≡ firstOf (rest c a b out) = rw l in by-number c a b out (short ∙ after-outside clear (rest c a b out)) (λ z. omega arith)
+    module _ (none : first ≡ 0) {number : ℕ} (e : number ≡ firstOf (two c a b)) where
+      later : number ≡ firstOf (given ++ two c a b)
+      later = e ∙ refused-later given (two c a b) first told (given-nonzero (c .n) (c .round) (c .keys) out) none
 
-  module _ (room : shortOut (evidenceOutLength (c .n)) out ≡ false) {number : ℕ} (e : number ≡ firstOf (two c a b)) where
-    roomy : number ≡ firstOf (outside c ++ rest c a b out)
-    unfolding firstOf
-    roomy = let long : firstOf (two c a b) ≡ firstOf (rest c a b out) = rw room in e ∙ long ∙ after-outside clear (rest c a b out)
+      pub making-refused : (number ≡ 0 → ⊥) → Makes number 0 out
+      making-refused h = by-number later h
 
-    pub making-refused : (number ≡ 0 → ⊥) → Makes c a b out number 0 out
-    making-refused h = by-number c a b out roomy h
-
-    pub making-done : number ≡ 0 → {after : List ℕ} {end : ℕ} → Wrote 0 (render (conflict c a b out)) out after end → Makes c a b out 0 end after
-    unfolding making made makingBy unrefused outAfter
-    making-done z {after} {end} w =
-        let ends : end ≡ length (render (conflict c a b out)) = omega (arith, w .ends) in
-        rw (in-order c a b out, sym roomy ∙ z) (ap (answered 0) ends, w .wrote)
+      pub making-done : number ≡ 0 → {after : List ℕ} {end : ℕ} → Wrote 0 (render conflict) out after end → Makes 0 end after
+      unfolding making made makingBy unrefused outAfter
+      making-done z {after} {end} w =
+          let ends : end ≡ length (render conflict) = omega (arith, w .ends) in
+          rw (in-order, sym later ∙ z) (ap (answered 0) ends, w .wrote)
 
 -- ---- the lower certificate
 
@@ -111,16 +101,16 @@ pub lower-told : (n : ℕ) (a b : List ℕ) {va vb : List ℕ} → va ≡ certif
 lower-told n a b p q = rw (p, q)
 
 module _ (c : Call) (a b : List ℕ) where
-  abbrev lowest : ℕ
-  lowest = lowerNumber (check c) (c .n) (c .round) (c .keys) a b
+  abbrev callNumber : ℕ
+  callNumber = lowerNumber (check c) (c .n) (c .round) (c .keys) a b
 
   -- the part that the call hands back, and its buffer
   abbrev Hands : List ℕ → Type 0 → Type 0
-  Hands part buffer = (part ≡ lowerCertificate (check c) (c .n) (c .round) (c .keys) a b) × (lowest ≡ 0 → buffer)
+  Hands part buffer = (part ≡ lowerCertificate (check c) (c .n) (c .round) (c .keys) a b) × (callNumber ≡ 0 → buffer)
 
   -- a refusal hands back no byte
   module _ {part : List ℕ} (none : part ≡ []) {buffer : Type 0} {number : ℕ} where
-    nothing-of : number ≡ lowest → (number ≡ 0 → ⊥) → Hands part buffer
+    nothing-of : number ≡ callNumber → (number ≡ 0 → ⊥) → Hands part buffer
     unfolding lowerCertificate
     nothing-of e h = (none ∙ rw (← e, refused-old), λ z. absurd (h (e ∙ z)))
 
@@ -129,7 +119,7 @@ module _ (c : Call) (a b : List ℕ) where
     lower-outside e h = nothing-of (refused-first (outside c) (two c a b) number e h) h
 
 module _ {c : Call} (clear : Clear c) (a b : List ℕ) {number : ℕ} (e : number ≡ firstOf (two c a b)) where
-  told : number ≡ lowest c a b
+  told : number ≡ callNumber c a b
   unfolding lowerConditions
   told = e ∙ after-outside clear (two c a b)
 
@@ -138,7 +128,7 @@ module _ {c : Call} (clear : Clear c) (a b : List ℕ) {number : ℕ} (e : numbe
 
   -- nothing is refused: the whole of the first, or of the second. x and y are the references to them.
   module _ (z : number ≡ 0) {t : Bool} (is : t ≡ isLower (certificateIn (read (c .n) a) .value) (certificateIn (read (c .n) b) .value)) {A : Type 0} (x y : A) where
-    is-none : lowest c a b ≡ 0
+    is-none : callNumber c a b ≡ 0
     is-none = sym told ∙ z
 
     pub first-lower : t ≡ true → Hands c a b a (x ≡ lowerFirst (c .n) a b x y)

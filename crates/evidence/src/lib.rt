@@ -8,8 +8,8 @@ use crate::certificates::first_is_lower;
 use crate::certificates::write_conflict;
 use protocol::Checked;
 use protocol::Written;
-use validate::buffers::short_out;
 use validate::calls::evidence_refusal;
+use validate::calls::making_refusal;
 use validate::calls::outside_refusal;
 use validate::calls::two_refusal;
 
@@ -53,16 +53,10 @@ pub fn make_evidence(
         ⌜ (r ≡ made result)
         × (now (out .exit) ≡ outAfter (result .written) (now (out .entry))) ⌝ }
 {
-    let outside = outside_refusal(n, round, keys);
-    if outside != 0 {
+    let given = making_refusal(n, round, keys, out);
+    if given != 0 {
         return Written {
-            number: outside,
-            written: 0,
-        };
-    }
-    if short_out(layout::evidence_out_length(n), out) {
-        return Written {
-            number: refusal::OUT,
+            number: given,
             written: 0,
         };
     }

@@ -1,5 +1,4 @@
--- Tests of every one of a list, of lists that grow at their end, as loops build them, and of what each entry of a list brings. A key
--- table that isn't refused.
+-- Laws of tests over a list, also one that grows at its end. A key table that isn't refused.
 -- Assumes nothing.
 use mathlib.Core.Path.{_≡_, refl, _∙_}
 use mathlib.Core.Bool.{Bool, true, false, not, _&&_, and-assoc, and-true}

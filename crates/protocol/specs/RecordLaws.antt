@@ -7,7 +7,7 @@ use Prim.Native.Nat.{ℕ, _^_, _≤_, _<_}
 use native.Mathlib.Omega.{arith}
 use lib.Dec.{ltb, eqb}
 use lib.ListN.{length}
-use borrow.Author.Tests.{eqb-true, eqb-false, eq-eqb, ltb-false, leb-false}
+use borrow.Author.Tests.{eqb-true, eqb-false, eq-eqb, ne-eqb, ltb-false, le-ltb, leb-false}
 use Rattle.refusal.specs.RefusalLaws.{both-false}
 use Rattle.quorum.specs.Quorum.{mostSeats, k, has, size, outside}
 use Rattle.quorum.specs.QuorumLaws.{outside-false}
@@ -27,6 +27,15 @@ right-size n e =
 pub right-round : (round : ℕ) → wrongRound round ≡ false → round ≤ lastRound
 unfolding wrongRound
 right-round round e = ltb-false lastRound round e
+
+-- and the other way round
+pub size-right : (n : ℕ) → 1 ≤ n → n ≤ mostSeats → wrongSize n ≡ false
+unfolding wrongSize
+size-right n some most = rw (ne-eqb n 0 (λ e. omega arith), le-ltb mostSeats n most)
+
+pub round-right : (round : ℕ) → round ≤ lastRound → wrongRound round ≡ false
+unfolding wrongRound
+round-right round h = le-ltb lastRound round h
 
 -- n, seat and round are in range
 pub record InRange (n seat round : ℕ) : Type 0 where

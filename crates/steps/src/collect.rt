@@ -39,7 +39,7 @@ fn collect(r: Record, store: &mut [u8], seat: u32, signature: &[u8]) -> Record
     with_own(r, own)
 }
 
-// The record with the own value kept.
+// The record with the own value set.
 fn set_own_value(r: Record, value: [u8; 32]) -> Record
     ensures { λ u. ⌜ u ≡ setOwnValue value (start r []) .unit ⌝ }
 {
@@ -62,8 +62,8 @@ pub(crate) fn submit_own(
     requires { ⌜ Fits r (now store) × (length (now value) ≡ valueLength) × (length (now signature) ≡ signatureLength) × (submitLength ≤ length (now out)) ⌝ }
     ensures { λ p. ⌜ Did (submitOwn (now (value .entry)) (now (signature .entry))) r (now (store .entry)) (now (out .entry)) 0 (p .unit) (now (store .exit)) (now (out .exit)) (p .at) × (p .at ≡ submitLength) ⌝ }
 {
-    let kept = set_own_value(r, wire::values::value_at(value, 0));
-    let unit = collect(kept, store, r.seat, signature);
+    let said = set_own_value(r, wire::values::value_at(value, 0));
+    let unit = collect(said, store, r.seat, signature);
     let at = wire_write::write_submit(out, 0, r.round, r.seat, value, signature);
     Phase { unit, at }
 }

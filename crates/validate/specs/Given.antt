@@ -1,18 +1,18 @@
--- Arguments that pass the first conditions of a call: n, round and key table, or the record, key table, store and out.
+-- Arguments that pass the first conditions of a call: n, round and key table; these and out; the record, key table, store and out.
 -- Assumes nothing.
 use mathlib.Core.Path.{_≡_, refl, sym, _∙_}
 use mathlib.Core.Bool.{true, false}
-use mathlib.Core.List.{List, []}
+use mathlib.Core.List.{List, [], _∷_, _++_}
 use Prim.Native.Nat.{ℕ, _≤_}
 use lib.ListN.{length}
 use borrow.Author.Tests.{ltb-false}
 use Rattle.refusal.specs.Refusal.{firstOf, numbers, nonzero}
-use Rattle.refusal.specs.RefusalLaws.{firstOf-zero}
+use Rattle.refusal.specs.RefusalLaws.{firstOf-zero, refused-later, passed-first}
 use Rattle.quorum.specs.Quorum.{mostSeats}
-use Rattle.protocol.specs.Layout.{storeLength, outLength}
+use Rattle.protocol.specs.Layout.{storeLength, outLength, evidenceOutLength}
 use Rattle.protocol.specs.Record.{lastRound, impossible}
 use Rattle.protocol.specs.RecordLaws.{right-size, right-round, possible, Ready}
-use Rattle.protocol.specs.Refusals.{wrongKeys, shortStore, shortOut, outsideConditions, recordConditions}
+use Rattle.protocol.specs.Refusals.{Condition, OUT, wrongKeys, shortStore, shortOut, outsideConditions, recordConditions}
 use Rattle.protocol.specs.declared.Record.{Record}
 
 -- n, round and key table are right
@@ -36,6 +36,26 @@ module _ (n round : ℕ) (keys : List ℕ) where
   pub outside-nonzero : nonzero (numbers (outsideConditions n round keys)) ≡ true
   unfolding outsideConditions nonzero numbers
   outside-nonzero = refl
+
+-- ---- with an out, where evidence is made
+
+-- the rows before those of the two certificates: 1, 3, 5, 7
+unfoldable pub givenConditions : ℕ → ℕ → List ℕ → List ℕ → List Condition
+givenConditions n round keys out = outsideConditions n round keys ++ OUT (evidenceOutLength n) out ∷ []
+
+module _ (n round : ℕ) (keys out : List ℕ) where
+  pub given-nonzero : nonzero (numbers (givenConditions n round keys out)) ≡ true
+  unfolding givenConditions outsideConditions nonzero numbers
+  given-nonzero = refl
+
+  pub making-given : (number : ℕ) → number ≡ firstOf (givenConditions n round keys out) → number ≡ 0 → Given n round keys × (evidenceOutLength n ≤ length out)
+  unfolding givenConditions shortOut
+  making-given number e z =
+      let all = sym e ∙ z in
+      let room = OUT (evidenceOutLength n) out ∷ [] in
+      let first = passed-first (outsideConditions n round keys) room all in
+      let last = refused-later (outsideConditions n round keys) room 0 (sym first) (outside-nonzero n round keys) refl ∙ all in
+      (outside-given n round keys 0 (sym first) refl, ltb-false (length out) (evidenceOutLength n) (firstOf-zero 6 _ [] last .0))
 
 -- ---- with a record
 

@@ -13,7 +13,7 @@ pub(crate) fn short_store(n: u32, store: &[u8]) -> bool
 }
 
 // Whether `out` is shorter than the length stated for the call.
-pub fn short_out(stated: usize, out: &[u8]) -> bool
+pub(crate) fn short_out(stated: usize, out: &[u8]) -> bool
     ensures { λ r. ⌜ r ≡ shortOut stated (now (out .entry)) ⌝ }
 {
     out.len() < stated

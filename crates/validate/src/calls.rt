@@ -6,7 +6,7 @@ ghost use Rattle.protocol.specs.Message.{read};
 ghost use Rattle.protocol.specs.Refusals.{wrongLengths, isForStep, early, outsideConditions, openingConditions, recordConditions, messageConditions, certificateConditions, twoConditions};
 ghost use Rattle.wire.specs.Reading.{kindOf};
 ghost use Rattle.protocol.specs.RecordLaws.{InRange};
-ghost use Rattle.validate.specs.Given.{Given};
+ghost use Rattle.validate.specs.Given.{Given, givenConditions};
 ghost use Rattle.validate.specs.Calls.{ownConditions, packConditions};
 use crate::arguments::wrong_round;
 use crate::arguments::wrong_seat;
@@ -37,6 +37,20 @@ pub fn outside_refusal(n: u32, round: u32, keys: &[u8]) -> u32
     }
     if wrong_keys(n, keys) {
         return refusal::KEYS;
+    }
+    0
+}
+
+// Refusal of n, round, key table and out, where evidence is made from two certificates: 1, 3, 5, 7.
+pub fn making_refusal(n: u32, round: u32, keys: &[u8], out: &[u8]) -> u32
+    ensures { λ r. ⌜ r ≡ firstOf (givenConditions n round (now (keys .entry)) (now (out .entry))) ⌝ }
+{
+    let outside = outside_refusal(n, round, keys);
+    if outside != 0 {
+        return outside;
+    }
+    if short_out(layout::evidence_out_length(n), out) {
+        return refusal::OUT;
     }
     0
 }

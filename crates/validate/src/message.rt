@@ -1,18 +1,26 @@
 // Tests of a message: command, round, seats, their order, and an early SUBMIT (9 to 13), then its signatures (14).
 ghost use mathlib.Core.Path.{_≡_};
-ghost use Prim.Native.Nat.{_≤_};
+ghost use mathlib.Core.Bool.{not};
+ghost use Prim.Native.Nat.{ℕ, _≤_};
+ghost use lib.Dec.{ltb};
 ghost use Rattle.quorum.specs.Quorum.{mostSeats};
 ghost use Rattle.refusal.specs.Refusal.{firstOf};
 ghost use Rattle.protocol.specs.Signatures.{checks};
 ghost use Rattle.protocol.specs.Message.{read};
-ghost use Rattle.protocol.specs.Refusals.{messageConditions};
+ghost use Rattle.protocol.specs.Refusals.{every, otherRound, stranger, disorder, messageConditions};
 ghost use Rattle.wire.specs.Reading.{kindOf};
 ghost use Rattle.wire.specs.Answers.{commandOf};
 ghost use Rattle.validate.specs.Given.{Given};
 ghost use Rattle.validate.specs.Messages.{within, formConditions};
+ghost use Rattle.validate.specs.Operands.{sendersOf};
 use crate::signatures::message_verdict;
 use protocol::Verdict;
+use wire::entries::seats_below;
+use wire::entries::seats_rise;
 use wire::read::Kind;
+use wire::read::entries_of;
+use wire::read::number_at;
+use wire::read::round_of;
 
 // The commands that calls take.
 pub(crate) const SUBMIT: u32 = 1;
@@ -42,6 +50,49 @@ pub(crate) fn is_within(kind: Kind, first: u32, last: u32) -> bool
     (first <= c) & (c <= last)
 }
 
+// Whether the round of a message is not the caller's.
+fn other_round(n: u32, kind: Kind, m: &[u8], round: u32) -> bool
+    requires { ⌜ kind ≡ kindOf (read n (now m)) ⌝ }
+    ensures { λ r. ⌜ r ≡ otherRound round (read n (now (m .entry))) ⌝ }
+{
+    if let Kind::Garbled = kind {
+        return round != 0;
+    }
+    round_of(m) != round
+}
+
+// Whether a message names a sender at or above n.
+fn sender_outside(n: u32, kind: Kind, m: &[u8]) -> bool
+    requires { ⌜ kind ≡ kindOf (read n (now m)) ⌝ }
+    ensures { λ r. ⌜ r ≡ not (every (λ (s : ℕ). ltb s n) (sendersOf (read n (now (m .entry))))) ⌝ }
+{
+    match kind {
+        Kind::Submit | Kind::Notice | Kind::Full => n <= number_at(m, layout::seat_at()),
+        Kind::Evidence | Kind::Garbled => false,
+    }
+}
+
+// Whether a seat in a message is at or above n.
+fn is_stranger(n: u32, kind: Kind, m: &[u8]) -> bool
+    requires { ⌜ (1 ≤ n) × (n ≤ mostSeats) × (kind ≡ kindOf (read n (now m))) ⌝ }
+    ensures { λ r. ⌜ r ≡ stranger n (read n (now (m .entry))) ⌝ }
+{
+    if sender_outside(n, kind, m) {
+        return true;
+    }
+    let found = entries_of(n, kind, m);
+    !seats_below(m, found, n)
+}
+
+// Whether the seats of a message's entries don't rise.
+fn is_disordered(n: u32, kind: Kind, m: &[u8]) -> bool
+    requires { ⌜ (1 ≤ n) × (n ≤ mostSeats) × (kind ≡ kindOf (read n (now m))) ⌝ }
+    ensures { λ r. ⌜ r ≡ disorder (read n (now (m .entry))) ⌝ }
+{
+    let found = entries_of(n, kind, m);
+    !seats_rise(m, found)
+}
+
 // Refusal for the form of a message, before any signature is checked: 9 to 13.
 fn form_refusal(n: u32, round: u32, taken: bool, early: bool, kind: Kind, m: &[u8]) -> u32
     requires { ⌜ (1 ≤ n) × (n ≤ mostSeats) × (kind ≡ kindOf (read n (now m))) ⌝ }
@@ -50,13 +101,13 @@ fn form_refusal(n: u32, round: u32, taken: bool, early: bool, kind: Kind, m: &[u
     if !taken {
         return refusal::GARBLED;
     }
-    if wire::read::other_round(n, kind, m, round) {
+    if other_round(n, kind, m, round) {
         return refusal::OTHER_ROUND;
     }
-    if wire::read::is_stranger(n, kind, m) {
+    if is_stranger(n, kind, m) {
         return refusal::STRANGER;
     }
-    if wire::read::is_disordered(n, kind, m) {
+    if is_disordered(n, kind, m) {
         return refusal::DISORDER;
     }
     if early {

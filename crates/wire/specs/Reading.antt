@@ -1,4 +1,4 @@
--- Kinds, entries and senders, as the readers answer them.
+-- Kinds and entries, as the readers answer them.
 -- Assumes nothing.
 use mathlib.Core.Bool.{Bool}
 use mathlib.Core.List.{List, [], _∷_, _++_}
@@ -44,13 +44,3 @@ seatsIn entries bytes = bytesAt (seatPlace entries) (entries .count) bytes
 -- the command and the seat of the last entry lie in the message
 abbrev pub Inside : Entries → List ℕ → Type 0
 Inside entries bytes = entryAt (entries .start) (entries .length) (entries .count) + 1 < length bytes + entries .length
-
--- ---- senders
-
--- the seat that sends a message, where it names one
-unfoldable pub sendersOf : Message → List ℕ
-sendersOf (Submit round seat value signature) = seat ∷ []
-sendersOf (Notice round seat value) = seat ∷ []
-sendersOf (Full round sender value entries) = sender ∷ []
-sendersOf (Evidence round values entries) = []
-sendersOf Garbled = []

@@ -47,7 +47,7 @@ pub(crate) fn have_command(m: &[u8], entries: Entries, command: u32) -> bool
 }
 
 // Whether every seat is below n.
-pub(crate) fn seats_below(m: &[u8], entries: Entries, n: u32) -> bool
+pub fn seats_below(m: &[u8], entries: Entries, n: u32) -> bool
     requires { ⌜ Inside entries (now m) ⌝ }
     ensures { λ r. ⌜ r ≡ every (λ (x : ℕ). ltb x n) (seatsIn entries (now (m .entry))) ⌝ }
 {
@@ -63,7 +63,7 @@ pub(crate) fn seats_below(m: &[u8], entries: Entries, n: u32) -> bool
 }
 
 // Whether the seats rise.
-pub(crate) fn seats_rise(m: &[u8], entries: Entries) -> bool
+pub fn seats_rise(m: &[u8], entries: Entries) -> bool
     requires { ⌜ Inside entries (now m) ⌝ }
     ensures { λ r. ⌜ r ≡ rising (seatsIn entries (now (m .entry))) ⌝ }
 {

@@ -1,15 +1,14 @@
-// Readers: the kind, operands and entries of a message from its bytes, and the conditions on its round and seats.
+// Readers: the kind, operands and entries of a message from its bytes.
 ghost use mathlib.Core.Path.{_≡_};
-ghost use mathlib.Core.Bool.{false, not};
-ghost use Prim.Native.Nat.{ℕ, _<_, _≤_};
-ghost use lib.Dec.{ltb};
+ghost use mathlib.Core.Bool.{false};
+ghost use Prim.Native.Nat.{_<_, _≤_};
 ghost use lib.ListN.{length};
 ghost use Rattle.quorum.specs.Quorum.{mostSeats};
 ghost use Rattle.protocol.specs.Layout.{operandsAt};
 ghost use Rattle.protocol.specs.Message.{byteAt, readRound, fitsSubmit, fitsNotice, fitsFull, fitsEvidence, read, entrySeats};
 ghost use Rattle.protocol.specs.Certificate.{setOf};
-ghost use Rattle.protocol.specs.Refusals.{every, otherRound, stranger, disorder};
-ghost use Rattle.wire.specs.Reading.{kindOf, seatsIn, Inside, sendersOf};
+ghost use Rattle.protocol.specs.Refusals.{stranger};
+ghost use Rattle.wire.specs.Reading.{kindOf, seatsIn, Inside};
 ghost use Rattle.wire.specs.Answers.{commandOf, command};
 use crate::entries;
 use layout::Entries;
@@ -34,7 +33,7 @@ pub fn number_at(m: &[u8], at: usize) -> u32
 }
 
 // The round: the two bytes after the command.
-fn round_of(m: &[u8]) -> u32
+pub fn round_of(m: &[u8]) -> u32
     requires { ⌜ operandsAt ≤ length (now m) ⌝ }
     ensures { λ r. ⌜ r ≡ readRound (now (m .entry)) ⌝ }
 {
@@ -127,30 +126,8 @@ pub fn classify(n: u32, m: &[u8]) -> Kind
     Kind::Garbled
 }
 
-// Whether the round of a message is not the caller's.
-pub fn other_round(n: u32, kind: Kind, m: &[u8], round: u32) -> bool
-    requires { ⌜ kind ≡ kindOf (read n (now m)) ⌝ }
-    ensures { λ r. ⌜ r ≡ otherRound round (read n (now (m .entry))) ⌝ }
-{
-    if let Kind::Garbled = kind {
-        return round != 0;
-    }
-    round_of(m) != round
-}
-
-// Whether a message names a sender at or above n.
-fn sender_outside(n: u32, kind: Kind, m: &[u8]) -> bool
-    requires { ⌜ kind ≡ kindOf (read n (now m)) ⌝ }
-    ensures { λ r. ⌜ r ≡ not (every (λ (s : ℕ). ltb s n) (sendersOf (read n (now (m .entry))))) ⌝ }
-{
-    match kind {
-        Kind::Submit | Kind::Notice | Kind::Full => n <= number_at(m, layout::seat_at()),
-        Kind::Evidence | Kind::Garbled => false,
-    }
-}
-
 // The entries of a message: none where its command has no entries.
-fn entries_of(n: u32, kind: Kind, m: &[u8]) -> Entries
+pub fn entries_of(n: u32, kind: Kind, m: &[u8]) -> Entries
     requires { ⌜ (1 ≤ n) × (n ≤ mostSeats) × (kind ≡ kindOf (read n (now m))) ⌝ }
     ensures { λ r. ⌜ (seatsIn r (now (m .entry)) ≡ entrySeats (read n (now (m .entry)))) × Inside r (now (m .entry)) ⌝ }
 {
@@ -162,27 +139,6 @@ fn entries_of(n: u32, kind: Kind, m: &[u8]) -> Entries
         },
         Kind::Submit | Kind::Notice | Kind::Garbled => layout::full_entries(0),
     }
-}
-
-// Whether a seat in a message is at or above n.
-pub fn is_stranger(n: u32, kind: Kind, m: &[u8]) -> bool
-    requires { ⌜ (1 ≤ n) × (n ≤ mostSeats) × (kind ≡ kindOf (read n (now m))) ⌝ }
-    ensures { λ r. ⌜ r ≡ stranger n (read n (now (m .entry))) ⌝ }
-{
-    if sender_outside(n, kind, m) {
-        return true;
-    }
-    let found = entries_of(n, kind, m);
-    !entries::seats_below(m, found, n)
-}
-
-// Whether the seats of a message's entries don't rise.
-pub fn is_disordered(n: u32, kind: Kind, m: &[u8]) -> bool
-    requires { ⌜ (1 ≤ n) × (n ≤ mostSeats) × (kind ≡ kindOf (read n (now m))) ⌝ }
-    ensures { λ r. ⌜ r ≡ disorder (read n (now (m .entry))) ⌝ }
-{
-    let found = entries_of(n, kind, m);
-    !entries::seats_rise(m, found)
 }
 
 // The set of the seats of a message's entries.

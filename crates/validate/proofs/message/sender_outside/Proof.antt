@@ -1,15 +1,16 @@
--- `wire::read::sender_outside` meets its contract.
+-- `validate::message::sender_outside` meets its contract.
 use mathlib.Core.Path.{_≡_, ap, _∙_}
 use mathlib.Core.Logic.{_⊎_, ⊎-elim}
 use native.Mathlib.Omega.{arith}
 use borrow.Author.Needs.{needs}
 use denote.Ref.{now}
 use Rattle.protocol.specs.Message.{byteAt}
 use Rattle.wire.specs.KindLaws.{tag}
-use Rattle.wire.specs.MessageLaws.{long-enough, sender-told, sender-none}
+use Rattle.wire.specs.MessageLaws.{long-enough}
 use Rattle.wire.proofs.Tags.{tags}
-use Rattle.wire.proofs.read.sender_outside.Statement.{statement}
-use Rattle.wire.proofs.read.sender_outside.Tie as tie
+use Rattle.validate.specs.Operands.{sender-told, sender-none}
+use Rattle.validate.proofs.message.sender_outside.Statement.{statement}
+use Rattle.validate.proofs.message.sender_outside.Tie as tie
 
 abbrev start : tie.After-seat-at → tie.Start
 start c = c .before .before .before

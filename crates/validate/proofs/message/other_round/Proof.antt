@@ -1,15 +1,16 @@
--- `wire::read::other_round` meets its contract.
+-- `validate::message::other_round` meets its contract.
 use mathlib.Core.Path.{_≡_}
 use mathlib.Core.Logic.{_⊎_, ⊎-elim}
 use Prim.Native.Nat.{ℕ}
 use native.Mathlib.Omega.{arith}
 use borrow.Author.Needs.{needs}
 use denote.Ref.{now}
 use Rattle.wire.specs.KindLaws.{tag}
-use Rattle.wire.specs.MessageLaws.{long-enough, round-told, round-garbled}
+use Rattle.wire.specs.MessageLaws.{long-enough}
 use Rattle.wire.proofs.Tags.{tags}
-use Rattle.wire.proofs.read.other_round.Statement.{statement}
-use Rattle.wire.proofs.read.other_round.Tie as tie
+use Rattle.validate.specs.Operands.{round-told, round-garbled}
+use Rattle.validate.proofs.message.other_round.Statement.{statement}
+use Rattle.validate.proofs.message.other_round.Tie as tie
 
 not-fourth : (t : ℕ) → (t ≡ 0) ⊎ ((t ≡ 1) ⊎ ((t ≡ 2) ⊎ (t ≡ 3))) → t ≡ 4 → ⊥
 not-fourth t some e = ⊎-elim (λ a. omega arith) (⊎-elim (λ a. omega arith) (⊎-elim (λ a. omega arith) (λ a. omega arith))) some

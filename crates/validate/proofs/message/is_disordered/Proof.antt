@@ -1,11 +1,11 @@
--- `wire::read::is_disordered` meets its contract.
+-- `validate::message::is_disordered` meets its contract.
 use borrow.Author.Needs.{needs}
 use denote.Ref.{now}
 use Rattle.protocol.specs.Message.{read}
 use Rattle.wire.specs.Reading.{seatsIn}
-use Rattle.wire.specs.MessageLaws.{disorder-told}
-use Rattle.wire.proofs.read.is_disordered.Statement.{statement}
-use Rattle.wire.proofs.read.is_disordered.Tie as tie
+use Rattle.validate.specs.Operands.{disorder-told}
+use Rattle.validate.proofs.message.is_disordered.Statement.{statement}
+use Rattle.validate.proofs.message.is_disordered.Tie as tie
 
 returns : tie.Need-returns
 returns c =

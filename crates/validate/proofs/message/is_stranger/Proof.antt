@@ -1,11 +1,11 @@
--- `wire::read::is_stranger` meets its contract.
+-- `validate::message::is_stranger` meets its contract.
 use borrow.Author.Needs.{needs}
 use denote.Ref.{now}
 use Rattle.protocol.specs.Message.{read}
 use Rattle.wire.specs.Reading.{seatsIn}
-use Rattle.wire.specs.MessageLaws.{stranger-sender, stranger-entries}
-use Rattle.wire.proofs.read.is_stranger.Statement.{statement}
-use Rattle.wire.proofs.read.is_stranger.Tie as tie
+use Rattle.validate.specs.Operands.{stranger-sender, stranger-entries}
+use Rattle.validate.proofs.message.is_stranger.Statement.{statement}
+use Rattle.validate.proofs.message.is_stranger.Tie as tie
 
 abbrev start : tie.After-sender-outside → tie.Start
 start c = c .before .before
