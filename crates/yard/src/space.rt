@@ -4,7 +4,7 @@ ghost use mathlib.Core.Path.{_≡_};
 ghost use lib.ListN.{length};
 ghost use Rattle.yard.specs.Commands.{longestOpening, longestCall, yardStore, yardOut};
 
-// The yard's most seats, and k of them.
+// The yard's most seats, and k for that many.
 pub(crate) const MOST_SEATS: usize = 7;
 
 const QUORUM: usize = MOST_SEATS - ((MOST_SEATS + 2) / 3 - 1);
