@@ -6,22 +6,58 @@ ghost use Rattle.protocol.specs.Layout as Layout;
 ghost use Rattle.protocol.specs.Record.{lastRound};
 ghost use Rattle.layout.specs.Places.{full, evidence, bankOf};
 
-// The length of a signature, also for arrays.
+// The constants, also for lengths of arrays. Each is made of its parts.
+
+// The lengths of a value, a key and a signature.
+pub const VALUE: usize = 32;
+
+pub const KEY: usize = 56;
+
 pub const SIGNATURE: usize = 1452;
 
-// The lengths of NOTICE and SUBMIT.
-const NOTICE: usize = 36;
+// The places of the round and of the first operand after it.
+const ROUND_AT: usize = 1;
 
-const SUBMIT: usize = 1488;
+const OPERANDS_AT: usize = ROUND_AT + 2;
 
-// In FULL and in EVIDENCE: the place of the first entry, and the length of each.
-const FULL_START: usize = 37;
+// SUBMIT, NOTICE and FULL: the places of seat and value.
+const SEAT_AT: usize = OPERANDS_AT;
 
-const FULL_ENTRY: usize = 1454;
+const VALUE_AT: usize = SEAT_AT + 1;
 
-const EVIDENCE_START: usize = 68;
+// The length of NOTICE.
+pub const NOTICE: usize = VALUE_AT + VALUE;
 
-const EVIDENCE_ENTRY: usize = 2906;
+// SUBMIT: the place of its signature, and its length.
+const SUBMIT_SIGNATURE_AT: usize = VALUE_AT + VALUE;
+
+pub const SUBMIT: usize = SUBMIT_SIGNATURE_AT + SIGNATURE;
+
+// An entry: the places of its seat and of its content, from its start.
+const ENTRY_SEAT_AT: usize = 1;
+
+const ENTRY_HELD_AT: usize = ENTRY_SEAT_AT + 1;
+
+// FULL: the places of its count and of its first entry, and the length of an entry.
+const FULL_COUNT_AT: usize = VALUE_AT + VALUE;
+
+pub const FULL_START: usize = FULL_COUNT_AT + 1;
+
+pub const FULL_ENTRY: usize = ENTRY_HELD_AT + SIGNATURE;
+
+// EVIDENCE: the places of both values, of its count and of its first entry, and the length of an entry.
+const LOWER_AT: usize = OPERANDS_AT;
+
+const HIGHER_AT: usize = LOWER_AT + VALUE;
+
+const EVIDENCE_COUNT_AT: usize = HIGHER_AT + VALUE;
+
+pub const EVIDENCE_START: usize = EVIDENCE_COUNT_AT + 1;
+
+pub const EVIDENCE_ENTRY: usize = ENTRY_HELD_AT + SIGNATURE + SIGNATURE;
+
+// The store: the slots of one seat, one in each bank.
+pub const SEAT_SLOTS: usize = SIGNATURE + SIGNATURE;
 
 pub fn signature_length() -> usize
     ensures { λ r. ⌜ r ≡ Layout.signatureLength ⌝ }
@@ -35,56 +71,56 @@ pub fn signature_length() -> usize
 pub fn round_at() -> usize
     ensures { λ r. ⌜ r ≡ Layout.roundAt ⌝ }
 {
-    1
+    ROUND_AT
 }
 
 // The sender's seat in SUBMIT, NOTICE and FULL.
 pub fn seat_at() -> usize
     ensures { λ r. ⌜ r ≡ Layout.seatAt ⌝ }
 {
-    3
+    SEAT_AT
 }
 
 // The value in SUBMIT, NOTICE and FULL.
 pub fn value_at() -> usize
     ensures { λ r. ⌜ r ≡ Layout.valueAt ⌝ }
 {
-    4
+    VALUE_AT
 }
 
 // The signature in SUBMIT.
 pub fn submit_signature_at() -> usize
     ensures { λ r. ⌜ r ≡ Layout.submitSignatureAt ⌝ }
 {
-    36
+    SUBMIT_SIGNATURE_AT
 }
 
 // The lower value in EVIDENCE.
 pub fn lower_at() -> usize
     ensures { λ r. ⌜ r ≡ Layout.lowerAt ⌝ }
 {
-    3
+    LOWER_AT
 }
 
 // The higher value in EVIDENCE.
 pub fn higher_at() -> usize
     ensures { λ r. ⌜ r ≡ Layout.higherAt ⌝ }
 {
-    35
+    HIGHER_AT
 }
 
 // The count in FULL.
 pub fn full_count_at() -> usize
     ensures { λ r. ⌜ r ≡ Layout.fullCountAt ⌝ }
 {
-    36
+    FULL_COUNT_AT
 }
 
 // The count in EVIDENCE.
 pub fn evidence_count_at() -> usize
     ensures { λ r. ⌜ r ≡ Layout.evidenceCountAt ⌝ }
 {
-    67
+    EVIDENCE_COUNT_AT
 }
 
 // ---- lists of entries
@@ -126,6 +162,22 @@ pub fn entry_at(entries: Entries, i: usize) -> usize
     entries.start + entries.length * i
 }
 
+// The place of an entry's seat.
+pub fn entry_seat_at(entries: Entries, i: usize) -> usize
+    requires { ⌜ Layout.entryAt (entries .start) (entries .length) i + Layout.entrySeatAt < 2 ^ 64 ⌝ }
+    ensures { λ r. ⌜ r ≡ Layout.entryAt (entries .start) (entries .length) i + Layout.entrySeatAt ⌝ }
+{
+    entry_at(entries, i) + ENTRY_SEAT_AT
+}
+
+// The place of its content.
+pub fn entry_held_at(entries: Entries, i: usize) -> usize
+    requires { ⌜ Layout.entryAt (entries .start) (entries .length) i + Layout.entryHeldAt < 2 ^ 64 ⌝ }
+    ensures { λ r. ⌜ r ≡ Layout.entryAt (entries .start) (entries .length) i + Layout.entryHeldAt ⌝ }
+{
+    entry_at(entries, i) + ENTRY_HELD_AT
+}
+
 // ---- lengths of messages
 
 pub fn submit_length() -> usize
@@ -164,14 +216,11 @@ pub enum Bank {
     First,
 }
 
-// Bytes of the store for one seat: a slot in each bank.
-const SEAT: usize = 2 * SIGNATURE;
-
 pub fn store_length(n: u32) -> usize
     requires { ⌜ n ≤ mostSeats ⌝ }
     ensures { λ r. ⌜ r ≡ Layout.storeLength n ⌝ }
 {
-    SEAT * (n as usize)
+    SEAT_SLOTS * (n as usize)
 }
 
 // The place of a seat's slot in a bank.
@@ -207,20 +256,20 @@ pub fn out_length(n: u32) -> usize
 pub fn value_length() -> usize
     ensures { λ r. ⌜ r ≡ Layout.valueLength ⌝ }
 {
-    32
+    VALUE
 }
 
 pub fn key_length() -> usize
     ensures { λ r. ⌜ r ≡ Layout.keyLength ⌝ }
 {
-    56
+    KEY
 }
 
 // The place of a seat's key in the key table.
 pub fn key_at(seat: u32) -> usize
     ensures { λ r. ⌜ r ≡ Layout.keyAt seat ⌝ }
 {
-    56 * (seat as usize)
+    KEY * (seat as usize)
 }
 
 pub fn tree_length() -> usize

@@ -8,7 +8,7 @@ use mathlib.Core.List.{List, [], _∷_, _++_, map, List·Memᴰ}
 use lib.Dec.{eqb}
 use lib.ListN.{length, getD}
 use Rattle.octets.specs.Octets.{part}
-use Rattle.protocol.specs.Layout.{entryLength, entryAt}
+use Rattle.protocol.specs.Layout.{entrySeatAt, entryHeldAt, entryLength, entryAt}
 
 -- the byte at an index; 0 past the end
 abbrev pub byteAt : List ℕ → ℕ → ℕ
@@ -58,7 +58,7 @@ entryCommands form t bytes = eachBelow (λ (i : ℕ). eqb (byteAt bytes (placeOf
 
 -- the entry at a place
 unfoldable pub readEntry : {A : Type 0} → Form A → ℕ → List ℕ → A
-readEntry form at bytes = form .make (byteAt bytes (at + 1)) (part (at + 2) (form .held) bytes)
+readEntry form at bytes = form .make (byteAt bytes (at + entrySeatAt)) (part (at + entryHeldAt) (form .held) bytes)
 
 -- the first t entries
 unfoldable pub readEntries : {A : Type 0} → Form A → ℕ → List ℕ → List A

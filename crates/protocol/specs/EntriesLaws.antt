@@ -16,7 +16,7 @@ use borrow.Author.Tests.{eqb-true, eq-eqb}
 use Rattle.octets.specs.Octets.{part}
 use Rattle.octets.specs.StringsLaws.{part-suc}
 use Rattle.octets.specs.WriteLaws.{part-add}
-use Rattle.protocol.specs.Layout.{entryLength}
+use Rattle.protocol.specs.Layout.{entrySeatAt, entryHeldAt, entryLength}
 use Rattle.protocol.specs.Entries.{Each, eachBelow, Form, Laid, byteAt, placeOf, renderEntry, renderEntries, entryCommands, readEntry, readEntries}
 
 -- ---- a test of every index below a bound
@@ -143,8 +143,8 @@ module _ {A : Type 0} (form : Form A) where
       entry-read =
           let h = laid-at es t (form .make 0 []) laid l in
           let stands = entry-stands t (form .make 0 []) l in
-          let seat : byteAt bytes (placeOf form t + 1) ≡ form .seat the = rw (← getD-drop (placeOf form t) bytes 1 0, stands) in
-          let held : part (placeOf form t + 2) (form .held) bytes ≡ form .bytes the = rw (← drop-drop 2 (placeOf form t) bytes, stands, take-at (form .bytes the) (renderEntries form (drop (suc t) es)) (form .held) (h .0)) in
+          let seat : byteAt bytes (placeOf form t + entrySeatAt) ≡ form .seat the = rw (← getD-drop (placeOf form t) bytes entrySeatAt 0, stands) in
+          let held : part (placeOf form t + entryHeldAt) (form .held) bytes ≡ form .bytes the = rw (← drop-drop entryHeldAt (placeOf form t) bytes, stands, take-at (form .bytes the) (renderEntries form (drop (suc t) es)) (form .held) (h .0)) in
           ap₂ (form .make) seat held ∙ h .1
 
     pub commands-right : (t : ℕ) → t ≤ length es → entryCommands form t bytes ≡ true
@@ -167,8 +167,8 @@ module _ {A : Type 0} (form : Form A) where
         → renderEntry form (readEntry form at bytes) ≡ part at (entryLength (form .held)) bytes
     unfolding renderEntry readEntry part
     entry-back at h e =
-        let made = faithful (byteAt bytes (at + 1)) (part (at + 2) (form .held) bytes) in
-        rw (part-add at 2 (form .held) bytes, part-suc at 1 bytes (omega arith), part-suc (suc at) 0 bytes (omega arith), made .0, made .1, e, add-one at)
+        let made = faithful (byteAt bytes (at + entrySeatAt)) (part (at + entryHeldAt) (form .held) bytes) in
+        rw (part-add at entryHeldAt (form .held) bytes, part-suc at 1 bytes (omega arith), part-suc (suc at) 0 bytes (omega arith), made .0, made .1, e, add-one at)
 
     pub entries-back : (t : ℕ) → placeOf form t ≤ length bytes → entryCommands form t bytes ≡ true
         → renderEntries form (readEntries form t bytes) ≡ part (form .start) (entryLength (form .held) * t) bytes

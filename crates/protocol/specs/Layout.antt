@@ -60,9 +60,16 @@ submitLength = submitSignatureAt + signatureLength
 
 -- ---- lists of entries: each entry has a command, a seat, and bytes that it holds
 
+-- places of an entry's seat and of its bytes, from its start
+abbrev pub entrySeatAt : ℕ
+entrySeatAt = 1
+
+abbrev pub entryHeldAt : ℕ
+entryHeldAt = entrySeatAt + 1
+
 -- length of an entry that holds `held` bytes
 abbrev pub entryLength : ℕ → ℕ
-entryLength held = 2 + held
+entryLength held = entryHeldAt + held
 
 -- place of an entry, by its index from 0, in a list that starts at `start`
 abbrev pub entryAt : ℕ → ℕ → ℕ → ℕ

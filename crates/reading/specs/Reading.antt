@@ -12,7 +12,7 @@ use lib.Seq.{take-at, drop-at, take-append-seam}
 use Rattle.octets.specs.Octets.{be, part}
 use Rattle.octets.specs.OctetsLaws.{length-be, length-part}
 use Rattle.quorum.specs.Quorum.{k}
-use Rattle.protocol.specs.Layout.{valueLength, signatureLength, entryLength, valueAt, submitSignatureAt, submitLength, noticeLength, fullEntryLength, fullEntryAt, fullLength, evidenceCountAt, evidenceEntryLength, evidenceEntryAt, evidenceLength}
+use Rattle.protocol.specs.Layout.{valueLength, signatureLength, entrySeatAt, entryHeldAt, entryLength, valueAt, submitSignatureAt, submitLength, noticeLength, fullEntryLength, fullEntryAt, fullLength, evidenceCountAt, evidenceEntryLength, evidenceEntryAt, evidenceLength}
 use Rattle.protocol.specs.Entries.{Form, Laid, placeOf, renderEntries, readEntry, readEntries}
 use Rattle.protocol.specs.EntriesLaws.{byte-after, Faithful, length-read}
 use Rattle.protocol.specs.Message.{Pair, PairValues, Message, Submit, Notice, Full, Evidence, Garbled, WellFormed, fullForm, evidenceForm, ValuesFormed, readValues, formOf, countOf, render, renderAll, byteAt, readValue, readSignature, fitsSubmit, fitsNotice, fitsFull, fitsEvidence, readSubmit, readNotice, readFull, readEvidence, read}
@@ -26,9 +26,9 @@ module _ {A : Type 0} (form : Form A) (faithful : Faithful form) (bytes : List �
   entry-laid : (at : ℕ) → at + entryLength (form .held) ≤ length bytes → Laid form (readEntry form at bytes ∷ [])
   unfolding readEntry
   entry-laid at h =
-      let held = part (at + 2) (form .held) bytes in
-      let made = faithful (byteAt bytes (at + 1)) held in
-      each-one _ (form .make (byteAt bytes (at + 1)) held) (ap length (made .1) ∙ length-part (at + 2) (form .held) bytes (omega arith), ap₂ (form .make) (made .0) (made .1))
+      let held = part (at + entryHeldAt) (form .held) bytes in
+      let made = faithful (byteAt bytes (at + entrySeatAt)) held in
+      each-one _ (form .make (byteAt bytes (at + entrySeatAt)) held) (ap length (made .1) ∙ length-part (at + entryHeldAt) (form .held) bytes (omega arith), ap₂ (form .make) (made .0) (made .1))
 
   entries-laid : (t : ℕ) → placeOf form t ≤ length bytes → Laid form (readEntries form t bytes)
   unfolding readEntries placeOf

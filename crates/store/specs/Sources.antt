@@ -6,7 +6,7 @@ use mathlib.Core.List.{List}
 use Prim.Native.Nat.{ℕ, _+_, _^_, _≤_, _<_}
 use lib.ListN.{length}
 use Rattle.quorum.specs.Quorum.{size, shared, all}
-use Rattle.protocol.specs.Layout.{fullEntryAt, storeLength}
+use Rattle.protocol.specs.Layout.{entryHeldAt, fullEntryAt, storeLength}
 use Rattle.protocol.specs.Message.{read}
 use Rattle.protocol.specs.Certificate.{Certificate, slot, certificateIn}
 use Rattle.protocol.specs.Refusals.{isFull, stranger, disorder}
@@ -29,7 +29,7 @@ pub record Sound (n : ℕ) (bytes : List ℕ) (seats : ℕ) : Type 0 where
 
 -- place of a seat's signature in such a FULL: after the entries of the seats below it
 unfoldable pub entryPlace : ℕ → ℕ → ℕ
-entryPlace seats seat = fullEntryAt (size (shared seats (all seat))) + 2
+entryPlace seats seat = fullEntryAt (size (shared seats (all seat))) + entryHeldAt
 
 -- condition on the bytes for reading signatures
 abbrev pub Stands : ℕ → Place → ℕ → List ℕ → Type 0

@@ -38,7 +38,7 @@ fn entry_place(seats: Mask, seat: u32) -> usize
 {
     let entries = layout::full_entries(quorum::size(seats) as usize);
     let below = quorum::shared_count(seats, quorum::all(seat));
-    layout::entry_at(entries, below as usize) + 2
+    layout::entry_held_at(entries, below as usize)
 }
 
 // The signature of a seat of the certificate.

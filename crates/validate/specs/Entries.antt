@@ -11,7 +11,7 @@ use lib.ListN.{length}
 use borrow.Author.Tests.{le-leb, lt-ltb, le-ltb, ltb-true, not-false}
 use Rattle.refusal.specs.Refusal.{firstOf}
 use Rattle.quorum.specs.Quorum.{k}
-use Rattle.protocol.specs.Layout.{valueLength, signatureLength, seatAt, valueAt, submitSignatureAt, submitLength, fullCountAt, fullEntryLength, fullEntryAt, fullLength, evidenceCountAt, evidenceEntryLength, evidenceEntryAt, evidenceLength}
+use Rattle.protocol.specs.Layout.{valueLength, signatureLength, seatAt, valueAt, submitSignatureAt, submitLength, entrySeatAt, entryHeldAt, fullCountAt, fullEntryLength, fullEntryAt, fullLength, evidenceCountAt, evidenceEntryLength, evidenceEntryAt, evidenceLength}
 use Rattle.protocol.specs.Entries.{eachBelow, readEntry}
 use Rattle.protocol.specs.EntriesLaws.{Passed, passed-none, passed-next, passed-all, each-not}
 use Rattle.protocol.specs.Message.{Entry, fullForm, byteAt, readValue, readSignature, read, readSubmit, readNotice, readFull, readEvidence, seatsOf, signed}
@@ -44,13 +44,13 @@ pub record FullTaken (n : ℕ) (bytes : List ℕ) : Type 0 where
   pub says : read n bytes ≡ readFull n bytes
   pub size : length bytes ≡ fullLength n
   pub count : byteAt bytes fullCountAt ≡ k n
-  pub known : (i : ℕ) → i < k n → byteAt bytes (fullEntryAt i + 1) < n
+  pub known : (i : ℕ) → i < k n → byteAt bytes (fullEntryAt i + entrySeatAt) < n
 
 pub record EvidenceTaken (n : ℕ) (bytes : List ℕ) : Type 0 where
   pub says : read n bytes ≡ readEvidence bytes
   pub size : length bytes ≡ evidenceLength (byteAt bytes evidenceCountAt)
   pub few : byteAt bytes evidenceCountAt ≤ n
-  pub known : (i : ℕ) → i < byteAt bytes evidenceCountAt → byteAt bytes (evidenceEntryAt i + 1) < n
+  pub known : (i : ℕ) → i < byteAt bytes evidenceCountAt → byteAt bytes (evidenceEntryAt i + entrySeatAt) < n
 
 submit-known : (n : ℕ) (bytes : List ℕ) → stranger n (readSubmit bytes) ≡ false → byteAt bytes seatAt < n
 unfolding stranger seatsOf every readSubmit
@@ -152,7 +152,7 @@ module _ (checks : Checks) (n : ℕ) (bytes : List ℕ) (h : EvidenceTaken n byt
   count = byteAt bytes evidenceCountAt
 
   -- the pair of an index lies in the message
-  pub pair-inside : (i : ℕ) → i < byteAt bytes evidenceCountAt → PairInside n (pairPlaces (byteAt bytes (evidenceEntryAt i + 1)) (evidenceEntryAt i)) bytes
+  pub pair-inside : (i : ℕ) → i < byteAt bytes evidenceCountAt → PairInside n (pairPlaces bytes (evidenceEntryAt i)) bytes
   unfolding evidenceEntryAt evidenceEntryLength signatureLength
   pair-inside i l =
       let room = entry-inside bytes count i (h .size) l in
@@ -248,11 +248,11 @@ module _ (checks : Checks) (n : ℕ) (bytes : List ℕ) (h : FullTaken n bytes) 
 
   module _ (t : ℕ) where
     -- the answer of a reader: an entry below k, and none at k
-    found-entry : (seat at : ℕ) → Walked checks n bytes t (next.Entry seat at) → (t < k n) × (seat ≡ byteAt bytes (fullEntryAt t + 1)) × (at ≡ fullEntryAt t + 2)
+    found-entry : (seat at : ℕ) → Walked checks n bytes t (next.Entry seat at) → (t < k n) × (seat ≡ byteAt bytes (fullEntryAt t + entrySeatAt)) × (at ≡ fullEntryAt t + entryHeldAt)
     unfolding entryOf readEntry fullForm headSeat
     found-entry seat at w = go (decLt t (k n))
       where
-        go : Dec (t < k n) → (t < k n) × (seat ≡ byteAt bytes (fullEntryAt t + 1)) × (at ≡ fullEntryAt t + 2)
+        go : Dec (t < k n) → (t < k n) × (seat ≡ byteAt bytes (fullEntryAt t + entrySeatAt)) × (at ≡ fullEntryAt t + entryHeldAt)
         go (yes l) =
             let same = w .found .0 ∙ entry-below n bytes h t l in
             (l, ap (λ (es : List Entry). headSeat es) same, w .found .1)

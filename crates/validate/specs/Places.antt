@@ -4,8 +4,8 @@ use mathlib.Core.Bool.{Bool, _&&_}
 use mathlib.Core.List.{List}
 use Prim.Native.Nat.{ℕ, _+_, _≤_, _<_}
 use lib.ListN.{length}
-use Rattle.protocol.specs.Layout.{valueLength, signatureLength, lowerAt, higherAt}
-use Rattle.protocol.specs.Message.{readValue, readSignature}
+use Rattle.protocol.specs.Layout.{valueLength, signatureLength, entrySeatAt, entryHeldAt, lowerAt, higherAt}
+use Rattle.protocol.specs.Message.{byteAt, readValue, readSignature}
 use Rattle.protocol.specs.Refusals.{Checks}
 use Rattle.validate.specs.declared.signatures.Place.{Place}
 use Rattle.validate.specs.declared.signatures.Pair.{Pair}
@@ -24,10 +24,10 @@ placeChecks checks bytes seat p = checks seat (readValue (p .value) bytes) (read
 abbrev pub pairChecks : Checks → List ℕ → Pair → Bool
 pairChecks checks bytes p = placeChecks checks bytes (p .seat) (p .lower) && placeChecks checks bytes (p .seat) (p .higher)
 
--- an entry of EVIDENCE: "0x06, seat 1, the signature over the lower value, the signature over the higher"
-abbrev pub pairPlaces : ℕ → ℕ → Pair
-pairPlaces seat at = record {
-  seat = seat;
-  lower = record { value = lowerAt; signature = at + 2 };
-  higher = record { value = higherAt; signature = at + 2 + signatureLength };
+-- the entry of EVIDENCE at a place: "0x06, seat 1, the signature over the lower value, the signature over the higher"
+abbrev pub pairPlaces : List ℕ → ℕ → Pair
+pairPlaces bytes at = record {
+  seat = byteAt bytes (at + entrySeatAt);
+  lower = record { value = lowerAt; signature = at + entryHeldAt };
+  higher = record { value = higherAt; signature = at + entryHeldAt + signatureLength };
 }

@@ -10,7 +10,7 @@ use lib.Seq.{take-add, take-at, drop-at, drop-drop}
 use Rattle.octets.specs.Octets.{part}
 use Rattle.octets.specs.OctetsLaws.{length-part}
 use Rattle.quorum.specs.Quorum.{k}
-use Rattle.protocol.specs.Layout.{signatureLength, seatAt, valueAt, submitSignatureAt, fullEntryLength, fullEntryAt, evidenceCountAt, evidenceEntryLength, evidenceEntryAt, evidenceLength}
+use Rattle.protocol.specs.Layout.{signatureLength, seatAt, valueAt, submitSignatureAt, entrySeatAt, entryHeldAt, fullEntryLength, fullEntryAt, evidenceCountAt, evidenceEntryLength, evidenceEntryAt, evidenceLength}
 use Rattle.protocol.specs.Entries.{eachBelow, Form, placeOf, readEntry, readEntries}
 use Rattle.protocol.specs.Message.{Signed, byteAt, fullForm, evidenceForm, formOf, readValue, readSignature, readSubmit, readFull, readEvidence, signedEntry, signedPair, signed}
 use Rattle.protocol.specs.Refusals.{Checks, every, badSignature}
@@ -39,7 +39,7 @@ unfolding evidenceLength evidenceEntryAt evidenceEntryLength signatureLength
 entry-inside bytes count i l h = omega arith
 
 -- and so does its first signature
-first-inside : (at L : ℕ) → at + evidenceEntryLength ≤ L → at + 2 + signatureLength ≤ L
+first-inside : (at L : ℕ) → at + evidenceEntryLength ≤ L → at + entryHeldAt + signatureLength ≤ L
 unfolding evidenceEntryLength
 first-inside at L h = omega arith
 
@@ -61,10 +61,10 @@ module _ (checks : Checks) (bytes : List ℕ) where
 
   -- the signature of the entry at an index checks; and both of a pair do
   abbrev pub entryCheck : ℕ → Bool
-  entryCheck i = checks (byteAt bytes (fullEntryAt i + 1)) (readValue valueAt bytes) (readSignature (fullEntryAt i + 2) bytes)
+  entryCheck i = checks (byteAt bytes (fullEntryAt i + entrySeatAt)) (readValue valueAt bytes) (readSignature (fullEntryAt i + entryHeldAt) bytes)
 
   abbrev pub pairCheck : ℕ → Bool
-  pairCheck i = pairChecks checks bytes (pairPlaces (byteAt bytes (evidenceEntryAt i + 1)) (evidenceEntryAt i))
+  pairCheck i = pairChecks checks bytes (pairPlaces bytes (evidenceEntryAt i))
 
   pub submit-bad : badSignature checks (readSubmit bytes) ≡ not (checks (byteAt bytes seatAt) (readValue valueAt bytes) (readSignature submitSignatureAt bytes))
   unfolding badSignature signed readSubmit every
@@ -88,7 +88,7 @@ module _ (checks : Checks) (bytes : List ℕ) where
   pair-is : (i : ℕ) → evidenceEntryAt i + evidenceEntryLength ≤ length bytes → every test (signedPair (readEntry (formOf bytes) (placeOf (formOf bytes) i) bytes)) ≡ pairCheck i
   unfolding every signedPair readEntry evidenceForm placeOf evidenceEntryAt evidenceEntryLength readSignature
   pair-is i h =
-      let two = halves (evidenceEntryAt i + 2) signatureLength signatureLength bytes (first-inside (evidenceEntryAt i) (length bytes) h) in
+      let two = halves (evidenceEntryAt i + entryHeldAt) signatureLength signatureLength bytes (first-inside (evidenceEntryAt i) (length bytes) h) in
       rw (two .0, two .1, and-true)
 
   pub evidence-bad : length bytes ≡ evidenceLength (byteAt bytes evidenceCountAt)

@@ -7,15 +7,17 @@ ghost use lib.ListN.{length};
 ghost use Rattle.fips180.specs.Constants.{constants};
 ghost use Rattle.refusal.specs.Refusal.{firstOf};
 ghost use Rattle.protocol.specs.Layout.{valueLength, signatureLength, valueAt, evidenceEntryLength};
-ghost use Rattle.protocol.specs.Message.{byteAt, readSignature, read};
+ghost use Rattle.protocol.specs.Message.{readSignature, read};
 ghost use Rattle.protocol.specs.Refusals.{stranger, badSignature, SIGNATURE};
 ghost use Rattle.protocol.specs.Signatures.{signedBytes, checks, signatureNumber};
-ghost use Rattle.wire.specs.Reading.{kindOf};
+ghost use Rattle.wire.specs.Reading.{kindOf, commandPlace, Inside};
 ghost use Rattle.validate.specs.Given.{Given};
 ghost use Rattle.validate.specs.Entries.{SubmitTaken, FullTaken, EvidenceTaken, Fits, foundChecks, isEntry};
 ghost use Rattle.validate.specs.Places.{PlaceInside, PairInside, placeChecks, pairChecks, pairPlaces};
 use crate::keys::seat_key;
+use layout::Entries;
 use protocol::Verdict;
+use wire::entries::seat_of_entry;
 use wire::read::Kind;
 use wire::reader::Next;
 
@@ -178,21 +180,22 @@ fn pair_verdict(k: &[u32; 64], n: u32, round: u32, keys: &[u8], m: &[u8], pair: 
     place_verdict(k, n, round, keys, m, pair.seat, higher)
 }
 
-// The pair in the entry of EVIDENCE at index `at`, over the two values of the message.
-fn pair_at(m: &[u8], at: usize) -> Pair
-    requires { ⌜ at + evidenceEntryLength ≤ length (now m) ⌝ }
-    ensures { λ p. ⌜ p ≡ pairPlaces (byteAt (now (m .entry)) (at + 1)) at ⌝ }
+// The pair in an entry of EVIDENCE, over the two values of the message.
+fn pair_at(m: &[u8], entries: Entries, i: usize) -> Pair
+    requires { ⌜ Inside entries (now m) × (i < entries .count) × (commandPlace entries i + evidenceEntryLength ≤ length (now m)) ⌝ }
+    ensures { λ p. ⌜ p ≡ pairPlaces (now (m .entry)) (commandPlace entries i) ⌝ }
 {
+    let held = layout::entry_held_at(entries, i);
     let lower = Place {
         value: layout::lower_at(),
-        signature: at + 2,
+        signature: held,
     };
     let higher = Place {
         value: layout::higher_at(),
-        signature: at + 2 + layout::signature_length(),
+        signature: held + layout::signature_length(),
     };
     Pair {
-        seat: wire::read::number_at(m, at + 1),
+        seat: seat_of_entry(m, entries, i),
         lower,
         higher,
     }
@@ -207,7 +210,7 @@ fn evidence_verdict(k: &[u32; 64], n: u32, round: u32, keys: &[u8], m: &[u8]) ->
     let entries = layout::evidence_entries(count);
     let mut t = 0;
     while t < count {
-        let pair = pair_at(m, layout::entry_at(entries, t));
+        let pair = pair_at(m, entries, t);
         let v = pair_verdict(k, n, round, keys, m, pair);
         if v.number != 0 {
             return v;

@@ -7,7 +7,7 @@ use mathlib.Core.List.{List, [], _∷_}
 use Prim.Native.Nat.{ℕ, _+_}
 use lib.Dec.{leb, ltb}
 use lib.ListN.{length}
-use Rattle.protocol.specs.Layout.{fullCountAt, fullEntryAt}
+use Rattle.protocol.specs.Layout.{entryHeldAt, fullCountAt, fullEntryAt}
 use Rattle.protocol.specs.Entries.{readEntry}
 use Rattle.protocol.specs.Message.{Message, Entry, fullForm, render, byteAt, readSignature}
 use Rattle.wire.specs.declared.read.Kind.{Kind}
@@ -44,7 +44,7 @@ nthEntry i bytes =
 
 -- the signature of an entry found stands in the entry of that index, after its command and seat
 abbrev pub Stands : ℕ → Next → Type 0
-Stands i (next.Entry seat at) = at ≡ fullEntryAt i + 2
+Stands i (next.Entry seat at) = at ≡ fullEntryAt i + entryHeldAt
 Stands i next.End = Unit {0}
 
 -- the answer is the entry at an index, in content and place

@@ -6,7 +6,7 @@ use Prim.Native.Nat.{ℕ, _+_, _≤_, _<_}
 use native.Mathlib.Omega.{arith}
 use lib.ListN.{length}
 use borrow.Author.Tests.{le-leb, lt-leb, lt-ltb, le-ltb}
-use Rattle.protocol.specs.Layout.{fullCountAt, fullEntryAt}
+use Rattle.protocol.specs.Layout.{entrySeatAt, entryHeldAt, fullCountAt, fullEntryAt}
 use Rattle.protocol.specs.Entries.{readEntry}
 use Rattle.protocol.specs.Message.{fullForm, byteAt, readSignature}
 use Rattle.wire.specs.Answers.{entryOf, nthEntry, Found}
@@ -23,7 +23,7 @@ module _ (bytes : List ℕ) (i count : ℕ) (e : count ≡ byteAt bytes fullCoun
     unfolding entryOf nthEntry
     entry-past h = (rw (← e, le-leb (fullEntryAt count) (length bytes) room, le-ltb i count h), tt)
 
-    pub entry-found : i < count → (seat at : ℕ) → seat ≡ byteAt bytes (fullEntryAt i + 1) → at ≡ fullEntryAt i + 2 → Found i bytes (next.Entry seat at)
+    pub entry-found : i < count → (seat at : ℕ) → seat ≡ byteAt bytes (fullEntryAt i + entrySeatAt) → at ≡ fullEntryAt i + entryHeldAt → Found i bytes (next.Entry seat at)
     unfolding entryOf nthEntry readEntry readSignature fullForm
     entry-found h seat at q p = (rw (← e, le-leb (fullEntryAt count) (length bytes) room, lt-ltb i count h, q, p), p)
 

@@ -5,7 +5,7 @@ use mathlib.Core.List.{List, [], _∷_, _++_}
 use Prim.Native.Nat.{ℕ, zero, suc, _+_, _<_}
 use lib.Dec.{eqb}
 use lib.ListN.{length}
-use Rattle.protocol.specs.Layout.{entryAt}
+use Rattle.protocol.specs.Layout.{entrySeatAt, entryAt}
 use Rattle.protocol.specs.Entries.{eachBelow}
 use Rattle.protocol.specs.Message.{Message, Submit, Notice, Full, Evidence, Garbled, byteAt}
 use Rattle.layout.specs.declared.Entries.{Entries}
@@ -32,7 +32,7 @@ abbrev pub commandPlace : Entries → ℕ → ℕ
 commandPlace entries i = entryAt (entries .start) (entries .length) i
 
 abbrev pub seatPlace : Entries → ℕ → ℕ
-seatPlace entries i = entryAt (entries .start) (entries .length) i + 1
+seatPlace entries i = entryAt (entries .start) (entries .length) i + entrySeatAt
 
 -- every entry has the command
 abbrev pub commandsAre : ℕ → Entries → List ℕ → Bool
@@ -43,4 +43,4 @@ seatsIn entries bytes = bytesAt (seatPlace entries) (entries .count) bytes
 
 -- the command and the seat of the last entry lie in the message
 abbrev pub Inside : Entries → List ℕ → Type 0
-Inside entries bytes = entryAt (entries .start) (entries .length) (entries .count) + 1 < length bytes + entries .length
+Inside entries bytes = entryAt (entries .start) (entries .length) (entries .count) + entrySeatAt < length bytes + entries .length

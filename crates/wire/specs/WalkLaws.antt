@@ -12,6 +12,7 @@ use lib.Dec.{ltb}
 use lib.ListN.{length}
 use borrow.Author.Tests.{ltb-true, lt-ltb, le-ltb}
 use Rattle.quorum.specs.Quorum.{with}
+use Rattle.protocol.specs.Layout.{entrySeatAt}
 use Rattle.protocol.specs.Entries.{eachBelow, Form, byteAt, placeOf, readEntry, readEntries, formSeats}
 use Rattle.protocol.specs.EntriesLaws.{each-at, Faithful}
 use Rattle.protocol.specs.Certificate.{setOf}
@@ -114,7 +115,7 @@ module _ {place : ℕ → ℕ} {bytes : List ℕ} {count mask t : ℕ} (h : Gath
 -- ---- the seats of a form
 
 module _ {A : Type 0} (form : Form A) (bytes : List ℕ) where
-  pub seats-walked : Faithful form → (t : ℕ) → bytesAt (λ (i : ℕ). placeOf form i + 1) t bytes ≡ formSeats form (readEntries form t bytes)
+  pub seats-walked : Faithful form → (t : ℕ) → bytesAt (λ (i : ℕ). placeOf form i + entrySeatAt) t bytes ≡ formSeats form (readEntries form t bytes)
   unfolding bytesAt formSeats readEntries readEntry
   seats-walked faithful zero = refl
   seats-walked faithful (suc t) =

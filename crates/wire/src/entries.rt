@@ -22,12 +22,12 @@ fn command_of_entry(m: &[u8], entries: Entries, i: usize) -> u32
 }
 
 // The seat of an entry.
-pub(crate) fn seat_of_entry(m: &[u8], entries: Entries, i: usize) -> u32
+pub fn seat_of_entry(m: &[u8], entries: Entries, i: usize) -> u32
     requires { ⌜ Inside entries (now m) × (i < entries .count) ⌝ }
     ensures { λ r. ⌜ (r ≡ byteAt (now (m .entry)) (seatPlace entries i)) × (r < 256) ⌝ }
 {
-    let at = layout::entry_at(entries, i);
-    wide(m[at + 1])
+    let at = layout::entry_seat_at(entries, i);
+    wide(m[at])
 }
 
 // Whether every entry has the command.

@@ -35,7 +35,7 @@ fn entry_at(full: &[u8], next: usize) -> Next
     }
     Next::Entry {
         seat: seat_of_entry(full, entries, next),
-        signature: layout::entry_at(entries, next) + 2,
+        signature: layout::entry_held_at(entries, next),
     }
 }
 

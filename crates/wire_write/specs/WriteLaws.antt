@@ -113,7 +113,7 @@ module _ {A : Type 0} {form : Form A} {f : ℕ → A} {n m at : ℕ} {before : L
           record {
             below = omega arith;
             long = rw (v .wrote) (length-patch end (renderEntry form e) out fits ∙ g .long);
-            counted = rw (seats-in s m i, length-append (seats s m) (s ∷ []), add-one, mul-suc) (omega (arith, v .ends, sized, g .counted));
+            counted = rw (seats-in s m i, length-append (seats s m) (s ∷ []), add-one (length (seats s m)), mul-suc) (omega (arith, v .ends, sized, g .counted));
             written = rw all (then (g .written) v (omega (arith, room)));
           }
 

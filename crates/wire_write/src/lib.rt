@@ -5,7 +5,7 @@ ghost use Prim.Native.Nat.{_+_, _*_, _^_, _<_, _≤_};
 ghost use lib.ListN.{length};
 ghost use Rattle.octets.specs.Octets.{be};
 ghost use Rattle.quorum.specs.Quorum.{mostSeats, seats, size};
-ghost use Rattle.protocol.specs.Layout.{valueLength, signatureLength, operandsAt, submitLength, noticeLength, fullEntryLength, fullEntryAt, evidenceStart, evidenceEntryLength, evidenceLength};
+ghost use Rattle.protocol.specs.Layout.{valueLength, signatureLength, operandsAt, submitLength, noticeLength, entryHeldAt, fullEntryLength, fullEntryAt, evidenceStart, evidenceEntryLength, evidenceLength};
 ghost use Rattle.protocol.specs.Entries.{renderEntry, renderEntries};
 ghost use Rattle.protocol.specs.Message.{Submit, Notice, fullForm, evidenceForm, render};
 ghost use Rattle.protocol.specs.Certificate.{entriesOf, fullOf, pairsOf, orderedEvidence, evidenceOf};
@@ -81,7 +81,7 @@ pub fn write_submit(
 
 // The start of an entry: its command and the seat.
 fn put_tag(out: &mut [u8], at: usize, tag: u8, seat: u32) -> usize
-    requires { ⌜ (seat < 256) × (at + 2 ≤ length (now out)) ⌝ }
+    requires { ⌜ (seat < 256) × (at + entryHeldAt ≤ length (now out)) ⌝ }
     ensures { λ r. ⌜ Wrote at (tag ∷ seat ∷ []) (now (out .entry)) (now (out .exit)) r ⌝ }
 {
     let a = put_byte(out, at, tag);

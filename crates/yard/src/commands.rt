@@ -61,7 +61,7 @@ pub fn opening_length(bytes: &[u8]) -> usize
     if space::MOST_SEATS < n {
         return space::OPENING_HEAD;
     }
-    space::OPENING_HEAD + space::KEY * n
+    space::OPENING_HEAD + layout::KEY * n
 }
 
 // The length of a later command, as far as the bytes at its start tell it: three tell it whole.

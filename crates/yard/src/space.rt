@@ -1,16 +1,13 @@
-// The buffers of the yard's program. An array's length is a constant: each stands here only, and a contract ties it to its
-// definition.
+// The buffers of the yard's program. An array's length is a constant: each is made here of its parts, and a contract ties it to
+// its definition.
 ghost use mathlib.Core.Path.{_≡_};
 ghost use lib.ListN.{length};
 ghost use Rattle.yard.specs.Commands.{longestOpening, longestCall, yardStore, yardOut};
 
-// The yard's most seats.
+// The yard's most seats, and k for that many.
 pub(crate) const MOST_SEATS: usize = 7;
 
-// The bytes of a value and of a key.
-const VALUE: usize = 32;
-
-pub(crate) const KEY: usize = 56;
+const QUORUM: usize = MOST_SEATS - ((MOST_SEATS + 2) / 3 - 1);
 
 // The bytes before an opening's keys and before a message.
 pub(crate) const OPENING_HEAD: usize = 5;
@@ -18,19 +15,23 @@ pub(crate) const OPENING_HEAD: usize = 5;
 pub(crate) const MESSAGE_HEAD: usize = 3;
 
 // The start and the end of a submit's signature.
-pub(crate) const SUBMIT_HEAD: usize = 1 + VALUE;
+pub(crate) const SUBMIT_HEAD: usize = 1 + layout::VALUE;
 
 pub(crate) const SUBMIT: usize = SUBMIT_HEAD + layout::SIGNATURE;
 
 // The longest opening, and the longest later command.
-const OPENING: usize = OPENING_HEAD + KEY * MOST_SEATS;
+const OPENING: usize = OPENING_HEAD + layout::KEY * MOST_SEATS;
 
 const CALL: usize = MESSAGE_HEAD + 65535;
 
 // Store and out for the most seats.
-const STORE: usize = 20328;
+const STORE: usize = layout::SEAT_SLOTS * MOST_SEATS;
 
-const OUT: usize = 23429;
+const FULL: usize = layout::FULL_START + layout::FULL_ENTRY * QUORUM;
+
+const EVIDENCE: usize = layout::EVIDENCE_START + layout::EVIDENCE_ENTRY * QUORUM;
+
+const OUT: usize = layout::SUBMIT + layout::NOTICE + FULL + EVIDENCE;
 
 // Room for an opening.
 pub fn new_opening() -> [u8; OPENING]

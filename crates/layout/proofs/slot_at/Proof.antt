@@ -1,6 +1,7 @@
 -- `layout::slot_at` meets its contract.
 use native.Mathlib.Omega.{arith}
-use Rattle.protocol.specs.Layout.{slotAt, lengthOfBanks, banksBefore, banks, slotLength, slotLengthIn, storeLength, signatureLength}
+use Rattle.protocol.specs.Layout.{slotAt, lengthOfBanks, banksBefore, banks, slotLength, slotLengthIn, signatureLength, collectedBank, firstBank}
+use Rattle.protocol.specs.LayoutLaws.{slot-fits, collected-bank, first-bank}
 use Rattle.layout.specs.Places.{bankOf}
 use borrow.Author.Needs.{needs}
 use Rattle.layout.proofs.slot_at.Statement.{statement}
@@ -10,12 +11,18 @@ enum-told : tie.Need-enum-told
 enum-told c = search needs
 
 returns : tie.Need-returns
-unfolding slotAt lengthOfBanks banksBefore banks slotLength slotLengthIn storeLength signatureLength bankOf
-returns c = let e = c .enum-told .given .1 in rw e (omega arith, omega arith)
+unfolding slotAt lengthOfBanks banksBefore banks slotLength slotLengthIn signatureLength bankOf
+returns c =
+    let s = c .before .before in
+    let fits = slot-fits (s .args .n) collectedBank (s .args .seat) (collected-bank .0) (s .pre .1) in
+    rw (c .enum-told .given .1) (omega arith, omega arith)
 
 returns-2 : tie.Need-returns-2
-unfolding slotAt lengthOfBanks banksBefore banks slotLength slotLengthIn storeLength signatureLength bankOf
-returns-2 c = let e = c .enum-told2 .given .1 in rw e (omega arith, omega arith)
+unfolding slotAt lengthOfBanks banksBefore banks slotLength slotLengthIn signatureLength bankOf
+returns-2 c =
+    let s = c .before .before in
+    let fits = slot-fits (s .args .n) firstBank (s .args .seat) (first-bank .0) (s .pre .1) in
+    rw (c .enum-told2 .given .1) (omega arith, omega arith)
 
 pub slot-at-spec : {M : Type 1} → statement M
 slot-at-spec =

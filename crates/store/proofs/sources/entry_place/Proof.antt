@@ -19,17 +19,13 @@ started c = listed c .before .before
 counted : (c : tie.After-shared-count) → c .shared-count .result ≡ size (shared (started c .args .seats) (all (started c .args .seat)))
 counted c = c .shared-count .ensures ∙ ap (λ (x : ℕ). size (shared (started c .args .seats) x)) (c .before .all .ensures)
 
-entry-at-requires : tie.Need-entry-at-requires
+entry-held-at-requires : tie.Need-entry-held-at-requires
 unfolding fullEntryLength signatureLength
-entry-at-requires c κs = rw (listed c .full-entries .ensures) (omega arith)
-
-add-result : tie.Need-add-result
-unfolding fullEntryLength signatureLength
-add-result c = rw (c .entry-at .ensures, listed (c .before) .full-entries .ensures) (omega arith)
+entry-held-at-requires c κs = rw (listed c .full-entries .ensures) (omega arith)
 
 returns : tie.Need-returns
 unfolding entryPlace fullEntryAt fullEntryLength
-returns c = rw (c .entry-at .ensures, listed (c .before) .full-entries .ensures, counted (c .before))
+returns c = rw (c .entry-held-at .ensures, listed (c .before) .full-entries .ensures, counted (c .before))
 
 pub entry-place-spec : {M : Type 1} → statement M
 entry-place-spec =
@@ -41,6 +37,5 @@ entry-place-spec =
     (λ c κs. search needs)
     (λ c κs. search needs)
     (λ c. search needs)
-    entry-at-requires
-    add-result
+    entry-held-at-requires
     returns)

@@ -6,12 +6,14 @@ use native.Mathlib.Omega.{arith}
 use lib.ListN.{length}
 use borrow.Author.Needs.{needs}
 use denote.Ref.{now}
-use Rattle.protocol.specs.Layout.{signatureLength, evidenceCountAt, evidenceEntryLength, evidenceEntryAt, evidenceLength, entryAt}
+use Rattle.protocol.specs.Layout.{signatureLength, evidenceCountAt, evidenceEntryLength, evidenceEntryAt, evidenceLength}
 use Rattle.protocol.specs.EntriesLaws.{passed-none}
 use Rattle.protocol.specs.Message.{byteAt}
 use Rattle.protocol.specs.Refusals.{Checks}
 use Rattle.protocol.specs.Signatures.{checks, signatureNumber}
+use Rattle.layout.specs.Places.{evidence}
 use Rattle.layout.specs.declared.Entries.{Entries}
+use Rattle.wire.specs.Reading.{commandPlace, Inside}
 use Rattle.validate.specs.Places.{PairInside, pairChecks, pairPlaces}
 use Rattle.validate.specs.declared.signatures.Pair.{Pair}
 use Rattle.validate.specs.Signatures.{pairCheck, entry-inside}
@@ -43,37 +45,40 @@ started c = c .before .before .before .before .before
 count-read : (c : tie.After-evidence-entries Inv-loop μ-loop) → c .before .number-at .result ≡ byteAt (m (started c)) evidenceCountAt
 count-read c = let number = c .before in number .number-at .ensures .0 ∙ ap (λ (i : ℕ). byteAt (m (started c)) i) (number .before .evidence-count-at .ensures)
 
-abbrev loop-at : tie.After-entry-at Inv-loop μ-loop → tie.At-loop Inv-loop μ-loop
-loop-at c = c .before .before
+-- the list of entries
+listed : (c : tie.After-evidence-entries Inv-loop μ-loop) → c .evidence-entries .result ≡ evidence (byteAt (m (started c)) evidenceCountAt)
+listed c = c .evidence-entries .ensures ∙ ap (λ (count : ℕ). evidence count) (count-read c)
 
-abbrev given : tie.After-entry-at Inv-loop μ-loop → tie.Start Inv-loop μ-loop
-given c = started (loop-at c .before)
+-- a turn of the loop
+abbrev made : tie.In-loop Inv-loop μ-loop → tie.After-evidence-entries Inv-loop μ-loop
+made c = c .before .before
 
--- an index below it
-inside : (c : tie.After-entry-at Inv-loop μ-loop) → loop-at c .loop .t < byteAt (m (given c)) evidenceCountAt
-inside c = let counted = count-read (loop-at c .before) in omega arith
+abbrev given : tie.In-loop Inv-loop μ-loop → tie.Start Inv-loop μ-loop
+given c = started (made c)
 
--- the place of its entry
-place : (c : tie.After-entry-at Inv-loop μ-loop) → c .entry-at .result ≡ evidenceEntryAt (loop-at c .loop .t)
-unfolding evidenceEntryAt
-place c =
-    c .entry-at .ensures ∙ ap (λ (e : Entries). entryAt (e .start) (e .length) (loop-at c .loop .t)) (loop-at c .before .evidence-entries .ensures)
+-- its index, below the count
+abbrev index : tie.In-loop Inv-loop μ-loop → ℕ
+index c = c .before .loop .t
+
+inside : (c : tie.In-loop Inv-loop μ-loop) → index c < byteAt (m (given c)) evidenceCountAt
+inside c = let counted = count-read (made c) in omega arith
 
 -- the pair of its entry
 pair-is : (c : tie.After-pair-at Inv-loop μ-loop)
-    → let at = evidenceEntryAt (loop-at (c .before) .loop .t) in c .pair-at .result ≡ pairPlaces (byteAt (m (given (c .before))) (at + 1)) at
+    → let turn = c .before in c .pair-at .result ≡ pairPlaces (m (given turn)) (evidenceEntryAt (index turn))
+unfolding evidenceEntryAt
 pair-is c =
-    let s = given (c .before) in
-    c .pair-at .ensures ∙ ap (λ (at : ℕ). pairPlaces (byteAt (m s) (at + 1)) at) (place (c .before))
+    let turn = c .before in
+    c .pair-at .ensures ∙ ap (λ (e : Entries). pairPlaces (m (given turn)) (commandPlace e (index turn))) (listed (made turn))
 
-abbrev entry-of : tie.After-pair-verdict Inv-loop μ-loop → tie.After-entry-at Inv-loop μ-loop
-entry-of c = c .before .before
+abbrev turn-of : tie.After-pair-verdict Inv-loop μ-loop → tie.In-loop Inv-loop μ-loop
+turn-of c = c .before .before
 
 -- the verdict on it
 said : (c : tie.After-pair-verdict Inv-loop μ-loop)
-    → let s = given (entry-of c) in c .pair-verdict .result .number ≡ signatureNumber (pairCheck (check s) (m s) (loop-at (entry-of c) .loop .t))
+    → let s = given (turn-of c) in c .pair-verdict .result .number ≡ signatureNumber (pairCheck (check s) (m s) (index (turn-of c)))
 said c =
-    let s = given (entry-of c) in
+    let s = given (turn-of c) in
     c .pair-verdict .ensures ∙ ap (λ (p : Pair). signatureNumber (pairChecks (check s) (m s) p)) (pair-is (c .before))
 
 evidence-count-at-requires : tie.Need-evidence-count-at-requires Inv-loop μ-loop
@@ -92,51 +97,45 @@ evidence-entries-requires c κs = search needs
 loop-holds : tie.Need-loop-holds Inv-loop μ-loop
 loop-holds c = passed-none
 
-entry-at-requires : tie.Need-entry-at-requires Inv-loop μ-loop
-unfolding evidenceEntryLength signatureLength
-entry-at-requires c κs =
-    let made = c .before .before in
-    let few = made .before .number-at .ensures .1 in
-    rw (made .evidence-entries .ensures) (omega arith)
-
 pair-at-requires : tie.Need-pair-at-requires Inv-loop μ-loop
+unfolding evidenceLength evidenceEntryAt evidenceEntryLength signatureLength
 pair-at-requires c κs =
     let s = given c in
-    subst (λ (at : ℕ). at + evidenceEntryLength ≤ length (m s)) (sym (place c))
-    (entry-inside (m s) (byteAt (m s) evidenceCountAt) (loop-at c .loop .t) (s .pre .2 .size) (inside c))
+    let t = index c in
+    let size = s .pre .2 .size in
+    subst (λ (e : Entries). Inside e (m s) × (t < e .count) × (commandPlace e t + evidenceEntryLength ≤ length (m s)))
+    (sym (listed (made c))) (omega arith, inside c, entry-inside (m s) _ t size (inside c))
 
 pair-verdict-requires : tie.Need-pair-verdict-requires Inv-loop μ-loop
 pair-verdict-requires c κs =
-    let entry = c .before in
-    let s = given entry in
-    let fits = pair-inside (check s) (n s) (m s) (s .pre .2) (loop-at entry .loop .t) (inside entry) in
+    let turn = c .before in
+    let s = given turn in
+    let fits = pair-inside (check s) (n s) (m s) (s .pre .2) (index turn) (inside turn) in
     (s .pre .0, s .pre .1, subst (λ (p : Pair). PairInside (n s) p (m s)) (sym (pair-is c)) fits)
 
 returns : tie.Need-returns Inv-loop μ-loop
 returns c =
     let known = c .before in
     let v = known .before in
-    let entry = entry-of v in
-    let s = given entry in
-    checked-not (check s) (n s) (m s) (s .pre .2) (loop-at entry .loop .t) (v .pair-verdict .result .number) (inside entry) (said v) (c .if1 .taken)
+    let turn = turn-of v in
+    let s = given turn in
+    checked-not (check s) (n s) (m s) (s .pre .2) (index turn) (v .pair-verdict .result .number) (inside turn) (said v) (c .if1 .taken)
+
+abbrev judged : tie.Else1 Inv-loop μ-loop → tie.After-pair-verdict Inv-loop μ-loop
+judged c = c .before .before
 
 add-t : tie.Need-add-t Inv-loop μ-loop
 add-t c = omega arith
 
 loop-less : tie.Need-loop-less Inv-loop μ-loop
-loop-less c =
-    let known = c .before in
-    let counted = count-read (loop-at (entry-of (known .before)) .before) in
-    omega arith
+loop-less c = let below = inside (turn-of (judged c)) in omega arith
 
 loop-again : tie.Need-loop-again Inv-loop μ-loop
 loop-again c =
-    let known = c .before in
-    let v = known .before in
-    let entry = entry-of v in
-    let s = given entry in
-    let at-loop = loop-at entry in
-    checked-more (check s) (n s) (m s) (s .pre .2) (at-loop .loop .t) (v .pair-verdict .result .number) (inside entry) (said v) (at-loop .loop .inv) (c .if1 .left)
+    let v = judged c in
+    let turn = turn-of v in
+    let s = given turn in
+    checked-more (check s) (n s) (m s) (s .pre .2) (index turn) (v .pair-verdict .result .number) (inside turn) (said v) (turn .before .loop .inv) (c .if1 .left)
 
 returns-2 : tie.Need-returns-2 Inv-loop μ-loop
 returns-2 c =
@@ -156,7 +155,6 @@ evidence-verdict-spec =
     cast-count
     evidence-entries-requires
     loop-holds
-    entry-at-requires
     pair-at-requires
     pair-verdict-requires
     returns

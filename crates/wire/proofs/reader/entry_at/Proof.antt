@@ -5,7 +5,7 @@ use native.Mathlib.Omega.{arith}
 use lib.ListN.{length}
 use borrow.Author.Needs.{needs}
 use denote.Ref.{now}
-use Rattle.protocol.specs.Layout.{signatureLength, fullCountAt, fullEntryLength, fullEntryAt}
+use Rattle.protocol.specs.Layout.{signatureLength, entrySeatAt, entryHeldAt, fullCountAt, fullEntryLength, fullEntryAt}
 use Rattle.protocol.specs.Message.{byteAt}
 use Rattle.layout.specs.declared.Entries.{Entries}
 use Rattle.wire.specs.Reading.{commandPlace, seatPlace, Inside}
@@ -40,14 +40,14 @@ room c = omega (arith, end-read (c .before))
 abbrev made : tie.Else3 → tie.After-full-entries
 made c = c .before .before .before
 
--- the entry that is asked for: its place, and its seat
-place-read : (c : tie.After-entry-at2) → c .entry-at2 .result ≡ fullEntryAt (begun (made (c .before .before) .before) .args .next)
+-- the entry that is asked for: the place of its content, and its seat
+place-read : (c : tie.After-entry-held-at) → c .entry-held-at .result ≡ fullEntryAt (begun (made (c .before .before) .before) .args .next) + entryHeldAt
 unfolding fullEntryAt
 place-read c =
     let e = made (c .before .before) in
-    c .entry-at2 .ensures ∙ ap (λ (x : Entries). commandPlace x (begun (e .before) .args .next)) (e .full-entries .ensures)
+    c .entry-held-at .ensures ∙ ap (λ (x : Entries). commandPlace x (begun (e .before) .args .next) + entryHeldAt) (e .full-entries .ensures)
 
-seat-read : (c : tie.After-seat-of-entry) → let s = begun (made (c .before) .before) .args in c .seat-of-entry .result ≡ byteAt (now (s .full)) (fullEntryAt (s .next) + 1)
+seat-read : (c : tie.After-seat-of-entry) → let s = begun (made (c .before) .before) .args in c .seat-of-entry .result ≡ byteAt (now (s .full)) (fullEntryAt (s .next) + entrySeatAt)
 unfolding fullEntryAt
 seat-read c =
     let e = made (c .before) in
@@ -83,15 +83,11 @@ seat-of-entry-requires c κs =
     let args = begun (e .before) .args in
     subst (λ (x : Entries). Inside x (now (args .full)) × (args .next < x .count)) (sym (e .full-entries .ensures)) (omega arith, omega arith)
 
-entry-at-requires-2 : tie.Need-entry-at-requires-2
+entry-held-at-requires : tie.Need-entry-held-at-requires
 unfolding fullEntryLength signatureLength
-entry-at-requires-2 c κs =
+entry-held-at-requires c κs =
     let e = made (c .before) in
-    subst (λ (x : Entries). commandPlace x (begun (e .before) .args .next) < 2 ^ 64) (sym (e .full-entries .ensures)) (omega arith)
-
-add-t9 : tie.Need-add-t9
-unfolding fullEntryAt fullEntryLength signatureLength
-add-t9 c = let e = place-read c in omega arith
+    subst (λ (x : Entries). commandPlace x (begun (e .before) .args .next) + entryHeldAt < 2 ^ 64) (sym (e .full-entries .ensures)) (omega arith)
 
 returns-4 : tie.Need-returns-4
 returns-4 c =
@@ -100,7 +96,7 @@ returns-4 c =
     let e = counted (within .before .before) in
     let args = begun e .args in
     entry-found (now (args .full)) (args .next) (e .number-at .result) (count-read e) (room (within .before)) (within .if3 .left)
-    (found .seat-of-entry .result) _ (seat-read found) (ap (λ (i : ℕ). i + 2) (place-read c))
+    (found .seat-of-entry .result) _ (seat-read found) (place-read c)
 
 pub entry-at-spec : {M : Type 1} → statement M
 entry-at-spec =
@@ -115,6 +111,5 @@ entry-at-spec =
     returns-2
     returns-3
     seat-of-entry-requires
-    entry-at-requires-2
-    add-t9
+    entry-held-at-requires
     returns-4)
