@@ -7,7 +7,7 @@ ghost use lib.ListN.{length};
 ghost use Rattle.fips180.specs.Constants.{constants};
 ghost use Rattle.refusal.specs.Refusal.{firstOf};
 ghost use Rattle.protocol.specs.Layout.{valueLength, signatureLength, valueAt, evidenceEntryLength};
-ghost use Rattle.protocol.specs.Message.{byteAt, readSignature, read};
+ghost use Rattle.protocol.specs.Message.{byteAt, read};
 ghost use Rattle.protocol.specs.Refusals.{stranger, badSignature, SIGNATURE};
 ghost use Rattle.protocol.specs.Signatures.{signedBytes, checks, signatureNumber};
 ghost use Rattle.wire.specs.Reading.{kindOf};
@@ -59,15 +59,6 @@ pub(crate) struct Place {
     pub signature: usize,
 }
 
-// The signature at index `at` of a message.
-fn signature_at(m: &[u8], at: usize) -> &[u8]
-    requires { ⌜ at + signatureLength ≤ length (now m) ⌝ }
-    ensures { λ r. ⌜ now r ≡ readSignature at (now (m .entry)) ⌝ }
-{
-    let end = at + layout::signature_length();
-    &m[at..end]
-}
-
 // Verdict on a seat's signature in a message.
 fn place_verdict(
     k: &[u32; 64],
@@ -82,7 +73,7 @@ fn place_verdict(
     ensures { λ v. ⌜ v .number ≡ signatureNumber (placeChecks (checks (now (keys .entry)) round) (now (m .entry)) seat place) ⌝ }
 {
     let value = wire::values::value_at(m, place.value);
-    let signature = signature_at(m, place.signature);
+    let signature = store::slots::signature_at(m, place.signature);
     seat_verdict(k, n, round, keys, seat, &value, signature)
 }
 
