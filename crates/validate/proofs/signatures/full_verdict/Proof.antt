@@ -305,6 +305,7 @@ module _ {M : Type 1} (𝓤 : URA M) (H : Heap 𝓤) (A : Atoms 𝓤) (W : Given
 
   -- ---- the passes
 
+  -- the verdict before the first entry
   abbrev none : Verdict
   none = record { number = 0 }
 
