@@ -1,19 +1,20 @@
 -- Bytes and signatures of a message with no stranger in it, kind by kind.
 -- Assumes nothing.
 use mathlib.Core.Path.{_≡_, refl, sym, ap, _∙_}
-use mathlib.Core.Bool.{Bool, true, false, not, _&&_, and-eq-true-iff, false≢true}
+use mathlib.Core.Bool.{Bool, true, false, _&&_, and-eq-true-iff, false≢true}
 use mathlib.Core.List.{List, [], _∷_}
 use Prim.Native.Nat.{ℕ, _+_, _≤_, _<_}
 use native.Mathlib.Decide.{decLt}
+use native.Mathlib.Numerals.{add-one}
 use native.Mathlib.Omega.{arith}
 use lib.Dec.{ltb, eqb}
 use lib.ListN.{length}
-use borrow.Author.Tests.{le-leb, lt-ltb, le-ltb, ltb-true, not-false}
+use borrow.Author.Tests.{le-leb, lt-ltb, le-ltb, ltb-true, eqb-true, eqb-false, not-false}
 use Rattle.refusal.specs.Refusal.{firstOf}
 use Rattle.quorum.specs.Quorum.{k}
 use Rattle.protocol.specs.Layout.{valueLength, signatureLength, seatAt, valueAt, submitSignatureAt, submitLength, entrySeatAt, entryHeldAt, fullCountAt, fullEntryLength, fullEntryAt, fullLength, evidenceCountAt, evidenceEntryLength, evidenceEntryAt, evidenceLength}
 use Rattle.protocol.specs.Entries.{eachBelow, readEntry}
-use Rattle.protocol.specs.EntriesLaws.{Passed, passed-none, passed-next, passed-all, each-not}
+use Rattle.protocol.specs.EntriesLaws.{Passed, passed-next, passed-all, each-not, each-at, each-all}
 use Rattle.protocol.specs.Message.{Entry, fullForm, byteAt, readValue, readSignature, read, readSubmit, readNotice, readFull, readEvidence, seatsOf, signed}
 use Rattle.protocol.specs.MessageLaws.{submit-fits, full-fits, evidence-fits}
 use Rattle.protocol.specs.Refusals.{Checks, every, isFull, isEvidence, stranger, badSignature, SIGNATURE}
@@ -93,12 +94,6 @@ module _ (n round : ℕ) (bytes : List ℕ) where
 
 -- ---- verdicts
 
--- the number of row 14, for signatures that are bad or not
-bad-row : (bad : Bool) → signatureNumber (not bad) ≡ firstOf ((14, bad) ∷ [])
-unfolding signatureNumber firstOf
-bad-row true = refl
-bad-row false = refl
-
 module _ (checks : Checks) (n : ℕ) (bytes : List ℕ) where
   abbrev row : ℕ
   row = firstOf (SIGNATURE checks (read n bytes) ∷ [])
@@ -107,9 +102,6 @@ module _ (checks : Checks) (n : ℕ) (bytes : List ℕ) where
   pub submit-row : SubmitTaken n bytes → (p v q : ℕ) → p ≡ seatAt → v ≡ valueAt → q ≡ submitSignatureAt → (seat number : ℕ) → seat ≡ byteAt bytes p
       → number ≡ signatureNumber (checks seat (readValue v bytes) (readSignature q bytes)) → number ≡ row
   submit-row h p v q f g i seat number e j = j ∙ rw (h .says, submit-bad checks bytes, e, f, g, i) (signature-row _)
-
-  pub full-row : (bad : Bool) → bad ≡ badSignature checks (read n bytes) → (number : ℕ) → number ≡ signatureNumber (not bad) → number ≡ row
-  full-row bad e number q = q ∙ rw e (bad-row (badSignature checks (read n bytes)))
 
   -- NOTICE has none, and garbled bytes neither
   pub notice-row : (t : Kind) → t ≡ kindOf (read n bytes) → t ≡ kind.Notice → 0 ≡ row
@@ -179,34 +171,39 @@ abbrev pub Fits : ℕ → List ℕ → Next → Type 0
 Fits n bytes (next.Entry seat at) = (seat < n) × (at + signatureLength ≤ length bytes)
 Fits n bytes next.End = Unit {0}
 
--- an entry was found, and its signature checks over the message's value
+-- the signature of the entry found checks over the message's value; at the end there is none to check
 unfoldable pub foundChecks : Checks → List ℕ → Next → Bool
 foundChecks checks bytes (next.Entry seat at) = checks seat (readValue valueAt bytes) (readSignature at bytes)
-foundChecks checks bytes next.End = false
+foundChecks checks bytes next.End = true
 
-unfoldable pub isEntry : Next → Bool
-isEntry (next.Entry seat at) = true
-isEntry next.End = false
-
-zero-accepts : (b : Bool) → eqb (signatureNumber b) 0 ≡ b
-unfolding signatureNumber
-zero-accepts true = refl
-zero-accepts false = refl
+-- a reader goes on where it found an entry and the verdict on those before has the number 0
+unfoldable pub goesOn : Next → ℕ → Bool
+goesOn (next.Entry seat at) number = eqb number 0
+goesOn next.End number = false
 
 -- the cases of a match on it
-module _ (s : Next) (n : ℕ) (bytes : List ℕ) where
-  module _ (seat at : ℕ) (e : s ≡ next.Entry seat at) where
-    pub fits-entry : Fits n bytes s → (seat < n) × (at + signatureLength ≤ length bytes)
-    fits-entry f = rw e at f
+module _ (s : Next) where
+  module _ (n : ℕ) (bytes : List ℕ) where
+    module _ (seat at : ℕ) (e : s ≡ next.Entry seat at) where
+      pub fits-entry : Fits n bytes s → (seat < n) × (at + signatureLength ≤ length bytes)
+      fits-entry f = rw e at f
 
-    pub checks-entry : (checks : Checks) (v : ℕ) → v ≡ valueAt → (number : ℕ) → number ≡ signatureNumber (checks seat (readValue v bytes) (readSignature at bytes))
-        → eqb number 0 ≡ foundChecks checks bytes s
-    unfolding foundChecks
-    checks-entry checks v f number q = rw (e, q, f) (zero-accepts (checks seat (readValue valueAt bytes) (readSignature at bytes)))
+      pub checks-entry : (checks : Checks) (v : ℕ) → v ≡ valueAt → (number : ℕ) → number ≡ signatureNumber (checks seat (readValue v bytes) (readSignature at bytes))
+          → number ≡ signatureNumber (foundChecks checks bytes s)
+      unfolding foundChecks
+      checks-entry checks v f number q = rw (e, q, f)
 
-  pub checks-end : s ≡ next.End → (checks : Checks) → false ≡ foundChecks checks bytes s
-  unfolding foundChecks
-  checks-end e checks = rw e
+    pub checks-end : s ≡ next.End → (checks : Checks) → 0 ≡ signatureNumber (foundChecks checks bytes s)
+    unfolding foundChecks signatureNumber
+    checks-end e checks = rw e
+
+  pub goes-entry : (seat at : ℕ) → s ≡ next.Entry seat at → (number : ℕ) → eqb number 0 ≡ goesOn s number
+  unfolding goesOn
+  goes-entry seat at e number = rw e
+
+  pub goes-end : s ≡ next.End → (number : ℕ) → false ≡ goesOn s number
+  unfolding goesOn
+  goes-end e number = rw e
 
 headSeat : List Entry → ℕ
 headSeat [] = 0
@@ -230,25 +227,35 @@ module _ (n : ℕ) (bytes : List ℕ) (h : FullTaken n bytes) where
   unfolding nthEntry fullLength
   entry-past i l = rw (h .count, le-leb (fullEntryAt (k n)) (length bytes) (omega (arith, h .size)), le-ltb i (k n) l)
 
--- state of a reader that found s at index t: all entries before it check
-pub record Walked (checks : Checks) (n : ℕ) (bytes : List ℕ) (t : ℕ) (s : Next) : Type 0 where
+-- state of a reader that found s at index t, with the number of the verdict on the entries before it
+pub record Walked (checks : Checks) (n : ℕ) (bytes : List ℕ) (t : ℕ) (s : Next) (number : ℕ) : Type 0 where
   pub found : Found t bytes s
-  pub before : Passed (entryCheck checks bytes) (k n) t
+  pub within : t ≤ k n
+  pub before : number ≡ signatureNumber (eachBelow (entryCheck checks bytes) t)
 
 module _ (checks : Checks) (n : ℕ) (bytes : List ℕ) (h : FullTaken n bytes) where
-  -- one of the signatures doesn't check, or all do
-  full-not : (t : ℕ) → t < k n → entryCheck checks bytes t ≡ false → true ≡ badSignature checks (read n bytes)
-  full-not t l e = rw (h .says, full-bad checks bytes n, each-not (entryCheck checks bytes) t (k n) l e)
+  abbrev each : ℕ → Bool
+  each = eachBelow (entryCheck checks bytes)
 
-  full-all : eachBelow (entryCheck checks bytes) (k n) ≡ true → false ≡ badSignature checks (read n bytes)
-  full-all e = rw (h .says, full-bad checks bytes n, e)
+  pub walk-starts : (s : Next) → Found 0 bytes s → Walked checks n bytes 0 s 0
+  unfolding eachBelow signatureNumber
+  walk-starts s f = record { found = f; within = omega arith; before = refl }
 
-  pub walk-starts : (s : Next) → Found 0 bytes s → Walked checks n bytes 0 s
-  walk-starts s f = record { found = f; before = passed-none }
+  -- the verdict on all entries is the message's
+  full-row : (number : ℕ) → number ≡ signatureNumber (each (k n)) → number ≡ row checks n bytes
+  full-row number e = e ∙ rw (h .says, full-bad checks bytes n) (signature-row (each (k n)))
 
-  module _ (t : ℕ) where
+  -- a failure among the first entries is one among more
+  stays-bad : (t u : ℕ) → t ≤ u → each t ≡ false → each u ≡ false
+  stays-bad t u l e = go (each u) refl
+    where
+      go : (b : Bool) → each u ≡ b → b ≡ false
+      go false q = refl
+      go true q = absurd (false≢true (sym e ∙ each-all (entryCheck checks bytes) t (λ i b. each-at (entryCheck checks bytes) i u (omega arith) q)))
+
+  module _ (t number : ℕ) where
     -- the answer of a reader: an entry below k, and none at k
-    found-entry : (seat at : ℕ) → Walked checks n bytes t (next.Entry seat at) → (t < k n) × (seat ≡ byteAt bytes (fullEntryAt t + entrySeatAt)) × (at ≡ fullEntryAt t + entryHeldAt)
+    found-entry : (seat at : ℕ) → Walked checks n bytes t (next.Entry seat at) number → (t < k n) × (seat ≡ byteAt bytes (fullEntryAt t + entrySeatAt)) × (at ≡ fullEntryAt t + entryHeldAt)
     unfolding entryOf readEntry fullForm headSeat
     found-entry seat at w = go (decLt t (k n))
       where
@@ -258,16 +265,16 @@ module _ (checks : Checks) (n : ℕ) (bytes : List ℕ) (h : FullTaken n bytes) 
             (l, ap (λ (es : List Entry). headSeat es) same, w .found .1)
         go (no l) = absurd (ne-nil (w .found .0 ∙ entry-past n bytes h t (omega arith)))
 
-    found-end : Walked checks n bytes t next.End → t ≡ k n
+    found-end : Walked checks n bytes t next.End number → t ≡ k n
     unfolding entryOf
     found-end w = go (decLt t (k n))
       where
         go : Dec (t < k n) → t ≡ k n
         go (yes l) = absurd (ne-nil (sym (w .found .0 ∙ entry-below n bytes h t l)))
-        go (no l) = let m = w .before .within in omega arith
+        go (no l) = let m = w .within in omega arith
 
     -- its seat is one of n, and its signature lies in the message
-    pub walk-fits : (s : Next) → Walked checks n bytes t s → Fits n bytes s
+    pub walk-fits : (s : Next) → Walked checks n bytes t s number → Fits n bytes s
     unfolding fullLength fullEntryAt fullEntryLength signatureLength
     walk-fits next.End w = tt
     walk-fits (next.Entry seat at) w =
@@ -275,23 +282,25 @@ module _ (checks : Checks) (n : ℕ) (bytes : List ℕ) (h : FullTaken n bytes) 
         (rw (is .1) (h .known t (is .0)), omega (arith, is .0, is .2, h .size))
 
     -- the check of an entry found is that of its index
-    entry-checked : (seat at : ℕ) → Walked checks n bytes t (next.Entry seat at) → entryCheck checks bytes t ≡ checks seat (readValue valueAt bytes) (readSignature at bytes)
+    entry-checked : (seat at : ℕ) → Walked checks n bytes t (next.Entry seat at) number → entryCheck checks bytes t ≡ checks seat (readValue valueAt bytes) (readSignature at bytes)
     entry-checked seat at w = let is = found-entry seat at w in rw (is .1, is .2)
 
-    -- it checks, and the reader is moved on
-    pub walk-on : (s : Next) → Walked checks n bytes t s → foundChecks checks bytes s ≡ true → (t < k n) × ((s′ : Next) → Found (t + 1) bytes s′ → Walked checks n bytes (t + 1) s′)
-    unfolding foundChecks
+    -- the entry found is checked, and the reader is moved on
+    pub walk-on : (s : Next) → Walked checks n bytes t s number → goesOn s number ≡ true
+        → (t < k n) × ((s′ : Next) (number′ : ℕ) → number′ ≡ signatureNumber (foundChecks checks bytes s) → Found (t + 1) bytes s′ → Walked checks n bytes (t + 1) s′ number′)
+    unfolding goesOn foundChecks eachBelow
     walk-on next.End w e = absurd (false≢true e)
     walk-on (next.Entry seat at) w e =
-        let is = found-entry seat at w in (
+        let is = found-entry seat at w in
+        let good = accepts (each t) number (w .before) (eqb-true number 0 e) in (
           is .0,
-          λ s′ f. record { found = f; before = passed-next (w .before) (is .0) (entry-checked seat at w ∙ e) },
+          λ s′ number′ q f. record { found = f; within = omega (arith, is .0); before = rw (add-one, good, entry-checked seat at w) q },
         )
 
-    -- it doesn't, or there is none: the reader stands before an entry where a signature is bad
-    pub walk-ends : (s : Next) → Walked checks n bytes t s → foundChecks checks bytes s ≡ false → isEntry s ≡ badSignature checks (read n bytes)
-    unfolding foundChecks isEntry
-    walk-ends next.End w e = full-all (passed-all (w .before) (omega (arith, found-end w)))
+    -- no entry was found, or one before it doesn't check: the verdict is the message's
+    pub walk-ends : (s : Next) → Walked checks n bytes t s number → goesOn s number ≡ false → number ≡ row checks n bytes
+    unfolding goesOn
+    walk-ends next.End w e = full-row number (w .before ∙ ap (λ (i : ℕ). signatureNumber (each i)) (found-end w))
     walk-ends (next.Entry seat at) w e =
-        let is = found-entry seat at w in
-        full-not t (is .0) (entry-checked seat at w ∙ e)
+        let bad = rejects (each t) number (w .before) (eqb-false number 0 e) .0 in
+        full-row number (w .before ∙ ap signatureNumber (bad ∙ sym (stays-bad t (k n) (w .within) bad)))

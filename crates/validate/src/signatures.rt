@@ -7,12 +7,12 @@ ghost use lib.ListN.{length};
 ghost use Rattle.fips180.specs.Constants.{constants};
 ghost use Rattle.refusal.specs.Refusal.{firstOf};
 ghost use Rattle.protocol.specs.Layout.{valueLength, signatureLength, valueAt, evidenceEntryLength};
-ghost use Rattle.protocol.specs.Message.{readSignature, read};
-ghost use Rattle.protocol.specs.Refusals.{stranger, badSignature, SIGNATURE};
+ghost use Rattle.protocol.specs.Message.{read};
+ghost use Rattle.protocol.specs.Refusals.{stranger, SIGNATURE};
 ghost use Rattle.protocol.specs.Signatures.{signedBytes, checks, signatureNumber};
 ghost use Rattle.wire.specs.Reading.{kindOf, commandPlace, Inside};
 ghost use Rattle.validate.specs.Given.{Given};
-ghost use Rattle.validate.specs.Entries.{SubmitTaken, FullTaken, EvidenceTaken, Fits, foundChecks, isEntry};
+ghost use Rattle.validate.specs.Entries.{SubmitTaken, FullTaken, EvidenceTaken, Fits, foundChecks, goesOn};
 ghost use Rattle.validate.specs.Places.{PlaceInside, PairInside, placeChecks, pairChecks, pairPlaces};
 use crate::keys::seat_key;
 use layout::Entries;
@@ -61,15 +61,6 @@ pub(crate) struct Place {
     pub signature: usize,
 }
 
-// The signature at index `at` of a message.
-fn signature_at(m: &[u8], at: usize) -> &[u8]
-    requires { ⌜ at + signatureLength ≤ length (now m) ⌝ }
-    ensures { λ r. ⌜ now r ≡ readSignature at (now (m .entry)) ⌝ }
-{
-    let end = at + layout::signature_length();
-    &m[at..end]
-}
-
 // Verdict on a seat's signature in a message.
 fn place_verdict(
     k: &[u32; 64],
@@ -84,7 +75,7 @@ fn place_verdict(
     ensures { λ v. ⌜ v .number ≡ signatureNumber (placeChecks (checks (now (keys .entry)) round) (now (m .entry)) seat place) ⌝ }
 {
     let value = wire::values::value_at(m, place.value);
-    let signature = signature_at(m, place.signature);
+    let signature = store::slots::signature_at(m, place.signature);
     seat_verdict(k, n, round, keys, seat, &value, signature)
 }
 
@@ -104,10 +95,10 @@ fn submit_verdict(k: &[u32; 64], n: u32, round: u32, keys: &[u8], m: &[u8]) -> V
 
 // ---- FULL
 
-// Whether a reader found an entry of FULL whose signature checks.
-fn found_checks(k: &[u32; 64], n: u32, round: u32, keys: &[u8], m: &[u8], found: Next) -> bool
+// Verdict on the entry that a reader found; at the end, none is refused.
+fn found_verdict(k: &[u32; 64], n: u32, round: u32, keys: &[u8], m: &[u8], found: Next) -> Verdict
     requires { ⌜ (now k ≡ constants) × Given n round (now keys) × (valueAt + valueLength ≤ length (now m)) × Fits n (now m) found ⌝ }
-    ensures { λ r. ⌜ r ≡ foundChecks (checks (now (keys .entry)) round) (now (m .entry)) found ⌝ }
+    ensures { λ v. ⌜ v .number ≡ signatureNumber (foundChecks (checks (now (keys .entry)) round) (now (m .entry)) found) ⌝ }
 {
     match found {
         Next::Entry { seat, signature } => {
@@ -115,46 +106,39 @@ fn found_checks(k: &[u32; 64], n: u32, round: u32, keys: &[u8], m: &[u8], found:
                 value: layout::value_at(),
                 signature,
             };
-            let v = place_verdict(k, n, round, keys, m, seat, place);
-            v.number == 0
+            place_verdict(k, n, round, keys, m, seat, place)
         },
-        Next::End => false,
+        Next::End => Verdict { number: 0 },
     }
 }
 
-// Whether a reader found an entry.
-fn is_entry(found: Next) -> bool
-    ensures { λ r. ⌜ r ≡ isEntry found ⌝ }
+// Whether a reader goes on: it found an entry, and the verdict on those before it is 0.
+fn goes_on(found: Next, v: Verdict) -> bool
+    ensures { λ r. ⌜ r ≡ goesOn found (v .number) ⌝ }
 {
     match found {
         Next::Entry {
             seat: _,
             signature: _,
-        } => true,
+        } => v.number == 0,
         Next::End => false,
     }
 }
 
-// Whether a signature of FULL doesn't check. A reader goes on while they check, to the first entry that doesn't or to the end.
-fn bad_in_full(k: &[u32; 64], n: u32, round: u32, keys: &[u8], m: &[u8]) -> bool
-    requires { ⌜ (now k ≡ constants) × Given n round (now keys) × FullTaken n (now m) ⌝ }
-    ensures { λ r. ⌜ r ≡ badSignature (checks (now (keys .entry)) round) (read n (now (m .entry))) ⌝ }
-{
-    let mut reader = wire::reader::open(m);
-    let mut found = wire::reader::entry(reader);
-    while found_checks(k, n, round, keys, m, found) {
-        reader = wire::reader::advance(reader);
-        found = wire::reader::entry(reader);
-    }
-    is_entry(found)
-}
-
+// Verdict on the signatures of FULL: a reader goes from entry to entry, to the end or past the first that doesn't check.
 fn full_verdict(k: &[u32; 64], n: u32, round: u32, keys: &[u8], m: &[u8]) -> Verdict
     requires { ⌜ (now k ≡ constants) × Given n round (now keys) × FullTaken n (now m) ⌝ }
     ensures { λ v. ⌜ v .number ≡ firstOf (SIGNATURE (checks (now (keys .entry)) round) (read n (now (m .entry))) ∷ []) ⌝ }
 {
-    let bad = bad_in_full(k, n, round, keys, m);
-    protocol::signature_verdict(!bad)
+    let mut reader = wire::reader::open(m);
+    let mut found = wire::reader::entry(reader);
+    let mut v = Verdict { number: 0 };
+    while goes_on(found, v) {
+        v = found_verdict(k, n, round, keys, m, found);
+        reader = wire::reader::advance(reader);
+        found = wire::reader::entry(reader);
+    }
+    v
 }
 
 // ---- EVIDENCE

@@ -1,9 +1,9 @@
--- `validate::signatures::found_checks` meets its contract.
+-- `validate::signatures::found_verdict` meets its contract.
 use native.Mathlib.Omega.{arith}
 use borrow.Author.Needs.{needs}
 use Rattle.validate.specs.Entries.{fits-entry, checks-entry, checks-end}
-use Rattle.validate.proofs.signatures.found_checks.Statement.{statement}
-use Rattle.validate.proofs.signatures.found_checks.Tie as tie
+use Rattle.validate.proofs.signatures.found_verdict.Statement.{statement}
+use Rattle.validate.proofs.signatures.found_verdict.Tie as tie
 
 place-verdict-requires : tie.Need-place-verdict-requires
 place-verdict-requires c κs =
@@ -15,8 +15,8 @@ place-verdict-requires c κs =
 enum-told : tie.Need-enum-told
 enum-told c = search needs
 
-pub found-checks-spec : {M : Type 1} → statement M
-found-checks-spec =
+pub found-verdict-spec : {M : Type 1} → statement M
+found-verdict-spec =
     tie.close
     (tie.spec
     (λ c. search needs)

@@ -1,0 +1,11 @@
+-- `validate::signatures::goes_on` meets its contract.
+use borrow.Author.Needs.{needs}
+use Rattle.validate.specs.Entries.{goes-entry, goes-end}
+use Rattle.validate.proofs.signatures.goes_on.Statement.{statement}
+use Rattle.validate.proofs.signatures.goes_on.Tie as tie
+
+enum-told : tie.Need-enum-told
+enum-told c = search needs
+
+pub goes-on-spec : {M : Type 1} → statement M
+goes-on-spec = tie.close (tie.spec enum-told (λ c. search needs) (λ c. search goes-entry) (λ c. search goes-end))
