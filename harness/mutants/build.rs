@@ -27,14 +27,14 @@ const PARTS: [Part; 4] = [
         subject: "Calls",
         calls: "calls_of",
         files: &["calls", "lms"],
-        whole: "pub use crate::once::lmots; pub use harness::reference::{layout, record};
+        whole: "pub use crate::once::lmots; pub use harness::reference::{layout, record, refusals};
             pub mod verdicts { pub use super::lms::verify; }",
     },
     Part {
         subject: "Calls",
         calls: "calls_of",
         files: &["calls", "lms", "lmots"],
-        whole: "pub use harness::reference::{layout, record, sha256};
+        whole: "pub use harness::reference::{layout, record, refusals, sha256};
             pub mod verdicts { pub use super::lms::verify; }",
     },
 ];

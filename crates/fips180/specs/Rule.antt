@@ -7,7 +7,7 @@ use mathlib.Core.List.{List, [], _∷_, _++_}
 use Prim.Native.Nat.{ℕ, zero, suc, _+_, _*_, _%_, _^_, _≤_, _<_}
 use lib.Dec.{T, leb, ltb, eqb, leb→le, ltb→lt}
 use lib.ListN.{length, getD}
-use Rattle.octets.specs.Table.{every, at}
+use Rattle.octets.specs.Table.{every, every-at}
 use Rattle.fips180.specs.Constants.{constants, initial}
 
 -- ---- the rule
@@ -96,7 +96,7 @@ unfolding primes primesBelow prime divided constants initial
 sixty-four = (refl, refl, refl)
 
 pub constants-rule : (t : ℕ) → t < length constants → FirstBits 3 (getD primes t 0) (getD constants t 0)
-constants-rule t h = test-says 3 t (getD constants t 0) (at (test 3) constants constants-pass t h)
+constants-rule t h = test-says 3 t (getD constants t 0) (every-at (test 3) constants constants-pass t h)
 
 pub initial-rule : (t : ℕ) → t < length initial → FirstBits 2 (getD primes t 0) (getD initial t 0)
-initial-rule t h = test-says 2 t (getD initial t 0) (at (test 2) initial initial-pass t h)
+initial-rule t h = test-says 2 t (getD initial t 0) (every-at (test 2) initial initial-pass t h)

@@ -38,15 +38,15 @@ pub starts-next : (I seed z₀ z x z′ : List ℕ) (q i : ℕ) → z ≡ patch 
 starts-next I seed z₀ z x z′ q i e k p =
     written-next (start I q seed) i z₀ z (bytes x) z′ (length-joined 32 _ i (λ j _. length-start I q seed j)) e k p
 
-zeros : (i n a : ℕ) → i < n → getD (replicate n a) i 0 ≡ a
-zeros i n a h = getD-replicate n i a 0 h
+replicate-at : (i n a : ℕ) → i < n → getD (replicate n a) i 0 ≡ a
+replicate-at i n a h = getD-replicate n i a 0 h
 
 pub ordered-signed : (ends : List ℕ) → ((i : ℕ) → i < 67 → getD ends i 0 ≤ 255) → Ordered (replicate 67 0) ends
-ordered-signed ends f = record { before = λ i h. omega (arith, zeros i 67 0 h); within = f }
+ordered-signed ends f = record { before = λ i h. omega (arith, replicate-at i 67 0 h); within = f }
 
 pub ordered-completed : (places : List ℕ) (w top : ℕ) → top ≡ 2 ^ w - 1 → top ≤ 255 → ((i : ℕ) → i < 67 → getD places i 0 ≤ 2 ^ w - 1) → Ordered places (replicate 67 top)
 ordered-completed places w top e h f =
-    record { before = λ i k. omega (arith, zeros i 67 top k, f i k); within = λ i k. omega (arith, zeros i 67 top k) }
+    record { before = λ i k. omega (arith, replicate-at i 67 top k, f i k); within = λ i k. omega (arith, replicate-at i 67 top k) }
 
 -- the chains of a signature, from their starts
 pub signed-by : (I seed S ends x z r : List ℕ) (q : ℕ) → length x ≡ 2144 → ((i : ℕ) → i < 34 → getD ends i 0 ≡ coef 8 S i)
@@ -64,7 +64,7 @@ signed-by I seed S ends x z r q l f p k =
     ∙ part-patch 0 (32 * i) 32 (joined (start I q seed) 34) x (omega arith) (omega arith)
     ∙ part-joined 32 (start I q seed) 34 (λ j _. length-start I q seed j) i h) in
     let digit : getD ends i 0 - 0 ≡ coef 8 S i = sub-zero _ ∙ f i h in
-    rw (zeros i 67 0 (omega arith), digit, slot))
+    rw (replicate-at i 67 0 (omega arith), digit, slot))
 
 -- the chains of a candidate, from the values of a signature
 pub completed-by : (I S sig places x z r : List ℕ) (q w n top : ℕ) → length x ≡ 2144 → n ≡ chains w → n ≤ 67 → length sig ≡ otsLength w → top ≡ 2 ^ w - 1
@@ -81,7 +81,7 @@ completed-by I S sig places x z r q w n top l e h ls et f p k =
     (ap (λ (b : ℕ). part b 32 (patch 0 (drop 36 sig) x)) (sym (zero-add (32 * i)))
     ∙ part-patch 0 (32 * i) 32 (drop 36 sig) x (omega arith) (omega arith)
     ∙ ap (take 32) (drop-drop (32 * i) 36 sig)) in
-    rw (zeros i 67 top (omega arith), f i a, et) (ap (chain I q i (coef w S i) (2 ^ w - 1 - coef w S i)) slot))
+    rw (replicate-at i 67 top (omega arith), f i a, et) (ap (chain I q i (coef w S i) (2 ^ w - 1 - coef w S i)) slot))
 
 -- ---- the hash input of a key
 

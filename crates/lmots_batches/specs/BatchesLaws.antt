@@ -16,7 +16,7 @@ use Rattle.octets.specs.OctetsLaws.{length-part, length-patch, take-patch, leng
 use Rattle.octets.specs.StringsLaws.{length-joined, joined-same}
 use Rattle.octets.specs.WriteLaws.{part-own, part-before, part-after, joined-written}
 use Rattle.sha256_lanes.specs.Rows.{column}
-use Rattle.sha256_lanes.specs.RowsLaws.{Apart, other, there, one-more, fill-next, length-column, getD-column, column-same}
+use Rattle.sha256_lanes.specs.RowsLaws.{Apart, set-other, set-there, one-more, fill-next, length-column, getD-column, column-same}
 use Rattle.rfc8554.specs.Ots.{chain}
 use Rattle.rfc8554.specs.OtsLaws.{chain-add, length-chain}
 use Rattle.lmots_chains.specs.Sixteen.{Walked}
@@ -35,8 +35,8 @@ compare i j = go (ltb i j) refl
 pub all-set : (xs : List ℕ) (i x n m : ℕ) → i < length xs → x < n → ((j : ℕ) → j < m → getD xs j 0 < n) → (j : ℕ) → j < m → getD (set xs i x) j 0 < n
 all-set xs i x n m h k f j a =
     ⊎-elim
-    (λ e. subst (λ (y : ℕ). y < n) (sym (there xs i j x e h)) k)
-    (λ e. subst (λ (y : ℕ). y < n) (sym (other xs i j x e)) (f j a))
+    (λ e. subst (λ (y : ℕ). y < n) (sym (set-there xs i j x e h)) k)
+    (λ e. subst (λ (y : ℕ). y < n) (sym (set-other xs i j x e)) (f j a))
     (compare j i)
 
 -- one more bound
@@ -95,7 +95,7 @@ column-next v y l r h k lv f =
 
 pub column-others : (v v₀ : List ℕ) (l r x : ℕ) → l < 16 → ((j : ℕ) → j < l → column j 8 v ≡ column j 8 v₀) → (j : ℕ) → j < l
     → column j 8 (set v (16 * r + l) x) ≡ column j 8 v₀
-column-others v v₀ l r x h f j k = column-same j 8 v (set v (16 * r + l) x) (λ t a. other v (16 * r + l) (16 * t + j) x (beside t r j l k h)) ∙ f j k
+column-others v v₀ l r x h f j k = column-same j 8 v (set v (16 * r + l) x) (λ t a. set-other v (16 * r + l) (16 * t + j) x (beside t r j l k h)) ∙ f j k
 
 -- the columns before l hold the values of their chains
 pub gather-next : (v v₁ z picks y : List ℕ) (l : ℕ) → ((j : ℕ) → j < l → bytes (column j 8 v) ≡ part (32 * getD picks j 0) 32 z)
@@ -123,11 +123,11 @@ scattered-next l picks places count v z₀ next z y z′ p ep hp ln lz ey ez f i
       at = l;
       early = omega arith;
       mine = sym ep ∙ sym e;
-      on = rw e (there next p p (getD places p 0 + count) refl (omega arith));
+      on = rw e (set-there next p p (getD places p 0 + count) refl (omega arith));
       value = rw (e, ez) (slot-same z (bytes y) p lz long hp ∙ ap bytes ey);
     }))
     (λ a.
-    let word : getD (set next p (getD places p 0 + count)) i 0 ≡ getD next i 0 = other next p i (getD places p 0 + count) a in
+    let word : getD (set next p (getD places p 0 + count)) i 0 ≡ getD next i 0 = set-other next p i (getD places p 0 + count) a in
     let slot : part (32 * i) 32 z′ ≡ part (32 * i) 32 z = rw ez (slot-other z (bytes y) p lz long hp i a) in
     ⊎-elim
     (λ s. inl (record { on = word ∙ s .on; value = slot ∙ s .value }))
@@ -222,8 +222,8 @@ module _ (I : List ℕ) (q : ℕ) (places ends z₀ : List ℕ) (l₀ : length z
       let slot : bytes y ≡ part (32 * i) 32 z₀ = ey ∙ rw ez (part-after (32 * i) 32 0 (joined f i) z₀ (omega arith) (omega arith)) in
       written-next f i z₀ z (bytes x) z′ long ez (ex ∙ rw (ea, eb, slot)) p
 
-  pub finished : (n : ℕ) (z : List ℕ) → n ≤ 67 → z ≡ patch 0 (joined (ended I q places ends z₀) n) z₀ → take (32 * n) z ≡ joined (ended I q places ends z₀) n
-  finished n z h e =
+  pub finish-done : (n : ℕ) (z : List ℕ) → n ≤ 67 → z ≡ patch 0 (joined (ended I q places ends z₀) n) z₀ → take (32 * n) z ≡ joined (ended I q places ends z₀) n
+  finish-done n z h e =
       let f = ended I q places ends z₀ in
       let long : 32 * n ≡ 0 + length (joined f n) = omega (arith, length-ended n h) in
       rw (e, long) (take-patch 0 (joined f n) z₀ (omega arith))

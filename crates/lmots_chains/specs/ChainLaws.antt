@@ -75,7 +75,7 @@ slid-block I bs q i j a hi hj lI lb =
     ∙ rw (tail, be-place i j (a / 16777216) hi hj, padded) (simp (append-assoc, late))
 
 -- the same, as the code lists it
-pub prepared : (id tmp : List ℕ) (q i j x1 x2 x3 x4 x5 x6 x7 : ℕ) → length id ≡ 4 → length tmp ≡ 8 → i < 65536 → j < 256
+pub block-padded : (id tmp : List ℕ) (q i j x1 x2 x3 x4 x5 x6 x7 : ℕ) → length id ≡ 4 → length tmp ≡ 8 → i < 65536 → j < 256
     → x1 ≡ across (getD tmp 0 0) (getD tmp 1 0)
     → x2 ≡ across (getD tmp 1 0) (getD tmp 2 0)
     → x3 ≡ across (getD tmp 2 0) (getD tmp 3 0)
@@ -87,7 +87,7 @@ pub prepared : (id tmp : List ℕ) (q i j x1 x2 x3 x4 x5 x6 x7 : ℕ) → length
     ∷ x1 ∷ x2 ∷ x3 ∷ x4 ∷ x5 ∷ x6 ∷ x7 ∷ (getD tmp 7 0 % 16777216 * 256 + 128) ∷ 0 ∷ 440 ∷ [])
     ≡ pad (chainInput (bytes id) q i j (bytes tmp))
 unfolding slid across
-prepared id tmp q i j x1 x2 x3 x4 x5 x6 x7 li lt hi hj e1 e2 e3 e4 e5 e6 e7 =
+block-padded id tmp q i j x1 x2 x3 x4 x5 x6 x7 li lt hi hj e1 e2 e3 e4 e5 e6 e7 =
     rw (e1, e2, e3, e4, e5, e6, e7)
     (slid-block (getD id 0 0 ∷ getD id 1 0 ∷ getD id 2 0 ∷ getD id 3 0 ∷ [])
     (getD tmp 1 0 ∷ getD tmp 2 0 ∷ getD tmp 3 0 ∷ getD tmp 4 0 ∷ getD tmp 5 0 ∷ getD tmp 6 0 ∷ getD tmp 7 0 ∷ [])
@@ -95,10 +95,10 @@ prepared id tmp q i j x1 x2 x3 x4 x5 x6 x7 li lt hi hj e1 e2 e3 e4 e5 e6 e7 =
     ∙ ap₂ (λ (l m : List ℕ). pad (chainInput (bytes l) q i j (bytes m))) (as-four id li) (as-eight tmp lt))
 
 -- one compression hashes a message that one padded block holds
-pub compressed : (m h r x : List ℕ) → length m ≡ 16 → ((i : ℕ) → getD m i 0 < 4294967296) → h ≡ initial → bytes m ≡ pad x
+pub compress-one-block : (m h r x : List ℕ) → length m ≡ 16 → ((i : ℕ) → getD m i 0 < 4294967296) → h ≡ initial → bytes m ≡ pad x
     → r ≡ compress h m → bytes r ≡ sha256 x
 unfolding oneBlock
-compressed m h r x l b e p q =
+compress-one-block m h r x l b e p q =
     let n : length (pad x) ≡ 64 = ap length (sym p) ∙ length-bytes m ∙ omega arith in
     let w : words 16 (pad x) ≡ m = ap (words 16) (sym p) ∙ words-bytes m 16 (omega arith) b ∙ take-all 16 m (omega arith) in
     ap bytes (q ∙ ap₂ compress e (sym w)) ∙ one-block x (pad x) n refl

@@ -10,9 +10,9 @@ use Rattle.octets.specs.Octets.{bytes}
 use Rattle.fips180.specs.Constants.{initial}
 use Rattle.fips180.specs.Fips.{compress, pad, sha256}
 use Rattle.sha256_lanes.specs.Rows.{column, Same, Alike, Common, Compressed}
-use Rattle.sha256_lanes.specs.RowsLaws.{below, above, fill-next, length-column, getD-column, common-alike}
+use Rattle.sha256_lanes.specs.RowsLaws.{set-below, set-above, fill-next, length-column, getD-column, common-alike}
 use Rattle.rfc8554.specs.Ots.{chain, chainInput}
-use Rattle.lmots_chains.specs.ChainLaws.{prepared, compressed, chain-next}
+use Rattle.lmots_chains.specs.ChainLaws.{block-padded, compress-one-block, chain-next}
 use Rattle.lmots_chains.specs.Pieces.{across}
 use Rattle.lmots_chains.specs.Sixteen.{Filled, Slid, Placed, Numbered, five, Ready, Stepped, Walked, AllWalked}
 
@@ -28,7 +28,7 @@ filled-next p q f n w z a x e h k ex t =
     record {
       long = simp length-set lz;
       new = fill-next (λ i. p + i) f z n a x e (λ i d. omega arith) (omega arith) ex (t .new);
-      old = λ i d. ⊎-elim (λ b. below z a i x (omega arith)) (λ b. above z a i x (omega arith)) d ∙ t .old i d;
+      old = λ i d. ⊎-elim (λ b. set-below z a i x (omega arith)) (λ b. set-above z a i x (omega arith)) d ∙ t .old i d;
     }
 
 -- ---- one lane's block
@@ -151,12 +151,12 @@ module _ (id leaves places : List ℕ) (t : ℕ) (w x s v y z : List ℕ) (ready
     unfolding words
     padded =
         ap bytes block
-        ∙ prepared id (column l 8 v) leaf i (j + t) _ _ _ _ _ _ _ (ready .long) (length-column l 8 v) hi hj refl refl refl refl refl refl refl
+        ∙ block-padded id (column l 8 v) leaf i (j + t) _ _ _ _ _ _ _ (ready .long) (length-column l 8 v) hi hj refl refl refl refl refl refl refl
 
     lane-stepped : (v′ : List ℕ) → column l 8 v′ ≡ compress initial (column l 16 z)
         → bytes (column l 8 v′) ≡ sha256 (chainInput (bytes id) leaf i (j + t) (bytes (column l 8 v)))
     unfolding leaf
-    lane-stepped v′ f = compressed (column l 16 z) initial (column l 8 v′) _ (length-column l 16 z) (λ n. rw block (word-lt small n)) refl padded f
+    lane-stepped v′ f = compress-one-block (column l 16 z) initial (column l 8 v′) _ (length-column l 16 z) (λ n. rw block (word-lt small n)) refl padded f
 
 module _ (id leaves places : List ℕ) (t : ℕ) (w x s v y z w′ s′ v′ : List ℕ) (placed : Placed 16 places t v w y) (slid : Slid 112 v y z)
     (same : Same 256 z w′) (done : Compressed z x s w′ s′ v′) (r : Ready id leaves w x s) where

@@ -63,10 +63,10 @@ pub checksum-four : (w s i : ℕ) (S : List ℕ) → w ≡ 4 → i ≡ digits w 
 unfolding checksum digits leftShift
 checksum-four w s i S e k p = rw (p, k, e)
 
-pub checksummed : (w x : ℕ) (Q zs a : List ℕ) → length Q ≡ 32 → length zs ≡ 34 → a ≡ patch 0 Q zs → x ≡ checksum w Q
+pub checksum-written : (w x : ℕ) (Q zs a : List ℕ) → length Q ≡ 32 → length zs ≡ 34 → a ≡ patch 0 Q zs → x ≡ checksum w Q
     → set (set a 32 (x / 256 % 256)) 33 (x % 256) ≡ withChecksum w Q
 unfolding withChecksum
-checksummed w x Q zs a l k e p =
+checksum-written w x Q zs a l k e p =
     let n : length a ≡ 34 = ap length e ∙ length-patch 0 Q zs (omega arith) ∙ k in
     stores-two 32 x a (omega arith)
     ∙ pieces 32 Q (be 2 x) zs a _ e (omega arith) (rw length-be (omega arith)) refl

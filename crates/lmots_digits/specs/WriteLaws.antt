@@ -9,7 +9,7 @@ use Rattle.octets.specs.OctetsLaws.{as-four, length-be, length-patch}
 use Rattle.octets.specs.WriteLaws.{stores-two, patch-next, patch-whole}
 use Rattle.lmots_digits.specs.Pieces.{front}
 
-pub fronted : (id zs a b c d e : List ℕ) (q s : ℕ) → length id ≡ 4 → length zs ≡ 22
+pub front-written : (id zs a b c d e : List ℕ) (q s : ℕ) → length id ≡ 4 → length zs ≡ 22
     → a ≡ patch 0 (be 4 (getD id 0 0)) zs
     → b ≡ patch 4 (be 4 (getD id 1 0)) a
     → c ≡ patch 8 (be 4 (getD id 2 0)) b
@@ -17,7 +17,7 @@ pub fronted : (id zs a b c d e : List ℕ) (q s : ℕ) → length id ≡ 4 → l
     → e ≡ patch 16 (be 4 q) d
     → set (set e 20 (s / 256 % 256)) 21 (s % 256) ≡ front (bytes id) q s
 unfolding front bytes
-fronted id zs a b c d e q s li lz pa pb pc pd pe =
+front-written id zs a b c d e q s li lz pa pb pc pd pe =
     let w : ℕ → List ℕ = λ n. be 4 (getD id n 0) in
     let eb = patch-next 0 4 (w 0) (w 1) zs a b pa (rw length-be) (omega arith) pb in
     let ec = patch-next 0 8 (w 0 ++ w 1) (w 2) zs b c eb (simp (length-append, length-be)) (omega arith) pc in

@@ -23,8 +23,8 @@ part-lent at n xs = rw add-sub-cancel-left
 -- ---- nodes
 
 -- a hash over the prefix p, which is q
-pub prefixed : (p q m n : List ℕ) → p ≡ q → n ≡ sha256 (p ++ m) → n ≡ sha256 (q ++ m)
-prefixed p q m n e f = f ∙ rw e
+pub sha256-prefix : (p q m n : List ℕ) → p ≡ q → n ≡ sha256 (p ++ m) → n ≡ sha256 (q ++ m)
+sha256-prefix p q m n e f = f ∙ rw e
 
 pub length-leafOver : (I : List ℕ) (q : ℕ) (key : List ℕ) → length (leafOver I q key) ≡ 32
 unfolding leafOver

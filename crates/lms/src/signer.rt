@@ -9,7 +9,7 @@ ghost use Rattle.fips180.specs.Constants.{constants};
 ghost use Rattle.rfc8554.specs.Ots.{digested, signed};
 ghost use Rattle.rfc8554.specs.Tree as Tree;
 ghost use Rattle.rfc8554.specs.Tree.{path, lmsSignature};
-ghost use Rattle.protocol.specs.Layout.{treeLength};
+ghost use Rattle.protocol.specs.Layout.{signatureLength, treeLength};
 use crate::node;
 
 // The types of the keys and signatures that are made.
@@ -64,7 +64,7 @@ fn write_path(tree: &[u8], r: u32, out: &mut [u8], at: usize)
 
 // The tail of a signature: the LMS type and the path of the leaf.
 fn write_tail(tree: &[u8], leaf: u32, out: &mut [u8])
-    requires { ⌜ (length (now tree) ≡ treeLength) × (leaf < 1024) × (1452 ≤ length (now out)) ⌝ }
+    requires { ⌜ (length (now tree) ≡ treeLength) × (leaf < 1024) × (signatureLength ≤ length (now out)) ⌝ }
     ensures { λ _. ⌜ now (out .exit) ≡ patch 1128 (be 4 6 ++ joined (path (now (tree .entry)) (1024 + leaf)) 10) (now (out .entry)) ⌝ }
 {
     octets::put_word(out, 1128, LMS_TYPE);
@@ -98,7 +98,7 @@ pub(crate) fn write_signature(
     message: &[u8],
     out: &mut [u8],
 )
-    requires { ⌜ (leaf < 1024) × (length (now seed) ≡ 32) × (length (now id) ≡ 16) × (length (now randomizer) ≡ 32) × (length (now tree) ≡ treeLength) × (1452 ≤ length (now out)) ⌝ }
+    requires { ⌜ (leaf < 1024) × (length (now seed) ≡ 32) × (length (now id) ≡ 16) × (length (now randomizer) ≡ 32) × (length (now tree) ≡ treeLength) × (signatureLength ≤ length (now out)) ⌝ }
     ensures { λ _. ⌜ now (out .exit) ≡ patch 0 (lmsSignature 6 4 (now (id .entry)) leaf (now (seed .entry)) (now (randomizer .entry)) (now (message .entry)) (now (tree .entry))) (now (out .entry)) ⌝ }
 {
     let k = sha256::constants::round_constants();

@@ -1,6 +1,7 @@
 // The signature vectors: the RFC's test cases level by level, and Bouncy Castle's, sound and damaged; then the key maker and the
 // signer with the seeds of keys of types 6 and 4. Standard input has the records that scripts/make_vectors.py writes from the
 // files of vectors/, and the file `stdout` the answers in those files.
+use layout::SIGNATURE;
 use libc::STDIN_FILENO;
 use libc::STDOUT_FILENO;
 
@@ -95,7 +96,7 @@ fn sign(seed: &[u8], identifier: &[u8], tree: &[u8]) -> bool {
     let Field::Of(m) = operand(&mut message) else {
         return false;
     };
-    let mut out = [0u8; 1452];
+    let mut out = [0u8; SIGNATURE];
     let q = octets::word_at(&leaf, 0);
     lms::calls::sign(
         q,

@@ -16,8 +16,8 @@ pub take-whole : (i n : ℕ) (w m : List ℕ) → i ≡ n → length m ≡ n →
 take-whole i n w m e l h = subst (λ (k : ℕ). take k w ≡ take k m) e h ∙ subst (λ (k : ℕ). take k m ≡ m) l (take-length m)
 
 -- the same where w has n elements
-pub filled : (w : List ℕ) (f : ℕ → List ℕ) (i n : ℕ) → i ≡ n → length w ≡ n → take i w ≡ f i → w ≡ f n
-filled w f i n e l h = sym (subst (λ (k : ℕ). take k w ≡ w) l (take-length w)) ∙ subst (λ (k : ℕ). take k w ≡ f k) e h
+pub whole-from-take : (w : List ℕ) (f : ℕ → List ℕ) (i n : ℕ) → i ≡ n → length w ≡ n → take i w ≡ f i → w ≡ f n
+whole-from-take w f i n e l h = sym (subst (λ (k : ℕ). take k w ≡ w) l (take-length w)) ∙ subst (λ (k : ℕ). take k w ≡ f k) e h
 
 -- ---- a run of one byte
 

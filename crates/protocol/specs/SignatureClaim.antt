@@ -15,7 +15,7 @@ use Rattle.refusal.specs.RefusalLaws.{both-true}
 use Rattle.rfc8554.specs.Ots.{knownOts, width}
 use Rattle.rfc8554.specs.Tree.{knownLms, height, publicKey, treeFilled, lmsSignature}
 use Rattle.rfc8554.specs.Verify.{leafOf, valid}
-use Rattle.protocol.specs.Layout.{messageLimit}
+use Rattle.protocol.specs.Layout.{signatureLength, messageLimit}
 use Rattle.protocol.specs.Refusals.{wrongKey, tooLong, GARBLED-LONG, SIGNATURE-ALONE, checkConditions}
 use Rattle.protocol.specs.Signatures.{checkSignature, makeKey, sign, signedBytes, seatKey, checks}
 use Rattle.rfc8554.specs.TreeLaws.{length-treeFilled, part-treeFilled}
@@ -59,6 +59,7 @@ module _
     made-signature : (message : List ℕ) → length message ≤ 65535
         → sign leaf message seed I C (treeFilled I seed tree) out
         ≡ record { refusal = 0; written = lmsSignature 6 4 I leaf seed C message (treeFilled I seed tree) }
+    unfolding signatureLength
     made-signature message short =
         sign-unrefused seed I (treeFilled I seed tree) out seed-length I-length (length-treeFilled I seed tree tree-length) leaf message C
         leaf-in short C-length room

@@ -102,11 +102,11 @@ module _ (seed I tree out : List ℕ) (s : length seed ≡ 32) (i : length I ≡
   makeKey-unrefused o = rw (makeKeyRefusal-zero o)
 
   module _ (leaf : ℕ) (message C : List ℕ) (l : leaf ≤ 1023) (m : length message ≤ 65535) (c : length C ≡ 32) where
-    signRefusal-zero : 1452 ≤ length out → signRefusal leaf message seed I C tree out ≡ 0
-    unfolding signRefusal signConditions wrongRound shortOut firstOf treeLength messageLimit signatureLength
-    signRefusal-zero o = rw (le-ltb 1023 leaf l, le-ltb (length out) 1452 o, le-ltb 65535 (length message) m, s, i, c, t)
+    signRefusal-zero : signatureLength ≤ length out → signRefusal leaf message seed I C tree out ≡ 0
+    unfolding signRefusal signConditions wrongRound shortOut firstOf treeLength messageLimit
+    signRefusal-zero o = rw (le-ltb 1023 leaf l, le-ltb (length out) signatureLength o, le-ltb 65535 (length message) m, s, i, c, t)
 
-    pub sign-unrefused : 1452 ≤ length out
+    pub sign-unrefused : signatureLength ≤ length out
         → sign leaf message seed I C tree out ≡ record { refusal = 0; written = lmsSignature 6 4 I leaf seed C message tree }
     unfolding sign unrefused
     sign-unrefused o = rw (signRefusal-zero o)

@@ -24,17 +24,17 @@ moved : (d i n j m : ℕ) → j ≡ i + d → m ≡ n + d → Apart i n → Apar
 moved d i n j m p q h = ⊎-elim (λ a. inl (omega arith)) (λ a. inr (omega arith)) h
 
 -- a word written at one index is not seen at another
-pub other : (xs : List ℕ) (i j x : ℕ) → Apart j i → getD (set xs i x) j 0 ≡ getD xs j 0
-other xs i j x h = getD-set-other xs i j x 0 (λ e. ⊎-elim (λ k. omega arith) (λ k. omega arith) h)
+pub set-other : (xs : List ℕ) (i j x : ℕ) → Apart j i → getD (set xs i x) j 0 ≡ getD xs j 0
+set-other xs i j x h = getD-set-other xs i j x 0 (λ e. ⊎-elim (λ k. omega arith) (λ k. omega arith) h)
 
-pub below : (xs : List ℕ) (i j x : ℕ) → j < i → getD (set xs i x) j 0 ≡ getD xs j 0
-below xs i j x h = other xs i j x (inl h)
+pub set-below : (xs : List ℕ) (i j x : ℕ) → j < i → getD (set xs i x) j 0 ≡ getD xs j 0
+set-below xs i j x h = set-other xs i j x (inl h)
 
-pub above : (xs : List ℕ) (i j x : ℕ) → i < j → getD (set xs i x) j 0 ≡ getD xs j 0
-above xs i j x h = other xs i j x (inr h)
+pub set-above : (xs : List ℕ) (i j x : ℕ) → i < j → getD (set xs i x) j 0 ≡ getD xs j 0
+set-above xs i j x h = set-other xs i j x (inr h)
 
-pub there : (xs : List ℕ) (i j x : ℕ) → j ≡ i → i < length xs → getD (set xs i x) j 0 ≡ x
-there xs i j x e h = rw e (getD-set-same xs i x 0 h)
+pub set-there : (xs : List ℕ) (i j x : ℕ) → j ≡ i → i < length xs → getD (set xs i x) j 0 ≡ x
+set-there xs i j x e h = rw e (getD-set-same xs i x 0 h)
 
 -- what holds below n and at n holds below n + 1
 pub one-more : (P : ℕ → Type 0) (n : ℕ) → ((i : ℕ) → i < n → P i) → P n → (i : ℕ) → i < n + 1 → P i
@@ -46,7 +46,7 @@ one-more P n f e i h =
 pub fill-next : (g f : ℕ → ℕ) (xs : List ℕ) (n a x : ℕ) → a ≡ g n → ((i : ℕ) → i < n → g i < a) → a < length xs → x ≡ f n
     → ((i : ℕ) → i < n → getD xs (g i) 0 ≡ f i) → (i : ℕ) → i < n + 1 → getD (set xs a x) (g i) 0 ≡ f i
 fill-next g f xs n a x at rise h e old =
-    one-more (λ i. getD (set xs a x) (g i) 0 ≡ f i) n (λ i b. below xs a (g i) x (rise i b) ∙ old i b) (there xs a (g n) x (sym at) h ∙ e)
+    one-more (λ i. getD (set xs a x) (g i) 0 ≡ f i) n (λ i b. set-below xs a (g i) x (rise i b) ∙ old i b) (set-there xs a (g n) x (sym at) h ∙ e)
 
 -- one more element of a list that is filled from the front
 pub front-next : (f : ℕ → ℕ) (xs : List ℕ) (n x : ℕ) → ((i : ℕ) → i < n → getD xs i 0 ≡ f i) → n < length xs → x ≡ f n
@@ -81,13 +81,13 @@ two-next p q c f g n s z a b x y h k l ea eb ex ey t =
     let lu : length u ≡ length s = simp length-set lz in
     record {
       long = simp length-set lz;
-      first = λ i m. below u b (p + i) y (omega arith) ∙ fill-next (λ j. p + j) f z n a x ea (λ j d. omega arith) (omega arith) ex (t .first) i m;
+      first = λ i m. set-below u b (p + i) y (omega arith) ∙ fill-next (λ j. p + j) f z n a x ea (λ j d. omega arith) (omega arith) ex (t .first) i m;
       second =
           fill-next (λ j. q + j) g u n b y eb (λ j d. omega arith) (omega arith) ey
-          (λ j d. above z a (q + j) x (omega arith) ∙ t .second j d);
-      low = λ i m. below u b i y (omega arith) ∙ below z a i x (omega arith) ∙ t .low i m;
-      mid = λ i m o. below u b i y (omega arith) ∙ above z a i x (omega arith) ∙ t .mid i m o;
-      high = λ i m. above u b i y (omega arith) ∙ above z a i x (omega arith) ∙ t .high i m;
+          (λ j d. set-above z a (q + j) x (omega arith) ∙ t .second j d);
+      low = λ i m. set-below u b i y (omega arith) ∙ set-below z a i x (omega arith) ∙ t .low i m;
+      mid = λ i m o. set-below u b i y (omega arith) ∙ set-above z a i x (omega arith) ∙ t .mid i m o;
+      high = λ i m. set-above u b i y (omega arith) ∙ set-above z a i x (omega arith) ∙ t .high i m;
     }
 
 -- ---- columns
@@ -142,14 +142,14 @@ filled-none m l (suc t) h k = absurd (omega arith)
 
 module _ (m w : List ℕ) (n x : ℕ) (f : Filled n m w) (hn : 256 ≤ n) (in-w : n < length w) (p : x ≡ scheduledAt w n) where
   before : (l t : ℕ) → 16 * (16 + t) + l < n + 16 → column l (16 + t) (set w n x) ≡ column l (16 + t) w
-  before l t h = column-same l (16 + t) w (set w n x) (λ j k. below w n (16 * j + l) x (omega arith))
+  before l t h = column-same l (16 + t) w (set w n x) (λ j k. set-below w n (16 * j + l) x (omega arith))
 
   next : (l u : ℕ) → l < 16 → 16 * (16 + u) + l ≡ n → column l (suc (16 + u)) (set w n x) ≡ Fips.schedule (column l 16 m) (suc u)
   unfolding Filled column Fips.schedule
   next l u h e =
       let old : column l (16 + u) w ≡ Fips.schedule (column l 16 m) u = f l u h (omega arith) in
       let word : getD (set w n x) (16 * (16 + u) + l) 0 ≡ Fips.scheduled (Fips.schedule (column l 16 m) u) (16 + u) =
-      there w n (16 * (16 + u) + l) x e in-w ∙ p ∙ scheduled-column w l u n e ∙ ap (λ (c : List ℕ). Fips.scheduled c (16 + u)) old in
+      set-there w n (16 * (16 + u) + l) x e in-w ∙ p ∙ scheduled-column w l u n e ∙ ap (λ (c : List ℕ). Fips.scheduled c (16 + u)) old in
       ap₂ (λ (c : List ℕ) (y : ℕ). c ++ (y ∷ [])) (before l u (omega arith) ∙ old) word
 
   filled-next : Filled (n + 1) m (set w n x)
@@ -164,7 +164,7 @@ module _ (m w : List ℕ) (n x : ℕ) (f : Filled n m w) (hn : 256 ≤ n) (in-w 
 
 same-next : (m w : List ℕ) (n x : ℕ) → Same 256 m w → 256 ≤ n → Same 256 m (set w n x)
 unfolding Same
-same-next m w n x f h i k = below w n i x (omega arith) ∙ f i k
+same-next m w n x f h i k = set-below w n i x (omega arith) ∙ f i k
 
 -- ---- sums of words
 
@@ -289,28 +289,28 @@ module _ (s : List ℕ) (n y e a : ℕ) (hn : n < 1024) (ls : length s ≡ 3264)
 
   low : (i : ℕ) → Apart i n → i < n + 1088 → getD three i 0 ≡ getD s i 0
   unfolding one two three
-  low i g h = other two n i a g ∙ below one (n + 1088) i e h ∙ below s (n + 2176) i y (omega arith)
+  low i g h = set-other two n i a g ∙ set-below one (n + 1088) i e h ∙ set-below s (n + 2176) i y (omega arith)
 
   mid : (i : ℕ) → n < i → Apart i (n + 1088) → i < n + 2176 → getD three i 0 ≡ getD s i 0
   unfolding one two three
-  mid i f g h = above two n i a f ∙ other one (n + 1088) i e g ∙ below s (n + 2176) i y h
+  mid i f g h = set-above two n i a f ∙ set-other one (n + 1088) i e g ∙ set-below s (n + 2176) i y h
 
   high : (i : ℕ) → n + 1088 < i → Apart i (n + 2176) → getD three i 0 ≡ getD s i 0
   unfolding one two three
-  high i f g = above two n i a (omega arith) ∙ above one (n + 1088) i e f ∙ other s (n + 2176) i y g
+  high i f g = set-above two n i a (omega arith) ∙ set-above one (n + 1088) i e f ∙ set-other s (n + 2176) i y g
 
   new-a : getD three n 0 ≡ a
   unfolding one two three
-  new-a = there two n n a refl (simp length-set (omega arith))
+  new-a = set-there two n n a refl (simp length-set (omega arith))
 
   new-e : getD three (n + 1088) 0 ≡ e
   unfolding one two three
-  new-e = above two n (n + 1088) a (omega arith) ∙ there one (n + 1088) (n + 1088) e refl (simp length-set (omega arith))
+  new-e = set-above two n (n + 1088) a (omega arith) ∙ set-there one (n + 1088) (n + 1088) e refl (simp length-set (omega arith))
 
   new-y : getD three (n + 2176) 0 ≡ y
   unfolding one two three
   new-y =
-      above two n (n + 2176) a (omega arith) ∙ above one (n + 1088) (n + 2176) e (omega arith) ∙ there s (n + 2176) (n + 2176) y refl (omega arith)
+      set-above two n (n + 2176) a (omega arith) ∙ set-above one (n + 1088) (n + 2176) e (omega arith) ∙ set-there s (n + 2176) (n + 2176) y refl (omega arith)
 
   -- working variables that are not at n
   three-unchanged : (q : List ℕ) (m : ℕ) → m < 1040 → Apart m n → Apart (m + 16) n → Apart (m + 32) n → Apart (m + 48) n → State q m s → State q m three
@@ -557,13 +557,13 @@ summed-next n s v z x y h l p q d f =
       first =
           λ i k.
           rw d
-          (below u (n + 64) i y (omega arith)
+          (set-below u (n + 64) i y (omega arith)
           ∙ front-next (λ j. Fips.add (getD s (j + 1024) 0) (getD s j 0)) v n x (f .first) (omega arith) p i k);
       second =
           λ i k.
           rw d
           (fill-next (λ j. j + 64) (λ j. Fips.add (getD s (j + 2112) 0) (getD s (j + 1088) 0)) u n (n + 64) y refl (λ j a. omega arith) (omega arith) q
-          (λ j a. above v n (j + 64) x (omega arith) ∙ f .second j a) i k);
+          (λ j a. set-above v n (j + 64) x (omega arith) ∙ f .second j a) i k);
     }
 
 -- the words of a column of eight
@@ -761,20 +761,20 @@ module _ (n : ℕ) (h s : List ℕ) (hn : n < 64) (ls : length s ≡ 3264) where
         first =
             λ i k.
             rw d
-            (below begun-two (n + 3200) (i + 1024) b (omega arith)
-            ∙ below begun-one (n + 2112) (i + 1024) y (omega arith)
+            (set-below begun-two (n + 3200) (i + 1024) b (omega arith)
+            ∙ set-below begun-one (n + 2112) (i + 1024) y (omega arith)
             ∙ fill-next (λ j. j + 1024) (λ j. getD h (j / 16) 0) s n (n + 1024) x refl (λ j a. omega arith) (omega arith) refl (f .first) i k);
         second =
             λ i k.
             rw d
-            (below begun-two (n + 3200) (i + 2112) b (omega arith)
+            (set-below begun-two (n + 3200) (i + 2112) b (omega arith)
             ∙ fill-next (λ j. j + 2112) (λ j. getD h (4 + j / 16) 0) begun-one n (n + 2112) y refl (λ j a. omega arith) (omega arith) refl
-            (λ j a. above s (n + 1024) (j + 2112) x (omega arith) ∙ f .second j a) i k);
+            (λ j a. set-above s (n + 1024) (j + 2112) x (omega arith) ∙ f .second j a) i k);
         third =
             λ i k.
             rw d
             (fill-next (λ j. j + 3200) (λ j. b) begun-two n (n + 3200) b refl (λ j a. omega arith) (omega arith) refl
-            (λ j a. above begun-one (n + 2112) (j + 3200) y (omega arith) ∙ above s (n + 1024) (j + 3200) x (omega arith) ∙ f .third j a) i k);
+            (λ j a. set-above begun-one (n + 2112) (j + 3200) y (omega arith) ∙ set-above s (n + 1024) (j + 3200) x (omega arith) ∙ f .third j a) i k);
       }
 
 pub begun-done : (n : ℕ) (h s : List ℕ) → 64 ≤ n → length h ≡ 8 → Begun n h s → (l : ℕ) → l < 16 → State h (place 0 l) s

@@ -26,7 +26,7 @@ use Rattle.store.specs.Sources.{bytesOf, Readable, signatureAt, certificateFrom
 use Rattle.store.specs.declared.sources.Place.the-variants as place
 use Rattle.store.specs.declared.sources.Source.{Source}
 use Rattle.wire_write.specs.Writing.{Wrote}
-use Rattle.steps.specs.Phases.{Changed, Did, Fits, fits-like, did-same, did-writing-none, did-writing-one, next}
+use Rattle.steps.specs.Phases.{Changed, Did, Fits, fits-like, did-same, did-writing-none, did-writing-one, did-then}
 
 -- ---- sources and room
 
@@ -73,13 +73,13 @@ module _ (r : Record) (store out : List ℕ) (at : ℕ) where
   nothing-done : Did (λ s. s) r store out at r store out at
   nothing-done = did-writing-none (λ s. s) r store out at r store refl (record { recorded = refl; stored = refl })
 
-  pub replied : (unit : Record) (store′ out′ : List ℕ) (end : ℕ) → owesFull r ≡ true → Did sendFull r store out at unit store′ out′ end → Did reply r store out at unit store′ out′ end
+  pub reply-owed : (unit : Record) (store′ out′ : List ℕ) (end : ℕ) → owesFull r ≡ true → Did sendFull r store out at unit store′ out′ end → Did reply r store out at unit store′ out′ end
   unfolding reply
-  replied unit store′ out′ end e d = did-same sendFull r store reply out at unit store′ out′ end (rw e) d
+  reply-owed unit store′ out′ end e d = did-same sendFull r store reply out at unit store′ out′ end (rw e) d
 
-  pub silent : owesFull r ≡ false → Did reply r store out at r store out at
+  pub reply-not-owed : owesFull r ≡ false → Did reply r store out at r store out at
   unfolding reply
-  silent e = did-same (λ s. s) r store reply out at r store out at (rw e) nothing-done
+  reply-not-owed e = did-same (λ s. s) r store reply out at r store out at (rw e) nothing-done
 
   module _ (c : Certificate) where
     pub first-held : (unit : Record) (store′ : List ℕ) → r .first .seats ≡ 0 → Changed (hold c) r store unit store′ → Did (holdOrBlame c) r store out at unit store′ out at
@@ -156,5 +156,5 @@ module _ (r : Record) (store out : List ℕ) (at : ℕ) (room : at ≤ length ou
       let held-here = subst (λ (n : ℕ). Did (holdOrBlame (heard n source value store m)) v store out′ a w store″ out″ e) same held in
       let c = heard (r .n) source value store m in
       let first = did-writing-none (hear value) r store out at u store refl (record { recorded = told; stored = refl }) in
-      let second = next (hear value) reply reply-after r store out at u store out at v store out′ a room first replied in
-      next (λ s. reply (hear value s)) (holdOrBlame c) (holdOrBlame-after c) r store out at v store out′ a w store″ out″ e room second held-here
+      let second = did-then (hear value) reply reply-after r store out at u store out at v store out′ a room first replied in
+      did-then (λ s. reply (hear value s)) (holdOrBlame c) (holdOrBlame-after c) r store out at v store out′ a w store″ out″ e room second held-here

@@ -41,13 +41,13 @@ module _ (r : Record) (value : List ℕ) (u : Record) (told : u ≡ setOwnValue 
 -- ---- SUBMIT heard
 
 module _ (r : Record) (store : List ℕ) (seat : ℕ) (value signature : List ℕ) where
-  pub wanted : (u : Record) (store′ : List ℕ) → isWanted seat value r ≡ true → Changed (collect seat signature) r store u store′ → Changed (hearSubmit seat value signature) r store u store′
+  pub hearSubmit-wanted : (u : Record) (store′ : List ℕ) → isWanted seat value r ≡ true → Changed (collect seat signature) r store u store′ → Changed (hearSubmit seat value signature) r store u store′
   unfolding hearSubmit
-  wanted u store′ e c = likewise-changed (collect seat signature) r store (hearSubmit seat value signature) u store′ (rw e) c
+  hearSubmit-wanted u store′ e c = likewise-changed (collect seat signature) r store (hearSubmit seat value signature) u store′ (rw e) c
 
-  pub unwanted : isWanted seat value r ≡ false → Changed (hearSubmit seat value signature) r store r store
+  pub hearSubmit-unwanted : isWanted seat value r ≡ false → Changed (hearSubmit seat value signature) r store r store
   unfolding hearSubmit
-  unwanted e = record { recorded = rw e; stored = rw e }
+  hearSubmit-unwanted e = record { recorded = rw e; stored = rw e }
 
   pub hearSubmit-quiet : hearSubmit seat value signature (start r store) .written ≡ []
   unfolding hearSubmit collect

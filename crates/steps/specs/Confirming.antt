@@ -15,7 +15,7 @@ use Rattle.layout.specs.Places.{bankOf}
 use Rattle.layout.specs.declared.Bank.the-variants as bank
 use Rattle.store.specs.Sources.{signatureAt, certificateFrom}
 use Rattle.steps.specs.Certificates.{inBank}
-use Rattle.steps.specs.Phases.{Changed, Did, Fits, fits-like, did-same, next}
+use Rattle.steps.specs.Phases.{Changed, Did, Fits, fits-like, did-same, did-then}
 
 module _ (r : Record) (store : List ℕ) (u : Record) (done : Changed confirm r store u store) where
   pub confirmed-fits : Fits r store → Fits u store
@@ -36,14 +36,14 @@ module _ (r : Record) (store out : List ℕ) (at : ℕ) (v : Record) (store″ o
   unfolding hearOwn ownCertificate signatureAt bankOf
   own-heard u out′ a d = did-same (hearCertificate (ownCertificate u store)) u store hearOwn out′ a v store″ out″ e refl d
 
-  pub completed : (u : Record) (out′ : List ℕ) (a : ℕ) → at ≤ length out → isComplete r ≡ true → Did confirm r store out at u store out′ a
+  pub confirmIfComplete-complete : (u : Record) (out′ : List ℕ) (a : ℕ) → at ≤ length out → isComplete r ≡ true → Did confirm r store out at u store out′ a
       → Did (hearCertificate (certificateFrom (u .n) (inBank bank.Collected (u .own .collected)) (u .own .value) store)) u store out′ a v store″ out″ e
       → Did confirmIfComplete r store out at v store″ out″ e
   unfolding confirmIfComplete
-  completed u out′ a room complete first second =
+  confirmIfComplete-complete u out′ a room complete first second =
       did-same (λ s. hearOwn (confirm s)) r store confirmIfComplete out at v store″ out″ e (rw complete)
-      (next confirm hearOwn hearOwn-after r store out at u store out′ a v store″ out″ e room first (own-heard u out′ a second))
+      (did-then confirm hearOwn hearOwn-after r store out at u store out′ a v store″ out″ e room first (own-heard u out′ a second))
 
-  pub incomplete : isComplete r ≡ false → Did reply r store out at v store″ out″ e → Did confirmIfComplete r store out at v store″ out″ e
+  pub confirmIfComplete-incomplete : isComplete r ≡ false → Did reply r store out at v store″ out″ e → Did confirmIfComplete r store out at v store″ out″ e
   unfolding confirmIfComplete
-  incomplete short d = did-same reply r store confirmIfComplete out at v store″ out″ e (rw short) d
+  confirmIfComplete-incomplete short d = did-same reply r store confirmIfComplete out at v store″ out″ e (rw short) d

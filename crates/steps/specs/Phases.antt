@@ -14,7 +14,7 @@ use Rattle.protocol.specs.StepLaws.{after}
 use Rattle.protocol.specs.MessageLaws.{all-append}
 use Rattle.protocol.specs.declared.Record.{Record}
 use Rattle.wire_write.specs.Writing.{Wrote}
-use Rattle.wire_write.specs.WriteLaws.{then}
+use Rattle.wire_write.specs.WriteLaws.{wrote-then}
 
 -- the phase f leaves this record and this store
 pub record Changed (f : State → State) (r : Record) (store : List ℕ) (unit : Record) (store′ : List ℕ) : Type 0 where
@@ -75,11 +75,11 @@ module _ (f : State → State) (r : Record) (store : List ℕ) where
   did-writing-one m out at unit store′ out′ end e k w = record { changed = k; wrote = rw (e, append-nil) w }
 
 -- one phase after another, where the second only adds to the messages
-pub next : (f g : State → State) → ((ms : List Message) (s : State) → g (after ms s) ≡ after ms (g s))
+pub did-then : (f g : State → State) → ((ms : List Message) (s : State) → g (after ms s) ≡ after ms (g s))
     → (r : Record) (store out : List ℕ) (at : ℕ) (u : Record) (store′ out′ : List ℕ) (a : ℕ) (v : Record) (store″ out″ : List ℕ) (e : ℕ)
     → at ≤ length out → Did f r store out at u store′ out′ a → Did g u store′ out′ a v store″ out″ e
     → Did (λ s. g (f s)) r store out at v store″ out″ e
-next f g adds r store out at u store′ out′ a v store″ out″ e room d h =
+did-then f g adds r store out at u store′ out′ a v store″ out″ e room d h =
     let s = f (start r store) in
     let t = g (start u store′) in
     let whole : s ≡ after (s .written) (start (s .unit) (s .store)) = rw append-nil in
@@ -87,5 +87,5 @@ next f g adds r store out at u store′ out′ a v store″ out″ e room d h =
     let both : g s ≡ after (s .written) t = ap g whole ∙ adds (s .written) (start (s .unit) (s .store)) ∙ ap (λ (x : State). after (s .written) (g x)) same in
     record {
       changed = record { recorded = h .changed .recorded ∙ rw both; stored = h .changed .stored ∙ rw both };
-      wrote = rw (both, all-append) (then (d .wrote) (h .wrote) room);
+      wrote = rw (both, all-append) (wrote-then (d .wrote) (h .wrote) room);
     }

@@ -26,7 +26,7 @@ use Rattle.store.specs.SourcesLaws.{inFull, full-certificate}
 use Rattle.wire.specs.declared.read.Kind.{Kind}
 use Rattle.wire.specs.declared.read.Kind.the-variants as kind
 use Rattle.protocol.specs.RecordLaws.{Ready}
-use Rattle.steps.specs.Phases.{Changed, Did, Fits, did-same, did-writing-none, next}
+use Rattle.steps.specs.Phases.{Changed, Did, Fits, did-same, did-writing-none, did-then}
 use Rattle.steps.specs.Collecting.{hearSubmit-quiet}
 
 -- ---- the start of a call
@@ -85,7 +85,7 @@ module _ (r : Record) (store out : List ℕ) (u : Record) (store′ out′ : Lis
       → Did (submitted value signature) r store out 0 v store″ out″ e
   unfolding submitted
   submit-done value signature first second =
-      next (submitOwn value signature) confirmIfComplete confirmIfComplete-after r store out 0 u store′ out′ a v store″ out″ e (omega arith) first second
+      did-then (submitOwn value signature) confirmIfComplete confirmIfComplete-after r store out 0 u store′ out′ a v store″ out″ e (omega arith) first second
 
 module _ (r : Record) (store out : List ℕ) (m : List ℕ) (u : Record) (v : Record) (store″ out″ : List ℕ) (e : ℕ) where
   pub submit-heard : (seat : ℕ) (value signature store′ : List ℕ) → kind.Submit ≡ kindOf (read (r .n) m) → seat ≡ byteAt m seatAt → value ≡ readValue valueAt m → signature ≡ readSignature submitSignatureAt m
@@ -95,7 +95,7 @@ module _ (r : Record) (store out : List ℕ) (m : List ℕ) (u : Record) (v : Re
       let f = hearSubmit seat value signature in
       let quiet = did-writing-none f r store out 0 u store′ (hearSubmit-quiet r store seat value signature) first in
       rw (is-submit (r .n) m said .0, ← at-seat, ← at-value, ← at-signature)
-      (next f confirmIfComplete confirmIfComplete-after r store out 0 u store′ out 0 v store″ out″ e (omega arith) quiet second)
+      (did-then f confirmIfComplete confirmIfComplete-after r store out 0 u store′ out 0 v store″ out″ e (omega arith) quiet second)
 
   pub notice-heard : (value : List ℕ) → kind.Notice ≡ kindOf (read (r .n) m) → value ≡ readValue valueAt m → u ≡ withNotices r (noticesWith value r) → Did reply u store out 0 v store″ out″ e
       → Did (stepped (read (r .n) m)) r store out 0 v store″ out″ e
@@ -103,7 +103,7 @@ module _ (r : Record) (store out : List ℕ) (m : List ℕ) (u : Record) (v : Re
   notice-heard value said at-value first second =
       let f = hear value in
       let quiet = did-writing-none f r store out 0 u store refl (record { recorded = first; stored = refl }) in
-      rw (read-as kind.Notice (r .n) m said .0, ← at-value) (next f reply reply-after r store out 0 u store out 0 v store″ out″ e (omega arith) quiet second)
+      rw (read-as kind.Notice (r .n) m said .0, ← at-value) (did-then f reply reply-after r store out 0 u store out 0 v store″ out″ e (omega arith) quiet second)
 
   pub full-heard : (seats : ℕ) (value : List ℕ) → kind.Full ≡ kindOf (read (r .n) m) → stranger (r .n) (read (r .n) m) ≡ false → disorder (read (r .n) m) ≡ false
       → seats ≡ setOf (entrySeats (read (r .n) m)) → value ≡ readValue valueAt m → Did (hearCertificate (certificateFrom (r .n) (inFull seats) value m)) r store out 0 v store″ out″ e

@@ -31,9 +31,9 @@ pub one-byte : (at b : ℕ) (xs : List ℕ) → at < length xs → Wrote at (b �
 unfolding patch
 one-byte at b xs h = record { ends = refl; wrote = set-split xs at b h ∙ rw (← add-one at) }
 
-pub then : {at a e : ℕ} {us vs before between after : List ℕ} → Wrote at us before between a → Wrote a vs between after e
+pub wrote-then : {at a e : ℕ} {us vs before between after : List ℕ} → Wrote at us before between a → Wrote a vs between after e
     → at ≤ length before → Wrote at (us ++ vs) before after e
-then {at} {a} {e} {us} {vs} {before} u v h =
+wrote-then {at} {a} {e} {us} {vs} {before} u v h =
     record {
       ends = rw length-append (omega (arith, u .ends, v .ends));
       wrote = v .wrote ∙ rw (u .wrote, u .ends) (patch-patch at us vs before h);
@@ -114,7 +114,7 @@ module _ {A : Type 0} {form : Form A} {f : ℕ → A} {n m at : ℕ} {before : L
             below = omega arith;
             long = rw (v .wrote) (length-patch end (renderEntry form e) out fits ∙ g .long);
             counted = rw (seats-in s m i, length-append (seats s m) (s ∷ []), add-one (length (seats s m)), mul-suc) (omega (arith, v .ends, sized, g .counted));
-            written = rw all (then (g .written) v (omega (arith, room)));
+            written = rw all (wrote-then (g .written) v (omega (arith, room)));
           }
 
     -- the loop's end
@@ -128,7 +128,7 @@ pub list-written : {A : Type 0} (form : Form A) (f : ℕ → A) (n m : ℕ) (fro
     → Wrote at (front ++ length (map f (seats n m)) ∷ [] ++ renderEntries form (map f (seats n m))) before after end
 list-written form f n m front {count = count} u v h inside c =
     let counted : length (map f (seats n m)) ≡ count = length-map (seats n m) f ∙ length-seats n m inside ∙ sym c in
-    rw counted (then u v h)
+    rw counted (wrote-then u v h)
 
 -- the bytes of pairs don't say their values
 pairs-values : (n : ℕ) (low : Source) (lows : List ℕ) (high : Source) (highs lower higher l : List ℕ)

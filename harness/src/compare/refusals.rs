@@ -1,19 +1,23 @@
 //! Operands made wrong, alone and together.
 
+use crate::reference::refusals::{place, ORDER};
 use crate::rng::Rng;
 
 type Spoil<C> = Box<dyn Fn(&mut C, &mut Rng)>;
 
+/// The place of a condition in a call: its stage, then its place in the reference's order. Of two certificates, the first's
+/// conditions are a stage before the second's.
+type Place = (u32, usize);
+
 /// A change to a right case that calls for a refusal.
 pub struct Spoiler<C> {
-    /// The place of its condition in the call's order: its number, but for `after`.
-    place: u32,
+    place: Place,
     what: String,
     spoil: Spoil<C>,
 }
 
 pub fn spoiler<C>(number: u32, what: impl Into<String>, spoil: impl Fn(&mut C, &mut Rng) + 'static) -> Spoiler<C> {
-    Spoiler { place: number, what: what.into(), spoil: Box::new(spoil) }
+    Spoiler { place: (0, place(number)), what: what.into(), spoil: Box::new(spoil) }
 }
 
 /// A buffer of each length instead of the right one, filled at random.
@@ -40,31 +44,29 @@ pub fn on_part<C: 'static, P: 'static>(spoilers: Vec<Spoiler<P>>, part: fn(&mut 
 }
 
 impl<C> Spoiler<C> {
-    /// The condition counts after all numbers of the stages before: of two certificates, the first's come first.
+    /// The condition counts after all of so many stages.
     pub fn after(self, stages: u32) -> Spoiler<C> {
-        Spoiler { place: self.place + STAGE * stages, ..self }
+        Spoiler { place: (stages, self.place.1), ..self }
     }
 }
-
-const STAGE: u32 = 100;
 
 /// A right case with one or more operands made wrong.
 pub struct Spoiled<C> {
     pub case: C,
     pub what: String,
-    places: Vec<u32>,
+    places: Vec<Place>,
 }
 
 impl<C> Spoiled<C> {
-    /// The lowest number whose condition holds.
+    /// The first number in the order whose condition holds.
     pub fn number(&self) -> u32 {
         self.number_without(None).expect("at least one operand is wrong")
     }
 
-    /// The lowest besides one number that doesn't count; none where no other condition holds.
+    /// The first besides one number that doesn't count; none where no other condition holds.
     pub fn number_without(&self, number: Option<u32>) -> Option<u32> {
-        let counted = self.places.iter().filter(|&&place| Some(place) != number);
-        counted.min().map(|place| place % STAGE)
+        let counted = self.places.iter().filter(|(_, place)| Some(ORDER[*place]) != number);
+        counted.min().map(|(_, place)| ORDER[*place])
     }
 }
 
@@ -97,10 +99,11 @@ pub fn spoiled<C>(
 
 /// Three times a spoiler of each number with one of each other number.
 fn pairs<C>(spoilers: &[Spoiler<C>], rng: &mut Rng) -> Vec<Vec<usize>> {
-    let mut places: Vec<u32> = spoilers.iter().map(|spoiler| spoiler.place).collect();
+    let mut places: Vec<Place> = spoilers.iter().map(|spoiler| spoiler.place).collect();
     places.sort();
     places.dedup();
-    let of = |place: u32| (0..spoilers.len()).filter(move |&index| spoilers[index].place == place).collect::<Vec<_>>();
+    let of =
+        |place: Place| (0..spoilers.len()).filter(move |&index| spoilers[index].place == place).collect::<Vec<_>>();
     let mut pairs = Vec::new();
     for (number, &earlier) in places.iter().enumerate() {
         for &later in &places[number + 1..] {

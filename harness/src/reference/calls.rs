@@ -3,16 +3,12 @@
 use super::layout::SIGNATURE;
 use super::lms::{self, Types, IDENTIFIER, N, PUBLIC_KEY};
 use super::record::Written;
+use super::refusals::{pass, row, Passed};
 use super::verdicts;
 
 pub const MAX_MESSAGE: usize = 65_535;
 pub const MAX_LEAF: u32 = 1023;
 pub const TREE: usize = 65_536;
-
-/// The lowest number whose condition holds, 0 where none does.
-fn lowest(conditions: &[(u32, bool)]) -> u32 {
-    conditions.iter().filter(|(_, holds)| *holds).map(|(number, _)| *number).min().unwrap_or(0)
-}
 
 fn allowed_key(key: &[u8]) -> bool {
     key.len() == PUBLIC_KEY
@@ -21,19 +17,17 @@ fn allowed_key(key: &[u8]) -> bool {
 }
 
 pub fn check_signature(key: &[u8], message: &[u8], signature: &[u8]) -> u32 {
-    let refusal = lowest(&[(5, !allowed_key(key)), (9, message.len() > MAX_MESSAGE)]);
-    if refusal != 0 {
-        refusal
-    } else if verdicts::verify(key, message, signature) {
-        0
-    } else {
-        14
-    }
+    let passed = pass([
+        row(5, || !allowed_key(key)),
+        row(9, || message.len() > MAX_MESSAGE),
+        row(14, || !verdicts::verify(key, message, signature)),
+    ]);
+    passed.err().unwrap_or(0)
 }
 
 /// Refuses, or copies the bytes that a call writes to the start of `out`.
-fn answer(number: u32, out: &mut [u8], bytes: impl FnOnce() -> Vec<u8>) -> Written {
-    if number != 0 {
+fn answer(passed: Passed, out: &mut [u8], bytes: impl FnOnce() -> Vec<u8>) -> Written {
+    if let Err(number) = passed {
         return Written { number, written: 0 };
     }
     let bytes = bytes();
@@ -43,8 +37,8 @@ fn answer(number: u32, out: &mut [u8], bytes: impl FnOnce() -> Vec<u8>) -> Writt
 
 pub fn make_key(seed: &[u8], identifier: &[u8], tree: &mut [u8], out: &mut [u8]) -> Written {
     let wrong_material = seed.len() != N || identifier.len() != IDENTIFIER || tree.len() != TREE;
-    let refusal = lowest(&[(7, out.len() < PUBLIC_KEY), (16, wrong_material)]);
-    answer(refusal, out, || {
+    let passed = pass([row(7, || out.len() < PUBLIC_KEY), row(16, || wrong_material)]);
+    answer(passed, out, || {
         let nodes = lms::tree(Types::ENGINE, identifier, seed);
         tree[N..].copy_from_slice(&nodes.concat());
         lms::public_key(Types::ENGINE, identifier, &nodes[1])
@@ -63,13 +57,13 @@ pub fn sign(
 ) -> Written {
     let wrong_material =
         seed.len() != N || identifier.len() != IDENTIFIER || randomizer.len() != N || tree.len() != TREE;
-    let refusal = lowest(&[
-        (3, leaf > MAX_LEAF),
-        (7, out.len() < SIGNATURE),
-        (9, message.len() > MAX_MESSAGE),
-        (16, wrong_material),
+    let passed = pass([
+        row(3, || leaf > MAX_LEAF),
+        row(7, || out.len() < SIGNATURE),
+        row(9, || message.len() > MAX_MESSAGE),
+        row(16, || wrong_material),
     ]);
-    answer(refusal, out, || {
+    answer(passed, out, || {
         let nodes: Vec<Vec<u8>> = tree.chunks(N).map(|node| node.to_vec()).collect();
         lms::sign(Types::ENGINE, &nodes, leaf, seed, identifier, randomizer, message)
     })

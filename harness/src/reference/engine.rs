@@ -5,20 +5,15 @@ use super::calls::MAX_LEAF;
 use super::evidence;
 use super::impossible::impossible;
 use super::layout::{self, SIGNATURE};
-use super::messages::{Evidence, Full, FullEntry, Notice, Submit, Value, FULL, NOTICE, SUBMIT};
+use super::messages::{Evidence, Full, FullEntry, Notice, Submit, Told, Value, FULL, NOTICE, SUBMIT};
 use super::quorum;
 use super::record::{First, Notices, Opened, Record, Stepped, Written};
+use super::refusals::{self, checks, is_size, key_table, pass, row, Passed, Row};
 use super::seats::{contains, list, mask, size};
-use super::refusals::{certificate, is_size, key_table, places, refuse, signature, Passed};
 
 pub fn open(n: u32, seat: u32, round: u32, keys: &[u8]) -> Opened {
-    let tested = || {
-        refuse(1, !is_size(n))?;
-        refuse(2, seat >= n)?;
-        refuse(3, round > MAX_LEAF)?;
-        key_table(n, keys)
-    };
-    match tested() {
+    let rows = [row(1, || !is_size(n)), row(2, || seat >= n), row(3, || round > MAX_LEAF), key_table(n, keys)];
+    match pass(rows) {
         Ok(()) => Opened { number: 0, record: Record { n, seat, round, ..Record::default() } },
         Err(number) => Opened { number, record: Record::default() },
     }
@@ -33,13 +28,15 @@ pub fn submit(
     out: &mut [u8],
 ) -> Stepped {
     let submitted = || {
-        buffers(&record, keys, store, out)?;
-        refuse(8, record.own.submitted)?;
-        let value: Value = value.try_into().map_err(|_| 9u32)?;
-        refuse(9, own_signature.len() != SIGNATURE)?;
-        signature(keys, record.round, record.seat, &value, own_signature)?;
+        let own: Option<Value> = value.try_into().ok();
+        let rows = [
+            row(8, || record.own.submitted),
+            row(9, || own.is_none() || own_signature.len() != SIGNATURE),
+            row(14, || own.is_some_and(|own| !checks(keys, record.round, &(record.seat, &own, own_signature)))),
+        ];
+        pass(buffers(&record, keys, store, out).into_iter().chain(rows))?;
         let mut unit = Unit::new(&record, store);
-        unit.submit(value, own_signature);
+        unit.submit(own.expect("another length is refused"), own_signature);
         unit.send_full();
         Ok(unit)
     };
@@ -48,13 +45,16 @@ pub fn submit(
 
 pub fn step(record: Record, keys: &[u8], store: &mut [u8], message: &[u8], out: &mut [u8]) -> Stepped {
     let stepped = || {
-        buffers(&record, keys, store, out)?;
+        let heard = Heard::read(message, record.n);
+        let told = heard.as_ref().map(Heard::told);
+        let early = row(13, || matches!(heard, Some(Heard::Submit(_))) && !record.own.submitted);
+        let in_message = refusals::message(record.n, record.round, keys, &told);
+        pass(buffers(&record, keys, store, out).into_iter().chain(in_message).chain([early]))?;
         let mut unit = Unit::new(&record, store);
-        match message.first() {
-            Some(&SUBMIT) => unit.hear_submit(&heard_submit(&record, keys, message)?),
-            Some(&NOTICE) => unit.hear_value(heard_notice(&record, message)?.value),
-            Some(&FULL) => unit.hear_certificate(&certificate(record.n, record.round, keys, message)?),
-            _ => return Err(9),
+        match heard.as_ref().expect("a garbled one is refused") {
+            Heard::Submit(submit) => unit.hear_submit(submit),
+            Heard::Notice(notice) => unit.hear_value(notice.value),
+            Heard::Full(full) => unit.hear_certificate(full),
         }
         unit.send_full();
         Ok(unit)
@@ -69,28 +69,40 @@ pub fn step_lent(record: &mut Record, keys: &[u8], store: &mut [u8], message: &[
     Written { number: stepped.number, written: stepped.written }
 }
 
-/// Refusals 4 to 7.
-fn buffers(record: &Record, keys: &[u8], store: &[u8], out: &[u8]) -> Passed {
-    refuse(4, impossible(record))?;
-    key_table(record.n, keys)?;
-    refuse(6, store.len() < layout::store(record.n))?;
-    refuse(7, out.len() < layout::out(record.n))
+/// 4 to 7.
+fn buffers<'a>(record: &'a Record, keys: &'a [u8], store: &'a [u8], out: &'a [u8]) -> [Row<'a>; 4] {
+    [
+        row(4, || impossible(record)),
+        key_table(record.n, keys),
+        row(6, || store.len() < layout::store(record.n)),
+        row(7, || out.len() < layout::out(record.n)),
+    ]
 }
 
-/// Refusals 9 to 14 of a SUBMIT.
-fn heard_submit(record: &Record, keys: &[u8], message: &[u8]) -> Passed<Submit> {
-    let submit = Submit::read(message).ok_or(9u32)?;
-    places(record.n, record.round, submit.round, Some(submit.seat), &[])?;
-    refuse(13, !record.own.submitted)?;
-    signature(keys, record.round, submit.seat, &submit.value, &submit.signature)?;
-    Ok(submit)
+/// A message that a step takes.
+enum Heard {
+    Submit(Submit),
+    Notice(Notice),
+    Full(Full),
 }
 
-/// Refusals 9 to 11 of a NOTICE.
-fn heard_notice(record: &Record, message: &[u8]) -> Passed<Notice> {
-    let notice = Notice::read(message).ok_or(9u32)?;
-    places(record.n, record.round, notice.round, Some(notice.seat), &[])?;
-    Ok(notice)
+impl Heard {
+    fn read(message: &[u8], n: u32) -> Option<Heard> {
+        match message.first() {
+            Some(&SUBMIT) => Submit::read(message).map(Heard::Submit),
+            Some(&NOTICE) => Notice::read(message).map(Heard::Notice),
+            Some(&FULL) if is_size(n) => Full::read(message, quorum::k(n)).map(Heard::Full),
+            _ => None,
+        }
+    }
+
+    fn told(&self) -> Told<'_> {
+        match self {
+            Heard::Submit(submit) => submit.told(),
+            Heard::Notice(notice) => notice.told(),
+            Heard::Full(full) => full.told(),
+        }
+    }
 }
 
 fn hand_over(result: Passed<Unit>, record: Record, store: &mut [u8], out: &mut [u8]) -> Stepped {

@@ -3,20 +3,17 @@
 use super::layout;
 use super::messages::{Evidence, EvidenceEntry, Full, FullEntry};
 use super::record::{Verdict, Written};
+use super::refusals::{arguments, certificate, message, pass, row, Passed};
 use super::seats::mask;
-use super::refusals::{arguments, certificate, places, refuse, signature, Passed};
 
 pub fn check_evidence(n: u32, round: u32, keys: &[u8], evidence: &[u8]) -> Verdict {
     let named = || {
-        arguments(n, round, keys)?;
-        let evidence = Evidence::read(evidence, n).ok_or(9u32)?;
-        places(n, round, evidence.round, None, &evidence.seats())?;
-        for entry in &evidence.entries {
-            signature(keys, round, entry.seat, &evidence.lower, &entry.over_lower)?;
-            signature(keys, round, entry.seat, &evidence.higher, &entry.over_higher)?;
-        }
-        refuse(15, evidence.lower >= evidence.higher)?;
-        Ok(mask(&evidence.seats()))
+        let read = Evidence::read(evidence, n);
+        let told = read.as_ref().map(Evidence::told);
+        let no_conflict = row(15, || read.as_ref().is_some_and(|evidence| evidence.lower >= evidence.higher));
+        let rows = arguments(n, round, keys).into_iter().chain(message(n, round, keys, &told)).chain([no_conflict]);
+        pass(rows)?;
+        Ok(mask(&told.expect("a garbled one is refused").entries))
     };
     match named() {
         Ok(mask) => Verdict { number: 0, mask },
@@ -26,8 +23,8 @@ pub fn check_evidence(n: u32, round: u32, keys: &[u8], evidence: &[u8]) -> Verdi
 
 pub fn make_evidence(n: u32, round: u32, keys: &[u8], first: &[u8], second: &[u8], out: &mut [u8]) -> Written {
     let made = || {
-        arguments(n, round, keys)?;
-        refuse(7, out.len() < layout::evidence_out(n))?;
+        let short = row(7, || out.len() < layout::evidence_out(n));
+        pass(arguments(n, round, keys).into_iter().chain([short]))?;
         let (first, second) = conflicting(n, round, keys, first, second)?;
         Ok(of_conflict(&first, &second).write())
     };
@@ -43,7 +40,7 @@ pub fn make_evidence(n: u32, round: u32, keys: &[u8], first: &[u8], second: &[u8
 /// The certificate with the lower value, of length 0 where the call or either one is refused or they don't conflict.
 pub fn lower_certificate<'a>(n: u32, round: u32, keys: &[u8], first: &'a [u8], second: &'a [u8]) -> &'a [u8] {
     let pair = || {
-        arguments(n, round, keys)?;
+        pass(arguments(n, round, keys))?;
         conflicting(n, round, keys, first, second)
     };
     match pair() {
@@ -57,7 +54,7 @@ pub fn lower_certificate<'a>(n: u32, round: u32, keys: &[u8], first: &'a [u8], s
 fn conflicting(n: u32, round: u32, keys: &[u8], first: &[u8], second: &[u8]) -> Passed<(Full, Full)> {
     let first = certificate(n, round, keys, first)?;
     let second = certificate(n, round, keys, second)?;
-    refuse(15, first.value == second.value)?;
+    pass([row(15, || first.value == second.value)])?;
     Ok((first, second))
 }
 

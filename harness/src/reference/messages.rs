@@ -58,6 +58,18 @@ pub struct EvidenceEntry {
     pub over_higher: Vec<u8>,
 }
 
+/// What the table's conditions look at in a message.
+pub struct Told<'a> {
+    pub round: u32,
+    pub sender: Option<u32>,
+    /// The seats of its entries.
+    pub entries: Vec<u32>,
+    pub signatures: Vec<Signed<'a>>,
+}
+
+/// A seat, a value, and the seat's signature over it.
+pub type Signed<'a> = (u32, &'a Value, &'a [u8]);
+
 /// The bytes that a seat signs.
 pub fn signed_bytes(round: u32, seat: u32, value: &Value) -> Vec<u8> {
     [&[0x01], two_bytes(round).as_slice(), &[one_byte(seat)], value].concat()
@@ -93,6 +105,11 @@ impl Submit {
             signature: rest.signature()?,
         })
     }
+
+    pub fn told(&self) -> Told<'_> {
+        let signatures = vec![(self.seat, &self.value, self.signature.as_slice())];
+        Told { round: self.round, sender: Some(self.seat), entries: Vec::new(), signatures }
+    }
 }
 
 impl Notice {
@@ -107,6 +124,10 @@ impl Notice {
     fn first(rest: &mut Rest) -> Option<Notice> {
         rest.command(NOTICE)?;
         Some(Notice { round: rest.number(2)?, seat: rest.number(1)?, value: rest.value()? })
+    }
+
+    pub fn told(&self) -> Told<'_> {
+        Told { round: self.round, sender: Some(self.seat), entries: Vec::new(), signatures: Vec::new() }
     }
 }
 
@@ -138,6 +159,12 @@ impl Full {
             entries.push(FullEntry { seat: rest.number(1)?, signature: rest.signature()? });
         }
         Some(Full { round, sender, value, entries })
+    }
+
+    pub fn told(&self) -> Told<'_> {
+        let entries = self.entries.iter();
+        let signatures = entries.map(|entry| (entry.seat, &self.value, entry.signature.as_slice())).collect();
+        Told { round: self.round, sender: Some(self.sender), entries: self.seats(), signatures }
     }
 
     pub fn seats(&self) -> Vec<u32> {
@@ -179,6 +206,15 @@ impl Evidence {
             });
         }
         Some(Evidence { round, lower, higher, entries })
+    }
+
+    pub fn told(&self) -> Told<'_> {
+        let mut signatures = Vec::new();
+        for entry in &self.entries {
+            signatures.push((entry.seat, &self.lower, entry.over_lower.as_slice()));
+            signatures.push((entry.seat, &self.higher, entry.over_higher.as_slice()));
+        }
+        Told { round: self.round, sender: None, entries: self.seats(), signatures }
     }
 
     pub fn seats(&self) -> Vec<u32> {

@@ -1,27 +1,43 @@
-//! The conditions of document 01's table that several calls share. Each call looks at its own in rising order.
+//! The conditions of document 01's table that several calls share, and the order in which they count.
 
 use super::calls::MAX_LEAF;
 use super::lms::PUBLIC_KEY;
-use super::messages::{signed_bytes, Full, Value};
+use super::messages::{signed_bytes, Full, Signed, Told};
 use super::quorum;
 use super::verdicts;
+
+/// The table's numbers in the order in which they count: "The lowest number whose condition holds is returned".
+pub const ORDER: [u32; 16] = [1, 2, 3, 4, 5, 6, 7, 8, 9, 10, 11, 12, 13, 14, 15, 16];
+
+/// The place of a number in the order.
+pub fn place(number: u32) -> usize {
+    ORDER.iter().position(|&other| other == number).expect("a number of the table")
+}
+
+/// A row of the table: a number, and the test of its condition. It is tested only where no condition before it in the order
+/// holds.
+pub type Row<'a> = (u32, Box<dyn Fn() -> bool + 'a>);
+
+pub fn row<'a>(number: u32, condition: impl Fn() -> bool + 'a) -> Row<'a> {
+    (number, Box::new(condition))
+}
 
 /// Nothing, or the refusal's number.
 pub type Passed<T = ()> = Result<T, u32>;
 
-pub fn refuse(number: u32, condition: bool) -> Passed {
-    if condition {
-        Err(number)
-    } else {
-        Ok(())
+/// Refuses with the first number in the order whose condition holds.
+pub fn pass<'a>(rows: impl IntoIterator<Item = Row<'a>>) -> Passed {
+    let mut ordered: Vec<Row> = rows.into_iter().collect();
+    ordered.sort_by_key(|(number, _)| place(*number));
+    match ordered.iter().find(|(_, holds)| holds()) {
+        Some((number, _)) => Err(*number),
+        None => Ok(()),
     }
 }
 
-/// Refusals of the arguments of a call outside a record: 1, 3 and 5.
-pub fn arguments(n: u32, round: u32, keys: &[u8]) -> Passed {
-    refuse(1, !is_size(n))?;
-    refuse(3, round > MAX_LEAF)?;
-    key_table(n, keys)
+/// 1, 3 and 5: the arguments of a call outside a record.
+pub fn arguments(n: u32, round: u32, keys: &[u8]) -> Vec<Row<'_>> {
+    vec![row(1, move || !is_size(n)), row(3, move || round > MAX_LEAF), key_table(n, keys)]
 }
 
 pub fn is_size(n: u32) -> bool {
@@ -29,31 +45,35 @@ pub fn is_size(n: u32) -> bool {
 }
 
 /// 5: the length is exact, and every key is of types 6 and 4.
-pub fn key_table(n: u32, keys: &[u8]) -> Passed {
-    refuse(5, keys.len() != PUBLIC_KEY * n as usize)?;
-    refuse(5, keys.chunks(PUBLIC_KEY).any(|key| key[..8] != [0, 0, 0, 6, 0, 0, 0, 4]))
+pub fn key_table(n: u32, keys: &[u8]) -> Row<'_> {
+    row(5, move || {
+        keys.len() != PUBLIC_KEY * n as usize || keys.chunks(PUBLIC_KEY).any(|key| key[..8] != [0, 0, 0, 6, 0, 0, 0, 4])
+    })
 }
 
-/// 10 to 12: the message's round, every seat in it, and the order of its entries.
-pub fn places(n: u32, round: u32, told_round: u32, sender: Option<u32>, entries: &[u32]) -> Passed {
-    refuse(10, told_round != round)?;
-    refuse(11, sender.iter().chain(entries).any(|&seat| seat >= n))?;
-    refuse(12, entries.windows(2).any(|pair| pair[0] >= pair[1]))
+/// 9 to 12 and 14 of a message: its round, every seat in it, the order of its entries, its signatures. Of a garbled one
+/// nothing is told.
+pub fn message<'a>(n: u32, round: u32, keys: &'a [u8], told: &'a Option<Told<'a>>) -> Vec<Row<'a>> {
+    let Some(told) = told else {
+        return vec![row(9, || true)];
+    };
+    vec![
+        row(10, move || told.round != round),
+        row(11, move || told.sender.iter().chain(&told.entries).any(|&seat| seat >= n)),
+        row(12, || told.entries.windows(2).any(|pair| pair[0] >= pair[1])),
+        row(14, move || told.signatures.iter().any(|signed| !checks(keys, round, signed))),
+    ]
 }
 
-/// 14: RFC 8554 rejects the signature, or its leaf isn't the round.
-pub fn signature(keys: &[u8], round: u32, seat: u32, value: &Value, signature: &[u8]) -> Passed {
+/// RFC 8554 accepts the signature of a seat over a value, and its leaf is the round.
+pub fn checks(keys: &[u8], round: u32, &(seat, value, signature): &Signed) -> bool {
     let key = &keys[PUBLIC_KEY * seat as usize..][..PUBLIC_KEY];
-    refuse(14, signature[..4] != round.to_be_bytes())?;
-    refuse(14, !verdicts::verify(key, &signed_bytes(round, seat, value), signature))
+    signature[..4] == round.to_be_bytes() && verdicts::verify(key, &signed_bytes(round, seat, value), signature)
 }
 
 /// 9 to 14 of a FULL.
-pub fn certificate(n: u32, round: u32, keys: &[u8], message: &[u8]) -> Passed<Full> {
-    let full = Full::read(message, quorum::k(n)).ok_or(9u32)?;
-    places(n, round, full.round, Some(full.sender), &full.seats())?;
-    for entry in &full.entries {
-        signature(keys, round, entry.seat, &full.value, &entry.signature)?;
-    }
-    Ok(full)
+pub fn certificate(n: u32, round: u32, keys: &[u8], bytes: &[u8]) -> Passed<Full> {
+    let full = Full::read(bytes, quorum::k(n));
+    pass(message(n, round, keys, &full.as_ref().map(Full::told)))?;
+    Ok(full.expect("a garbled one is refused"))
 }

@@ -9,7 +9,7 @@ use Rattle.octets.specs.Octets.{patch, bytes}
 use Rattle.octets.specs.Strings.{joined}
 use Rattle.octets.specs.WriteLaws.{patch-none}
 use Rattle.lmots_batches.specs.Batches.{ended}
-use Rattle.lmots_batches.specs.BatchesLaws.{finish-next, length-written, finished}
+use Rattle.lmots_batches.specs.BatchesLaws.{finish-next, length-written, finish-done}
 use Rattle.lmots_batches.proofs.finish.Statement.{statement}
 use Rattle.lmots_batches.proofs.finish.Tie as tie
 
@@ -112,7 +112,7 @@ returns c =
     let all : loop .i ≡ args .n = omega arith in
     let f = ended (bytes (args .id)) (args .q) (args .t4) (args .t5) (now (args .z)) in (
       loop .inv .1,
-      finished (bytes (args .id)) (args .q) (args .t4) (args .t5) (now (args .z)) (start .pre .1) (args .n) (loop .z) (omega arith)
+      finish-done (bytes (args .id)) (args .q) (args .t4) (args .t5) (now (args .z)) (start .pre .1) (args .n) (loop .z) (omega arith)
           (subst (λ (n : ℕ). loop .z ≡ patch 0 (joined f n) (now (args .z))) all (loop .inv .2)),
     )
 

@@ -6,7 +6,7 @@ use native.Mathlib.Omega.{arith}
 use lib.ListN.{length, take, length-set}
 use denote.Ref.{now}
 use Rattle.octets.specs.Octets.{words}
-use Rattle.octets.specs.OctetsLaws.{filled, words-next}
+use Rattle.octets.specs.OctetsLaws.{whole-from-take, words-next}
 use Rattle.probes.proofs.eight_words.Statement.{statement}
 use Rattle.probes.proofs.eight_words.Tie as tie
 
@@ -49,7 +49,7 @@ loop-again c =
 returns : tie.Need-returns Inv-loop μ-loop
 returns c =
     let at-loop = c .before in
-    filled (at-loop .loop .w) (λ t. words t (bytes at-loop)) (at-loop .loop .t) 8 (omega arith) (at-loop .loop .inv .1) (at-loop .loop .inv .2)
+    whole-from-take (at-loop .loop .w) (λ t. words t (bytes at-loop)) (at-loop .loop .t) 8 (omega arith) (at-loop .loop .inv .1) (at-loop .loop .inv .2)
 
 pub eight-words-spec : {M : Type 1} → statement M
 eight-words-spec =

@@ -1,7 +1,7 @@
 -- `wire_write::put_tag` meets its contract.
 use native.Mathlib.Omega.{arith}
 use borrow.Author.Needs.{needs}
-use Rattle.wire_write.specs.WriteLaws.{then}
+use Rattle.wire_write.specs.WriteLaws.{wrote-then}
 use Rattle.wire_write.proofs.put_tag.Statement.{statement}
 use Rattle.wire_write.proofs.put_tag.Tie as tie
 
@@ -10,7 +10,7 @@ returns c =
     let second = c .before .before in
     let first = second .before .before .before .before in
     let start = first .before .before .before in
-    then (first .put-byte .ensures) (second .put-byte2 .ensures) (omega (arith, start .pre))
+    wrote-then (first .put-byte .ensures) (second .put-byte2 .ensures) (omega (arith, start .pre))
 
 pub put-tag-spec : {M : Type 1} → statement M
 put-tag-spec =

@@ -4,7 +4,7 @@ use borrow.Author.Needs.{needs}
 use Rattle.protocol.specs.Layout.{signatureLength, fullEntryLength}
 use Rattle.protocol.specs.Entries.{renderEntry}
 use Rattle.protocol.specs.Message.{fullForm}
-use Rattle.wire_write.specs.WriteLaws.{then}
+use Rattle.wire_write.specs.WriteLaws.{wrote-then}
 use Rattle.wire_write.proofs.write_entry.Statement.{statement}
 use Rattle.wire_write.proofs.write_entry.Tie as tie
 
@@ -22,7 +22,7 @@ returns c =
     let second = c .before .before in
     let first = second .before .before .before .before in
     let start = first .before .before .before .before in
-    then (first .put-tag .ensures) (second .put .ensures) (omega (arith, start .pre))
+    wrote-then (first .put-tag .ensures) (second .put .ensures) (omega (arith, start .pre))
 
 pub write-entry-spec : {M : Type 1} → statement M
 write-entry-spec = tie.close (tie.spec put-tag-requires put-requires (λ c. search needs) returns)

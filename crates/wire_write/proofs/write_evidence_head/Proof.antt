@@ -4,7 +4,7 @@ use Prim.Native.Nat.{ℕ, _+_}
 use native.Mathlib.Omega.{arith}
 use borrow.Author.Needs.{needs}
 use denote.Ref.{now}
-use Rattle.wire_write.specs.WriteLaws.{then, length-command, length-evidence-head}
+use Rattle.wire_write.specs.WriteLaws.{wrote-then, length-command, length-evidence-head}
 use Rattle.wire_write.proofs.write_evidence_head.Statement.{statement}
 use Rattle.wire_write.proofs.write_evidence_head.Tie as tie
 
@@ -48,8 +48,8 @@ returns c =
     let start = started first in
     let args = start .args in
     let h = start .pre in
-    let two = then (first .put-command .ensures) (second .put .ensures) (omega arith) in
-    let wrote = then (then two (third .put2 .ensures) (omega arith)) (fourth .put-byte .ensures) (omega arith) in
+    let two = wrote-then (first .put-command .ensures) (second .put .ensures) (omega arith) in
+    let wrote = wrote-then (wrote-then two (third .put2 .ensures) (omega arith)) (fourth .put-byte .ensures) (omega arith) in
     (wrote, wrote .ends ∙ ap (λ (l : ℕ). args .at + l) (length-evidence-head (args .round) (now (args .lower)) (now (args .higher)) (args .count) (h .1) (h .2)))
 
 pub write-evidence-head-spec : {M : Type 1} → statement M

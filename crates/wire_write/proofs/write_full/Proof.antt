@@ -13,7 +13,7 @@ use Rattle.protocol.specs.Message.{fullForm, render}
 use Rattle.protocol.specs.Certificate.{entryOf, entriesOf, fullOf}
 use Rattle.store.specs.Sources.{certificateFrom}
 use Rattle.wire_write.specs.Writing.{head}
-use Rattle.wire_write.specs.WriteLaws.{then, list-written}
+use Rattle.wire_write.specs.WriteLaws.{wrote-then, list-written}
 use Rattle.wire_write.proofs.write_full.Statement.{statement}
 use Rattle.wire_write.proofs.write_full.Tie as tie
 
@@ -67,7 +67,7 @@ returns c =
     let room : args .at ≤ length (now (args .out)) = omega (arith, start .pre .4) in
     let counted = length-seats n (args .source .seats) (start .pre .3 .inside) in (
       list-written fullForm (entryOf (certificateFrom n (args .source) value (now (args .m)))) n (args .source .seats) (head 0x03 (args .round) (args .sender) value)
-          (then (first .write-head .ensures .0) (second .put-byte .ensures) room) (third .write-entries .ensures .0) room (start .pre .3 .inside) (sized first .size .ensures),
+          (wrote-then (first .write-head .ensures .0) (second .put-byte .ensures) room) (third .write-entries .ensures .0) room (start .pre .3 .inside) (sized first .size .ensures),
       third .write-entries .ensures .1 ∙ rw counted (omega (arith, first .write-head .ensures .1, second .put-byte .ensures .ends)),
     )
 

@@ -5,7 +5,7 @@ use native.Mathlib.Omega.{arith}
 use borrow.Author.Needs.{needs}
 use denote.Ref.{now}
 use Rattle.protocol.specs.Layout.{noticeLength}
-use Rattle.wire_write.specs.WriteLaws.{then, length-command, length-head}
+use Rattle.wire_write.specs.WriteLaws.{wrote-then, length-command, length-head}
 use Rattle.wire_write.proofs.write_head.Statement.{statement}
 use Rattle.wire_write.proofs.write_head.Tie as tie
 
@@ -39,7 +39,7 @@ returns c =
     let command = commanded byte in
     let start = started command in
     let args = start .args in
-    let wrote = then (then (command .put-command .ensures) (byte .put-byte .ensures) (omega (arith, start .pre))) (last .put .ensures) (omega (arith, start .pre)) in
+    let wrote = wrote-then (wrote-then (command .put-command .ensures) (byte .put-byte .ensures) (omega (arith, start .pre))) (last .put .ensures) (omega (arith, start .pre)) in
     (wrote, wrote .ends ∙ ap (λ (l : ℕ). args .at + l) (length-head (args .command) (args .round) (args .seat) (now (args .value)) (start .pre .1)))
 
 pub write-head-spec : {M : Type 1} → statement M

@@ -4,7 +4,7 @@ use borrow.Author.Needs.{needs}
 use Rattle.protocol.specs.Layout.{signatureLength, evidenceEntryLength}
 use Rattle.protocol.specs.Entries.{renderEntry}
 use Rattle.protocol.specs.Message.{evidenceForm}
-use Rattle.wire_write.specs.WriteLaws.{then}
+use Rattle.wire_write.specs.WriteLaws.{wrote-then}
 use Rattle.wire_write.proofs.write_pair.Statement.{statement}
 use Rattle.wire_write.proofs.write_pair.Tie as tie
 
@@ -33,7 +33,7 @@ returns c =
     let second = third .before .before .before .before in
     let first = tagged second in
     let start = started first in
-    then (then (first .put-tag .ensures) (second .put .ensures) (omega (arith, start .pre))) (third .put2 .ensures) (omega (arith, start .pre))
+    wrote-then (wrote-then (first .put-tag .ensures) (second .put .ensures) (omega (arith, start .pre))) (third .put2 .ensures) (omega (arith, start .pre))
 
 pub write-pair-spec : {M : Type 1} → statement M
 write-pair-spec =

@@ -8,7 +8,7 @@ use Rattle.protocol.specs.Layout.{signatureLength, noticeLength, submitLength}
 use Rattle.protocol.specs.Message.{render}
 use Rattle.protocol.specs.MessageLaws.{length-submit}
 use Rattle.wire_write.specs.Writing.{head}
-use Rattle.wire_write.specs.WriteLaws.{then}
+use Rattle.wire_write.specs.WriteLaws.{wrote-then}
 use Rattle.wire_write.proofs.write_submit.Statement.{statement}
 use Rattle.wire_write.proofs.write_submit.Tie as tie
 
@@ -27,7 +27,7 @@ returns c =
     let first = second .before .before .before .before in
     let start = first .before .before .before .before .before in
     let args = start .args in
-    let wrote = then {us = head 0x01 (args .round) (args .seat) (now (args .value))} (first .write-head .ensures .0) (second .put .ensures) (omega (arith, start .pre)) in
+    let wrote = wrote-then {us = head 0x01 (args .round) (args .seat) (now (args .value))} (first .write-head .ensures .0) (second .put .ensures) (omega (arith, start .pre)) in
     (wrote, wrote .ends ∙ ap (λ (l : ℕ). args .at + l) (length-submit (args .round) (args .seat) (now (args .value)) (now (args .signature)) (start .pre .1) (start .pre .2)))
 
 pub write-submit-spec : {M : Type 1} → statement M

@@ -1,5 +1,5 @@
 -- `lmots_chains::chain::block` meets its contract.
-use Rattle.lmots_chains.specs.ChainLaws.{prepared}
+use Rattle.lmots_chains.specs.ChainLaws.{block-padded}
 use borrow.Author.Needs.{needs}
 use Rattle.lmots_chains.proofs.chain.block.Statement.{statement}
 use Rattle.lmots_chains.proofs.chain.block.Tie as tie
@@ -13,7 +13,7 @@ returns c =
     let second = third .before in
     let first = second .before in
     let start = first .before in
-    prepared (start .args .t1) (start .args .t5) (start .args .q) (start .args .i) (start .args .j)
+    block-padded (start .args .t1) (start .args .t5) (start .args .q) (start .args .i) (start .args .j)
     (first .across .result) (second .across2 .result) (third .across3 .result) (fourth .across4 .result)
     (fifth .across5 .result) (sixth .across6 .result) (c .across7 .result)
     (search needs) (start .good .1 .1 .1 .1 .0 .1 .0 .1) (start .pre .0) (start .pre .1)

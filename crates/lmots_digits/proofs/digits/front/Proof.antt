@@ -2,7 +2,7 @@
 use mathlib.Core.Path.{refl}
 use borrow.Author.Needs.{needs}
 use lib.ListN.{replicate}
-use Rattle.lmots_digits.specs.WriteLaws.{fronted}
+use Rattle.lmots_digits.specs.WriteLaws.{front-written}
 use Rattle.lmots_digits.proofs.digits.front.Statement.{statement}
 use Rattle.lmots_digits.proofs.digits.front.Tie as tie
 
@@ -14,7 +14,7 @@ returns c =
     let second = third .before .before .before in
     let first = second .before .before .before in
     let start = first .before .before in
-    fronted (start .args .t1) (replicate 22 0) (first .put-word .last .0) (second .put-word2 .last .0) (third .put-word3 .last .0)
+    front-written (start .args .t1) (replicate 22 0) (first .put-word .last .0) (second .put-word2 .last .0) (third .put-word3 .last .0)
     (fourth .put-word4 .last .0) (fifth .put-word5 .last .0) (start .args .q) (start .args .d) (search needs) refl
     (first .put-word .ensures) (second .put-word2 .ensures) (third .put-word3 .ensures) (fourth .put-word4 .ensures) (fifth .put-word5 .ensures)
 

@@ -2,7 +2,7 @@
 use mathlib.Core.Path.{refl}
 use borrow.Author.Needs.{needs}
 use lib.ListN.{replicate}
-use Rattle.lmots_digits.specs.DigitLaws.{checksummed}
+use Rattle.lmots_digits.specs.DigitLaws.{checksum-written}
 use Rattle.lmots_digits.proofs.digits.with_checksum.Statement.{statement}
 use Rattle.lmots_digits.proofs.digits.with_checksum.Tie as tie
 
@@ -10,7 +10,7 @@ returns : tie.Need-returns
 returns c =
     let start = c .before .before .before .before .before .before in
     let sum = c .before .before .before .before .checksum in
-    checksummed (start .args .w) (sum .result) (start .args .t2) (replicate 34 0) (c .before .copy .last .0)
+    checksum-written (start .args .w) (sum .result) (start .args .t2) (replicate 34 0) (c .before .copy .last .0)
     (search needs) refl (c .before .copy .ensures) (sum .ensures)
 
 pub with-checksum-spec : {M : Type 1} → statement M

@@ -64,17 +64,16 @@ returns c =
     (refl, refl, sym (patch-nothing (out s)))
 
 write-signature-requires : tie.Need-write-signature-requires
-unfolding signatureLength
 write-signature-requires c κs =
     let r = room (c .before) in
-    (omega arith, r .3, r .4, r .5, r .6, omega arith)
+    (omega arith, r .3, r .4, r .5, r .6, r .1)
 
 cast-t16 : tie.Need-cast-t16
 unfolding signatureLength
 cast-t16 c = omega arith
 
 returns-2 : tie.Need-returns-2
-unfolding signatureLength treeLength messageLimit
+unfolding treeLength messageLimit
 returns-2 c =
     let s = started (passed c .before) in
     let r = room (passed c) in

@@ -2,9 +2,18 @@
 use borrow.Author.Needs.{needs}
 use denote.Ref.{now}
 use Rattle.octets.specs.Octets.{bytes}
+use Rattle.protocol.specs.Layout.{signatureLength}
 use Rattle.lms.specs.Written.{whole-string, signature-written}
 use Rattle.lms.proofs.signer.write_signature.Statement.{statement}
 use Rattle.lms.proofs.signer.write_signature.Tie as tie
+
+write-head-requires : tie.Need-write-head-requires
+unfolding signatureLength
+write-head-requires c κs = search needs
+
+write-values-requires : tie.Need-write-values-requires
+unfolding signatureLength
+write-values-requires c κs = search needs
 
 returns : tie.Need-returns
 returns c =
@@ -31,8 +40,8 @@ write-signature-spec =
     (λ c κs. search needs)
     (λ c κs. search needs)
     (λ c κs. search needs)
-    (λ c κs. search needs)
-    (λ c κs. search needs)
+    write-head-requires
+    write-values-requires
     (λ c κs. search needs)
     (λ c. search needs)
     returns)

@@ -5,11 +5,20 @@ use borrow.Author.Needs.{needs}
 use denote.Ref.{now}
 use Rattle.octets.specs.Octets.{be}
 use Rattle.octets.specs.WriteLaws.{patch-next}
+use Rattle.protocol.specs.Layout.{signatureLength}
 use Rattle.lms.proofs.signer.write_tail.Statement.{statement}
 use Rattle.lms.proofs.signer.write_tail.Tie as tie
 
+put-word-requires : tie.Need-put-word-requires
+unfolding signatureLength
+put-word-requires c κs = search needs
+
+write-path-requires : tie.Need-write-path-requires
+unfolding signatureLength
+write-path-requires c κs = search needs
+
 returns : tie.Need-returns
-unfolding be
+unfolding be signatureLength
 returns c =
     let after-write-path = c .before .before in
     let after-put-word = after-write-path .before .before .before .before in
@@ -19,4 +28,4 @@ returns c =
 
 pub write-tail-spec : {M : Type 1} → statement M
 write-tail-spec =
-    tie.close (tie.spec (λ c κs. search needs) (λ c. search needs) (λ c κs. search needs) (λ c. search needs) returns)
+    tie.close (tie.spec put-word-requires (λ c. search needs) write-path-requires (λ c. search needs) returns)

@@ -5,7 +5,7 @@ use native.Mathlib.Omega.{arith}
 use lib.ListN.{length, take, length-set}
 use denote.Ref.{now}
 use Rattle.octets.specs.Octets.{part, words}
-use Rattle.octets.specs.OctetsLaws.{filled, wordAt-part, words-next}
+use Rattle.octets.specs.OctetsLaws.{whole-from-take, wordAt-part, words-next}
 use Rattle.sha256.proofs.hash.block_words.Statement.{statement}
 use Rattle.sha256.proofs.hash.block_words.Tie as tie
 
@@ -53,7 +53,7 @@ returns c =
     let at-loop = c .before in
     let args = at-loop .before .before .args in
     let all : at-loop .loop .t ≡ 16 = omega arith in
-    filled (at-loop .loop .w) (λ t. words t (part (args .at) 64 (now (args .m)))) (at-loop .loop .t) 16 all (at-loop .loop .inv .1) (at-loop .loop .inv .2)
+    whole-from-take (at-loop .loop .w) (λ t. words t (part (args .at) 64 (now (args .m)))) (at-loop .loop .t) 16 all (at-loop .loop .inv .1) (at-loop .loop .inv .2)
 
 pub block-words-spec : {M : Type 1} → statement M
 block-words-spec =

@@ -1,7 +1,7 @@
 -- `steps::collect::hear_submit` meets its contract.
 use mathlib.Core.Path.{sym, _∙_}
 use denote.Ref.{now}
-use Rattle.steps.specs.Collecting.{wanted, unwanted}
+use Rattle.steps.specs.Collecting.{hearSubmit-wanted, hearSubmit-unwanted}
 use borrow.Author.Needs.{needs}
 use Rattle.steps.proofs.collect.hear_submit.Statement.{statement}
 use Rattle.steps.proofs.collect.hear_submit.Tie as tie
@@ -15,12 +15,12 @@ returns c =
     let done = collected .collect in
     let chosen = collected .before .before in
     let args = started (chosen .before) .args in
-    wanted (args .r) (now (args .store)) (args .seat) (args .value) (now (args .signature)) (done .result) (done .last .1 .0) (sym (chosen .before .is-wanted .ensures) ∙ chosen .if1 .taken) (done .ensures)
+    hearSubmit-wanted (args .r) (now (args .store)) (args .seat) (args .value) (now (args .signature)) (done .result) (done .last .1 .0) (sym (chosen .before .is-wanted .ensures) ∙ chosen .if1 .taken) (done .ensures)
 
 returns-2 : tie.Need-returns-2
 returns-2 c =
     let args = started (c .before) .args in
-    unwanted (args .r) (now (args .store)) (args .seat) (args .value) (now (args .signature)) (sym (c .before .is-wanted .ensures) ∙ c .if1 .left)
+    hearSubmit-unwanted (args .r) (now (args .store)) (args .seat) (args .value) (now (args .signature)) (sym (c .before .is-wanted .ensures) ∙ c .if1 .left)
 
 pub hear-submit-spec : {M : Type 1} → statement M
 hear-submit-spec =

@@ -6,7 +6,7 @@ use denote.Ref.{now}
 use Rattle.layout.specs.declared.Bank.the-variants as bank
 use Rattle.store.specs.Sources.{bytesOf}
 use Rattle.steps.specs.Certificates.{readable-bank}
-use Rattle.steps.specs.Confirming.{confirmed-fits, confirmed-room, completed, incomplete}
+use Rattle.steps.specs.Confirming.{confirmed-fits, confirmed-room, confirmIfComplete-complete, confirmIfComplete-incomplete}
 use borrow.Author.Needs.{needs}
 use Rattle.steps.proofs.confirm.confirm_if_complete.Statement.{statement}
 use Rattle.steps.proofs.confirm.confirm_if_complete.Tie as tie
@@ -51,7 +51,7 @@ returns c =
     let chosen = complete point in
     let start = started (chosen .before) in
     let args = start .args in
-    completed (args .r) (now (args .store)) (now (args .out)) (args .at) (own .result .unit) (own .last .1 .0) (own .last .1 .1 .0) (own .result .at)
+    confirmIfComplete-complete (args .r) (now (args .store)) (now (args .out)) (args .at) (own .result .unit) (own .last .1 .0) (own .last .1 .1 .0) (own .result .at)
     (done .result .unit) (done .last .1 .0) (done .result .at) (omega (arith, start .pre)) (sym (chosen .before .is-complete .ensures) ∙ chosen .if1 .taken) (done .ensures .0 (now (args .store))) (own .ensures)
 
 returns-2 : tie.Need-returns-2
@@ -59,7 +59,7 @@ returns-2 c =
     let done = replied c .reply in
     let chosen = short (replied c) in
     let args = started (chosen .before) .args in
-    incomplete (args .r) (now (args .store)) (now (args .out)) (args .at) (done .result .unit) (now (args .store)) (done .last .1 .1 .0) (done .result .at) (sym (chosen .before .is-complete .ensures) ∙ chosen .if1 .left) (done .ensures .0)
+    confirmIfComplete-incomplete (args .r) (now (args .store)) (now (args .out)) (args .at) (done .result .unit) (now (args .store)) (done .last .1 .1 .0) (done .result .at) (sym (chosen .before .is-complete .ensures) ∙ chosen .if1 .left) (done .ensures .0)
 
 pub confirm-if-complete-spec : {M : Type 1} → statement M
 confirm-if-complete-spec =

@@ -2,7 +2,7 @@
 use mathlib.Core.Path.{sym, _∙_}
 use native.Mathlib.Omega.{arith}
 use denote.Ref.{now}
-use Rattle.steps.specs.Certificates.{replied, silent}
+use Rattle.steps.specs.Certificates.{reply-owed, reply-not-owed}
 use borrow.Author.Needs.{needs}
 use Rattle.steps.proofs.reply.reply.Statement.{statement}
 use Rattle.steps.proofs.reply.reply.Tie as tie
@@ -17,7 +17,7 @@ returns c =
     let chosen = replied-at .before .before in
     let start = started (chosen .before) in
     let owed = sym (chosen .before .owes-full .ensures) ∙ chosen .if1 .taken in (
-      replied (start .args .r) (now (start .args .store)) (now (start .args .out)) (start .args .at) (sent .result .unit) (now (start .args .store)) (sent .last .1 .1 .0) (sent .result .at) owed (sent .ensures .0),
+      reply-owed (start .args .r) (now (start .args .store)) (now (start .args .out)) (start .args .at) (sent .result .unit) (now (start .args .store)) (sent .last .1 .1 .0) (sent .result .at) owed (sent .ensures .0),
       sent .ensures .1,
     )
 
@@ -25,7 +25,7 @@ returns-2 : tie.Need-returns-2
 returns-2 c =
     let start = started (c .before) in
     let owed = sym (c .before .owes-full .ensures) ∙ c .if1 .left in
-    (silent (start .args .r) (now (start .args .store)) (now (start .args .out)) (start .args .at) owed, omega arith)
+    (reply-not-owed (start .args .r) (now (start .args .store)) (now (start .args .out)) (start .args .at) owed, omega arith)
 
 pub reply-spec : {M : Type 1} → statement M
 reply-spec =

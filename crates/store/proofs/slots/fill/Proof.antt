@@ -32,7 +32,7 @@ returns c =
     let signature = now (args .signature) in
     let at = slot .slot-at in
     let width = slot-signature (args .bank) in
-    patch-part (at .result) (at .result + 1452 - at .result) signature store (copied .copy .last .0) (omega arith) (omega arith) (copied .copy .ensures)
+    patch-part (at .result) (at .result + signatureLength - at .result) signature store (copied .copy .last .0) (omega arith) (omega arith) (copied .copy .ensures)
     ∙ ap (λ (a : ℕ). patch a signature store) (at .ensures .0)
 
 pub fill-spec : {M : Type 1} → statement M

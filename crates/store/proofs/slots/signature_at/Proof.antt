@@ -17,7 +17,7 @@ returns : tie.Need-returns
 unfolding readSignature part signatureLength
 returns c =
     let at = c .before .args .at in
-    let n : at + 1452 - at ≡ 1452 = omega arith in
+    let n : at + signatureLength - at ≡ signatureLength = omega arith in
     rw n
 
 pub signature-at-spec : {M : Type 1} → statement M
