@@ -23,14 +23,14 @@ use Rattle.protocol.specs.declared.Record.{Record}
 use Rattle.round.specs.Round.{Setting, IsOpened, Each, Honest, Called, resultOf, listOf, Writes, Confirms, Reached, Accepted, Names}
 use Rattle.round.specs.Demand3.{Blames, ReachedOthers}
 use Rattle.round.specs.Demand1.{NOTICE, FULL, EVIDENCE, isNotice}
-use Rattle.reading.specs.Lists.{and-false-either, each-nil, each-one}
+use Rattle.reading.specs.ListsLaws.{and-false-either, each-nil, each-one}
 use Rattle.claims.specs.Sound.{Any, Heard, Held, Grows, Settled, Entries, Pairs, Sound, Said}
-use Rattle.claims.specs.Certificates.{entries-laid}
+use Rattle.claims.specs.CertificatesLaws.{entries-laid}
 use Rattle.claims.specs.Parts.{other-heard}
 use Rattle.claims.specs.Whole.{notice-heard, full-held}
-use Rattle.claims.specs.Unrefused.{possible, Taken, full-taken}
+use Rattle.claims.specs.UnrefusedLaws.{possible, Taken, full-taken}
 use Rattle.claims.specs.NotRefused.{Table, message-not-refused}
-use Rattle.reading.specs.Messages.{step-is, unrefused-unit}
+use Rattle.reading.specs.MessagesLaws.{step-is, unrefused-unit}
 use Rattle.claims.specs.Journey.{Worthy, At}
 use Rattle.claims.specs.Units.{any-worthy, startOf, endOf, opened-range, opened-fit, opened-outside, start-n, start-round, trip, stop, end-n, end-seat, end-round, written-flag, flag-written, writes-good}
 use Rattle.claims.specs.Safe.{evidence-cases}

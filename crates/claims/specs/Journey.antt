@@ -14,8 +14,9 @@ use Rattle.protocol.specs.Calls.{Result, resultBy, start}
 use Rattle.protocol.specs.declared.Record.{Record}
 use Rattle.round.specs.Round.{Each, Relation, EachSigned, Call, BySubmit, ByStep, ByThinEntry, Setting, Called, outcome, resultOf, listFrom}
 use Rattle.round.specs.Demand1.{isOf}
-use Rattle.reading.specs.Messages.{refusalOf, cameTo, outcome-is, messages, allMessages}
-use Rattle.reading.specs.Lists.{count-append, count-nil, each-nil, each-cons}
+use Rattle.reading.specs.Messages.{refusalOf, cameTo, messages, allMessages}
+use Rattle.reading.specs.MessagesLaws.{outcome-is}
+use Rattle.reading.specs.ListsLaws.{count-append, count-nil, each-nil, each-cons}
 use Rattle.claims.specs.Sound.{Grows, Counts, Settled, Sound, Good}
 use Rattle.claims.specs.Parts.{grows-refl, grows-trans}
 use Rattle.claims.specs.Whole.{Done, submitted-done, submitted-value, stepped-done}

@@ -5,14 +5,14 @@
 -- Crate `examples` has rounds in which their premises hold.
 --
 -- `Sound` has the invariant of record and store along a list; `Parts` and `Whole` prove it for the parts of a step and for a whole
--- step, `Journey` and `Units` for a list. The other files have laws for these.
+-- step, `Journey` and `Units` for a list. The files named `..Laws` have laws for these.
 
-pub mod Slots
+pub mod SlotsLaws
 pub mod Sound
-pub mod Certificates
+pub mod CertificatesLaws
 pub mod Parts
 pub mod Whole
-pub mod Unrefused
+pub mod UnrefusedLaws
 pub mod NotRefused
 pub mod Journey
 pub mod Units

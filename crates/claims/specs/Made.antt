@@ -15,9 +15,9 @@ use Rattle.protocol.specs.Refusals.{isEvidence, notLowerFirst}
 use Rattle.protocol.specs.Calls.{makingBy, making, checkedBy, evidenceCheck}
 use Rattle.round.specs.Round.{Setting, InHand, makingOf, Accepted}
 use Rattle.claims.specs.Sound.{Any, Certifies, Pairs}
-use Rattle.claims.specs.Certificates.{evidence-elim, evidence-names}
-use Rattle.reading.specs.Reading.{read-sized}
-use Rattle.claims.specs.Unrefused.{Taken, evidence-taken}
+use Rattle.claims.specs.CertificatesLaws.{evidence-elim, evidence-names}
+use Rattle.reading.specs.ReadingLaws.{read-sized}
+use Rattle.claims.specs.UnrefusedLaws.{Taken, evidence-taken}
 use Rattle.claims.specs.NotRefused.{Outside, evidence-not-refused, MakingFit, making-fit}
 use Rattle.claims.specs.Units.{pairs-formed}
 use Rattle.claims.specs.Safe.{conditions, evidenceFrom, making-bytes, certifies-in}

@@ -25,19 +25,20 @@ use Rattle.protocol.specs.Layout.{valueLength, signatureLength, treeLength, mes
 use Rattle.protocol.specs.Message.{Message, Submit, Notice, Full, Evidence, Garbled, render, read, signed, seatsOf, entrySeats, roundOf, WellFormed}
 use Rattle.protocol.specs.MessageLaws.{read-render}
 use Rattle.protocol.specs.Certificate.{certificateIn}
-use Rattle.protocol.specs.Record.{lastRound, wrongSeat, impossible, fresh}
+use Rattle.protocol.specs.Record.{lastRound, wrongSeat, impossible, fresh, InRange}
 use Rattle.protocol.specs.Refusals.{Condition, OUT, NO-CONFLICT-IN, NO-CONFLICT-BETWEEN, Checks, every, lengthIsnt, wrongKey, certificateConditions, checkConditions, makeKeyConditions, signConditions, wrongKeys, shortStore, shortOut, said, isForStep, isFull, isEvidence, wrongLengths, rising, early, badSignature, notLowerFirst, equalValues, messageConditions, outsideConditions, recordConditions, openingConditions, submitConditions, stepConditions, evidenceConditions, twoConditions, makingConditions}
 use Rattle.protocol.specs.ConditionsLaws.{table-right}
 use Rattle.protocol.specs.Signatures.{checkSignature, makeKeyRefusal, makeKey, signRefusal, sign}
 use Rattle.protocol.specs.Calls.{openedBy, opening, resultBy, submit, step, makingBy, making, checkedBy, evidenceCheck}
 use Rattle.protocol.specs.declared.Record.{Record}
 use Rattle.round.specs.Round.{Relation, EachSigned}
-use Rattle.reading.specs.Lists.{each-one}
-use Rattle.reading.specs.Reading.{Sized, read-sized}
+use Rattle.reading.specs.ListsLaws.{each-one}
+use Rattle.reading.specs.Reading.{Sized}
+use Rattle.reading.specs.ReadingLaws.{read-sized}
 use Rattle.claims.specs.Sound.{Any}
 use Rattle.claims.specs.Whole.{Brings}
-use Rattle.protocol.specs.RecordLaws.{right-size, right-round, size-right, round-right, InRange}
-use Rattle.claims.specs.Unrefused.{possible, fresh-sound, fresh-settled, Taken, message-taken, message-passes, entries-taken}
+use Rattle.protocol.specs.RecordLaws.{right-size, right-round, size-right, round-right}
+use Rattle.claims.specs.UnrefusedLaws.{possible, fresh-sound, fresh-settled, Taken, message-taken, message-passes, entries-taken}
 
 -- ---- lengths
 

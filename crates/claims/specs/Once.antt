@@ -20,12 +20,12 @@ use Rattle.protocol.specs.Calls.{opening}
 use Rattle.protocol.specs.declared.Record.{Record}
 use Rattle.round.specs.Round.{Setting, IsOpened, Each, Relation, Honest, Called, resultOf, writtenIn, Are, listOf}
 use Rattle.round.specs.Demand1.{Kind, SUBMIT, NOTICE, FULL, EVIDENCE, isOf, isSubmit, isNotice, worth, count, writtenOver, AtMostOne}
-use Rattle.reading.specs.Lists.{worth-le-one, worth-true, true-of-worth, count-pos}
+use Rattle.reading.specs.ListsLaws.{worth-le-one, worth-true, true-of-worth, count-pos}
 use Rattle.claims.specs.Sound.{Any, flagOf, Good}
-use Rattle.claims.specs.Certificates.{entries-laid}
+use Rattle.claims.specs.CertificatesLaws.{entries-laid}
 use Rattle.claims.specs.Parts.{confirmed-submitted}
-use Rattle.reading.specs.Reading.{are-unique}
-use Rattle.claims.specs.Unrefused.{possible}
+use Rattle.reading.specs.ReadingLaws.{are-unique}
+use Rattle.claims.specs.UnrefusedLaws.{possible}
 use Rattle.reading.specs.Messages.{messages, allMessages}
 use Rattle.claims.specs.Journey.{Worthy, Passed}
 use Rattle.claims.specs.Units.{any-worthy, endOf, start-n, start-sound, start-settled, trip, stop, result-grows, written-are, all-are}

@@ -31,10 +31,10 @@ use Rattle.protocol.specs.declared.Notices.{Notices}
 use Rattle.protocol.specs.declared.Record.{Record}
 use Rattle.round.specs.Round.{Each, Relation}
 use Rattle.round.specs.Demand1.{Kind, SUBMIT, NOTICE, FULL, EVIDENCE, isOf, isSubmit, isNotice, worth}
-use Rattle.reading.specs.Lists.{cond-elim, and-false-either, each-one, each-append, count-append, count-one}
-use Rattle.claims.specs.Slots.{fill-length, slot-fill-same, slot-fill-other, fillEach-length, slot-fillEach-other, slot-fillEach-same}
+use Rattle.reading.specs.ListsLaws.{cond-elim, and-false-either, each-one, each-append, count-append, count-one}
+use Rattle.claims.specs.SlotsLaws.{fill-length, slot-fill-same, slot-fill-other, fillEach-length, slot-fillEach-other, slot-fillEach-same}
 use Rattle.claims.specs.Sound.{flagOf, Heard, Held, Grows, Room, Attested, Certifies, Pairs, Collection, Holding, Sound, Said, Good, Leads}
-use Rattle.claims.specs.Certificates.{entries-of, evidence-elim}
+use Rattle.claims.specs.CertificatesLaws.{entries-of, evidence-elim}
 
 -- ---- growth of records
 

@@ -19,13 +19,15 @@ use Rattle.protocol.specs.Calls.{makingBy, making, made, checkedBy, evidenceChe
 use Rattle.protocol.specs.declared.Record.{Record}
 use Rattle.round.specs.Round.{Setting, IsOpened, Each, Relation, EachSigned, Call, BySubmit, ByStep, ByThinEntry, InHand, Honest, IsStep, Called, resultOf, StandsIn, listOf, Submits, WritesEvidence, makingOf, MakesEvidence, Names, AcceptedFrom, Delivered}
 use Rattle.round.specs.Demand3.{Takes, NoneForged, NoneBlamed}
-use Rattle.reading.specs.Lists.{each-nil, each-one}
+use Rattle.reading.specs.ListsLaws.{each-nil, each-one}
 use Rattle.claims.specs.Sound.{Any, Certifies, Pairs, Good}
-use Rattle.claims.specs.Certificates.{certifies-of, evidence-elim}
-use Rattle.reading.specs.Reading.{Sized, read-sized, are-unique}
-use Rattle.claims.specs.Unrefused.{Taken, signed-pairs, entries-taken}
+use Rattle.claims.specs.CertificatesLaws.{certifies-of, evidence-elim}
+use Rattle.reading.specs.Reading.{Sized}
+use Rattle.reading.specs.ReadingLaws.{read-sized, are-unique}
+use Rattle.claims.specs.UnrefusedLaws.{Taken, signed-pairs, entries-taken}
 use Rattle.claims.specs.NotRefused.{evidence-not-refused, making-fit}
-use Rattle.reading.specs.Messages.{refusalOf, cameTo, counted-written, unrefused-result}
+use Rattle.reading.specs.Messages.{refusalOf, cameTo}
+use Rattle.reading.specs.MessagesLaws.{counted-written, unrefused-result}
 use Rattle.claims.specs.Journey.{WorthyGiven, Worthy, At, submit-value}
 use Rattle.claims.specs.Units.{any-worthy, startOf, endOf, start-n, start-seat, stop, writes-good, pairs-formed}
 

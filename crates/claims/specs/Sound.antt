@@ -9,7 +9,7 @@ use Prim.Native.Nat.{ℕ, _+_, _^_, _≤_, _<_}
 use lib.Dec.{eqb}
 use lib.ListN.{length}
 use Rattle.quorum.specs.Quorum.{t0, k, In, size, shared}
-use Rattle.protocol.specs.RecordLaws.{InRange}
+use Rattle.protocol.specs.Record.{InRange}
 use Rattle.protocol.specs.Layout.{valueLength, signatureLength, storeLength, collectedBank, firstBank}
 use Rattle.protocol.specs.Values.{unset, isLower}
 use Rattle.protocol.specs.Message.{Entry, Pair, PairValues, Message, Submit, Notice, Full, Evidence, Garbled, evidenceForm, ValuesFormed}

@@ -8,21 +8,21 @@ use native.Mathlib.Omega.{arith}
 use Rattle.quorum.specs.Quorum.{k}
 use Rattle.refusal.specs.Refusal.{unrefused}
 use Rattle.protocol.specs.Message.{Pair, PairValues, Message, Submit, Notice, Full, Evidence, Garbled, WellFormed}
-use Rattle.protocol.specs.Record.{fresh, lastRound}
+use Rattle.protocol.specs.Record.{fresh, lastRound, InRange}
 use Rattle.protocol.specs.Refusals.{Checks}
 use Rattle.protocol.specs.Calls.{openedBy, opening}
 use Rattle.protocol.specs.declared.Record.{Record}
 use Rattle.round.specs.Round.{Setting, IsOpened, Each, Relation, Call, BySubmit, ByStep, ByThinEntry, Honest, Called, resultOf, writtenIn, Are, StandsIn, listOf, Writes}
 use Rattle.round.specs.Demand1.{Kind, SUBMIT, NOTICE, FULL, EVIDENCE, isOf, worth, writtenOver}
-use Rattle.reading.specs.Lists.{worth-le-one, worth-true, true-of-worth, count-pos, count-member}
+use Rattle.reading.specs.ListsLaws.{worth-le-one, worth-true, true-of-worth, count-pos, count-member}
 use Rattle.claims.specs.Sound.{Any, flagOf, Grows, Settled, Pairs, Sound, Good}
-use Rattle.protocol.specs.RecordLaws.{InRange}
-use Rattle.claims.specs.Certificates.{entries-laid}
+use Rattle.claims.specs.CertificatesLaws.{entries-laid}
 use Rattle.claims.specs.Parts.{grows-trans, good-grows}
-use Rattle.reading.specs.Reading.{are-unique}
+use Rattle.reading.specs.ReadingLaws.{are-unique}
 use Rattle.claims.specs.NotRefused.{OpeningFit, opening-not-refused, Outside}
-use Rattle.reading.specs.Messages.{messages, allMessages, all-member, member-all, written-is, list-are}
-use Rattle.claims.specs.Unrefused.{fresh-sound, fresh-settled}
+use Rattle.reading.specs.Messages.{messages, allMessages}
+use Rattle.reading.specs.MessagesLaws.{all-member, member-all, written-is, list-are}
+use Rattle.claims.specs.UnrefusedLaws.{fresh-sound, fresh-settled}
 use Rattle.claims.specs.Journey.{lastOf, WorthyGiven, Worthy, At, Journey, journey}
 
 -- ---- form of the messages that a unit writes

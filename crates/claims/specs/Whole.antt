@@ -20,9 +20,9 @@ use Rattle.protocol.specs.Step.{State, write, collect, setOwnValue, submitOwn, 
 use Rattle.protocol.specs.declared.Record.{Record}
 use Rattle.round.specs.Round.{Relation}
 use Rattle.round.specs.Demand1.{Kind, SUBMIT, NOTICE, FULL, EVIDENCE, isOf, isSubmit, isNotice, worth}
-use Rattle.reading.specs.Lists.{cond-elim, and-false-either}
+use Rattle.reading.specs.ListsLaws.{cond-elim, and-false-either}
 use Rattle.claims.specs.Sound.{flagOf, Heard, Held, Grows, Room, Settled, Attested, Certifies, Entries, Sound, Leads}
-use Rattle.claims.specs.Certificates.{certifies-of}
+use Rattle.claims.specs.CertificatesLaws.{certifies-of}
 use Rattle.claims.specs.Parts.{k-pos, room-leads, leads-trans, leads-writing, leads-refl, collect-leads, submitOwn-leads, hear-leads, hear-heard, reply-leads, holdOrBlame-leads, holdOrBlame-held, own-certifies, collected-submitted, confirmed-submitted}
 
 -- ---- parts of a record that hearing leaves as they are

@@ -1,3 +1,4 @@
--- Laws of the confirmer's code.
-pub mod Openings
+-- The answer of submit and step (`Returns`), and the laws of the confirmer's code.
+pub mod OpeningLaws
 pub mod Returns
+pub mod ReturnsLaws

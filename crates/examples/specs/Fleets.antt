@@ -14,8 +14,8 @@ use Rattle.quorum.specs.Quorum.{t0, k, bit, In, shared, seats}
 use Rattle.protocol.specs.Layout.{signatureLength, valueLength, storeLength, outLength}
 use Rattle.protocol.specs.Message.{byteAt}
 use Rattle.protocol.specs.Record.{lastRound}
-use Rattle.reading.specs.Lists.{each-nil}
-use Rattle.claims.specs.Certificates.{seats-in-set}
+use Rattle.reading.specs.ListsLaws.{each-nil}
+use Rattle.claims.specs.CertificatesLaws.{seats-in-set}
 use Rattle.claims.specs.Parts.{in-below}
 use Rattle.claims.specs.Claim.{setting}
 use Rattle.trials.specs.Trials.{atTwo, Three, Zeroth, First, Second, atThree}

@@ -27,14 +27,15 @@ use Rattle.protocol.specs.declared.Record.{Record}
 use Rattle.round.specs.Round.{Setting, Call, ByStep, ByThinEntry, IsStep, Honest, Called, Each, Relation, EachSigned, outcome, listFrom, listOf, IsOpened, Family, Writes, Submits, Confirms, StepGiven, Reached, MadeFrom, Delivered, MakesEvidence, makingOf}
 use Rattle.round.specs.Demand1.{SUBMIT, NOTICE, isNotice, isOf}
 use Rattle.round.specs.Demand3.{NoneForged, ReachedOthers}
-use Rattle.reading.specs.Lists.{cond-elim, and-false-either, worth-le-one, worth-true, true-of-worth, count-nil, each-nil, each-cons, each-one, each-append, each-map, rising-first}
+use Rattle.reading.specs.ListsLaws.{cond-elim, and-false-either, worth-le-one, worth-true, true-of-worth, count-nil, each-nil, each-cons, each-one, each-append, each-map, rising-first}
 use Rattle.claims.specs.Sound.{Any, Settled, Attested, Certifies, Entries, Sound, Said}
-use Rattle.claims.specs.Certificates.{set-size, seats-rising, entries-laid, entry-seats, entries-of, evidence-elim}
+use Rattle.claims.specs.CertificatesLaws.{set-size, seats-rising, entries-laid, entry-seats, entries-of, evidence-elim}
 use Rattle.claims.specs.Parts.{in-below}
 use Rattle.claims.specs.Whole.{reply-stays, hearing-stays, Done, submitted-done, submitted-value}
-use Rattle.reading.specs.Reading.{read-sized}
-use Rattle.reading.specs.Messages.{refusalOf, cameTo, outcome-is, step-is}
-use Rattle.claims.specs.Unrefused.{possible, Taken, signed-entries, full-taken}
+use Rattle.reading.specs.ReadingLaws.{read-sized}
+use Rattle.reading.specs.Messages.{refusalOf, cameTo}
+use Rattle.reading.specs.MessagesLaws.{outcome-is, step-is}
+use Rattle.claims.specs.UnrefusedLaws.{possible, Taken, signed-entries, full-taken}
 use Rattle.claims.specs.Journey.{lastOf, WorthyGiven, Worthy, step-done}
 use Rattle.claims.specs.Units.{any-worthy, startOf, endOf, start-n, start-seat, start-round, start-unset, start-sound, start-settled, stop, end-n, end-seat, end-round, flag-written, writes-good, pairs-formed}
 use Rattle.claims.specs.NotRefused.{opening-not-refused, submit-not-refused, message-not-refused, making-not-refused, making-fit}

@@ -15,7 +15,7 @@ use Rattle.octets.specs.Octets.{part, patch, be, words, bytes}
 use Rattle.octets.specs.OctetsLaws.{take-rest, drop-replicate, take-replicate, patch-patch, take-patch, length-be, length-bytes}
 use Rattle.fips180.specs.Constants.{constants, initial}
 use Rattle.fips180.specs.Fips.{scheduled, schedule, round, rounds, sums, compress, padding, pad, hashed, absorbed, sha256}
-use Rattle.fips180.specs.Pieces.{leftover, ended, oneBlock}
+use Rattle.fips180.specs.Pieces.{ended, oneBlock}
 
 -- ---- the schedule, as a loop fills it
 
@@ -91,6 +91,10 @@ hashed-back h xs ys s (suc t) e =
     let ih = hashed-back h xs ys s t e in
     let n : 64 * (s + t) ≡ length xs + 64 * t = omega arith in
     rw add-suc (ap₂ compress ih (ap (λ (l : List ℕ). words 16 (take 64 l)) (ap (λ (j : ℕ). drop j (xs ++ ys)) n ∙ drop-append-add xs ys (64 * t))))
+
+-- the bytes of m after its whole blocks
+unfoldable pub leftover : List ℕ → List ℕ
+leftover m = drop (length m / 64 * 64) m
 
 -- m followed by z: the whole blocks of m, then the rest of m followed by z
 absorbed-append : (h m z : List ℕ) → absorbed h (m ++ z) ≡ absorbed (absorbed h m) (leftover m ++ z)

@@ -1,16 +1,11 @@
 -- Intermediate values of the code that makes a digest.
-use Prim.Native.Nat.{ℕ, _*_, _/_}
+use Prim.Native.Nat.{ℕ}
 use mathlib.Core.Bool.{cond}
 use mathlib.Core.List.{List}
 use lib.Dec.{ltb}
-use lib.ListN.{length, drop}
 use Rattle.octets.specs.Octets.{words, bytes}
 use Rattle.fips180.specs.Constants.{initial}
 use Rattle.fips180.specs.Fips.{compress}
-
--- the bytes of m after its whole blocks
-unfoldable pub leftover : List ℕ → List ℕ
-leftover m = drop (length m / 64 * 64) m
 
 -- the end of the padding after a tail of n bytes
 unfoldable pub ended : ℕ → ℕ

@@ -9,6 +9,8 @@ use lib.ListN.{length, take}
 use Rattle.protocol.specs.Message.{Message, Submit, Notice, Full, Evidence, Garbled, read}
 use Rattle.protocol.specs.Record.{wrongSize}
 use Rattle.reading.specs.Reading.{frameLength}
+use Rattle.wire.specs.declared.read.Kind.{Kind}
+use Rattle.wire.specs.declared.read.Kind.the-variants as kind
 
 -- bytes that are no message
 unfoldable pub isGarbled : Message → Bool
@@ -17,6 +19,14 @@ isGarbled (Notice round seat value) = false
 isGarbled (Full round sender value entries) = false
 isGarbled (Evidence round values entries) = false
 isGarbled Garbled = true
+
+-- the same of a kind of message
+abbrev pub noMessage : Kind → Bool
+noMessage kind.Submit = false
+noMessage kind.Notice = false
+noMessage kind.Full = false
+noMessage kind.Evidence = false
+noMessage kind.Garbled = true
 
 -- the bytes of the first message, by its command and count
 unfoldable pub firstFrame : ℕ → List ℕ → List ℕ

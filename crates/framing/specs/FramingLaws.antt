@@ -1,7 +1,7 @@
 -- "Messages go to `out` one after another": the first of them has its own length, whatever follows.
 -- Assumes nothing.
 use mathlib.Core.Path.{_≡_, refl, ap, _∙_}
-use mathlib.Core.Bool.{Bool, true, false, cond}
+use mathlib.Core.Bool.{Bool, false, cond}
 use mathlib.Core.List.{List, _++_}
 use Prim.Native.Nat.{ℕ, _≤_, _<_, _^_}
 use native.Mathlib.Omega.{arith}
@@ -15,13 +15,13 @@ use Rattle.protocol.specs.Figures.{submit-figure, notice-figure, full-figure, e
 use Rattle.protocol.specs.Message.{Message, Submit, Notice, Full, Evidence, Garbled, render, byteAt, read, WellFormed}
 use Rattle.protocol.specs.MessageLaws.{read-render}
 use Rattle.protocol.specs.Record.{wrongSize}
-use Rattle.reading.specs.Reading.{frameLength, frame-length}
+use Rattle.reading.specs.Reading.{frameLength}
+use Rattle.reading.specs.ReadingLaws.{frame-length}
 use Rattle.wire.specs.Reading.{kindOf}
 use Rattle.wire.specs.Answers.{commandOf, command}
 use Rattle.wire.specs.KindLaws.{kind-told}
 use Rattle.wire.specs.declared.read.Kind.{Kind}
-use Rattle.wire.specs.declared.read.Kind.the-variants as kind
-use Rattle.framing.specs.Framing.{isGarbled, firstFrame, messageLength}
+use Rattle.framing.specs.Framing.{noMessage, isGarbled, firstFrame, messageLength}
 
 -- ---- a message that was written
 
@@ -41,13 +41,6 @@ first-length n m rest s w =
     rw (s, l, enough, take-append-seam (render m) rest, read-render n m w, well-formed-said n m w)
 
 -- ---- a kind of message
-
-abbrev pub noMessage : Kind → Bool
-noMessage kind.Submit = false
-noMessage kind.Notice = false
-noMessage kind.Full = false
-noMessage kind.Evidence = false
-noMessage kind.Garbled = true
 
 kind-garbled : (m : Message) → noMessage (kindOf m) ≡ isGarbled m
 unfolding kindOf isGarbled

@@ -4,8 +4,7 @@ ghost use Prim.Native.Nat.{_≤_, _<_, _^_};
 ghost use Rattle.quorum.specs.Quorum.{mostSeats};
 ghost use Rattle.protocol.specs.Message.{byteAt};
 ghost use Rattle.reading.specs.Reading.{frameLength};
-ghost use Rattle.framing.specs.Framing.{messageLength};
-ghost use Rattle.framing.specs.FramingLaws.{noMessage};
+ghost use Rattle.framing.specs.Framing.{messageLength, noMessage};
 use wire::read::Kind;
 
 // The byte at an index, 0 past the end.

@@ -6,8 +6,7 @@ use Prim.Native.Nat.{ℕ, _+_, _*_, _/_, _%_, _≤_, _<_}
 use lib.ListN.{length, getD}
 use Rattle.octets.specs.Octets.{bytes}
 use Rattle.fips180.specs.Constants.{initial}
-use Rattle.sha256_lanes.specs.Rows.{column, Common}
-use Rattle.sha256_lanes.specs.RowsLaws.{Two}
+use Rattle.sha256_lanes.specs.Rows.{column, Common, Two}
 use Rattle.rfc8554.specs.Ots.{H, chain, chainInput}
 use Rattle.lmots_chains.specs.Pieces.{across}
 

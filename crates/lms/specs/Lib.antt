@@ -1,8 +1,8 @@
--- Intermediate values of the code (`Pieces`), with the laws that its proofs cite: `LmsLaws` on buffers, nodes and the climb,
--- `Refused` on refusals, `Filled` on the tree's buffer, `Written` on keys and signatures, `Called` on the calls.
+-- Intermediate values of the code (`Pieces`), with the laws that its proofs cite: `NodeLaws` on buffers, nodes and the climb,
+-- `VerifyLaws` on refusals, `TreeLaws` on the tree's buffer, `SignerLaws` on keys and signatures, `CallsLaws` on the calls.
 pub mod Pieces
-pub mod LmsLaws
-pub mod Refused
-pub mod Filled
-pub mod Written
-pub mod Called
+pub mod NodeLaws
+pub mod VerifyLaws
+pub mod TreeLaws
+pub mod SignerLaws
+pub mod CallsLaws

@@ -5,12 +5,9 @@ use Rattle.octets.specs.Octets.{part, patch}
 use Rattle.rfc8554.specs.Ots.{H, u16str, u32str}
 use Rattle.rfc8554.specs.Tree.{leafInput, dIntr}
 
--- the leaf of number q over its LM-OTS key, and that of number q + i over the i-th of keys in one string
+-- the leaf of number q over its LM-OTS key
 unfoldable pub leafOver : List ℕ → ℕ → List ℕ → List ℕ
 leafOver I q key = H (leafInput I (1024 + q) key)
-
-unfoldable pub leafAt : List ℕ → ℕ → List ℕ → ℕ → List ℕ
-leafAt I q keys i = leafOver I (q + i) (part (32 * i) 32 keys)
 
 -- the hash input of the inner node r, over its children in one string
 unfoldable pub overChildren : List ℕ → ℕ → List ℕ → List ℕ

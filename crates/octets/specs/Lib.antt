@@ -1,10 +1,10 @@
 -- Bytes as lists of numbers.
 --
 -- `Octets` has the definitions on buffers, numbers and words, `Strings` those on whole byte strings. `OctetsLaws` and
--- `StringsLaws` have their laws, `WriteLaws` those of writes, `Table` the law of a rule for all entries of a table.
+-- `StringsLaws` have their laws, `WriteLaws` those of writes, `TableLaws` the law of a rule for all entries of a table.
 pub mod Octets
 pub mod OctetsLaws
 pub mod Strings
 pub mod StringsLaws
 pub mod WriteLaws
-pub mod Table
+pub mod TableLaws

@@ -23,18 +23,20 @@ use Rattle.protocol.specs.Step.{State, stepped}
 use Rattle.protocol.specs.Calls.{Result, resultBy}
 use Rattle.protocol.specs.declared.Record.{Record}
 use Rattle.round.specs.Round.{Setting, Each, Call, BySubmit, ByStep, ByThinEntry, Called, outcome, resultOf, listFrom, writtenIn, Are, StandsIn}
-use Rattle.reading.specs.Lists.{cond-elim, or-true-either, each-nil, each-append}
+use Rattle.reading.specs.ListsLaws.{cond-elim, or-true-either, each-nil, each-append}
 use Rattle.claims.specs.Sound.{Any}
 use Rattle.claims.specs.Parts.{k-pos}
-use Rattle.reading.specs.Reading.{Sized, read-sized}
-use Rattle.claims.specs.Unrefused.{Taken}
+use Rattle.reading.specs.Reading.{Sized}
+use Rattle.reading.specs.ReadingLaws.{read-sized}
+use Rattle.claims.specs.UnrefusedLaws.{Taken}
 use Rattle.claims.specs.NotRefused.{submit-fit, step-fit, brings}
-use Rattle.reading.specs.Messages.{refusalOf, cameTo, outcome-is, messages}
+use Rattle.reading.specs.Messages.{refusalOf, cameTo, messages}
+use Rattle.reading.specs.MessagesLaws.{outcome-is}
 use Rattle.paper.specs.Machine.{FullCertificate, Machine, init, Event, Submitted, SubmitDelivered, NoticeDelivered, FullDelivered, Action, Reaction, isSome, ownValue, distinct, conflict, uponEvent, react, Says}
 use Rattle.paper.specs.Memory.{seatsIn, noticesOf, heldFirst, guiltyOf, recordOf, firstEntries, Recorded}
 use Rattle.paper.specs.Events.{delivered, isDelivered, eventOf, reactTo, reaction, DoesAs, actionsOver, TakenIn}
-use Rattle.paper.specs.Conflicts.{some-none}
-use Rattle.paper.specs.Entries.{seats-none, from-seats, from-member, signature-is, distinct-take}
+use Rattle.paper.specs.ConflictsLaws.{some-none}
+use Rattle.paper.specs.EntriesLaws.{seats-none, from-seats, from-member, signature-is, distinct-take}
 use Rattle.paper.specs.Spoken.{spoken, Formed, FormedAction, each-says, stands-sent}
 use Rattle.paper.specs.Received.{Obtained}
 use Rattle.paper.specs.Based.{BasedOn, Sent, Good, react-good}

@@ -18,11 +18,11 @@ use Rattle.protocol.specs.Values.{unset}
 use Rattle.protocol.specs.Message.{Entry, Pair, PairValues, Full, Evidence}
 use Rattle.protocol.specs.Refusals.{Checks, every, isFull, isEvidence}
 use Rattle.round.specs.Round.{Each}
-use Rattle.reading.specs.Lists.{cond-elim, each-nil, each-one, each-append}
+use Rattle.reading.specs.ListsLaws.{cond-elim, each-nil, each-one, each-append}
 use Rattle.claims.specs.Parts.{k-pos}
 use Rattle.paper.specs.Machine.{FullCertificate, Machine, init, Event, Submitted, SubmitDelivered, NoticeDelivered, FullDelivered, Action, BroadcastSubmit, ConfirmAndNotice, BroadcastFull, Detect, Reaction, act, setValue, setConfirmed, addCollected, isSome, isOwn, ownValue, isFrom, distinct, conflict, valueOfFull, isFullCertificate, ownFull, isCollected, uponSubmitDelivered, uponSubmit, uponNoticeDelivered, obtain, uponFullDelivered, confirming, uponQuorum, sending, uponNoticesConflict, detecting, uponFullsConflict, uponEvent, uponRules, react, SaysConflict, Says}
-use Rattle.paper.specs.Conflicts.{some-none, conflict-found}
-use Rattle.paper.specs.Entries.{distinct-more, each-take, distinct-take}
+use Rattle.paper.specs.ConflictsLaws.{some-none, conflict-found}
+use Rattle.paper.specs.EntriesLaws.{distinct-more, each-take, distinct-take}
 use Rattle.paper.specs.Received.{Collected, IsSubmitted, IsOwnFull, Obtained, Came, Received}
 use Rattle.paper.specs.Spoken.{Formed, FormedAction}
 use Rattle.paper.specs.Rules.{quorumDue, noticesDue}

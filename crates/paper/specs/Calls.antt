@@ -25,17 +25,17 @@ use Rattle.protocol.specs.Record.{withOwn}
 use Rattle.protocol.specs.Refusals.{Checks}
 use Rattle.protocol.specs.ConditionsLaws.{each-every}
 use Rattle.protocol.specs.Step.{State, withUnit, write, collect, setOwnValue, submitOwn, isWanted, hearSubmit, hear, reply, confirmIfComplete, submitted, stepped}
-use Rattle.reading.specs.Lists.{each-one, each-append}
-use Rattle.claims.specs.Slots.{fill-length, slot-fill-same, slot-fill-other}
+use Rattle.reading.specs.ListsLaws.{each-one, each-append}
+use Rattle.claims.specs.SlotsLaws.{fill-length, slot-fill-same, slot-fill-other}
 use Rattle.claims.specs.Sound.{Any, Entries}
-use Rattle.claims.specs.Certificates.{certifies-of}
+use Rattle.claims.specs.CertificatesLaws.{certifies-of}
 use Rattle.claims.specs.Parts.{k-pos, in-below}
 use Rattle.claims.specs.Whole.{Brings}
 use Rattle.paper.specs.Machine.{FullCertificate, Machine, BroadcastSubmit, Reaction, act, setValue, addCollected, addNoticed, isSome, isOwn, ownValue, isFrom, isFullCertificate, isCollected, uponSubmitDelivered, uponSubmit, uponNoticeDelivered, obtain, uponFullDelivered, confirming, uponQuorum, uponNoticesConflict, uponFullsConflict, uponEvent, uponRules, react}
 use Rattle.paper.specs.Memory.{seatsIn, heldFirst, recordOf}
 use Rattle.paper.specs.Events.{delivered, reactTo}
-use Rattle.paper.specs.Conflicts.{some-none}
-use Rattle.paper.specs.Entries.{seats-more, seats-below, from-seats, signature-new, signature-old, rising-distinct}
+use Rattle.paper.specs.ConflictsLaws.{some-none}
+use Rattle.paper.specs.EntriesLaws.{seats-more, seats-below, from-seats, signature-new, signature-old, rising-distinct}
 use Rattle.paper.specs.Spoken.{spoken}
 use Rattle.paper.specs.Rules.{fulls-quiet}
 use Rattle.paper.specs.Mirror.{Collecting, Quorum, Stored, Mirrors}

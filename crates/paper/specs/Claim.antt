@@ -11,7 +11,7 @@ use Rattle.protocol.specs.Message.{Entry, Pair, PairValues, Message, Full, Evid
 use Rattle.protocol.specs.Calls.{opening, openedBy}
 use Rattle.round.specs.Round.{Setting, IsOpened, Each, Honest, listOf, Writes}
 use Rattle.claims.specs.Sound.{Any}
-use Rattle.protocol.specs.RecordLaws.{InRange}
+use Rattle.protocol.specs.Record.{InRange}
 use Rattle.claims.specs.Units.{any-worthy, opened-range, written-are}
 use Rattle.paper.specs.Machine.{init, Event, Action, Says}
 use Rattle.paper.specs.Memory.{recordOf}

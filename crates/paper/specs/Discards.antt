@@ -18,7 +18,7 @@ use Rattle.protocol.specs.Refusals.{Checks, every, shortStore, shortOut, isForS
 use Rattle.protocol.specs.ConditionsLaws.{every-flat}
 use Rattle.protocol.specs.declared.Record.{Record}
 use Rattle.round.specs.Round.{Each}
-use Rattle.claims.specs.Unrefused.{of-taken}
+use Rattle.claims.specs.UnrefusedLaws.{of-taken}
 use Rattle.claims.specs.NotRefused.{Lent, keys-right}
 use Rattle.paper.specs.Machine.{FullCertificate, Machine, Reaction, isSome, isOwn, isFrom, distinct, isFullCertificate, isCollected, uponSubmitDelivered, uponFullDelivered, addCollected, obtain, uponEvent, uponRules, react}
 use Rattle.paper.specs.Memory.{recordOf}

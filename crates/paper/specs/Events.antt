@@ -50,7 +50,7 @@ module _ (S : Setting) (seat : ℕ) where
     -- the record and the store that it gets are those of the machine's state;
     pub gets : Recorded n seat round m (t .unit) (t .store)
     -- the bytes that it writes are the machine's actions at that event, each sent as its command, one after another. (`Are` says that
-    -- they are these messages and no others: bytes are messages in one way only, `reading/specs/Reading: are-unique`.)
+    -- they are these messages and no others: bytes are messages in one way only, `reading/specs/ReadingLaws: are-unique`.)
     pub sends : List Message
     pub writes : Are n (writtenIn S t) sends
     pub says : SaysEach round seat (reaction t m .actions) sends

@@ -15,7 +15,7 @@ use Rattle.protocol.specs.Message.{Entry, Pair, Full, Evidence, fullForm}
 use Rattle.protocol.specs.Certificate.{setOf, signatureOf, certificateOf, entriesOf, fullOf, pairsOf, orderedEvidence, evidenceOf, conflictOf}
 use Rattle.protocol.specs.Refusals.{every}
 use Rattle.round.specs.Round.{Each}
-use Rattle.reading.specs.Lists.{each-one, each-cons}
+use Rattle.reading.specs.ListsLaws.{each-one, each-cons}
 use Rattle.paper.specs.Machine.{FullCertificate, Machine, init, Event, Submitted, SubmitDelivered, NoticeDelivered, FullDelivered, Action, BroadcastSubmit, ConfirmAndNotice, BroadcastFull, Detect, act, isSome, isOwn, ownValue, isFrom, distinct, other, pairOr, conflict, isFullCertificate, ownFull, isCollected, uponSubmitDelivered, uponSubmit, uponNoticeDelivered, obtain, uponFullDelivered, confirming, uponQuorum, sending, uponNoticesConflict, detecting, uponFullsConflict, uponEvent, uponRules, react, Says}
 use Rattle.paper.specs.Spoken.{spoken, Formed, spoken-says}
 

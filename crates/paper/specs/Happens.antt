@@ -14,7 +14,7 @@ use Rattle.protocol.specs.Message.{read, roundOf, entrySeats, seatsOf}
 use Rattle.protocol.specs.Refusals.{isForStep, rising}
 use Rattle.protocol.specs.Calls.{resultBy, step}
 use Rattle.round.specs.Round.{Setting, IsOpened, Each, Call, BySubmit, ByStep, ByThinEntry, Honest, Called, outcome, resultOf, listOf}
-use Rattle.claims.specs.Unrefused.{possible}
+use Rattle.claims.specs.UnrefusedLaws.{possible}
 use Rattle.claims.specs.NotRefused.{Table, Lent, submit-not-refused}
 use Rattle.claims.specs.Journey.{At}
 use Rattle.claims.specs.Units.{any-worthy, startOf, endOf, opened-fit, start-n, start-seat, start-round, stop}

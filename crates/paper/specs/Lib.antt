@@ -5,18 +5,18 @@
 -- statement of the claim; `Received` the source of everything sent. The claims are in `Claim`; `Happens` shows that every call that should
 -- be an event is one. `Guard` has small runs; docs/PAPER.md has the paper's lines beside the definitions.
 --
--- `Conflicts` shows which two certificates are found, `Rules` that no rule is left to do after an event, and `Remembers` that the machine
+-- `ConflictsLaws` shows which two certificates are found, `Rules` that no rule is left to do after an event, and `Remembers` that the machine
 -- forgets nothing. `Mirror` has the invariant between two events; `Parts` and `Calls` prove it for the parts of a call and for a whole
 -- call, `Discards` for a refused one, and `Along` for a list. `Spoken` has the messages sent, by the engine's functions; `Based` shows
--- that they were received. `Entries` has laws of lists of entries.
+-- that they were received. `EntriesLaws` has laws of lists of entries.
 pub mod Machine
 pub mod Memory
 pub mod Events
 pub mod Received
-pub mod Conflicts
+pub mod ConflictsLaws
 pub mod Rules
 pub mod Remembers
-pub mod Entries
+pub mod EntriesLaws
 pub mod Spoken
 pub mod Based
 pub mod Mirror

@@ -28,13 +28,13 @@ use Rattle.protocol.specs.Step.{State, withUnit, write, noticesWith, hear, othe
 use Rattle.protocol.specs.declared.Notices.{Notices}
 use Rattle.protocol.specs.declared.Record.{Record}
 use Rattle.round.specs.Round.{Each}
-use Rattle.reading.specs.Lists.{cond-elim, each-one, each-append}
+use Rattle.reading.specs.ListsLaws.{cond-elim, each-one, each-append}
 use Rattle.claims.specs.Parts.{k-pos, in-below}
-use Rattle.claims.specs.Slots.{slot-fillEach-other, slot-fillEach-same}
+use Rattle.claims.specs.SlotsLaws.{slot-fillEach-other, slot-fillEach-same}
 use Rattle.paper.specs.Machine.{FullCertificate, Machine, Action, ConfirmAndNotice, BroadcastFull, Detect, Reaction, act, setConfirmed, addNoticed, addObtained, setCertificates, setSent, isSome, ownValue, other, pairOr, conflict, valueOfNotice, valueOfFull, ownFull, uponNoticeDelivered, obtain, confirming, uponQuorum, sending, uponNoticesConflict, detecting, uponFullsConflict, uponRules}
 use Rattle.paper.specs.Memory.{seatsIn, noticesOf, heldFirst, guiltyOf, recordOf, firstEntries}
-use Rattle.paper.specs.Conflicts.{same-sym, some-none, other-none, other-more, other-still, conflict-head, head-none}
-use Rattle.paper.specs.Entries.{seats-below, signature-each, full-same, evidence-same, each-take}
+use Rattle.paper.specs.ConflictsLaws.{same-sym, some-none, other-none, other-more, other-still, conflict-head, head-none}
+use Rattle.paper.specs.EntriesLaws.{seats-below, signature-each, full-same, evidence-same, each-take}
 use Rattle.paper.specs.Spoken.{spoken}
 use Rattle.paper.specs.Rules.{fulls-quiet}
 use Rattle.paper.specs.Mirror.{Collecting, Quorum, Obtaining, Stored, Mirrors}

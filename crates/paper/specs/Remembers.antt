@@ -7,7 +7,7 @@ use mathlib.Core.List.{List, [], _∷_, List·Memᴰ, List·Memᴰ·head, Memᴰ
 use Rattle.protocol.specs.Message.{Entry}
 use Rattle.protocol.specs.Refusals.{Checks}
 use Rattle.round.specs.Round.{Each}
-use Rattle.reading.specs.Lists.{cond-elim}
+use Rattle.reading.specs.ListsLaws.{cond-elim}
 use Rattle.paper.specs.Machine.{FullCertificate, Machine, Event, Submitted, SubmitDelivered, NoticeDelivered, FullDelivered, BroadcastSubmit, ConfirmAndNotice, Reaction, act, setValue, setConfirmed, addCollected, isSome, ownValue, conflict, valueOfFull, isFullCertificate, ownFull, isCollected, uponSubmitDelivered, uponSubmit, uponNoticeDelivered, obtain, uponFullDelivered, confirming, uponQuorum, sending, uponNoticesConflict, detecting, uponFullsConflict, uponEvent, uponRules, react}
 use Rattle.paper.specs.Rules.{quorumDue, noticesDue, detecting-elim}
 

@@ -8,9 +8,9 @@ use lib.Dec.{leb}
 use lib.ListN.{length}
 use Rattle.quorum.specs.Quorum.{k}
 use Rattle.protocol.specs.Refusals.{Checks}
-use Rattle.reading.specs.Lists.{cond-elim}
+use Rattle.reading.specs.ListsLaws.{cond-elim}
 use Rattle.paper.specs.Machine.{FullCertificate, Machine, Detect, Reaction, act, setDetected, isSome, conflict, valueOfNotice, valueOfFull, uponNoticeDelivered, obtain, confirming, uponQuorum, sending, uponNoticesConflict, detecting, uponFullsConflict, uponRules}
-use Rattle.paper.specs.Conflicts.{some-none}
+use Rattle.paper.specs.ConflictsLaws.{some-none}
 
 -- whether the rules of lines 25 and 33 are due
 abbrev pub quorumDue : ℕ → Machine → Bool

@@ -18,12 +18,12 @@ use Rattle.protocol.specs.ValuesLaws.{lower-other}
 use Rattle.protocol.specs.CertificateLaws.{in-set}
 use Rattle.protocol.specs.Refusals.{rising}
 use Rattle.round.specs.Round.{Each, Are, StandsIn}
-use Rattle.reading.specs.Reading.{are-unique}
-use Rattle.reading.specs.Lists.{cond-elim, rising-first}
-use Rattle.claims.specs.Certificates.{entry-seats, pair-seats, seats-rising}
+use Rattle.reading.specs.ReadingLaws.{are-unique}
+use Rattle.reading.specs.ListsLaws.{cond-elim, rising-first}
+use Rattle.claims.specs.CertificatesLaws.{entry-seats, pair-seats, seats-rising}
 use Rattle.paper.specs.Machine.{FullCertificate, Action, BroadcastSubmit, ConfirmAndNotice, BroadcastFull, Detect, distinct, InOrder, PairOf, SaysConflict, Says, SaysEach}
 use Rattle.paper.specs.Memory.{seatsIn}
-use Rattle.paper.specs.Entries.{signature-member, signature-is}
+use Rattle.paper.specs.EntriesLaws.{signature-member, signature-is}
 
 unfoldable pub spoken : ℕ → ℕ → ℕ → Action → Message
 spoken n round seat (BroadcastSubmit v signature) = Submit round seat v signature

@@ -4,7 +4,7 @@
 -- the commands on the air, `Certificate` the certificates behind FULL and EVIDENCE, `Record` a unit's record, `Conditions` and
 -- `Refusals` the causes of a refusal (`Order`: their order), `Step` submit and step once nothing is refused, `Signatures` a seat's
 -- signature and the calls on keys and signatures, and `Calls` each other call as a whole. `XLaws` has the laws of `X`,
--- `RoundTrip` the law that bytes read are written back the same, `SignatureClaim` the claim that signatures made by the signer are
+-- `RoundTripLaws` the law that bytes read are written back the same, `SignatureClaim` the claim that signatures made by the signer are
 -- accepted.
 pub mod Layout
 pub mod LayoutLaws
@@ -15,7 +15,7 @@ pub mod Entries
 pub mod EntriesLaws
 pub mod Message
 pub mod MessageLaws
-pub mod RoundTrip
+pub mod RoundTripLaws
 pub mod Certificate
 pub mod CertificateLaws
 pub mod Record

@@ -8,8 +8,10 @@ use mathlib.Core.Bool.{true}
 use mathlib.Core.List.{List, [], _∷_, _++_, map}
 use Rattle.refusal.specs.Refusal.{firstOf, numbers, nonzero, _before_}
 use Rattle.refusal.specs.RefusalLaws.{both-true, firstOf-before}
-use Rattle.refusal.specs.Order.{isIn, distinct, follows, held, firstIn, firstOf-in-order}
-use Rattle.refusal.specs.Lowest.{riseFrom, rise, Lowest, firstOf-lowest, rise-in}
+use Rattle.refusal.specs.Order.{isIn, distinct, follows, held, firstIn}
+use Rattle.refusal.specs.OrderLaws.{firstOf-in-order}
+use Rattle.refusal.specs.Lowest.{riseFrom, rise, Lowest}
+use Rattle.refusal.specs.LowestLaws.{firstOf-lowest, rise-in}
 use Rattle.protocol.specs.Layout.{outLength, evidenceOutLength}
 use Rattle.protocol.specs.Message.{read}
 use Rattle.protocol.specs.Refusals.{Condition, Checks, every, SIZE, SEAT, ROUND, RECORD, KEYS, STORE, OUT, SAID, GARBLED, OTHER-ROUND, STRANGER, DISORDER, EARLY, early, SIGNATURE, NO-CONFLICT-IN, NO-CONFLICT-BETWEEN, KEY-MATERIAL, outsideConditions, recordConditions, messageConditions, certificateConditions, twoConditions, openingConditions, submitConditions, stepConditions, evidenceConditions, makingConditions, lowerConditions, checkConditions, makeKeyConditions, signConditions}

@@ -1,6 +1,6 @@
 -- A unit's record: with nothing set, with one part set, and impossible (document 01, "A unit's record and store").
 -- Assumes nothing.
-use Prim.Native.Nat.{ℕ}
+use Prim.Native.Nat.{ℕ, _^_, _≤_, _<_}
 use mathlib.Core.Bool.{Bool, true, false, not, _&&_, _||_}
 use lib.Dec.{leb, ltb, eqb}
 use Rattle.quorum.specs.Quorum.{mostSeats, k, has, size, shared, outside}
@@ -10,6 +10,10 @@ use Rattle.protocol.specs.declared.Own.{Own}
 use Rattle.protocol.specs.declared.Notices.{Notices}
 use Rattle.protocol.specs.declared.First.{First}
 use Rattle.protocol.specs.declared.Record.{Record}
+use mathlib.Core.Path.{_≡_}
+use mathlib.Core.List.{List}
+use lib.ListN.{length}
+use Rattle.protocol.specs.Layout.{storeLength, outLength}
 
 -- ---- ranges
 
@@ -133,3 +137,30 @@ wrongUnset r =
 -- any of these
 unfoldable pub impossible : Record → Bool
 impossible r = outOfRange r || wrongHeard r || namesStranger r || wrongCollected r || wrongFirst r || lacksFirst r || wrongGuilty r || wrongSent r || wrongUnset r
+
+-- ---- possible records
+
+-- n, seat and round are in range
+pub record InRange (n seat round : ℕ) : Type 0 where
+  pub some : 1 ≤ n
+  pub most : n ≤ mostSeats
+  pub seated : seat < n
+  pub dated : round ≤ lastRound
+
+pub record Possible (r : Record) : Type 0 where
+  pub range : InRange (r .n) (r .seat) (r .round)
+  -- the masks name seats below n
+  pub collected : r .own .collected < 2 ^ r .n
+  pub first : r .first .seats < 2 ^ r .n
+  -- nothing is collected before the submission, at most k are, and k are only where the unit has confirmed
+  pub unsaid : r .own .submitted ≡ false → r .own .collected ≡ 0
+  pub few : size (r .own .collected) ≤ k (r .n)
+  pub complete : size (r .own .collected) ≡ k (r .n) → r .confirmed ≡ true
+  -- the first certificate has at most k
+  pub held : size (r .first .seats) ≤ k (r .n)
+
+-- a call's record, store and out, where 4, 6 and 7 are not refused
+pub record Ready (r : Record) (store out : List ℕ) : Type 0 where
+  pub possible : Possible r
+  pub slots : storeLength (r .n) ≤ length store
+  pub room : outLength (r .n) ≤ length out

@@ -2,17 +2,14 @@
 -- Assumes nothing.
 use mathlib.Core.Path.{_≡_, refl, sym}
 use mathlib.Core.Bool.{Bool, true, false, not, _&&_, _||_, false≢true}
-use mathlib.Core.List.{List}
-use Prim.Native.Nat.{ℕ, _^_, _≤_, _<_}
+use Prim.Native.Nat.{ℕ, _≤_}
 use native.Mathlib.Omega.{arith}
 use lib.Dec.{ltb, eqb}
-use lib.ListN.{length}
 use borrow.Author.Tests.{eqb-true, eqb-false, eq-eqb, ne-eqb, ltb-false, le-ltb, leb-false}
 use Rattle.refusal.specs.RefusalLaws.{both-false}
 use Rattle.quorum.specs.Quorum.{mostSeats, k, has, size, outside}
 use Rattle.quorum.specs.QuorumLaws.{outside-false}
-use Rattle.protocol.specs.Layout.{storeLength, outLength}
-use Rattle.protocol.specs.Record.{wrongSize, wrongSeat, lastRound, wrongRound, outOfRange, wrongHeard, namesStranger, wrongCollected, wrongFirst, lacksFirst, wrongGuilty, wrongSent, wrongUnset, impossible}
+use Rattle.protocol.specs.Record.{InRange, Possible, wrongSize, wrongSeat, lastRound, wrongRound, outOfRange, wrongHeard, namesStranger, wrongCollected, wrongFirst, lacksFirst, wrongGuilty, wrongSent, wrongUnset, impossible}
 use Rattle.protocol.specs.declared.Record.{Record}
 
 -- ---- ranges
@@ -37,13 +34,6 @@ pub round-right : (round : ℕ) → round ≤ lastRound → wrongRound round ≡
 unfolding wrongRound
 round-right round h = le-ltb lastRound round h
 
--- n, seat and round are in range
-pub record InRange (n seat round : ℕ) : Type 0 where
-  pub some : 1 ≤ n
-  pub most : n ≤ mostSeats
-  pub seated : seat < n
-  pub dated : round ≤ lastRound
-
 pub in-range : (r : Record) → outOfRange r ≡ false → InRange (r .n) (r .seat) (r .round)
 unfolding outOfRange wrongSeat
 in-range r e =
@@ -51,26 +41,6 @@ in-range r e =
     let b = both-false (wrongSize (r .n)) (wrongSeat (r .n) (r .seat)) (a .0) in
     let size = right-size (r .n) (b .0) in
     record { some = size .0; most = size .1; seated = leb-false (r .n) (r .seat) (b .1); dated = right-round (r .round) (a .1) }
-
--- ---- possible records
-
-pub record Possible (r : Record) : Type 0 where
-  pub range : InRange (r .n) (r .seat) (r .round)
-  -- the masks name seats below n
-  pub collected : r .own .collected < 2 ^ r .n
-  pub first : r .first .seats < 2 ^ r .n
-  -- nothing is collected before the submission, at most k are, and k are only where the unit has confirmed
-  pub unsaid : r .own .submitted ≡ false → r .own .collected ≡ 0
-  pub few : size (r .own .collected) ≤ k (r .n)
-  pub complete : size (r .own .collected) ≡ k (r .n) → r .confirmed ≡ true
-  -- the first certificate has at most k
-  pub held : size (r .first .seats) ≤ k (r .n)
-
--- a call's record, store and out, where 4, 6 and 7 are not refused
-pub record Ready (r : Record) (store out : List ℕ) : Type 0 where
-  pub possible : Possible r
-  pub slots : storeLength (r .n) ≤ length store
-  pub room : outLength (r .n) ≤ length out
 
 -- ---- from the test
 

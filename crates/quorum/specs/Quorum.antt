@@ -3,11 +3,10 @@
 use mathlib.Core.Path.{_≡_}
 use mathlib.Core.Bool.{Bool}
 use mathlib.Core.List.{List, [], _∷_, _++_}
-use Prim.Native.Nat.{ℕ, zero, suc, _+_, _-_, _/_, _%_, _^_, _<_}
+use Prim.Native.Nat.{ℕ, zero, suc, _+_, _-_, _/_, _%_, _^_}
 use lib.Bits.{bitAnd, bitOr}
 use lib.Count.{ones}
 use lib.Dec.{leb, eqb}
-use lib.ListN.{length, getD}
 
 -- "A fleet has n seats, 1 to 32, numbered from 0."
 abbrev pub mostSeats : ℕ
@@ -71,7 +70,3 @@ seatIf (suc b) s = s ∷ []
 unfoldable pub seats : ℕ → ℕ → List ℕ
 seats zero m = []
 seats (suc n) m = seats n m ++ seatIf (bit n m) n
-
--- each entry is above those before it
-abbrev pub Rises : List ℕ → Type 0
-Rises l = (i j : ℕ) → i < j → j < length l → getD l i 0 < getD l j 0

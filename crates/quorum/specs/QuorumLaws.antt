@@ -16,7 +16,7 @@ use lib.Count.{ones, ones-step, ones-cat, ones-le}
 use lib.ListN.{length, getD, length-append, List·getD-append}
 use lib.Seq.{getD-at}
 use lib.Pow.{pow-mono, pow-pos, pow-lt, shr-shr, mod-pow-add}
-use Rattle.quorum.specs.Quorum.{t0, k, bit, In, has, size, one, union, shared, with, all, outside, seatIf, seats, Rises}
+use Rattle.quorum.specs.Quorum.{t0, k, bit, In, has, size, one, union, shared, with, all, outside, seatIf, seats}
 
 -- ---- seat 0, and the other seats moved down by one
 
@@ -307,6 +307,10 @@ mem-getD (x ∷ l) (suc i) h = List·Memᴰ·tail (mem-getD l i (omega arith))
 
 pub seat-at : (n m i : ℕ) → i < length (seats n m) → (getD (seats n m) i 0 < n) × In (getD (seats n m) i 0) m
 seat-at n m i h = mem-seats n (getD (seats n m) i 0) m .0 (mem-getD (seats n m) i h)
+
+-- each entry is above those before it
+abbrev pub Rises : List ℕ → Type 0
+Rises l = (i j : ℕ) → i < j → j < length l → getD l i 0 < getD l j 0
 
 rises-snoc : (l : List ℕ) (x : ℕ) → Rises l → ((i : ℕ) → i < length l → getD l i 0 < x) → Rises (l ++ (x ∷ []))
 rises-snoc l x r below i j h b = go (decLt j (length l))

@@ -1,6 +1,8 @@
--- Refusals by number: `Refusal` has the definitions and `RefusalLaws` their laws, `Order` the first number in a written
--- order, and `Lowest` the lowest number where the order rises.
+-- Refusals by number: `Refusal` has the rows of a call, `Order` the first number in a written order, `Lowest` the lowest number.
+-- `XLaws` has the laws of `X`.
 pub mod Refusal
 pub mod RefusalLaws
 pub mod Order
+pub mod OrderLaws
 pub mod Lowest
+pub mod LowestLaws

@@ -5,7 +5,7 @@ use mathlib.Core.Logic.{_⊎_}
 use mathlib.Core.List.{List, [], _∷_, _++_}
 use Prim.Native.Nat.{ℕ, zero, suc, _+_, _-_, _*_, _≤_, _<_}
 use lib.Bits.{bitAnd, bitXor}
-use lib.ListN.{getD, set}
+use lib.ListN.{length, getD, set}
 use Rattle.fips180.specs.Constants.{constants}
 use Rattle.fips180.specs.Fips as Fips
 
@@ -21,6 +21,15 @@ Same n xs ys = (i : ℕ) → i < n → getD ys i 0 ≡ getD xs i 0
 -- words 0 to 4, 14 and 15 of the blocks z are those of the blocks w
 unfoldable pub Alike : List ℕ → List ℕ → Type 0
 Alike w z = (i : ℕ) → (i < 80) ⊎ (224 ≤ i) → i < 256 → getD z i 0 ≡ getD w i 0
+
+-- n of c words of z from index p on are f's, and n of c from q on are g's; all others are those of s
+pub record Two (p q c : ℕ) (f g : ℕ → ℕ) (n : ℕ) (s z : List ℕ) : Type 0 where
+  pub long : length z ≡ length s
+  pub first : (i : ℕ) → i < n → getD z (p + i) 0 ≡ f i
+  pub second : (i : ℕ) → i < n → getD z (q + i) 0 ≡ g i
+  pub low : (i : ℕ) → i < p → getD z i 0 ≡ getD s i 0
+  pub mid : (i : ℕ) → p + c ≤ i → i < q → getD z i 0 ≡ getD s i 0
+  pub high : (i : ℕ) → q + c ≤ i → getD z i 0 ≡ getD s i 0
 
 -- ---- the schedule
 

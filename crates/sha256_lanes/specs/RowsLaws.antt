@@ -11,9 +11,9 @@ use lib.ListN.{length, getD, set, length-append, length-set, List·getD-append}
 use lib.Seq.{getD-set-same, getD-set-other, getD-at, ext-getD}
 use Rattle.octets.specs.OctetsLaws.{as-eight}
 use Rattle.fips180.specs.Constants.{constants}
-use Rattle.fips180.specs.Forms.{maj-any}
+use Rattle.fips180.specs.FormsLaws.{maj-any}
 use Rattle.fips180.specs.Fips as Fips
-use Rattle.sha256_lanes.specs.Rows.{column, Same, Alike, scheduledAt, shareAt, Shares, Resumed, Common, eight, State, place, temp1At, temp2At, roundAt, Unchanged, Rounded, Compressed}
+use Rattle.sha256_lanes.specs.Rows.{Two, column, Same, Alike, scheduledAt, shareAt, Shares, Resumed, Common, eight, State, place, temp1At, temp2At, roundAt, Unchanged, Rounded, Compressed}
 
 -- ---- words of a list, by index
 
@@ -52,15 +52,6 @@ fill-next g f xs n a x at rise h e old =
 pub front-next : (f : ℕ → ℕ) (xs : List ℕ) (n x : ℕ) → ((i : ℕ) → i < n → getD xs i 0 ≡ f i) → n < length xs → x ≡ f n
     → (i : ℕ) → i < n + 1 → getD (set xs n x) i 0 ≡ f i
 front-next f xs n x old h e = fill-next (λ i. i) f xs n n x refl (λ i a. a) h e old
-
--- n of c words of z from index p on are f's, and n of c from q on are g's; all others are those of s
-pub record Two (p q c : ℕ) (f g : ℕ → ℕ) (n : ℕ) (s z : List ℕ) : Type 0 where
-  pub long : length z ≡ length s
-  pub first : (i : ℕ) → i < n → getD z (p + i) 0 ≡ f i
-  pub second : (i : ℕ) → i < n → getD z (q + i) 0 ≡ g i
-  pub low : (i : ℕ) → i < p → getD z i 0 ≡ getD s i 0
-  pub mid : (i : ℕ) → p + c ≤ i → i < q → getD z i 0 ≡ getD s i 0
-  pub high : (i : ℕ) → q + c ≤ i → getD z i 0 ≡ getD s i 0
 
 pub two-none : (p q c : ℕ) (f g : ℕ → ℕ) (s : List ℕ) → Two p q c f g 0 s s
 two-none p q c f g s =

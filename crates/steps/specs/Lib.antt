@@ -1,7 +1,11 @@
--- Laws of the phases' code.
+-- The phases of submit and step.
+--
+-- `Phases` has the results of a phase, `Certificates` a certificate that is heard; the others have the laws of the phases' code.
 pub mod Phases
-pub mod Hearing
+pub mod PhasesLaws
+pub mod HearingLaws
 pub mod Certificates
-pub mod Collecting
-pub mod Confirming
-pub mod Steps
+pub mod CertificatesLaws
+pub mod CollectingLaws
+pub mod ConfirmingLaws
+pub mod StepsLaws

@@ -9,7 +9,7 @@ ghost use Rattle.protocol.specs.Step.{submitted, stepped};
 ghost use Rattle.wire.specs.Reading.{kindOf};
 ghost use Rattle.wire.specs.declared.read.Kind.the-variants as kind;
 ghost use Rattle.steps.specs.Phases.{Did};
-ghost use Rattle.protocol.specs.RecordLaws.{Ready};
+ghost use Rattle.protocol.specs.Record.{Ready};
 use crate::certificate::hear_certificate;
 use crate::collect::hear_submit;
 use crate::collect::submit_own;

@@ -23,9 +23,10 @@ use Rattle.round.specs.Round.{Each, Are, Setting, Call, BySubmit, ByStep, ByThi
 use Rattle.round.specs.Demand1.{isNotice, writtenOver}
 use Rattle.round.specs.Demand3.{Blames}
 use Rattle.protocol.specs.ConditionsLaws.{every-each}
-use Rattle.reading.specs.Lists.{and-false-either, or-true-either}
-use Rattle.reading.specs.Reading.{are-unique}
-use Rattle.reading.specs.Messages.{messages, allMessages, all-member, member-all, written-is, list-are}
+use Rattle.reading.specs.ListsLaws.{and-false-either, or-true-either}
+use Rattle.reading.specs.ReadingLaws.{are-unique}
+use Rattle.reading.specs.Messages.{messages, allMessages}
+use Rattle.reading.specs.MessagesLaws.{all-member, member-all, written-is, list-are}
 
 -- ---- a member of a list
 

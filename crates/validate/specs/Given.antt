@@ -1,19 +1,13 @@
--- Arguments that pass the first conditions of a call: n, round and key table; these and out; the record, key table, store and out.
+-- Arguments besides a message: those that aren't refused, and the rows of making evidence.
 -- Assumes nothing.
-use mathlib.Core.Path.{_≡_, refl, sym, _∙_}
-use mathlib.Core.Bool.{true, false}
+use mathlib.Core.Path.{_≡_}
+use mathlib.Core.Bool.{false}
 use mathlib.Core.List.{List, [], _∷_, _++_}
 use Prim.Native.Nat.{ℕ, _≤_}
-use lib.ListN.{length}
-use borrow.Author.Tests.{ltb-false}
-use Rattle.refusal.specs.Refusal.{firstOf, numbers, nonzero}
-use Rattle.refusal.specs.RefusalLaws.{firstOf-zero, refused-later, passed-first}
 use Rattle.quorum.specs.Quorum.{mostSeats}
-use Rattle.protocol.specs.Layout.{storeLength, outLength, evidenceOutLength}
-use Rattle.protocol.specs.Record.{lastRound, impossible}
-use Rattle.protocol.specs.RecordLaws.{right-size, right-round, possible, Ready}
-use Rattle.protocol.specs.Refusals.{Condition, OUT, wrongKeys, shortStore, shortOut, outsideConditions, recordConditions}
-use Rattle.protocol.specs.declared.Record.{Record}
+use Rattle.protocol.specs.Layout.{evidenceOutLength}
+use Rattle.protocol.specs.Record.{lastRound}
+use Rattle.protocol.specs.Refusals.{Condition, OUT, wrongKeys, outsideConditions}
 
 -- n, round and key table are right
 pub record Given (n round : ℕ) (keys : List ℕ) : Type 0 where
@@ -22,67 +16,8 @@ pub record Given (n round : ℕ) (keys : List ℕ) : Type 0 where
   pub dated : round ≤ lastRound
   pub table : wrongKeys n keys ≡ false
 
--- ---- outside a record
-
-module _ (n round : ℕ) (keys : List ℕ) where
-  pub outside-given : (number : ℕ) → number ≡ firstOf (outsideConditions n round keys) → number ≡ 0 → Given n round keys
-  unfolding outsideConditions
-  outside-given number e z =
-      let a = firstOf-zero 0 _ _ (sym e ∙ z) in
-      let b = firstOf-zero 2 _ _ (a .1) in
-      let size = right-size n (a .0) in
-      record { some = size .0; most = size .1; dated = right-round round (b .0); table = firstOf-zero 4 _ [] (b .1) .0 }
-
-  pub outside-nonzero : nonzero (numbers (outsideConditions n round keys)) ≡ true
-  unfolding outsideConditions nonzero numbers
-  outside-nonzero = refl
-
 -- ---- with an out, where evidence is made
 
 -- the rows before those of the two certificates: 1, 3, 5, 7
 unfoldable pub givenConditions : ℕ → ℕ → List ℕ → List ℕ → List Condition
 givenConditions n round keys out = outsideConditions n round keys ++ OUT (evidenceOutLength n) out ∷ []
-
-module _ (n round : ℕ) (keys out : List ℕ) where
-  pub given-nonzero : nonzero (numbers (givenConditions n round keys out)) ≡ true
-  unfolding givenConditions outsideConditions nonzero numbers
-  given-nonzero = refl
-
-  pub making-given : (number : ℕ) → number ≡ firstOf (givenConditions n round keys out) → number ≡ 0 → Given n round keys × (evidenceOutLength n ≤ length out)
-  unfolding givenConditions shortOut
-  making-given number e z =
-      let all = sym e ∙ z in
-      let room = OUT (evidenceOutLength n) out ∷ [] in
-      let first = passed-first (outsideConditions n round keys) room all in
-      let last = refused-later (outsideConditions n round keys) room 0 (sym first) (outside-nonzero n round keys) refl ∙ all in
-      (outside-given n round keys 0 (sym first) refl, ltb-false (length out) (evidenceOutLength n) (firstOf-zero 6 _ [] last .0))
-
--- ---- with a record
-
-module _ (keys : List ℕ) (r : Record) (store out : List ℕ) where
-  pub record-nonzero : nonzero (numbers (recordConditions keys r store out)) ≡ true
-  unfolding recordConditions nonzero numbers
-  record-nonzero = refl
-
-  module _ (number : ℕ) (e : number ≡ firstOf (recordConditions keys r store out)) (z : number ≡ 0) where
-    passed : (impossible r ≡ false) × (wrongKeys (r .n) keys ≡ false) × (shortStore (r .n) store ≡ false) × (shortOut (outLength (r .n)) out ≡ false)
-    unfolding recordConditions
-    passed =
-        let a = firstOf-zero 3 _ _ (sym e ∙ z) in
-        let b = firstOf-zero 4 _ _ (a .1) in
-        let c = firstOf-zero 5 _ _ (b .1) in
-        (a .0, b .0, c .0, firstOf-zero 6 _ [] (c .1) .0)
-
-    pub record-ready : Ready r store out
-    unfolding shortStore shortOut
-    record-ready =
-        record {
-          possible = possible r (passed .0);
-          slots = ltb-false (length store) (storeLength (r .n)) (passed .2);
-          room = ltb-false (length out) (outLength (r .n)) (passed .3);
-        }
-
-    pub record-given : Given (r .n) (r .round) keys
-    record-given =
-        let range = possible r (passed .0) .range in
-        record { some = range .some; most = range .most; dated = range .dated; table = passed .1 }

@@ -1,12 +1,17 @@
--- Laws of refusals: `Given` of the arguments besides a message, `Keys` of the key table, `Messages` of a message's 9 to 14, `Operands`
--- of its round and seats, `Seats` of a seat's signature, `Places`, `Signatures` and `Entries` of the signatures of a message, `Calls` of
--- each call.
+-- Refusals: `Given` has the arguments besides a message, `Messages` a message's 9 to 13, `Operands` the seat that sends it, `Places`
+-- and `Entries` the signatures of a message, `Calls` the rows of a call's own arguments. `XLaws` has the laws of `X`, `KeysLaws` those of
+-- the key table, `SeatsLaws` those of a seat's signature, `SignaturesLaws` those of the signatures of a message, one entry after another.
 pub mod Given
-pub mod Keys
+pub mod GivenLaws
+pub mod KeysLaws
 pub mod Messages
+pub mod MessagesLaws
 pub mod Operands
-pub mod Seats
+pub mod OperandsLaws
+pub mod SeatsLaws
 pub mod Places
-pub mod Signatures
+pub mod SignaturesLaws
 pub mod Entries
+pub mod EntriesLaws
 pub mod Calls
+pub mod CallsLaws

@@ -5,7 +5,7 @@ ghost use Rattle.protocol.specs.Signatures.{checks};
 ghost use Rattle.protocol.specs.Message.{read};
 ghost use Rattle.protocol.specs.Refusals.{wrongLengths, isForStep, early, outsideConditions, openingConditions, recordConditions, messageConditions, certificateConditions, twoConditions};
 ghost use Rattle.wire.specs.Reading.{kindOf};
-ghost use Rattle.protocol.specs.RecordLaws.{InRange};
+ghost use Rattle.protocol.specs.Record.{InRange};
 ghost use Rattle.validate.specs.Given.{Given, givenConditions};
 ghost use Rattle.validate.specs.Calls.{ownConditions, packConditions};
 use crate::arguments::wrong_round;

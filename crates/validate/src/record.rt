@@ -1,8 +1,7 @@
 // Impossible records, test by test (document 01, "A record is impossible if"): 4.
 ghost use mathlib.Core.Path.{_≡_};
 ghost use Rattle.octets.specs.Strings.{same};
-ghost use Rattle.protocol.specs.Record.{holds, outOfRange, namesStranger, wrongCollected, wrongFirst, lacksFirst, wrongGuilty, wrongSent, wrongUnset, impossible};
-ghost use Rattle.protocol.specs.RecordLaws.{InRange};
+ghost use Rattle.protocol.specs.Record.{holds, outOfRange, namesStranger, wrongCollected, wrongFirst, lacksFirst, wrongGuilty, wrongSent, wrongUnset, impossible, InRange};
 ghost use Rattle.protocol.specs.Values.{unset};
 use crate::arguments::wrong_round;
 use crate::arguments::wrong_seat;

@@ -1,3 +1,3 @@
 -- Buffers after the writers, with their laws.
 pub mod Writing
-pub mod WriteLaws
+pub mod WritingLaws

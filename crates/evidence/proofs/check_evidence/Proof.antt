@@ -4,9 +4,9 @@ use denote.Ref.{now}
 use Rattle.protocol.specs.Message.{read}
 use Rattle.wire.specs.Reading.{kindOf}
 use Rattle.wire.specs.KindLaws.{kind-told}
-use Rattle.validate.specs.Calls.{pack-formed}
-use Rattle.evidence.specs.Passed.{Call, Clear, given, sized}
-use Rattle.evidence.specs.Returns.{outside-refused, pack-refused, accepted}
+use Rattle.validate.specs.CallsLaws.{pack-formed}
+use Rattle.evidence.specs.PassedLaws.{Call, Clear, given, sized}
+use Rattle.evidence.specs.ReturnsLaws.{outside-refused, pack-refused, accepted}
 use borrow.Author.Needs.{needs}
 use Rattle.evidence.proofs.check_evidence.Statement.{statement}
 use Rattle.evidence.proofs.check_evidence.Tie as tie

@@ -1,7 +1,7 @@
 -- `evidence::lower_certificate` meets its contract.
 use denote.Ref.{now}
-use Rattle.evidence.specs.Passed.{Call, Clear, given, conflicting, both-taken}
-use Rattle.evidence.specs.Making.{lower-outside, lower-refused, first-lower, second-lower}
+use Rattle.evidence.specs.PassedLaws.{Call, Clear, given, conflicting, both-taken}
+use Rattle.evidence.specs.MakingLaws.{lower-outside, lower-refused, first-lower, second-lower}
 use borrow.Author.Needs.{needs}
 use Rattle.evidence.proofs.lower_certificate.Statement.{statement}
 use Rattle.evidence.proofs.lower_certificate.Tie as tie

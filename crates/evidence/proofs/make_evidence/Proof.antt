@@ -3,9 +3,10 @@ use Prim.Native.Nat.{_≤_}
 use lib.ListN.{length}
 use denote.Ref.{now}
 use Rattle.protocol.specs.Layout.{evidenceOutLength}
-use Rattle.validate.specs.Given.{Given, making-given}
-use Rattle.evidence.specs.Passed.{Call, conflicting}
-use Rattle.evidence.specs.Making.{given-refused, making-refused, making-done}
+use Rattle.validate.specs.Given.{Given}
+use Rattle.validate.specs.GivenLaws.{making-given}
+use Rattle.evidence.specs.PassedLaws.{Call, conflicting}
+use Rattle.evidence.specs.MakingLaws.{given-refused, making-refused, making-done}
 use borrow.Author.Needs.{needs}
 use Rattle.evidence.proofs.make_evidence.Statement.{statement}
 use Rattle.evidence.proofs.make_evidence.Tie as tie

@@ -4,7 +4,8 @@ use Prim.Native.Nat.{_-_, _≤_}
 use native.Mathlib.Omega.{arith}
 use lib.ListN.{length, length-set}
 use denote.Ref.{now}
-use Rattle.sha256_lanes.specs.RowsLaws.{Two, two-none, two-next, firstShare, nextShare, shares-done}
+use Rattle.sha256_lanes.specs.Rows.{Two}
+use Rattle.sha256_lanes.specs.RowsLaws.{two-none, two-next, firstShare, nextShare, shares-done}
 use Rattle.sha256_lanes.proofs.shares.Statement.{statement}
 use Rattle.sha256_lanes.proofs.shares.Tie as tie
 

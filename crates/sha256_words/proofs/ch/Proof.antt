@@ -1,6 +1,6 @@
 -- `sha256_words::ch` meets its contract.
 use borrow.Author.Needs.{needs}
-use Rattle.fips180.specs.Forms.{ch-word}
+use Rattle.fips180.specs.FormsLaws.{ch-word}
 use Rattle.sha256_words.proofs.ch.Statement.{statement}
 use Rattle.sha256_words.proofs.ch.Tie as tie
 

@@ -1,6 +1,6 @@
 -- `sha256_words::maj` meets its contract.
 use borrow.Author.Needs.{needs}
-use Rattle.fips180.specs.Forms.{maj-word}
+use Rattle.fips180.specs.FormsLaws.{maj-word}
 use Rattle.sha256_words.proofs.maj.Statement.{statement}
 use Rattle.sha256_words.proofs.maj.Tie as tie
 

@@ -1,7 +1,7 @@
 -- `wire_write::put_byte` meets its contract.
 use borrow.Author.Needs.{needs}
 use denote.Ref.{now}
-use Rattle.wire_write.specs.WriteLaws.{one-byte}
+use Rattle.wire_write.specs.WritingLaws.{one-byte}
 use Rattle.wire_write.proofs.put_byte.Statement.{statement}
 use Rattle.wire_write.proofs.put_byte.Tie as tie
 

@@ -3,7 +3,7 @@ use native.Mathlib.Omega.{arith}
 use lib.ListN.{length-set}
 use borrow.Author.Needs.{needs}
 use denote.Ref.{now}
-use Rattle.wire_write.specs.WriteLaws.{command-written}
+use Rattle.wire_write.specs.WritingLaws.{command-written}
 use Rattle.wire_write.proofs.put_command.Statement.{statement}
 use Rattle.wire_write.proofs.put_command.Tie as tie
 

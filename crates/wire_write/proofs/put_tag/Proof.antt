@@ -1,7 +1,7 @@
 -- `wire_write::put_tag` meets its contract.
 use native.Mathlib.Omega.{arith}
 use borrow.Author.Needs.{needs}
-use Rattle.wire_write.specs.WriteLaws.{wrote-then}
+use Rattle.wire_write.specs.WritingLaws.{wrote-then}
 use Rattle.wire_write.proofs.put_tag.Statement.{statement}
 use Rattle.wire_write.proofs.put_tag.Tie as tie
 

@@ -13,7 +13,7 @@ use Rattle.protocol.specs.Message.{fullForm}
 use Rattle.protocol.specs.Certificate.{entryOf, entriesOf}
 use Rattle.store.specs.Sources.{certificateFrom}
 use Rattle.wire_write.specs.Writing.{entry}
-use Rattle.wire_write.specs.WriteLaws.{Going, going-none, going-skip, going-room, going-on, going-done}
+use Rattle.wire_write.specs.WritingLaws.{Going, going-none, going-skip, going-room, going-on, going-done}
 use Rattle.wire_write.proofs.write_entries.Statement.{statement}
 use Rattle.wire_write.proofs.write_entries.Tie as tie
 

@@ -4,7 +4,7 @@ use borrow.Author.Needs.{needs}
 use Rattle.protocol.specs.Layout.{signatureLength, fullEntryLength}
 use Rattle.protocol.specs.Entries.{renderEntry}
 use Rattle.protocol.specs.Message.{fullForm}
-use Rattle.wire_write.specs.WriteLaws.{wrote-then}
+use Rattle.wire_write.specs.WritingLaws.{wrote-then}
 use Rattle.wire_write.proofs.write_entry.Statement.{statement}
 use Rattle.wire_write.proofs.write_entry.Tie as tie
 

@@ -3,7 +3,7 @@ use borrow.Author.Needs.{needs}
 use denote.Ref.{now}
 use Rattle.protocol.specs.Certificate.{Certificate}
 use Rattle.store.specs.Sources.{certificateFrom}
-use Rattle.wire_write.specs.WriteLaws.{given-lower, given-higher}
+use Rattle.wire_write.specs.WritingLaws.{given-lower, given-higher}
 use Rattle.wire_write.proofs.write_evidence.Statement.{statement}
 use Rattle.wire_write.proofs.write_evidence.Tie as tie
 

@@ -4,7 +4,7 @@ use Prim.Native.Nat.{ℕ, _+_}
 use native.Mathlib.Omega.{arith}
 use borrow.Author.Needs.{needs}
 use denote.Ref.{now}
-use Rattle.wire_write.specs.WriteLaws.{wrote-then, length-command, length-evidence-head}
+use Rattle.wire_write.specs.WritingLaws.{wrote-then, length-command, length-evidence-head}
 use Rattle.wire_write.proofs.write_evidence_head.Statement.{statement}
 use Rattle.wire_write.proofs.write_evidence_head.Tie as tie
 

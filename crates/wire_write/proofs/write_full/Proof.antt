@@ -13,7 +13,7 @@ use Rattle.protocol.specs.Message.{fullForm, render}
 use Rattle.protocol.specs.Certificate.{entryOf, entriesOf, fullOf}
 use Rattle.store.specs.Sources.{certificateFrom}
 use Rattle.wire_write.specs.Writing.{head}
-use Rattle.wire_write.specs.WriteLaws.{wrote-then, list-written}
+use Rattle.wire_write.specs.WritingLaws.{wrote-then, list-written}
 use Rattle.wire_write.proofs.write_full.Statement.{statement}
 use Rattle.wire_write.proofs.write_full.Tie as tie
 

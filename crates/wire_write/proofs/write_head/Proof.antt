@@ -5,7 +5,7 @@ use native.Mathlib.Omega.{arith}
 use borrow.Author.Needs.{needs}
 use denote.Ref.{now}
 use Rattle.protocol.specs.Layout.{noticeLength}
-use Rattle.wire_write.specs.WriteLaws.{wrote-then, length-command, length-head}
+use Rattle.wire_write.specs.WritingLaws.{wrote-then, length-command, length-head}
 use Rattle.wire_write.proofs.write_head.Statement.{statement}
 use Rattle.wire_write.proofs.write_head.Tie as tie
 

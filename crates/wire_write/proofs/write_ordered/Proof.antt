@@ -7,7 +7,7 @@ use denote.Ref.{now}
 use Rattle.quorum.specs.Quorum.{size, seats}
 use Rattle.quorum.specs.QuorumLaws.{size-le, length-seats}
 use Rattle.protocol.specs.Layout.{evidenceEntryAt, evidenceLength}
-use Rattle.wire_write.specs.WriteLaws.{evidence-written}
+use Rattle.wire_write.specs.WritingLaws.{evidence-written}
 use Rattle.wire_write.proofs.write_ordered.Statement.{statement}
 use Rattle.wire_write.proofs.write_ordered.Tie as tie
 

@@ -15,7 +15,7 @@ use Rattle.protocol.specs.Message.{Pair, evidenceForm}
 use Rattle.protocol.specs.Certificate.{pairOf, pairsOf}
 use Rattle.store.specs.Sources.{certificateFrom}
 use Rattle.wire_write.specs.Writing.{noValues, pair}
-use Rattle.wire_write.specs.WriteLaws.{Going, going-none, going-skip, going-room, going-on, going-done}
+use Rattle.wire_write.specs.WritingLaws.{Going, going-none, going-skip, going-room, going-on, going-done}
 use Rattle.wire_write.proofs.write_pairs.Statement.{statement}
 use Rattle.wire_write.proofs.write_pairs.Tie as tie
 

@@ -8,7 +8,7 @@ use Rattle.protocol.specs.Layout.{signatureLength, noticeLength, submitLength}
 use Rattle.protocol.specs.Message.{render}
 use Rattle.protocol.specs.MessageLaws.{length-submit}
 use Rattle.wire_write.specs.Writing.{head}
-use Rattle.wire_write.specs.WriteLaws.{wrote-then}
+use Rattle.wire_write.specs.WritingLaws.{wrote-then}
 use Rattle.wire_write.proofs.write_submit.Statement.{statement}
 use Rattle.wire_write.proofs.write_submit.Tie as tie
 

@@ -4,7 +4,7 @@ use mathlib.Core.Path.{_≡_}
 use mathlib.Core.Bool.{Bool}
 use denote.Ref.{now}
 use lib.ListN.{length, length-take}
-use Rattle.yard_io.specs.Reading.{room-some, command-none, command-short, command-whole}
+use Rattle.yard_io.specs.ReadingLaws.{room-some, command-none, command-short, command-whole}
 use borrow.Author.Needs.{needs}
 use Rattle.yard_io.proofs.read_command.Statement.{statement}
 use Rattle.yard_io.proofs.read_command.Tie as tie

@@ -1,7 +1,7 @@
 -- `yard_io::run` meets its contract.
 use native.Mathlib.Omega.{arith}
 use lib.ListN.{length-take}
-use Rattle.yard_io.specs.Run.{first-stops, first-goes}
+use Rattle.yard_io.specs.RunLaws.{first-stops, first-goes}
 use borrow.Author.Needs.{needs}
 use Rattle.yard_io.proofs.run.Statement.{statement}
 use Rattle.yard_io.proofs.run.Tie as tie

@@ -3,7 +3,8 @@ use mathlib.Core.Path.{_≡_, refl}
 use mathlib.Core.Bool.{false}
 use lib.ListN.{length}
 use Rattle.yard.specs.Commands.{longestCall}
-use Rattle.yard_io.specs.Run.{Commands, commands-none, commands-more, commands-on}
+use Rattle.yard_io.specs.Run.{Commands}
+use Rattle.yard_io.specs.RunLaws.{commands-none, commands-more, commands-on}
 use borrow.Author.Needs.{needs}
 use Rattle.yard_io.proofs.run_calls.Statement.{statement}
 use Rattle.yard_io.proofs.run_calls.Tie as tie

@@ -4,8 +4,9 @@ use Rattle.protocol.specs.Signatures.{checks}
 use Rattle.protocol.specs.Refusals.{submitConditions}
 use Rattle.protocol.specs.Calls.{submit}
 use Rattle.protocol.specs.Step.{submitted}
-use Rattle.validate.specs.Calls.{ownConditions, own-passed}
-use Rattle.confirmer.specs.Returns.{Call, Passed, Lent, Acted, ready, given, sized, part-within, part-length, part-ready, end-small, refused-by-record, refused-by-rest, leaves}
+use Rattle.validate.specs.Calls.{ownConditions}
+use Rattle.validate.specs.CallsLaws.{own-passed}
+use Rattle.confirmer.specs.ReturnsLaws.{Call, Passed, Lent, Acted, ready, given, sized, part-within, part-length, part-ready, end-small, refused-by-record, refused-by-rest, leaves}
 use borrow.Author.Needs.{needs}
 use Rattle.confirmer.proofs.calls.submit.Statement.{statement}
 use Rattle.confirmer.proofs.calls.submit.Tie as tie

@@ -1,6 +1,6 @@
 -- `confirmer::opening::open` meets its contract.
 use denote.Ref.{now}
-use Rattle.confirmer.specs.Openings.{open-opened, open-refused}
+use Rattle.confirmer.specs.OpeningLaws.{open-opened, open-refused}
 use borrow.Author.Needs.{needs}
 use Rattle.confirmer.proofs.opening.open.Statement.{statement}
 use Rattle.confirmer.proofs.opening.open.Tie as tie

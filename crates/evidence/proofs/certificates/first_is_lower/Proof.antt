@@ -1,6 +1,6 @@
 -- `evidence::certificates::first_is_lower` meets its contract.
 use mathlib.Core.Path.{_∙_}
-use Rattle.evidence.specs.Making.{lower-told}
+use Rattle.evidence.specs.MakingLaws.{lower-told}
 use borrow.Author.Needs.{needs}
 use Rattle.evidence.proofs.certificates.first_is_lower.Statement.{statement}
 use Rattle.evidence.proofs.certificates.first_is_lower.Tie as tie

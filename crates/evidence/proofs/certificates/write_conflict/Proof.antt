@@ -3,10 +3,10 @@ use Prim.Native.Nat.{_≤_}
 use native.Mathlib.Omega.{arith}
 use Rattle.quorum.specs.Quorum.{k, size}
 use Rattle.protocol.specs.Layout.{signatureLength, evidenceEntryLength, evidenceEntryAt, evidenceLength, evidenceOutLength}
-use Rattle.validate.specs.Messages.{full-kind}
-use Rattle.evidence.specs.Passed.{both-taken}
-use Rattle.wire_write.specs.WriteLaws.{shared-seats, shared-room}
-use Rattle.evidence.specs.Making.{readable, sized, certificate-is, wrote-evidence}
+use Rattle.validate.specs.MessagesLaws.{full-kind}
+use Rattle.evidence.specs.PassedLaws.{both-taken}
+use Rattle.wire_write.specs.WritingLaws.{shared-seats, shared-room}
+use Rattle.evidence.specs.MakingLaws.{readable, sized, certificate-is, wrote-evidence}
 use borrow.Author.Needs.{needs}
 use Rattle.evidence.proofs.certificates.write_conflict.Statement.{statement}
 use Rattle.evidence.proofs.certificates.write_conflict.Tie as tie

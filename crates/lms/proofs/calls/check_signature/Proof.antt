@@ -5,8 +5,8 @@ use denote.Ref.{now}
 use Rattle.refusal.specs.RefusalLaws.{rows}
 use Rattle.protocol.specs.Refusals.{wrongKey, checkConditions}
 use Rattle.protocol.specs.Signatures.{checkSignature}
-use Rattle.lms.specs.Refused.{key-fits}
-use Rattle.lms.specs.Called.{check-verdict}
+use Rattle.lms.specs.VerifyLaws.{key-fits}
+use Rattle.lms.specs.CallsLaws.{check-verdict}
 use borrow.Author.Needs.{needs}
 use Rattle.lms.proofs.calls.check_signature.Statement.{statement}
 use Rattle.lms.proofs.calls.check_signature.Tie as tie

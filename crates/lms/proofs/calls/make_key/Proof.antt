@@ -8,7 +8,7 @@ use Rattle.octets.specs.StringsLaws.{patch-nothing}
 use Rattle.rfc8554.specs.VerifyLaws.{length-publicKey}
 use Rattle.protocol.specs.Layout.{keyLength, treeLength}
 use Rattle.protocol.specs.SignaturesLaws.{makeKey-unrefused}
-use Rattle.lms.specs.Called.{key-refused, key-room}
+use Rattle.lms.specs.CallsLaws.{key-refused, key-room}
 use borrow.Author.Needs.{needs}
 use Rattle.lms.proofs.calls.make_key.Statement.{statement}
 use Rattle.lms.proofs.calls.make_key.Tie as tie

@@ -9,7 +9,7 @@ use Rattle.octets.specs.StringsLaws.{patch-nothing}
 use Rattle.protocol.specs.Layout.{signatureLength, treeLength, messageLimit}
 use Rattle.protocol.specs.Record.{lastRound}
 use Rattle.protocol.specs.SignaturesLaws.{sign-unrefused, length-lmsSignature-six-four}
-use Rattle.lms.specs.Called.{signer-refused, signer-room}
+use Rattle.lms.specs.CallsLaws.{signer-refused, signer-room}
 use borrow.Author.Needs.{needs}
 use Rattle.lms.proofs.calls.sign.Statement.{statement}
 use Rattle.lms.proofs.calls.sign.Tie as tie

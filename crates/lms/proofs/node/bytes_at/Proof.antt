@@ -1,7 +1,7 @@
 -- `lms::node::bytes_at` meets its contract.
 use borrow.Author.Needs.{needs}
 use denote.Ref.{now}
-use Rattle.lms.specs.LmsLaws.{part-lent}
+use Rattle.lms.specs.NodeLaws.{part-lent}
 use Rattle.lms.proofs.node.bytes_at.Statement.{statement}
 use Rattle.lms.proofs.node.bytes_at.Tie as tie
 

@@ -1,7 +1,7 @@
 -- `lms::node::inner` meets its contract.
 use borrow.Author.Needs.{needs}
 use Rattle.lmots_digits.specs.Pieces.{front}
-use Rattle.lms.specs.LmsLaws.{sha256-prefix}
+use Rattle.lms.specs.NodeLaws.{sha256-prefix}
 use Rattle.lms.specs.Pieces.{overChildren}
 use Rattle.lms.proofs.node.inner.Statement.{statement}
 use Rattle.lms.proofs.node.inner.Tie as tie

@@ -2,7 +2,7 @@
 use borrow.Author.Needs.{needs}
 use Rattle.rfc8554.specs.Tree.{leafInput}
 use Rattle.lmots_digits.specs.Pieces.{front}
-use Rattle.lms.specs.LmsLaws.{sha256-prefix}
+use Rattle.lms.specs.NodeLaws.{sha256-prefix}
 use Rattle.lms.proofs.node.leaf.Statement.{statement}
 use Rattle.lms.proofs.node.leaf.Tie as tie
 

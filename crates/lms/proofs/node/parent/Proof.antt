@@ -1,6 +1,6 @@
 -- `lms::node::parent` meets its contract.
 use borrow.Author.Needs.{needs}
-use Rattle.lms.specs.LmsLaws.{over-two}
+use Rattle.lms.specs.NodeLaws.{over-two}
 use Rattle.lms.proofs.node.parent.Statement.{statement}
 use Rattle.lms.proofs.node.parent.Tie as tie
 

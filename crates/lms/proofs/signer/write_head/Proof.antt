@@ -4,7 +4,7 @@ use native.Mathlib.Omega.{arith}
 use borrow.Author.Needs.{needs}
 use denote.Ref.{now}
 use Rattle.octets.specs.Octets.{be}
-use Rattle.lms.specs.Written.{three-writes}
+use Rattle.lms.specs.SignerLaws.{three-writes}
 use Rattle.lms.proofs.signer.write_head.Statement.{statement}
 use Rattle.lms.proofs.signer.write_head.Tie as tie
 

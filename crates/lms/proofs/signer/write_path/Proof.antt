@@ -12,8 +12,8 @@ use Rattle.octets.specs.Octets.{patch}
 use Rattle.octets.specs.WriteLaws.{patch-none}
 use Rattle.protocol.specs.Layout.{treeLength}
 use Rattle.rfc8554.specs.Tree.{path}
-use Rattle.lms.specs.Written.{way-within, path-next}
-use Rattle.lms.specs.LmsLaws.{half-next}
+use Rattle.lms.specs.SignerLaws.{way-within, path-next}
+use Rattle.lms.specs.NodeLaws.{half-next}
 use Rattle.lms.proofs.signer.write_path.Statement.{statement}
 use Rattle.lms.proofs.signer.write_path.Tie as tie
 

@@ -3,7 +3,7 @@ use borrow.Author.Needs.{needs}
 use denote.Ref.{now}
 use Rattle.octets.specs.Octets.{bytes}
 use Rattle.protocol.specs.Layout.{signatureLength}
-use Rattle.lms.specs.Written.{whole-string, signature-written}
+use Rattle.lms.specs.SignerLaws.{whole-string, signature-written}
 use Rattle.lms.proofs.signer.write_signature.Statement.{statement}
 use Rattle.lms.proofs.signer.write_signature.Tie as tie
 

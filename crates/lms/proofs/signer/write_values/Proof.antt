@@ -2,7 +2,7 @@
 use mathlib.Core.Logic.{inr}
 use mathlib.Core.Path.{refl}
 use borrow.Author.Needs.{needs}
-use Rattle.lms.specs.Written.{values-for}
+use Rattle.lms.specs.SignerLaws.{values-for}
 use Rattle.lms.proofs.signer.write_values.Statement.{statement}
 use Rattle.lms.proofs.signer.write_values.Tie as tie
 

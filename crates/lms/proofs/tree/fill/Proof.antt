@@ -1,7 +1,7 @@
 -- `lms::tree::fill` meets its contract.
 use borrow.Author.Needs.{needs}
 use Rattle.protocol.specs.Layout.{treeLength}
-use Rattle.lms.specs.Filled.{tree-filled}
+use Rattle.lms.specs.TreeLaws.{tree-filled}
 use Rattle.lms.proofs.tree.fill.Statement.{statement}
 use Rattle.lms.proofs.tree.fill.Tie as tie
 

@@ -5,7 +5,7 @@ use denote.Ref.{now}
 use Rattle.octets.specs.OctetsLaws.{length-part}
 use Rattle.octets.specs.Octets.{bytes}
 use Rattle.protocol.specs.Layout.{treeLength}
-use Rattle.lms.specs.Written.{whole-string, key-written}
+use Rattle.lms.specs.SignerLaws.{whole-string, key-written}
 use Rattle.lms.proofs.tree.make.Statement.{statement}
 use Rattle.lms.proofs.tree.make.Tie as tie
 

@@ -2,7 +2,7 @@
 use native.Mathlib.Omega.{arith}
 use borrow.Author.Needs.{needs}
 use Rattle.protocol.specs.Layout.{treeLength}
-use Rattle.lms.specs.Filled.{inner-put}
+use Rattle.lms.specs.TreeLaws.{inner-put}
 use Rattle.lms.proofs.tree.put_inner.Statement.{statement}
 use Rattle.lms.proofs.tree.put_inner.Tie as tie
 

@@ -5,7 +5,7 @@ use native.Mathlib.Omega.{arith}
 use lib.ListN.{length}
 use denote.Ref.{now}
 use Rattle.octets.specs.Octets.{bytes}
-use Rattle.lms.specs.Filled.{inners-next}
+use Rattle.lms.specs.TreeLaws.{inners-next}
 use Rattle.lms.specs.Pieces.{innersPut}
 use Rattle.lms.proofs.tree.put_inners.Statement.{statement}
 use Rattle.lms.proofs.tree.put_inners.Tie as tie

@@ -2,7 +2,7 @@
 use native.Mathlib.Omega.{arith}
 use borrow.Author.Needs.{needs}
 use Rattle.protocol.specs.Layout.{treeLength}
-use Rattle.lms.specs.LmsLaws.{leaf-put}
+use Rattle.lms.specs.NodeLaws.{leaf-put}
 use Rattle.lms.proofs.tree.put_leaf.Statement.{statement}
 use Rattle.lms.proofs.tree.put_leaf.Tie as tie
 

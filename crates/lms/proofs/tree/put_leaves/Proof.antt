@@ -9,7 +9,7 @@ use Rattle.octets.specs.Strings.{joined}
 use Rattle.octets.specs.WriteLaws.{patch-none}
 use Rattle.protocol.specs.Layout.{treeLength}
 use Rattle.rfc8554.specs.Tree.{nodes}
-use Rattle.lms.specs.Filled.{leaves-next}
+use Rattle.lms.specs.TreeLaws.{leaves-next}
 use Rattle.lms.proofs.tree.put_leaves.Statement.{statement}
 use Rattle.lms.proofs.tree.put_leaves.Tie as tie
 

@@ -9,8 +9,7 @@ use Rattle.octets.specs.Octets.{patch, bytes}
 use Rattle.octets.specs.Strings.{joined}
 use Rattle.octets.specs.WriteLaws.{patch-none}
 use Rattle.protocol.specs.Layout.{treeLength}
-use Rattle.lms.specs.Filled.{sixteen-next, sixteen-done}
-use Rattle.lms.specs.Pieces.{leafAt}
+use Rattle.lms.specs.TreeLaws.{sixteen-next, sixteen-done, leafAt}
 use Rattle.lms.proofs.tree.put_sixteen.Statement.{statement}
 use Rattle.lms.proofs.tree.put_sixteen.Tie as tie
 

@@ -9,7 +9,7 @@ use denote.Ref.{now}
 use Rattle.octets.specs.OctetsLaws.{length-part}
 use Rattle.octets.specs.Octets.{bytes}
 use Rattle.rfc8554.specs.Verify.{climbed, signatureLength}
-use Rattle.lms.specs.LmsLaws.{half-next, climbed-next}
+use Rattle.lms.specs.NodeLaws.{half-next, climbed-next}
 use Rattle.lms.proofs.verify.climb.Statement.{statement}
 use Rattle.lms.proofs.verify.climb.Tie as tie
 

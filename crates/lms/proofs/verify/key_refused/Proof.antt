@@ -5,7 +5,7 @@ use Prim.Native.Nat.{ℕ}
 use lib.ListN.{length}
 use denote.Ref.{now}
 use Rattle.protocol.specs.Layout.{keyLength}
-use Rattle.lms.specs.Refused.{key-length, key-lms, key-types}
+use Rattle.lms.specs.VerifyLaws.{key-length, key-lms, key-types}
 use borrow.Author.Needs.{needs}
 use Rattle.lms.proofs.verify.key_refused.Statement.{statement}
 use Rattle.lms.proofs.verify.key_refused.Tie as tie

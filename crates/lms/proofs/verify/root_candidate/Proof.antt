@@ -6,7 +6,7 @@ use denote.Ref.{now}
 use Rattle.octets.specs.StringsLaws.{number-part-four}
 use Rattle.octets.specs.Octets.{bytes}
 use Rattle.rfc8554.specs.Verify.{leafOf, signatureLength}
-use Rattle.lms.specs.LmsLaws.{root-from}
+use Rattle.lms.specs.NodeLaws.{root-from}
 use Rattle.lms.proofs.verify.root_candidate.Statement.{statement}
 use Rattle.lms.proofs.verify.root_candidate.Tie as tie
 

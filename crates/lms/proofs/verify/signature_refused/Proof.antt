@@ -1,6 +1,6 @@
 -- `lms::verify::signature_refused` meets its contract.
 use borrow.Author.Needs.{needs}
-use Rattle.lms.specs.Refused.{signature-length, signature-ots, signature-lms, signature-leaf}
+use Rattle.lms.specs.VerifyLaws.{signature-length, signature-ots, signature-lms, signature-leaf}
 use Rattle.lms.proofs.verify.signature_refused.Statement.{statement}
 use Rattle.lms.proofs.verify.signature_refused.Tie as tie
 

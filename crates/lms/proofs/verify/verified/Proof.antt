@@ -1,6 +1,6 @@
 -- `lms::verify::verified` meets its contract.
 use mathlib.Core.Path.{sym, _∙_}
-use Rattle.lms.specs.Refused.{signature-fits, signature-rejected, signature-compared}
+use Rattle.lms.specs.VerifyLaws.{signature-fits, signature-rejected, signature-compared}
 use borrow.Author.Needs.{needs}
 use Rattle.lms.proofs.verify.verified.Statement.{statement}
 use Rattle.lms.proofs.verify.verified.Tie as tie

@@ -4,8 +4,7 @@ use Prim.Native.Nat.{_*_, _/_}
 use lib.ListN.{length}
 use denote.Ref.{now}
 use Rattle.octets.specs.OctetsLaws.{take-rest}
-use Rattle.fips180.specs.Pieces.{leftover}
-use Rattle.fips180.specs.FipsLaws.{sha256-ends}
+use Rattle.fips180.specs.FipsLaws.{leftover, sha256-ends}
 use Rattle.sha256.proofs.hash.sha256.Statement.{statement}
 use Rattle.sha256.proofs.hash.sha256.Tie as tie
 

@@ -4,8 +4,7 @@ use borrow.Author.Needs.{needs}
 use lib.ListN.{length}
 use denote.Ref.{now}
 use Rattle.octets.specs.OctetsLaws.{take-rest}
-use Rattle.fips180.specs.Pieces.{leftover}
-use Rattle.fips180.specs.FipsLaws.{sha256-ends-two}
+use Rattle.fips180.specs.FipsLaws.{leftover, sha256-ends-two}
 use Rattle.sha256.proofs.hash.sha256_two.Statement.{statement}
 use Rattle.sha256.proofs.hash.sha256_two.Tie as tie
 

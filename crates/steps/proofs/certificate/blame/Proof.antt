@@ -5,8 +5,8 @@ use Rattle.protocol.specs.Layout.{valueLength}
 use Rattle.layout.specs.declared.Bank.the-variants as bank
 use native.Mathlib.Omega.{arith}
 use denote.Ref.{now}
-use Rattle.wire_write.specs.WriteLaws.{shared-seats, shared-room}
-use Rattle.steps.specs.Certificates.{readable-bank, evidence-sent}
+use Rattle.wire_write.specs.WritingLaws.{shared-seats, shared-room}
+use Rattle.steps.specs.CertificatesLaws.{readable-bank, evidence-sent}
 use borrow.Author.Needs.{needs}
 use Rattle.steps.proofs.certificate.blame.Statement.{statement}
 use Rattle.steps.proofs.certificate.blame.Tie as tie

@@ -6,7 +6,7 @@ use Rattle.quorum.specs.Quorum.{k}
 use lib.ListN.{length}
 use native.Mathlib.Omega.{arith}
 use denote.Ref.{now}
-use Rattle.steps.specs.Certificates.{heard-fits, heard-room, replied-n, replied-fits, replied-room, certificate-heard}
+use Rattle.steps.specs.CertificatesLaws.{heard-fits, heard-room, replied-n, replied-fits, replied-room, certificate-heard}
 use borrow.Author.Needs.{needs}
 use Rattle.steps.proofs.certificate.hear_certificate.Statement.{statement}
 use Rattle.steps.proofs.certificate.hear_certificate.Tie as tie

@@ -1,7 +1,8 @@
 -- `steps::certificate::hold_or_blame` meets its contract.
 use Rattle.protocol.specs.Certificate.{Certificate}
 use denote.Ref.{now}
-use Rattle.steps.specs.Certificates.{heard, first-held, blamed, not-blamed}
+use Rattle.steps.specs.Certificates.{heard}
+use Rattle.steps.specs.CertificatesLaws.{first-held, blamed, not-blamed}
 use borrow.Author.Needs.{needs}
 use Rattle.steps.proofs.certificate.hold_or_blame.Statement.{statement}
 use Rattle.steps.proofs.certificate.hold_or_blame.Tie as tie

@@ -1,7 +1,7 @@
 -- `steps::collect::hear_submit` meets its contract.
 use mathlib.Core.Path.{sym, _∙_}
 use denote.Ref.{now}
-use Rattle.steps.specs.Collecting.{hearSubmit-wanted, hearSubmit-unwanted}
+use Rattle.steps.specs.CollectingLaws.{hearSubmit-wanted, hearSubmit-unwanted}
 use borrow.Author.Needs.{needs}
 use Rattle.steps.proofs.collect.hear_submit.Statement.{statement}
 use Rattle.steps.proofs.collect.hear_submit.Tie as tie

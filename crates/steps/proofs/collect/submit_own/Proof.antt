@@ -1,7 +1,7 @@
 -- `steps::collect::submit_own` meets its contract.
 use native.Mathlib.Omega.{arith}
 use denote.Ref.{now}
-use Rattle.steps.specs.Collecting.{value-set-fits, own-submitted}
+use Rattle.steps.specs.CollectingLaws.{value-set-fits, own-submitted}
 use borrow.Author.Needs.{needs}
 use Rattle.steps.proofs.collect.submit_own.Statement.{statement}
 use Rattle.steps.proofs.collect.submit_own.Tie as tie

@@ -1,6 +1,6 @@
 -- `steps::hear::notices_with` meets its contract.
 use mathlib.Core.Path.{refl}
-use Rattle.steps.specs.Hearing.{none-before, other-before, nothing-new}
+use Rattle.steps.specs.HearingLaws.{none-before, other-before, nothing-new}
 use borrow.Author.Needs.{needs}
 use Rattle.steps.proofs.hear.notices_with.Statement.{statement}
 use Rattle.steps.proofs.hear.notices_with.Tie as tie

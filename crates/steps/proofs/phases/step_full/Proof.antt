@@ -9,7 +9,7 @@ use Rattle.store.specs.Sources.{bytesOf}
 use Rattle.store.specs.SourcesLaws.{full-readable}
 use Rattle.wire.specs.MessageLaws.{long-enough}
 use Rattle.wire.specs.declared.read.Kind.the-variants as kind
-use Rattle.steps.specs.Steps.{ready-fits, all-fits, full-said, full-heard}
+use Rattle.steps.specs.StepsLaws.{ready-fits, all-fits, full-said, full-heard}
 use borrow.Author.Needs.{needs}
 use Rattle.steps.proofs.phases.step_full.Statement.{statement}
 use Rattle.steps.proofs.phases.step_full.Tie as tie

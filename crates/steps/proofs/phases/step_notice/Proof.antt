@@ -8,8 +8,8 @@ use Rattle.protocol.specs.Message.{readValue}
 use Rattle.protocol.specs.Step.{noticesWith}
 use Rattle.wire.specs.MessageLaws.{long-enough}
 use Rattle.wire.specs.declared.read.Kind.the-variants as kind
-use Rattle.steps.specs.Certificates.{heard-fits, heard-room}
-use Rattle.steps.specs.Steps.{ready-fits, all-fits, notice-heard}
+use Rattle.steps.specs.CertificatesLaws.{heard-fits, heard-room}
+use Rattle.steps.specs.StepsLaws.{ready-fits, all-fits, notice-heard}
 use borrow.Author.Needs.{needs}
 use Rattle.steps.proofs.phases.step_notice.Statement.{statement}
 use Rattle.steps.proofs.phases.step_notice.Tie as tie

@@ -1,7 +1,7 @@
 -- `steps::phases::step_phase` meets its contract.
 use mathlib.Core.Path.{sym, _∙_}
 use denote.Ref.{now}
-use Rattle.steps.specs.Steps.{nothing-heard}
+use Rattle.steps.specs.StepsLaws.{nothing-heard}
 use Rattle.wire.proofs.Tags.{tags}
 use borrow.Author.Needs.{needs}
 use Rattle.steps.proofs.phases.step_phase.Statement.{statement}

@@ -7,8 +7,8 @@ use denote.Ref.{now}
 use Rattle.protocol.specs.Layout.{signatureLength, seatAt, valueAt, submitSignatureAt}
 use Rattle.protocol.specs.Message.{byteAt, readValue, readSignature}
 use Rattle.steps.specs.Phases.{Fits}
-use Rattle.steps.specs.Collecting.{one-more, wanted-fits}
-use Rattle.steps.specs.Steps.{ready-fits, rest-fits, submit-long, submit-signature, submit-seat, submit-heard}
+use Rattle.steps.specs.CollectingLaws.{one-more, wanted-fits}
+use Rattle.steps.specs.StepsLaws.{ready-fits, rest-fits, submit-long, submit-signature, submit-seat, submit-heard}
 use borrow.Author.Needs.{needs}
 use Rattle.steps.proofs.phases.step_submit.Statement.{statement}
 use Rattle.steps.proofs.phases.step_submit.Tie as tie

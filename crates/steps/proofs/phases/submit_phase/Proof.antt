@@ -3,8 +3,8 @@ use lib.ListN.{length}
 use native.Mathlib.Omega.{arith}
 use denote.Ref.{now}
 use Rattle.steps.specs.Phases.{Fits}
-use Rattle.steps.specs.Collecting.{submitted-fits}
-use Rattle.steps.specs.Steps.{ready-fits, all-fits, rest-fits, submit-done}
+use Rattle.steps.specs.CollectingLaws.{submitted-fits}
+use Rattle.steps.specs.StepsLaws.{ready-fits, all-fits, rest-fits, submit-done}
 use borrow.Author.Needs.{needs}
 use Rattle.steps.proofs.phases.submit_phase.Statement.{statement}
 use Rattle.steps.proofs.phases.submit_phase.Tie as tie

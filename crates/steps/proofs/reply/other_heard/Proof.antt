@@ -1,5 +1,5 @@
 -- `steps::reply::other_heard` meets its contract.
-use Rattle.steps.specs.Hearing.{none-other, one-other, two-other}
+use Rattle.steps.specs.HearingLaws.{none-other, one-other, two-other}
 use borrow.Author.Needs.{needs}
 use Rattle.steps.proofs.reply.other_heard.Statement.{statement}
 use Rattle.steps.proofs.reply.other_heard.Tie as tie

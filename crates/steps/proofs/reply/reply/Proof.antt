@@ -2,7 +2,7 @@
 use mathlib.Core.Path.{sym, _∙_}
 use native.Mathlib.Omega.{arith}
 use denote.Ref.{now}
-use Rattle.steps.specs.Certificates.{reply-owed, reply-not-owed}
+use Rattle.steps.specs.CertificatesLaws.{reply-owed, reply-not-owed}
 use borrow.Author.Needs.{needs}
 use Rattle.steps.proofs.reply.reply.Statement.{statement}
 use Rattle.steps.proofs.reply.reply.Tie as tie

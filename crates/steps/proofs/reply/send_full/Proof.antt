@@ -6,7 +6,7 @@ use Rattle.layout.specs.declared.Bank.the-variants as bank
 use Rattle.quorum.specs.Quorum.{size}
 use native.Mathlib.Omega.{arith}
 use denote.Ref.{now}
-use Rattle.steps.specs.Certificates.{readable-bank, full-bound, full-sent}
+use Rattle.steps.specs.CertificatesLaws.{readable-bank, full-bound, full-sent}
 use borrow.Author.Needs.{needs}
 use Rattle.steps.proofs.reply.send_full.Statement.{statement}
 use Rattle.steps.proofs.reply.send_full.Tie as tie

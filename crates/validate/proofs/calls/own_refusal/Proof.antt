@@ -6,7 +6,8 @@ use borrow.Author.Needs.{needs}
 use Rattle.refusal.specs.RefusalLaws.{rows}
 use Rattle.protocol.specs.Layout.{valueLength, signatureLength}
 use Rattle.protocol.specs.Refusals.{said}
-use Rattle.validate.specs.Calls.{ownConditions, right-lengths, own-verdict}
+use Rattle.validate.specs.Calls.{ownConditions}
+use Rattle.validate.specs.CallsLaws.{right-lengths, own-verdict}
 use Rattle.validate.proofs.calls.own_refusal.Statement.{statement}
 use Rattle.validate.proofs.calls.own_refusal.Tie as tie
 

@@ -5,7 +5,8 @@ use borrow.Author.Needs.{needs}
 use Rattle.refusal.specs.RefusalLaws.{rows}
 use Rattle.protocol.specs.Layout.{outLength}
 use Rattle.protocol.specs.Refusals.{shortOut, recordConditions}
-use Rattle.protocol.specs.RecordLaws.{InRange, possible}
+use Rattle.protocol.specs.Record.{InRange}
+use Rattle.protocol.specs.RecordLaws.{possible}
 use Rattle.validate.proofs.calls.record_refusal.Statement.{statement}
 use Rattle.validate.proofs.calls.record_refusal.Tie as tie
 

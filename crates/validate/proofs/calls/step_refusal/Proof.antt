@@ -1,7 +1,7 @@
 -- `validate::calls::step_refusal` meets its contract.
 use borrow.Author.Needs.{needs}
-use Rattle.validate.specs.Messages.{step-takes, comes-early}
-use Rattle.validate.specs.Calls.{step-told}
+use Rattle.validate.specs.MessagesLaws.{step-takes, comes-early}
+use Rattle.validate.specs.CallsLaws.{step-told}
 use Rattle.validate.proofs.calls.step_refusal.Statement.{statement}
 use Rattle.validate.proofs.calls.step_refusal.Tie as tie
 

@@ -2,7 +2,7 @@
 use borrow.Author.Needs.{needs}
 use Rattle.refusal.specs.RefusalLaws.{rows}
 use Rattle.protocol.specs.Refusals.{twoConditions}
-use Rattle.validate.specs.Calls.{certificate-nonzero, certificate-right, both-passed}
+use Rattle.validate.specs.CallsLaws.{certificate-nonzero, certificate-right, both-passed}
 use Rattle.validate.proofs.calls.two_refusal.Statement.{statement}
 use Rattle.validate.proofs.calls.two_refusal.Tie as tie
 

@@ -1,6 +1,6 @@
 -- `validate::conflict::equal_values` meets its contract.
 use borrow.Author.Needs.{needs}
-use Rattle.validate.specs.Calls.{values-told}
+use Rattle.validate.specs.CallsLaws.{values-told}
 use Rattle.validate.proofs.conflict.equal_values.Statement.{statement}
 use Rattle.validate.proofs.conflict.equal_values.Tie as tie
 

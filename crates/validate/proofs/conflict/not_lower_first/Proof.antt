@@ -2,7 +2,7 @@
 use native.Mathlib.Omega.{arith}
 use borrow.Author.Needs.{needs}
 use Rattle.protocol.specs.Layout.{signatureLength, evidenceEntryLength, evidenceEntryAt, evidenceLength}
-use Rattle.validate.specs.Calls.{pack-order}
+use Rattle.validate.specs.CallsLaws.{pack-order}
 use Rattle.validate.proofs.conflict.not_lower_first.Statement.{statement}
 use Rattle.validate.proofs.conflict.not_lower_first.Tie as tie
 

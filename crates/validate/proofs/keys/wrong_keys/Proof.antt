@@ -9,7 +9,7 @@ use borrow.Author.Needs.{needs}
 use Rattle.protocol.specs.Layout.{keyAt}
 use Rattle.protocol.specs.EntriesLaws.{Passed, passed-none, passed-next, passed-all}
 use Rattle.protocol.specs.Refusals.{keyAllowed}
-use Rattle.validate.specs.Keys.{keys-length, keys-not, keys-all}
+use Rattle.validate.specs.KeysLaws.{keys-length, keys-not, keys-all}
 use Rattle.validate.proofs.keys.wrong_keys.Statement.{statement}
 use Rattle.validate.proofs.keys.wrong_keys.Tie as tie
 

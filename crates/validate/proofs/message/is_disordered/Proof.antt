@@ -3,7 +3,7 @@ use borrow.Author.Needs.{needs}
 use denote.Ref.{now}
 use Rattle.protocol.specs.Message.{read}
 use Rattle.wire.specs.Reading.{seatsIn}
-use Rattle.validate.specs.Operands.{disorder-told}
+use Rattle.validate.specs.OperandsLaws.{disorder-told}
 use Rattle.validate.proofs.message.is_disordered.Statement.{statement}
 use Rattle.validate.proofs.message.is_disordered.Tie as tie
 

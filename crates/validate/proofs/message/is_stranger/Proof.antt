@@ -3,7 +3,7 @@ use borrow.Author.Needs.{needs}
 use denote.Ref.{now}
 use Rattle.protocol.specs.Message.{read}
 use Rattle.wire.specs.Reading.{seatsIn}
-use Rattle.validate.specs.Operands.{stranger-sender, stranger-entries}
+use Rattle.validate.specs.OperandsLaws.{stranger-sender, stranger-entries}
 use Rattle.validate.proofs.message.is_stranger.Statement.{statement}
 use Rattle.validate.proofs.message.is_stranger.Tie as tie
 

@@ -8,7 +8,7 @@ use denote.Ref.{now}
 use Rattle.wire.specs.KindLaws.{tag}
 use Rattle.wire.specs.MessageLaws.{long-enough}
 use Rattle.wire.proofs.Tags.{tags}
-use Rattle.validate.specs.Operands.{round-told, round-garbled}
+use Rattle.validate.specs.OperandsLaws.{round-told, round-garbled}
 use Rattle.validate.proofs.message.other_round.Statement.{statement}
 use Rattle.validate.proofs.message.other_round.Tie as tie
 

@@ -8,7 +8,7 @@ use Rattle.protocol.specs.Message.{byteAt}
 use Rattle.wire.specs.KindLaws.{tag}
 use Rattle.wire.specs.MessageLaws.{long-enough}
 use Rattle.wire.proofs.Tags.{tags}
-use Rattle.validate.specs.Operands.{sender-told, sender-none}
+use Rattle.validate.specs.OperandsLaws.{sender-told, sender-none}
 use Rattle.validate.proofs.message.sender_outside.Statement.{statement}
 use Rattle.validate.proofs.message.sender_outside.Tie as tie
 

@@ -16,8 +16,8 @@ use Rattle.layout.specs.declared.Entries.{Entries}
 use Rattle.wire.specs.Reading.{commandPlace, Inside}
 use Rattle.validate.specs.Places.{PairInside, pairChecks, pairPlaces}
 use Rattle.validate.specs.declared.signatures.Pair.{Pair}
-use Rattle.validate.specs.Signatures.{pairCheck, entry-inside}
-use Rattle.validate.specs.Entries.{pair-inside, Checked, checked-more, checked-not, checked-all}
+use Rattle.validate.specs.SignaturesLaws.{pairCheck, entry-inside}
+use Rattle.validate.specs.EntriesLaws.{pair-inside, Checked, checked-more, checked-not, checked-all}
 use Rattle.validate.proofs.signatures.evidence_verdict.Statement.{statement}
 use Rattle.validate.proofs.signatures.evidence_verdict.Tie as tie
 

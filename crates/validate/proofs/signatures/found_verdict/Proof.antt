@@ -1,7 +1,7 @@
 -- `validate::signatures::found_verdict` meets its contract.
 use native.Mathlib.Omega.{arith}
 use borrow.Author.Needs.{needs}
-use Rattle.validate.specs.Entries.{fits-entry, checks-entry, checks-end}
+use Rattle.validate.specs.EntriesLaws.{fits-entry, checks-entry, checks-end}
 use Rattle.validate.proofs.signatures.found_verdict.Statement.{statement}
 use Rattle.validate.proofs.signatures.found_verdict.Tie as tie
 

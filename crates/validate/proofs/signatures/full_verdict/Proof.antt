@@ -1,6 +1,6 @@
 -- `validate::signatures::full_verdict` meets its contract: a walk of its MIR, by hand.
 -- A reader is opened over the message, and a loop moves it on, entry by entry. The proof uses the contracts alone of the functions called;
--- the facts about an entry are laws of `Entries`, with `Walked` carried from pass to pass of the loop. A `&` is Copy: at each call the callee
+-- the facts about an entry are laws of `EntriesLaws`, with `Walked` carried from pass to pass of the loop. A `&` is Copy: at each call the callee
 -- gets its own copy of the references, with the lifetimes' tokens, which come back.
 -- Assumes nothing.
 use mathlib.Core.Path.{_≡_, refl, sym, ap, subst, _∙_}
@@ -76,7 +76,8 @@ use Rattle.wire.proofs.reader.advance.Symbol as advance-def
 use Rattle.wire.proofs.reader.advance.Symbol.{name as #advance}
 use Rattle.wire.proofs.reader.advance.Met as advance-thm
 use Rattle.validate.specs.Given.{Given as Right}
-use Rattle.validate.specs.Entries.{FullTaken, Fits, foundChecks, goesOn, Walked, value-inside, walk-starts, walk-fits, walk-on, walk-ends}
+use Rattle.validate.specs.Entries.{FullTaken, Fits, foundChecks, goesOn}
+use Rattle.validate.specs.EntriesLaws.{Walked, value-inside, walk-starts, walk-fits, walk-on, walk-ends}
 use Rattle.validate.proofs.signatures.found_verdict as found-verdict
 use Rattle.validate.proofs.signatures.found_verdict.Symbol as found-verdict-def
 use Rattle.validate.proofs.signatures.found_verdict.Symbol.{name as #found-verdict}

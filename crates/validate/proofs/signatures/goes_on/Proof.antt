@@ -1,6 +1,6 @@
 -- `validate::signatures::goes_on` meets its contract.
 use borrow.Author.Needs.{needs}
-use Rattle.validate.specs.Entries.{goes-entry, goes-end}
+use Rattle.validate.specs.EntriesLaws.{goes-entry, goes-end}
 use Rattle.validate.proofs.signatures.goes_on.Statement.{statement}
 use Rattle.validate.proofs.signatures.goes_on.Tie as tie
 

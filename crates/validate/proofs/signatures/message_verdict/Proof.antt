@@ -1,6 +1,6 @@
 -- `validate::signatures::message_verdict` meets its contract.
 use borrow.Author.Needs.{needs}
-use Rattle.validate.specs.Entries.{submit-taken, full-taken, evidence-taken, notice-row, garbled-row}
+use Rattle.validate.specs.EntriesLaws.{submit-taken, full-taken, evidence-taken, notice-row, garbled-row}
 use Rattle.validate.proofs.signatures.message_verdict.Statement.{statement}
 use Rattle.validate.proofs.signatures.message_verdict.Tie as tie
 

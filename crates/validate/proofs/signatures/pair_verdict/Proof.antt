@@ -1,6 +1,6 @@
 -- `validate::signatures::pair_verdict` meets its contract.
 use borrow.Author.Needs.{needs}
-use Rattle.validate.specs.Entries.{pair-first, pair-second}
+use Rattle.validate.specs.EntriesLaws.{pair-first, pair-second}
 use Rattle.validate.proofs.signatures.pair_verdict.Statement.{statement}
 use Rattle.validate.proofs.signatures.pair_verdict.Tie as tie
 

@@ -2,9 +2,9 @@
 use native.Mathlib.Omega.{arith}
 use borrow.Author.Needs.{needs}
 use Rattle.protocol.specs.Layout.{signatureLength}
-use Rattle.lms.specs.Refused.{key-fits}
-use Rattle.validate.specs.Keys.{key-inside, key-right}
-use Rattle.validate.specs.Seats.{leaf-differs, leaf-agrees}
+use Rattle.lms.specs.VerifyLaws.{key-fits}
+use Rattle.validate.specs.KeysLaws.{key-inside, key-right}
+use Rattle.validate.specs.SeatsLaws.{leaf-differs, leaf-agrees}
 use Rattle.validate.proofs.signatures.seat_verdict.Statement.{statement}
 use Rattle.validate.proofs.signatures.seat_verdict.Tie as tie
 

@@ -2,7 +2,7 @@
 use native.Mathlib.Omega.{arith}
 use borrow.Author.Needs.{needs}
 use denote.Ref.{now}
-use Rattle.validate.specs.Seats.{seat-signed}
+use Rattle.validate.specs.SeatsLaws.{seat-signed}
 use Rattle.validate.proofs.signatures.signed_bytes.Statement.{statement}
 use Rattle.validate.proofs.signatures.signed_bytes.Tie as tie
 

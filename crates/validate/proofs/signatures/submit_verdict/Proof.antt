@@ -5,7 +5,7 @@ use denote.Ref.{now}
 use borrow.Author.Needs.{needs}
 use Rattle.protocol.specs.Layout.{signatureLength, seatAt, submitLength}
 use Rattle.protocol.specs.Message.{byteAt}
-use Rattle.validate.specs.Entries.{submit-row}
+use Rattle.validate.specs.EntriesLaws.{submit-row}
 use Rattle.validate.proofs.signatures.submit_verdict.Statement.{statement}
 use Rattle.validate.proofs.signatures.submit_verdict.Tie as tie
 

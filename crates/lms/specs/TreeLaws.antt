@@ -14,10 +14,14 @@ use Rattle.rfc8554.specs.Ots.{H, otsKey}
 use Rattle.rfc8554.specs.Tree.{T, nodes, treeFilled}
 use Rattle.rfc8554.specs.TreeLaws.{T-leaf, T-inner, length-T, length-nodes, nodes-suc, part-nodes}
 use Rattle.lmots.specs.LeavesLaws.{length-otsKey}
-use Rattle.lms.specs.Pieces.{leafOver, leafAt, overChildren, innerPut, innersPut}
-use Rattle.lms.specs.LmsLaws.{length-leafOver, over-two}
+use Rattle.lms.specs.Pieces.{leafOver, overChildren, innerPut, innersPut}
+use Rattle.lms.specs.NodeLaws.{length-leafOver, over-two}
 
 -- ---- nodes, as the code writes them
+
+-- the leaf of number q + i over the i-th of keys in one string
+unfoldable pub leafAt : List ℕ → ℕ → List ℕ → ℕ → List ℕ
+leafAt I q keys i = leafOver I (q + i) (part (32 * i) 32 keys)
 
 -- one more of sixteen leaves, over its key
 pub sixteen-next : (I keys before tree key new : List ℕ) (q l : ℕ) → 32 * (1024 + q) ≤ length before

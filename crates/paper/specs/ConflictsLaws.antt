@@ -10,7 +10,7 @@ use mathlib.Core.Option.{Option, none, some}
 use Rattle.octets.specs.Strings.{same}
 use Rattle.octets.specs.StringsLaws.{same-refl, same-true, same-false}
 use Rattle.round.specs.Round.{Each}
-use Rattle.reading.specs.Lists.{each-nil, each-cons}
+use Rattle.reading.specs.ListsLaws.{each-nil, each-cons}
 use Rattle.paper.specs.Machine.{isSome, other, pairOr, conflict}
 
 pub same-sym : (v w : List ℕ) → same v w ≡ same w v

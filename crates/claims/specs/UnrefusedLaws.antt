@@ -22,14 +22,14 @@ use Rattle.protocol.specs.Entries.{formSeats}
 use Rattle.protocol.specs.EntriesLaws.{each-flat}
 use Rattle.protocol.specs.ConditionsLaws.{every-each, each-every}
 use Rattle.protocol.specs.Message.{Entry, Pair, PairValues, Message, Full, Evidence, fullForm, evidenceForm, Signed, signedEntry, signedPair, signed, roundOf, entrySeats, seatsOf}
-use Rattle.protocol.specs.Record.{fresh, wrongSeat, noneHeard, holds, outOfRange, wrongHeard, namesStranger, wrongCollected, wrongFirst, lacksFirst, wrongGuilty, wrongSent, wrongUnset, impossible}
+use Rattle.protocol.specs.Record.{fresh, wrongSeat, noneHeard, holds, outOfRange, wrongHeard, namesStranger, wrongCollected, wrongFirst, lacksFirst, wrongGuilty, wrongSent, wrongUnset, impossible, InRange}
 use Rattle.protocol.specs.Refusals.{Condition, Checks, every, said, otherRound, stranger, rising, disorder, badSignature, messageConditions}
 use Rattle.protocol.specs.Step.{owesFull}
 use Rattle.protocol.specs.declared.Record.{Record}
 use Rattle.round.specs.Round.{Each, Relation, EachSigned}
-use Rattle.reading.specs.Lists.{or-true-either, each-cons, each-one, each-map}
+use Rattle.reading.specs.ListsLaws.{or-true-either, each-cons, each-one, each-map}
 use Rattle.claims.specs.Sound.{Settled, Attested, Entries, Pairs, Sound}
-use Rattle.protocol.specs.RecordLaws.{size-right, round-right, InRange}
+use Rattle.protocol.specs.RecordLaws.{size-right, round-right}
 use Rattle.claims.specs.Parts.{shared-none, k-pos}
 use Rattle.reading.specs.Reading.{Sized}
 

@@ -19,8 +19,8 @@ use Rattle.protocol.specs.Certificate.{setOf, signatureOf, entriesOf, fullOf, p
 use Rattle.protocol.specs.CertificateLaws.{in-set, set-snoc}
 use Rattle.protocol.specs.Refusals.{rising}
 use Rattle.round.specs.Round.{Each}
-use Rattle.reading.specs.Lists.{cond-elim, each-nil, each-cons, each-map, rising-first}
-use Rattle.claims.specs.Certificates.{set-below}
+use Rattle.reading.specs.ListsLaws.{cond-elim, each-nil, each-cons, each-map, rising-first}
+use Rattle.claims.specs.CertificatesLaws.{set-below}
 use Rattle.paper.specs.Machine.{isFrom, distinct}
 use Rattle.paper.specs.Memory.{seatsIn}
 

@@ -22,7 +22,7 @@ use Rattle.protocol.specs.Entries.{Laid, formSeats}
 use Rattle.protocol.specs.MessageLaws.{pair-laid}
 use Rattle.protocol.specs.Refusals.{Checks, rising}
 use Rattle.round.specs.Round.{Each, Relation}
-use Rattle.reading.specs.Lists.{cond-elim, each-map, rising-first, rising-of-rises}
+use Rattle.reading.specs.ListsLaws.{cond-elim, each-map, rising-first, rising-of-rises}
 use Rattle.claims.specs.Sound.{Attested, Certifies, Entries, Pairs}
 
 -- ---- sets and lists of seats

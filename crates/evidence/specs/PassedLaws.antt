@@ -9,9 +9,12 @@ use Rattle.refusal.specs.RefusalLaws.{refused-later}
 use Rattle.protocol.specs.Message.{Message, read}
 use Rattle.protocol.specs.Refusals.{Checks, Condition, outsideConditions, twoConditions}
 use Rattle.protocol.specs.Signatures.{checks}
-use Rattle.validate.specs.Given.{Given, outside-given, outside-nonzero}
-use Rattle.validate.specs.Entries.{FullTaken, certificate-taken}
-use Rattle.validate.specs.Calls.{Conflict, two-passed}
+use Rattle.validate.specs.Given.{Given}
+use Rattle.validate.specs.GivenLaws.{outside-given, outside-nonzero}
+use Rattle.validate.specs.Entries.{FullTaken}
+use Rattle.validate.specs.EntriesLaws.{certificate-taken}
+use Rattle.validate.specs.Calls.{Conflict}
+use Rattle.validate.specs.CallsLaws.{two-passed}
 
 -- n, round and key table of a call
 pub record Call : Type 0 where

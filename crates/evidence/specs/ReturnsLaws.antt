@@ -10,8 +10,9 @@ use Rattle.protocol.specs.Certificate.{setOf}
 use Rattle.protocol.specs.Refusals.{Condition}
 use Rattle.protocol.specs.Calls.{checkedBy, evidenceCheck}
 use Rattle.protocol.specs.declared.Checked.{Checked}
-use Rattle.validate.specs.Calls.{packConditions, evidence-parts}
-use Rattle.evidence.specs.Passed.{Call, check, outside, Clear, after-outside}
+use Rattle.validate.specs.Calls.{packConditions}
+use Rattle.validate.specs.CallsLaws.{evidence-parts}
+use Rattle.evidence.specs.PassedLaws.{Call, check, outside, Clear, after-outside}
 
 abbrev answered : ℕ → ℕ → Checked
 answered number mask = record { number = number; mask = mask }

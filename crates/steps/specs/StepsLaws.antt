@@ -12,7 +12,7 @@ use Rattle.quorum.specs.Quorum.{k}
 use Rattle.protocol.specs.Layout.{signatureLength, seatAt, valueAt, submitSignatureAt, submitLength, noticeLength, fullLength, evidenceLength, outLength}
 use Rattle.protocol.specs.Message.{byteAt, read, readSubmit, readNotice, readFull, readEvidence, readValue, readSignature, fitsSubmit, seatsOf, entrySeats}
 use Rattle.protocol.specs.Certificate.{setOf}
-use Rattle.protocol.specs.Record.{withNotices}
+use Rattle.protocol.specs.Record.{withNotices, Ready}
 use Rattle.protocol.specs.Refusals.{stranger, disorder, every, isFull}
 use Rattle.protocol.specs.Step.{noticesWith, hear, reply, hearCertificate, submitOwn, hearSubmit, confirmIfComplete, submitted, stepped}
 use Rattle.protocol.specs.StepLaws.{reply-after, confirmIfComplete-after}
@@ -25,9 +25,9 @@ use Rattle.store.specs.Sources.{certificateFrom}
 use Rattle.store.specs.SourcesLaws.{inFull, full-certificate}
 use Rattle.wire.specs.declared.read.Kind.{Kind}
 use Rattle.wire.specs.declared.read.Kind.the-variants as kind
-use Rattle.protocol.specs.RecordLaws.{Ready}
-use Rattle.steps.specs.Phases.{Changed, Did, Fits, did-same, did-writing-none, did-then}
-use Rattle.steps.specs.Collecting.{hearSubmit-quiet}
+use Rattle.steps.specs.Phases.{Changed, Did, Fits}
+use Rattle.steps.specs.PhasesLaws.{did-same, did-writing-none, did-then}
+use Rattle.steps.specs.CollectingLaws.{hearSubmit-quiet}
 
 -- ---- the start of a call
 

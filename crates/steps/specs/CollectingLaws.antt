@@ -18,8 +18,9 @@ use Rattle.protocol.specs.Refusals.{said}
 use Rattle.protocol.specs.Step.{write, setOwnValue, collect, submitOwn, isWanted, hearSubmit}
 use Rattle.protocol.specs.declared.Record.{Record}
 use Rattle.wire_write.specs.Writing.{Wrote}
-use Rattle.steps.specs.Phases.{Changed, Did, Fits, fits-like, likewise-changed, did-writing-one}
-use Rattle.protocol.specs.RecordLaws.{Possible}
+use Rattle.steps.specs.Phases.{Changed, Did, Fits}
+use Rattle.steps.specs.PhasesLaws.{fits-like, likewise-changed, did-writing-one}
+use Rattle.protocol.specs.Record.{Possible}
 
 -- ---- submit
 
