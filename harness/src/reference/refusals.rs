@@ -7,7 +7,7 @@ use super::quorum;
 use super::verdicts;
 
 /// The table's numbers in the order in which they count: "The lowest number whose condition holds is returned".
-pub const ORDER: [u32; 16] = [1, 2, 3, 4, 5, 6, 7, 8, 9, 10, 11, 12, 13, 14, 15, 16];
+pub const ORDER: &[u32] = &[1, 2, 3, 4, 5, 6, 7, 8, 9, 10, 11, 12, 13, 14, 15, 16];
 
 /// The place of a number in the order.
 pub fn place(number: u32) -> usize {
