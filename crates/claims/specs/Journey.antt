@@ -9,7 +9,7 @@ use native.Mathlib.Omega.{arith}
 use Rattle.refusal.specs.Refusal.{firstOf, unrefused}
 use Rattle.protocol.specs.Message.{Message, read}
 use Rattle.protocol.specs.Refusals.{stepConditions}
-use Rattle.protocol.specs.Step.{State, submitted, stepped}
+use Rattle.protocol.specs.Step.{State, stepped}
 use Rattle.protocol.specs.Calls.{Result, resultBy, start}
 use Rattle.protocol.specs.declared.Record.{Record}
 use Rattle.round.specs.Round.{Each, Relation, EachSigned, Call, BySubmit, ByStep, ByThinEntry, Setting, Called, outcome, resultOf, listFrom}

@@ -5,7 +5,6 @@ use Prim.Native.Nat.{ℕ, _≤_, _<_}
 use mathlib.Core.Path.{_≡_}
 use mathlib.Core.List.{List, List·Memᴰ}
 use mathlib.Core.Logic.{_↔_}
-use mathlib.Core.Option.{some}
 use Rattle.refusal.specs.Refusal.{unrefused}
 use Rattle.protocol.specs.Message.{Entry, Pair, PairValues, Message, Full, Evidence}
 use Rattle.protocol.specs.Calls.{opening, openedBy}

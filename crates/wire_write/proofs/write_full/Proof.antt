@@ -1,12 +1,10 @@
 -- `wire_write::write_full` meets its contract.
 use mathlib.Core.Path.{_∙_}
-use mathlib.Core.List.{[]}
 use Prim.Native.Nat.{_≤_}
 use native.Mathlib.Omega.{arith}
 use lib.ListN.{length}
 use borrow.Author.Needs.{needs}
 use denote.Ref.{now}
-use Rattle.quorum.specs.Quorum.{size, seats}
 use Rattle.quorum.specs.QuorumLaws.{size-le, length-seats}
 use Rattle.protocol.specs.Layout.{noticeLength, fullEntryAt}
 use Rattle.protocol.specs.Message.{fullForm, render}
