@@ -151,7 +151,7 @@ pairOr x (some y) rest = some (x, y)
 
 -- "certificate_1, certificate_2 ∈ .. where certificate_1 conflicts with certificate_2": of any two that conflict, the first pair.
 -- It is always the first of the list with the first that conflicts with it: of any two that conflict, one conflicts with the
--- first of the list (`Conflicts: conflict-head`). So the first moment at which any two conflict is that at which one conflicts
+-- first of the list (`ConflictsLaws: conflict-head`). So the first moment at which any two conflict is that at which one conflicts
 -- with the first.
 unfoldable pub conflict {ℓ} : {A : Type ℓ} → (A → List ℕ) → List A → Option (A × A)
 conflict valueOf [] = none

@@ -126,7 +126,8 @@ pub fn classify(n: u32, m: &[u8]) -> Kind
     Kind::Garbled
 }
 
-// The entries of a message: none where its command has no entries.
+// The entries of a message: none where its command has no entries. Promised are the seats read there, in the message; start and
+// length are free where there are none.
 pub fn entries_of(n: u32, kind: Kind, m: &[u8]) -> Entries
     requires { ⌜ (1 ≤ n) × (n ≤ mostSeats) × (kind ≡ kindOf (read n (now m))) ⌝ }
     ensures { λ r. ⌜ (seatsIn r (now (m .entry)) ≡ entrySeats (read n (now (m .entry)))) × Inside r (now (m .entry)) ⌝ }
