@@ -1,7 +1,7 @@
 -- Lists of entries and banks, as the code has them.
 -- Assumes nothing.
 use Prim.Native.Nat.{ℕ}
-use Rattle.protocol.specs.Layout.{fullStart, fullEntryLength, evidenceStart, evidenceEntryLength, collectedBank, firstBank}
+use Rattle.protocol.specs.Layout.{fullStart, fullEntryLength, evidenceStart, evidenceEntryLength, collectedBank, firstBank, keptBank}
 use Rattle.layout.specs.declared.Entries.{Entries}
 use Rattle.layout.specs.declared.Bank.{Bank}
 use Rattle.layout.specs.declared.Bank.the-variants as bank
@@ -17,3 +17,4 @@ evidence count = record { start = evidenceStart; length = evidenceEntryLength; c
 unfoldable pub bankOf : Bank → ℕ
 bankOf bank.Collected = collectedBank
 bankOf bank.First = firstBank
+bankOf bank.Kept = keptBank

@@ -56,8 +56,10 @@ pub const EVIDENCE_START: usize = EVIDENCE_COUNT_AT + 1;
 
 pub const EVIDENCE_ENTRY: usize = ENTRY_HELD_AT + SIGNATURE + SIGNATURE;
 
-// The store: the slots of one seat, one in each bank.
-pub const SEAT_SLOTS: usize = SIGNATURE + SIGNATURE;
+// The store: the signatures of one seat, one in each bank, and all its slots with the kept value.
+const SEAT_SIGNATURES: usize = 3 * SIGNATURE;
+
+pub const SEAT_SLOTS: usize = SEAT_SIGNATURES + VALUE;
 
 pub fn signature_length() -> usize
     ensures { λ r. ⌜ r ≡ Layout.signatureLength ⌝ }
@@ -210,10 +212,11 @@ pub fn evidence_length(count: usize) -> usize
 
 // ---- store and out
 
-// The banks of the store: the signatures collected, and those of the first certificate.
+// The banks of the store that hold signatures: those collected, those of the first certificate, and those kept.
 pub enum Bank {
     Collected,
     First,
+    Kept,
 }
 
 pub fn store_length(n: u32) -> usize
@@ -232,7 +235,16 @@ pub fn slot_at(n: u32, bank: Bank, seat: u32) -> usize
     match bank {
         Bank::Collected => at,
         Bank::First => SIGNATURE * (n as usize) + at,
+        Bank::Kept => 2 * SIGNATURE * (n as usize) + at,
     }
+}
+
+// The place of a seat's kept value.
+pub fn kept_value_at(n: u32, seat: u32) -> usize
+    requires { ⌜ (n ≤ mostSeats) × (seat < n) ⌝ }
+    ensures { λ r. ⌜ (r ≡ Layout.slotAt n Layout.keptValueBank seat) × (r + Layout.valueLength ≤ Layout.storeLength n) ⌝ }
+{
+    SEAT_SIGNATURES * (n as usize) + VALUE * (seat as usize)
 }
 
 // `out` for evidence from two certificates.

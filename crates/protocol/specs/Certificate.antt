@@ -7,7 +7,7 @@ use mathlib.Core.List.{List, [], _∷_, map}
 use lib.Dec.{eqb}
 use Rattle.octets.specs.Octets.{part, patch}
 use Rattle.quorum.specs.Quorum.{shared, with, seats}
-use Rattle.protocol.specs.Layout.{collectedBank, firstBank, slotLength, slotAt}
+use Rattle.protocol.specs.Layout.{collectedBank, firstBank, keptBank, keptValueBank, slotLength, slotAt}
 use Rattle.protocol.specs.Values.{isLower}
 use Rattle.protocol.specs.Entries.{formSeats}
 use Rattle.protocol.specs.Message.{Entry, Pair, PairValues, Message, Submit, Notice, Full, Evidence, Garbled, fullForm}
@@ -32,6 +32,16 @@ fill n bank seat signature store = patch (slotAt n bank seat) signature store
 unfoldable pub fillEach : ℕ → ℕ → (ℕ → List ℕ) → List ℕ → List ℕ → List ℕ
 fillEach n bank signature [] store = store
 fillEach n bank signature (seat ∷ rest) store = fillEach n bank signature rest (fill n bank seat (signature seat) store)
+
+-- "the first good one from each seat is kept with its value" (document 02, item 1): a seat's kept value, and its signature over it
+abbrev pub keptValue : ℕ → List ℕ → ℕ → List ℕ
+keptValue n store seat = slot n keptValueBank store seat
+
+abbrev pub keptSignature : ℕ → List ℕ → ℕ → List ℕ
+keptSignature n store seat = slot n keptBank store seat
+
+unfoldable pub fillKept : ℕ → ℕ → List ℕ → List ℕ → List ℕ → List ℕ
+fillKept n seat value signature store = fill n keptValueBank seat value (fill n keptBank seat signature store)
 
 -- ---- certificates
 

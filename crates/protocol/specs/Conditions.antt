@@ -105,14 +105,6 @@ rising (a ∷ b ∷ rest) = ltb a b && rising (b ∷ rest)
 unfoldable pub disorder : Message → Bool
 disorder m = not (rising (entrySeats m))
 
--- 13: "SUBMIT heard before the own submit"
-unfoldable pub early : Record → Message → Bool
-early r (Submit round seat value signature) = not (r .own .submitted)
-early r (Notice round seat value) = false
-early r (Full round sender value entries) = false
-early r (Evidence round values entries) = false
-early r Garbled = false
-
 -- 14: "one doesn't check, or its leaf isn't the round"; every signature that the call is given is checked
 unfoldable pub badSignature : Checks → Message → Bool
 badSignature checks m = not (every (λ (s : Signed). checks (s .seat) (s .value) (s .signature)) (signed m))

@@ -1,4 +1,4 @@
--- Document 01's figures for the lengths of `Layout`.
+-- The documents' figures for the lengths of `Layout`.
 use mathlib.Core.Path.{_≡_, refl}
 use Prim.Native.Nat.{ℕ, _+_, _*_}
 use native.Mathlib.Omega.{arith}
@@ -25,8 +25,8 @@ pub evidence-figure : (count : ℕ) → evidenceLength count ≡ 68 + 2906 * cou
 unfolding evidenceLength evidenceEntryAt evidenceEntryLength signatureLength
 evidence-figure count = refl
 
--- "The store has 2,904 × n bytes or more"
-pub store-figure : (n : ℕ) → storeLength n ≡ 2904 * n
+-- "the store grows to 4,388 × n bytes" (document 02, item 1)
+pub store-figure : (n : ℕ) → storeLength n ≡ 4388 * n
 unfolding storeLength lengthOfBanks banks signatureLength
 store-figure n = refl
 

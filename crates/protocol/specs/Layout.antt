@@ -114,17 +114,24 @@ evidenceEntryAt i = entryAt evidenceStart evidenceEntryLength i
 unfoldable pub evidenceLength : ℕ → ℕ
 evidenceLength count = evidenceEntryAt count
 
--- ---- the store: "n slots of 1,452 for collected signatures, then n for the first certificate, each by seat"
+-- ---- the store: "n slots of 1,452 for collected signatures, then n for the first certificate, each by seat"; "after the old slots,
+-- n of 1,452 for kept signatures, then n values of 32" (document 02, item 1)
 
 -- the banks one after another, each by the length of its slots
 unfoldable pub banks : List ℕ
-banks = signatureLength ∷ signatureLength ∷ []
+banks = signatureLength ∷ signatureLength ∷ signatureLength ∷ valueLength ∷ []
 
 abbrev pub collectedBank : ℕ
 collectedBank = 0
 
 abbrev pub firstBank : ℕ
 firstBank = 1
+
+abbrev pub keptBank : ℕ
+keptBank = 2
+
+abbrev pub keptValueBank : ℕ
+keptValueBank = 3
 
 -- bytes of all banks for one seat
 unfoldable pub lengthOfBanks : List ℕ → ℕ
@@ -146,7 +153,7 @@ slotLengthIn (suc bank) (slot ∷ rest) = slotLengthIn bank rest
 unfoldable pub slotLength : ℕ → ℕ
 slotLength bank = slotLengthIn bank banks
 
--- "The store has 2,904 × n bytes or more"
+-- "the store grows to 4,388 × n bytes" (document 02, item 1), or more
 unfoldable pub storeLength : ℕ → ℕ
 storeLength n = lengthOfBanks banks * n
 

@@ -8,7 +8,7 @@ use native.Mathlib.Nat.{mul-le-mul-left}
 use native.Mathlib.Omega.{arith}
 use native.Mathlib.Decide.{decLt, ℕ-discrete}
 use lib.ListN.{length}
-use Rattle.protocol.specs.Layout.{signatureLength, banks, collectedBank, firstBank, lengthOfBanks, banksBefore, slotLengthIn, slotLength, storeLength, slotAt}
+use Rattle.protocol.specs.Layout.{valueLength, signatureLength, banks, collectedBank, firstBank, keptBank, keptValueBank, lengthOfBanks, banksBefore, slotLengthIn, slotLength, storeLength, slotAt}
 
 -- start and end of a seat's slot, in a bank of a list of banks
 module _ (n : ℕ) where
@@ -72,7 +72,7 @@ pub slots-apart : (n bank seat bank′ seat′ : ℕ) → bank < length banks �
 unfolding slotAt slotLength
 slots-apart n bank seat bank′ seat′ b b′ s s′ d = slots-part n bank seat bank′ seat′ banks b b′ s s′ d
 
--- the two banks have slots for signatures
+-- three banks have slots for signatures
 abbrev pub ForSignatures : ℕ → Type 0
 ForSignatures bank = (bank < length banks) × (slotLength bank ≡ signatureLength)
 
@@ -83,3 +83,12 @@ collected-bank = (omega arith, refl)
 pub first-bank : ForSignatures firstBank
 unfolding slotLength slotLengthIn banks
 first-bank = (omega arith, refl)
+
+pub kept-bank : ForSignatures keptBank
+unfolding slotLength slotLengthIn banks
+kept-bank = (omega arith, refl)
+
+-- and the last has slots for values
+pub kept-value-bank : (keptValueBank < length banks) × (slotLength keptValueBank ≡ valueLength)
+unfolding slotLength slotLengthIn banks
+kept-value-bank = (omega arith, refl)

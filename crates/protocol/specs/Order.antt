@@ -14,7 +14,7 @@ use Rattle.refusal.specs.Lowest.{riseFrom, rise, Lowest}
 use Rattle.refusal.specs.LowestLaws.{firstOf-lowest, rise-in}
 use Rattle.protocol.specs.Layout.{outLength, evidenceOutLength}
 use Rattle.protocol.specs.Message.{read}
-use Rattle.protocol.specs.Refusals.{Condition, Checks, every, SIZE, SEAT, ROUND, RECORD, KEYS, STORE, OUT, SAID, GARBLED, OTHER-ROUND, STRANGER, DISORDER, EARLY, early, SIGNATURE, NO-CONFLICT-IN, NO-CONFLICT-BETWEEN, KEY-MATERIAL, outsideConditions, recordConditions, messageConditions, certificateConditions, twoConditions, openingConditions, submitConditions, stepConditions, evidenceConditions, makingConditions, lowerConditions, checkConditions, makeKeyConditions, signConditions}
+use Rattle.protocol.specs.Refusals.{Condition, Checks, every, SIZE, SEAT, ROUND, RECORD, KEYS, STORE, OUT, SAID, GARBLED, OTHER-ROUND, STRANGER, DISORDER, SIGNATURE, NO-CONFLICT-IN, NO-CONFLICT-BETWEEN, KEY-MATERIAL, outsideConditions, recordConditions, messageConditions, certificateConditions, twoConditions, openingConditions, submitConditions, stepConditions, evidenceConditions, makingConditions, lowerConditions, checkConditions, makeKeyConditions, signConditions}
 use Rattle.protocol.specs.Signatures.{checkSignature, makeKeyRefusal, makeKey, signRefusal, sign}
 use Rattle.protocol.specs.Calls as calls
 use Rattle.protocol.specs.declared.Record.{Record}
@@ -22,7 +22,7 @@ use Rattle.protocol.specs.declared.Record.{Record}
 -- ---- the order
 
 unfoldable pub order : List ℕ
-order = 1 ∷ 2 ∷ 3 ∷ 4 ∷ 5 ∷ 6 ∷ 7 ∷ 8 ∷ 9 ∷ 10 ∷ 11 ∷ 12 ∷ 13 ∷ 14 ∷ 15 ∷ 16 ∷ []
+order = 1 ∷ 2 ∷ 3 ∷ 4 ∷ 5 ∷ 6 ∷ 7 ∷ 8 ∷ 9 ∷ 10 ∷ 11 ∷ 12 ∷ 14 ∷ 15 ∷ 16 ∷ []
 
 order-distinct : distinct order ≡ true
 unfolding order distinct isIn
@@ -71,7 +71,7 @@ module _
     table =
         let m = read n bytes in
         SIZE n ∷ SEAT n seat ∷ ROUND round ∷ RECORD r ∷ KEYS n keys ∷ STORE n store ∷ OUT (outLength n) out ∷ SAID r ∷ GARBLED true
-        ∷ OTHER-ROUND round m ∷ STRANGER n m ∷ DISORDER m ∷ EARLY (early r m) ∷ SIGNATURE checks m ∷ NO-CONFLICT-IN m ∷ KEY-MATERIAL seed I tree
+        ∷ OTHER-ROUND round m ∷ STRANGER n m ∷ DISORDER m ∷ SIGNATURE checks m ∷ NO-CONFLICT-IN m ∷ KEY-MATERIAL seed I tree
         ∷ []
 
     -- their numbers are the order

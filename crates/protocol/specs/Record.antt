@@ -1,4 +1,5 @@
--- A unit's record: with nothing set, with one part set, and impossible (document 01, "A unit's record and store").
+-- A unit's record: with nothing set, with one part set, and impossible (document 01, "A unit's record and store"; document 02,
+-- item 1).
 -- Assumes nothing.
 use Prim.Native.Nat.{ℕ, _^_, _≤_, _<_}
 use mathlib.Core.Bool.{Bool, true, false, not, _&&_, _||_}
@@ -46,6 +47,7 @@ fresh n seat round = record {
   first = record { value = unset; seats = 0 };
   sent = false;
   guilty = 0;
+  kept = 0;
 }
 
 -- "a refused opening gives a record of zeros"
@@ -55,22 +57,25 @@ zeros = fresh 0 0 0
 -- ---- records with one part set
 
 abbrev pub withOwn : Record → Own → Record
-withOwn r own = record { n = r .n; seat = r .seat; round = r .round; own = own; confirmed = r .confirmed; notices = r .notices; first = r .first; sent = r .sent; guilty = r .guilty }
+withOwn r own = record { n = r .n; seat = r .seat; round = r .round; own = own; confirmed = r .confirmed; notices = r .notices; first = r .first; sent = r .sent; guilty = r .guilty; kept = r .kept }
 
 abbrev pub withConfirmed : Record → Record
-withConfirmed r = record { n = r .n; seat = r .seat; round = r .round; own = r .own; confirmed = true; notices = r .notices; first = r .first; sent = r .sent; guilty = r .guilty }
+withConfirmed r = record { n = r .n; seat = r .seat; round = r .round; own = r .own; confirmed = true; notices = r .notices; first = r .first; sent = r .sent; guilty = r .guilty; kept = r .kept }
 
 abbrev pub withNotices : Record → Notices → Record
-withNotices r notices = record { n = r .n; seat = r .seat; round = r .round; own = r .own; confirmed = r .confirmed; notices = notices; first = r .first; sent = r .sent; guilty = r .guilty }
+withNotices r notices = record { n = r .n; seat = r .seat; round = r .round; own = r .own; confirmed = r .confirmed; notices = notices; first = r .first; sent = r .sent; guilty = r .guilty; kept = r .kept }
 
 abbrev pub withFirst : Record → First → Record
-withFirst r first = record { n = r .n; seat = r .seat; round = r .round; own = r .own; confirmed = r .confirmed; notices = r .notices; first = first; sent = r .sent; guilty = r .guilty }
+withFirst r first = record { n = r .n; seat = r .seat; round = r .round; own = r .own; confirmed = r .confirmed; notices = r .notices; first = first; sent = r .sent; guilty = r .guilty; kept = r .kept }
 
 abbrev pub withSent : Record → Record
-withSent r = record { n = r .n; seat = r .seat; round = r .round; own = r .own; confirmed = r .confirmed; notices = r .notices; first = r .first; sent = true; guilty = r .guilty }
+withSent r = record { n = r .n; seat = r .seat; round = r .round; own = r .own; confirmed = r .confirmed; notices = r .notices; first = r .first; sent = true; guilty = r .guilty; kept = r .kept }
 
 abbrev pub withGuilty : Record → ℕ → Record
-withGuilty r guilty = record { n = r .n; seat = r .seat; round = r .round; own = r .own; confirmed = r .confirmed; notices = r .notices; first = r .first; sent = r .sent; guilty = guilty }
+withGuilty r guilty = record { n = r .n; seat = r .seat; round = r .round; own = r .own; confirmed = r .confirmed; notices = r .notices; first = r .first; sent = r .sent; guilty = guilty; kept = r .kept }
+
+abbrev pub withKept : Record → ℕ → Record
+withKept r kept = record { n = r .n; seat = r .seat; round = r .round; own = r .own; confirmed = r .confirmed; notices = r .notices; first = r .first; sent = r .sent; guilty = r .guilty; kept = kept }
 
 -- ---- notices heard
 
@@ -99,7 +104,7 @@ wrongHeard r = ltb 2 (r .notices .heard)
 
 -- "a mask names a seat at or above n"
 unfoldable pub namesStranger : Record → Bool
-namesStranger r = outside (r .n) (r .own .collected) || outside (r .n) (r .first .seats) || outside (r .n) (r .guilty)
+namesStranger r = outside (r .n) (r .own .collected) || outside (r .n) (r .first .seats) || outside (r .n) (r .guilty) || outside (r .n) (r .kept)
 
 -- "collected seats are non-empty without a submission, lack the own seat after one, exceed k, or number k without confirmed
 -- or the reverse"
@@ -127,6 +132,10 @@ wrongGuilty r = not (eqb (shared (r .guilty) (r .first .seats)) (r .guilty))
 unfoldable pub wrongSent : Record → Bool
 wrongSent r = r .sent && not (r .confirmed)
 
+-- "a record with kept seats after a submission is impossible" (document 02, item 1)
+unfoldable pub wrongKept : Record → Bool
+wrongKept r = r .own .submitted && not (eqb (r .kept) 0)
+
 -- "an unset value is not zero"
 unfoldable pub wrongUnset : Record → Bool
 wrongUnset r =
@@ -136,7 +145,7 @@ wrongUnset r =
 
 -- any of these
 unfoldable pub impossible : Record → Bool
-impossible r = outOfRange r || wrongHeard r || namesStranger r || wrongCollected r || wrongFirst r || lacksFirst r || wrongGuilty r || wrongSent r || wrongUnset r
+impossible r = outOfRange r || wrongHeard r || namesStranger r || wrongCollected r || wrongFirst r || lacksFirst r || wrongGuilty r || wrongSent r || wrongKept r || wrongUnset r
 
 -- ---- possible records
 
@@ -152,6 +161,7 @@ pub record Possible (r : Record) : Type 0 where
   -- the masks name seats below n
   pub collected : r .own .collected < 2 ^ r .n
   pub first : r .first .seats < 2 ^ r .n
+  pub kept : r .kept < 2 ^ r .n
   -- nothing is collected before the submission, at most k are, and k are only where the unit has confirmed
   pub unsaid : r .own .submitted ≡ false → r .own .collected ≡ 0
   pub few : size (r .own .collected) ≤ k (r .n)

@@ -9,7 +9,7 @@ use borrow.Author.Tests.{eqb-true, eqb-false, eq-eqb, ne-eqb, ltb-false, le-ltb,
 use Rattle.refusal.specs.RefusalLaws.{both-false}
 use Rattle.quorum.specs.Quorum.{mostSeats, k, has, size, outside}
 use Rattle.quorum.specs.QuorumLaws.{outside-false}
-use Rattle.protocol.specs.Record.{InRange, Possible, wrongSize, wrongSeat, lastRound, wrongRound, outOfRange, wrongHeard, namesStranger, wrongCollected, wrongFirst, lacksFirst, wrongGuilty, wrongSent, wrongUnset, impossible}
+use Rattle.protocol.specs.Record.{InRange, Possible, wrongSize, wrongSeat, lastRound, wrongRound, outOfRange, wrongHeard, namesStranger, wrongCollected, wrongFirst, lacksFirst, wrongGuilty, wrongSent, wrongKept, wrongUnset, impossible}
 use Rattle.protocol.specs.declared.Record.{Record}
 
 -- ---- ranges
@@ -61,7 +61,8 @@ module _ (r : Record) (e : impossible r ≡ false) where
   unfolding impossible
   parts =
       let a = both-false _ (wrongUnset r) e .0 in
-      let b = both-false _ (wrongSent r) a .0 in
+      let j = both-false _ (wrongKept r) a .0 in
+      let b = both-false _ (wrongSent r) j .0 in
       let c = both-false _ (wrongGuilty r) b .0 in
       let d = both-false _ (lacksFirst r) c .0 in
       let f = both-false _ (wrongFirst r) d in
@@ -73,7 +74,8 @@ module _ (r : Record) (e : impossible r ≡ false) where
   pub possible : Possible r
   unfolding namesStranger wrongCollected wrongFirst
   possible =
-      let masks = both-false _ (outside (r .n) (r .guilty)) (parts .1) in
+      let all = both-false _ (outside (r .n) (r .kept)) (parts .1) in
+      let masks = both-false _ (outside (r .n) (r .guilty)) (all .0) in
       let two = both-false (outside (r .n) (r .own .collected)) (outside (r .n) (r .first .seats)) (masks .0) in
       let a = both-false _ (r .confirmed && not (eqb (size (r .own .collected)) (k (r .n)))) (parts .2) in
       let b = both-false _ (eqb (size (r .own .collected)) (k (r .n)) && not (r .confirmed)) (a .0) in
@@ -83,6 +85,7 @@ module _ (r : Record) (e : impossible r ≡ false) where
         range = in-range r (parts .0);
         collected = outside-false (r .n) (r .own .collected) .0 (two .0);
         first = outside-false (r .n) (r .first .seats) .0 (two .1);
+        kept = outside-false (r .n) (r .kept) .0 (all .1);
         unsaid = λ h. eqb-true (r .own .collected) 0 (then-so (not (r .own .submitted)) (eqb (r .own .collected) 0) (d .0) (rw h));
         few = ltb-false (k (r .n)) (size (r .own .collected)) (c .1);
         complete = λ h. then-so (eqb (size (r .own .collected)) (k (r .n))) (r .confirmed) (b .1) (eq-eqb (size (r .own .collected)) (k (r .n)) h);

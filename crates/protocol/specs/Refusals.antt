@@ -2,9 +2,9 @@
 -- rows, of which the first that holds is answered. The conditions in full are in `Conditions` and `Record`; those of `Conditions`
 -- are exported from here too.
 -- Assumes nothing.
-unfoldable pub use Rattle.protocol.specs.Conditions.{Checks, every, keyAllowed, keysAllowed, wrongKeys, lengthIsnt, wrongKey, shortStore, shortOut, said, isForStep, isFull, isEvidence, wrongLengths, tooLong, otherRound, stranger, rising, disorder, early, badSignature, notLowerFirst, equalValues, wrongMakerMaterial, wrongSignerMaterial}
+unfoldable pub use Rattle.protocol.specs.Conditions.{Checks, every, keyAllowed, keysAllowed, wrongKeys, lengthIsnt, wrongKey, shortStore, shortOut, said, isForStep, isFull, isEvidence, wrongLengths, tooLong, otherRound, stranger, rising, disorder, badSignature, notLowerFirst, equalValues, wrongMakerMaterial, wrongSignerMaterial}
 use Prim.Native.Nat.{ℕ}
-use mathlib.Core.Bool.{Bool, false, not}
+use mathlib.Core.Bool.{Bool, not}
 use mathlib.Core.List.{List, [], _∷_, _++_}
 use Rattle.rfc8554.specs.Verify.{valid}
 use Rattle.protocol.specs.Layout.{keyLength, signatureLength, outLength, evidenceOutLength}
@@ -76,9 +76,7 @@ STRANGER n m = (11, stranger n m)
 abbrev pub DISORDER : Message → Condition
 DISORDER m = (12, disorder m)
 
--- 13, early: "SUBMIT heard before the own submit"
-abbrev pub EARLY : Bool → Condition
-EARLY early = (13, early)
+-- "Number 13 no longer occurs" (document 02, item 1)
 
 -- 14, signature: "one doesn't check, or its leaf isn't the round"; in the stand-alone check "a signature whose length, types or
 -- leaf don't fit its key is 14"
@@ -112,14 +110,14 @@ outsideConditions n round keys = SIZE n ∷ ROUND round ∷ KEYS n keys ∷ []
 unfoldable pub recordConditions : List ℕ → Record → List ℕ → List ℕ → List Condition
 recordConditions keys r store out = RECORD r ∷ KEYS (r .n) keys ∷ STORE (r .n) store ∷ OUT (outLength (r .n)) out ∷ []
 
--- a message's 9 to 14, for any call: whether the call takes it (else it is garbled), and whether it comes early
-unfoldable pub messageConditions : Checks → ℕ → ℕ → Bool → Bool → Message → List Condition
-messageConditions checks n round taken early m =
-    GARBLED taken ∷ OTHER-ROUND round m ∷ STRANGER n m ∷ DISORDER m ∷ EARLY early ∷ SIGNATURE checks m ∷ []
+-- a message's 9 to 14, for any call: whether the call takes it (else it is garbled)
+unfoldable pub messageConditions : Checks → ℕ → ℕ → Bool → Message → List Condition
+messageConditions checks n round taken m =
+    GARBLED taken ∷ OTHER-ROUND round m ∷ STRANGER n m ∷ DISORDER m ∷ SIGNATURE checks m ∷ []
 
--- one certificate's; it is never early
+-- one certificate's
 unfoldable pub certificateConditions : Checks → ℕ → ℕ → Message → List Condition
-certificateConditions checks n round m = messageConditions checks n round (isFull m) false m
+certificateConditions checks n round m = messageConditions checks n round (isFull m) m
 
 -- "over two certificates, the first one's 9 to 14 come before the second's"; then 15
 unfoldable pub twoConditions : Checks → ℕ → ℕ → Message → Message → List Condition
@@ -138,15 +136,15 @@ submitConditions checks keys r store value signature out =
     recordConditions keys r store out
     ++ SAID r ∷ GARBLED-OWN value signature ∷ SIGNATURE checks (Submit (r .round) (r .seat) value signature) ∷ []
 
--- a step: 4, 5, 6, 7, 9, 10, 11, 12, 13, 14
+-- a step: 4, 5, 6, 7, 9, 10, 11, 12, 14
 unfoldable pub stepConditions : Checks → List ℕ → Record → List ℕ → Message → List ℕ → List Condition
 stepConditions checks keys r store m out =
-    recordConditions keys r store out ++ messageConditions checks (r .n) (r .round) (isForStep m) (early r m) m
+    recordConditions keys r store out ++ messageConditions checks (r .n) (r .round) (isForStep m) m
 
 -- the evidence check: 1, 3, 5, 9, 10, 11, 12, 14, 15
 unfoldable pub evidenceConditions : Checks → ℕ → ℕ → List ℕ → Message → List Condition
 evidenceConditions checks n round keys m =
-    outsideConditions n round keys ++ messageConditions checks n round (isEvidence m) false m ++ NO-CONFLICT-IN m ∷ []
+    outsideConditions n round keys ++ messageConditions checks n round (isEvidence m) m ++ NO-CONFLICT-IN m ∷ []
 
 -- evidence from two certificates: 1, 3, 5, 7, then those of the two
 unfoldable pub makingConditions : Checks → ℕ → ℕ → List ℕ → Message → Message → List ℕ → List Condition

@@ -1,15 +1,15 @@
--- Submit and step once nothing is refused (document 01, "Steps").
+-- Submit and step once nothing is refused (document 01, "Steps"; document 02, item 1).
 -- Assumes nothing.
-use Prim.Native.Nat.{ℕ}
+use Prim.Native.Nat.{ℕ, zero, suc}
 use mathlib.Core.Bool.{Bool, true, false, cond, not, _&&_}
 use mathlib.Core.List.{List, [], _∷_, _++_}
-use lib.Dec.{eqb}
+use lib.Dec.{ltb, eqb}
 use Rattle.quorum.specs.Quorum.{k, has, size, shared, with, seats}
 use Rattle.protocol.specs.Layout.{collectedBank, firstBank}
 use Rattle.octets.specs.Strings.{same}
 use Rattle.protocol.specs.Message.{Message, Submit, Notice, Full, Evidence, Garbled}
-use Rattle.protocol.specs.Certificate.{Certificate, fill, fillEach, ownCertificate, firstCertificate, certificateIn, fullOf, evidenceOf}
-use Rattle.protocol.specs.Record.{withOwn, withConfirmed, withNotices, withFirst, withSent, withGuilty, noneHeard, oneHeard, holds}
+use Rattle.protocol.specs.Certificate.{Certificate, fill, fillEach, keptValue, keptSignature, fillKept, ownCertificate, firstCertificate, certificateIn, fullOf, evidenceOf}
+use Rattle.protocol.specs.Record.{withOwn, withConfirmed, withNotices, withFirst, withSent, withGuilty, withKept, noneHeard, oneHeard, holds}
 use Rattle.protocol.specs.declared.Notices.{Notices}
 use Rattle.protocol.specs.declared.Record.{Record}
 
@@ -55,8 +55,53 @@ submitOwn value signature s =
 unfoldable pub isWanted : ℕ → List ℕ → Record → Bool
 isWanted seat value r = not (r .confirmed) && same value (r .own .value) && not (has seat (r .own .collected))
 
+unfoldable pub collectIfWanted : ℕ → List ℕ → List ℕ → State → State
+collectIfWanted seat value signature s = cond (isWanted seat value (s .unit)) (collect seat signature s) s
+
+-- ---- keep (document 02, item 1)
+
+-- a seat's SUBMIT is kept: its value, and its signature over it
+unfoldable pub keep : ℕ → List ℕ → List ℕ → State → State
+keep seat value signature s = record {
+  unit = withKept (s .unit) (with seat (s .unit .kept));
+  store = fillKept (s .unit .n) seat value signature (s .store);
+  written = s .written;
+}
+
+-- "the first good one from each seat is kept with its value"
+unfoldable pub keepIfFirst : ℕ → List ℕ → List ℕ → State → State
+keepIfFirst seat value signature s = cond (has seat (s .unit .kept)) s (keep seat value signature s)
+
+-- "A SUBMIT heard before the own submit is now checked, and the first good one from each seat is kept with its value." One heard
+-- after it is collected if it is wanted.
 unfoldable pub hearSubmit : ℕ → List ℕ → List ℕ → State → State
-hearSubmit seat value signature s = cond (isWanted seat value (s .unit)) (collect seat signature s) s
+hearSubmit seat value signature s =
+    cond (s .unit .own .submitted) (collectIfWanted seat value signature s) (keepIfFirst seat value signature s)
+
+-- "until k is reached": the seat is kept, and fewer than k are collected
+unfoldable pub isOpenTo : ℕ → Record → Bool
+isOpenTo seat r = has seat (r .kept) && ltb (size (r .own .collected)) (k (r .n))
+
+-- "kept ones of that value from other seats are collected": like a SUBMIT heard now. The own seat is collected already, and so
+-- it isn't new.
+unfoldable pub collectKeptSeat : ℕ → State → State
+collectKeptSeat seat s =
+    cond (isOpenTo seat (s .unit))
+    (collectIfWanted seat (keptValue (s .unit .n) (s .store) seat) (keptSignature (s .unit .n) (s .store) seat) s)
+    s
+
+-- "in rising seat order": the seats below a number
+unfoldable pub collectKeptBelow : ℕ → State → State
+collectKeptBelow zero s = s
+collectKeptBelow (suc seat) s = collectKeptSeat seat (collectKeptBelow seat s)
+
+-- "then the kept seats are empty"
+unfoldable pub emptyKept : State → State
+emptyKept s = withUnit s (withKept (s .unit) 0)
+
+-- "kept ones of that value from other seats are collected in rising seat order until k is reached; then the kept seats are empty"
+unfoldable pub collectKept : State → State
+collectKept s = emptyKept (collectKeptBelow (s .unit .n) s)
 
 -- ---- hear
 
@@ -144,9 +189,9 @@ confirmIfComplete s = cond (isComplete (s .unit)) (hearOwn (confirm s)) (reply s
 
 -- ---- the two calls
 
--- submit: value, signature
+-- submit: value, signature. "At the own submit, after the own signature, kept ones .. are collected" (document 02, item 1)
 unfoldable pub submitted : List ℕ → List ℕ → State → State
-submitted value signature s = confirmIfComplete (submitOwn value signature s)
+submitted value signature s = confirmIfComplete (collectKept (submitOwn value signature s))
 
 -- a step, by its message; EVIDENCE and garbled bytes are refused before
 unfoldable pub stepped : Message → State → State

@@ -27,7 +27,7 @@ pub struct First {
     pub seats: Mask,
 }
 
-// A unit's record. A value not set is 32 zero bytes.
+// A unit's record. A value not set is 32 zero bytes. `kept`: the seats whose SUBMIT came before the own submit.
 #[repr(C)]
 pub struct Record {
     pub n: u32,
@@ -39,6 +39,7 @@ pub struct Record {
     pub first: First,
     pub sent: bool,
     pub guilty: Mask,
+    pub kept: Mask,
 }
 
 // Answer of opening: the refusal number or 0, and the record (`unit`, since `record` is a word of antt).

@@ -16,7 +16,7 @@ use Rattle.quorum.specs.QuorumLaws.{seats-in, seats-out}
 use Rattle.protocol.specs.Layout.{signatureLength, banks, slotLength, storeLength, slotAt, firstBank}
 use Rattle.protocol.specs.Message.{readSignature}
 use Rattle.protocol.specs.Certificate.{slot, fill, fillEach}
-use Rattle.protocol.specs.LayoutLaws.{slot-fits, slots-apart, collected-bank, first-bank}
+use Rattle.protocol.specs.LayoutLaws.{slot-fits, slots-apart, collected-bank, first-bank, kept-bank}
 use Rattle.protocol.specs.CertificateLaws.{fill-snoc}
 use Rattle.layout.specs.Places.{bankOf}
 use Rattle.layout.specs.declared.Bank.{Bank}
@@ -40,11 +40,13 @@ pub bank-listed : (b : Bank) → bankOf b < length banks
 unfolding bankOf
 bank-listed bank.Collected = collected-bank .0
 bank-listed bank.First = first-bank .0
+bank-listed bank.Kept = kept-bank .0
 
 pub slot-signature : (b : Bank) → slotLength (bankOf b) ≡ signatureLength
 unfolding bankOf
 slot-signature bank.Collected = collected-bank .1
 slot-signature bank.First = first-bank .1
+slot-signature bank.Kept = kept-bank .1
 
 -- a slot filled leaves those of later seats
 fill-leaves : (n a b s t : ℕ) (signature store : List ℕ) → a < length banks → b < length banks → s < n → t < n → s < t

@@ -4,7 +4,7 @@ ghost use Prim.Native.Nat.{_+_, _<_, _≤_};
 ghost use lib.ListN.{length};
 ghost use Rattle.quorum.specs.Quorum.{mostSeats};
 ghost use Rattle.protocol.specs.Layout.{signatureLength, storeLength};
-ghost use Rattle.protocol.specs.Certificate.{fill};
+ghost use Rattle.protocol.specs.Certificate.{slot, fill};
 ghost use Rattle.protocol.specs.Message.{readSignature};
 ghost use Rattle.layout.specs.Places.{bankOf};
 use layout::Bank;
@@ -35,4 +35,12 @@ pub(crate) fn signature_copy(signature: &[u8]) -> [u8; SIGNATURE]
     let mut copy = [0u8; SIGNATURE];
     octets::copy(&mut copy, 0, signature);
     copy
+}
+
+// A copy of a seat's signature in a bank. Two slots of one store can't be lent at the same time.
+pub fn slot_copy(store: &[u8], n: u32, bank: Bank, seat: u32) -> [u8; SIGNATURE]
+    requires { ⌜ (n ≤ mostSeats) × (seat < n) × (storeLength n ≤ length (now store)) ⌝ }
+    ensures { λ r. ⌜ r ≡ slot n (bankOf bank) (now (store .entry)) seat ⌝ }
+{
+    signature_copy(signature_at(store, layout::slot_at(n, bank, seat)))
 }
