@@ -14,7 +14,7 @@ use Rattle.protocol.specs.Layout.{valueLength, signatureLength, storeLength, co
 use Rattle.protocol.specs.Values.{unset, isLower}
 use Rattle.protocol.specs.Message.{Entry, Pair, PairValues, Message, Submit, Notice, Full, Evidence, Garbled, evidenceForm, ValuesFormed}
 use Rattle.protocol.specs.Entries.{Laid}
-use Rattle.protocol.specs.Certificate.{Certificate, slot, setOf}
+use Rattle.protocol.specs.Certificate.{Certificate, slot, keptValue, keptSignature, setOf}
 use Rattle.protocol.specs.Refusals.{Checks, rising}
 use Rattle.protocol.specs.Step.{State, owesFull}
 use Rattle.protocol.specs.declared.Own.{Own}
@@ -78,6 +78,8 @@ pub record Settled (r : Record) : Type 0 where
   pub complete : size (r .own .collected) ≡ k (r .n) → r .confirmed ≡ true
   pub holds : r .confirmed ≡ true → Held (r .own .value) r
   pub owes : owesFull r ≡ false
+  -- "then the kept seats are empty" (document 02, item 1)
+  pub emptied : r .own .submitted ≡ true → r .kept ≡ 0
 
 -- a message of the unit's own: its round, seat and value
 pub record Said (r : Record) (ρ seat : ℕ) (value : List ℕ) : Type 0 where
@@ -143,6 +145,11 @@ module _ (checks : Checks) (W : Relation) where
     pub guiltyWithin : shared guilty (first .seats) ≡ guilty
     pub unheld : first .seats ≡ 0 → (first .value ≡ unset) × (guilty ≡ 0)
 
+  -- the seats kept: each has a signature of its own over its kept value, in the last two banks
+  pub record Keeping (n kept : ℕ) (store : List ℕ) : Type 0 where
+    pub below : kept < 2 ^ n
+    pub attested : (s : ℕ) → In s kept → Attested s (keptValue n store s) (keptSignature n store s)
+
   -- the value submitted and the seats collected
   pub record Submitted (n seat : ℕ) (own : Own) (store : List ℕ) : Type 0 where
     pub collection : Collection n own store
@@ -156,6 +163,7 @@ module _ (checks : Checks) (W : Relation) where
     pub heard : Hearing (r .notices)
     pub first : Holding (r .n) (r .first) (r .guilty) store
     pub flags : Flags (r .n) (r .own .collected) (r .confirmed) (r .sent)
+    pub kept : Keeping (r .n) (r .kept) store
 
   -- ---- messages
 
