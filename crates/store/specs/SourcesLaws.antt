@@ -11,7 +11,6 @@ use borrow.Author.Tests.{not-false}
 use Rattle.quorum.specs.Quorum.{k, In, size, shared, all, seats}
 use Rattle.quorum.specs.QuorumLaws.{seat-at, length-seats}
 use Rattle.protocol.specs.Layout.{signatureLength, valueAt, seatAt, fullEntryLength, fullEntryAt, fullLength, banks, storeLength, slotAt}
-use Rattle.protocol.specs.LayoutLaws.{slot-fits}
 use Rattle.protocol.specs.EntriesLaws.{length-read, entry-at}
 use Rattle.protocol.specs.Entries.{placeOf, readEntry, readEntries, formSeats}
 use Rattle.protocol.specs.Message.{Entry, byteAt, read, fullForm, readValue, readSignature, readFull, fitsFull, entrySeats, seatsOf}
@@ -22,7 +21,7 @@ use Rattle.protocol.specs.Refusals.{every, rising, isFull, stranger, disorder}
 use Rattle.layout.specs.Places.{bankOf}
 use Rattle.layout.specs.declared.Bank.{Bank}
 use Rattle.store.specs.Sources.{bytesOf, Sound, entryPlace, Stands, Readable, signatureAt, signatureFrom, certificateFrom}
-use Rattle.store.specs.StoreLaws.{length-signature, bank-listed, slot-signature}
+use Rattle.store.specs.StoreLaws.{length-signature, bank-listed, slot-inside, slot-read}
 use Rattle.store.specs.SeatLaws.{seats-set, set-lt, seats-split, count-below}
 use Rattle.store.specs.declared.sources.Place.{Place}
 use Rattle.store.specs.declared.sources.Place.the-variants as place
@@ -103,11 +102,11 @@ module _ (n : ℕ) (source : Source) (bytes : List ℕ) (readable : Readable n s
     stored = rw f at (readable .stands)
 
     pub slots-inside : p + signatureLength ≤ length bytes
-    slots-inside = rw e (omega (arith, stored, slot-fits n (bankOf bank) s (bank-listed bank) l, slot-signature bank))
+    slots-inside = slot-inside n bank s l bytes stored p e
 
     pub slots-signature : (g : List ℕ) → g ≡ readSignature p bytes → (g ≡ signatureFrom n source bytes s) × (length g ≡ signatureLength)
-    unfolding signatureAt slot readSignature
-    slots-signature g at = (at ∙ rw (e, f, slot-signature bank), rw at (length-signature p bytes slots-inside))
+    unfolding signatureAt
+    slots-signature g at = rw f (slot-read n bank s l bytes stored p e g at)
 
 pub length-signature-from : (n : ℕ) (source : Source) (bytes : List ℕ) → Readable n source bytes → (s : ℕ) → s < n → In s (source .seats)
     → length (signatureFrom n source bytes s) ≡ signatureLength

@@ -48,6 +48,15 @@ slot-signature bank.Collected = collected-bank .1
 slot-signature bank.First = first-bank .1
 slot-signature bank.Kept = kept-bank .1
 
+-- the signature read at a slot's place
+module _ (n : ℕ) (b : Bank) (seat : ℕ) (l : seat < n) (store : List ℕ) (stored : storeLength n ≤ length store) (at : ℕ) (e : at ≡ slotAt n (bankOf b) seat) where
+  pub slot-inside : at + signatureLength ≤ length store
+  slot-inside = rw e (omega (arith, slot-fits n (bankOf b) seat (bank-listed b) l, slot-signature b))
+
+  pub slot-read : (g : List ℕ) → g ≡ readSignature at store → (g ≡ slot n (bankOf b) store seat) × (length g ≡ signatureLength)
+  unfolding slot readSignature
+  slot-read g q = (q ∙ rw (e, slot-signature b), rw q (length-signature at store slot-inside))
+
 -- a slot filled leaves those of later seats
 fill-leaves : (n a b s t : ℕ) (signature store : List ℕ) → a < length banks → b < length banks → s < n → t < n → s < t
     → storeLength n ≤ length store → length signature ≡ slotLength a → slot n b (fill n a s signature store) t ≡ slot n b store t
