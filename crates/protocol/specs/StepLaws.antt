@@ -14,7 +14,7 @@ use Rattle.protocol.specs.Step.{State, write, hear, owesFull, sendFull, 
 abbrev pub after : List Message → State → State
 after ms s = record { unit = s .unit; store = s .store; written = ms ++ s .written }
 
-after-cond : (ms : List Message) (b : Bool) (s t : State) → cond b (after ms s) (after ms t) ≡ after ms (cond b s t)
+pub after-cond : (ms : List Message) (b : Bool) (s t : State) → cond b (after ms s) (after ms t) ≡ after ms (cond b s t)
 after-cond ms true s t = refl
 after-cond ms false s t = refl
 

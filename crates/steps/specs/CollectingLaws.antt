@@ -15,7 +15,7 @@ use Rattle.protocol.specs.Layout.{valueLength}
 use Rattle.protocol.specs.Message.{Submit, render, readValue}
 use Rattle.protocol.specs.Calls.{start}
 use Rattle.protocol.specs.Refusals.{said}
-use Rattle.protocol.specs.Step.{write, setOwnValue, collect, submitOwn, isWanted, hearSubmit}
+use Rattle.protocol.specs.Step.{write, setOwnValue, collect, submitOwn, isWanted, collectIfWanted}
 use Rattle.protocol.specs.declared.Record.{Record}
 use Rattle.wire_write.specs.Writing.{Wrote}
 use Rattle.steps.specs.Phases.{Changed, Did, Fits}
@@ -39,20 +39,20 @@ module _ (r : Record) (value : List ℕ) (u : Record) (told : u ≡ setOwnValue 
       did-writing-one (submitOwn given signature) r store (Submit (r .round) (r .seat) given signature) out 0 v store′ out′ end refl
       (record { recorded = c .recorded ∙ rw (told, whole); stored = c .stored ∙ rw told }) w
 
--- ---- SUBMIT heard
+-- ---- a signature collected if it is wanted
 
 module _ (r : Record) (store : List ℕ) (seat : ℕ) (value signature : List ℕ) where
-  pub hearSubmit-wanted : (u : Record) (store′ : List ℕ) → isWanted seat value r ≡ true → Changed (collect seat signature) r store u store′ → Changed (hearSubmit seat value signature) r store u store′
-  unfolding hearSubmit
-  hearSubmit-wanted u store′ e c = likewise-changed (collect seat signature) r store (hearSubmit seat value signature) u store′ (rw e) c
+  pub collectIfWanted-wanted : (u : Record) (store′ : List ℕ) → isWanted seat value r ≡ true → Changed (collect seat signature) r store u store′ → Changed (collectIfWanted seat value signature) r store u store′
+  unfolding collectIfWanted
+  collectIfWanted-wanted u store′ e c = likewise-changed (collect seat signature) r store (collectIfWanted seat value signature) u store′ (rw e) c
 
-  pub hearSubmit-unwanted : isWanted seat value r ≡ false → Changed (hearSubmit seat value signature) r store r store
-  unfolding hearSubmit
-  hearSubmit-unwanted e = record { recorded = rw e; stored = rw e }
+  pub collectIfWanted-unwanted : isWanted seat value r ≡ false → Changed (collectIfWanted seat value signature) r store r store
+  unfolding collectIfWanted
+  collectIfWanted-unwanted e = record { recorded = rw e; stored = rw e }
 
-  pub hearSubmit-quiet : hearSubmit seat value signature (start r store) .written ≡ []
-  unfolding hearSubmit collect
-  hearSubmit-quiet = go (isWanted seat value r)
+  pub collectIfWanted-quiet : collectIfWanted seat value signature (start r store) .written ≡ []
+  unfolding collectIfWanted collect
+  collectIfWanted-quiet = go (isWanted seat value r)
     where
       go : (b : Bool) → cond b (collect seat signature (start r store)) (start r store) .written ≡ []
       go true = refl
@@ -103,8 +103,8 @@ module _ (r : Record) (possible : Possible r) (store : List ℕ) (fits : Fits r 
 
 -- a signature collected where it is wanted and there is room for one more
 pub wanted-fits : (r : Record) (store : List ℕ) → Fits r store → (u : Record) (store′ : List ℕ) → length store′ ≡ length store → (seat : ℕ) (value signature : List ℕ) → seat < r .n
-    → (isWanted seat value r ≡ true → size (with seat (r .own .collected)) ≤ k (r .n)) → Changed (hearSubmit seat value signature) r store u store′ → Fits u store′ × (u .n ≡ r .n)
-unfolding hearSubmit collect
+    → (isWanted seat value r ≡ true → size (with seat (r .own .collected)) ≤ k (r .n)) → Changed (collectIfWanted seat value signature) r store u store′ → Fits u store′ × (u .n ≡ r .n)
+unfolding collectIfWanted collect
 wanted-fits r store fits u store′ long seat value signature l more done = go (isWanted seat value r) refl
   where
     go : (b : Bool) → isWanted seat value r ≡ b → Fits u store′ × (u .n ≡ r .n)

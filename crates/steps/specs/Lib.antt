@@ -7,5 +7,6 @@ pub mod HearingLaws
 pub mod Certificates
 pub mod CertificatesLaws
 pub mod CollectingLaws
+pub mod KeepingLaws
 pub mod ConfirmingLaws
 pub mod StepsLaws

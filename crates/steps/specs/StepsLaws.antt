@@ -14,7 +14,7 @@ use Rattle.protocol.specs.Message.{byteAt, read, readSubmit, readNotice, readFu
 use Rattle.protocol.specs.Certificate.{setOf}
 use Rattle.protocol.specs.Record.{withNotices, Ready}
 use Rattle.protocol.specs.Refusals.{stranger, disorder, every, isFull}
-use Rattle.protocol.specs.Step.{noticesWith, hear, reply, hearCertificate, submitOwn, hearSubmit, confirmIfComplete, submitted, stepped}
+use Rattle.protocol.specs.Step.{noticesWith, hear, reply, hearCertificate, submitOwn, hearSubmit, collectKept, confirmIfComplete, submitted, stepped}
 use Rattle.protocol.specs.StepLaws.{reply-after, confirmIfComplete-after}
 use Rattle.protocol.specs.declared.Record.{Record}
 use Rattle.wire.specs.Reading.{kindOf}
@@ -27,7 +27,7 @@ use Rattle.wire.specs.declared.read.Kind.{Kind}
 use Rattle.wire.specs.declared.read.Kind.the-variants as kind
 use Rattle.steps.specs.Phases.{Changed, Did, Fits}
 use Rattle.steps.specs.PhasesLaws.{did-same, did-writing-none, did-then}
-use Rattle.steps.specs.CollectingLaws.{hearSubmit-quiet}
+use Rattle.steps.specs.KeepingLaws.{hearSubmit-quiet, collectKept-quiet, collectKept-after}
 
 -- ---- the start of a call
 
@@ -80,12 +80,15 @@ module _ (n : ℕ) (m : List ℕ) where
 
 -- ---- the calls
 
-module _ (r : Record) (store out : List ℕ) (u : Record) (store′ out′ : List ℕ) (a : ℕ) (v : Record) (store″ out″ : List ℕ) (e : ℕ) where
-  pub submit-done : (value signature : List ℕ) → Did (submitOwn value signature) r store out 0 u store′ out′ a → Did confirmIfComplete u store′ out′ a v store″ out″ e
+module _ (r : Record) (store out : List ℕ) (u : Record) (store′ out′ : List ℕ) (a : ℕ) (x : Record) (gathered : List ℕ) (v : Record) (store″ out″ : List ℕ) (e : ℕ) where
+  pub submit-done : (value signature : List ℕ) → Did (submitOwn value signature) r store out 0 u store′ out′ a → Changed collectKept u store′ x gathered → Did confirmIfComplete x gathered out′ a v store″ out″ e
       → Did (submitted value signature) r store out 0 v store″ out″ e
   unfolding submitted
-  submit-done value signature first second =
-      did-then (submitOwn value signature) confirmIfComplete confirmIfComplete-after r store out 0 u store′ out′ a v store″ out″ e (omega arith) first second
+  submit-done value signature first second third =
+      let f = submitOwn value signature in
+      let quiet = did-writing-none collectKept u store′ out′ a x gathered (collectKept-quiet u store′) second in
+      let both = did-then f collectKept collectKept-after r store out 0 u store′ out′ a x gathered out′ a (omega arith) first quiet in
+      did-then (λ s. collectKept (f s)) confirmIfComplete confirmIfComplete-after r store out 0 x gathered out′ a v store″ out″ e (omega arith) both third
 
 module _ (r : Record) (store out : List ℕ) (m : List ℕ) (u : Record) (v : Record) (store″ out″ : List ℕ) (e : ℕ) where
   pub submit-heard : (seat : ℕ) (value signature store′ : List ℕ) → kind.Submit ≡ kindOf (read (r .n) m) → seat ≡ byteAt m seatAt → value ≡ readValue valueAt m → signature ≡ readSignature submitSignatureAt m

@@ -7,7 +7,7 @@ ghost use mathlib.Core.List.{[]};
 ghost use Rattle.protocol.specs.Calls.{start};
 ghost use Rattle.protocol.specs.Record.{withOwn};
 ghost use Rattle.protocol.specs.Layout.{signatureLength, submitLength, valueLength};
-ghost use Rattle.protocol.specs.Step.{isWanted, setOwnValue, collect, submitOwn, hearSubmit};
+ghost use Rattle.protocol.specs.Step.{isWanted, setOwnValue, collect, submitOwn, collectIfWanted};
 ghost use Rattle.steps.specs.Phases.{Did, Changed, Fits};
 use crate::phases::Phase;
 use layout::Bank;
@@ -79,8 +79,8 @@ fn is_wanted(r: Record, seat: u32, value: [u8; 32]) -> bool
     !r.confirmed & same & !has
 }
 
-// SUBMIT heard: its signature is collected where it is wanted.
-pub(crate) fn hear_submit(
+// A signature is collected if it is wanted.
+pub(crate) fn collect_if_wanted(
     r: Record,
     store: &mut [u8],
     seat: u32,
@@ -88,7 +88,7 @@ pub(crate) fn hear_submit(
     signature: &[u8],
 ) -> Record
     requires { ⌜ Fits r (now store) × (seat < r .n) × (length (now signature) ≡ signatureLength) ⌝ }
-    ensures { λ u. ⌜ Changed (hearSubmit seat value (now (signature .entry))) r (now (store .entry)) u (now (store .exit)) ⌝ }
+    ensures { λ u. ⌜ Changed (collectIfWanted seat value (now (signature .entry))) r (now (store .entry)) u (now (store .exit)) ⌝ }
 {
     if is_wanted(r, seat, value) {
         return collect(r, store, seat, signature);

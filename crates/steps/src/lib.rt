@@ -3,5 +3,6 @@ pub(crate) mod certificate;
 pub(crate) mod collect;
 pub(crate) mod confirm;
 pub(crate) mod hear;
+pub(crate) mod kept;
 pub mod phases;
 pub(crate) mod reply;

@@ -11,10 +11,11 @@ ghost use Rattle.wire.specs.declared.read.Kind.the-variants as kind;
 ghost use Rattle.steps.specs.Phases.{Did};
 ghost use Rattle.protocol.specs.Record.{Ready};
 use crate::certificate::hear_certificate;
-use crate::collect::hear_submit;
 use crate::collect::submit_own;
 use crate::confirm::confirm_if_complete;
 use crate::hear::hear;
+use crate::kept::collect_kept;
+use crate::kept::hear_submit;
 use crate::reply::reply;
 use protocol::Record;
 use store::sources::Place;
@@ -39,8 +40,9 @@ pub fn submit_phase(
     ensures { λ p. ⌜ Did (submitted (now (value .entry)) (now (signature .entry))) r (now (store .entry)) (now (out .entry)) 0 (p .unit) (now (store .exit)) (now (out .exit)) (p .at) ⌝ }
 {
     let p = submit_own(r, store, out, value, signature);
-    let unit = p.unit;
+    let said = p.unit;
     let at = p.at;
+    let unit = collect_kept(said, store);
     confirm_if_complete(unit, store, out, at)
 }
 

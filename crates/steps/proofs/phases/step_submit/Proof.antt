@@ -7,7 +7,7 @@ use denote.Ref.{now}
 use Rattle.protocol.specs.Layout.{signatureLength, seatAt, valueAt, submitSignatureAt}
 use Rattle.protocol.specs.Message.{byteAt, readValue, readSignature}
 use Rattle.steps.specs.Phases.{Fits}
-use Rattle.steps.specs.CollectingLaws.{one-more, wanted-fits}
+use Rattle.steps.specs.KeepingLaws.{heard-submit-fits}
 use Rattle.steps.specs.StepsLaws.{ready-fits, rest-fits, submit-long, submit-signature, submit-seat, submit-heard}
 use borrow.Author.Needs.{needs}
 use Rattle.steps.proofs.phases.step_submit.Statement.{statement}
@@ -90,11 +90,9 @@ confirm-if-complete-requires c κs =
     let read = seated (heard c) in
     let start = begun read in
     let args = start .args in
-    let seat = read .number-at .result in
-    let value = valued (signed read) .value-at2 .result in
     let after =
-    wanted-fits (args .r) (now (args .store)) (fits start) (collected .result) (collected .last .1 .0) (collected .kept .1 .0) seat value (now (signed read .signature-at .result)) (seat-known read)
-    (one-more (args .r) (start .pre .0 .possible) seat value) (collected .ensures) in
+    heard-submit-fits (args .r) (start .pre .0 .possible) (now (args .store)) (fits start) (collected .result) (collected .last .1 .0) (collected .kept .1 .0)
+    (read .number-at .result) (valued (signed read) .value-at2 .result) (now (signed read .signature-at .result)) (seat-known read) (collected .ensures) in
     (after .0, rest-fits (args .r .n) (collected .result .n) 0 (length (now (args .out))) (after .1) (omega arith) (start .pre .0 .room))
 
 returns : tie.Need-returns

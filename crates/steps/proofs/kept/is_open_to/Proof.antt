@@ -1,0 +1,12 @@
+-- `steps::kept::is_open_to` meets its contract.
+use Rattle.protocol.specs.Step.{isOpenTo}
+use borrow.Author.Needs.{needs}
+use Rattle.steps.proofs.kept.is_open_to.Statement.{statement}
+use Rattle.steps.proofs.kept.is_open_to.Tie as tie
+
+returns : tie.Need-returns
+unfolding isOpenTo
+returns c = cc
+
+pub is-open-to-spec : {M : Type 1} → statement M
+is-open-to-spec = tie.close (tie.spec (λ c κs. search needs) (λ c κs. search needs) (λ c κs. search needs) returns)
