@@ -38,7 +38,8 @@ fn done(p: Phase) -> Stepped
     }
 }
 
-// "Submit: the own signature is checked like any other, the value kept, the signature collected, SUBMIT written."
+// "Submit: the own signature is checked like any other, the value kept, the signature collected, SUBMIT written." "At the own
+// submit, after the own signature, kept ones .. are collected" (document 02, item 1).
 pub fn submit(
     r: Record,
     keys: &[u8],

@@ -34,6 +34,7 @@ fn fresh(n: u32, seat: u32, round: u32) -> Record
         },
         sent: false,
         guilty: 0,
+        kept: 0,
     }
 }
 

@@ -24,6 +24,7 @@ pub const STRANGER: u32 = 11;
 
 pub const DISORDER: u32 = 12;
 
+// Retired: "Number 13 no longer occurs" (document 02, item 1).
 pub const EARLY: u32 = 13;
 
 pub const SIGNATURE: u32 = 14;

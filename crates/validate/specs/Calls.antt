@@ -19,7 +19,7 @@ ownConditions checks r value signature = SAID r ∷ GARBLED-OWN value signature 
 
 -- its rows in the evidence check: 9 to 15
 unfoldable pub packConditions : Checks → ℕ → ℕ → Message → List Condition
-packConditions checks n round m = messageConditions checks n round (isEvidence m) false m ++ NO-CONFLICT-IN m ∷ []
+packConditions checks n round m = messageConditions checks n round (isEvidence m) m ++ NO-CONFLICT-IN m ∷ []
 
 -- ---- two certificates
 

@@ -14,7 +14,7 @@ use Rattle.protocol.specs.Layout.{valueLength, signatureLength, valueAt, lowerA
 use Rattle.protocol.specs.Values.{isLower}
 use Rattle.protocol.specs.Message.{Message, Submit, readValue, read, readFull, readEvidence, signed}
 use Rattle.protocol.specs.Certificate.{certificateOf, certificateIn}
-use Rattle.protocol.specs.Refusals.{Checks, Condition, every, said, wrongLengths, isForStep, isFull, isEvidence, early, badSignature, notLowerFirst, equalValues, SIGNATURE, NO-CONFLICT-IN, NO-CONFLICT-BETWEEN, outsideConditions, messageConditions, certificateConditions, twoConditions, evidenceConditions}
+use Rattle.protocol.specs.Refusals.{Checks, Condition, every, said, wrongLengths, isForStep, isFull, isEvidence, badSignature, notLowerFirst, equalValues, SIGNATURE, NO-CONFLICT-IN, NO-CONFLICT-BETWEEN, outsideConditions, messageConditions, certificateConditions, twoConditions, evidenceConditions}
 use Rattle.protocol.specs.Signatures.{signatureNumber}
 use Rattle.protocol.specs.SignaturesLaws.{signature-row}
 use Rattle.protocol.specs.declared.Record.{Record}
@@ -50,10 +50,10 @@ module _ (checks : Checks) (r : Record) (value signature : List ℕ) where
 
 -- ---- a step's message
 
-pub step-told : (checks : Checks) (r : Record) (m : Message) (taken due : Bool) → taken ≡ isForStep m → due ≡ early r m
-    → (number : ℕ) → number ≡ firstOf (messageConditions checks (r .n) (r .round) taken due m)
-    → number ≡ firstOf (messageConditions checks (r .n) (r .round) (isForStep m) (early r m) m)
-step-told checks r m taken due t d number e = rw (← t, ← d) e
+pub step-told : (checks : Checks) (r : Record) (m : Message) (taken : Bool) → taken ≡ isForStep m
+    → (number : ℕ) → number ≡ firstOf (messageConditions checks (r .n) (r .round) taken m)
+    → number ≡ firstOf (messageConditions checks (r .n) (r .round) (isForStep m) m)
+step-told checks r m taken t number e = rw (← t) e
 
 -- ---- EVIDENCE
 
@@ -67,15 +67,15 @@ module _ (checks : Checks) (n round : ℕ) (m : Message) where
   pub pack-formed : (number : ℕ) → number ≡ firstOf (packConditions checks n round m) → number ≡ 0 → Formed n round (isEvidence m) m
   unfolding packConditions
   pack-formed number e z =
-      let first = passed-first (messageConditions checks n round (isEvidence m) false m) (NO-CONFLICT-IN m ∷ []) (sym e ∙ z) in
-      message-formed n round (isEvidence m) false m 0 checks (sym first) refl
+      let first = passed-first (messageConditions checks n round (isEvidence m) m) (NO-CONFLICT-IN m ∷ []) (sym e ∙ z) in
+      message-formed n round (isEvidence m) m 0 checks (sym first) refl
 
 -- the same of bytes, by their 9 to 14 alone
 pub evidence-right : (checks : Checks) (n round : ℕ) (bytes : List ℕ) (number : ℕ)
-    → number ≡ firstOf (messageConditions checks n round (isEvidence (read n bytes)) false (read n bytes)) → number ≡ 0 → EvidenceTaken n bytes
+    → number ≡ firstOf (messageConditions checks n round (isEvidence (read n bytes)) (read n bytes)) → number ≡ 0 → EvidenceTaken n bytes
 evidence-right checks n round bytes number e z =
     let m = read n bytes in
-    pack-taken n round bytes (message-formed n round (isEvidence m) false m number checks e z)
+    pack-taken n round bytes (message-formed n round (isEvidence m) m number checks e z)
 
 -- ---- values
 
@@ -96,18 +96,18 @@ values-told a b x y r p q e = e ∙ rw (p, q)
 -- ---- two certificates
 
 module _ (checks : Checks) (n round : ℕ) (m : Message) where
-  pub certificate-told : (taken : Bool) → taken ≡ isFull m → (number : ℕ) → number ≡ firstOf (messageConditions checks n round taken false m)
+  pub certificate-told : (taken : Bool) → taken ≡ isFull m → (number : ℕ) → number ≡ firstOf (messageConditions checks n round taken m)
       → number ≡ firstOf (certificateConditions checks n round m)
   unfolding certificateConditions
   certificate-told taken t number e = rw (← t) e
 
   certificate-formed : (number : ℕ) → number ≡ firstOf (certificateConditions checks n round m) → number ≡ 0 → Formed n round (isFull m) m
   unfolding certificateConditions
-  certificate-formed number e z = message-formed n round (isFull m) false m number checks e z
+  certificate-formed number e z = message-formed n round (isFull m) m number checks e z
 
   pub certificate-nonzero : nonzero (numbers (certificateConditions checks n round m)) ≡ true
   unfolding certificateConditions
-  certificate-nonzero = message-nonzero checks n round (isFull m) false m
+  certificate-nonzero = message-nonzero checks n round (isFull m) m
 
 -- one that isn't refused
 pub certificate-right : (checks : Checks) (n round : ℕ) (bytes : List ℕ) (number : ℕ)

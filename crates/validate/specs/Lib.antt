@@ -1,4 +1,4 @@
--- Refusals: `Given` has the arguments besides a message, `Messages` a message's 9 to 13, `Operands` the seat that sends it, `Places`
+-- Refusals: `Given` has the arguments besides a message, `Messages` a message's 9 to 12, `Operands` the seat that sends it, `Places`
 -- and `Entries` the signatures of a message, `Calls` the rows of a call's own arguments. `XLaws` has the laws of `X`, `KeysLaws` those of
 -- the key table, `SeatsLaws` those of a seat's signature, `SignaturesLaws` those of the signatures of a message, one entry after another.
 pub mod Given

@@ -1,4 +1,4 @@
--- The commands that calls take, and a message's 9 to 13.
+-- The commands that calls take, and a message's 9 to 12.
 -- Assumes nothing.
 use mathlib.Core.Path.{_≡_}
 use mathlib.Core.Bool.{Bool, true, false, _&&_}
@@ -6,7 +6,7 @@ use mathlib.Core.List.{List, [], _∷_}
 use Prim.Native.Nat.{ℕ}
 use lib.Dec.{leb}
 use Rattle.protocol.specs.Message.{Message}
-use Rattle.protocol.specs.Refusals.{Condition, otherRound, stranger, disorder, GARBLED, OTHER-ROUND, STRANGER, DISORDER, EARLY}
+use Rattle.protocol.specs.Refusals.{Condition, otherRound, stranger, disorder, GARBLED, OTHER-ROUND, STRANGER, DISORDER}
 use Rattle.wire.specs.Answers.{commandOf}
 use Rattle.wire.specs.declared.read.Kind.{Kind}
 
@@ -16,11 +16,11 @@ use Rattle.wire.specs.declared.read.Kind.{Kind}
 unfoldable pub within : ℕ → ℕ → Kind → Bool
 within first last t = leb first (commandOf t) && leb (commandOf t) last
 
--- ---- the form of a message: 9 to 13
+-- ---- the form of a message: 9 to 12
 
--- 9 to 13, without the signatures
-unfoldable pub formConditions : ℕ → ℕ → Bool → Bool → Message → List Condition
-formConditions n round taken early m = GARBLED taken ∷ OTHER-ROUND round m ∷ STRANGER n m ∷ DISORDER m ∷ EARLY early ∷ []
+-- 9 to 12, without the signatures
+unfoldable pub formConditions : ℕ → ℕ → Bool → Message → List Condition
+formConditions n round taken m = GARBLED taken ∷ OTHER-ROUND round m ∷ STRANGER n m ∷ DISORDER m ∷ []
 
 -- a message that a call takes, of its round, with no stranger and in order
 pub record Formed (n round : ℕ) (taken : Bool) (m : Message) : Type 0 where

@@ -1,15 +1,14 @@
 -- The commands that calls take, and a message's 9 to 14, return by return.
 -- Assumes nothing.
 use mathlib.Core.Path.{_≡_, refl, sym, ap, _∙_}
-use mathlib.Core.Bool.{Bool, true, not, _&&_, false≢true}
+use mathlib.Core.Bool.{Bool, true, false≢true}
 use mathlib.Core.List.{[], _∷_}
 use Prim.Native.Nat.{ℕ}
 use borrow.Author.Tests.{not-false}
 use Rattle.refusal.specs.Refusal.{firstOf, numbers, nonzero}
 use Rattle.refusal.specs.RefusalLaws.{firstOf-zero, refused-first, refused-later, passed-first}
 use Rattle.protocol.specs.Message.{Message, Submit, Notice, Full, Evidence, Garbled}
-use Rattle.protocol.specs.Refusals.{Checks, isForStep, isFull, isEvidence, early, SIGNATURE, messageConditions}
-use Rattle.protocol.specs.declared.Record.{Record}
+use Rattle.protocol.specs.Refusals.{Checks, isForStep, isFull, isEvidence, SIGNATURE, messageConditions}
 use Rattle.wire.specs.Reading.{kindOf}
 use Rattle.wire.specs.Answers.{commandOf}
 use Rattle.wire.specs.declared.read.Kind.{Kind}
@@ -45,15 +44,6 @@ for-evidence (Full round sender value entries) = refl
 for-evidence (Evidence round values entries) = refl
 for-evidence Garbled = refl
 
--- "SUBMIT heard before the own submit"
-for-early : (r : Record) (m : Message) → (within 0x01 0x01 (kindOf m) && not (r .own .submitted)) ≡ early r m
-unfolding within commandOf kindOf early
-for-early r (Submit round seat value signature) = refl
-for-early r (Notice round seat value) = refl
-for-early r (Full round sender value entries) = refl
-for-early r (Evidence round values entries) = refl
-for-early r Garbled = refl
-
 module _ (m : Message) (t : Kind) (e : t ≡ kindOf m) (b : Bool) where
   pub step-takes : b ≡ within 0x01 0x03 t → b ≡ isForStep m
   step-takes f = f ∙ ap (within 0x01 0x03) e ∙ for-step m
@@ -63,9 +53,6 @@ module _ (m : Message) (t : Kind) (e : t ≡ kindOf m) (b : Bool) where
 
   pub evidence-takes : b ≡ within 0x05 0x05 t → b ≡ isEvidence m
   evidence-takes f = f ∙ ap (within 0x05 0x05) e ∙ for-evidence m
-
-  pub comes-early : (r : Record) → b ≡ within 0x01 0x01 t → (b && not (r .own .submitted)) ≡ early r m
-  comes-early r f = rw (f, e) (for-early r m)
 
 pub full-kind : (m : Message) → isFull m ≡ true → kind.Full ≡ kindOf m
 unfolding kindOf isFull
@@ -83,14 +70,14 @@ evidence-kind (Full round sender value entries) e = absurd (false≢true e)
 evidence-kind (Evidence round values entries) e = refl
 evidence-kind Garbled e = absurd (false≢true e)
 
--- ---- the form of a message: 9 to 13
+-- ---- the form of a message: 9 to 12
 
-pub message-nonzero : (checks : Checks) (n round : ℕ) (taken early : Bool) (m : Message) → nonzero (numbers (messageConditions checks n round taken early m)) ≡ true
+pub message-nonzero : (checks : Checks) (n round : ℕ) (taken : Bool) (m : Message) → nonzero (numbers (messageConditions checks n round taken m)) ≡ true
 unfolding messageConditions nonzero numbers
-message-nonzero checks n round taken early m = refl
+message-nonzero checks n round taken m = refl
 
-module _ (n round : ℕ) (taken early : Bool) (m : Message) (number : ℕ) where
-  module _ (e : number ≡ firstOf (formConditions n round taken early m)) where
+module _ (n round : ℕ) (taken : Bool) (m : Message) (number : ℕ) where
+  module _ (e : number ≡ firstOf (formConditions n round taken m)) where
     pub form-passed : number ≡ 0 → Formed n round taken m
     unfolding formConditions
     form-passed z =
@@ -101,17 +88,17 @@ module _ (n round : ℕ) (taken early : Bool) (m : Message) (number : ℕ) where
         record { is = not-false taken (a .0); same = b .0; known = c .0; ordered = d .0 }
 
     module _ (checks : Checks) where
-      pub form-refused : (number ≡ 0 → ⊥) → number ≡ firstOf (messageConditions checks n round taken early m)
+      pub form-refused : (number ≡ 0 → ⊥) → number ≡ firstOf (messageConditions checks n round taken m)
       unfolding messageConditions formConditions
-      form-refused h = refused-first (formConditions n round taken early m) (SIGNATURE checks m ∷ []) number e h
+      form-refused h = refused-first (formConditions n round taken m) (SIGNATURE checks m ∷ []) number e h
 
-      pub form-signed : number ≡ 0 → (v : ℕ) → v ≡ firstOf (SIGNATURE checks m ∷ []) → v ≡ firstOf (messageConditions checks n round taken early m)
+      pub form-signed : number ≡ 0 → (v : ℕ) → v ≡ firstOf (SIGNATURE checks m ∷ []) → v ≡ firstOf (messageConditions checks n round taken m)
       unfolding messageConditions formConditions nonzero numbers
-      form-signed z v f = f ∙ refused-later (formConditions n round taken early m) (SIGNATURE checks m ∷ []) number e refl z
+      form-signed z v f = f ∙ refused-later (formConditions n round taken m) (SIGNATURE checks m ∷ []) number e refl z
 
   -- a message that isn't refused
-  pub message-formed : (checks : Checks) → number ≡ firstOf (messageConditions checks n round taken early m) → number ≡ 0 → Formed n round taken m
+  pub message-formed : (checks : Checks) → number ≡ firstOf (messageConditions checks n round taken m) → number ≡ 0 → Formed n round taken m
   unfolding messageConditions formConditions
   message-formed checks f z =
-      let form = formConditions n round taken early m in
+      let form = formConditions n round taken m in
       form-passed (z ∙ sym (passed-first form (SIGNATURE checks m ∷ []) (sym f ∙ z))) z

@@ -3,7 +3,7 @@ ghost use mathlib.Core.Path.{_≡_};
 ghost use Rattle.refusal.specs.Refusal.{firstOf};
 ghost use Rattle.protocol.specs.Signatures.{checks};
 ghost use Rattle.protocol.specs.Message.{read};
-ghost use Rattle.protocol.specs.Refusals.{wrongLengths, isForStep, early, outsideConditions, openingConditions, recordConditions, messageConditions, certificateConditions, twoConditions};
+ghost use Rattle.protocol.specs.Refusals.{wrongLengths, isForStep, outsideConditions, openingConditions, recordConditions, messageConditions, certificateConditions, twoConditions};
 ghost use Rattle.wire.specs.Reading.{kindOf};
 ghost use Rattle.protocol.specs.Record.{InRange};
 ghost use Rattle.validate.specs.Given.{Given, givenConditions};
@@ -126,11 +126,10 @@ pub fn step_refusal(r: Record, keys: &[u8], kind: Kind, m: &[u8]) -> Verdict
     requires { ⌜ Given (r .n) (r .round) (now keys) × (kind ≡ kindOf (read (r .n) (now m))) ⌝ }
     ensures { λ v.
         let said = read (r .n) (now (m .entry)) in
-        ⌜ v .number ≡ firstOf (messageConditions (checks (now (keys .entry)) (r .round)) (r .n) (r .round) (isForStep said) (early r said) said) ⌝ }
+        ⌜ v .number ≡ firstOf (messageConditions (checks (now (keys .entry)) (r .round)) (r .n) (r .round) (isForStep said) said) ⌝ }
 {
     let taken = is_within(kind, message::SUBMIT, message::FULL);
-    let early = is_within(kind, message::SUBMIT, message::SUBMIT) & !r.own.submitted;
-    message_refusal(r.n, r.round, keys, taken, early, kind, m)
+    message_refusal(r.n, r.round, keys, taken, kind, m)
 }
 
 // Refusal of an EVIDENCE: 9 to 15.
@@ -139,7 +138,7 @@ pub fn evidence_refusal(n: u32, round: u32, keys: &[u8], kind: Kind, m: &[u8]) -
     ensures { λ v. ⌜ v .number ≡ firstOf (packConditions (checks (now (keys .entry)) round) n round (read n (now (m .entry)))) ⌝ }
 {
     let taken = is_within(kind, message::EVIDENCE, message::EVIDENCE);
-    let v = message_refusal(n, round, keys, taken, false, kind, m);
+    let v = message_refusal(n, round, keys, taken, kind, m);
     if v.number != 0 {
         return v;
     }
@@ -158,7 +157,7 @@ fn certificate_refusal(n: u32, round: u32, keys: &[u8], m: &[u8]) -> Verdict
 {
     let kind = wire::read::classify(n, m);
     let taken = is_within(kind, message::FULL, message::FULL);
-    message_refusal(n, round, keys, taken, false, kind, m)
+    message_refusal(n, round, keys, taken, kind, m)
 }
 
 // Refusal of two certificates: the first's 9 to 14, the second's, and 15.

@@ -1,4 +1,4 @@
-// Tests of a message: command, round, seats, their order, and an early SUBMIT (9 to 13), then its signatures (14).
+// Tests of a message: command, round, seats and their order (9 to 12), then its signatures (14).
 ghost use mathlib.Core.Path.{_≡_};
 ghost use mathlib.Core.Bool.{not};
 ghost use Prim.Native.Nat.{ℕ, _≤_};
@@ -93,10 +93,10 @@ fn is_disordered(n: u32, kind: Kind, m: &[u8]) -> bool
     !seats_rise(m, found)
 }
 
-// Refusal for the form of a message, before any signature is checked: 9 to 13.
-fn form_refusal(n: u32, round: u32, taken: bool, early: bool, kind: Kind, m: &[u8]) -> u32
+// Refusal for the form of a message, before any signature is checked: 9 to 12.
+fn form_refusal(n: u32, round: u32, taken: bool, kind: Kind, m: &[u8]) -> u32
     requires { ⌜ (1 ≤ n) × (n ≤ mostSeats) × (kind ≡ kindOf (read n (now m))) ⌝ }
-    ensures { λ r. ⌜ r ≡ firstOf (formConditions n round taken early (read n (now (m .entry)))) ⌝ }
+    ensures { λ r. ⌜ r ≡ firstOf (formConditions n round taken (read n (now (m .entry)))) ⌝ }
 {
     if !taken {
         return refusal::GARBLED;
@@ -110,27 +110,23 @@ fn form_refusal(n: u32, round: u32, taken: bool, early: bool, kind: Kind, m: &[u
     if is_disordered(n, kind, m) {
         return refusal::DISORDER;
     }
-    if early {
-        return refusal::EARLY;
-    }
     0
 }
 
-// Refusal of a message, for every call: 9 to 14. `taken`: whether the call takes its command. `early`: whether it comes before the
-// own submit. Signatures, which cost most, are checked last.
+// Refusal of a message, for every call: 9 to 14. `taken`: whether the call takes its command. Signatures, which cost most, are
+// checked last.
 pub(crate) fn message_refusal(
     n: u32,
     round: u32,
     keys: &[u8],
     taken: bool,
-    early: bool,
     kind: Kind,
     m: &[u8],
 ) -> Verdict
     requires { ⌜ Given n round (now keys) × (kind ≡ kindOf (read n (now m))) ⌝ }
-    ensures { λ v. ⌜ v .number ≡ firstOf (messageConditions (checks (now (keys .entry)) round) n round taken early (read n (now (m .entry)))) ⌝ }
+    ensures { λ v. ⌜ v .number ≡ firstOf (messageConditions (checks (now (keys .entry)) round) n round taken (read n (now (m .entry)))) ⌝ }
 {
-    let form = form_refusal(n, round, taken, early, kind, m);
+    let form = form_refusal(n, round, taken, kind, m);
     if form != 0 {
         return Verdict { number: form };
     }

@@ -1,7 +1,7 @@
-// Impossible records, test by test (document 01, "A record is impossible if"): 4.
+// Impossible records, test by test (document 01, "A record is impossible if"; document 02, item 1): 4.
 ghost use mathlib.Core.Path.{_≡_};
 ghost use Rattle.octets.specs.Strings.{same};
-ghost use Rattle.protocol.specs.Record.{holds, outOfRange, namesStranger, wrongCollected, wrongFirst, lacksFirst, wrongGuilty, wrongSent, wrongUnset, impossible, InRange};
+ghost use Rattle.protocol.specs.Record.{holds, outOfRange, namesStranger, wrongCollected, wrongFirst, lacksFirst, wrongGuilty, wrongSent, wrongKept, wrongUnset, impossible, InRange};
 ghost use Rattle.protocol.specs.Values.{unset};
 use crate::arguments::wrong_round;
 use crate::arguments::wrong_seat;
@@ -38,7 +38,8 @@ fn names_stranger(r: Record) -> bool
     let collected = quorum::names_outside(r.n, r.own.collected);
     let first = quorum::names_outside(r.n, r.first.seats);
     let guilty = quorum::names_outside(r.n, r.guilty);
-    collected | first | guilty
+    let kept = quorum::names_outside(r.n, r.kept);
+    collected | first | guilty | kept
 }
 
 // "collected seats are non-empty without a submission, lack the own seat after one, exceed k, or number k without confirmed or
@@ -88,6 +89,13 @@ fn wrong_sent(r: Record) -> bool
     r.sent & !r.confirmed
 }
 
+// "a record with kept seats after a submission"
+fn wrong_kept(r: Record) -> bool
+    ensures { λ b. ⌜ b ≡ wrongKept r ⌝ }
+{
+    r.own.submitted & (r.kept != 0)
+}
+
 // "an unset value is not zero"
 fn wrong_unset(r: Record) -> bool
     ensures { λ b. ⌜ b ≡ wrongUnset r ⌝ }
@@ -118,6 +126,7 @@ pub(crate) fn is_impossible(r: Record) -> bool
     let lacks = lacks_first(r);
     let guilty = wrong_guilty(r);
     let sent = wrong_sent(r);
+    let kept = wrong_kept(r);
     let unset = wrong_unset(r);
-    heard | stranger | collected | first | lacks | guilty | sent | unset
+    heard | stranger | collected | first | lacks | guilty | sent | kept | unset
 }

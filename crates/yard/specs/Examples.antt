@@ -7,7 +7,7 @@ use mathlib.Core.List.{List, [], _∷_, _++_}
 use lib.ListN.{replicate}
 use Rattle.protocol.specs.Message.{Notice, render}
 use Rattle.protocol.specs.Signatures.{checks}
-use Rattle.trials.specs.Toy.{unfolded, toy, layout, sign, keys}
+use Rattle.trials.specs.Toy.{unfolded, toy, layout, sign, keys, submitBy}
 use Rattle.yard.specs.Line.{decimalIn, decimal, line}
 use Rattle.yard.specs.Commands.{lineFor, openingLength, misframedOpening, opened, yardStore, yardOut, begun, callLength, misframedCall, called}
 use Rattle.yard.specs.Yard.{printed, yard}
@@ -75,8 +75,19 @@ second-opening : yard checks (openingOf 1 0 5 ++ openingOf 1 0 5) ≡ short 0 ++
 unfolding unfoldedYard
 second-opening = refl
 
--- the program goes on after a refused call; a unit alone confirms in its submit, and SUBMIT and NOTICE are 1,524 bytes
+-- `0`, a space, `1524` and newline: SUBMIT and NOTICE
+abbrev submitAndNotice : List ℕ
+submitAndNotice = 48 ∷ 32 ∷ 49 ∷ 53 ∷ 50 ∷ 52 ∷ 10 ∷ []
+
+-- the program goes on after a refused call; a unit alone confirms in its submit
 confirmed : yard (λ table round. toy) (openingOf 1 0 5 ++ 0x11 ∷ 0 ∷ 0 ∷ [] ++ 0x12 ∷ layout 7 ++ sign 0 7 ++ 0x11 ∷ 0 ∷ 36 ∷ render (Notice 5 0 (layout 7)))
-    ≡ short 0 ++ short 9 ++ 48 ∷ 32 ∷ 49 ∷ 53 ∷ 50 ∷ 52 ∷ 10 ∷ [] ++ short 0
+    ≡ short 0 ++ short 9 ++ submitAndNotice ++ short 0
 unfolding unfoldedYard
 confirmed = refl
+
+-- "A SUBMIT heard before the own submit is now checked, and the first good one from each seat is kept with its value." (document 02,
+-- item 1): with it a unit of two confirms in its submit
+kept : yard (λ table round. toy) (openingOf 2 0 5 ++ 0x11 ∷ 5 ∷ 208 ∷ render (submitBy 1 7) ++ 0x12 ∷ layout 7 ++ sign 0 7)
+    ≡ short 0 ++ short 0 ++ submitAndNotice
+unfolding unfoldedYard
+kept = refl

@@ -17,7 +17,7 @@ use protocol::Written;
 pub extern "C" fn zolbine_version() -> u32
     ensures { λ r. ⌜ r ≡ version ⌝ }
 {
-    1
+    2
 }
 
 // The length of the first message in a buffer; 0 where no message of a fleet of n seats stands there whole.
@@ -116,7 +116,8 @@ pub extern "C" fn zolbine_open(n: u32, seat: u32, round: u32, keys: &[u8]) -> Op
     confirmer::opening::open(n, seat, round, keys)
 }
 
-// "Submit: the own signature is checked like any other, the value kept, the signature collected, SUBMIT written."
+// "Submit: the own signature is checked like any other, the value kept, the signature collected, SUBMIT written." "At the own
+// submit, after the own signature, kept ones .. are collected" (document 02, item 1).
 #[no_mangle]
 pub extern "C" fn zolbine_submit(
     unit: Record,

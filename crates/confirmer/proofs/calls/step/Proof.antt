@@ -3,7 +3,7 @@ use mathlib.Core.Path.{_≡_}
 use denote.Ref.{now}
 use Rattle.protocol.specs.Signatures.{checks}
 use Rattle.protocol.specs.Message.{Message, read}
-use Rattle.protocol.specs.Refusals.{isForStep, early, messageConditions, stepConditions}
+use Rattle.protocol.specs.Refusals.{isForStep, messageConditions, stepConditions}
 use Rattle.protocol.specs.Calls.{step}
 use Rattle.protocol.specs.Step.{stepped}
 use Rattle.wire.specs.Reading.{kindOf}
@@ -30,7 +30,7 @@ call c =
       unit = r;
       store = now (args .store);
       out = now (args .out);
-      rest = messageConditions (checks (now (args .keys)) (r .round)) (r .n) (r .round) (isForStep (message c)) (early r (message c)) (message c);
+      rest = messageConditions (checks (now (args .keys)) (r .round)) (r .n) (r .round) (isForStep (message c)) (message c);
       phases = stepped (message c);
     }
 
@@ -96,7 +96,7 @@ slice-aggregate-step-phase c = part-length (lent (room c))
 step-phase-requires : tie.Need-step-phase-requires
 step-phase-requires c κs =
     let l = lent (room c) in
-    let formed = message-formed _ _ _ _ _ _ _ (l .told) (l .none) in
+    let formed = message-formed _ _ _ _ _ _ (l .told) (l .none) in
     (part-ready l, known (heard (room c .before) .before), formed .known, formed .ordered)
 
 done-requires : tie.Need-done-requires

@@ -1,6 +1,5 @@
 -- `validate::calls::evidence_refusal` meets its contract.
 use mathlib.Core.Path.{_≡_}
-use mathlib.Core.Bool.{false}
 use borrow.Author.Needs.{needs}
 use denote.Ref.{now}
 use Rattle.refusal.specs.Refusal.{firstOf}
@@ -20,7 +19,7 @@ started c = c .before .before .before .before
 -- its 9 to 14
 told : (c : tie.After-message-refusal)
     → let a = started c .args in let m = read (a .n) (now (a .m)) in
-    c .message-refusal .result .number ≡ firstOf (messageConditions (checks (now (a .keys)) (a .round)) (a .n) (a .round) (isEvidence m) false m)
+    c .message-refusal .result .number ≡ firstOf (messageConditions (checks (now (a .keys)) (a .round)) (a .n) (a .round) (isEvidence m) m)
 told c = rw (evidence-takes _ _ (started c .pre .1) _ (c .before .is-within .ensures)) at (c .message-refusal .ensures)
 
 -- no number from 9 to 14

@@ -1,6 +1,6 @@
 -- `validate::calls::step_refusal` meets its contract.
 use borrow.Author.Needs.{needs}
-use Rattle.validate.specs.MessagesLaws.{step-takes, comes-early}
+use Rattle.validate.specs.MessagesLaws.{step-takes}
 use Rattle.validate.specs.CallsLaws.{step-told}
 use Rattle.validate.proofs.calls.step_refusal.Statement.{statement}
 use Rattle.validate.proofs.calls.step_refusal.Tie as tie
@@ -11,5 +11,4 @@ step-refusal-spec =
     (tie.spec
     (λ c κs. search needs)
     (λ c κs. search needs)
-    (λ c κs. search needs)
-    (λ c. search (step-told, step-takes, comes-early)))
+    (λ c. search (step-told, step-takes)))

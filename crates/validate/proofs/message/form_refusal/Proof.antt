@@ -10,12 +10,11 @@ unfolding formConditions
 form-refusal-spec =
     tie.close
     (tie.spec
-    (λ c. search rows depth 7)
+    (λ c. search rows)
     (λ c κs. search needs)
-    (λ c. search rows depth 7)
+    (λ c. search rows)
     (λ c κs. search needs)
-    (λ c. search rows depth 7)
+    (λ c. search rows)
     (λ c κs. search needs)
-    (λ c. search rows depth 7)
-    (λ c. search rows depth 7)
-    (λ c. search rows depth 7))
+    (λ c. search rows)
+    (λ c. search rows))

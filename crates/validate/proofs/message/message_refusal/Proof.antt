@@ -7,7 +7,7 @@ use Rattle.validate.proofs.message.message_refusal.Tie as tie
 message-verdict-requires : tie.Need-message-verdict-requires
 message-verdict-requires c κs =
     let right = c .before .before in
-    let formed = form-passed _ _ _ _ _ _ (right .before .form-refusal .ensures) (right .if1 .left) in
+    let formed = form-passed _ _ _ _ _ (right .before .form-refusal .ensures) (right .if1 .left) in
     search needs
 
 pub message-refusal-spec : {M : Type 1} → statement M
