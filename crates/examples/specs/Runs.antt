@@ -111,12 +111,9 @@ noticeFirst-run = tt
 
 -- ---- SUBMITs heard before the own submit
 
--- the store of four seats with the slots collected, held and kept, and the values kept
+-- slots that no call has written
 abbrev unwritten : ℕ → List ℕ
 unwritten slots = replicate (slots * signatureLength) 1
-
-abbrev sevens : List ℕ
-sevens = sign 0 7 ++ sign 1 7 ++ unwritten 1 ++ sign 3 7
 
 -- two kept SUBMITs of the own value are collected at the own submit, and the unit confirms in that very call; then none is kept
 keptConfirm : Bool
@@ -125,18 +122,20 @@ keptConfirm =
     let a = hears (opened 4) (submitBy 3 7) in
     let b = hears a (submitBy 1 7) in
     let c = submits b 7 in
+    let collected = sign 0 7 ++ sign 1 7 ++ unwritten 1 ++ sign 3 7 in
+    let kept = unwritten 1 ++ sign 1 7 ++ unwritten 1 ++ sign 3 7 ++ layout 1 ++ layout 7 ++ layout 1 ++ layout 7 in
     writes a []
     && eqb (a .unit .kept) 8
     && writes b []
     && eqb (b .unit .kept) 10
     && not (b .unit .own .submitted)
-    && same (b .store) (unwritten 9 ++ sign 1 7 ++ unwritten 1 ++ sign 3 7 ++ replicate 32 1 ++ layout 7 ++ replicate 32 1 ++ layout 7)
+    && same (b .store) (unwritten 8 ++ kept)
     && writes c (submitBy 0 7 ∷ Notice 5 0 (layout 7) ∷ [])
     && c .unit .confirmed
     && eqb (c .unit .own .collected) 11
     && eqb (c .unit .first .seats) 11
     && eqb (c .unit .kept) 0
-    && same (c .store) (sevens ++ sevens ++ unwritten 1 ++ sign 1 7 ++ unwritten 1 ++ sign 3 7 ++ replicate 32 1 ++ layout 7 ++ replicate 32 1 ++ layout 7)
+    && same (c .store) (collected ++ collected ++ kept)
 
 keptConfirm-run : T keptConfirm
 unfolding keptConfirm
