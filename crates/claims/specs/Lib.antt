@@ -9,6 +9,7 @@
 
 pub mod SlotsLaws
 pub mod Sound
+pub mod KeptPartLaws
 pub mod CertificatesLaws
 pub mod Parts
 pub mod Whole
