@@ -12,6 +12,7 @@ pub mod Sound
 pub mod KeptPartLaws
 pub mod CertificatesLaws
 pub mod Parts
+pub mod KeptLaws
 pub mod Whole
 pub mod UnrefusedLaws
 pub mod NotRefused

@@ -1,4 +1,4 @@
--- Slots of the store: one that is filled has its signature, and every other is as before.
+-- Slots of the store: one that is filled has its bytes, and every other is as before.
 -- Assumes nothing.
 use mathlib.Core.Path.{_≡_, refl, sym, _∙_}
 use mathlib.Core.List.{List, [], _∷_, List·Memᴰ, List·Memᴰ·head, List·Memᴰ·tail, List·Memᴰ·not-nil, List·Memᴰ·cases-cons}
@@ -9,9 +9,9 @@ use native.Mathlib.Decide.{ℕ-discrete}
 use lib.ListN.{length}
 use Rattle.octets.specs.OctetsLaws.{length-patch}
 use Rattle.octets.specs.WriteLaws.{part-own, part-before, part-after}
-use Rattle.protocol.specs.Layout.{signatureLength, banks, storeLength, slotLength, slotAt}
-use Rattle.protocol.specs.LayoutLaws.{ForSignatures, slot-fits, slots-apart}
-use Rattle.protocol.specs.Certificate.{slot, fill, fillEach}
+use Rattle.protocol.specs.Layout.{valueLength, signatureLength, banks, storeLength, slotLength, slotAt, keptBank, keptValueBank}
+use Rattle.protocol.specs.LayoutLaws.{ForSignatures, kept-bank, kept-value-bank, slot-fits, slots-apart}
+use Rattle.protocol.specs.Certificate.{slot, fill, fillEach, keptValue, keptSignature, fillKept}
 use Rattle.round.specs.Round.{Each}
 
 -- ---- one slot
@@ -92,3 +92,39 @@ module _ (n bank : ℕ) (f : ℕ → List ℕ) (b : ForSignatures bank) where
       (λ q. slot-fillEach-still xs (fill n bank x (f x) store) seat (fit seat d .0) fit′ (omega arith) (rw q (slot-fill-same n bank x (f x) store (b .0) (h .0) room (h .1 ∙ sym (b .1)))))
       (λ t. slot-fillEach-same xs (fill n bank x (f x) store) seat fit′ (omega arith) t)
       (List·Memᴰ·cases-cons d)
+
+-- ---- the slots of a SUBMIT kept
+
+module _ (n seat : ℕ) (value signature store : List ℕ) (s : seat < n) (room : storeLength n ≤ length store) (v : length value ≡ valueLength) (g : length signature ≡ slotLength keptBank) where
+  abbrev half : List ℕ
+  half = fill n keptBank seat signature store
+
+  half-long : length half ≡ length store
+  half-long = fill-length n keptBank seat signature store (kept-bank .0) s room g
+
+  half-room : storeLength n ≤ length half
+  half-room = omega (arith, half-long)
+
+  sized : length value ≡ slotLength keptValueBank
+  sized = v ∙ sym (kept-value-bank .1)
+
+  pub kept-long : length (fillKept n seat value signature store) ≡ length store
+  unfolding fillKept
+  kept-long = fill-length n keptValueBank seat value half (kept-value-bank .0) s half-room sized ∙ half-long
+
+  pub kept-value-same : keptValue n (fillKept n seat value signature store) seat ≡ value
+  unfolding fillKept
+  kept-value-same = slot-fill-same n keptValueBank seat value half (kept-value-bank .0) s half-room sized
+
+  pub kept-signature-same : keptSignature n (fillKept n seat value signature store) seat ≡ signature
+  unfolding fillKept
+  kept-signature-same =
+      slot-fill-other n keptValueBank seat value half (kept-value-bank .0) s half-room sized keptBank seat (kept-bank .0) s (λ q _. omega arith)
+      ∙ slot-fill-same n keptBank seat signature store (kept-bank .0) s room g
+
+  -- every other slot is as it was
+  pub kept-aside : (bank t : ℕ) → bank < length banks → t < n → (keptValueBank ≡ bank → seat ≡ t → ⊥) → (keptBank ≡ bank → seat ≡ t → ⊥) → slot n bank (fillKept n seat value signature store) t ≡ slot n bank store t
+  unfolding fillKept
+  kept-aside bank t b l c d =
+      slot-fill-other n keptValueBank seat value half (kept-value-bank .0) s half-room sized bank t b l c
+      ∙ slot-fill-other n keptBank seat signature store (kept-bank .0) s room g bank t b l d
