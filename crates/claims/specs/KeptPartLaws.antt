@@ -136,7 +136,7 @@ aside-trans a b c p q = record {
 room-beside : (a b : State) → Aside a b → Room a → Room b
 room-beside a b p room = rw (p .beside .long, p .n) room
 
-aside-refl : (s : State) → Aside s s
+pub aside-refl : (s : State) → Aside s s
 aside-refl s = record { n = refl; kept = refl; beside = beside-refl (s .unit .n) (s .store) }
 
 -- a part that leaves the store

@@ -19,6 +19,7 @@ pub mod NotRefused
 pub mod Journey
 pub mod Units
 pub mod Once
+pub mod Kept
 pub mod Safe
 pub mod Made
 pub mod Blamed
