@@ -9,6 +9,7 @@
 
 pub mod SlotsLaws
 pub mod Sound
+pub mod KeptPartLaws
 pub mod CertificatesLaws
 pub mod Parts
 pub mod KeptLaws
@@ -18,6 +19,7 @@ pub mod NotRefused
 pub mod Journey
 pub mod Units
 pub mod Once
+pub mod Kept
 pub mod Safe
 pub mod Made
 pub mod Blamed

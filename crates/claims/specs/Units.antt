@@ -86,7 +86,7 @@ module _ (S : Setting) (u : Honest) (opened : IsOpened S u) where
   pub opened-outside : Outside n round keys
   opened-outside = record { some = opened-range .some; most = opened-range .most; inTime = opened-range .dated; table = opened-fit .table }
 
-  opened-fresh : startOf ≡ fresh n (u .seat) round
+  pub opened-fresh : startOf ≡ fresh n (u .seat) round
   unfolding opening openedBy unrefused
   opened-fresh = rw opened
 
