@@ -16,7 +16,7 @@ use Rattle.protocol.specs.Layout.{valueLength, storeLength, outLength}
 use Rattle.protocol.specs.Message.{Entry, Message, Submit, Notice, Full, Evidence, Garbled, render, read, roundOf, entrySeats, seatsOf, signed, WellFormed}
 use Rattle.protocol.specs.CertificateLaws.{in-set}
 use Rattle.protocol.specs.MessageLaws.{read-render}
-use Rattle.protocol.specs.Refusals.{isForStep, isFull, isEvidence, rising, early, stepConditions}
+use Rattle.protocol.specs.Refusals.{isForStep, isFull, isEvidence, rising, stepConditions}
 use Rattle.protocol.specs.Step.{State, otherHeard, owesFull, stepped}
 use Rattle.protocol.specs.Calls.{resultBy, step, start, checkedBy, evidenceCheck}
 use Rattle.protocol.specs.declared.Record.{Record}
@@ -75,7 +75,7 @@ module _ (S : Setting) where
     end = endOf S u opened
 
     -- a message that reaches the unit, and in which there is no cause for a refusal
-    module _ (m : Message) (formed : WellFormed n m) (forStep : isForStep m ≡ true) (timely : (r : Record) → early r m ≡ false) (taken : Taken checks n round m) (h : Reached S u (render m)) where
+    module _ (m : Message) (formed : WellFormed n m) (forStep : isForStep m ≡ true) (taken : Taken checks n round m) (h : Reached S u (render m)) where
       abbrev t : Called
       t = h .step .call
 
@@ -107,7 +107,7 @@ module _ (S : Setting) where
             storeRoom = room;
             outRoom = subst (λ i. outLength i ≤ length out) (sym size-is) (h .outRoom);
           })
-          (subst (λ i. WellFormed i m) (sym size-is) formed) forStep (subst₂ (λ i ρ. Taken checks i ρ m) (sym size-is) (sym round-is) taken) (timely (t .unit))
+          (subst (λ i. WellFormed i m) (sym size-is) formed) forStep (subst₂ (λ i ρ. Taken checks i ρ m) (sym size-is) (sym round-is) taken)
 
       result-stepped : resultOf S t .unit ≡ stepped m (start (t .unit) (t .store)) .unit
       result-stepped =
@@ -122,10 +122,10 @@ module _ (S : Setting) where
 
     -- a NOTICE that reached the unit is heard at the end
     reached-heard : (seat : ℕ) (value : List ℕ) → seat < n → length value ≡ valueLength → Reached S u (render (Notice round seat value)) → Heard value end
-    unfolding isForStep early roundOf seatsOf entrySeats signed rising
+    unfolding isForStep roundOf seatsOf entrySeats signed rising
     reached-heard seat value inside sized h =
         let range = opened-range S u opened in
-        reached-end (Notice round seat value) (let e = range .dated in omega arith, sized) refl (λ r. refl)
+        reached-end (Notice round seat value) (let e = range .dated in omega arith, sized) refl
         (record { inRound = refl; inside = each-one (λ s. s < n) seat inside; rises = refl; checked = each-nil (λ s. checks (s .seat) (s .value) (s .signature) ≡ true) })
         h
         (Heard value)
@@ -134,10 +134,10 @@ module _ (S : Setting) where
 
     -- a FULL that reached the unit is held at the end, or was compared with the one held
     reached-held : (sender : ℕ) (value : List ℕ) (es : List Entry) → sender < n → Entries checks Any n value es → Reached S u (render (Full round sender value es)) → Held value end
-    unfolding isForStep early
+    unfolding isForStep
     reached-held sender value es inside entries h =
         let range = opened-range S u opened in
-        reached-end (Full round sender value es) (let e = range .dated in omega arith, entries .sized, entries .many, entries-laid checks Any n value es entries) refl (λ r. refl)
+        reached-end (Full round sender value es) (let e = range .dated in omega arith, entries .sized, entries .many, entries-laid checks Any n value es entries) refl
         (full-taken checks Any n round sender value es inside entries)
         h
         (Held value)

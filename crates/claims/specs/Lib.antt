@@ -11,6 +11,7 @@ pub mod SlotsLaws
 pub mod Sound
 pub mod CertificatesLaws
 pub mod Parts
+pub mod KeptLaws
 pub mod Whole
 pub mod UnrefusedLaws
 pub mod NotRefused

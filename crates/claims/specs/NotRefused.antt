@@ -26,7 +26,7 @@ use Rattle.protocol.specs.Message.{Message, Submit, Notice, Full, Evidence, Gar
 use Rattle.protocol.specs.MessageLaws.{read-render}
 use Rattle.protocol.specs.Certificate.{certificateIn}
 use Rattle.protocol.specs.Record.{lastRound, wrongSeat, impossible, fresh, InRange}
-use Rattle.protocol.specs.Refusals.{Condition, OUT, NO-CONFLICT-IN, NO-CONFLICT-BETWEEN, Checks, every, lengthIsnt, wrongKey, certificateConditions, checkConditions, makeKeyConditions, signConditions, wrongKeys, shortStore, shortOut, said, isForStep, isFull, isEvidence, wrongLengths, rising, early, badSignature, notLowerFirst, equalValues, messageConditions, outsideConditions, recordConditions, openingConditions, submitConditions, stepConditions, evidenceConditions, twoConditions, makingConditions}
+use Rattle.protocol.specs.Refusals.{Condition, OUT, NO-CONFLICT-IN, NO-CONFLICT-BETWEEN, Checks, every, lengthIsnt, wrongKey, certificateConditions, checkConditions, makeKeyConditions, signConditions, wrongKeys, shortStore, shortOut, said, isForStep, isFull, isEvidence, wrongLengths, rising, badSignature, notLowerFirst, equalValues, messageConditions, outsideConditions, recordConditions, openingConditions, submitConditions, stepConditions, evidenceConditions, twoConditions, makingConditions}
 use Rattle.protocol.specs.ConditionsLaws.{table-right}
 use Rattle.protocol.specs.Signatures.{checkSignature, makeKeyRefusal, makeKey, signRefusal, sign}
 use Rattle.protocol.specs.Calls.{openedBy, opening, resultBy, submit, step, makingBy, making, checkedBy, evidenceCheck}
@@ -93,7 +93,7 @@ pub record Lent (keys : List ℕ) (r : Record) (store out : List ℕ) : Type 0 w
   pub possible : impossible r ≡ false
   -- 5
   pub table : Table (r .n) keys
-  -- 6: "The store has 2,904 × n bytes or more"
+  -- 6: "the store grows to 4,388 × n bytes" (document 02, item 1)
   pub storeRoom : storeLength (r .n) ≤ length store
   -- 7: "Out buffer: 1,629 + 4,360 × k bytes or more"
   pub outRoom : outLength (r .n) ≤ length out
@@ -160,8 +160,6 @@ pub record StepFit (checks : Checks) (keys : List ℕ) (r : Record) (store bytes
   pub forStep : isForStep (read (r .n) bytes) ≡ true
   -- 10, 11, 12, 14: the round is the record's, every seat is below n, entry seats rise, every signature checks
   pub message : Taken checks (r .n) (r .round) (read (r .n) bytes)
-  -- 13: no SUBMIT before the own submit
-  pub timely : early r (read (r .n) bytes) ≡ false
 
 module _ (checks : Checks) (keys : List ℕ) (r : Record) (store bytes out : List ℕ) where
   abbrev heard : Message
@@ -171,12 +169,12 @@ module _ (checks : Checks) (keys : List ℕ) (r : Record) (store bytes out : Lis
   unfolding stepConditions messageConditions
   step-fit e =
       let lent = lent-of keys r store out _ e in
-      let t = message-taken checks (r .n) (r .round) (isForStep heard) (early r heard) heard [] (lent .1) .0 in
-      record { lent = lent .0; forStep = t .0; message = t .1; timely = t .2 }
+      let t = message-taken checks (r .n) (r .round) (isForStep heard) heard [] (lent .1) .0 in
+      record { lent = lent .0; forStep = t .0; message = t .1 }
 
   fit-step : StepFit checks keys r store bytes out → firstOf (stepConditions checks keys r store heard out) ≡ 0
   unfolding stepConditions messageConditions firstOf
-  fit-step t = of-lent keys r store out _ (t .lent) ∙ message-passes checks (r .n) (r .round) (isForStep heard) (early r heard) heard [] (t .forStep) (t .message) (t .timely)
+  fit-step t = of-lent keys r store out _ (t .lent) ∙ message-passes checks (r .n) (r .round) (isForStep heard) heard [] (t .forStep) (t .message)
 
   pub step-not-refused : (step checks keys r store bytes out .refusal ≡ 0) ↔ StepFit checks keys r store bytes out
   unfolding step resultBy
@@ -184,31 +182,27 @@ module _ (checks : Checks) (keys : List ℕ) (r : Record) (store bytes out : Lis
 
   -- facts that its message brings
   pub brings : (W : Relation) → StepFit checks keys r store bytes out → EachSigned W heard → Brings checks W r heard
-  unfolding early signed seatsOf
-  brings W t w = go heard (t .message) (t .timely) (read-sized (r .n) bytes) w
+  unfolding signed seatsOf
+  brings W t w = go heard (t .message) (read-sized (r .n) bytes) w
     where
-      go : (m : Message) → Taken checks (r .n) (r .round) m → early r m ≡ false → Sized (r .n) m → EachSigned W m → Brings checks W r m
-      go (Submit ρ seat value signature) t e l w = (
-        not-false (r .own .submitted) e,
-        t .inside seat (List·Memᴰ·head refl),
-        record { checked = t .checked _ (List·Memᴰ·head refl); sized = l .1; worthy = w _ (List·Memᴰ·head refl) },
-      )
-      go (Notice ρ seat value) t e l w = tt
-      go (Full ρ sender value es) t e l w = entries-taken checks W (r .n) (r .round) ρ sender value es t l w
-      go (Evidence ρ values ps) t e l w = tt
-      go Garbled t e l w = tt
+      go : (m : Message) → Taken checks (r .n) (r .round) m → Sized (r .n) m → EachSigned W m → Brings checks W r m
+      go (Submit ρ seat value signature) t l w =
+          (t .inside seat (List·Memᴰ·head refl), l .0, record { checked = t .checked _ (List·Memᴰ·head refl); sized = l .1; worthy = w _ (List·Memᴰ·head refl) })
+      go (Notice ρ seat value) t l w = tt
+      go (Full ρ sender value es) t l w = entries-taken checks W (r .n) (r .round) ρ sender value es t l w
+      go (Evidence ρ values ps) t l w = tt
+      go Garbled t l w = tt
 
 -- a step with a message as document 01 lays it out
 pub message-not-refused : (checks : Checks) (keys : List ℕ) (r : Record) (store out : List ℕ) (m : Message) → Lent keys r store out → WellFormed (r .n) m → isForStep m ≡ true → Taken checks (r .n) (r .round) m
-    → early r m ≡ false → step checks keys r store (render m) out .refusal ≡ 0
-message-not-refused checks keys r store out m lent formed forStep taken timely =
+    → step checks keys r store (render m) out .refusal ≡ 0
+message-not-refused checks keys r store out m lent formed forStep taken =
     let reads = sym (read-render (r .n) m formed) in
     step-not-refused checks keys r store (render m) out .1
     (record {
       lent = lent;
       forStep = subst (λ (x : Message). isForStep x ≡ true) reads forStep;
       message = subst (Taken checks (r .n) (r .round)) reads taken;
-      timely = subst (λ (x : Message). early r x ≡ false) reads timely;
     })
 
 -- ---- the evidence check, and evidence from two certificates
@@ -254,14 +248,14 @@ module _ (checks : Checks) (n round : ℕ) (keys bytes : List ℕ) where
   unfolding evidenceConditions outsideConditions messageConditions
   evidence-fit e =
       let outside = outside-of n round keys _ e in
-      let t = message-taken checks n round (isEvidence given) false given (NO-CONFLICT-IN given ∷ []) (outside .1) in
+      let t = message-taken checks n round (isEvidence given) given (NO-CONFLICT-IN given ∷ []) (outside .1) in
       record { outside = outside .0; isOne = t .0 .0; message = t .0 .1; conflict = firstOf-zero 14 _ _ (t .1) .0 }
 
   fit-evidence : EvidenceFit checks n round keys bytes → firstOf (evidenceConditions checks n round keys given) ≡ 0
   unfolding evidenceConditions outsideConditions messageConditions firstOf
   fit-evidence t =
-      of-outside n round keys (messageConditions checks n round (isEvidence given) false given ++ NO-CONFLICT-IN given ∷ []) (t .outside)
-      ∙ message-passes checks n round (isEvidence given) false given (NO-CONFLICT-IN given ∷ []) (t .isOne) (t .message) refl
+      of-outside n round keys (messageConditions checks n round (isEvidence given) given ++ NO-CONFLICT-IN given ∷ []) (t .outside)
+      ∙ message-passes checks n round (isEvidence given) given (NO-CONFLICT-IN given ∷ []) (t .isOne) (t .message)
       ∙ rw (t .conflict)
 
   pub evidence-not-refused : (evidenceCheck checks n round keys bytes .number ≡ 0) ↔ EvidenceFit checks n round keys bytes
@@ -291,8 +285,8 @@ module _ (checks : Checks) (n round : ℕ) (keys a b out : List ℕ) where
   making-fit e =
       let outside = outside-of n round keys _ e in
       let s = firstOf-zero 6 _ _ (outside .1) in
-      let t = message-taken checks n round (isFull (read n a)) false (read n a) (certificateConditions checks n round (read n b) ++ conflict) (s .1) in
-      let u = message-taken checks n round (isFull (read n b)) false (read n b) conflict (t .1) in
+      let t = message-taken checks n round (isFull (read n a)) (read n a) (certificateConditions checks n round (read n b) ++ conflict) (s .1) in
+      let u = message-taken checks n round (isFull (read n b)) (read n b) conflict (t .1) in
       record {
         outside = outside .0;
         outRoom = ltb-false (length out) (evidenceOutLength n) (s .0);
@@ -308,8 +302,8 @@ module _ (checks : Checks) (n round : ℕ) (keys a b out : List ℕ) where
   fit-making t =
       of-outside n round keys (OUT (evidenceOutLength n) out ∷ certificateConditions checks n round (read n a) ++ certificateConditions checks n round (read n b) ++ conflict) (t .outside)
       ∙ rw (le-ltb (length out) (evidenceOutLength n) (t .outRoom))
-      (message-passes checks n round (isFull (read n a)) false (read n a) (certificateConditions checks n round (read n b) ++ conflict) (t .firstFull) (t .first) refl
-      ∙ message-passes checks n round (isFull (read n b)) false (read n b) conflict (t .secondFull) (t .second) refl
+      (message-passes checks n round (isFull (read n a)) (read n a) (certificateConditions checks n round (read n b) ++ conflict) (t .firstFull) (t .first)
+      ∙ message-passes checks n round (isFull (read n b)) (read n b) conflict (t .secondFull) (t .second)
       ∙ rw (same-false (certificateIn (read n a) .value) (certificateIn (read n b) .value) (t .conflict)))
 
   pub making-not-refused : (making checks n round keys a b out .refusal ≡ 0) ↔ MakingFit checks n round keys a b out
@@ -434,7 +428,7 @@ module _ (leaf : ℕ) (message seed I C tree out : List ℕ) where
 -- a unit just opened takes a NOTICE, so a step that refuses every message doesn't meet these claims
 pub first-notice-taken : (checks : Checks) (n seat round : ℕ) (keys store out : List ℕ) (sender : ℕ) (value : List ℕ) → OpeningFit n seat round keys → storeLength n ≤ length store → outLength n ≤ length out
     → sender < n → length value ≡ valueLength → step checks keys (fresh n seat round) store (render (Notice round sender value)) out .refusal ≡ 0
-unfolding fresh roundOf seatsOf entrySeats signed rising early isForStep
+unfolding fresh roundOf seatsOf entrySeats signed rising isForStep
 first-notice-taken checks n seat round keys store out sender value fit room outRoom inside sized =
     message-not-refused checks keys (fresh n seat round) store out (Notice round sender value)
     (record {
@@ -444,4 +438,4 @@ first-notice-taken checks n seat round keys store out sender value fit room outR
       outRoom = outRoom;
     })
     (let e = fit .range .dated in omega arith, sized) refl
-    (record { inRound = refl; inside = each-one (λ s. s < n) sender inside; rises = refl; checked = λ s d. absurd (List·Memᴰ·not-nil d) }) refl
+    (record { inRound = refl; inside = each-one (λ s. s < n) sender inside; rises = refl; checked = λ s d. absurd (List·Memᴰ·not-nil d) })

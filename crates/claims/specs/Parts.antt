@@ -17,10 +17,10 @@ use Rattle.octets.specs.StringsLaws.{same-refl, same-true, same-false}
 use Rattle.quorum.specs.Quorum.{k, bit, In, has, size, shared, with, seats}
 use Rattle.quorum.specs.QuorumLaws.{bit-empty, bit-with-other, bit-with-same, has-false, bit-shared, same-seats, shared-lt, with-lt, size-empty, size-with-new, bit-outside, mem-seats, t0-below-third, k-of-n-share}
 use Rattle.refusal.specs.RefusalLaws.{both-true}
-use Rattle.protocol.specs.Layout.{valueLength, signatureLength, storeLength, collectedBank, firstBank}
+use Rattle.protocol.specs.Layout.{valueLength, signatureLength, banks, storeLength, collectedBank, firstBank, keptBank, keptValueBank}
 use Rattle.protocol.specs.Values.{unset}
 use Rattle.protocol.specs.Message.{Pair, PairValues, Message, Submit, Notice, Full, Evidence, Garbled}
-use Rattle.protocol.specs.LayoutLaws.{collected-bank, first-bank}
+use Rattle.protocol.specs.LayoutLaws.{collected-bank, first-bank, kept-bank, kept-value-bank}
 use Rattle.protocol.specs.Certificate.{Certificate, slot, fill, fillEach, ownCertificate, firstCertificate, fullOf, evidenceOf}
 use Rattle.protocol.specs.Record.{noneHeard, oneHeard, holds}
 use Rattle.protocol.specs.Refusals.{Checks, isFull, isEvidence}
@@ -33,7 +33,7 @@ use Rattle.round.specs.Round.{Each, Relation}
 use Rattle.round.specs.Demand1.{Kind, SUBMIT, NOTICE, FULL, EVIDENCE, isOf, isSubmit, isNotice, worth}
 use Rattle.reading.specs.ListsLaws.{cond-elim, and-false-either, each-one, each-append, count-append, count-one}
 use Rattle.claims.specs.SlotsLaws.{fill-length, slot-fill-same, slot-fill-other, fillEach-length, slot-fillEach-other, slot-fillEach-same}
-use Rattle.claims.specs.Sound.{flagOf, Heard, Held, Grows, Room, Attested, Certifies, Pairs, Collection, Holding, Sound, Said, Good, Leads}
+use Rattle.claims.specs.Sound.{flagOf, Heard, Held, Grows, Room, Attested, Certifies, Pairs, Collection, Holding, Keeping, Sound, Said, Good, Leads}
 use Rattle.claims.specs.CertificatesLaws.{entries-of, evidence-elim}
 
 -- ---- growth of records
@@ -80,7 +80,7 @@ unfolding shared
 shared-none m = and-zero-l m
 
 -- a part that leaves every flag as it was
-same-flags : (r r′ : Record) → r′ .own .submitted ≡ r .own .submitted → r′ .confirmed ≡ r .confirmed → r′ .sent ≡ r .sent → r′ .guilty ≡ r .guilty → (κ : Kind) → flagOf κ r′ ≡ flagOf κ r
+pub same-flags : (r r′ : Record) → r′ .own .submitted ≡ r .own .submitted → r′ .confirmed ≡ r .confirmed → r′ .sent ≡ r .sent → r′ .guilty ≡ r .guilty → (κ : Kind) → flagOf κ r′ ≡ flagOf κ r
 same-flags r r′ a b c d SUBMIT = a
 same-flags r r′ a b c d NOTICE = b
 same-flags r r′ a b c d FULL = c
@@ -133,7 +133,7 @@ module _ (checks : Checks) (W : Relation) where
   room-leads s s′ a room = rw (a .stored, a .grows .n) room
 
   -- a part that writes nothing and sets no flag
-  leads-quiet : (s s′ : State) → Sound checks W (s′ .unit) (s′ .store) → length (s′ .store) ≡ length (s .store) → Grows (s .unit) (s′ .unit) → s′ .written ≡ s .written
+  pub leads-quiet : (s s′ : State) → Sound checks W (s′ .unit) (s′ .store) → length (s′ .store) ≡ length (s .store) → Grows (s .unit) (s′ .unit) → s′ .written ≡ s .written
       → ((κ : Kind) → flagOf κ (s′ .unit) ≡ flagOf κ (s .unit)) → Leads checks W s s′
   leads-quiet s s′ sound stored grows e flags = record {
     sound = sound;
@@ -175,12 +175,12 @@ module _ (checks : Checks) (W : Relation) where
           (z .attested s old)
 
   -- signatures in slots that are as they were
-  collection-like : (n : ℕ) (own : Own) (store store′ : List ℕ) → Collection checks W n own store → ((t : ℕ) → t < n → slot n collectedBank store′ t ≡ slot n collectedBank store t)
+  pub collection-like : (n : ℕ) (own : Own) (store store′ : List ℕ) → Collection checks W n own store → ((t : ℕ) → t < n → slot n collectedBank store′ t ≡ slot n collectedBank store t)
       → Collection checks W n own store′
   collection-like n own store store′ z same =
       record { sized = z .sized; below = z .below; few = z .few; attested = λ t i. rw (same t (in-below n t (own .collected) (z .below) i)) (z .attested t i) }
 
-  holding-like : (n : ℕ) (first : First) (guilty : ℕ) (store store′ : List ℕ) → Holding checks W n first guilty store → ((t : ℕ) → t < n → slot n firstBank store′ t ≡ slot n firstBank store t)
+  pub holding-like : (n : ℕ) (first : First) (guilty : ℕ) (store store′ : List ℕ) → Holding checks W n first guilty store → ((t : ℕ) → t < n → slot n firstBank store′ t ≡ slot n firstBank store t)
       → Holding checks W n first guilty store′
   holding-like n first guilty store store′ z same = record {
     sized = z .sized;
@@ -192,12 +192,27 @@ module _ (checks : Checks) (W : Relation) where
     unheld = z .unheld;
   }
 
-  -- the first certificate's bank is as it was
+  keeping-like : (n kept : ℕ) (store store′ : List ℕ) → Keeping checks W n kept store
+      → ((bank t : ℕ) → firstBank < bank → bank < length banks → t < n → slot n bank store′ t ≡ slot n bank store t) → Keeping checks W n kept store′
+  keeping-like n kept store store′ z same = record {
+    below = z .below;
+    attested = λ t i.
+        let l = in-below n t kept (z .below) i in
+        rw (same keptValueBank t (omega arith) (kept-value-bank .0) l, same keptBank t (omega arith) (kept-bank .0) l) (z .attested t i);
+  }
+
+  -- the other banks are as they were
   holding-beside : (n seat guilty : ℕ) (r : Record) (signature store : List ℕ) → seat < n → storeLength n ≤ length store → length signature ≡ signatureLength
       → Holding checks W n (r .first) guilty store → Holding checks W n (r .first) guilty (fill n collectedBank seat signature store)
   holding-beside n seat guilty r signature store inside room sized z =
       holding-like n (r .first) guilty store (fill n collectedBank seat signature store) z
       (λ t l. slot-fill-other n collectedBank seat signature store (collected-bank .0) inside room (sized ∙ sym (collected-bank .1)) firstBank t (first-bank .0) l (λ q _. omega arith))
+
+  keeping-beside : (n seat kept : ℕ) (signature store : List ℕ) → seat < n → storeLength n ≤ length store → length signature ≡ signatureLength
+      → Keeping checks W n kept store → Keeping checks W n kept (fill n collectedBank seat signature store)
+  keeping-beside n seat kept signature store inside room sized z =
+      keeping-like n kept store (fill n collectedBank seat signature store) z
+      (λ bank t a b l. slot-fill-other n collectedBank seat signature store (collected-bank .0) inside room (sized ∙ sym (collected-bank .1)) bank t b l (λ q _. omega arith))
 
   module _ (seat : ℕ) (value signature : List ℕ) (s : State) (z : Sound checks W (s .unit) (s .store)) (room : Room s) where
     -- "the value is the own one and the seat is new, its signature is collected"
@@ -225,6 +240,7 @@ module _ (checks : Checks) (W : Relation) where
           heard = z .heard;
           first = holding-beside (r .n) seat (r .guilty) r signature (s .store) inside room (g .sized) (z .first);
           flags = record { full = λ e. absurd (true≢false (sym e ∙ unconfirmed)); confirmed = z .flags .confirmed };
+          kept = keeping-beside (r .n) seat (r .kept) signature (s .store) inside room (g .sized) (z .kept);
         })
         (fill-length (r .n) collectedBank seat signature (s .store) (collected-bank .0) inside room (g .sized ∙ sym (collected-bank .1)))
         (record { n = refl; seat = refl; round = refl; said = λ e. (e, refl); heard = λ v h. h; held = λ v h. h })
@@ -264,6 +280,7 @@ module _ (checks : Checks) (W : Relation) where
           heard = z .heard;
           first = holding-beside (r .n) (r .seat) (r .guilty) r signature (s .store) (z .range .seated) room (g .sized) (z .first);
           flags = record { full = λ e. absurd (let f = z .flags .full e in omega arith); confirmed = z .flags .confirmed };
+          kept = keeping-beside (r .n) (r .seat) (r .kept) signature (s .store) (z .range .seated) room (g .sized) (z .kept);
         })
         (fill-length (r .n) collectedBank (r .seat) signature (s .store) (collected-bank .0) (z .range .seated) room (g .sized ∙ sym (collected-bank .1)))
         (record { n = refl; seat = refl; round = refl; said = λ e. absurd (true≢false (sym e ∙ unsaid)); heard = λ v h. h; held = λ v h. h })
@@ -296,6 +313,7 @@ module _ (checks : Checks) (W : Relation) where
           heard = record { few = sound .0; unheard = sound .1 };
           first = z .first;
           flags = z .flags;
+          kept = z .kept;
         })
         refl
         (record {
@@ -361,6 +379,7 @@ module _ (checks : Checks) (W : Relation) where
           heard = z .heard;
           first = z .first;
           flags = record { full = z .flags .full; confirmed = λ e. parts .0 };
+          kept = z .kept;
         })
         refl
         (record { n = refl; seat = refl; round = refl; said = λ e. (e, refl); heard = λ v h. h; held = λ v h. h })
@@ -416,6 +435,8 @@ module _ (checks : Checks) (W : Relation) where
             unheld = λ e. absurd (certificate-some e);
           };
           flags = z .flags;
+          kept = keeping-like (r .n) (r .kept) (s .store) store (z .kept)
+              (λ bank t a b l. slot-fillEach-other (r .n) firstBank (c .signature) first-bank (seats (r .n) (c .seats)) (s .store) bank t certificate-fit room b l (λ u d q _. omega arith));
         })
         (fillEach-length (r .n) firstBank (c .signature) first-bank (seats (r .n) (c .seats)) (s .store) certificate-fit room)
         (record { n = refl; seat = refl; round = refl; said = λ e. (e, refl); heard = λ v h. h; held = λ v h. absurd (h .0 empty) })
@@ -453,6 +474,7 @@ module _ (checks : Checks) (W : Relation) where
             unheld = λ e. absurd (held e);
           };
           flags = z .flags;
+          kept = z .kept;
         })
         refl
         (record { n = refl; seat = refl; round = refl; said = λ e. (e, refl); heard = λ v h. h; held = λ v h. (held, ⊎-elim inl (λ g. absurd (g innocent)) (h .1)) })

@@ -22,7 +22,7 @@ use Rattle.protocol.specs.Entries.{formSeats}
 use Rattle.protocol.specs.EntriesLaws.{each-flat}
 use Rattle.protocol.specs.ConditionsLaws.{every-each, each-every}
 use Rattle.protocol.specs.Message.{Entry, Pair, PairValues, Message, Full, Evidence, fullForm, evidenceForm, Signed, signedEntry, signedPair, signed, roundOf, entrySeats, seatsOf}
-use Rattle.protocol.specs.Record.{fresh, wrongSeat, noneHeard, holds, outOfRange, wrongHeard, namesStranger, wrongCollected, wrongFirst, lacksFirst, wrongGuilty, wrongSent, wrongUnset, impossible, InRange}
+use Rattle.protocol.specs.Record.{fresh, wrongSeat, noneHeard, holds, outOfRange, wrongHeard, namesStranger, wrongCollected, wrongFirst, lacksFirst, wrongGuilty, wrongSent, wrongKept, wrongUnset, impossible, InRange}
 use Rattle.protocol.specs.Refusals.{Condition, Checks, every, said, otherRound, stranger, rising, disorder, badSignature, messageConditions}
 use Rattle.protocol.specs.Step.{owesFull}
 use Rattle.protocol.specs.declared.Record.{Record}
@@ -51,7 +51,7 @@ module _ (checks : Checks) (W : Relation) (r : Record) (store : List ℕ) (z : S
   no-stranger : namesStranger r ≡ false
   unfolding namesStranger
   no-stranger =
-      rw (outside-false (r .n) (r .own .collected) .1 (z .own .collection .below), outside-false (r .n) (r .first .seats) .1 (z .first .below), outside-false (r .n) (r .guilty) .1 (z .first .guiltyBelow))
+      rw (outside-false (r .n) (r .own .collected) .1 (z .own .collection .below), outside-false (r .n) (r .first .seats) .1 (z .first .below), outside-false (r .n) (r .guilty) .1 (z .first .guiltyBelow), outside-false (r .n) (r .kept) .1 (z .kept .below))
 
   collected-right : wrongCollected r ≡ false
   unfolding wrongCollected
@@ -85,6 +85,10 @@ module _ (checks : Checks) (W : Relation) (r : Record) (store : List ℕ) (z : S
   unfolding wrongSent
   sent-right = implied (r .sent) (r .confirmed) (z .flags .confirmed)
 
+  kept-right : wrongKept r ≡ false
+  unfolding wrongKept
+  kept-right = implied (r .own .submitted) (eqb (r .kept) 0) (λ q. eq-eqb (r .kept) 0 (e .emptied q))
+
   unset-right : wrongUnset r ≡ false
   unfolding wrongUnset noneHeard holds
   unset-right =
@@ -95,7 +99,7 @@ module _ (checks : Checks) (W : Relation) (r : Record) (store : List ℕ) (z : S
 
   pub possible : impossible r ≡ false
   unfolding impossible
-  possible = rw (in-range, heard-right, no-stranger, collected-right, first-right, first-there, guilty-right, sent-right, unset-right)
+  possible = rw (in-range, heard-right, no-stranger, collected-right, first-right, first-there, guilty-right, sent-right, kept-right, unset-right)
 
 -- ---- the invariant of the record with nothing set, with any store
 
@@ -119,6 +123,7 @@ fresh-sound checks W n seat round store range = record {
     unheld = λ e. (refl, refl);
   };
   flags = record { full = λ e. absurd (false≢true e); confirmed = λ e. absurd (false≢true e) };
+  kept = record { below = pow-pos n; attested = λ s i. absurd (omega (arith, bit-empty s)) };
 }
 
 pub fresh-settled : (n seat round : ℕ) → 1 ≤ n → Settled (fresh n seat round)
@@ -127,6 +132,7 @@ fresh-settled n seat round some = record {
   complete = λ e. absurd (omega (arith, size-empty, k-pos n some));
   holds = λ e. absurd (false≢true e);
   owes = refl;
+  emptied = λ e. refl;
 }
 
 -- ---- the signatures of a message, entry by entry
@@ -177,25 +183,23 @@ of-taken checks n round m t = (
   rw (each-every (λ (s : Signed). checks (s .seat) (s .value) (s .signature)) (signed m) (t .checked)),
 )
 
--- a message's rows, in any call's list: whether the call takes it, and whether it comes early
-module _ (checks : Checks) (n round : ℕ) (takes comes-early : Bool) (m : Message) (rest : List Condition) where
-  pub message-taken : firstOf (messageConditions checks n round takes comes-early m ++ rest) ≡ 0
-      → ((takes ≡ true) × Taken checks n round m × (comes-early ≡ false)) × (firstOf rest ≡ 0)
+-- a message's rows, in any call's list: whether the call takes it
+module _ (checks : Checks) (n round : ℕ) (takes : Bool) (m : Message) (rest : List Condition) where
+  pub message-taken : firstOf (messageConditions checks n round takes m ++ rest) ≡ 0 → ((takes ≡ true) × Taken checks n round m) × (firstOf rest ≡ 0)
   unfolding messageConditions
   message-taken e =
       let f = firstOf-zero 8 _ _ e in
       let g = firstOf-zero 9 _ _ (f .1) in
       let h = firstOf-zero 10 _ _ (g .1) in
       let i = firstOf-zero 11 _ _ (h .1) in
-      let j = firstOf-zero 12 _ _ (i .1) in
-      let l = firstOf-zero 13 _ _ (j .1) in
-      ((not-false takes (f .0), taken-of checks n round m (g .0) (h .0) (i .0) (l .0), j .0), l .1)
+      let j = firstOf-zero 13 _ _ (i .1) in
+      ((not-false takes (f .0), taken-of checks n round m (g .0) (h .0) (i .0) (j .0)), j .1)
 
-  pub message-passes : takes ≡ true → Taken checks n round m → comes-early ≡ false → firstOf (messageConditions checks n round takes comes-early m ++ rest) ≡ firstOf rest
+  pub message-passes : takes ≡ true → Taken checks n round m → firstOf (messageConditions checks n round takes m ++ rest) ≡ firstOf rest
   unfolding messageConditions firstOf
-  message-passes f t g =
+  message-passes f t =
       let h = of-taken checks n round m t in
-      rw (f, h .0, h .1, h .2, g, h .3)
+      rw (f, h .0, h .1, h .2, h .3)
 
 -- ---- facts that a message brings
 

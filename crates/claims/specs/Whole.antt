@@ -9,20 +9,21 @@ use native.Mathlib.Omega.{arith}
 use lib.Dec.{eqb}
 use lib.ListN.{length}
 use borrow.Author.Tests.{eqb-true, eqb-false, not-true, not-false}
-use Rattle.quorum.specs.Quorum.{k, size}
+use Rattle.quorum.specs.Quorum.{k, has, size}
 use Rattle.refusal.specs.RefusalLaws.{both-true}
 use Rattle.protocol.specs.Layout.{valueLength}
 use Rattle.protocol.specs.Message.{Entry, Message, Submit, Notice, Full, Evidence, Garbled}
 use Rattle.protocol.specs.Certificate.{Certificate, ownCertificate, certificateOf, certificateIn}
 use Rattle.protocol.specs.Record.{noneHeard, oneHeard, holds}
 use Rattle.protocol.specs.Refusals.{Checks, isFull, isEvidence}
-use Rattle.protocol.specs.Step.{State, write, collect, setOwnValue, submitOwn, isWanted, hearSubmit, hear, otherHeard, owesFull, sendFull, reply, hold, blame, blames, holdOrBlame, hearCertificate, isComplete, confirm, hearOwn, confirmIfComplete, submitted, stepped}
+use Rattle.protocol.specs.Step.{State, write, collect, setOwnValue, submitOwn, isWanted, collectIfWanted, keep, keepIfFirst, hearSubmit, collectKept, hear, otherHeard, owesFull, sendFull, reply, hold, blame, blames, holdOrBlame, hearCertificate, isComplete, confirm, hearOwn, confirmIfComplete, submitted, stepped}
 use Rattle.protocol.specs.declared.Record.{Record}
 use Rattle.round.specs.Round.{Relation}
 use Rattle.round.specs.Demand1.{Kind, SUBMIT, NOTICE, FULL, EVIDENCE, isOf, isSubmit, isNotice, worth}
 use Rattle.reading.specs.ListsLaws.{cond-elim, and-false-either}
 use Rattle.claims.specs.Sound.{flagOf, Heard, Held, Grows, Room, Settled, Attested, Certifies, Entries, Sound, Leads}
 use Rattle.claims.specs.CertificatesLaws.{certifies-of}
+use Rattle.claims.specs.KeptLaws.{keep-leads, collectKept-leads, collectKept-confirmed, collectKept-emptied}
 use Rattle.claims.specs.Parts.{k-pos, room-leads, leads-trans, leads-writing, leads-refl, collect-leads, submitOwn-leads, hear-leads, hear-heard, reply-leads, holdOrBlame-leads, holdOrBlame-held, own-certifies, collected-submitted, confirmed-submitted}
 
 -- ---- parts of a record that hearing leaves as they are
@@ -30,14 +31,15 @@ use Rattle.claims.specs.Parts.{k-pos, room-leads, leads-trans, leads-wri
 pub record Stays (r r′ : Record) : Type 0 where
   pub own : r′ .own ≡ r .own
   pub confirmed : r′ .confirmed ≡ r .confirmed
+  pub kept : r′ .kept ≡ r .kept
 
 stays-trans : (r r′ r″ : Record) → Stays r r′ → Stays r′ r″ → Stays r r″
-stays-trans r r′ r″ a b = record { own = b .own ∙ a .own; confirmed = b .confirmed ∙ a .confirmed }
+stays-trans r r′ r″ a b = record { own = b .own ∙ a .own; confirmed = b .confirmed ∙ a .confirmed; kept = b .kept ∙ a .kept }
 
 pub reply-stays : (s : State) → Stays (s .unit) (reply s .unit)
 unfolding reply sendFull write
 reply-stays s =
-    cond-elim (λ x. Stays (s .unit) (x .unit)) (owesFull (s .unit)) (sendFull s) s (λ e. record { own = refl; confirmed = refl }) (λ e. record { own = refl; confirmed = refl })
+    cond-elim (λ x. Stays (s .unit) (x .unit)) (owesFull (s .unit)) (sendFull s) s (λ e. record { own = refl; confirmed = refl; kept = refl }) (λ e. record { own = refl; confirmed = refl; kept = refl })
 
 -- the same, and whether FULL is owed
 pub record Quiet (r r′ : Record) : Type 0 where
@@ -48,10 +50,10 @@ holdOrBlame-quiet : (c : Certificate) (s : State) → Quiet (s .unit) (holdOrBla
 unfolding holdOrBlame hold blame write owesFull otherHeard noneHeard oneHeard
 holdOrBlame-quiet c s =
     let P : State → Type 0 = λ x. Quiet (s .unit) (x .unit) in
-    let still : Stays (s .unit) (s .unit) = record { own = refl; confirmed = refl } in
+    let still : Stays (s .unit) (s .unit) = record { own = refl; confirmed = refl; kept = refl } in
     cond-elim P (holds (s .unit)) (cond (blames c (s .unit)) (blame c s) s) (hold c s)
-    (λ h. cond-elim P (blames c (s .unit)) (blame c s) s (λ e. record { stays = record { own = refl; confirmed = refl }; owes = refl }) (λ e. record { stays = still; owes = refl }))
-    (λ h. record { stays = record { own = refl; confirmed = refl }; owes = refl })
+    (λ h. cond-elim P (blames c (s .unit)) (blame c s) s (λ e. record { stays = record { own = refl; confirmed = refl; kept = refl }; owes = refl }) (λ e. record { stays = still; owes = refl }))
+    (λ h. record { stays = record { own = refl; confirmed = refl; kept = refl }; owes = refl })
 
 -- no FULL is owed after a reply
 reply-owes : (s : State) → owesFull (reply s .unit) ≡ false
@@ -61,7 +63,7 @@ reply-owes s =
 
 hear-stays : (value : List ℕ) (s : State) → Stays (s .unit) (hear value s .unit)
 unfolding hear
-hear-stays value s = record { own = refl; confirmed = refl }
+hear-stays value s = record { own = refl; confirmed = refl; kept = refl }
 
 pub hearing-stays : (c : Certificate) (s : State) → Stays (s .unit) (hearCertificate c s .unit)
 unfolding hearCertificate
@@ -82,6 +84,19 @@ collect-held : (seat : ℕ) (signature : List ℕ) (s : State) → (s .unit .con
     → collect seat signature s .unit .confirmed ≡ true → Held (collect seat signature s .unit .own .value) (collect seat signature s .unit)
 unfolding collect
 collect-held seat signature s held e = held e
+
+collect-emptied : (seat : ℕ) (signature : List ℕ) (s : State) → (s .unit .own .submitted ≡ true → s .unit .kept ≡ 0) → collect seat signature s .unit .own .submitted ≡ true → collect seat signature s .unit .kept ≡ 0
+unfolding collect
+collect-emptied seat signature s emptied e = emptied e
+
+keep-held : (seat : ℕ) (value signature : List ℕ) (s : State) → (s .unit .confirmed ≡ true → Held (s .unit .own .value) (s .unit))
+    → keep seat value signature s .unit .confirmed ≡ true → Held (keep seat value signature s .unit .own .value) (keep seat value signature s .unit)
+unfolding keep
+keep-held seat value signature s held e = held e
+
+keep-said : (seat : ℕ) (value signature : List ℕ) (s : State) → keep seat value signature s .unit .own .submitted ≡ s .unit .own .submitted
+unfolding keep
+keep-said seat value signature s = refl
 
 module _ (checks : Checks) (W : Relation) where
   -- ---- a certificate heard
@@ -113,12 +128,14 @@ module _ (checks : Checks) (W : Relation) where
     pub leads : Leads checks W s s′
     pub settled : Settled (s′ .unit)
 
-  -- a record stays settled where own value, collected seats and confirmed stay
-  settled-stays : (r r′ : Record) → Grows r r′ → Stays r r′ → owesFull r′ ≡ false → (size (r .own .collected) ≡ k (r .n) → r .confirmed ≡ true) → (r .confirmed ≡ true → Held (r .own .value) r) → Settled r′
-  settled-stays r r′ g t owes complete held = record {
+  -- a record stays settled where own value, collected seats, confirmed and kept seats stay
+  settled-stays : (r r′ : Record) → Grows r r′ → Stays r r′ → owesFull r′ ≡ false → (size (r .own .collected) ≡ k (r .n) → r .confirmed ≡ true) → (r .confirmed ≡ true → Held (r .own .value) r)
+      → (r .own .submitted ≡ true → r .kept ≡ 0) → Settled r′
+  settled-stays r r′ g t owes complete held emptied = record {
     complete = λ e. t .confirmed ∙ complete (sym (ap (λ o. size (o .collected)) (t .own)) ∙ e ∙ ap k (g .n));
     holds = λ e. rw (t .own) (g .held (r .own .value) (held (sym (t .confirmed) ∙ e)));
     owes = owes;
+    emptied = λ e. t .kept ∙ emptied (sym (ap (λ o. o .submitted) (t .own)) ∙ e);
   }
 
   module _ (s : State) (z : Sound checks W (s .unit) (s .store)) (room : Room s) where
@@ -136,6 +153,7 @@ module _ (checks : Checks) (W : Relation) where
           heard = z .heard;
           first = z .first;
           flags = record { full = λ q. full; confirmed = λ q. refl };
+          kept = z .kept;
         })
         refl
         (record { n = refl; seat = refl; round = refl; said = λ q. (q, refl); heard = λ v h. h; held = λ v h. h })
@@ -162,9 +180,21 @@ module _ (checks : Checks) (W : Relation) where
     unfolding confirm write
     confirm-confirmed = refl
 
-    confirmed-done : isComplete (s .unit) ≡ true → Done s (hearOwn (confirm s))
+    confirm-kept : confirm s .unit .kept ≡ s .unit .kept
+    unfolding confirm write
+    confirm-kept = refl
+
+    confirm-said : confirm s .unit .own .submitted ≡ s .unit .own .submitted
+    unfolding confirm write
+    confirm-said = refl
+
+    -- "then the kept seats are empty" in the state that the call may confirm in
+    abbrev Emptied : Type 0
+    Emptied = s .unit .own .submitted ≡ true → s .unit .kept ≡ 0
+
+    confirmed-done : isComplete (s .unit) ≡ true → Emptied → Done s (hearOwn (confirm s))
     unfolding hearOwn ownCertificate
-    confirmed-done e =
+    confirmed-done e emptied =
         let t = confirm s in
         let c = ownCertificate (t .unit) (t .store) in
         let a = confirm-leads e in
@@ -174,63 +204,102 @@ module _ (checks : Checks) (W : Relation) where
         let stays = hearing-stays c t in
         record {
           leads = leads-trans checks W s t (hearOwn t) a b;
-          settled = record { complete = λ q. stays .confirmed ∙ confirm-confirmed; holds = λ q. rw (stays .own) (hearing-held c t (a .sound) roomy y); owes = hearing-owes c t };
+          settled = record {
+            complete = λ q. stays .confirmed ∙ confirm-confirmed;
+            holds = λ q. rw (stays .own) (hearing-held c t (a .sound) roomy y);
+            owes = hearing-owes c t;
+            emptied = λ q. stays .kept ∙ confirm-kept ∙ emptied (sym (ap (λ o. o .submitted) (stays .own) ∙ confirm-said) ∙ q);
+          };
         }
 
-    unconfirmed-done : isComplete (s .unit) ≡ false → (s .unit .confirmed ≡ true → Held (s .unit .own .value) (s .unit)) → Done s (reply s)
+    unconfirmed-done : isComplete (s .unit) ≡ false → (s .unit .confirmed ≡ true → Held (s .unit .own .value) (s .unit)) → Emptied → Done s (reply s)
     unfolding isComplete
-    unconfirmed-done e held =
+    unconfirmed-done e held emptied =
         let r = s .unit in
         let a = reply-leads checks W s z in
         let complete : size (r .own .collected) ≡ k (r .n) → r .confirmed ≡ true =
         λ q. ⊎-elim (not-false (r .confirmed)) (λ p. absurd (eqb-false (size (r .own .collected)) (k (r .n)) p q)) (and-false-either (not (r .confirmed)) (eqb (size (r .own .collected)) (k (r .n))) e) in
-        record { leads = a; settled = settled-stays r (reply s .unit) (a .grows) (reply-stays s) (reply-owes s) complete held }
+        record { leads = a; settled = settled-stays r (reply s .unit) (a .grows) (reply-stays s) (reply-owes s) complete held emptied }
 
-    confirmIfComplete-done : (s .unit .confirmed ≡ true → Held (s .unit .own .value) (s .unit)) → Done s (confirmIfComplete s)
+    confirmIfComplete-done : (s .unit .confirmed ≡ true → Held (s .unit .own .value) (s .unit)) → Emptied → Done s (confirmIfComplete s)
     unfolding confirmIfComplete
-    confirmIfComplete-done held =
-        cond-elim (Done s) (isComplete (s .unit)) (hearOwn (confirm s)) (reply s) confirmed-done (λ e. unconfirmed-done e held)
+    confirmIfComplete-done held emptied =
+        cond-elim (Done s) (isComplete (s .unit)) (hearOwn (confirm s)) (reply s) (λ e. confirmed-done e emptied) (λ e. unconfirmed-done e held emptied)
 
   -- ---- submit and step
 
   module _ (value signature : List ℕ) (s : State) (z : Sound checks W (s .unit) (s .store)) (room : Room s) (unsaid : s .unit .own .submitted ≡ false) (sized : length value ≡ valueLength) (g : Attested checks W (s .unit .seat) value signature) where
-    own-leads : Leads checks W s (submitOwn value signature s)
+    abbrev own : State
+    own = submitOwn value signature s
+
+    submitOwn-said : (own .unit .own .submitted ≡ true) × (own .unit .own .value ≡ value)
+    unfolding submitOwn write collect setOwnValue
+    submitOwn-said = (refl, refl)
+
+    own-leads : Leads checks W s own
     own-leads = submitOwn-leads checks W value signature s z room unsaid sized g
 
-    unconfirmed : submitOwn value signature s .unit .confirmed ≡ true → ⊥
-    unconfirmed q = true≢false (sym (confirmed-submitted checks W (s .unit) (s .store) z (sym (submitOwn-confirmed value signature s) ∙ q)) ∙ unsaid)
+    taken-up-leads : Leads checks W own (collectKept own)
+    taken-up-leads = collectKept-leads checks W own (own-leads .sound) (room-leads checks W s own own-leads room) (submitOwn-said .0)
 
-    own-done : Done (submitOwn value signature s) (submitted value signature s)
+    all-leads : Leads checks W s (collectKept own)
+    all-leads = leads-trans checks W s own (collectKept own) own-leads taken-up-leads
+
+    unconfirmed : collectKept own .unit .confirmed ≡ true → ⊥
+    unconfirmed q =
+        true≢false (sym (confirmed-submitted checks W (s .unit) (s .store) z (sym (collectKept-confirmed own ∙ submitOwn-confirmed value signature s) ∙ q)) ∙ unsaid)
+
+    all-done : Done (collectKept own) (submitted value signature s)
     unfolding submitted
-    own-done = confirmIfComplete-done (submitOwn value signature s) (own-leads .sound) (room-leads checks W s (submitOwn value signature s) own-leads room) (λ q. absurd (unconfirmed q))
+    all-done = confirmIfComplete-done (collectKept own) (all-leads .sound) (room-leads checks W s (collectKept own) all-leads room) (λ q. absurd (unconfirmed q)) (λ q. collectKept-emptied own)
 
     pub submitted-done : Done s (submitted value signature s)
     submitted-done =
-        record { leads = leads-trans checks W s (submitOwn value signature s) (submitted value signature s) own-leads (own-done .leads); settled = own-done .settled }
+        record { leads = leads-trans checks W s (collectKept own) (submitted value signature s) all-leads (all-done .leads); settled = all-done .settled }
 
     -- "the value kept"
     pub submitted-value : (submitted value signature s .unit .own .submitted ≡ true) × (submitted value signature s .unit .own .value ≡ value)
-    unfolding submitOwn write collect setOwnValue
-    submitted-value = own-done .leads .grows .said refl
+    submitted-value =
+        let still = leads-trans checks W own (collectKept own) (submitted value signature s) taken-up-leads (all-done .leads) .grows .said (submitOwn-said .0) in
+        (still .0, still .1 ∙ submitOwn-said .1)
 
   -- facts about a message that a step doesn't refuse
   abbrev pub Brings : Record → Message → Type 0
-  Brings r (Submit ρ seat value signature) = (r .own .submitted ≡ true) × (seat < r .n) × Attested checks W seat value signature
+  Brings r (Submit ρ seat value signature) = (seat < r .n) × (length value ≡ valueLength) × Attested checks W seat value signature
   Brings r (Notice ρ seat value) = Unit {0}
   Brings r (Full ρ sender value entries) = Entries checks W (r .n) value entries
   Brings r (Evidence ρ values entries) = Unit {0}
   Brings r Garbled = Unit {0}
 
   module _ (s : State) (z : Sound checks W (s .unit) (s .store)) (room : Room s) (e : Settled (s .unit)) where
-    hearSubmit-done : (seat : ℕ) (value signature : List ℕ) → s .unit .own .submitted ≡ true → seat < s .unit .n → Attested checks W seat value signature → Done s (confirmIfComplete (hearSubmit seat value signature s))
-    unfolding hearSubmit
-    hearSubmit-done seat value signature submitted inside g =
+    -- a SUBMIT heard after the own submit
+    wanted-done : (seat : ℕ) (value signature : List ℕ) → s .unit .own .submitted ≡ true → seat < s .unit .n → Attested checks W seat value signature → Done s (confirmIfComplete (collectIfWanted seat value signature s))
+    unfolding collectIfWanted
+    wanted-done seat value signature submitted inside g =
         cond-elim (λ x. Done s (confirmIfComplete x)) (isWanted seat value (s .unit)) (collect seat signature s) s
         (λ w.
         let a = collect-leads checks W seat value signature s z room w submitted (e .complete) inside g in
-        let b = confirmIfComplete-done (collect seat signature s) (a .sound) (room-leads checks W s (collect seat signature s) a room) (collect-held seat signature s (e .holds)) in
+        let b = confirmIfComplete-done (collect seat signature s) (a .sound) (room-leads checks W s (collect seat signature s) a room) (collect-held seat signature s (e .holds)) (collect-emptied seat signature s (e .emptied)) in
         record { leads = leads-trans checks W s (collect seat signature s) (confirmIfComplete (collect seat signature s)) a (b .leads); settled = b .settled })
-        (λ w. confirmIfComplete-done s z room (e .holds))
+        (λ w. confirmIfComplete-done s z room (e .holds) (e .emptied))
+
+    -- and one heard before it
+    early-done : (seat : ℕ) (value signature : List ℕ) → s .unit .own .submitted ≡ false → seat < s .unit .n → length value ≡ valueLength → Attested checks W seat value signature
+        → Done s (confirmIfComplete (keepIfFirst seat value signature s))
+    unfolding keepIfFirst
+    early-done seat value signature unsaid inside sized g =
+        cond-elim (λ x. Done s (confirmIfComplete x)) (has seat (s .unit .kept)) s (keep seat value signature s)
+        (λ h. confirmIfComplete-done s z room (e .holds) (e .emptied))
+        (λ h.
+        let a = keep-leads checks W seat value signature s z room inside sized g in
+        let b = confirmIfComplete-done (keep seat value signature s) (a .sound) (room-leads checks W s (keep seat value signature s) a room) (keep-held seat value signature s (e .holds)) (λ q. absurd (true≢false (sym q ∙ keep-said seat value signature s ∙ unsaid))) in
+        record { leads = leads-trans checks W s (keep seat value signature s) (confirmIfComplete (keep seat value signature s)) a (b .leads); settled = b .settled })
+
+    hearSubmit-done : (seat : ℕ) (value signature : List ℕ) → seat < s .unit .n → length value ≡ valueLength → Attested checks W seat value signature → Done s (confirmIfComplete (hearSubmit seat value signature s))
+    unfolding hearSubmit
+    hearSubmit-done seat value signature inside sized g =
+        cond-elim (λ x. Done s (confirmIfComplete x)) (s .unit .own .submitted) (collectIfWanted seat value signature s) (keepIfFirst seat value signature s)
+        (λ q. wanted-done seat value signature q inside g) (λ q. early-done seat value signature q inside sized g)
 
     pub stepped-done : (m : Message) → Brings (s .unit) m → Done s (stepped m s)
     unfolding stepped certificateIn
@@ -242,12 +311,12 @@ module _ (checks : Checks) (W : Relation) where
         let c = leads-trans checks W s (hear value s) t a b in
         record {
           leads = c;
-          settled = settled-stays (s .unit) (t .unit) (c .grows) (stays-trans (s .unit) (hear value s .unit) (t .unit) (hear-stays value s) (reply-stays (hear value s))) (reply-owes (hear value s)) (e .complete) (e .holds);
+          settled = settled-stays (s .unit) (t .unit) (c .grows) (stays-trans (s .unit) (hear value s .unit) (t .unit) (hear-stays value s) (reply-stays (hear value s))) (reply-owes (hear value s)) (e .complete) (e .holds) (e .emptied);
         }
     stepped-done (Full ρ sender value entries) w =
         let c = certificateIn (Full ρ sender value entries) in
         let a = hearing-leads c s z room (certifies-of checks W (s .unit .n) value entries w) in
-        record { leads = a; settled = settled-stays (s .unit) (hearCertificate c s .unit) (a .grows) (hearing-stays c s) (hearing-owes c s) (e .complete) (e .holds) }
+        record { leads = a; settled = settled-stays (s .unit) (hearCertificate c s .unit) (a .grows) (hearing-stays c s) (hearing-owes c s) (e .complete) (e .holds) (e .emptied) }
     stepped-done (Evidence ρ values entries) w = record { leads = leads-refl checks W s z; settled = e }
     stepped-done Garbled w = record { leads = leads-refl checks W s z; settled = e }
 

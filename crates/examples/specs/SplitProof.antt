@@ -20,7 +20,7 @@ use Rattle.protocol.specs.Message.{Entry, Message, Submit, Notice, Full, Eviden
 use Rattle.protocol.specs.MessageLaws.{read-render}
 use Rattle.protocol.specs.CertificateLaws.{in-set, set-seats}
 use Rattle.protocol.specs.Certificate.{setOf, ownCertificate, certificateOf, certificateIn, entryOf, entriesOf, fullOf, conflictOf}
-use Rattle.protocol.specs.Refusals.{isForStep, isFull, isEvidence, rising, early, stepConditions}
+use Rattle.protocol.specs.Refusals.{isForStep, isFull, isEvidence, rising, stepConditions}
 use Rattle.protocol.specs.Step.{State, write, collect, isWanted, hearSubmit, reply, isComplete, confirm, hearOwn, confirmIfComplete, submitted, stepped}
 use Rattle.protocol.specs.Calls.{Result, resultBy, start, submit, step, makingBy, making}
 use Rattle.protocol.specs.declared.Record.{Record}
@@ -90,15 +90,6 @@ notice-cases Q (Notice ρ seat value) e f = f ρ seat value
 notice-cases Q (Full ρ sender value es) e f = absurd (false≢true e)
 notice-cases Q (Evidence ρ values ps) e f = absurd (false≢true e)
 notice-cases Q Garbled e f = absurd (false≢true e)
-
--- after the own submit nothing is early
-said-timely : (r : Record) (m : Message) → r .own .submitted ≡ true → early r m ≡ false
-unfolding early
-said-timely r (Submit ρ seat value signature) e = rw e
-said-timely r (Notice ρ seat value) e = refl
-said-timely r (Full ρ sender value es) e = refl
-said-timely r (Evidence ρ values ps) e = refl
-said-timely r Garbled e = refl
 
 -- own value and collected seats stay at confirming
 confirm-own : (s : State) → confirmIfComplete s .unit .own ≡ s .unit .own
@@ -295,7 +286,7 @@ module _ (S : Setting) {I : Type 0} (P : Plan I) (z : Splits S P) where
       unrefused-here =
           message-not-refused checks keys r s out m
           (record { possible = possible checks W r s (y .sound) (y .settled); table = rw (y .size-is) (z .table); storeRoom = rw (y .size-is) (y .room); outRoom = rw (y .size-is) (z .outRoom) })
-          (rw (y .size-is) (x .formed)) (x .forStep) (subst₂ (λ a b. Taken checks a b m) (sym (y .size-is)) (sym (y .round-is)) (x .taken)) (said-timely r m (y .submitted))
+          (rw (y .size-is) (x .formed)) (x .forStep) (subst₂ (λ a b. Taken checks a b m) (sym (y .size-is)) (sym (y .round-is)) (x .taken))
 
       passes : refusalOf S (given S P m) r s ≡ 0
       passes = step-is S (given S P m) (render m) out r s (given-step m) .0 ∙ unrefused-here

@@ -5,7 +5,7 @@ use mathlib.Core.Path.{_≡_, refl}
 use mathlib.Core.Bool.{true, false}
 use Rattle.claims.specs.Once.{at-most-one, none-impossible}
 use Rattle.trials.specs.Trial.{claimOf, answer}
-use Rattle.trials.specs.Trials.{unfoldedTrials, four, answering, sharing, dividedBoats, forewarnedBoats, witnessedBoats, shortStoredBoats, shortOutedBoats, unheardBoats, unsignedBoats, twiceBoats, holdingBoats, unsignedEvidence, equalEvidence, answeringBoat, sharingBoat}
+use Rattle.trials.specs.Trials.{unfoldedTrials, four, answering, sharing, slow, dividedBoats, forewarnedBoats, witnessedBoats, shortStoredBoats, shortOutedBoats, unheardBoats, unsignedBoats, twiceBoats, holdingBoats, keptOtherBoats, keptUnsignedBoats, unsignedEvidence, equalEvidence, answeringBoat, sharingBoat, slowBoat}
 
 divided : answer dividedBoats ≡ (true, true)
 unfolding unfoldedTrials dividedBoats
@@ -43,6 +43,14 @@ holding : answer holdingBoats ≡ (true, true)
 unfolding unfoldedTrials holdingBoats
 holding = refl
 
+kept-other : answer keptOtherBoats ≡ (true, true)
+unfolding unfoldedTrials keptOtherBoats
+kept-other = refl
+
+kept-unsigned : answer keptUnsignedBoats ≡ (true, true)
+unfolding unfoldedTrials keptUnsignedBoats
+kept-unsigned = refl
+
 unsigned-evidence : answer unsignedEvidence ≡ (true, true)
 unfolding unfoldedTrials unsignedEvidence
 unsigned-evidence = refl
@@ -59,9 +67,16 @@ possible : answer sharingBoat ≡ (true, true)
 unfolding unfoldedTrials sharingBoat
 possible = refl
 
+possible-slow : answer slowBoat ≡ (true, true)
+unfolding unfoldedTrials slowBoat
+possible-slow = refl
+
 -- demand 1's claims, for the boats of their trials
 once-claimed : claimOf answeringBoat
 once-claimed = at-most-one four answering
 
 possible-claimed : claimOf sharingBoat
 possible-claimed = none-impossible four sharing
+
+slow-claimed : claimOf slowBoat
+slow-claimed = none-impossible four slow

@@ -129,7 +129,7 @@ witnessedBoats = accountability four three witnessed Zeroth First (layout 7) (la
 
 -- a third boat's store is a byte short
 abbrev pub shortStored : Three → Honest
-shortStored = ofThree (divided false) (divided true) (record { seat = 2; store = replicate 11615 1; calls = map hears (sentBy seven ++ sentBy nine); inHand = [] })
+shortStored = ofThree (divided false) (divided true) (record { seat = 2; store = replicate 17551 1; calls = map hears (sentBy seven ++ sentBy nine); inHand = [] })
 
 unfoldable pub shortStoredBoats : Trial (Family four shortStored → Demand3 four shortStored)
 shortStoredBoats = accountability four three shortStored Zeroth First (layout 7) (layout 9)
@@ -189,6 +189,23 @@ holding = ofTwo (boatAt 0 (hears (fullBy 9 1 2 3) ∷ says 0 7 ∷ hears (submit
 unfoldable pub holdingBoats : Trial (Family four holding → Demand3 four holding)
 holdingBoats = safety four two holding []
 
+-- seat 0 submits the layout 9; seat 1 hears a SUBMIT of seat 0, submits the layout 7 with seat 2, and hears a certificate of the layout 9
+abbrev pub keptBefore : Message → Bool → Honest
+keptBefore m = ofTwo (boatAt 0 (says 0 9 ∷ [])) (boatAt 1 (hears m ∷ hears (submitBy 2 7) ∷ says 1 7 ∷ hears (fullBy 9 0 2 3) ∷ []))
+
+-- seat 0's own SUBMIT, and one of the layout 7 with its signature, which doesn't check there
+abbrev pub keptOther : Bool → Honest
+keptOther = keptBefore (submitBy 0 9)
+
+abbrev pub keptUnsigned : Bool → Honest
+keptUnsigned = keptBefore (Submit 5 0 (layout 7) (sign 0 9))
+
+unfoldable pub keptOtherBoats : Trial (Family four keptOther → Demand3 four keptOther)
+keptOtherBoats = safety four two keptOther []
+
+unfoldable pub keptUnsignedBoats : Trial (Family four keptUnsigned → Demand3 four keptUnsigned)
+keptUnsignedBoats = safety four two keptUnsigned []
+
 -- seat 1 hears seat 0's SUBMIT, and one of another layout with the same signature; evidence of both layouts, and of one layout twice
 abbrev pub heardTwice : Bool → Honest
 heardTwice = ofTwo (boatAt 0 (says 0 7 ∷ [])) (boatAt 1 (hears (submitBy 0 7) ∷ hears (Submit 5 0 (layout 9) (sign 0 7)) ∷ []))
@@ -217,6 +234,13 @@ sharing = boatAt 0 (hears (fullBy 7 0 1 2) ∷ hears (fullBy 9 1 2 3) ∷ [])
 
 unfoldable pub sharingBoat : Trial (IsOpened four sharing → (c : Called) → List·Memᴰ c (listOf four sharing) → impossible (resultOf four c .unit) ≡ false)
 sharingBoat = possibleEach four sharing
+
+-- a boat hears a SUBMIT of every other seat before its submit
+abbrev pub slow : Honest
+slow = boatAt 0 (hears (submitBy 1 7) ∷ hears (submitBy 2 7) ∷ hears (submitBy 3 7) ∷ says 0 7 ∷ [])
+
+unfoldable pub slowBoat : Trial (IsOpened four slow → (c : Called) → List·Memᴰ c (listOf four slow) → impossible (resultOf four c .unit) ≡ false)
+slowBoat = possibleEach four slow
 
 -- a name that unfolds every definition of a run
 unfoldable pub unfoldedTrials : Bool
