@@ -217,19 +217,19 @@ first-none s (x ∷ es) h = go (eqb (x .seat) s) refl h (λ p. first-none s es p
     go false q p rest = bit-with-other s (x .seat) (earlySeats es) (λ e. eqb-false (x .seat) s q (sym e)) ∙ rest p
 
 -- with one more, the first of a seat is as before, or that one is the first
-pub first-more : (s : ℕ) (es : List Signed) (e a : Signed) → firstFrom s (es ++ e ∷ []) ≡ some a → (firstFrom s es ≡ some a) ⊎ ((firstFrom s es ≡ none) × (e .seat ≡ s) × (a ≡ e))
+abbrev More : ℕ → Signed → Signed → Option Signed → Type 0
+More s e a o = (o ≡ some a) ⊎ ((o ≡ none) × (e .seat ≡ s) × (a ≡ e))
+
+pub first-more : (s : ℕ) (es : List Signed) (e a : Signed) → firstFrom s (es ++ e ∷ []) ≡ some a → More s e a (firstFrom s es)
 unfolding firstFrom
 first-more s [] e a h = go (eqb (e .seat) s) refl h
   where
-    go : (b : Bool) → eqb (e .seat) s ≡ b → cond b (some e) none ≡ some a → (firstFrom s [] ≡ some a) ⊎ ((firstFrom s [] ≡ none) × (e .seat ≡ s) × (a ≡ e))
+    go : (b : Bool) → eqb (e .seat) s ≡ b → cond b (some e) none ≡ some a → More s e a none
     go true q p = let is : a ≡ e = cc in inr (refl, eqb-true (e .seat) s q, is)
     go false q p = absurd (some-none a none p refl)
 first-more s (x ∷ es) e a h = go (eqb (x .seat) s) h (λ p. first-more s es e a p)
   where
-    abbrev More : Option Signed → Type 0
-    More o = (o ≡ some a) ⊎ ((o ≡ none) × (e .seat ≡ s) × (a ≡ e))
-
-    go : (b : Bool) → cond b (some x) (firstFrom s (es ++ e ∷ [])) ≡ some a → (firstFrom s (es ++ e ∷ []) ≡ some a → More (firstFrom s es)) → More (cond b (some x) (firstFrom s es))
+    go : (b : Bool) → cond b (some x) (firstFrom s (es ++ e ∷ [])) ≡ some a → (firstFrom s (es ++ e ∷ []) ≡ some a → More s e a (firstFrom s es)) → More s e a (cond b (some x) (firstFrom s es))
     go true p rest = inl p
     go false p rest = rest p
 

@@ -75,7 +75,7 @@ other-heard-is (v ∷ vs) r e d = rw (e, conflict-head valueOfNotice v vs) (go (
 
 -- ---- the first of a list
 
-taken-below : (n : ℕ) (es : List Entry) → Each (λ (e : Entry). e .seat < n) es → seatsIn (take (k n) es) < 2 ^ n
+pub taken-below : (n : ℕ) (es : List Entry) → Each (λ (e : Entry). e .seat < n) es → seatsIn (take (k n) es) < 2 ^ n
 taken-below n es h = seats-below n (take (k n) es) (each-take (λ (e : Entry). e .seat < n) (k n) es h)
 
 pub first-below : (n : ℕ) (obtained : List FullCertificate) → Each (Quorum n) obtained → heldFirst obtained .seats < 2 ^ n
