@@ -15,8 +15,8 @@ use Rattle.quorum.specs.QuorumLaws.{bit-empty, has-true, size-empty}
 use Rattle.refusal.specs.Refusal.{firstOf, unrefused}
 use Rattle.protocol.specs.Layout.{signatureLength, collectedBank, firstBank}
 use Rattle.protocol.specs.Entries.{formSeats}
-use Rattle.protocol.specs.Message.{Entry, Message, Submit, Notice, Full, Evidence, Garbled, fullForm, read, entrySeats, seatsOf}
-use Rattle.protocol.specs.Certificate.{slot, signatureOf}
+use Rattle.protocol.specs.Message.{Entry, Signed, Message, Submit, Notice, Full, Evidence, Garbled, fullForm, read, entrySeats, seatsOf}
+use Rattle.protocol.specs.Certificate.{slot, setOf, signatureOf}
 use Rattle.protocol.specs.Record.{fresh}
 use Rattle.protocol.specs.Refusals.{stepConditions}
 use Rattle.protocol.specs.Step.{State, stepped}
@@ -24,7 +24,7 @@ use Rattle.protocol.specs.Calls.{Result, resultBy}
 use Rattle.protocol.specs.declared.Record.{Record}
 use Rattle.round.specs.Round.{Setting, Each, Call, BySubmit, ByStep, ByThinEntry, Called, outcome, resultOf, listFrom, writtenIn, Are, StandsIn}
 use Rattle.reading.specs.ListsLaws.{cond-elim, or-true-either, each-nil, each-append}
-use Rattle.claims.specs.Sound.{Any}
+use Rattle.claims.specs.Sound.{Any, Attested}
 use Rattle.claims.specs.Parts.{k-pos}
 use Rattle.reading.specs.Reading.{Sized}
 use Rattle.reading.specs.ReadingLaws.{read-sized}
@@ -32,8 +32,8 @@ use Rattle.claims.specs.UnrefusedLaws.{Taken}
 use Rattle.claims.specs.NotRefused.{submit-fit, step-fit, brings}
 use Rattle.reading.specs.Messages.{refusalOf, cameTo, messages}
 use Rattle.reading.specs.MessagesLaws.{outcome-is}
-use Rattle.paper.specs.Machine.{FullCertificate, Machine, init, Event, Submitted, SubmitDelivered, NoticeDelivered, FullDelivered, Action, Reaction, isSome, ownValue, distinct, conflict, uponEvent, react, Says}
-use Rattle.paper.specs.Memory.{seatsIn, noticesOf, heldFirst, guiltyOf, recordOf, firstEntries, Recorded}
+use Rattle.paper.specs.Machine.{FullCertificate, Machine, init, Event, Submitted, SubmitDelivered, NoticeDelivered, FullDelivered, Action, Reaction, isSome, ownValue, firstFrom, distinct, conflict, uponEvent, react, Says}
+use Rattle.paper.specs.Memory.{seatsIn, earlySeats, keptOf, noticesOf, heldFirst, guiltyOf, recordOf, firstEntries, Recorded}
 use Rattle.paper.specs.Events.{delivered, isDelivered, eventOf, reactTo, reaction, DoesAs, actionsOver, TakenIn}
 use Rattle.paper.specs.ConflictsLaws.{some-none}
 use Rattle.paper.specs.EntriesLaws.{seats-none, from-seats, from-member, signature-is, distinct-take}
@@ -41,7 +41,7 @@ use Rattle.paper.specs.Spoken.{spoken, Formed, FormedAction, each-says, 
 use Rattle.paper.specs.Received.{Obtained}
 use Rattle.paper.specs.Based.{BasedOn, Sent, Good, react-good}
 use Rattle.paper.specs.Rules.{AtRest, rules-rest}
-use Rattle.paper.specs.Discards.{refused-early, refused-signature, early-discarded, unsigned-discarded}
+use Rattle.paper.specs.Discards.{refused-signature, unsigned-discarded}
 use Rattle.paper.specs.Mirror.{Quorum, Mirrors}
 use Rattle.paper.specs.Parts.{at, Comes}
 use Rattle.paper.specs.Calls.{none-is, submit-is, step-is}
@@ -62,8 +62,8 @@ module _ (S : Setting) (seat : ℕ) (some-seats : 1 ≤ S .n) (inside : seat < S
   unfolding reactTo
   none-quiet m = refl
 
-  step-comes : (bytes out : List ℕ) (m : Machine) (store : List ℕ) → Mirrors n store m → firstOf (stepConditions checks keys (recordOf n seat round m) store (read n bytes) out) ≡ 0
-      → Comes n seat round (stepped (read n bytes) (at n seat round (record { machine = m; actions = [] }) store)) (reactTo checks n seat (delivered (read n bytes)) m)
+  step-comes : (bytes out : List ℕ) (m : Machine) (store : List ℕ) → Mirrors checks n store m → firstOf (stepConditions checks keys (recordOf n seat round m) store (read n bytes) out) ≡ 0
+      → Comes n seat round checks (stepped (read n bytes) (at n seat round (record { machine = m; actions = [] }) store)) (reactTo checks n seat (delivered (read n bytes)) m)
   unfolding recordOf
   step-comes bytes out m store z q =
       let r = recordOf n seat round m in
@@ -71,8 +71,8 @@ module _ (S : Setting) (seat : ℕ) (some-seats : 1 ≤ S .n) (inside : seat < S
       let t = step-fit checks keys r store bytes out q in
       step-is n seat round checks keys m store msg some-seats (t .lent .storeRoom) z (brings checks keys r store bytes out Any t (λ s d. tt))
 
-  comes : (c : Call) (m : Machine) (store : List ℕ) → Mirrors n store m → refusalOf S c (recordOf n seat round m) store ≡ 0
-      → Comes n seat round (cameTo c (recordOf n seat round m) store) (reactTo checks n seat (eventOf n 0 c) m)
+  comes : (c : Call) (m : Machine) (store : List ℕ) → Mirrors checks n store m → refusalOf S c (recordOf n seat round m) store ≡ 0
+      → Comes n seat round checks (cameTo c (recordOf n seat round m) store) (reactTo checks n seat (eventOf n 0 c) m)
   unfolding refusalOf cameTo eventOf isDelivered unrefused reactTo react uponEvent recordOf
   comes (BySubmit value signature out) m store z q =
       let t = submit-fit checks keys (recordOf n seat round m) store value signature out q in
@@ -88,11 +88,11 @@ module _ (S : Setting) (seat : ℕ) (some-seats : 1 ≤ S .n) (inside : seat < S
   step-quiet bytes out m store rest refusal d q =
       let r = recordOf n seat round m in
       let msg = read n bytes in
-      cond-elim (λ o. reactTo checks n seat o m ≡ record { machine = m; actions = [] }) (eqb refusal 0 || eqb refusal 13 || eqb refusal 14) (delivered msg) none
+      cond-elim (λ o. reactTo checks n seat o m ≡ record { machine = m; actions = [] }) (eqb refusal 0 || eqb refusal 14) (delivered msg) none
       (λ e. ⊎-elim
-      (λ f. ⊎-elim (λ g. absurd (d (eqb-true refusal 0 g))) (λ g. early-discarded checks n round keys seat m rest msg (refused-early checks keys r store msg out (q ∙ eqb-true refusal 13 g))) (or-true-either (eqb refusal 0) (eqb refusal 13) f))
+      (λ f. absurd (d (eqb-true refusal 0 f)))
       (λ f. unsigned-discarded checks n round keys seat m rest msg (refused-signature checks keys r store msg out (q ∙ eqb-true refusal 14 f)))
-      (or-true-either (eqb refusal 0 || eqb refusal 13) (eqb refusal 14) e))
+      (or-true-either (eqb refusal 0) (eqb refusal 14) e))
       (λ e. none-quiet m)
 
   quiet : (c : Call) (m : Machine) (store : List ℕ) → AtRest n m → (refusal : ℕ) → refusal ≢ 0 → refusalOf S c (recordOf n seat round m) store ≡ refusal
@@ -108,9 +108,9 @@ module _ (S : Setting) (seat : ℕ) (some-seats : 1 ≤ S .n) (inside : seat < S
   pub record Meets (r : Record) (store : List ℕ) (ms : List Message) (x : Reaction) : Type 0 where
     pub unit : r ≡ recordOf n seat round (x .machine)
     pub messages : ms ≡ map (spoken n round seat) (x .actions)
-    pub mirrors : Mirrors n store (x .machine)
+    pub mirrors : Mirrors checks n store (x .machine)
 
-  meets-by : (refusal : ℕ) (s : State) (m : Machine) (store : List ℕ) (x : Reaction) → Mirrors n store m → (refusal ≡ 0 → Comes n seat round s x) → (refusal ≢ 0 → x ≡ record { machine = m; actions = [] })
+  meets-by : (refusal : ℕ) (s : State) (m : Machine) (store : List ℕ) (x : Reaction) → Mirrors checks n store m → (refusal ≡ 0 → Comes n seat round checks s x) → (refusal ≢ 0 → x ≡ record { machine = m; actions = [] })
       → Meets (resultBy refusal s (recordOf n seat round m) store .unit) (resultBy refusal s (recordOf n seat round m) store .store) (unrefused refusal (s .written) []) x
   unfolding resultBy unrefused
   meets-by zero s m store x z came stayed =
@@ -118,12 +118,12 @@ module _ (S : Setting) (seat : ℕ) (some-seats : 1 ≤ S .n) (inside : seat < S
       record {
         unit = ap (λ (y : State). y .unit) (a .is);
         messages = ap (λ (y : State). y .written) (a .is);
-        mirrors = subst (λ (y : State). Mirrors n (y .store) (x .machine)) (sym (a .is)) (a .mirrors);
+        mirrors = subst (λ (y : State). Mirrors checks n (y .store) (x .machine)) (sym (a .is)) (a .mirrors);
       }
   meets-by (suc refusal) s m store x z came stayed =
       subst (Meets (recordOf n seat round m) store []) (sym (stayed (λ q. omega arith))) (record { unit = refl; messages = refl; mirrors = z })
 
-  meets : (c : Call) (m : Machine) (store : List ℕ) → Mirrors n store m → AtRest n m
+  meets : (c : Call) (m : Machine) (store : List ℕ) → Mirrors checks n store m → AtRest n m
       → let t : Called = record { given = c; unit = recordOf n seat round m; store = store } in
       Meets (resultOf S t .unit) (resultOf S t .store) (messages S t) (reaction S seat t m)
   unfolding reaction resultBy
@@ -133,7 +133,7 @@ module _ (S : Setting) (seat : ℕ) (some-seats : 1 ≤ S .n) (inside : seat < S
       let is = outcome-is S c r store in
       rw is
       (meets-by refusal (cameTo c r store) m store (reactTo checks n seat (eventOf n refusal c) m) z
-      (λ q. subst (λ (i : ℕ). Comes n seat round (cameTo c r store) (reactTo checks n seat (eventOf n i c) m)) (sym q) (comes c m store z q))
+      (λ q. subst (λ (i : ℕ). Comes n seat round checks (cameTo c r store) (reactTo checks n seat (eventOf n i c) m)) (sym q) (comes c m store z q))
       (λ d. quiet c m store rest refusal d refl))
 
   reaction-rest : (o : Option Event) (m : Machine) → AtRest n m → AtRest n (reactTo checks n seat o m .machine)
@@ -193,12 +193,13 @@ module _ (S : Setting) (seat : ℕ) (some-seats : 1 ≤ S .n) (inside : seat < S
 
     -- ---- record and store
 
-    recorded : (m : Machine) (r : Record) (store : List ℕ) → r ≡ recordOf n seat round m → Mirrors n store m → Has m → Recorded n seat round m r store
+    recorded : (m : Machine) (r : Record) (store : List ℕ) → r ≡ recordOf n seat round m → Mirrors checks n store m → Has m → Recorded n seat round m r store
     unfolding heldFirst firstEntries
     recorded m r store e z b = record {
       unit = e;
       collected = slots (slot n collectedBank store) (take (k n) (m .collected)) (distinct-take (k n) (m .collected) (b .collection .apart)) (z .stored .own);
       first = firsts (m .obtained) (b .certified) (z .stored .first);
+      kept = z .keeping .stored;
     }
       where
         slots : (f : ℕ → List ℕ) (es : List Entry) → distinct es ≡ true → ((s : ℕ) → In s (seatsIn es) → f s ≡ signatureOf es s) → Each (λ (x : Entry). f (x .seat) ≡ x .signature) es
@@ -211,7 +212,7 @@ module _ (S : Setting) (seat : ℕ) (some-seats : 1 ≤ S .n) (inside : seat < S
 
     -- ---- a list of calls
 
-    pub does-as : (r : Record) (store : List ℕ) (cs : List Call) (m : Machine) → r ≡ recordOf n seat round m → Mirrors n store m → AtRest n m → Has m → Each (λ t. List·Memᴰ t all) (listFrom S r store cs)
+    pub does-as : (r : Record) (store : List ℕ) (cs : List Call) (m : Machine) → r ≡ recordOf n seat round m → Mirrors checks n store m → AtRest n m → Has m → Each (λ t. List·Memᴰ t all) (listFrom S r store cs)
         → Each (λ t. Are n (writtenIn S t) (messages S t)) (listFrom S r store cs)
         → DoesAs S seat m (listFrom S r store cs) × Each (Sent checks n seat Happened some-seats inside) (actionsOver S seat m (listFrom S r store cs))
     unfolding listFrom reaction actionsOver
@@ -244,12 +245,13 @@ module _ (S : Setting) (seat : ℕ) (some-seats : 1 ≤ S .n) (inside : seat < S
   -- ---- the opening
 
   pub init-recorded : fresh n seat round ≡ recordOf n seat round init
-  unfolding fresh recordOf init isSome ownValue noticesOf heldFirst guiltyOf
+  unfolding fresh recordOf init isSome ownValue keptOf earlySeats setOf noticesOf heldFirst guiltyOf
   init-recorded = rw (take-none (k n), seats-none)
 
-  pub init-mirrors : (store : List ℕ) → Mirrors n store init
-  unfolding init conflict heldFirst
+  pub init-mirrors : (store : List ℕ) → Mirrors checks n store init
+  unfolding init conflict heldFirst firstFrom
   init-mirrors store = record {
+    keeping = record { signed = each-nil (λ (e : Signed). (e .seat < n) × Attested checks Any (e .seat) (e .value) (e .signature)); stored = λ s e h. absurd (some-none e none h refl) };
     collecting = record {
       unsaid = λ e. refl;
       below = each-nil (λ (e : Entry). e .seat < n);

@@ -1,6 +1,6 @@
 -- Origin of the machine's state and of its messages: everything that it has was received, and everything that it sends is made of that.
 -- Assumes nothing.
-use Prim.Native.Nat.{ℕ, _≤_, _<_}
+use Prim.Native.Nat.{ℕ, zero, suc, _≤_, _<_}
 use mathlib.Core.Path.{_≡_, refl, sym, ap, subst, _∙_}
 use mathlib.Core.Bool.{Bool, true, false, not, _&&_, true≢false, false≢true}
 use mathlib.Core.List.{List, [], _∷_, _++_, List·Memᴰ}
@@ -15,14 +15,14 @@ use Rattle.quorum.specs.Quorum.{k}
 use Rattle.refusal.specs.RefusalLaws.{both-true}
 use Rattle.protocol.specs.Layout.{valueLength}
 use Rattle.protocol.specs.Values.{unset}
-use Rattle.protocol.specs.Message.{Entry, Pair, PairValues, Full, Evidence}
+use Rattle.protocol.specs.Message.{Entry, Pair, PairValues, Signed, Full, Evidence}
 use Rattle.protocol.specs.Refusals.{Checks, every, isFull, isEvidence}
 use Rattle.round.specs.Round.{Each}
 use Rattle.reading.specs.ListsLaws.{cond-elim, each-nil, each-one, each-append}
 use Rattle.claims.specs.Parts.{k-pos}
-use Rattle.paper.specs.Machine.{FullCertificate, Machine, init, Event, Submitted, SubmitDelivered, NoticeDelivered, FullDelivered, Action, BroadcastSubmit, ConfirmAndNotice, BroadcastFull, Detect, Reaction, act, setValue, setConfirmed, addCollected, isSome, isOwn, ownValue, isFrom, distinct, conflict, valueOfFull, isFullCertificate, ownFull, isCollected, uponSubmitDelivered, uponSubmit, uponNoticeDelivered, obtain, uponFullDelivered, confirming, uponQuorum, sending, uponNoticesConflict, detecting, uponFullsConflict, uponEvent, uponRules, react, SaysConflict, Says}
+use Rattle.paper.specs.Machine.{FullCertificate, Machine, init, Event, Submitted, SubmitDelivered, NoticeDelivered, FullDelivered, Action, BroadcastSubmit, ConfirmAndNotice, BroadcastFull, Detect, Reaction, act, setValue, setConfirmed, addCollected, addEarly, isSome, isOwn, ownValue, isFrom, firstFrom, distinct, conflict, valueOfFull, isFullCertificate, ownFull, isCollected, collecting, keeping, uponSubmitDelivered, takingUp, takingUpBelow, uponSubmit, uponNoticeDelivered, obtain, uponFullDelivered, confirming, uponQuorum, sending, uponNoticesConflict, detecting, uponFullsConflict, uponEvent, uponRules, react, SaysConflict, Says}
 use Rattle.paper.specs.ConflictsLaws.{some-none, conflict-found}
-use Rattle.paper.specs.EntriesLaws.{distinct-more, each-take, distinct-take}
+use Rattle.paper.specs.EntriesLaws.{distinct-more, each-take, distinct-take, first-in}
 use Rattle.paper.specs.Received.{Collected, IsSubmitted, IsOwnFull, Obtained, Came, Received}
 use Rattle.paper.specs.Spoken.{Formed, FormedAction}
 use Rattle.paper.specs.Rules.{quorumDue, noticesDue}
@@ -46,15 +46,20 @@ module _ (checks : Checks) (n own : ℕ) (Happened : Event → Type 0) (some-sea
   abbrev Certified : FullCertificate → Type 0
   Certified c = Formed n c × Obtained own Happened c
 
+  -- a SUBMIT that came before the submission
+  abbrev CameEarly : Signed → Type 0
+  CameEarly e = (e .seat < n) × Happened (SubmitDelivered (e .seat) (e .value) (e .signature))
+
   -- everything that the machine has was received
-  pub record Based (value : Option (List ℕ)) (confirmed : Bool) (collected : List Entry) (obtained : List FullCertificate) : Type 0 where
+  pub record Based (value : Option (List ℕ)) (confirmed : Bool) (early : List Signed) (collected : List Entry) (obtained : List FullCertificate) : Type 0 where
+    pub heard : Each CameEarly early
     pub said : SaidBy value
     pub unsaid : value ≡ none → (collected ≡ []) × (confirmed ≡ false)
     pub collection : Collection (ownValue value) collected
     pub certified : Each Certified obtained
 
   abbrev pub BasedOn : Machine → Type 0
-  BasedOn m = Based (m .value) (m .confirmed) (m .collected) (m .obtained)
+  BasedOn m = Based (m .value) (m .confirmed) (m .early) (m .collected) (m .obtained)
 
   -- an action made of received values and signatures, which can be sent
   abbrev pub Sent : Action → Type 0
@@ -70,7 +75,7 @@ module _ (checks : Checks) (n own : ℕ) (Happened : Event → Type 0) (some-sea
   -- ---- SUBMIT: lines 16 and 19
 
   collects : (s : ℕ) (v g : List ℕ) (m : Machine) → s < n → Collected own Happened s v g → BasedOn m → isCollected checks n own s v g m ≡ true
-      → Based (m .value) (m .confirmed) (m .collected ++ record { seat = s; signature = g } ∷ []) (m .obtained)
+      → Based (m .value) (m .confirmed) (m .early) (m .collected ++ record { seat = s; signature = g } ∷ []) (m .obtained)
   unfolding isCollected
   collects s v g m below came z h =
       let e : Entry = record { seat = s; signature = g } in
@@ -78,6 +83,7 @@ module _ (checks : Checks) (n own : ℕ) (Happened : Event → Type 0) (some-sea
       let is = own-value v (m .value) (both-true (checks s v g) (isOwn v (m .value)) (new .0) .1) in
       let c = z .collection in
       record {
+        heard = z .heard;
         said = z .said;
         unsaid = λ q. absurd (is .1 q);
         collection = record {
@@ -89,24 +95,62 @@ module _ (checks : Checks) (n own : ℕ) (Happened : Event → Type 0) (some-sea
         certified = z .certified;
       }
 
-  submit-good : (s : ℕ) (v g : List ℕ) (x : Reaction) → s < n → Collected own Happened s v g → Good x → Good (uponSubmitDelivered checks n own s v g x)
-  unfolding uponSubmitDelivered
-  submit-good s v g x below came z =
+  collecting-good : (s : ℕ) (v g : List ℕ) (x : Reaction) → s < n → Collected own Happened s v g → Good x → Good (collecting checks n own s v g x)
+  unfolding collecting
+  collecting-good s v g x below came z =
       cond-elim Good (isCollected checks n own s v g (x .machine)) (addCollected (record { seat = s; signature = g }) x) x
       (λ h. (collects s v g (x .machine) below came (z .0) h, z .1)) (λ h. z)
+
+  keeping-good : (s : ℕ) (v g : List ℕ) (x : Reaction) → s < n → Happened (SubmitDelivered s v g) → Good x → Good (keeping checks n own s v g x)
+  unfolding keeping
+  keeping-good s v g x below came z =
+      let e : Signed = record { seat = s; value = v; signature = g } in
+      let b = z .0 in
+      cond-elim Good (checks s v g) (addEarly e x) x
+      (λ h. (
+        record {
+          heard = each-append CameEarly (x .machine .early) (e ∷ []) (b .heard) (each-one CameEarly e (below, came));
+          said = b .said;
+          unsaid = b .unsaid;
+          collection = b .collection;
+          certified = b .certified;
+        },
+        z .1,
+      ))
+      (λ h. z)
+
+  submit-good : (s : ℕ) (v g : List ℕ) (x : Reaction) → s < n → Happened (SubmitDelivered s v g) → Good x → Good (uponSubmitDelivered checks n own s v g x)
+  unfolding uponSubmitDelivered
+  submit-good s v g x below came z =
+      cond-elim Good (isSome (x .machine .value)) (collecting checks n own s v g x) (keeping checks n own s v g x) (λ h. collecting-good s v g x below (inr came) z) (λ h. keeping-good s v g x below came z)
+
+  -- those that came before the submission
+  taking-good : (early : List Signed) → Each CameEarly early → (o : Option Signed) → ((e : Signed) → o ≡ some e → List·Memᴰ e early) → (x : Reaction) → Good x → Good (takingUp checks n own o x)
+  unfolding takingUp
+  taking-good early heard none within x z = z
+  taking-good early heard (some e) within x z = let came = heard e (within e refl) in collecting-good (e .seat) (e .value) (e .signature) x (came .0) (inr (came .1)) z
+
+  below-good : (early : List Signed) → Each CameEarly early → (t : ℕ) (x : Reaction) → Good x → Good (takingUpBelow checks n own t early x)
+  unfolding takingUpBelow
+  below-good early heard zero x z = z
+  below-good early heard (suc t) x z =
+      taking-good early heard (firstFrom t early) (λ e h. first-in t early e h .0) (takingUpBelow checks n own t early x) (below-good early heard t x z)
 
   own-good : (v g : List ℕ) (x : Reaction) → x .machine .value ≡ none → length v ≡ valueLength → Happened (Submitted v g) → Good x → Good (uponSubmit checks n own v g x)
   unfolding uponSubmit act ownValue
   own-good v g x unsaid sized came z =
-      submit-good own v g (act (BroadcastSubmit v g) (setValue v x)) inside (inl (refl, came)) (
+      let y = act (BroadcastSubmit v g) (setValue v x) in
+      below-good (x .machine .early) (z .0 .heard) n (collecting checks n own own v g y)
+      (collecting-good own v g y inside (inl (refl, came)) (
         record {
+          heard = z .0 .heard;
           said = (sized, (g, came));
           unsaid = λ q. absurd (some-none v (some v) refl q);
           collection = subst (Collection v) (sym (z .0 .unsaid unsaid .0)) (empty v);
           certified = z .0 .certified;
         },
         each-append Sent (x .actions) (BroadcastSubmit v g ∷ []) (z .1) (each-one Sent (BroadcastSubmit v g) (came, tt)),
-      )
+      ))
 
   -- ---- certificates: lines 35, 25, 33 and 39
 
@@ -114,6 +158,7 @@ module _ (checks : Checks) (n own : ℕ) (Happened : Event → Type 0) (some-sea
   unfolding obtain uponNoticeDelivered
   obtain-good c x y z = (
     record {
+      heard = z .0 .heard;
       said = z .0 .said;
       unsaid = z .0 .unsaid;
       collection = z .0 .collection;
@@ -165,7 +210,7 @@ module _ (checks : Checks) (n own : ℕ) (Happened : Event → Type 0) (some-sea
       let said = complete-said m (z .0) h in
       let c = own-certified m (z .0) said in
       obtain-good (ownFull checks n own m) (act notice (setConfirmed x)) (c .0, inl (c .1)) (
-        record { said = z .0 .said; unsaid = λ q. absurd (said q); collection = z .0 .collection; certified = z .0 .certified },
+        record { heard = z .0 .heard; said = z .0 .said; unsaid = λ q. absurd (said q); collection = z .0 .collection; certified = z .0 .certified },
         each-append Sent (x .actions) (notice ∷ []) (z .1) (each-one Sent notice (own-said (m .value) (z .0 .said) said .1, tt)),
       ))
       (λ h. z)
@@ -212,7 +257,7 @@ module _ (checks : Checks) (n own : ℕ) (Happened : Event → Type 0) (some-sea
   event-good : (e : Event) (x : Reaction) → Happened e → Brought e (x .machine) → Good x → Good (uponEvent checks n own e x)
   unfolding uponEvent uponNoticeDelivered
   event-good (Submitted v g) x came b z = own-good v g x (b .0) (b .1) came z
-  event-good (SubmitDelivered s v g) x came b z = submit-good s v g x b (inr came) z
+  event-good (SubmitDelivered s v g) x came b z = submit-good s v g x b came z
   event-good (NoticeDelivered v) x came b z = z
   event-good (FullDelivered c) x came b z = full-good c x (b .0) (b .1) came z
 
@@ -226,7 +271,7 @@ module _ (checks : Checks) (n own : ℕ) (Happened : Event → Type 0) (some-sea
 
   pub init-based : BasedOn init
   unfolding init ownValue
-  init-based = record { said = tt; unsaid = λ q. (refl, refl); collection = empty unset; certified = each-nil Certified }
+  init-based = record { heard = each-nil CameEarly; said = tt; unsaid = λ q. (refl, refl); collection = empty unset; certified = each-nil Certified }
 
 -- ---- signatures in the messages sent
 

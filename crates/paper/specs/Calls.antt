@@ -1,45 +1,45 @@
 -- A whole submit and a whole step, each beside the machine's reaction to its event.
 -- Assumes nothing.
-use Prim.Native.Nat.{ℕ, _≤_, _<_}
+use Prim.Native.Nat.{ℕ, zero, suc, _≤_, _<_}
 use mathlib.Core.Path.{_≡_, refl, sym, ap, subst, _∙_}
 use mathlib.Core.Bool.{Bool, true, false, cond, not, _&&_, and-false, true≢false, false≢true}
 use mathlib.Core.List.{List, [], _∷_, _++_, List·Memᴰ, Memᴰ·append-left}
-use mathlib.Core.Logic.{_≢_}
+use mathlib.Core.Logic.{⊎-elim, _≢_}
 use mathlib.Core.Option.{Option, none, some}
 use native.Mathlib.Omega.{arith}
 use native.Mathlib.Decide.{ℕ-discrete}
-use lib.Dec.{leb}
+use lib.Dec.{leb, ltb}
 use lib.ListN.{length, take, length-append}
-use lib.Seq.{take-all, take-append-le}
-use borrow.Author.Tests.{leb-true, leb-false, le-leb, lt-leb}
+use lib.Seq.{take-all, take-append-le, length-take-le}
+use borrow.Author.Tests.{leb-true, leb-false, le-leb, lt-leb, le-ltb, lt-ltb}
 use Rattle.octets.specs.Strings.{same}
 use Rattle.octets.specs.StringsLaws.{same-refl}
 use Rattle.quorum.specs.Quorum.{k, bit, In, has, size, with}
-use Rattle.quorum.specs.QuorumLaws.{bit-with-other, has-false, size-with-new}
-use Rattle.protocol.specs.Layout.{signatureLength, storeLength, collectedBank, firstBank}
-use Rattle.protocol.specs.LayoutLaws.{collected-bank, first-bank}
+use Rattle.quorum.specs.QuorumLaws.{bit-with-other, has-true, has-false, size-with-new}
+use Rattle.protocol.specs.Layout.{valueLength, signatureLength, banks, storeLength, slotLength, collectedBank, firstBank, keptBank, keptValueBank}
+use Rattle.protocol.specs.LayoutLaws.{collected-bank, first-bank, kept-bank, kept-value-bank}
 use Rattle.protocol.specs.Entries.{Each, formSeats}
-use Rattle.protocol.specs.Message.{Entry, Message, Submit, Notice, Full, Evidence, Garbled, fullForm}
-use Rattle.protocol.specs.Certificate.{slot, fill, signatureOf, certificateOf, certificateIn}
-use Rattle.protocol.specs.Record.{withOwn}
+use Rattle.protocol.specs.Message.{Entry, Signed, Message, Submit, Notice, Full, Evidence, Garbled, fullForm}
+use Rattle.protocol.specs.Certificate.{slot, fill, keptValue, keptSignature, fillKept, signatureOf, certificateOf, certificateIn}
+use Rattle.protocol.specs.Record.{withOwn, withKept}
 use Rattle.protocol.specs.Refusals.{Checks}
 use Rattle.protocol.specs.ConditionsLaws.{each-every}
-use Rattle.protocol.specs.Step.{State, withUnit, write, collect, setOwnValue, submitOwn, isWanted, hearSubmit, hear, reply, confirmIfComplete, submitted, stepped}
+use Rattle.protocol.specs.Step.{State, withUnit, write, collect, setOwnValue, submitOwn, isWanted, collectIfWanted, keep, keepIfFirst, hearSubmit, isOpenTo, collectKeptSeat, collectKeptBelow, emptyKept, collectKept, hear, reply, confirmIfComplete, submitted, stepped}
 use Rattle.reading.specs.ListsLaws.{each-one, each-append}
-use Rattle.claims.specs.SlotsLaws.{fill-length, slot-fill-same, slot-fill-other}
-use Rattle.claims.specs.Sound.{Any, Entries}
+use Rattle.claims.specs.SlotsLaws.{fill-length, slot-fill-same, slot-fill-other, kept-long, kept-value-same, kept-signature-same, kept-aside}
+use Rattle.claims.specs.Sound.{Any, Attested, Entries}
 use Rattle.claims.specs.CertificatesLaws.{certifies-of}
 use Rattle.claims.specs.Parts.{k-pos, in-below}
 use Rattle.claims.specs.Whole.{Brings}
-use Rattle.paper.specs.Machine.{FullCertificate, Machine, BroadcastSubmit, Reaction, act, setValue, addCollected, addNoticed, isSome, isOwn, ownValue, isFrom, isFullCertificate, isCollected, uponSubmitDelivered, uponSubmit, uponNoticeDelivered, obtain, uponFullDelivered, confirming, uponQuorum, uponNoticesConflict, uponFullsConflict, uponEvent, uponRules, react}
-use Rattle.paper.specs.Memory.{seatsIn, heldFirst, recordOf}
+use Rattle.paper.specs.Machine.{FullCertificate, Machine, BroadcastSubmit, Reaction, act, setOwn, setValue, addCollected, addEarly, addNoticed, isSome, isOwn, ownValue, isFrom, firstFrom, isFullCertificate, isCollected, collecting, keeping, uponSubmitDelivered, takingUp, takingUpBelow, uponSubmit, uponNoticeDelivered, obtain, uponFullDelivered, confirming, uponQuorum, uponNoticesConflict, uponFullsConflict, uponEvent, uponRules, react}
+use Rattle.paper.specs.Memory.{seatsIn, earlySeats, keptOf, heldFirst, recordOf}
 use Rattle.paper.specs.Events.{delivered, reactTo}
 use Rattle.paper.specs.ConflictsLaws.{some-none}
-use Rattle.paper.specs.EntriesLaws.{seats-more, seats-below, from-seats, signature-new, signature-old, rising-distinct}
+use Rattle.paper.specs.EntriesLaws.{seats-more, seats-below, from-seats, signature-new, signature-old, rising-distinct, first-in, first-some, first-none, first-more, early-more, with-in}
 use Rattle.paper.specs.Spoken.{spoken}
 use Rattle.paper.specs.Rules.{fulls-quiet}
-use Rattle.paper.specs.Mirror.{Collecting, Quorum, Stored, Mirrors}
-use Rattle.paper.specs.Parts.{first-below, at, Comes, write-is, hear-is, reply-is, reply-mirrors, certificate-is, confirm-is}
+use Rattle.paper.specs.Mirror.{Collecting, Quorum, Obtaining, Stored, Keeping, Mirrors}
+use Rattle.paper.specs.Parts.{taken-below, first-below, keeping-like, at, Comes, write-is, hear-is, reply-is, reply-mirrors, certificate-is, confirm-is}
 
 some-is : {A : Type 0} (o : Option A) → isSome o ≡ true → o ≢ none
 unfolding isSome
@@ -54,6 +54,12 @@ own-is : (v : List ℕ) (o : Option (List ℕ)) → isSome o ≡ true → isOwn 
 unfolding isSome isOwn ownValue
 own-is v none e = absurd (false≢true e)
 own-is v (some w) e = refl
+
+-- before the submission, every seat that was heard is kept
+unsaid-kept : (o : Option (List ℕ)) (es : List Signed) → isSome o ≡ false → keptOf o es ≡ earlySeats es
+unfolding isSome keptOf
+unsaid-kept none es e = refl
+unsaid-kept (some w) es e = absurd (true≢false e)
 
 module _ (n seat round : ℕ) where
   -- ---- a signature collected
@@ -144,10 +150,130 @@ module _ (n seat round : ℕ) where
         first = z .first;
       }
 
-      beyond-complete : leb (k n) (length (before ++ e ∷ [])) ≡ true
-      beyond-complete = le-leb (k n) (length (before ++ e ∷ [])) (omega (arith, length-append before (e ∷ [])))
+  -- ---- signatures collected one after another
 
-  module _ (checks : Checks) (some-seats : 1 ≤ n) (x : Reaction) (store : List ℕ) (room : storeLength n ≤ length store) (z : Mirrors n store (x .machine)) where
+  -- a state with these seats kept
+  abbrev keptWith : ℕ → State → State
+  keptWith kept s = withUnit s (withKept (s .unit) kept)
+
+  collect-kept : (kept s : ℕ) (g : List ℕ) (st : State) → collect s g (keptWith kept st) ≡ keptWith kept (collect s g st)
+  unfolding collect
+  collect-kept kept s g st = refl
+
+  module _ (checks : Checks) (x : Reaction) (said : isSome (x .machine .value) ≡ true) where
+    abbrev gathered : List Entry → Reaction
+    gathered es = let m = x .machine in setOwn (m .value) (m .confirmed) es x
+
+    -- a state of the engine with these seats kept, beside the machine while it collects signatures
+    record Gathers (kept : ℕ) (st : State) (y : Reaction) : Type 0 where
+      collected : List Entry
+      store : List ℕ
+      machine : y ≡ gathered collected
+      is : st ≡ keptWith kept (at n seat round (gathered collected) store)
+      room : storeLength n ≤ length store
+      grown : length (x .machine .collected) ≤ length collected
+      keeping : Keeping checks n store (x .machine .early)
+      collecting : Collecting n (x .machine .value) collected
+      stored : Stored n store collected (x .machine .obtained)
+
+    -- the engine's test: fewer than k are collected, the value is the own one and the seat is new
+    abbrev wants : ℕ → List ℕ → List Entry → Bool
+    wants s v es = not (leb (k n) (length es)) && same v (ownValue (x .machine .value)) && not (has s (seatsIn (take (k n) es)))
+
+    module _ (quorums : Each (Quorum n) (x .machine .obtained)) (kept s : ℕ) (v g : List ℕ) (inside : s < n) (sized : length g ≡ signatureLength) (checked : checks s v g ≡ true) where
+      collected-is : (es : List Entry) → isCollected checks n seat s v g (gathered es .machine) ≡ (same v (ownValue (x .machine .value)) && not (isFrom s es))
+      unfolding isCollected
+      collected-is es = rw (checked, own-is v (x .machine .value) said)
+
+      module _ (st : State) (y : Reaction) (z : Gathers kept st y) where
+        abbrev es : List Entry
+        es = z .collected
+
+        abbrev more : List Entry
+        more = es ++ e s g x ∷ []
+
+        one-more : length es ≤ length more
+        one-more = omega (arith, length-append es (e s g x ∷ []))
+
+        -- among the first k
+        both : length es < k n → isFrom s es ≡ false → Gathers kept (collect s g st) (addCollected (e s g x) (gathered es))
+        both few new =
+            let w = gathered es in
+            let long = fill-length n collectedBank s g (z .store) (collected-bank .0) inside (z .room) (sized ∙ sym (collected-bank .1)) in
+            record {
+              collected = more;
+              store = fill n collectedBank s g (z .store);
+              machine = refl;
+              is = ap (collect s g) (z .is) ∙ collect-kept kept s g (at n seat round w (z .store)) ∙ ap (keptWith kept) (collect-is s g w few (z .store));
+              room = subst (λ (l : ℕ). storeLength n ≤ l) (sym long) (z .room);
+              grown = let before = z .grown in let after = one-more in omega arith;
+              keeping = keeping-like checks n (z .store) (fill n collectedBank s g (z .store)) (x .machine .early) (z .keeping)
+                  (λ bank t later b l. slot-fill-other n collectedBank s g (z .store) (collected-bank .0) inside (z .room) (sized ∙ sym (collected-bank .1)) bank t b l (λ q _. omega arith));
+              collecting = collect-collecting s g w few inside sized new (some-is (x .machine .value) said) (z .collecting);
+              stored = collect-stored s g w few (z .store) (z .room) inside sized new (z .collecting .below) quorums (z .stored);
+            }
+
+        -- after the first k: the machine has it, and the record is as before
+        beyond : k n ≤ length es → Gathers kept st (addCollected (e s g x) (gathered es))
+        beyond many =
+            let w = gathered es in
+            record {
+              collected = more;
+              store = z .store;
+              machine = refl;
+              is = z .is ∙ ap (keptWith kept) (beyond-is s g w many (z .store));
+              room = z .room;
+              grown = let before = z .grown in let after = one-more in omega arith;
+              keeping = z .keeping;
+              collecting = beyond-collecting s g w many inside sized (some-is (x .machine .value) said) (z .collecting);
+              stored = beyond-stored s g w many (z .store) (z .stored);
+            }
+
+        still-gathers : Gathers kept st (gathered es)
+        still-gathers = record { collected = es; store = z .store; machine = refl; is = z .is; room = z .room; grown = z .grown; keeping = z .keeping; collecting = z .collecting; stored = z .stored }
+
+        abbrev Both : Bool → Bool → Type 0
+        Both c d = Gathers kept (cond c (collect s g st) st) (cond d (addCollected (e s g x) (gathered es)) (gathered es))
+
+        -- the engine's test and the machine's
+        gather : (b : Bool) → b ≡ wants s v es → Gathers kept (cond b (collect s g st) st) (collecting checks n seat s v g y)
+        unfolding collecting
+        gather b p =
+            subst (λ (w : Reaction). Gathers kept (cond b (collect s g st) st) (cond (isCollected checks n seat s v g (w .machine)) (addCollected (e s g x) w) w)) (sym (z .machine))
+            (go (leb (k n) (length es)) refl (same v (ownValue (x .machine .value))) refl (isFrom s es) refl)
+          where
+            told : (c d : Bool) → wants s v es ≡ c → (same v (ownValue (x .machine .value)) && not (isFrom s es)) ≡ d → Both c d → Both b (isCollected checks n seat s v g (gathered es .machine))
+            told c d q r h = rw (p ∙ q, collected-is es ∙ r) h
+
+            new : (d : Bool) → isFrom s es ≡ d → length es < k n → Both (not d) (not d)
+            new true r few = still-gathers
+            new false r few = both few r
+
+            go : (full : Bool) → leb (k n) (length es) ≡ full → (own : Bool) → same v (ownValue (x .machine .value)) ≡ own → (d : Bool) → isFrom s es ≡ d → Both b (isCollected checks n seat s v g (gathered es .machine))
+            go full q false r d t = told false false (rw (r, and-false)) (rw r) still-gathers
+            go true q true r true t = told false false (rw q) (rw (r, t)) still-gathers
+            go true q true r false t = told false true (rw q) (rw (r, t)) (beyond (leb-true (k n) (length es) q))
+            go false q true r d t =
+                let few : length es < k n = leb-false (k n) (length es) q in
+                let seen : has s (seatsIn (take (k n) es)) ≡ d = ap (λ (xs : List Entry). has s (seatsIn xs)) (all-before s g (gathered es) few) ∙ sym (from-seats s es) ∙ t in
+                told (not d) (not d) (rw (q, r, seen)) (rw (r, t)) (new d t few)
+
+    -- the rules after it
+    gathers-rules : (some-seats : 1 ≤ n) → Obtaining n (x .machine .obtained) (x .machine .detected) → (x .machine .confirmed ≡ true → (leb (k n) (length (x .machine .collected)) ≡ true) × List·Memᴰ (ownValue (x .machine .value)) (x .machine .noticed))
+        → (kept : ℕ) → kept ≡ keptOf (x .machine .value) (x .machine .early) → (st : State) (y : Reaction) → Gathers kept st y → Comes n seat round checks (confirmIfComplete st) (uponRules checks n seat y)
+    unfolding recordOf
+    gathers-rules some-seats obtaining rested kept p st y z =
+        let w = gathered (z .collected) in
+        let is : st ≡ at n seat round w (z .store) = z .is ∙ ap (λ (i : ℕ). keptWith i (at n seat round w (z .store))) p in
+        let a = confirm-is n seat round checks some-seats w (z .store) (z .room) (z .keeping) (z .collecting) obtaining (z .stored)
+        (λ h.
+        let many = leb-true (k n) (length (x .machine .collected)) (rested h .0) in
+        let grown = z .grown in
+        (le-leb (k n) (length (z .collected)) (omega arith), rested h .1)) in
+        subst (λ (u : Reaction). Comes n seat round checks (confirmIfComplete st) (uponRules checks n seat u)) (sym (z .machine))
+        (record { store = a .store; is = ap confirmIfComplete is ∙ a .is; mirrors = a .mirrors })
+
+  module _ (checks : Checks) (some-seats : 1 ≤ n) (x : Reaction) (store : List ℕ) (room : storeLength n ≤ length store) (z : Mirrors checks n store (x .machine)) where
     abbrev m : Machine
     m = x .machine
 
@@ -156,70 +282,109 @@ module _ (n seat round : ℕ) where
 
     -- ---- SUBMIT heard: line 19
 
-    module _ (s : ℕ) (v g : List ℕ) (said : isSome (m .value) ≡ true) (inside : s < n) (sized : length g ≡ signatureLength) (checked : checks s v g ≡ true) where
+    module _ (s : ℕ) (v g : List ℕ) (inside : s < n) (valued : length v ≡ valueLength) (good : Attested checks Any s v g) where
       abbrev Result : Type 0
-      Result = Comes n seat round (confirmIfComplete (hearSubmit s v g (at n seat round x store))) (uponRules checks n seat (uponSubmitDelivered checks n seat s v g x))
+      Result = Comes n seat round checks (confirmIfComplete (hearSubmit s v g (at n seat round x store))) (uponRules checks n seat (uponSubmitDelivered checks n seat s v g x))
 
-      neither : isWanted s v (recordOf n seat round m) ≡ false → isCollected checks n seat s v g m ≡ false → Result
-      unfolding hearSubmit uponSubmitDelivered
-      neither p q =
-          let a = confirm-is n seat round checks some-seats x store room (z .collecting) (z .obtaining) (z .stored) rested in
-          subst (Comes n seat round (confirmIfComplete (hearSubmit s v g (at n seat round x store)))) (ap (λ (b : Bool). uponRules checks n seat (cond b (addCollected (e s g x) x) x)) (sym q))
-          (record {
-            store = a .store;
-            is = ap (λ (b : Bool). confirmIfComplete (cond b (collect s g (at n seat round x store)) (at n seat round x store))) p ∙ a .is;
-            mirrors = a .mirrors;
-          })
+      comes-by : (st : State) (y : Reaction) → hearSubmit s v g (at n seat round x store) ≡ st → uponSubmitDelivered checks n seat s v g x ≡ y
+          → Comes n seat round checks (confirmIfComplete st) (uponRules checks n seat y) → Result
+      comes-by st y p q a =
+          subst (λ (w : Reaction). Comes n seat round checks (confirmIfComplete (hearSubmit s v g (at n seat round x store))) (uponRules checks n seat w)) (sym q)
+          (record { store = a .store; is = ap confirmIfComplete p ∙ a .is; mirrors = a .mirrors })
 
-      both : length (m .collected) < k n → isFrom s (m .collected) ≡ false → isWanted s v (recordOf n seat round m) ≡ true → isCollected checks n seat s v g m ≡ true → Result
-      unfolding hearSubmit uponSubmitDelivered
-      both few new p q =
-          let unconfirmed : m .confirmed ≡ false = z .resting .complete ∙ lt-leb (k n) (length (m .collected)) few in
-          let a = confirm-is n seat round checks some-seats (addCollected (e s g x) x) (fill n collectedBank s g store) (subst (λ (l : ℕ). storeLength n ≤ l) (sym (fill-length n collectedBank s g store (collected-bank .0) inside room (sized ∙ sym (collected-bank .1)))) room)
-          (collect-collecting s g x few inside sized new (some-is (m .value) said) (z .collecting)) (z .obtaining) (collect-stored s g x few store room inside sized new (z .collecting .below) (z .obtaining .quorums) (z .stored)) (λ h. absurd (true≢false (sym h ∙ unconfirmed))) in
-          subst (Comes n seat round (confirmIfComplete (hearSubmit s v g (at n seat round x store)))) (ap (λ (b : Bool). uponRules checks n seat (cond b (addCollected (e s g x) x) x)) (sym q))
-          (record {
-            store = a .store;
-            is = ap (λ (b : Bool). confirmIfComplete (cond b (collect s g (at n seat round x store)) (at n seat round x store))) p ∙ ap confirmIfComplete (collect-is s g x few store) ∙ a .is;
-            mirrors = a .mirrors;
-          })
+      -- after the submission it is collected
+      heard-after : isSome (m .value) ≡ true → Result
+      unfolding hearSubmit collectIfWanted isWanted uponSubmitDelivered recordOf
+      heard-after said =
+          let kept = keptOf (m .value) (m .early) in
+          let now : Gathers checks x said kept (at n seat round x store) x =
+          record { collected = m .collected; store = store; machine = refl; is = refl; room = room; grown = omega arith; keeping = z .keeping; collecting = z .collecting; stored = z .stored } in
+          let wanted : isWanted s v (recordOf n seat round m) ≡ wants checks x said s v (m .collected) =
+          ap (λ (b : Bool). not b && same v (ownValue (m .value)) && not (has s (seatsIn (take (k n) (m .collected))))) (z .resting .complete) in
+          let next = gather checks x said (z .obtaining .quorums) kept s v g inside (good .sized) (good .checked) (at n seat round x store) x now (isWanted s v (recordOf n seat round m)) wanted in
+          comes-by _ _ (ap (λ (b : Bool). cond b (collectIfWanted s v g (at n seat round x store)) (keepIfFirst s v g (at n seat round x store))) said)
+          (ap (λ (b : Bool). cond b (collecting checks n seat s v g x) (keeping checks n seat s v g x)) said)
+          (gathers-rules checks x said some-seats (z .obtaining) rested kept refl _ _ next)
 
-      beyond : k n ≤ length (m .collected) → isWanted s v (recordOf n seat round m) ≡ false → isCollected checks n seat s v g m ≡ true → Result
-      unfolding hearSubmit uponSubmitDelivered
-      beyond many p q =
-          let a = confirm-is n seat round checks some-seats (addCollected (e s g x) x) store room
-          (beyond-collecting s g x many inside sized (some-is (m .value) said) (z .collecting)) (z .obtaining) (beyond-stored s g x many store (z .stored)) (λ h. (beyond-complete s g x many, z .resting .heard h)) in
-          subst (Comes n seat round (confirmIfComplete (hearSubmit s v g (at n seat round x store)))) (ap (λ (b : Bool). uponRules checks n seat (cond b (addCollected (e s g x) x) x)) (sym q))
-          (record {
-            store = a .store;
-            is = ap (λ (b : Bool). confirmIfComplete (cond b (collect s g (at n seat round x store)) (at n seat round x store))) p ∙ ap confirmIfComplete (beyond-is s g x many store) ∙ a .is;
-            mirrors = a .mirrors;
-          })
+      -- before it, the machine has it with all others, and the engine keeps the first of a seat
+      abbrev one : Signed
+      one = record { seat = s; value = v; signature = g }
 
-      -- the engine's test and the machine's
-      wanted-is : isWanted s v (recordOf n seat round m) ≡ (not (m .confirmed) && same v (ownValue (m .value)) && not (has s (seatsIn (take (k n) (m .collected)))))
-      unfolding isWanted recordOf
-      wanted-is = refl
+      module _ (unsaid : isSome (m .value) ≡ false) where
+        kept-is : (es : List Signed) → keptOf (m .value) es ≡ earlySeats es
+        kept-is es = unsaid-kept (m .value) es unsaid
 
-      collected-is : isCollected checks n seat s v g m ≡ (same v (ownValue (m .value)) && not (isFrom s (m .collected)))
-      unfolding isCollected
-      collected-is = rw (checked, own-is v (m .value) said)
+        abbrev Kept : ℕ → List ℕ → Signed → Type 0
+        Kept t st b = (keptValue n st t ≡ b .value) × (keptSignature n st t ≡ b .signature)
+
+        finish : (b : Bool) → has s (keptOf (m .value) (m .early)) ≡ b → (st : List ℕ) → storeLength n ≤ length st
+            → cond b (at n seat round x store) (keep s v g (at n seat round x store)) ≡ keptWith (keptOf (m .value) (m .early ++ one ∷ [])) (at n seat round x st)
+            → ((t : ℕ) (b : Signed) → firstFrom t (m .early ++ one ∷ []) ≡ some b → Kept t st b) → Stored n st (m .collected) (m .obtained) → Result
+        unfolding hearSubmit keepIfFirst uponSubmitDelivered keeping recordOf
+        finish b h st long is kept stored =
+            let P : Signed → Type 0 = λ a. (a .seat < n) × Attested checks Any (a .seat) (a .value) (a .signature) in
+            let keeps : Keeping checks n st (m .early ++ one ∷ []) = record { signed = each-append P (m .early) (one ∷ []) (z .keeping .signed) (each-one P one (inside, good)); stored = kept } in
+            comes-by (at n seat round (addEarly one x) st) (addEarly one x)
+            (ap (λ (b : Bool). cond b (collectIfWanted s v g (at n seat round x store)) (keepIfFirst s v g (at n seat round x store))) unsaid
+            ∙ ap (λ (b : Bool). cond b (at n seat round x store) (keep s v g (at n seat round x store))) h
+            ∙ is)
+            (ap (λ (b : Bool). cond b (collecting checks n seat s v g x) (keeping checks n seat s v g x)) unsaid ∙ ap (λ (b : Bool). cond b (addEarly one x) x) (good .checked))
+            (confirm-is n seat round checks some-seats (addEarly one x) st long keeps (z .collecting) (z .obtaining) stored rested)
+
+        -- a seat that is kept already
+        heard-again : (a : Signed) → firstFrom s (m .early) ≡ some a → Result
+        unfolding recordOf
+        heard-again a h =
+            let seen = first-some s (m .early) a h in
+            let still : keptOf (m .value) (m .early ++ one ∷ []) ≡ keptOf (m .value) (m .early) = kept-is (m .early ++ one ∷ []) ∙ early-more (m .early) one ∙ with-in s (earlySeats (m .early)) seen ∙ sym (kept-is (m .early)) in
+            finish true (ap (has s) (kept-is (m .early)) ∙ has-true s (earlySeats (m .early)) .1 seen) store room
+            (ap (λ (i : ℕ). keptWith i (at n seat round x store)) (sym still))
+            (λ t b q. ⊎-elim (z .keeping .stored t b) (λ r. absurd (some-none a (firstFrom s (m .early)) h (subst (λ (i : ℕ). firstFrom i (m .early) ≡ none) (sym (r .1)) (r .0)))) (first-more t (m .early) one b q))
+            (z .stored)
+
+        -- the first of its seat
+        module _ (h : firstFrom s (m .early) ≡ none) where
+          abbrev store′ : List ℕ
+          store′ = fillKept n s v g store
+
+          wide : length g ≡ slotLength keptBank
+          wide = good .sized ∙ sym (kept-bank .1)
+
+          aside : (bank t : ℕ) → bank < length banks → t < n → (keptValueBank ≡ bank → s ≡ t → ⊥) → (keptBank ≡ bank → s ≡ t → ⊥) → slot n bank store′ t ≡ slot n bank store t
+          aside = kept-aside n s v g store inside room valued wide
+
+          kept-before : (t : ℕ) (b : Signed) → firstFrom t (m .early) ≡ some b → Kept t store′ b
+          kept-before t b r =
+              let apart : s ≢ t = λ q. some-none b (firstFrom t (m .early)) r (subst (λ (i : ℕ). firstFrom i (m .early) ≡ none) q h) in
+              let f = first-in t (m .early) b r in
+              let here : t < n = subst (λ (i : ℕ). i < n) (f .1) (z .keeping .signed b (f .0) .0) in
+              let before = z .keeping .stored t b r in
+              (aside keptValueBank t (kept-value-bank .0) here (λ _ q. apart q) (λ q _. omega arith) ∙ before .0, aside keptBank t (kept-bank .0) here (λ q _. omega arith) (λ _ q. apart q) ∙ before .1)
+
+          kept-now : (t : ℕ) (b : Signed) → s ≡ t → b ≡ one → Kept t store′ b
+          kept-now t b p q = rw (← p, q) (kept-value-same n s v g store inside room valued wide, kept-signature-same n s v g store inside room valued wide)
+
+          heard-first : Result
+          unfolding keep recordOf
+          heard-first =
+              finish false (ap (has s) (kept-is (m .early)) ∙ has-false s (earlySeats (m .early)) .1 (first-none s (m .early) h)) store′ (subst (λ (l : ℕ). storeLength n ≤ l) (sym (kept-long n s v g store inside room valued wide)) room)
+              (ap (λ (i : ℕ). keptWith i (at n seat round x store′)) (ap (with s) (kept-is (m .early)) ∙ sym (early-more (m .early) one) ∙ sym (kept-is (m .early ++ one ∷ []))))
+              (λ t b q. ⊎-elim (kept-before t b) (λ r. kept-now t b (r .1) (r .2)) (first-more t (m .early) one b q))
+              (record {
+                own = λ t i. aside collectedBank t (collected-bank .0) (in-below n t (seatsIn (take (k n) (m .collected))) (taken-below n (m .collected) (z .collecting .below)) i) (λ q _. omega arith) (λ q _. omega arith) ∙ z .stored .own t i;
+                first = λ t i. aside firstBank t (first-bank .0) (in-below n t (heldFirst (m .obtained) .seats) (first-below n (m .obtained) (z .obtaining .quorums)) i) (λ q _. omega arith) (λ q _. omega arith) ∙ z .stored .first t i;
+              })
+
+        heard-before : (o : Option Signed) → firstFrom s (m .early) ≡ o → Result
+        heard-before (some a) h = heard-again a h
+        heard-before none h = heard-first h
 
       submit-heard : Result
-      submit-heard = go (m .confirmed) refl (same v (ownValue (m .value))) refl (isFrom s (m .collected)) refl
+      submit-heard = go (isSome (m .value)) refl
         where
-          new : (d : Bool) → length (m .collected) < k n → isWanted s v (recordOf n seat round m) ≡ not d → isCollected checks n seat s v g m ≡ not d → isFrom s (m .collected) ≡ d → Result
-          new true few p q r = neither p q
-          new false few p q r = both few r p q
-
-          go : (a : Bool) → m .confirmed ≡ a → (b : Bool) → same v (ownValue (m .value)) ≡ b → (d : Bool) → isFrom s (m .collected) ≡ d → Result
-          go a p false q d r = neither (wanted-is ∙ rw (q, and-false)) (collected-is ∙ rw q)
-          go true p true q true r = neither (wanted-is ∙ rw p) (collected-is ∙ rw (q, r))
-          go true p true q false r = beyond (leb-true (k n) (length (m .collected)) (sym (z .resting .complete) ∙ p)) (wanted-is ∙ rw p) (collected-is ∙ rw (q, r))
-          go false p true q d r =
-              let few : length (m .collected) < k n = leb-false (k n) (length (m .collected)) (sym (z .resting .complete) ∙ p) in
-              let seen : has s (seatsIn (take (k n) (m .collected))) ≡ d = ap (λ (es : List Entry). has s (seatsIn es)) (all-before s g x few) ∙ sym (from-seats s (m .collected)) ∙ r in
-              new d few (wanted-is ∙ rw (p, q, seen)) (collected-is ∙ rw (q, r)) r
+          go : (b : Bool) → isSome (m .value) ≡ b → Result
+          go true e = heard-after e
+          go false e = heard-before e (firstFrom s (m .early)) refl
 
     -- ---- submit: line 16
 
@@ -230,35 +395,147 @@ module _ (n seat round : ℕ) where
       few : length (m .collected) < k n
       few = let none-yet = ap length nothing in let p = k-pos n some-seats in omega arith
 
+      unconfirmed : m .confirmed ≡ false
+      unconfirmed = z .resting .complete ∙ lt-leb (k n) (length (m .collected)) few
+
+      -- the machine with its value, and the seats kept so far
+      abbrev y : Reaction
+      y = record { machine = setValue v x .machine; actions = x .actions ++ BroadcastSubmit v g ∷ [] }
+
+      abbrev kept : ℕ
+      kept = keptOf (m .value) (m .early)
+
+      said : isSome (y .machine .value) ≡ true
+      unfolding isSome
+      said = refl
+
+      abbrev Gathering : State → Reaction → Type 0
+      Gathering st w = Gathers checks y said kept st w
+
+      starting : Gathering (keptWith kept (at n seat round y store)) y
+      starting = record {
+        collected = m .collected;
+        store = store;
+        machine = refl;
+        is = refl;
+        room = room;
+        grown = omega arith;
+        keeping = z .keeping;
+        collecting = record { unsaid = λ h. absurd (some-none v (some v) refl h); below = z .collecting .below; sized = z .collecting .sized; counted = z .collecting .counted };
+        stored = z .stored;
+      }
+
+      -- ---- the own signature
+
       new-seat : isFrom seat (m .collected) ≡ false
       unfolding isFrom
       new-seat = ap (isFrom seat) nothing
 
-      unconfirmed : m .confirmed ≡ false
-      unconfirmed = z .resting .complete ∙ lt-leb (k n) (length (m .collected)) few
+      own-wanted : true ≡ wants checks y said seat v (m .collected)
+      unfolding ownValue
+      own-wanted =
+          let unseen : has seat (seatsIn (take (k n) (m .collected))) ≡ false = ap (λ (es : List Entry). has seat (seatsIn es)) (all-before seat g x few) ∙ sym (from-seats seat (m .collected)) ∙ new-seat in
+          rw (lt-leb (k n) (length (m .collected)) few, same-refl v, unseen)
 
-      own-collected : isCollected checks n seat seat v g (setValue v x .machine) ≡ true
-      unfolding isCollected isOwn
-      own-collected = rw (checked, same-refl v, new-seat)
+      own-recorded : submitOwn v g (at n seat round x store) ≡ collect seat g (keptWith kept (at n seat round y store))
+      unfolding submitOwn write collect setOwnValue recordOf isSome ownValue spoken act
+      own-recorded = ap (λ (st : State). collect seat g (keptWith kept st)) (write-is n seat round (BroadcastSubmit v g) (setValue v x) store)
 
-      collecting-own : Collecting n (some v) (m .collected)
-      collecting-own =
-          record { unsaid = λ h. absurd (some-none v (some v) refl h); below = z .collecting .below; sized = z .collecting .sized; counted = z .collecting .counted }
+      own-gathers : Gathering (submitOwn v g (at n seat round x store)) (collecting checks n seat seat v g y)
+      unfolding starting
+      own-gathers =
+          subst (λ (st : State). Gathering st (collecting checks n seat seat v g y)) (sym own-recorded)
+          (gather checks y said (z .obtaining .quorums) kept seat v g inside sized checked (keptWith kept (at n seat round y store)) y starting true own-wanted)
 
-      own-is-recorded : submitOwn v g (at n seat round x store) ≡ at n seat round (addCollected (e seat g x) (act (BroadcastSubmit v g) (setValue v x))) (fill n collectedBank seat g store)
-      unfolding submitOwn setOwnValue recordOf isSome ownValue spoken act
-      own-is-recorded =
-          ap (λ (s : State). write (Submit round seat v g) s) (collect-is seat g (setValue v x) few store)
-          ∙ write-is n seat round (BroadcastSubmit v g) (addCollected (e seat g x) (setValue v x)) (fill n collectedBank seat g store)
+      -- ---- those kept, seat by seat
 
-      pub submit-is : Comes n seat round (submitted v g (at n seat round x store)) (uponRules checks n seat (uponSubmit checks n seat v g x))
-      unfolding submitted uponSubmit uponSubmitDelivered act
+      module _ (t : ℕ) (l : t < n) (st : State) (w : Reaction) (a : Gathering st w) where
+        abbrev now : State
+        now = keptWith kept (at n seat round (gathered checks y said (a .collected)) (a .store))
+
+        under-is : ltb (size (seatsIn (take (k n) (a .collected)))) (k n) ≡ not (leb (k n) (length (a .collected)))
+        under-is = go (leb (k n) (length (a .collected))) refl
+          where
+            go : (b : Bool) → leb (k n) (length (a .collected)) ≡ b → ltb (size (seatsIn (take (k n) (a .collected)))) (k n) ≡ not b
+            go true e =
+                let all = a .collecting .counted ∙ length-take-le (k n) (a .collected) (leb-true (k n) (length (a .collected)) e) in
+                le-ltb (size (seatsIn (take (k n) (a .collected)))) (k n) (omega arith)
+            go false e =
+                let less = leb-false (k n) (length (a .collected)) e in
+                let all = a .collecting .counted ∙ ap length (take-all (k n) (a .collected) (omega arith)) in
+                lt-ltb (size (seatsIn (take (k n) (a .collected)))) (k n) (omega arith)
+
+        -- no SUBMIT of the seat came
+        closed : firstFrom t (m .early) ≡ none → collectKeptSeat t now ≡ now
+        unfolding collectKeptSeat isOpenTo recordOf
+        closed h =
+            let unkept : has t kept ≡ false = ap (has t) (unsaid-kept (m .value) (m .early) unsaid) ∙ has-false t (earlySeats (m .early)) .1 (first-none t (m .early) h) in
+            rw unkept
+
+        -- its first is collected where it is wanted
+        opened : (e : Signed) → firstFrom t (m .early) ≡ some e → collectKeptSeat t now ≡ cond (wants checks y said t (e .value) (a .collected)) (collect t (e .signature) now) now
+        unfolding collectKeptSeat isOpenTo collectIfWanted isWanted recordOf ownValue
+        opened e h =
+            let first = a .keeping .stored t e h in
+            let kept-some : has t kept ≡ true = ap (has t) (unsaid-kept (m .value) (m .early) unsaid) ∙ has-true t (earlySeats (m .early)) .1 (first-some t (m .early) e h) in
+            ap (λ (b : Bool). cond (has t kept && ltb (size (seatsIn (take (k n) (a .collected)))) (k n))
+            (cond (not b && same (keptValue n (a .store) t) v && not (has t (seatsIn (take (k n) (a .collected))))) (collect t (keptSignature n (a .store) t) now) now) now) unconfirmed
+            ∙ rw (kept-some, first .0, first .1, under-is)
+            (merge (leb (k n) (length (a .collected))) (same (e .value) v) (not (has t (seatsIn (take (k n) (a .collected))))) (collect t (e .signature) now) now)
+          where
+            merge : (full own new : Bool) (c d : State) → cond (not full) (cond (own && new) c d) d ≡ cond (not full && own && new) c d
+            merge true own new c d = refl
+            merge false own new c d = refl
+
+        seat-gathers : Gathering (collectKeptSeat t st) (takingUp checks n seat (firstFrom t (m .early)) w)
+        unfolding takingUp
+        seat-gathers = go (firstFrom t (m .early)) refl
+          where
+            go : (o : Option Signed) → firstFrom t (m .early) ≡ o → Gathering (collectKeptSeat t st) (takingUp checks n seat o w)
+            go none h = subst (λ (u : State). Gathering u w) (sym (ap (collectKeptSeat t) (a .is) ∙ closed h ∙ sym (a .is))) a
+            go (some e) h =
+                let f = first-in t (m .early) e h in
+                let good = z .keeping .signed e (f .0) .1 in
+                let is : collectKeptSeat t st ≡ cond (wants checks y said t (e .value) (a .collected)) (collect t (e .signature) st) st =
+                ap (collectKeptSeat t) (a .is) ∙ opened e h ∙ ap (λ (u : State). cond (wants checks y said t (e .value) (a .collected)) (collect t (e .signature) u) u) (sym (a .is)) in
+                let of-seat : checks t (e .value) (e .signature) ≡ true = subst (λ (i : ℕ). checks i (e .value) (e .signature) ≡ true) (f .1) (good .checked) in
+                subst (λ (u : State). Gathering u (collecting checks n seat (e .seat) (e .value) (e .signature) w)) (sym is)
+                (subst (λ (i : ℕ). Gathering (cond (wants checks y said t (e .value) (a .collected)) (collect t (e .signature) st) st) (collecting checks n seat i (e .value) (e .signature) w)) (sym (f .1))
+                (gather checks y said (z .obtaining .quorums) kept t (e .value) (e .signature) l (good .sized) of-seat st w a (wants checks y said t (e .value) (a .collected)) refl))
+
+      below-gathers : (t : ℕ) → t ≤ n → Gathering (collectKeptBelow t (submitOwn v g (at n seat round x store))) (takingUpBelow checks n seat t (m .early) (collecting checks n seat seat v g y))
+      unfolding collectKeptBelow takingUpBelow
+      below-gathers zero l = own-gathers
+      below-gathers (suc t) l =
+          seat-gathers t (omega arith) (collectKeptBelow t (submitOwn v g (at n seat round x store))) (takingUpBelow checks n seat t (m .early) (collecting checks n seat seat v g y)) (below-gathers t (omega arith))
+
+      -- ---- the whole
+
+      emptied : (st : State) (w : Reaction) → Gathering st w → Gathers checks y said 0 (emptyKept st) w
+      unfolding emptyKept
+      emptied st w a = record {
+        collected = a .collected;
+        store = a .store;
+        machine = a .machine;
+        is = ap emptyKept (a .is);
+        room = a .room;
+        grown = a .grown;
+        keeping = a .keeping;
+        collecting = a .collecting;
+        stored = a .stored;
+      }
+
+      all-seats : collectKept (submitOwn v g (at n seat round x store)) ≡ emptyKept (collectKeptBelow n (submitOwn v g (at n seat round x store)))
+      unfolding collectKept submitOwn write collect setOwnValue recordOf
+      all-seats = refl
+
+      pub submit-is : Comes n seat round checks (submitted v g (at n seat round x store)) (uponRules checks n seat (uponSubmit checks n seat v g x))
+      unfolding submitted uponSubmit act keptOf
       submit-is =
-          let y = act (BroadcastSubmit v g) (setValue v x) in
-          let a = confirm-is n seat round checks some-seats (addCollected (e seat g x) y) (fill n collectedBank seat g store) (subst (λ (l : ℕ). storeLength n ≤ l) (sym (fill-length n collectedBank seat g store (collected-bank .0) inside room (sized ∙ sym (collected-bank .1)))) room)
-          (collect-collecting seat g (setValue v x) few inside sized new-seat (λ h. some-none v (some v) refl h) collecting-own) (z .obtaining) (collect-stored seat g (setValue v x) few store room inside sized new-seat (z .collecting .below) (z .obtaining .quorums) (z .stored)) (λ h. absurd (true≢false (sym h ∙ unconfirmed))) in
-          subst (Comes n seat round (submitted v g (at n seat round x store))) (ap (λ (b : Bool). uponRules checks n seat (cond b (addCollected (e seat g x) y) y)) (sym own-collected))
-          (record { store = a .store; is = ap confirmIfComplete own-is-recorded ∙ a .is; mirrors = a .mirrors })
+          let st = collectKeptBelow n (submitOwn v g (at n seat round x store)) in
+          let w = takingUpBelow checks n seat n (m .early) (collecting checks n seat seat v g y) in
+          subst (λ (u : State). Comes n seat round checks (confirmIfComplete u) (uponRules checks n seat w)) (sym all-seats)
+          (gathers-rules checks y said some-seats (z .obtaining) (λ h. absurd (true≢false (sym h ∙ unconfirmed))) 0 refl (emptyKept st) w (emptied st w (below-gathers n (omega arith))))
 
     -- ---- NOTICE and FULL heard: lines 29 and 35
 
@@ -271,15 +548,16 @@ module _ (n seat round : ℕ) where
         go true p = rw p
         go false p = rw p
 
-    noticed-too : (v : List ℕ) → Mirrors n store (addNoticed v x .machine)
+    noticed-too : (v : List ℕ) → Mirrors checks n store (addNoticed v x .machine)
     noticed-too v = record {
+      keeping = z .keeping;
       collecting = z .collecting;
       obtaining = z .obtaining;
       stored = z .stored;
       resting = record { complete = z .resting .complete; heard = λ h. Memᴰ·append-left (v ∷ []) (z .resting .heard h) };
     }
 
-    notice-is : (v : List ℕ) → Comes n seat round (reply (hear v (at n seat round x store))) (uponRules checks n seat (uponNoticeDelivered checks n seat v x))
+    notice-is : (v : List ℕ) → Comes n seat round checks (reply (hear v (at n seat round x store))) (uponRules checks n seat (uponNoticeDelivered checks n seat v x))
     unfolding uponRules uponNoticeDelivered
     notice-is v =
         let y = addNoticed v x in
@@ -287,7 +565,7 @@ module _ (n seat round : ℕ) where
         let now = uponNoticesConflict checks n seat y in
         let rules : uponRules checks n seat y ≡ now =
         ap (λ (r : Reaction). uponFullsConflict checks n seat (uponNoticesConflict checks n seat r)) (quorum-quiet y (z .resting .complete)) ∙ fulls-quiet checks n seat now (reply-mirrors n seat round checks y store w .obtaining .agreed) in
-        subst (Comes n seat round (reply (hear v (at n seat round x store)))) (sym rules)
+        subst (Comes n seat round checks (reply (hear v (at n seat round x store)))) (sym rules)
         (record { store = store; is = ap reply (hear-is n seat round v x store) ∙ reply-is n seat round checks y store w; mirrors = reply-mirrors n seat round checks y store w })
 
     -- a FULL that a step takes is a valid full certificate
@@ -308,7 +586,7 @@ module _ (n seat round : ℕ) where
         record { below = c .below; enough = c .enough; sized = λ s i. c .attested s i .sized }
 
     full-is : (ρ sender : ℕ) (v : List ℕ) (es : List Entry) → Entries checks Any n v es
-        → Comes n seat round (stepped (Full ρ sender v es) (at n seat round x store)) (uponRules checks n seat (uponFullDelivered checks n seat (record { value = v; entries = es }) x))
+        → Comes n seat round checks (stepped (Full ρ sender v es) (at n seat round x store)) (uponRules checks n seat (uponFullDelivered checks n seat (record { value = v; entries = es }) x))
     unfolding stepped certificateIn certificateOf formSeats fullForm seatsIn uponFullDelivered uponRules obtain uponNoticeDelivered
     full-is ρ sender v es h =
         let q : FullCertificate = record { value = v; entries = es } in
@@ -317,17 +595,17 @@ module _ (n seat round : ℕ) where
         let machine : uponRules checks n seat (uponFullDelivered checks n seat q x) ≡ uponFullsConflict checks n seat (uponNoticesConflict checks n seat y) =
         ap (λ (b : Bool). uponRules checks n seat (cond b y x)) (full-valid v es h)
         ∙ ap (λ (r : Reaction). uponFullsConflict checks n seat (uponNoticesConflict checks n seat r)) (quorum-quiet y (z .resting .complete)) in
-        subst (Comes n seat round (stepped (Full ρ sender v es) (at n seat round x store))) (sym machine) a
+        subst (Comes n seat round checks (stepped (Full ρ sender v es) (at n seat round x store))) (sym machine) a
 
   -- ---- a step
 
   abbrev still : Machine → Reaction
   still m = record { machine = m; actions = [] }
 
-  pub step-is : (checks : Checks) (keys : List ℕ) (m : Machine) (store : List ℕ) (msg : Message) → 1 ≤ n → storeLength n ≤ length store → Mirrors n store m → Brings checks Any (recordOf n seat round m) msg
-      → Comes n seat round (stepped msg (at n seat round (still m) store)) (reactTo checks n seat (delivered msg) m)
+  pub step-is : (checks : Checks) (keys : List ℕ) (m : Machine) (store : List ℕ) (msg : Message) → 1 ≤ n → storeLength n ≤ length store → Mirrors checks n store m → Brings checks Any (recordOf n seat round m) msg
+      → Comes n seat round checks (stepped msg (at n seat round (still m) store)) (reactTo checks n seat (delivered msg) m)
   unfolding stepped delivered reactTo react uponEvent recordOf
-  step-is checks keys m store (Submit ρ s v g) some-seats room z b = submit-heard checks some-seats (still m) store room z s v g (b .0) (b .1) (b .2 .sized) (b .2 .checked)
+  step-is checks keys m store (Submit ρ s v g) some-seats room z b = submit-heard checks some-seats (still m) store room z s v g (b .0) (b .1) (b .2)
   step-is checks keys m store (Notice ρ s v) some-seats room z b = notice-is checks some-seats (still m) store room z v
   step-is checks keys m store (Full ρ sender v es) some-seats room z b = full-is checks some-seats (still m) store room z ρ sender v es b
   step-is checks keys m store (Evidence ρ values ps) some-seats room z b = record { store = store; is = refl; mirrors = z }

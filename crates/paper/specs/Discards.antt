@@ -1,4 +1,4 @@
--- Messages that a step refuses as early (13) or for a signature (14): the machine discards them, changes nothing and sends nothing.
+-- Messages that a step refuses for a signature (14): the machine discards them, changes nothing and sends nothing.
 -- Assumes nothing.
 use Prim.Native.Nat.{ℕ, _<_}
 use mathlib.Core.Path.{_≡_, refl, sym, ap, fun-ext, _∙_}
@@ -14,14 +14,13 @@ use Rattle.quorum.specs.Quorum.{k}
 use Rattle.refusal.specs.Refusal.{firstOf}
 use Rattle.protocol.specs.Layout.{storeLength, outLength}
 use Rattle.protocol.specs.Message.{Entry, Message, Submit, Notice, Full, Evidence, Garbled, Signed, signedEntry, signed, roundOf, entrySeats, seatsOf}
-use Rattle.protocol.specs.Refusals.{Checks, every, shortStore, shortOut, isForStep, rising, early, badSignature, messageConditions, recordConditions, stepConditions}
+use Rattle.protocol.specs.Refusals.{Checks, every, shortStore, shortOut, isForStep, rising, badSignature, messageConditions, recordConditions, stepConditions}
 use Rattle.protocol.specs.ConditionsLaws.{every-flat}
 use Rattle.protocol.specs.declared.Record.{Record}
 use Rattle.round.specs.Round.{Each}
 use Rattle.claims.specs.UnrefusedLaws.{of-taken}
 use Rattle.claims.specs.NotRefused.{Lent, keys-right}
-use Rattle.paper.specs.Machine.{FullCertificate, Machine, Reaction, isSome, isOwn, isFrom, distinct, isFullCertificate, isCollected, uponSubmitDelivered, uponFullDelivered, addCollected, obtain, uponEvent, uponRules, react}
-use Rattle.paper.specs.Memory.{recordOf}
+use Rattle.paper.specs.Machine.{FullCertificate, Machine, Reaction, isSome, distinct, isFullCertificate, isCollected, collecting, keeping, uponSubmitDelivered, uponFullDelivered, obtain, uponEvent, uponRules, react}
 use Rattle.paper.specs.Events.{delivered, isDelivered, reactTo}
 use Rattle.paper.specs.Rules.{AtRest, rest-quiet}
 
@@ -38,28 +37,13 @@ unfolding firstOf
 last-holds i true d e = refl
 last-holds i false d e = absurd (d (sym e))
 
-first-of-two-holds : (i j : ℕ) (a b : Bool) → j ≢ 0 → i ≢ j → firstOf ((i, b) ∷ (j, a) ∷ []) ≡ i → i ≢ 0 → b ≡ true
-unfolding firstOf
-first-of-two-holds i j a true p q e r = refl
-first-of-two-holds i j true false p q e r = absurd (q (sym e))
-first-of-two-holds i j false false p q e r = absurd (r (sym e))
-
 module _ (checks : Checks) (keys : List ℕ) (r : Record) (store : List ℕ) (m : Message) (out : List ℕ) where
-  past-form : (j : ℕ) → 12 ≢ j → 11 ≢ j → 10 ≢ j → 9 ≢ j → 7 ≢ j → 6 ≢ j → 5 ≢ j → 4 ≢ j → firstOf (stepConditions checks keys r store m out) ≡ j → firstOf ((13, early r m) ∷ (14, badSignature checks m) ∷ []) ≡ j
-  unfolding stepConditions recordConditions messageConditions
-  past-form j l i h g d c b a e =
-      firstOf-other 12 j _ _ l (firstOf-other 11 j _ _ i (firstOf-other 10 j _ _ h (firstOf-other 9 j _ _ g (firstOf-other 7 j _ _ d (firstOf-other 6 j _ _ c (firstOf-other 5 j _ _ b (firstOf-other 4 j _ _ a e)))))))
-
-  pub refused-early : firstOf (stepConditions checks keys r store m out) ≡ 13 → early r m ≡ true
-  refused-early e =
-      first-of-two-holds 13 14 (badSignature checks m) (early r m) (λ q. omega arith) (λ q. omega arith)
-      (past-form 13 (λ q. omega arith) (λ q. omega arith) (λ q. omega arith) (λ q. omega arith) (λ q. omega arith) (λ q. omega arith) (λ q. omega arith) (λ q. omega arith) e) (λ q. omega arith)
-
   pub refused-signature : firstOf (stepConditions checks keys r store m out) ≡ 14 → badSignature checks m ≡ true
+  unfolding stepConditions recordConditions messageConditions
   refused-signature e =
+      let past : (i : ℕ) (b : Bool) (rest : List (ℕ × Bool)) → i < 14 → firstOf ((i, b) ∷ rest) ≡ 14 → firstOf rest ≡ 14 = λ i b rest l. firstOf-other i 14 b rest (λ q. omega arith) in
       last-holds 14 (badSignature checks m) (λ q. omega arith)
-      (firstOf-other 13 14 (early r m) ((14, badSignature checks m) ∷ []) (λ q. omega arith)
-      (past-form 14 (λ q. omega arith) (λ q. omega arith) (λ q. omega arith) (λ q. omega arith) (λ q. omega arith) (λ q. omega arith) (λ q. omega arith) (λ q. omega arith) e))
+      (past 12 _ _ (omega arith) (past 11 _ _ (omega arith) (past 10 _ _ (omega arith) (past 9 _ _ (omega arith) (past 7 _ _ (omega arith) (past 6 _ _ (omega arith) (past 5 _ _ (omega arith) (past 4 _ _ (omega arith) e))))))))
 
   -- a message with no cause for any other refusal is delivered
   pub fit-delivered : Lent keys r store out → isForStep m ≡ true → roundOf m ≡ r .round → Each (λ s. s < r .n) (seatsOf m) → rising (entrySeats m) ≡ true → isDelivered (firstOf (stepConditions checks keys r store m out)) ≡ true
@@ -76,19 +60,13 @@ module _ (checks : Checks) (keys : List ℕ) (r : Record) (store : List ℕ) (m 
         form .1,
         form .2,
       )
-      (either (early r m) (badSignature checks m))
+      (either (badSignature checks m))
     where
-      either : (a b : Bool) → isDelivered (cond a 13 (cond b 14 0)) ≡ true
-      either true b = refl
-      either false true = refl
-      either false false = refl
+      either : (b : Bool) → isDelivered (cond b 14 0) ≡ true
+      either true = refl
+      either false = refl
 
 -- ---- the machine's reaction to such a message
-
-unsaid-own : (v : List ℕ) (o : Option (List ℕ)) → isSome o ≡ false → isOwn v o ≡ false
-unfolding isSome isOwn
-unsaid-own v none e = refl
-unsaid-own v (some w) e = absurd (true≢false e)
 
 signed-every : (checks : Checks) (v : List ℕ) (es : List Entry)
     → every (λ (s : Signed). checks (s .seat) (s .value) (s .signature)) (flatMap (signedEntry v) es) ≡ every (λ (e : Entry). checks (e .seat) v (e .signature)) es
@@ -99,33 +77,22 @@ module _ (checks : Checks) (n round : ℕ) (keys : List ℕ) (seat : ℕ) (m : M
   abbrev still : Reaction
   still = record { machine = m; actions = [] }
 
-  not-collected : (s : ℕ) (v g : List ℕ) → isCollected checks n seat s v g m ≡ false → uponRules checks n seat (uponSubmitDelivered checks n seat s v g still) ≡ still
-  unfolding uponSubmitDelivered
-  not-collected s v g e =
-      ap (λ (b : Bool). uponRules checks n seat (cond b (addCollected (record { seat = s; signature = g }) still) still)) e ∙ rest-quiet checks n seat still rest
+  not-signed : (s : ℕ) (v g : List ℕ) → checks s v g ≡ false → uponRules checks n seat (uponSubmitDelivered checks n seat s v g still) ≡ still
+  unfolding uponSubmitDelivered collecting keeping isCollected
+  not-signed s v g e = rw e (go (isSome (m .value)) ∙ rest-quiet checks n seat still rest)
+    where
+      go : (b : Bool) → uponRules checks n seat (cond b still still) ≡ uponRules checks n seat still
+      go true = refl
+      go false = refl
 
   not-obtained : (c : FullCertificate) → isFullCertificate checks n seat c ≡ false → uponRules checks n seat (uponFullDelivered checks n seat c still) ≡ still
   unfolding uponFullDelivered
   not-obtained c e = ap (λ (b : Bool). uponRules checks n seat (cond b (obtain checks n seat c still) still)) e ∙ rest-quiet checks n seat still rest
 
-  -- "SUBMIT heard before the own submit": value_i is ⊥, and no value is the own one
-  pub early-discarded : (msg : Message) → early (recordOf n seat round m) msg ≡ true → reactTo checks n seat (delivered msg) m ≡ still
-  unfolding early recordOf delivered reactTo react uponEvent isCollected
-  early-discarded (Submit ρ s v g) e =
-      not-collected s v g
-      (ap (λ (b : Bool). checks s v g && b && not (isFrom s (m .collected))) (unsaid-own v (m .value) (not-true (isSome (m .value)) e))
-      ∙ ap (λ (b : Bool). b && not (isFrom s (m .collected))) (and-false (checks s v g)))
-  early-discarded (Notice ρ s v) e = absurd (false≢true e)
-  early-discarded (Full ρ sender v es) e = absurd (false≢true e)
-  early-discarded (Evidence ρ values ps) e = absurd (false≢true e)
-  early-discarded Garbled e = absurd (false≢true e)
-
   -- "Any SUBMIT message that is not properly signed is discarded.", and a set with such a message is no full certificate
   pub unsigned-discarded : (msg : Message) → badSignature checks msg ≡ true → reactTo checks n seat (delivered msg) m ≡ still
-  unfolding badSignature signed every delivered reactTo react uponEvent isCollected isFullCertificate
-  unsigned-discarded (Submit ρ s v g) e =
-      not-collected s v g
-      (ap (λ (b : Bool). b && isOwn v (m .value) && not (isFrom s (m .collected))) (sym (and-true (checks s v g)) ∙ not-true (checks s v g && true) e))
+  unfolding badSignature signed every delivered reactTo react uponEvent isFullCertificate
+  unsigned-discarded (Submit ρ s v g) e = not-signed s v g (sym (and-true (checks s v g)) ∙ not-true (checks s v g && true) e)
   unsigned-discarded (Notice ρ s v) e = absurd (false≢true e)
   unsigned-discarded (Full ρ sender v es) e =
       let unsigned : every (λ (a : Entry). checks (a .seat) v (a .signature)) es ≡ false =

@@ -1,28 +1,31 @@
--- Lists of entries: the set of their seats, the signature of a seat, and the messages made from them.
+-- Lists of entries: the set of their seats, the signature of a seat, and the messages made from them; and lists of SUBMITs: the first
+-- of a seat.
 -- Assumes nothing.
 use Prim.Native.Nat.{ℕ, zero, suc, _^_, _<_}
 use mathlib.Core.Path.{_≡_, refl, sym, ap, ap₂, subst, _∙_}
 use mathlib.Core.Bool.{Bool, true, false, cond, not, _||_, true≢false}
 use mathlib.Core.List.{List, [], _∷_, _++_, map, map-append, List·Memᴰ, List·Memᴰ·head, List·Memᴰ·tail, List·Memᴰ·not-nil, List·Memᴰ·cases-cons, Memᴰ·map}
 use mathlib.Core.Logic.{_⊎_, inl, inr, ⊎-elim, _≢_}
+use mathlib.Core.Option.{Option, none, some}
 use native.Mathlib.Omega.{arith}
 use native.Mathlib.Decide.{ℕ-discrete}
 use lib.Dec.{eqb}
 use lib.ListN.{take}
 use borrow.Author.Tests.{eqb-true, eqb-false, eq-eqb, ne-eqb, not-true}
 use Rattle.quorum.specs.Quorum.{bit, In, has, shared, with, seats}
-use Rattle.quorum.specs.QuorumLaws.{bit-cases, bit-empty, bit-with-same, bit-with-other, has-true, has-false, in-shared, mem-seats}
+use Rattle.quorum.specs.QuorumLaws.{bit-cases, bit-empty, bit-with-same, bit-with-other, has-true, has-false, in-shared, mem-seats, same-seats}
 use Rattle.refusal.specs.RefusalLaws.{both-true, both-false}
 use Rattle.protocol.specs.Values.{isLower}
-use Rattle.protocol.specs.Message.{Entry, Full, Evidence}
+use Rattle.protocol.specs.Message.{Entry, Signed, Full, Evidence}
 use Rattle.protocol.specs.Certificate.{setOf, signatureOf, entriesOf, fullOf, pairOf, pairsOf, orderedEvidence, evidenceOf}
 use Rattle.protocol.specs.CertificateLaws.{in-set, set-snoc}
 use Rattle.protocol.specs.Refusals.{rising}
 use Rattle.round.specs.Round.{Each}
 use Rattle.reading.specs.ListsLaws.{cond-elim, each-nil, each-cons, each-map, rising-first}
 use Rattle.claims.specs.CertificatesLaws.{set-below}
-use Rattle.paper.specs.Machine.{isFrom, distinct}
-use Rattle.paper.specs.Memory.{seatsIn}
+use Rattle.paper.specs.Machine.{isFrom, firstFrom, distinct}
+use Rattle.paper.specs.Memory.{seatsIn, earlySeats}
+use Rattle.paper.specs.ConflictsLaws.{some-none}
 
 -- ---- the set of seats
 
@@ -185,3 +188,59 @@ rising-distinct [] r = refl
 rising-distinct (e ∷ es) r =
     let first = rising-first (e .seat) (map (λ (x : Entry). x .seat) es) r in
     rw (from-above (e .seat) es (first .1)) (rising-distinct es (first .0))
+
+-- ---- SUBMITs: the first of a seat
+
+pub first-in : (s : ℕ) (es : List Signed) (e : Signed) → firstFrom s es ≡ some e → List·Memᴰ e es × (e .seat ≡ s)
+unfolding firstFrom
+first-in s [] e h = absurd (some-none e none h refl)
+first-in s (x ∷ es) e h = go (eqb (x .seat) s) refl h (λ p. first-in s es e p)
+  where
+    go : (b : Bool) → eqb (x .seat) s ≡ b → cond b (some x) (firstFrom s es) ≡ some e → (firstFrom s es ≡ some e → List·Memᴰ e es × (e .seat ≡ s)) → List·Memᴰ e (x ∷ es) × (e .seat ≡ s)
+    go true q p rest = let is : x ≡ e = cc in (List·Memᴰ·head (sym is), ap (λ (a : Signed). a .seat) (sym is) ∙ eqb-true (x .seat) s q)
+    go false q p rest = let r = rest p in (List·Memᴰ·tail (r .0), r .1)
+
+-- where there is one, the seat is in the set of the seats
+pub first-some : (s : ℕ) (es : List Signed) (e : Signed) → firstFrom s es ≡ some e → In s (earlySeats es)
+unfolding earlySeats
+first-some s es e h =
+    let f = first-in s es e h in
+    in-set s (map (λ (x : Signed). x .seat) es) .1 (subst (λ (t : ℕ). List·Memᴰ t (map (λ (x : Signed). x .seat) es)) (f .1) (Memᴰ·map (λ (x : Signed). x .seat) (f .0)))
+
+pub first-none : (s : ℕ) (es : List Signed) → firstFrom s es ≡ none → bit s (earlySeats es) ≡ 0
+unfolding firstFrom earlySeats setOf
+first-none s [] h = bit-empty s
+first-none s (x ∷ es) h = go (eqb (x .seat) s) refl h (λ p. first-none s es p)
+  where
+    go : (b : Bool) → eqb (x .seat) s ≡ b → cond b (some x) (firstFrom s es) ≡ none → (firstFrom s es ≡ none → bit s (earlySeats es) ≡ 0) → bit s (with (x .seat) (earlySeats es)) ≡ 0
+    go true q p rest = absurd (some-none x (some x) refl p)
+    go false q p rest = bit-with-other s (x .seat) (earlySeats es) (λ e. eqb-false (x .seat) s q (sym e)) ∙ rest p
+
+-- with one more, the first of a seat is as before, or that one is the first
+abbrev More : ℕ → Signed → Signed → Option Signed → Type 0
+More s e a o = (o ≡ some a) ⊎ ((o ≡ none) × (e .seat ≡ s) × (a ≡ e))
+
+pub first-more : (s : ℕ) (es : List Signed) (e a : Signed) → firstFrom s (es ++ e ∷ []) ≡ some a → More s e a (firstFrom s es)
+unfolding firstFrom
+first-more s [] e a h = go (eqb (e .seat) s) refl h
+  where
+    go : (b : Bool) → eqb (e .seat) s ≡ b → cond b (some e) none ≡ some a → More s e a none
+    go true q p = let is : a ≡ e = cc in inr (refl, eqb-true (e .seat) s q, is)
+    go false q p = absurd (some-none a none p refl)
+first-more s (x ∷ es) e a h = go (eqb (x .seat) s) h (λ p. first-more s es e a p)
+  where
+    go : (b : Bool) → cond b (some x) (firstFrom s (es ++ e ∷ [])) ≡ some a → (firstFrom s (es ++ e ∷ []) ≡ some a → More s e a (firstFrom s es)) → More s e a (cond b (some x) (firstFrom s es))
+    go true p rest = inl p
+    go false p rest = rest p
+
+pub early-more : (es : List Signed) (e : Signed) → earlySeats (es ++ e ∷ []) ≡ with (e .seat) (earlySeats es)
+unfolding earlySeats
+early-more es e = ap setOf (map-append (λ (x : Signed). x .seat) es (e ∷ [])) ∙ set-snoc (map (λ (x : Signed). x .seat) es) (e .seat)
+
+-- a seat that is in the set already
+pub with-in : (s m : ℕ) → In s m → with s m ≡ m
+with-in s m i = same-seats (with s m) m (λ t. go t (ℕ-discrete t s))
+  where
+    go : (t : ℕ) → Dec (t ≡ s) → bit t (with s m) ≡ bit t m
+    go t (yes q) = rw q (bit-with-same s m ∙ sym i)
+    go t (no d) = bit-with-other t s m d

@@ -23,10 +23,10 @@ delivered (Full ρ sender value entries) = some (FullDelivered (record { value =
 delivered (Evidence ρ values entries) = none
 delivered Garbled = none
 
--- Whether a step with this refusal number is an event. A message refused as early (13) or for a signature (14) is delivered all the
--- same: the machine has its own `if` for these. Every other refusal is document 01's own, and such a call is none of the paper's.
+-- Whether a step with this refusal number is an event. A message refused for a signature (14) is delivered all the same: the machine
+-- has its own `if` for it. Every other refusal is document 01's own, and such a call is none of the paper's.
 unfoldable pub isDelivered : ℕ → Bool
-isDelivered refusal = eqb refusal 0 || eqb refusal 13 || eqb refusal 14
+isDelivered refusal = eqb refusal 0 || eqb refusal 14
 
 -- event of a call with its refusal number; a refused submit is none
 unfoldable pub eventOf : ℕ → ℕ → Call → Option Event
@@ -90,7 +90,7 @@ pub record FitSubmit (S : Setting) (seat : ℕ) (c : Called) (value signature : 
   -- 14
   pub checked : S .checks seat value signature ≡ true
 
--- a step without a cause for a refusal other than early (13) and signature (14)
+-- a step without a cause for a refusal other than signature (14)
 pub record FitStep (S : Setting) (c : Called) (bytes : List ℕ) : Type 0 where
   pub out : List ℕ
   pub isStep : IsStep (c .given) bytes out

@@ -16,7 +16,7 @@ use Rattle.protocol.specs.Certificate.{setOf, signatureOf, certificateOf, entri
 use Rattle.protocol.specs.Refusals.{every}
 use Rattle.round.specs.Round.{Each}
 use Rattle.reading.specs.ListsLaws.{each-one, each-cons}
-use Rattle.paper.specs.Machine.{FullCertificate, Machine, init, Event, Submitted, SubmitDelivered, NoticeDelivered, FullDelivered, Action, BroadcastSubmit, ConfirmAndNotice, BroadcastFull, Detect, act, isSome, isOwn, ownValue, isFrom, distinct, other, pairOr, conflict, isFullCertificate, ownFull, isCollected, uponSubmitDelivered, uponSubmit, uponNoticeDelivered, obtain, uponFullDelivered, confirming, uponQuorum, sending, uponNoticesConflict, detecting, uponFullsConflict, uponEvent, uponRules, react, Says}
+use Rattle.paper.specs.Machine.{FullCertificate, Machine, init, Event, Submitted, SubmitDelivered, NoticeDelivered, FullDelivered, Action, BroadcastSubmit, ConfirmAndNotice, BroadcastFull, Detect, act, isSome, isOwn, ownValue, isFrom, firstFrom, distinct, other, pairOr, conflict, isFullCertificate, ownFull, isCollected, collecting, keeping, uponSubmitDelivered, takingUp, takingUpBelow, uponSubmit, uponNoticeDelivered, obtain, uponFullDelivered, confirming, uponQuorum, sending, uponNoticesConflict, detecting, uponFullsConflict, uponEvent, uponRules, react, Says}
 use Rattle.paper.specs.Spoken.{spoken, Formed, spoken-says}
 
 -- toy signature check: a signature's first byte is its seat
@@ -30,7 +30,7 @@ does n m (e ∷ es) = react toy n 0 e m .actions ∷ does n (react toy n 0 e m .
 
 -- a name that unfolds every definition
 unfolded : Bool
-unfolding does t0 k same every init act isSome isOwn ownValue isFrom distinct other pairOr conflict isFullCertificate ownFull isCollected uponSubmitDelivered uponSubmit uponNoticeDelivered obtain uponFullDelivered confirming uponQuorum sending uponNoticesConflict detecting uponFullsConflict uponEvent uponRules react
+unfolding does t0 k same every init act isSome isOwn ownValue isFrom distinct other pairOr conflict isFullCertificate ownFull isCollected collecting keeping uponSubmitDelivered firstFrom takingUp takingUpBelow uponSubmit uponNoticeDelivered obtain uponFullDelivered confirming uponQuorum sending uponNoticesConflict detecting uponFullsConflict uponEvent uponRules react
 unfolded = true
 
 abbrev seven : List ℕ
@@ -82,8 +82,8 @@ confirms-then-detects = refl
 
 -- ---- a unit hears before it submits
 
--- a SUBMIT before the own value is discarded, and so is a certificate with a message that isn't properly signed; values noticed and
--- certificates obtained before the own submission count when the unit confirms
+-- a certificate with a message that isn't properly signed is discarded; values noticed and certificates obtained before the own
+-- submission count when the unit confirms, and a SUBMIT that came before it is collected at it
 hears-before-submitting : does 4 init (
     hears 2 seven
     ∷ FullDelivered (by nine 1 2 3)
@@ -98,11 +98,50 @@ hears-before-submitting : does 4 init (
     ∷ []
     ∷ []
     ∷ (BroadcastSubmit seven (0 ∷ []) ∷ [])
+    ∷ (ConfirmAndNotice seven ∷ BroadcastFull (by seven 0 2 3) ∷ Detect (by nine 1 2 3) (by seven 0 2 3) ∷ [])
     ∷ []
-    ∷ (ConfirmAndNotice seven ∷ BroadcastFull (by seven 0 3 2) ∷ Detect (by nine 1 2 3) (by seven 0 3 2) ∷ [])
     ∷ []
 unfolding unfolded
 hears-before-submitting = refl
+
+-- three SUBMITs before the submission: at it the unit confirms, from its own and the first two in rising seat order. The own seat's
+-- isn't taken up, and neither is one that isn't properly signed.
+confirms-at-once : does 4 init (
+    hears 3 seven
+    ∷ hears 0 seven
+    ∷ SubmitDelivered 1 seven (2 ∷ [])
+    ∷ hears 2 seven
+    ∷ hears 1 seven
+    ∷ Submitted seven (0 ∷ [])
+    ∷ NoticeDelivered nine
+    ∷ []
+    ) ≡ []
+    ∷ []
+    ∷ []
+    ∷ []
+    ∷ []
+    ∷ (BroadcastSubmit seven (0 ∷ []) ∷ ConfirmAndNotice seven ∷ [])
+    ∷ (BroadcastFull (by seven 0 1 2) ∷ [])
+    ∷ []
+unfolding unfolded
+confirms-at-once = refl
+
+-- of a seat that sent two, the first counts: seat 1's is of another value. Sent once more, it is collected like any other.
+first-of-a-seat : does 4 init (
+    hears 1 nine
+    ∷ hears 1 seven
+    ∷ hears 2 seven
+    ∷ Submitted seven (0 ∷ [])
+    ∷ hears 1 seven
+    ∷ []
+    ) ≡ []
+    ∷ []
+    ∷ []
+    ∷ (BroadcastSubmit seven (0 ∷ []) ∷ [])
+    ∷ (ConfirmAndNotice seven ∷ [])
+    ∷ []
+unfolding unfolded
+first-of-a-seat = refl
 
 -- ---- "With n = 1, submit confirms in the same call."
 

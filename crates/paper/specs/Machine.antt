@@ -11,8 +11,11 @@
 -- (6) The outputs of `Confirm` and `Detect` are messages, NOTICE and EVIDENCE.
 -- (7) At line 18 "the signature [is] collected" in the submit itself, without waiting until its broadcast comes back to it.
 -- (8) The own signature comes with the submission, while the paper's unit makes it, and "is checked like any other".
+-- Document 02's, item 1:
+-- (9) "A SUBMIT heard before the own submit is now checked, and the first good one from each seat is kept with its value": the
+--     paper's line 20 passes over it, since value_i is ⊥. At the submission lines 20 to 23 are done for the first of each seat.
 -- Assumes nothing.
-use Prim.Native.Nat.{ℕ}
+use Prim.Native.Nat.{ℕ, zero, suc}
 use mathlib.Core.Path.{_≡_}
 use mathlib.Core.Bool.{Bool, true, false, cond, not, _&&_, _||_}
 use mathlib.Core.List.{List, [], _∷_, _++_, map, List·Memᴰ}
@@ -23,7 +26,7 @@ use lib.ListN.{length, take}
 use Rattle.octets.specs.Strings.{same}
 use Rattle.quorum.specs.Quorum.{k}
 use Rattle.protocol.specs.Values.{unset, isLower}
-use Rattle.protocol.specs.Message.{Entry, Pair, Message, Submit, Notice, Full, Evidence}
+use Rattle.protocol.specs.Message.{Entry, Pair, Signed, Message, Submit, Notice, Full, Evidence}
 use Rattle.protocol.specs.Refusals.{Checks, every, rising}
 
 -- ---- the state
@@ -39,6 +42,8 @@ pub record Machine : Type 0 where
   pub value : Option (List ℕ)
   -- "confirmed_i ← false"
   pub confirmed : Bool
+  -- the properly signed SUBMITs that came while value_i was ⊥; (9)
+  pub early : List Signed
   -- "from_i ← ∅" and "fullCertificate_i ← ∅": from_i is the set of its seats
   pub collected : List Entry
   -- "obtainedLightCertificates_i ← ∅": the values of all notices
@@ -51,7 +56,7 @@ pub record Machine : Type 0 where
   pub detected : Option (FullCertificate × FullCertificate)
 
 unfoldable pub init : Machine
-init = record { value = none; confirmed = false; collected = []; noticed = []; obtained = []; sent = false; detected = none }
+init = record { value = none; confirmed = false; early = []; collected = []; noticed = []; obtained = []; sent = false; detected = none }
 
 -- ---- events and actions
 
@@ -87,11 +92,11 @@ act a x = record { machine = x .machine; actions = x .actions ++ a ∷ [] }
 
 -- the unit's own: value_i, confirmed_i, and the signatures collected
 abbrev pub setOwn : Option (List ℕ) → Bool → List Entry → Reaction → Reaction
-setOwn value confirmed collected x = let m = x .machine in record { machine = record { value = value; confirmed = confirmed; collected = collected; noticed = m .noticed; obtained = m .obtained; sent = m .sent; detected = m .detected }; actions = x .actions }
+setOwn value confirmed collected x = let m = x .machine in record { machine = record { value = value; confirmed = confirmed; early = m .early; collected = collected; noticed = m .noticed; obtained = m .obtained; sent = m .sent; detected = m .detected }; actions = x .actions }
 
 -- certificates, light and full, and whether the rules of lines 33 and 39 were activated
 abbrev pub setCertificates : List (List ℕ) → List FullCertificate → Bool → Option (FullCertificate × FullCertificate) → Reaction → Reaction
-setCertificates noticed obtained sent detected x = let m = x .machine in record { machine = record { value = m .value; confirmed = m .confirmed; collected = m .collected; noticed = noticed; obtained = obtained; sent = sent; detected = detected }; actions = x .actions }
+setCertificates noticed obtained sent detected x = let m = x .machine in record { machine = record { value = m .value; confirmed = m .confirmed; early = m .early; collected = m .collected; noticed = noticed; obtained = obtained; sent = sent; detected = detected }; actions = x .actions }
 
 abbrev pub setValue : List ℕ → Reaction → Reaction
 setValue v x = let m = x .machine in setOwn (some v) (m .confirmed) (m .collected) x
@@ -101,6 +106,9 @@ setConfirmed x = let m = x .machine in setOwn (m .value) true (m .collected) x
 
 abbrev pub addCollected : Entry → Reaction → Reaction
 addCollected e x = let m = x .machine in setOwn (m .value) (m .confirmed) (m .collected ++ e ∷ []) x
+
+abbrev pub addEarly : Signed → Reaction → Reaction
+addEarly e x = let m = x .machine in record { machine = record { value = m .value; confirmed = m .confirmed; early = m .early ++ e ∷ []; collected = m .collected; noticed = m .noticed; obtained = m .obtained; sent = m .sent; detected = m .detected }; actions = x .actions }
 
 abbrev pub addNoticed : List ℕ → Reaction → Reaction
 addNoticed v x = let m = x .machine in setCertificates (m .noticed ++ v ∷ []) (m .obtained) (m .sent) (m .detected) x
@@ -134,6 +142,11 @@ ownValue (some own) = own
 unfoldable pub isFrom : ℕ → List Entry → Bool
 isFrom seat [] = false
 isFrom seat (e ∷ es) = eqb (e .seat) seat || isFrom seat es
+
+-- the first message of a seat
+unfoldable pub firstFrom : ℕ → List Signed → Option Signed
+firstFrom seat [] = none
+firstFrom seat (e ∷ es) = cond (eqb (e .seat) seat) (some e) (firstFrom seat es)
 
 -- "Each message m is sent (i.e., signed) by a distinct process."
 unfoldable pub distinct : List Entry → Bool
@@ -176,7 +189,6 @@ module _ (checks : Checks) (n own : ℕ) where
   unfoldable pub ownFull : Machine → FullCertificate
   ownFull m = record { value = ownValue (m .value); entries = take (k n) (m .collected) }
 
-  -- 19: "upon event ⟨beb, Deliver | P_j, [SUBMIT, value, share]σ_j⟩ do"
   -- 6: "Any SUBMIT message that is not properly signed is discarded."
   -- 20: "if ShareVerify_j(value, share) = ⊤ and value = value_i and P_j ∉ from_i then"; (1)
   unfoldable pub isCollected : ℕ → List ℕ → List ℕ → Machine → Bool
@@ -184,15 +196,33 @@ module _ (checks : Checks) (n own : ℕ) where
 
   -- 21: "from_i ← from_i ∪ {P_j}"
   -- 23: "fullCertificate_i ← fullCertificate_i ∪ {[SUBMIT, value, share]σ_j}"
-  unfoldable pub uponSubmitDelivered : ℕ → List ℕ → List ℕ → Reaction → Reaction
-  uponSubmitDelivered seat v signature x =
+  unfoldable pub collecting : ℕ → List ℕ → List ℕ → Reaction → Reaction
+  collecting seat v signature x =
       cond (isCollected seat v signature (x .machine)) (addCollected (record { seat = seat; signature = signature }) x) x
+
+  -- a SUBMIT while value_i is ⊥; 6, and (9)
+  unfoldable pub keeping : ℕ → List ℕ → List ℕ → Reaction → Reaction
+  keeping seat v signature x = cond (checks seat v signature) (addEarly (record { seat = seat; value = v; signature = signature }) x) x
+
+  -- 19: "upon event ⟨beb, Deliver | P_j, [SUBMIT, value, share]σ_j⟩ do"
+  unfoldable pub uponSubmitDelivered : ℕ → List ℕ → List ℕ → Reaction → Reaction
+  uponSubmitDelivered seat v signature x = cond (isSome (x .machine .value)) (collecting seat v signature x) (keeping seat v signature x)
+
+  -- lines 20 to 23 for one of those that came before the submission, if there is one; (9)
+  unfoldable pub takingUp : Option Signed → Reaction → Reaction
+  takingUp none x = x
+  takingUp (some e) x = collecting (e .seat) (e .value) (e .signature) x
+
+  -- "in rising seat order": for the first of each seat below a number; (9)
+  unfoldable pub takingUpBelow : ℕ → List Signed → Reaction → Reaction
+  takingUpBelow zero early x = x
+  takingUpBelow (suc seat) early x = takingUp (firstFrom seat early) (takingUpBelow seat early x)
 
   -- 16: "upon event ⟨ac, Submit | v⟩ do"
   -- 17: "value_i ← v"
-  -- 18: "trigger ⟨beb, Broadcast | [SUBMIT, v, ShareSign_i(v)]σ_i⟩"; (7): lines 19 to 23 for the own SUBMIT, at once
+  -- 18: "trigger ⟨beb, Broadcast | [SUBMIT, v, ShareSign_i(v)]σ_i⟩"; (7): lines 20 to 23 for the own SUBMIT, at once; then (9)
   unfoldable pub uponSubmit : List ℕ → List ℕ → Reaction → Reaction
-  uponSubmit v signature x = uponSubmitDelivered own v signature (act (BroadcastSubmit v signature) (setValue v x))
+  uponSubmit v signature x = takingUpBelow n (x .machine .early) (collecting own v signature (act (BroadcastSubmit v signature) (setValue v x)))
 
   -- 29: "upon event ⟨beb, Deliver | P_j, [LIGHT-CERTIFICATE, value_j, lightCertificate_j]⟩ do"
   -- 31: "obtainedLightCertificates_i ← obtainedLightCertificates_i ∪ {[LIGHT-CERTIFICATE, value_j, lightCertificate_j]}"; (2)

@@ -17,10 +17,10 @@ use Rattle.octets.specs.Strings.{same}
 use Rattle.octets.specs.StringsLaws.{same-refl}
 use Rattle.quorum.specs.Quorum.{k, In, size, shared, seats}
 use Rattle.quorum.specs.QuorumLaws.{size-empty, mem-seats, k-of-n-share}
-use Rattle.protocol.specs.Layout.{signatureLength, storeLength, collectedBank, firstBank}
-use Rattle.protocol.specs.LayoutLaws.{collected-bank, first-bank}
+use Rattle.protocol.specs.Layout.{signatureLength, banks, storeLength, collectedBank, firstBank, keptBank, keptValueBank}
+use Rattle.protocol.specs.LayoutLaws.{collected-bank, first-bank, kept-bank, kept-value-bank}
 use Rattle.protocol.specs.Entries.{formSeats}
-use Rattle.protocol.specs.Message.{Entry, Message, fullForm}
+use Rattle.protocol.specs.Message.{Entry, Signed, Message, fullForm}
 use Rattle.protocol.specs.Certificate.{Certificate, slot, fillEach, ownCertificate, firstCertificate, signatureOf, certificateOf, conflictOf}
 use Rattle.protocol.specs.Record.{withNotices, noneHeard, oneHeard, holds}
 use Rattle.protocol.specs.Refusals.{Checks}
@@ -34,10 +34,10 @@ use Rattle.claims.specs.SlotsLaws.{slot-fillEach-other, slot-fillEach-same}
 use Rattle.paper.specs.Machine.{FullCertificate, Machine, Action, ConfirmAndNotice, BroadcastFull, Detect, Reaction, act, setConfirmed, addNoticed, addObtained, setCertificates, setSent, isSome, ownValue, other, pairOr, conflict, valueOfNotice, valueOfFull, ownFull, uponNoticeDelivered, obtain, confirming, uponQuorum, sending, uponNoticesConflict, detecting, uponFullsConflict, uponRules}
 use Rattle.paper.specs.Memory.{seatsIn, noticesOf, heldFirst, guiltyOf, recordOf, firstEntries}
 use Rattle.paper.specs.ConflictsLaws.{same-sym, some-none, other-none, other-more, other-still, conflict-head, head-none}
-use Rattle.paper.specs.EntriesLaws.{seats-below, signature-each, full-same, evidence-same, each-take}
+use Rattle.paper.specs.EntriesLaws.{seats-below, signature-each, full-same, evidence-same, each-take, first-in}
 use Rattle.paper.specs.Spoken.{spoken}
 use Rattle.paper.specs.Rules.{fulls-quiet}
-use Rattle.paper.specs.Mirror.{Collecting, Quorum, Obtaining, Stored, Mirrors}
+use Rattle.paper.specs.Mirror.{Collecting, Quorum, Obtaining, Stored, Keeping, Mirrors}
 
 -- ---- notices
 
@@ -75,7 +75,7 @@ other-heard-is (v ∷ vs) r e d = rw (e, conflict-head valueOfNotice v vs) (go (
 
 -- ---- the first of a list
 
-taken-below : (n : ℕ) (es : List Entry) → Each (λ (e : Entry). e .seat < n) es → seatsIn (take (k n) es) < 2 ^ n
+pub taken-below : (n : ℕ) (es : List Entry) → Each (λ (e : Entry). e .seat < n) es → seatsIn (take (k n) es) < 2 ^ n
 taken-below n es h = seats-below n (take (k n) es) (each-take (λ (e : Entry). e .seat < n) (k n) es h)
 
 pub first-below : (n : ℕ) (obtained : List FullCertificate) → Each (Quorum n) obtained → heldFirst obtained .seats < 2 ^ n
@@ -83,17 +83,24 @@ unfolding heldFirst
 first-below n [] h = pow-pos n
 first-below n (c ∷ cs) h = h c (List·Memᴰ·head refl) .below
 
+-- ---- the kept slots, where they are as before
+
+pub keeping-like : (checks : Checks) (n : ℕ) (store store′ : List ℕ) (early : List Signed) → Keeping checks n store early
+    → ((bank s : ℕ) → keptBank ≤ bank → bank < length banks → s < n → slot n bank store′ s ≡ slot n bank store s) → Keeping checks n store′ early
+keeping-like checks n store store′ early z like = record {
+  signed = z .signed;
+  stored = λ s e h.
+      let f = first-in s early e h in
+      let here : s < n = subst (λ (t : ℕ). t < n) (f .1) (z .signed e (f .0) .0) in
+      let old = z .stored s e h in
+      (like keptValueBank s (omega arith) (kept-value-bank .0) here ∙ old .0, like keptBank s (omega arith) (kept-bank .0) here ∙ old .1);
+}
+
 -- ---- record, store and messages beside the machine
 
 module _ (n seat round : ℕ) where
   abbrev pub at : Reaction → List ℕ → State
   at x store = record { unit = recordOf n seat round (x .machine); store = store; written = map (spoken n round seat) (x .actions) }
-
-  -- a state of the engine that mirrors the machine's
-  pub record Comes (s : State) (x : Reaction) : Type 0 where
-    pub store : List ℕ
-    pub is : s ≡ at x store
-    pub mirrors : Mirrors n store (x .machine)
 
   at-cond : (b : Bool) (x y : Reaction) (store : List ℕ) → cond b (at x store) (at y store) ≡ at (cond b x y) store
   at-cond true x y store = refl
@@ -121,6 +128,12 @@ module _ (n seat round : ℕ) where
       go false e = refl
 
   module _ (checks : Checks) where
+    -- a state of the engine that mirrors the machine's
+    pub record Comes (s : State) (x : Reaction) : Type 0 where
+      pub store : List ℕ
+      pub is : s ≡ at x store
+      pub mirrors : Mirrors checks n store (x .machine)
+
     send-is : (x : Reaction) (store : List ℕ) → ((s : ℕ) → In s (seatsIn (take (k n) (x .machine .collected))) → slot n collectedBank store s ≡ signatureOf (take (k n) (x .machine .collected)) s)
         → sendFull (at x store) ≡ at (sending checks n seat x) store
     unfolding sendFull ownCertificate recordOf sending spoken certificateOf formSeats fullForm ownFull seatsIn
@@ -129,7 +142,7 @@ module _ (n seat round : ℕ) where
         ap (λ (y : Message). write y (at (setSent x) store)) (full-same n round seat (ownValue (m .value)) (seatsIn (take (k n) (m .collected))) (slot n collectedBank store) (signatureOf (take (k n) (m .collected))) own)
         ∙ write-is (BroadcastFull (ownFull checks n seat m)) (setSent x) store
 
-    pub reply-is : (x : Reaction) (store : List ℕ) → Mirrors n store (x .machine) → reply (at x store) ≡ at (uponNoticesConflict checks n seat x) store
+    pub reply-is : (x : Reaction) (store : List ℕ) → Mirrors checks n store (x .machine) → reply (at x store) ≡ at (uponNoticesConflict checks n seat x) store
     unfolding reply uponNoticesConflict
     reply-is x store z =
         let m = x .machine in
@@ -138,11 +151,11 @@ module _ (n seat round : ℕ) where
         ∙ ap (λ (y : State). cond b y (at x store)) (send-is x store (z .stored .own))
         ∙ at-cond b (sending checks n seat x) x store
 
-    pub reply-mirrors : (x : Reaction) (store : List ℕ) → Mirrors n store (x .machine) → Mirrors n store (uponNoticesConflict checks n seat x .machine)
+    pub reply-mirrors : (x : Reaction) (store : List ℕ) → Mirrors checks n store (x .machine) → Mirrors checks n store (uponNoticesConflict checks n seat x .machine)
     unfolding uponNoticesConflict sending act
     reply-mirrors x store z =
-        cond-elim (λ y. Mirrors n store (y .machine)) (x .machine .confirmed && not (x .machine .sent) && isSome (conflict valueOfNotice (x .machine .noticed))) (sending checks n seat x) x
-        (λ e. record { collecting = z .collecting; obtaining = z .obtaining; stored = z .stored; resting = z .resting }) (λ e. z)
+        cond-elim (λ y. Mirrors checks n store (y .machine)) (x .machine .confirmed && not (x .machine .sent) && isSome (conflict valueOfNotice (x .machine .noticed))) (sending checks n seat x) x
+        (λ e. record { keeping = z .keeping; collecting = z .collecting; obtaining = z .obtaining; stored = z .stored; resting = z .resting }) (λ e. z)
 
     -- ---- hold or blame: line 39
 
@@ -161,13 +174,15 @@ module _ (n seat round : ℕ) where
         with-certificates obtained detected = setCertificates (x .machine .noticed) obtained (x .machine .sent) detected x
 
         abbrev Mirrored : List FullCertificate → Option (FullCertificate × FullCertificate) → Type 0
-        Mirrored obtained detected = Mirrors n store (with-certificates obtained detected .machine)
+        Mirrored obtained detected = Mirrors checks n store (with-certificates obtained detected .machine)
 
         -- "The first is held."
         hold-mirror : (detected : Option (FullCertificate × FullCertificate)) → Mirrored [] detected
-            → Mirrors n (fillEach n firstBank signature (seats n (seatsIn (q .entries))) store) (with-certificates (q ∷ []) detected .machine)
+            → Mirrors checks n (fillEach n firstBank signature (seats n (seatsIn (q .entries))) store) (with-certificates (q ∷ []) detected .machine)
         unfolding heldFirst firstEntries conflict other pairOr
         hold-mirror detected z = record {
+          keeping = keeping-like checks n store (fillEach n firstBank signature (seats n (seatsIn (q .entries))) store) (x .machine .early) (z .keeping)
+              (λ bank t later b l. slot-fillEach-other n firstBank signature first-bank (seats n (seatsIn (q .entries))) store bank t fit room b l (λ u d p _. omega arith));
           collecting = z .collecting;
           obtaining = record { quorums = each-one (Quorum n) q y; agreed = λ e. refl; guilty = z .obtaining .guilty };
           stored = record {
@@ -188,6 +203,7 @@ module _ (n seat round : ℕ) where
             → Mirrored (f ∷ (rest ++ q ∷ [])) new
         unfolding heldFirst firstEntries
         more-mirror f rest old new z agreed guilty = record {
+          keeping = z .keeping;
           collecting = z .collecting;
           obtaining = record { quorums = each-append (Quorum n) (f ∷ rest) (q ∷ []) (z .obtaining .quorums) (each-one (Quorum n) q y); agreed = agreed; guilty = guilty };
           stored = record { own = z .stored .own; first = z .stored .first };
@@ -293,7 +309,7 @@ module _ (n seat round : ℕ) where
           go true = refl
           go false = refl
 
-      pub certificate-is : (x : Reaction) (store : List ℕ) → storeLength n ≤ length store → Mirrors n store (addNoticed (q .value) x .machine)
+      pub certificate-is : (x : Reaction) (store : List ℕ) → storeLength n ≤ length store → Mirrors checks n store (addNoticed (q .value) x .machine)
           → Comes (hearCertificate c (at x store)) (uponFullsConflict checks n seat (uponNoticesConflict checks n seat (obtain checks n seat q x)))
       unfolding hearCertificate obtain uponNoticeDelivered
       certificate-is x store room z =
@@ -306,7 +322,7 @@ module _ (n seat round : ℕ) where
 
     -- ---- confirm: line 25
 
-    module _ (some-seats : 1 ≤ n) (x : Reaction) (store : List ℕ) (room : storeLength n ≤ length store) (collecting : Collecting n (x .machine .value) (x .machine .collected)) (obtaining : Obtaining n (x .machine .obtained) (x .machine .detected)) (stored : Stored n store (x .machine .collected) (x .machine .obtained)) where
+    module _ (some-seats : 1 ≤ n) (x : Reaction) (store : List ℕ) (room : storeLength n ≤ length store) (keeping : Keeping checks n store (x .machine .early)) (collecting : Collecting n (x .machine .value) (x .machine .collected)) (obtaining : Obtaining n (x .machine .obtained) (x .machine .detected)) (stored : Stored n store (x .machine .collected) (x .machine .obtained)) where
       abbrev complete : Bool
       complete = leb (k n) (length (x .machine .collected))
 
@@ -339,6 +355,7 @@ module _ (n seat round : ℕ) where
           let after = act (ConfirmAndNotice (ownValue (m .value))) (setConfirmed x) in
           let a = certificate-is some-seats own (slot n collectedBank store) (stored .own) (own-quorum e) after store room
           (record {
+            keeping = keeping;
             collecting = collecting;
             obtaining = obtaining;
             stored = stored;
@@ -353,7 +370,8 @@ module _ (n seat round : ℕ) where
         where
           quiet : (not (x .machine .confirmed) && complete) ≡ false → x .machine .confirmed ≡ complete → Comes (confirmIfComplete (at x store)) (uponRules checks n seat x)
           quiet e h =
-              let z : Mirrors n store (x .machine) = record {
+              let z : Mirrors checks n store (x .machine) = record {
+                keeping = keeping;
                 collecting = collecting;
                 obtaining = obtaining;
                 stored = stored;

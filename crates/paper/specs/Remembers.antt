@@ -1,52 +1,83 @@
 -- The machine forgets nothing: everything collected, noticed and obtained stays, and everything delivered and not discarded is added.
 -- Assumes nothing.
-use Prim.Native.Nat.{ℕ}
-use mathlib.Core.Path.{_≡_, refl, sym, subst}
-use mathlib.Core.Bool.{Bool, true, cond}
+use Prim.Native.Nat.{ℕ, zero, suc}
+use mathlib.Core.Path.{_≡_, refl, sym, ap, subst}
+use mathlib.Core.Bool.{Bool, true, false, cond, not, _&&_}
 use mathlib.Core.List.{List, [], _∷_, List·Memᴰ, List·Memᴰ·head, Memᴰ·append-left, Memᴰ·append-right}
-use Rattle.protocol.specs.Message.{Entry}
+use mathlib.Core.Option.{Option, none, some}
+use Rattle.refusal.specs.RefusalLaws.{both-true}
+use Rattle.protocol.specs.Message.{Entry, Signed}
 use Rattle.protocol.specs.Refusals.{Checks}
 use Rattle.round.specs.Round.{Each}
 use Rattle.reading.specs.ListsLaws.{cond-elim}
-use Rattle.paper.specs.Machine.{FullCertificate, Machine, Event, Submitted, SubmitDelivered, NoticeDelivered, FullDelivered, BroadcastSubmit, ConfirmAndNotice, Reaction, act, setValue, setConfirmed, addCollected, isSome, ownValue, conflict, valueOfFull, isFullCertificate, ownFull, isCollected, uponSubmitDelivered, uponSubmit, uponNoticeDelivered, obtain, uponFullDelivered, confirming, uponQuorum, sending, uponNoticesConflict, detecting, uponFullsConflict, uponEvent, uponRules, react}
+use Rattle.paper.specs.Machine.{FullCertificate, Machine, Event, Submitted, SubmitDelivered, NoticeDelivered, FullDelivered, BroadcastSubmit, ConfirmAndNotice, Reaction, act, setValue, setConfirmed, addCollected, addEarly, isSome, isOwn, ownValue, isFrom, firstFrom, conflict, valueOfFull, isFullCertificate, ownFull, isCollected, collecting, keeping, uponSubmitDelivered, takingUp, takingUpBelow, uponSubmit, uponNoticeDelivered, obtain, uponFullDelivered, confirming, uponQuorum, sending, uponNoticesConflict, detecting, uponFullsConflict, uponEvent, uponRules, react}
 use Rattle.paper.specs.Rules.{quorumDue, noticesDue, detecting-elim}
 
 pub record Remembers (m m′ : Machine) : Type 0 where
+  pub early : Each (λ (e : Signed). List·Memᴰ e (m′ .early)) (m .early)
   pub collected : Each (λ (e : Entry). List·Memᴰ e (m′ .collected)) (m .collected)
   pub noticed : Each (λ (v : List ℕ). List·Memᴰ v (m′ .noticed)) (m .noticed)
   pub obtained : Each (λ (c : FullCertificate). List·Memᴰ c (m′ .obtained)) (m .obtained)
 
 remembers-refl : (m : Machine) → Remembers m m
-remembers-refl m = record { collected = λ a d. d; noticed = λ a d. d; obtained = λ a d. d }
+remembers-refl m = record { early = λ a d. d; collected = λ a d. d; noticed = λ a d. d; obtained = λ a d. d }
 
 remembers-trans : (a b c : Machine) → Remembers a b → Remembers b c → Remembers a c
 remembers-trans a b c p q = record {
+  early = λ e d. q .early e (p .early e d);
   collected = λ e d. q .collected e (p .collected e d);
   noticed = λ v d. q .noticed v (p .noticed v d);
   obtained = λ f d. q .obtained f (p .obtained f d);
 }
 
 module _ (checks : Checks) (n own : ℕ) where
+  collecting-remembers : (s : ℕ) (v g : List ℕ) (x : Reaction) → Remembers (x .machine) (collecting checks n own s v g x .machine)
+  unfolding collecting
+  collecting-remembers s v g x =
+      let e : Entry = record { seat = s; signature = g } in
+      cond-elim (λ y. Remembers (x .machine) (y .machine)) (isCollected checks n own s v g (x .machine)) (addCollected e x) x
+      (λ h. record { early = λ a d. d; collected = λ a d. Memᴰ·append-left (e ∷ []) d; noticed = λ a d. d; obtained = λ a d. d }) (λ h. remembers-refl (x .machine))
+
+  keeping-remembers : (s : ℕ) (v g : List ℕ) (x : Reaction) → Remembers (x .machine) (keeping checks n own s v g x .machine)
+  unfolding keeping
+  keeping-remembers s v g x =
+      let e : Signed = record { seat = s; value = v; signature = g } in
+      cond-elim (λ y. Remembers (x .machine) (y .machine)) (checks s v g) (addEarly e x) x
+      (λ h. record { early = λ a d. Memᴰ·append-left (e ∷ []) d; collected = λ a d. d; noticed = λ a d. d; obtained = λ a d. d }) (λ h. remembers-refl (x .machine))
+
   submit-remembers : (s : ℕ) (v g : List ℕ) (x : Reaction) → Remembers (x .machine) (uponSubmitDelivered checks n own s v g x .machine)
   unfolding uponSubmitDelivered
   submit-remembers s v g x =
-      let e : Entry = record { seat = s; signature = g } in
-      cond-elim (λ y. Remembers (x .machine) (y .machine)) (isCollected checks n own s v g (x .machine)) (addCollected e x) x
-      (λ h. record { collected = λ a d. Memᴰ·append-left (e ∷ []) d; noticed = λ a d. d; obtained = λ a d. d }) (λ h. remembers-refl (x .machine))
+      cond-elim (λ y. Remembers (x .machine) (y .machine)) (isSome (x .machine .value)) (collecting checks n own s v g x) (keeping checks n own s v g x) (λ h. collecting-remembers s v g x)
+      (λ h. keeping-remembers s v g x)
+
+  taking-remembers : (o : Option Signed) (x : Reaction) → Remembers (x .machine) (takingUp checks n own o x .machine)
+  unfolding takingUp
+  taking-remembers none x = remembers-refl (x .machine)
+  taking-remembers (some e) x = collecting-remembers (e .seat) (e .value) (e .signature) x
+
+  below-remembers : (t : ℕ) (early : List Signed) (x : Reaction) → Remembers (x .machine) (takingUpBelow checks n own t early x .machine)
+  unfolding takingUpBelow
+  below-remembers zero early x = remembers-refl (x .machine)
+  below-remembers (suc t) early x =
+      let y = takingUpBelow checks n own t early x in
+      remembers-trans (x .machine) (y .machine) (takingUp checks n own (firstFrom t early) y .machine) (below-remembers t early x) (taking-remembers (firstFrom t early) y)
 
   own-remembers : (v g : List ℕ) (x : Reaction) → Remembers (x .machine) (uponSubmit checks n own v g x .machine)
   unfolding uponSubmit act
   own-remembers v g x =
-      let after = submit-remembers own v g (act (BroadcastSubmit v g) (setValue v x)) in
-      record { collected = after .collected; noticed = after .noticed; obtained = after .obtained }
+      let y = act (BroadcastSubmit v g) (setValue v x) in
+      let z = collecting checks n own own v g y in
+      let after = remembers-trans (y .machine) (z .machine) (takingUpBelow checks n own n (x .machine .early) z .machine) (collecting-remembers own v g y) (below-remembers n (x .machine .early) z) in
+      record { early = after .early; collected = after .collected; noticed = after .noticed; obtained = after .obtained }
 
   notice-remembers : (v : List ℕ) (x : Reaction) → Remembers (x .machine) (uponNoticeDelivered checks n own v x .machine)
   unfolding uponNoticeDelivered
-  notice-remembers v x = record { collected = λ a d. d; noticed = λ a d. Memᴰ·append-left (v ∷ []) d; obtained = λ a d. d }
+  notice-remembers v x = record { early = λ a d. d; collected = λ a d. d; noticed = λ a d. Memᴰ·append-left (v ∷ []) d; obtained = λ a d. d }
 
   obtain-remembers : (c : FullCertificate) (x : Reaction) → Remembers (x .machine) (obtain checks n own c x .machine)
   unfolding obtain uponNoticeDelivered
-  obtain-remembers c x = record { collected = λ a d. d; noticed = λ a d. Memᴰ·append-left (c .value ∷ []) d; obtained = λ a d. Memᴰ·append-left (c ∷ []) d }
+  obtain-remembers c x = record { early = λ a d. d; collected = λ a d. d; noticed = λ a d. Memᴰ·append-left (c .value ∷ []) d; obtained = λ a d. Memᴰ·append-left (c ∷ []) d }
 
   full-remembers : (c : FullCertificate) (x : Reaction) → Remembers (x .machine) (uponFullDelivered checks n own c x .machine)
   unfolding uponFullDelivered
@@ -60,14 +91,14 @@ module _ (checks : Checks) (n own : ℕ) where
       cond-elim (λ y. Remembers (x .machine) (y .machine)) (quorumDue n (x .machine)) (confirming checks n own x) x
       (λ h.
       let after = obtain-remembers (ownFull checks n own (x .machine)) (act (ConfirmAndNotice (ownValue (x .machine .value))) (setConfirmed x)) in
-      record { collected = after .collected; noticed = after .noticed; obtained = after .obtained })
+      record { early = after .early; collected = after .collected; noticed = after .noticed; obtained = after .obtained })
       (λ h. remembers-refl (x .machine))
 
   notices-remember : (x : Reaction) → Remembers (x .machine) (uponNoticesConflict checks n own x .machine)
   unfolding uponNoticesConflict sending act
   notices-remember x =
       cond-elim (λ y. Remembers (x .machine) (y .machine)) (noticesDue (x .machine)) (sending checks n own x) x
-      (λ h. record { collected = λ a d. d; noticed = λ a d. d; obtained = λ a d. d }) (λ h. remembers-refl (x .machine))
+      (λ h. record { early = λ a d. d; collected = λ a d. d; noticed = λ a d. d; obtained = λ a d. d }) (λ h. remembers-refl (x .machine))
 
   fulls-remember : (x : Reaction) → Remembers (x .machine) (uponFullsConflict checks n own x .machine)
   unfolding uponFullsConflict act
@@ -75,7 +106,7 @@ module _ (checks : Checks) (n own : ℕ) where
       let P : Reaction → Type 0 = λ y. Remembers (x .machine) (y .machine) in
       let all : P x = remembers-refl (x .machine) in
       cond-elim P (isSome (x .machine .detected)) x (detecting checks n own (conflict valueOfFull (x .machine .obtained)) x) (λ h. all)
-      (λ h. detecting-elim checks n own P (conflict valueOfFull (x .machine .obtained)) x all (λ p. record { collected = λ a d. d; noticed = λ a d. d; obtained = λ a d. d }))
+      (λ h. detecting-elim checks n own P (conflict valueOfFull (x .machine .obtained)) x all (λ p. record { early = λ a d. d; collected = λ a d. d; noticed = λ a d. d; obtained = λ a d. d }))
 
   rules-remember : (x : Reaction) → Remembers (x .machine) (uponRules checks n own x .machine)
   unfolding uponRules
@@ -102,13 +133,34 @@ module _ (checks : Checks) (n own : ℕ) where
 
   -- ---- additions at a delivery
 
+  -- a SUBMIT is collected after the submission only
+  collected-said : (s : ℕ) (v g : List ℕ) (m : Machine) → isCollected checks n own s v g m ≡ true → isSome (m .value) ≡ true
+  unfolding isCollected isOwn isSome
+  collected-said s v g m h = go (m .value) (both-true (checks s v g) (isOwn v (m .value)) (both-true (checks s v g && isOwn v (m .value)) (not (isFrom s (m .collected))) h .0) .1)
+    where
+      go : (o : Option (List ℕ)) → isOwn v o ≡ true → isSome o ≡ true
+      go none e = e
+      go (some w) e = refl
+
+  none-said : (m : Machine) → m .value ≡ none → isSome (m .value) ≡ false
+  unfolding isSome
+  none-said m e = ap isSome e
+
+  -- a SUBMIT before the submission, properly signed
+  pub early-added : (s : ℕ) (v g : List ℕ) (m : Machine) → m .value ≡ none → checks s v g ≡ true
+      → List·Memᴰ (record { seat = s; value = v; signature = g }) (react checks n own (SubmitDelivered s v g) m .machine .early)
+  unfolding react uponEvent uponSubmitDelivered keeping
+  early-added s v g m unsaid h =
+      let x : Reaction = record { machine = m; actions = [] } in
+      let e : Signed = record { seat = s; value = v; signature = g } in
+      rw (none-said m unsaid, h) (rules-remember (addEarly e x) .early e (Memᴰ·append-right (m .early) (List·Memᴰ·head refl)))
+
   pub submit-added : (s : ℕ) (v g : List ℕ) (m : Machine) → isCollected checks n own s v g m ≡ true → List·Memᴰ (record { seat = s; signature = g }) (react checks n own (SubmitDelivered s v g) m .machine .collected)
-  unfolding react uponEvent uponSubmitDelivered
+  unfolding react uponEvent uponSubmitDelivered collecting
   submit-added s v g m h =
       let x : Reaction = record { machine = m; actions = [] } in
       let e : Entry = record { seat = s; signature = g } in
-      subst (λ (b : Bool). List·Memᴰ e (uponRules checks n own (cond b (addCollected e x) x) .machine .collected)) (sym h)
-      (rules-remember (addCollected e x) .collected e (Memᴰ·append-right (m .collected) (List·Memᴰ·head refl)))
+      rw (collected-said s v g m h, h) (rules-remember (addCollected e x) .collected e (Memᴰ·append-right (m .collected) (List·Memᴰ·head refl)))
 
   pub notice-added : (v : List ℕ) (m : Machine) → List·Memᴰ v (react checks n own (NoticeDelivered v) m .machine .noticed)
   unfolding react uponEvent uponNoticeDelivered
