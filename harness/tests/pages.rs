@@ -57,9 +57,10 @@ fn names_of_the_header() {
     }
 }
 
-/// Both tables have every refusal, in order, by the header's word and number.
+/// Both tables have every refusal, in order, by the header's word and number, and tell of one that no longer occurs.
 #[test]
 fn refusals() {
+    use harness::reference::refusals;
     let enumerators: Vec<&str> =
         HEADER.lines().filter_map(|line| line.split([',', '/']).next()).map(str::trim).collect();
     for page in [HOST, PROTOCOL] {
@@ -69,6 +70,7 @@ fn refusals() {
         for (number, row) in (1..).zip(rows) {
             let name = row[1].replace(' ', "_").to_uppercase();
             assert_eq!(row[0], number.to_string());
+            assert_eq!(row[2].starts_with("retired"), !refusals::ORDER.contains(&number), "{name}");
             assert!(enumerators.contains(&format!("ZOLBINE_{name} = {number}").as_str()), "{name} isn't {number}");
         }
     }
