@@ -260,6 +260,7 @@ impl Script<'_> {
                 }
                 "sent" => record.sent = true,
                 "guilty" => record.guilty = mask(&seats(words)),
+                "kept" => record.kept = mask(&seats(words)),
                 word => return Err(format!("a record has no `{word}`")),
             }
         }

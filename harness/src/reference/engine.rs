@@ -1,5 +1,5 @@
-//! Document 01's opening and steps. A call works on copies; only at its end are they handed over, so that a refusal
-//! changes nothing.
+//! Document 01's opening and steps, with document 02's item 1. A call works on copies; only at its end are they handed over,
+//! so that a refusal changes nothing.
 
 use super::calls::MAX_LEAF;
 use super::evidence;
@@ -47,9 +47,8 @@ pub fn step(record: Record, keys: &[u8], store: &mut [u8], message: &[u8], out: 
     let stepped = || {
         let heard = Heard::read(message, record.n);
         let told = heard.as_ref().map(Heard::told);
-        let early = row(13, || matches!(heard, Some(Heard::Submit(_))) && !record.own.submitted);
         let in_message = refusals::message(record.n, record.round, keys, &told);
-        pass(buffers(&record, keys, store, out).into_iter().chain(in_message).chain([early]))?;
+        pass(buffers(&record, keys, store, out).into_iter().chain(in_message))?;
         let mut unit = Unit::new(&record, store);
         match heard.as_ref().expect("a garbled one is refused") {
             Heard::Submit(submit) => unit.hear_submit(submit),
@@ -138,13 +137,39 @@ impl Unit {
         self.record.own.value = value;
         self.submit = Some(Submit { round, seat, value, signature: signature.to_vec() });
         self.collect(seat, signature);
+        self.collect_kept();
+    }
+
+    /// The kept ones of the own value from other seats, in rising seat order until k is reached. Then no seat is kept.
+    fn collect_kept(&mut self) {
+        let Record { n, seat: own_seat, own, kept, .. } = self.record;
+        let others = list(kept).into_iter().filter(|&seat| seat != own_seat);
+        let of_the_value = others.filter(|&seat| self.store[layout::kept_value(n, seat)] == own.value);
+        let lacking = quorum::k(n) - size(own.collected);
+        for seat in of_the_value.take(lacking as usize).collect::<Vec<_>>() {
+            let signature = self.store[layout::kept(n, seat)].to_vec();
+            self.collect(seat, &signature);
+        }
+        self.record.kept = 0;
     }
 
     fn hear_submit(&mut self, submit: &Submit) {
-        let own = &self.record.own;
-        if !self.record.confirmed && submit.value == own.value && !contains(own.collected, submit.seat) {
+        let Record { own, confirmed, kept, .. } = self.record;
+        if !own.submitted {
+            if !contains(kept, submit.seat) {
+                self.keep(submit);
+            }
+        } else if !confirmed && submit.value == own.value && !contains(own.collected, submit.seat) {
             self.collect(submit.seat, &submit.signature);
         }
+    }
+
+    fn keep(&mut self, submit: &Submit) {
+        let Submit { seat, value, signature, .. } = submit;
+        let n = self.record.n;
+        self.record.kept |= mask(&[*seat]);
+        self.store[layout::kept(n, *seat)].copy_from_slice(signature);
+        self.store[layout::kept_value(n, *seat)].copy_from_slice(value);
     }
 
     fn collect(&mut self, seat: u32, signature: &[u8]) {

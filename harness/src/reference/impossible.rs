@@ -1,4 +1,4 @@
-//! Document 01's impossible records, test by test.
+//! The impossible records of document 01 and of document 02's item 1, test by test.
 
 use super::calls::MAX_LEAF;
 use super::quorum;
@@ -11,7 +11,7 @@ pub fn impossible(record: &Record) -> bool {
 
 /// The causes that hold. Where n is out of range the others have no meaning.
 pub fn causes(record: &Record) -> Vec<&'static str> {
-    let Record { n, seat, round, own, confirmed, notices, first, sent, guilty } = *record;
+    let Record { n, seat, round, own, confirmed, notices, first, sent, guilty, kept } = *record;
     if !(1..=32).contains(&n) {
         return vec!["n is out of range"];
     }
@@ -24,6 +24,7 @@ pub fn causes(record: &Record) -> Vec<&'static str> {
         ("collected seats name a stranger", names_a_stranger(own.collected)),
         ("the first certificate names a stranger", names_a_stranger(first.seats)),
         ("guilty seats name a stranger", names_a_stranger(guilty)),
+        ("kept seats name a stranger", names_a_stranger(kept)),
         ("seats are collected without a submission", !own.submitted && own.collected != 0),
         ("collected seats lack the own", own.submitted && seat < n && !contains(own.collected, seat)),
         ("more than k seats are collected", size(own.collected) > k),
@@ -34,6 +35,7 @@ pub fn causes(record: &Record) -> Vec<&'static str> {
         ("guilty seats without a first certificate", guilty != 0 && first.seats == 0),
         ("a guilty seat is outside the first certificate", first.seats != 0 && guilty & !first.seats != 0),
         ("FULL was sent unconfirmed", sent && !confirmed),
+        ("seats are kept after a submission", own.submitted && kept != 0),
         ("the own value is not zero and unset", !own.submitted && own.value != nothing),
         ("the heard value is not zero and unset", notices.heard == 0 && notices.value != nothing),
         ("the first certificate's value is not zero and unset", first.seats == 0 && first.value != nothing),

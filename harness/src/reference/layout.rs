@@ -1,4 +1,4 @@
-//! Document 01's layout in bytes: the widths of the parts, and the lengths and places that follow from them. A place is named
+//! The documents' layout in bytes: the widths of the parts, and the lengths and places that follow from them. A place is named
 //! by what stands there; `count` is a number of entries.
 
 use std::ops::Range;
@@ -60,9 +60,10 @@ pub fn evidence_out(n: u32) -> usize {
     evidence(k(n))
 }
 
-/// The store: n slots for collected signatures, then n for the first certificate's, each by seat.
+/// The store: n slots for collected signatures, n for the first certificate's, n for kept ones, then n values of the kept ones,
+/// each by seat.
 pub fn store(n: u32) -> usize {
-    slot(2 * n).start
+    kept_value(n, n).start
 }
 
 pub fn collected(seat: u32) -> Range<usize> {
@@ -71,6 +72,15 @@ pub fn collected(seat: u32) -> Range<usize> {
 
 pub fn first(n: u32, seat: u32) -> Range<usize> {
     slot(n + seat)
+}
+
+pub fn kept(n: u32, seat: u32) -> Range<usize> {
+    slot(2 * n + seat)
+}
+
+pub fn kept_value(n: u32, seat: u32) -> Range<usize> {
+    let start = slot(3 * n).start + VALUE * seat as usize;
+    start..start + VALUE
 }
 
 fn slot(number: u32) -> Range<usize> {
@@ -82,23 +92,28 @@ fn slot(number: u32) -> Range<usize> {
 mod tests {
     use super::*;
 
-    /// The figures that document 01 states.
+    /// The figures that documents 01 and 02 (item 1) state.
     #[test]
-    fn figures_of_document_01() {
+    fn figures_of_the_documents() {
         assert_eq!((SIGNATURE, SIGNED, SUBMIT, NOTICE), (1452, 36, 1488, 36));
         for n in 1..=32 {
             let (count, k) = (n as usize, k(n) as usize);
             assert_eq!((full(n), evidence(n)), (37 + 1454 * count, 68 + 2906 * count));
-            assert_eq!((store(n), out(n), evidence_out(n)), (2904 * count, 1629 + 4360 * k, 68 + 2906 * k));
+            assert_eq!((store(n), out(n), evidence_out(n)), (4388 * count, 1629 + 4360 * k, 68 + 2906 * k));
         }
     }
 
     #[test]
     fn the_slots_fill_the_store() {
         for n in 1..=32 {
-            let slots = (0..n).map(collected).chain((0..n).map(|seat| first(n, seat)));
-            let end = slots.fold(0, |end, slot| {
-                assert_eq!((slot.start, slot.len()), (end, SIGNATURE));
+            let banks: [fn(u32, u32) -> Range<usize>; 4] = [|_, seat| collected(seat), first, kept, kept_value];
+            let lengths = [SIGNATURE, SIGNATURE, SIGNATURE, VALUE];
+            let slots = banks
+                .into_iter()
+                .zip(lengths)
+                .flat_map(|(bank, length)| (0..n).map(move |seat| (bank(n, seat), length)));
+            let end = slots.fold(0, |end, (slot, length)| {
+                assert_eq!((slot.start, slot.len()), (end, length));
                 slot.end
             });
             assert_eq!(end, store(n));

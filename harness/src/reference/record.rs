@@ -15,6 +15,8 @@ pub struct Record {
     /// Whether FULL was sent.
     pub sent: bool,
     pub guilty: u32,
+    /// Seats whose SUBMIT was heard before the own submit.
+    pub kept: u32,
 }
 
 #[derive(Clone, Copy, Debug, Default, PartialEq, Eq)]
@@ -80,12 +82,12 @@ mod tests {
     /// Offsets by C's rules: a flag takes one byte, a number starts at a multiple of four.
     #[test]
     fn the_layout_is_that_of_c() {
-        assert_eq!(size_of::<Record>(), 136);
+        assert_eq!(size_of::<Record>(), 140);
         assert_eq!((offset_of!(Record, own), offset_of!(Own, value), offset_of!(Own, collected)), (12, 1, 36));
         assert_eq!((offset_of!(Record, confirmed), offset_of!(Record, notices)), (52, 56));
         assert_eq!((offset_of!(Record, first), offset_of!(First, seats)), (92, 32));
-        assert_eq!((offset_of!(Record, sent), offset_of!(Record, guilty)), (128, 132));
-        assert_eq!((size_of::<Opened>(), size_of::<Stepped>()), (140, 144));
+        assert_eq!((offset_of!(Record, sent), offset_of!(Record, guilty), offset_of!(Record, kept)), (128, 132, 136));
+        assert_eq!((size_of::<Opened>(), size_of::<Stepped>()), (144, 148));
         assert_eq!((size_of::<Written>(), size_of::<Verdict>()), (8, 8));
     }
 }

@@ -6,8 +6,9 @@ use super::messages::{signed_bytes, Full, Signed, Told};
 use super::quorum;
 use super::verdicts;
 
-/// The table's numbers in the order in which they count: "The lowest number whose condition holds is returned".
-pub const ORDER: &[u32] = &[1, 2, 3, 4, 5, 6, 7, 8, 9, 10, 11, 12, 13, 14, 15, 16];
+/// The table's numbers in the order in which they count: "The lowest number whose condition holds is returned". "Number 13 no
+/// longer occurs."
+pub const ORDER: &[u32] = &[1, 2, 3, 4, 5, 6, 7, 8, 9, 10, 11, 12, 14, 15, 16];
 
 /// The place of a number in the order.
 pub fn place(number: u32) -> usize {

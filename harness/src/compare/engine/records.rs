@@ -84,6 +84,9 @@ fn impossible(fleet: Fleet, rng: &mut Rng) -> Vec<(&'static str, Record)> {
         ("notices heard are no case", Record { notices: Notices { heard: 3, value }, ..confirmed }),
         ("notices heard are no case", Record { notices: Notices { heard: 256, value }, ..opened }),
         ("notices heard are no case", Record { notices: Notices { heard: u32::MAX, value }, ..held }),
+        ("seats are kept after a submission", Record { kept: mask(&[seat]), ..submitted }),
+        ("seats are kept after a submission", Record { kept: mask(&fleet.seats()), ..submitted }),
+        ("seats are kept after a submission", Record { kept: mask(&quorum[..1]), ..confirmed }),
     ];
     if k > 1 {
         list.extend([
@@ -110,6 +113,8 @@ fn impossible(fleet: Fleet, rng: &mut Rng) -> Vec<(&'static str, Record)> {
         let stranger = mask(&[n]);
         list.push(("the first certificate names a stranger", with_first(held, mask(&quorum[1..]) | stranger)));
         list.push(("the first certificate names a stranger", with_first(held, mask(&quorum[1..]) | 1 << 31)));
+        list.push(("kept seats name a stranger", Record { kept: stranger, ..opened }));
+        list.push(("kept seats name a stranger", Record { kept: mask(&quorum) | 1 << 31, ..held }));
     }
     if n < 32 && k > 2 {
         list.push(("collected seats name a stranger", with_collected(submitted, mask(&[seat, n]))));
@@ -136,8 +141,8 @@ pub fn any_impossible(fleet: Fleet, rng: &mut Rng) -> Record {
     rng.pick(&list).1
 }
 
-/// A possible record, whatever calls would have led to it: the values, the masks and the flags are chosen freely where
-/// document 01's list leaves them free.
+/// A possible record, whatever calls would have led to it: the values, the masks and the flags are chosen freely where the
+/// documents' lists leave them free.
 pub fn any_possible(fleet: Fleet, values: &[Value], rng: &mut Rng) -> Record {
     let Fleet { n, .. } = fleet;
     let k = fleet.k();
@@ -156,6 +161,8 @@ pub fn any_possible(fleet: Fleet, values: &[Value], rng: &mut Rng) -> Record {
         record.own = Own { submitted: true, value: *rng.pick(values), collected: mask(&collected) };
         record.confirmed = collected.len() as u32 == k;
         record.sent = record.confirmed && rng.one_in(3);
+    } else {
+        record.kept = mask(&some_seats(n, rng.below(n as usize + 1) as u32, rng));
     }
     if record.confirmed || rng.one_in(2) {
         let seats = some_seats(n, k, rng);
@@ -189,15 +196,14 @@ pub fn any_call(fleet: Fleet, record: &Record, values: &[Value], rng: &mut Rng) 
     Call::Step { message }
 }
 
-fn case(fleet: Fleet, record: Record, call: Call, rng: &mut Rng) -> Case {
+/// Keys, store and out for a call. The store has any signatures, and for each seat one of the values as the kept one's.
+fn case(fleet: Fleet, record: Record, values: &[Value], call: Call, rng: &mut Rng) -> Case {
     let spare = *rng.pick(&[0, 0, 1, 50]);
-    Case {
-        record,
-        keys: fleet.key_table(),
-        store: rng.bytes(layout::store(fleet.n) + spare),
-        call,
-        out: rng.bytes(layout::out(fleet.n) + spare),
+    let mut store = rng.bytes(layout::store(fleet.n) + spare);
+    for seat in fleet.seats() {
+        store[layout::kept_value(fleet.n, seat)].copy_from_slice(rng.pick(values).as_slice());
     }
+    Case { record, keys: fleet.key_table(), store, call, out: rng.bytes(layout::out(fleet.n) + spare) }
 }
 
 /// A submit with random bytes.
@@ -262,6 +268,7 @@ fn any_record(rng: &mut Rng) -> Record {
         first: First { value: values[2], seats: rng.u32() },
         sent: rng.one_in(2),
         guilty: rng.u32(),
+        kept: rng.u32(),
     }
 }
 
@@ -276,12 +283,12 @@ pub fn battery(subject: Subject) {
         for (cause, record) in impossible(fleet, &mut rng) {
             assert_eq!(causes(&record), [cause], "n = {n}: {record:?}");
             let call = any_call(fleet, &record, &values, &mut rng);
-            cases.push((cause.to_string(), true, case(fleet, record, call, &mut rng)));
+            cases.push((cause.to_string(), true, case(fleet, record, &values, call, &mut rng)));
         }
         for record in guilty_strangers(fleet, &mut rng) {
             assert_eq!(causes(&record).len(), 2, "n = {n}: {record:?}");
             let call = any_call(fleet, &record, &values, &mut rng);
-            cases.push(("guilty strangers".to_string(), true, case(fleet, record, call, &mut rng)));
+            cases.push(("guilty strangers".to_string(), true, case(fleet, record, &values, call, &mut rng)));
         }
         let (count, values) = match (n <= 7, long()) {
             (true, _) => (sized(300), &values[..]),
@@ -292,7 +299,7 @@ pub fn battery(subject: Subject) {
             let record = any_possible(fleet, values, &mut rng);
             assert_eq!(causes(&record), [""; 0], "n = {n}: {record:?}");
             let call = any_call(fleet, &record, values, &mut rng);
-            cases.push(("a possible record".to_string(), false, case(fleet, record, call, &mut rng)));
+            cases.push(("a possible record".to_string(), false, case(fleet, record, values, call, &mut rng)));
         }
     }
     run("records", &cases, |(what, impossible, case), rng| {

@@ -6,10 +6,11 @@ use crate::compare::arguments::key_spoilers;
 use crate::compare::messages;
 use crate::compare::refusals::{lengths, on_part, spoiled, spoiler, Spoiler};
 use crate::compare::{equal, long, noise, resized, run, sized, LOWER_TREE};
-use crate::fleet::{layouts, rounds, Fleet};
+use crate::fleet::{layouts, rounds, some_seats, Fleet};
 use crate::reference::layout::{self, SIGNATURE};
 use crate::reference::messages::{Full, Notice, Submit, Value};
 use crate::reference::record::{First, Own, Record};
+use crate::reference::seats::mask;
 use crate::rng::{seed, Rng};
 
 pub fn battery(subject: Subject) {
@@ -59,10 +60,12 @@ impl Right {
         Right { seat, value, submit: fleet.submit(other, &value, 0), notice: fleet.notice(other, &value), full }
     }
 
-    /// The four kinds of call.
-    fn calls(&self, fleet: Fleet, rng: &mut Rng) -> [Base; 4] {
+    /// The five kinds of call. Before the own submit seats are kept.
+    fn calls(&self, fleet: Fleet, rng: &mut Rng) -> [Base; 5] {
         let Right { seat, value, .. } = *self;
-        let (unsaid, said) = (opened(fleet, seat), submitted(fleet, seat, value));
+        let kept = some_seats(fleet.n, rng.below(fleet.n as usize + 1) as u32, rng);
+        let unsaid = Record { kept: mask(&kept), ..opened(fleet, seat) };
+        let said = submitted(fleet, seat, value);
         let own = Call::Submit { value: value.to_vec(), signature: fleet.signature(seat, &value, 0) };
         let mut base = |name, record, call| {
             let (store, out) = (rng.bytes(layout::store(fleet.n)), rng.bytes(layout::out(fleet.n)));
@@ -71,6 +74,7 @@ impl Right {
         [
             base("submit", unsaid, own),
             base("SUBMIT", said, Call::Step { message: self.submit.write() }),
+            base("early SUBMIT", unsaid, Call::Step { message: self.submit.write() }),
             base("NOTICE", unsaid, Call::Step { message: self.notice.write() }),
             base("FULL", unsaid, Call::Step { message: self.full.write() }),
         ]
@@ -103,15 +107,14 @@ pub fn lengths_around(subject: Subject, n: u32, rng: &mut Rng) -> Result<usize, 
 
 type Part = fn(&mut Case) -> &mut Vec<u8>;
 
-/// The four kinds of call, each right, with the changes that make that kind alone wrong.
+/// The kinds of call, each right, with the changes that make that kind alone wrong.
 fn kinds(fleet: Fleet, rng: &mut Rng) -> Vec<(Base, Vec<Spoiler<Case>>)> {
     let right = Right::new(fleet, rng);
-    let unsaid = opened(fleet, right.seat);
-    let mut in_submit = on_part(messages::submit(fleet, &right.submit), message_of);
-    in_submit.push(spoiler(13, "before the own submit", move |case: &mut Case, _| case.record = unsaid));
+    let in_submit = || on_part(messages::submit(fleet, &right.submit), message_of);
     let spoilers = [
         own_spoilers(fleet, right.seat, right.value),
-        in_submit,
+        in_submit(),
+        in_submit(),
         on_part(messages::notice(fleet, &right.notice), message_of),
         on_part(messages::full(fleet, &right.full), message_of),
     ];
@@ -167,7 +170,7 @@ type Change = fn(&mut Record);
 /// 4 to 7. A record is made impossible whatever it was before.
 fn shared_spoilers(fleet: Fleet) -> Vec<Spoiler<Case>> {
     let Fleet { n, .. } = fleet;
-    let records: [(&str, Change); 8] = [
+    let records: [(&str, Change); 9] = [
         ("n of 0", |record| record.n = 0),
         ("n of 33", |record| record.n = 33),
         ("seat at n", |record| record.seat = record.n),
@@ -176,6 +179,7 @@ fn shared_spoilers(fleet: Fleet) -> Vec<Spoiler<Case>> {
         ("confirmed without a first certificate", |record| (record.confirmed, record.first) = (true, First::default())),
         ("guilty without a first certificate", |record| (record.guilty, record.first) = (1, First::default())),
         ("seats collected without a submission", |record| record.own = Own { collected: 1, ..Own::default() }),
+        ("seats kept after a submission", |record| (record.own.submitted, record.kept) = (true, 1)),
     ];
     let mut spoilers: Vec<Spoiler<Case>> = Vec::new();
     for (what, spoil) in records {
