@@ -118,14 +118,16 @@ impl<'a> Screens<'a> {
         self.heading("ROUND 2: A SLOW BOAT");
         self.prose(&format!(
             "Every boat signs layout A again, but the skipper of boat {seat} settles late: the SUBMITs of the others come in before \
-             boat {seat} has signed. It checks each of them and keeps it. They count as soon as it signs."
+             boat {seat} has signed. It checks them and keeps the good ones, and they count as soon as it signs."
         ));
         self.radio();
         self.message_by_message(played, 0);
         let settled = signed(played, seat);
         self.line("");
         self.prose(&match settled.after.confirmed {
-            true => format!("Boat {seat} has CONFIRMED the moment its skipper settles. Nobody has to send again."),
+            true => {
+                format!("Boat {seat} confirms the moment its skipper settles. No SUBMIT has to be sent to it again.")
+            }
             false => format!(
                 "Boat {seat} has kept {}, and needs {} to confirm at once. It waits for more.",
                 size(settled.before.kept),
@@ -246,7 +248,7 @@ impl<'a> Screens<'a> {
         match after.map_or(0, |after| after.own.collected & !mask(&[after.seat])) {
             0 => vec![row],
             kept => {
-                vec![(row.0, format!("1 of {}", self.k)), (format!("counts those kept: {}", boats_of(kept)), row.1)]
+                vec![(row.0, format!("1 of {}", self.k)), (format!("counts what it kept: {}", boats_of(kept)), row.1)]
             }
         }
     }
@@ -293,7 +295,7 @@ impl<'a> Screens<'a> {
     /// Each boat with the signatures that it has collected.
     fn collected(&mut self, played: &Played) {
         let keeps = |event: &Event| event.answer.as_ref().is_some_and(|answer| answer.after.kept != 0);
-        let kept = if played.submits.events.iter().any(keeps) { " then those kept, by seat," } else { "" };
+        let kept = if played.submits.events.iter().any(keeps) { " then what it kept, by seat," } else { "" };
         self.line("");
         self.prose(&format!(
             "Each boat counts its own signature first,{kept} then others as they come, up to {}:",
