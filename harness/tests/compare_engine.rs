@@ -1,7 +1,7 @@
 //! Opening, submit and step against the reference.
 #![cfg(feature = "zolbine")]
 
-use harness::compare::engine::{lists, opening, records, refusals, Subject};
+use harness::compare::engine::{kept, lists, opening, records, refusals, Subject};
 use harness::library::Library;
 
 const SUBJECT: Subject<'static> = Subject { engine: &Library, lent: &Library };
@@ -19,6 +19,11 @@ fn impossible_and_possible_records() {
 #[test]
 fn refusals_alone_and_together() {
     refusals::battery(SUBJECT);
+}
+
+#[test]
+fn submits_before_the_own() {
+    kept::battery(SUBJECT);
 }
 
 #[test]

@@ -5,6 +5,7 @@ use std::mem::offset_of;
 use harness::reference::layout;
 use harness::reference::quorum::{k, t0};
 use harness::reference::record::{Opened, Record, Stepped};
+use harness::reference::refusals::ORDER;
 
 const HEADER: &str = include_str!("../../include/zolbine.h");
 const HOST: &str = include_str!("../../docs/HOST.md");
@@ -104,7 +105,7 @@ fn names_of_the_header() {
     }
 }
 
-/// Both tables have every refusal, in order, by the header's word and number.
+/// Both tables have every refusal, in order, by the header's word and number, and tell of one that no longer occurs.
 #[test]
 fn refusals() {
     let enumerators: Vec<&str> =
@@ -116,6 +117,7 @@ fn refusals() {
         for (number, row) in (1..).zip(rows) {
             let name = row[1].replace(' ', "_").to_uppercase();
             assert_eq!(row[0], number.to_string());
+            assert_eq!(row[2].starts_with("retired"), !ORDER.contains(&number), "{name}");
             assert!(enumerators.contains(&format!("ZOLBINE_{name} = {number}").as_str()), "{name} isn't {number}");
         }
     }

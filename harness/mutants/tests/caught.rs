@@ -2,14 +2,14 @@
 
 use std::panic::{catch_unwind, set_hook, take_hook, AssertUnwindSafe};
 
-use harness::compare::engine::{self, lists, opening, records, refusals};
+use harness::compare::engine::{self, kept, lists, opening, records, refusals};
 use harness::compare::{check_signature, evidence, framing, hashes, make_key, making, progress, sign};
 use harness::confirmer::Reference;
 use harness::script;
 use mutants::{Mutant, Subject};
 
-const OF_THE_CONFIRMER: [&str; 8] =
-    ["evidence", "framing", "lists", "making", "opening", "records", "refusals", "rounds"];
+const OF_THE_CONFIRMER: [&str; 9] =
+    ["evidence", "framing", "kept", "lists", "making", "opening", "records", "refusals", "rounds"];
 const OF_SIGNATURES: [&str; 3] = ["check", "make_key", "sign"];
 const OF_HASHES: [&str; 2] = ["compressions", "digests"];
 
@@ -28,6 +28,7 @@ fn run(battery: &str, subject: Subject) {
             match battery {
                 "evidence" => evidence::battery(confirmer),
                 "framing" => framing::battery(confirmer),
+                "kept" => kept::battery(engine),
                 "lists" => lists::battery(engine),
                 "making" => making::battery(making::Subject { making: confirmer, lower: Some(confirmer) }),
                 "opening" => opening::battery(confirmer),

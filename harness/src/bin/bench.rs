@@ -1,5 +1,5 @@
-//! The proved code beside plain C, and under the feature `libcrypto` beside OpenSSL's block function. The verdict is the ratio;
-//! nanoseconds are printed for information.
+//! The proved code beside plain C, and under the feature `libcrypto` beside OpenSSL's block function; and a submit with 31 seats
+//! kept beside one with none. The verdict is the ratio; nanoseconds are printed for information.
 //! `bench WORD` runs only the contests whose names contain the word.
 
 use harness::contest::Contest;
@@ -16,16 +16,53 @@ use harness::vectors;
 fn main() {
     let word = std::env::args().nth(1).unwrap_or_default();
     println!("plain C: {}", env!("PLAIN_C"));
-    head("plain");
+    head("proved", "plain");
     hash_contests().iter().for_each(|contest| hold(&word, contest, library::hashes(), &Plain));
     call_contests().iter().for_each(|contest| hold(&word, contest, library::calls(), &Plain));
     #[cfg(all(feature = "libcrypto", feature = "probes"))]
     beside_libcrypto(&word);
+    #[cfg(feature = "zolbine")]
+    kept_beside_none(&word);
 }
 
-fn head(other: &str) {
-    let [pair, time] = [format!("proved : {other}"), format!("{other}, ns")];
-    println!("{pair:<32} {:>7} {:>14} {:>15} {time:>15}", "ratio", "quartiles", "proved, ns");
+fn head(one: &str, other: &str) {
+    let [pair, time, other_time] = [format!("{one} : {other}"), format!("{one}, ns"), format!("{other}, ns")];
+    println!("{pair:<32} {:>7} {:>14} {time:>15} {other_time:>15}", "ratio", "quartiles");
+}
+
+/// The submit of boat 0 in a fleet of 32, with the SUBMITs of all other seats kept and with none.
+#[cfg(feature = "zolbine")]
+fn kept_beside_none(word: &str) {
+    use harness::confirmer::Engine;
+    use harness::fleet::{layouts, Fleet};
+    use harness::library::Library;
+    use harness::reference::layout;
+    use harness::reference::record::{Record, Stepped};
+
+    const FLEET: Fleet = Fleet { n: 32, round: 5 };
+    struct Unit {
+        record: Record,
+        store: Vec<u8>,
+    }
+
+    let (keys, value, mut out) = (FLEET.key_table(), layouts()[5], vec![0; layout::out(FLEET.n)]);
+    let record = Library.open(FLEET.n, 0, FLEET.round, &keys).record;
+    let none = Unit { record, store: vec![0; layout::store(FLEET.n)] };
+    let mut all = Unit { record, store: none.store.clone() };
+    for seat in 1..FLEET.n {
+        let message = FLEET.submit(seat, &value, 0).write();
+        let Stepped { number, record, .. } = Library.step(all.record, &keys, &mut all.store, &message, &mut out);
+        assert_eq!(number, 0);
+        all.record = record;
+    }
+    let signature = FLEET.signature(0, &value, 0);
+    head("31 kept", "none");
+    let submits = contest::<Unit>("submit", 1, 301, move |unit| {
+        let (mut store, mut out) = (unit.store.clone(), vec![0; layout::out(FLEET.n)]);
+        let stepped = Library.submit(unit.record, &keys, &mut store, &value, &signature, &mut out);
+        assert_eq!((stepped.number, stepped.record.confirmed), (0, unit.record.kept != 0));
+    });
+    hold(word, &submits, Some(&all), &none);
 }
 
 /// Hashes of one block: in the proved code one by one and in lanes, in libcrypto by its block function.
@@ -51,7 +88,7 @@ fn beside_libcrypto(word: &str) {
         }
     }
 
-    head("libcrypto");
+    head("proved", "libcrypto");
     hold(word, &hash_contests()[0], library::hashes(), &Libcrypto);
     let lanes = contest::<dyn Blocks>("compression in lanes", 34 * 256, 301, |subject| subject.blocks());
     hold::<dyn Blocks>(word, &lanes, Some(&Library), &Libcrypto);

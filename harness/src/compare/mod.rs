@@ -13,6 +13,7 @@ pub mod noise;
 mod refusals;
 pub mod sign;
 
+use std::collections::BTreeMap;
 use std::io::Write;
 use std::sync::atomic::{AtomicUsize, Ordering};
 use std::sync::OnceLock;
@@ -99,6 +100,27 @@ fn run<C: Sync, R: Send>(
         first.join("\n")
     );
     given
+}
+
+/// How often the cases came by each thing.
+type Tally = BTreeMap<String, usize>;
+
+fn count(tally: &mut Tally, what: impl Into<String>) {
+    *tally.entry(what.into()).or_default() += 1;
+}
+
+/// The cases' counts added up and printed. Fails unless they came by all of these.
+fn covered(title: &str, tallies: Vec<Tally>, all: impl IntoIterator<Item = String>) -> Tally {
+    let mut tally = Tally::new();
+    for (what, times) in tallies.into_iter().flatten() {
+        *tally.entry(what).or_default() += times;
+    }
+    let told: Vec<String> = tally.iter().map(|(what, times)| format!("{what}: {times}")).collect();
+    progress(&format!("{title}: {}", told.join(", ")));
+    for what in all {
+        assert!(tally.contains_key(&what), "{title}: no case came by `{what}`");
+    }
+    tally
 }
 
 pub fn equal<T: PartialEq + std::fmt::Debug>(name: &str, is: T, expected: T) -> Result<(), String> {

@@ -1,9 +1,7 @@
 //! Random bytes as every operand: mostly refused for one cause, now and then for a later one.
 
-use std::collections::BTreeMap;
-
 use super::engine::{self, Subject};
-use super::{check_signature, evidence, make_key, making, progress, run, sign};
+use super::{check_signature, count, covered, evidence, make_key, making, run, sign, Tally};
 use crate::confirmer::{EvidenceCheck, Making};
 use crate::reference::layout::{self, FULL_COUNT_AT, FULL_ENTRIES_AT, SEAT_AT};
 use crate::reference::lms::PUBLIC_KEY;
@@ -38,27 +36,19 @@ const COVERED: [(&str, &[u32]); 8] = [
 pub fn battery(subjects: Subjects) {
     let batches: Vec<usize> = (0..if super::long() { 1000 } else { 200 }).collect();
     let tallies = run("random bytes, batches of 1000 calls", &batches, |_, rng| {
-        let mut tally = BTreeMap::new();
+        let mut tally = Tally::new();
         for _ in 0..BATCH {
-            *tally.entry(call(subjects, rng)?).or_insert(0) += 1;
+            count(&mut tally, call(subjects, rng)?);
         }
         Ok(tally)
     });
-    let mut tally: BTreeMap<(&str, u32), usize> = BTreeMap::new();
-    for (told, times) in tallies.into_iter().flatten() {
-        *tally.entry(told).or_default() += times;
-    }
-    let told: Vec<String> = tally.iter().map(|((name, number), times)| format!("{name} {number}: {times}")).collect();
-    progress(&format!("random bytes: {}", told.join(", ")));
-    for (name, numbers) in COVERED {
-        for &number in numbers {
-            assert!(tally.contains_key(&(name, number)), "no random {name} was answered {number}");
-        }
-    }
+    let answers =
+        |(name, numbers): (&str, &[u32])| numbers.iter().map(|number| format!("{name} {number}")).collect::<Vec<_>>();
+    covered("random bytes", tallies, COVERED.into_iter().flat_map(answers));
 }
 
 /// A call's name and the number that it was answered.
-fn call(subjects: Subjects, rng: &mut Rng) -> Result<(&'static str, u32), String> {
+fn call(subjects: Subjects, rng: &mut Rng) -> Result<String, String> {
     let Subjects { signatures, evidence, engine, making } = subjects;
     let (name, number) = match rng.below(12) {
         0 => ("check_signature", check_signature::noise(signatures, rng)),
@@ -71,7 +61,7 @@ fn call(subjects: Subjects, rng: &mut Rng) -> Result<(&'static str, u32), String
         _ => ("step", engine::records::noise_step(engine, rng)),
     };
     let number = number.map_err(|difference| format!("{name}: {difference}"))?;
-    Ok((name, number))
+    Ok(format!("{name} {number}"))
 }
 
 /// A number below `limit` mostly, or a little above it, or any.

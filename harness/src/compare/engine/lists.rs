@@ -1,12 +1,10 @@
 //! Long random lists of calls: boats under test among seats that sign whatever the script wants, over links that lose,
 //! copy, reorder and garble. The subject keeps step with the reference, and the reference with demands 1 and 3.
 
-use std::collections::BTreeMap;
-
 use super::records::{any_impossible, opened};
 use super::{both, Call, Case, Subject};
 use crate::air;
-use crate::compare::{equal, long, progress, run};
+use crate::compare::{count, covered, equal, long, run, Tally};
 use crate::fleet::{fewest_to_split, layouts, rounds, some_seats, Fleet, HANDS};
 use crate::reference::evidence::check_evidence;
 use crate::reference::layout::{self, SIGNATURE};
@@ -28,9 +26,6 @@ struct Plan {
     fair: bool,
 }
 
-/// Counts of calls by their answer, or by the messages that they wrote together.
-type Tally = BTreeMap<String, usize>;
-
 /// Hundreds of calls for each n, ten thousand in the long battery.
 pub fn battery(subject: Subject) {
     let mut plans = Vec::new();
@@ -49,7 +44,7 @@ pub fn battery(subject: Subject) {
         };
         plans.extend((0..lists).map(plan));
     }
-    covered(&played("lists", subject, &plans));
+    covered("lists", played("lists", subject, &plans), answers());
 }
 
 /// Rounds of the largest fleet in which every honest boat is under test, and the fewest double signers that can split it.
@@ -64,29 +59,22 @@ pub fn whole_rounds(subject: Subject) {
         fair: true,
     };
     let plans: Vec<Plan> = (0..count).map(plan).collect();
-    let tally = played("whole rounds", subject, &plans);
+    let tally = covered("whole rounds", played("whole rounds", subject, &plans), []);
     assert_eq!(tally.get("disagreement"), Some(&count), "each round splits the fleet");
 }
 
-/// Plays the lists, and counts their answers.
-fn played(title: &str, subject: Subject, plans: &[Plan]) -> Tally {
-    let tallies = run(title, plans, |plan, rng| {
+/// Plays the lists, and counts their calls by their answer, and by the messages that they wrote together.
+fn played(title: &str, subject: Subject, plans: &[Plan]) -> Vec<Tally> {
+    run(title, plans, |plan, rng| {
         let mut sea = Sea::new(subject, plan, rng);
         sea.play(rng).map_err(|difference| format!("{plan:?}, {}: {difference}", sea.trail()))?;
         Ok(sea.tally)
-    });
-    let mut tally = Tally::new();
-    for (what, times) in tallies.into_iter().flatten() {
-        *tally.entry(what).or_default() += times;
-    }
-    let told: Vec<String> = tally.iter().map(|(what, times)| format!("{what}: {times}")).collect();
-    progress(&format!("{title}: {}", told.join(", ")));
-    tally
+    })
 }
 
-/// Fails unless the lists came to every answer and every choice of messages.
-fn covered(tally: &Tally) {
-    let steps = [0, 4, 5, 6, 7, 9, 10, 11, 12, 13, 14].map(|number| format!("step {number}"));
+/// Every answer, and every choice of messages.
+fn answers() -> impl Iterator<Item = String> {
+    let steps = [0, 4, 5, 6, 7, 9, 10, 11, 12, 14].map(|number| format!("step {number}"));
     let submits = [0, 4, 5, 6, 7, 8, 9, 14].map(|number| format!("submit {number}"));
     let written = [
         "",
@@ -102,9 +90,7 @@ fn covered(tally: &Tally) {
         " SUBMIT NOTICE FULL EVIDENCE",
     ];
     let written = written.map(|names| format!("wrote{names}"));
-    for what in steps.iter().chain(&submits).chain(&written).chain([&"disagreement".to_string()]) {
-        assert!(tally.contains_key(what), "no list came by `{what}`");
-    }
+    steps.into_iter().chain(submits).chain(written).chain(["disagreement".to_string()])
 }
 
 /// A unit under test.
@@ -243,7 +229,8 @@ impl<'a> Sea<'a> {
     fn helpful_submit(&self, boat: usize, rng: &mut Rng) -> Vec<u8> {
         let Boat { layout, record, .. } = &self.boats[boat];
         let willing = self.willing(layout);
-        let new: Vec<u32> = willing.iter().copied().filter(|&seat| !contains(record.own.collected, seat)).collect();
+        let known = record.own.collected | record.kept;
+        let new: Vec<u32> = willing.iter().copied().filter(|&seat| !contains(known, seat)).collect();
         let seat = *rng.pick(if new.is_empty() { &willing } else { &new });
         self.plan.fleet.submit(seat, layout, rng.below(HANDS as usize) as u32).write()
     }
@@ -372,7 +359,7 @@ impl<'a> Sea<'a> {
         }
         let messages = air::messages(after.record.n, &after.written);
         let names: String = messages.iter().map(|message| format!(" {}", air::name(message))).collect();
-        *self.tally.entry(format!("wrote{names}")).or_default() += 1;
+        count(&mut self.tally, format!("wrote{names}"));
         self.boats[boat].record = after.record;
         self.boats[boat].store = after.store;
         for message in messages {
@@ -419,7 +406,7 @@ impl<'a> Sea<'a> {
                 equal("evidence written", boat.said.iter().any(|message| message[0] == EVIDENCE), true)?;
                 equal("more than t0 seats named", size(boat.record.guilty) > t0(self.plan.fleet.n), true)?;
             }
-            *self.tally.entry("disagreement".to_string()).or_default() += 1;
+            count(&mut self.tally, "disagreement");
         }
         Ok(())
     }
@@ -439,6 +426,6 @@ impl<'a> Sea<'a> {
             Call::Submit { .. } => "submit",
             Call::Step { .. } => "step",
         };
-        *self.tally.entry(format!("{name} {number}")).or_default() += 1;
+        count(&mut self.tally, format!("{name} {number}"));
     }
 }

@@ -1,5 +1,6 @@
 //! Opening, submit and step: each call given to a subject and to the reference, every byte afterwards compared.
 
+pub mod kept;
 pub mod lists;
 pub mod opening;
 pub mod records;
@@ -9,8 +10,8 @@ use super::arguments::untouched;
 use super::equal;
 use crate::confirmer::{Engine, LentStep};
 use crate::guarded::{Guarded, GuardedItem};
-use crate::reference::engine;
 use crate::reference::record::{Record, Stepped};
+use crate::reference::{engine, verdicts};
 use crate::rng::Rng;
 
 /// The calls under test; about every other step goes through the one that is lent its record.
@@ -42,17 +43,21 @@ pub struct After {
     pub record: Record,
     pub store: Vec<u8>,
     pub written: Vec<u8>,
+    /// The reference's signature checks.
+    pub checks: usize,
 }
 
 /// Result of the case given to both, or their difference.
 pub fn both(subject: Subject, case: &Case, rng: &mut Rng) -> Result<After, String> {
     let (mut store, mut out) = (case.store.clone(), case.out.clone());
+    let checks_before = verdicts::checks();
     let expected = match &case.call {
         Call::Submit { value, signature } => {
             engine::submit(case.record, &case.keys, &mut store, value, signature, &mut out)
         }
         Call::Step { message } => engine::step(case.record, &case.keys, &mut store, message, &mut out),
     };
+    let checks = verdicts::checks() - checks_before;
     let keys = Guarded::new(&case.keys, rng);
     let mut lent_store = Guarded::new(&case.store, rng);
     let mut lent_out = Guarded::new(&case.out, rng);
@@ -89,5 +94,5 @@ pub fn both(subject: Subject, case: &Case, rng: &mut Rng) -> Result<After, Strin
     equal("the record", answer.record, expected.record)?;
     untouched(&[("keys", &keys, &case.keys), ("store", &lent_store, &store), ("out", &lent_out, &out)])?;
     out.truncate(expected.written as usize);
-    Ok(After { number: expected.number, record: expected.record, store, written: out })
+    Ok(After { number: expected.number, record: expected.record, store, written: out, checks })
 }
