@@ -1,4 +1,4 @@
-# make demo   a fleet plays two rounds, sound and then with double signers; DEMO="--help" lists the options, as in
+# make demo   a fleet plays three rounds: sound, with a slow boat, with double signers; DEMO="--help" lists the options, as in
 #             make demo DEMO="--double-signers 2 --lost-link 0-3"
 # make test   the gate: every crate proved, every program run, the static libraries against the harness
 # make soak   the long version of the harness's tests: load, faults, every call, and plain C

@@ -17,7 +17,6 @@ struct unit {
     struct zolbine_record record;
     uint8_t *keys, *store, *out;
     size_t keys_len, store_len, out_len;
-    uint8_t *early[ZOLBINE_MOST_SEATS]; /* each seat's SUBMIT that came before the own submit, or NULL */
 };
 
 static void stop(const char *why)
@@ -67,8 +66,6 @@ static void open_unit(struct unit *unit, FILE *file)
     unit->store = buffer(unit->store_len); /* any bytes will do */
     unit->out_len = ZOLBINE_OUT_LEN(n);
     unit->out = buffer(unit->out_len);
-    for (size_t place = 0; place < ZOLBINE_MOST_SEATS; place++)
-        unit->early[place] = NULL;
 }
 
 static const char *name_of(const uint8_t *message, size_t len)
@@ -104,15 +101,6 @@ static void answered(const struct unit *unit, const char *what, uint32_t number,
     send_all(unit->record.n, unit->out, written);
 }
 
-static uint32_t step(struct unit *unit, const uint8_t *message, size_t len)
-{
-    struct zolbine_written answer = zolbine_step_lent(&unit->record, unit->keys, unit->keys_len, unit->store,
-                                                      unit->store_len, message, len, unit->out, unit->out_len);
-
-    answered(unit, name_of(message, len), answer.number, answer.written);
-    return answer.number;
-}
-
 static void submit(struct unit *unit, FILE *file)
 {
     uint8_t *value = buffer(ZOLBINE_VALUE_LEN), *signature = buffer(ZOLBINE_SIGNATURE_LEN);
@@ -126,29 +114,18 @@ static void submit(struct unit *unit, FILE *file)
     answered(unit, "submit", answer.number, answer.written);
     free(value);
     free(signature);
-    for (uint32_t seat = 0; answer.number == 0 && seat < unit->record.n; seat++) {
-        uint8_t *message = unit->early[seat];
-        unit->early[seat] = NULL;
-        if (message != NULL)
-            step(unit, message, ZOLBINE_SUBMIT_LEN);
-        free(message);
-    }
 }
 
-/* Whether an early SUBMIT is to be given again: the first of its seat that the seat has signed. A forged one is let go, so that
- * no number of them takes the place of a good one. The step has checked length, round and seat before it answered ZOLBINE_EARLY,
- * but not the signature.
- */
-static bool worth_giving_again(const struct unit *unit, const uint8_t *message)
+/* Every message goes to the unit when it comes, before the own submit too: the unit keeps what it needs. */
+static void step(struct unit *unit, const uint8_t *message, size_t len)
 {
-    size_t seat = message[ZOLBINE_SEAT_AT];
-    const uint8_t *key = unit->keys + ZOLBINE_KEYS_LEN(seat), *signature = message + ZOLBINE_SIGNED_LEN;
-    uint32_t leaf = 0;
+    uint32_t kept = unit->record.kept;
+    struct zolbine_written answer = zolbine_step_lent(&unit->record, unit->keys, unit->keys_len, unit->store,
+                                                      unit->store_len, message, len, unit->out, unit->out_len);
 
-    for (size_t at = 0; at < ZOLBINE_LEAF_LEN; at++)
-        leaf = leaf << 8 | signature[at];
-    return unit->early[seat] == NULL && leaf == unit->record.round &&
-           zolbine_check_signature(key, ZOLBINE_KEY_LEN, message, ZOLBINE_SIGNED_LEN, signature, ZOLBINE_SIGNATURE_LEN) == 0;
+    answered(unit, name_of(message, len), answer.number, answer.written);
+    if (unit->record.kept != kept)
+        printf("  kept for the own submit\n");
 }
 
 /* EVIDENCE is for the evidence check; every other message is for the unit. */
@@ -165,10 +142,8 @@ static void hear(struct unit *unit, FILE *file)
         struct zolbine_verdict verdict = zolbine_check_evidence(unit->record.n, unit->record.round, unit->keys,
                                                                 unit->keys_len, message, len);
         printf("%s: %u, seats 0x%08x\n", name_of(message, len), (unsigned)verdict.number, (unsigned)verdict.mask);
-    } else if (step(unit, message, len) == ZOLBINE_EARLY && worth_giving_again(unit, message)) {
-        unit->early[message[ZOLBINE_SEAT_AT]] = message;
-        printf("  put by\n");
-        return;
+    } else {
+        step(unit, message, len);
     }
     free(message);
 }
@@ -196,8 +171,6 @@ int main(int argc, char **argv)
     printf("%s; double signers 0x%08x\n", unit.record.confirmed ? "confirmed" : "not confirmed",
            (unsigned)unit.record.guilty);
     fclose(file);
-    for (size_t seat = 0; seat < ZOLBINE_MOST_SEATS; seat++)
-        free(unit.early[seat]);
     free(unit.keys);
     free(unit.store);
     free(unit.out);

@@ -18,7 +18,7 @@ extern "C" {
 /* The interface's version: a change of a call, a struct or a length raises it. zolbine_version answers that of the archive: a
  * program that was compiled with this header runs with an archive of the same version alone.
  */
-#define ZOLBINE_VERSION 1
+#define ZOLBINE_VERSION 2
 
 uint32_t zolbine_version(void);
 
@@ -36,7 +36,7 @@ enum {
     ZOLBINE_OTHER_ROUND = 10,  /* the message's round is not the caller's */
     ZOLBINE_STRANGER = 11,     /* a seat in a message at or above n */
     ZOLBINE_DISORDER = 12,     /* entry seats don't rise */
-    ZOLBINE_EARLY = 13,        /* SUBMIT heard before the own submit */
+    ZOLBINE_EARLY = 13,        /* retired: no call answers it any more, and the number isn't used again */
     ZOLBINE_SIGNATURE = 14,    /* a signature doesn't check, or its leaf isn't the round */
     ZOLBINE_NO_CONFLICT = 15,  /* values equal or not lower first */
     ZOLBINE_KEY_MATERIAL = 16  /* seed, identifier, randomizer or tree of another length */
@@ -95,7 +95,7 @@ enum {
 #define ZOLBINE_T0(n) ((ZOLBINE_AS_SIZE(n) + 2) / 3 - 1)
 #define ZOLBINE_K(n) (ZOLBINE_AS_SIZE(n) - ZOLBINE_T0(n))
 #define ZOLBINE_KEYS_LEN(n) (ZOLBINE_KEY_LEN * ZOLBINE_AS_SIZE(n))
-#define ZOLBINE_STORE_LEN(n) (2 * ZOLBINE_SIGNATURE_LEN * ZOLBINE_AS_SIZE(n))
+#define ZOLBINE_STORE_LEN(n) ((3 * ZOLBINE_SIGNATURE_LEN + ZOLBINE_VALUE_LEN) * ZOLBINE_AS_SIZE(n))
 #define ZOLBINE_FULL_LEN(n) (ZOLBINE_FULL_HEAD_LEN + ZOLBINE_FULL_ENTRY_LEN * ZOLBINE_K(n))
 #define ZOLBINE_EVIDENCE_LEN(count) (ZOLBINE_EVIDENCE_HEAD_LEN + ZOLBINE_EVIDENCE_ENTRY_LEN * ZOLBINE_AS_SIZE(count))
 #define ZOLBINE_EVIDENCE_OUT_LEN(n) ZOLBINE_EVIDENCE_LEN(ZOLBINE_K(n)) /* out of zolbine_make_evidence */
@@ -175,7 +175,7 @@ struct zolbine_written zolbine_make_evidence(uint32_t n, uint32_t round,
  * record that no call gave may be refused (ZOLBINE_RECORD), or go with a store that doesn't hold what it says. A value is 32 bytes,
  * zeros where it isn't set; a set of seats is a mask, seat s being bit s.
  *
- * It has 136 bytes and is aligned to 4. Numbers are in the processor's own byte order. Nine bytes are padding, three after
+ * It has 140 bytes and is aligned to 4. Numbers are in the processor's own byte order. Nine bytes are padding, three after
  * own.value, three after confirmed and three after sent: they mean nothing, and a copy of a record may have others there. So two
  * records are compared field by field, and a checksum is made over the bytes as they are kept.
  */
@@ -206,6 +206,7 @@ struct zolbine_record {
     struct zolbine_first first;     /* the first certificate held */
     bool sent;                      /* whether FULL was sent */
     uint32_t guilty;                /* seats shown to have signed two values */
+    uint32_t kept;                  /* seats whose SUBMIT came before the own submit and is kept in the store; none after it */
 };
 
 struct zolbine_opened {
@@ -247,10 +248,11 @@ ZOLBINE_ASSERT(offsetof(struct zolbine_record, notices) == 56);
 ZOLBINE_ASSERT(offsetof(struct zolbine_record, first) == 92);
 ZOLBINE_ASSERT(offsetof(struct zolbine_record, sent) == 128);
 ZOLBINE_ASSERT(offsetof(struct zolbine_record, guilty) == 132);
-ZOLBINE_ASSERT(sizeof(struct zolbine_record) == 136 && ZOLBINE_ALIGNED(struct zolbine_record) == 4);
+ZOLBINE_ASSERT(offsetof(struct zolbine_record, kept) == 136);
+ZOLBINE_ASSERT(sizeof(struct zolbine_record) == 140 && ZOLBINE_ALIGNED(struct zolbine_record) == 4);
 ZOLBINE_ASSERT(sizeof(struct zolbine_written) == 8 && sizeof(struct zolbine_verdict) == 8);
-ZOLBINE_ASSERT(offsetof(struct zolbine_opened, record) == 4 && sizeof(struct zolbine_opened) == 140);
-ZOLBINE_ASSERT(offsetof(struct zolbine_stepped, record) == 8 && sizeof(struct zolbine_stepped) == 144);
+ZOLBINE_ASSERT(offsetof(struct zolbine_opened, record) == 4 && sizeof(struct zolbine_opened) == 144);
+ZOLBINE_ASSERT(offsetof(struct zolbine_stepped, record) == 8 && sizeof(struct zolbine_stepped) == 148);
 #undef ZOLBINE_ALIGNED
 #undef ZOLBINE_ASSERT
 
@@ -261,11 +263,12 @@ struct zolbine_opened zolbine_open(uint32_t n, uint32_t seat, uint32_t round,
                                    const uint8_t *keys, size_t keys_len);
 
 /* Submit: the unit's own value, 32 bytes, with its own signature, 1,452 bytes, over the 36 bytes 0x01, round (2, high byte
- * first), seat (1), value. The store has ZOLBINE_STORE_LEN(n) bytes or more and holds the signatures that the record speaks of:
- * the two are kept together, and a round's first call takes a store of any bytes. Out has ZOLBINE_OUT_LEN(n) bytes or more.
- * Everything written to out is to be sent, in its order, each message by itself: zolbine_message_length tells where one ends.
- * Refusals: ZOLBINE_RECORD, ZOLBINE_KEYS, ZOLBINE_STORE, ZOLBINE_OUT, ZOLBINE_SAID, ZOLBINE_GARBLED (a length),
- * ZOLBINE_SIGNATURE.
+ * first), seat (1), value. After the own signature, those kept of other seats over the same value are collected, in rising seat
+ * order until k are; they were checked when they came, and aren't checked again. With k the unit confirms in this very call. The
+ * store has ZOLBINE_STORE_LEN(n) bytes or more and holds the signatures that the record speaks of: the two belong together, and a
+ * round's first call takes a store of any bytes. Out has ZOLBINE_OUT_LEN(n) bytes or more. Everything written to out is to be
+ * sent, in its order, each message by itself: zolbine_message_length tells where one ends. Refusals: ZOLBINE_RECORD,
+ * ZOLBINE_KEYS, ZOLBINE_STORE, ZOLBINE_OUT, ZOLBINE_SAID, ZOLBINE_GARBLED (a length), ZOLBINE_SIGNATURE (the own one).
  */
 struct zolbine_stepped zolbine_submit(struct zolbine_record record,
                                       const uint8_t *keys, size_t keys_len,
@@ -274,9 +277,11 @@ struct zolbine_stepped zolbine_submit(struct zolbine_record record,
                                       const uint8_t *signature, size_t signature_len,
                                       uint8_t *out, size_t out_len);
 
-/* A step: a SUBMIT, NOTICE or FULL heard, with store and out as for zolbine_submit. Refusals: ZOLBINE_RECORD, ZOLBINE_KEYS,
- * ZOLBINE_STORE, ZOLBINE_OUT, ZOLBINE_GARBLED, ZOLBINE_OTHER_ROUND, ZOLBINE_STRANGER, ZOLBINE_DISORDER, ZOLBINE_EARLY,
- * ZOLBINE_SIGNATURE. Signatures are checked only after everything cheaper has passed.
+/* A step: a SUBMIT, NOTICE or FULL heard, with store and out as for zolbine_submit. Each message is given when it comes, also
+ * before the own submit: of each seat the first SUBMIT that checks is then kept, with its value, for the own submit to collect. A
+ * second SUBMIT of a seat that is kept or collected is checked and changes nothing. Refusals: ZOLBINE_RECORD, ZOLBINE_KEYS,
+ * ZOLBINE_STORE, ZOLBINE_OUT, ZOLBINE_GARBLED, ZOLBINE_OTHER_ROUND, ZOLBINE_STRANGER, ZOLBINE_DISORDER, ZOLBINE_SIGNATURE.
+ * Signatures are checked only after everything cheaper has passed.
  */
 struct zolbine_stepped zolbine_step(struct zolbine_record record,
                                     const uint8_t *keys, size_t keys_len,

@@ -25,8 +25,6 @@ struct display {
     struct zolbine_record record;
     uint8_t store[ZOLBINE_STORE_LEN(N)];
     uint8_t out[ZOLBINE_OUT_LEN(N)];
-    uint8_t early[N][ZOLBINE_SUBMIT_LEN]; /* a SUBMIT of each seat that came before the own one */
-    bool is_early[N];
     bool leaf_used;
     uint8_t evidence[ZOLBINE_EVIDENCE_LEN(N)]; /* written by this boat */
     size_t evidence_len;
@@ -127,17 +125,12 @@ static void send_all(uint32_t seat, uint32_t written)
     }
 }
 
-/* Whether a SUBMIT that came early is its seat's, with the round's leaf. Form, round and seat are right: else the step would have
- * answered a lower number.
- */
-static bool is_genuine(const uint8_t *submit)
+/* After a call that wasn't refused: the display's own news, then all that was written. */
+static void answered(uint32_t seat, bool was_confirmed, uint32_t written)
 {
-    static const uint8_t leaf[ZOLBINE_LEAF_LEN] = { 0, 0, ROUND >> 8, ROUND & 0xff };
-    const uint8_t *key = keys + ZOLBINE_KEYS_LEN(submit[ZOLBINE_SEAT_AT]), *signature = submit + ZOLBINE_SIGNED_LEN;
-
-    return memcmp(signature, leaf, sizeof leaf) == 0
-        && zolbine_check_signature(key, ZOLBINE_KEY_LEN,
-                                   submit, ZOLBINE_SIGNED_LEN, signature, ZOLBINE_SIGNATURE_LEN) == 0;
+    if (displays[seat].record.confirmed && !was_confirmed)
+        printf("    boat %u: CONFIRMED\n", (unsigned)seat);
+    send_all(seat, written);
 }
 
 static void hear(uint32_t seat, const uint8_t *bytes, size_t len)
@@ -158,29 +151,17 @@ static void hear(uint32_t seat, const uint8_t *bytes, size_t len)
     answer = zolbine_step_lent(&display->record, keys, sizeof keys, display->store, sizeof display->store,
                                bytes, len, display->out, sizeof display->out);
     printf(": %u\n", (unsigned)answer.number);
-    if (answer.number == ZOLBINE_EARLY) {
-        uint8_t from = bytes[ZOLBINE_SEAT_AT];
-
-        if (is_genuine(bytes) && !display->is_early[from]) {
-            memcpy(display->early[from], bytes, ZOLBINE_SUBMIT_LEN);
-            display->is_early[from] = true;
-        }
-        return;
-    }
     if (answer.number != 0)
         stop("a refusal that this round has not", answer.number);
-    if (display->record.confirmed && !was_confirmed)
-        printf("    boat %u: CONFIRMED\n", (unsigned)seat);
-    send_all(seat, answer.written);
+    answered(seat, was_confirmed, answer.written);
 }
 
-/* Submits the own layout: the leaf is noted as used, then signed with. SUBMITs that came early are given again. */
+/* Submits the own layout: the leaf is noted as used, then signed with. It may confirm, by SUBMITs that came before. */
 static void submit(uint32_t seat, const uint8_t *layout)
 {
     struct display *display = &displays[seat];
     uint8_t own[ZOLBINE_SUBMIT_LEN];
     struct zolbine_stepped answer;
-    uint32_t other;
 
     if (display->leaf_used)
         stop("a second signature in a round", seat);
@@ -193,12 +174,9 @@ static void submit(uint32_t seat, const uint8_t *layout)
     if (answer.number != 0)
         stop("the own submit", answer.number);
     display->record = answer.record;
-    if (answer.written != ZOLBINE_SUBMIT_LEN || memcmp(display->out, own, ZOLBINE_SUBMIT_LEN) != 0)
+    if (answer.written < ZOLBINE_SUBMIT_LEN || memcmp(display->out, own, ZOLBINE_SUBMIT_LEN) != 0)
         stop("another SUBMIT than the one signed", answer.written);
-    send_all(seat, answer.written);
-    for (other = 0; other < N; other++)
-        if (display->is_early[other])
-            hear(seat, display->early[other], ZOLBINE_SUBMIT_LEN);
+    answered(seat, false, answer.written);
 }
 
 /* A double signer gives one honest boat a SUBMIT that the other doesn't get. */
@@ -240,10 +218,10 @@ int main(void)
         displays[seat].record = opened.record;
     }
 
-    deceive(2, 1, south); /* early: boat 1 has no layout yet */
-    submit(0, north);
-    submit(1, south);
+    deceive(2, 1, south); /* boat 1 has no layout yet, so its unit keeps these two SUBMITs */
     deceive(3, 1, south);
+    submit(0, north);
+    submit(1, south);     /* with the two kept it has three signatures, and confirms in this very call */
     deceive(2, 0, north);
     deliver();            /* boat 0 hears of the other layout before it confirms: its next call writes two messages */
     deceive(3, 0, north);

@@ -27,12 +27,13 @@ fn run(calls: Calls, flags: &str) -> Told {
 
 /// A held file is what `demo` prints with its flags.
 #[test]
-fn five_sets_of_screens() {
+fn six_sets_of_screens() {
     for (flags, held) in [
         ("", include_str!("../data/demo/seven.txt")),
         ("--double-signers 2", include_str!("../data/demo/two_double_signers.txt")),
         ("--lost-link 0-2 --lost-link 1-2", include_str!("../data/demo/lost_links.txt")),
         ("--forged 5 --early 3", include_str!("../data/demo/forged_and_early.txt")),
+        ("--slow 2 --lost-link 2-0 --lost-link 2-1 --lost-link 2-5", include_str!("../data/demo/slow_and_lost.txt")),
         ("--boats 10 --double-signers 5", include_str!("../data/demo/ten.txt")),
     ] {
         let Told { text, faults } = run(LIBRARY, flags);
@@ -45,7 +46,7 @@ fn five_sets_of_screens() {
 #[test]
 fn all_is_as_promised_for_any_number_of_double_signers() {
     let fleets = [2, 3, 4, 5, 7].into_iter().flat_map(|n| (0..=n - 2).map(move |double| (n, double)));
-    let radios = ["", "--lost-link 0-1 --forged 1", "--early 0 --lost-link 1-0"];
+    let radios = ["", "--lost-link 0-1 --forged 1", "--early 0 --lost-link 1-0", "--slow 0 --forged 0"];
     let cases: Vec<String> = fleets
         .flat_map(|(n, double)| radios.map(|radio| format!("--boats {n} --double-signers {double} {radio}")))
         .collect();
@@ -60,7 +61,7 @@ fn all_is_as_promised_for_any_number_of_double_signers() {
 fn all_is_as_promised_after_a_lost_boat() {
     let links: String = (1..7).map(|seat| format!(" --lost-link 0-{seat}")).collect();
     for double in [0, 2, 3, 5] {
-        let faults = run(LIBRARY, &format!("--double-signers {double}{links} --forged 0 --early 4")).faults;
+        let faults = run(LIBRARY, &format!("--double-signers {double}{links} --forged 0 --early 4 --slow 0")).faults;
         assert!(faults.is_empty(), "{double}: {faults:?}");
     }
 }
@@ -120,7 +121,10 @@ fn an_engine_that_answers_otherwise_is_told() {
     let silent = Steps(|stepped| Stepped { written: 0, ..stepped });
     let takes_all = Steps(|stepped| Stepped { number: 0, ..stepped });
     let unconfirmed = Steps(|stepped| Stepped { record: Record { confirmed: false, ..stepped.record }, ..stepped });
-    for (engine, flags) in [(silent, ""), (takes_all, "--forged 1"), (unconfirmed, "--double-signers 2")] {
+    let keeps_none = Steps(|stepped| Stepped { record: Record { kept: 0, ..stepped.record }, ..stepped });
+    for (engine, flags) in
+        [(silent, ""), (takes_all, "--forged 1"), (unconfirmed, "--double-signers 2"), (keeps_none, "")]
+    {
         let faults = run(Calls { engine: &engine, ..LIBRARY }, flags).faults;
         assert!(!faults.is_empty(), "{flags}");
     }

@@ -46,22 +46,27 @@ fn forged(seat: u32, value: &Value, rng: &mut Rng) -> Vec<u8> {
     Submit { round, seat, value: *value, signature }.write()
 }
 
-/// Messages to boat 0 before its submit: forged SUBMITs of each seat, and the good ones in the middle of the flood.
-fn flood(value: &Value, rng: &mut Rng) -> Vec<(Vec<u8>, bool)> {
+const REFUSED: &str = "SUBMIT: 14\n";
+const KEPT: &str = "SUBMIT: 0\n  kept for the own submit\n";
+const TAKEN: &str = "SUBMIT: 0\n";
+
+/// Messages to boat 0 before its submit, with what comes of each: forged SUBMITs of each seat, and the good ones in the middle of
+/// the flood.
+fn flood(value: &Value, rng: &mut Rng) -> Vec<(Vec<u8>, &'static str)> {
     let of_each_seat = |rng: &mut Rng| {
         let seats = (0..FORGED).flat_map(|_| FLEET.seats());
-        seats.map(|seat| (forged(seat, value, rng), false)).collect::<Vec<_>>()
+        seats.map(|seat| (forged(seat, value, rng), REFUSED)).collect::<Vec<_>>()
     };
     let mut heard = of_each_seat(rng);
-    heard.extend((1..FLEET.n).rev().map(|seat| (FLEET.submit(seat, value, 0).write(), true)));
+    heard.extend((1..FLEET.n).rev().map(|seat| (FLEET.submit(seat, value, 0).write(), KEPT)));
     // A good one again: the seat's place is taken.
-    heard.push((FLEET.submit(1, value, 1).write(), false));
+    heard.push((FLEET.submit(1, value, 1).write(), TAKEN));
     heard.extend(of_each_seat(rng));
     heard
 }
 
-/// Each early message is refused by 13, and the first good one of a seat is put by. After the own submit they are given again in
-/// the order of the seats: with the own signature, the one of seat k - 1 is the k-th.
+/// A forged one is refused by 14, and the first good one of a seat is kept; a second good one is taken and changes nothing. So the
+/// unit has a signature of every other seat when it submits, and confirms in that call.
 #[test]
 fn forged_submits_take_nobodys_place() {
     let Fleet { n, round } = FLEET;
@@ -69,24 +74,18 @@ fn forged_submits_take_nobodys_place() {
     let heard = flood(&value, &mut Rng::new(seed(), "flood"));
     let mut input = opening(n, 0, round, &FLEET.key_table());
     let mut expected = format!("open n {n}, seat 0, round {round}: 0\n");
-    for (message, good) in heard {
+    for (message, comes_of_it) in heard {
         assert_eq!(message.len(), SUBMIT);
         assert_eq!(
-            good,
+            comes_of_it == KEPT,
             message[SIGNATURE_AT..] == FLEET.signature(message[SEAT_AT].into(), &value, 0),
             "a forged one is none"
         );
         input.extend(hearing(&message));
-        expected += if good { "SUBMIT: 13\n  put by\n" } else { "SUBMIT: 13\n" };
+        expected += comes_of_it;
     }
     input.extend(submitting(&value, &FLEET.signature(0, &value, 0)));
-    expected += &format!("submit: 0\n  sends SUBMIT, {SUBMIT} bytes\n");
-    for seat in 1..n {
-        expected += "SUBMIT: 0\n";
-        if seat == FLEET.k() - 1 {
-            expected += &format!("  sends NOTICE, {NOTICE} bytes\n");
-        }
-    }
+    expected += &format!("submit: 0\n  sends SUBMIT, {SUBMIT} bytes\n  sends NOTICE, {NOTICE} bytes\n");
     expected += "confirmed; double signers 0x00000000\n";
 
     let folder = Path::new(env!("CARGO_TARGET_TMPDIR"));

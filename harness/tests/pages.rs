@@ -1,7 +1,11 @@
-//! Lengths, names and refusals in docs/HOST.md, docs/PROTOCOL.md and README.md against the header and the reference.
+//! Lengths, places, names and refusals in docs/HOST.md, docs/PROTOCOL.md and README.md against the header and the reference.
+
+use std::mem::offset_of;
 
 use harness::reference::layout;
 use harness::reference::quorum::{k, t0};
+use harness::reference::record::{Opened, Record, Stepped};
+use harness::reference::refusals::ORDER;
 
 const HEADER: &str = include_str!("../../include/zolbine.h");
 const HOST: &str = include_str!("../../docs/HOST.md");
@@ -41,6 +45,50 @@ fn places() {
     ];
     for (name, at) in places {
         assert!(PROTOCOL.contains(&format!("| {at} (`ZOLBINE_{name}`) |")), "{name} isn't {at}");
+    }
+}
+
+/// The record's fields and length, as in PROTOCOL; those of the answers, as in HOST.
+#[test]
+fn record() {
+    let fields = [
+        ("own.submitted", offset_of!(Record, own.submitted), 1),
+        ("own.value", offset_of!(Record, own.value), 32),
+        ("own.collected", offset_of!(Record, own.collected), 4),
+        ("notices.heard", offset_of!(Record, notices.heard), 4),
+        ("notices.value", offset_of!(Record, notices.value), 32),
+        ("first.value", offset_of!(Record, first.value), 32),
+        ("first.seats", offset_of!(Record, first.seats), 4),
+        ("confirmed", offset_of!(Record, confirmed), 1),
+        ("sent", offset_of!(Record, sent), 1),
+        ("guilty", offset_of!(Record, guilty), 4),
+        ("kept", offset_of!(Record, kept), 4),
+    ];
+    for (name, at, length) in fields {
+        assert!(PROTOCOL.contains(&format!("| {at} | {length} | `{name}` |")), "{name} isn't {length} bytes at {at}");
+    }
+    let lengths = [size_of::<Record>(), size_of::<Opened>(), size_of::<Stepped>()];
+    assert_eq!(lengths, [140, 144, 148]);
+    assert!(PROTOCOL.contains("It has 140 bytes and is aligned to 4"));
+    assert!(HEADER.contains("It has 140 bytes and is aligned to 4"));
+    assert!(HOST.contains("`struct zolbine_opened` has 144 and `struct zolbine_stepped` 148"));
+}
+
+/// The store's length and places.
+#[test]
+fn store() {
+    for page in [HOST, PROTOCOL] {
+        assert!(page.contains("4,388 × n"));
+    }
+    for row in ["| 1,452 × s |", "| 1,452 × (n + s) |", "| 1,452 × (2 × n + s) |", "| 4,356 × n + 32 × s |"] {
+        assert!(PROTOCOL.contains(row), "{row}");
+    }
+    for (n, s) in (1..=32).flat_map(|n| (0..n).map(move |s| (n, s))) {
+        let slots = [layout::collected(s), layout::first(n, s), layout::kept(n, s), layout::kept_value(n, s)];
+        let [seats, seat] = [n, s].map(|number| number as usize);
+        let stated = [1452 * seat, 1452 * (seats + seat), 1452 * (2 * seats + seat), 4356 * seats + 32 * seat];
+        assert_eq!(slots.map(|slot| slot.start), stated);
+        assert_eq!(layout::store(n), 4388 * seats);
     }
 }
 

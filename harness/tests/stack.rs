@@ -35,10 +35,10 @@ const BEFORE_SIGNATURES: [(&str, &[u32], usize); 15] = [
     ("make_evidence", &[1, 3, 5, 7, 9, 10, 11, 12], UNSIGNED),
     ("open", &[0, 1, 2, 3, 5], UNSIGNED),
     ("submit", &[4, 5, 6, 7, 8, 9], UNSIGNED),
-    ("step, SUBMIT", &[4, 5, 6, 7, 9, 10, 11, 13], UNSIGNED),
+    ("step, SUBMIT", &[4, 5, 6, 7, 9, 10, 11], UNSIGNED),
     ("step, NOTICE", &[0, 4, 5, 6, 7, 9, 10, 11], UNSIGNED),
     ("step, FULL", &[4, 5, 6, 7, 9, 10, 11, 12], UNSIGNED),
-    ("step_lent, SUBMIT", &[4, 5, 6, 7, 9, 10, 11, 13], UNSIGNED),
+    ("step_lent, SUBMIT", &[4, 5, 6, 7, 9, 10, 11], UNSIGNED),
     ("step_lent, NOTICE", &[0, 4, 5, 6, 7, 9, 10, 11], UNSIGNED),
     ("step_lent, FULL", &[4, 5, 6, 7, 9, 10, 11, 12], UNSIGNED),
 ];
@@ -73,6 +73,7 @@ fn the_stated_stack_is_enough() {
         let fleet = Fleet { n, round: 5 };
         message_lengths(&depths, fleet);
         round(&depths, fleet);
+        slow(&depths, fleet);
         refused_arguments(&depths, fleet);
         refused_steps(&depths, fleet);
     }
@@ -233,6 +234,20 @@ fn round(depths: &Depths, fleet: Fleet) {
     make(9, &one, &another[1..]);
 }
 
+/// A unit that has kept k - 1 SUBMITs and holds another certificate when it submits, so that this call writes all that a call can
+/// write.
+fn slow(depths: &Depths, fleet: Fleet) {
+    let [value, other] = two_layouts();
+    let quorum = quorum(fleet);
+    let mut unit = Unit::open(depths, fleet);
+    for &seat in &quorum[1..] {
+        assert_eq!(unit.hear(depths, "SUBMIT", &fleet.submit(seat, &value, 0).write()), (0, 0));
+    }
+    assert_eq!(unit.hear(depths, "FULL", &fleet.full(0, &other, &quorum, 0).write()), (0, 0));
+    let written = layout::out(fleet.n) as u32;
+    assert_eq!(unit.submit(depths, &value, &fleet.signature(0, &value, 0)), (0, written));
+}
+
 /// Refusals of the calls that stand outside a record, before they come to a signature.
 fn refused_arguments(depths: &Depths, fleet: Fleet) {
     let Fleet { n, round } = fleet;
@@ -304,10 +319,8 @@ fn refused_steps(depths: &Depths, fleet: Fleet) {
     };
     let submit = fleet.submit(0, &value, 0).write();
     let notice = fleet.notice(0, &value).write();
-    let mut wrong_submits = headed(submit.clone());
-    wrong_submits.push((13, submit.clone()));
     let kinds = [
-        ("SUBMIT", submit, wrong_submits),
+        ("SUBMIT", submit.clone(), headed(submit)),
         ("NOTICE", notice.clone(), headed(notice)),
         ("FULL", full.clone(), wrong_messages(fleet, &full, FULL_ENTRIES_AT, FULL_ENTRY)),
     ];

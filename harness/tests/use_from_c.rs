@@ -70,18 +70,18 @@ fn the_headers_macros_in_cpp_without_old_casts() {
     printed(&compiled_by(compiler(true), source.to_str().unwrap(), "macros_cpp", &["-Wold-style-cast"]));
 }
 
-/// Boat 0 hears of boat 1's layout before it confirms its own, and so writes two messages in one call.
+/// Boat 1 has kept the SUBMITs of two seats when it submits, and so confirms at once: 3 of 4. Boat 0 hears of boat 1's layout before
+/// it confirms its own. Each of these two calls writes two messages.
 const SPLIT: &str = "\
 (seat 2 signs for boat 1)
-boat 1 hears SUBMIT: 13
-boat 0 submits: 0
-    boat 0 sends SUBMIT, 1488 bytes
-boat 1 submits: 0
-    boat 1 sends SUBMIT, 1488 bytes
 boat 1 hears SUBMIT: 0
 (seat 3 signs for boat 1)
 boat 1 hears SUBMIT: 0
+boat 0 submits: 0
+    boat 0 sends SUBMIT, 1488 bytes
+boat 1 submits: 0
     boat 1: CONFIRMED
+    boat 1 sends SUBMIT, 1488 bytes
     boat 1 sends NOTICE, 36 bytes
 (seat 2 signs for boat 0)
 boat 0 hears SUBMIT: 0

@@ -1,8 +1,10 @@
 //! Promises to a fleet for a round in which every message arrives in the end, compared with the round as it was played.
 
-use super::round::{Event, Given, Played, Sent};
+use super::round::{Event, Given, Played, Sent, Stage};
 use crate::air;
 use crate::fleet::fewest_to_split;
+use crate::reference::layout::{SIGNED, VALUE_AT};
+use crate::reference::quorum::k;
 use crate::reference::record::{Record, Verdict};
 use crate::reference::seats::{mask, size};
 
@@ -15,6 +17,9 @@ pub fn faults(n: u32, played: &Played) -> Vec<String> {
             faults.push(fault);
         }
     };
+    for seat in played.honest() {
+        expect(confirms_in_time(n, &played.submits, seat), format!("boat {seat} has kept enough and doesn't confirm"));
+    }
     for event in &played.again.events {
         let silent = event.answer.as_ref().is_some_and(|answer| answer.written.is_empty());
         expect(silent, format!("boat {} answers a message that it has heard before", event.seat));
@@ -41,6 +46,17 @@ pub fn faults(n: u32, played: &Played) -> Vec<String> {
         expect(played.evidence.is_empty(), "there is evidence, and nobody has confirmed another layout".into());
     }
     faults.into_iter().map(|fault| format!("round {}: {fault}", played.number)).collect()
+}
+
+/// Whether a boat that was given the good SUBMITs of k - 1 others over its layout before its own submit confirmed in that very
+/// call. Each boat sends it one SUBMIT.
+fn confirms_in_time(n: u32, submits: &Stage, seat: u32) -> bool {
+    let own = submits.of(seat).find(|event| matches!(event.given, Given::Own)).and_then(|event| event.answer.as_ref());
+    let Some(own) = own else { return false };
+    let before = submits.of(seat).take_while(|event| !matches!(event.given, Given::Own));
+    let good = before.filter(|event| event.answer.is_some()).filter_map(Event::message).filter(|sent| !sent.forged);
+    let same = good.filter(|sent| sent.bytes[VALUE_AT..SIGNED] == own.after.own.value);
+    own.after.confirmed || (same.count() as u32) < k(n) - 1
 }
 
 /// Whether two honest boats have confirmed different layouts.
@@ -70,7 +86,6 @@ fn refusal(event: &Event) -> Option<String> {
     let answer = event.answer.as_ref()?;
     let due = match &event.given {
         Given::Message(sent) if sent.forged => 14,
-        Given::Message(_) if !answer.before.own.submitted => 13,
         _ => 0,
     };
     let what = event

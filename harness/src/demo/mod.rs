@@ -1,5 +1,5 @@
-//! The demonstration: a fleet in the terminal, sound and then with double signers. Its text follows from the calls' answers,
-//! and an answer that breaks a promise to the fleet is reported.
+//! The demonstration: a fleet in the terminal, sound, with a slow boat, and with double signers. Its text follows from the calls'
+//! answers, and an answer that breaks a promise to the fleet is reported.
 
 mod boat;
 mod expected;
@@ -57,10 +57,12 @@ pub fn told_by(calls: Calls, boats: &[Boat], options: &Options) -> Told {
     let ([left, right], double) = sides(options);
     let [a, b] = fleet.layouts;
     let side = |layout, honest| Side { layout, honest };
-    let sound = fleet.play(1, vec![side(a, (0..options.n).collect())], vec![]);
-    let apart = fleet.play(2, vec![side(a, left), side(b, right)], double);
-    let faults = [&sound, &apart].map(|played| expected::faults(options.n, played)).concat();
-    Told { text: Screens::of(options, fleet.layouts, &sound, &apart), faults }
+    let all = || vec![side(a, (0..options.n).collect())];
+    let sound = fleet.play(1, all(), vec![], None);
+    let slow = fleet.play(2, all(), vec![], Some(options.slow));
+    let apart = fleet.play(3, vec![side(a, left), side(b, right)], double, None);
+    let faults = [&sound, &slow, &apart].map(|played| expected::faults(options.n, played)).concat();
+    Told { text: Screens::of(options, fleet.layouts, [&sound, &slow, &apart]), faults }
 }
 
 /// The honest boats of either side, and the double signers.

@@ -14,16 +14,20 @@ pub struct Options {
     pub forged: Option<u32>,
     /// The boat that submits before all others.
     pub early: Option<u32>,
+    /// The boat whose skipper settles after the others, in round 2.
+    pub slow: u32,
     /// Source of keys, layouts and randomizers.
     pub seed: u64,
 }
 
 pub const USAGE: &str = "\
-demo [--boats N] [--double-signers N] [--lost-link SEAT-SEAT].. [--forged SEAT]
-     [--early SEAT] [--seed NUMBER]
+demo [--boats N] [--slow SEAT] [--double-signers N] [--lost-link SEAT-SEAT]..
+     [--forged SEAT] [--early SEAT] [--seed NUMBER]
 
   --boats N            boats in the fleet, 2 to 32; without it 7
-  --double-signers N   boats that sign two layouts in round 2, the last seats;
+  --slow SEAT          the boat whose skipper settles late in round 2; without it
+                       the last seat that isn't early
+  --double-signers N   boats that sign two layouts in round 3, the last seats;
                        from 0 up to all boats but two; without it as few as can
                        split the fleet
   --lost-link 0-3      boats 0 and 3 don't hear each other at first; may be given
@@ -40,15 +44,17 @@ Try first:
   --double-signers 2                 two double signers can't split seven boats
   --lost-link 0-2 --lost-link 1-2    a radio link that comes back late
   --forged 5 --early 3               a forged signature, and a boat ahead of time
+  --slow 2 --lost-link 2-0 --lost-link 2-1 --lost-link 2-5
+                                     a slow boat that hasn't heard enough
   --boats 10 --double-signers 5      a larger fleet
 ";
 
-const FLAGS: [&str; 6] = ["--boats", "--double-signers", "--lost-link", "--forged", "--early", "--seed"];
+const FLAGS: [&str; 7] = ["--boats", "--slow", "--double-signers", "--lost-link", "--forged", "--early", "--seed"];
 
 impl Options {
     pub fn parse(words: &[String]) -> Result<Options, String> {
         let (mut n, mut double_signers, mut seed) = (7, None, 1);
-        let (mut lost_links, mut forged, mut early) = (Vec::new(), None, None);
+        let (mut lost_links, mut forged, mut early, mut slow) = (Vec::new(), None, None, None);
         for pair in words.chunks(2) {
             let flag = pair[0].as_str();
             if !FLAGS.contains(&flag) {
@@ -62,6 +68,7 @@ impl Options {
                 "--lost-link" => lost_links.push(link(word)?),
                 "--forged" => forged = Some(number()?),
                 "--early" => early = Some(number()?),
+                "--slow" => slow = Some(number()?),
                 _ => seed = word.parse().map_err(|_| format!("{flag} {word}: not a number that fits"))?,
             }
         }
@@ -69,7 +76,8 @@ impl Options {
             return Err(format!("--boats {n}: a fleet has 2 to 32 boats"));
         }
         let double_signers = double_signers.unwrap_or(fewest_to_split(n).min(n - 2));
-        Options { n, double_signers, lost_links, forged, early, seed }.tested()
+        let slow = slow.unwrap_or(if early == Some(n - 1) { n - 2 } else { n - 1 });
+        Options { n, double_signers, lost_links, forged, early, slow, seed }.tested()
     }
 
     fn tested(self) -> Result<Options, String> {
@@ -85,10 +93,13 @@ impl Options {
         if let Some((one, other)) = self.lost_links.iter().find(|(one, other)| stranger(one) || stranger(other)) {
             return no_seat("--lost-link", format!("{one}-{other}"));
         }
-        for (flag, seat) in [("--forged", self.forged), ("--early", self.early)] {
+        for (flag, seat) in [("--forged", self.forged), ("--early", self.early), ("--slow", Some(self.slow))] {
             if let Some(seat) = seat.filter(stranger) {
                 return no_seat(flag, seat.to_string());
             }
+        }
+        if self.early == Some(self.slow) {
+            return Err(format!("--slow {}: this boat is early", self.slow));
         }
         Ok(self)
     }
@@ -117,7 +128,7 @@ mod tests {
     }
 
     fn plain(n: u32, double_signers: u32, seed: u64) -> Options {
-        Options { n, double_signers, lost_links: vec![], forged: None, early: None, seed }
+        Options { n, double_signers, lost_links: vec![], forged: None, early: None, slow: n - 1, seed }
     }
 
     #[test]
@@ -132,6 +143,8 @@ mod tests {
             radio,
             Options { lost_links: vec![(0, 3), (5, 4)], forged: Some(6), early: Some(0), ..plain(7, 3, 1) }
         );
+        assert_eq!(parse("--slow 2 --early 0"), Ok(Options { early: Some(0), slow: 2, ..plain(7, 3, 1) }));
+        assert_eq!(parse("--early 6"), Ok(Options { early: Some(6), slow: 5, ..plain(7, 3, 1) }));
         assert_eq!([(3, 0), (4, 5), (0, 4)].map(|(one, other)| radio.linked(one, other)), [false, false, true]);
     }
 
@@ -155,6 +168,8 @@ mod tests {
             ("--lost-link 3", "--lost-link 3: a link is between two boats, as 0-3"),
             ("--forged 7", "--forged 7: the seats are 0 to 6"),
             ("--early 7", "--early 7: the seats are 0 to 6"),
+            ("--slow 7", "--slow 7: the seats are 0 to 6"),
+            ("--slow 3 --early 3", "--slow 3: this boat is early"),
             ("--n 7", "--n: no such flag"),
         ] {
             let error = parse(line).unwrap_err();

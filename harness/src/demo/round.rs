@@ -44,8 +44,6 @@ pub enum Given {
     /// The own layout and signature.
     Own,
     Message(Sent),
-    /// A message that came too early, given again.
-    PutBy(Sent),
 }
 
 pub struct Event {
@@ -66,6 +64,8 @@ pub struct Played {
     pub number: u32,
     pub sides: Vec<Side>,
     pub double: Vec<u32>,
+    /// The boat that signs after it has heard the others.
+    pub slow: Option<u32>,
     pub submits: Stage,
     pub notices: Stage,
     pub fulls: Stage,
@@ -96,7 +96,7 @@ impl Event {
     pub fn message(&self) -> Option<&Sent> {
         match &self.given {
             Given::Own => None,
-            Given::Message(sent) | Given::PutBy(sent) => Some(sent),
+            Given::Message(sent) => Some(sent),
         }
     }
 
@@ -118,9 +118,9 @@ impl Played {
 }
 
 impl Fleet<'_> {
-    pub fn play(&self, number: u32, sides: Vec<Side>, double: Vec<u32>) -> Played {
+    pub fn play(&self, number: u32, sides: Vec<Side>, double: Vec<u32>, slow: Option<u32>) -> Played {
         let mut air = Air::new(self, number, &sides, &double);
-        let submits = air.submits(&sides);
+        let submits = air.submits(&sides, slow);
         let notices = air.broadcast(of_command(submits.sent(), NOTICE));
         let fulls = air.broadcast(of_command(notices.sent(), FULL));
         let late = air.late(fulls.sent());
@@ -131,7 +131,7 @@ impl Fleet<'_> {
         };
         let evidence = of_command(said, EVIDENCE).into_iter().map(check).collect();
         let again = air.again([&submits, &notices, &fulls, &late]);
-        Played { number, sides, double, submits, notices, fulls, late, evidence, again }
+        Played { number, sides, double, slow, submits, notices, fulls, late, evidence, again }
     }
 }
 
@@ -180,33 +180,38 @@ impl<'a> Air<'a> {
         }
     }
 
-    /// Every boat signs, and hears the others' SUBMITs: the early one first, then the forged one, then by seat.
-    fn submits(&mut self, sides: &[Side]) -> Stage {
+    /// Every boat signs, and hears the others' SUBMITs: the early one first, then the forged one, then by seat, the slow boat's
+    /// last. The slow boat signs after all that.
+    fn submits(&mut self, sides: &[Side], slow: Option<u32>) -> Stage {
         let mut events = Vec::new();
         for side in sides {
             for &seat in &side.honest {
-                events.extend(self.submits_to(seat, side.layout));
+                events.extend(self.submits_to(seat, side.layout, slow));
             }
         }
         self.stage(events)
     }
 
-    fn submits_to(&mut self, seat: u32, own: Layout) -> Vec<Event> {
+    fn submits_to(&mut self, seat: u32, own: Layout, slow: Option<u32>) -> Vec<Event> {
         let options = self.fleet.options;
         let early = options.early.filter(|&early| early != seat && options.linked(early, seat));
+        let others = (0..options.n).filter(|&from| from != seat && Some(from) != early);
+        let (slow_ones, others): (Vec<u32>, Vec<u32>) = others.partition(|&from| Some(from) == slow);
         let mut events = Vec::new();
         if let Some(from) = early {
             events.push(self.give(seat, Given::Message(self.shown_to(own, from))));
         }
-        events.push(self.give(seat, Given::Own));
-        if let Some(from) = early {
-            events.push(self.give(seat, Given::PutBy(self.shown_to(own, from))));
+        if slow != Some(seat) {
+            events.push(self.give(seat, Given::Own));
         }
         if let Some(forged) = self.forged.get(&own) {
             events.push(self.give(seat, Given::Message(forged.clone())));
         }
-        for from in (0..options.n).filter(|&from| from != seat && Some(from) != early) {
+        for from in others.into_iter().chain(slow_ones) {
             events.push(self.send(self.shown_to(own, from), seat));
+        }
+        if slow == Some(seat) {
+            events.push(self.give(seat, Given::Own));
         }
         events
     }
@@ -274,7 +279,7 @@ impl<'a> Air<'a> {
                     self.signed.iter().find(|((signer, _), _)| *signer == seat).expect("each boat signs a layout");
                 unit.submit(own.1)
             }
-            Given::Message(sent) | Given::PutBy(sent) => unit.hear(&sent.bytes),
+            Given::Message(sent) => unit.hear(&sent.bytes),
         };
         Event { seat, given, answer: Some(answer) }
     }

@@ -29,11 +29,12 @@ pub struct Screens<'a> {
 const WIDTH: usize = 79;
 
 impl<'a> Screens<'a> {
-    pub fn of(options: &'a Options, layouts: [Layout; 2], sound: &Played, apart: &Played) -> String {
+    pub fn of(options: &'a Options, layouts: [Layout; 2], [sound, slow, apart]: [&Played; 3]) -> String {
         let (k, shared) = (k(options.n), fewest_to_split(options.n));
         let mut screens = Screens { options, layouts, k, shared, text: String::new() };
         screens.introduction();
         screens.sound(sound);
+        screens.slow(slow);
         screens.apart(apart);
         screens.mates(sound, apart);
         screens.text
@@ -109,6 +110,35 @@ impl<'a> Screens<'a> {
         self.prose("Every boat signs layout A and sends its SUBMIT to all others.");
         self.radio();
         self.message_by_message(played, 0);
+        self.agreed(played);
+    }
+
+    fn slow(&mut self, played: &Played) {
+        let seat = self.options.slow;
+        self.heading("ROUND 2: A SLOW BOAT");
+        self.prose(&format!(
+            "Every boat signs layout A again, but the skipper of boat {seat} settles late: the SUBMITs of the others come in before \
+             boat {seat} has signed. It checks them and keeps the good ones, and they count as soon as it signs."
+        ));
+        self.radio();
+        self.message_by_message(played, 0);
+        let settled = signed(played, seat);
+        self.line("");
+        self.prose(&match settled.after.confirmed {
+            true => {
+                format!("Boat {seat} confirms the moment its skipper settles. No SUBMIT has to be sent to it again.")
+            }
+            false => format!(
+                "Boat {seat} has kept {}, and needs {} to confirm at once. It waits for more.",
+                size(settled.before.kept),
+                self.k - 1
+            ),
+        });
+        self.agreed(played);
+    }
+
+    /// A round in which all boats want layout A, from the signatures collected to its end.
+    fn agreed(&mut self, played: &Played) {
         self.collected(played);
         self.line("");
         self.notices(played);
@@ -122,9 +152,9 @@ impl<'a> Screens<'a> {
 
     fn apart(&mut self, played: &Played) {
         self.heading(&match played.double.len() {
-            0 => "ROUND 2: THE MATES WANT DIFFERENT LAYOUTS".to_string(),
-            1 => "ROUND 2: 1 BOAT SIGNS TWO LAYOUTS".to_string(),
-            double => format!("ROUND 2: {double} BOATS SIGN TWO LAYOUTS"),
+            0 => "ROUND 3: THE MATES WANT DIFFERENT LAYOUTS".to_string(),
+            1 => "ROUND 3: 1 BOAT SIGNS TWO LAYOUTS".to_string(),
+            double => format!("ROUND 3: {double} BOATS SIGN TWO LAYOUTS"),
         });
         self.who_signs_what(played);
         self.radio();
@@ -188,8 +218,7 @@ impl<'a> Screens<'a> {
         }
         if let Some(seat) = early {
             told.push(format!(
-                "Boat {seat} is early: its SUBMIT comes before the others have signed. They refuse it for now, put it by, and take \
-                 it after their own."
+                "Boat {seat} is early: its SUBMIT comes before the others have signed. They check it and keep it until they sign."
             ));
         }
         if let Some(seat) = forged {
@@ -201,15 +230,27 @@ impl<'a> Screens<'a> {
         }
     }
 
-    /// One boat of a side, with each SUBMIT that it hears.
+    /// The slow boat, or one boat of a side, with each SUBMIT that it hears.
     fn message_by_message(&mut self, played: &Played, side: usize) {
         let Options { early, forged, .. } = *self.options;
         let honest = &played.sides[side].honest;
         let plain = honest.iter().find(|&&seat| Some(seat) != early && Some(seat) != forged);
-        let Some(&seat) = plain.or(honest.first()) else { return };
+        let Some(&seat) = played.slow.as_ref().or(plain).or(honest.first()) else { return };
         self.line(format!("\nBoat {seat}, message by message:\n"));
-        let rows: Vec<_> = played.submits.of(seat).map(|event| (self.given(event), self.came_of(event))).collect();
+        let rows: Vec<_> = played.submits.of(seat).flat_map(|event| self.told(event)).collect();
         self.rows(&rows);
+    }
+
+    /// A call's row. At the own submit the kept ones that count have a row of their own.
+    fn told(&self, event: &Event) -> Vec<(String, String)> {
+        let row = (self.given(event), self.came_of(event));
+        let after = event.answer.as_ref().filter(|_| matches!(event.given, Given::Own)).map(|answer| answer.after);
+        match after.map_or(0, |after| after.own.collected & !mask(&[after.seat])) {
+            0 => vec![row],
+            kept => {
+                vec![(row.0, format!("1 of {}", self.k)), (format!("counts what it kept: {}", boats_of(kept)), row.1)]
+            }
+        }
     }
 
     fn given(&self, event: &Event) -> String {
@@ -224,7 +265,6 @@ impl<'a> Screens<'a> {
             Given::Message(sent) if event.answer.is_none() => told(sent),
             Given::Message(sent) if sent.forged => format!("hears {}, forged", told(sent)),
             Given::Message(sent) => format!("hears {}", told(sent)),
-            Given::PutBy(sent) => format!("put by: {}", told(sent)),
         }
     }
 
@@ -243,10 +283,10 @@ impl<'a> Screens<'a> {
                     false => signatures,
                 }
             }
+            0 if after.kept != before.kept => "checked and kept".to_string(),
             0 if value.is_some_and(|value| value != before.own.value) => "not its layout: doesn't count".to_string(),
             0 if before.confirmed => format!("not needed: it has its {}", self.k),
             0 => "heard before".to_string(),
-            13 => "refused (13, early): put by".to_string(),
             14 => "refused (14, signature): doesn't count".to_string(),
             number => format!("refused ({number})"),
         }
@@ -254,7 +294,14 @@ impl<'a> Screens<'a> {
 
     /// Each boat with the signatures that it has collected.
     fn collected(&mut self, played: &Played) {
-        self.line(format!("\nEach boat counts its own signature first, then others as they come, up to {}:\n", self.k));
+        let keeps = |event: &Event| event.answer.as_ref().is_some_and(|answer| answer.after.kept != 0);
+        let kept = if played.submits.events.iter().any(keeps) { " then what it kept, by seat," } else { "" };
+        self.line("");
+        self.prose(&format!(
+            "Each boat counts its own signature first,{kept} then others as they come, up to {}:",
+            self.k
+        ));
+        self.line("");
         let row = |record: &Record| {
             let signed = format!("{} signed by {}", self.name(&record.own.value), boats_of(record.own.collected));
             let outcome = match record.confirmed {
@@ -489,7 +536,14 @@ fn value(sent: &Sent) -> Vec<u8> {
     sent.bytes[VALUE_AT..SIGNED].to_vec()
 }
 
-/// The names of the messages that a call wrote.
+/// The answer to a boat's own submit.
+fn signed(played: &Played, seat: u32) -> &Answer {
+    let own = played.submits.of(seat).find(|event| matches!(event.given, Given::Own));
+    own.and_then(|event| event.answer.as_ref()).expect("each boat submits")
+}
+
+/// The names of the messages that a call wrote. That who signs sends its SUBMIT goes without saying.
 fn messages(n: u32, written: &[u8]) -> String {
-    and(&air::messages(n, written).iter().map(|message| air::name(message)).collect::<Vec<_>>())
+    let names = air::messages(n, written);
+    and(&names.iter().map(|message| air::name(message)).filter(|&name| name != "SUBMIT").collect::<Vec<_>>())
 }

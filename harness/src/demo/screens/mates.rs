@@ -1,8 +1,8 @@
 //! The last screen: the mate's display at each stage.
 
-use super::super::round::{Given, Played};
+use super::super::round::Played;
 use super::super::words::seats;
-use super::{lines, Screens};
+use super::{lines, signed, Screens};
 use crate::reference::record::Record;
 use crate::reference::seats::{list, size};
 
@@ -14,7 +14,7 @@ impl Screens<'_> {
         let shown = [(sound, 0), (apart, 0), (apart, 1)].map(|(played, side)| (played, played.sides[side].honest[0]));
         let at = |of: &dyn Fn(&Played, u32) -> Record| shown.map(|(played, seat)| of(played, seat));
         let mut stages = vec![
-            ("it has signed", at(&signed)),
+            ("it has signed", at(&|played, seat| signed(played, seat).after)),
             ("SUBMITs heard", at(&|played, seat| *played.submits.record(seat))),
             ("NOTICEs heard", at(&|played, seat| *played.notices.record(seat))),
         ];
@@ -95,10 +95,4 @@ impl Screens<'_> {
         }
         self.rows(&rows);
     }
-}
-
-/// The record after the own submit.
-fn signed(played: &Played, seat: u32) -> Record {
-    let own = played.submits.of(seat).find(|event| matches!(event.given, Given::Own));
-    own.and_then(|event| event.answer.as_ref()).expect("each boat submits").after
 }
