@@ -5,7 +5,6 @@ use std::mem::offset_of;
 use harness::reference::layout;
 use harness::reference::quorum::{k, t0};
 use harness::reference::record::{Opened, Record, Stepped};
-use harness::reference::refusals::ORDER;
 
 const HEADER: &str = include_str!("../../include/zolbine.h");
 const HOST: &str = include_str!("../../docs/HOST.md");
