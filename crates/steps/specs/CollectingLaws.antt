@@ -1,6 +1,6 @@
 -- The returns of collecting, over plain values, and the room that a collected signature leaves.
 use mathlib.Core.Path.{_≡_, refl, sym, _∙_}
-use mathlib.Core.Bool.{Bool, true, false, cond, not, _&&_, and-eq-true-iff, false≢true}
+use mathlib.Core.Bool.{Bool, true, false, not, _&&_, and-eq-true-iff, false≢true}
 use mathlib.Core.List.{List, []}
 use Prim.Native.Nat.{ℕ, _+_, _≤_, _<_}
 use native.Mathlib.Omega.{arith}
@@ -15,11 +15,11 @@ use Rattle.protocol.specs.Layout.{valueLength}
 use Rattle.protocol.specs.Message.{Submit, render, readValue}
 use Rattle.protocol.specs.Calls.{start}
 use Rattle.protocol.specs.Refusals.{said}
-use Rattle.protocol.specs.Step.{write, setOwnValue, collect, submitOwn, isWanted, collectIfWanted}
+use Rattle.protocol.specs.Step.{State, write, setOwnValue, collect, submitOwn, isWanted, collectIfWanted}
 use Rattle.protocol.specs.declared.Record.{Record}
 use Rattle.wire_write.specs.Writing.{Wrote}
 use Rattle.steps.specs.Phases.{Changed, Did, Fits}
-use Rattle.steps.specs.PhasesLaws.{fits-like, likewise-changed, did-writing-one}
+use Rattle.steps.specs.PhasesLaws.{fits-like, fits-same, cond-written, likewise-changed, did-writing-one}
 use Rattle.protocol.specs.Record.{Possible}
 
 -- ---- submit
@@ -50,13 +50,10 @@ module _ (r : Record) (store : List ℕ) (seat : ℕ) (value signature : List �
   unfolding collectIfWanted
   collectIfWanted-unwanted e = record { recorded = rw e; stored = rw e }
 
-  pub collectIfWanted-quiet : collectIfWanted seat value signature (start r store) .written ≡ []
-  unfolding collectIfWanted collect
-  collectIfWanted-quiet = go (isWanted seat value r)
-    where
-      go : (b : Bool) → cond b (collect seat signature (start r store)) (start r store) .written ≡ []
-      go true = refl
-      go false = refl
+-- collecting writes nothing
+pub collectIfWanted-quiet : (seat : ℕ) (value signature : List ℕ) (s : State) → collectIfWanted seat value signature s .written ≡ s .written
+unfolding collectIfWanted collect
+collectIfWanted-quiet seat value signature s = cond-written (s .written) (isWanted seat value (s .unit)) (collect seat signature s) s refl refl
 
 -- ---- room for one more
 
@@ -78,14 +75,20 @@ k-some : (n : ℕ) → 1 ≤ n → 1 ≤ k n
 unfolding k t0
 k-some n h = omega arith
 
--- fewer than k seats are collected before confirming, and a wanted seat is new
+-- a wanted seat is new
+pub wanted-new : (r : Record) (seat : ℕ) (value : List ℕ) → isWanted seat value r ≡ true → size (with seat (r .own .collected)) ≡ size (r .own .collected) + 1
+unfolding isWanted
+wanted-new r seat value e =
+    let new = and-eq-true-iff (not (r .confirmed) && same value (r .own .value)) (not (has seat (r .own .collected))) .0 e .1 in
+    size-with-new seat (r .own .collected) (has-false seat (r .own .collected) .0 (not-true (has seat (r .own .collected)) new))
+
+-- fewer than k seats are collected before confirming
 pub one-more : (r : Record) → Possible r → (seat : ℕ) (value : List ℕ) → isWanted seat value r ≡ true → size (with seat (r .own .collected)) ≤ k (r .n)
 unfolding isWanted
 one-more r possible seat value e =
-    let a = and-eq-true-iff (not (r .confirmed) && same value (r .own .value)) (not (has seat (r .own .collected))) .0 e in
-    let b = and-eq-true-iff (not (r .confirmed)) (same value (r .own .value)) .0 (a .0) in
-    let new = has-false seat (r .own .collected) .0 (not-true (has seat (r .own .collected)) (a .1)) in
-    go (not-true (r .confirmed) (b .0)) (size-with-new seat (r .own .collected) new) (ℕ-discrete (size (r .own .collected)) (k (r .n)))
+    let wanted = and-eq-true-iff (not (r .confirmed) && same value (r .own .value)) (not (has seat (r .own .collected))) .0 e .0 in
+    let unconfirmed = and-eq-true-iff (not (r .confirmed)) (same value (r .own .value)) .0 wanted .0 in
+    go (not-true (r .confirmed) unconfirmed) (wanted-new r seat value e) (ℕ-discrete (size (r .own .collected)) (k (r .n)))
   where
     go : r .confirmed ≡ false → size (with seat (r .own .collected)) ≡ size (r .own .collected) + 1 → Dec (size (r .own .collected) ≡ k (r .n)) → size (with seat (r .own .collected)) ≤ k (r .n)
     go before more (yes full) = absurd (false≢true (sym before ∙ possible .complete full))
@@ -111,6 +114,4 @@ wanted-fits r store fits u store′ long seat value signature l more done = go (
     go true e =
         let same : u ≡ collect seat signature (start r store) .unit = done .recorded ∙ rw e in
         (fits-with r u store store′ seat fits l (more e) (rw same) (rw same) (rw same) (rw same) long, rw same)
-    go false e =
-        let same : u ≡ r = done .recorded ∙ rw e in
-        (fits-like r u store store′ fits (rw same) (rw same) (rw same) (rw same) long, rw same)
+    go false e = fits-same r u store store′ fits (done .recorded ∙ rw e) long

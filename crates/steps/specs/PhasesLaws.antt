@@ -1,5 +1,6 @@
 -- Phases by their results, and two phases in a row as one.
 use mathlib.Core.Path.{_≡_, sym, ap, _∙_}
+use mathlib.Core.Bool.{Bool, true, false, cond}
 use mathlib.Core.List.{List, [], _∷_, append-nil}
 use Prim.Native.Nat.{ℕ, _≤_}
 use native.Mathlib.Nat.{add-zero}
@@ -30,6 +31,14 @@ fits-like r u store store′ h n seat collected first long =
       slots = rw (n, long) (h .slots);
     }
 
+pub fits-same : (r u : Record) (store store′ : List ℕ) → Fits r store → u ≡ r → length store′ ≡ length store → Fits u store′ × (u .n ≡ r .n)
+fits-same r u store store′ h e long = (fits-like r u store store′ h (rw e) (rw e) (rw e) (rw e) long, rw e)
+
+-- a choice of two phases that write the same
+pub cond-written : (ms : List Message) (b : Bool) (s t : State) → s .written ≡ ms → t .written ≡ ms → cond b s t .written ≡ ms
+cond-written ms true s t p q = p
+cond-written ms false s t p q = q
+
 module _ (f : State → State) (r : Record) (store : List ℕ) where
   -- a phase that writes nothing
   pub did-writing-none : (out : List ℕ) (at : ℕ) (unit : Record) (store′ : List ℕ) → f (start r store) .written ≡ [] → Changed f r store unit store′ → Did f r store out at unit store′ out at
@@ -50,6 +59,14 @@ module _ (f : State → State) (r : Record) (store : List ℕ) where
       → Changed f r store unit store′ → Wrote at (render m) out out′ end → Did f r store out at unit store′ out′ end
   unfolding renderAll
   did-writing-one m out at unit store′ out′ end e k w = record { changed = k; wrote = rw (e, append-nil) w }
+
+-- one phase after another, where the first writes nothing
+pub changed-then : (f g : State → State) (r : Record) (store : List ℕ) (u : Record) (store′ : List ℕ) (v : Record) (store″ : List ℕ) → f (start r store) .written ≡ []
+    → Changed f r store u store′ → Changed g u store′ v store″ → Changed (λ s. g (f s)) r store v store″
+changed-then f g r store u store′ v store″ none d h =
+    let s = f (start r store) in
+    let whole : s ≡ start u store′ = ap (λ (ms : List Message). record { unit = s .unit; store = s .store; written = ms }) none ∙ rw (d .recorded, d .stored) in
+    record { recorded = h .recorded ∙ rw (← whole); stored = h .stored ∙ rw (← whole) }
 
 -- one phase after another, where the second only adds to the messages
 pub did-then : (f g : State → State) → ((ms : List Message) (s : State) → g (after ms s) ≡ after ms (g s))

@@ -12,10 +12,11 @@ use Rattle.quorum.specs.Quorum.{k}
 use Rattle.protocol.specs.Layout.{signatureLength, seatAt, valueAt, submitSignatureAt, submitLength, noticeLength, fullLength, evidenceLength, outLength}
 use Rattle.protocol.specs.Message.{byteAt, read, readSubmit, readNotice, readFull, readEvidence, readValue, readSignature, fitsSubmit, seatsOf, entrySeats}
 use Rattle.protocol.specs.Certificate.{setOf}
+use Rattle.protocol.specs.Calls.{start}
 use Rattle.protocol.specs.Record.{withNotices, Ready}
 use Rattle.protocol.specs.Refusals.{stranger, disorder, every, isFull}
 use Rattle.protocol.specs.Step.{noticesWith, hear, reply, hearCertificate, submitOwn, hearSubmit, collectKept, confirmIfComplete, submitted, stepped}
-use Rattle.protocol.specs.StepLaws.{reply-after, confirmIfComplete-after}
+use Rattle.protocol.specs.StepLaws.{collectKept-after, reply-after, confirmIfComplete-after}
 use Rattle.protocol.specs.declared.Record.{Record}
 use Rattle.wire.specs.Reading.{kindOf}
 use Rattle.protocol.specs.MessageLaws.{submit-fits}
@@ -27,7 +28,7 @@ use Rattle.wire.specs.declared.read.Kind.{Kind}
 use Rattle.wire.specs.declared.read.Kind.the-variants as kind
 use Rattle.steps.specs.Phases.{Changed, Did, Fits}
 use Rattle.steps.specs.PhasesLaws.{did-same, did-writing-none, did-then}
-use Rattle.steps.specs.KeepingLaws.{hearSubmit-quiet, collectKept-quiet, collectKept-after}
+use Rattle.steps.specs.KeepingLaws.{hearSubmit-quiet, collectKept-quiet}
 
 -- ---- the start of a call
 
@@ -86,7 +87,7 @@ module _ (r : Record) (store out : List ℕ) (u : Record) (store′ out′ : Lis
   unfolding submitted
   submit-done value signature first second third =
       let f = submitOwn value signature in
-      let quiet = did-writing-none collectKept u store′ out′ a x gathered (collectKept-quiet u store′) second in
+      let quiet = did-writing-none collectKept u store′ out′ a x gathered (collectKept-quiet (start u store′)) second in
       let both = did-then f collectKept collectKept-after r store out 0 u store′ out′ a x gathered out′ a (omega arith) first quiet in
       did-then (λ s. collectKept (f s)) confirmIfComplete confirmIfComplete-after r store out 0 x gathered out′ a v store″ out″ e (omega arith) both third
 
@@ -96,7 +97,7 @@ module _ (r : Record) (store out : List ℕ) (m : List ℕ) (u : Record) (v : Re
   unfolding stepped readSubmit
   submit-heard seat value signature store′ said at-seat at-value at-signature first second =
       let f = hearSubmit seat value signature in
-      let quiet = did-writing-none f r store out 0 u store′ (hearSubmit-quiet r store seat value signature) first in
+      let quiet = did-writing-none f r store out 0 u store′ (hearSubmit-quiet seat value signature (start r store)) first in
       rw (is-submit (r .n) m said .0, ← at-seat, ← at-value, ← at-signature)
       (did-then f confirmIfComplete confirmIfComplete-after r store out 0 u store′ out 0 v store″ out″ e (omega arith) quiet second)
 

@@ -4,7 +4,7 @@ use denote.Ref.{now}
 use borrow.Author.Tests.{not-true, not-false}
 use Rattle.layout.specs.Places.{bankOf}
 use Rattle.protocol.specs.Layout.{signatureLength}
-use Rattle.steps.specs.KeepingLaws.{closed, opened, kept-value-read}
+use Rattle.steps.specs.KeepingLaws.{collectKeptSeat-closed, collectKeptSeat-open, kept-value-read}
 use borrow.Author.Needs.{needs}
 use Rattle.steps.proofs.kept.collect_kept_seat.Statement.{statement}
 use Rattle.steps.proofs.kept.collect_kept_seat.Tie as tie
@@ -24,7 +24,7 @@ copied c = c .before .before
 returns : tie.Need-returns
 returns c =
     let args = started (c .before) .args in
-    closed (args .r) (now (args .store)) (args .seat) (sym (c .before .is-open-to .ensures) ∙ not-true _ (c .if1 .taken))
+    collectKeptSeat-closed (args .r) (now (args .store)) (args .seat) (sym (c .before .is-open-to .ensures) ∙ not-true _ (c .if1 .taken))
 
 slice-aggregate-collect-if-wanted : tie.Need-slice-aggregate-collect-if-wanted
 slice-aggregate-collect-if-wanted c = search needs
@@ -45,7 +45,7 @@ returns-2 c =
     let opening = chosen value in
     let args = started (opening .before) .args in
     let store = now (args .store) in
-    opened (args .r) store (args .seat) _ _ _ _ (sym (opening .before .is-open-to .ensures) ∙ not-false _ (opening .if1 .left))
+    collectKeptSeat-open (args .r) store (args .seat) _ _ _ _ (sym (opening .before .is-open-to .ensures) ∙ not-false _ (opening .if1 .left))
     (kept-value-read (args .r) store (args .seat) _ _ (place .kept-value-at .ensures .0) (value .value-at .ensures)) (slot .slot-copy .ensures) (done .collect-if-wanted .ensures)
 
 pub collect-kept-seat-spec : {M : Type 1} → statement M

@@ -1,7 +1,7 @@
 -- `steps::kept::hear_submit` meets its contract.
 use mathlib.Core.Path.{sym, _∙_}
 use denote.Ref.{now}
-use Rattle.steps.specs.KeepingLaws.{heard-after, heard-again, heard-early}
+use Rattle.steps.specs.KeepingLaws.{hearSubmit-submitted, hearSubmit-kept, hearSubmit-first}
 use borrow.Author.Needs.{needs}
 use Rattle.steps.proofs.kept.hear_submit.Statement.{statement}
 use Rattle.steps.proofs.kept.hear_submit.Tie as tie
@@ -14,13 +14,13 @@ returns c =
     let done = c .before .before in
     let chosen = done .before .before in
     let args = started (chosen .before) .args in
-    heard-after (args .r) (now (args .store)) (args .seat) (args .value) (now (args .signature)) _ _ (chosen .if1 .taken) (done .collect-if-wanted .ensures)
+    hearSubmit-submitted (args .r) (now (args .store)) (args .seat) (args .value) (now (args .signature)) _ _ (chosen .if1 .taken) (done .collect-if-wanted .ensures)
 
 returns-2 : tie.Need-returns-2
 returns-2 c =
     let early = c .before .before in
     let args = started (early .before) .args in
-    heard-again (args .r) (now (args .store)) (args .seat) (args .value) (now (args .signature)) (early .if1 .left) (sym (c .before .has .ensures) ∙ c .if2 .taken)
+    hearSubmit-kept (args .r) (now (args .store)) (args .seat) (args .value) (now (args .signature)) (early .if1 .left) (sym (c .before .has .ensures) ∙ c .if2 .taken)
 
 returns-3 : tie.Need-returns-3
 returns-3 c =
@@ -28,7 +28,7 @@ returns-3 c =
     let chosen = done .before .before in
     let early = chosen .before .before in
     let args = started (early .before) .args in
-    heard-early (args .r) (now (args .store)) (args .seat) (args .value) (now (args .signature)) _ _ (early .if1 .left) (sym (chosen .before .has .ensures) ∙ chosen .if2 .left) (done .keep .ensures)
+    hearSubmit-first (args .r) (now (args .store)) (args .seat) (args .value) (now (args .signature)) _ _ (early .if1 .left) (sym (chosen .before .has .ensures) ∙ chosen .if2 .left) (done .keep .ensures)
 
 pub hear-submit-spec : {M : Type 1} → statement M
 hear-submit-spec =

@@ -1,7 +1,7 @@
 -- `steps::kept::keep` meets its contract.
 use denote.Ref.{now}
 use Rattle.layout.specs.Places.{bankOf}
-use Rattle.steps.specs.KeepingLaws.{kept-with}
+use Rattle.steps.specs.KeepingLaws.{keep-parts}
 use borrow.Author.Needs.{needs}
 use Rattle.steps.proofs.kept.keep.Statement.{statement}
 use Rattle.steps.proofs.kept.keep.Tie as tie
@@ -23,7 +23,7 @@ returns c =
     let fill = filled place in
     let with = fill .before .before in
     let args = started with .args in
-    kept-with (args .r) (now (args .store)) (args .seat) _ (now (args .signature)) _ _ _ _ _ (with .with .ensures) (place .kept-value-at .ensures .0) (fill .fill .ensures) (c .with-kept .ensures) (copied .copy .ensures)
+    keep-parts (args .r) (now (args .store)) (args .seat) _ (now (args .signature)) _ _ _ _ _ (with .with .ensures) (place .kept-value-at .ensures .0) (fill .fill .ensures) (c .with-kept .ensures) (copied .copy .ensures)
 
 pub keep-spec : {M : Type 1} → statement M
 keep-spec =
