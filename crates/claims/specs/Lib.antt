@@ -20,6 +20,8 @@ pub mod Journey
 pub mod Units
 pub mod Once
 pub mod Kept
+pub mod Before
+pub mod Gain
 pub mod Safe
 pub mod Made
 pub mod Blamed
