@@ -91,7 +91,7 @@ module _ (S : Setting) (seat : ℕ) (some-seats : 1 ≤ S .n) (inside : seat < S
       cond-elim (λ o. reactTo checks n seat o m ≡ record { machine = m; actions = [] }) (eqb refusal 0 || eqb refusal 14) (delivered msg) none
       (λ e. ⊎-elim
       (λ f. absurd (d (eqb-true refusal 0 f)))
-      (λ f. unsigned-discarded checks n round keys seat m rest msg (refused-signature checks keys r store msg out (q ∙ eqb-true refusal 14 f)))
+      (λ f. unsigned-discarded checks n seat m rest msg (refused-signature checks keys r store msg out (q ∙ eqb-true refusal 14 f)))
       (or-true-either (eqb refusal 0) (eqb refusal 14) e))
       (λ e. none-quiet m)
 

@@ -2,58 +2,48 @@
 -- Assumes nothing.
 use Prim.Native.Nat.{ℕ, zero, suc, _≤_, _<_}
 use mathlib.Core.Path.{_≡_, refl, sym, ap, subst, _∙_}
-use mathlib.Core.Bool.{Bool, true, false, cond, not, _&&_, and-false, true≢false, false≢true}
+use mathlib.Core.Bool.{Bool, true, false, cond, not, _&&_, true≢false}
 use mathlib.Core.List.{List, [], _∷_, _++_, List·Memᴰ, Memᴰ·append-left}
 use mathlib.Core.Logic.{⊎-elim, _≢_}
 use mathlib.Core.Option.{Option, none, some}
 use native.Mathlib.Omega.{arith}
-use native.Mathlib.Decide.{ℕ-discrete}
 use lib.Dec.{leb, ltb}
-use lib.ListN.{length, take, length-append}
-use lib.Seq.{take-all, take-append-le, length-take-le}
+use lib.ListN.{length, take}
+use lib.Seq.{take-all, length-take-le}
 use borrow.Author.Tests.{leb-true, leb-false, le-leb, lt-leb, le-ltb, lt-ltb}
 use Rattle.octets.specs.Strings.{same}
 use Rattle.octets.specs.StringsLaws.{same-refl}
-use Rattle.quorum.specs.Quorum.{k, bit, In, has, size, with}
-use Rattle.quorum.specs.QuorumLaws.{bit-with-other, has-true, has-false, size-with-new}
+use Rattle.quorum.specs.Quorum.{k, has, size, with}
+use Rattle.quorum.specs.QuorumLaws.{has-true, has-false}
 use Rattle.protocol.specs.Layout.{valueLength, signatureLength, banks, storeLength, slotLength, collectedBank, firstBank, keptBank, keptValueBank}
 use Rattle.protocol.specs.LayoutLaws.{collected-bank, first-bank, kept-bank, kept-value-bank}
-use Rattle.protocol.specs.Entries.{Each, formSeats}
+use Rattle.protocol.specs.Entries.{formSeats}
 use Rattle.protocol.specs.Message.{Entry, Signed, Message, Submit, Notice, Full, Evidence, Garbled, fullForm}
-use Rattle.protocol.specs.Certificate.{slot, fill, keptValue, keptSignature, fillKept, signatureOf, certificateOf, certificateIn}
-use Rattle.protocol.specs.Record.{withOwn, withKept}
+use Rattle.protocol.specs.Certificate.{slot, keptValue, keptSignature, fillKept, signatureOf, certificateOf, certificateIn}
 use Rattle.protocol.specs.Refusals.{Checks}
 use Rattle.protocol.specs.ConditionsLaws.{each-every}
-use Rattle.protocol.specs.Step.{State, withUnit, write, collect, setOwnValue, submitOwn, isWanted, collectIfWanted, keep, keepIfFirst, hearSubmit, isOpenTo, collectKeptSeat, collectKeptBelow, emptyKept, collectKept, hear, reply, confirmIfComplete, submitted, stepped}
+use Rattle.protocol.specs.Step.{State, write, collect, setOwnValue, submitOwn, isWanted, collectIfWanted, keep, keepIfFirst, hearSubmit, isOpenTo, collectKeptSeat, collectKeptBelow, emptyKept, collectKept, hear, reply, confirmIfComplete, submitted, stepped}
 use Rattle.reading.specs.ListsLaws.{each-one, each-append}
-use Rattle.claims.specs.SlotsLaws.{fill-length, slot-fill-same, slot-fill-other, kept-long, kept-value-same, kept-signature-same, kept-aside}
+use Rattle.claims.specs.SlotsLaws.{kept-long, kept-value-same, kept-signature-same, kept-aside}
 use Rattle.claims.specs.Sound.{Any, Attested, Entries}
 use Rattle.claims.specs.CertificatesLaws.{certifies-of}
 use Rattle.claims.specs.Parts.{k-pos, in-below}
 use Rattle.claims.specs.Whole.{Brings}
-use Rattle.paper.specs.Machine.{FullCertificate, Machine, BroadcastSubmit, Reaction, act, setOwn, setValue, addCollected, addEarly, addNoticed, isSome, isOwn, ownValue, isFrom, firstFrom, isFullCertificate, isCollected, collecting, keeping, uponSubmitDelivered, takingUp, takingUpBelow, uponSubmit, uponNoticeDelivered, obtain, uponFullDelivered, confirming, uponQuorum, uponNoticesConflict, uponFullsConflict, uponEvent, uponRules, react}
+use Rattle.paper.specs.Machine.{FullCertificate, Machine, BroadcastSubmit, Reaction, act, setValue, addEarly, addNoticed, isSome, ownValue, isFrom, firstFrom, isFullCertificate, collecting, keeping, uponSubmitDelivered, takingUp, takingUpBelow, uponSubmit, uponNoticeDelivered, obtain, uponFullDelivered, confirming, uponQuorum, uponNoticesConflict, uponFullsConflict, uponEvent, uponRules, react}
 use Rattle.paper.specs.Memory.{seatsIn, earlySeats, keptOf, heldFirst, recordOf}
 use Rattle.paper.specs.Events.{delivered, reactTo}
 use Rattle.paper.specs.ConflictsLaws.{some-none}
-use Rattle.paper.specs.EntriesLaws.{seats-more, seats-below, from-seats, signature-new, signature-old, rising-distinct, first-in, first-some, first-none, first-more, early-more, with-in}
+use Rattle.paper.specs.EntriesLaws.{from-seats, rising-distinct, first-in, first-some, first-none, first-more, early-more, with-in}
 use Rattle.paper.specs.Spoken.{spoken}
 use Rattle.paper.specs.Rules.{fulls-quiet}
-use Rattle.paper.specs.Mirror.{Collecting, Quorum, Obtaining, Stored, Keeping, Mirrors}
-use Rattle.paper.specs.Parts.{taken-below, first-below, keeping-like, at, Comes, write-is, hear-is, reply-is, reply-mirrors, certificate-is, confirm-is}
-
-some-is : {A : Type 0} (o : Option A) → isSome o ≡ true → o ≢ none
-unfolding isSome
-some-is o e h = true≢false (sym e ∙ ap isSome h)
+use Rattle.paper.specs.Mirror.{Quorum, Stored, Keeping, Mirrors}
+use Rattle.paper.specs.Parts.{taken-below, first-below, at, Comes, write-is, hear-is, reply-is, reply-mirrors, certificate-is, confirm-is}
+use Rattle.paper.specs.Collects.{keptWith, gathered, wants, Gathers, gather, gathers-rules}
 
 pub none-is : {A : Type 0} (o : Option A) → isSome o ≡ false → o ≡ none
 unfolding isSome
 none-is none e = refl
 none-is (some a) e = absurd (true≢false e)
-
-own-is : (v : List ℕ) (o : Option (List ℕ)) → isSome o ≡ true → isOwn v o ≡ same v (ownValue o)
-unfolding isSome isOwn ownValue
-own-is v none e = absurd (false≢true e)
-own-is v (some w) e = refl
 
 -- before the submission, every seat that was heard is kept
 unsaid-kept : (o : Option (List ℕ)) (es : List Signed) → isSome o ≡ false → keptOf o es ≡ earlySeats es
@@ -62,217 +52,6 @@ unsaid-kept none es e = refl
 unsaid-kept (some w) es e = absurd (true≢false e)
 
 module _ (n seat round : ℕ) where
-  -- ---- a signature collected
-
-  module _ (s : ℕ) (g : List ℕ) (x : Reaction) where
-    abbrev e : Entry
-    e = record { seat = s; signature = g }
-
-    abbrev before : List Entry
-    before = x .machine .collected
-
-    -- the record with other seats collected
-    abbrev collecting-to : ℕ → List ℕ → State
-    collecting-to mask store =
-        let r = recordOf n seat round (x .machine) in
-        withUnit (at n seat round x store) (withOwn r (record { submitted = r .own .submitted; value = r .own .value; collected = mask }))
-
-    -- a signature among the first k
-    module _ (few : length before < k n) where
-      all-before : take (k n) before ≡ before
-      all-before = take-all (k n) before (omega arith)
-
-      all-after : take (k n) (before ++ e ∷ []) ≡ before ++ e ∷ []
-      all-after = take-all (k n) (before ++ e ∷ []) (omega (arith, length-append before (e ∷ [])))
-
-      collect-is : (store : List ℕ) → collect s g (at n seat round x store) ≡ at n seat round (addCollected e x) (fill n collectedBank s g store)
-      unfolding collect recordOf
-      collect-is store =
-          ap (λ (mask : ℕ). collecting-to mask (fill n collectedBank s g store)) (ap (λ (es : List Entry). with s (seatsIn es)) all-before ∙ sym (seats-more before e) ∙ ap seatsIn (sym all-after))
-
-      collect-collecting : s < n → length g ≡ signatureLength → isFrom s before ≡ false → x .machine .value ≢ none → Collecting n (x .machine .value) before → Collecting n (x .machine .value) (before ++ e ∷ [])
-      collect-collecting inside sized new said z =
-          let unseen : bit s (seatsIn before) ≡ 0 = has-false s (seatsIn before) .0 (sym (from-seats s before) ∙ new) in
-          let counted : size (seatsIn before) ≡ length before = subst (λ (es : List Entry). size (seatsIn es) ≡ length es) all-before (z .counted) in
-          let more : size (seatsIn (before ++ e ∷ [])) ≡ length (before ++ e ∷ []) =
-          ap size (seats-more before e) ∙ size-with-new s (seatsIn before) unseen ∙ omega (arith, length-append before (e ∷ [])) in
-          record {
-            unsaid = λ h. absurd (said h);
-            below = each-append (λ (a : Entry). a .seat < n) before (e ∷ []) (z .below) (each-one (λ (a : Entry). a .seat < n) e inside);
-            sized = each-append (λ (a : Entry). length (a .signature) ≡ signatureLength) before (e ∷ []) (z .sized) (each-one (λ (a : Entry). length (a .signature) ≡ signatureLength) e sized);
-            counted = subst (λ (es : List Entry). size (seatsIn es) ≡ length es) (sym all-after) more;
-          }
-
-      module _ (store : List ℕ) (room : storeLength n ≤ length store) (inside : s < n) (sized : length g ≡ signatureLength) (new : isFrom s before ≡ false)
-          (below : Each (λ (a : Entry). a .seat < n) before) (quorums : Each (Quorum n) (x .machine .obtained)) where
-        slot-after : ((t : ℕ) → In t (seatsIn before) → slot n collectedBank store t ≡ signatureOf before t) → (t : ℕ) → In t (with s (seatsIn before)) → Dec (t ≡ s)
-            → slot n collectedBank (fill n collectedBank s g store) t ≡ signatureOf (before ++ e ∷ []) t
-        slot-after own t i (yes q) = rw q (slot-fill-same n collectedBank s g store (collected-bank .0) inside room (sized ∙ sym (collected-bank .1)) ∙ sym (signature-new s g before new))
-        slot-after own t i (no d) =
-            let old : In t (seatsIn before) = sym (bit-with-other t s (seatsIn before) d) ∙ i in
-            slot-fill-other n collectedBank s g store (collected-bank .0) inside room (sized ∙ sym (collected-bank .1)) collectedBank t (collected-bank .0) (in-below n t (seatsIn before) (seats-below n before below) old) (λ _ q. d (sym q))
-            ∙ own t old
-            ∙ sym (signature-old t before e (λ q. d (sym q)))
-
-        collect-stored : Stored n store before (x .machine .obtained) → Stored n (fill n collectedBank s g store) (before ++ e ∷ []) (x .machine .obtained)
-        collect-stored z =
-            let own : (t : ℕ) → In t (seatsIn before) → slot n collectedBank store t ≡ signatureOf before t =
-            subst (λ (es : List Entry). (t : ℕ) → In t (seatsIn es) → slot n collectedBank store t ≡ signatureOf es t) all-before (z .own) in
-            let after : (t : ℕ) → In t (seatsIn (before ++ e ∷ [])) → slot n collectedBank (fill n collectedBank s g store) t ≡ signatureOf (before ++ e ∷ []) t =
-            λ t i. slot-after own t (subst (In t) (seats-more before e) i) (ℕ-discrete t s) in
-            record {
-              own = subst (λ (es : List Entry). (t : ℕ) → In t (seatsIn es) → slot n collectedBank (fill n collectedBank s g store) t ≡ signatureOf es t) (sym all-after) after;
-              first = λ t i.
-                  slot-fill-other n collectedBank s g store (collected-bank .0) inside room (sized ∙ sym (collected-bank .1)) firstBank t (first-bank .0) (in-below n t (heldFirst (x .machine .obtained) .seats) (first-below n (x .machine .obtained) quorums) i) (λ q _. omega arith)
-                  ∙ z .first t i;
-            }
-
-    -- a signature after the first k: the machine has it, and the record is as before
-    module _ (many : k n ≤ length before) where
-      same-taken : take (k n) (before ++ e ∷ []) ≡ take (k n) before
-      same-taken = take-append-le (k n) before (e ∷ []) many
-
-      beyond-is : (store : List ℕ) → at n seat round x store ≡ at n seat round (addCollected e x) store
-      unfolding recordOf
-      beyond-is store = ap (λ (mask : ℕ). collecting-to mask store) (ap seatsIn (sym same-taken))
-
-      beyond-collecting : s < n → length g ≡ signatureLength → x .machine .value ≢ none → Collecting n (x .machine .value) before → Collecting n (x .machine .value) (before ++ e ∷ [])
-      beyond-collecting inside sized said z = record {
-        unsaid = λ h. absurd (said h);
-        below = each-append (λ (a : Entry). a .seat < n) before (e ∷ []) (z .below) (each-one (λ (a : Entry). a .seat < n) e inside);
-        sized = each-append (λ (a : Entry). length (a .signature) ≡ signatureLength) before (e ∷ []) (z .sized) (each-one (λ (a : Entry). length (a .signature) ≡ signatureLength) e sized);
-        counted = subst (λ (es : List Entry). size (seatsIn es) ≡ length es) (sym same-taken) (z .counted);
-      }
-
-      beyond-stored : (store : List ℕ) → Stored n store before (x .machine .obtained) → Stored n store (before ++ e ∷ []) (x .machine .obtained)
-      beyond-stored store z = record {
-        own = subst (λ (es : List Entry). (t : ℕ) → In t (seatsIn es) → slot n collectedBank store t ≡ signatureOf es t) (sym same-taken) (z .own);
-        first = z .first;
-      }
-
-  -- ---- signatures collected one after another
-
-  -- a state with these seats kept
-  abbrev keptWith : ℕ → State → State
-  keptWith kept s = withUnit s (withKept (s .unit) kept)
-
-  collect-kept : (kept s : ℕ) (g : List ℕ) (st : State) → collect s g (keptWith kept st) ≡ keptWith kept (collect s g st)
-  unfolding collect
-  collect-kept kept s g st = refl
-
-  module _ (checks : Checks) (x : Reaction) (said : isSome (x .machine .value) ≡ true) where
-    abbrev gathered : List Entry → Reaction
-    gathered es = let m = x .machine in setOwn (m .value) (m .confirmed) es x
-
-    -- a state of the engine with these seats kept, beside the machine while it collects signatures
-    record Gathers (kept : ℕ) (st : State) (y : Reaction) : Type 0 where
-      collected : List Entry
-      store : List ℕ
-      machine : y ≡ gathered collected
-      is : st ≡ keptWith kept (at n seat round (gathered collected) store)
-      room : storeLength n ≤ length store
-      grown : length (x .machine .collected) ≤ length collected
-      keeping : Keeping checks n store (x .machine .early)
-      collecting : Collecting n (x .machine .value) collected
-      stored : Stored n store collected (x .machine .obtained)
-
-    -- the engine's test: fewer than k are collected, the value is the own one and the seat is new
-    abbrev wants : ℕ → List ℕ → List Entry → Bool
-    wants s v es = not (leb (k n) (length es)) && same v (ownValue (x .machine .value)) && not (has s (seatsIn (take (k n) es)))
-
-    module _ (quorums : Each (Quorum n) (x .machine .obtained)) (kept s : ℕ) (v g : List ℕ) (inside : s < n) (sized : length g ≡ signatureLength) (checked : checks s v g ≡ true) where
-      collected-is : (es : List Entry) → isCollected checks n seat s v g (gathered es .machine) ≡ (same v (ownValue (x .machine .value)) && not (isFrom s es))
-      unfolding isCollected
-      collected-is es = rw (checked, own-is v (x .machine .value) said)
-
-      module _ (st : State) (y : Reaction) (z : Gathers kept st y) where
-        abbrev es : List Entry
-        es = z .collected
-
-        abbrev more : List Entry
-        more = es ++ e s g x ∷ []
-
-        one-more : length es ≤ length more
-        one-more = omega (arith, length-append es (e s g x ∷ []))
-
-        -- among the first k
-        both : length es < k n → isFrom s es ≡ false → Gathers kept (collect s g st) (addCollected (e s g x) (gathered es))
-        both few new =
-            let w = gathered es in
-            let long = fill-length n collectedBank s g (z .store) (collected-bank .0) inside (z .room) (sized ∙ sym (collected-bank .1)) in
-            record {
-              collected = more;
-              store = fill n collectedBank s g (z .store);
-              machine = refl;
-              is = ap (collect s g) (z .is) ∙ collect-kept kept s g (at n seat round w (z .store)) ∙ ap (keptWith kept) (collect-is s g w few (z .store));
-              room = subst (λ (l : ℕ). storeLength n ≤ l) (sym long) (z .room);
-              grown = let before = z .grown in let after = one-more in omega arith;
-              keeping = keeping-like checks n (z .store) (fill n collectedBank s g (z .store)) (x .machine .early) (z .keeping)
-                  (λ bank t later b l. slot-fill-other n collectedBank s g (z .store) (collected-bank .0) inside (z .room) (sized ∙ sym (collected-bank .1)) bank t b l (λ q _. omega arith));
-              collecting = collect-collecting s g w few inside sized new (some-is (x .machine .value) said) (z .collecting);
-              stored = collect-stored s g w few (z .store) (z .room) inside sized new (z .collecting .below) quorums (z .stored);
-            }
-
-        -- after the first k: the machine has it, and the record is as before
-        beyond : k n ≤ length es → Gathers kept st (addCollected (e s g x) (gathered es))
-        beyond many =
-            let w = gathered es in
-            record {
-              collected = more;
-              store = z .store;
-              machine = refl;
-              is = z .is ∙ ap (keptWith kept) (beyond-is s g w many (z .store));
-              room = z .room;
-              grown = let before = z .grown in let after = one-more in omega arith;
-              keeping = z .keeping;
-              collecting = beyond-collecting s g w many inside sized (some-is (x .machine .value) said) (z .collecting);
-              stored = beyond-stored s g w many (z .store) (z .stored);
-            }
-
-        still-gathers : Gathers kept st (gathered es)
-        still-gathers = record { collected = es; store = z .store; machine = refl; is = z .is; room = z .room; grown = z .grown; keeping = z .keeping; collecting = z .collecting; stored = z .stored }
-
-        abbrev Both : Bool → Bool → Type 0
-        Both c d = Gathers kept (cond c (collect s g st) st) (cond d (addCollected (e s g x) (gathered es)) (gathered es))
-
-        -- the engine's test and the machine's
-        gather : (b : Bool) → b ≡ wants s v es → Gathers kept (cond b (collect s g st) st) (collecting checks n seat s v g y)
-        unfolding collecting
-        gather b p =
-            subst (λ (w : Reaction). Gathers kept (cond b (collect s g st) st) (cond (isCollected checks n seat s v g (w .machine)) (addCollected (e s g x) w) w)) (sym (z .machine))
-            (go (leb (k n) (length es)) refl (same v (ownValue (x .machine .value))) refl (isFrom s es) refl)
-          where
-            told : (c d : Bool) → wants s v es ≡ c → (same v (ownValue (x .machine .value)) && not (isFrom s es)) ≡ d → Both c d → Both b (isCollected checks n seat s v g (gathered es .machine))
-            told c d q r h = rw (p ∙ q, collected-is es ∙ r) h
-
-            new : (d : Bool) → isFrom s es ≡ d → length es < k n → Both (not d) (not d)
-            new true r few = still-gathers
-            new false r few = both few r
-
-            go : (full : Bool) → leb (k n) (length es) ≡ full → (own : Bool) → same v (ownValue (x .machine .value)) ≡ own → (d : Bool) → isFrom s es ≡ d → Both b (isCollected checks n seat s v g (gathered es .machine))
-            go full q false r d t = told false false (rw (r, and-false)) (rw r) still-gathers
-            go true q true r true t = told false false (rw q) (rw (r, t)) still-gathers
-            go true q true r false t = told false true (rw q) (rw (r, t)) (beyond (leb-true (k n) (length es) q))
-            go false q true r d t =
-                let few : length es < k n = leb-false (k n) (length es) q in
-                let seen : has s (seatsIn (take (k n) es)) ≡ d = ap (λ (xs : List Entry). has s (seatsIn xs)) (all-before s g (gathered es) few) ∙ sym (from-seats s es) ∙ t in
-                told (not d) (not d) (rw (q, r, seen)) (rw (r, t)) (new d t few)
-
-    -- the rules after it
-    gathers-rules : (some-seats : 1 ≤ n) → Obtaining n (x .machine .obtained) (x .machine .detected) → (x .machine .confirmed ≡ true → (leb (k n) (length (x .machine .collected)) ≡ true) × List·Memᴰ (ownValue (x .machine .value)) (x .machine .noticed))
-        → (kept : ℕ) → kept ≡ keptOf (x .machine .value) (x .machine .early) → (st : State) (y : Reaction) → Gathers kept st y → Comes n seat round checks (confirmIfComplete st) (uponRules checks n seat y)
-    unfolding recordOf
-    gathers-rules some-seats obtaining rested kept p st y z =
-        let w = gathered (z .collected) in
-        let is : st ≡ at n seat round w (z .store) = z .is ∙ ap (λ (i : ℕ). keptWith i (at n seat round w (z .store))) p in
-        let a = confirm-is n seat round checks some-seats w (z .store) (z .room) (z .keeping) (z .collecting) obtaining (z .stored)
-        (λ h.
-        let many = leb-true (k n) (length (x .machine .collected)) (rested h .0) in
-        let grown = z .grown in
-        (le-leb (k n) (length (z .collected)) (omega arith), rested h .1)) in
-        subst (λ (u : Reaction). Comes n seat round checks (confirmIfComplete st) (uponRules checks n seat u)) (sym (z .machine))
-        (record { store = a .store; is = ap confirmIfComplete is ∙ a .is; mirrors = a .mirrors })
-
   module _ (checks : Checks) (some-seats : 1 ≤ n) (x : Reaction) (store : List ℕ) (room : storeLength n ≤ length store) (z : Mirrors checks n store (x .machine)) where
     abbrev m : Machine
     m = x .machine
@@ -297,14 +76,14 @@ module _ (n seat round : ℕ) where
       unfolding hearSubmit collectIfWanted isWanted uponSubmitDelivered recordOf
       heard-after said =
           let kept = keptOf (m .value) (m .early) in
-          let now : Gathers checks x said kept (at n seat round x store) x =
+          let now : Gathers n seat round checks x kept (at n seat round x store) x =
           record { collected = m .collected; store = store; machine = refl; is = refl; room = room; grown = omega arith; keeping = z .keeping; collecting = z .collecting; stored = z .stored } in
-          let wanted : isWanted s v (recordOf n seat round m) ≡ wants checks x said s v (m .collected) =
+          let wanted : isWanted s v (recordOf n seat round m) ≡ wants n x s v (m .collected) =
           ap (λ (b : Bool). not b && same v (ownValue (m .value)) && not (has s (seatsIn (take (k n) (m .collected))))) (z .resting .complete) in
-          let next = gather checks x said (z .obtaining .quorums) kept s v g inside (good .sized) (good .checked) (at n seat round x store) x now (isWanted s v (recordOf n seat round m)) wanted in
+          let next = gather n seat round checks x said (z .obtaining .quorums) kept s v g inside (good .sized) (good .checked) (at n seat round x store) x now (isWanted s v (recordOf n seat round m)) wanted in
           comes-by _ _ (ap (λ (b : Bool). cond b (collectIfWanted s v g (at n seat round x store)) (keepIfFirst s v g (at n seat round x store))) said)
           (ap (λ (b : Bool). cond b (collecting checks n seat s v g x) (keeping checks n seat s v g x)) said)
-          (gathers-rules checks x said some-seats (z .obtaining) rested kept refl _ _ next)
+          (gathers-rules n seat round checks x some-seats (z .obtaining) rested kept refl _ _ next)
 
       -- before it, the machine has it with all others, and the engine keeps the first of a seat
       abbrev one : Signed
@@ -410,7 +189,7 @@ module _ (n seat round : ℕ) where
       said = refl
 
       abbrev Gathering : State → Reaction → Type 0
-      Gathering st w = Gathers checks y said kept st w
+      Gathering st w = Gathers n seat round checks y kept st w
 
       starting : Gathering (keptWith kept (at n seat round y store)) y
       starting = record {
@@ -431,10 +210,10 @@ module _ (n seat round : ℕ) where
       unfolding isFrom
       new-seat = ap (isFrom seat) nothing
 
-      own-wanted : true ≡ wants checks y said seat v (m .collected)
+      own-wanted : true ≡ wants n y seat v (m .collected)
       unfolding ownValue
       own-wanted =
-          let unseen : has seat (seatsIn (take (k n) (m .collected))) ≡ false = ap (λ (es : List Entry). has seat (seatsIn es)) (all-before seat g x few) ∙ sym (from-seats seat (m .collected)) ∙ new-seat in
+          let unseen : has seat (seatsIn (take (k n) (m .collected))) ≡ false = ap (λ (es : List Entry). has seat (seatsIn es)) (take-all (k n) (m .collected) (let less = few in omega arith)) ∙ sym (from-seats seat (m .collected)) ∙ new-seat in
           rw (lt-leb (k n) (length (m .collected)) few, same-refl v, unseen)
 
       own-recorded : submitOwn v g (at n seat round x store) ≡ collect seat g (keptWith kept (at n seat round y store))
@@ -445,13 +224,13 @@ module _ (n seat round : ℕ) where
       unfolding starting
       own-gathers =
           subst (λ (st : State). Gathering st (collecting checks n seat seat v g y)) (sym own-recorded)
-          (gather checks y said (z .obtaining .quorums) kept seat v g inside sized checked (keptWith kept (at n seat round y store)) y starting true own-wanted)
+          (gather n seat round checks y said (z .obtaining .quorums) kept seat v g inside sized checked (keptWith kept (at n seat round y store)) y starting true own-wanted)
 
       -- ---- those kept, seat by seat
 
       module _ (t : ℕ) (l : t < n) (st : State) (w : Reaction) (a : Gathering st w) where
         abbrev now : State
-        now = keptWith kept (at n seat round (gathered checks y said (a .collected)) (a .store))
+        now = keptWith kept (at n seat round (gathered y (a .collected)) (a .store))
 
         under-is : ltb (size (seatsIn (take (k n) (a .collected)))) (k n) ≡ not (leb (k n) (length (a .collected)))
         under-is = go (leb (k n) (length (a .collected))) refl
@@ -473,7 +252,7 @@ module _ (n seat round : ℕ) where
             rw unkept
 
         -- its first is collected where it is wanted
-        opened : (e : Signed) → firstFrom t (m .early) ≡ some e → collectKeptSeat t now ≡ cond (wants checks y said t (e .value) (a .collected)) (collect t (e .signature) now) now
+        opened : (e : Signed) → firstFrom t (m .early) ≡ some e → collectKeptSeat t now ≡ cond (wants n y t (e .value) (a .collected)) (collect t (e .signature) now) now
         unfolding collectKeptSeat isOpenTo collectIfWanted isWanted recordOf ownValue
         opened e h =
             let first = a .keeping .stored t e h in
@@ -496,12 +275,12 @@ module _ (n seat round : ℕ) where
             go (some e) h =
                 let f = first-in t (m .early) e h in
                 let good = z .keeping .signed e (f .0) .1 in
-                let is : collectKeptSeat t st ≡ cond (wants checks y said t (e .value) (a .collected)) (collect t (e .signature) st) st =
-                ap (collectKeptSeat t) (a .is) ∙ opened e h ∙ ap (λ (u : State). cond (wants checks y said t (e .value) (a .collected)) (collect t (e .signature) u) u) (sym (a .is)) in
+                let is : collectKeptSeat t st ≡ cond (wants n y t (e .value) (a .collected)) (collect t (e .signature) st) st =
+                ap (collectKeptSeat t) (a .is) ∙ opened e h ∙ ap (λ (u : State). cond (wants n y t (e .value) (a .collected)) (collect t (e .signature) u) u) (sym (a .is)) in
                 let of-seat : checks t (e .value) (e .signature) ≡ true = subst (λ (i : ℕ). checks i (e .value) (e .signature) ≡ true) (f .1) (good .checked) in
                 subst (λ (u : State). Gathering u (collecting checks n seat (e .seat) (e .value) (e .signature) w)) (sym is)
-                (subst (λ (i : ℕ). Gathering (cond (wants checks y said t (e .value) (a .collected)) (collect t (e .signature) st) st) (collecting checks n seat i (e .value) (e .signature) w)) (sym (f .1))
-                (gather checks y said (z .obtaining .quorums) kept t (e .value) (e .signature) l (good .sized) of-seat st w a (wants checks y said t (e .value) (a .collected)) refl))
+                (subst (λ (i : ℕ). Gathering (cond (wants n y t (e .value) (a .collected)) (collect t (e .signature) st) st) (collecting checks n seat i (e .value) (e .signature) w)) (sym (f .1))
+                (gather n seat round checks y said (z .obtaining .quorums) kept t (e .value) (e .signature) l (good .sized) of-seat st w a (wants n y t (e .value) (a .collected)) refl))
 
       below-gathers : (t : ℕ) → t ≤ n → Gathering (collectKeptBelow t (submitOwn v g (at n seat round x store))) (takingUpBelow checks n seat t (m .early) (collecting checks n seat seat v g y))
       unfolding collectKeptBelow takingUpBelow
@@ -511,7 +290,7 @@ module _ (n seat round : ℕ) where
 
       -- ---- the whole
 
-      emptied : (st : State) (w : Reaction) → Gathering st w → Gathers checks y said 0 (emptyKept st) w
+      emptied : (st : State) (w : Reaction) → Gathering st w → Gathers n seat round checks y 0 (emptyKept st) w
       unfolding emptyKept
       emptied st w a = record {
         collected = a .collected;
@@ -535,7 +314,7 @@ module _ (n seat round : ℕ) where
           let st = collectKeptBelow n (submitOwn v g (at n seat round x store)) in
           let w = takingUpBelow checks n seat n (m .early) (collecting checks n seat seat v g y) in
           subst (λ (u : State). Comes n seat round checks (confirmIfComplete u) (uponRules checks n seat w)) (sym all-seats)
-          (gathers-rules checks y said some-seats (z .obtaining) (λ h. absurd (true≢false (sym h ∙ unconfirmed))) 0 refl (emptyKept st) w (emptied st w (below-gathers n (omega arith))))
+          (gathers-rules n seat round checks y some-seats (z .obtaining) (λ h. absurd (true≢false (sym h ∙ unconfirmed))) 0 refl (emptyKept st) w (emptied st w (below-gathers n (omega arith))))
 
     -- ---- NOTICE and FULL heard: lines 29 and 35
 

@@ -2,10 +2,9 @@
 -- Assumes nothing.
 use Prim.Native.Nat.{ℕ, _<_}
 use mathlib.Core.Path.{_≡_, refl, sym, ap, fun-ext, _∙_}
-use mathlib.Core.Bool.{Bool, true, false, cond, not, _&&_, and-true, and-false, true≢false, false≢true}
+use mathlib.Core.Bool.{Bool, true, false, cond, _&&_, and-true, and-false, false≢true}
 use mathlib.Core.List.{List, [], _∷_, flatMap}
 use mathlib.Core.Logic.{_≢_}
-use mathlib.Core.Option.{Option, none, some}
 use native.Mathlib.Omega.{arith}
 use lib.Dec.{leb}
 use lib.ListN.{length}
@@ -73,7 +72,7 @@ signed-every : (checks : Checks) (v : List ℕ) (es : List Entry)
 unfolding every signedEntry
 signed-every checks v es = every-flat _ (signedEntry v) es ∙ ap (λ (test : Entry → Bool). every test es) (fun-ext (λ e. and-true _))
 
-module _ (checks : Checks) (n round : ℕ) (keys : List ℕ) (seat : ℕ) (m : Machine) (rest : AtRest n m) where
+module _ (checks : Checks) (n seat : ℕ) (m : Machine) (rest : AtRest n m) where
   abbrev still : Reaction
   still = record { machine = m; actions = [] }
 

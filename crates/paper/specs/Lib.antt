@@ -21,6 +21,7 @@ pub mod Spoken
 pub mod Based
 pub mod Mirror
 pub mod Parts
+pub mod Collects
 pub mod Calls
 pub mod Discards
 pub mod Along

@@ -1,16 +1,24 @@
 -- The machine forgets nothing: everything collected, noticed and obtained stays, and everything delivered and not discarded is added.
 -- Assumes nothing.
-use Prim.Native.Nat.{ℕ, zero, suc}
-use mathlib.Core.Path.{_≡_, refl, sym, ap, subst}
-use mathlib.Core.Bool.{Bool, true, false, cond, not, _&&_}
-use mathlib.Core.List.{List, [], _∷_, List·Memᴰ, List·Memᴰ·head, Memᴰ·append-left, Memᴰ·append-right}
+use Prim.Native.Nat.{ℕ, zero, suc, _<_}
+use mathlib.Core.Path.{_≡_, refl, sym, ap, subst, _∙_}
+use mathlib.Core.Bool.{Bool, true, false, cond, not, _&&_, false≢true}
+use mathlib.Core.List.{List, [], _∷_, _++_, List·Memᴰ, List·Memᴰ·head, List·Memᴰ·tail, Memᴰ·append-left, Memᴰ·append-right}
+use mathlib.Core.Logic.{⊎-elim}
 use mathlib.Core.Option.{Option, none, some}
+use native.Mathlib.Omega.{arith}
+use native.Mathlib.Decide.{ℕ-discrete}
+use lib.Dec.{eqb}
+use borrow.Author.Tests.{eqb-true, not-false}
+use Rattle.octets.specs.Strings.{same}
+use Rattle.octets.specs.StringsLaws.{same-refl}
 use Rattle.refusal.specs.RefusalLaws.{both-true}
 use Rattle.protocol.specs.Message.{Entry, Signed}
 use Rattle.protocol.specs.Refusals.{Checks}
 use Rattle.round.specs.Round.{Each}
-use Rattle.reading.specs.ListsLaws.{cond-elim}
+use Rattle.reading.specs.ListsLaws.{cond-elim, or-true-either}
 use Rattle.paper.specs.Machine.{FullCertificate, Machine, Event, Submitted, SubmitDelivered, NoticeDelivered, FullDelivered, BroadcastSubmit, ConfirmAndNotice, Reaction, act, setValue, setConfirmed, addCollected, addEarly, isSome, isOwn, ownValue, isFrom, firstFrom, conflict, valueOfFull, isFullCertificate, ownFull, isCollected, collecting, keeping, uponSubmitDelivered, takingUp, takingUpBelow, uponSubmit, uponNoticeDelivered, obtain, uponFullDelivered, confirming, uponQuorum, sending, uponNoticesConflict, detecting, uponFullsConflict, uponEvent, uponRules, react}
+use Rattle.paper.specs.EntriesLaws.{from-member, first-in}
 use Rattle.paper.specs.Rules.{quorumDue, noticesDue, detecting-elim}
 
 pub record Remembers (m m′ : Machine) : Type 0 where
@@ -174,3 +182,66 @@ module _ (checks : Checks) (n own : ℕ) where
       let x : Reaction = record { machine = m; actions = [] } in
       subst (λ (b : Bool). List·Memᴰ c (uponRules checks n own (cond b (obtain checks n own c x) x) .machine .obtained)) (sym h)
       (rules-remember (obtain checks n own c x) .obtained c (Memᴰ·append-right (m .obtained) (List·Memᴰ·head refl)))
+
+  -- ---- additions at the submission
+
+  from-remembered : (s : ℕ) (es es′ : List Entry) → Each (λ (e : Entry). List·Memᴰ e es′) es → isFrom s es ≡ true → isFrom s es′ ≡ true
+  unfolding isFrom
+  from-remembered s [] es′ stay h = absurd (false≢true h)
+  from-remembered s (e ∷ es) es′ stay h =
+      ⊎-elim (λ q. subst (λ (t : ℕ). isFrom t es′ ≡ true) (eqb-true (e .seat) s q) (from-member e es′ (stay e (List·Memᴰ·head refl)))) (λ q. from-remembered s es es′ (λ a d. stay a (List·Memᴰ·tail d)) q)
+      (or-true-either (eqb (e .seat) s) (isFrom s es) h)
+
+  -- one that is properly signed and of the own value: the seat is there, or it is added
+  collecting-from : (s : ℕ) (v g : List ℕ) (x : Reaction) → checks s v g ≡ true → isOwn v (x .machine .value) ≡ true → isFrom s (collecting checks n own s v g x .machine .collected) ≡ true
+  unfolding collecting isCollected
+  collecting-from s v g x signed mine =
+      let e : Entry = record { seat = s; signature = g } in
+      cond-elim (λ y. isFrom s (y .machine .collected) ≡ true) (checks s v g && isOwn v (x .machine .value) && not (isFrom s (x .machine .collected))) (addCollected e x) x
+      (λ h. from-member e (x .machine .collected ++ e ∷ []) (Memᴰ·append-right (x .machine .collected) (List·Memᴰ·head refl)))
+      (λ h. not-false (isFrom s (x .machine .collected)) (rw (signed, mine) at h))
+
+  collecting-value : (s : ℕ) (v g : List ℕ) (x : Reaction) → collecting checks n own s v g x .machine .value ≡ x .machine .value
+  unfolding collecting
+  collecting-value s v g x =
+      cond-elim (λ y. y .machine .value ≡ x .machine .value) (isCollected checks n own s v g (x .machine)) (addCollected (record { seat = s; signature = g }) x) x (λ h. refl) (λ h. refl)
+
+  taking-value : (o : Option Signed) (x : Reaction) → takingUp checks n own o x .machine .value ≡ x .machine .value
+  unfolding takingUp
+  taking-value none x = refl
+  taking-value (some e) x = collecting-value (e .seat) (e .value) (e .signature) x
+
+  below-value : (t : ℕ) (early : List Signed) (x : Reaction) → takingUpBelow checks n own t early x .machine .value ≡ x .machine .value
+  unfolding takingUpBelow
+  below-value zero early x = refl
+  below-value (suc t) early x = taking-value (firstFrom t early) (takingUpBelow checks n own t early x) ∙ below-value t early x
+
+  module _ (early : List Signed) (s : ℕ) (e : Signed) (first : firstFrom s early ≡ some e) (signed : checks (e .seat) (e .value) (e .signature) ≡ true) (x : Reaction) (mine : isOwn (e .value) (x .machine .value) ≡ true) where
+    below-from : (t : ℕ) → s < t → isFrom s (takingUpBelow checks n own t early x .machine .collected) ≡ true
+    unfolding takingUpBelow takingUp
+    below-from zero l = absurd (omega arith)
+    below-from (suc t) l = go (ℕ-discrete s t) (λ below. below-from t below)
+      where
+        go : Dec (s ≡ t) → (s < t → isFrom s (takingUpBelow checks n own t early x .machine .collected) ≡ true) → isFrom s (takingUp checks n own (firstFrom t early) (takingUpBelow checks n own t early x) .machine .collected) ≡ true
+        go (yes q) rest =
+            let y = takingUpBelow checks n own t early x in
+            let own-one : isOwn (e .value) (y .machine .value) ≡ true = ap (isOwn (e .value)) (below-value t early x) ∙ mine in
+            let here : firstFrom t early ≡ some e = subst (λ (i : ℕ). firstFrom i early ≡ some e) q first in
+            subst (λ (o : Option Signed). isFrom s (takingUp checks n own o y .machine .collected) ≡ true) (sym here)
+            (subst (λ (i : ℕ). isFrom i (collecting checks n own (e .seat) (e .value) (e .signature) y .machine .collected) ≡ true) (first-in s early e first .1) (collecting-from (e .seat) (e .value) (e .signature) y signed own-one))
+        go (no d) rest =
+            let y = takingUpBelow checks n own t early x in
+            from-remembered s (y .machine .collected) (takingUp checks n own (firstFrom t early) y .machine .collected) (taking-remembers (firstFrom t early) y .collected) (rest (omega arith))
+
+  -- the first SUBMIT of a seat before the submission, where it is of the value submitted: "P_j ∈ from_i"
+  pub early-collected : (v g : List ℕ) (m : Machine) (s : ℕ) (e : Signed) → s < n → firstFrom s (m .early) ≡ some e → e .value ≡ v → checks (e .seat) (e .value) (e .signature) ≡ true
+      → isFrom s (react checks n own (Submitted v g) m .machine .collected) ≡ true
+  unfolding react uponEvent uponSubmit act isOwn
+  early-collected v g m s e l first q signed =
+      let x : Reaction = record { machine = m; actions = [] } in
+      let y = act (BroadcastSubmit v g) (setValue v x) in
+      let z = collecting checks n own own v g y in
+      let said : z .machine .value ≡ some v = collecting-value own v g y in
+      let all = takingUpBelow checks n own n (m .early) z in
+      from-remembered s (all .machine .collected) (uponRules checks n own all .machine .collected) (rules-remember all .collected)
+      (below-from (m .early) s e first signed z (ap (isOwn (e .value)) said ∙ ap (λ (w : List ℕ). same w v) q ∙ same-refl v) n l)
