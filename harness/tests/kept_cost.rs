@@ -1,5 +1,5 @@
-//! The own submit of a unit that has kept 31 seats checks no signature but its own: valgrind counts the instructions of the call
-//! in two rounds of the example. Nothing is timed.
+//! The own submit of a unit that has kept 31 seats checks no signature but its own: valgrind counts the submit's instructions in
+//! two rounds of the example. Nothing is timed.
 #![cfg(feature = "zolbine")]
 
 use std::path::Path;
@@ -12,6 +12,9 @@ use harness::yard::{hearing, opening, submitting};
 
 const FLEET: Fleet = Fleet { n: 32, round: 5 };
 
+/// Fewer instructions than any check of a signature takes: 510 hashes or more.
+const CHEAPEST_CHECK: u64 = 100_000;
+
 /// A round of boat 0: SUBMITs of its own layout by other seats, then its submit.
 fn round(others: &[u32]) -> Vec<u8> {
     let Fleet { n, round } = FLEET;
@@ -22,12 +25,12 @@ fn round(others: &[u32]) -> Vec<u8> {
     input
 }
 
-/// Instructions that the example takes in `zolbine_submit`, and what it prints last.
+/// Instructions that the example takes in its function `submit`, and what it prints last.
 fn submit_counted(program: &Path, name: &str, input: &[u8]) -> (u64, String) {
     let file = Path::new(env!("CARGO_TARGET_TMPDIR")).join(name);
     std::fs::write(&file, input).expect("a file for the round");
     let mut valgrind = Command::new("valgrind");
-    valgrind.args(["--tool=callgrind", "--callgrind-out-file=/dev/null", "--toggle-collect=zolbine_submit"]);
+    valgrind.args(["--tool=callgrind", "--callgrind-out-file=/dev/null", "--toggle-collect=submit"]);
     let run = valgrind.arg(program).arg(file).output().expect("valgrind runs");
     let told = String::from_utf8_lossy(&run.stderr);
     assert!(run.status.success(), "{told}");
@@ -49,6 +52,7 @@ fn a_submit_checks_its_own_signature_alone() {
     assert_eq!(told, "not confirmed; double signers 0x00000000");
     let (with_all, told) = submit_counted(&program, "all_kept.bin", &round(&FLEET.seats()[1..]));
     assert_eq!(told, "confirmed; double signers 0x00000000");
+    assert!(with_none > CHEAPEST_CHECK, "{with_none} instructions are no signature check");
     progress(&format!("instructions of a submit: {with_none} with no seat kept, {with_all} with 31"));
     assert!(with_all < with_none + with_none / 2, "{with_all} instructions with 31 seats kept, {with_none} with none");
 }
