@@ -195,8 +195,8 @@ impl<'a> Air<'a> {
     fn submits_to(&mut self, seat: u32, own: Layout, slow: Option<u32>) -> Vec<Event> {
         let options = self.fleet.options;
         let early = options.early.filter(|&early| early != seat && options.linked(early, seat));
-        let others = (0..options.n).filter(|&from| from != seat && Some(from) != early);
-        let (slow_ones, others): (Vec<u32>, Vec<u32>) = others.partition(|&from| Some(from) == slow);
+        let mut others: Vec<u32> = (0..options.n).filter(|&from| from != seat && Some(from) != early).collect();
+        others.sort_by_key(|&from| Some(from) == slow);
         let mut events = Vec::new();
         if let Some(from) = early {
             events.push(self.give(seat, Given::Message(self.shown_to(own, from))));
@@ -207,7 +207,7 @@ impl<'a> Air<'a> {
         if let Some(forged) = self.forged.get(&own) {
             events.push(self.give(seat, Given::Message(forged.clone())));
         }
-        for from in others.into_iter().chain(slow_ones) {
+        for from in others {
             events.push(self.send(self.shown_to(own, from), seat));
         }
         if slow == Some(seat) {
