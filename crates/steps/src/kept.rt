@@ -87,8 +87,7 @@ pub(crate) fn collect_kept(r: Record, store: &mut [u8]) -> Record
     let mut u = r;
     let mut seat = 0;
     while seat < n {
-        let next = collect_kept_seat(u, store, seat);
-        u = next;
+        u = collect_kept_seat(u, store, seat);
         seat += 1;
     }
     with_kept(u, 0)

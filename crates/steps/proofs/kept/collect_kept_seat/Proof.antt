@@ -12,8 +12,11 @@ use Rattle.steps.proofs.kept.collect_kept_seat.Tie as tie
 abbrev started : tie.After-is-open-to → tie.Start
 started c = c .before .before
 
+abbrev placed : tie.After-value-at → tie.After-kept-value-at
+placed c = c .before .before
+
 abbrev chosen : tie.After-value-at → tie.Else1
-chosen c = c .before .before .before
+chosen c = placed c .before
 
 abbrev valued : tie.After-slot-copy → tie.After-value-at
 valued c = c .before .before
@@ -41,12 +44,11 @@ returns-2 c =
     let done = c .before .before in
     let slot = copied (done .before) in
     let value = valued slot in
-    let place = value .before .before in
     let opening = chosen value in
     let args = started (opening .before) .args in
     let store = now (args .store) in
     collectKeptSeat-open (args .r) store (args .seat) _ _ _ _ (sym (opening .before .is-open-to .ensures) ∙ not-false _ (opening .if1 .left))
-    (kept-value-read (args .r) store (args .seat) _ _ (place .kept-value-at .ensures .0) (value .value-at .ensures)) (slot .slot-copy .ensures) (done .collect-if-wanted .ensures)
+    (kept-value-read (args .r) store (args .seat) _ _ (placed value .kept-value-at .ensures .0) (value .value-at .ensures)) (slot .slot-copy .ensures) (done .collect-if-wanted .ensures)
 
 pub collect-kept-seat-spec : {M : Type 1} → statement M
 collect-kept-seat-spec =

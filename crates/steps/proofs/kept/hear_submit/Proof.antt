@@ -9,6 +9,9 @@ use Rattle.steps.proofs.kept.hear_submit.Tie as tie
 abbrev started : tie.After-shared-slice-known → tie.Start
 started c = c .before .before
 
+abbrev early : tie.After-has → tie.Else1
+early c = c .before
+
 returns : tie.Need-returns
 returns c =
     let done = c .before .before in
@@ -18,17 +21,17 @@ returns c =
 
 returns-2 : tie.Need-returns-2
 returns-2 c =
-    let early = c .before .before in
-    let args = started (early .before) .args in
-    hearSubmit-kept (args .r) (now (args .store)) (args .seat) (args .value) (now (args .signature)) (early .if1 .left) (sym (c .before .has .ensures) ∙ c .if2 .taken)
+    let first = early (c .before) in
+    let args = started (first .before) .args in
+    hearSubmit-kept (args .r) (now (args .store)) (args .seat) (args .value) (now (args .signature)) (first .if1 .left) (sym (c .before .has .ensures) ∙ c .if2 .taken)
 
 returns-3 : tie.Need-returns-3
 returns-3 c =
     let done = c .before .before in
     let chosen = done .before .before in
-    let early = chosen .before .before in
-    let args = started (early .before) .args in
-    hearSubmit-first (args .r) (now (args .store)) (args .seat) (args .value) (now (args .signature)) _ _ (early .if1 .left) (sym (chosen .before .has .ensures) ∙ chosen .if2 .left) (done .keep .ensures)
+    let first = early (chosen .before) in
+    let args = started (first .before) .args in
+    hearSubmit-first (args .r) (now (args .store)) (args .seat) (args .value) (now (args .signature)) _ _ (first .if1 .left) (sym (chosen .before .has .ensures) ∙ chosen .if2 .left) (done .keep .ensures)
 
 pub hear-submit-spec : {M : Type 1} → statement M
 hear-submit-spec =
