@@ -9,6 +9,7 @@ use Prim.Native.Nat.{ℕ, _+_, _≤_, _<_}
 use native.Mathlib.Omega.{arith}
 use lib.ListN.{length}
 use Rattle.quorum.specs.Quorum.{k, bit, In, size}
+use Rattle.quorum.specs.QuorumLaws.{bit-empty}
 use Rattle.protocol.specs.Layout.{storeLength, outLength}
 use Rattle.protocol.specs.Message.{Message, Submit, Notice, Full, Evidence, Garbled, read, roundOf, seatsOf, entrySeats, signed}
 use Rattle.protocol.specs.Refusals.{isForStep, rising}
@@ -26,7 +27,7 @@ use Rattle.claims.specs.UnrefusedLaws.{possible, Taken}
 use Rattle.claims.specs.NotRefused.{Table, StepFit, SubmitFit, submit-fit, step-not-refused}
 use Rattle.claims.specs.Journey.{At, submit-value}
 use Rattle.claims.specs.Units.{any-worthy, startOf, endOf, opened-fit, opened-range, start-n, start-seat, start-round, stop, written-are}
-use Rattle.claims.specs.Kept.{SubmitsNow, Hears, hears-fit, early-kept, kept-stays, call-does, Of, kept-next}
+use Rattle.claims.specs.Kept.{SubmitsNow, Hears, hears-fit, early-kept, kept-stays, call-does, Of, kept-next, start-none}
 use Rattle.claims.specs.CollectKeptLaws.{confirms-at-once}
 
 -- ---- good SUBMITs given
@@ -172,3 +173,104 @@ module _ (S : Setting) where
           reads = ap (λ i. read i (h .bytes)) (sym (size-is x d)) ∙ h .reads ∙ ap (λ ρ. Submit ρ seat layout signature) (round-is x d);
           checked = taken .checked _ (List·Memᴰ·head refl);
         }
+
+    -- ---- a seat's first good SUBMIT is what is kept
+
+    -- a call in the list before the own submit
+    abbrev Ready : Called → Type 0
+    Ready x = List·Memᴰ x list × (SubmitsNow S x → ⊥) × (x .unit .own .submitted ≡ false)
+
+    module _ (seat : ℕ) (layout : List ℕ) where
+      -- what is kept of the seat, if anything, is over the layout
+      abbrev Agrees : Relation
+      Agrees s value signature = s ≡ seat → value ≡ layout
+
+      abbrev KeptIt : Record → List ℕ → Type 0
+      KeptIt r store = In seat (r .kept) × (keptValue (r .n) store seat ≡ layout)
+
+      agrees-next : (x : Called) → List·Memᴰ x list → ((other : List ℕ) → GivesGood x seat other → other ≡ layout) → Of S Agrees (x .unit) (x .store) → Of S Agrees (resultOf S x .unit) (resultOf S x .store)
+      agrees-next x d one of =
+          kept-next S Agrees x of (λ s value signature h e. one value (hears-gives x d seat value signature (subst (λ t. Hears S x t value signature) e h)))
+
+      keeps-it : (x : Called) → (SubmitsNow S x → ⊥) → KeptIt (x .unit) (x .store) → KeptIt (resultOf S x .unit) (resultOf S x .store)
+      keeps-it x never i =
+          let a = kept-stays S x never seat (i .0) in
+          (a .kept ∙ i .0, ap (λ m. keptValue m (resultOf S x .store) seat) (call-does S x .0) ∙ a .value ∙ i .1)
+
+      first-kept : (r : Record) (store : List ℕ) (before : List Called) (t : Called) (after : List Called) → Chain r store (before ++ t ∷ after) → Each Ready before
+          → Of S Agrees r store → FirstIs seat layout before → KeptIt (t .unit) (t .store)
+      unfolding Chain FirstIs
+      first-kept r store [] t after c each of first = absurd first
+      first-kept r store (x ∷ xs) t after c each of first =
+          let e = each x (List·Memᴰ·head refl) in
+          let here : Of S Agrees (x .unit) (x .store) = subst₂ (Of S Agrees) (sym (c .0)) (sym (c .1)) of in
+          let rest : Each Ready xs = λ y d. each y (List·Memᴰ·tail d) in
+          ⊎-elim
+          (λ gives.
+          let kept = early-kept S x seat layout (gives .signature) (gives-hears x (e .0) seat layout gives) (e .2) in
+          let after-it = agrees-next x (e .0) (λ other g. gives-one x seat other layout g gives) here in
+          carry KeptIt (resultOf S x .unit) (resultOf S x .store) xs t after (c .2) (λ y d. keeps-it y (rest y d .1)) (kept, after-it seat kept refl))
+          (λ later. first-kept (resultOf S x .unit) (resultOf S x .store) xs t after (c .2) rest (agrees-next x (e .0) (later .0) here) (later .1))
+          first
+
+    -- ---- the claim
+
+    -- the list has the calls `before`, then t, a submit that isn't refused
+    module _ (before : List Called) (t : Called) (after : List Called) (split : listOf S u ≡ before ++ t ∷ after) (s : SubmitsNow S t) where
+      chain : Chain (startOf S u opened) (u .store) (before ++ t ∷ after)
+      chain = subst (Chain (startOf S u opened) (u .store)) split (chain-of (startOf S u opened) (u .store) (u .calls))
+
+      inList : List·Memᴰ t list
+      inList = subst (λ l. List·Memᴰ t l) (sym split) (Memᴰ·append-right before (List·Memᴰ·head refl))
+
+      earlier-inList : (x : Called) → List·Memᴰ x before → List·Memᴰ x list
+      earlier-inList x d = subst (λ l. List·Memᴰ x l) (sym split) (Memᴰ·append-left (t ∷ after) d)
+
+      fit : SubmitFit checks keys (t .unit) (t .store) (s .layout) (s .signature) (s .out)
+      unfolding refusalOf
+      fit = submit-fit checks keys (t .unit) (t .store) (s .layout) (s .signature) (s .out) (subst (λ c. refusalOf S c (t .unit) (t .store) ≡ 0) (s .carries) (unrefused-result S t (s .unrefused) .0))
+
+      -- a submit that isn't refused sets the flag
+      submits-sets : (x : Called) → List·Memᴰ x list → SubmitsNow S x → resultOf S x .unit .own .submitted ≡ true
+      submits-sets x d q =
+          let l = unrefused-result S x (q .unrefused) in
+          let given = BySubmit (q .layout) (q .signature) (q .out) in
+          let passes : refusalOf S given (x .unit) (x .store) ≡ 0 = subst (λ c. refusalOf S c (x .unit) (x .store) ≡ 0) (q .carries) (l .0) in
+          ap (λ (r : Record). r .own .submitted) (l .1 ∙ ap (λ c. cameTo c (x .unit) (x .store) .unit) (q .carries))
+          ∙ submit-value S Any (q .layout) (q .signature) (q .out) (x .unit) (x .store) (at x d .sound) passes tt .0
+
+      earlier-unsaid : Each (λ x. resultOf S x .unit .own .submitted ≡ false) before
+      earlier-unsaid =
+          unsaid-before (startOf S u opened) (u .store) before t after chain (λ x d e. at x (earlier-inList x d) .after .grows .said e .0) (fit .first)
+
+      ready : Each Ready before
+      ready x d =
+          let m = earlier-inList x d in
+          (m, (λ q. true≢false (sym (submits-sets x m q) ∙ earlier-unsaid x d)), go (x .unit .own .submitted) refl)
+        where
+          go : (b : Bool) → x .unit .own .submitted ≡ b → b ≡ false
+          go true e = absurd (true≢false (sym (at x (earlier-inList x d) .after .grows .said e .0) ∙ earlier-unsaid x d))
+          go false e = refl
+
+      -- the seats of `others`, and not the own one, whose first good SUBMIT was over the layout: k − 1 or more
+      module _ (others : ℕ) (apart : bit (u .seat) others ≡ 0) (enough : k n ≤ size others + 1) (given : (seat : ℕ) → In seat others → FirstIs seat (s .layout) before) where
+        kept-it : (seat : ℕ) → In seat others → KeptIt seat (s .layout) (t .unit) (t .store)
+        kept-it seat i =
+            first-kept seat (s .layout) (startOf S u opened) (u .store) before t after chain ready (λ x e. absurd (omega (arith, ap (bit x) (start-none S u opened), bit-empty x))) (given seat i)
+
+        result-is : resultOf S t .unit ≡ submitted (s .layout) (s .signature) (start (t .unit) (t .store)) .unit
+        unfolding cameTo
+        result-is = unrefused-result S t (s .unrefused) .1 ∙ ap (λ c. cameTo c (t .unit) (t .store) .unit) (s .carries)
+
+        -- it has confirmed
+        pub confirmed-there : resultOf S t .unit .confirmed ≡ true
+        confirmed-there =
+            let z = at t inList in
+            let size-t = size-is t inList in
+            ap (λ (r : Record). r .confirmed) result-is
+            ∙ confirms-at-once checks Any (s .layout) (s .signature) (start (t .unit) (t .store)) (z .sound) (fit .lent .storeRoom) (fit .first) (fit .sizedValue) (record { checked = fit .checked; sized = fit .sizedSignature; worthy = tt })
+            others (λ seat i. kept-it seat i .0) (ap (λ seat. bit seat others) (z .since .seat ∙ start-seat S u opened) ∙ apart) (λ seat i. kept-it seat i .1) (subst (λ m. k m ≤ size others + 1) (sym size-t) enough)
+
+        -- and the NOTICE of the layout stands in what this call writes
+        pub notice-there : StandsIn n (Notice round (u .seat) (s .layout)) (writtenIn S t)
+        notice-there = ?

@@ -290,7 +290,8 @@ module _ (S : Setting) where
   -- ---- an honest unit's list
 
   module _ (u : Honest) (opened : IsOpened S u) where
-    start-none : startOf S u opened .kept ≡ 0
+    -- an opening keeps none
+    pub start-none : startOf S u opened .kept ≡ 0
     unfolding fresh
     start-none = ap (λ (r : Record). r .kept) (opened-fresh S u opened)
 
