@@ -1,190 +1,276 @@
--- What a skipper gains by kept SUBMITs: a unit that has kept the SUBMITs of k − 1 or more other seats over the value that it submits
--- confirms in that very call.
+-- What a skipper gains by kept SUBMITs (document 02, item 1): a unit that submits after it was given good SUBMITs of the same layout by
+-- k − 1 or more other seats, in buffers of the stated lengths, confirms in that very call.
 -- Assumes nothing.
-use mathlib.Core.Path.{_≡_, refl, sym, ap, subst, _∙_}
-use mathlib.Core.Bool.{Bool, true, false, cond, not, _&&_, true≢false}
-use mathlib.Core.List.{List}
+use mathlib.Core.Path.{_≡_, refl, sym, ap, subst, subst₂, _∙_}
+use mathlib.Core.Bool.{Bool, true, false, true≢false}
+use mathlib.Core.List.{List, [], _∷_, _++_, List·Memᴰ, List·Memᴰ·head, List·Memᴰ·tail, List·Memᴰ·not-nil, List·Memᴰ·cases-cons, Memᴰ·append-left, Memᴰ·append-right}
 use mathlib.Core.Logic.{_⊎_, inl, inr, ⊎-elim}
-use Prim.Native.Nat.{ℕ, zero, suc, _+_, _≤_, _<_}
+use Prim.Native.Nat.{ℕ, _+_, _≤_, _<_}
 use native.Mathlib.Omega.{arith}
-use native.Mathlib.Decide.{ℕ-discrete}
-use lib.Dec.{ltb, eqb}
 use lib.ListN.{length}
-use borrow.Author.Tests.{ltb-true, ltb-false, eq-eqb, not-true, not-false}
-use Rattle.octets.specs.Strings.{same}
-use Rattle.octets.specs.StringsLaws.{same-refl, same-true}
-use Rattle.quorum.specs.Quorum.{k, bit, In, has, size, shared, with}
-use Rattle.quorum.specs.QuorumLaws.{bit-cases, bit-lt-two, bit-shared, bit-with-same, bit-with-other, has-true, has-false, same-seats, size-shared-le, size-with-new}
-use Rattle.refusal.specs.RefusalLaws.{both-true}
-use Rattle.protocol.specs.Layout.{valueLength, collectedBank, keptValueBank}
-use Rattle.protocol.specs.LayoutLaws.{collected-bank, kept-value-bank}
-use Rattle.protocol.specs.Certificate.{ownCertificate, slot, fill, keptValue, keptSignature}
-use Rattle.protocol.specs.Refusals.{Checks}
-use Rattle.protocol.specs.Step.{State, write, collect, setOwnValue, submitOwn, isWanted, collectIfWanted, isOpenTo, collectKeptSeat, collectKeptBelow, emptyKept, collectKept, isComplete, confirm, hearOwn, reply, confirmIfComplete, submitted}
-use Rattle.round.specs.Round.{Relation}
-use Rattle.reading.specs.ListsLaws.{cond-elim, and-false-either}
-use Rattle.claims.specs.SlotsLaws.{slot-fill-other}
-use Rattle.claims.specs.Sound.{Room, Attested, Sound}
-use Rattle.claims.specs.Parts.{in-below, room-leads, collect-leads, submitOwn-leads, confirmed-submitted}
-use Rattle.claims.specs.Whole.{hearing-stays}
+use Rattle.quorum.specs.Quorum.{k, bit, In, size}
+use Rattle.quorum.specs.QuorumLaws.{bit-empty}
+use Rattle.protocol.specs.Layout.{storeLength, outLength}
+use Rattle.protocol.specs.Message.{Message, Submit, Notice, Full, Evidence, Garbled, read, roundOf, seatsOf, entrySeats, signed}
+use Rattle.protocol.specs.Refusals.{isForStep, rising}
+use Rattle.protocol.specs.Certificate.{keptValue}
+use Rattle.protocol.specs.Step.{State, submitted}
+use Rattle.protocol.specs.Calls.{Result, resultBy, start, step}
+use Rattle.protocol.specs.declared.Record.{Record}
+use Rattle.round.specs.Round.{Setting, IsOpened, Each, Relation, Call, BySubmit, ByStep, ByThinEntry, Honest, Called, IsStep, outcome, resultOf, listFrom, listOf, StandsIn, writtenIn, Confirms}
+use Rattle.round.specs.Demand1.{NOTICE, isOf, isNotice}
+use Rattle.reading.specs.ListsLaws.{each-nil, each-one, each-cons, count-member, worth-true}
+use Rattle.reading.specs.Messages.{refusalOf, cameTo, messages}
+use Rattle.reading.specs.MessagesLaws.{outcome-is, step-is, unrefused-result}
+use Rattle.claims.specs.Sound.{Any}
+use Rattle.claims.specs.UnrefusedLaws.{possible, Taken}
+use Rattle.claims.specs.NotRefused.{Table, StepFit, SubmitFit, submit-fit, step-not-refused}
+use Rattle.claims.specs.Journey.{At, submit-value}
+use Rattle.claims.specs.Units.{any-worthy, startOf, endOf, opened-fit, opened-range, start-n, start-seat, start-round, stop, written-are}
+use Rattle.claims.specs.Kept.{SubmitsNow, Hears, hears-fit, early-kept, kept-stays, call-does, Of, kept-next, start-none}
+use Rattle.claims.specs.CollectKeptLaws.{confirms-at-once}
 
--- a set within another is no larger
-within-size : (a b : ℕ) → ((t : ℕ) → In t b → In t a) → size b ≤ size a
-within-size a b h =
-    subst (λ (x : ℕ). size x ≤ size a) (same-seats (shared a b) b (λ t. go t (bit-cases t b))) (size-shared-le a b)
-  where
-    go : (t : ℕ) → (bit t b ≡ 0) ⊎ In t b → bit t (shared a b) ≡ bit t b
-    go t (inl e) = omega (arith, bit-shared t a b)
-    go t (inr i) = omega (arith, bit-shared t a b, h t i)
+-- ---- good SUBMITs given
+-- bytes that a step is given, and the value of a SUBMIT
+abbrev bytesOf : Call → List ℕ
+bytesOf (BySubmit value signature out) = []
+bytesOf (ByStep bytes out) = bytes
+bytesOf (ByThinEntry bytes out) = bytes
 
-module _ (checks : Checks) (W : Relation) (value signature : List ℕ) (s : State) (z : Sound checks W (s .unit) (s .store)) (room : Room s) (unsaid : s .unit .own .submitted ≡ false) (sized : length value ≡ valueLength) (g : Attested checks W (s .unit .seat) value signature)
-    (others : ℕ) (within : (t : ℕ) → In t others → In t (s .unit .kept)) (apart : bit (s .unit .seat) others ≡ 0) (agree : (t : ℕ) → In t others → keptValue (s .unit .n) (s .store) t ≡ value) (enough : k (s .unit .n) ≤ size others + 1) where
-  abbrev n : ℕ
-  n = s .unit .n
+step-bytes : (c : Call) (bytes out : List ℕ) → IsStep c bytes out → bytesOf c ≡ bytes
+step-bytes c bytes out (inl e) = ap bytesOf e
+step-bytes c bytes out (inr e) = ap bytesOf e
 
-  abbrev Got : ℕ → ℕ → Type 0
-  Got t collected = (size collected ≡ k n) ⊎ ((i : ℕ) → i < t → In i others → In i collected)
+abbrev valueOf : Message → List ℕ
+valueOf (Submit ρ seat value signature) = value
+valueOf (Notice ρ seat value) = []
+valueOf (Full ρ sender value entries) = []
+valueOf (Evidence ρ values entries) = []
+valueOf Garbled = []
 
-  -- at seat t, k are collected or all of the seats passed
-  record At (t : ℕ) (e : State) : Type 0 where
-    size-is : e .unit .n ≡ n
-    kept : e .unit .kept ≡ s .unit .kept
-    said : (e .unit .own .submitted ≡ true) × (e .unit .own .value ≡ value)
-    unconfirmed : e .unit .confirmed ≡ false
-    sound : Sound checks W (e .unit) (e .store)
-    roomy : Room e
-    own : In (s .unit .seat) (e .unit .own .collected)
-    values : (i : ℕ) → i < n → keptValue n (e .store) i ≡ keptValue n (s .store) i
-    got : Got t (e .unit .own .collected)
+module _ (S : Setting) where
+  open Setting S using (n, round, keys, checks)
 
-  at-own : At 0 (submitOwn value signature s)
-  unfolding submitOwn write collect setOwnValue
-  at-own =
-      let a = submitOwn-leads checks W value signature s z room unsaid sized g in
-      record {
-        size-is = refl;
-        kept = refl;
-        said = (refl, refl);
-        unconfirmed = go (s .unit .confirmed) refl;
-        sound = a .sound;
-        roomy = room-leads checks W s (submitOwn value signature s) a room;
-        own = bit-with-same (s .unit .seat) (s .unit .own .collected);
-        values = λ i l. slot-fill-other n collectedBank (s .unit .seat) signature (s .store) (collected-bank .0) (z .range .seated) room (g .sized ∙ sym (collected-bank .1)) keptValueBank i (kept-value-bank .0) l (λ q _. omega arith);
-        got = inr (λ i l q. absurd (omega arith));
-      }
+  -- "given good SUBMITs .., in buffers of the stated lengths": the call is a step given a SUBMIT of the seat over the layout, in this
+  -- round, with a signature that checks
+  pub record GivesGood (t : Called) (seat : ℕ) (layout : List ℕ) : Type 0 where
+    pub bytes : List ℕ
+    pub out : List ℕ
+    pub signature : List ℕ
+    pub isStep : IsStep (t .given) bytes out
+    pub storeRoom : storeLength n ≤ length (t .store)
+    pub outRoom : outLength n ≤ length out
+    pub inside : seat < n
+    pub reads : read n bytes ≡ Submit round seat layout signature
+    pub checked : checks seat layout signature ≡ true
+
+  -- of the seat's good SUBMITs that the calls give, the first is over the layout: one call gives it, and none before gives one over
+  -- another layout
+  unfoldable pub FirstIs : ℕ → List ℕ → List Called → Type 0
+  FirstIs seat layout [] = ⊥
+  FirstIs seat layout (t ∷ ts) = GivesGood t seat layout ⊎ (((other : List ℕ) → GivesGood t seat other → other ≡ layout) × FirstIs seat layout ts)
+
+  -- so it is where a call gives one, and no call gives one over another layout
+  pub first-is : (seat : ℕ) (layout : List ℕ) (ts : List Called) (t : Called) → List·Memᴰ t ts → GivesGood t seat layout → Each (λ x. (other : List ℕ) → GivesGood x seat other → other ≡ layout) ts → FirstIs seat layout ts
+  unfolding FirstIs
+  first-is seat layout [] t d gives one = absurd (List·Memᴰ·not-nil d)
+  first-is seat layout (x ∷ ts) t d gives one =
+      ⊎-elim (λ e. inl (subst (λ y. GivesGood y seat layout) e gives)) (λ e. inr (one x (List·Memᴰ·head refl), first-is seat layout ts t e gives (λ y f. one y (List·Memᴰ·tail f)))) (List·Memᴰ·cases-cons d)
+
+  -- a call gives one SUBMIT
+  gives-one : (t : Called) (seat : ℕ) (a b : List ℕ) → GivesGood t seat a → GivesGood t seat b → a ≡ b
+  gives-one t seat a b x y =
+      let same-bytes : x .bytes ≡ y .bytes = sym (step-bytes (t .given) (x .bytes) (x .out) (x .isStep)) ∙ step-bytes (t .given) (y .bytes) (y .out) (y .isStep) in
+      ap valueOf (sym (x .reads) ∙ ap (read n) same-bytes ∙ y .reads)
+
+  -- ---- calls one after another
+
+  unfoldable Chain : Record → List ℕ → List Called → Type 0
+  Chain r store [] = Unit {0}
+  Chain r store (t ∷ ts) = (t .unit ≡ r) × (t .store ≡ store) × Chain (resultOf S t .unit) (resultOf S t .store) ts
+
+  chain-of : (r : Record) (store : List ℕ) (cs : List Call) → Chain r store (listFrom S r store cs)
+  unfolding Chain listFrom
+  chain-of r store [] = tt
+  chain-of r store (c ∷ cs) = (refl, refl, chain-of (outcome S c r store .unit) (outcome S c r store .store) cs)
+
+  -- a fact that each call keeps
+  carry : (P : Record → List ℕ → Type 0) (r : Record) (store : List ℕ) (before : List Called) (t : Called) (after : List Called) → Chain r store (before ++ t ∷ after)
+      → Each (λ x. P (x .unit) (x .store) → P (resultOf S x .unit) (resultOf S x .store)) before → P r store → P (t .unit) (t .store)
+  unfolding Chain
+  carry P r store [] t after c keeps p = subst₂ P (sym (c .0)) (sym (c .1)) p
+  carry P r store (x ∷ xs) t after c keeps p =
+      carry P (resultOf S x .unit) (resultOf S x .store) xs t after (c .2) (λ y d. keeps y (List·Memᴰ·tail d)) (keeps x (List·Memᴰ·head refl) (subst₂ P (sym (c .0)) (sym (c .1)) p))
+
+  -- where a call's record is without a submission, so are those before it
+  unsaid-before : (r : Record) (store : List ℕ) (before : List Called) (t : Called) (after : List Called) → Chain r store (before ++ t ∷ after)
+      → Each (λ x. x .unit .own .submitted ≡ true → resultOf S x .unit .own .submitted ≡ true) before → t .unit .own .submitted ≡ false → Each (λ x. resultOf S x .unit .own .submitted ≡ false) before
+  unfolding Chain
+  unsaid-before r store [] t after c keeps unsaid = each-nil (λ x. resultOf S x .unit .own .submitted ≡ false)
+  unsaid-before r store (x ∷ xs) t after c keeps unsaid =
+      each-cons (λ y. resultOf S y .unit .own .submitted ≡ false) x xs (go (resultOf S x .unit .own .submitted) refl)
+      (unsaid-before (resultOf S x .unit) (resultOf S x .store) xs t after (c .2) (λ y d. keeps y (List·Memᴰ·tail d)) unsaid)
     where
-      go : (b : Bool) → s .unit .confirmed ≡ b → s .unit .confirmed ≡ false
-      go true q = absurd (true≢false (sym (confirmed-submitted checks W (s .unit) (s .store) z q) ∙ unsaid))
-      go false q = q
+      go : (b : Bool) → resultOf S x .unit .own .submitted ≡ b → b ≡ false
+      go true e = absurd (true≢false (sym (carry (λ r _. r .own .submitted ≡ true) (resultOf S x .unit) (resultOf S x .store) xs t after (c .2) (λ y d. keeps y (List·Memᴰ·tail d)) e) ∙ unsaid))
+      go false e = refl
 
-  at-next : (t : ℕ) → t < n → (e : State) → At t e → At (suc t) (collectKeptSeat t e)
-  unfolding collectKeptSeat collectIfWanted isOpenTo isWanted collect
-  at-next t l e h =
-      let r = e .unit in
-      let kv = keptValue (r .n) (e .store) t in
-      let kg = keptSignature (r .n) (e .store) t in
-      let c = r .own .collected in
-      let few : size c ≤ k (r .n) = h .sound .own .collection .few in
-      let is-own : In t others → same kv (r .own .value) ≡ true =
-      λ i. rw (h .size-is, h .values t l, agree t i, h .said .1) (same-refl value) in
-      let is-kept : In t others → has t (r .kept) ≡ true = λ i. has-true t (r .kept) .1 (rw (h .kept) (within t i)) in
-      cond-elim (At (suc t)) (has t (r .kept) && ltb (size c) (k (r .n))) (cond (not (r .confirmed) && same kv (r .own .value) && not (has t c)) (collect t kg e) e) e
-      (λ o.
-      let both = both-true (has t (r .kept)) (ltb (size c) (k (r .n))) o in
-      let under : size c < k (r .n) = ltb-true (size c) (k (r .n)) (both .1) in
-      cond-elim (At (suc t)) (not (r .confirmed) && same kv (r .own .value) && not (has t c)) (collect t kg e) e
-      (λ w. taken o w)
-      (λ w. passed (λ i. inr (⊎-elim
-      (λ q. absurd (⊎-elim (λ p. true≢false (sym (not-false (r .confirmed) p) ∙ h .unconfirmed)) (λ p. true≢false (sym (is-own i) ∙ p)) (and-false-either (not (r .confirmed)) (same kv (r .own .value)) q)))
-      (λ q. has-true t c .0 (not-false (has t c) q)) (and-false-either (not (r .confirmed) && same kv (r .own .value)) (not (has t c)) w)))))
-      (λ o. passed (λ i. inl (⊎-elim (λ q. absurd (true≢false (sym (is-kept i) ∙ q))) (λ q. let many = ltb-false (size c) (k (r .n)) q in let sized-n = ap k (h .size-is) in omega arith) (and-false-either (has t (r .kept)) (ltb (size c) (k (r .n))) o))))
-    where
-      -- nothing changes: the seat isn't one of them, k are collected, or it is collected already
-      passed : (In t others → (size (e .unit .own .collected) ≡ k n) ⊎ In t (e .unit .own .collected)) → At (suc t) e
-      passed f = record {
-        size-is = h .size-is;
-        kept = h .kept;
-        said = h .said;
-        unconfirmed = h .unconfirmed;
-        sound = h .sound;
-        roomy = h .roomy;
-        own = h .own;
-        values = h .values;
-        got = ⊎-elim inl (λ before. by before (bit-cases t others)) (h .got);
-      }
+  module _ (u : Honest) (opened : IsOpened S u) where
+    abbrev list : List Called
+    list = listOf S u
+
+    abbrev at : (x : Called) → List·Memᴰ x list → At S Any (startOf S u opened) x (endOf S u opened)
+    at x d = stop S u opened Any (any-worthy S list) x d
+
+    size-is : (x : Called) → List·Memᴰ x list → x .unit .n ≡ n
+    size-is x d = at x d .since .n ∙ start-n S u opened
+
+    round-is : (x : Called) → List·Memᴰ x list → x .unit .round ≡ round
+    round-is x d = at x d .since .round ∙ start-round S u opened
+
+    -- a good SUBMIT isn't refused
+    gives-hears : (x : Called) → List·Memᴰ x list → (seat : ℕ) (layout : List ℕ) (g : GivesGood x seat layout) → Hears S x seat layout (g .signature)
+    unfolding isForStep roundOf seatsOf entrySeats signed rising step resultBy
+    gives-hears x d seat layout g =
+        let r = x .unit in
+        let m = Submit round seat layout (g .signature) in
+        let reads : read (r .n) (g .bytes) ≡ m = rw (size-is x d) (g .reads) in
+        let taken : Taken checks n round m = record { inRound = refl; inside = each-one (λ s. s < n) seat (g .inside); rises = refl; checked = each-one (λ s. checks (s .seat) (s .value) (s .signature) ≡ true) _ (g .checked) } in
+        let fit : StepFit checks keys r (x .store) (g .bytes) (g .out) = record {
+          lent = record {
+            possible = possible checks Any r (x .store) (at x d .sound) (at x d .settled);
+            table = subst (λ i. Table i keys) (sym (size-is x d)) (opened-fit S u opened .table);
+            storeRoom = rw (size-is x d) (g .storeRoom);
+            outRoom = rw (size-is x d) (g .outRoom);
+          };
+          forStep = subst (λ (y : Message). isForStep y ≡ true) (sym reads) refl;
+          message = subst (Taken checks (r .n) (r .round)) (sym reads) (subst₂ (λ i ρ. Taken checks i ρ m) (sym (size-is x d)) (sym (round-is x d)) taken);
+        } in
+        let is = step-is S (x .given) (g .bytes) (g .out) r (x .store) (g .isStep) .0 in
+        record {
+          bytes = g .bytes;
+          out = g .out;
+          isStep = g .isStep;
+          reads = reads ∙ ap (λ ρ. Submit ρ seat layout (g .signature)) (sym (round-is x d));
+          unrefused = ap (λ (y : Result). y .refusal) (outcome-is S (x .given) r (x .store)) ∙ is ∙ step-not-refused checks keys r (x .store) (g .bytes) (g .out) .1 fit;
+        }
+
+    -- and a SUBMIT that isn't refused is good
+    hears-gives : (x : Called) → List·Memᴰ x list → (seat : ℕ) (layout signature : List ℕ) → Hears S x seat layout signature → GivesGood x seat layout
+    unfolding seatsOf signed
+    hears-gives x d seat layout signature h =
+        let fit = hears-fit S x seat layout signature h in
+        let m = Submit (x .unit .round) seat layout signature in
+        let taken = subst (Taken checks (x .unit .n) (x .unit .round)) (h .reads) (fit .message) in
+        record {
+          bytes = h .bytes;
+          out = h .out;
+          signature = signature;
+          isStep = h .isStep;
+          storeRoom = subst (λ i. storeLength i ≤ length (x .store)) (size-is x d) (fit .lent .storeRoom);
+          outRoom = subst (λ i. outLength i ≤ length (h .out)) (size-is x d) (fit .lent .outRoom);
+          inside = subst (λ i. seat < i) (size-is x d) (taken .inside seat (List·Memᴰ·head refl));
+          reads = ap (λ i. read i (h .bytes)) (sym (size-is x d)) ∙ h .reads ∙ ap (λ ρ. Submit ρ seat layout signature) (round-is x d);
+          checked = taken .checked _ (List·Memᴰ·head refl);
+        }
+
+    -- ---- a seat's first good SUBMIT is what is kept
+
+    -- a call in the list before the own submit
+    abbrev Ready : Called → Type 0
+    Ready x = List·Memᴰ x list × (SubmitsNow S x → ⊥) × (x .unit .own .submitted ≡ false)
+
+    module _ (seat : ℕ) (layout : List ℕ) where
+      -- what is kept of the seat, if anything, is over the layout
+      abbrev Agrees : Relation
+      Agrees s value signature = s ≡ seat → value ≡ layout
+
+      abbrev KeptIt : Record → List ℕ → Type 0
+      KeptIt r store = In seat (r .kept) × (keptValue (r .n) store seat ≡ layout)
+
+      agrees-next : (x : Called) → List·Memᴰ x list → ((other : List ℕ) → GivesGood x seat other → other ≡ layout) → Of S Agrees (x .unit) (x .store) → Of S Agrees (resultOf S x .unit) (resultOf S x .store)
+      agrees-next x d one of =
+          kept-next S Agrees x of (λ s value signature h e. one value (hears-gives x d seat value signature (subst (λ t. Hears S x t value signature) e h)))
+
+      keeps-it : (x : Called) → (SubmitsNow S x → ⊥) → KeptIt (x .unit) (x .store) → KeptIt (resultOf S x .unit) (resultOf S x .store)
+      keeps-it x never i =
+          let a = kept-stays S x never seat (i .0) in
+          (a .kept ∙ i .0, ap (λ m. keptValue m (resultOf S x .store) seat) (call-does S x .0) ∙ a .value ∙ i .1)
+
+      first-kept : (r : Record) (store : List ℕ) (before : List Called) (t : Called) (after : List Called) → Chain r store (before ++ t ∷ after) → Each Ready before
+          → Of S Agrees r store → FirstIs seat layout before → KeptIt (t .unit) (t .store)
+      unfolding Chain FirstIs
+      first-kept r store [] t after c each of first = absurd first
+      first-kept r store (x ∷ xs) t after c each of first =
+          let e = each x (List·Memᴰ·head refl) in
+          let here : Of S Agrees (x .unit) (x .store) = subst₂ (Of S Agrees) (sym (c .0)) (sym (c .1)) of in
+          let rest : Each Ready xs = λ y d. each y (List·Memᴰ·tail d) in
+          ⊎-elim
+          (λ gives.
+          let kept = early-kept S x seat layout (gives .signature) (gives-hears x (e .0) seat layout gives) (e .2) in
+          let after-it = agrees-next x (e .0) (λ other g. gives-one x seat other layout g gives) here in
+          carry KeptIt (resultOf S x .unit) (resultOf S x .store) xs t after (c .2) (λ y d. keeps-it y (rest y d .1)) (kept, after-it seat kept refl))
+          (λ later. first-kept (resultOf S x .unit) (resultOf S x .store) xs t after (c .2) rest (agrees-next x (e .0) (later .0) here) (later .1))
+          first
+
+    -- ---- the claim
+
+    -- the list has the calls `before`, then t, a submit that isn't refused
+    module _ (before : List Called) (t : Called) (after : List Called) (split : listOf S u ≡ before ++ t ∷ after) (s : SubmitsNow S t) where
+      chain : Chain (startOf S u opened) (u .store) (before ++ t ∷ after)
+      chain = subst (Chain (startOf S u opened) (u .store)) split (chain-of (startOf S u opened) (u .store) (u .calls))
+
+      inList : List·Memᴰ t list
+      inList = subst (λ l. List·Memᴰ t l) (sym split) (Memᴰ·append-right before (List·Memᴰ·head refl))
+
+      earlier-inList : (x : Called) → List·Memᴰ x before → List·Memᴰ x list
+      earlier-inList x d = subst (λ l. List·Memᴰ x l) (sym split) (Memᴰ·append-left (t ∷ after) d)
+
+      fit : SubmitFit checks keys (t .unit) (t .store) (s .layout) (s .signature) (s .out)
+      unfolding refusalOf
+      fit = submit-fit checks keys (t .unit) (t .store) (s .layout) (s .signature) (s .out) (subst (λ c. refusalOf S c (t .unit) (t .store) ≡ 0) (s .carries) (unrefused-result S t (s .unrefused) .0))
+
+      -- a submit that isn't refused sets the flag
+      submits-sets : (x : Called) → List·Memᴰ x list → SubmitsNow S x → resultOf S x .unit .own .submitted ≡ true
+      submits-sets x d q =
+          let l = unrefused-result S x (q .unrefused) in
+          let given = BySubmit (q .layout) (q .signature) (q .out) in
+          let passes : refusalOf S given (x .unit) (x .store) ≡ 0 = subst (λ c. refusalOf S c (x .unit) (x .store) ≡ 0) (q .carries) (l .0) in
+          ap (λ (r : Record). r .own .submitted) (l .1 ∙ ap (λ c. cameTo c (x .unit) (x .store) .unit) (q .carries))
+          ∙ submit-value S Any (q .layout) (q .signature) (q .out) (x .unit) (x .store) (at x d .sound) passes tt .0
+
+      earlier-unsaid : Each (λ x. resultOf S x .unit .own .submitted ≡ false) before
+      earlier-unsaid =
+          unsaid-before (startOf S u opened) (u .store) before t after chain (λ x d e. at x (earlier-inList x d) .after .grows .said e .0) (fit .first)
+
+      ready : Each Ready before
+      ready x d =
+          let m = earlier-inList x d in
+          (m, (λ q. true≢false (sym (submits-sets x m q) ∙ earlier-unsaid x d)), go (x .unit .own .submitted) refl)
         where
-          by : ((i : ℕ) → i < t → In i others → In i (e .unit .own .collected)) → (bit t others ≡ 0) ⊎ In t others → Got (suc t) (e .unit .own .collected)
-          by before (inl none) = inr (λ i l q. on i l q (ℕ-discrete i t))
-            where
-              on : (i : ℕ) → i < suc t → In i others → Dec (i ≡ t) → In i (e .unit .own .collected)
-              on i l q (yes p) = absurd (let here : bit t others ≡ 1 = subst (λ (j : ℕ). In j others) p q in omega arith)
-              on i l q (no p) = before i (omega arith) q
-          by before (inr x) = ⊎-elim inl (λ here. inr (λ i l q. on here i l q (ℕ-discrete i t))) (f x)
-            where
-              on : In t (e .unit .own .collected) → (i : ℕ) → i < suc t → In i others → Dec (i ≡ t) → In i (e .unit .own .collected)
-              on here i l q (yes p) = rw p here
-              on here i l q (no p) = before i (omega arith) q
+          go : (b : Bool) → x .unit .own .submitted ≡ b → b ≡ false
+          go true e = absurd (true≢false (sym (at x (earlier-inList x d) .after .grows .said e .0) ∙ earlier-unsaid x d))
+          go false e = refl
 
-      taken : isOpenTo t (e .unit) ≡ true → isWanted t (keptValue (e .unit .n) (e .store) t) (e .unit) ≡ true → At (suc t) (collect t (keptSignature (e .unit .n) (e .store) t) e)
-      taken o w =
-          let r = e .unit in
-          let both = both-true (has t (r .kept)) (ltb (size (r .own .collected)) (k (r .n))) o in
-          let under : size (r .own .collected) < k (r .n) = ltb-true (size (r .own .collected)) (k (r .n)) (both .1) in
-          let under-n : size (r .own .collected) < k n = subst (λ (i : ℕ). size (r .own .collected) < k i) (h .size-is) under in
-          let inside : t < r .n = rw (h .size-is) l in
-          let attested = h .sound .kept .attested t (has-true t (r .kept) .0 (both .0)) in
-          let kg = keptSignature (r .n) (e .store) t in
-          let a = collect-leads checks W t (keptValue (r .n) (e .store) t) kg e (h .sound) (h .roomy) w (h .said .0) (λ q. absurd (omega arith)) inside attested in
-          record {
-            size-is = h .size-is;
-            kept = h .kept;
-            said = h .said;
-            unconfirmed = h .unconfirmed;
-            sound = a .sound;
-            roomy = room-leads checks W e (collect t kg e) a (h .roomy);
-            own = held (s .unit .seat) (h .own) (ℕ-discrete (s .unit .seat) t);
-            values = λ i j.
-                subst (λ (m : ℕ). keptValue m (fill (r .n) collectedBank t kg (e .store)) i ≡ keptValue m (e .store) i) (h .size-is)
-                (slot-fill-other (r .n) collectedBank t kg (e .store) (collected-bank .0) inside (h .roomy) (attested .sized ∙ sym (collected-bank .1)) keptValueBank i (kept-value-bank .0) (rw (h .size-is) j) (λ q _. omega arith))
-                ∙ h .values i j;
-            got = ⊎-elim (λ full. absurd (omega arith)) (λ before. inr (λ i j q. on before i j q (ℕ-discrete i t))) (h .got);
-          }
-        where
-          held : (i : ℕ) → In i (e .unit .own .collected) → Dec (i ≡ t) → In i (with t (e .unit .own .collected))
-          held i q (yes p) = rw p (bit-with-same t (e .unit .own .collected))
-          held i q (no p) = bit-with-other i t (e .unit .own .collected) p ∙ q
+      -- the seats of `others`, and not the own one, whose first good SUBMIT was over the layout: k − 1 or more
+      module _ (others : ℕ) (apart : bit (u .seat) others ≡ 0) (enough : k n ≤ size others + 1) (given : (seat : ℕ) → In seat others → FirstIs seat (s .layout) before) where
+        kept-it : (seat : ℕ) → In seat others → KeptIt seat (s .layout) (t .unit) (t .store)
+        kept-it seat i =
+            first-kept seat (s .layout) (startOf S u opened) (u .store) before t after chain ready (λ x e. absurd (omega (arith, ap (bit x) (start-none S u opened), bit-empty x))) (given seat i)
 
-          on : ((i : ℕ) → i < t → In i others → In i (e .unit .own .collected)) → (i : ℕ) → i < suc t → In i others → Dec (i ≡ t) → In i (with t (e .unit .own .collected))
-          on before i j q (yes p) = rw p (bit-with-same t (e .unit .own .collected))
-          on before i j q (no p) = bit-with-other i t (e .unit .own .collected) p ∙ before i (omega arith) q
+        result-is : resultOf S t .unit ≡ submitted (s .layout) (s .signature) (start (t .unit) (t .store)) .unit
+        unfolding cameTo
+        result-is = unrefused-result S t (s .unrefused) .1 ∙ ap (λ c. cameTo c (t .unit) (t .store) .unit) (s .carries)
 
-  at-below : (t : ℕ) → t ≤ n → At t (collectKeptBelow t (submitOwn value signature s))
-  unfolding collectKeptBelow
-  at-below zero l = at-own
-  at-below (suc t) l = at-next t (omega arith) (collectKeptBelow t (submitOwn value signature s)) (at-below t (omega arith))
+        -- it has confirmed
+        pub confirmed-there : resultOf S t .unit .confirmed ≡ true
+        confirmed-there =
+            let z = at t inList in
+            let size-t = size-is t inList in
+            ap (λ (r : Record). r .confirmed) result-is
+            ∙ confirms-at-once checks Any (s .layout) (s .signature) (start (t .unit) (t .store)) (z .sound) (fit .lent .storeRoom) (fit .first) (fit .sizedValue) (record { checked = fit .checked; sized = fit .sizedSignature; worthy = tt })
+            others (λ seat i. kept-it seat i .0) (ap (λ seat. bit seat others) (z .since .seat ∙ start-seat S u opened) ∙ apart) (λ seat i. kept-it seat i .1) (subst (λ m. k m ≤ size others + 1) (sym size-t) enough)
 
-  all-there : (e : State) → At n e → size (e .unit .own .collected) ≡ k n
-  all-there e h = ⊎-elim (λ q. q) (λ f. go f) (h .got)
-    where
-      inside : ((i : ℕ) → i < n → In i others → In i (e .unit .own .collected)) → (t : ℕ) → In t (with (s .unit .seat) others) → Dec (t ≡ s .unit .seat) → In t (e .unit .own .collected)
-      inside f t i (yes q) = rw q (h .own)
-      inside f t i (no d) =
-          let one : In t others = sym (bit-with-other t (s .unit .seat) others d) ∙ i in
-          f t (in-below n t (s .unit .kept) (z .kept .below) (within t one)) one
-
-      go : ((i : ℕ) → i < n → In i others → In i (e .unit .own .collected)) → size (e .unit .own .collected) ≡ k n
-      go f =
-          let more = size-with-new (s .unit .seat) others apart in
-          let few = h .sound .own .collection .few in
-          let few-n : size (e .unit .own .collected) ≤ k n = subst (λ (i : ℕ). size (e .unit .own .collected) ≤ k i) (h .size-is) few in
-          let larger = within-size (e .unit .own .collected) (with (s .unit .seat) others) (λ t i. inside f t i (ℕ-discrete t (s .unit .seat))) in
-          omega arith
-
-  pub confirms-at-once : submitted value signature s .unit .confirmed ≡ true
-  unfolding submitted collectKept emptyKept submitOwn write collect setOwnValue confirmIfComplete isComplete hearOwn confirm
-  confirms-at-once =
-      let e = collectKeptBelow n (submitOwn value signature s) in
-      let h = at-below n (omega arith) in
-      let u = emptyKept e in
-      let complete : isComplete (u .unit) ≡ true = rw (h .unconfirmed) (eq-eqb (size (e .unit .own .collected)) (k (e .unit .n)) (all-there e h ∙ ap k (sym (h .size-is)))) in
-      ap (λ (b : Bool). cond b (hearOwn (confirm u)) (reply u) .unit .confirmed) complete ∙ hearing-stays (ownCertificate (confirm u .unit) (confirm u .store)) (confirm u) .confirmed
+        -- and the NOTICE of the layout stands in what this call writes
+        pub notice-there : StandsIn n (Notice round (u .seat) (s .layout)) (writtenIn S t)
+        notice-there = ?

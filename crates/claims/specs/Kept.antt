@@ -10,16 +10,16 @@ use native.Mathlib.Omega.{arith}
 use native.Mathlib.Decide.{ℕ-discrete}
 use lib.ListN.{length}
 use Rattle.quorum.specs.Quorum.{bit, In, has, with}
-use Rattle.quorum.specs.QuorumLaws.{bit-empty, bit-cases, bit-with-same, bit-with-other, has-false}
+use Rattle.quorum.specs.QuorumLaws.{bit-empty, bit-cases, bit-with-same, bit-with-other, has-true, has-false}
 use Rattle.refusal.specs.Refusal.{firstOf, unrefused}
 use Rattle.protocol.specs.Layout.{valueLength, signatureLength, storeLength, keptBank, keptValueBank, slotLength}
 use Rattle.protocol.specs.LayoutLaws.{kept-bank, kept-value-bank}
 use Rattle.protocol.specs.Message.{Message, Submit, Notice, Full, Evidence, Garbled, Signed, read, signed, seatsOf, roundOf}
-use Rattle.protocol.specs.Certificate.{keptValue, keptSignature, fillKept}
+use Rattle.protocol.specs.Certificate.{keptValue, keptSignature, ownCertificate}
 use Rattle.protocol.specs.Record.{fresh}
 use Rattle.protocol.specs.RecordLaws.{possible}
 use Rattle.protocol.specs.Refusals.{stepConditions}
-use Rattle.protocol.specs.Step.{State, keep, keepIfFirst, confirmIfComplete, submitted, stepped}
+use Rattle.protocol.specs.Step.{State, write, keep, keepIfFirst, reply, isComplete, confirm, hearOwn, confirmIfComplete, stepped}
 use Rattle.protocol.specs.Calls.{Result, resultBy, start}
 use Rattle.protocol.specs.declared.Record.{Record}
 use Rattle.round.specs.Round.{Setting, IsOpened, Call, BySubmit, ByStep, ByThinEntry, Honest, Called, IsStep, Each, EachSigned, Relation, outcome, resultOf, listFrom, listOf, Delivered}
@@ -32,9 +32,16 @@ use Rattle.claims.specs.Sound.{Any}
 use Rattle.claims.specs.SlotsLaws.{kept-long, kept-value-same, kept-signature-same, kept-aside}
 use Rattle.claims.specs.KeptPartLaws.{Beside, Aside, Emptied, kept-value-beside, kept-signature-beside, confirmIfComplete-aside, submitted-emptied, stepped-early, late-aside, notice-aside, full-aside, aside-refl}
 use Rattle.claims.specs.Parts.{in-below}
+use Rattle.claims.specs.Whole.{reply-stays, hearing-stays}
 use Rattle.claims.specs.UnrefusedLaws.{Taken}
 use Rattle.claims.specs.NotRefused.{StepFit, submit-fit, step-fit}
 use Rattle.claims.specs.Units.{any-worthy, startOf, opened-fresh, start-n, stop}
+
+confirmIfComplete-kept : (s : State) → confirmIfComplete s .unit .kept ≡ s .unit .kept
+unfolding confirmIfComplete hearOwn confirm write
+confirmIfComplete-kept s =
+    cond-elim (λ (x : State). x .unit .kept ≡ s .unit .kept) (isComplete (s .unit)) (hearOwn (confirm s)) (reply s)
+    (λ e. hearing-stays (ownCertificate (confirm s .unit) (confirm s .store)) (confirm s) .kept) (λ e. reply-stays s .kept)
 
 -- ---- one call, with any record and store
 
@@ -193,6 +200,17 @@ module _ (S : Setting) where
 
     -- ---- the claims about one call
 
+    -- "A SUBMIT heard before the own submit is now checked, and the first good one from each seat is kept": after it the seat is kept
+    pub early-kept : (seat : ℕ) (value signature : List ℕ) → Hears t seat value signature → t .unit .own .submitted ≡ false → In seat (resultOf S t .unit .kept)
+    unfolding keepIfFirst keep
+    early-kept seat value signature h unsaid =
+        let came-to : resultOf S t .unit ≡ stepped (read (r .n) (h .bytes)) first .unit = unrefused-result S t (h .unrefused) .1 ∙ ap (λ (s : State). s .unit) (step-is S (t .given) (h .bytes) (h .out) (t .unit) (t .store) (h .isStep) .1) in
+        let kept : resultOf S t .unit .kept ≡ keepIfFirst seat value signature first .unit .kept =
+        ap (λ (x : Record). x .kept) came-to ∙ ap (λ (m : Message). stepped m first .unit .kept) (h .reads)
+        ∙ ap (λ (s : State). s .unit .kept) (stepped-early (r .round) seat value signature first unsaid) ∙ confirmIfComplete-kept (keepIfFirst seat value signature first) in
+        ap (bit seat) kept
+        ∙ cond-elim (λ (s : State). In seat (s .unit .kept)) (has seat (r .kept)) first (keep seat value signature first) (λ e. has-true seat (r .kept) .0 e) (λ e. bit-with-same seat (r .kept))
+
     -- "the first good one from each seat is kept": once a seat is kept, no call but the own submit changes its share
     pub kept-stays : (SubmitsNow t → ⊥) → (seat : ℕ) → In seat (t .unit .kept) → AsBefore (t .unit) (t .store) (resultOf S t .unit) (resultOf S t .store) seat
     kept-stays never seat i = ⊎-elim (λ f. f seat) (λ rest. ⊎-elim (λ e. absurd (never (e .0))) (λ k. kept-other (k .0) (k .1) seat i) rest) (call-does .1)
@@ -236,14 +254,14 @@ module _ (S : Setting) where
 
   -- a relation that holds of what is kept at the start and of every SUBMIT heard holds of what is kept at every call
   module _ (Q : Relation) where
-    abbrev Of : Record → List ℕ → Type 0
+    abbrev pub Of : Record → List ℕ → Type 0
     Of r store = (seat : ℕ) → In seat (r .kept) → Q seat (keptValue (r .n) store seat) (keptSignature (r .n) store seat)
 
-    abbrev Heard : Called → Type 0
+    abbrev pub Heard : Called → Type 0
     Heard t = (seat : ℕ) (value signature : List ℕ) → Hears S t seat value signature → Q seat value signature
 
-    next : (t : Called) → Of (t .unit) (t .store) → Heard t → Of (resultOf S t .unit) (resultOf S t .store)
-    next t of heard seat i =
+    pub kept-next : (t : Called) → Of (t .unit) (t .store) → Heard t → Of (resultOf S t .unit) (resultOf S t .store)
+    kept-next t of heard seat i =
         let r = t .unit in
         let x = resultOf S t in
         let d = call-does S t in
@@ -267,12 +285,13 @@ module _ (S : Setting) where
         let t : Called = record { given = c; unit = r; store = store } in
         let x = outcome S c r store in
         each-cons (λ y. Of (y .unit) (y .store)) t (listFrom S (x .unit) (x .store) cs) of
-        (kept-of (x .unit) (x .store) cs (next t of (heard t (List·Memᴰ·head refl))) (λ y d. heard y (List·Memᴰ·tail d)))
+        (kept-of (x .unit) (x .store) cs (kept-next t of (heard t (List·Memᴰ·head refl))) (λ y d. heard y (List·Memᴰ·tail d)))
 
   -- ---- an honest unit's list
 
   module _ (u : Honest) (opened : IsOpened S u) where
-    start-none : startOf S u opened .kept ≡ 0
+    -- an opening keeps none
+    pub start-none : startOf S u opened .kept ≡ 0
     unfolding fresh
     start-none = ap (λ (r : Record). r .kept) (opened-fresh S u opened)
 

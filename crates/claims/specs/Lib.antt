@@ -21,6 +21,7 @@ pub mod Units
 pub mod Once
 pub mod Kept
 pub mod Before
+pub mod CollectKeptLaws
 pub mod Gain
 pub mod Safe
 pub mod Made
