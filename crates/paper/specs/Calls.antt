@@ -96,6 +96,7 @@ module _ (n seat round : ℕ) where
         abbrev Kept : ℕ → List ℕ → Signed → Type 0
         Kept t st b = (keptValue n st t ≡ b .value) × (keptSignature n st t ≡ b .signature)
 
+        -- whether the seat is kept already or not, from the record and the store that are left
         finish : (b : Bool) → has s (keptOf (m .value) (m .early)) ≡ b → (st : List ℕ) → storeLength n ≤ length st
             → cond b (at n seat round x store) (keep s v g (at n seat round x store)) ≡ keptWith (keptOf (m .value) (m .early ++ one ∷ [])) (at n seat round x st)
             → ((t : ℕ) (b : Signed) → firstFrom t (m .early ++ one ∷ []) ≡ some b → Kept t st b) → Stored n st (m .collected) (m .obtained) → Result

@@ -6,8 +6,8 @@
 -- be an event is one. `Guard` has small runs; docs/PAPER.md has the paper's lines beside the definitions.
 --
 -- `ConflictsLaws` shows which two certificates are found, `Rules` that no rule is left to do after an event, and `Remembers` that the machine
--- forgets nothing. `Mirror` has the invariant between two events; `Parts` and `Calls` prove it for the parts of a call and for a whole
--- call, `Discards` for a refused one, and `Along` for a list. `Spoken` has the messages sent, by the engine's functions; `Based` shows
+-- forgets nothing. `Mirror` has the invariant between two events; `Parts` and `Collects` prove it for the parts of a call, `Calls` for a
+-- whole call, `Discards` for a refused one, and `Along` for a list. `Spoken` has the messages sent, by the engine's functions; `Based` shows
 -- that they were received. `EntriesLaws` has laws of lists of entries.
 pub mod Machine
 pub mod Memory

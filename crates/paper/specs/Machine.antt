@@ -1,5 +1,5 @@
 -- The accountable confirmer of the ABC paper (source document 002, Algorithm 2) as an abstract machine that forgets nothing: each
--- variable and each `upon` beside its lines, with document 01's changes at their places.
+-- variable and each `upon` beside its lines, with the changes of documents 01 and 02 at their places.
 --
 -- Document 01's changes:
 -- (1) No threshold signatures: `share`, `lightCertificate_i` and `Combine` of lines 12, 18, 22 and 28 are gone.
@@ -12,8 +12,9 @@
 -- (7) At line 18 "the signature [is] collected" in the submit itself, without waiting until its broadcast comes back to it.
 -- (8) The own signature comes with the submission, while the paper's unit makes it, and "is checked like any other".
 -- Document 02's, item 1:
--- (9) "A SUBMIT heard before the own submit is now checked, and the first good one from each seat is kept with its value": the
---     paper's line 20 passes over it, since value_i is ⊥. At the submission lines 20 to 23 are done for the first of each seat.
+-- (9) "A SUBMIT heard before the own submit is now checked, and the first good one from each seat is kept with its value": line 20
+--     passes over it, since value_i is ⊥. Here it is remembered, and at the submission lines 20 to 23 are done for the first of
+--     each seat.
 -- Assumes nothing.
 use Prim.Native.Nat.{ℕ, zero, suc}
 use mathlib.Core.Path.{_≡_}
@@ -42,7 +43,7 @@ pub record Machine : Type 0 where
   pub value : Option (List ℕ)
   -- "confirmed_i ← false"
   pub confirmed : Bool
-  -- the properly signed SUBMITs that came while value_i was ⊥; (9)
+  -- the properly signed SUBMITs that came while value_i was ⊥, all of them; (9)
   pub early : List Signed
   -- "from_i ← ∅" and "fullCertificate_i ← ∅": from_i is the set of its seats
   pub collected : List Entry
@@ -200,7 +201,7 @@ module _ (checks : Checks) (n own : ℕ) where
   collecting seat v signature x =
       cond (isCollected seat v signature (x .machine)) (addCollected (record { seat = seat; signature = signature }) x) x
 
-  -- a SUBMIT while value_i is ⊥; 6, and (9)
+  -- a SUBMIT while value_i is ⊥: discarded (line 6) or remembered; (9)
   unfoldable pub keeping : ℕ → List ℕ → List ℕ → Reaction → Reaction
   keeping seat v signature x = cond (checks seat v signature) (addEarly (record { seat = seat; value = v; signature = signature }) x) x
 
@@ -208,12 +209,12 @@ module _ (checks : Checks) (n own : ℕ) where
   unfoldable pub uponSubmitDelivered : ℕ → List ℕ → List ℕ → Reaction → Reaction
   uponSubmitDelivered seat v signature x = cond (isSome (x .machine .value)) (collecting seat v signature x) (keeping seat v signature x)
 
-  -- lines 20 to 23 for one of those that came before the submission, if there is one; (9)
+  -- lines 20 to 23 for a SUBMIT remembered, if there is one; (9)
   unfoldable pub takingUp : Option Signed → Reaction → Reaction
   takingUp none x = x
   takingUp (some e) x = collecting (e .seat) (e .value) (e .signature) x
 
-  -- "in rising seat order": for the first of each seat below a number; (9)
+  -- "in rising seat order": the same for the first of each seat below a number; (9)
   unfoldable pub takingUpBelow : ℕ → List Signed → Reaction → Reaction
   takingUpBelow zero early x = x
   takingUpBelow (suc seat) early x = takingUp (firstFrom seat early) (takingUpBelow seat early x)

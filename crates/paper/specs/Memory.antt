@@ -72,5 +72,5 @@ pub record Recorded (n seat round : ℕ) (m : Machine) (r : Record) (store : Lis
   pub unit : r ≡ recordOf n seat round m
   pub collected : Each (λ (e : Entry). slot n collectedBank store (e .seat) ≡ e .signature) (take (k n) (m .collected))
   pub first : Each (λ (e : Entry). slot n firstBank store (e .seat) ≡ e .signature) (firstEntries (m .obtained))
-  -- of the SUBMITs that came before the submission, the first of each seat, and no slot is cleared after it
+  -- of the SUBMITs that came before the submission, the first of each seat; no slot is cleared at it
   pub kept : (s : ℕ) (e : Signed) → firstFrom s (m .early) ≡ some e → (keptValue n store s ≡ e .value) × (keptSignature n store s ≡ e .signature)

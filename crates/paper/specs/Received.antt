@@ -10,7 +10,8 @@ use Rattle.paper.specs.Machine.{FullCertificate, Event, Submitted, Submi
 
 -- at a seat, with the events that have happened
 module _ (own : ℕ) (Happened : Event → Type 0) where
-  -- a signature for a seat over a value: the own one came with the submission, another's in a SUBMIT
+  -- a signature for a seat over a value: the own one came with the submission, another's in a SUBMIT, before the submission or after
+  -- it
   abbrev pub Collected : ℕ → List ℕ → List ℕ → Type 0
   Collected seat v signature = ((seat ≡ own) × Happened (Submitted v signature)) ⊎ Happened (SubmitDelivered seat v signature)
 

@@ -1,4 +1,6 @@
--- The machine forgets nothing: everything collected, noticed and obtained stays, and everything delivered and not discarded is added.
+-- The machine forgets nothing: everything that came before the submission, everything collected, noticed and obtained stays, and
+-- everything delivered and not discarded is added. At the submission the first SUBMIT of each seat is collected where it is of that
+-- value.
 -- Assumes nothing.
 use Prim.Native.Nat.{ℕ, zero, suc, _<_}
 use mathlib.Core.Path.{_≡_, refl, sym, ap, subst, _∙_}
@@ -184,6 +186,12 @@ module _ (checks : Checks) (n own : ℕ) where
       (rules-remember (obtain checks n own c x) .obtained c (Memᴰ·append-right (m .obtained) (List·Memᴰ·head refl)))
 
   -- ---- additions at the submission
+
+  -- a SUBMIT taken up at the submission is delivered then
+  pub taken-up-as-delivered : (e : Signed) (x : Reaction) → isSome (x .machine .value) ≡ true → takingUp checks n own (some e) x ≡ uponSubmitDelivered checks n own (e .seat) (e .value) (e .signature) x
+  unfolding takingUp uponSubmitDelivered
+  taken-up-as-delivered e x said =
+      sym (ap (λ (b : Bool). cond b (collecting checks n own (e .seat) (e .value) (e .signature) x) (keeping checks n own (e .seat) (e .value) (e .signature) x)) said)
 
   from-remembered : (s : ℕ) (es es′ : List Entry) → Each (λ (e : Entry). List·Memᴰ e es′) es → isFrom s es ≡ true → isFrom s es′ ≡ true
   unfolding isFrom
