@@ -225,7 +225,7 @@ module _ (checks : Checks) (W : Relation) where
     confirmIfComplete-done held none =
         cond-elim (Done s) (isComplete (s .unit)) (hearOwn (confirm s)) (reply s) (λ e. confirmed-done e none) (λ e. unconfirmed-done e held none)
 
-  -- some part of a call, and then this
+  -- a part of a call, and then the confirmation where k seats are collected
   then-done : (s s′ : State) → Leads checks W s s′ → Room s → (s′ .unit .confirmed ≡ true → Held (s′ .unit .own .value) (s′ .unit)) → NoneKept (s′ .unit) → Done s (confirmIfComplete s′)
   then-done s s′ a room held none =
       let b = confirmIfComplete-done s′ (a .sound) (room-leads checks W s s′ a room) held none in
