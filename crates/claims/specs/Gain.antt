@@ -2,7 +2,7 @@
 -- k − 1 or more other seats, in buffers of the stated lengths, confirms in that very call.
 -- Assumes nothing.
 use mathlib.Core.Path.{_≡_, refl, sym, ap, subst, subst₂, _∙_}
-use mathlib.Core.Bool.{Bool, true, false, true≢false}
+use mathlib.Core.Bool.{Bool, true, false, true≢false, false≢true}
 use mathlib.Core.List.{List, [], _∷_, _++_, List·Memᴰ, List·Memᴰ·head, List·Memᴰ·tail, List·Memᴰ·not-nil, List·Memᴰ·cases-cons, Memᴰ·append-left, Memᴰ·append-right}
 use mathlib.Core.Logic.{_⊎_, inl, inr, ⊎-elim}
 use Prim.Native.Nat.{ℕ, _+_, _≤_, _<_}
@@ -18,11 +18,13 @@ use Rattle.protocol.specs.Step.{State, submitted}
 use Rattle.protocol.specs.Calls.{Result, resultBy, start, step}
 use Rattle.protocol.specs.declared.Record.{Record}
 use Rattle.round.specs.Round.{Setting, IsOpened, Each, Relation, Call, BySubmit, ByStep, ByThinEntry, Honest, Called, IsStep, outcome, resultOf, listFrom, listOf, StandsIn, writtenIn, Confirms}
-use Rattle.round.specs.Demand1.{NOTICE, isOf, isNotice}
+use Rattle.round.specs.Demand1.{NOTICE, isOf, isNotice, worth}
 use Rattle.reading.specs.ListsLaws.{each-nil, each-one, each-cons, count-member, worth-true}
 use Rattle.reading.specs.Messages.{refusalOf, cameTo, messages}
 use Rattle.reading.specs.MessagesLaws.{outcome-is, step-is, unrefused-result}
-use Rattle.claims.specs.Sound.{Any}
+use Rattle.claims.specs.Sound.{Any, Said, Good}
+use Rattle.claims.specs.Parts.{confirmed-submitted}
+use Rattle.claims.specs.Whole.{submitted-value}
 use Rattle.claims.specs.UnrefusedLaws.{possible, Taken}
 use Rattle.claims.specs.NotRefused.{Table, StepFit, SubmitFit, submit-fit, step-not-refused}
 use Rattle.claims.specs.Journey.{At, submit-value}
@@ -47,6 +49,15 @@ valueOf (Notice ρ seat value) = []
 valueOf (Full ρ sender value entries) = []
 valueOf (Evidence ρ values entries) = []
 valueOf Garbled = []
+
+-- the only case of a message that is a NOTICE
+notice-cases : (P : Message → Type 0) (m : Message) → isNotice m ≡ true → ((ρ seat : ℕ) (value : List ℕ) → P (Notice ρ seat value)) → P m
+unfolding isNotice
+notice-cases P (Submit ρ seat value signature) e f = absurd (false≢true e)
+notice-cases P (Notice ρ seat value) e f = f ρ seat value
+notice-cases P (Full ρ sender value es) e f = absurd (false≢true e)
+notice-cases P (Evidence ρ values ps) e f = absurd (false≢true e)
+notice-cases P Garbled e f = absurd (false≢true e)
 
 module _ (S : Setting) where
   open Setting S using (n, round, keys, checks)
@@ -271,6 +282,34 @@ module _ (S : Setting) where
             ∙ confirms-at-once checks Any (s .layout) (s .signature) (start (t .unit) (t .store)) (z .sound) (fit .lent .storeRoom) (fit .first) (fit .sizedValue) (record { checked = fit .checked; sized = fit .sizedSignature; worthy = tt })
             others (λ seat i. kept-it seat i .0) (ap (λ seat. bit seat others) (z .since .seat ∙ start-seat S u opened) ∙ apart) (λ seat i. kept-it seat i .1) (subst (λ m. k m ≤ size others + 1) (sym size-t) enough)
 
+        unconfirmed : (b : Bool) → t .unit .confirmed ≡ b → b ≡ false
+        unconfirmed true e = absurd (true≢false (sym (confirmed-submitted checks Any (t .unit) (t .store) (at t inList .sound) e) ∙ fit .first))
+        unconfirmed false e = refl
+
+        worth-unconfirmed : worth (t .unit .confirmed) ≡ 0
+        unfolding worth
+        worth-unconfirmed = rw (unconfirmed (t .unit .confirmed) refl)
+
+        -- a NOTICE that this call writes is its own
+        own-notice : (ρ seat : ℕ) (value : List ℕ) → Said (resultOf S t .unit) ρ seat value → Notice ρ seat value ≡ Notice round (u .seat) (s .layout)
+        own-notice ρ seat value g =
+            let z = at t inList in
+            let value-is : resultOf S t .unit .own .value ≡ s .layout = ap (λ (r : Record). r .own .value) result-is ∙ submitted-value checks Any (s .layout) (s .signature) (start (t .unit) (t .store)) (z .sound) (fit .lent .storeRoom) (fit .first) (fit .sizedValue) (record { checked = fit .checked; sized = fit .sizedSignature; worthy = tt }) .1 in
+            let e : ρ ≡ round = g .ofRound ∙ z .after .grows .round ∙ round-is t inList in
+            let f : seat ≡ u .seat = g .ofSeat ∙ z .after .grows .seat ∙ z .since .seat ∙ start-seat S u opened in
+            let h : value ≡ s .layout = g .ofValue ∙ value-is in
+            rw (e, f, h)
+
         -- and the NOTICE of the layout stands in what this call writes
         pub notice-there : StandsIn n (Notice round (u .seat) (s .layout)) (writtenIn S t)
-        notice-there = ?
+        unfolding isNotice
+        notice-there =
+            let z = at t inList in
+            let n-is = count-member (isOf NOTICE) (messages S t) (omega (arith, z .after .counts NOTICE, worth-true (resultOf S t .unit .confirmed) confirmed-there, worth-unconfirmed)) in
+            notice-cases (λ m. List·Memᴰ m (messages S t) → Good checks Any (resultOf S t .unit) m → StandsIn n (Notice round (u .seat) (s .layout)) (writtenIn S t)) (n-is .0) (n-is .2)
+            (λ ρ seat value d g. (messages S t, written-are S u opened Any (any-worthy S list) t inList, subst (λ m. List·Memᴰ m (messages S t)) (own-notice ρ seat value g) d))
+            (n-is .1) (z .after .good (n-is .0) (n-is .1))
+
+        -- so the unit confirms the layout, in the words of `Round`
+        pub confirms-it : Confirms S u (s .layout)
+        confirms-it = (round, u .seat, record { call = t; inList = inList; stands = notice-there })
