@@ -14,15 +14,16 @@ use borrow.Author.Tests.{le-ltb, eq-eqb, not-false}
 use Rattle.quorum.specs.Quorum.{k, bit, has, size, outside}
 use Rattle.quorum.specs.QuorumLaws.{bit-empty, has-false, outside-false}
 use Rattle.refusal.specs.Refusal.{firstOf, unrefused}
-use Rattle.protocol.specs.Layout.{signatureLength, banks, collectedBank, firstBank, keptBank, lengthOfBanks, banksBefore, slotLengthIn, slotLength, storeLength, slotAt, outLength}
+use Rattle.protocol.specs.Layout.{signatureLength, banks, collectedBank, firstBank, keptBank, lengthOfBanks, banksBefore, slotLengthIn, slotLength, storeLength, slotAt, outLength, evidenceOutLength}
 use Rattle.protocol.specs.Message.{Message, Submit, Notice, Full, Evidence, Garbled, read, seatsOf}
-use Rattle.protocol.specs.Certificate.{certificateIn, keptValue, keptSignature}
+use Rattle.protocol.specs.Certificate.{certificateIn, keptValue, keptSignature, conflictOf}
 use Rattle.protocol.specs.Record.{withKept, outOfRange, wrongHeard, namesStranger, wrongCollected, wrongFirst, lacksFirst, wrongGuilty, wrongSent, wrongKept, wrongUnset, impossible}
 use Rattle.protocol.specs.RecordLaws.{possible}
-use Rattle.protocol.specs.Refusals.{Condition, Checks, KEYS, OUT, SAID, GARBLED, GARBLED-OWN, OTHER-ROUND, STRANGER, DISORDER, SIGNATURE, isForStep, shortStore, recordConditions, messageConditions, submitConditions, stepConditions}
+use Rattle.protocol.specs.Refusals.{Condition, Checks, KEYS, OUT, SAID, GARBLED, GARBLED-OWN, OTHER-ROUND, STRANGER, DISORDER, SIGNATURE, NO-CONFLICT-IN, NO-CONFLICT-BETWEEN, isForStep, isFull, isEvidence, shortStore, outsideConditions, recordConditions, messageConditions, certificateConditions, twoConditions, submitConditions, stepConditions, evidenceConditions, makingConditions, lowerConditions}
 use Rattle.protocol.specs.Step.{State, withUnit, write, collect, setOwnValue, submitOwn, isWanted, collectIfWanted, keepIfFirst, hearSubmit, isOpenTo, collectKeptSeat, collectKeptBelow, emptyKept, collectKept, hear, reply, hearCertificate, confirmIfComplete, submitted, stepped}
-use Rattle.protocol.specs.Calls.{Result, resultBy, start, submit, step}
+use Rattle.protocol.specs.Calls.{Result, resultBy, start, submit, step, Making, makingBy, making, checkedBy, evidenceCheck, lowerOf, lowerCertificate}
 use Rattle.protocol.specs.declared.Record.{Record}
+use Rattle.protocol.specs.declared.Checked.{Checked}
 use Rattle.reading.specs.Reading.{Sized}
 use Rattle.reading.specs.ReadingLaws.{read-sized}
 use Rattle.claims.specs.KeptPartLaws.{keptPart, Beside, Aside, aside-refl, submitted-emptied, stepped-late, late-aside, notice-aside, full-aside}
@@ -101,6 +102,26 @@ submitBefore checks keys r store value signature out =
 unfoldable pub stepBefore : Checks → List ℕ → Record → List ℕ → List ℕ → List ℕ → Result
 stepBefore checks keys r store bytes out =
     resultBy (firstOf (stepConditionsBefore checks keys r store (read (r .n) bytes) out)) (steppedBefore (read (r .n) bytes) (start r store)) r store
+
+-- ---- before: the calls without a record, in which no message was early
+
+unfoldable pub evidenceCheckBefore : Checks → ℕ → ℕ → List ℕ → List ℕ → Checked
+evidenceCheckBefore checks n round keys bytes =
+    let m = read n bytes in
+    checkedBy (firstOf (outsideConditions n round keys ++ messageConditionsBefore checks n round (isEvidence m) false m ++ NO-CONFLICT-IN m ∷ [])) m
+
+unfoldable pub twoConditionsBefore : Checks → ℕ → ℕ → Message → Message → List Condition
+twoConditionsBefore checks n round a b =
+    messageConditionsBefore checks n round (isFull a) false a ++ messageConditionsBefore checks n round (isFull b) false b ++ NO-CONFLICT-BETWEEN a b ∷ []
+
+unfoldable pub makingBefore : Checks → ℕ → ℕ → List ℕ → List ℕ → List ℕ → List ℕ → Making
+makingBefore checks n round keys a b out =
+    makingBy (firstOf (outsideConditions n round keys ++ OUT (evidenceOutLength n) out ∷ [] ++ twoConditionsBefore checks n round (read n a) (read n b)))
+    (conflictOf n round (certificateIn (read n a)) (certificateIn (read n b)))
+
+unfoldable pub lowerCertificateBefore : Checks → ℕ → ℕ → List ℕ → List ℕ → List ℕ → List ℕ
+lowerCertificateBefore checks n round keys a b =
+    unrefused (firstOf (outsideConditions n round keys ++ twoConditionsBefore checks n round (read n a) (read n b))) (lowerOf n a b) []
 
 -- ---- the old part of the store
 
@@ -192,6 +213,19 @@ step-as-before checks keys r store bytes out none timely room =
     ap₂ (λ q s. resultBy q s r store)
     (record-as-before r none keys store out _ _ room (message-as-before checks (r .n) (r .round) (isForStep m) (early r m) m timely))
     (stepped-as-before m (start r store) timely)
+
+-- the calls without a record answer as before, whatever they are given
+pub evidence-check-as-before : (checks : Checks) (n round : ℕ) (keys bytes : List ℕ) → evidenceCheck checks n round keys bytes ≡ evidenceCheckBefore checks n round keys bytes
+unfolding evidenceCheck evidenceCheckBefore evidenceConditions outsideConditions messageConditions messageConditionsBefore firstOf
+evidence-check-as-before checks n round keys bytes = refl
+
+pub making-as-before : (checks : Checks) (n round : ℕ) (keys a b out : List ℕ) → making checks n round keys a b out ≡ makingBefore checks n round keys a b out
+unfolding making makingBefore makingConditions twoConditions twoConditionsBefore certificateConditions outsideConditions messageConditions messageConditionsBefore firstOf
+making-as-before checks n round keys a b out = refl
+
+pub lower-certificate-as-before : (checks : Checks) (n round : ℕ) (keys a b : List ℕ) → lowerCertificate checks n round keys a b ≡ lowerCertificateBefore checks n round keys a b
+unfolding lowerCertificate lowerCertificateBefore lowerConditions twoConditions twoConditionsBefore certificateConditions outsideConditions messageConditions messageConditionsBefore firstOf
+lower-certificate-as-before checks n round keys a b = refl
 
 -- ---- the rest of the store: "after the old slots" nothing changes
 

@@ -274,7 +274,7 @@ module _ (S : Setting) where
         result-is = unrefused-result S t (s .unrefused) .1 ∙ ap (λ c. cameTo c (t .unit) (t .store) .unit) (s .carries)
 
         -- it has confirmed
-        pub confirmed-there : resultOf S t .unit .confirmed ≡ true
+        confirmed-there : resultOf S t .unit .confirmed ≡ true
         confirmed-there =
             let z = at t inList in
             let size-t = size-is t inList in
@@ -301,7 +301,7 @@ module _ (S : Setting) where
             rw (e, f, h)
 
         -- and the NOTICE of the layout stands in what this call writes
-        pub notice-there : StandsIn n (Notice round (u .seat) (s .layout)) (writtenIn S t)
+        notice-there : StandsIn n (Notice round (u .seat) (s .layout)) (writtenIn S t)
         unfolding isNotice
         notice-there =
             let z = at t inList in
@@ -313,3 +313,24 @@ module _ (S : Setting) where
         -- so the unit confirms the layout, in the words of `Round`
         pub confirms-it : Confirms S u (s .layout)
         confirms-it = (round, u .seat, record { call = t; inList = inList; stands = notice-there })
+
+-- ---- the claim, whole
+
+-- "a unit that submits after it was given good SUBMITs of the same value by k − 1 or more other seats, in buffers of the stated lengths,
+-- confirms in that very call": where a seat was given more than once, the first counts
+pub confirms-in-that-call : (S : Setting) (u : Honest) → IsOpened S u
+    → (before : List Called) (t : Called) (after : List Called) → listOf S u ≡ before ++ t ∷ after → (s : SubmitsNow S t)
+    → (others : ℕ) → bit (u .seat) others ≡ 0 → k (S .n) ≤ size others + 1 → ((seat : ℕ) → In seat others → FirstIs S seat (s .layout) before)
+    → (resultOf S t .unit .confirmed ≡ true) × StandsIn (S .n) (Notice (S .round) (u .seat) (s .layout)) (writtenIn S t)
+confirms-in-that-call S u opened before t after split s others apart enough given =
+    (confirmed-there S u opened before t after split s others apart enough given, notice-there S u opened before t after split s others apart enough given)
+
+-- the same where these seats were given no good SUBMIT over another layout
+pub confirms-where-none-signs-twice : (S : Setting) (u : Honest) → IsOpened S u
+    → (before : List Called) (t : Called) (after : List Called) → listOf S u ≡ before ++ t ∷ after → (s : SubmitsNow S t)
+    → (others : ℕ) → bit (u .seat) others ≡ 0 → k (S .n) ≤ size others + 1
+    → ((seat : ℕ) → In seat others → ((x : Called) × List·Memᴰ x before × GivesGood S x seat (s .layout)) × Each (λ x. (other : List ℕ) → GivesGood S x seat other → other ≡ s .layout) before)
+    → (resultOf S t .unit .confirmed ≡ true) × StandsIn (S .n) (Notice (S .round) (u .seat) (s .layout)) (writtenIn S t)
+confirms-where-none-signs-twice S u opened before t after split s others apart enough given =
+    confirms-in-that-call S u opened before t after split s others apart enough
+    (λ seat i. let g = given seat i in first-is S seat (s .layout) before (g .0 .0) (g .0 .1) (g .0 .2) (g .1))

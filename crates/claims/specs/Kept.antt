@@ -40,13 +40,9 @@ use Rattle.claims.specs.UnrefusedLaws.{Taken}
 use Rattle.claims.specs.NotRefused.{StepFit, submit-fit, step-fit}
 use Rattle.claims.specs.Units.{any-worthy, startOf, opened-fresh, start-n, stop}
 
-confirmIfComplete-kept : (s : State) → confirmIfComplete s .unit .kept ≡ s .unit .kept
-unfolding confirmIfComplete hearOwn confirm write
-confirmIfComplete-kept s =
-    cond-elim (λ (x : State). x .unit .kept ≡ s .unit .kept) (isComplete (s .unit)) (hearOwn (confirm s)) (reply s)
-    (λ e. hearing-stays (ownCertificate (confirm s .unit) (confirm s .store)) (confirm s) .kept) (λ e. reply-stays s .kept)
+-- ---- before the own submit
 
--- before the own submit nothing is complete, and no FULL is owed
+-- nothing is complete, and no FULL is owed
 confirmIfComplete-quiet : (s : State) → s .unit .confirmed ≡ false → size (s .unit .own .collected) ≢ k (s .unit .n) → confirmIfComplete s ≡ s
 unfolding confirmIfComplete isComplete reply owesFull
 confirmIfComplete-quiet s unconfirmed few =
@@ -248,18 +244,8 @@ module _ (S : Setting) where
 
     -- ---- the claims about one call
 
-    -- "A SUBMIT heard before the own submit is now checked, and the first good one from each seat is kept": after it the seat is kept
-    pub early-kept : (seat : ℕ) (value signature : List ℕ) → Hears t seat value signature → t .unit .own .submitted ≡ false → In seat (resultOf S t .unit .kept)
-    unfolding keepIfFirst keep
-    early-kept seat value signature h unsaid =
-        let came-to : resultOf S t .unit ≡ stepped (read (r .n) (h .bytes)) first .unit = unrefused-result S t (h .unrefused) .1 ∙ ap (λ (s : State). s .unit) (step-is S (t .given) (h .bytes) (h .out) (t .unit) (t .store) (h .isStep) .1) in
-        let kept : resultOf S t .unit .kept ≡ keepIfFirst seat value signature first .unit .kept =
-        ap (λ (x : Record). x .kept) came-to ∙ ap (λ (m : Message). stepped m first .unit .kept) (h .reads)
-        ∙ ap (λ (s : State). s .unit .kept) (stepped-early (r .round) seat value signature first unsaid) ∙ confirmIfComplete-kept (keepIfFirst seat value signature first) in
-        ap (bit seat) kept
-        ∙ cond-elim (λ (s : State). In seat (s .unit .kept)) (has seat (r .kept)) first (keep seat value signature first) (λ e. has-true seat (r .kept) .0 e) (λ e. bit-with-same seat (r .kept))
-
-    -- and nothing else happens: of the record only the seats kept change, of the store only the seat's two slots, and nothing is written
+    -- "A SUBMIT heard before the own submit is now checked, and the first good one from each seat is kept with its value", and nothing
+    -- else happens: of the record only the seats kept change, of the store only the seat's two slots, and nothing is written
     pub early-alone : (seat : ℕ) (value signature : List ℕ) → Hears t seat value signature → t .unit .own .submitted ≡ false
         → resultOf S t ≡ resultBy 0 (keepIfFirst seat value signature (start (t .unit) (t .store))) (t .unit) (t .store)
     early-alone seat value signature h unsaid =
@@ -268,6 +254,13 @@ module _ (S : Setting) where
         outcome-is S (t .given) (t .unit) (t .store)
         ∙ ap₂ (λ q s. resultBy q s (t .unit) (t .store)) (unrefused-result S t (h .unrefused) .0)
         (is .1 ∙ ap (λ (m : Message). stepped m first) (h .reads) ∙ stepped-early (r .round) seat value signature first unsaid ∙ keeping-quiet (t .unit) (t .store) seat value signature (fit .lent .possible) unsaid)
+
+    -- and so the seat is kept
+    pub early-kept : (seat : ℕ) (value signature : List ℕ) → Hears t seat value signature → t .unit .own .submitted ≡ false → In seat (resultOf S t .unit .kept)
+    unfolding keepIfFirst keep resultBy unrefused
+    early-kept seat value signature h unsaid =
+        ap (λ (x : Result). bit seat (x .unit .kept)) (early-alone seat value signature h unsaid)
+        ∙ cond-elim (λ (s : State). In seat (s .unit .kept)) (has seat (r .kept)) first (keep seat value signature first) (λ e. has-true seat (r .kept) .0 e) (λ e. bit-with-same seat (r .kept))
 
     -- "the first good one from each seat is kept": once a seat is kept, no call but the own submit changes its share
     pub kept-stays : (SubmitsNow t → ⊥) → (seat : ℕ) → In seat (t .unit .kept) → AsBefore (t .unit) (t .store) (resultOf S t .unit) (resultOf S t .store) seat
