@@ -8,17 +8,17 @@ use mathlib.Core.Logic.{_⊎_, inl, inr, ⊎-elim}
 use Prim.Native.Nat.{ℕ, zero, suc, _+_, _≤_, _<_}
 use native.Mathlib.Omega.{arith}
 use native.Mathlib.Decide.{ℕ-discrete}
-use lib.Dec.{ltb, eqb}
+use lib.Dec.{ltb}
 use lib.ListN.{length}
-use borrow.Author.Tests.{ltb-true, ltb-false, eq-eqb, not-true, not-false}
+use borrow.Author.Tests.{ltb-true, ltb-false, eq-eqb, not-false}
 use Rattle.octets.specs.Strings.{same}
-use Rattle.octets.specs.StringsLaws.{same-refl, same-true}
+use Rattle.octets.specs.StringsLaws.{same-refl}
 use Rattle.quorum.specs.Quorum.{k, bit, In, has, size, shared, with}
-use Rattle.quorum.specs.QuorumLaws.{bit-cases, bit-lt-two, bit-shared, bit-with-same, bit-with-other, has-true, has-false, same-seats, size-shared-le, size-with-new}
+use Rattle.quorum.specs.QuorumLaws.{bit-cases, bit-shared, bit-with-same, bit-with-other, has-true, same-seats, size-shared-le, size-with-new}
 use Rattle.refusal.specs.RefusalLaws.{both-true}
 use Rattle.protocol.specs.Layout.{valueLength, collectedBank, keptValueBank}
 use Rattle.protocol.specs.LayoutLaws.{collected-bank, kept-value-bank}
-use Rattle.protocol.specs.Certificate.{ownCertificate, slot, fill, keptValue, keptSignature}
+use Rattle.protocol.specs.Certificate.{ownCertificate, fill, keptValue, keptSignature}
 use Rattle.protocol.specs.Refusals.{Checks}
 use Rattle.protocol.specs.Step.{State, write, collect, setOwnValue, submitOwn, isWanted, collectIfWanted, isOpenTo, collectKeptSeat, collectKeptBelow, emptyKept, collectKept, isComplete, confirm, hearOwn, reply, confirmIfComplete, submitted}
 use Rattle.round.specs.Round.{Relation}

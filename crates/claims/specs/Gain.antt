@@ -14,7 +14,7 @@ use Rattle.protocol.specs.Layout.{storeLength, outLength}
 use Rattle.protocol.specs.Message.{Message, Submit, Notice, Full, Evidence, Garbled, read, roundOf, seatsOf, entrySeats, signed}
 use Rattle.protocol.specs.Refusals.{isForStep, rising}
 use Rattle.protocol.specs.Certificate.{keptValue}
-use Rattle.protocol.specs.Step.{State, submitted}
+use Rattle.protocol.specs.Step.{submitted}
 use Rattle.protocol.specs.Calls.{Result, resultBy, start, step}
 use Rattle.protocol.specs.declared.Record.{Record}
 use Rattle.round.specs.Round.{Setting, IsOpened, Each, Relation, Call, BySubmit, ByStep, ByThinEntry, Honest, Called, IsStep, outcome, resultOf, listFrom, listOf, StandsIn, writtenIn, Confirms}
@@ -28,7 +28,7 @@ use Rattle.claims.specs.Whole.{submitted-value}
 use Rattle.claims.specs.UnrefusedLaws.{possible, Taken}
 use Rattle.claims.specs.NotRefused.{Table, StepFit, SubmitFit, submit-fit, step-not-refused}
 use Rattle.claims.specs.Journey.{At, submit-value}
-use Rattle.claims.specs.Units.{any-worthy, startOf, endOf, opened-fit, opened-range, start-n, start-seat, start-round, stop, written-are}
+use Rattle.claims.specs.Units.{any-worthy, startOf, endOf, opened-fit, start-n, start-seat, start-round, stop, written-are}
 use Rattle.claims.specs.Kept.{SubmitsNow, Hears, hears-fit, early-kept, kept-stays, call-does, Of, kept-next, start-none}
 use Rattle.claims.specs.CollectKeptLaws.{confirms-at-once}
 

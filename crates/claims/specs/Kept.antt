@@ -3,7 +3,7 @@
 -- Assumes nothing.
 use mathlib.Core.Path.{_≡_, refl, sym, ap, ap₂, subst, _∙_}
 use mathlib.Core.Bool.{Bool, true, false, cond, not, _&&_, _||_, and-false}
-use mathlib.Core.List.{List, [], _∷_, List·Memᴰ, List·Memᴰ·head, List·Memᴰ·tail, List·Memᴰ·not-nil, List·Memᴰ·cases-cons}
+use mathlib.Core.List.{List, [], _∷_, List·Memᴰ, List·Memᴰ·head, List·Memᴰ·tail}
 use mathlib.Core.Logic.{_⊎_, inl, inr, ⊎-elim, _≢_}
 use Prim.Native.Nat.{ℕ, zero, suc, _≤_, _<_}
 use native.Mathlib.Omega.{arith}
@@ -12,17 +12,17 @@ use lib.Dec.{ltb, eqb}
 use lib.ListN.{length}
 use borrow.Author.Tests.{eqb-true, ne-eqb, not-false}
 use Rattle.quorum.specs.Quorum.{k, bit, In, has, size, with}
-use Rattle.quorum.specs.QuorumLaws.{bit-empty, bit-cases, bit-with-same, bit-with-other, has-true, has-false, size-empty}
+use Rattle.quorum.specs.QuorumLaws.{bit-empty, bit-with-same, bit-with-other, has-true, has-false, size-empty}
 use Rattle.refusal.specs.Refusal.{firstOf, unrefused}
 use Rattle.refusal.specs.RefusalLaws.{both-false}
 use Rattle.protocol.specs.Layout.{valueLength, signatureLength, storeLength, keptBank, keptValueBank, slotLength}
 use Rattle.protocol.specs.LayoutLaws.{kept-bank, kept-value-bank}
 use Rattle.protocol.specs.Message.{Message, Submit, Notice, Full, Evidence, Garbled, Signed, read, signed, seatsOf, roundOf}
-use Rattle.protocol.specs.Certificate.{keptValue, keptSignature, ownCertificate}
+use Rattle.protocol.specs.Certificate.{keptValue, keptSignature}
 use Rattle.protocol.specs.Record.{fresh, outOfRange, wrongHeard, namesStranger, wrongCollected, wrongFirst, lacksFirst, wrongGuilty, wrongSent, wrongKept, wrongUnset, impossible}
 use Rattle.protocol.specs.RecordLaws.{possible}
 use Rattle.protocol.specs.Refusals.{stepConditions}
-use Rattle.protocol.specs.Step.{State, write, keep, keepIfFirst, otherHeard, owesFull, sendFull, reply, isComplete, confirm, hearOwn, confirmIfComplete, stepped}
+use Rattle.protocol.specs.Step.{State, keep, keepIfFirst, otherHeard, owesFull, sendFull, reply, isComplete, confirm, hearOwn, confirmIfComplete, stepped}
 use Rattle.protocol.specs.Calls.{Result, resultBy, start}
 use Rattle.protocol.specs.declared.Record.{Record}
 use Rattle.round.specs.Round.{Setting, IsOpened, Call, BySubmit, ByStep, ByThinEntry, Honest, Called, IsStep, Each, EachSigned, Relation, outcome, resultOf, listFrom, listOf, Delivered}
@@ -33,9 +33,8 @@ use Rattle.reading.specs.Messages.{refusalOf, cameTo}
 use Rattle.reading.specs.MessagesLaws.{outcome-is, step-is, unrefused-result}
 use Rattle.claims.specs.Sound.{Any}
 use Rattle.claims.specs.SlotsLaws.{kept-long, kept-value-same, kept-signature-same, kept-aside}
-use Rattle.claims.specs.KeptPartLaws.{Beside, Aside, Emptied, kept-value-beside, kept-signature-beside, confirmIfComplete-aside, submitted-emptied, stepped-early, late-aside, notice-aside, full-aside, aside-refl}
+use Rattle.claims.specs.KeptPartLaws.{Aside, kept-value-beside, kept-signature-beside, confirmIfComplete-aside, submitted-emptied, stepped-early, late-aside, notice-aside, full-aside, aside-refl}
 use Rattle.claims.specs.Parts.{k-pos, in-below}
-use Rattle.claims.specs.Whole.{reply-stays, hearing-stays}
 use Rattle.claims.specs.UnrefusedLaws.{Taken}
 use Rattle.claims.specs.NotRefused.{StepFit, submit-fit, step-fit}
 use Rattle.claims.specs.Units.{any-worthy, startOf, opened-fresh, start-n, stop}

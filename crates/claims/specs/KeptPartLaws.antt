@@ -15,14 +15,13 @@ use Rattle.quorum.specs.Quorum.{seats}
 use Rattle.quorum.specs.QuorumLaws.{mem-seats}
 use Rattle.protocol.specs.Layout.{signatureLength, banks, collectedBank, firstBank, keptBank, keptValueBank, lengthOfBanks, banksBefore, slotLengthIn, slotLength, storeLength, slotAt}
 use Rattle.protocol.specs.LayoutLaws.{collected-bank, kept-bank}
-use Rattle.protocol.specs.Message.{Entry, Message, Submit, Notice, Full, Evidence, Garbled, fullForm}
+use Rattle.protocol.specs.Message.{Entry, Submit, Notice, Full, fullForm}
 use Rattle.protocol.specs.Entries.{Laid}
 use Rattle.protocol.specs.Certificate.{Certificate, slot, fill, fillEach, keptValue, keptSignature, ownCertificate, signatureOf, certificateOf, certificateIn}
 use Rattle.protocol.specs.Record.{holds}
 use Rattle.protocol.specs.Step.{State, write, collect, setOwnValue, submitOwn, isWanted, collectIfWanted, keepIfFirst, hearSubmit, isOpenTo, collectKeptSeat, collectKeptBelow, emptyKept, collectKept, hear, owesFull, sendFull, reply, hold, blame, blames, holdOrBlame, hearCertificate, isComplete, confirm, hearOwn, confirmIfComplete, submitted, stepped}
 use Rattle.round.specs.Round.{Each}
 use Rattle.reading.specs.ListsLaws.{cond-elim}
-use Rattle.reading.specs.Reading.{Sized}
 use Rattle.claims.specs.Sound.{Room}
 
 -- ---- the kept part
