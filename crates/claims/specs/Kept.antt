@@ -32,8 +32,8 @@ use Rattle.reading.specs.ReadingLaws.{read-sized}
 use Rattle.reading.specs.Messages.{refusalOf, cameTo}
 use Rattle.reading.specs.MessagesLaws.{outcome-is, step-is, unrefused-result}
 use Rattle.claims.specs.Sound.{Any}
-use Rattle.claims.specs.SlotsLaws.{kept-long, kept-value-same, kept-signature-same, kept-aside}
-use Rattle.claims.specs.KeptPartLaws.{Aside, kept-value-beside, kept-signature-beside, confirmIfComplete-aside, submitted-emptied, stepped-early, late-aside, notice-aside, full-aside, aside-refl}
+use Rattle.claims.specs.SlotsLaws.{kept-value-same, kept-signature-same, kept-aside}
+use Rattle.claims.specs.KeptPartLaws.{Aside, kept-value-beside, kept-signature-beside, submitted-emptied, stepped-early, late-aside, notice-aside, full-aside, aside-refl}
 use Rattle.claims.specs.Parts.{k-pos, in-below}
 use Rattle.claims.specs.UnrefusedLaws.{Taken}
 use Rattle.claims.specs.NotRefused.{StepFit, submit-fit, step-fit}
@@ -45,7 +45,6 @@ use Rattle.claims.specs.Units.{any-worthy, startOf, opened-fresh, start-
 confirmIfComplete-quiet : (s : State) → s .unit .confirmed ≡ false → size (s .unit .own .collected) ≢ k (s .unit .n) → confirmIfComplete s ≡ s
 unfolding confirmIfComplete isComplete reply owesFull
 confirmIfComplete-quiet s unconfirmed few =
-    let c = eqb (size (s .unit .own .collected)) (k (s .unit .n)) in
     ap (λ (b : Bool). cond (not (s .unit .confirmed) && b) (hearOwn (confirm s)) (reply s)) (ne-eqb (size (s .unit .own .collected)) (k (s .unit .n)) few)
     ∙ ap (λ (b : Bool). cond b (hearOwn (confirm s)) (reply s)) (and-false (not (s .unit .confirmed)))
     ∙ ap (λ (b : Bool). cond (b && not (s .unit .sent) && otherHeard (s .unit)) (sendFull s) s) unconfirmed
@@ -160,34 +159,33 @@ module _ (S : Setting) where
       room = fit .lent .storeRoom
 
       early-does : (seat : ℕ) (value signature : List ℕ) → read (r .n) bytes ≡ Submit (r .round) seat value signature → seat < r .n → length value ≡ valueLength → length signature ≡ signatureLength → r .own .submitted ≡ false
-          → Does t (came (confirmIfComplete (keepIfFirst seat value signature first)))
+          → Does t (came (keepIfFirst seat value signature first))
       unfolding keepIfFirst keep resultBy unrefused
       early-does seat value signature reads inside v g unsaid =
-          cond-elim (λ u. Does t (came (confirmIfComplete u))) (has seat (r .kept)) first (keep seat value signature first)
-          (λ e. aside-does (confirmIfComplete first) (confirmIfComplete-aside first room))
+          cond-elim (λ u. Does t (came u)) (has seat (r .kept)) first (keep seat value signature first)
+          (λ e. aside-does first (aside-refl first))
           (λ e.
-          let n = r .n in
-          let u = keep seat value signature first in
           let wide : length signature ≡ slotLength keptBank = g ∙ sym (kept-bank .1) in
-          let long = kept-long n seat value signature (t .store) inside room v wide in
-          let a = confirmIfComplete-aside u (rw long room) in
-          let values = kept-value-beside n (u .store) (confirmIfComplete u .store) (a .beside) in
-          let signatures = kept-signature-beside n (u .store) (confirmIfComplete u .store) (a .beside) in
-          let value-is : keptValue n (confirmIfComplete u .store) seat ≡ value = values seat ∙ kept-value-same n seat value signature (t .store) inside room v wide in
-          let signature-is : keptSignature n (confirmIfComplete u .store) seat ≡ signature = signatures seat ∙ kept-signature-same n seat value signature (t .store) inside room v wide in
-          let aside = kept-aside n seat value signature (t .store) inside room v wide in
-          (a .n, inr (inr (seat, record {
-            early = unsaid;
-            new = has-false seat (r .kept) .0 e;
-            inside = inside;
-            kept = a .kept;
-            hears = record { bytes = bytes; out = out; isStep = is; reads = rw (value-is, signature-is) reads; unrefused = passes };
-            others = λ other l d. record {
-              kept = ap (bit other) (a .kept) ∙ bit-with-other other seat (r .kept) d;
-              value = values other ∙ aside keptValueBank other (kept-value-bank .0) l (λ _ q. d (sym q)) (λ q _. omega arith);
-              signature = signatures other ∙ aside keptBank other (kept-bank .0) l (λ q _. omega arith) (λ _ q. d (sym q));
-            };
-          }))))
+          let value-is = kept-value-same (r .n) seat value signature (t .store) inside room v wide in
+          let signature-is = kept-signature-same (r .n) seat value signature (t .store) inside room v wide in
+          let aside = kept-aside (r .n) seat value signature (t .store) inside room v wide in (
+            refl,
+            inr (inr (
+              seat,
+              record {
+                early = unsaid;
+                new = has-false seat (r .kept) .0 e;
+                inside = inside;
+                kept = refl;
+                hears = record { bytes = bytes; out = out; isStep = is; reads = rw (value-is, signature-is) reads; unrefused = passes };
+                others = λ other l d. record {
+                  kept = bit-with-other other seat (r .kept) d;
+                  value = aside keptValueBank other (kept-value-bank .0) l (λ _ q. d (sym q)) (λ q _. omega arith);
+                  signature = aside keptBank other (kept-bank .0) l (λ q _. omega arith) (λ _ q. d (sym q));
+                };
+              },
+            )),
+          ))
 
       heard-does : (m : Message) → read (r .n) bytes ≡ m → Taken checks (r .n) (r .round) m → Sized (r .n) m → Does t (came (stepped m first))
       unfolding stepped roundOf seatsOf
@@ -196,7 +194,7 @@ module _ (S : Setting) where
           go : (b : Bool) → r .own .submitted ≡ b → Does t (came (stepped (Submit ρ seat value signature) first))
           go true said = aside-does (stepped (Submit ρ seat value signature) first) (late-aside first room ρ seat value signature said (taken .inside seat (List·Memᴰ·head refl)) (omega (arith, sized .1)))
           go false unsaid =
-              subst (λ s. Does t (came s)) (sym (stepped-early ρ seat value signature first unsaid))
+              subst (λ s. Does t (came s)) (sym (stepped-early ρ seat value signature first unsaid ∙ keeping-quiet (t .unit) (t .store) seat value signature (fit .lent .possible) unsaid))
               (early-does seat value signature (reads ∙ ap (λ i. Submit i seat value signature) (taken .inRound)) (taken .inside seat (List·Memᴰ·head refl)) (sized .0) (sized .1) unsaid)
       heard-does (Notice ρ seat value) reads taken sized = aside-does (stepped (Notice ρ seat value) first) (notice-aside first room ρ seat value)
       heard-does (Full ρ sender value es) reads taken sized = aside-does (stepped (Full ρ sender value es) first) (full-aside first room ρ sender value es (sized .2))
@@ -222,6 +220,7 @@ module _ (S : Setting) where
     by-number zero s f = f refl
     by-number (suc q) s f = refused-does q s
 
+    -- every call does one of the three, with any record and store
     pub call-does : Does t (resultOf S t)
     unfolding resultBy
     call-does =

@@ -216,7 +216,7 @@ unfolding hearOwn ownCertificate
 hearOwn-aside s room =
     hearCertificate-aside (ownCertificate (s .unit) (s .store)) (λ t. slot-short (s .unit .n) collectedBank (s .store) t (collected-bank .1)) s room
 
-pub confirmIfComplete-aside : (s : State) → Room s → Aside s (confirmIfComplete s)
+confirmIfComplete-aside : (s : State) → Room s → Aside s (confirmIfComplete s)
 unfolding confirmIfComplete
 confirmIfComplete-aside s room =
     let c = confirm-aside s in
