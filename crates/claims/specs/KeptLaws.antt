@@ -16,6 +16,7 @@ use Rattle.refusal.specs.RefusalLaws.{both-true}
 use Rattle.protocol.specs.Layout.{valueLength, banks, slotLength, collectedBank, firstBank, keptBank, keptValueBank}
 use Rattle.protocol.specs.LayoutLaws.{collected-bank, first-bank, kept-bank, kept-value-bank}
 use Rattle.protocol.specs.Certificate.{slot, keptValue, keptSignature, fillKept}
+use Rattle.protocol.specs.Record.{withKept}
 use Rattle.protocol.specs.Refusals.{Checks}
 use Rattle.protocol.specs.Step.{State, collect, isWanted, collectIfWanted, keep, isOpenTo, collectKeptSeat, collectKeptBelow, emptyKept, collectKept}
 use Rattle.round.specs.Round.{Relation}
@@ -25,6 +26,17 @@ use Rattle.claims.specs.Sound.{Room, Attested, Sound, Leads}
 use Rattle.claims.specs.Parts.{in-below, same-flags, leads-quiet, leads-trans, leads-refl, room-leads, collection-like, holding-like, collect-leads}
 
 module _ (checks : Checks) (W : Relation) where
+  -- ---- other kept seats
+
+  other-kept-leads : (s : State) (kept : ℕ) (store′ : List ℕ) → Sound checks W (withKept (s .unit) kept) store′ → length store′ ≡ length (s .store)
+      → Leads checks W s (record { unit = withKept (s .unit) kept; store = store′; written = s .written })
+  other-kept-leads s kept store′ sound long =
+      let r = s .unit in
+      leads-quiet checks W s (record { unit = withKept r kept; store = store′; written = s .written }) sound long
+      (record { n = refl; seat = refl; round = refl; said = λ e. (e, refl); heard = λ v h. h; held = λ v h. h })
+      refl
+      (same-flags r (withKept r kept) refl refl refl refl)
+
   -- ---- a SUBMIT kept
 
   module _ (seat : ℕ) (value signature : List ℕ) (s : State) (z : Sound checks W (s .unit) (s .store)) (room : Room s) (inside : seat < s .unit .n) (v : length value ≡ valueLength) (g : Attested checks W seat value signature) where
@@ -55,7 +67,7 @@ module _ (checks : Checks) (W : Relation) where
     unfolding keep
     keep-leads =
         let r = s .unit in
-        leads-quiet checks W s (keep seat value signature s)
+        other-kept-leads s (with seat (r .kept)) store′
         (record {
           range = z .range;
           own = record {
@@ -69,9 +81,6 @@ module _ (checks : Checks) (W : Relation) where
           kept = record { below = with-lt n seat (r .kept) inside (z .kept .below); attested = keeping-with };
         })
         (kept-long n seat value signature (s .store) inside room v wide)
-        (record { n = refl; seat = refl; round = refl; said = λ e. (e, refl); heard = λ x h. h; held = λ x h. h })
-        refl
-        (same-flags r (keep seat value signature s .unit) refl refl refl refl)
 
   -- ---- kept ones collected
 
@@ -79,7 +88,7 @@ module _ (checks : Checks) (W : Relation) where
     emptyKept-leads : Leads checks W s (emptyKept s)
     unfolding emptyKept
     emptyKept-leads =
-        leads-quiet checks W s (emptyKept s)
+        other-kept-leads s 0 (s .store)
         (record {
           range = z .range;
           own = z .own;
@@ -89,9 +98,6 @@ module _ (checks : Checks) (W : Relation) where
           kept = record { below = pow-pos (s .unit .n); attested = λ t i. absurd (omega (arith, bit-empty t)) };
         })
         refl
-        (record { n = refl; seat = refl; round = refl; said = λ e. (e, refl); heard = λ x h. h; held = λ x h. h })
-        refl
-        (same-flags (s .unit) (emptyKept s .unit) refl refl refl refl)
 
     seat-leads : (seat : ℕ) → Room s → s .unit .own .submitted ≡ true → seat < s .unit .n → Leads checks W s (collectKeptSeat seat s)
     unfolding collectKeptSeat collectIfWanted isOpenTo

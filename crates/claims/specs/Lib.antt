@@ -4,8 +4,8 @@
 -- demand 3 are at the end of `Safe` and of `Blamed`, and the claim about evidence made from two certificates is at the end of `Made`.
 -- Crate `examples` has rounds in which their premises hold.
 --
--- `Sound` has the invariant of record and store along a list; `Parts` and `Whole` prove it for the parts of a step and for a whole
--- step, `Journey` and `Units` for a list. The files named `..Laws` have laws for these.
+-- `Sound` has the invariant of record and store along a list; `Parts` and `KeptLaws` prove it for the parts of a step, `Whole`
+-- for a whole step, `Journey` and `Units` for a list. The files named `..Laws` have laws for these.
 
 pub mod SlotsLaws
 pub mod Sound

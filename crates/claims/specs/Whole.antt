@@ -85,18 +85,25 @@ collect-held : (seat : ℕ) (signature : List ℕ) (s : State) → (s .unit .con
 unfolding collect
 collect-held seat signature s held e = held e
 
-collect-emptied : (seat : ℕ) (signature : List ℕ) (s : State) → (s .unit .own .submitted ≡ true → s .unit .kept ≡ 0) → collect seat signature s .unit .own .submitted ≡ true → collect seat signature s .unit .kept ≡ 0
-unfolding collect
-collect-emptied seat signature s emptied e = emptied e
-
 keep-held : (seat : ℕ) (value signature : List ℕ) (s : State) → (s .unit .confirmed ≡ true → Held (s .unit .own .value) (s .unit))
     → keep seat value signature s .unit .confirmed ≡ true → Held (keep seat value signature s .unit .own .value) (keep seat value signature s .unit)
 unfolding keep
 keep-held seat value signature s held e = held e
 
-keep-said : (seat : ℕ) (value signature : List ℕ) (s : State) → keep seat value signature s .unit .own .submitted ≡ s .unit .own .submitted
+-- after a submission no seat is kept
+abbrev NoneKept : Record → Type 0
+NoneKept r = r .own .submitted ≡ true → r .kept ≡ 0
+
+none-stays : (r r′ : Record) → Stays r r′ → NoneKept r → NoneKept r′
+none-stays r r′ t none e = t .kept ∙ none (sym (ap (λ o. o .submitted) (t .own)) ∙ e)
+
+collect-none : (seat : ℕ) (signature : List ℕ) (s : State) → NoneKept (s .unit) → NoneKept (collect seat signature s .unit)
+unfolding collect
+collect-none seat signature s none = none
+
+keep-none : (seat : ℕ) (value signature : List ℕ) (s : State) → s .unit .own .submitted ≡ false → NoneKept (keep seat value signature s .unit)
 unfolding keep
-keep-said seat value signature s = refl
+keep-none seat value signature s unsaid e = absurd (true≢false (sym e ∙ unsaid))
 
 module _ (checks : Checks) (W : Relation) where
   -- ---- a certificate heard
@@ -130,12 +137,12 @@ module _ (checks : Checks) (W : Relation) where
 
   -- a record stays settled where own value, collected seats, confirmed and kept seats stay
   settled-stays : (r r′ : Record) → Grows r r′ → Stays r r′ → owesFull r′ ≡ false → (size (r .own .collected) ≡ k (r .n) → r .confirmed ≡ true) → (r .confirmed ≡ true → Held (r .own .value) r)
-      → (r .own .submitted ≡ true → r .kept ≡ 0) → Settled r′
-  settled-stays r r′ g t owes complete held emptied = record {
+      → NoneKept r → Settled r′
+  settled-stays r r′ g t owes complete held none = record {
     complete = λ e. t .confirmed ∙ complete (sym (ap (λ o. size (o .collected)) (t .own)) ∙ e ∙ ap k (g .n));
     holds = λ e. rw (t .own) (g .held (r .own .value) (held (sym (t .confirmed) ∙ e)));
     owes = owes;
-    emptied = λ e. t .kept ∙ emptied (sym (ap (λ o. o .submitted) (t .own)) ∙ e);
+    emptied = none-stays r r′ t none;
   }
 
   module _ (s : State) (z : Sound checks W (s .unit) (s .store)) (room : Room s) where
@@ -180,21 +187,13 @@ module _ (checks : Checks) (W : Relation) where
     unfolding confirm write
     confirm-confirmed = refl
 
-    confirm-kept : confirm s .unit .kept ≡ s .unit .kept
+    confirm-none : NoneKept (s .unit) → NoneKept (confirm s .unit)
     unfolding confirm write
-    confirm-kept = refl
+    confirm-none none = none
 
-    confirm-said : confirm s .unit .own .submitted ≡ s .unit .own .submitted
-    unfolding confirm write
-    confirm-said = refl
-
-    -- "then the kept seats are empty" in the state that the call may confirm in
-    abbrev Emptied : Type 0
-    Emptied = s .unit .own .submitted ≡ true → s .unit .kept ≡ 0
-
-    confirmed-done : isComplete (s .unit) ≡ true → Emptied → Done s (hearOwn (confirm s))
+    confirmed-done : isComplete (s .unit) ≡ true → NoneKept (s .unit) → Done s (hearOwn (confirm s))
     unfolding hearOwn ownCertificate
-    confirmed-done e emptied =
+    confirmed-done e none =
         let t = confirm s in
         let c = ownCertificate (t .unit) (t .store) in
         let a = confirm-leads e in
@@ -208,23 +207,29 @@ module _ (checks : Checks) (W : Relation) where
             complete = λ q. stays .confirmed ∙ confirm-confirmed;
             holds = λ q. rw (stays .own) (hearing-held c t (a .sound) roomy y);
             owes = hearing-owes c t;
-            emptied = λ q. stays .kept ∙ confirm-kept ∙ emptied (sym (ap (λ o. o .submitted) (stays .own) ∙ confirm-said) ∙ q);
+            emptied = none-stays (t .unit) (hearOwn t .unit) stays (confirm-none none);
           };
         }
 
-    unconfirmed-done : isComplete (s .unit) ≡ false → (s .unit .confirmed ≡ true → Held (s .unit .own .value) (s .unit)) → Emptied → Done s (reply s)
+    unconfirmed-done : isComplete (s .unit) ≡ false → (s .unit .confirmed ≡ true → Held (s .unit .own .value) (s .unit)) → NoneKept (s .unit) → Done s (reply s)
     unfolding isComplete
-    unconfirmed-done e held emptied =
+    unconfirmed-done e held none =
         let r = s .unit in
         let a = reply-leads checks W s z in
         let complete : size (r .own .collected) ≡ k (r .n) → r .confirmed ≡ true =
         λ q. ⊎-elim (not-false (r .confirmed)) (λ p. absurd (eqb-false (size (r .own .collected)) (k (r .n)) p q)) (and-false-either (not (r .confirmed)) (eqb (size (r .own .collected)) (k (r .n))) e) in
-        record { leads = a; settled = settled-stays r (reply s .unit) (a .grows) (reply-stays s) (reply-owes s) complete held emptied }
+        record { leads = a; settled = settled-stays r (reply s .unit) (a .grows) (reply-stays s) (reply-owes s) complete held none }
 
-    confirmIfComplete-done : (s .unit .confirmed ≡ true → Held (s .unit .own .value) (s .unit)) → Emptied → Done s (confirmIfComplete s)
+    confirmIfComplete-done : (s .unit .confirmed ≡ true → Held (s .unit .own .value) (s .unit)) → NoneKept (s .unit) → Done s (confirmIfComplete s)
     unfolding confirmIfComplete
-    confirmIfComplete-done held emptied =
-        cond-elim (Done s) (isComplete (s .unit)) (hearOwn (confirm s)) (reply s) (λ e. confirmed-done e emptied) (λ e. unconfirmed-done e held emptied)
+    confirmIfComplete-done held none =
+        cond-elim (Done s) (isComplete (s .unit)) (hearOwn (confirm s)) (reply s) (λ e. confirmed-done e none) (λ e. unconfirmed-done e held none)
+
+  -- a part of a call, and then the confirmation where k seats are collected
+  then-done : (s s′ : State) → Leads checks W s s′ → Room s → (s′ .unit .confirmed ≡ true → Held (s′ .unit .own .value) (s′ .unit)) → NoneKept (s′ .unit) → Done s (confirmIfComplete s′)
+  then-done s s′ a room held none =
+      let b = confirmIfComplete-done s′ (a .sound) (room-leads checks W s s′ a room) held none in
+      record { leads = leads-trans checks W s s′ (confirmIfComplete s′) a (b .leads); settled = b .settled }
 
   -- ---- submit and step
 
@@ -232,36 +237,31 @@ module _ (checks : Checks) (W : Relation) where
     abbrev own : State
     own = submitOwn value signature s
 
-    submitOwn-said : (own .unit .own .submitted ≡ true) × (own .unit .own .value ≡ value)
-    unfolding submitOwn write collect setOwnValue
-    submitOwn-said = (refl, refl)
-
     own-leads : Leads checks W s own
     own-leads = submitOwn-leads checks W value signature s z room unsaid sized g
 
-    taken-up-leads : Leads checks W own (collectKept own)
-    taken-up-leads = collectKept-leads checks W own (own-leads .sound) (room-leads checks W s own own-leads room) (submitOwn-said .0)
+    own-room : Room own
+    own-room = room-leads checks W s own own-leads room
 
-    all-leads : Leads checks W s (collectKept own)
-    all-leads = leads-trans checks W s own (collectKept own) own-leads taken-up-leads
+    own-said : own .unit .own .submitted ≡ true
+    unfolding submitOwn write collect setOwnValue
+    own-said = refl
 
     unconfirmed : collectKept own .unit .confirmed ≡ true → ⊥
     unconfirmed q =
         true≢false (sym (confirmed-submitted checks W (s .unit) (s .store) z (sym (collectKept-confirmed own ∙ submitOwn-confirmed value signature s) ∙ q)) ∙ unsaid)
 
-    all-done : Done (collectKept own) (submitted value signature s)
+    own-done : Done own (submitted value signature s)
     unfolding submitted
-    all-done = confirmIfComplete-done (collectKept own) (all-leads .sound) (room-leads checks W s (collectKept own) all-leads room) (λ q. absurd (unconfirmed q)) (λ q. collectKept-emptied own)
+    own-done = then-done own (collectKept own) (collectKept-leads checks W own (own-leads .sound) own-room own-said) own-room (λ q. absurd (unconfirmed q)) (λ q. collectKept-emptied own)
 
     pub submitted-done : Done s (submitted value signature s)
-    submitted-done =
-        record { leads = leads-trans checks W s (collectKept own) (submitted value signature s) all-leads (all-done .leads); settled = all-done .settled }
+    submitted-done = record { leads = leads-trans checks W s own (submitted value signature s) own-leads (own-done .leads); settled = own-done .settled }
 
     -- "the value kept"
     pub submitted-value : (submitted value signature s .unit .own .submitted ≡ true) × (submitted value signature s .unit .own .value ≡ value)
-    submitted-value =
-        let still = leads-trans checks W own (collectKept own) (submitted value signature s) taken-up-leads (all-done .leads) .grows .said (submitOwn-said .0) in
-        (still .0, still .1 ∙ submitOwn-said .1)
+    unfolding submitOwn write collect setOwnValue
+    submitted-value = own-done .leads .grows .said refl
 
   -- facts about a message that a step doesn't refuse
   abbrev pub Brings : Record → Message → Type 0
@@ -277,10 +277,7 @@ module _ (checks : Checks) (W : Relation) where
     unfolding collectIfWanted
     wanted-done seat value signature submitted inside g =
         cond-elim (λ x. Done s (confirmIfComplete x)) (isWanted seat value (s .unit)) (collect seat signature s) s
-        (λ w.
-        let a = collect-leads checks W seat value signature s z room w submitted (e .complete) inside g in
-        let b = confirmIfComplete-done (collect seat signature s) (a .sound) (room-leads checks W s (collect seat signature s) a room) (collect-held seat signature s (e .holds)) (collect-emptied seat signature s (e .emptied)) in
-        record { leads = leads-trans checks W s (collect seat signature s) (confirmIfComplete (collect seat signature s)) a (b .leads); settled = b .settled })
+        (λ w. then-done s (collect seat signature s) (collect-leads checks W seat value signature s z room w submitted (e .complete) inside g) room (collect-held seat signature s (e .holds)) (collect-none seat signature s (e .emptied)))
         (λ w. confirmIfComplete-done s z room (e .holds) (e .emptied))
 
     -- and one heard before it
@@ -290,10 +287,7 @@ module _ (checks : Checks) (W : Relation) where
     early-done seat value signature unsaid inside sized g =
         cond-elim (λ x. Done s (confirmIfComplete x)) (has seat (s .unit .kept)) s (keep seat value signature s)
         (λ h. confirmIfComplete-done s z room (e .holds) (e .emptied))
-        (λ h.
-        let a = keep-leads checks W seat value signature s z room inside sized g in
-        let b = confirmIfComplete-done (keep seat value signature s) (a .sound) (room-leads checks W s (keep seat value signature s) a room) (keep-held seat value signature s (e .holds)) (λ q. absurd (true≢false (sym q ∙ keep-said seat value signature s ∙ unsaid))) in
-        record { leads = leads-trans checks W s (keep seat value signature s) (confirmIfComplete (keep seat value signature s)) a (b .leads); settled = b .settled })
+        (λ h. then-done s (keep seat value signature s) (keep-leads checks W seat value signature s z room inside sized g) room (keep-held seat value signature s (e .holds)) (keep-none seat value signature s unsaid))
 
     hearSubmit-done : (seat : ℕ) (value signature : List ℕ) → seat < s .unit .n → length value ≡ valueLength → Attested checks W seat value signature → Done s (confirmIfComplete (hearSubmit seat value signature s))
     unfolding hearSubmit

@@ -1,6 +1,6 @@
 -- Small runs of whole calls, computed.
 -- Assumes nothing.
-use Prim.Native.Nat.{ℕ, _-_}
+use Prim.Native.Nat.{ℕ, _-_, _*_}
 use mathlib.Core.Bool.{Bool, true, false, not, _&&_}
 use mathlib.Core.List.{List, [], _∷_, _++_}
 use lib.Dec.{T, eqb}
@@ -10,7 +10,7 @@ use Rattle.octets.specs.Strings.{same}
 use Rattle.protocol.specs.Layout.{signatureLength, storeLength, outLength, evidenceOutLength}
 use Rattle.protocol.specs.Message.{Entry, Pair, PairValues, Message, Submit, Notice, Full, Evidence, render, renderAll}
 use Rattle.protocol.specs.declared.Record.{Record}
-use Rattle.protocol.specs.Record.{withOwn, withConfirmed, withNotices, withFirst, withSent, withGuilty, fresh, zeros, impossible}
+use Rattle.protocol.specs.Record.{withOwn, withConfirmed, withNotices, withFirst, withSent, withGuilty, withKept, fresh, zeros, impossible}
 use Rattle.protocol.specs.Step.{submitted}
 use Rattle.protocol.specs.Calls.{opening, Result, submit, step, making, made, evidenceCheck, lowerCertificate}
 use Rattle.trials.specs.Toy.{unfolded, toy, layout, sign, keys, submitBy, entryBy, fullBy}
@@ -109,6 +109,86 @@ noticeFirst-run : T noticeFirst
 unfolding noticeFirst
 noticeFirst-run = tt
 
+-- ---- SUBMITs heard before the own submit
+
+-- slots that no call has written
+abbrev unwritten : ℕ → List ℕ
+unwritten slots = replicate (slots * signatureLength) 1
+
+-- two kept SUBMITs of the own value are collected at the own submit, and the unit confirms in that very call; then none is kept
+keptConfirm : Bool
+unfolding unfolded
+keptConfirm =
+    let a = hears (opened 4) (submitBy 3 7) in
+    let b = hears a (submitBy 1 7) in
+    let c = submits b 7 in
+    let collected = sign 0 7 ++ sign 1 7 ++ unwritten 1 ++ sign 3 7 in
+    let kept = unwritten 1 ++ sign 1 7 ++ unwritten 1 ++ sign 3 7 ++ layout 1 ++ layout 7 ++ layout 1 ++ layout 7 in
+    writes a []
+    && eqb (a .unit .kept) 8
+    && writes b []
+    && eqb (b .unit .kept) 10
+    && not (b .unit .own .submitted)
+    && same (b .store) (unwritten 8 ++ kept)
+    && writes c (submitBy 0 7 ∷ Notice 5 0 (layout 7) ∷ [])
+    && c .unit .confirmed
+    && eqb (c .unit .own .collected) 11
+    && eqb (c .unit .first .seats) 11
+    && eqb (c .unit .kept) 0
+    && same (c .store) (collected ++ collected ++ kept)
+
+keptConfirm-run : T keptConfirm
+unfolding keptConfirm
+keptConfirm-run = tt
+
+-- a kept SUBMIT of another value, and the own seat's, are passed over; that seat's signature over the own value is collected later
+keptPassedOver : Bool
+unfolding unfolded
+keptPassedOver =
+    let a = hears (hears (hears (opened 4) (submitBy 0 7)) (submitBy 1 9)) (submitBy 2 7) in
+    let b = submits a 7 in
+    let c = hears b (submitBy 1 7) in
+    eqb (a .unit .kept) 7
+    && writes b (submitBy 0 7 ∷ [])
+    && eqb (b .unit .own .collected) 5
+    && eqb (b .unit .kept) 0
+    && writes c (Notice 5 0 (layout 7) ∷ [])
+    && eqb (c .unit .own .collected) 7
+
+keptPassedOver-run : T keptPassedOver
+unfolding keptPassedOver
+keptPassedOver-run = tt
+
+-- more are kept than k needs: those of the lowest seats are collected
+keptLowest : Bool
+unfolding unfolded
+keptLowest =
+    let a = hears (hears (hears (opened 4) (submitBy 3 7)) (submitBy 2 7)) (submitBy 1 7) in
+    let b = submits a 7 in
+    eqb (a .unit .kept) 14
+    && writes b (submitBy 0 7 ∷ Notice 5 0 (layout 7) ∷ [])
+    && eqb (b .unit .own .collected) 7
+    && eqb (b .unit .kept) 0
+
+keptLowest-run : T keptLowest
+unfolding keptLowest
+keptLowest-run = tt
+
+-- a second early SUBMIT of a seat is checked and changes nothing
+keptOnce : Bool
+unfolding unfolded
+keptOnce =
+    let a = hears (opened 4) (submitBy 1 7) in
+    let b = hears a (submitBy 1 9) in
+    writes b []
+    && eqb (b .unit .kept) 2
+    && same (b .store) (a .store)
+    && refuses (hears a (Submit 5 1 (layout 9) (sign 1 7))) 14
+
+keptOnce-run : T keptOnce
+unfolding keptOnce
+keptOnce-run = tt
+
 -- ---- two certificates of four seats: NOTICE, FULL and EVIDENCE in one call
 
 abbrev pairBy : ℕ → ℕ → ℕ → Pair
@@ -141,6 +221,19 @@ conflict =
 conflict-run : T conflict
 unfolding conflict
 conflict-run = tt
+
+-- the unit holds a certificate of the layout 9 and keeps two SUBMITs of the layout 7: its submit writes all four messages
+keptConflict : Bool
+unfolding unfolded
+keptConflict =
+    let a = hears (hears (hears (opened 4) (fullBy 9 1 2 3)) (submitBy 1 7)) (submitBy 2 7) in
+    let b = submits a 7 in
+    writes b (submitBy 0 7 ∷ Notice 5 0 (layout 7) ∷ fullBy 7 0 1 2 ∷ evidenceBoth ∷ [])
+    && eqb (b .unit .guilty) 6
+
+keptConflict-run : T keptConflict
+unfolding keptConflict
+keptConflict-run = tt
 
 -- a certificate heard after confirming is answered by FULL and EVIDENCE, whichever value is lower; one of the held value,
 -- by other seats, by nothing; two before the own submit, by EVIDENCE alone
@@ -219,6 +312,7 @@ possibles =
     && not (impossible (ownWith true (layout 0) 3))
     && not (impossible (heardWith 1 (layout 0)))
     && not (impossible (firstWith (layout 0) 14))
+    && not (impossible (withKept (fresh 4 0 5) 15))
 
 possibles-run : T possibles
 unfolding possibles
@@ -245,6 +339,8 @@ impossibles =
     && impossible (withGuilty (fresh 4 0 5) 6)
     && impossible (withGuilty full4 1)
     && impossible (withSent (fresh 4 0 5))
+    && impossible (withKept (fresh 4 0 5) 16)
+    && impossible (withKept (ownWith true (layout 7) 1) 2)
     && impossible (ownWith false (layout 7) 0)
     && impossible (heardWith 0 (layout 9))
     && impossible (firstWith (layout 9) 0)
@@ -294,8 +390,8 @@ submitsRefused =
     let store = opened 4 .store in
     let out = room (outLength 4) in
     refuses (submit toy (keys 4) zeros store (layout 7) (sign 0 7) out) 4
-    && refuses (submit toy (keys 3) fresh4 (room 11615) (layout 7) (sign 0 7) out) 5
-    && refuses (submit toy (keys 4) fresh4 (room 11615) (layout 7) (sign 0 7) (room 14708)) 6
+    && refuses (submit toy (keys 3) fresh4 (room 17551) (layout 7) (sign 0 7) out) 5
+    && refuses (submit toy (keys 4) fresh4 (room 17551) (layout 7) (sign 0 7) (room 14708)) 6
     && refuses (submit toy (keys 4) fresh4 store (layout 7) (sign 0 7) (room 14708)) 7
     && refuses (submit toy (keys 4) (submits (opened 4) 7 .unit) store [] [] out) 8
     && refuses (submit toy (keys 4) fresh4 store (replicate 31 7) (sign 0 7) out) 9
@@ -323,7 +419,7 @@ stepsRefused =
     && refuses (hears r (fullBy 9 3 2 4)) 11
     && refuses (hears r (fullBy 9 1 3 2)) 12
     && refuses (hears r (fullBy 9 1 2 2)) 12
-    && refuses (hears (opened 4) (Submit 5 1 (layout 7) (sign 2 7))) 13
+    && refuses (hears (opened 4) (Submit 5 1 (layout 7) (sign 2 7))) 14
     && refuses (hears (opened 4) (submitBy 4 7)) 11
     && refuses (hears r (Submit 5 1 (layout 9) (sign 1 7))) 14
     && refuses (hears r (Full 5 1 (layout 9) (entryBy 9 1 ∷ entryBy 9 2 ∷ entryBy 7 3 ∷ []))) 14

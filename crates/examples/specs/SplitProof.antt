@@ -21,7 +21,7 @@ use Rattle.protocol.specs.MessageLaws.{read-render}
 use Rattle.protocol.specs.CertificateLaws.{in-set, set-seats}
 use Rattle.protocol.specs.Certificate.{setOf, ownCertificate, certificateOf, certificateIn, entryOf, entriesOf, fullOf, conflictOf}
 use Rattle.protocol.specs.Refusals.{isForStep, isFull, isEvidence, rising, stepConditions}
-use Rattle.protocol.specs.Step.{State, write, collect, isWanted, hearSubmit, reply, isComplete, confirm, hearOwn, confirmIfComplete, submitted, stepped}
+use Rattle.protocol.specs.Step.{State, write, collect, isWanted, collectIfWanted, hearSubmit, reply, isComplete, confirm, hearOwn, confirmIfComplete, submitted, stepped}
 use Rattle.protocol.specs.Calls.{Result, resultBy, start, submit, step, makingBy, making}
 use Rattle.protocol.specs.declared.Record.{Record}
 use Rattle.round.specs.Round.{Setting, Call, ByStep, ByThinEntry, IsStep, Honest, Called, Each, Relation, EachSigned, outcome, listFrom, listOf, IsOpened, Family, Writes, Submits, Confirms, StepGiven, Reached, MadeFrom, Delivered, MakesEvidence, makingOf}
@@ -97,18 +97,18 @@ unfolding confirmIfComplete hearOwn confirm write
 confirm-own s =
     cond-elim (λ x. x .unit .own ≡ s .unit .own) (isComplete (s .unit)) (hearOwn (confirm s)) (reply s) (λ e. hearing-stays (ownCertificate (confirm s .unit) (confirm s .store)) (confirm s) .own) (λ e. reply-stays s .own)
 
--- the seats collected once a SUBMIT is heard
-module _ (ρ seat : ℕ) (value signature : List ℕ) (s : State) where
+-- the seats collected once a SUBMIT is heard, after the own submit
+module _ (ρ seat : ℕ) (value signature : List ℕ) (s : State) (said : s .unit .own .submitted ≡ true) where
   abbrev after : State
   after = stepped (Submit ρ seat value signature) s
 
   collected-wanted : isWanted seat value (s .unit) ≡ true → after .unit .own .collected ≡ with seat (s .unit .own .collected)
-  unfolding stepped hearSubmit collect
-  collected-wanted w = ap (λ o. o .collected) (confirm-own (hearSubmit seat value signature s)) ∙ rw w
+  unfolding stepped hearSubmit collectIfWanted collect
+  collected-wanted w = ap (λ o. o .collected) (confirm-own (hearSubmit seat value signature s)) ∙ rw (w, said)
 
   collected-unwanted : isWanted seat value (s .unit) ≡ false → after .unit .own .collected ≡ s .unit .own .collected
-  unfolding stepped hearSubmit
-  collected-unwanted w = ap (λ o. o .collected) (confirm-own (hearSubmit seat value signature s)) ∙ rw w
+  unfolding stepped hearSubmit collectIfWanted
+  collected-unwanted w = ap (λ o. o .collected) (confirm-own (hearSubmit seat value signature s)) ∙ rw (w, said)
 
 -- a call in a list is one that the unit was given, and the other way round
 called-given : (S : Setting) (r : Record) (store : List ℕ) (cs : List Call) (t : Called) → List·Memᴰ t (listFrom S r store cs) → List·Memᴰ (t .given) cs
@@ -373,10 +373,10 @@ module _ (S : Setting) {I : Type 0} (P : Plan I) (z : Splits S P) where
         where
           go : (b : Bool) → isWanted x (layout side) r ≡ b → Awaits xs after-submit
           go true w =
-              let is = collected-wanted round x (layout side) (signature side x) (start r s) w in
+              let is = collected-wanted round x (layout side) (signature side x) (start r s) (y .submitted) w in
               awaits-from (λ a h. rw is (in-with a h (ℕ-discrete a x))) (rw is (bit-with-same x (r .own .collected))) f
           go false w =
-              let is = collected-unwanted round x (layout side) (signature side x) (start r s) w in
+              let is = collected-unwanted round x (layout side) (signature side x) (start r s) (y .submitted) w in
               ⊎-elim (λ e. inl (confirmed-next r s y (submitBy S P side x) (submit-sent side x j) e)) (λ h. awaits-from (λ a c. rw is c) (rw is h) f) (unwanted w)
 
     -- with all signers heard, the unit has confirmed
