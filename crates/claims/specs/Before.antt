@@ -3,29 +3,31 @@
 -- today's, and these definitions don't look at its seats kept.
 -- Assumes nothing.
 use mathlib.Core.Path.{_≡_, refl, sym, ap, ap₂, _∙_}
-use mathlib.Core.Bool.{Bool, true, false, cond, not, _&&_, _||_, and-false, or-false}
-use mathlib.Core.List.{List, [], _∷_, _++_, List·Memᴰ·head}
-use Prim.Native.Nat.{ℕ, zero, suc, _+_, _*_, _≤_, _<_}
+use mathlib.Core.Bool.{Bool, false, cond, not, _&&_, _||_, and-false, or-false}
+use mathlib.Core.List.{List, [], _∷_, _++_, List·Memᴰ·head, List·Memᴰ·tail}
+use Prim.Native.Nat.{ℕ, zero, suc, _+_, _*_, _≤_}
 use native.Mathlib.Omega.{arith}
-use lib.Dec.{ltb, eqb}
+use lib.Dec.{ltb}
 use lib.ListN.{length, drop}
 use lib.Pow.{pow-pos}
 use borrow.Author.Tests.{le-ltb, eq-eqb, not-false}
 use Rattle.quorum.specs.Quorum.{k, bit, has, size, outside}
 use Rattle.quorum.specs.QuorumLaws.{bit-empty, has-false, outside-false}
 use Rattle.refusal.specs.Refusal.{firstOf, unrefused}
-use Rattle.protocol.specs.Layout.{signatureLength, banks, collectedBank, firstBank, keptBank, lengthOfBanks, banksBefore, slotLengthIn, slotLength, storeLength, slotAt, outLength}
+use Rattle.protocol.specs.Layout.{signatureLength, banks, collectedBank, firstBank, keptBank, lengthOfBanks, banksBefore, slotLengthIn, slotLength, storeLength, slotAt, outLength, evidenceOutLength}
 use Rattle.protocol.specs.Message.{Message, Submit, Notice, Full, Evidence, Garbled, read, seatsOf}
-use Rattle.protocol.specs.Certificate.{certificateIn, keptValue, keptSignature}
+use Rattle.protocol.specs.Certificate.{certificateIn, keptValue, keptSignature, conflictOf}
 use Rattle.protocol.specs.Record.{withKept, outOfRange, wrongHeard, namesStranger, wrongCollected, wrongFirst, lacksFirst, wrongGuilty, wrongSent, wrongKept, wrongUnset, impossible}
 use Rattle.protocol.specs.RecordLaws.{possible}
-use Rattle.protocol.specs.Refusals.{Condition, Checks, KEYS, OUT, SAID, GARBLED, GARBLED-OWN, OTHER-ROUND, STRANGER, DISORDER, SIGNATURE, isForStep, shortStore, recordConditions, messageConditions, submitConditions, stepConditions}
-use Rattle.protocol.specs.Step.{State, withUnit, write, collect, setOwnValue, submitOwn, isWanted, collectIfWanted, keepIfFirst, hearSubmit, isOpenTo, collectKeptSeat, collectKeptBelow, emptyKept, collectKept, hear, reply, hearCertificate, confirmIfComplete, submitted, stepped}
-use Rattle.protocol.specs.Calls.{Result, resultBy, start, submit, step}
+use Rattle.protocol.specs.Refusals.{Condition, Checks, KEYS, OUT, SAID, GARBLED, GARBLED-OWN, OTHER-ROUND, STRANGER, DISORDER, SIGNATURE, NO-CONFLICT-IN, NO-CONFLICT-BETWEEN, isForStep, isFull, isEvidence, shortStore, outsideConditions, recordConditions, messageConditions, certificateConditions, twoConditions, submitConditions, stepConditions, evidenceConditions, makingConditions, lowerConditions}
+use Rattle.protocol.specs.Step.{State, withUnit, write, collect, setOwnValue, submitOwn, isWanted, collectIfWanted, isOpenTo, collectKeptSeat, collectKeptBelow, emptyKept, collectKept, hear, reply, hearCertificate, confirmIfComplete, submitted, stepped}
+use Rattle.protocol.specs.Calls.{Result, resultBy, start, submit, step, Making, makingBy, making, checkedBy, evidenceCheck, lowerOf, lowerCertificate}
 use Rattle.protocol.specs.declared.Record.{Record}
+use Rattle.protocol.specs.declared.Checked.{Checked}
+use Rattle.round.specs.Round.{Setting, Each, Call, BySubmit, ByStep, ByThinEntry, Called, outcome, listFrom}
 use Rattle.reading.specs.Reading.{Sized}
 use Rattle.reading.specs.ReadingLaws.{read-sized}
-use Rattle.claims.specs.KeptPartLaws.{keptPart, Beside, Aside, aside-refl, submitted-emptied, stepped-late, late-aside, notice-aside, full-aside}
+use Rattle.claims.specs.KeptPartLaws.{keptPart, Beside, Aside, Emptied, aside-refl, submitted-emptied, stepped-late, late-aside, notice-aside, full-aside}
 use Rattle.claims.specs.UnrefusedLaws.{Taken}
 use Rattle.claims.specs.NotRefused.{submit-fit, step-fit}
 
@@ -101,6 +103,26 @@ submitBefore checks keys r store value signature out =
 unfoldable pub stepBefore : Checks → List ℕ → Record → List ℕ → List ℕ → List ℕ → Result
 stepBefore checks keys r store bytes out =
     resultBy (firstOf (stepConditionsBefore checks keys r store (read (r .n) bytes) out)) (steppedBefore (read (r .n) bytes) (start r store)) r store
+
+-- ---- before: the calls without a record, in which no message was early
+
+unfoldable pub evidenceCheckBefore : Checks → ℕ → ℕ → List ℕ → List ℕ → Checked
+evidenceCheckBefore checks n round keys bytes =
+    let m = read n bytes in
+    checkedBy (firstOf (outsideConditions n round keys ++ messageConditionsBefore checks n round (isEvidence m) false m ++ NO-CONFLICT-IN m ∷ [])) m
+
+unfoldable pub twoConditionsBefore : Checks → ℕ → ℕ → Message → Message → List Condition
+twoConditionsBefore checks n round a b =
+    messageConditionsBefore checks n round (isFull a) false a ++ messageConditionsBefore checks n round (isFull b) false b ++ NO-CONFLICT-BETWEEN a b ∷ []
+
+unfoldable pub makingBefore : Checks → ℕ → ℕ → List ℕ → List ℕ → List ℕ → List ℕ → Making
+makingBefore checks n round keys a b out =
+    makingBy (firstOf (outsideConditions n round keys ++ OUT (evidenceOutLength n) out ∷ [] ++ twoConditionsBefore checks n round (read n a) (read n b)))
+    (conflictOf n round (certificateIn (read n a)) (certificateIn (read n b)))
+
+unfoldable pub lowerCertificateBefore : Checks → ℕ → ℕ → List ℕ → List ℕ → List ℕ → List ℕ
+lowerCertificateBefore checks n round keys a b =
+    unrefused (firstOf (outsideConditions n round keys ++ twoConditionsBefore checks n round (read n a) (read n b))) (lowerOf n a b) []
 
 -- ---- the old part of the store
 
@@ -193,35 +215,105 @@ step-as-before checks keys r store bytes out none timely room =
     (record-as-before r none keys store out _ _ room (message-as-before checks (r .n) (r .round) (isForStep m) (early r m) m timely))
     (stepped-as-before m (start r store) timely)
 
--- ---- the rest of the store: "after the old slots" nothing changes
+-- the calls without a record answer as before, whatever they are given
+pub evidence-check-as-before : (checks : Checks) (n round : ℕ) (keys bytes : List ℕ) → evidenceCheck checks n round keys bytes ≡ evidenceCheckBefore checks n round keys bytes
+unfolding evidenceCheck evidenceCheckBefore evidenceConditions outsideConditions messageConditions messageConditionsBefore firstOf
+evidence-check-as-before checks n round keys bytes = refl
+
+pub making-as-before : (checks : Checks) (n round : ℕ) (keys a b out : List ℕ) → making checks n round keys a b out ≡ makingBefore checks n round keys a b out
+unfolding making makingBefore makingConditions twoConditions twoConditionsBefore certificateConditions outsideConditions messageConditions messageConditionsBefore firstOf
+making-as-before checks n round keys a b out = refl
+
+pub lower-certificate-as-before : (checks : Checks) (n round : ℕ) (keys a b : List ℕ) → lowerCertificate checks n round keys a b ≡ lowerCertificateBefore checks n round keys a b
+unfolding lowerCertificate lowerCertificateBefore lowerConditions twoConditions twoConditionsBefore certificateConditions outsideConditions messageConditions messageConditionsBefore firstOf
+lower-certificate-as-before checks n round keys a b = refl
+
+-- ---- the rest of the store: "after the old slots" nothing changes, and no seat is kept afterwards
 
 rest-of : (r : Record) (store : List ℕ) (q : ℕ) (s : State) → (q ≡ 0 → Beside (r .n) store (s .store)) → drop (storeLengthBefore (r .n)) (resultBy q s r store .store) ≡ drop (storeLengthBefore (r .n)) store
 unfolding resultBy unrefused keptPart
 rest-of r store zero s f = rw (← kept-begins (r .n)) (f refl .rest)
 rest-of r store (suc q) s f = refl
 
--- for a submit, whatever is kept
-pub submit-rest : (checks : Checks) (keys : List ℕ) (r : Record) (store value signature out : List ℕ)
-    → drop (storeLengthBefore (r .n)) (submit checks keys r store value signature out .store) ≡ drop (storeLengthBefore (r .n)) store
-unfolding submit
-submit-rest checks keys r store value signature out =
-    rest-of r store (firstOf (submitConditions checks keys r store value signature out)) (submitted value signature (start r store))
-    (λ e.
-    let fit = submit-fit checks keys r store value signature out e in
-    submitted-emptied value signature (start r store) (possible r (fit .lent .possible) .range .seated) (omega (arith, fit .sizedSignature)) (fit .lent .storeRoom) .beside)
+none-of : (r : Record) (store : List ℕ) (q : ℕ) (s : State) → r .kept ≡ 0 → (q ≡ 0 → s .unit .kept ≡ 0) → resultBy q s r store .unit .kept ≡ 0
+unfolding resultBy unrefused
+none-of r store zero s none f = f refl
+none-of r store (suc q) s none f = none
 
--- for a step without an early SUBMIT
-pub step-rest : (checks : Checks) (keys : List ℕ) (r : Record) (store bytes out : List ℕ) → early r (read (r .n) bytes) ≡ false
-    → drop (storeLengthBefore (r .n)) (step checks keys r store bytes out .store) ≡ drop (storeLengthBefore (r .n)) store
-unfolding step stepped early seatsOf
-step-rest checks keys r store bytes out timely =
-    rest-of r store (firstOf (stepConditions checks keys r store (read (r .n) bytes) out)) (stepped (read (r .n) bytes) (start r store))
-    (λ e. let fit = step-fit checks keys r store bytes out e in go (read (r .n) bytes) (fit .lent .storeRoom) (fit .message) (read-sized (r .n) bytes) timely .beside)
-  where
-    go : (m : Message) → storeLength (r .n) ≤ length store → Taken checks (r .n) (r .round) m → Sized (r .n) m → early r m ≡ false → Aside (start r store) (stepped m (start r store))
-    go (Submit ρ seat value signature) room taken sized e =
-        late-aside (start r store) room ρ seat value signature (not-false (r .own .submitted) e) (taken .inside seat (List·Memᴰ·head refl)) (omega (arith, sized .1))
-    go (Notice ρ seat value) room taken sized e = notice-aside (start r store) room ρ seat value
-    go (Full ρ sender value es) room taken sized e = full-aside (start r store) room ρ sender value es (sized .2)
-    go (Evidence ρ values ps) room taken sized e = aside-refl (start r store)
-    go Garbled room taken sized e = aside-refl (start r store)
+-- a submit, whatever is kept
+module _ (checks : Checks) (keys : List ℕ) (r : Record) (store value signature out : List ℕ) where
+  submit-emptied : firstOf (submitConditions checks keys r store value signature out) ≡ 0 → Emptied (start r store) (submitted value signature (start r store))
+  submit-emptied e =
+      let fit = submit-fit checks keys r store value signature out e in
+      submitted-emptied value signature (start r store) (possible r (fit .lent .possible) .range .seated) (omega (arith, fit .sizedSignature)) (fit .lent .storeRoom)
+
+  pub submit-rest : drop (storeLengthBefore (r .n)) (submit checks keys r store value signature out .store) ≡ drop (storeLengthBefore (r .n)) store
+  unfolding submit
+  submit-rest = rest-of r store (firstOf (submitConditions checks keys r store value signature out)) (submitted value signature (start r store)) (λ e. submit-emptied e .beside)
+
+  pub submit-keeps-none : r .kept ≡ 0 → submit checks keys r store value signature out .unit .kept ≡ 0
+  unfolding submit
+  submit-keeps-none none = none-of r store (firstOf (submitConditions checks keys r store value signature out)) (submitted value signature (start r store)) none (λ e. submit-emptied e .kept)
+
+-- a step without an early SUBMIT
+module _ (checks : Checks) (keys : List ℕ) (r : Record) (store bytes out : List ℕ) (timely : early r (read (r .n) bytes) ≡ false) where
+  step-aside : firstOf (stepConditions checks keys r store (read (r .n) bytes) out) ≡ 0 → Aside (start r store) (stepped (read (r .n) bytes) (start r store))
+  unfolding stepped early seatsOf
+  step-aside e = let fit = step-fit checks keys r store bytes out e in go (read (r .n) bytes) (fit .lent .storeRoom) (fit .message) (read-sized (r .n) bytes) timely
+    where
+      go : (m : Message) → storeLength (r .n) ≤ length store → Taken checks (r .n) (r .round) m → Sized (r .n) m → early r m ≡ false → Aside (start r store) (stepped m (start r store))
+      go (Submit ρ seat value signature) room taken sized e =
+          late-aside (start r store) room ρ seat value signature (not-false (r .own .submitted) e) (taken .inside seat (List·Memᴰ·head refl)) (omega (arith, sized .1))
+      go (Notice ρ seat value) room taken sized e = notice-aside (start r store) room ρ seat value
+      go (Full ρ sender value es) room taken sized e = full-aside (start r store) room ρ sender value es (sized .2)
+      go (Evidence ρ values ps) room taken sized e = aside-refl (start r store)
+      go Garbled room taken sized e = aside-refl (start r store)
+
+  pub step-rest : drop (storeLengthBefore (r .n)) (step checks keys r store bytes out .store) ≡ drop (storeLengthBefore (r .n)) store
+  unfolding step
+  step-rest = rest-of r store (firstOf (stepConditions checks keys r store (read (r .n) bytes) out)) (stepped (read (r .n) bytes) (start r store)) (λ e. step-aside e .beside)
+
+  pub step-keeps-none : r .kept ≡ 0 → step checks keys r store bytes out .unit .kept ≡ 0
+  unfolding step
+  step-keeps-none none = none-of r store (firstOf (stepConditions checks keys r store (read (r .n) bytes) out)) (stepped (read (r .n) bytes) (start r store)) none (λ e. step-aside e .kept ∙ none)
+
+-- ---- along a list
+
+unfoldable pub outcomeBefore : Setting → Call → Record → List ℕ → Result
+outcomeBefore S (BySubmit value signature out) r store = submitBefore (S .checks) (S .keys) r store value signature out
+outcomeBefore S (ByStep bytes out) r store = stepBefore (S .checks) (S .keys) r store bytes out
+outcomeBefore S (ByThinEntry bytes out) r store = stepBefore (S .checks) (S .keys) r store bytes out
+
+unfoldable pub listBefore : Setting → Record → List ℕ → List Call → List Called
+listBefore S r store [] = []
+listBefore S r store (c ∷ cs) =
+    record { given = c; unit = r; store = store } ∷ listBefore S (outcomeBefore S c r store .unit) (outcomeBefore S c r store .store) cs
+
+-- the call isn't given an early SUBMIT
+abbrev pub TimelyGiven : Call → Record → Type 0
+TimelyGiven (BySubmit value signature out) r = Unit {0}
+TimelyGiven (ByStep bytes out) r = early r (read (r .n) bytes) ≡ false
+TimelyGiven (ByThinEntry bytes out) r = early r (read (r .n) bytes) ≡ false
+
+call-as-before : (S : Setting) (c : Call) (r : Record) (store : List ℕ) → r .kept ≡ 0 → TimelyGiven c r → storeLength (r .n) ≤ length store → (outcome S c r store ≡ outcomeBefore S c r store) × (outcome S c r store .unit .kept ≡ 0)
+unfolding outcome outcomeBefore
+call-as-before S (BySubmit value signature out) r store none timely room =
+    (submit-as-before (S .checks) (S .keys) r store value signature out none room, submit-keeps-none (S .checks) (S .keys) r store value signature out none)
+call-as-before S (ByStep bytes out) r store none timely room =
+    (step-as-before (S .checks) (S .keys) r store bytes out none timely room, step-keeps-none (S .checks) (S .keys) r store bytes out timely none)
+call-as-before S (ByThinEntry bytes out) r store none timely room =
+    (step-as-before (S .checks) (S .keys) r store bytes out none timely room, step-keeps-none (S .checks) (S .keys) r store bytes out timely none)
+
+-- a list from a record without a seat kept, in which no call is given an early SUBMIT and every store has the new length, goes call by
+-- call as it went before
+pub list-as-before : (S : Setting) (r : Record) (store : List ℕ) (cs : List Call) → r .kept ≡ 0
+    → Each (λ t. TimelyGiven (t .given) (t .unit) × (storeLength (t .unit .n) ≤ length (t .store))) (listFrom S r store cs) → listFrom S r store cs ≡ listBefore S r store cs
+unfolding listFrom listBefore
+list-as-before S r store [] none each = refl
+list-as-before S r store (c ∷ cs) none each =
+    let t : Called = record { given = c; unit = r; store = store } in
+    let e = each t (List·Memᴰ·head refl) in
+    let h = call-as-before S c r store none (e .0) (e .1) in
+    ap (λ (rest : List Called). t ∷ rest)
+    (list-as-before S (outcome S c r store .unit) (outcome S c r store .store) cs (h .1) (λ x d. each x (List·Memᴰ·tail d))
+    ∙ ap (λ (x : Result). listBefore S (x .unit) (x .store) cs) (h .0))

@@ -8,22 +8,21 @@ use mathlib.Core.Logic.{_⊎_, inl, inr, ⊎-elim}
 use Prim.Native.Nat.{ℕ, zero, suc, _+_, _≤_, _<_}
 use native.Mathlib.Omega.{arith}
 use native.Mathlib.Decide.{ℕ-discrete}
-use lib.Dec.{ltb, eqb}
+use lib.Dec.{ltb}
 use lib.ListN.{length}
-use borrow.Author.Tests.{ltb-true, ltb-false, eq-eqb, not-true, not-false}
+use borrow.Author.Tests.{ltb-true, ltb-false, eq-eqb, not-false}
 use Rattle.octets.specs.Strings.{same}
-use Rattle.octets.specs.StringsLaws.{same-refl, same-true}
+use Rattle.octets.specs.StringsLaws.{same-refl}
 use Rattle.quorum.specs.Quorum.{k, bit, In, has, size, shared, with}
-use Rattle.quorum.specs.QuorumLaws.{bit-cases, bit-lt-two, bit-shared, bit-with-same, bit-with-other, has-true, has-false, same-seats, size-shared-le, size-with-new}
+use Rattle.quorum.specs.QuorumLaws.{bit-cases, bit-shared, bit-with-same, bit-with-other, has-true, same-seats, size-shared-le, size-with-new}
 use Rattle.refusal.specs.RefusalLaws.{both-true}
-use Rattle.protocol.specs.Layout.{valueLength, collectedBank, keptValueBank}
-use Rattle.protocol.specs.LayoutLaws.{collected-bank, kept-value-bank}
-use Rattle.protocol.specs.Certificate.{ownCertificate, slot, fill, keptValue, keptSignature}
+use Rattle.protocol.specs.Layout.{valueLength}
+use Rattle.protocol.specs.Certificate.{ownCertificate, keptValue, keptSignature}
 use Rattle.protocol.specs.Refusals.{Checks}
 use Rattle.protocol.specs.Step.{State, write, collect, setOwnValue, submitOwn, isWanted, collectIfWanted, isOpenTo, collectKeptSeat, collectKeptBelow, emptyKept, collectKept, isComplete, confirm, hearOwn, reply, confirmIfComplete, submitted}
 use Rattle.round.specs.Round.{Relation}
 use Rattle.reading.specs.ListsLaws.{cond-elim, and-false-either}
-use Rattle.claims.specs.SlotsLaws.{slot-fill-other}
+use Rattle.claims.specs.KeptPartLaws.{Aside, aside-trans, kept-value-beside, collect-aside, submitOwn-aside}
 use Rattle.claims.specs.Sound.{Room, Attested, Sound}
 use Rattle.claims.specs.Parts.{in-below, room-leads, collect-leads, submitOwn-leads, confirmed-submitted}
 use Rattle.claims.specs.Whole.{hearing-stays}
@@ -47,14 +46,12 @@ module _ (checks : Checks) (W : Relation) (value signature : List ℕ) (s : Stat
 
   -- at seat t, k are collected or all of the seats passed
   record At (t : ℕ) (e : State) : Type 0 where
-    size-is : e .unit .n ≡ n
-    kept : e .unit .kept ≡ s .unit .kept
+    aside : Aside s e
     said : (e .unit .own .submitted ≡ true) × (e .unit .own .value ≡ value)
     unconfirmed : e .unit .confirmed ≡ false
     sound : Sound checks W (e .unit) (e .store)
     roomy : Room e
     own : In (s .unit .seat) (e .unit .own .collected)
-    values : (i : ℕ) → i < n → keptValue n (e .store) i ≡ keptValue n (s .store) i
     got : Got t (e .unit .own .collected)
 
   at-own : At 0 (submitOwn value signature s)
@@ -62,14 +59,12 @@ module _ (checks : Checks) (W : Relation) (value signature : List ℕ) (s : Stat
   at-own =
       let a = submitOwn-leads checks W value signature s z room unsaid sized g in
       record {
-        size-is = refl;
-        kept = refl;
+        aside = submitOwn-aside value signature s (z .range .seated) (omega (arith, g .sized)) room;
         said = (refl, refl);
         unconfirmed = go (s .unit .confirmed) refl;
         sound = a .sound;
         roomy = room-leads checks W s (submitOwn value signature s) a room;
         own = bit-with-same (s .unit .seat) (s .unit .own .collected);
-        values = λ i l. slot-fill-other n collectedBank (s .unit .seat) signature (s .store) (collected-bank .0) (z .range .seated) room (g .sized ∙ sym (collected-bank .1)) keptValueBank i (kept-value-bank .0) l (λ q _. omega arith);
         got = inr (λ i l q. absurd (omega arith));
       }
     where
@@ -86,8 +81,8 @@ module _ (checks : Checks) (W : Relation) (value signature : List ℕ) (s : Stat
       let c = r .own .collected in
       let few : size c ≤ k (r .n) = h .sound .own .collection .few in
       let is-own : In t others → same kv (r .own .value) ≡ true =
-      λ i. rw (h .size-is, h .values t l, agree t i, h .said .1) (same-refl value) in
-      let is-kept : In t others → has t (r .kept) ≡ true = λ i. has-true t (r .kept) .1 (rw (h .kept) (within t i)) in
+      λ i. rw (h .aside .n, kept-value-beside n (s .store) (e .store) (h .aside .beside) t, agree t i, h .said .1) (same-refl value) in
+      let is-kept : In t others → has t (r .kept) ≡ true = λ i. has-true t (r .kept) .1 (rw (h .aside .kept) (within t i)) in
       cond-elim (At (suc t)) (has t (r .kept) && ltb (size c) (k (r .n))) (cond (not (r .confirmed) && same kv (r .own .value) && not (has t c)) (collect t kg e) e) e
       (λ o.
       let both = both-true (has t (r .kept)) (ltb (size c) (k (r .n))) o in
@@ -97,19 +92,17 @@ module _ (checks : Checks) (W : Relation) (value signature : List ℕ) (s : Stat
       (λ w. passed (λ i. inr (⊎-elim
       (λ q. absurd (⊎-elim (λ p. true≢false (sym (not-false (r .confirmed) p) ∙ h .unconfirmed)) (λ p. true≢false (sym (is-own i) ∙ p)) (and-false-either (not (r .confirmed)) (same kv (r .own .value)) q)))
       (λ q. has-true t c .0 (not-false (has t c) q)) (and-false-either (not (r .confirmed) && same kv (r .own .value)) (not (has t c)) w)))))
-      (λ o. passed (λ i. inl (⊎-elim (λ q. absurd (true≢false (sym (is-kept i) ∙ q))) (λ q. let many = ltb-false (size c) (k (r .n)) q in let sized-n = ap k (h .size-is) in omega arith) (and-false-either (has t (r .kept)) (ltb (size c) (k (r .n))) o))))
+      (λ o. passed (λ i. inl (⊎-elim (λ q. absurd (true≢false (sym (is-kept i) ∙ q))) (λ q. let many = ltb-false (size c) (k (r .n)) q in let sized-n = ap k (h .aside .n) in omega arith) (and-false-either (has t (r .kept)) (ltb (size c) (k (r .n))) o))))
     where
       -- nothing changes: the seat isn't one of them, k are collected, or it is collected already
       passed : (In t others → (size (e .unit .own .collected) ≡ k n) ⊎ In t (e .unit .own .collected)) → At (suc t) e
       passed f = record {
-        size-is = h .size-is;
-        kept = h .kept;
+        aside = h .aside;
         said = h .said;
         unconfirmed = h .unconfirmed;
         sound = h .sound;
         roomy = h .roomy;
         own = h .own;
-        values = h .values;
         got = ⊎-elim inl (λ before. by before (bit-cases t others)) (h .got);
       }
         where
@@ -130,23 +123,18 @@ module _ (checks : Checks) (W : Relation) (value signature : List ℕ) (s : Stat
           let r = e .unit in
           let both = both-true (has t (r .kept)) (ltb (size (r .own .collected)) (k (r .n))) o in
           let under : size (r .own .collected) < k (r .n) = ltb-true (size (r .own .collected)) (k (r .n)) (both .1) in
-          let under-n : size (r .own .collected) < k n = subst (λ (i : ℕ). size (r .own .collected) < k i) (h .size-is) under in
-          let inside : t < r .n = rw (h .size-is) l in
+          let under-n : size (r .own .collected) < k n = subst (λ (i : ℕ). size (r .own .collected) < k i) (h .aside .n) under in
+          let inside : t < r .n = rw (h .aside .n) l in
           let attested = h .sound .kept .attested t (has-true t (r .kept) .0 (both .0)) in
           let kg = keptSignature (r .n) (e .store) t in
           let a = collect-leads checks W t (keptValue (r .n) (e .store) t) kg e (h .sound) (h .roomy) w (h .said .0) (λ q. absurd (omega arith)) inside attested in
           record {
-            size-is = h .size-is;
-            kept = h .kept;
+            aside = aside-trans s e (collect t kg e) (h .aside) (collect-aside t kg e inside (omega (arith, attested .sized)) (h .roomy));
             said = h .said;
             unconfirmed = h .unconfirmed;
             sound = a .sound;
             roomy = room-leads checks W e (collect t kg e) a (h .roomy);
             own = held (s .unit .seat) (h .own) (ℕ-discrete (s .unit .seat) t);
-            values = λ i j.
-                subst (λ (m : ℕ). keptValue m (fill (r .n) collectedBank t kg (e .store)) i ≡ keptValue m (e .store) i) (h .size-is)
-                (slot-fill-other (r .n) collectedBank t kg (e .store) (collected-bank .0) inside (h .roomy) (attested .sized ∙ sym (collected-bank .1)) keptValueBank i (kept-value-bank .0) (rw (h .size-is) j) (λ q _. omega arith))
-                ∙ h .values i j;
             got = ⊎-elim (λ full. absurd (omega arith)) (λ before. inr (λ i j q. on before i j q (ℕ-discrete i t))) (h .got);
           }
         where
@@ -176,7 +164,7 @@ module _ (checks : Checks) (W : Relation) (value signature : List ℕ) (s : Stat
       go f =
           let more = size-with-new (s .unit .seat) others apart in
           let few = h .sound .own .collection .few in
-          let few-n : size (e .unit .own .collected) ≤ k n = subst (λ (i : ℕ). size (e .unit .own .collected) ≤ k i) (h .size-is) few in
+          let few-n : size (e .unit .own .collected) ≤ k n = subst (λ (i : ℕ). size (e .unit .own .collected) ≤ k i) (h .aside .n) few in
           let larger = within-size (e .unit .own .collected) (with (s .unit .seat) others) (λ t i. inside f t i (ℕ-discrete t (s .unit .seat))) in
           omega arith
 
@@ -186,5 +174,5 @@ module _ (checks : Checks) (W : Relation) (value signature : List ℕ) (s : Stat
       let e = collectKeptBelow n (submitOwn value signature s) in
       let h = at-below n (omega arith) in
       let u = emptyKept e in
-      let complete : isComplete (u .unit) ≡ true = rw (h .unconfirmed) (eq-eqb (size (e .unit .own .collected)) (k (e .unit .n)) (all-there e h ∙ ap k (sym (h .size-is)))) in
+      let complete : isComplete (u .unit) ≡ true = rw (h .unconfirmed) (eq-eqb (size (e .unit .own .collected)) (k (e .unit .n)) (all-there e h ∙ ap k (sym (h .aside .n)))) in
       ap (λ (b : Bool). cond b (hearOwn (confirm u)) (reply u) .unit .confirmed) complete ∙ hearing-stays (ownCertificate (confirm u .unit) (confirm u .store)) (confirm u) .confirmed

@@ -2,7 +2,7 @@
 -- k − 1 or more other seats, in buffers of the stated lengths, confirms in that very call.
 -- Assumes nothing.
 use mathlib.Core.Path.{_≡_, refl, sym, ap, subst, subst₂, _∙_}
-use mathlib.Core.Bool.{Bool, true, false, true≢false}
+use mathlib.Core.Bool.{Bool, true, false, true≢false, false≢true}
 use mathlib.Core.List.{List, [], _∷_, _++_, List·Memᴰ, List·Memᴰ·head, List·Memᴰ·tail, List·Memᴰ·not-nil, List·Memᴰ·cases-cons, Memᴰ·append-left, Memᴰ·append-right}
 use mathlib.Core.Logic.{_⊎_, inl, inr, ⊎-elim}
 use Prim.Native.Nat.{ℕ, _+_, _≤_, _<_}
@@ -14,45 +14,31 @@ use Rattle.protocol.specs.Layout.{storeLength, outLength}
 use Rattle.protocol.specs.Message.{Message, Submit, Notice, Full, Evidence, Garbled, read, roundOf, seatsOf, entrySeats, signed}
 use Rattle.protocol.specs.Refusals.{isForStep, rising}
 use Rattle.protocol.specs.Certificate.{keptValue}
-use Rattle.protocol.specs.Step.{State, submitted}
+use Rattle.protocol.specs.Step.{submitted}
 use Rattle.protocol.specs.Calls.{Result, resultBy, start, step}
 use Rattle.protocol.specs.declared.Record.{Record}
 use Rattle.round.specs.Round.{Setting, IsOpened, Each, Relation, Call, BySubmit, ByStep, ByThinEntry, Honest, Called, IsStep, outcome, resultOf, listFrom, listOf, StandsIn, writtenIn, Confirms}
-use Rattle.round.specs.Demand1.{NOTICE, isOf, isNotice}
+use Rattle.round.specs.Demand1.{NOTICE, isOf, isNotice, worth}
 use Rattle.reading.specs.ListsLaws.{each-nil, each-one, each-cons, count-member, worth-true}
 use Rattle.reading.specs.Messages.{refusalOf, cameTo, messages}
 use Rattle.reading.specs.MessagesLaws.{outcome-is, step-is, unrefused-result}
-use Rattle.claims.specs.Sound.{Any}
+use Rattle.claims.specs.Sound.{Any, Said, Good}
+use Rattle.claims.specs.Parts.{confirmed-submitted}
+use Rattle.claims.specs.Whole.{submitted-value}
 use Rattle.claims.specs.UnrefusedLaws.{possible, Taken}
 use Rattle.claims.specs.NotRefused.{Table, StepFit, SubmitFit, submit-fit, step-not-refused}
 use Rattle.claims.specs.Journey.{At, submit-value}
-use Rattle.claims.specs.Units.{any-worthy, startOf, endOf, opened-fit, opened-range, start-n, start-seat, start-round, stop, written-are}
+use Rattle.claims.specs.Units.{any-worthy, startOf, endOf, opened-fit, start-n, start-seat, start-round, stop, written-are}
 use Rattle.claims.specs.Kept.{SubmitsNow, Hears, hears-fit, early-kept, kept-stays, call-does, Of, kept-next, start-none}
 use Rattle.claims.specs.CollectKeptLaws.{confirms-at-once}
 
--- ---- good SUBMITs given
--- bytes that a step is given, and the value of a SUBMIT
-abbrev bytesOf : Call → List ℕ
-bytesOf (BySubmit value signature out) = []
-bytesOf (ByStep bytes out) = bytes
-bytesOf (ByThinEntry bytes out) = bytes
-
-step-bytes : (c : Call) (bytes out : List ℕ) → IsStep c bytes out → bytesOf c ≡ bytes
-step-bytes c bytes out (inl e) = ap bytesOf e
-step-bytes c bytes out (inr e) = ap bytesOf e
-
-abbrev valueOf : Message → List ℕ
-valueOf (Submit ρ seat value signature) = value
-valueOf (Notice ρ seat value) = []
-valueOf (Full ρ sender value entries) = []
-valueOf (Evidence ρ values entries) = []
-valueOf Garbled = []
+-- ---- the notions of the claim
 
 module _ (S : Setting) where
-  open Setting S using (n, round, keys, checks)
+  open Setting S using (n, round, checks)
 
-  -- "given good SUBMITs .., in buffers of the stated lengths": the call is a step given a SUBMIT of the seat over the layout, in this
-  -- round, with a signature that checks
+  -- the call is a step given a good SUBMIT of the seat over the layout, which is of this round and whose signature checks, in buffers of
+  -- the stated lengths
   pub record GivesGood (t : Called) (seat : ℕ) (layout : List ℕ) : Type 0 where
     pub bytes : List ℕ
     pub out : List ℕ
@@ -70,15 +56,59 @@ module _ (S : Setting) where
   FirstIs seat layout [] = ⊥
   FirstIs seat layout (t ∷ ts) = GivesGood t seat layout ⊎ (((other : List ℕ) → GivesGood t seat other → other ≡ layout) × FirstIs seat layout ts)
 
-  -- so it is where a call gives one, and no call gives one over another layout
-  pub first-is : (seat : ℕ) (layout : List ℕ) (ts : List Called) (t : Called) → List·Memᴰ t ts → GivesGood t seat layout → Each (λ x. (other : List ℕ) → GivesGood x seat other → other ≡ layout) ts → FirstIs seat layout ts
+  -- the unit's list has a submit of the layout that isn't refused, and of a set of other seats, k − 1 or more, the first good SUBMIT
+  -- given before it is over the same layout
+  pub record SubmitsAfter (u : Honest) : Type 0 where
+    pub before : List Called
+    pub call : Called
+    pub after : List Called
+    pub split : listOf S u ≡ before ++ call ∷ after
+    pub submits : SubmitsNow S call
+    pub others : ℕ
+    pub apart : bit (u .seat) others ≡ 0
+    pub enough : k n ≤ size others + 1
+    pub given : (seat : ℕ) → In seat others → FirstIs seat (submits .layout) before
+
+-- ---- messages and calls
+
+-- bytes that a step is given, and the value of a SUBMIT
+abbrev bytesOf : Call → List ℕ
+bytesOf (BySubmit value signature out) = []
+bytesOf (ByStep bytes out) = bytes
+bytesOf (ByThinEntry bytes out) = bytes
+
+step-bytes : (c : Call) (bytes out : List ℕ) → IsStep c bytes out → bytesOf c ≡ bytes
+step-bytes c bytes out (inl e) = ap bytesOf e
+step-bytes c bytes out (inr e) = ap bytesOf e
+
+abbrev valueOf : Message → List ℕ
+valueOf (Submit ρ seat value signature) = value
+valueOf (Notice ρ seat value) = []
+valueOf (Full ρ sender value entries) = []
+valueOf (Evidence ρ values entries) = []
+valueOf Garbled = []
+
+-- the only case of a message that is a NOTICE
+notice-cases : (P : Message → Type 0) (m : Message) → isNotice m ≡ true → ((ρ seat : ℕ) (value : List ℕ) → P (Notice ρ seat value)) → P m
+unfolding isNotice
+notice-cases P (Submit ρ seat value signature) e f = absurd (false≢true e)
+notice-cases P (Notice ρ seat value) e f = f ρ seat value
+notice-cases P (Full ρ sender value es) e f = absurd (false≢true e)
+notice-cases P (Evidence ρ values ps) e f = absurd (false≢true e)
+notice-cases P Garbled e f = absurd (false≢true e)
+
+module _ (S : Setting) where
+  open Setting S using (n, round, keys, checks)
+
+  -- the first is over the layout where one is, and none is over another
+  pub first-is : (seat : ℕ) (layout : List ℕ) (ts : List Called) (t : Called) → List·Memᴰ t ts → GivesGood S t seat layout → Each (λ x. (other : List ℕ) → GivesGood S x seat other → other ≡ layout) ts → FirstIs S seat layout ts
   unfolding FirstIs
   first-is seat layout [] t d gives one = absurd (List·Memᴰ·not-nil d)
   first-is seat layout (x ∷ ts) t d gives one =
-      ⊎-elim (λ e. inl (subst (λ y. GivesGood y seat layout) e gives)) (λ e. inr (one x (List·Memᴰ·head refl), first-is seat layout ts t e gives (λ y f. one y (List·Memᴰ·tail f)))) (List·Memᴰ·cases-cons d)
+      ⊎-elim (λ e. inl (subst (λ y. GivesGood S y seat layout) e gives)) (λ e. inr (one x (List·Memᴰ·head refl), first-is seat layout ts t e gives (λ y f. one y (List·Memᴰ·tail f)))) (List·Memᴰ·cases-cons d)
 
   -- a call gives one SUBMIT
-  gives-one : (t : Called) (seat : ℕ) (a b : List ℕ) → GivesGood t seat a → GivesGood t seat b → a ≡ b
+  gives-one : (t : Called) (seat : ℕ) (a b : List ℕ) → GivesGood S t seat a → GivesGood S t seat b → a ≡ b
   gives-one t seat a b x y =
       let same-bytes : x .bytes ≡ y .bytes = sym (step-bytes (t .given) (x .bytes) (x .out) (x .isStep)) ∙ step-bytes (t .given) (y .bytes) (y .out) (y .isStep) in
       ap valueOf (sym (x .reads) ∙ ap (read n) same-bytes ∙ y .reads)
@@ -129,7 +159,7 @@ module _ (S : Setting) where
     round-is x d = at x d .since .round ∙ start-round S u opened
 
     -- a good SUBMIT isn't refused
-    gives-hears : (x : Called) → List·Memᴰ x list → (seat : ℕ) (layout : List ℕ) (g : GivesGood x seat layout) → Hears S x seat layout (g .signature)
+    gives-hears : (x : Called) → List·Memᴰ x list → (seat : ℕ) (layout : List ℕ) (g : GivesGood S x seat layout) → Hears S x seat layout (g .signature)
     unfolding isForStep roundOf seatsOf entrySeats signed rising step resultBy
     gives-hears x d seat layout g =
         let r = x .unit in
@@ -156,7 +186,7 @@ module _ (S : Setting) where
         }
 
     -- and a SUBMIT that isn't refused is good
-    hears-gives : (x : Called) → List·Memᴰ x list → (seat : ℕ) (layout signature : List ℕ) → Hears S x seat layout signature → GivesGood x seat layout
+    hears-gives : (x : Called) → List·Memᴰ x list → (seat : ℕ) (layout signature : List ℕ) → Hears S x seat layout signature → GivesGood S x seat layout
     unfolding seatsOf signed
     hears-gives x d seat layout signature h =
         let fit = hears-fit S x seat layout signature h in
@@ -188,7 +218,7 @@ module _ (S : Setting) where
       abbrev KeptIt : Record → List ℕ → Type 0
       KeptIt r store = In seat (r .kept) × (keptValue (r .n) store seat ≡ layout)
 
-      agrees-next : (x : Called) → List·Memᴰ x list → ((other : List ℕ) → GivesGood x seat other → other ≡ layout) → Of S Agrees (x .unit) (x .store) → Of S Agrees (resultOf S x .unit) (resultOf S x .store)
+      agrees-next : (x : Called) → List·Memᴰ x list → ((other : List ℕ) → GivesGood S x seat other → other ≡ layout) → Of S Agrees (x .unit) (x .store) → Of S Agrees (resultOf S x .unit) (resultOf S x .store)
       agrees-next x d one of =
           kept-next S Agrees x of (λ s value signature h e. one value (hears-gives x d seat value signature (subst (λ t. Hears S x t value signature) e h)))
 
@@ -198,7 +228,7 @@ module _ (S : Setting) where
           (a .kept ∙ i .0, ap (λ m. keptValue m (resultOf S x .store) seat) (call-does S x .0) ∙ a .value ∙ i .1)
 
       first-kept : (r : Record) (store : List ℕ) (before : List Called) (t : Called) (after : List Called) → Chain r store (before ++ t ∷ after) → Each Ready before
-          → Of S Agrees r store → FirstIs seat layout before → KeptIt (t .unit) (t .store)
+          → Of S Agrees r store → FirstIs S seat layout before → KeptIt (t .unit) (t .store)
       unfolding Chain FirstIs
       first-kept r store [] t after c each of first = absurd first
       first-kept r store (x ∷ xs) t after c each of first =
@@ -213,10 +243,11 @@ module _ (S : Setting) where
           (λ later. first-kept (resultOf S x .unit) (resultOf S x .store) xs t after (c .2) rest (agrees-next x (e .0) (later .0) here) (later .1))
           first
 
-    -- ---- the claim
+    -- ---- the call of the own submit
 
-    -- the list has the calls `before`, then t, a submit that isn't refused
-    module _ (before : List Called) (t : Called) (after : List Called) (split : listOf S u ≡ before ++ t ∷ after) (s : SubmitsNow S t) where
+    module _ (h : SubmitsAfter S u) where
+      open SubmitsAfter h using (before, call as t, after, split, submits as s, others, apart, enough, given)
+
       chain : Chain (startOf S u opened) (u .store) (before ++ t ∷ after)
       chain = subst (Chain (startOf S u opened) (u .store)) split (chain-of (startOf S u opened) (u .store) (u .calls))
 
@@ -252,25 +283,60 @@ module _ (S : Setting) where
           go true e = absurd (true≢false (sym (at x (earlier-inList x d) .after .grows .said e .0) ∙ earlier-unsaid x d))
           go false e = refl
 
-      -- the seats of `others`, and not the own one, whose first good SUBMIT was over the layout: k − 1 or more
-      module _ (others : ℕ) (apart : bit (u .seat) others ≡ 0) (enough : k n ≤ size others + 1) (given : (seat : ℕ) → In seat others → FirstIs seat (s .layout) before) where
-        kept-it : (seat : ℕ) → In seat others → KeptIt seat (s .layout) (t .unit) (t .store)
-        kept-it seat i =
-            first-kept seat (s .layout) (startOf S u opened) (u .store) before t after chain ready (λ x e. absurd (omega (arith, ap (bit x) (start-none S u opened), bit-empty x))) (given seat i)
+      kept-it : (seat : ℕ) → In seat others → KeptIt seat (s .layout) (t .unit) (t .store)
+      kept-it seat i =
+          first-kept seat (s .layout) (startOf S u opened) (u .store) before t after chain ready (λ x e. absurd (omega (arith, ap (bit x) (start-none S u opened), bit-empty x))) (given seat i)
 
-        result-is : resultOf S t .unit ≡ submitted (s .layout) (s .signature) (start (t .unit) (t .store)) .unit
-        unfolding cameTo
-        result-is = unrefused-result S t (s .unrefused) .1 ∙ ap (λ c. cameTo c (t .unit) (t .store) .unit) (s .carries)
+      result-is : resultOf S t .unit ≡ submitted (s .layout) (s .signature) (start (t .unit) (t .store)) .unit
+      unfolding cameTo
+      result-is = unrefused-result S t (s .unrefused) .1 ∙ ap (λ c. cameTo c (t .unit) (t .store) .unit) (s .carries)
 
-        -- it has confirmed
-        pub confirmed-there : resultOf S t .unit .confirmed ≡ true
-        confirmed-there =
-            let z = at t inList in
-            let size-t = size-is t inList in
-            ap (λ (r : Record). r .confirmed) result-is
-            ∙ confirms-at-once checks Any (s .layout) (s .signature) (start (t .unit) (t .store)) (z .sound) (fit .lent .storeRoom) (fit .first) (fit .sizedValue) (record { checked = fit .checked; sized = fit .sizedSignature; worthy = tt })
-            others (λ seat i. kept-it seat i .0) (ap (λ seat. bit seat others) (z .since .seat ∙ start-seat S u opened) ∙ apart) (λ seat i. kept-it seat i .1) (subst (λ m. k m ≤ size others + 1) (sym size-t) enough)
+      -- it has confirmed
+      confirmed-there : resultOf S t .unit .confirmed ≡ true
+      confirmed-there =
+          let z = at t inList in
+          let size-t = size-is t inList in
+          ap (λ (r : Record). r .confirmed) result-is
+          ∙ confirms-at-once checks Any (s .layout) (s .signature) (start (t .unit) (t .store)) (z .sound) (fit .lent .storeRoom) (fit .first) (fit .sizedValue) (record { checked = fit .checked; sized = fit .sizedSignature; worthy = tt })
+          others (λ seat i. kept-it seat i .0) (ap (λ seat. bit seat others) (z .since .seat ∙ start-seat S u opened) ∙ apart) (λ seat i. kept-it seat i .1) (subst (λ m. k m ≤ size others + 1) (sym size-t) enough)
 
-        -- and the NOTICE of the layout stands in what this call writes
-        pub notice-there : StandsIn n (Notice round (u .seat) (s .layout)) (writtenIn S t)
-        notice-there = ?
+      unconfirmed : (b : Bool) → t .unit .confirmed ≡ b → b ≡ false
+      unconfirmed true e = absurd (true≢false (sym (confirmed-submitted checks Any (t .unit) (t .store) (at t inList .sound) e) ∙ fit .first))
+      unconfirmed false e = refl
+
+      worth-unconfirmed : worth (t .unit .confirmed) ≡ 0
+      unfolding worth
+      worth-unconfirmed = rw (unconfirmed (t .unit .confirmed) refl)
+
+      -- a NOTICE that this call writes is its own
+      own-notice : (ρ seat : ℕ) (value : List ℕ) → Said (resultOf S t .unit) ρ seat value → Notice ρ seat value ≡ Notice round (u .seat) (s .layout)
+      own-notice ρ seat value g =
+          let z = at t inList in
+          let value-is : resultOf S t .unit .own .value ≡ s .layout = ap (λ (r : Record). r .own .value) result-is ∙ submitted-value checks Any (s .layout) (s .signature) (start (t .unit) (t .store)) (z .sound) (fit .lent .storeRoom) (fit .first) (fit .sizedValue) (record { checked = fit .checked; sized = fit .sizedSignature; worthy = tt }) .1 in
+          let e : ρ ≡ round = g .ofRound ∙ z .after .grows .round ∙ round-is t inList in
+          let f : seat ≡ u .seat = g .ofSeat ∙ z .after .grows .seat ∙ z .since .seat ∙ start-seat S u opened in
+          let h : value ≡ s .layout = g .ofValue ∙ value-is in
+          rw (e, f, h)
+
+      -- and the NOTICE of the layout stands in what this call writes
+      notice-there : StandsIn n (Notice round (u .seat) (s .layout)) (writtenIn S t)
+      unfolding isNotice
+      notice-there =
+          let z = at t inList in
+          let n-is = count-member (isOf NOTICE) (messages S t) (omega (arith, z .after .counts NOTICE, worth-true (resultOf S t .unit .confirmed) confirmed-there, worth-unconfirmed)) in
+          notice-cases (λ m. List·Memᴰ m (messages S t) → Good checks Any (resultOf S t .unit) m → StandsIn n (Notice round (u .seat) (s .layout)) (writtenIn S t)) (n-is .0) (n-is .2)
+          (λ ρ seat value d g. (messages S t, written-are S u opened Any (any-worthy S list) t inList, subst (λ m. List·Memᴰ m (messages S t)) (own-notice ρ seat value g) d))
+          (n-is .1) (z .after .good (n-is .0) (n-is .1))
+
+-- ---- the claim
+
+-- "a unit that submits after it was given good SUBMITs of the same value by k − 1 or more other seats, in buffers of the stated lengths,
+-- confirms in that very call": the result has confirmed set, and the NOTICE of the layout stands in what the call writes
+pub confirms-in-that-call : (S : Setting) (u : Honest) → IsOpened S u → (h : SubmitsAfter S u)
+    → (resultOf S (h .call) .unit .confirmed ≡ true) × StandsIn (S .n) (Notice (S .round) (u .seat) (h .submits .layout)) (writtenIn S (h .call))
+confirms-in-that-call S u opened h = (confirmed-there S u opened h, notice-there S u opened h)
+
+-- and so it confirms the layout, in the words of `Round`
+pub confirms-it : (S : Setting) (u : Honest) → IsOpened S u → (h : SubmitsAfter S u) → Confirms S u (h .submits .layout)
+confirms-it S u opened h =
+    (S .round, u .seat, record { call = h .call; inList = inList S u opened h; stands = notice-there S u opened h })

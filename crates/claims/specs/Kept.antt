@@ -1,47 +1,89 @@
 -- SUBMITs kept before the own submit (document 02, item 1): what a call does to what is kept, and what is kept along a list. A flood of
 -- early SUBMITs writes each seat's kept slots once; what is kept was delivered, and nothing is kept after the own submit.
 -- Assumes nothing.
-use mathlib.Core.Path.{_≡_, refl, sym, ap, subst, _∙_}
-use mathlib.Core.Bool.{Bool, true, false, cond, true≢false}
-use mathlib.Core.List.{List, [], _∷_, List·Memᴰ, List·Memᴰ·head, List·Memᴰ·tail, List·Memᴰ·not-nil, List·Memᴰ·cases-cons}
+use mathlib.Core.Path.{_≡_, refl, sym, ap, ap₂, subst, _∙_}
+use mathlib.Core.Bool.{Bool, true, false, cond, not, _&&_, _||_, and-false}
+use mathlib.Core.List.{List, [], _∷_, List·Memᴰ, List·Memᴰ·head, List·Memᴰ·tail}
 use mathlib.Core.Logic.{_⊎_, inl, inr, ⊎-elim, _≢_}
 use Prim.Native.Nat.{ℕ, zero, suc, _≤_, _<_}
 use native.Mathlib.Omega.{arith}
 use native.Mathlib.Decide.{ℕ-discrete}
+use lib.Dec.{ltb, eqb}
 use lib.ListN.{length}
-use Rattle.quorum.specs.Quorum.{bit, In, has, with}
-use Rattle.quorum.specs.QuorumLaws.{bit-empty, bit-cases, bit-with-same, bit-with-other, has-true, has-false}
+use borrow.Author.Tests.{eqb-true, ne-eqb, not-false}
+use Rattle.quorum.specs.Quorum.{k, bit, In, has, size, with}
+use Rattle.quorum.specs.QuorumLaws.{bit-empty, bit-with-same, bit-with-other, has-true, has-false, size-empty}
 use Rattle.refusal.specs.Refusal.{firstOf, unrefused}
+use Rattle.refusal.specs.RefusalLaws.{both-false}
 use Rattle.protocol.specs.Layout.{valueLength, signatureLength, storeLength, keptBank, keptValueBank, slotLength}
 use Rattle.protocol.specs.LayoutLaws.{kept-bank, kept-value-bank}
 use Rattle.protocol.specs.Message.{Message, Submit, Notice, Full, Evidence, Garbled, Signed, read, signed, seatsOf, roundOf}
-use Rattle.protocol.specs.Certificate.{keptValue, keptSignature, ownCertificate}
-use Rattle.protocol.specs.Record.{fresh}
+use Rattle.protocol.specs.Certificate.{keptValue, keptSignature}
+use Rattle.protocol.specs.Record.{fresh, outOfRange, wrongHeard, namesStranger, wrongCollected, wrongFirst, lacksFirst, wrongGuilty, wrongSent, wrongKept, wrongUnset, impossible}
 use Rattle.protocol.specs.RecordLaws.{possible}
 use Rattle.protocol.specs.Refusals.{stepConditions}
-use Rattle.protocol.specs.Step.{State, write, keep, keepIfFirst, reply, isComplete, confirm, hearOwn, confirmIfComplete, stepped}
+use Rattle.protocol.specs.Step.{State, keep, keepIfFirst, otherHeard, owesFull, sendFull, reply, isComplete, confirm, hearOwn, confirmIfComplete, stepped}
 use Rattle.protocol.specs.Calls.{Result, resultBy, start}
 use Rattle.protocol.specs.declared.Record.{Record}
 use Rattle.round.specs.Round.{Setting, IsOpened, Call, BySubmit, ByStep, ByThinEntry, Honest, Called, IsStep, Each, EachSigned, Relation, outcome, resultOf, listFrom, listOf, Delivered}
-use Rattle.reading.specs.ListsLaws.{cond-elim, each-nil, each-cons}
+use Rattle.reading.specs.ListsLaws.{cond-elim, and-false-either, each-nil, each-cons}
 use Rattle.reading.specs.Reading.{Sized}
 use Rattle.reading.specs.ReadingLaws.{read-sized}
 use Rattle.reading.specs.Messages.{refusalOf, cameTo}
 use Rattle.reading.specs.MessagesLaws.{outcome-is, step-is, unrefused-result}
 use Rattle.claims.specs.Sound.{Any}
-use Rattle.claims.specs.SlotsLaws.{kept-long, kept-value-same, kept-signature-same, kept-aside}
-use Rattle.claims.specs.KeptPartLaws.{Beside, Aside, Emptied, kept-value-beside, kept-signature-beside, confirmIfComplete-aside, submitted-emptied, stepped-early, late-aside, notice-aside, full-aside, aside-refl}
-use Rattle.claims.specs.Parts.{in-below}
-use Rattle.claims.specs.Whole.{reply-stays, hearing-stays}
+use Rattle.claims.specs.SlotsLaws.{kept-value-same, kept-signature-same, kept-aside}
+use Rattle.claims.specs.KeptPartLaws.{Aside, kept-value-beside, kept-signature-beside, submitted-emptied, stepped-early, late-aside, notice-aside, full-aside, aside-refl}
+use Rattle.claims.specs.Parts.{k-pos, in-below}
 use Rattle.claims.specs.UnrefusedLaws.{Taken}
 use Rattle.claims.specs.NotRefused.{StepFit, submit-fit, step-fit}
 use Rattle.claims.specs.Units.{any-worthy, startOf, opened-fresh, start-n, stop}
 
-confirmIfComplete-kept : (s : State) → confirmIfComplete s .unit .kept ≡ s .unit .kept
-unfolding confirmIfComplete hearOwn confirm write
-confirmIfComplete-kept s =
-    cond-elim (λ (x : State). x .unit .kept ≡ s .unit .kept) (isComplete (s .unit)) (hearOwn (confirm s)) (reply s)
-    (λ e. hearing-stays (ownCertificate (confirm s .unit) (confirm s .store)) (confirm s) .kept) (λ e. reply-stays s .kept)
+-- ---- before the own submit
+
+-- nothing is complete, and no FULL is owed
+confirmIfComplete-quiet : (s : State) → s .unit .confirmed ≡ false → size (s .unit .own .collected) ≢ k (s .unit .n) → confirmIfComplete s ≡ s
+unfolding confirmIfComplete isComplete reply owesFull
+confirmIfComplete-quiet s unconfirmed few =
+    ap (λ (b : Bool). cond (not (s .unit .confirmed) && b) (hearOwn (confirm s)) (reply s)) (ne-eqb (size (s .unit .own .collected)) (k (s .unit .n)) few)
+    ∙ ap (λ (b : Bool). cond b (hearOwn (confirm s)) (reply s)) (and-false (not (s .unit .confirmed)))
+    ∙ ap (λ (b : Bool). cond (b && not (s .unit .sent) && otherHeard (s .unit)) (sendFull s) s) unconfirmed
+
+module _ (r : Record) (right : impossible r ≡ false) (unsaid : r .own .submitted ≡ false) where
+  uncollected : size (r .own .collected) ≢ k (r .n)
+  uncollected e =
+      let z = possible r right in
+      let none = ap size (z .unsaid unsaid) ∙ size-empty in
+      let some = k-pos (r .n) (z .range .some) in
+      omega arith
+
+  collected-right : wrongCollected r ≡ false
+  unfolding impossible
+  collected-right =
+      let kept = both-false _ (wrongUnset r) right .0 in
+      let sent = both-false _ (wrongKept r) kept .0 in
+      let guilty = both-false _ (wrongSent r) sent .0 in
+      let lacks = both-false _ (wrongGuilty r) guilty .0 in
+      let first = both-false _ (lacksFirst r) lacks .0 in
+      let collected = both-false _ (wrongFirst r) first .0 in
+      both-false (outOfRange r || wrongHeard r || namesStranger r) (wrongCollected r) collected .1
+
+  unconfirmed : r .confirmed ≡ false
+  unfolding wrongCollected
+  unconfirmed =
+      let c = r .own .collected in
+      let full = eqb (size c) (k (r .n)) in
+      let front = not (r .own .submitted) && not (eqb c 0) || r .own .submitted && not (has (r .seat) c) || ltb (k (r .n)) (size c) || full && not (r .confirmed) in
+      ⊎-elim (λ e. e) (λ e. absurd (uncollected (eqb-true (size c) (k (r .n)) (not-false full e)))) (and-false-either (r .confirmed) (not full) (both-false front (r .confirmed && not full) collected-right .1))
+
+keeping-quiet : (r : Record) (store : List ℕ) (seat : ℕ) (value signature : List ℕ) → impossible r ≡ false → r .own .submitted ≡ false
+    → confirmIfComplete (keepIfFirst seat value signature (start r store)) ≡ keepIfFirst seat value signature (start r store)
+unfolding keepIfFirst keep
+keeping-quiet r store seat value signature right unsaid =
+    let s = start r store in
+    cond-elim (λ (x : State). confirmIfComplete x ≡ x) (has seat (r .kept)) s (keep seat value signature s)
+    (λ e. confirmIfComplete-quiet s (unconfirmed r right unsaid) (uncollected r right unsaid))
+    (λ e. confirmIfComplete-quiet (keep seat value signature s) (unconfirmed r right unsaid) (uncollected r right unsaid))
 
 -- ---- one call, with any record and store
 
@@ -117,34 +159,33 @@ module _ (S : Setting) where
       room = fit .lent .storeRoom
 
       early-does : (seat : ℕ) (value signature : List ℕ) → read (r .n) bytes ≡ Submit (r .round) seat value signature → seat < r .n → length value ≡ valueLength → length signature ≡ signatureLength → r .own .submitted ≡ false
-          → Does t (came (confirmIfComplete (keepIfFirst seat value signature first)))
+          → Does t (came (keepIfFirst seat value signature first))
       unfolding keepIfFirst keep resultBy unrefused
       early-does seat value signature reads inside v g unsaid =
-          cond-elim (λ u. Does t (came (confirmIfComplete u))) (has seat (r .kept)) first (keep seat value signature first)
-          (λ e. aside-does (confirmIfComplete first) (confirmIfComplete-aside first room))
+          cond-elim (λ u. Does t (came u)) (has seat (r .kept)) first (keep seat value signature first)
+          (λ e. aside-does first (aside-refl first))
           (λ e.
-          let n = r .n in
-          let u = keep seat value signature first in
           let wide : length signature ≡ slotLength keptBank = g ∙ sym (kept-bank .1) in
-          let long = kept-long n seat value signature (t .store) inside room v wide in
-          let a = confirmIfComplete-aside u (rw long room) in
-          let values = kept-value-beside n (u .store) (confirmIfComplete u .store) (a .beside) in
-          let signatures = kept-signature-beside n (u .store) (confirmIfComplete u .store) (a .beside) in
-          let value-is : keptValue n (confirmIfComplete u .store) seat ≡ value = values seat ∙ kept-value-same n seat value signature (t .store) inside room v wide in
-          let signature-is : keptSignature n (confirmIfComplete u .store) seat ≡ signature = signatures seat ∙ kept-signature-same n seat value signature (t .store) inside room v wide in
-          let aside = kept-aside n seat value signature (t .store) inside room v wide in
-          (a .n, inr (inr (seat, record {
-            early = unsaid;
-            new = has-false seat (r .kept) .0 e;
-            inside = inside;
-            kept = a .kept;
-            hears = record { bytes = bytes; out = out; isStep = is; reads = rw (value-is, signature-is) reads; unrefused = passes };
-            others = λ other l d. record {
-              kept = ap (bit other) (a .kept) ∙ bit-with-other other seat (r .kept) d;
-              value = values other ∙ aside keptValueBank other (kept-value-bank .0) l (λ _ q. d (sym q)) (λ q _. omega arith);
-              signature = signatures other ∙ aside keptBank other (kept-bank .0) l (λ q _. omega arith) (λ _ q. d (sym q));
-            };
-          }))))
+          let value-is = kept-value-same (r .n) seat value signature (t .store) inside room v wide in
+          let signature-is = kept-signature-same (r .n) seat value signature (t .store) inside room v wide in
+          let aside = kept-aside (r .n) seat value signature (t .store) inside room v wide in (
+            refl,
+            inr (inr (
+              seat,
+              record {
+                early = unsaid;
+                new = has-false seat (r .kept) .0 e;
+                inside = inside;
+                kept = refl;
+                hears = record { bytes = bytes; out = out; isStep = is; reads = rw (value-is, signature-is) reads; unrefused = passes };
+                others = λ other l d. record {
+                  kept = bit-with-other other seat (r .kept) d;
+                  value = aside keptValueBank other (kept-value-bank .0) l (λ _ q. d (sym q)) (λ q _. omega arith);
+                  signature = aside keptBank other (kept-bank .0) l (λ q _. omega arith) (λ _ q. d (sym q));
+                };
+              },
+            )),
+          ))
 
       heard-does : (m : Message) → read (r .n) bytes ≡ m → Taken checks (r .n) (r .round) m → Sized (r .n) m → Does t (came (stepped m first))
       unfolding stepped roundOf seatsOf
@@ -153,7 +194,7 @@ module _ (S : Setting) where
           go : (b : Bool) → r .own .submitted ≡ b → Does t (came (stepped (Submit ρ seat value signature) first))
           go true said = aside-does (stepped (Submit ρ seat value signature) first) (late-aside first room ρ seat value signature said (taken .inside seat (List·Memᴰ·head refl)) (omega (arith, sized .1)))
           go false unsaid =
-              subst (λ s. Does t (came s)) (sym (stepped-early ρ seat value signature first unsaid))
+              subst (λ s. Does t (came s)) (sym (stepped-early ρ seat value signature first unsaid ∙ keeping-quiet (t .unit) (t .store) seat value signature (fit .lent .possible) unsaid))
               (early-does seat value signature (reads ∙ ap (λ i. Submit i seat value signature) (taken .inRound)) (taken .inside seat (List·Memᴰ·head refl)) (sized .0) (sized .1) unsaid)
       heard-does (Notice ρ seat value) reads taken sized = aside-does (stepped (Notice ρ seat value) first) (notice-aside first room ρ seat value)
       heard-does (Full ρ sender value es) reads taken sized = aside-does (stepped (Full ρ sender value es) first) (full-aside first room ρ sender value es (sized .2))
@@ -179,6 +220,7 @@ module _ (S : Setting) where
     by-number zero s f = f refl
     by-number (suc q) s f = refused-does q s
 
+    -- every call does one of the three, with any record and store
     pub call-does : Does t (resultOf S t)
     unfolding resultBy
     call-does =
@@ -200,15 +242,22 @@ module _ (S : Setting) where
 
     -- ---- the claims about one call
 
-    -- "A SUBMIT heard before the own submit is now checked, and the first good one from each seat is kept": after it the seat is kept
+    -- "A SUBMIT heard before the own submit is now checked, and the first good one from each seat is kept with its value", and nothing
+    -- else happens: of the record only the seats kept change, of the store only the seat's two slots, and nothing is written
+    pub early-alone : (seat : ℕ) (value signature : List ℕ) → Hears t seat value signature → t .unit .own .submitted ≡ false
+        → resultOf S t ≡ resultBy 0 (keepIfFirst seat value signature (start (t .unit) (t .store))) (t .unit) (t .store)
+    early-alone seat value signature h unsaid =
+        let is = step-is S (t .given) (h .bytes) (h .out) (t .unit) (t .store) (h .isStep) in
+        let fit = hears-fit seat value signature h in
+        outcome-is S (t .given) (t .unit) (t .store)
+        ∙ ap₂ (λ q s. resultBy q s (t .unit) (t .store)) (unrefused-result S t (h .unrefused) .0)
+        (is .1 ∙ ap (λ (m : Message). stepped m first) (h .reads) ∙ stepped-early (r .round) seat value signature first unsaid ∙ keeping-quiet (t .unit) (t .store) seat value signature (fit .lent .possible) unsaid)
+
+    -- and so the seat is kept
     pub early-kept : (seat : ℕ) (value signature : List ℕ) → Hears t seat value signature → t .unit .own .submitted ≡ false → In seat (resultOf S t .unit .kept)
-    unfolding keepIfFirst keep
+    unfolding keepIfFirst keep resultBy unrefused
     early-kept seat value signature h unsaid =
-        let came-to : resultOf S t .unit ≡ stepped (read (r .n) (h .bytes)) first .unit = unrefused-result S t (h .unrefused) .1 ∙ ap (λ (s : State). s .unit) (step-is S (t .given) (h .bytes) (h .out) (t .unit) (t .store) (h .isStep) .1) in
-        let kept : resultOf S t .unit .kept ≡ keepIfFirst seat value signature first .unit .kept =
-        ap (λ (x : Record). x .kept) came-to ∙ ap (λ (m : Message). stepped m first .unit .kept) (h .reads)
-        ∙ ap (λ (s : State). s .unit .kept) (stepped-early (r .round) seat value signature first unsaid) ∙ confirmIfComplete-kept (keepIfFirst seat value signature first) in
-        ap (bit seat) kept
+        ap (λ (x : Result). bit seat (x .unit .kept)) (early-alone seat value signature h unsaid)
         ∙ cond-elim (λ (s : State). In seat (s .unit .kept)) (has seat (r .kept)) first (keep seat value signature first) (λ e. has-true seat (r .kept) .0 e) (λ e. bit-with-same seat (r .kept))
 
     -- "the first good one from each seat is kept": once a seat is kept, no call but the own submit changes its share

@@ -15,14 +15,13 @@ use Rattle.quorum.specs.Quorum.{seats}
 use Rattle.quorum.specs.QuorumLaws.{mem-seats}
 use Rattle.protocol.specs.Layout.{signatureLength, banks, collectedBank, firstBank, keptBank, keptValueBank, lengthOfBanks, banksBefore, slotLengthIn, slotLength, storeLength, slotAt}
 use Rattle.protocol.specs.LayoutLaws.{collected-bank, kept-bank}
-use Rattle.protocol.specs.Message.{Entry, Message, Submit, Notice, Full, Evidence, Garbled, fullForm}
+use Rattle.protocol.specs.Message.{Entry, Submit, Notice, Full, fullForm}
 use Rattle.protocol.specs.Entries.{Laid}
 use Rattle.protocol.specs.Certificate.{Certificate, slot, fill, fillEach, keptValue, keptSignature, ownCertificate, signatureOf, certificateOf, certificateIn}
 use Rattle.protocol.specs.Record.{holds}
 use Rattle.protocol.specs.Step.{State, write, collect, setOwnValue, submitOwn, isWanted, collectIfWanted, keepIfFirst, hearSubmit, isOpenTo, collectKeptSeat, collectKeptBelow, emptyKept, collectKept, hear, owesFull, sendFull, reply, hold, blame, blames, holdOrBlame, hearCertificate, isComplete, confirm, hearOwn, confirmIfComplete, submitted, stepped}
 use Rattle.round.specs.Round.{Each}
 use Rattle.reading.specs.ListsLaws.{cond-elim}
-use Rattle.reading.specs.Reading.{Sized}
 use Rattle.claims.specs.Sound.{Room}
 
 -- ---- the kept part
@@ -126,7 +125,7 @@ pub record Aside (s s′ : State) : Type 0 where
   pub kept : s′ .unit .kept ≡ s .unit .kept
   pub beside : Beside (s .unit .n) (s .store) (s′ .store)
 
-aside-trans : (a b c : State) → Aside a b → Aside b c → Aside a c
+pub aside-trans : (a b c : State) → Aside a b → Aside b c → Aside a c
 aside-trans a b c p q = record {
   n = q .n ∙ p .n;
   kept = q .kept ∙ p .kept;
@@ -143,7 +142,7 @@ aside-refl s = record { n = refl; kept = refl; beside = beside-refl (s .unit .n)
 aside-still : (s s′ : State) → s′ .unit .n ≡ s .unit .n → s′ .unit .kept ≡ s .unit .kept → s′ .store ≡ s .store → Aside s s′
 aside-still s s′ n kept e = record { n = n; kept = kept; beside = rw e (beside-refl (s .unit .n) (s .store)) }
 
-collect-aside : (seat : ℕ) (signature : List ℕ) (s : State) → seat < s .unit .n → Short signature → Room s → Aside s (collect seat signature s)
+pub collect-aside : (seat : ℕ) (signature : List ℕ) (s : State) → seat < s .unit .n → Short signature → Room s → Aside s (collect seat signature s)
 unfolding collect
 collect-aside seat signature s l g room =
     record { n = refl; kept = refl; beside = fill-beside (s .unit .n) collectedBank seat signature (s .store) (omega arith) l g room }
@@ -153,7 +152,7 @@ unfolding collectIfWanted
 collectIfWanted-aside seat value signature s l g room =
     cond-elim (Aside s) (isWanted seat value (s .unit)) (collect seat signature s) s (λ e. collect-aside seat signature s l g room) (λ e. aside-refl s)
 
-submitOwn-aside : (value signature : List ℕ) (s : State) → s .unit .seat < s .unit .n → Short signature → Room s → Aside s (submitOwn value signature s)
+pub submitOwn-aside : (value signature : List ℕ) (s : State) → s .unit .seat < s .unit .n → Short signature → Room s → Aside s (submitOwn value signature s)
 unfolding submitOwn write collect setOwnValue
 submitOwn-aside value signature s l g room =
     record { n = refl; kept = refl; beside = fill-beside (s .unit .n) collectedBank (s .unit .seat) signature (s .store) (omega arith) l g room }
@@ -217,7 +216,7 @@ unfolding hearOwn ownCertificate
 hearOwn-aside s room =
     hearCertificate-aside (ownCertificate (s .unit) (s .store)) (λ t. slot-short (s .unit .n) collectedBank (s .store) t (collected-bank .1)) s room
 
-pub confirmIfComplete-aside : (s : State) → Room s → Aside s (confirmIfComplete s)
+confirmIfComplete-aside : (s : State) → Room s → Aside s (confirmIfComplete s)
 unfolding confirmIfComplete
 confirmIfComplete-aside s room =
     let c = confirm-aside s in

@@ -2,7 +2,8 @@
 --
 -- The claims are in `Claim` (the whole of demand 3, with an order of reading) and at the end of `Once` (demand 1); the two halves of
 -- demand 3 are at the end of `Safe` and of `Blamed`, and the claim about evidence made from two certificates is at the end of `Made`.
--- Crate `examples` has rounds in which their premises hold.
+-- Crate `examples` has rounds in which their premises hold. The claims of document 02, item 1, are in `Kept` (what is kept of early
+-- SUBMITs), `Before` (answers as before) and at the end of `Gain` (a unit that has kept enough confirms at its submit).
 --
 -- `Sound` has the invariant of record and store along a list; `Parts` and `KeptLaws` prove it for the parts of a step, `Whole`
 -- for a whole step, `Journey` and `Units` for a list. The files named `..Laws` have laws for these.
