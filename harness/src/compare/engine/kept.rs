@@ -12,7 +12,7 @@ use crate::reference::layout::{self, SEAT_AT, SIGNATURE_AT};
 use crate::reference::lms::PUBLIC_KEY;
 use crate::reference::messages::{Submit, Value};
 use crate::reference::record::Record;
-use crate::reference::seats::mask;
+use crate::reference::seats::{mask, size};
 use crate::rng::Rng;
 
 /// What the lists must come by.
@@ -260,10 +260,11 @@ impl<'a> Unit<'a> {
         Ok(())
     }
 
-    /// SUBMITs of one seat, good and forged: the slots of that seat change once, and no other byte does.
+    /// SUBMITs of one seat, good and forged: the slots of that seat change at most once, and no other byte does.
     fn flood(&mut self, rng: &mut Rng) -> Result<(), String> {
-        let seat = self.any_seat(rng);
-        for _ in 0..5 {
+        let (n, seat) = (self.fleet.n, self.any_seat(rng));
+        let mut before = self.store.clone();
+        for _ in 0..10 {
             self.hear(seat, rng)?;
             let mut forged = self.any_submit(seat, rng);
             flip_bit(&mut forged.signature, rng);
@@ -272,11 +273,14 @@ impl<'a> Unit<'a> {
             equal("the store after a forged one", after.store == self.store, true)?;
         }
         self.count("step: a flood of one seat");
-        Ok(())
+        for slot in [layout::kept(n, seat), layout::kept_value(n, seat)] {
+            before[slot.clone()].copy_from_slice(&self.store[slot]);
+        }
+        equal("the store but for the seat's slots", self.store == before, true)
     }
 
-    /// Submits beside the list, in a damaged store or with other keys: nothing that was kept is checked again. Only a damaged value
-    /// tells, since a kept seat's value is what the store says.
+    /// Submits beside the list, in a damaged store or with other keys: nothing that was kept is checked again, and the unit comes to the
+    /// same record. Only a damaged value tells, since a kept seat's value is what the store says.
     fn damaged(&mut self, rng: &mut Rng) -> Result<(), String> {
         let right = self.own_submit(rng);
         let expected = both(self.subject, &right, rng)?.record;
@@ -303,10 +307,13 @@ impl<'a> Unit<'a> {
             self.fleet.seats().into_iter().for_each(|seat| damage(self, seat, &mut case, rng));
             let after = both(self.subject, &case, rng).map_err(|difference| format!("{what}: {difference}"))?;
             equal(what, (after.number, after.checks), (0, 1))?;
-            if what != "kept values damaged" {
-                equal(what, after.record, expected)?;
+            let differs = after.record != expected;
+            if what == "kept values damaged" {
+                self.count_if(differs, "submit: kept values damaged");
+            } else {
+                equal(what, differs, false)?;
+                self.count_if(size(expected.own.collected) > 1, &format!("submit: {what}"));
             }
-            self.count(&format!("submit: {what}"));
         }
         Ok(())
     }
