@@ -51,7 +51,7 @@ fn set_own_value(r: Record, value: [u8; 32]) -> Record
     with_own(r, own)
 }
 
-// Submit: the value is kept, the own signature collected, SUBMIT written from the start of `out`.
+// Submit: the own value is set, the own signature collected, SUBMIT written from the start of `out`.
 pub(crate) fn submit_own(
     r: Record,
     store: &mut [u8],

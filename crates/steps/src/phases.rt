@@ -1,4 +1,4 @@
-// Submit and step once nothing is refused (document 01, "Steps"), as phases one after another.
+// Submit and step once nothing is refused (document 01, "Steps"; document 02, item 1), as phases one after another.
 ghost use mathlib.Core.Path.{_≡_};
 ghost use mathlib.Core.Bool.{false};
 ghost use lib.ListN.{length};
