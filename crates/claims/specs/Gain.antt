@@ -29,7 +29,7 @@ use Rattle.claims.specs.UnrefusedLaws.{possible, Taken}
 use Rattle.claims.specs.NotRefused.{Table, StepFit, SubmitFit, submit-fit, step-not-refused}
 use Rattle.claims.specs.Journey.{At, submit-value}
 use Rattle.claims.specs.Units.{any-worthy, startOf, endOf, opened-fit, start-n, start-seat, start-round, stop, written-are}
-use Rattle.claims.specs.Kept.{SubmitsNow, Hears, hears-fit, early-kept, kept-stays, call-does, Of, kept-next, start-none}
+use Rattle.claims.specs.Kept.{SubmitsNow, Hears, hears-fit, early-kept, kept-stays, call-does, OfKept, kept-next, start-none}
 use Rattle.claims.specs.CollectKeptLaws.{confirms-at-once}
 
 -- ---- the notions of the claim
@@ -218,7 +218,7 @@ module _ (S : Setting) where
       abbrev KeptIt : Record → List ℕ → Type 0
       KeptIt r store = In seat (r .kept) × (keptValue (r .n) store seat ≡ layout)
 
-      agrees-next : (x : Called) → List·Memᴰ x list → ((other : List ℕ) → GivesGood S x seat other → other ≡ layout) → Of S Agrees (x .unit) (x .store) → Of S Agrees (resultOf S x .unit) (resultOf S x .store)
+      agrees-next : (x : Called) → List·Memᴰ x list → ((other : List ℕ) → GivesGood S x seat other → other ≡ layout) → OfKept S Agrees (x .unit) (x .store) → OfKept S Agrees (resultOf S x .unit) (resultOf S x .store)
       agrees-next x d one of =
           kept-next S Agrees x of (λ s value signature h e. one value (hears-gives x d seat value signature (subst (λ t. Hears S x t value signature) e h)))
 
@@ -228,12 +228,12 @@ module _ (S : Setting) where
           (a .kept ∙ i .0, ap (λ m. keptValue m (resultOf S x .store) seat) (call-does S x .0) ∙ a .value ∙ i .1)
 
       first-kept : (r : Record) (store : List ℕ) (before : List Called) (t : Called) (after : List Called) → Chain r store (before ++ t ∷ after) → Each Ready before
-          → Of S Agrees r store → FirstIs S seat layout before → KeptIt (t .unit) (t .store)
+          → OfKept S Agrees r store → FirstIs S seat layout before → KeptIt (t .unit) (t .store)
       unfolding Chain FirstIs
       first-kept r store [] t after c each of first = absurd first
       first-kept r store (x ∷ xs) t after c each of first =
           let e = each x (List·Memᴰ·head refl) in
-          let here : Of S Agrees (x .unit) (x .store) = subst₂ (Of S Agrees) (sym (c .0)) (sym (c .1)) of in
+          let here : OfKept S Agrees (x .unit) (x .store) = subst₂ (OfKept S Agrees) (sym (c .0)) (sym (c .1)) of in
           let rest : Each Ready xs = λ y d. each y (List·Memᴰ·tail d) in
           ⊎-elim
           (λ gives.

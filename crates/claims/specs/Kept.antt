@@ -87,8 +87,8 @@ keeping-quiet r store seat value signature right unsaid =
 
 -- ---- one call, with any record and store
 
--- of what is kept, a seat's share is as before: whether the seat is kept, its value, and its signature
-pub record AsBefore (r : Record) (store : List ℕ) (r′ : Record) (store′ : List ℕ) (seat : ℕ) : Type 0 where
+-- of what is kept, a seat's share is the same: whether the seat is kept, its value, and its signature
+pub record SameShare (r : Record) (store : List ℕ) (r′ : Record) (store′ : List ℕ) (seat : ℕ) : Type 0 where
   pub kept : bit seat (r′ .kept) ≡ bit seat (r .kept)
   pub value : keptValue (r .n) store′ seat ≡ keptValue (r .n) store seat
   pub signature : keptSignature (r .n) store′ seat ≡ keptSignature (r .n) store seat
@@ -112,20 +112,20 @@ module _ (S : Setting) where
     pub reads : read (t .unit .n) bytes ≡ Submit (t .unit .round) seat value signature
     pub unrefused : resultOf S t .refusal ≡ 0
 
-  -- the call keeps the SUBMIT of one more seat, and every other seat's share is as before
+  -- the call keeps the SUBMIT of one more seat, and every other seat's share is the same
   pub record Keeps (t : Called) (x : Result) (seat : ℕ) : Type 0 where
     pub early : t .unit .own .submitted ≡ false
     pub new : bit seat (t .unit .kept) ≡ 0
     pub inside : seat < t .unit .n
     pub kept : x .unit .kept ≡ with seat (t .unit .kept)
     pub hears : Hears t seat (keptValue (t .unit .n) (x .store) seat) (keptSignature (t .unit .n) (x .store) seat)
-    pub others : (other : ℕ) → other < t .unit .n → other ≢ seat → AsBefore (t .unit) (t .store) (x .unit) (x .store) other
+    pub others : (other : ℕ) → other < t .unit .n → other ≢ seat → SameShare (t .unit) (t .store) (x .unit) (x .store) other
 
   -- the three things that a call can do to what is kept: nothing; empty it, in a submit; keep one more
   abbrev Does : Called → Result → Type 0
   Does t x =
       (x .unit .n ≡ t .unit .n)
-      × (((seat : ℕ) → AsBefore (t .unit) (t .store) (x .unit) (x .store) seat)
+      × (((seat : ℕ) → SameShare (t .unit) (t .store) (x .unit) (x .store) seat)
       ⊎ (SubmitsNow t × (x .unit .kept ≡ 0))
       ⊎ ((seat : ℕ) × Keeps t x seat))
 
@@ -234,7 +234,7 @@ module _ (S : Setting) where
         step-fit checks keys (t .unit) (t .store) (h .bytes) (h .out) (sym (step-is S (t .given) (h .bytes) (h .out) (t .unit) (t .store) (h .isStep) .0) ∙ unrefused-result S t (h .unrefused) .0)
 
     -- a seat kept before a call that keeps another one
-    kept-other : (seat : ℕ) → Keeps t (resultOf S t) seat → (other : ℕ) → In other (t .unit .kept) → AsBefore (t .unit) (t .store) (resultOf S t .unit) (resultOf S t .store) other
+    kept-other : (seat : ℕ) → Keeps t (resultOf S t) seat → (other : ℕ) → In other (t .unit .kept) → SameShare (t .unit) (t .store) (resultOf S t .unit) (resultOf S t .store) other
     kept-other seat k other i =
         let fit = hears-fit seat _ _ (k .hears) in
         let below = possible (t .unit) (fit .lent .possible) .kept in
@@ -261,14 +261,14 @@ module _ (S : Setting) where
         ∙ cond-elim (λ (s : State). In seat (s .unit .kept)) (has seat (r .kept)) first (keep seat value signature first) (λ e. has-true seat (r .kept) .0 e) (λ e. bit-with-same seat (r .kept))
 
     -- "the first good one from each seat is kept": once a seat is kept, no call but the own submit changes its share
-    pub kept-stays : (SubmitsNow t → ⊥) → (seat : ℕ) → In seat (t .unit .kept) → AsBefore (t .unit) (t .store) (resultOf S t .unit) (resultOf S t .store) seat
+    pub kept-stays : (SubmitsNow t → ⊥) → (seat : ℕ) → In seat (t .unit .kept) → SameShare (t .unit) (t .store) (resultOf S t .unit) (resultOf S t .store) seat
     kept-stays never seat i = ⊎-elim (λ f. f seat) (λ rest. ⊎-elim (λ e. absurd (never (e .0))) (λ k. kept-other (k .0) (k .1) seat i) rest) (call-does .1)
 
     -- such a call changes the share of one seat at most, and not if that seat is kept
     pub keeps-one : (SubmitsNow t → ⊥)
         → (seat : ℕ)
-        × ((other : ℕ) → other < t .unit .n → other ≢ seat → AsBefore (t .unit) (t .store) (resultOf S t .unit) (resultOf S t .store) other)
-        × (In seat (t .unit .kept) → AsBefore (t .unit) (t .store) (resultOf S t .unit) (resultOf S t .store) seat)
+        × ((other : ℕ) → other < t .unit .n → other ≢ seat → SameShare (t .unit) (t .store) (resultOf S t .unit) (resultOf S t .store) other)
+        × (In seat (t .unit .kept) → SameShare (t .unit) (t .store) (resultOf S t .unit) (resultOf S t .store) seat)
     keeps-one never =
         ⊎-elim (λ f. (0, (λ other l d. f other), λ i. f 0))
         (λ rest. ⊎-elim (λ e. absurd (never (e .0))) (λ k. (k .0, k .1 .others, λ i. kept-other (k .0) (k .1) (k .0) i)) rest)
@@ -276,9 +276,9 @@ module _ (S : Setting) where
 
 -- ---- along a list
 
-as-before-then : (r : Record) (store : List ℕ) (r′ : Record) (store′ : List ℕ) (r″ : Record) (store″ : List ℕ) (seat : ℕ) → r′ .n ≡ r .n → AsBefore r store r′ store′ seat → AsBefore r′ store′ r″ store″ seat
-    → AsBefore r store r″ store″ seat
-as-before-then r store r′ store′ r″ store″ seat e a b = record {
+same-share-then : (r : Record) (store : List ℕ) (r′ : Record) (store′ : List ℕ) (r″ : Record) (store″ : List ℕ) (seat : ℕ) → r′ .n ≡ r .n → SameShare r store r′ store′ seat → SameShare r′ store′ r″ store″ seat
+    → SameShare r store r″ store″ seat
+same-share-then r store r′ store′ r″ store″ seat e a b = record {
   kept = b .kept ∙ a .kept;
   value = subst (λ n. keptValue n store″ seat ≡ keptValue n store′ seat) e (b .value) ∙ a .value;
   signature = subst (λ n. keptSignature n store″ seat ≡ keptSignature n store′ seat) e (b .signature) ∙ a .signature;
@@ -290,31 +290,31 @@ module _ (S : Setting) where
   -- a flood of early SUBMITs: from a record in which a seat is kept, its share is the same at every call of any list without an own
   -- submit. So a seat's two slots are written once.
   pub kept-once : (r : Record) (store : List ℕ) (cs : List Call) (seat : ℕ) → In seat (r .kept) → Each (λ t. SubmitsNow S t → ⊥) (listFrom S r store cs)
-      → Each (λ t. AsBefore r store (t .unit) (t .store) seat) (listFrom S r store cs)
+      → Each (λ t. SameShare r store (t .unit) (t .store) seat) (listFrom S r store cs)
   unfolding listFrom
-  kept-once r store [] seat i never = each-nil (λ t. AsBefore r store (t .unit) (t .store) seat)
+  kept-once r store [] seat i never = each-nil (λ t. SameShare r store (t .unit) (t .store) seat)
   kept-once r store (c ∷ cs) seat i never =
       let t : Called = record { given = c; unit = r; store = store } in
       let x = outcome S c r store in
       let a = kept-stays S t (never t (List·Memᴰ·head refl)) seat i in
       let rest = kept-once (x .unit) (x .store) cs seat (a .kept ∙ i) (λ y d. never y (List·Memᴰ·tail d)) in
-      each-cons (λ y. AsBefore r store (y .unit) (y .store) seat) t (listFrom S (x .unit) (x .store) cs) (record { kept = refl; value = refl; signature = refl })
-      (λ y d. as-before-then r store (x .unit) (x .store) (y .unit) (y .store) seat (call-does S t .0) a (rest y d))
+      each-cons (λ y. SameShare r store (y .unit) (y .store) seat) t (listFrom S (x .unit) (x .store) cs) (record { kept = refl; value = refl; signature = refl })
+      (λ y d. same-share-then r store (x .unit) (x .store) (y .unit) (y .store) seat (call-does S t .0) a (rest y d))
 
   -- a relation that holds of what is kept at the start and of every SUBMIT heard holds of what is kept at every call
   module _ (Q : Relation) where
-    abbrev pub Of : Record → List ℕ → Type 0
-    Of r store = (seat : ℕ) → In seat (r .kept) → Q seat (keptValue (r .n) store seat) (keptSignature (r .n) store seat)
+    abbrev pub OfKept : Record → List ℕ → Type 0
+    OfKept r store = (seat : ℕ) → In seat (r .kept) → Q seat (keptValue (r .n) store seat) (keptSignature (r .n) store seat)
 
-    abbrev pub Heard : Called → Type 0
-    Heard t = (seat : ℕ) (value signature : List ℕ) → Hears S t seat value signature → Q seat value signature
+    abbrev pub OfHeard : Called → Type 0
+    OfHeard t = (seat : ℕ) (value signature : List ℕ) → Hears S t seat value signature → Q seat value signature
 
-    pub kept-next : (t : Called) → Of (t .unit) (t .store) → Heard t → Of (resultOf S t .unit) (resultOf S t .store)
+    pub kept-next : (t : Called) → OfKept (t .unit) (t .store) → OfHeard t → OfKept (resultOf S t .unit) (resultOf S t .store)
     kept-next t of heard seat i =
         let r = t .unit in
         let x = resultOf S t in
         let d = call-does S t in
-        let like : AsBefore r (t .store) (x .unit) (x .store) seat → Q seat (keptValue (x .unit .n) (x .store) seat) (keptSignature (x .unit .n) (x .store) seat) =
+        let like : SameShare r (t .store) (x .unit) (x .store) seat → Q seat (keptValue (x .unit .n) (x .store) seat) (keptSignature (x .unit .n) (x .store) seat) =
         λ a. rw (d .0, a .value, a .signature) (of seat (sym (a .kept) ∙ i)) in
         ⊎-elim (λ f. like (f seat))
         (λ rest. ⊎-elim (λ e. absurd (let z : bit seat (x .unit .kept) ≡ 0 = ap (bit seat) (e .1) ∙ bit-empty seat in omega arith)) (λ k. go (k .0) (k .1) (ℕ-discrete seat (k .0))) rest)
@@ -327,13 +327,13 @@ module _ (S : Setting) where
             let a = kept-other S t new k seat old in
             rw (call-does S t .0, a .value, a .signature) (of seat old)
 
-    kept-of : (r : Record) (store : List ℕ) (cs : List Call) → Of r store → Each Heard (listFrom S r store cs) → Each (λ t. Of (t .unit) (t .store)) (listFrom S r store cs)
+    kept-of : (r : Record) (store : List ℕ) (cs : List Call) → OfKept r store → Each OfHeard (listFrom S r store cs) → Each (λ t. OfKept (t .unit) (t .store)) (listFrom S r store cs)
     unfolding listFrom
-    kept-of r store [] of heard = each-nil (λ t. Of (t .unit) (t .store))
+    kept-of r store [] of heard = each-nil (λ t. OfKept (t .unit) (t .store))
     kept-of r store (c ∷ cs) of heard =
         let t : Called = record { given = c; unit = r; store = store } in
         let x = outcome S c r store in
-        each-cons (λ y. Of (y .unit) (y .store)) t (listFrom S (x .unit) (x .store) cs) of
+        each-cons (λ y. OfKept (y .unit) (y .store)) t (listFrom S (x .unit) (x .store) cs) of
         (kept-of (x .unit) (x .store) cs (kept-next t of (heard t (List·Memᴰ·head refl))) (λ y d. heard y (List·Memᴰ·tail d)))
 
   -- ---- an honest unit's list
