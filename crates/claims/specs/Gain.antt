@@ -20,16 +20,16 @@ use Rattle.protocol.specs.declared.Record.{Record}
 use Rattle.round.specs.Round.{Setting, IsOpened, Each, Relation, Call, BySubmit, ByStep, ByThinEntry, Honest, Called, IsStep, outcome, resultOf, listFrom, listOf, StandsIn, writtenIn, Confirms}
 use Rattle.round.specs.Demand1.{NOTICE, isOf, isNotice, worth}
 use Rattle.reading.specs.ListsLaws.{each-nil, each-one, each-cons, count-member, worth-true}
-use Rattle.reading.specs.Messages.{refusalOf, cameTo, messages}
-use Rattle.reading.specs.MessagesLaws.{outcome-is, step-is, unrefused-result}
+use Rattle.reading.specs.Messages.{messages}
+use Rattle.reading.specs.MessagesLaws.{outcome-is, step-is}
 use Rattle.claims.specs.Sound.{Any, Said, Good}
 use Rattle.claims.specs.Parts.{confirmed-submitted}
 use Rattle.claims.specs.Whole.{submitted-value}
 use Rattle.claims.specs.UnrefusedLaws.{possible, Taken}
-use Rattle.claims.specs.NotRefused.{Table, StepFit, SubmitFit, submit-fit, step-not-refused}
-use Rattle.claims.specs.Journey.{At, submit-value}
-use Rattle.claims.specs.Units.{any-worthy, startOf, endOf, opened-fit, start-n, start-seat, start-round, stop, written-are}
-use Rattle.claims.specs.Kept.{SubmitsNow, Hears, hears-fit, early-kept, kept-stays, call-does, OfKept, kept-next, start-none}
+use Rattle.claims.specs.NotRefused.{Table, StepFit, SubmitFit, step-not-refused}
+use Rattle.claims.specs.Journey.{At}
+use Rattle.claims.specs.Units.{any-worthy, startOf, endOf, opened-fit, start-seat, stop, written-are}
+use Rattle.claims.specs.Kept.{SubmitsNow, Hears, submits-fit, submits-result, hears-fit, early-kept, kept-stays, call-does, OfKept, kept-next, start-none, size-is, round-is}
 use Rattle.claims.specs.CollectKeptLaws.{confirms-at-once}
 
 -- ---- the notions of the claim
@@ -152,36 +152,30 @@ module _ (S : Setting) where
     abbrev at : (x : Called) → List·Memᴰ x list → At S Any (startOf S u opened) x (endOf S u opened)
     at x d = stop S u opened Any (any-worthy S list) x d
 
-    size-is : (x : Called) → List·Memᴰ x list → x .unit .n ≡ n
-    size-is x d = at x d .since .n ∙ start-n S u opened
-
-    round-is : (x : Called) → List·Memᴰ x list → x .unit .round ≡ round
-    round-is x d = at x d .since .round ∙ start-round S u opened
-
     -- a good SUBMIT isn't refused
     gives-hears : (x : Called) → List·Memᴰ x list → (seat : ℕ) (layout : List ℕ) (g : GivesGood S x seat layout) → Hears S x seat layout (g .signature)
     unfolding isForStep roundOf seatsOf entrySeats signed rising step resultBy
     gives-hears x d seat layout g =
         let r = x .unit in
         let m = Submit round seat layout (g .signature) in
-        let reads : read (r .n) (g .bytes) ≡ m = rw (size-is x d) (g .reads) in
+        let reads : read (r .n) (g .bytes) ≡ m = rw (size-is S u opened x d) (g .reads) in
         let taken : Taken checks n round m = record { inRound = refl; inside = each-one (λ s. s < n) seat (g .inside); rises = refl; checked = each-one (λ s. checks (s .seat) (s .value) (s .signature) ≡ true) _ (g .checked) } in
         let fit : StepFit checks keys r (x .store) (g .bytes) (g .out) = record {
           lent = record {
             possible = possible checks Any r (x .store) (at x d .sound) (at x d .settled);
-            table = subst (λ i. Table i keys) (sym (size-is x d)) (opened-fit S u opened .table);
-            storeRoom = rw (size-is x d) (g .storeRoom);
-            outRoom = rw (size-is x d) (g .outRoom);
+            table = subst (λ i. Table i keys) (sym (size-is S u opened x d)) (opened-fit S u opened .table);
+            storeRoom = rw (size-is S u opened x d) (g .storeRoom);
+            outRoom = rw (size-is S u opened x d) (g .outRoom);
           };
           forStep = subst (λ (y : Message). isForStep y ≡ true) (sym reads) refl;
-          message = subst (Taken checks (r .n) (r .round)) (sym reads) (subst₂ (λ i ρ. Taken checks i ρ m) (sym (size-is x d)) (sym (round-is x d)) taken);
+          message = subst (Taken checks (r .n) (r .round)) (sym reads) (subst₂ (λ i ρ. Taken checks i ρ m) (sym (size-is S u opened x d)) (sym (round-is S u opened x d)) taken);
         } in
         let is = step-is S (x .given) (g .bytes) (g .out) r (x .store) (g .isStep) .0 in
         record {
           bytes = g .bytes;
           out = g .out;
           isStep = g .isStep;
-          reads = reads ∙ ap (λ ρ. Submit ρ seat layout (g .signature)) (sym (round-is x d));
+          reads = reads ∙ ap (λ ρ. Submit ρ seat layout (g .signature)) (sym (round-is S u opened x d));
           unrefused = ap (λ (y : Result). y .refusal) (outcome-is S (x .given) r (x .store)) ∙ is ∙ step-not-refused checks keys r (x .store) (g .bytes) (g .out) .1 fit;
         }
 
@@ -197,10 +191,10 @@ module _ (S : Setting) where
           out = h .out;
           signature = signature;
           isStep = h .isStep;
-          storeRoom = subst (λ i. storeLength i ≤ length (x .store)) (size-is x d) (fit .lent .storeRoom);
-          outRoom = subst (λ i. outLength i ≤ length (h .out)) (size-is x d) (fit .lent .outRoom);
-          inside = subst (λ i. seat < i) (size-is x d) (taken .inside seat (List·Memᴰ·head refl));
-          reads = ap (λ i. read i (h .bytes)) (sym (size-is x d)) ∙ h .reads ∙ ap (λ ρ. Submit ρ seat layout signature) (round-is x d);
+          storeRoom = subst (λ i. storeLength i ≤ length (x .store)) (size-is S u opened x d) (fit .lent .storeRoom);
+          outRoom = subst (λ i. outLength i ≤ length (h .out)) (size-is S u opened x d) (fit .lent .outRoom);
+          inside = subst (λ i. seat < i) (size-is S u opened x d) (taken .inside seat (List·Memᴰ·head refl));
+          reads = ap (λ i. read i (h .bytes)) (sym (size-is S u opened x d)) ∙ h .reads ∙ ap (λ ρ. Submit ρ seat layout signature) (round-is S u opened x d);
           checked = taken .checked _ (List·Memᴰ·head refl);
         }
 
@@ -258,17 +252,14 @@ module _ (S : Setting) where
       earlier-inList x d = subst (λ l. List·Memᴰ x l) (sym split) (Memᴰ·append-left (t ∷ after) d)
 
       fit : SubmitFit checks keys (t .unit) (t .store) (s .layout) (s .signature) (s .out)
-      unfolding refusalOf
-      fit = submit-fit checks keys (t .unit) (t .store) (s .layout) (s .signature) (s .out) (subst (λ c. refusalOf S c (t .unit) (t .store) ≡ 0) (s .carries) (unrefused-result S t (s .unrefused) .0))
+      fit = submits-fit S t s
 
-      -- a submit that isn't refused sets the flag
-      submits-sets : (x : Called) → List·Memᴰ x list → SubmitsNow S x → resultOf S x .unit .own .submitted ≡ true
+      -- a submit that isn't refused sets the own value
+      submits-sets : (x : Called) → List·Memᴰ x list → (q : SubmitsNow S x) → (resultOf S x .unit .own .submitted ≡ true) × (resultOf S x .unit .own .value ≡ q .layout)
       submits-sets x d q =
-          let l = unrefused-result S x (q .unrefused) in
-          let given = BySubmit (q .layout) (q .signature) (q .out) in
-          let passes : refusalOf S given (x .unit) (x .store) ≡ 0 = subst (λ c. refusalOf S c (x .unit) (x .store) ≡ 0) (q .carries) (l .0) in
-          ap (λ (r : Record). r .own .submitted) (l .1 ∙ ap (λ c. cameTo c (x .unit) (x .store) .unit) (q .carries))
-          ∙ submit-value S Any (q .layout) (q .signature) (q .out) (x .unit) (x .store) (at x d .sound) passes tt .0
+          let f = submits-fit S x q in
+          let v = submitted-value checks Any (q .layout) (q .signature) (start (x .unit) (x .store)) (at x d .sound) (f .lent .storeRoom) (f .first) (f .sizedValue) (record { checked = f .checked; sized = f .sizedSignature; worthy = tt }) in
+          (ap (λ (r : Record). r .own .submitted) (submits-result S x q) ∙ v .0, ap (λ (r : Record). r .own .value) (submits-result S x q) ∙ v .1)
 
       earlier-unsaid : Each (λ x. resultOf S x .unit .own .submitted ≡ false) before
       earlier-unsaid =
@@ -277,7 +268,7 @@ module _ (S : Setting) where
       ready : Each Ready before
       ready x d =
           let m = earlier-inList x d in
-          (m, (λ q. true≢false (sym (submits-sets x m q) ∙ earlier-unsaid x d)), go (x .unit .own .submitted) refl)
+          (m, (λ q. true≢false (sym (submits-sets x m q .0) ∙ earlier-unsaid x d)), go (x .unit .own .submitted) refl)
         where
           go : (b : Bool) → x .unit .own .submitted ≡ b → b ≡ false
           go true e = absurd (true≢false (sym (at x (earlier-inList x d) .after .grows .said e .0) ∙ earlier-unsaid x d))
@@ -287,16 +278,12 @@ module _ (S : Setting) where
       kept-it seat i =
           first-kept seat (s .layout) (startOf S u opened) (u .store) before t after chain ready (λ x e. absurd (omega (arith, ap (bit x) (start-none S u opened), bit-empty x))) (given seat i)
 
-      result-is : resultOf S t .unit ≡ submitted (s .layout) (s .signature) (start (t .unit) (t .store)) .unit
-      unfolding cameTo
-      result-is = unrefused-result S t (s .unrefused) .1 ∙ ap (λ c. cameTo c (t .unit) (t .store) .unit) (s .carries)
-
       -- it has confirmed
       confirmed-there : resultOf S t .unit .confirmed ≡ true
       confirmed-there =
           let z = at t inList in
-          let size-t = size-is t inList in
-          ap (λ (r : Record). r .confirmed) result-is
+          let size-t = size-is S u opened t inList in
+          ap (λ (r : Record). r .confirmed) (submits-result S t s)
           ∙ confirms-at-once checks Any (s .layout) (s .signature) (start (t .unit) (t .store)) (z .sound) (fit .lent .storeRoom) (fit .first) (fit .sizedValue) (record { checked = fit .checked; sized = fit .sizedSignature; worthy = tt })
           others (λ seat i. kept-it seat i .0) (ap (λ seat. bit seat others) (z .since .seat ∙ start-seat S u opened) ∙ apart) (λ seat i. kept-it seat i .1) (subst (λ m. k m ≤ size others + 1) (sym size-t) enough)
 
@@ -312,10 +299,9 @@ module _ (S : Setting) where
       own-notice : (ρ seat : ℕ) (value : List ℕ) → Said (resultOf S t .unit) ρ seat value → Notice ρ seat value ≡ Notice round (u .seat) (s .layout)
       own-notice ρ seat value g =
           let z = at t inList in
-          let value-is : resultOf S t .unit .own .value ≡ s .layout = ap (λ (r : Record). r .own .value) result-is ∙ submitted-value checks Any (s .layout) (s .signature) (start (t .unit) (t .store)) (z .sound) (fit .lent .storeRoom) (fit .first) (fit .sizedValue) (record { checked = fit .checked; sized = fit .sizedSignature; worthy = tt }) .1 in
-          let e : ρ ≡ round = g .ofRound ∙ z .after .grows .round ∙ round-is t inList in
+          let e : ρ ≡ round = g .ofRound ∙ z .after .grows .round ∙ round-is S u opened t inList in
           let f : seat ≡ u .seat = g .ofSeat ∙ z .after .grows .seat ∙ z .since .seat ∙ start-seat S u opened in
-          let h : value ≡ s .layout = g .ofValue ∙ value-is in
+          let h : value ≡ s .layout = g .ofValue ∙ submits-sets t inList s .1 in
           rw (e, f, h)
 
       -- and the NOTICE of the layout stands in what this call writes

@@ -22,7 +22,7 @@ use Rattle.protocol.specs.Certificate.{keptValue, keptSignature}
 use Rattle.protocol.specs.Record.{fresh, outOfRange, wrongHeard, namesStranger, wrongCollected, wrongFirst, lacksFirst, wrongGuilty, wrongSent, wrongKept, wrongUnset, impossible}
 use Rattle.protocol.specs.RecordLaws.{possible}
 use Rattle.protocol.specs.Refusals.{stepConditions}
-use Rattle.protocol.specs.Step.{State, keep, keepIfFirst, otherHeard, owesFull, sendFull, reply, isComplete, confirm, hearOwn, confirmIfComplete, stepped}
+use Rattle.protocol.specs.Step.{State, keep, keepIfFirst, otherHeard, owesFull, sendFull, reply, isComplete, confirm, hearOwn, confirmIfComplete, submitted, stepped}
 use Rattle.protocol.specs.Calls.{Result, resultBy, start}
 use Rattle.protocol.specs.declared.Record.{Record}
 use Rattle.round.specs.Round.{Setting, IsOpened, Call, BySubmit, ByStep, ByThinEntry, Honest, Called, IsStep, Each, EachSigned, Relation, outcome, resultOf, listFrom, listOf, Delivered}
@@ -36,8 +36,9 @@ use Rattle.claims.specs.SlotsLaws.{kept-value-same, kept-signature-same,
 use Rattle.claims.specs.KeptPartLaws.{Aside, kept-value-beside, kept-signature-beside, submitted-emptied, stepped-early, late-aside, notice-aside, full-aside, aside-refl}
 use Rattle.claims.specs.Parts.{k-pos, in-below}
 use Rattle.claims.specs.UnrefusedLaws.{Taken}
-use Rattle.claims.specs.NotRefused.{StepFit, submit-fit, step-fit}
-use Rattle.claims.specs.Units.{any-worthy, startOf, opened-fresh, start-n, stop}
+use Rattle.claims.specs.NotRefused.{SubmitFit, StepFit, submit-fit, step-fit}
+use Rattle.claims.specs.Journey.{At}
+use Rattle.claims.specs.Units.{any-worthy, startOf, endOf, opened-fresh, start-n, start-round, stop}
 
 -- ---- before the own submit
 
@@ -228,6 +229,16 @@ module _ (S : Setting) where
         subst (Does t) (sym is)
         (by-number (refusalOf S (t .given) (t .unit) (t .store)) (cameTo (t .given) (t .unit) (t .store)) (λ e. came-does (t .given) refl (ap (λ (x : Result). x .refusal) is ∙ e) e))
 
+    -- a submit that isn't refused: what it was given, and what it comes to
+    pub submits-fit : (s : SubmitsNow t) → SubmitFit checks keys (t .unit) (t .store) (s .layout) (s .signature) (s .out)
+    unfolding refusalOf
+    submits-fit s =
+        submit-fit checks keys (t .unit) (t .store) (s .layout) (s .signature) (s .out) (subst (λ c. refusalOf S c (t .unit) (t .store) ≡ 0) (s .carries) (unrefused-result S t (s .unrefused) .0))
+
+    pub submits-result : (s : SubmitsNow t) → resultOf S t .unit ≡ submitted (s .layout) (s .signature) first .unit
+    unfolding cameTo
+    submits-result s = unrefused-result S t (s .unrefused) .1 ∙ ap (λ c. cameTo c (t .unit) (t .store) .unit) (s .carries)
+
     -- a SUBMIT heard is checked like any other
     pub hears-fit : (seat : ℕ) (value signature : List ℕ) (h : Hears t seat value signature) → StepFit checks keys (t .unit) (t .store) (h .bytes) (h .out)
     hears-fit seat value signature h =
@@ -259,6 +270,13 @@ module _ (S : Setting) where
     early-kept seat value signature h unsaid =
         ap (λ (x : Result). bit seat (x .unit .kept)) (early-alone seat value signature h unsaid)
         ∙ cond-elim (λ (s : State). In seat (s .unit .kept)) (has seat (r .kept)) first (keep seat value signature first) (λ e. has-true seat (r .kept) .0 e) (λ e. bit-with-same seat (r .kept))
+
+    -- "then the kept seats are empty"
+    pub submit-empties : SubmitsNow t → resultOf S t .unit .kept ≡ 0
+    submit-empties s =
+        let fit = submits-fit s in
+        ap (λ (x : Record). x .kept) (submits-result s)
+        ∙ submitted-emptied (s .layout) (s .signature) first (possible (t .unit) (fit .lent .possible) .range .seated) (omega (arith, fit .sizedSignature)) (fit .lent .storeRoom) .kept
 
     -- "the first good one from each seat is kept": once a seat is kept, no call but the own submit changes its share
     pub kept-stays : (SubmitsNow t → ⊥) → (seat : ℕ) → In seat (t .unit .kept) → SameShare (t .unit) (t .store) (resultOf S t .unit) (resultOf S t .store) seat
@@ -344,38 +362,45 @@ module _ (S : Setting) where
     unfolding fresh
     start-none = ap (λ (r : Record). r .kept) (opened-fresh S u opened)
 
-    module _ (t : Called) (d : List·Memᴰ t (listOf S u)) where
-      -- what is kept at a call was heard in a call of the list
-      pub kept-was-heard : (seat : ℕ) → In seat (t .unit .kept)
-          → (earlier : Called) × List·Memᴰ earlier (listOf S u) × Hears S earlier seat (keptValue (t .unit .n) (t .store) seat) (keptSignature (t .unit .n) (t .store) seat)
-      kept-was-heard =
-          kept-of (λ seat value signature. (earlier : Called) × List·Memᴰ earlier (listOf S u) × Hears S earlier seat value signature) (startOf S u opened) (u .store) (u .calls)
-          (λ seat i. absurd (omega (arith, ap (bit seat) start-none, bit-empty seat))) (λ y e seat value signature h. (y, e, h)) t d
+    -- a call of the list hears this SUBMIT
+    abbrev pub HeardIn : Relation
+    HeardIn seat value signature = (call : Called) × List·Memᴰ call (listOf S u) × Hears S call seat value signature
 
-      -- "then the kept seats are empty": no seat is kept once the unit has submitted
+    module _ (t : Called) (d : List·Memᴰ t (listOf S u)) where
+      abbrev at : At S Any (startOf S u opened) t (endOf S u opened)
+      at = stop S u opened Any (any-worthy S (listOf S u)) t d
+
+      pub size-is : t .unit .n ≡ n
+      size-is = at .since .n ∙ start-n S u opened
+
+      pub round-is : t .unit .round ≡ round
+      round-is = at .since .round ∙ start-round S u opened
+
+      -- what is kept at a call was heard in a call of the list
+      pub kept-was-heard : (seat : ℕ) → In seat (t .unit .kept) → HeardIn seat (keptValue n (t .store) seat) (keptSignature n (t .store) seat)
+      kept-was-heard seat i =
+          subst (λ m. HeardIn seat (keptValue m (t .store) seat) (keptSignature m (t .store) seat)) size-is
+          (kept-of HeardIn (startOf S u opened) (u .store) (u .calls) (λ s e. absurd (omega (arith, ap (bit s) start-none, bit-empty s))) (λ y e s value signature h. (y, e, h)) t d seat i)
+
+      -- "then the kept seats are empty": none is kept once the unit has submitted
       pub none-kept-once-submitted : t .unit .own .submitted ≡ true → t .unit .kept ≡ 0
-      none-kept-once-submitted = stop S u opened Any (any-worthy S (listOf S u)) t d .settled .emptied
+      none-kept-once-submitted = at .settled .emptied
 
   -- at every call of an honest unit, each kept signature checks for its seat over the kept value, and is delivered for it
   pub kept-was-delivered : {I : Type 0} (boat : I → Honest) (i : I) → IsOpened S (boat i) → (t : Called) → List·Memᴰ t (listOf S (boat i)) → (seat : ℕ) → In seat (t .unit .kept)
       → (checks seat (keptValue n (t .store) seat) (keptSignature n (t .store) seat) ≡ true) × Delivered S boat seat (keptValue n (t .store) seat) (keptSignature n (t .store) seat)
   unfolding signed
   kept-was-delivered boat i opened t d seat kept =
-      let u = boat i in
-      let size : t .unit .n ≡ n = stop S u opened Any (any-worthy S (listOf S u)) t d .since .n ∙ start-n S u opened in
-      let h = kept-was-heard u opened t d seat kept in
-      let earlier : (earlier : Called) × List·Memᴰ earlier (listOf S u) × Hears S earlier seat (keptValue n (t .store) seat) (keptSignature n (t .store) seat) =
-      subst (λ m. (earlier : Called) × List·Memᴰ earlier (listOf S u) × Hears S earlier seat (keptValue m (t .store) seat) (keptSignature m (t .store) seat)) size h in
-      let c = earlier .0 in
-      let heard = earlier .2 in
-      let here : c .unit .n ≡ n = stop S u opened Any (any-worthy S (listOf S u)) c (earlier .1) .since .n ∙ start-n S u opened in
+      let h = kept-was-heard (boat i) opened t d seat kept in
+      let c = h .0 in
+      let heard = h .2 in
       let fit = hears-fit S c seat _ _ heard in
       let it : Signed = record { seat = seat; value = keptValue n (t .store) seat; signature = keptSignature n (t .store) seat } in (
         subst (λ m. EachSigned (λ s v g. checks s v g ≡ true) m) (heard .reads) (fit .message .checked) it (List·Memᴰ·head refl),
         record {
           to = i;
           bytes = heard .bytes;
-          given = inl (record { call = c; inList = earlier .1; out = heard .out; isStep = heard .isStep });
-          stands = subst (λ m. List·Memᴰ it (signed m)) (sym (heard .reads) ∙ ap (λ m. read m (heard .bytes)) here) (List·Memᴰ·head refl);
+          given = inl (record { call = c; inList = h .1; out = heard .out; isStep = heard .isStep });
+          stands = subst (λ m. List·Memᴰ it (signed m)) (sym (heard .reads) ∙ ap (λ m. read m (heard .bytes)) (size-is (boat i) opened c (h .1))) (List·Memᴰ·head refl);
         },
       )
