@@ -1,6 +1,7 @@
 -- "Where no seat is kept in the record lent, no SUBMIT comes early and the store has the new length, every answer is the one given
 -- before" (document 02, item 1). First the definitions as they were before item 1, where they differed; then the claims. The record is
--- today's, and these definitions don't look at its seats kept.
+-- today's, and these definitions don't look at its seats kept. What they share with today's uses the first two banks of the store
+-- alone, whose slots stand where they stood.
 -- Assumes nothing.
 use mathlib.Core.Path.{_≡_, refl, sym, ap, ap₂, _∙_}
 use mathlib.Core.Bool.{Bool, false, cond, not, _&&_, _||_, and-false, or-false}
@@ -131,7 +132,16 @@ pub slots-as-before : (n seat : ℕ) → (slotAtBefore n collectedBank seat ≡ 
 unfolding slotAtBefore twoBanks slotAt slotLength slotLengthIn banks banksBefore lengthOfBanks
 slots-as-before n seat = (refl, refl)
 
--- and the kept ones begin where the store ended
+-- and have their lengths
+pub lengths-as-before : (slotLengthIn collectedBank twoBanks ≡ slotLength collectedBank) × (slotLengthIn firstBank twoBanks ≡ slotLength firstBank)
+unfolding twoBanks slotLength slotLengthIn banks
+lengths-as-before = (refl, refl)
+
+pub before-figure : (n : ℕ) → storeLengthBefore n ≡ 2904 * n
+unfolding storeLengthBefore twoBanks lengthOfBanks signatureLength
+before-figure n = refl
+
+-- the kept ones begin where the store ended
 pub kept-begins : (n : ℕ) → slotAt n keptBank 0 ≡ storeLengthBefore n
 unfolding storeLengthBefore twoBanks slotAt banks banksBefore lengthOfBanks
 kept-begins n = omega arith

@@ -7,29 +7,35 @@ use mathlib.Core.List.{List, [], _∷_, _++_, List·Memᴰ, List·Memᴰ·head, 
 use mathlib.Core.Logic.{_⊎_, inl, inr, ⊎-elim}
 use Prim.Native.Nat.{ℕ, _+_, _≤_, _<_}
 use native.Mathlib.Omega.{arith}
+use native.Mathlib.Decide.{ℕ-discrete}
 use lib.ListN.{length}
-use Rattle.quorum.specs.Quorum.{k, bit, In, size}
-use Rattle.quorum.specs.QuorumLaws.{bit-empty}
-use Rattle.protocol.specs.Layout.{storeLength, outLength}
-use Rattle.protocol.specs.Message.{Message, Submit, Notice, Full, Evidence, Garbled, read, roundOf, seatsOf, entrySeats, signed}
-use Rattle.protocol.specs.Refusals.{isForStep, rising}
+use Rattle.quorum.specs.Quorum.{t0, k, bit, In, has, size, with}
+use Rattle.quorum.specs.QuorumLaws.{bit-empty, bit-with-other, size-empty, size-with-new}
+use Rattle.refusal.specs.Refusal.{unrefused}
+use Rattle.protocol.specs.Layout.{valueLength, signatureLength, storeLength, outLength}
+use Rattle.protocol.specs.LayoutLaws.{kept-bank}
+use Rattle.protocol.specs.Message.{Message, Submit, Notice, Full, Evidence, Garbled, render, read, roundOf, seatsOf, entrySeats, signed}
+use Rattle.protocol.specs.MessageLaws.{read-render}
+use Rattle.protocol.specs.Record.{fresh}
+use Rattle.protocol.specs.Refusals.{Checks, isForStep, rising}
 use Rattle.protocol.specs.Certificate.{keptValue}
-use Rattle.protocol.specs.Step.{submitted}
+use Rattle.protocol.specs.Step.{State, keep, keepIfFirst}
 use Rattle.protocol.specs.Calls.{Result, resultBy, start, step}
 use Rattle.protocol.specs.declared.Record.{Record}
 use Rattle.round.specs.Round.{Setting, IsOpened, Each, Relation, Call, BySubmit, ByStep, ByThinEntry, Honest, Called, IsStep, outcome, resultOf, listFrom, listOf, StandsIn, writtenIn, Confirms}
 use Rattle.round.specs.Demand1.{NOTICE, isOf, isNotice, worth}
-use Rattle.reading.specs.ListsLaws.{each-nil, each-one, each-cons, count-member, worth-true}
-use Rattle.reading.specs.Messages.{refusalOf, cameTo, messages}
-use Rattle.reading.specs.MessagesLaws.{outcome-is, step-is, unrefused-result}
+use Rattle.reading.specs.ListsLaws.{cond-elim, each-nil, each-one, each-cons, count-member, worth-true}
+use Rattle.reading.specs.Messages.{messages}
+use Rattle.reading.specs.MessagesLaws.{outcome-is, step-is}
+use Rattle.claims.specs.SlotsLaws.{kept-long}
 use Rattle.claims.specs.Sound.{Any, Said, Good}
 use Rattle.claims.specs.Parts.{confirmed-submitted}
 use Rattle.claims.specs.Whole.{submitted-value}
 use Rattle.claims.specs.UnrefusedLaws.{possible, Taken}
-use Rattle.claims.specs.NotRefused.{Table, StepFit, SubmitFit, submit-fit, step-not-refused}
-use Rattle.claims.specs.Journey.{At, submit-value}
-use Rattle.claims.specs.Units.{any-worthy, startOf, endOf, opened-fit, start-n, start-seat, start-round, stop, written-are}
-use Rattle.claims.specs.Kept.{SubmitsNow, Hears, hears-fit, early-kept, kept-stays, call-does, Of, kept-next, start-none}
+use Rattle.claims.specs.NotRefused.{Table, OpeningFit, opening-not-refused, submit-not-refused, StepFit, SubmitFit, step-not-refused}
+use Rattle.claims.specs.Journey.{At}
+use Rattle.claims.specs.Units.{any-worthy, startOf, endOf, opened-fit, opened-fresh, start-n, start-seat, stop, written-are}
+use Rattle.claims.specs.Kept.{SubmitsNow, Hears, submits-fit, submits-result, hears-fit, early-alone, early-kept, kept-stays, call-does, OfKept, kept-next, start-none, size-is, round-is}
 use Rattle.claims.specs.CollectKeptLaws.{confirms-at-once}
 
 -- ---- the notions of the claim
@@ -107,7 +113,7 @@ module _ (S : Setting) where
   first-is seat layout (x ∷ ts) t d gives one =
       ⊎-elim (λ e. inl (subst (λ y. GivesGood S y seat layout) e gives)) (λ e. inr (one x (List·Memᴰ·head refl), first-is seat layout ts t e gives (λ y f. one y (List·Memᴰ·tail f)))) (List·Memᴰ·cases-cons d)
 
-  -- a call gives one SUBMIT
+  -- a call gives one SUBMIT at most
   gives-one : (t : Called) (seat : ℕ) (a b : List ℕ) → GivesGood S t seat a → GivesGood S t seat b → a ≡ b
   gives-one t seat a b x y =
       let same-bytes : x .bytes ≡ y .bytes = sym (step-bytes (t .given) (x .bytes) (x .out) (x .isStep)) ∙ step-bytes (t .given) (y .bytes) (y .out) (y .isStep) in
@@ -152,36 +158,30 @@ module _ (S : Setting) where
     abbrev at : (x : Called) → List·Memᴰ x list → At S Any (startOf S u opened) x (endOf S u opened)
     at x d = stop S u opened Any (any-worthy S list) x d
 
-    size-is : (x : Called) → List·Memᴰ x list → x .unit .n ≡ n
-    size-is x d = at x d .since .n ∙ start-n S u opened
-
-    round-is : (x : Called) → List·Memᴰ x list → x .unit .round ≡ round
-    round-is x d = at x d .since .round ∙ start-round S u opened
-
     -- a good SUBMIT isn't refused
     gives-hears : (x : Called) → List·Memᴰ x list → (seat : ℕ) (layout : List ℕ) (g : GivesGood S x seat layout) → Hears S x seat layout (g .signature)
     unfolding isForStep roundOf seatsOf entrySeats signed rising step resultBy
     gives-hears x d seat layout g =
         let r = x .unit in
         let m = Submit round seat layout (g .signature) in
-        let reads : read (r .n) (g .bytes) ≡ m = rw (size-is x d) (g .reads) in
+        let reads : read (r .n) (g .bytes) ≡ m = rw (size-is S u opened x d) (g .reads) in
         let taken : Taken checks n round m = record { inRound = refl; inside = each-one (λ s. s < n) seat (g .inside); rises = refl; checked = each-one (λ s. checks (s .seat) (s .value) (s .signature) ≡ true) _ (g .checked) } in
         let fit : StepFit checks keys r (x .store) (g .bytes) (g .out) = record {
           lent = record {
             possible = possible checks Any r (x .store) (at x d .sound) (at x d .settled);
-            table = subst (λ i. Table i keys) (sym (size-is x d)) (opened-fit S u opened .table);
-            storeRoom = rw (size-is x d) (g .storeRoom);
-            outRoom = rw (size-is x d) (g .outRoom);
+            table = subst (λ i. Table i keys) (sym (size-is S u opened x d)) (opened-fit S u opened .table);
+            storeRoom = rw (size-is S u opened x d) (g .storeRoom);
+            outRoom = rw (size-is S u opened x d) (g .outRoom);
           };
           forStep = subst (λ (y : Message). isForStep y ≡ true) (sym reads) refl;
-          message = subst (Taken checks (r .n) (r .round)) (sym reads) (subst₂ (λ i ρ. Taken checks i ρ m) (sym (size-is x d)) (sym (round-is x d)) taken);
+          message = subst (Taken checks (r .n) (r .round)) (sym reads) (subst₂ (λ i ρ. Taken checks i ρ m) (sym (size-is S u opened x d)) (sym (round-is S u opened x d)) taken);
         } in
         let is = step-is S (x .given) (g .bytes) (g .out) r (x .store) (g .isStep) .0 in
         record {
           bytes = g .bytes;
           out = g .out;
           isStep = g .isStep;
-          reads = reads ∙ ap (λ ρ. Submit ρ seat layout (g .signature)) (sym (round-is x d));
+          reads = reads ∙ ap (λ ρ. Submit ρ seat layout (g .signature)) (sym (round-is S u opened x d));
           unrefused = ap (λ (y : Result). y .refusal) (outcome-is S (x .given) r (x .store)) ∙ is ∙ step-not-refused checks keys r (x .store) (g .bytes) (g .out) .1 fit;
         }
 
@@ -197,10 +197,10 @@ module _ (S : Setting) where
           out = h .out;
           signature = signature;
           isStep = h .isStep;
-          storeRoom = subst (λ i. storeLength i ≤ length (x .store)) (size-is x d) (fit .lent .storeRoom);
-          outRoom = subst (λ i. outLength i ≤ length (h .out)) (size-is x d) (fit .lent .outRoom);
-          inside = subst (λ i. seat < i) (size-is x d) (taken .inside seat (List·Memᴰ·head refl));
-          reads = ap (λ i. read i (h .bytes)) (sym (size-is x d)) ∙ h .reads ∙ ap (λ ρ. Submit ρ seat layout signature) (round-is x d);
+          storeRoom = subst (λ i. storeLength i ≤ length (x .store)) (size-is S u opened x d) (fit .lent .storeRoom);
+          outRoom = subst (λ i. outLength i ≤ length (h .out)) (size-is S u opened x d) (fit .lent .outRoom);
+          inside = subst (λ i. seat < i) (size-is S u opened x d) (taken .inside seat (List·Memᴰ·head refl));
+          reads = ap (λ i. read i (h .bytes)) (sym (size-is S u opened x d)) ∙ h .reads ∙ ap (λ ρ. Submit ρ seat layout signature) (round-is S u opened x d);
           checked = taken .checked _ (List·Memᴰ·head refl);
         }
 
@@ -218,7 +218,7 @@ module _ (S : Setting) where
       abbrev KeptIt : Record → List ℕ → Type 0
       KeptIt r store = In seat (r .kept) × (keptValue (r .n) store seat ≡ layout)
 
-      agrees-next : (x : Called) → List·Memᴰ x list → ((other : List ℕ) → GivesGood S x seat other → other ≡ layout) → Of S Agrees (x .unit) (x .store) → Of S Agrees (resultOf S x .unit) (resultOf S x .store)
+      agrees-next : (x : Called) → List·Memᴰ x list → ((other : List ℕ) → GivesGood S x seat other → other ≡ layout) → OfKept S Agrees (x .unit) (x .store) → OfKept S Agrees (resultOf S x .unit) (resultOf S x .store)
       agrees-next x d one of =
           kept-next S Agrees x of (λ s value signature h e. one value (hears-gives x d seat value signature (subst (λ t. Hears S x t value signature) e h)))
 
@@ -228,12 +228,12 @@ module _ (S : Setting) where
           (a .kept ∙ i .0, ap (λ m. keptValue m (resultOf S x .store) seat) (call-does S x .0) ∙ a .value ∙ i .1)
 
       first-kept : (r : Record) (store : List ℕ) (before : List Called) (t : Called) (after : List Called) → Chain r store (before ++ t ∷ after) → Each Ready before
-          → Of S Agrees r store → FirstIs S seat layout before → KeptIt (t .unit) (t .store)
+          → OfKept S Agrees r store → FirstIs S seat layout before → KeptIt (t .unit) (t .store)
       unfolding Chain FirstIs
       first-kept r store [] t after c each of first = absurd first
       first-kept r store (x ∷ xs) t after c each of first =
           let e = each x (List·Memᴰ·head refl) in
-          let here : Of S Agrees (x .unit) (x .store) = subst₂ (Of S Agrees) (sym (c .0)) (sym (c .1)) of in
+          let here : OfKept S Agrees (x .unit) (x .store) = subst₂ (OfKept S Agrees) (sym (c .0)) (sym (c .1)) of in
           let rest : Each Ready xs = λ y d. each y (List·Memᴰ·tail d) in
           ⊎-elim
           (λ gives.
@@ -258,17 +258,14 @@ module _ (S : Setting) where
       earlier-inList x d = subst (λ l. List·Memᴰ x l) (sym split) (Memᴰ·append-left (t ∷ after) d)
 
       fit : SubmitFit checks keys (t .unit) (t .store) (s .layout) (s .signature) (s .out)
-      unfolding refusalOf
-      fit = submit-fit checks keys (t .unit) (t .store) (s .layout) (s .signature) (s .out) (subst (λ c. refusalOf S c (t .unit) (t .store) ≡ 0) (s .carries) (unrefused-result S t (s .unrefused) .0))
+      fit = submits-fit S t s
 
-      -- a submit that isn't refused sets the flag
-      submits-sets : (x : Called) → List·Memᴰ x list → SubmitsNow S x → resultOf S x .unit .own .submitted ≡ true
+      -- a submit that isn't refused sets the own value
+      submits-sets : (x : Called) → List·Memᴰ x list → (q : SubmitsNow S x) → (resultOf S x .unit .own .submitted ≡ true) × (resultOf S x .unit .own .value ≡ q .layout)
       submits-sets x d q =
-          let l = unrefused-result S x (q .unrefused) in
-          let given = BySubmit (q .layout) (q .signature) (q .out) in
-          let passes : refusalOf S given (x .unit) (x .store) ≡ 0 = subst (λ c. refusalOf S c (x .unit) (x .store) ≡ 0) (q .carries) (l .0) in
-          ap (λ (r : Record). r .own .submitted) (l .1 ∙ ap (λ c. cameTo c (x .unit) (x .store) .unit) (q .carries))
-          ∙ submit-value S Any (q .layout) (q .signature) (q .out) (x .unit) (x .store) (at x d .sound) passes tt .0
+          let f = submits-fit S x q in
+          let v = submitted-value checks Any (q .layout) (q .signature) (start (x .unit) (x .store)) (at x d .sound) (f .lent .storeRoom) (f .first) (f .sizedValue) (record { checked = f .checked; sized = f .sizedSignature; worthy = tt }) in
+          (ap (λ (r : Record). r .own .submitted) (submits-result S x q) ∙ v .0, ap (λ (r : Record). r .own .value) (submits-result S x q) ∙ v .1)
 
       earlier-unsaid : Each (λ x. resultOf S x .unit .own .submitted ≡ false) before
       earlier-unsaid =
@@ -277,7 +274,7 @@ module _ (S : Setting) where
       ready : Each Ready before
       ready x d =
           let m = earlier-inList x d in
-          (m, (λ q. true≢false (sym (submits-sets x m q) ∙ earlier-unsaid x d)), go (x .unit .own .submitted) refl)
+          (m, (λ q. true≢false (sym (submits-sets x m q .0) ∙ earlier-unsaid x d)), go (x .unit .own .submitted) refl)
         where
           go : (b : Bool) → x .unit .own .submitted ≡ b → b ≡ false
           go true e = absurd (true≢false (sym (at x (earlier-inList x d) .after .grows .said e .0) ∙ earlier-unsaid x d))
@@ -287,16 +284,12 @@ module _ (S : Setting) where
       kept-it seat i =
           first-kept seat (s .layout) (startOf S u opened) (u .store) before t after chain ready (λ x e. absurd (omega (arith, ap (bit x) (start-none S u opened), bit-empty x))) (given seat i)
 
-      result-is : resultOf S t .unit ≡ submitted (s .layout) (s .signature) (start (t .unit) (t .store)) .unit
-      unfolding cameTo
-      result-is = unrefused-result S t (s .unrefused) .1 ∙ ap (λ c. cameTo c (t .unit) (t .store) .unit) (s .carries)
-
       -- it has confirmed
       confirmed-there : resultOf S t .unit .confirmed ≡ true
       confirmed-there =
           let z = at t inList in
-          let size-t = size-is t inList in
-          ap (λ (r : Record). r .confirmed) result-is
+          let size-t = size-is S u opened t inList in
+          ap (λ (r : Record). r .confirmed) (submits-result S t s)
           ∙ confirms-at-once checks Any (s .layout) (s .signature) (start (t .unit) (t .store)) (z .sound) (fit .lent .storeRoom) (fit .first) (fit .sizedValue) (record { checked = fit .checked; sized = fit .sizedSignature; worthy = tt })
           others (λ seat i. kept-it seat i .0) (ap (λ seat. bit seat others) (z .since .seat ∙ start-seat S u opened) ∙ apart) (λ seat i. kept-it seat i .1) (subst (λ m. k m ≤ size others + 1) (sym size-t) enough)
 
@@ -312,10 +305,9 @@ module _ (S : Setting) where
       own-notice : (ρ seat : ℕ) (value : List ℕ) → Said (resultOf S t .unit) ρ seat value → Notice ρ seat value ≡ Notice round (u .seat) (s .layout)
       own-notice ρ seat value g =
           let z = at t inList in
-          let value-is : resultOf S t .unit .own .value ≡ s .layout = ap (λ (r : Record). r .own .value) result-is ∙ submitted-value checks Any (s .layout) (s .signature) (start (t .unit) (t .store)) (z .sound) (fit .lent .storeRoom) (fit .first) (fit .sizedValue) (record { checked = fit .checked; sized = fit .sizedSignature; worthy = tt }) .1 in
-          let e : ρ ≡ round = g .ofRound ∙ z .after .grows .round ∙ round-is t inList in
+          let e : ρ ≡ round = g .ofRound ∙ z .after .grows .round ∙ round-is S u opened t inList in
           let f : seat ≡ u .seat = g .ofSeat ∙ z .after .grows .seat ∙ z .since .seat ∙ start-seat S u opened in
-          let h : value ≡ s .layout = g .ofValue ∙ value-is in
+          let h : value ≡ s .layout = g .ofValue ∙ submits-sets t inList s .1 in
           rw (e, f, h)
 
       -- and the NOTICE of the layout stands in what this call writes
@@ -340,3 +332,114 @@ confirms-in-that-call S u opened h = (confirmed-there S u opened h, notice-there
 pub confirms-it : (S : Setting) (u : Honest) → IsOpened S u → (h : SubmitsAfter S u) → Confirms S u (h .submits .layout)
 confirms-it S u opened h =
     (S .round, u .seat, record { call = h .call; inList = inList S u opened h; stands = notice-there S u opened h })
+
+-- ---- the premises can be met
+
+-- a fleet of two: the unit in seat 0 is given the other's SUBMIT, and submits the same layout after it. So a unit that refuses early
+-- SUBMITs doesn't meet the claim.
+module _ (checks : Checks) (round : ℕ) (keys store layout mine theirs out : List ℕ) (fit : OpeningFit 2 0 round keys) (room : storeLength 2 ≤ length store) (outRoom : outLength 2 ≤ length out)
+    (sized : length layout ≡ valueLength) (long : length mine ≡ signatureLength) (long′ : length theirs ≡ signatureLength) (good : checks 0 layout mine ≡ true) (good′ : checks 1 layout theirs ≡ true) where
+  abbrev pub pair : Setting
+  pair = record { n = 2; round = round; keys = keys; checks = checks }
+
+  abbrev pub slow : Honest
+  slow = record { seat = 0; store = store; calls = ByStep (render (Submit round 1 layout theirs)) out ∷ BySubmit layout mine out ∷ []; inHand = [] }
+
+  slow-opened : IsOpened pair slow
+  slow-opened = opening-not-refused 2 0 round keys .1 fit
+
+  abbrev r : Record
+  r = startOf pair slow slow-opened
+
+  abbrev heard : Called
+  heard = record { given = ByStep (render (Submit round 1 layout theirs)) out; unit = r; store = store }
+
+  abbrev own : Called
+  own = record { given = BySubmit layout mine out; unit = resultOf pair heard .unit; store = resultOf pair heard .store }
+
+  list-is : listOf pair slow ≡ heard ∷ own ∷ []
+  unfolding listFrom
+  list-is = refl
+
+  gives : GivesGood pair heard 1 layout
+  gives = record {
+    bytes = render (Submit round 1 layout theirs);
+    out = out;
+    signature = theirs;
+    isStep = inl refl;
+    storeRoom = room;
+    outRoom = outRoom;
+    inside = omega arith;
+    reads = read-render 2 (Submit round 1 layout theirs) (let e = fit .range .dated in omega arith, sized, long′);
+    checked = good′;
+  }
+
+  r-is : r ≡ fresh 2 0 round
+  r-is = opened-fresh pair slow slow-opened
+
+  unsaid : r .own .submitted ≡ false
+  unfolding fresh
+  unsaid = ap (λ (x : Record). x .own .submitted) r-is
+
+  keeps : resultOf pair heard ≡ resultBy 0 (keepIfFirst 1 layout theirs (start r store)) r store
+  unfolding gives
+  keeps =
+      early-alone pair heard 1 layout theirs (gives-hears pair slow slow-opened heard (subst (λ l. List·Memᴰ heard l) (sym list-is) (List·Memᴰ·head refl)) 1 layout gives) unsaid
+
+  still-unsaid : own .unit .own .submitted ≡ false
+  unfolding keepIfFirst keep resultBy unrefused
+  still-unsaid =
+      ap (λ (x : Result). x .unit .own .submitted) keeps
+      ∙ cond-elim (λ (s : State). s .unit .own .submitted ≡ r .own .submitted) (has 1 (r .kept)) (start r store) (keep 1 layout theirs (start r store)) (λ e. refl) (λ e. refl)
+      ∙ unsaid
+
+  still-long : length (own .store) ≡ length store
+  unfolding keepIfFirst keep resultBy unrefused
+  still-long =
+      let n-is = start-n pair slow slow-opened in
+      ap (λ (x : Result). length (x .store)) keeps
+      ∙ cond-elim (λ (s : State). length (s .store) ≡ length store) (has 1 (r .kept)) (start r store) (keep 1 layout theirs (start r store)) (λ e. refl)
+      (λ e. kept-long (r .n) 1 layout theirs store (omega arith) (rw n-is room) sized (long′ ∙ sym (kept-bank .1)))
+
+  submits-now : SubmitsNow pair own
+  unfolding outcome
+  submits-now =
+      let d : List·Memᴰ own (listOf pair slow) = subst (λ l. List·Memᴰ own l) (sym list-is) (List·Memᴰ·tail (List·Memᴰ·head refl)) in
+      let z = stop pair slow slow-opened Any (any-worthy pair (listOf pair slow)) own d in
+      let size = size-is pair slow slow-opened own d in
+      record {
+        layout = layout;
+        signature = mine;
+        out = out;
+        carries = refl;
+        unrefused = submit-not-refused checks keys (own .unit) (own .store) layout mine out .1 (record {
+          lent = record {
+            possible = possible checks Any (own .unit) (own .store) (z .sound) (z .settled);
+            table = subst (λ i. Table i keys) (sym size) (fit .table);
+            storeRoom = rw (size, still-long) room;
+            outRoom = rw size outRoom;
+          };
+          first = still-unsaid;
+          sizedValue = sized;
+          sizedSignature = long;
+          checked = ap (λ (i : ℕ). checks i layout mine) (z .since .seat ∙ start-seat pair slow slow-opened) ∙ good;
+        });
+      }
+
+  pub premises-met : SubmitsAfter pair slow
+  unfolding FirstIs k t0 submits-now
+  premises-met = record {
+    before = heard ∷ [];
+    call = own;
+    after = [];
+    split = list-is;
+    submits = submits-now;
+    others = with 1 0;
+    apart = bit-with-other 0 1 0 (λ e. omega arith) ∙ bit-empty 0;
+    enough = omega (arith, size-with-new 1 0 (bit-empty 1), size-empty);
+    given = λ seat i. go seat i (ℕ-discrete seat 1);
+  }
+    where
+      go : (seat : ℕ) → In seat (with 1 0) → Dec (seat ≡ 1) → FirstIs pair seat layout (heard ∷ [])
+      go seat i (yes e) = inl (rw e gives)
+      go seat i (no d) = absurd (omega (arith, bit-with-other seat 1 0 d, bit-empty seat))

@@ -22,7 +22,7 @@ use Rattle.protocol.specs.Certificate.{keptValue, keptSignature}
 use Rattle.protocol.specs.Record.{fresh, outOfRange, wrongHeard, namesStranger, wrongCollected, wrongFirst, lacksFirst, wrongGuilty, wrongSent, wrongKept, wrongUnset, impossible}
 use Rattle.protocol.specs.RecordLaws.{possible}
 use Rattle.protocol.specs.Refusals.{stepConditions}
-use Rattle.protocol.specs.Step.{State, keep, keepIfFirst, otherHeard, owesFull, sendFull, reply, isComplete, confirm, hearOwn, confirmIfComplete, stepped}
+use Rattle.protocol.specs.Step.{State, keep, keepIfFirst, otherHeard, owesFull, sendFull, reply, isComplete, confirm, hearOwn, confirmIfComplete, submitted, stepped}
 use Rattle.protocol.specs.Calls.{Result, resultBy, start}
 use Rattle.protocol.specs.declared.Record.{Record}
 use Rattle.round.specs.Round.{Setting, IsOpened, Call, BySubmit, ByStep, ByThinEntry, Honest, Called, IsStep, Each, EachSigned, Relation, outcome, resultOf, listFrom, listOf, Delivered}
@@ -36,8 +36,9 @@ use Rattle.claims.specs.SlotsLaws.{kept-value-same, kept-signature-same,
 use Rattle.claims.specs.KeptPartLaws.{Aside, kept-value-beside, kept-signature-beside, submitted-emptied, stepped-early, late-aside, notice-aside, full-aside, aside-refl}
 use Rattle.claims.specs.Parts.{k-pos, in-below}
 use Rattle.claims.specs.UnrefusedLaws.{Taken}
-use Rattle.claims.specs.NotRefused.{StepFit, submit-fit, step-fit}
-use Rattle.claims.specs.Units.{any-worthy, startOf, opened-fresh, start-n, stop}
+use Rattle.claims.specs.NotRefused.{SubmitFit, StepFit, submit-fit, step-fit}
+use Rattle.claims.specs.Journey.{At}
+use Rattle.claims.specs.Units.{any-worthy, startOf, endOf, opened-fresh, start-n, start-round, stop}
 
 -- ---- before the own submit
 
@@ -87,8 +88,8 @@ keeping-quiet r store seat value signature right unsaid =
 
 -- ---- one call, with any record and store
 
--- of what is kept, a seat's share is as before: whether the seat is kept, its value, and its signature
-pub record AsBefore (r : Record) (store : List ℕ) (r′ : Record) (store′ : List ℕ) (seat : ℕ) : Type 0 where
+-- of what is kept, a seat's share is the same: whether the seat is kept, its value, and its signature
+pub record SameShare (r : Record) (store : List ℕ) (r′ : Record) (store′ : List ℕ) (seat : ℕ) : Type 0 where
   pub kept : bit seat (r′ .kept) ≡ bit seat (r .kept)
   pub value : keptValue (r .n) store′ seat ≡ keptValue (r .n) store seat
   pub signature : keptSignature (r .n) store′ seat ≡ keptSignature (r .n) store seat
@@ -112,20 +113,20 @@ module _ (S : Setting) where
     pub reads : read (t .unit .n) bytes ≡ Submit (t .unit .round) seat value signature
     pub unrefused : resultOf S t .refusal ≡ 0
 
-  -- the call keeps the SUBMIT of one more seat, and every other seat's share is as before
+  -- the call keeps the SUBMIT of one more seat, and every other seat's share is the same
   pub record Keeps (t : Called) (x : Result) (seat : ℕ) : Type 0 where
     pub early : t .unit .own .submitted ≡ false
     pub new : bit seat (t .unit .kept) ≡ 0
     pub inside : seat < t .unit .n
     pub kept : x .unit .kept ≡ with seat (t .unit .kept)
     pub hears : Hears t seat (keptValue (t .unit .n) (x .store) seat) (keptSignature (t .unit .n) (x .store) seat)
-    pub others : (other : ℕ) → other < t .unit .n → other ≢ seat → AsBefore (t .unit) (t .store) (x .unit) (x .store) other
+    pub others : (other : ℕ) → other < t .unit .n → other ≢ seat → SameShare (t .unit) (t .store) (x .unit) (x .store) other
 
   -- the three things that a call can do to what is kept: nothing; empty it, in a submit; keep one more
   abbrev Does : Called → Result → Type 0
   Does t x =
       (x .unit .n ≡ t .unit .n)
-      × (((seat : ℕ) → AsBefore (t .unit) (t .store) (x .unit) (x .store) seat)
+      × (((seat : ℕ) → SameShare (t .unit) (t .store) (x .unit) (x .store) seat)
       ⊎ (SubmitsNow t × (x .unit .kept ≡ 0))
       ⊎ ((seat : ℕ) × Keeps t x seat))
 
@@ -228,13 +229,23 @@ module _ (S : Setting) where
         subst (Does t) (sym is)
         (by-number (refusalOf S (t .given) (t .unit) (t .store)) (cameTo (t .given) (t .unit) (t .store)) (λ e. came-does (t .given) refl (ap (λ (x : Result). x .refusal) is ∙ e) e))
 
+    -- a submit that isn't refused: what it was given, and what it comes to
+    pub submits-fit : (s : SubmitsNow t) → SubmitFit checks keys (t .unit) (t .store) (s .layout) (s .signature) (s .out)
+    unfolding refusalOf
+    submits-fit s =
+        submit-fit checks keys (t .unit) (t .store) (s .layout) (s .signature) (s .out) (subst (λ c. refusalOf S c (t .unit) (t .store) ≡ 0) (s .carries) (unrefused-result S t (s .unrefused) .0))
+
+    pub submits-result : (s : SubmitsNow t) → resultOf S t .unit ≡ submitted (s .layout) (s .signature) first .unit
+    unfolding cameTo
+    submits-result s = unrefused-result S t (s .unrefused) .1 ∙ ap (λ c. cameTo c (t .unit) (t .store) .unit) (s .carries)
+
     -- a SUBMIT heard is checked like any other
     pub hears-fit : (seat : ℕ) (value signature : List ℕ) (h : Hears t seat value signature) → StepFit checks keys (t .unit) (t .store) (h .bytes) (h .out)
     hears-fit seat value signature h =
         step-fit checks keys (t .unit) (t .store) (h .bytes) (h .out) (sym (step-is S (t .given) (h .bytes) (h .out) (t .unit) (t .store) (h .isStep) .0) ∙ unrefused-result S t (h .unrefused) .0)
 
     -- a seat kept before a call that keeps another one
-    kept-other : (seat : ℕ) → Keeps t (resultOf S t) seat → (other : ℕ) → In other (t .unit .kept) → AsBefore (t .unit) (t .store) (resultOf S t .unit) (resultOf S t .store) other
+    kept-other : (seat : ℕ) → Keeps t (resultOf S t) seat → (other : ℕ) → In other (t .unit .kept) → SameShare (t .unit) (t .store) (resultOf S t .unit) (resultOf S t .store) other
     kept-other seat k other i =
         let fit = hears-fit seat _ _ (k .hears) in
         let below = possible (t .unit) (fit .lent .possible) .kept in
@@ -260,15 +271,22 @@ module _ (S : Setting) where
         ap (λ (x : Result). bit seat (x .unit .kept)) (early-alone seat value signature h unsaid)
         ∙ cond-elim (λ (s : State). In seat (s .unit .kept)) (has seat (r .kept)) first (keep seat value signature first) (λ e. has-true seat (r .kept) .0 e) (λ e. bit-with-same seat (r .kept))
 
+    -- "then the kept seats are empty"
+    pub submit-empties : SubmitsNow t → resultOf S t .unit .kept ≡ 0
+    submit-empties s =
+        let fit = submits-fit s in
+        ap (λ (x : Record). x .kept) (submits-result s)
+        ∙ submitted-emptied (s .layout) (s .signature) first (possible (t .unit) (fit .lent .possible) .range .seated) (omega (arith, fit .sizedSignature)) (fit .lent .storeRoom) .kept
+
     -- "the first good one from each seat is kept": once a seat is kept, no call but the own submit changes its share
-    pub kept-stays : (SubmitsNow t → ⊥) → (seat : ℕ) → In seat (t .unit .kept) → AsBefore (t .unit) (t .store) (resultOf S t .unit) (resultOf S t .store) seat
+    pub kept-stays : (SubmitsNow t → ⊥) → (seat : ℕ) → In seat (t .unit .kept) → SameShare (t .unit) (t .store) (resultOf S t .unit) (resultOf S t .store) seat
     kept-stays never seat i = ⊎-elim (λ f. f seat) (λ rest. ⊎-elim (λ e. absurd (never (e .0))) (λ k. kept-other (k .0) (k .1) seat i) rest) (call-does .1)
 
     -- such a call changes the share of one seat at most, and not if that seat is kept
     pub keeps-one : (SubmitsNow t → ⊥)
         → (seat : ℕ)
-        × ((other : ℕ) → other < t .unit .n → other ≢ seat → AsBefore (t .unit) (t .store) (resultOf S t .unit) (resultOf S t .store) other)
-        × (In seat (t .unit .kept) → AsBefore (t .unit) (t .store) (resultOf S t .unit) (resultOf S t .store) seat)
+        × ((other : ℕ) → other < t .unit .n → other ≢ seat → SameShare (t .unit) (t .store) (resultOf S t .unit) (resultOf S t .store) other)
+        × (In seat (t .unit .kept) → SameShare (t .unit) (t .store) (resultOf S t .unit) (resultOf S t .store) seat)
     keeps-one never =
         ⊎-elim (λ f. (0, (λ other l d. f other), λ i. f 0))
         (λ rest. ⊎-elim (λ e. absurd (never (e .0))) (λ k. (k .0, k .1 .others, λ i. kept-other (k .0) (k .1) (k .0) i)) rest)
@@ -276,9 +294,9 @@ module _ (S : Setting) where
 
 -- ---- along a list
 
-as-before-then : (r : Record) (store : List ℕ) (r′ : Record) (store′ : List ℕ) (r″ : Record) (store″ : List ℕ) (seat : ℕ) → r′ .n ≡ r .n → AsBefore r store r′ store′ seat → AsBefore r′ store′ r″ store″ seat
-    → AsBefore r store r″ store″ seat
-as-before-then r store r′ store′ r″ store″ seat e a b = record {
+same-share-then : (r : Record) (store : List ℕ) (r′ : Record) (store′ : List ℕ) (r″ : Record) (store″ : List ℕ) (seat : ℕ) → r′ .n ≡ r .n → SameShare r store r′ store′ seat → SameShare r′ store′ r″ store″ seat
+    → SameShare r store r″ store″ seat
+same-share-then r store r′ store′ r″ store″ seat e a b = record {
   kept = b .kept ∙ a .kept;
   value = subst (λ n. keptValue n store″ seat ≡ keptValue n store′ seat) e (b .value) ∙ a .value;
   signature = subst (λ n. keptSignature n store″ seat ≡ keptSignature n store′ seat) e (b .signature) ∙ a .signature;
@@ -290,31 +308,31 @@ module _ (S : Setting) where
   -- a flood of early SUBMITs: from a record in which a seat is kept, its share is the same at every call of any list without an own
   -- submit. So a seat's two slots are written once.
   pub kept-once : (r : Record) (store : List ℕ) (cs : List Call) (seat : ℕ) → In seat (r .kept) → Each (λ t. SubmitsNow S t → ⊥) (listFrom S r store cs)
-      → Each (λ t. AsBefore r store (t .unit) (t .store) seat) (listFrom S r store cs)
+      → Each (λ t. SameShare r store (t .unit) (t .store) seat) (listFrom S r store cs)
   unfolding listFrom
-  kept-once r store [] seat i never = each-nil (λ t. AsBefore r store (t .unit) (t .store) seat)
+  kept-once r store [] seat i never = each-nil (λ t. SameShare r store (t .unit) (t .store) seat)
   kept-once r store (c ∷ cs) seat i never =
       let t : Called = record { given = c; unit = r; store = store } in
       let x = outcome S c r store in
       let a = kept-stays S t (never t (List·Memᴰ·head refl)) seat i in
       let rest = kept-once (x .unit) (x .store) cs seat (a .kept ∙ i) (λ y d. never y (List·Memᴰ·tail d)) in
-      each-cons (λ y. AsBefore r store (y .unit) (y .store) seat) t (listFrom S (x .unit) (x .store) cs) (record { kept = refl; value = refl; signature = refl })
-      (λ y d. as-before-then r store (x .unit) (x .store) (y .unit) (y .store) seat (call-does S t .0) a (rest y d))
+      each-cons (λ y. SameShare r store (y .unit) (y .store) seat) t (listFrom S (x .unit) (x .store) cs) (record { kept = refl; value = refl; signature = refl })
+      (λ y d. same-share-then r store (x .unit) (x .store) (y .unit) (y .store) seat (call-does S t .0) a (rest y d))
 
   -- a relation that holds of what is kept at the start and of every SUBMIT heard holds of what is kept at every call
   module _ (Q : Relation) where
-    abbrev pub Of : Record → List ℕ → Type 0
-    Of r store = (seat : ℕ) → In seat (r .kept) → Q seat (keptValue (r .n) store seat) (keptSignature (r .n) store seat)
+    abbrev pub OfKept : Record → List ℕ → Type 0
+    OfKept r store = (seat : ℕ) → In seat (r .kept) → Q seat (keptValue (r .n) store seat) (keptSignature (r .n) store seat)
 
-    abbrev pub Heard : Called → Type 0
-    Heard t = (seat : ℕ) (value signature : List ℕ) → Hears S t seat value signature → Q seat value signature
+    abbrev pub OfHeard : Called → Type 0
+    OfHeard t = (seat : ℕ) (value signature : List ℕ) → Hears S t seat value signature → Q seat value signature
 
-    pub kept-next : (t : Called) → Of (t .unit) (t .store) → Heard t → Of (resultOf S t .unit) (resultOf S t .store)
+    pub kept-next : (t : Called) → OfKept (t .unit) (t .store) → OfHeard t → OfKept (resultOf S t .unit) (resultOf S t .store)
     kept-next t of heard seat i =
         let r = t .unit in
         let x = resultOf S t in
         let d = call-does S t in
-        let like : AsBefore r (t .store) (x .unit) (x .store) seat → Q seat (keptValue (x .unit .n) (x .store) seat) (keptSignature (x .unit .n) (x .store) seat) =
+        let like : SameShare r (t .store) (x .unit) (x .store) seat → Q seat (keptValue (x .unit .n) (x .store) seat) (keptSignature (x .unit .n) (x .store) seat) =
         λ a. rw (d .0, a .value, a .signature) (of seat (sym (a .kept) ∙ i)) in
         ⊎-elim (λ f. like (f seat))
         (λ rest. ⊎-elim (λ e. absurd (let z : bit seat (x .unit .kept) ≡ 0 = ap (bit seat) (e .1) ∙ bit-empty seat in omega arith)) (λ k. go (k .0) (k .1) (ℕ-discrete seat (k .0))) rest)
@@ -327,13 +345,13 @@ module _ (S : Setting) where
             let a = kept-other S t new k seat old in
             rw (call-does S t .0, a .value, a .signature) (of seat old)
 
-    kept-of : (r : Record) (store : List ℕ) (cs : List Call) → Of r store → Each Heard (listFrom S r store cs) → Each (λ t. Of (t .unit) (t .store)) (listFrom S r store cs)
+    kept-of : (r : Record) (store : List ℕ) (cs : List Call) → OfKept r store → Each OfHeard (listFrom S r store cs) → Each (λ t. OfKept (t .unit) (t .store)) (listFrom S r store cs)
     unfolding listFrom
-    kept-of r store [] of heard = each-nil (λ t. Of (t .unit) (t .store))
+    kept-of r store [] of heard = each-nil (λ t. OfKept (t .unit) (t .store))
     kept-of r store (c ∷ cs) of heard =
         let t : Called = record { given = c; unit = r; store = store } in
         let x = outcome S c r store in
-        each-cons (λ y. Of (y .unit) (y .store)) t (listFrom S (x .unit) (x .store) cs) of
+        each-cons (λ y. OfKept (y .unit) (y .store)) t (listFrom S (x .unit) (x .store) cs) of
         (kept-of (x .unit) (x .store) cs (kept-next t of (heard t (List·Memᴰ·head refl))) (λ y d. heard y (List·Memᴰ·tail d)))
 
   -- ---- an honest unit's list
@@ -344,38 +362,45 @@ module _ (S : Setting) where
     unfolding fresh
     start-none = ap (λ (r : Record). r .kept) (opened-fresh S u opened)
 
-    module _ (t : Called) (d : List·Memᴰ t (listOf S u)) where
-      -- what is kept at a call was heard in a call of the list
-      pub kept-was-heard : (seat : ℕ) → In seat (t .unit .kept)
-          → (earlier : Called) × List·Memᴰ earlier (listOf S u) × Hears S earlier seat (keptValue (t .unit .n) (t .store) seat) (keptSignature (t .unit .n) (t .store) seat)
-      kept-was-heard =
-          kept-of (λ seat value signature. (earlier : Called) × List·Memᴰ earlier (listOf S u) × Hears S earlier seat value signature) (startOf S u opened) (u .store) (u .calls)
-          (λ seat i. absurd (omega (arith, ap (bit seat) start-none, bit-empty seat))) (λ y e seat value signature h. (y, e, h)) t d
+    -- a call of the list hears this SUBMIT
+    abbrev pub HeardIn : Relation
+    HeardIn seat value signature = (call : Called) × List·Memᴰ call (listOf S u) × Hears S call seat value signature
 
-      -- "then the kept seats are empty": no seat is kept once the unit has submitted
+    module _ (t : Called) (d : List·Memᴰ t (listOf S u)) where
+      abbrev at : At S Any (startOf S u opened) t (endOf S u opened)
+      at = stop S u opened Any (any-worthy S (listOf S u)) t d
+
+      pub size-is : t .unit .n ≡ n
+      size-is = at .since .n ∙ start-n S u opened
+
+      pub round-is : t .unit .round ≡ round
+      round-is = at .since .round ∙ start-round S u opened
+
+      -- what is kept at a call was heard in a call of the list
+      pub kept-was-heard : (seat : ℕ) → In seat (t .unit .kept) → HeardIn seat (keptValue n (t .store) seat) (keptSignature n (t .store) seat)
+      kept-was-heard seat i =
+          subst (λ m. HeardIn seat (keptValue m (t .store) seat) (keptSignature m (t .store) seat)) size-is
+          (kept-of HeardIn (startOf S u opened) (u .store) (u .calls) (λ s e. absurd (omega (arith, ap (bit s) start-none, bit-empty s))) (λ y e s value signature h. (y, e, h)) t d seat i)
+
+      -- "then the kept seats are empty": none is kept once the unit has submitted
       pub none-kept-once-submitted : t .unit .own .submitted ≡ true → t .unit .kept ≡ 0
-      none-kept-once-submitted = stop S u opened Any (any-worthy S (listOf S u)) t d .settled .emptied
+      none-kept-once-submitted = at .settled .emptied
 
   -- at every call of an honest unit, each kept signature checks for its seat over the kept value, and is delivered for it
   pub kept-was-delivered : {I : Type 0} (boat : I → Honest) (i : I) → IsOpened S (boat i) → (t : Called) → List·Memᴰ t (listOf S (boat i)) → (seat : ℕ) → In seat (t .unit .kept)
       → (checks seat (keptValue n (t .store) seat) (keptSignature n (t .store) seat) ≡ true) × Delivered S boat seat (keptValue n (t .store) seat) (keptSignature n (t .store) seat)
   unfolding signed
   kept-was-delivered boat i opened t d seat kept =
-      let u = boat i in
-      let size : t .unit .n ≡ n = stop S u opened Any (any-worthy S (listOf S u)) t d .since .n ∙ start-n S u opened in
-      let h = kept-was-heard u opened t d seat kept in
-      let earlier : (earlier : Called) × List·Memᴰ earlier (listOf S u) × Hears S earlier seat (keptValue n (t .store) seat) (keptSignature n (t .store) seat) =
-      subst (λ m. (earlier : Called) × List·Memᴰ earlier (listOf S u) × Hears S earlier seat (keptValue m (t .store) seat) (keptSignature m (t .store) seat)) size h in
-      let c = earlier .0 in
-      let heard = earlier .2 in
-      let here : c .unit .n ≡ n = stop S u opened Any (any-worthy S (listOf S u)) c (earlier .1) .since .n ∙ start-n S u opened in
+      let h = kept-was-heard (boat i) opened t d seat kept in
+      let c = h .0 in
+      let heard = h .2 in
       let fit = hears-fit S c seat _ _ heard in
       let it : Signed = record { seat = seat; value = keptValue n (t .store) seat; signature = keptSignature n (t .store) seat } in (
         subst (λ m. EachSigned (λ s v g. checks s v g ≡ true) m) (heard .reads) (fit .message .checked) it (List·Memᴰ·head refl),
         record {
           to = i;
           bytes = heard .bytes;
-          given = inl (record { call = c; inList = earlier .1; out = heard .out; isStep = heard .isStep });
-          stands = subst (λ m. List·Memᴰ it (signed m)) (sym (heard .reads) ∙ ap (λ m. read m (heard .bytes)) here) (List·Memᴰ·head refl);
+          given = inl (record { call = c; inList = h .1; out = heard .out; isStep = heard .isStep });
+          stands = subst (λ m. List·Memᴰ it (signed m)) (sym (heard .reads) ∙ ap (λ m. read m (heard .bytes)) (size-is (boat i) opened c (h .1))) (List·Memᴰ·head refl);
         },
       )
