@@ -10,7 +10,7 @@ cd "$(dirname "$0")/.."
 page=${1:-docs/STATEMENTS.md}
 claims='claims/specs/Claim claims/specs/Once claims/specs/Made claims/specs/NotRefused paper/specs/Claim paper/specs/Happens'
 claims="$claims protocol/specs/Order protocol/specs/Figures protocol/specs/SignatureClaim zolbine/specs/Refused"
-claims="$claims examples/specs/SplitProof examples/specs/Fleets claims/specs/Before claims/specs/Kept claims/specs/Gain"
+claims="$claims examples/specs/SplitProof examples/specs/Fleets claims/specs/Before claims/specs/Gain"
 
 {
     find crates/*/specs crates/*/src crates/*/must-fail mutations scripts harness/data harness/tests -print | sed 's/^/path /'
