@@ -4,11 +4,13 @@
 -- fleet and any signature check, `SplitProof` the proof; `MadeKeys` has keys and signatures of our key maker and signer, and `Fleets` the
 -- round with these under RFC 8554's check, for any fleet, and of 4 and 7 seats.
 --
--- Computed, with a toy signature check: whole calls (`Runs`) and a forged signature (`Guard`). `Trials` has the runs of the trials under
--- the definitions as they stand, and `Marked` document 01's marked cases.
+-- Computed, with a toy signature check: whole calls (`Runs`), a forged signature (`Guard`) and, in part deduced, a boat that confirms in
+-- the call of its submit (`SlowBoat`). `Trials` has the runs of the trials under the definitions as they stand, and `Marked` document
+-- 01's marked cases.
 pub mod Marked
 pub mod Runs
 pub mod Guard
+pub mod SlowBoat
 pub mod Split
 pub mod SplitProof
 pub mod MadeKeys
