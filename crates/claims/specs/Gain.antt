@@ -7,35 +7,29 @@ use mathlib.Core.List.{List, [], _∷_, _++_, List·Memᴰ, List·Memᴰ·head, 
 use mathlib.Core.Logic.{_⊎_, inl, inr, ⊎-elim}
 use Prim.Native.Nat.{ℕ, _+_, _≤_, _<_}
 use native.Mathlib.Omega.{arith}
-use native.Mathlib.Decide.{ℕ-discrete}
 use lib.ListN.{length}
-use Rattle.quorum.specs.Quorum.{t0, k, bit, In, has, size, with}
-use Rattle.quorum.specs.QuorumLaws.{bit-empty, bit-with-other, size-empty, size-with-new}
+use Rattle.quorum.specs.Quorum.{k, bit, In, has, size}
+use Rattle.quorum.specs.QuorumLaws.{bit-empty}
 use Rattle.refusal.specs.Refusal.{unrefused}
-use Rattle.protocol.specs.Layout.{valueLength, signatureLength, storeLength, outLength}
-use Rattle.protocol.specs.LayoutLaws.{kept-bank}
-use Rattle.protocol.specs.Message.{Message, Submit, Notice, Full, Evidence, Garbled, render, read, roundOf, seatsOf, entrySeats, signed}
-use Rattle.protocol.specs.MessageLaws.{read-render}
-use Rattle.protocol.specs.Record.{fresh}
-use Rattle.protocol.specs.Refusals.{Checks, isForStep, rising}
+use Rattle.protocol.specs.Layout.{storeLength, outLength}
+use Rattle.protocol.specs.Message.{Message, Submit, Notice, Full, Evidence, Garbled, read, roundOf, seatsOf, entrySeats, signed}
+use Rattle.protocol.specs.Refusals.{isForStep, rising}
 use Rattle.protocol.specs.Certificate.{keptValue}
-use Rattle.protocol.specs.Step.{State, keep, keepIfFirst}
 use Rattle.protocol.specs.Calls.{Result, resultBy, start, step}
 use Rattle.protocol.specs.declared.Record.{Record}
 use Rattle.round.specs.Round.{Setting, IsOpened, Each, Relation, Call, BySubmit, ByStep, ByThinEntry, Honest, Called, IsStep, outcome, resultOf, listFrom, listOf, StandsIn, writtenIn, Confirms}
 use Rattle.round.specs.Demand1.{NOTICE, isOf, isNotice, worth}
-use Rattle.reading.specs.ListsLaws.{cond-elim, each-nil, each-one, each-cons, count-member, worth-true}
+use Rattle.reading.specs.ListsLaws.{each-nil, each-one, each-cons, count-member, worth-true}
 use Rattle.reading.specs.Messages.{messages}
 use Rattle.reading.specs.MessagesLaws.{outcome-is, step-is}
-use Rattle.claims.specs.SlotsLaws.{kept-long}
 use Rattle.claims.specs.Sound.{Any, Said, Good}
 use Rattle.claims.specs.Parts.{confirmed-submitted}
 use Rattle.claims.specs.Whole.{submitted-value}
 use Rattle.claims.specs.UnrefusedLaws.{possible, Taken}
-use Rattle.claims.specs.NotRefused.{Table, OpeningFit, opening-not-refused, submit-not-refused, StepFit, SubmitFit, step-not-refused}
+use Rattle.claims.specs.NotRefused.{Table, StepFit, SubmitFit, step-not-refused}
 use Rattle.claims.specs.Journey.{At}
-use Rattle.claims.specs.Units.{any-worthy, startOf, endOf, opened-fit, opened-fresh, start-n, start-seat, stop, written-are}
-use Rattle.claims.specs.Kept.{SubmitsNow, Hears, submits-fit, submits-result, hears-fit, early-alone, early-kept, kept-stays, call-does, OfKept, kept-next, start-none, size-is, round-is}
+use Rattle.claims.specs.Units.{any-worthy, startOf, endOf, opened-fit, start-seat, stop, written-are}
+use Rattle.claims.specs.Kept.{SubmitsNow, Hears, submits-fit, submits-result, hears-fit, early-kept, kept-stays, call-does, OfKept, kept-next, start-none, size-is, round-is}
 use Rattle.claims.specs.CollectKeptLaws.{confirms-at-once}
 
 -- ---- the notions of the claim
@@ -332,114 +326,3 @@ confirms-in-that-call S u opened h = (confirmed-there S u opened h, notice-there
 pub confirms-it : (S : Setting) (u : Honest) → IsOpened S u → (h : SubmitsAfter S u) → Confirms S u (h .submits .layout)
 confirms-it S u opened h =
     (S .round, u .seat, record { call = h .call; inList = inList S u opened h; stands = notice-there S u opened h })
-
--- ---- the premises can be met
-
--- a fleet of two: the unit in seat 0 is given the other's SUBMIT, and submits the same layout after it. So a unit that refuses early
--- SUBMITs doesn't meet the claim.
-module _ (checks : Checks) (round : ℕ) (keys store layout mine theirs out : List ℕ) (fit : OpeningFit 2 0 round keys) (room : storeLength 2 ≤ length store) (outRoom : outLength 2 ≤ length out)
-    (sized : length layout ≡ valueLength) (long : length mine ≡ signatureLength) (long′ : length theirs ≡ signatureLength) (good : checks 0 layout mine ≡ true) (good′ : checks 1 layout theirs ≡ true) where
-  abbrev pub pair : Setting
-  pair = record { n = 2; round = round; keys = keys; checks = checks }
-
-  abbrev pub slow : Honest
-  slow = record { seat = 0; store = store; calls = ByStep (render (Submit round 1 layout theirs)) out ∷ BySubmit layout mine out ∷ []; inHand = [] }
-
-  slow-opened : IsOpened pair slow
-  slow-opened = opening-not-refused 2 0 round keys .1 fit
-
-  abbrev r : Record
-  r = startOf pair slow slow-opened
-
-  abbrev heard : Called
-  heard = record { given = ByStep (render (Submit round 1 layout theirs)) out; unit = r; store = store }
-
-  abbrev own : Called
-  own = record { given = BySubmit layout mine out; unit = resultOf pair heard .unit; store = resultOf pair heard .store }
-
-  list-is : listOf pair slow ≡ heard ∷ own ∷ []
-  unfolding listFrom
-  list-is = refl
-
-  gives : GivesGood pair heard 1 layout
-  gives = record {
-    bytes = render (Submit round 1 layout theirs);
-    out = out;
-    signature = theirs;
-    isStep = inl refl;
-    storeRoom = room;
-    outRoom = outRoom;
-    inside = omega arith;
-    reads = read-render 2 (Submit round 1 layout theirs) (let e = fit .range .dated in omega arith, sized, long′);
-    checked = good′;
-  }
-
-  r-is : r ≡ fresh 2 0 round
-  r-is = opened-fresh pair slow slow-opened
-
-  unsaid : r .own .submitted ≡ false
-  unfolding fresh
-  unsaid = ap (λ (x : Record). x .own .submitted) r-is
-
-  keeps : resultOf pair heard ≡ resultBy 0 (keepIfFirst 1 layout theirs (start r store)) r store
-  unfolding gives
-  keeps =
-      early-alone pair heard 1 layout theirs (gives-hears pair slow slow-opened heard (subst (λ l. List·Memᴰ heard l) (sym list-is) (List·Memᴰ·head refl)) 1 layout gives) unsaid
-
-  still-unsaid : own .unit .own .submitted ≡ false
-  unfolding keepIfFirst keep resultBy unrefused
-  still-unsaid =
-      ap (λ (x : Result). x .unit .own .submitted) keeps
-      ∙ cond-elim (λ (s : State). s .unit .own .submitted ≡ r .own .submitted) (has 1 (r .kept)) (start r store) (keep 1 layout theirs (start r store)) (λ e. refl) (λ e. refl)
-      ∙ unsaid
-
-  still-long : length (own .store) ≡ length store
-  unfolding keepIfFirst keep resultBy unrefused
-  still-long =
-      let n-is = start-n pair slow slow-opened in
-      ap (λ (x : Result). length (x .store)) keeps
-      ∙ cond-elim (λ (s : State). length (s .store) ≡ length store) (has 1 (r .kept)) (start r store) (keep 1 layout theirs (start r store)) (λ e. refl)
-      (λ e. kept-long (r .n) 1 layout theirs store (omega arith) (rw n-is room) sized (long′ ∙ sym (kept-bank .1)))
-
-  submits-now : SubmitsNow pair own
-  unfolding outcome
-  submits-now =
-      let d : List·Memᴰ own (listOf pair slow) = subst (λ l. List·Memᴰ own l) (sym list-is) (List·Memᴰ·tail (List·Memᴰ·head refl)) in
-      let z = stop pair slow slow-opened Any (any-worthy pair (listOf pair slow)) own d in
-      let size = size-is pair slow slow-opened own d in
-      record {
-        layout = layout;
-        signature = mine;
-        out = out;
-        carries = refl;
-        unrefused = submit-not-refused checks keys (own .unit) (own .store) layout mine out .1 (record {
-          lent = record {
-            possible = possible checks Any (own .unit) (own .store) (z .sound) (z .settled);
-            table = subst (λ i. Table i keys) (sym size) (fit .table);
-            storeRoom = rw (size, still-long) room;
-            outRoom = rw size outRoom;
-          };
-          first = still-unsaid;
-          sizedValue = sized;
-          sizedSignature = long;
-          checked = ap (λ (i : ℕ). checks i layout mine) (z .since .seat ∙ start-seat pair slow slow-opened) ∙ good;
-        });
-      }
-
-  pub premises-met : SubmitsAfter pair slow
-  unfolding FirstIs k t0 submits-now
-  premises-met = record {
-    before = heard ∷ [];
-    call = own;
-    after = [];
-    split = list-is;
-    submits = submits-now;
-    others = with 1 0;
-    apart = bit-with-other 0 1 0 (λ e. omega arith) ∙ bit-empty 0;
-    enough = omega (arith, size-with-new 1 0 (bit-empty 1), size-empty);
-    given = λ seat i. go seat i (ℕ-discrete seat 1);
-  }
-    where
-      go : (seat : ℕ) → In seat (with 1 0) → Dec (seat ≡ 1) → FirstIs pair seat layout (heard ∷ [])
-      go seat i (yes e) = inl (rw e gives)
-      go seat i (no d) = absurd (omega (arith, bit-with-other seat 1 0 d, bit-empty seat))
