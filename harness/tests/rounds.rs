@@ -1,4 +1,4 @@
-//! The rounds of data/rounds, whose answers were worked out from document 01 by hand.
+//! The rounds of data/rounds, whose answers were worked out from the documents by hand.
 
 use harness::confirmer::Reference;
 use harness::reference::layout::SUBMIT;

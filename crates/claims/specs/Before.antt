@@ -19,16 +19,17 @@ use Rattle.protocol.specs.Layout.{signatureLength, banks, collectedBank, firstB
 use Rattle.protocol.specs.Message.{Message, Submit, Notice, Full, Evidence, Garbled, read, seatsOf}
 use Rattle.protocol.specs.Certificate.{certificateIn, keptValue, keptSignature, conflictOf}
 use Rattle.protocol.specs.Record.{withKept, outOfRange, wrongHeard, namesStranger, wrongCollected, wrongFirst, lacksFirst, wrongGuilty, wrongSent, wrongKept, wrongUnset, impossible}
-use Rattle.protocol.specs.RecordLaws.{possible}
 use Rattle.protocol.specs.Refusals.{Condition, Checks, KEYS, OUT, SAID, GARBLED, GARBLED-OWN, OTHER-ROUND, STRANGER, DISORDER, SIGNATURE, NO-CONFLICT-IN, NO-CONFLICT-BETWEEN, isForStep, isFull, isEvidence, shortStore, outsideConditions, recordConditions, messageConditions, certificateConditions, twoConditions, submitConditions, stepConditions, evidenceConditions, makingConditions, lowerConditions}
 use Rattle.protocol.specs.Step.{State, withUnit, write, collect, setOwnValue, submitOwn, isWanted, collectIfWanted, isOpenTo, collectKeptSeat, collectKeptBelow, emptyKept, collectKept, hear, reply, hearCertificate, confirmIfComplete, submitted, stepped}
 use Rattle.protocol.specs.Calls.{Result, resultBy, start, submit, step, Making, makingBy, making, checkedBy, evidenceCheck, lowerOf, lowerCertificate}
 use Rattle.protocol.specs.declared.Record.{Record}
 use Rattle.protocol.specs.declared.Checked.{Checked}
-use Rattle.round.specs.Round.{Setting, Each, Call, BySubmit, ByStep, ByThinEntry, Called, outcome, listFrom}
+use Rattle.round.specs.Round.{Setting, Each, Call, BySubmit, ByStep, ByThinEntry, Called, outcome, resultOf, listFrom}
+use Rattle.reading.specs.ListsLaws.{each-nil, each-cons}
 use Rattle.reading.specs.Reading.{Sized}
 use Rattle.reading.specs.ReadingLaws.{read-sized}
-use Rattle.claims.specs.KeptPartLaws.{keptPart, Beside, Aside, Emptied, aside-refl, submitted-emptied, stepped-late, late-aside, notice-aside, full-aside}
+use Rattle.claims.specs.KeptPartLaws.{keptPart, Beside, Aside, Emptied, aside-refl, stepped-late, late-aside, notice-aside, full-aside}
+use Rattle.claims.specs.Kept.{submit-emptied}
 use Rattle.claims.specs.UnrefusedLaws.{Taken}
 use Rattle.claims.specs.NotRefused.{submit-fit, step-fit}
 
@@ -252,18 +253,16 @@ none-of r store (suc q) s none f = none
 
 -- a submit, whatever is kept
 module _ (checks : Checks) (keys : List ℕ) (r : Record) (store value signature out : List ℕ) where
-  submit-emptied : firstOf (submitConditions checks keys r store value signature out) ≡ 0 → Emptied (start r store) (submitted value signature (start r store))
-  submit-emptied e =
-      let fit = submit-fit checks keys r store value signature out e in
-      submitted-emptied value signature (start r store) (possible r (fit .lent .possible) .range .seated) (omega (arith, fit .sizedSignature)) (fit .lent .storeRoom)
+  emptied : firstOf (submitConditions checks keys r store value signature out) ≡ 0 → Emptied (start r store) (submitted value signature (start r store))
+  emptied e = submit-emptied checks keys r store value signature out (submit-fit checks keys r store value signature out e)
 
   pub submit-rest : drop (storeLengthBefore (r .n)) (submit checks keys r store value signature out .store) ≡ drop (storeLengthBefore (r .n)) store
   unfolding submit
-  submit-rest = rest-of r store (firstOf (submitConditions checks keys r store value signature out)) (submitted value signature (start r store)) (λ e. submit-emptied e .beside)
+  submit-rest = rest-of r store (firstOf (submitConditions checks keys r store value signature out)) (submitted value signature (start r store)) (λ e. emptied e .beside)
 
   pub submit-keeps-none : r .kept ≡ 0 → submit checks keys r store value signature out .unit .kept ≡ 0
   unfolding submit
-  submit-keeps-none none = none-of r store (firstOf (submitConditions checks keys r store value signature out)) (submitted value signature (start r store)) none (λ e. submit-emptied e .kept)
+  submit-keeps-none none = none-of r store (firstOf (submitConditions checks keys r store value signature out)) (submitted value signature (start r store)) none (λ e. emptied e .kept)
 
 -- a step without an early SUBMIT
 module _ (checks : Checks) (keys : List ℕ) (r : Record) (store bytes out : List ℕ) (timely : early r (read (r .n) bytes) ≡ false) where
@@ -315,15 +314,17 @@ call-as-before S (ByThinEntry bytes out) r store none timely room =
     (step-as-before (S .checks) (S .keys) r store bytes out none timely room, step-keeps-none (S .checks) (S .keys) r store bytes out timely none)
 
 -- a list from a record without a seat kept, in which no call is given an early SUBMIT and every store has the new length, goes call by
--- call as it went before
+-- call as it went before: each call gets the same record and store, and has the same result
 pub list-as-before : (S : Setting) (r : Record) (store : List ℕ) (cs : List Call) → r .kept ≡ 0
-    → Each (λ t. TimelyGiven (t .given) (t .unit) × (storeLength (t .unit .n) ≤ length (t .store))) (listFrom S r store cs) → listFrom S r store cs ≡ listBefore S r store cs
+    → Each (λ t. TimelyGiven (t .given) (t .unit) × (storeLength (t .unit .n) ≤ length (t .store))) (listFrom S r store cs)
+    → (listFrom S r store cs ≡ listBefore S r store cs) × Each (λ t. resultOf S t ≡ outcomeBefore S (t .given) (t .unit) (t .store)) (listFrom S r store cs)
 unfolding listFrom listBefore
-list-as-before S r store [] none each = refl
+list-as-before S r store [] none each = (refl, each-nil (λ t. resultOf S t ≡ outcomeBefore S (t .given) (t .unit) (t .store)))
 list-as-before S r store (c ∷ cs) none each =
     let t : Called = record { given = c; unit = r; store = store } in
     let e = each t (List·Memᴰ·head refl) in
     let h = call-as-before S c r store none (e .0) (e .1) in
-    ap (λ (rest : List Called). t ∷ rest)
-    (list-as-before S (outcome S c r store .unit) (outcome S c r store .store) cs (h .1) (λ x d. each x (List·Memᴰ·tail d))
-    ∙ ap (λ (x : Result). listBefore S (x .unit) (x .store) cs) (h .0))
+    let rest = list-as-before S (outcome S c r store .unit) (outcome S c r store .store) cs (h .1) (λ x d. each x (List·Memᴰ·tail d)) in (
+      ap (λ (ts : List Called). t ∷ ts) (rest .0 ∙ ap (λ (x : Result). listBefore S (x .unit) (x .store) cs) (h .0)),
+      each-cons (λ x. resultOf S x ≡ outcomeBefore S (x .given) (x .unit) (x .store)) t (listFrom S (outcome S c r store .unit) (outcome S c r store .store) cs) (h .0) (rest .1),
+    )

@@ -85,8 +85,6 @@ module _ (checks : Checks) (W : Relation) (value signature : List ℕ) (s : Stat
       let is-kept : In t others → has t (r .kept) ≡ true = λ i. has-true t (r .kept) .1 (rw (h .aside .kept) (within t i)) in
       cond-elim (At (suc t)) (has t (r .kept) && ltb (size c) (k (r .n))) (cond (not (r .confirmed) && same kv (r .own .value) && not (has t c)) (collect t kg e) e) e
       (λ o.
-      let both = both-true (has t (r .kept)) (ltb (size c) (k (r .n))) o in
-      let under : size c < k (r .n) = ltb-true (size c) (k (r .n)) (both .1) in
       cond-elim (At (suc t)) (not (r .confirmed) && same kv (r .own .value) && not (has t c)) (collect t kg e) e
       (λ w. taken o w)
       (λ w. passed (λ i. inr (⊎-elim

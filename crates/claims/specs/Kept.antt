@@ -2,38 +2,36 @@
 -- early SUBMITs writes each seat's kept slots once; what is kept was delivered, and nothing is kept after the own submit.
 -- Assumes nothing.
 use mathlib.Core.Path.{_≡_, refl, sym, ap, ap₂, subst, _∙_}
-use mathlib.Core.Bool.{Bool, true, false, cond, not, _&&_, _||_, and-false}
+use mathlib.Core.Bool.{Bool, true, false, cond, not, _&&_, and-false}
 use mathlib.Core.List.{List, [], _∷_, List·Memᴰ, List·Memᴰ·head, List·Memᴰ·tail}
 use mathlib.Core.Logic.{_⊎_, inl, inr, ⊎-elim, _≢_}
 use Prim.Native.Nat.{ℕ, zero, suc, _≤_, _<_}
 use native.Mathlib.Omega.{arith}
 use native.Mathlib.Decide.{ℕ-discrete}
-use lib.Dec.{ltb, eqb}
 use lib.ListN.{length}
-use borrow.Author.Tests.{eqb-true, ne-eqb, not-false}
+use borrow.Author.Tests.{ne-eqb}
 use Rattle.quorum.specs.Quorum.{k, bit, In, has, size, with}
 use Rattle.quorum.specs.QuorumLaws.{bit-empty, bit-with-same, bit-with-other, has-true, has-false, size-empty}
 use Rattle.refusal.specs.Refusal.{firstOf, unrefused}
-use Rattle.refusal.specs.RefusalLaws.{both-false}
 use Rattle.protocol.specs.Layout.{valueLength, signatureLength, storeLength, keptBank, keptValueBank, slotLength}
 use Rattle.protocol.specs.LayoutLaws.{kept-bank, kept-value-bank}
 use Rattle.protocol.specs.Message.{Message, Submit, Notice, Full, Evidence, Garbled, Signed, read, signed, seatsOf, roundOf}
 use Rattle.protocol.specs.Certificate.{keptValue, keptSignature}
-use Rattle.protocol.specs.Record.{fresh, outOfRange, wrongHeard, namesStranger, wrongCollected, wrongFirst, lacksFirst, wrongGuilty, wrongSent, wrongKept, wrongUnset, impossible}
+use Rattle.protocol.specs.Record.{fresh, impossible}
 use Rattle.protocol.specs.RecordLaws.{possible}
-use Rattle.protocol.specs.Refusals.{stepConditions}
+use Rattle.protocol.specs.Refusals.{Checks, stepConditions}
 use Rattle.protocol.specs.Step.{State, keep, keepIfFirst, otherHeard, owesFull, sendFull, reply, isComplete, confirm, hearOwn, confirmIfComplete, submitted, stepped}
 use Rattle.protocol.specs.Calls.{Result, resultBy, start}
 use Rattle.protocol.specs.declared.Record.{Record}
 use Rattle.round.specs.Round.{Setting, IsOpened, Call, BySubmit, ByStep, ByThinEntry, Honest, Called, IsStep, Each, EachSigned, Relation, outcome, resultOf, listFrom, listOf, Delivered}
-use Rattle.reading.specs.ListsLaws.{cond-elim, and-false-either, each-nil, each-cons}
+use Rattle.reading.specs.ListsLaws.{cond-elim, each-nil, each-cons}
 use Rattle.reading.specs.Reading.{Sized}
 use Rattle.reading.specs.ReadingLaws.{read-sized}
 use Rattle.reading.specs.Messages.{refusalOf, cameTo}
 use Rattle.reading.specs.MessagesLaws.{outcome-is, step-is, unrefused-result}
 use Rattle.claims.specs.Sound.{Any}
-use Rattle.claims.specs.SlotsLaws.{kept-value-same, kept-signature-same, kept-aside}
-use Rattle.claims.specs.KeptPartLaws.{Aside, kept-value-beside, kept-signature-beside, submitted-emptied, stepped-early, late-aside, notice-aside, full-aside, aside-refl}
+use Rattle.claims.specs.SlotsLaws.{keptValue-fillKept, keptSignature-fillKept, slot-fillKept-other}
+use Rattle.claims.specs.KeptPartLaws.{Aside, Emptied, kept-value-beside, kept-signature-beside, submitted-emptied, stepped-early, late-aside, notice-aside, full-aside, aside-refl}
 use Rattle.claims.specs.Parts.{k-pos, in-below}
 use Rattle.claims.specs.UnrefusedLaws.{Taken}
 use Rattle.claims.specs.NotRefused.{SubmitFit, StepFit, submit-fit, step-fit}
@@ -58,24 +56,12 @@ module _ (r : Record) (right : impossible r ≡ false) (unsaid : r .own .submitt
       let some = k-pos (r .n) (z .range .some) in
       omega arith
 
-  collected-right : wrongCollected r ≡ false
-  unfolding impossible
-  collected-right =
-      let kept = both-false _ (wrongUnset r) right .0 in
-      let sent = both-false _ (wrongKept r) kept .0 in
-      let guilty = both-false _ (wrongSent r) sent .0 in
-      let lacks = both-false _ (wrongGuilty r) guilty .0 in
-      let first = both-false _ (lacksFirst r) lacks .0 in
-      let collected = both-false _ (wrongFirst r) first .0 in
-      both-false (outOfRange r || wrongHeard r || namesStranger r) (wrongCollected r) collected .1
-
   unconfirmed : r .confirmed ≡ false
-  unfolding wrongCollected
-  unconfirmed =
-      let c = r .own .collected in
-      let full = eqb (size c) (k (r .n)) in
-      let front = not (r .own .submitted) && not (eqb c 0) || r .own .submitted && not (has (r .seat) c) || ltb (k (r .n)) (size c) || full && not (r .confirmed) in
-      ⊎-elim (λ e. e) (λ e. absurd (uncollected (eqb-true (size c) (k (r .n)) (not-false full e)))) (and-false-either (r .confirmed) (not full) (both-false front (r .confirmed && not full) collected-right .1))
+  unconfirmed = go (r .confirmed) refl
+    where
+      go : (b : Bool) → r .confirmed ≡ b → b ≡ false
+      go true e = absurd (uncollected (possible r right .confirmed e))
+      go false e = refl
 
 keeping-quiet : (r : Record) (store : List ℕ) (seat : ℕ) (value signature : List ℕ) → impossible r ≡ false → r .own .submitted ≡ false
     → confirmIfComplete (keepIfFirst seat value signature (start r store)) ≡ keepIfFirst seat value signature (start r store)
@@ -85,6 +71,11 @@ keeping-quiet r store seat value signature right unsaid =
     cond-elim (λ (x : State). confirmIfComplete x ≡ x) (has seat (r .kept)) s (keep seat value signature s)
     (λ e. confirmIfComplete-quiet s (unconfirmed r right unsaid) (uncollected r right unsaid))
     (λ e. confirmIfComplete-quiet (keep seat value signature s) (unconfirmed r right unsaid) (uncollected r right unsaid))
+
+-- a submit that isn't refused leaves no seat kept, and the kept part of the store as it was
+pub submit-emptied : (checks : Checks) (keys : List ℕ) (r : Record) (store value signature out : List ℕ) → SubmitFit checks keys r store value signature out → Emptied (start r store) (submitted value signature (start r store))
+submit-emptied checks keys r store value signature out fit =
+    submitted-emptied value signature (start r store) (possible r (fit .lent .possible) .range .seated) (omega (arith, fit .sizedSignature)) (fit .lent .storeRoom)
 
 -- ---- one call, with any record and store
 
@@ -167,9 +158,9 @@ module _ (S : Setting) where
           (λ e. aside-does first (aside-refl first))
           (λ e.
           let wide : length signature ≡ slotLength keptBank = g ∙ sym (kept-bank .1) in
-          let value-is = kept-value-same (r .n) seat value signature (t .store) inside room v wide in
-          let signature-is = kept-signature-same (r .n) seat value signature (t .store) inside room v wide in
-          let aside = kept-aside (r .n) seat value signature (t .store) inside room v wide in (
+          let value-is = keptValue-fillKept (r .n) seat value signature (t .store) inside room v wide in
+          let signature-is = keptSignature-fillKept (r .n) seat value signature (t .store) inside room v wide in
+          let aside = slot-fillKept-other (r .n) seat value signature (t .store) inside room v wide in (
             refl,
             inr (inr (
               seat,
@@ -210,9 +201,7 @@ module _ (S : Setting) where
     came-does : (c : Call) → t .given ≡ c → resultOf S t .refusal ≡ 0 → refusalOf S c (t .unit) (t .store) ≡ 0 → Does t (came (cameTo c (t .unit) (t .store)))
     unfolding refusalOf cameTo resultBy unrefused
     came-does (BySubmit layout signature out) is passes e =
-        let fit = submit-fit checks keys (t .unit) (t .store) layout signature out e in
-        let range = possible (t .unit) (fit .lent .possible) .range in
-        let a = submitted-emptied layout signature first (range .seated) (omega (arith, fit .sizedSignature)) (fit .lent .storeRoom) in
+        let a = submit-emptied checks keys (t .unit) (t .store) layout signature out (submit-fit checks keys (t .unit) (t .store) layout signature out e) in
         (a .n, inr (inl (record { layout = layout; signature = signature; out = out; carries = is; unrefused = passes }, a .kept)))
     came-does (ByStep bytes out) is passes e = step-does bytes out (inl is) passes e
     came-does (ByThinEntry bytes out) is passes e = step-does bytes out (inr is) passes e
@@ -274,9 +263,8 @@ module _ (S : Setting) where
     -- "then the kept seats are empty"
     pub submit-empties : SubmitsNow t → resultOf S t .unit .kept ≡ 0
     submit-empties s =
-        let fit = submits-fit s in
         ap (λ (x : Record). x .kept) (submits-result s)
-        ∙ submitted-emptied (s .layout) (s .signature) first (possible (t .unit) (fit .lent .possible) .range .seated) (omega (arith, fit .sizedSignature)) (fit .lent .storeRoom) .kept
+        ∙ submit-emptied checks keys (t .unit) (t .store) (s .layout) (s .signature) (s .out) (submits-fit s) .kept
 
     -- "the first good one from each seat is kept": once a seat is kept, no call but the own submit changes its share
     pub kept-stays : (SubmitsNow t → ⊥) → (seat : ℕ) → In seat (t .unit .kept) → SameShare (t .unit) (t .store) (resultOf S t .unit) (resultOf S t .store) seat

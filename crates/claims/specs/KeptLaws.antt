@@ -21,7 +21,7 @@ use Rattle.protocol.specs.Refusals.{Checks}
 use Rattle.protocol.specs.Step.{State, collect, isWanted, collectIfWanted, keep, isOpenTo, collectKeptSeat, collectKeptBelow, emptyKept, collectKept}
 use Rattle.round.specs.Round.{Relation}
 use Rattle.reading.specs.ListsLaws.{cond-elim}
-use Rattle.claims.specs.SlotsLaws.{kept-long, kept-value-same, kept-signature-same, kept-aside}
+use Rattle.claims.specs.SlotsLaws.{fillKept-length, keptValue-fillKept, keptSignature-fillKept, slot-fillKept-other}
 use Rattle.claims.specs.Sound.{Room, Attested, Sound, Leads}
 use Rattle.claims.specs.Parts.{in-below, same-flags, leads-quiet, leads-trans, leads-refl, room-leads, collection-like, holding-like, collect-leads}
 
@@ -50,13 +50,13 @@ module _ (checks : Checks) (W : Relation) where
     wide = g .sized ∙ sym (kept-bank .1)
 
     aside : (bank t : ℕ) → bank < length banks → t < n → (keptValueBank ≡ bank → seat ≡ t → ⊥) → (keptBank ≡ bank → seat ≡ t → ⊥) → slot n bank store′ t ≡ slot n bank (s .store) t
-    aside = kept-aside n seat value signature (s .store) inside room v wide
+    aside = slot-fillKept-other n seat value signature (s .store) inside room v wide
 
     keeping-with : (t : ℕ) → In t (with seat (s .unit .kept)) → Attested checks W t (keptValue n store′ t) (keptSignature n store′ t)
     keeping-with t i = go (ℕ-discrete t seat)
       where
         go : Dec (t ≡ seat) → Attested checks W t (keptValue n store′ t) (keptSignature n store′ t)
-        go (yes e) = rw (e, kept-value-same n seat value signature (s .store) inside room v wide, kept-signature-same n seat value signature (s .store) inside room v wide) g
+        go (yes e) = rw (e, keptValue-fillKept n seat value signature (s .store) inside room v wide, keptSignature-fillKept n seat value signature (s .store) inside room v wide) g
         go (no d) =
             let old : In t (s .unit .kept) = sym (bit-with-other t seat (s .unit .kept) d) ∙ i in
             let l = in-below n t (s .unit .kept) (z .kept .below) old in
@@ -80,7 +80,7 @@ module _ (checks : Checks) (W : Relation) where
           flags = z .flags;
           kept = record { below = with-lt n seat (r .kept) inside (z .kept .below); attested = keeping-with };
         })
-        (kept-long n seat value signature (s .store) inside room v wide)
+        (fillKept-length n seat value signature (s .store) inside room v wide)
 
   -- ---- kept ones collected
 

@@ -108,23 +108,23 @@ module _ (n seat : ℕ) (value signature store : List ℕ) (s : seat < n) (room 
   sized : length value ≡ slotLength keptValueBank
   sized = v ∙ sym (kept-value-bank .1)
 
-  pub kept-long : length (fillKept n seat value signature store) ≡ length store
+  pub fillKept-length : length (fillKept n seat value signature store) ≡ length store
   unfolding fillKept
-  kept-long = fill-length n keptValueBank seat value half (kept-value-bank .0) s half-room sized ∙ half-long
+  fillKept-length = fill-length n keptValueBank seat value half (kept-value-bank .0) s half-room sized ∙ half-long
 
-  pub kept-value-same : keptValue n (fillKept n seat value signature store) seat ≡ value
+  pub keptValue-fillKept : keptValue n (fillKept n seat value signature store) seat ≡ value
   unfolding fillKept
-  kept-value-same = slot-fill-same n keptValueBank seat value half (kept-value-bank .0) s half-room sized
+  keptValue-fillKept = slot-fill-same n keptValueBank seat value half (kept-value-bank .0) s half-room sized
 
-  pub kept-signature-same : keptSignature n (fillKept n seat value signature store) seat ≡ signature
+  pub keptSignature-fillKept : keptSignature n (fillKept n seat value signature store) seat ≡ signature
   unfolding fillKept
-  kept-signature-same =
+  keptSignature-fillKept =
       slot-fill-other n keptValueBank seat value half (kept-value-bank .0) s half-room sized keptBank seat (kept-bank .0) s (λ q _. omega arith)
       ∙ slot-fill-same n keptBank seat signature store (kept-bank .0) s room g
 
   -- every other slot is as it was
-  pub kept-aside : (bank t : ℕ) → bank < length banks → t < n → (keptValueBank ≡ bank → seat ≡ t → ⊥) → (keptBank ≡ bank → seat ≡ t → ⊥) → slot n bank (fillKept n seat value signature store) t ≡ slot n bank store t
+  pub slot-fillKept-other : (bank t : ℕ) → bank < length banks → t < n → (keptValueBank ≡ bank → seat ≡ t → ⊥) → (keptBank ≡ bank → seat ≡ t → ⊥) → slot n bank (fillKept n seat value signature store) t ≡ slot n bank store t
   unfolding fillKept
-  kept-aside bank t b l c d =
+  slot-fillKept-other bank t b l c d =
       slot-fill-other n keptValueBank seat value half (kept-value-bank .0) s half-room sized bank t b l c
       ∙ slot-fill-other n keptBank seat signature store (kept-bank .0) s room g bank t b l d

@@ -1,4 +1,5 @@
--- A boat that submits after two others (document 02, item 1): the premises of `claims/specs/Gain` can be met, and each is needed. With
+-- A boat that submits after two others (document 02, item 1): the premises of `claims/specs/Gain` can be met, and each is needed but the
+-- store's room, which follows from the submit's. With
 -- the toy signature check it is computed that the submit isn't refused, and what a boat writes that lacks a seat; all else is deduced.
 -- Assumes nothing.
 use Prim.Native.Nat.{ℕ, zero, suc, _≤_, _<_}

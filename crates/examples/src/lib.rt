@@ -1,1 +1,1 @@
-// Small runs of the definitions, computed; they are in specs/, and there is no code here.
+// Runs of the definitions, deduced or computed; they are in specs/, and there is no code here.

@@ -56,7 +56,7 @@ pub const EVIDENCE_START: usize = EVIDENCE_COUNT_AT + 1;
 
 pub const EVIDENCE_ENTRY: usize = ENTRY_HELD_AT + SIGNATURE + SIGNATURE;
 
-// The store: the signatures of one seat, one in each bank, and all its slots with the kept value.
+// The store: the signatures of one seat, one in each of three banks, and all its slots with the kept value.
 const SEAT_SIGNATURES: usize = 3 * SIGNATURE;
 
 pub const SEAT_SLOTS: usize = SEAT_SIGNATURES + VALUE;

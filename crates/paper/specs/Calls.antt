@@ -24,7 +24,7 @@ use Rattle.protocol.specs.Refusals.{Checks}
 use Rattle.protocol.specs.ConditionsLaws.{each-every}
 use Rattle.protocol.specs.Step.{State, write, collect, setOwnValue, submitOwn, isWanted, collectIfWanted, keep, keepIfFirst, hearSubmit, isOpenTo, collectKeptSeat, collectKeptBelow, emptyKept, collectKept, hear, reply, confirmIfComplete, submitted, stepped}
 use Rattle.reading.specs.ListsLaws.{each-one, each-append}
-use Rattle.claims.specs.SlotsLaws.{kept-long, kept-value-same, kept-signature-same, kept-aside}
+use Rattle.claims.specs.SlotsLaws.{fillKept-length, keptValue-fillKept, keptSignature-fillKept, slot-fillKept-other}
 use Rattle.claims.specs.Sound.{Any, Attested, Entries}
 use Rattle.claims.specs.CertificatesLaws.{certifies-of}
 use Rattle.claims.specs.Parts.{k-pos, in-below}
@@ -131,7 +131,7 @@ module _ (n seat round : ℕ) where
           wide = good .sized ∙ sym (kept-bank .1)
 
           aside : (bank t : ℕ) → bank < length banks → t < n → (keptValueBank ≡ bank → s ≡ t → ⊥) → (keptBank ≡ bank → s ≡ t → ⊥) → slot n bank store′ t ≡ slot n bank store t
-          aside = kept-aside n s v g store inside room valued wide
+          aside = slot-fillKept-other n s v g store inside room valued wide
 
           kept-before : (t : ℕ) (b : Signed) → firstFrom t (m .early) ≡ some b → Kept t store′ b
           kept-before t b r =
@@ -142,12 +142,12 @@ module _ (n seat round : ℕ) where
               (aside keptValueBank t (kept-value-bank .0) here (λ _ q. apart q) (λ q _. omega arith) ∙ before .0, aside keptBank t (kept-bank .0) here (λ q _. omega arith) (λ _ q. apart q) ∙ before .1)
 
           kept-now : (t : ℕ) (b : Signed) → s ≡ t → b ≡ one → Kept t store′ b
-          kept-now t b p q = rw (← p, q) (kept-value-same n s v g store inside room valued wide, kept-signature-same n s v g store inside room valued wide)
+          kept-now t b p q = rw (← p, q) (keptValue-fillKept n s v g store inside room valued wide, keptSignature-fillKept n s v g store inside room valued wide)
 
           heard-first : Result
           unfolding keep recordOf
           heard-first =
-              finish false (ap (has s) (kept-is (m .early)) ∙ has-false s (earlySeats (m .early)) .1 (first-none s (m .early) h)) store′ (subst (λ (l : ℕ). storeLength n ≤ l) (sym (kept-long n s v g store inside room valued wide)) room)
+              finish false (ap (has s) (kept-is (m .early)) ∙ has-false s (earlySeats (m .early)) .1 (first-none s (m .early) h)) store′ (subst (λ (l : ℕ). storeLength n ≤ l) (sym (fillKept-length n s v g store inside room valued wide)) room)
               (ap (λ (i : ℕ). keptWith i (at n seat round x store′)) (ap (with s) (kept-is (m .early)) ∙ sym (early-more (m .early) one) ∙ sym (kept-is (m .early ++ one ∷ []))))
               (λ t b q. ⊎-elim (kept-before t b) (λ r. kept-now t b (r .1) (r .2)) (first-more t (m .early) one b q))
               (record {

@@ -1,5 +1,5 @@
--- Lengths and places in bytes (document 01, "Signatures", "Commands on the air" and "A unit's record and store"). Each is made of its
--- parts; document 01's figures follow from them, in `Figures`.
+-- Lengths and places in bytes (document 01, "Signatures", "Commands on the air" and "A unit's record and store"; document 02, item 1).
+-- Each is made of its parts; the documents' figures follow from them, in `Figures`.
 -- Assumes nothing.
 use Prim.Native.Nat.{ℕ, zero, suc, _+_, _*_}
 use mathlib.Core.List.{List, [], _∷_}

@@ -1,6 +1,6 @@
--- Document 01 as definitions, from bytes up to calls.
+-- Document 01, with document 02's item 1, as definitions, from bytes up to calls.
 --
--- `Layout` has lengths and places (`Figures`: document 01's), `Values` the order of values, `Entries` lists of entries, `Message`
+-- `Layout` has lengths and places (`Figures`: the documents' figures), `Values` the order of values, `Entries` lists of entries, `Message`
 -- the commands on the air, `Certificate` the certificates behind FULL and EVIDENCE, `Record` a unit's record, `Conditions` and
 -- `Refusals` the causes of a refusal (`Order`: their order), `Step` submit and step once nothing is refused, `Signatures` a seat's
 -- signature and the calls on keys and signatures, and `Calls` each other call as a whole. `XLaws` has the laws of `X`,

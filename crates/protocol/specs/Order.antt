@@ -4,7 +4,7 @@
 -- Assumes nothing.
 use Prim.Native.Nat.{ℕ}
 use mathlib.Core.Path.{_≡_, refl, ap, _∙_}
-use mathlib.Core.Bool.{true}
+use mathlib.Core.Bool.{true, false}
 use mathlib.Core.List.{List, [], _∷_, _++_, map}
 use Rattle.refusal.specs.Refusal.{firstOf, numbers, nonzero, _before_}
 use Rattle.refusal.specs.RefusalLaws.{both-true, firstOf-before}
@@ -23,6 +23,11 @@ use Rattle.protocol.specs.declared.Record.{Record}
 
 unfoldable pub order : List ℕ
 order = 1 ∷ 2 ∷ 3 ∷ 4 ∷ 5 ∷ 6 ∷ 7 ∷ 8 ∷ 9 ∷ 10 ∷ 11 ∷ 12 ∷ 14 ∷ 15 ∷ 16 ∷ []
+
+-- "Number 13 no longer occurs" (document 02, item 1)
+pub no-thirteen : isIn 13 order ≡ false
+unfolding order isIn
+no-thirteen = refl
 
 order-distinct : distinct order ≡ true
 unfolding order distinct isIn

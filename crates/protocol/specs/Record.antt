@@ -102,7 +102,7 @@ outOfRange r = wrongSize (r .n) || wrongSeat (r .n) (r .seat) || wrongRound (r .
 unfoldable pub wrongHeard : Record → Bool
 wrongHeard r = ltb 2 (r .notices .heard)
 
--- "a mask names a seat at or above n"
+-- "a mask names a seat at or above n"; the seats kept are one (document 02, item 1)
 unfoldable pub namesStranger : Record → Bool
 namesStranger r = outside (r .n) (r .own .collected) || outside (r .n) (r .first .seats) || outside (r .n) (r .guilty) || outside (r .n) (r .kept)
 
@@ -162,10 +162,11 @@ pub record Possible (r : Record) : Type 0 where
   pub collected : r .own .collected < 2 ^ r .n
   pub first : r .first .seats < 2 ^ r .n
   pub kept : r .kept < 2 ^ r .n
-  -- nothing is collected before the submission, at most k are, and k are only where the unit has confirmed
+  -- nothing is collected before the submission, at most k are, and k are just where the unit has confirmed
   pub unsaid : r .own .submitted ≡ false → r .own .collected ≡ 0
   pub few : size (r .own .collected) ≤ k (r .n)
   pub complete : size (r .own .collected) ≡ k (r .n) → r .confirmed ≡ true
+  pub confirmed : r .confirmed ≡ true → size (r .own .collected) ≡ k (r .n)
   -- the first certificate has at most k
   pub held : size (r .first .seats) ≤ k (r .n)
 

@@ -89,5 +89,6 @@ module _ (r : Record) (e : impossible r ≡ false) where
         unsaid = λ h. eqb-true (r .own .collected) 0 (then-so (not (r .own .submitted)) (eqb (r .own .collected) 0) (d .0) (rw h));
         few = ltb-false (k (r .n)) (size (r .own .collected)) (c .1);
         complete = λ h. then-so (eqb (size (r .own .collected)) (k (r .n))) (r .confirmed) (b .1) (eq-eqb (size (r .own .collected)) (k (r .n)) h);
+        confirmed = λ h. eqb-true (size (r .own .collected)) (k (r .n)) (then-so (r .confirmed) (eqb (size (r .own .collected)) (k (r .n))) (a .1) h);
         held = none-or-k (size (r .first .seats)) (k (r .n)) (parts .3);
       }

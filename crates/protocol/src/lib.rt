@@ -1,5 +1,5 @@
-// A unit's record, and the answers of the calls (document 01, "A unit's record and store"). The definitions of every
-// call over these types are in specs/.
+// A unit's record, and the answers of the calls (document 01, "A unit's record and store"; document 02, item 1). The
+// definitions of every call over these types are in specs/.
 ghost use mathlib.Core.Path.{_≡_};
 ghost use Rattle.protocol.specs.Signatures.{signatureNumber};
 use quorum::Mask;

@@ -16,7 +16,7 @@ use crate::reference::seats::{mask, size};
 use crate::rng::Rng;
 
 /// What the lists must come by.
-const ALL: [&str; 28] = [
+const ALL: [&str; 29] = [
     "step: a seat kept",
     "step: a seat kept, a FULL is held",
     "step: the own seat kept",
@@ -36,6 +36,7 @@ const ALL: [&str; 28] = [
     "submit: more kept than k needs",
     "submit: 31 other seats kept",
     "submit: confirmed by kept ones",
+    "submit: confirmed by kept ones, a FULL of another value is held: NOTICE, FULL and EVIDENCE",
     "submit: the own seat kept",
     "submit: the own seat kept, n = 1",
     "submit: seats kept, a FULL is held",
@@ -343,10 +344,14 @@ impl<'a> Unit<'a> {
         let after = both(self.subject, &self.own_submit(rng), rng)?;
         let collected = &wanted[..needed.min(wanted.len())];
         let seats: Vec<u32> = collected.iter().map(|submit| submit.seat).collect();
-        equal("the number and the signature checks", (after.number, after.checks), (0, 1))?;
+        equal("the number and the reference's signature checks", (after.number, after.checks), (0, 1))?;
         equal("the seats collected", after.record.own.collected, mask(&[own]) | mask(&seats))?;
         equal("the seats kept", after.record.kept, 0)?;
         equal("confirmed", after.record.confirmed, wanted.len() >= needed)?;
+        if n > 1 && after.record.confirmed && self.record.first.seats != 0 && self.record.first.value != self.values[0] {
+            equal("FULL and EVIDENCE written", (after.record.sent, after.record.guilty != 0), (true, true))?;
+            self.count_if(true, "submit: confirmed by kept ones, a FULL of another value is held: NOTICE, FULL and EVIDENCE");
+        }
         for Submit { seat, signature, .. } in collected {
             equal("a kept signature", after.store[layout::collected(*seat)] == signature[..], true)?;
         }
