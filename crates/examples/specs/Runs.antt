@@ -178,7 +178,7 @@ keptLowest-run = tt
 keptOnce : Bool
 unfolding unfolded
 keptOnce =
-    let a = hears (opened 4) (submitBy 1 7) in
+    let a = hears (opened 2) (submitBy 1 7) in
     let b = hears a (submitBy 1 9) in
     writes b []
     && eqb (b .unit .kept) 2

@@ -36,7 +36,7 @@ const ALL: [&str; 29] = [
     "submit: more kept than k needs",
     "submit: 31 other seats kept",
     "submit: confirmed by kept ones",
-    "submit: confirmed by kept ones, a FULL of another value is held: NOTICE, FULL and EVIDENCE",
+    "submit: confirmed by kept ones against a FULL held",
     "submit: the own seat kept",
     "submit: the own seat kept, n = 1",
     "submit: seats kept, a FULL is held",
@@ -348,9 +348,10 @@ impl<'a> Unit<'a> {
         equal("the seats collected", after.record.own.collected, mask(&[own]) | mask(&seats))?;
         equal("the seats kept", after.record.kept, 0)?;
         equal("confirmed", after.record.confirmed, wanted.len() >= needed)?;
-        if n > 1 && after.record.confirmed && self.record.first.seats != 0 && self.record.first.value != self.values[0] {
+        let against = self.record.first.seats != 0 && self.record.first.value != self.values[0];
+        if n > 1 && after.record.confirmed && against {
             equal("FULL and EVIDENCE written", (after.record.sent, after.record.guilty != 0), (true, true))?;
-            self.count_if(true, "submit: confirmed by kept ones, a FULL of another value is held: NOTICE, FULL and EVIDENCE");
+            self.count_if(true, "submit: confirmed by kept ones against a FULL held");
         }
         for Submit { seat, signature, .. } in collected {
             equal("a kept signature", after.store[layout::collected(*seat)] == signature[..], true)?;
