@@ -13,8 +13,8 @@ use lib.ListN.{length}
 use borrow.Author.Tests.{ltb-true, ltb-false, eq-eqb, not-false}
 use Rattle.octets.specs.Strings.{same}
 use Rattle.octets.specs.StringsLaws.{same-refl}
-use Rattle.quorum.specs.Quorum.{k, bit, In, has, size, shared, with}
-use Rattle.quorum.specs.QuorumLaws.{bit-cases, bit-shared, bit-with-same, bit-with-other, has-true, same-seats, size-shared-le, size-with-new}
+use Rattle.quorum.specs.Quorum.{k, bit, In, has, size, with}
+use Rattle.quorum.specs.QuorumLaws.{size-within, bit-cases, bit-with-same, bit-with-other, has-true, size-with-new}
 use Rattle.refusal.specs.RefusalLaws.{both-true}
 use Rattle.protocol.specs.Layout.{valueLength}
 use Rattle.protocol.specs.Certificate.{ownCertificate, keptValue, keptSignature}
@@ -26,15 +26,6 @@ use Rattle.claims.specs.KeptPartLaws.{Aside, aside-trans, kept-value-bes
 use Rattle.claims.specs.Sound.{Room, Attested, Sound}
 use Rattle.claims.specs.Parts.{in-below, room-leads, collect-leads, submitOwn-leads, confirmed-submitted}
 use Rattle.claims.specs.Whole.{hearing-stays}
-
--- a set within another is no larger
-within-size : (a b : ℕ) → ((t : ℕ) → In t b → In t a) → size b ≤ size a
-within-size a b h =
-    subst (λ (x : ℕ). size x ≤ size a) (same-seats (shared a b) b (λ t. go t (bit-cases t b))) (size-shared-le a b)
-  where
-    go : (t : ℕ) → (bit t b ≡ 0) ⊎ In t b → bit t (shared a b) ≡ bit t b
-    go t (inl e) = omega (arith, bit-shared t a b)
-    go t (inr i) = omega (arith, bit-shared t a b, h t i)
 
 module _ (checks : Checks) (W : Relation) (value signature : List ℕ) (s : State) (z : Sound checks W (s .unit) (s .store)) (room : Room s) (unsaid : s .unit .own .submitted ≡ false) (sized : length value ≡ valueLength) (g : Attested checks W (s .unit .seat) value signature)
     (others : ℕ) (within : (t : ℕ) → In t others → In t (s .unit .kept)) (apart : bit (s .unit .seat) others ≡ 0) (agree : (t : ℕ) → In t others → keptValue (s .unit .n) (s .store) t ≡ value) (enough : k (s .unit .n) ≤ size others + 1) where
@@ -163,7 +154,7 @@ module _ (checks : Checks) (W : Relation) (value signature : List ℕ) (s : Stat
           let more = size-with-new (s .unit .seat) others apart in
           let few = h .sound .own .collection .few in
           let few-n : size (e .unit .own .collected) ≤ k n = subst (λ (i : ℕ). size (e .unit .own .collected) ≤ k i) (h .aside .n) few in
-          let larger = within-size (e .unit .own .collected) (with (s .unit .seat) others) (λ t i. inside f t i (ℕ-discrete t (s .unit .seat))) in
+          let larger = size-within (e .unit .own .collected) (with (s .unit .seat) others) (λ t i. inside f t i (ℕ-discrete t (s .unit .seat))) in
           omega arith
 
   pub confirms-at-once : submitted value signature s .unit .confirmed ≡ true

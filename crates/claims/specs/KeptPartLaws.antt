@@ -3,14 +3,14 @@
 -- Assumes nothing.
 use mathlib.Core.Path.{_≡_, refl, sym, ap, subst, _∙_}
 use mathlib.Core.Bool.{Bool, true, false, cond}
-use mathlib.Core.List.{List, [], _∷_, _++_, append-assoc, List·Memᴰ·head, List·Memᴰ·tail}
+use mathlib.Core.List.{List, [], _∷_, List·Memᴰ·head, List·Memᴰ·tail}
 use Prim.Native.Nat.{ℕ, zero, suc, _+_, _-_, _≤_, _<_}
 use native.Mathlib.Omega.{arith}
 use lib.Dec.{eqb}
-use lib.ListN.{length, take, drop, length-append, length-take}
-use lib.Seq.{length-take-le, drop-append-add, drop-drop}
-use Rattle.octets.specs.Octets.{part, patch}
-use Rattle.octets.specs.OctetsLaws.{length-patch}
+use lib.ListN.{length, take, drop, length-take}
+use lib.Seq.{drop-drop}
+use Rattle.octets.specs.Octets.{part}
+use Rattle.octets.specs.OctetsLaws.{length-patch, drop-patch}
 use Rattle.quorum.specs.Quorum.{seats}
 use Rattle.quorum.specs.QuorumLaws.{mem-seats}
 use Rattle.protocol.specs.Layout.{signatureLength, banks, collectedBank, firstBank, keptBank, keptValueBank, lengthOfBanks, banksBefore, slotLengthIn, slotLength, storeLength, slotAt}
@@ -40,21 +40,6 @@ beside-refl n store = record { long = refl; rest = refl }
 
 beside-trans : (n : ℕ) (a b c : List ℕ) → Beside n a b → Beside n b c → Beside n a c
 beside-trans n a b c p q = record { long = q .long ∙ p .long; rest = q .rest ∙ p .rest }
-
--- a write before a place leaves the bytes from there on
-drop-patch : (a b : ℕ) (ws xs : List ℕ) → b + length ws ≤ a → b ≤ length xs → drop a (patch b ws xs) ≡ drop a xs
-unfolding patch
-drop-patch a b ws xs h l =
-    let front = take b xs ++ ws in
-    let m : length front ≡ b + length ws = length-append (take b xs) ws ∙ ap (λ (i : ℕ). i + length ws) (length-take-le b xs l) in
-    let d = a - (b + length ws) in
-    let e : a ≡ length front + d = omega arith in
-    let f : a ≡ b + length ws + d = omega arith in
-    ap (drop a) (sym (append-assoc (take b xs) ws (drop (b + length ws) xs)))
-    ∙ ap (λ (i : ℕ). drop i (front ++ drop (b + length ws) xs)) e
-    ∙ drop-append-add front (drop (b + length ws) xs) d
-    ∙ drop-drop d (b + length ws) xs
-    ∙ ap (λ (i : ℕ). drop i xs) (sym f)
 
 -- the slots of the first two banks end before it
 before-kept : (n bank seat : ℕ) → bank < keptBank → seat < n → slotAt n bank seat + signatureLength ≤ slotAt n keptBank 0

@@ -78,20 +78,25 @@ take-patch at ws xs h =
     ap (take (at + length ws)) (sym (append-assoc (take at xs) ws (drop (at + length ws) xs)))
     ∙ take-at (take at xs ++ ws) (drop (at + length ws) xs) (at + length ws) (simp (length-append, length-take) (omega arith))
 
-drop-patch : (at : ℕ) (ws xs : List ℕ) → at ≤ length xs → drop (at + length ws) (patch at ws xs) ≡ drop (at + length ws) xs
+-- a write before place i leaves the bytes from there on
+pub drop-patch : (i at : ℕ) (ws xs : List ℕ) → at + length ws ≤ i → at ≤ length xs → drop i (patch at ws xs) ≡ drop i xs
 unfolding patch
-drop-patch at ws xs h =
-    ap (drop (at + length ws)) (sym (append-assoc (take at xs) ws (drop (at + length ws) xs)))
-    ∙ drop-at (take at xs ++ ws) (drop (at + length ws) xs) (at + length ws) (simp (length-append, length-take) (omega arith))
+drop-patch i at ws xs e h =
+    let end = at + length ws in
+    let after : drop end (patch at ws xs) ≡ drop end xs =
+    ap (drop end) (sym (append-assoc (take at xs) ws (drop end xs)))
+    ∙ drop-at (take at xs ++ ws) (drop end xs) end (simp (length-append, length-take) (omega arith)) in
+    let rest = i - end in
+    let sum : end + rest ≡ i = omega arith in
+    subst (λ (j : ℕ). drop j (patch at ws xs) ≡ drop j xs) sum
+    (sym (drop-drop rest end (patch at ws xs)) ∙ ap (drop rest) after ∙ drop-drop rest end xs)
 
 -- two writes in a row are one
 pub patch-patch : (at : ℕ) (us vs xs : List ℕ) → at ≤ length xs → patch (at + length us) vs (patch at us xs) ≡ patch at (us ++ vs) xs
 unfolding patch
 patch-patch at us vs xs h =
     let t = take-patch at us xs h in
-    let d : drop (at + length us + length vs) (patch at us xs) ≡ drop (at + length us + length vs) xs =
-    sym (drop-drop (length vs) (at + length us) (patch at us xs)) ∙ ap (drop (length vs)) (drop-patch at us xs h)
-    ∙ drop-drop (length vs) (at + length us) xs in
+    let d = drop-patch (at + length us + length vs) at us xs (omega arith) h in
     rw (t, d, length-append, ← add-assoc, append-assoc, append-assoc)
 
 -- one pass of a copying loop

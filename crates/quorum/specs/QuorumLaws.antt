@@ -1,6 +1,6 @@
 -- Laws of masks and thresholds, for masks of any width. The last section has the law on two quorums.
 -- Assumes nothing.
-use mathlib.Core.Path.{_≡_, refl, sym, ap, _∙_}
+use mathlib.Core.Path.{_≡_, refl, sym, ap, subst, _∙_}
 use mathlib.Core.Bool.{true, false}
 use mathlib.Core.List.{List, [], _∷_, _++_, append-nil, List·Memᴰ, List·Memᴰ·head, List·Memᴰ·tail, List·Memᴰ·not-nil, List·Memᴰ·append-cases, List·Memᴰ·eq-of-singleton, Memᴰ·append-left, Memᴰ·append-right}
 use mathlib.Core.Logic.{_⊎_, inl, inr, ⊎-elim, _≢_, _↔_}
@@ -205,6 +205,15 @@ size-shared-le = bin-ind (λ (a : ℕ). (b : ℕ) → size (shared a b) ≤ size
   where
     step : (a : ℕ) → ((b : ℕ) → size (shared (a / 2) b) ≤ size (a / 2)) → (b : ℕ) → size (shared a b) ≤ size a
     step a half b = omega (arith, ones-step (shared a b), ones-step a, shared-low a b, ap size (shared-half a b), half (b / 2))
+
+-- a set within another is no larger
+pub size-within : (a b : ℕ) → ((s : ℕ) → In s b → In s a) → size b ≤ size a
+size-within a b h =
+    subst (λ (x : ℕ). size x ≤ size a) (same-seats (shared a b) b (λ s. go s (bit-cases s b))) (size-shared-le a b)
+  where
+    go : (s : ℕ) → (bit s b ≡ 0) ⊎ In s b → bit s (shared a b) ≡ bit s b
+    go s (inl e) = omega (arith, bit-shared s a b)
+    go s (inr i) = omega (arith, bit-shared s a b, h s i)
 
 pub size-empty : size 0 ≡ 0
 unfolding ones
