@@ -1,44 +1,22 @@
 -- The parts of a step only add to the messages written: the effect of a part on record and store, and its messages, are the same
 -- whatever was written before it.
 -- Assumes nothing.
-use mathlib.Core.Path.{_≡_, refl, ap, _∙_}
+use mathlib.Core.Path.{_≡_, refl}
 use mathlib.Core.Bool.{Bool, true, false, cond}
 use mathlib.Core.List.{List, _++_, append-assoc}
-use Prim.Native.Nat.{ℕ, zero, suc}
+use Prim.Native.Nat.{ℕ}
 use Rattle.protocol.specs.Message.{Message}
-use Rattle.protocol.specs.Certificate.{Certificate, keptValue, keptSignature, ownCertificate}
+use Rattle.protocol.specs.Certificate.{Certificate, ownCertificate}
 use Rattle.protocol.specs.Record.{holds}
-use Rattle.protocol.specs.Step.{State, write, collect, isWanted, collectIfWanted, isOpenTo, collectKeptSeat, collectKeptBelow, emptyKept, collectKept, hear, owesFull, sendFull, reply, hold, blame, blames, holdOrBlame, hearCertificate, isComplete, confirm, hearOwn, confirmIfComplete}
+use Rattle.protocol.specs.Step.{State, write, hear, owesFull, sendFull, reply, hold, blame, blames, holdOrBlame, hearCertificate, isComplete, confirm, hearOwn, confirmIfComplete}
 
 -- a state with messages written before its own
 abbrev pub after : List Message → State → State
 after ms s = record { unit = s .unit; store = s .store; written = ms ++ s .written }
 
-after-cond : (ms : List Message) (b : Bool) (s t : State) → cond b (after ms s) (after ms t) ≡ after ms (cond b s t)
+pub after-cond : (ms : List Message) (b : Bool) (s t : State) → cond b (after ms s) (after ms t) ≡ after ms (cond b s t)
 after-cond ms true s t = refl
 after-cond ms false s t = refl
-
-collectIfWanted-after : (seat : ℕ) (value signature : List ℕ) (ms : List Message) (s : State)
-    → collectIfWanted seat value signature (after ms s) ≡ after ms (collectIfWanted seat value signature s)
-unfolding collectIfWanted collect
-collectIfWanted-after seat value signature ms s = after-cond ms (isWanted seat value (s .unit)) (collect seat signature s) s
-
-collectKeptSeat-after : (seat : ℕ) (ms : List Message) (s : State) → collectKeptSeat seat (after ms s) ≡ after ms (collectKeptSeat seat s)
-unfolding collectKeptSeat
-collectKeptSeat-after seat ms s =
-    let value = keptValue (s .unit .n) (s .store) seat in
-    let signature = keptSignature (s .unit .n) (s .store) seat in
-    rw (collectIfWanted-after seat value signature ms s) (after-cond ms (isOpenTo seat (s .unit)) (collectIfWanted seat value signature s) s)
-
-collectKeptBelow-after : (seat : ℕ) (ms : List Message) (s : State) → collectKeptBelow seat (after ms s) ≡ after ms (collectKeptBelow seat s)
-unfolding collectKeptBelow
-collectKeptBelow-after zero ms s = refl
-collectKeptBelow-after (suc seat) ms s =
-    ap (collectKeptSeat seat) (collectKeptBelow-after seat ms s) ∙ collectKeptSeat-after seat ms (collectKeptBelow seat s)
-
-pub collectKept-after : (ms : List Message) (s : State) → collectKept (after ms s) ≡ after ms (collectKept s)
-unfolding collectKept emptyKept
-collectKept-after ms s = ap emptyKept (collectKeptBelow-after (s .unit .n) ms s)
 
 hear-after : (value : List ℕ) (ms : List Message) (s : State) → hear value (after ms s) ≡ after ms (hear value s)
 unfolding hear

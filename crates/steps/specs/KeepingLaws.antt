@@ -1,5 +1,5 @@
 -- The returns of keeping a SUBMIT and of collecting kept ones, over plain values, and the state that they leave.
-use mathlib.Core.Path.{_≡_, refl, _∙_}
+use mathlib.Core.Path.{_≡_, refl, ap, _∙_}
 use mathlib.Core.Bool.{Bool, true, false, and-eq-true-iff}
 use mathlib.Core.List.{List}
 use Prim.Native.Nat.{ℕ, zero, suc, _+_, _≤_, _<_}
@@ -12,11 +12,12 @@ use Rattle.octets.specs.Octets.{patch}
 use Rattle.quorum.specs.Quorum.{k, has, size, with}
 use Rattle.protocol.specs.Layout.{keptBank, keptValueBank, slotAt}
 use Rattle.protocol.specs.LayoutLaws.{kept-value-bank}
-use Rattle.protocol.specs.Message.{readValue}
+use Rattle.protocol.specs.Message.{Message, readValue}
 use Rattle.protocol.specs.Record.{withKept, Possible}
 use Rattle.protocol.specs.Certificate.{slot, fill, keptValue, keptSignature, fillKept}
 use Rattle.protocol.specs.Calls.{start}
-use Rattle.protocol.specs.Step.{State, isWanted, collectIfWanted, keep, keepIfFirst, hearSubmit, isOpenTo, collectKeptSeat, collectKeptBelow, emptyKept, collectKept}
+use Rattle.protocol.specs.Step.{State, collect, isWanted, collectIfWanted, keep, keepIfFirst, hearSubmit, isOpenTo, collectKeptSeat, collectKeptBelow, emptyKept, collectKept}
+use Rattle.protocol.specs.StepLaws.{after, after-cond}
 use Rattle.protocol.specs.declared.Record.{Record}
 use Rattle.steps.specs.Phases.{Changed, Fits}
 use Rattle.steps.specs.PhasesLaws.{fits-like, fits-same, cond-written, likewise-changed, changed-then}
@@ -149,3 +150,27 @@ unfolding collectKept emptyKept
 gathering-all r before s u store g all v e =
     let after = kept-set-fits u v 0 e store store (g .fits) refl in
     (record { recorded = e ∙ rw (g .done .recorded, all); stored = g .done .stored ∙ rw all }, after .0, after .1 ∙ g .same)
+
+-- ---- messages written before
+
+collectIfWanted-after : (seat : ℕ) (value signature : List ℕ) (ms : List Message) (s : State)
+    → collectIfWanted seat value signature (after ms s) ≡ after ms (collectIfWanted seat value signature s)
+unfolding collectIfWanted collect
+collectIfWanted-after seat value signature ms s = after-cond ms (isWanted seat value (s .unit)) (collect seat signature s) s
+
+collectKeptSeat-after : (seat : ℕ) (ms : List Message) (s : State) → collectKeptSeat seat (after ms s) ≡ after ms (collectKeptSeat seat s)
+unfolding collectKeptSeat
+collectKeptSeat-after seat ms s =
+    let value = keptValue (s .unit .n) (s .store) seat in
+    let signature = keptSignature (s .unit .n) (s .store) seat in
+    rw (collectIfWanted-after seat value signature ms s) (after-cond ms (isOpenTo seat (s .unit)) (collectIfWanted seat value signature s) s)
+
+collectKeptBelow-after : (seat : ℕ) (ms : List Message) (s : State) → collectKeptBelow seat (after ms s) ≡ after ms (collectKeptBelow seat s)
+unfolding collectKeptBelow
+collectKeptBelow-after zero ms s = refl
+collectKeptBelow-after (suc seat) ms s =
+    ap (collectKeptSeat seat) (collectKeptBelow-after seat ms s) ∙ collectKeptSeat-after seat ms (collectKeptBelow seat s)
+
+pub collectKept-after : (ms : List Message) (s : State) → collectKept (after ms s) ≡ after ms (collectKept s)
+unfolding collectKept emptyKept
+collectKept-after ms s = ap emptyKept (collectKeptBelow-after (s .unit .n) ms s)

@@ -16,7 +16,7 @@ use Rattle.protocol.specs.Calls.{start}
 use Rattle.protocol.specs.Record.{withNotices, Ready}
 use Rattle.protocol.specs.Refusals.{stranger, disorder, every, isFull}
 use Rattle.protocol.specs.Step.{noticesWith, hear, reply, hearCertificate, submitOwn, hearSubmit, collectKept, confirmIfComplete, submitted, stepped}
-use Rattle.protocol.specs.StepLaws.{collectKept-after, reply-after, confirmIfComplete-after}
+use Rattle.protocol.specs.StepLaws.{reply-after, confirmIfComplete-after}
 use Rattle.protocol.specs.declared.Record.{Record}
 use Rattle.wire.specs.Reading.{kindOf}
 use Rattle.protocol.specs.MessageLaws.{submit-fits}
@@ -28,7 +28,7 @@ use Rattle.wire.specs.declared.read.Kind.{Kind}
 use Rattle.wire.specs.declared.read.Kind.the-variants as kind
 use Rattle.steps.specs.Phases.{Changed, Did, Fits}
 use Rattle.steps.specs.PhasesLaws.{did-same, did-writing-none, did-then}
-use Rattle.steps.specs.KeepingLaws.{hearSubmit-quiet, collectKept-quiet}
+use Rattle.steps.specs.KeepingLaws.{hearSubmit-quiet, collectKept-quiet, collectKept-after}
 
 -- ---- the start of a call
 
