@@ -72,7 +72,7 @@ fn impossible(fleet: Fleet, rng: &mut Rng) -> Vec<(&'static str, Record)> {
         ("the seat is out of range", Record { seat: 256 + seat, ..held }),
         ("the seat is out of range", Record { seat: u32::MAX, ..opened }),
         ("the round is out of range", Record { round: 1024, ..opened }),
-        ("the round is out of range", Record { round: 65_536 + fleet.round, ..confirmed }),
+        ("the round is out of range", Record { round: 65_536 | fleet.round, ..confirmed }),
         ("the round is out of range", Record { round: u32::MAX, ..opened }),
         ("confirmed without a first certificate", Record { first: First::default(), ..confirmed }),
         ("guilty seats without a first certificate", Record { guilty: mask(&[seat]), ..opened }),
