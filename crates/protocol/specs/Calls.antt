@@ -11,7 +11,8 @@ use Rattle.protocol.specs.Values.{isLower}
 use Rattle.protocol.specs.Message.{Message, read, render, renderAll, entrySeats}
 use Rattle.protocol.specs.Certificate.{certificateIn, setOf, conflictOf}
 use Rattle.protocol.specs.Record.{fresh, zeros}
-use Rattle.protocol.specs.Refusals.{Checks, openingConditions, submitConditions, stepConditions, evidenceConditions, makingConditions, lowerConditions}
+use Rattle.protocol.specs.Note.{renderNote, noteRecord}
+use Rattle.protocol.specs.Refusals.{Checks, openingConditions, submitConditions, stepConditions, evidenceConditions, makingConditions, lowerConditions, writeNoteConditions, readNoteConditions}
 use Rattle.protocol.specs.Step.{State, submitted, stepped}
 use Rattle.protocol.specs.declared.Record.{Record}
 use Rattle.protocol.specs.declared.Opened.{Opened}
@@ -71,7 +72,7 @@ answer result = record { number = result .refusal; written = length (result .wri
 
 -- ---- evidence from two certificates
 
--- its result: the refusal number or 0, and the bytes written
+-- its result, and that of writing a note: the refusal number or 0, and the bytes written
 pub record Making : Type 0 where
   pub refusal : ℕ
   pub written : List ℕ
@@ -111,3 +112,17 @@ lowerOf n a b = cond (isLower (certificateIn (read n a) .value) (certificateIn (
 -- the certificates. Their lengths are exact, so that the part is the whole of one.
 unfoldable pub lowerCertificate : Checks → ℕ → ℕ → List ℕ → List ℕ → List ℕ → List ℕ
 lowerCertificate checks n round keys a b = unrefused (firstOf (lowerConditions checks n round keys (read n a) (read n b))) (lowerOf n a b) []
+
+-- ---- the note (document 02, item 2)
+
+-- "The record shall be written out as a note": the result by its refusal number
+unfoldable pub notingBy : ℕ → Record → Making
+notingBy refusal r = record { refusal = refusal; written = unrefused refusal (renderNote r) [] }
+
+-- writing a note: record, out
+unfoldable pub writeNote : Record → List ℕ → Making
+writeNote r out = notingBy (firstOf (writeNoteConditions r out)) r
+
+-- reading a note. "A refused note gives a record of zeros."
+unfoldable pub readNote : List ℕ → Opened
+readNote note = openedBy (firstOf (readNoteConditions note)) (noteRecord note)

@@ -3,7 +3,7 @@ use mathlib.Core.Path.{_≡_, refl}
 use Prim.Native.Nat.{ℕ, _+_, _*_}
 use native.Mathlib.Omega.{arith}
 use Rattle.quorum.specs.Quorum.{k}
-use Rattle.protocol.specs.Layout.{signatureLength, submitLength, noticeLength, fullEntryLength, fullEntryAt, fullLength, evidenceEntryLength, evidenceEntryAt, evidenceLength, banks, lengthOfBanks, storeLength, outLength, evidenceOutLength}
+use Rattle.protocol.specs.Layout.{signatureLength, submitLength, noticeLength, fullEntryLength, fullEntryAt, fullLength, evidenceEntryLength, evidenceEntryAt, evidenceLength, banks, lengthOfBanks, storeLength, outLength, evidenceOutLength, noteLength}
 
 -- SUBMIT: "In all 1,488."
 pub submit-figure : submitLength ≡ 1488
@@ -39,3 +39,8 @@ out-figure n = omega arith
 pub evidence-out-figure : (n : ℕ) → evidenceOutLength n ≡ 68 + 2906 * k n
 unfolding evidenceOutLength
 evidence-out-figure n = evidence-figure (k n)
+
+-- the note: "That is 118 bytes" (document 02, item 2)
+pub note-figure : noteLength ≡ 118
+unfolding noteLength
+note-figure = refl

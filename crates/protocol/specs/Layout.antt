@@ -1,4 +1,5 @@
--- Lengths and places in bytes (document 01, "Signatures", "Commands on the air" and "A unit's record and store"; document 02, item 1).
+-- Lengths and places in bytes (document 01, "Signatures", "Commands on the air" and "A unit's record and store"; document 02, items 1
+-- and 2).
 -- Each is made of its parts; the documents' figures follow from them, in `Figures`.
 -- Assumes nothing.
 use Prim.Native.Nat.{ℕ, zero, suc, _+_, _*_}
@@ -169,3 +170,45 @@ outLength n = submitLength + noticeLength + fullLength n + evidenceLength (k n)
 -- evidence from two certificates: room for all seats that they can share
 unfoldable pub evidenceOutLength : ℕ → ℕ
 evidenceOutLength n = evidenceLength (k n)
+
+-- ---- the note (document 02, item 2): "0x20, n 1, seat 1, round 2, flags 1 (..), own value 32, the masks collected, kept, first
+-- certificate and guilty at 4 each, then first value heard 32 and first certificate's value 32"
+
+abbrev pub maskLength : ℕ
+maskLength = 4
+
+abbrev pub noteSizeAt : ℕ
+noteSizeAt = 1
+
+abbrev pub noteSeatAt : ℕ
+noteSeatAt = noteSizeAt + 1
+
+abbrev pub noteRoundAt : ℕ
+noteRoundAt = noteSeatAt + 1
+
+abbrev pub noteFlagsAt : ℕ
+noteFlagsAt = noteRoundAt + 2
+
+abbrev pub noteOwnValueAt : ℕ
+noteOwnValueAt = noteFlagsAt + 1
+
+abbrev pub noteCollectedAt : ℕ
+noteCollectedAt = noteOwnValueAt + valueLength
+
+abbrev pub noteKeptAt : ℕ
+noteKeptAt = noteCollectedAt + maskLength
+
+abbrev pub noteFirstAt : ℕ
+noteFirstAt = noteKeptAt + maskLength
+
+abbrev pub noteGuiltyAt : ℕ
+noteGuiltyAt = noteFirstAt + maskLength
+
+abbrev pub noteHeardValueAt : ℕ
+noteHeardValueAt = noteGuiltyAt + maskLength
+
+abbrev pub noteFirstValueAt : ℕ
+noteFirstValueAt = noteHeardValueAt + valueLength
+
+unfoldable pub noteLength : ℕ
+noteLength = noteFirstValueAt + valueLength

@@ -1,7 +1,7 @@
--- Document 01, with document 02's item 1, as definitions, from bytes up to calls.
+-- Document 01, with document 02's items 1 and 2, as definitions, from bytes up to calls.
 --
 -- `Layout` has lengths and places (`Figures`: the documents' figures), `Values` the order of values, `Entries` lists of entries, `Message`
--- the commands on the air, `Certificate` the certificates behind FULL and EVIDENCE, `Record` a unit's record, `Conditions` and
+-- the commands on the air, `Certificate` the certificates behind FULL and EVIDENCE, `Record` a unit's record, `Note` its note, `Conditions` and
 -- `Refusals` the causes of a refusal (`Order`: their order), `Step` submit and step once nothing is refused, `Signatures` a seat's
 -- signature and the calls on keys and signatures, and `Calls` each other call as a whole. `XLaws` has the laws of `X`,
 -- `RoundTripLaws` the law that bytes read are written back the same, `SignatureClaim` the claim that signatures made by the signer are
@@ -20,6 +20,7 @@ pub mod Certificate
 pub mod CertificateLaws
 pub mod Record
 pub mod RecordLaws
+pub mod Note
 pub mod Conditions
 pub mod ConditionsLaws
 pub mod Refusals

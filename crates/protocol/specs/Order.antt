@@ -1,6 +1,6 @@
 -- The order of the table's numbers. Every call answers the first number in it whose condition holds; "over two certificates, the
--- first one's 9 to 14 come before the second's". The numbers rise in this order, and so, as document 01 says, "The lowest number
--- whose condition holds is returned".
+-- first one's 9 to 14 come before the second's". The numbers of document 01 rise in this order, and so, as it says, "The lowest number
+-- whose condition holds is returned"; 17, which reading a note alone has, "comes before 4" (document 02, item 2).
 -- Assumes nothing.
 use Prim.Native.Nat.{ℕ}
 use mathlib.Core.Path.{_≡_, refl, ap, _∙_}
@@ -14,7 +14,7 @@ use Rattle.refusal.specs.Lowest.{riseFrom, rise, Lowest}
 use Rattle.refusal.specs.LowestLaws.{firstOf-lowest, rise-in}
 use Rattle.protocol.specs.Layout.{outLength, evidenceOutLength}
 use Rattle.protocol.specs.Message.{read}
-use Rattle.protocol.specs.Refusals.{Condition, Checks, every, SIZE, SEAT, ROUND, RECORD, KEYS, STORE, OUT, SAID, GARBLED, OTHER-ROUND, STRANGER, DISORDER, SIGNATURE, NO-CONFLICT-IN, NO-CONFLICT-BETWEEN, KEY-MATERIAL, outsideConditions, recordConditions, messageConditions, certificateConditions, twoConditions, openingConditions, submitConditions, stepConditions, evidenceConditions, makingConditions, lowerConditions, checkConditions, makeKeyConditions, signConditions}
+use Rattle.protocol.specs.Refusals.{Condition, Checks, every, SIZE, SEAT, ROUND, NOTE, RECORD, KEYS, STORE, OUT, SAID, GARBLED, OTHER-ROUND, STRANGER, DISORDER, SIGNATURE, NO-CONFLICT-IN, NO-CONFLICT-BETWEEN, KEY-MATERIAL, outsideConditions, recordConditions, messageConditions, certificateConditions, twoConditions, openingConditions, submitConditions, stepConditions, evidenceConditions, makingConditions, lowerConditions, checkConditions, makeKeyConditions, signConditions, writeNoteConditions, readNoteConditions}
 use Rattle.protocol.specs.Signatures.{checkSignature, makeKeyRefusal, makeKey, signRefusal, sign}
 use Rattle.protocol.specs.Calls as calls
 use Rattle.protocol.specs.declared.Record.{Record}
@@ -22,7 +22,7 @@ use Rattle.protocol.specs.declared.Record.{Record}
 -- ---- the order
 
 unfoldable pub order : List ℕ
-order = 1 ∷ 2 ∷ 3 ∷ 4 ∷ 5 ∷ 6 ∷ 7 ∷ 8 ∷ 9 ∷ 10 ∷ 11 ∷ 12 ∷ 14 ∷ 15 ∷ 16 ∷ []
+order = 1 ∷ 2 ∷ 3 ∷ 17 ∷ 4 ∷ 5 ∷ 6 ∷ 7 ∷ 8 ∷ 9 ∷ 10 ∷ 11 ∷ 12 ∷ 14 ∷ 15 ∷ 16 ∷ []
 
 -- "Number 13 no longer occurs" (document 02, item 1)
 pub no-thirteen : isIn 13 order ≡ false
@@ -33,49 +33,57 @@ order-distinct : distinct order ≡ true
 unfolding order distinct isIn
 order-distinct = refl
 
-order-rises : rise order ≡ true
-unfolding order rise riseFrom
-order-rises = refl
+-- document 01's numbers in the order, which rise
+unfoldable pub rising : List ℕ
+rising = 1 ∷ 2 ∷ 3 ∷ 4 ∷ 5 ∷ 6 ∷ 7 ∷ 8 ∷ 9 ∷ 10 ∷ 11 ∷ 12 ∷ 14 ∷ 15 ∷ 16 ∷ []
+
+rising-in-order : follows order rising ≡ true
+unfolding order rising follows
+rising-in-order = refl
+
+rising-rises : rise rising ≡ true
+unfolding rising rise riseFrom
+rising-rises = refl
 
 -- the number is the first in the order whose condition holds, or 0 where none does
 abbrev pub FirstInOrder : ℕ → List Condition → Type 0
 FirstInOrder n conditions = n ≡ firstIn order (held conditions)
 
--- in a list whose numbers follow the order, `firstOf` finds the first, and this is the lowest
-abbrev Follows : List Condition → Type 0
-Follows conditions = follows order (numbers conditions) ≡ true
+-- in a list whose numbers follow the order, `firstOf` finds the first; where they are document 01's, this is the lowest
+abbrev Follows : List ℕ → List Condition → Type 0
+Follows numbered conditions = follows numbered (numbers conditions) ≡ true
 
-finds-first : (conditions : List Condition) → Follows conditions → FirstInOrder (firstOf conditions) conditions
+finds-first : (conditions : List Condition) → Follows order conditions → FirstInOrder (firstOf conditions) conditions
 finds-first conditions f = firstOf-in-order order conditions order-distinct f
 
-finds-lowest : (conditions : List Condition) → Follows conditions → Lowest (firstOf conditions) conditions
-finds-lowest conditions f = firstOf-lowest conditions (rise-in order (numbers conditions) order-rises f)
+finds-lowest : (conditions : List Condition) → Follows rising conditions → Lowest (firstOf conditions) conditions
+finds-lowest conditions f = firstOf-lowest conditions (rise-in rising (numbers conditions) rising-rises f)
 
 -- ---- every list
 
--- a property of the number that `firstOf` finds, in each list
-module _ (Is : ℕ → List Condition → Type 0) where
+-- a property of the number that `firstOf` finds, in each list whose numbers follow some numbers
+module _ (Is : ℕ → List Condition → Type 0) (numbered : List ℕ) where
   abbrev EachIs : List (List Condition) → Type 0
   EachIs [] = Unit {0}
   EachIs (conditions ∷ rest) = Is (firstOf conditions) conditions × EachIs rest
 
-  each : ((conditions : List Condition) → Follows conditions → Is (firstOf conditions) conditions)
-      → (lists : List (List Condition)) → every (follows order) (map numbers lists) ≡ true → EachIs lists
+  each : ((conditions : List Condition) → Follows numbered conditions → Is (firstOf conditions) conditions)
+      → (lists : List (List Condition)) → every (follows numbered) (map numbers lists) ≡ true → EachIs lists
   unfolding every
   each find [] e = tt
   each find (conditions ∷ rest) e =
-      let p = both-true (follows order (numbers conditions)) (every (follows order) (map numbers rest)) e in
+      let p = both-true (follows numbered (numbers conditions)) (every (follows numbered) (map numbers rest)) e in
       (find conditions (p .0), each find rest (p .1))
 
 module _
-    (n seat round leaf : ℕ) (keys store value signature out key message seed I C tree bytes first second : List ℕ) (checks : Checks)
+    (n seat round leaf : ℕ) (keys store value signature out key message seed I C tree bytes first second note : List ℕ) (checks : Checks)
     (r : Record)
   where
     -- the rows in the order of the table
     abbrev pub table : List Condition
     table =
         let m = read n bytes in
-        SIZE n ∷ SEAT n seat ∷ ROUND round ∷ RECORD r ∷ KEYS n keys ∷ STORE n store ∷ OUT (outLength n) out ∷ SAID r ∷ GARBLED true
+        SIZE n ∷ SEAT n seat ∷ ROUND round ∷ NOTE note ∷ RECORD r ∷ KEYS n keys ∷ STORE n store ∷ OUT (outLength n) out ∷ SAID r ∷ GARBLED true
         ∷ OTHER-ROUND round m ∷ STRANGER n m ∷ DISORDER m ∷ SIGNATURE checks m ∷ NO-CONFLICT-IN m ∷ KEY-MATERIAL seed I tree
         ∷ []
 
@@ -100,7 +108,7 @@ module _
     abbrev pub of-both : List Condition
     of-both = NO-CONFLICT-BETWEEN (read n first) (read n second) ∷ []
 
-    -- the lists of all calls, those over two certificates in parts
+    -- the lists of all calls but reading a note, those over two certificates in parts
     abbrev pub lists : List (List Condition)
     lists =
         openingConditions n seat round keys
@@ -110,6 +118,7 @@ module _
         ∷ checkConditions key message signature
         ∷ makeKeyConditions seed I tree out
         ∷ signConditions leaf message seed I C tree out
+        ∷ writeNoteConditions r out
         ∷ making-given
         ∷ lower-given
         ∷ of-first
@@ -117,9 +126,9 @@ module _
         ∷ []
 
     -- by computation: a list's numbers don't depend on its conditions
-    pub lists-follow : every (follows order) (map numbers lists) ≡ true
-    unfolding every follows order numbers openingConditions submitConditions stepConditions evidenceConditions checkConditions makeKeyConditions signConditions outsideConditions recordConditions messageConditions certificateConditions
-    lists-follow = refl
+    pub lists-follow : (every (follows order) (map numbers lists) ≡ true) × (every (follows rising) (map numbers lists) ≡ true)
+    unfolding every follows order rising numbers openingConditions submitConditions stepConditions evidenceConditions checkConditions makeKeyConditions signConditions writeNoteConditions outsideConditions recordConditions messageConditions certificateConditions
+    lists-follow = (refl, refl)
 
     -- each call answers the number with this property; over two certificates, that of the other arguments comes first, then that of
     -- the first certificate, that of the second, and 15
@@ -131,6 +140,7 @@ module _
       pub check : Is (checkSignature key message signature) (checkConditions key message signature)
       pub key-maker : Is (makeKey seed I tree out .refusal) (makeKeyConditions seed I tree out)
       pub signer : Is (sign leaf message seed I C tree out .refusal) (signConditions leaf message seed I C tree out)
+      pub write-note : Is (calls.writeNote r out .refusal) (writeNoteConditions r out)
       pub making : calls.making checks n round keys first second out .refusal ≡ (firstOf making-given before firstOf of-first before firstOf of-second before firstOf of-both)
       pub lower : firstOf (lowerConditions checks n round keys (read n first) (read n second)) ≡ (firstOf lower-given before firstOf of-first before firstOf of-second before firstOf of-both)
       pub parts : Is (firstOf making-given) making-given × Is (firstOf lower-given) lower-given × Is (firstOf of-first) of-first × Is (firstOf of-second) of-second
@@ -142,11 +152,12 @@ module _
         firstOf-before given _ e
         ∙ ap (λ later. firstOf given before later) (firstOf-before of-first (of-second ++ of-both) refl ∙ ap (λ later. firstOf of-first before later) (firstOf-before of-second of-both refl))
 
-    answers-each : (Is : ℕ → List Condition → Type 0) → ((conditions : List Condition) → Follows conditions → Is (firstOf conditions) conditions) → Answers Is
-    unfolding calls.opening calls.openedBy calls.submit calls.step calls.resultBy calls.evidenceCheck calls.checkedBy calls.making calls.makingBy checkSignature makeKey makeKeyRefusal sign signRefusal makingConditions lowerConditions outsideConditions nonzero numbers
-    answers-each Is find =
-        let found = each Is find lists lists-follow in
-        let two = found .1 .1 .1 .1 .1 .1 .1 in
+    answers-each : (Is : ℕ → List Condition → Type 0) (numbered : List ℕ)
+        → ((conditions : List Condition) → Follows numbered conditions → Is (firstOf conditions) conditions) → every (follows numbered) (map numbers lists) ≡ true → Answers Is
+    unfolding calls.opening calls.openedBy calls.submit calls.step calls.resultBy calls.evidenceCheck calls.checkedBy calls.making calls.makingBy calls.writeNote calls.notingBy checkSignature makeKey makeKeyRefusal sign signRefusal makingConditions lowerConditions outsideConditions nonzero numbers
+    answers-each Is numbered find follow =
+        let found = each Is numbered find lists follow in
+        let two = found .1 .1 .1 .1 .1 .1 .1 .1 in
         record {
           opening = found .0;
           submit = found .1 .0;
@@ -155,6 +166,7 @@ module _
           check = found .1 .1 .1 .1 .0;
           key-maker = found .1 .1 .1 .1 .1 .0;
           signer = found .1 .1 .1 .1 .1 .1 .0;
+          write-note = found .1 .1 .1 .1 .1 .1 .1 .0;
           making = two-before making-given refl;
           lower = two-before lower-given refl;
           parts = (two .0, two .1 .0, two .1 .1 .0, two .1 .1 .1 .0);
@@ -162,8 +174,13 @@ module _
 
     -- the first in the order
     pub answers : Answers FirstInOrder
-    answers = answers-each FirstInOrder finds-first
+    answers = answers-each FirstInOrder order finds-first (lists-follow .0)
 
-    -- "The lowest number whose condition holds is returned"
+    -- and reading a note, of all calls the one with 17
+    pub answers-note : FirstInOrder (calls.readNote note .number) (readNoteConditions note)
+    unfolding calls.readNote calls.openedBy follows order numbers readNoteConditions
+    answers-note = finds-first (readNoteConditions note) refl
+
+    -- "The lowest number whose condition holds is returned": of document 01's numbers
     pub answers-lowest : Answers Lowest
-    answers-lowest = answers-each Lowest finds-lowest
+    answers-lowest = answers-each Lowest rising finds-lowest (lists-follow .1)

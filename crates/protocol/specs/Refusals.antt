@@ -1,15 +1,16 @@
--- "What is turned back" (document 01): the table's numbers, words and conditions in its order, and for each call the list of its
--- rows, of which the first that holds is answered. The conditions in full are in `Conditions` and `Record`; those of `Conditions`
--- are exported from here too.
+-- "What is turned back" (document 01; document 02, item 2): the table's numbers, words and conditions in its order, and for each call
+-- the list of its rows, of which the first that holds is answered. The conditions in full are in `Conditions`, `Record` and `Note`;
+-- those of `Conditions` are exported from here too.
 -- Assumes nothing.
 unfoldable pub use Rattle.protocol.specs.Conditions.{Checks, every, keyAllowed, keysAllowed, wrongKeys, lengthIsnt, wrongKey, shortStore, shortOut, said, isForStep, isFull, isEvidence, wrongLengths, tooLong, otherRound, stranger, rising, disorder, badSignature, notLowerFirst, equalValues, wrongMakerMaterial, wrongSignerMaterial}
 use Prim.Native.Nat.{ℕ}
 use mathlib.Core.Bool.{Bool, not}
 use mathlib.Core.List.{List, [], _∷_, _++_}
 use Rattle.rfc8554.specs.Verify.{valid}
-use Rattle.protocol.specs.Layout.{keyLength, signatureLength, outLength, evidenceOutLength}
+use Rattle.protocol.specs.Layout.{keyLength, signatureLength, outLength, evidenceOutLength, noteLength}
 use Rattle.protocol.specs.Message.{Message, Submit}
 use Rattle.protocol.specs.Record.{wrongSize, wrongSeat, wrongRound, impossible}
+use Rattle.protocol.specs.Note.{noteRecord, wrongNote}
 use Rattle.protocol.specs.declared.Record.{Record}
 
 -- a row of a call: the number, and whether its condition holds
@@ -29,6 +30,11 @@ SEAT n seat = (2, wrongSeat n seat)
 -- 3, round: "a round or leaf above 1,023"
 abbrev pub ROUND : ℕ → Condition
 ROUND round = (3, wrongRound round)
+
+-- 17, note: "when the length isn't 118, the command isn't 0x20, both heard flags or an unknown flag are set; .. it comes before 4"
+-- (document 02, item 2)
+abbrev pub NOTE : List ℕ → Condition
+NOTE note = (17, wrongNote note)
 
 -- 4, record: "impossible record"
 abbrev pub RECORD : Record → Condition
@@ -167,3 +173,11 @@ makeKeyConditions seed I tree out = OUT keyLength out ∷ KEY-MATERIAL seed I tr
 unfoldable pub signConditions : ℕ → List ℕ → List ℕ → List ℕ → List ℕ → List ℕ → List ℕ → List Condition
 signConditions leaf message seed I C tree out =
     ROUND leaf ∷ OUT signatureLength out ∷ GARBLED-LONG message ∷ KEY-MATERIAL-SIGNING seed I C tree ∷ []
+
+-- writing a note: 4, 7
+unfoldable pub writeNoteConditions : Record → List ℕ → List Condition
+writeNoteConditions r out = RECORD r ∷ OUT noteLength out ∷ []
+
+-- reading a note: 17, 4
+unfoldable pub readNoteConditions : List ℕ → List Condition
+readNoteConditions note = NOTE note ∷ RECORD (noteRecord note) ∷ []

@@ -1,4 +1,4 @@
-// The numbers of document 01's table, "What is turned back".
+// The numbers of document 01's table, "What is turned back", and of document 02, item 2.
 
 pub const SIZE: u32 = 1;
 
@@ -32,3 +32,6 @@ pub const SIGNATURE: u32 = 14;
 pub const NO_CONFLICT: u32 = 15;
 
 pub const KEY_MATERIAL: u32 = 16;
+
+// Of reading a note; it comes before 4.
+pub const NOTE: u32 = 17;
