@@ -20,7 +20,7 @@ use Rattle.protocol.specs.Refusals.{isForStep, isFull, isEvidence, rising, step
 use Rattle.protocol.specs.Step.{State, otherHeard, owesFull, stepped}
 use Rattle.protocol.specs.Calls.{resultBy, step, start, checkedBy, evidenceCheck}
 use Rattle.protocol.specs.declared.Record.{Record}
-use Rattle.round.specs.Round.{Setting, IsOpened, Each, Honest, Called, resultOf, listOf, Writes, Confirms, Reached, Accepted, Names}
+use Rattle.round.specs.Round.{Setting, IsHonest, Each, Boat, Called, resultOf, listOf, Writes, Confirms, Reached, Accepted, Names}
 use Rattle.round.specs.Demand3.{Blames, ReachedOthers}
 use Rattle.round.specs.Demand1.{NOTICE, FULL, EVIDENCE, isNotice}
 use Rattle.reading.specs.ListsLaws.{and-false-either, each-nil, each-one}
@@ -67,12 +67,12 @@ module _ (S : Setting) where
 
   -- ---- one unit
 
-  module _ (u : Honest) (opened : IsOpened S u) where
+  module _ (u : Boat) (honest : IsHonest S u) where
     abbrev any : Each (Worthy S Any) (listOf S u)
     any = any-worthy S (listOf S u)
 
     abbrev end : Record
-    end = endOf S u opened
+    end = endOf S u honest
 
     -- a message that reaches the unit, and in which there is no cause for a refusal
     module _ (m : Message) (formed : WellFormed n m) (forStep : isForStep m ≡ true) (taken : Taken checks n round m) (h : Reached S u (render m)) where
@@ -82,14 +82,14 @@ module _ (S : Setting) where
       abbrev out : List ℕ
       out = h .step .out
 
-      abbrev at : At S Any (startOf S u opened) t end
-      at = stop S u opened Any any t (h .step .inList)
+      abbrev at : At S Any (startOf S u honest) t end
+      at = stop S u honest Any any t (h .step .inList)
 
       size-is : t .unit .n ≡ n
-      size-is = at .since .n ∙ start-n S u opened
+      size-is = at .since .n ∙ start-n S u honest
 
       round-is : t .unit .round ≡ round
-      round-is = at .since .round ∙ start-round S u opened
+      round-is = at .since .round ∙ start-round S u honest
 
       room : storeLength (t .unit .n) ≤ length (t .store)
       room = subst (λ i. storeLength i ≤ length (t .store)) (sym size-is) (h .storeRoom)
@@ -103,7 +103,7 @@ module _ (S : Setting) where
           message-not-refused checks keys (t .unit) (t .store) out m
           (record {
             possible = possible checks Any (t .unit) (t .store) (at .sound) (at .settled);
-            table = subst (λ i. Table i keys) (sym size-is) (opened-fit S u opened .table);
+            table = subst (λ i. Table i keys) (sym size-is) (opened-fit S u honest .table);
             storeRoom = room;
             outRoom = subst (λ i. outLength i ≤ length out) (sym size-is) (h .outRoom);
           })
@@ -124,7 +124,7 @@ module _ (S : Setting) where
     reached-heard : (seat : ℕ) (value : List ℕ) → seat < n → length value ≡ valueLength → Reached S u (render (Notice round seat value)) → Heard value end
     unfolding isForStep roundOf seatsOf entrySeats signed rising
     reached-heard seat value inside sized h =
-        let range = opened-range S u opened in
+        let range = opened-range S u honest in
         reached-end (Notice round seat value) (let e = range .dated in omega arith, sized) refl
         (record { inRound = refl; inside = each-one (λ s. s < n) seat inside; rises = refl; checked = each-nil (λ s. checks (s .seat) (s .value) (s .signature) ≡ true) })
         h
@@ -136,7 +136,7 @@ module _ (S : Setting) where
     reached-held : (sender : ℕ) (value : List ℕ) (es : List Entry) → sender < n → Entries checks Any n value es → Reached S u (render (Full round sender value es)) → Held value end
     unfolding isForStep
     reached-held sender value es inside entries h =
-        let range = opened-range S u opened in
+        let range = opened-range S u honest in
         reached-end (Full round sender value es) (let e = range .dated in omega arith, entries .sized, entries .many, entries-laid checks Any n value es entries) refl
         (full-taken checks Any n round sender value es inside entries)
         h
@@ -151,15 +151,15 @@ module _ (S : Setting) where
 
     own-said : (ρ seat : ℕ) (value : List ℕ) → Said end ρ seat value → Own ρ seat value
     own-said ρ seat value s =
-        (s .ofRound ∙ end-round S u opened Any any, s .ofSeat ∙ end-seat S u opened Any any, s .ofValue)
+        (s .ofRound ∙ end-round S u honest Any any, s .ofSeat ∙ end-seat S u honest Any any, s .ofValue)
 
     confirms-end : (value : List ℕ) → Confirms S u value → (end .confirmed ≡ true) × (end .own .value ≡ value) × (length value ≡ valueLength) × Writes S u (Notice round (u .seat) value)
     unfolding isNotice
     confirms-end value c =
         let m = Notice (c .0) (c .1) value in
-        let s = writes-good S u opened Any any m (c .2) in
+        let s = writes-good S u honest Any any m (c .2) in
         let own = own-said (c .0) (c .1) value s in (
-          written-flag S u opened Any any NOTICE m refl (c .2),
+          written-flag S u honest Any any NOTICE m refl (c .2),
           sym (own .2),
           s .sized,
           subst (λ ρ. Writes S u (Notice ρ (u .seat) value)) (own .0) (subst (λ t. Writes S u (Notice (c .0) t value)) (own .1) (c .2)),
@@ -171,14 +171,14 @@ module _ (S : Setting) where
 
     sent-full : end .sent ≡ true → WroteFull (end .own .value)
     sent-full e =
-        let f = flag-written S u opened Any any FULL e in
+        let f = flag-written S u honest Any any FULL e in
         full-cases (λ m. Writes S u m → WroteFull (end .own .value)) (f .0) (f .1)
         (λ ρ sender value es w.
-        let g = writes-good S u opened Any any (Full ρ sender value es) w in
+        let g = writes-good S u honest Any any (Full ρ sender value es) w in
         let own = own-said ρ sender value (g .0) in
         subst WroteFull (own .2) (
           es,
-          subst (λ i. Entries checks Any i value es) (end-n S u opened Any any) (g .1),
+          subst (λ i. Entries checks Any i value es) (end-n S u honest Any any) (g .1),
           subst₂ (λ x y. Writes S u (Full x y value es)) (own .0) (own .1) w,
         ))
         (f .2)
@@ -187,12 +187,12 @@ module _ (S : Setting) where
 
     guilty-blames : end .guilty ≢ 0 → Blames S u
     guilty-blames guilty =
-        let f = flag-written S u opened Any any EVIDENCE (rw (ne-eqb (end .guilty) 0 guilty)) in
+        let f = flag-written S u honest Any any EVIDENCE (rw (ne-eqb (end .guilty) 0 guilty)) in
         evidence-cases (λ m. isEvidence m ≡ true → Writes S u m → Blames S u) (f .0) (f .1)
         (λ ρ values ps is w.
-        let g = writes-good S u opened Any any (Evidence ρ values ps) w in
-        let pairs = subst (λ i. Pairs checks Any i values ps) (end-n S u opened Any any) (g .1) in
-        let accept = evidence-accepted S (opened-outside S u opened) ρ values ps (g .0 ∙ end-round S u opened Any any) pairs in
+        let g = writes-good S u honest Any any (Evidence ρ values ps) w in
+        let pairs = subst (λ i. Pairs checks Any i values ps) (end-n S u honest Any any) (g .1) in
+        let accept = evidence-accepted S (opened-outside S u honest) ρ values ps (g .0 ∙ end-round S u honest Any any) pairs in
         let evidence = render (Evidence ρ values ps) in
         record {
           evidence = evidence;
@@ -207,19 +207,19 @@ module _ (S : Setting) where
 
   -- ---- all units
 
-  module _ {I : Type 0} (boat : I → Honest) (opened : (i : I) → IsOpened S (boat i)) where
+  module _ {I : Type 0} (boat : I → Boat) (honest : (i : I) → IsHonest S (boat i)) where
     abbrev endAt : I → Record
-    endAt i = end (boat i) (opened i)
+    endAt i = end (boat i) (honest i)
 
     settled : (i : I) → Settled (endAt i)
-    settled i = trip S (boat i) (opened i) Any (any (boat i) (opened i)) .settled
+    settled i = trip S (boat i) (honest i) Any (any (boat i) (honest i)) .settled
 
     confirmed : (i : I) (value : List ℕ) → Confirms S (boat i) value
         → (endAt i .confirmed ≡ true) × (endAt i .own .value ≡ value) × (length value ≡ valueLength) × Writes S (boat i) (Notice round (boat i .seat) value)
-    confirmed i value c = confirms-end (boat i) (opened i) value c
+    confirmed i value c = confirms-end (boat i) (honest i) value c
 
     inside : (i : I) → boat i .seat < n
-    inside i = opened-range S (boat i) (opened i) .seated
+    inside i = opened-range S (boat i) (honest i) .seated
 
     -- of two units that confirmed different layouts, each has sent its FULL
     each-sent : (i j : I) (a b : List ℕ) → a ≢ b → Confirms S (boat i) a → Confirms S (boat j) b → ReachedOthers S boat j → endAt i .sent ≡ true
@@ -227,7 +227,7 @@ module _ (S : Setting) where
         let x = confirmed i a ca in
         let y = confirmed j b cb in
         let other : i ≢ j = λ e. different (sym (x .1) ∙ ap (λ l. endAt l .own .value) e ∙ y .1) in
-        let heard = reached-heard (boat i) (opened i) (boat j .seat) b (inside j) (y .2) (reached i other .notice round (boat j .seat) b (y .3)) in
+        let heard = reached-heard (boat i) (honest i) (boat j .seat) b (inside j) (y .2) (reached i other .notice round (boat j .seat) b (y .3)) in
         sent-of (endAt i) (settled i .owes) (x .0) (other-heard b (endAt i) heard (λ e. different (sym (x .1) ∙ sym e)))
 
     -- every unit has held or compared a certificate of a layout whose FULL was sent
@@ -236,17 +236,17 @@ module _ (S : Setting) where
         let x = confirmed i a ca in
         let own : Held a (endAt i) = subst (λ v. Held v (endAt i)) (x .1) (settled i .holds (x .0)) in
         let other : l ≢ i = λ q. never (subst (λ o. Held a (endAt o)) (sym q) own) in
-        let f = subst (WroteFull (boat i) (opened i)) (x .1) (sent-full (boat i) (opened i) sent) in
-        never (reached-held (boat l) (opened l) (boat i .seat) a (f .0) (inside i) (f .1) (reached l other .full round (boat i .seat) a (f .0) (f .2)))
+        let f = subst (WroteFull (boat i) (honest i)) (x .1) (sent-full (boat i) (honest i) sent) in
+        never (reached-held (boat l) (honest l) (boat i .seat) a (f .0) (inside i) (f .1) (reached l other .full round (boat i .seat) a (f .0) (f .2)))
 
 -- ---- the claim
 
-pub blamed : (S : Setting) {I : Type 0} (boat : I → Honest) → ((i : I) → IsOpened S (boat i))
+pub blamed : (S : Setting) {I : Type 0} (boat : I → Boat) → ((i : I) → IsHonest S (boat i))
     → (i j : I) (a b : List ℕ) → a ≢ b → Confirms S (boat i) a → Confirms S (boat j) b
     → ReachedOthers S boat i → ReachedOthers S boat j → (l : I) → Blames S (boat l)
-blamed S boat opened i j a b different ca cb ri rj l =
-    let sent-a = each-sent S boat opened i j a b different ca cb rj in
-    let sent-b = each-sent S boat opened j i b a (λ e. different (sym e)) cb ca ri in
-    let held-a = each-held S boat opened i a ca sent-a ri l in
-    let held-b = each-held S boat opened j b cb sent-b rj l in
-    guilty-blames S (boat l) (opened l) (λ g. held-a (λ x. held-b (λ y. both-held a b (endAt S boat opened l) different x y g)))
+blamed S boat honest i j a b different ca cb ri rj l =
+    let sent-a = each-sent S boat honest i j a b different ca cb rj in
+    let sent-b = each-sent S boat honest j i b a (λ e. different (sym e)) cb ca ri in
+    let held-a = each-held S boat honest i a ca sent-a ri l in
+    let held-b = each-held S boat honest j b cb sent-b rj l in
+    guilty-blames S (boat l) (honest l) (λ g. held-a (λ x. held-b (λ y. both-held a b (endAt S boat honest l) different x y g)))

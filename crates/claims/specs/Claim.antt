@@ -15,7 +15,7 @@ use Prim.Native.Nat.{ℕ}
 use Rattle.protocol.specs.Signatures.{checks}
 use Rattle.protocol.specs.Calls.{Result, submit, step, opening}
 use Rattle.protocol.specs.declared.Record.{Record}
-use Rattle.round.specs.Round.{Setting, Call, BySubmit, ByStep, ByThinEntry, Honest, Called, outcome, resultOf, listFrom, listOf, IsOpened, Family}
+use Rattle.round.specs.Round.{Setting, Call, BySubmit, ByStep, ByThinEntry, Boat, Called, outcome, resultOf, listFrom, listOf, IsHonest, Family}
 use Rattle.round.specs.Demand3.{Demand3}
 use Rattle.claims.specs.Units.{any-worthy, start-round, stop}
 use Rattle.claims.specs.Sound.{Any}
@@ -25,19 +25,19 @@ use Rattle.claims.specs.Blamed.{blamed}
 -- ---- the claim
 
 -- beyond the demand: the same without "each alone in its seat"
-pub wherever-seated : (S : Setting) {I : Type 0} (boat : I → Honest) → ((i : I) → IsOpened S (boat i)) → Demand3 S boat
-wherever-seated S boat opened = record { safety = safe-delivered S boat opened; accountability = blamed S boat opened; safety-however = safe S boat opened }
+pub wherever-seated : (S : Setting) {I : Type 0} (boat : I → Boat) → ((i : I) → IsHonest S (boat i)) → Demand3 S boat
+wherever-seated S boat honest = record { safety = safe-delivered S boat honest; accountability = blamed S boat honest; safety-however = safe S boat honest }
 
 -- "let some units be honest: each alone in its seat and opened once": `Family`. For any signature check:
-pub demand-3-any : (S : Setting) {I : Type 0} (boat : I → Honest) → Family S boat → Demand3 S boat
-demand-3-any S boat family = wherever-seated S boat (family .opened)
+pub demand-3-any : (S : Setting) {I : Type 0} (boat : I → Boat) → Family S boat → Demand3 S boat
+demand-3-any S boat family = wherever-seated S boat (family .honest)
 
 -- "In one round and under one key table", and "A signature checks for a seat over a layout when RFC 8554 accepts it under that
 -- seat's key for the 36 bytes of the round, that seat and that layout, and its leaf is the round."
 abbrev pub setting : ℕ → ℕ → List ℕ → Setting
 setting n round keys = record { n = n; round = round; keys = keys; checks = checks keys round }
 
-pub demand-3 : (n round : ℕ) (keys : List ℕ) {I : Type 0} (boat : I → Honest) → Family (setting n round keys) boat → Demand3 (setting n round keys) boat
+pub demand-3 : (n round : ℕ) (keys : List ℕ) {I : Type 0} (boat : I → Boat) → Family (setting n round keys) boat → Demand3 (setting n round keys) boat
 demand-3 n round keys = demand-3-any (setting n round keys)
 
 -- ---- lists of calls by the code's contracts
@@ -74,7 +74,7 @@ module _ (n round : ℕ) (keys : List ℕ) where
       (ap (λ (rest : List (Called × Result)). (first, result) ∷ rest) (same-list (result .unit) (result .store) cs (λ x d. h x (List·Memᴰ·tail d))))
 
   -- after an opening without a refusal: call by call and result by result the list of the claim
-  pub as-promised : (u : Honest) → IsOpened S u → promised keys (opening n (u .seat) round keys .unit) (u .store) (u .calls) ≡ map withResult (listOf S u)
-  as-promised u opened =
+  pub as-promised : (u : Boat) → IsHonest S u → promised keys (opening n (u .seat) round keys .unit) (u .store) (u .calls) ≡ map withResult (listOf S u)
+  as-promised u honest =
       same-list (opening n (u .seat) round keys .unit) (u .store) (u .calls)
-      (λ c d. stop S u opened Any (any-worthy S (listOf S u)) c d .since .round ∙ start-round S u opened)
+      (λ c d. stop S u honest Any (any-worthy S (listOf S u)) c d .since .round ∙ start-round S u honest)

@@ -17,7 +17,7 @@ use Rattle.protocol.specs.Refusals.{isForStep, rising}
 use Rattle.protocol.specs.Certificate.{keptValue}
 use Rattle.protocol.specs.Calls.{Result, resultBy, start, step}
 use Rattle.protocol.specs.declared.Record.{Record}
-use Rattle.round.specs.Round.{Setting, IsOpened, Each, Relation, Call, BySubmit, ByStep, ByThinEntry, Honest, Called, IsStep, outcome, resultOf, listFrom, listOf, StandsIn, writtenIn, Confirms}
+use Rattle.round.specs.Round.{Setting, IsHonest, Each, Relation, Call, BySubmit, ByStep, ByThinEntry, Boat, Called, IsStep, outcome, resultOf, listFrom, listOf, StandsIn, writtenIn, Confirms}
 use Rattle.round.specs.Demand1.{NOTICE, isOf, isNotice, worth}
 use Rattle.reading.specs.ListsLaws.{each-nil, each-one, each-cons, count-member, worth-true}
 use Rattle.reading.specs.Messages.{messages}
@@ -58,7 +58,7 @@ module _ (S : Setting) where
 
   -- the unit's list has a submit of the layout that isn't refused, and of a set of other seats, k − 1 or more, the first good SUBMIT
   -- given before it is over the same layout
-  pub record SubmitsAfter (u : Honest) : Type 0 where
+  pub record SubmitsAfter (u : Boat) : Type 0 where
     pub before : List Called
     pub call : Called
     pub after : List Called
@@ -145,12 +145,12 @@ module _ (S : Setting) where
       go true e = absurd (true≢false (sym (carry (λ r _. r .own .submitted ≡ true) (resultOf S x .unit) (resultOf S x .store) xs t after (c .2) (λ y d. keeps y (List·Memᴰ·tail d)) e) ∙ unsaid))
       go false e = refl
 
-  module _ (u : Honest) (opened : IsOpened S u) where
+  module _ (u : Boat) (honest : IsHonest S u) where
     abbrev list : List Called
     list = listOf S u
 
-    abbrev at : (x : Called) → List·Memᴰ x list → At S Any (startOf S u opened) x (endOf S u opened)
-    at x d = stop S u opened Any (any-worthy S list) x d
+    abbrev at : (x : Called) → List·Memᴰ x list → At S Any (startOf S u honest) x (endOf S u honest)
+    at x d = stop S u honest Any (any-worthy S list) x d
 
     -- a good SUBMIT isn't refused
     gives-hears : (x : Called) → List·Memᴰ x list → (seat : ℕ) (layout : List ℕ) (g : GivesGood S x seat layout) → Hears S x seat layout (g .signature)
@@ -158,24 +158,24 @@ module _ (S : Setting) where
     gives-hears x d seat layout g =
         let r = x .unit in
         let m = Submit round seat layout (g .signature) in
-        let reads : read (r .n) (g .bytes) ≡ m = rw (size-is S u opened x d) (g .reads) in
+        let reads : read (r .n) (g .bytes) ≡ m = rw (size-is S u honest x d) (g .reads) in
         let taken : Taken checks n round m = record { inRound = refl; inside = each-one (λ s. s < n) seat (g .inside); rises = refl; checked = each-one (λ s. checks (s .seat) (s .value) (s .signature) ≡ true) _ (g .checked) } in
         let fit : StepFit checks keys r (x .store) (g .bytes) (g .out) = record {
           lent = record {
             possible = possible checks Any r (x .store) (at x d .sound) (at x d .settled);
-            table = subst (λ i. Table i keys) (sym (size-is S u opened x d)) (opened-fit S u opened .table);
-            storeRoom = rw (size-is S u opened x d) (g .storeRoom);
-            outRoom = rw (size-is S u opened x d) (g .outRoom);
+            table = subst (λ i. Table i keys) (sym (size-is S u honest x d)) (opened-fit S u honest .table);
+            storeRoom = rw (size-is S u honest x d) (g .storeRoom);
+            outRoom = rw (size-is S u honest x d) (g .outRoom);
           };
           forStep = subst (λ (y : Message). isForStep y ≡ true) (sym reads) refl;
-          message = subst (Taken checks (r .n) (r .round)) (sym reads) (subst₂ (λ i ρ. Taken checks i ρ m) (sym (size-is S u opened x d)) (sym (round-is S u opened x d)) taken);
+          message = subst (Taken checks (r .n) (r .round)) (sym reads) (subst₂ (λ i ρ. Taken checks i ρ m) (sym (size-is S u honest x d)) (sym (round-is S u honest x d)) taken);
         } in
         let is = step-is S (x .given) (g .bytes) (g .out) r (x .store) (g .isStep) .0 in
         record {
           bytes = g .bytes;
           out = g .out;
           isStep = g .isStep;
-          reads = reads ∙ ap (λ ρ. Submit ρ seat layout (g .signature)) (sym (round-is S u opened x d));
+          reads = reads ∙ ap (λ ρ. Submit ρ seat layout (g .signature)) (sym (round-is S u honest x d));
           unrefused = ap (λ (y : Result). y .refusal) (outcome-is S (x .given) r (x .store)) ∙ is ∙ step-not-refused checks keys r (x .store) (g .bytes) (g .out) .1 fit;
         }
 
@@ -191,10 +191,10 @@ module _ (S : Setting) where
           out = h .out;
           signature = signature;
           isStep = h .isStep;
-          storeRoom = subst (λ i. storeLength i ≤ length (x .store)) (size-is S u opened x d) (fit .lent .storeRoom);
-          outRoom = subst (λ i. outLength i ≤ length (h .out)) (size-is S u opened x d) (fit .lent .outRoom);
-          inside = subst (λ i. seat < i) (size-is S u opened x d) (taken .inside seat (List·Memᴰ·head refl));
-          reads = ap (λ i. read i (h .bytes)) (sym (size-is S u opened x d)) ∙ h .reads ∙ ap (λ ρ. Submit ρ seat layout signature) (round-is S u opened x d);
+          storeRoom = subst (λ i. storeLength i ≤ length (x .store)) (size-is S u honest x d) (fit .lent .storeRoom);
+          outRoom = subst (λ i. outLength i ≤ length (h .out)) (size-is S u honest x d) (fit .lent .outRoom);
+          inside = subst (λ i. seat < i) (size-is S u honest x d) (taken .inside seat (List·Memᴰ·head refl));
+          reads = ap (λ i. read i (h .bytes)) (sym (size-is S u honest x d)) ∙ h .reads ∙ ap (λ ρ. Submit ρ seat layout signature) (round-is S u honest x d);
           checked = taken .checked _ (List·Memᴰ·head refl);
         }
 
@@ -242,8 +242,8 @@ module _ (S : Setting) where
     module _ (h : SubmitsAfter S u) where
       open SubmitsAfter h using (before, call as t, after, split, submits as s, others, apart, enough, given)
 
-      chain : Chain (startOf S u opened) (u .store) (before ++ t ∷ after)
-      chain = subst (Chain (startOf S u opened) (u .store)) split (chain-of (startOf S u opened) (u .store) (u .calls))
+      chain : Chain (startOf S u honest) (u .store) (before ++ t ∷ after)
+      chain = subst (Chain (startOf S u honest) (u .store)) split (chain-of (startOf S u honest) (u .store) (u .calls))
 
       inList : List·Memᴰ t list
       inList = subst (λ l. List·Memᴰ t l) (sym split) (Memᴰ·append-right before (List·Memᴰ·head refl))
@@ -263,7 +263,7 @@ module _ (S : Setting) where
 
       earlier-unsaid : Each (λ x. resultOf S x .unit .own .submitted ≡ false) before
       earlier-unsaid =
-          unsaid-before (startOf S u opened) (u .store) before t after chain (λ x d e. at x (earlier-inList x d) .after .grows .said e .0) (fit .first)
+          unsaid-before (startOf S u honest) (u .store) before t after chain (λ x d e. at x (earlier-inList x d) .after .grows .said e .0) (fit .first)
 
       ready : Each Ready before
       ready x d =
@@ -276,16 +276,16 @@ module _ (S : Setting) where
 
       kept-it : (seat : ℕ) → In seat others → KeptIt seat (s .layout) (t .unit) (t .store)
       kept-it seat i =
-          first-kept seat (s .layout) (startOf S u opened) (u .store) before t after chain ready (λ x e. absurd (omega (arith, ap (bit x) (start-none S u opened), bit-empty x))) (given seat i)
+          first-kept seat (s .layout) (startOf S u honest) (u .store) before t after chain ready (λ x e. absurd (omega (arith, ap (bit x) (start-none S u honest), bit-empty x))) (given seat i)
 
       -- it has confirmed
       confirmed-there : resultOf S t .unit .confirmed ≡ true
       confirmed-there =
           let z = at t inList in
-          let size-t = size-is S u opened t inList in
+          let size-t = size-is S u honest t inList in
           ap (λ (r : Record). r .confirmed) (submits-result S t s)
           ∙ confirms-at-once checks Any (s .layout) (s .signature) (start (t .unit) (t .store)) (z .sound) (fit .lent .storeRoom) (fit .first) (fit .sizedValue) (record { checked = fit .checked; sized = fit .sizedSignature; worthy = tt })
-          others (λ seat i. kept-it seat i .0) (ap (λ seat. bit seat others) (z .since .seat ∙ start-seat S u opened) ∙ apart) (λ seat i. kept-it seat i .1) (subst (λ m. k m ≤ size others + 1) (sym size-t) enough)
+          others (λ seat i. kept-it seat i .0) (ap (λ seat. bit seat others) (z .since .seat ∙ start-seat S u honest) ∙ apart) (λ seat i. kept-it seat i .1) (subst (λ m. k m ≤ size others + 1) (sym size-t) enough)
 
       unconfirmed : (b : Bool) → t .unit .confirmed ≡ b → b ≡ false
       unconfirmed true e = absurd (true≢false (sym (confirmed-submitted checks Any (t .unit) (t .store) (at t inList .sound) e) ∙ fit .first))
@@ -299,8 +299,8 @@ module _ (S : Setting) where
       own-notice : (ρ seat : ℕ) (value : List ℕ) → Said (resultOf S t .unit) ρ seat value → Notice ρ seat value ≡ Notice round (u .seat) (s .layout)
       own-notice ρ seat value g =
           let z = at t inList in
-          let e : ρ ≡ round = g .ofRound ∙ z .after .grows .round ∙ round-is S u opened t inList in
-          let f : seat ≡ u .seat = g .ofSeat ∙ z .after .grows .seat ∙ z .since .seat ∙ start-seat S u opened in
+          let e : ρ ≡ round = g .ofRound ∙ z .after .grows .round ∙ round-is S u honest t inList in
+          let f : seat ≡ u .seat = g .ofSeat ∙ z .after .grows .seat ∙ z .since .seat ∙ start-seat S u honest in
           let h : value ≡ s .layout = g .ofValue ∙ submits-sets t inList s .1 in
           rw (e, f, h)
 
@@ -311,18 +311,18 @@ module _ (S : Setting) where
           let z = at t inList in
           let n-is = count-member (isOf NOTICE) (messages S t) (omega (arith, z .after .counts NOTICE, worth-true (resultOf S t .unit .confirmed) confirmed-there, worth-unconfirmed)) in
           notice-cases (λ m. List·Memᴰ m (messages S t) → Good checks Any (resultOf S t .unit) m → StandsIn n (Notice round (u .seat) (s .layout)) (writtenIn S t)) (n-is .0) (n-is .2)
-          (λ ρ seat value d g. (messages S t, written-are S u opened Any (any-worthy S list) t inList, subst (λ m. List·Memᴰ m (messages S t)) (own-notice ρ seat value g) d))
+          (λ ρ seat value d g. (messages S t, written-are S u honest Any (any-worthy S list) t inList, subst (λ m. List·Memᴰ m (messages S t)) (own-notice ρ seat value g) d))
           (n-is .1) (z .after .good (n-is .0) (n-is .1))
 
 -- ---- the claim
 
 -- "a unit that submits after it was given good SUBMITs of the same value by k − 1 or more other seats, in buffers of the stated lengths,
 -- confirms in that very call": the result has confirmed set, and the NOTICE of the layout stands in what the call writes
-pub confirms-in-that-call : (S : Setting) (u : Honest) → IsOpened S u → (h : SubmitsAfter S u)
+pub confirms-in-that-call : (S : Setting) (u : Boat) → IsHonest S u → (h : SubmitsAfter S u)
     → (resultOf S (h .call) .unit .confirmed ≡ true) × StandsIn (S .n) (Notice (S .round) (u .seat) (h .submits .layout)) (writtenIn S (h .call))
-confirms-in-that-call S u opened h = (confirmed-there S u opened h, notice-there S u opened h)
+confirms-in-that-call S u honest h = (confirmed-there S u honest h, notice-there S u honest h)
 
 -- and so it confirms the layout, in the words of `Round`
-pub confirms-it : (S : Setting) (u : Honest) → IsOpened S u → (h : SubmitsAfter S u) → Confirms S u (h .submits .layout)
-confirms-it S u opened h =
-    (S .round, u .seat, record { call = h .call; inList = inList S u opened h; stands = notice-there S u opened h })
+pub confirms-it : (S : Setting) (u : Boat) → IsHonest S u → (h : SubmitsAfter S u) → Confirms S u (h .submits .layout)
+confirms-it S u honest h =
+    (S .round, u .seat, record { call = h .call; inList = inList S u honest h; stands = notice-there S u honest h })

@@ -23,7 +23,7 @@ use Rattle.protocol.specs.Refusals.{Checks, stepConditions}
 use Rattle.protocol.specs.Step.{State, keep, keepIfFirst, otherHeard, owesFull, sendFull, reply, isComplete, confirm, hearOwn, confirmIfComplete, submitted, stepped}
 use Rattle.protocol.specs.Calls.{Result, resultBy, start}
 use Rattle.protocol.specs.declared.Record.{Record}
-use Rattle.round.specs.Round.{Setting, IsOpened, Call, BySubmit, ByStep, ByThinEntry, Honest, Called, IsStep, Each, EachSigned, Relation, outcome, resultOf, listFrom, listOf, Delivered}
+use Rattle.round.specs.Round.{Setting, IsHonest, Call, BySubmit, ByStep, ByThinEntry, Boat, Called, IsStep, Each, EachSigned, Relation, outcome, resultOf, listFrom, listOf, Delivered}
 use Rattle.reading.specs.ListsLaws.{cond-elim, each-nil, each-cons}
 use Rattle.reading.specs.Reading.{Sized}
 use Rattle.reading.specs.ReadingLaws.{read-sized}
@@ -344,42 +344,42 @@ module _ (S : Setting) where
 
   -- ---- an honest unit's list
 
-  module _ (u : Honest) (opened : IsOpened S u) where
+  module _ (u : Boat) (honest : IsHonest S u) where
     -- an opening keeps none
-    pub start-none : startOf S u opened .kept ≡ 0
+    pub start-none : startOf S u honest .kept ≡ 0
     unfolding fresh
-    start-none = ap (λ (r : Record). r .kept) (opened-fresh S u opened)
+    start-none = ap (λ (r : Record). r .kept) (opened-fresh S u honest)
 
     -- a call of the list hears this SUBMIT
     abbrev pub HeardIn : Relation
     HeardIn seat value signature = (call : Called) × List·Memᴰ call (listOf S u) × Hears S call seat value signature
 
     module _ (t : Called) (d : List·Memᴰ t (listOf S u)) where
-      abbrev at : At S Any (startOf S u opened) t (endOf S u opened)
-      at = stop S u opened Any (any-worthy S (listOf S u)) t d
+      abbrev at : At S Any (startOf S u honest) t (endOf S u honest)
+      at = stop S u honest Any (any-worthy S (listOf S u)) t d
 
       pub size-is : t .unit .n ≡ n
-      size-is = at .since .n ∙ start-n S u opened
+      size-is = at .since .n ∙ start-n S u honest
 
       pub round-is : t .unit .round ≡ round
-      round-is = at .since .round ∙ start-round S u opened
+      round-is = at .since .round ∙ start-round S u honest
 
       -- what is kept at a call was heard in a call of the list
       pub kept-was-heard : (seat : ℕ) → In seat (t .unit .kept) → HeardIn seat (keptValue n (t .store) seat) (keptSignature n (t .store) seat)
       kept-was-heard seat i =
           subst (λ m. HeardIn seat (keptValue m (t .store) seat) (keptSignature m (t .store) seat)) size-is
-          (kept-of HeardIn (startOf S u opened) (u .store) (u .calls) (λ s e. absurd (omega (arith, ap (bit s) start-none, bit-empty s))) (λ y e s value signature h. (y, e, h)) t d seat i)
+          (kept-of HeardIn (startOf S u honest) (u .store) (u .calls) (λ s e. absurd (omega (arith, ap (bit s) start-none, bit-empty s))) (λ y e s value signature h. (y, e, h)) t d seat i)
 
       -- "then the kept seats are empty": none is kept once the unit has submitted
       pub none-kept-once-submitted : t .unit .own .submitted ≡ true → t .unit .kept ≡ 0
       none-kept-once-submitted = at .settled .emptied
 
   -- at every call of an honest unit, each kept signature checks for its seat over the kept value, and is delivered for it
-  pub kept-was-delivered : {I : Type 0} (boat : I → Honest) (i : I) → IsOpened S (boat i) → (t : Called) → List·Memᴰ t (listOf S (boat i)) → (seat : ℕ) → In seat (t .unit .kept)
+  pub kept-was-delivered : {I : Type 0} (boat : I → Boat) (i : I) → IsHonest S (boat i) → (t : Called) → List·Memᴰ t (listOf S (boat i)) → (seat : ℕ) → In seat (t .unit .kept)
       → (checks seat (keptValue n (t .store) seat) (keptSignature n (t .store) seat) ≡ true) × Delivered S boat seat (keptValue n (t .store) seat) (keptSignature n (t .store) seat)
   unfolding signed
-  kept-was-delivered boat i opened t d seat kept =
-      let h = kept-was-heard (boat i) opened t d seat kept in
+  kept-was-delivered boat i honest t d seat kept =
+      let h = kept-was-heard (boat i) honest t d seat kept in
       let c = h .0 in
       let heard = h .2 in
       let fit = hears-fit S c seat _ _ heard in
@@ -389,6 +389,6 @@ module _ (S : Setting) where
           to = i;
           bytes = heard .bytes;
           given = inl (record { call = c; inList = h .1; out = heard .out; isStep = heard .isStep });
-          stands = subst (λ m. List·Memᴰ it (signed m)) (sym (heard .reads) ∙ ap (λ m. read m (heard .bytes)) (size-is (boat i) opened c (h .1))) (List·Memᴰ·head refl);
+          stands = subst (λ m. List·Memᴰ it (signed m)) (sym (heard .reads) ∙ ap (λ m. read m (heard .bytes)) (size-is (boat i) honest c (h .1))) (List·Memᴰ·head refl);
         },
       )

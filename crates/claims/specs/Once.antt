@@ -18,7 +18,7 @@ use Rattle.protocol.specs.Record.{impossible}
 use Rattle.protocol.specs.Refusals.{Checks, isFull, isEvidence}
 use Rattle.protocol.specs.Calls.{opening}
 use Rattle.protocol.specs.declared.Record.{Record}
-use Rattle.round.specs.Round.{Setting, IsOpened, Each, Relation, Honest, Called, resultOf, writtenIn, Are, listOf}
+use Rattle.round.specs.Round.{Setting, IsHonest, Each, Relation, Boat, Called, resultOf, writtenIn, Are, listOf}
 use Rattle.round.specs.Demand1.{Kind, SUBMIT, NOTICE, FULL, EVIDENCE, isOf, isSubmit, isNotice, worth, count, writtenOver, AtMostOne}
 use Rattle.reading.specs.ListsLaws.{worth-le-one, worth-true, true-of-worth, count-pos}
 use Rattle.claims.specs.Sound.{Any, flagOf, Good}
@@ -94,7 +94,7 @@ module _ (checks : Checks) (W : Relation) (r : Record) where
 
 -- ---- an honest unit's list
 
-module _ (S : Setting) (u : Honest) (opened : IsOpened S u) where
+module _ (S : Setting) (u : Boat) (honest : IsHonest S u) where
   open Setting S using (n, round, keys, checks)
 
   abbrev ts : List Called
@@ -105,14 +105,14 @@ module _ (S : Setting) (u : Honest) (opened : IsOpened S u) where
 
   -- the bytes written over the whole list are messages one after another
   pub written-messages : (ms : List Message) × Are n (writtenOver S ts) ms
-  written-messages = (allMessages S ts, all-are S u opened)
+  written-messages = (allMessages S ts, all-are S u honest)
 
   -- the claim: at most one of each kind, SUBMIT, NOTICE, FULL and EVIDENCE
   pub at-most-one : AtMostOne S u
   at-most-one ms a κ =
-      let e = are-unique n (writtenOver S ts) ms (allMessages S ts) a (all-are S u opened) in
-      let c = trip S u opened Any any .counts κ in
-      let l = worth-le-one (flagOf κ (endOf S u opened)) in
+      let e = are-unique n (writtenOver S ts) ms (allMessages S ts) a (all-are S u honest) in
+      let c = trip S u honest Any any .counts κ in
+      let l = worth-le-one (flagOf κ (endOf S u honest)) in
       rw e (omega arith)
 
   -- four messages in all, however long the list: no two units reply to each other without end
@@ -125,13 +125,13 @@ module _ (S : Setting) (u : Honest) (opened : IsOpened S u) where
   -- the record that the opening gave isn't impossible
   pub opened-possible : impossible (opening n (u .seat) round keys .unit) ≡ false
   opened-possible =
-      possible checks Any (opening n (u .seat) round keys .unit) (u .store) (start-sound S u opened Any) (start-settled S u opened)
+      possible checks Any (opening n (u .seat) round keys .unit) (u .store) (start-sound S u honest Any) (start-settled S u honest)
 
   -- ---- at each call
 
   module _ (t : Called) (d : List·Memᴰ t ts) where
     abbrev here : Passed S Any (t .unit) (t .store) (resultOf S t .unit) (resultOf S t .store) (messages S t)
-    here = stop S u opened Any any t d .after
+    here = stop S u honest Any any t d .after
 
     -- no record that comes out of a call is impossible
     pub none-impossible : impossible (resultOf S t .unit) ≡ false
@@ -145,8 +145,8 @@ module _ (S : Setting) (u : Honest) (opened : IsOpened S u) where
     written-fits =
         let ms = messages S t in
         let size = resultOf S t .unit .n in
-        let exact : size ≡ n = result-grows S u opened Any any t d .n ∙ start-n S u opened in
-        rw (written-are S u opened Any any t d .1)
+        let exact : size ≡ n = result-grows S u honest Any any t d .n ∙ start-n S u honest in
+        rw (written-are S u honest Any any t d .1)
         (subst (λ i. length (renderAll ms) ≤ outLength i) exact
         (omega (
           arith,
@@ -173,11 +173,11 @@ module _ (S : Setting) (u : Honest) (opened : IsOpened S u) where
         → (writtenIn S t ≡ []) ⊎ ((m : Message) × (isEvidence m ≡ true) × (t .unit .guilty ≡ 0) × (writtenIn S t ≡ render m))
     unfolding kinds renderAll
     quiet-once-sent sent =
-        let z = stop S u opened Any any t d .sound in
+        let z = stop S u honest Any any t d .sound in
         let confirmed = z .flags .confirmed sent in
         let submitted = confirmed-submitted checks Any (t .unit) (t .store) z confirmed in
         let ms = messages S t in
-        let are = written-are S u opened Any any t d in
+        let are = written-are S u honest Any any t d in
         let alone = evidence-alone ms (omega (arith, kinds-all n ms (are .0), none-of SUBMIT submitted, none-of NOTICE confirmed, none-of FULL sent)) (counted-once EVIDENCE) in
         ⊎-elim
         (λ e. inl (are .1 ∙ ap renderAll e))

@@ -17,7 +17,7 @@ use Rattle.protocol.specs.Certificate.{certificateIn, conflictOf}
 use Rattle.protocol.specs.Refusals.{Checks, isFull, isEvidence, notLowerFirst, makingConditions}
 use Rattle.protocol.specs.Calls.{makingBy, making, made, checkedBy, evidenceCheck}
 use Rattle.protocol.specs.declared.Record.{Record}
-use Rattle.round.specs.Round.{Setting, IsOpened, Each, Relation, EachSigned, Call, BySubmit, ByStep, ByThinEntry, InHand, Honest, IsStep, Called, resultOf, StandsIn, listOf, Submits, WritesEvidence, makingOf, MakesEvidence, Names, AcceptedFrom, Delivered}
+use Rattle.round.specs.Round.{Setting, IsHonest, Each, Relation, EachSigned, Call, BySubmit, ByStep, ByThinEntry, InHand, Boat, IsStep, Called, resultOf, StandsIn, listOf, Submits, WritesEvidence, makingOf, MakesEvidence, Names, AcceptedFrom, Delivered}
 use Rattle.round.specs.Demand3.{Takes, NoneForged, NoneBlamed}
 use Rattle.reading.specs.ListsLaws.{each-nil, each-one}
 use Rattle.claims.specs.Sound.{Any, Certifies, Pairs, Good}
@@ -79,19 +79,19 @@ module _ (S : Setting) where
 
   -- ---- the one layout of an honest unit
 
-  module _ (u : Honest) (opened : IsOpened S u) where
-    pub submits-end : (value : List ℕ) → Submits S u value → endOf S u opened .own .value ≡ value
+  module _ (u : Boat) (honest : IsHonest S u) where
+    pub submits-end : (value : List ℕ) → Submits S u value → endOf S u honest .own .value ≡ value
     submits-end value s =
         let t = s .call in
         let given = BySubmit value (s .signature) (s .out) in
-        let at = stop S u opened Any (any-worthy S (listOf S u)) t (s .inList) in
+        let at = stop S u honest Any (any-worthy S (listOf S u)) t (s .inList) in
         let l = unrefused-result S t (s .unrefused) in
         let zero : refusalOf S given (t .unit) (t .store) ≡ 0 = subst (λ c. refusalOf S c (t .unit) (t .store) ≡ 0) (s .carries) (l .0) in
         let came : resultOf S t .unit ≡ cameTo given (t .unit) (t .store) .unit = subst (λ c. resultOf S t .unit ≡ cameTo c (t .unit) (t .store) .unit) (s .carries) (l .1) in
         let v = submit-value S Any value (s .signature) (s .out) (t .unit) (t .store) (at .sound) zero tt in
         at .before .said (ap (λ (r : Record). r .own .submitted) came ∙ v .0) .1 ∙ ap (λ (r : Record). r .own .value) came ∙ v .1
 
-  module _ {I : Type 0} (boat : I → Honest) (opened : (i : I) → IsOpened S (boat i)) (R : Relation) (takes : Takes S boat R) (none : NoneForged S boat R) where
+  module _ {I : Type 0} (boat : I → Boat) (honest : (i : I) → IsHonest S (boat i)) (R : Relation) (takes : Takes S boat R) (none : NoneForged S boat R) where
     -- ---- signatures in a unit's store
 
     -- origin of a signature in a unit's store: delivered, or the unit's own over a layout that it submitted
@@ -99,15 +99,15 @@ module _ (S : Setting) where
     Backed j seat value signature = R seat value signature ⊎ ((seat ≡ boat j .seat) × Submits S (boat j) value)
 
     module _ (j : I) (t : Called) (d : List·Memᴰ t (listOf S (boat j))) where
-      abbrev at : At S Any (startOf S (boat j) (opened j)) t (endOf S (boat j) (opened j))
-      at = stop S (boat j) (opened j) Any (any-worthy S (listOf S (boat j))) t d
+      abbrev at : At S Any (startOf S (boat j) (honest j)) t (endOf S (boat j) (honest j))
+      at = stop S (boat j) (honest j) Any (any-worthy S (listOf S (boat j))) t d
 
       stepped-backed : (bytes out : List ℕ) → IsStep (t .given) bytes out → resultOf S t .refusal ≡ 0 → EachSigned (Backed j) (read (t .unit .n) bytes)
       stepped-backed bytes out e q =
-          rw (at .since .n ∙ start-n S (boat j) (opened j)) (λ s m. inl (takes .steps j bytes (record { call = t; inList = d; out = out; isStep = e }) q s m))
+          rw (at .since .n ∙ start-n S (boat j) (honest j)) (λ s m. inl (takes .steps j bytes (record { call = t; inList = d; out = out; isStep = e }) q s m))
 
       given-backed : (c : Call) → t .given ≡ c → resultOf S t .refusal ≡ 0 → WorthyGiven S (Backed j) c (t .unit)
-      given-backed (BySubmit value signature out) e q = inr (at .since .seat ∙ start-seat S (boat j) (opened j), record { call = t; inList = d; signature = signature; out = out; carries = e; unrefused = q })
+      given-backed (BySubmit value signature out) e q = inr (at .since .seat ∙ start-seat S (boat j) (honest j), record { call = t; inList = d; signature = signature; out = out; carries = e; unrefused = q })
       given-backed (ByStep bytes out) e q = stepped-backed bytes out (inl e) q
       given-backed (ByThinEntry bytes out) e q = stepped-backed bytes out (inr e) q
 
@@ -124,7 +124,7 @@ module _ (S : Setting) where
     -- an honest unit has not submitted two layouts
     one-layout : (i : I) (lower higher : List ℕ) → isLower lower higher ≡ true → ((Submits S (boat i) lower → ⊥) → ⊥) → ((Submits S (boat i) higher → ⊥) → ⊥) → ⊥
     one-layout i lower higher l a b =
-        a (λ s. b (λ s′. lower-differs lower higher l (sym (submits-end (boat i) (opened i) lower s) ∙ submits-end (boat i) (opened i) higher s′)))
+        a (λ s. b (λ s′. lower-differs lower higher l (sym (submits-end (boat i) (honest i) lower s) ∙ submits-end (boat i) (honest i) higher s′)))
 
     -- both signatures of an entry check and are backed, which no entry of an honest seat meets
     abbrev Both : I → Pair → Type 0
@@ -166,8 +166,8 @@ module _ (S : Setting) where
     written-safe i j evidence w d =
         let m = w .message in
         let stands = w .writes .stands in
-        let end = endOf S (boat j) (opened j) in
-        let good = writes-good S (boat j) (opened j) (Backed j) (backed j) m (w .writes) in
+        let end = endOf S (boat j) (honest j) in
+        let good = writes-good S (boat j) (honest j) (Backed j) (backed j) m (w .writes) in
         evidence-cases (λ x. Good checks (Backed j) end x → List·Memᴰ (boat i .seat) (entrySeats x) → ⊥) m (w .kind)
         (λ ρ values ps g e. unnamed i j ps (lower-first values ps (g .1 .laid) (g .1 .ordered)) (backed-both j (Backed j) (end .n) values ps (λ s v h b. b) (g .1)) e)
         good (named-in m evidence (boat i .seat) (stands .1 .0 m (stands .2)) (w .bytes) d)
@@ -225,18 +225,18 @@ module _ (S : Setting) where
 -- ---- the claim
 
 -- safety, for every relation that holds at least of the signatures that calls took
-pub safe : (S : Setting) {I : Type 0} (boat : I → Honest) → ((i : I) → IsOpened S (boat i))
+pub safe : (S : Setting) {I : Type 0} (boat : I → Boat) → ((i : I) → IsHonest S (boat i))
     → (R : Relation) → Takes S boat R → NoneForged S boat R → NoneBlamed S boat R
-safe S boat opened R takes none = record {
-  written = written-safe S boat opened R takes none;
-  made = made-safe S boat opened R takes none;
-  accepted = accepted-safe S boat opened R takes none;
+safe S boat honest R takes none = record {
+  written = written-safe S boat honest R takes none;
+  made = made-safe S boat honest R takes none;
+  accepted = accepted-safe S boat honest R takes none;
 }
 
 -- safety, for the signatures that document 01 calls delivered
-pub safe-delivered : (S : Setting) {I : Type 0} (boat : I → Honest) → ((i : I) → IsOpened S (boat i))
+pub safe-delivered : (S : Setting) {I : Type 0} (boat : I → Boat) → ((i : I) → IsHonest S (boat i))
     → NoneForged S boat (Delivered S boat) → NoneBlamed S boat (Delivered S boat)
-safe-delivered S boat opened none = safe S boat opened (Delivered S boat) takes none
+safe-delivered S boat honest none = safe S boat honest (Delivered S boat) takes none
   where
     takes : Takes S boat (Delivered S boat)
     takes = record {

@@ -12,7 +12,7 @@ use Rattle.protocol.specs.Record.{fresh, lastRound, InRange}
 use Rattle.protocol.specs.Refusals.{Checks}
 use Rattle.protocol.specs.Calls.{openedBy, opening}
 use Rattle.protocol.specs.declared.Record.{Record}
-use Rattle.round.specs.Round.{Setting, IsOpened, Each, Relation, Call, BySubmit, ByStep, ByThinEntry, Honest, Called, resultOf, writtenIn, Are, StandsIn, listOf, Writes}
+use Rattle.round.specs.Round.{Setting, IsHonest, Each, Relation, Call, BySubmit, ByStep, ByThinEntry, Boat, Called, resultOf, writtenIn, Are, StandsIn, listOf, Writes}
 use Rattle.round.specs.Demand1.{Kind, SUBMIT, NOTICE, FULL, EVIDENCE, isOf, worth, writtenOver}
 use Rattle.reading.specs.ListsLaws.{worth-le-one, worth-true, true-of-worth, count-pos, count-member}
 use Rattle.claims.specs.Sound.{Any, flagOf, Grows, Settled, Pairs, Sound, Good}
@@ -65,7 +65,7 @@ fresh-flag n seat round EVIDENCE = refl
 
 -- ---- the unit
 
-module _ (S : Setting) (u : Honest) (opened : IsOpened S u) where
+module _ (S : Setting) (u : Boat) (honest : IsHonest S u) where
   open Setting S using (n, round, keys, checks)
 
   abbrev pub startOf : Record
@@ -78,7 +78,7 @@ module _ (S : Setting) (u : Honest) (opened : IsOpened S u) where
   ts = listOf S u
 
   pub opened-fit : OpeningFit n (u .seat) round keys
-  opened-fit = opening-not-refused n (u .seat) round keys .0 opened
+  opened-fit = opening-not-refused n (u .seat) round keys .0 honest
 
   pub opened-range : InRange n (u .seat) round
   opened-range = opened-fit .range
@@ -88,7 +88,7 @@ module _ (S : Setting) (u : Honest) (opened : IsOpened S u) where
 
   pub opened-fresh : startOf ≡ fresh n (u .seat) round
   unfolding opening openedBy unrefused
-  opened-fresh = rw opened
+  opened-fresh = rw honest
 
   pub start-n : startOf .n ≡ n
   unfolding fresh

@@ -5,7 +5,7 @@ use Prim.Native.Nat.{ℕ}
 use mathlib.Core.Path.{_≡_, refl, sym, ap, _∙_}
 use mathlib.Core.Bool.{Bool, true, false}
 use mathlib.Core.List.{List, [], _∷_}
-use Rattle.round.specs.Round.{IsOpened, Honest, Family, Delivered, WritesEvidence, Names}
+use Rattle.round.specs.Round.{IsHonest, Boat, Family, Delivered, WritesEvidence, Names}
 use Rattle.round.specs.Demand3.{NoneForged}
 use Rattle.claims.specs.Claim.{demand-3-any}
 use Rattle.trials.specs.Toy.{fullBy}
@@ -13,21 +13,21 @@ use Rattle.trials.specs.Tests.{formed, accuses, accuses-says}
 use Rattle.trials.specs.Trials.{unfoldedTrials, four, says, hears, boatAt, atTwo}
 
 -- seat 0 submits the layout 7 alone, and certificates of two layouts with signatures of seat 0 reach seat 1
-abbrev boat : Bool → Honest
+abbrev boat : Bool → Boat
 boat false = boatAt 0 (says 0 7 ∷ [])
 boat true = boatAt 1 (hears (fullBy 7 0 2 3) ∷ hears (fullBy 9 0 2 3) ∷ [])
 
-opened : (i : Bool) → IsOpened four (boat i)
+honest : (i : Bool) → IsHonest four (boat i)
 unfolding unfoldedTrials
-opened false = refl
-opened true = refl
+honest false = refl
+honest true = refl
 
 at-seat : (i : Bool) → atTwo (boat i .seat) ≡ i
 at-seat false = refl
 at-seat true = refl
 
 family : Family four boat
-family = record { opened = opened; apart = λ i j d e. d (sym (at-seat i) ∙ ap atTwo e ∙ at-seat j) }
+family = record { honest = honest; apart = λ i j d e. d (sym (at-seat i) ∙ ap atTwo e ∙ at-seat j) }
 
 -- an honest seat is blamed
 well-formed : formed four (boat true) ≡ true

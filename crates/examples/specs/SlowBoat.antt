@@ -17,7 +17,7 @@ use Rattle.protocol.specs.Message.{Submit, Notice, Signed, render, signed, Well
 use Rattle.protocol.specs.MessageLaws.{read-render}
 use Rattle.protocol.specs.Calls.{opening}
 use Rattle.protocol.specs.declared.Record.{Record}
-use Rattle.round.specs.Round.{Call, ByStep, Honest, Called, IsOpened, resultOf, listFrom, StandsIn, writtenIn}
+use Rattle.round.specs.Round.{Call, ByStep, Boat, Called, IsHonest, resultOf, listFrom, StandsIn, writtenIn}
 use Rattle.claims.specs.Parts.{in-below}
 use Rattle.claims.specs.Gain.{GivesGood, FirstIs, SubmitsAfter, confirms-in-that-call}
 use Rattle.trials.specs.Toy.{layout, sign, submitBy}
@@ -56,12 +56,12 @@ gives-seven seat r store s other g =
 
 -- ---- the boat
 
-abbrev boat : Honest
+abbrev boat : Boat
 boat = boatAt 0 (hears (submitBy 1 7) ∷ hears (submitBy 2 7) ∷ says 0 7 ∷ [])
 
-opened : IsOpened four boat
+honest : IsHonest four boat
 unfolding unfoldedTrials
-opened = refl
+honest = refl
 
 abbrev next : Called → Call → Called
 next t c = record { given = c; unit = resultOf four t .unit; store = resultOf four t .store }
@@ -107,7 +107,7 @@ submits-after = record {
 -- it confirms in the call of its submit
 pub slow-boat-confirms : (resultOf four own .unit .confirmed ≡ true) × StandsIn 4 (Notice 5 0 (layout 7)) (writtenIn four own)
 unfolding submits-after
-slow-boat-confirms = confirms-in-that-call four boat opened submits-after
+slow-boat-confirms = confirms-in-that-call four boat honest submits-after
 
 -- ---- need of the premises
 

@@ -14,7 +14,7 @@ use Rattle.protocol.specs.Certificate.{Certificate, fullOf}
 use Rattle.protocol.specs.Record.{lastRound}
 use Rattle.protocol.specs.Refusals.{isFull}
 use Rattle.protocol.specs.Calls.{evidenceCheck}
-use Rattle.round.specs.Round.{Setting, Call, BySubmit, ByStep, ByThinEntry, InHand, Honest, Each, Family, Confirms, Delivered, MakesEvidence, makingOf}
+use Rattle.round.specs.Round.{Setting, Call, BySubmit, ByStep, ByThinEntry, InHand, Boat, Each, Family, Confirms, Delivered, MakesEvidence, makingOf}
 use Rattle.round.specs.Demand3.{NoneForged, NoneBlamed, ReachedOthers, Blames}
 use Rattle.claims.specs.NotRefused.{Table}
 use Rattle.claims.specs.Made.{Accuses}
@@ -92,7 +92,7 @@ module _ (S : Setting) {I : Type 0} (P : Plan I) where
   abbrev pub inHand : InHand
   inHand = record { a = render (fullBy false); b = render (fullBy true); out = out }
 
-  abbrev pub boat : I → Honest
+  abbrev pub boat : I → Boat
   boat i = record { seat = role i .seat; store = store; calls = ownSubmit i ∷ map given (heard i); inHand = inHand ∷ [] }
 
   -- ---- premises

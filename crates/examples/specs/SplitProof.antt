@@ -24,7 +24,7 @@ use Rattle.protocol.specs.Refusals.{isForStep, isFull, isEvidence, rising, step
 use Rattle.protocol.specs.Step.{State, write, collect, isWanted, collectIfWanted, hearSubmit, reply, isComplete, confirm, hearOwn, confirmIfComplete, submitted, stepped}
 use Rattle.protocol.specs.Calls.{Result, resultBy, start, submit, step, makingBy, making}
 use Rattle.protocol.specs.declared.Record.{Record}
-use Rattle.round.specs.Round.{Setting, Call, ByStep, ByThinEntry, IsStep, Honest, Called, Each, Relation, EachSigned, outcome, listFrom, listOf, IsOpened, Family, Writes, Submits, Confirms, StepGiven, Reached, MadeFrom, Delivered, MakesEvidence, makingOf}
+use Rattle.round.specs.Round.{Setting, Call, ByStep, ByThinEntry, IsStep, Boat, Called, Each, Relation, EachSigned, outcome, listFrom, listOf, IsHonest, Family, Writes, Submits, Confirms, StepGiven, Reached, MadeFrom, Delivered, MakesEvidence, makingOf}
 use Rattle.round.specs.Demand1.{SUBMIT, NOTICE, isNotice, isOf}
 use Rattle.round.specs.Demand3.{NoneForged, ReachedOthers}
 use Rattle.reading.specs.ListsLaws.{cond-elim, and-false-either, worth-le-one, worth-true, true-of-worth, count-nil, each-nil, each-cons, each-one, each-append, each-map, rising-first}
@@ -226,13 +226,13 @@ module _ (S : Setting) {I : Type 0} (P : Plan I) (z : Splits S P) where
 
   -- ---- the units
 
-  opened : (i : I) → IsOpened S (boat S P i)
-  opened i =
+  honest : (i : I) → IsHonest S (boat S P i)
+  honest i =
       opening-not-refused n (role i .seat) round keys .1
       (record { range = record { some = z .fits .some; most = z .fits .most; seated = inside (role i .side) (role i .seat) (z .fits .signs i); dated = z .early }; table = z .table })
 
   family : Family S (boat S P)
-  family = record { opened = opened; apart = z .fits .apart }
+  family = record { honest = honest; apart = z .fits .apart }
 
   -- every signature that a unit is given is one of the round
   calls-worthy : (i : I) (r : Record) → r .n ≡ n → r .seat ≡ role i .seat → Each (λ c. WorthyGiven S W c r) (boat S P i .calls)
@@ -248,9 +248,9 @@ module _ (S : Setting) {I : Type 0} (P : Plan I) (z : Splits S P) where
   call-worthy : (i : I) (t : Called) → List·Memᴰ t (listOf S (boat S P i)) → WorthyGiven S W (t .given) (t .unit)
   call-worthy i t d =
       let u = boat S P i in
-      let at = stop S u (opened i) Any (any-worthy S (listOf S u)) t d in
-      calls-worthy i (t .unit) (at .since .n ∙ start-n S u (opened i)) (at .since .seat ∙ start-seat S u (opened i)) (t .given)
-      (called-given S (startOf S u (opened i)) (u .store) (u .calls) t d)
+      let at = stop S u (honest i) Any (any-worthy S (listOf S u)) t d in
+      calls-worthy i (t .unit) (at .since .n ∙ start-n S u (honest i)) (at .since .seat ∙ start-seat S u (honest i)) (t .given)
+      (called-given S (startOf S u (honest i)) (u .store) (u .calls) t d)
 
   worthy : (i : I) → Each (Worthy S W) (listOf S (boat S P i))
   worthy i t d q = call-worthy i t d
@@ -258,7 +258,7 @@ module _ (S : Setting) {I : Type 0} (P : Plan I) (z : Splits S P) where
   -- ---- one unit, from its submit on
 
   module _ (i : I) where
-    abbrev u : Honest
+    abbrev u : Boat
     u = boat S P i
 
     abbrev side : Bool
@@ -409,29 +409,29 @@ module _ (S : Setting) {I : Type 0} (P : Plan I) (z : Splits S P) where
     -- ---- the unit's submit
 
     abbrev start-record : Record
-    start-record = startOf S u (opened i)
+    start-record = startOf S u (honest i)
 
     unsaid : start-record .own .submitted ≡ false
     unsaid = go (start-record .own .submitted) refl
       where
         go : (b : Bool) → start-record .own .submitted ≡ b → start-record .own .submitted ≡ false
-        go true e = absurd (omega (arith, start-unset S u (opened i) SUBMIT, worth-true (start-record .own .submitted) e))
+        go true e = absurd (omega (arith, start-unset S u (honest i) SUBMIT, worth-true (start-record .own .submitted) e))
         go false e = e
 
     own-attested : Attested checks W (start-record .seat) (layout side) (signature side (role i .seat))
-    own-attested = subst (λ s. Attested checks W s (layout side) (signature side (role i .seat))) (sym (start-seat S u (opened i))) (attested side (role i .seat) (z .fits .signs i))
+    own-attested = subst (λ s. Attested checks W s (layout side) (signature side (role i .seat))) (sym (start-seat S u (honest i))) (attested side (role i .seat) (z .fits .signs i))
 
     start-room : storeLength (start-record .n) ≤ length store
-    start-room = rw (start-n S u (opened i)) (z .storeRoom)
+    start-room = rw (start-n S u (honest i)) (z .storeRoom)
 
     submit-passes : refusalOf S (ownSubmit S P i) start-record store ≡ 0
     unfolding refusalOf submit resultBy
     submit-passes =
-        let same = start-n S u (opened i) in
+        let same = start-n S u (honest i) in
         submit-not-refused checks keys start-record store (layout side) (signature side (role i .seat)) out .1
         (record {
           lent = record {
-            possible = possible checks W start-record store (start-sound S u (opened i) W) (start-settled S u (opened i));
+            possible = possible checks W start-record store (start-sound S u (honest i) W) (start-settled S u (honest i));
             table = rw same (z .table);
             storeRoom = start-room;
             outRoom = rw same (z .outRoom);
@@ -451,14 +451,14 @@ module _ (S : Setting) {I : Type 0} (P : Plan I) (z : Splits S P) where
 
     submit-ready : Ready (submitted-state .unit) (submitted-state .store)
     submit-ready =
-        let sound = start-sound S u (opened i) W in
+        let sound = start-sound S u (honest i) W in
         let done = submitted-done checks W (layout side) (signature side (role i .seat)) (start start-record store) sound start-room unsaid (z .layouts side) own-attested in
         let value = submitted-value checks W (layout side) (signature side (role i .seat)) (start start-record store) sound start-room unsaid (z .layouts side) own-attested in
         record {
           sound = done .leads .sound;
           settled = done .settled;
-          size-is = done .leads .grows .n ∙ start-n S u (opened i);
-          round-is = done .leads .grows .round ∙ start-round S u (opened i);
+          size-is = done .leads .grows .n ∙ start-n S u (honest i);
+          round-is = done .leads .grows .round ∙ start-round S u (honest i);
           submitted = value .0;
           value = value .1;
           room = rw (done .leads .stored) (z .storeRoom);
@@ -495,18 +495,18 @@ module _ (S : Setting) {I : Type 0} (P : Plan I) (z : Splits S P) where
 
     -- ---- messages that the unit writes
 
-    end-value : endOf S u (opened i) .own .value ≡ layout side
-    end-value = submits-end S u (opened i) (layout side) submits
+    end-value : endOf S u (honest i) .own .value ≡ layout side
+    end-value = submits-end S u (honest i) (layout side) submits
 
     abbrev Own : ℕ → ℕ → List ℕ → Type 0
     Own ρ seat value = (ρ ≡ round) × (seat ≡ role i .seat) × (value ≡ layout side)
 
-    own-said : (ρ seat : ℕ) (value : List ℕ) → Said (endOf S u (opened i)) ρ seat value → Own ρ seat value
+    own-said : (ρ seat : ℕ) (value : List ℕ) → Said (endOf S u (honest i)) ρ seat value → Own ρ seat value
     own-said ρ seat value s =
-        (s .ofRound ∙ end-round S u (opened i) W (worthy i), s .ofSeat ∙ end-seat S u (opened i) W (worthy i), s .ofValue ∙ end-value)
+        (s .ofRound ∙ end-round S u (honest i) W (worthy i), s .ofSeat ∙ end-seat S u (honest i) W (worthy i), s .ofValue ∙ end-value)
 
     notice-is : (ρ seat : ℕ) (value : List ℕ) → Writes S u (Notice ρ seat value) → Own ρ seat value
-    notice-is ρ seat value w = own-said ρ seat value (writes-good S u (opened i) W (worthy i) (Notice ρ seat value) w)
+    notice-is ρ seat value w = own-said ρ seat value (writes-good S u (honest i) W (worthy i) (Notice ρ seat value) w)
 
     entry-is : (es : List Entry) → Each (λ (e : Entry). W (e .seat) (layout side) (e .signature)) es → map (entryOf (certificate S P side)) (map (λ (e : Entry). e .seat) es) ≡ es
     entry-is [] h = refl
@@ -532,13 +532,13 @@ module _ (S : Setting) {I : Type 0} (P : Plan I) (z : Splits S P) where
 
     full-is : (ρ sender : ℕ) (value : List ℕ) (es : List Entry) → Writes S u (Full ρ sender value es) → Own ρ sender value × (es ≡ entriesOf n (certificate S P side))
     full-is ρ sender value es w =
-        let g = writes-good S u (opened i) W (worthy i) (Full ρ sender value es) w in
+        let g = writes-good S u (honest i) W (worthy i) (Full ρ sender value es) w in
         let own = own-said ρ sender value (g .0) in
-        (own, entries-are es (subst₂ (λ a v. Entries checks W a v es) (end-n S u (opened i) W (worthy i)) (own .2) (g .1)))
+        (own, entries-are es (subst₂ (λ a v. Entries checks W a v es) (end-n S u (honest i) W (worthy i)) (own .2) (g .1)))
 
   -- ---- the leaders
 
-  leader-confirmed : (b : Bool) → endOf S (boat S P (leader b)) (opened (leader b)) .confirmed ≡ true
+  leader-confirmed : (b : Bool) → endOf S (boat S P (leader b)) (honest (leader b)) .confirmed ≡ true
   unfolding lastOf resultBy unrefused
   leader-confirmed b =
       let i = leader b in
@@ -550,7 +550,7 @@ module _ (S : Setting) {I : Type 0} (P : Plan I) (z : Splits S P) where
   confirmed : (b : Bool) → Confirms S (boat S P (leader b)) (layout b)
   confirmed b =
       let i = leader b in
-      let f = flag-written S (boat S P i) (opened i) W (worthy i) NOTICE (leader-confirmed b) in
+      let f = flag-written S (boat S P i) (honest i) W (worthy i) NOTICE (leader-confirmed b) in
       notice-cases (λ m. Writes S (boat S P i) m → Confirms S (boat S P i) (layout b)) (f .0) (f .1)
       (λ ρ seat value w. (ρ, seat, subst (λ v. Writes S (boat S P i) (Notice ρ seat v)) (notice-is i ρ seat value w .2 ∙ ap layout (z .fits .leads b)) w))
       (f .2)
@@ -583,8 +583,8 @@ module _ (S : Setting) {I : Type 0} (P : Plan I) (z : Splits S P) where
   step-worthy j bytes g =
       let u = boat S P j in
       let t = g .call in
-      let at = stop S u (opened j) Any (any-worthy S (listOf S u)) t (g .inList) in
-      let same : t .unit .n ≡ n = at .since .n ∙ start-n S u (opened j) in
+      let at = stop S u (honest j) Any (any-worthy S (listOf S u)) t (g .inList) in
+      let same : t .unit .n ≡ n = at .since .n ∙ start-n S u (honest j) in
       let here = call-worthy j t (g .inList) in
       ⊎-elim
       (λ e. subst (λ a. EachSigned W (read a bytes)) same (subst (λ c. WorthyGiven S W c (t .unit)) e here))

@@ -8,7 +8,7 @@ use mathlib.Core.Logic.{_↔_}
 use Rattle.refusal.specs.Refusal.{unrefused}
 use Rattle.protocol.specs.Message.{Entry, Pair, PairValues, Message, Full, Evidence}
 use Rattle.protocol.specs.Calls.{opening, openedBy}
-use Rattle.round.specs.Round.{Setting, IsOpened, Each, Honest, listOf, Writes}
+use Rattle.round.specs.Round.{Setting, IsHonest, Each, Boat, listOf, Writes}
 use Rattle.claims.specs.Sound.{Any}
 use Rattle.protocol.specs.Record.{InRange}
 use Rattle.claims.specs.Units.{any-worthy, opened-range, written-are}
@@ -20,7 +20,7 @@ use Rattle.paper.specs.Based.{Sent, init-based, full-from, evidence-from
 use Rattle.paper.specs.Along.{does-as, init-recorded, init-mirrors, init-rest, over-list}
 
 -- For any list of calls of a unit after an opening without a refusal, with any signature check, any store and any out buffers:
-module _ (S : Setting) (u : Honest) (opened : IsOpened S u) where
+module _ (S : Setting) (u : Boat) (honest : IsHonest S u) where
   open Setting S using (n, round, keys, checks)
 
   -- the machine's actions over the list
@@ -33,10 +33,10 @@ module _ (S : Setting) (u : Honest) (opened : IsOpened S u) where
 
   opened-recorded : 1 ≤ n → u .seat < n → opening n (u .seat) round keys .unit ≡ recordOf n (u .seat) round init
   unfolding opening openedBy unrefused
-  opened-recorded some-seats inside = rw opened (init-recorded S (u .seat) some-seats inside)
+  opened-recorded some-seats inside = rw honest (init-recorded S (u .seat) some-seats inside)
 
   range : InRange n (u .seat) round
-  range = opened-range S u opened
+  range = opened-range S u honest
 
   along : DoesAs S (u .seat) init (listOf S u) × Each (Sent checks n (u .seat) Took (range .some) (range .seated)) actions
   along =
@@ -47,7 +47,7 @@ module _ (S : Setting) (u : Honest) (opened : IsOpened S u) where
       (init-rest S (u .seat) some-seats inside)
       (init-based checks n (u .seat) Took some-seats inside)
       (λ t d. d)
-      (λ t d. written-are S u opened Any (any-worthy S (listOf S u)) t d)
+      (λ t d. written-are S u honest Any (any-worthy S (listOf S u)) t d)
 
   -- At each call the engine writes exactly what the paper's machine, which forgets nothing, broadcasts or detects at that call; and its
   -- record and store, before and after, are those of the machine's state. So the engine's short memory loses nothing.

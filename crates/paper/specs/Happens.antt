@@ -13,7 +13,7 @@ use Rattle.protocol.specs.Layout.{storeLength, outLength}
 use Rattle.protocol.specs.Message.{read, roundOf, entrySeats, seatsOf}
 use Rattle.protocol.specs.Refusals.{isForStep, rising}
 use Rattle.protocol.specs.Calls.{resultBy, step}
-use Rattle.round.specs.Round.{Setting, IsOpened, Each, Call, BySubmit, ByStep, ByThinEntry, Honest, Called, outcome, resultOf, listOf}
+use Rattle.round.specs.Round.{Setting, IsHonest, Each, Call, BySubmit, ByStep, ByThinEntry, Boat, Called, outcome, resultOf, listOf}
 use Rattle.claims.specs.UnrefusedLaws.{possible}
 use Rattle.claims.specs.NotRefused.{Table, Lent, submit-not-refused}
 use Rattle.claims.specs.Journey.{At}
@@ -23,19 +23,19 @@ use Rattle.paper.specs.Machine.{Event, Submitted}
 use Rattle.paper.specs.Events.{delivered, isDelivered, eventOf, FitSubmit, FitStep}
 use Rattle.paper.specs.Discards.{fit-delivered}
 
-module _ (S : Setting) (u : Honest) (opened : IsOpened S u) (c : Called) (inList : List·Memᴰ c (listOf S u)) where
+module _ (S : Setting) (u : Boat) (honest : IsHonest S u) (c : Called) (inList : List·Memᴰ c (listOf S u)) where
   open Setting S using (n, round, keys, checks)
 
-  at : At S Any (startOf S u opened) c (endOf S u opened)
-  at = stop S u opened Any (any-worthy S (listOf S u)) c inList
+  at : At S Any (startOf S u honest) c (endOf S u honest)
+  at = stop S u honest Any (any-worthy S (listOf S u)) c inList
 
   size-is : c .unit .n ≡ n
-  size-is = at .since .n ∙ start-n S u opened
+  size-is = at .since .n ∙ start-n S u honest
 
   lent : (out : List ℕ) → storeLength n ≤ length (c .store) → outLength n ≤ length out → Lent keys (c .unit) (c .store) out
   lent out store-room out-room = record {
     possible = possible checks Any (c .unit) (c .store) (at .sound) (at .settled);
-    table = subst (λ i. Table i keys) (sym size-is) (opened-fit S u opened .table);
+    table = subst (λ i. Table i keys) (sym size-is) (opened-fit S u honest .table);
     storeRoom = subst (λ i. storeLength i ≤ length (c .store)) (sym size-is) store-room;
     outRoom = subst (λ i. outLength i ≤ length out) (sym size-is) out-room;
   }
@@ -47,7 +47,7 @@ module _ (S : Setting) (u : Honest) (opened : IsOpened S u) (c : Called) (inList
   submit-happens : (value signature : List ℕ) (f : FitSubmit S (u .seat) c value signature) → Happens (BySubmit value signature (f .out)) (some (Submitted value signature))
   unfolding outcome eventOf unrefused
   submit-happens value signature f =
-      let mine : c .unit .seat ≡ u .seat = at .since .seat ∙ start-seat S u opened in
+      let mine : c .unit .seat ≡ u .seat = at .since .seat ∙ start-seat S u honest in
       rw (submit-not-refused checks keys (c .unit) (c .store) value signature (f .out) .1
       (record {
         lent = lent (f .out) (f .storeRoom) (f .outRoom);
@@ -63,7 +63,7 @@ module _ (S : Setting) (u : Honest) (opened : IsOpened S u) (c : Called) (inList
   step-delivered : (bytes : List ℕ) (f : FitStep S c bytes) → isDelivered (step checks keys (c .unit) (c .store) bytes (f .out) .refusal) ≡ true
   unfolding step resultBy
   step-delivered bytes f =
-      let in-round : c .unit .round ≡ round = at .since .round ∙ start-round S u opened in
+      let in-round : c .unit .round ≡ round = at .since .round ∙ start-round S u honest in
       fit-delivered checks keys (c .unit) (c .store) (read (c .unit .n) bytes) (f .out) (lent (f .out) (f .storeRoom) (f .outRoom))
       (subst (λ i. isForStep (read i bytes) ≡ true) (sym size-is) (f .forStep))
       (subst (λ i. roundOf (read i bytes) ≡ round) (sym size-is) (f .inRound) ∙ sym in-round)

@@ -1,12 +1,13 @@
 -- Demand 1, over a whole list: "in a round a unit on one unbroken record sends at most one submission, one notice and one full
--- certificate"; and at most one evidence.
+-- certificate"; and at most one evidence. A unit that loses power (document 02, item 2) may send a message again, and no other of its kind.
 -- Assumes nothing.
 use Prim.Native.Nat.{ℕ, _+_, _≤_}
+use mathlib.Core.Path.{_≡_}
 use mathlib.Core.Bool.{Bool, true, false}
 use mathlib.Core.List.{List, [], _∷_, _++_}
 use Rattle.protocol.specs.Message.{Message, Submit, Notice, Full, Evidence, Garbled}
 use Rattle.protocol.specs.Refusals.{isFull, isEvidence}
-use Rattle.round.specs.Round.{Setting, Honest, Called, listOf, writtenIn, Are}
+use Rattle.round.specs.Round.{Setting, Boat, Called, listOf, writtenIn, Are, Sent, Writes}
 
 -- the bytes that calls write, one after another
 unfoldable pub writtenOver : Setting → List Called → List ℕ
@@ -47,5 +48,13 @@ count test [] = 0
 count test (x ∷ xs) = worth (test x) + count test xs
 
 -- at most one message of each kind among those that a unit's list writes, for every reading of the bytes as messages
-abbrev pub AtMostOne : Setting → Honest → Type 0
+abbrev pub AtMostOne : Setting → Boat → Type 0
 AtMostOne S u = (ms : List Message) → Are (S .n) (writtenOver S (listOf S u)) ms → (κ : Kind) → count (isOf κ) ms ≤ 1
+
+-- every message that a unit sends was written by a call that counts
+abbrev pub SendsWritten : Setting → Boat → Type 0
+SendsWritten S u = (m : Message) → Sent u m → Writes S u m
+
+-- of two messages of one kind that a unit sends, one is the other again
+abbrev pub SendsOne : Boat → Type 0
+SendsOne u = (κ : Kind) (m m′ : Message) → isOf κ m ≡ true → isOf κ m′ ≡ true → Sent u m → Sent u m′ → m ≡ m′

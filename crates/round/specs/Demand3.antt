@@ -8,14 +8,14 @@ use mathlib.Core.Logic.{_≢_, _↔_}
 use Rattle.quorum.specs.Quorum.{t0, In, size}
 use Rattle.protocol.specs.Message.{read}
 use Rattle.protocol.specs.Calls.{making, evidenceCheck}
-use Rattle.round.specs.Round.{Setting, InHand, Honest, Relation, EachSigned, resultOf, Submits, Confirms, HaveReached, WritesEvidence, MakesEvidence, StepGiven, Delivered, Accepted, AcceptedFrom, Names}
+use Rattle.round.specs.Round.{Setting, InHand, Boat, Relation, EachSigned, resultOf, Submits, Confirms, HaveReached, WritesEvidence, MakesEvidence, StepGiven, Delivered, Accepted, AcceptedFrom, Names}
 
 -- "In one round and under one key table"
 module _ (S : Setting) where
   open Setting S using (n, round, keys, checks)
 
   -- "let some units be honest": any family of boats
-  module _ {I : Type 0} (boat : I → Honest) where
+  module _ {I : Type 0} (boat : I → Boat) where
     -- "If no signature delivered for an honest seat over a layout that it didn't submit checks for that seat over that layout"
     abbrev pub NoneForged : Relation → Type 0
     NoneForged R =
@@ -34,7 +34,7 @@ module _ (S : Setting) where
 
   -- "has written evidence that names at least t0 + 1 seats and that every unit accepts": a set of t0 + 1 seats or more, which are
   -- the seats named and no others. The check, the same at every unit, answers that set.
-  pub record Blames (u : Honest) : Type 0 where
+  pub record Blames (u : Boat) : Type 0 where
     pub evidence : List ℕ
     pub written : WritesEvidence S u evidence
     pub seats : ℕ
@@ -43,7 +43,7 @@ module _ (S : Setting) where
     pub accepted : Accepted S evidence
     pub answered : evidenceCheck checks n round keys evidence .mask ≡ seats
 
-  module _ {I : Type 0} (boat : I → Honest) where
+  module _ {I : Type 0} (boat : I → Boat) where
     -- beyond the demand: a relation that holds of every signature in the messages that a step in a list, or a making of evidence,
     -- is given and doesn't refuse. The bytes given to a refused call don't matter.
     pub record Takes (R : Relation) : Type 0 where

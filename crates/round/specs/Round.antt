@@ -1,19 +1,19 @@
--- "A round as a whole" (document 01), sentence by sentence.
+-- "A round as a whole" (document 01), sentence by sentence, for units that may lose power (document 02, item 2).
 -- Assumes nothing.
 use Prim.Native.Nat.{ℕ, _≤_}
 use mathlib.Core.Path.{_≡_}
 use mathlib.Core.Bool.{true}
-use mathlib.Core.List.{List, [], _∷_, List·Memᴰ}
+use mathlib.Core.List.{List, [], _∷_, _++_, List·Memᴰ}
 use mathlib.Core.Logic.{_⊎_, _≢_}
 use lib.ListN.{length, take}
 use Rattle.protocol.specs.Layout.{storeLength, outLength}
 pub use Rattle.protocol.specs.Entries.{Each}
 use Rattle.protocol.specs.Message.{Message, Notice, Full, Signed, Entry, render, renderAll, read, signed, entrySeats, WellFormed}
 use Rattle.protocol.specs.Refusals.{Checks, isEvidence}
-use Rattle.protocol.specs.Calls.{Result, outAfter, opening, submit, step, answer, making, made, evidenceCheck}
+use Rattle.protocol.specs.Calls.{Result, outAfter, opening, submit, step, answer, making, made, evidenceCheck, writeNote, readNote}
 use Rattle.protocol.specs.declared.Record.{Record}
 
--- ---- the lists
+-- ---- calls
 
 -- "A call in it is a submit, or a step by value or through the thin entry, .. given any bytes as message, or as value and
 -- signature, and any out buffer."
@@ -21,19 +21,6 @@ pub data Call : Type 0 where
   BySubmit : (value signature out : List ℕ) → Call
   ByStep : (bytes out : List ℕ) → Call
   ByThinEntry : (bytes out : List ℕ) → Call
-
--- "Making evidence from what is in hand .. stand[s] outside the lists": two certificates, and any out buffer
-pub record InHand : Type 0 where
-  pub a : List ℕ
-  pub b : List ℕ
-  pub out : List ℕ
-
--- "Every honest unit has one list, of any length. It starts .. from a store holding any bytes."
-pub record Honest : Type 0 where
-  pub seat : ℕ
-  pub store : List ℕ
-  pub calls : List Call
-  pub inHand : List InHand
 
 -- "All lists have the same n, round and key table"; and a signature "checks for a seat over a layout" by one check, any
 pub record Setting : Type 0 where
@@ -49,7 +36,7 @@ pub record Called : Type 0 where
   pub store : List ℕ
 
 module _ (S : Setting) where
-  open Setting S using (n, round, keys, checks)
+  open Setting S using (keys, checks)
 
   -- "each doing what these papers say of it": result of a call with a record and a store
   unfoldable pub outcome : Call → Record → List ℕ → Result
@@ -60,27 +47,7 @@ module _ (S : Setting) where
   abbrev pub resultOf : Called → Result
   resultOf c = outcome (c .given) (c .unit) (c .store)
 
-  -- "Each gets the record that came out of the call before it and the store as that call left it; in between nobody else
-  -- writes either."
-  unfoldable pub listFrom : Record → List ℕ → List Call → List Called
-  listFrom r store [] = []
-  listFrom r store (c ∷ cs) =
-      record { given = c; unit = r; store = store } ∷ listFrom (outcome c r store .unit) (outcome c r store .store) cs
-
-  -- "It starts from the record that an opening at its seat gave"
-  abbrev pub listOf : Honest → List Called
-  listOf u = listFrom (opening n (u .seat) round keys .unit) (u .store) (u .calls)
-
-  -- "without a refusal"
-  abbrev pub IsOpened : Honest → Type 0
-  IsOpened u = opening n (u .seat) round keys .number ≡ 0
-
-  -- "and each its own seat. No order between calls of different units is assumed.": all that is asked of the honest units
-  pub record Family {I : Type 0} (boat : I → Honest) : Type 0 where
-    pub opened : (i : I) → IsOpened (boat i)
-    pub apart : (i j : I) → i ≢ j → boat i .seat ≢ boat j .seat
-
--- ---- messages written, and messages that have reached a unit
+-- ---- messages written
 
 -- "the bytes that a call's answer counts": that many bytes at the start of out, as the call leaves it
 abbrev pub counted : ℕ → List ℕ → List ℕ → List ℕ
@@ -99,6 +66,123 @@ Are n bytes ms = Each (WellFormed n) ms × (bytes ≡ renderAll ms)
 abbrev pub StandsIn : ℕ → Message → List ℕ → Type 0
 StandsIn n m bytes = (ms : List Message) × Are n bytes ms × List·Memᴰ m ms
 
+-- "Written is what stands in the bytes that a call's answer counts."
+abbrev pub writtenIn : Setting → Called → List ℕ
+writtenIn S c = counted (answer (resultOf S c) .written) (resultOf S c .written) (outOf (c .given))
+
+-- ---- the lists
+
+-- a note and a store, kept together: "both of them or neither"
+pub record Saved : Type 0 where
+  pub note : List ℕ
+  pub store : List ℕ
+
+-- Event in a unit's round. A unit that loses no power needs `Makes` alone.
+pub data Event : Type 0 where
+  -- a call
+  Makes : Call → Event
+  -- "The host keeps the note and the store": the record is written out as a note, to any out buffer
+  Keeps : (out : List ℕ) → Event
+  -- a message is sent
+  Sends : Message → Event
+  -- power is lost, and the unit is brought back from a note and a store
+  ComesBack : Saved → Event
+  -- power is lost, and the unit is opened again, with a store holding any bytes
+  OpensAgain : (store : List ℕ) → Event
+
+-- "Making evidence from what is in hand .. stand[s] outside the lists": two certificates, and any out buffer
+pub record InHand : Type 0 where
+  pub a : List ℕ
+  pub b : List ℕ
+  pub out : List ℕ
+
+-- a unit in its round: "Every honest unit has one list, of any length. It starts .. from a store holding any bytes."
+pub record Boat : Type 0 where
+  pub seat : ℕ
+  pub store : List ℕ
+  pub events : List Event
+  pub inHand : List InHand
+
+-- A unit at a moment of its round: its record and store; the notes and stores kept, newest first; and the calls that count, each with the
+-- record and the store that it got: those made before the newest note, and those made since.
+pub record Moment : Type 0 where
+  pub unit : Record
+  pub store : List ℕ
+  pub kept : List Saved
+  pub noted : List Called
+  pub since : List Called
+
+module _ (S : Setting) where
+  open Setting S using (n, round, keys)
+
+  -- the note that is written of a record
+  abbrev pub noteOf : Record → List ℕ → List ℕ
+  noteOf r out = counted (made (writeNote r out) .written) (writeNote r out .written) out
+
+  -- "It starts from the record that an opening at its seat gave"
+  unfoldable pub begins : Boat → Moment
+  begins u = record { unit = opening n (u .seat) round keys .unit; store = u .store; kept = []; noted = []; since = [] }
+
+  -- the moment after an event; the number is the unit's seat
+  unfoldable pub after : ℕ → Moment → Event → Moment
+  -- "Each gets the record that came out of the call before it and the store as that call left it; in between nobody else writes
+  -- either."
+  after seat m (Makes c) =
+      let result = outcome S c (m .unit) (m .store) in
+      record { unit = result .unit; store = result .store; kept = m .kept; noted = m .noted; since = m .since ++ record { given = c; unit = m .unit; store = m .store } ∷ [] }
+  after seat m (Keeps out) =
+      record { unit = m .unit; store = m .store; kept = record { note = noteOf (m .unit) out; store = m .store } ∷ m .kept; noted = m .noted ++ m .since; since = [] }
+  after seat m (Sends message) = m
+  -- "the calls made after that note count as never made, and what they were given as never having reached it"
+  after seat m (ComesBack saved) = record { unit = readNote (saved .note) .unit; store = saved .store; kept = m .kept; noted = m .noted; since = [] }
+  -- before the first note: nothing was sent, so the calls made count as never made, and the opening is this one
+  after seat m (OpensAgain store) = record { unit = opening n seat round keys .unit; store = store; kept = m .kept; noted = m .noted; since = [] }
+
+  unfoldable pub afterAll : ℕ → Moment → List Event → Moment
+  afterAll seat m [] = m
+  afterAll seat m (e ∷ es) = afterAll seat (after seat m e) es
+
+  -- The calls that count, in their order: a unit's list.
+  abbrev pub listOf : Boat → List Called
+  listOf u = let m = afterAll (u .seat) (begins u) (u .events) in m .noted ++ m .since
+
+  -- what an honest unit's host does at a moment
+  abbrev pub Allowed : Moment → Event → Type 0
+  Allowed m (Makes c) = Unit {0}
+  -- a note that is refused isn't kept
+  Allowed m (Keeps out) = writeNote (m .unit) out .refusal ≡ 0
+  -- "The host keeps the note and the store, both of them or neither, before it sends anything.": a call before the newest note wrote it
+  Allowed m (Sends message) = (c : Called) × List·Memᴰ c (m .noted) × StandsIn n message (writtenIn S c)
+  -- "from its newest note and the store kept with it"; "One brought back from an older note, or with another store, isn't honest."
+  Allowed m (ComesBack saved) = (older : List Saved) × (m .kept ≡ saved ∷ older)
+  Allowed m (OpensAgain store) = m .kept ≡ []
+
+  unfoldable pub AllowedAll : ℕ → Moment → List Event → Type 0
+  AllowedAll seat m [] = Unit {0}
+  AllowedAll seat m (e ∷ es) = Allowed m e × AllowedAll seat (after seat m e) es
+
+  -- an honest unit: opened "without a refusal", and its host does what it must
+  pub record IsHonest (u : Boat) : Type 0 where
+    pub opened : opening n (u .seat) round keys .number ≡ 0
+    pub allowed : AllowedAll (u .seat) (begins u) (u .events)
+
+  -- "and each its own seat. No order between calls of different units is assumed.": all that is asked of the honest units
+  pub record Family {I : Type 0} (boat : I → Boat) : Type 0 where
+    pub honest : (i : I) → IsHonest (boat i)
+    pub apart : (i j : I) → i ≢ j → boat i .seat ≢ boat j .seat
+
+-- the unit sends the message
+abbrev pub Sent : Boat → Message → Type 0
+Sent u m = List·Memᴰ (Sends m) (u .events)
+
+-- a list without power cuts: calls one after another from a record and a store
+unfoldable pub listFrom : Setting → Record → List ℕ → List Call → List Called
+listFrom S r store [] = []
+listFrom S r store (c ∷ cs) =
+    record { given = c; unit = r; store = store } ∷ listFrom S (outcome S c r store .unit) (outcome S c r store .store) cs
+
+-- ---- messages that a unit writes, and messages that have reached it
+
 -- the call is a step, by value or through the thin entry, given these bytes and this out
 abbrev pub IsStep : Call → List ℕ → List ℕ → Type 0
 IsStep c bytes out = (c ≡ ByStep bytes out) ⊎ (c ≡ ByThinEntry bytes out)
@@ -106,18 +190,14 @@ IsStep c bytes out = (c ≡ ByStep bytes out) ⊎ (c ≡ ByThinEntry bytes out)
 module _ (S : Setting) where
   open Setting S using (n)
 
-  -- "Written is what stands in the bytes that a call's answer counts."
-  abbrev pub writtenIn : Called → List ℕ
-  writtenIn c = counted (answer (resultOf S c) .written) (resultOf S c .written) (outOf (c .given))
-
   -- a call in the unit's list writes the message
-  pub record Writes (u : Honest) (m : Message) : Type 0 where
+  pub record Writes (u : Boat) (m : Message) : Type 0 where
     pub call : Called
     pub inList : List·Memᴰ call (listOf S u)
-    pub stands : StandsIn n m (writtenIn call)
+    pub stands : StandsIn n m (writtenIn S call)
 
   -- "A unit submits a layout when a submit in its list isn't refused and carries it"
-  pub record Submits (u : Honest) (layout : List ℕ) : Type 0 where
+  pub record Submits (u : Boat) (layout : List ℕ) : Type 0 where
     pub call : Called
     pub inList : List·Memᴰ call (listOf S u)
     pub signature : List ℕ
@@ -126,25 +206,25 @@ module _ (S : Setting) where
     pub unrefused : resultOf S call .refusal ≡ 0
 
   -- "and confirms the one in the NOTICE that a call in its list writes."
-  abbrev pub Confirms : Honest → List ℕ → Type 0
+  abbrev pub Confirms : Boat → List ℕ → Type 0
   Confirms u layout = (ρ seat : ℕ) × Writes u (Notice ρ seat layout)
 
   -- "its list has .. a step given exactly its bytes"
-  pub record StepGiven (u : Honest) (bytes : List ℕ) : Type 0 where
+  pub record StepGiven (u : Boat) (bytes : List ℕ) : Type 0 where
     pub call : Called
     pub inList : List·Memᴰ call (listOf S u)
     pub out : List ℕ
     pub isStep : IsStep (call .given) bytes out
 
   -- "with store and out of the stated lengths or more."
-  pub record Reached (u : Honest) (bytes : List ℕ) : Type 0 where
+  pub record Reached (u : Boat) (bytes : List ℕ) : Type 0 where
     pub step : StepGiven u bytes
     pub storeRoom : storeLength n ≤ length (step .call .store)
     pub outRoom : outLength n ≤ length (step .out)
 
   -- "Its notice is that NOTICE, and its full certificate the FULL that such a call writes. These have reached another honest
   -- unit": whatever NOTICE and FULL the one wrote
-  pub record HaveReached (u other : Honest) : Type 0 where
+  pub record HaveReached (u other : Boat) : Type 0 where
     pub notice : (ρ seat : ℕ) (layout : List ℕ) → Writes u (Notice ρ seat layout) → Reached other (render (Notice ρ seat layout))
     pub full : (ρ sender : ℕ) (layout : List ℕ) (entries : List Entry) → Writes u (Full ρ sender layout entries)
         → Reached other (render (Full ρ sender layout entries))
@@ -163,7 +243,7 @@ module _ (S : Setting) where
   open Setting S using (n, round, keys, checks)
 
   -- "Evidence is written by a call in a list"
-  pub record WritesEvidence (u : Honest) (evidence : List ℕ) : Type 0 where
+  pub record WritesEvidence (u : Boat) (evidence : List ℕ) : Type 0 where
     pub message : Message
     pub kind : isEvidence message ≡ true
     pub bytes : evidence ≡ render message
@@ -175,7 +255,7 @@ module _ (S : Setting) where
       let result = making checks n round keys (h .a) (h .b) (h .out) in
       counted (made result .written) (result .written) (h .out)
 
-  pub record MakesEvidence (u : Honest) (evidence : List ℕ) : Type 0 where
+  pub record MakesEvidence (u : Boat) (evidence : List ℕ) : Type 0 where
     pub hand : InHand
     pub has : List·Memᴰ hand (u .inHand)
     pub message : Message
@@ -184,14 +264,14 @@ module _ (S : Setting) where
     pub stands : StandsIn n message (makingOf hand)
 
   -- "what an honest unit makes or joins evidence from"
-  pub record MadeFrom (u : Honest) (bytes : List ℕ) : Type 0 where
+  pub record MadeFrom (u : Boat) (bytes : List ℕ) : Type 0 where
     pub hand : InHand
     pub has : List·Memᴰ hand (u .inHand)
     pub either : (bytes ≡ hand .a) ⊎ (bytes ≡ hand .b)
 
   -- "A signature is delivered for a seat over a layout when it stands, where a command puts that seat's over that layout, in
   -- what a step in a list is given or in what an honest unit makes or joins evidence from."
-  pub record Delivered {I : Type 0} (boat : I → Honest) (seat : ℕ) (layout signature : List ℕ) : Type 0 where
+  pub record Delivered {I : Type 0} (boat : I → Boat) (seat : ℕ) (layout signature : List ℕ) : Type 0 where
     pub to : I
     pub bytes : List ℕ
     pub given : StepGiven S (boat to) bytes ⊎ MadeFrom (boat to) bytes

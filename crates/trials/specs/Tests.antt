@@ -19,7 +19,7 @@ use Rattle.protocol.specs.Entries.{Laid}
 use Rattle.protocol.specs.MessageLaws.{pair-laid, read-render}
 use Rattle.protocol.specs.Refusals.{every, isFull, isEvidence}
 use Rattle.protocol.specs.Calls.{opening, evidenceCheck}
-use Rattle.round.specs.Round.{Each, Are, Setting, Call, BySubmit, ByStep, ByThinEntry, IsStep, Honest, Called, outOf, resultOf, listOf, Writes, Submits, Confirms, Reached, HaveReached, writtenIn, WritesEvidence, Names, IsOpened}
+use Rattle.round.specs.Round.{Each, Are, Setting, Call, BySubmit, ByStep, ByThinEntry, IsStep, Boat, Called, outOf, resultOf, listOf, Writes, Submits, Confirms, Reached, HaveReached, writtenIn, WritesEvidence, Names, IsHonest}
 use Rattle.round.specs.Demand1.{isNotice, writtenOver}
 use Rattle.round.specs.Demand3.{Blames}
 use Rattle.protocol.specs.ConditionsLaws.{every-each}
@@ -198,24 +198,24 @@ same-signed s z e =
 module _ (S : Setting) where
   open Setting S using (n, round, keys, checks)
 
-  unfoldable pub isOpened : Honest → Bool
+  unfoldable pub isOpened : Boat → Bool
   isOpened u = eqb (opening n (u .seat) round keys .number) 0
 
-  pub isOpened-says : (u : Honest) → isOpened u ≡ true → IsOpened S u
+  pub isOpened-says : (u : Boat) → isOpened u ≡ true → IsHonest S u
   unfolding isOpened
   isOpened-says u e = eqb-true (opening n (u .seat) round keys .number) 0 e
 
   -- the messages that a unit's list writes
-  unfoldable pub all : Honest → List Message
+  unfoldable pub all : Boat → List Message
   all u = allMessages S (listOf S u)
 
-  unfoldable pub formed : Honest → Bool
+  unfoldable pub formed : Boat → Bool
   formed u = every (wellFormed n) (all u)
 
-  unfoldable pub submits : Honest → List ℕ → Bool
+  unfoldable pub submits : Boat → List ℕ → Bool
   submits u layout = found (λ (c : Called). isSubmitOf layout (c .given) && eqb (resultOf S c .refusal) 0) (listOf S u)
 
-  pub submits-says : (u : Honest) (layout : List ℕ) → submits u layout ≡ true → Submits S u layout
+  pub submits-says : (u : Boat) (layout : List ℕ) → submits u layout ≡ true → Submits S u layout
   unfolding submits
   submits-says u layout e =
       let f = found-one (λ (c : Called). isSubmitOf layout (c .given) && eqb (resultOf S c .refusal) 0) (listOf S u) e in
@@ -231,11 +231,11 @@ module _ (S : Setting) where
   abbrev outAsked : ℕ
   outAsked = outLength n
 
-  unfoldable pub reached : Honest → List ℕ → Bool
+  unfoldable pub reached : Boat → List ℕ → Bool
   reached u bytes =
       found (λ (c : Called). isStepOf bytes (c .given) && (leb storeAsked (length (c .store)) && leb outAsked (length (outOf (c .given))))) (listOf S u)
 
-  reached-says : (u : Honest) (bytes : List ℕ) → reached u bytes ≡ true → Reached S u bytes
+  reached-says : (u : Boat) (bytes : List ℕ) → reached u bytes ≡ true → Reached S u bytes
   unfolding reached
   reached-says u bytes e =
       let f = found-one (λ (c : Called). isStepOf bytes (c .given) && (leb storeAsked (length (c .store)) && leb outAsked (length (outOf (c .given))))) (listOf S u) e in
@@ -248,14 +248,14 @@ module _ (S : Setting) where
         outRoom = leb-true outAsked (length (outOf (c .given))) (b .1);
       }
 
-  unfoldable pub confirms : Honest → List ℕ → Bool
+  unfoldable pub confirms : Boat → List ℕ → Bool
   confirms u layout = found (isNoticeOf layout) (all u)
 
   -- "the notice and full certificate of each"
   unfoldable pub mustReach : Message → Bool
   mustReach m = isNotice m || isFull m
 
-  unfoldable pub haveReached : Honest → Honest → Bool
+  unfoldable pub haveReached : Boat → Boat → Bool
   haveReached u other = every (λ (m : Message). not (mustReach m) || reached other (render m)) (all u)
 
   -- "at least t0 + 1 seats"
@@ -267,14 +267,14 @@ module _ (S : Setting) where
       let answer = evidenceCheck checks n round keys (render m) in
       isEvidence m && (eqb (answer .number) 0 && leb seatsOwed (size (answer .mask)))
 
-  unfoldable pub blames : Honest → Bool
+  unfoldable pub blames : Boat → Bool
   blames u = found blamesIn (all u)
 
-  unfoldable pub accuses : Honest → ℕ → Bool
+  unfoldable pub accuses : Boat → ℕ → Bool
   accuses u seat = found (isEvidenceOn seat) (all u)
 
   -- a unit whose messages are all well-formed: its list writes these messages
-  module _ (u : Honest) (f : formed u ≡ true) where
+  module _ (u : Boat) (f : formed u ≡ true) where
     all-formed : Each (WellFormed n) (all u)
     unfolding formed
     all-formed m d = wellFormed-says n m (every-each (wellFormed n) (all u) f m d)
@@ -305,7 +305,7 @@ module _ (S : Setting) where
         let s = notice-of layout (g .0) (g .2) in
         (s .0, s .1, member-writes (Notice (s .0) (s .1) layout) (subst (λ m. List·Memᴰ m (all u)) (s .2) (g .1)))
 
-    pub haveReached-says : (other : Honest) → haveReached u other ≡ true → HaveReached S u other
+    pub haveReached-says : (other : Boat) → haveReached u other ≡ true → HaveReached S u other
     unfolding haveReached mustReach isNotice isFull
     haveReached-says other e =
         let each = every-each (λ (m : Message). not (mustReach m) || reached other (render m)) (all u) e in

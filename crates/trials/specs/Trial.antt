@@ -15,7 +15,7 @@ use Rattle.protocol.specs.Message.{Signed, read, signed, entrySeats}
 use Rattle.protocol.specs.Record.{impossible}
 use Rattle.protocol.specs.Refusals.{every}
 use Rattle.protocol.specs.Calls.{evidenceCheck}
-use Rattle.round.specs.Round.{Setting, InHand, Honest, Called, IsOpened, Family, resultOf, listOf, StepGiven, MadeFrom, Delivered, AcceptedFrom, Names}
+use Rattle.round.specs.Round.{Setting, InHand, Boat, Called, IsHonest, Family, resultOf, listOf, StepGiven, MadeFrom, Delivered, AcceptedFrom, Names}
 use Rattle.round.specs.Demand1.{Kind, SUBMIT, NOTICE, FULL, EVIDENCE, isOf, count, AtMostOne}
 use Rattle.round.specs.Demand3.{NoneForged, NoneBlamed, ReachedOthers, Demand3}
 use Rattle.protocol.specs.ConditionsLaws.{every-each}
@@ -39,14 +39,14 @@ refuted t e = t .refutes (ap (λ (p : Bool × Bool). p .0) e) (ap (λ (p : Bool 
 
 -- ---- demand 1: one boat
 
-module _ (S : Setting) (u : Honest) where
+module _ (S : Setting) (u : Boat) where
   open Setting S using (n)
 
   abbrev pub once : Kind → Bool
   once κ = leb (count (isOf κ) (all S u)) 1
 
   -- at most one message of each kind
-  unfoldable pub onceEach : Trial (IsOpened S u → AtMostOne S u)
+  unfoldable pub onceEach : Trial (IsHonest S u → AtMostOne S u)
   onceEach = record {
     premises = isOpened S u && formed S u;
     conclusion = once SUBMIT && (once NOTICE && (once FULL && once EVIDENCE));
@@ -60,7 +60,7 @@ module _ (S : Setting) (u : Honest) where
   abbrev pub possible : Called → Bool
   possible c = not (impossible (resultOf S c .unit))
 
-  unfoldable pub possibleEach : Trial (IsOpened S u → (c : Called) → List·Memᴰ c (listOf S u) → impossible (resultOf S c .unit) ≡ false)
+  unfoldable pub possibleEach : Trial (IsHonest S u → (c : Called) → List·Memᴰ c (listOf S u) → impossible (resultOf S c .unit) ≡ false)
   possibleEach = record {
     premises = isOpened S u;
     conclusion = every possible (listOf S u);
@@ -79,7 +79,7 @@ pub record Crew (I : Type 0) : Type 0 where
   pub at : ℕ → I
   pub at-place : (i : I) → at (place i) ≡ i
 
-module _ (S : Setting) {I : Type 0} (crew : Crew I) (boat : I → Honest) where
+module _ (S : Setting) {I : Type 0} (crew : Crew I) (boat : I → Boat) where
   open Setting S using (n, round, keys, checks)
 
   abbrev pub alike : I → I → Bool

@@ -8,7 +8,7 @@ use mathlib.Core.List.{List, [], _∷_, _++_, map, List·Memᴰ, List·Memᴰ·h
 use lib.ListN.{replicate}
 use Rattle.protocol.specs.Layout.{storeLength, outLength}
 use Rattle.protocol.specs.Message.{Message, Submit, Notice, Full, Evidence, Garbled, render, byteAt}
-use Rattle.round.specs.Round.{Setting, Call, BySubmit, ByStep, Called, Honest, IsOpened, Family, outcome, resultOf, listFrom, listOf}
+use Rattle.round.specs.Round.{Setting, Call, BySubmit, ByStep, Called, Boat, IsHonest, Family, outcome, resultOf, listFrom, listOf}
 use Rattle.round.specs.Demand1.{isSubmit, isNotice, worth, count, AtMostOne}
 use Rattle.round.specs.Demand3.{Demand3}
 use Rattle.protocol.specs.Record.{impossible}
@@ -32,7 +32,7 @@ says seat b = BySubmit (layout b) (sign seat b) room
 abbrev pub hears : Message → Call
 hears m = ByStep (render m) room
 
-abbrev pub boatAt : ℕ → List Call → Honest
+abbrev pub boatAt : ℕ → List Call → Boat
 boatAt seat calls = record { seat = seat; store = replicate (storeLength 4) 1; calls = calls; inHand = [] }
 
 -- the members of a list that pass a test
@@ -41,7 +41,7 @@ those test [] = []
 those test (x ∷ xs) = cond (test x) (x ∷ those test xs) (those test xs)
 
 -- the NOTICE and FULL that a boat has written
-unfoldable pub sentBy : Honest → List Message
+unfoldable pub sentBy : Boat → List Message
 sentBy u = those (mustReach four) (all four u)
 
 -- ---- two boats, and three
@@ -94,58 +94,58 @@ three = record { everyone = Zeroth ∷ First ∷ Second ∷ []; complete = three
 -- ---- accountability: seats 2 and 3 sign twice, and seats 0 and 1 confirm different layouts
 
 -- a boat hears a NOTICE of the other's layout, submits its own and collects the signatures of seats 2 and 3
-abbrev pub noticed : ℕ → ℕ → ℕ → ℕ → Honest
+abbrev pub noticed : ℕ → ℕ → ℕ → ℕ → Boat
 noticed seat b other c = boatAt seat (hears (Notice 5 other (layout c)) ∷ says seat b ∷ hears (submitBy 2 b) ∷ hears (submitBy 3 b) ∷ [])
 
 -- a boat with more calls at the end of its list
-abbrev pub then : Honest → List Call → Honest
+abbrev pub then : Boat → List Call → Boat
 then u more = record { seat = u .seat; store = u .store; calls = u .calls ++ more; inHand = [] }
 
-abbrev pub seven : Honest
+abbrev pub seven : Boat
 seven = noticed 0 7 1 9
 
-abbrev pub nine : Honest
+abbrev pub nine : Boat
 nine = noticed 1 9 0 7
 
-abbrev pub divided : Bool → Honest
+abbrev pub divided : Bool → Boat
 divided = ofTwo (then seven (map hears (sentBy nine))) (then nine (map hears (sentBy seven)))
 
 unfoldable pub dividedBoats : Trial (Family four divided → Demand3 four divided)
 dividedBoats = accountability four two divided false true (layout 7) (layout 9)
 
 -- each boat hears a NOTICE of the other's layout before it submits, and of the other's messages only the FULL
-abbrev pub forewarned : Bool → Honest
+abbrev pub forewarned : Bool → Boat
 forewarned = ofTwo (then seven (map hears (those isFull (all four nine)))) (then nine (map hears (those isFull (all four seven))))
 
 unfoldable pub forewarnedBoats : Trial (Family four forewarned → Demand3 four forewarned)
 forewarnedBoats = accountability four two forewarned false true (layout 7) (layout 9)
 
 -- a third boat, which has submitted nothing, hears the NOTICE and FULL of both
-abbrev pub witnessed : Three → Honest
+abbrev pub witnessed : Three → Boat
 witnessed = ofThree (divided false) (divided true) (boatAt 2 (map hears (sentBy seven ++ sentBy nine)))
 
 unfoldable pub witnessedBoats : Trial (Family four witnessed → Demand3 four witnessed)
 witnessedBoats = accountability four three witnessed Zeroth First (layout 7) (layout 9)
 
 -- a third boat's store is a byte short
-abbrev pub shortStored : Three → Honest
+abbrev pub shortStored : Three → Boat
 shortStored = ofThree (divided false) (divided true) (record { seat = 2; store = replicate 17551 1; calls = map hears (sentBy seven ++ sentBy nine); inHand = [] })
 
 unfoldable pub shortStoredBoats : Trial (Family four shortStored → Demand3 four shortStored)
 shortStoredBoats = accountability four three shortStored Zeroth First (layout 7) (layout 9)
 
 -- one boat's out is a byte short for the other's NOTICE and FULL
-abbrev pub shortOuted : Bool → Honest
+abbrev pub shortOuted : Bool → Boat
 shortOuted = ofTwo (divided false) (then nine (map (λ m. ByStep (render m) (replicate 14708 0)) (sentBy seven)))
 
 unfoldable pub shortOutedBoats : Trial (Family four shortOuted → Demand3 four shortOuted)
 shortOutedBoats = accountability four two shortOuted false true (layout 7) (layout 9)
 
 -- neither boat hears a NOTICE; each hears the FULL that the other writes, if any
-abbrev pub confirming : ℕ → ℕ → Honest
+abbrev pub confirming : ℕ → ℕ → Boat
 confirming seat b = boatAt seat (says seat b ∷ hears (submitBy 2 b) ∷ hears (submitBy 3 b) ∷ [])
 
-abbrev pub unheard : Bool → Honest
+abbrev pub unheard : Bool → Boat
 unheard = ofTwo (then (confirming 0 7) (map hears (those isFull (all four (confirming 1 9))))) (then (confirming 1 9) (map hears (those isFull (all four (confirming 0 7)))))
 
 unfoldable pub unheardBoats : Trial (Family four unheard → Demand3 four unheard)
@@ -154,7 +154,7 @@ unheardBoats = accountability four two unheard false true (layout 7) (layout 9)
 -- ---- safety: seat 0 submits the layout 7 and nobody forges
 
 -- seat 1 hears a certificate of the layout 7, then one of the layout 9 with a signature of seat 0 that doesn't check
-abbrev pub unsigned : Bool → Honest
+abbrev pub unsigned : Bool → Boat
 unsigned = ofTwo (boatAt 0 (says 0 7 ∷ [])) (boatAt 1 (hears (fullBy 7 0 2 3) ∷ hears (Full 5 2 (layout 9) (entryBy 7 0 ∷ entryBy 9 2 ∷ entryBy 9 3 ∷ [])) ∷ []))
 
 unfoldable pub unsignedBoats : Trial (Family four unsigned → Demand3 four unsigned)
@@ -173,31 +173,31 @@ unfoldable pub certifiedEach : List Message → List Call
 certifiedEach [] = []
 certifiedEach (m ∷ ms) = certified m ++ certifiedEach ms
 
-abbrev pub submitting : Honest
+abbrev pub submitting : Boat
 submitting = boatAt 0 (says 0 7 ∷ says 0 9 ∷ [])
 
-abbrev pub twice : Bool → Honest
+abbrev pub twice : Bool → Boat
 twice = ofTwo submitting (boatAt 1 (certifiedEach (all four submitting)))
 
 unfoldable pub twiceBoats : Trial (Family four twice → Demand3 four twice)
 twiceBoats = safety four two twice []
 
 -- seat 0 holds a certificate of seats 1, 2 and 3, and confirms with seats 2 and 3
-abbrev pub holding : Bool → Honest
+abbrev pub holding : Bool → Boat
 holding = ofTwo (boatAt 0 (hears (fullBy 9 1 2 3) ∷ says 0 7 ∷ hears (submitBy 2 7) ∷ hears (submitBy 3 7) ∷ [])) (boatAt 1 (says 1 9 ∷ []))
 
 unfoldable pub holdingBoats : Trial (Family four holding → Demand3 four holding)
 holdingBoats = safety four two holding []
 
 -- seat 0 submits the layout 9; seat 1 hears a SUBMIT of seat 0, submits the layout 7 with seat 2, and hears a certificate of the layout 9
-abbrev pub keptBefore : Message → Bool → Honest
+abbrev pub keptBefore : Message → Bool → Boat
 keptBefore m = ofTwo (boatAt 0 (says 0 9 ∷ [])) (boatAt 1 (hears m ∷ hears (submitBy 2 7) ∷ says 1 7 ∷ hears (fullBy 9 0 2 3) ∷ []))
 
 -- seat 0's own SUBMIT, and one of the layout 7 with its signature, which doesn't check there
-abbrev pub keptOther : Bool → Honest
+abbrev pub keptOther : Bool → Boat
 keptOther = keptBefore (submitBy 0 9)
 
-abbrev pub keptUnsigned : Bool → Honest
+abbrev pub keptUnsigned : Bool → Boat
 keptUnsigned = keptBefore (Submit 5 0 (layout 7) (sign 0 9))
 
 unfoldable pub keptOtherBoats : Trial (Family four keptOther → Demand3 four keptOther)
@@ -207,7 +207,7 @@ unfoldable pub keptUnsignedBoats : Trial (Family four keptUnsigned → Demand3 f
 keptUnsignedBoats = safety four two keptUnsigned []
 
 -- seat 1 hears seat 0's SUBMIT, and one of another layout with the same signature; evidence of both layouts, and of one layout twice
-abbrev pub heardTwice : Bool → Honest
+abbrev pub heardTwice : Bool → Boat
 heardTwice = ofTwo (boatAt 0 (says 0 7 ∷ [])) (boatAt 1 (hears (submitBy 0 7) ∷ hears (Submit 5 0 (layout 9) (sign 0 7)) ∷ []))
 
 abbrev pub framing : ℕ → ℕ → List ℕ
@@ -222,24 +222,24 @@ equalEvidence = safety four two heardTwice (framing 7 7 ∷ [])
 -- ---- demand 1: one boat
 
 -- a boat hears another layout's NOTICE before its submit, and again after it has confirmed
-abbrev pub answering : Honest
+abbrev pub answering : Boat
 answering = then seven (hears (Notice 5 1 (layout 9)) ∷ [])
 
-unfoldable pub answeringBoat : Trial (IsOpened four answering → AtMostOne four answering)
+unfoldable pub answeringBoat : Trial (IsHonest four answering → AtMostOne four answering)
 answeringBoat = onceEach four answering
 
 -- a boat hears two certificates that share two seats of three
-abbrev pub sharing : Honest
+abbrev pub sharing : Boat
 sharing = boatAt 0 (hears (fullBy 7 0 1 2) ∷ hears (fullBy 9 1 2 3) ∷ [])
 
-unfoldable pub sharingBoat : Trial (IsOpened four sharing → (c : Called) → List·Memᴰ c (listOf four sharing) → impossible (resultOf four c .unit) ≡ false)
+unfoldable pub sharingBoat : Trial (IsHonest four sharing → (c : Called) → List·Memᴰ c (listOf four sharing) → impossible (resultOf four c .unit) ≡ false)
 sharingBoat = possibleEach four sharing
 
 -- a boat hears a SUBMIT of every other seat before its submit
-abbrev pub slow : Honest
+abbrev pub slow : Boat
 slow = boatAt 0 (hears (submitBy 1 7) ∷ hears (submitBy 2 7) ∷ hears (submitBy 3 7) ∷ says 0 7 ∷ [])
 
-unfoldable pub slowBoat : Trial (IsOpened four slow → (c : Called) → List·Memᴰ c (listOf four slow) → impossible (resultOf four c .unit) ≡ false)
+unfoldable pub slowBoat : Trial (IsHonest four slow → (c : Called) → List·Memᴰ c (listOf four slow) → impossible (resultOf four c .unit) ≡ false)
 slowBoat = possibleEach four slow
 
 -- a name that unfolds every definition of a run
