@@ -36,6 +36,11 @@ fn keys() -> &'static [Key] {
     })
 }
 
+/// A seat's key, for a program that signs by itself.
+pub fn key(seat: u32) -> &'static Key {
+    &keys()[seat as usize]
+}
+
 /// Layouts around the edges of their order, which goes by the first byte that differs, without a sign.
 pub fn layouts() -> Vec<Value> {
     let random: Value = Rng::new(seed(), "layouts").bytes(32).try_into().expect("32 bytes");
@@ -111,7 +116,7 @@ pub fn sign(seat: u32, leaf: u32, message: &[u8], hand: u32) -> Vec<u8> {
     SIGNATURES.answer((seat, leaf, message.to_vec(), hand), |_| {
         assert!(rounds().contains(&leaf), "no leaf of the keys: {leaf}");
         let randomizer = Rng::new(seed(), &format!("randomizer {seat} {leaf} {hand}")).bytes(N);
-        keys()[seat as usize].sign(leaf, &randomizer, message)
+        key(seat).sign(leaf, &randomizer, message)
     })
 }
 
