@@ -36,7 +36,7 @@ struct key {
 struct unit {
     struct zolbine_record record;
     uint8_t *keys, *lasting, *store, *messages;
-    size_t keys_len, store_len, messages_len, out_len;
+    size_t keys_len, store_len, messages_len, room; /* room: for all messages */
     char file[16];
     int folder;
 };
@@ -154,7 +154,7 @@ static void hear(struct unit *unit, const uint8_t *message, size_t len)
 
     CUT("before a step");
     answer = zolbine_step_lent(&unit->record, unit->keys, unit->keys_len, unit->store, unit->store_len, message, len,
-                               unit->messages + unit->messages_len, unit->out_len);
+                               unit->messages + unit->messages_len, unit->room - unit->messages_len);
     answered(unit, answer.number, answer.written);
 }
 
@@ -196,7 +196,7 @@ static void submit(struct unit *unit, const struct key *key, const uint8_t *layo
     CUT("signed");
     answer = zolbine_submit(unit->record, unit->keys, unit->keys_len, unit->store, unit->store_len,
                             layout, ZOLBINE_VALUE_LEN, signature, sizeof signature,
-                            unit->messages + unit->messages_len, unit->out_len);
+                            unit->messages + unit->messages_len, unit->room - unit->messages_len);
     unit->record = answer.record;
     answered(unit, answer.number, answer.written);
 }
@@ -211,11 +211,11 @@ static bool has_file(struct unit *unit)
         return false;
     if (file == NULL)
         stop("the round's file isn't read");
-    len = fread(unit->lasting, 1, pair + 2 * unit->out_len, file);
-    fclose(file);
-    if (len < pair || len > pair + unit->out_len)
+    len = fread(unit->lasting, 1, pair + unit->room, file);
+    if (len < pair || getc(file) != EOF)
         stop("the round's file isn't whole: the boat sits out the round");
     unit->messages_len = len - pair;
+    fclose(file);
     return true;
 }
 
@@ -237,8 +237,8 @@ static void open_unit(struct unit *unit, FILE *inputs)
     if (opened.number != 0)
         stop("the opening is refused");
     unit->store_len = ZOLBINE_STORE_LEN(n);
-    unit->out_len = ZOLBINE_OUT_LEN(n); /* all messages of a round have room in it, too: each is written once */
-    unit->lasting = buffer(ZOLBINE_NOTE_LEN + unit->store_len + 2 * unit->out_len);
+    unit->room = 2 * ZOLBINE_OUT_LEN(n); /* once for those of the round so far, each written once, and once for the next call */
+    unit->lasting = buffer(ZOLBINE_NOTE_LEN + unit->store_len + unit->room);
     unit->store = unit->lasting + ZOLBINE_NOTE_LEN;
     unit->messages = unit->store + unit->store_len;
     unit->messages_len = 0;
@@ -291,6 +291,8 @@ int main(int argc, char **argv)
     if (inputs == NULL || chdir(argv[1]) != 0)
         stop("lasting memory and inputs are needed: lasting_unit MEMORY INPUTS");
     unit.folder = open(".", O_RDONLY);
+    if (unit.folder < 0)
+        stop("lasting memory isn't opened");
     if (getc(inputs) != 0x10)
         stop("inputs start with an opening");
     CUT("started");

@@ -1,5 +1,5 @@
-//! The example that keeps its round in a file, killed at each point between two steps and inside them, a thousand times. A kill takes
-//! what the example hadn't flushed by then, as a power cut does.
+//! The example that keeps its round in a file, killed at each point between two steps and at moments between them, a thousand times.
+//! A kill leaves what the kernel holds, and a power cut doesn't: so the test takes what the example hadn't flushed by then.
 #![cfg(feature = "zolbine")]
 
 use std::collections::BTreeSet;
@@ -8,7 +8,8 @@ use std::io::{BufRead, BufReader, Write};
 use std::os::unix::process::ExitStatusExt;
 use std::path::{Path, PathBuf};
 use std::process::{Command, Stdio};
-use std::sync::atomic::{AtomicBool, AtomicUsize, Ordering};
+use std::sync::atomic::{AtomicUsize, Ordering};
+use std::sync::{Mutex, MutexGuard};
 use std::time::{Duration, Instant};
 
 use harness::air;
@@ -46,36 +47,36 @@ const SCRIPTS: [Script; 3] = [
     Script {
         title: "all sign one layout",
         inputs: "
-            SUBMIT 2 A      # kept
+            hears SUBMIT 2 A                    # kept
             settles
-            SUBMIT 2 A
-            SUBMIT 3 A byte 700 flipped
-            SUBMIT 1 A      # confirms
-            NOTICE 1 A",
+            hears SUBMIT 2 A
+            hears SUBMIT 3 A byte 700 flipped   # refused
+            hears SUBMIT 1 A                    # confirms
+            hears NOTICE 1 A",
         guilty: 0,
     },
     Script {
         title: "two double signers, heard of before the own submit",
         inputs: "
             layout B 42
-            SUBMIT 1 B
-            NOTICE 1 B
+            hears SUBMIT 1 B                    # kept
+            hears NOTICE 1 B
             settles
-            SUBMIT 2 A
-            SUBMIT 3 A      # confirms, and writes FULL in the same call
-            FULL 1 B of 1 2 3",
+            hears SUBMIT 2 A
+            hears SUBMIT 3 A                    # confirms, with NOTICE and FULL
+            hears FULL 1 B of 1 2 3             # EVIDENCE",
         guilty: 0b1100,
     },
     Script {
         title: "two double signers, and a submit that writes all four messages",
         inputs: "
             layout B 12
-            SUBMIT 2 A      # kept
-            SUBMIT 3 A      # kept
-            FULL 1 B of 1 2 3
-            settles         # where the kept ones are over A it confirms
-            SUBMIT 2 A
-            SUBMIT 3 A",
+            hears SUBMIT 2 A                    # kept
+            hears SUBMIT 3 A                    # kept
+            hears FULL 1 B of 1 2 3
+            settles                             # confirms, where those kept are over A
+            hears SUBMIT 2 A
+            hears SUBMIT 3 A",
         guilty: 0b1100,
     },
 ];
@@ -99,24 +100,23 @@ fn wanted(start: usize) -> Value {
 
 impl Script {
     fn inputs(&self, a: &Value) -> Vec<Input> {
+        let head = format!("fleet {N} round {}\nlayout A {:02x} {:02x}\n", fleet().round, a[0], a[31]);
         let mut terms = Terms::default();
-        terms.fleet = fleet();
-        let name = format!("A {:02x} {:02x}", a[0], a[31]);
-        terms.set_layout(&mut name.split_whitespace().peekable()).expect("a layout");
         let mut inputs = Vec::new();
-        let read = each_line(self.inputs, |words| {
-            if words.next_if_eq(&"layout").is_some() {
-                return terms.set_layout(words);
+        let read = each_line(&(head + self.inputs), |words| {
+            match words.next().unwrap_or_default() {
+                "fleet" => terms.set_fleet(words)?,
+                "layout" => terms.set_layout(words)?,
+                "settles" => inputs.push(Input::Settles),
+                "hears" => {
+                    let mut message = terms.message(words)?;
+                    while let Some(word) = words.next_if_eq(&"byte") {
+                        change(word, words, &mut message)?;
+                    }
+                    inputs.push(Input::Hears(message));
+                }
+                word => return Err(format!("`{word}` isn't understood")),
             }
-            if words.next_if_eq(&"settles").is_some() {
-                inputs.push(Input::Settles);
-                return Ok(());
-            }
-            let mut message = terms.message(words)?;
-            while let Some(word) = words.next_if_eq(&"byte") {
-                change(word, words, &mut message)?;
-            }
-            inputs.push(Input::Hears(message));
             Ok(())
         });
         read.unwrap_or_else(|error| panic!("{}, {error}", self.title));
@@ -131,13 +131,14 @@ enum Cut {
     After(usize, Duration),
 }
 
-/// The file's content and what of it a power cut may take, by the points told so far.
+/// What a power cut may take, by the points told so far.
 #[derive(Default)]
 struct Unflushed {
-    /// The file aside, or renamed since, isn't flushed.
-    content: bool,
-    /// The folder isn't flushed since a renaming; the former content of the round's file.
-    renamed: Option<Option<Vec<u8>>>,
+    /// Content of the file aside, and of the round's file where it was renamed so.
+    aside: bool,
+    file: bool,
+    /// Renamings since the folder was flushed, and the round's file before them.
+    renamed: bool,
     former: Option<Vec<u8>>,
 }
 
@@ -145,31 +146,35 @@ impl Unflushed {
     fn told(&mut self, point: &str, file: &Path) {
         match point {
             "aside opened" => {
-                self.content = true;
-                if self.renamed.is_none() {
+                self.aside = true;
+                if !self.renamed {
                     self.former = fs::read(file).ok();
                 }
             }
-            "aside flushed" => self.content = false,
-            "renamed" => self.renamed = Some(self.former.clone()),
-            "folder flushed" => self.renamed = None,
+            "aside flushed" => self.aside = false,
+            "renamed" => {
+                self.file = std::mem::take(&mut self.aside);
+                self.renamed = true;
+            }
+            "folder flushed" => self.renamed = false,
             _ => (),
         }
     }
 
-    /// The power is cut: what isn't flushed is lost, or by chance isn't.
+    /// Takes each of them, or by chance doesn't.
     fn lose(self, file: &Path, rng: &mut Rng) {
-        let aside = file.with_file_name("aside");
-        let unsure = if self.renamed.is_some() { file } else { &aside };
-        if self.content && rng.one_in(2) {
-            if let Ok(content) = fs::read(unsure) {
-                fs::write(unsure, &content[..rng.below(content.len() + 1)]).expect("a file cut short");
+        for (unflushed, path) in [(self.aside, file.with_file_name("aside")), (self.file, file.to_path_buf())] {
+            if unflushed && rng.one_in(2) {
+                if let Ok(content) = fs::read(&path) {
+                    fs::write(path, &content[..rng.below(content.len() + 1)]).expect("a file cut short");
+                }
             }
         }
-        match self.renamed {
-            Some(Some(former)) if rng.one_in(2) => fs::write(file, former).expect("the former file"),
-            Some(None) if rng.one_in(2) => fs::remove_file(file).expect("the file"),
-            _ => (),
+        if self.renamed && rng.one_in(2) {
+            match self.former {
+                Some(former) => fs::write(file, former).expect("the former file"),
+                None => fs::remove_file(file).expect("the round's file"),
+            }
         }
     }
 }
@@ -185,7 +190,7 @@ struct Start {
 
 /// A boat in one round: its lasting memory, and all that has left it.
 struct Boat<'a> {
-    program: &'a Path,
+    program: &'a Program,
     script: &'a Script,
     memory: PathBuf,
     starts: usize,
@@ -196,7 +201,7 @@ struct Boat<'a> {
 }
 
 impl<'a> Boat<'a> {
-    fn new(program: &'a Path, script: &'a Script, memory: PathBuf, rng: Rng) -> Boat<'a> {
+    fn new(program: &'a Program, script: &'a Script, memory: PathBuf, rng: Rng) -> Boat<'a> {
         fs::create_dir_all(&memory).expect("a folder");
         let key = fleet::key(OWN);
         let bytes = [&key.seed[..], &key.identifier, &key.lent_tree(&[0; 32])].concat();
@@ -226,7 +231,7 @@ impl<'a> Boat<'a> {
         }
         let (inputs, air) = (self.memory.join("inputs"), self.memory.join("air"));
         fs::write(&inputs, bytes).expect("the inputs' file");
-        let mut command = Command::new(self.program);
+        let mut command = self.program.command();
         command.arg(&self.memory).arg(&inputs).stdout(File::create(&air).expect("a file"));
         let start = self.run(command, cut)?;
         self.listen(&fs::read(air).expect("what was sent"), start.killed)?;
@@ -269,7 +274,7 @@ impl<'a> Boat<'a> {
         if killed {
             unflushed.lose(&self.file(), &mut self.rng);
         } else if !status.success() {
-            return Err(format!("the unit stopped, {status}: {words}"));
+            return Err(format!("stopped: {status}, {words}"));
         }
         Ok(Start { points, killed, words })
     }
@@ -283,7 +288,7 @@ impl<'a> Boat<'a> {
                 return Ok(());
             }
             if length == 0 {
-                return Err(format!("{} bytes on the air that are no message", bytes.len()));
+                return Err(format!("garbled: {} bytes on the air that are no message", bytes.len()));
             }
             self.sent.push(bytes[..length].to_vec());
             bytes = &bytes[length..];
@@ -295,8 +300,8 @@ impl<'a> Boat<'a> {
     fn judged(&self, words: &str) -> Result<(), String> {
         let signed = self.sent.iter().chain(&self.broken).filter(|bytes| bytes[0] == SUBMIT && bytes.len() >= SIGNED);
         let layouts: BTreeSet<&[u8]> = signed.map(|bytes| &bytes[VALUE_AT..SIGNED]).collect();
-        if layouts.len() != 1 {
-            return Err(format!("{} layouts signed", layouts.len()));
+        if layouts.len() > 1 {
+            return Err(format!("signed twice: {} layouts", layouts.len()));
         }
         let mut distinct: Vec<&Vec<u8>> = Vec::new();
         for message in &self.sent {
@@ -304,26 +309,26 @@ impl<'a> Boat<'a> {
                 continue;
             }
             if distinct.iter().any(|other| other[0] == message[0]) {
-                return Err(format!("two different messages {}", air::name(message)));
+                return Err(format!("said twice: two different messages {}", air::name(message)));
             }
             distinct.push(message);
         }
         if let Some(part) = self.broken.iter().find(|&part| !distinct.iter().any(|whole| whole.starts_with(part))) {
-            return Err(format!("{} bytes left the boat, and the whole message never did", part.len()));
+            return Err(format!("lost: the message whose first {} bytes left the boat", part.len()));
         }
         let of = |command: u8| distinct.iter().find(|message| message[0] == command);
         if let Some(full) = of(FULL) {
             let unit = &mut Unit::open(OTHER);
-            unit.step(full).map_err(|number| format!("FULL refused: {number}"))?;
+            unit.step(full).map_err(|number| format!("refused: FULL, {number}"))?;
         }
         if let Some(evidence) = of(EVIDENCE) {
             let (n, round, keys) = (N, fleet().round, fleet().key_table());
             let verdict = Library.check_evidence(n, round, &keys, evidence);
             if (verdict.number, verdict.mask) != (0, self.script.guilty) {
-                return Err(format!("EVIDENCE: {verdict:?}"));
+                return Err(format!("refused: EVIDENCE, {verdict:?}"));
             }
         }
-        let own = of(SUBMIT).ok_or("the round is lost: no SUBMIT")?;
+        let own = of(SUBMIT).ok_or("lost: the SUBMIT")?;
         self.compared(&distinct, own, words)
     }
 
@@ -334,7 +339,7 @@ impl<'a> Boat<'a> {
         for input in self.script.inputs(&value) {
             match input {
                 Input::Settles => {
-                    unit.submit(&value, &own[SIGNATURE_AT..]).map_err(|n| format!("SUBMIT refused: {n}"))?
+                    unit.submit(&value, &own[SIGNATURE_AT..]).map_err(|n| format!("refused: SUBMIT, {n}"))?
                 }
                 // A garbled one is refused.
                 Input::Hears(message) => drop(unit.step(&message)),
@@ -343,19 +348,19 @@ impl<'a> Boat<'a> {
         let names = |messages: &[&Vec<u8>]| messages.iter().map(|message| air::name(message)).collect::<Vec<_>>();
         let expected: Vec<&Vec<u8>> = unit.written.iter().collect();
         if names(distinct) != names(&expected) {
-            return Err(format!("the round is lost: {:?} for {:?}", names(distinct), names(&expected)));
+            return Err(format!("lost: {:?} for {:?}", names(distinct), names(&expected)));
         }
         if distinct != expected {
-            return Err("messages other than the reference's".into());
+            return Err("other messages than the reference's".into());
         }
         let (confirmed, guilty) = (unit.record.confirmed, unit.record.guilty);
         assert!(confirmed && guilty == self.script.guilty, "{}: {:?}", self.script.title, unit.record);
         let lasting = fs::read(self.file()).expect("the round's file");
         if lasting[..NOTE] != note(&unit.record) {
-            return Err(format!("the note isn't that of {:?}", unit.record));
+            return Err(format!("another note than that of {:?}", unit.record));
         }
         if words != format!("confirmed; double signers 0x{guilty:08x}") {
-            return Err(format!("the unit says: {words}"));
+            return Err(format!("other words: {words}"));
         }
         Ok(())
     }
@@ -417,8 +422,7 @@ fn note(record: &Record) -> Vec<u8> {
     note
 }
 
-/// A round with power cuts in its first starts; others follow by chance.
-#[derive(Clone)]
+/// A round with kills in its first starts; others follow by chance.
 struct Case {
     script: usize,
     cuts: Vec<Cut>,
@@ -427,29 +431,30 @@ struct Case {
 /// The kills of a round.
 #[derive(Default)]
 struct Kills {
-    /// Point names, at which it was killed.
+    /// Names of the points.
     at: Vec<String>,
-    inside: usize,
+    /// At some moment after a point.
+    after: usize,
 }
 
 /// The most kills by chance in one round.
-const BY_CHANCE: usize = 4;
+const BY_CHANCE: usize = 5;
 
-/// The round to its end: the last start runs through.
-fn played(program: &Path, case: &Case, memory: PathBuf, mut rng: Rng) -> Result<Kills, String> {
-    let chance = Rng::new(u64::from(rng.u32()), "losses");
-    let mut boat = Boat::new(program, &SCRIPTS[case.script], memory, chance);
-    let mut kills = Kills::default();
+/// A round to its end: the last start runs through.
+fn played(program: &Program, case: &Case, memory: PathBuf, mut rng: Rng) -> Result<Kills, String> {
     let mut cuts = case.cuts.clone();
-    while cuts.len() < case.cuts.len() + BY_CHANCE && rng.one_in(2) {
-        let (point, micros) = (1 + rng.below(90), rng.below(800) as u64);
-        cuts.push(if rng.one_in(2) { Cut::At(point) } else { Cut::After(point, Duration::from_micros(micros)) });
+    while cuts.len() < case.cuts.len() + BY_CHANCE && !rng.one_in(3) {
+        let (point, time) = (1 + rng.below(60), Duration::from_micros(rng.below(800) as u64));
+        cuts.push(if rng.one_in(2) { Cut::At(point) } else { Cut::After(point, time) });
     }
-    for &cut in &cuts {
+    let mut boat = Boat::new(program, &SCRIPTS[case.script], memory, rng);
+    let mut kills = Kills::default();
+    for (number, &cut) in cuts.iter().enumerate() {
         let start = boat.start(Some(cut))?;
         match cut {
             Cut::At(_) if start.killed => kills.at.push(start.points.last().expect("a point").clone()),
-            Cut::After(..) if start.killed => kills.inside += 1,
+            Cut::After(..) if start.killed => kills.after += 1,
+            _ if number < case.cuts.len() => return Err(format!("no kill: {cut:?} is after the end")),
             _ => (),
         }
     }
@@ -459,139 +464,168 @@ fn played(program: &Path, case: &Case, memory: PathBuf, mut rng: Rng) -> Result<
     Ok(kills)
 }
 
-/// The points of a start and of one after it, with no kill but at the end of the first.
-fn points(program: &Path, script: usize, memory: &Path) -> (usize, usize) {
-    let boat = || Boat::new(program, &SCRIPTS[script], memory.join("points"), Rng::new(seed(), "points"));
-    let first = boat().start(None).expect("a start").points.len();
-    let mut boat = boat();
-    fs::remove_file(boat.file()).expect("the round's file");
-    boat.start(Some(Cut::At(first))).expect("a start");
-    (first, boat.start(None).expect("a start").points.len())
+/// Points of a start that runs through, and of the next one.
+fn points(program: &Program, script: &Script) -> [usize; 2] {
+    let memory = Folder::new("points");
+    let mut boat = Boat::new(program, script, memory.0.clone(), Rng::new(seed(), "points"));
+    [1, 2].map(|_| boat.start(None).expect("a start").points.len())
 }
 
-/// Each point of the first start, and of the second one after a kill at the end of the first.
-fn cases(program: &Path, memory: &Path) -> Vec<Case> {
+/// A kill at each point of the first start, and at each of the second one where the first was killed at its last point.
+fn cases(program: &Program) -> Vec<Case> {
     let mut cases = Vec::new();
-    for script in 0..SCRIPTS.len() {
-        let (first, second) = points(program, script, memory);
-        cases.extend((1..=first).map(|point| Case { script, cuts: vec![Cut::At(point)] }));
-        cases.extend((1..=second).map(|point| Case { script, cuts: vec![Cut::At(first), Cut::At(point)] }));
+    for (number, script) in SCRIPTS.iter().enumerate() {
+        let [first, second] = points(program, script);
+        cases.extend((1..=first).map(|point| Case { script: number, cuts: vec![Cut::At(point)] }));
+        cases.extend((1..=second).map(|point| Case { script: number, cuts: vec![Cut::At(first), Cut::At(point)] }));
     }
     cases
 }
 
-/// An empty folder, in memory where the machine has such a one.
-fn folder(name: &str) -> PathBuf {
-    let shared = Path::new("/dev/shm");
-    let root = if shared.is_dir() { shared } else { Path::new(env!("CARGO_TARGET_TMPDIR")) };
-    let folder = root.join(format!("zolbine-{name}-{}", std::process::id()));
-    let _ = fs::remove_dir_all(&folder);
-    fs::create_dir_all(&folder).expect("a folder");
-    folder
+/// A folder for as long as it is needed, in memory where the machine has such files.
+struct Folder(PathBuf);
+
+impl Folder {
+    fn new(name: &str) -> Folder {
+        static NUMBER: AtomicUsize = AtomicUsize::new(0);
+        let shared = Path::new("/dev/shm");
+        let root = if shared.is_dir() { shared } else { Path::new(env!("CARGO_TARGET_TMPDIR")) };
+        let number = NUMBER.fetch_add(1, Ordering::Relaxed);
+        let folder = root.join(format!("zolbine-{}-{number}-{name}", std::process::id()));
+        fs::create_dir_all(&folder).expect("a folder");
+        Folder(folder)
+    }
 }
 
-/// The example, or an edit of it, with its points told.
-fn compiled(source: &str, name: &str) -> PathBuf {
-    let program = Path::new(env!("CARGO_TARGET_TMPDIR")).join(name);
-    let points = file("harness/c/cuts.h");
-    compile(compiler(false), source, &program, &["-include", points.to_str().expect("a path")]);
-    program
+impl Drop for Folder {
+    fn drop(&mut self) {
+        let _ = fs::remove_dir_all(&self.0);
+    }
+}
+
+/// The example or an edit of it, which tells its points, and the command that watches it.
+struct Program {
+    path: PathBuf,
+    watcher: &'static [&'static str],
+}
+
+impl Program {
+    fn compiled(source: &str, name: &str, flags: &[&str]) -> Program {
+        let path = Path::new(env!("CARGO_TARGET_TMPDIR")).join(name);
+        let points = file("harness/c/cuts.h");
+        compile(compiler(false), source, &path, &[flags, &["-include", points.to_str().expect("a path")]].concat());
+        Program { path, watcher: &[] }
+    }
+
+    fn command(&self) -> Command {
+        match self.watcher {
+            [] => Command::new(&self.path),
+            [watcher, arguments @ ..] => {
+                let mut command = Command::new(watcher);
+                command.args(arguments).arg(&self.path);
+                command
+            }
+        }
+    }
 }
 
 fn source() -> String {
     fs::read_to_string(file(EXAMPLE)).expect("the example")
 }
 
-/// The points by their names in the source.
+/// The points of the source.
 fn names() -> BTreeSet<String> {
     let source = source();
     let after = source.split("CUT(\"").skip(1);
     after.map(|text| text.split('"').next().expect("a name").to_string()).collect()
 }
 
+/// At each point of the source, at each that a start and the next one come to, and at moments after them.
 #[test]
 fn a_thousand_kills() {
-    let program = compiled(EXAMPLE, "lasting_unit_cut");
-    let memory = folder("kills");
-    let cases: Vec<(usize, Case)> = cases(&program, &memory).into_iter().enumerate().collect();
-    let rounds = parallel::map(&cases, |(number, case)| {
-        let rng = Rng::new(seed(), &format!("power cuts {number}"));
-        let told = played(&program, case, memory.join(number.to_string()), rng);
-        told.unwrap_or_else(|fault| {
-            let title = SCRIPTS[case.script].title;
-            panic!("{title}, {:?}: {fault}; ZOLBINE_SEED={}", case.cuts, seed())
-        })
-    });
-    fs::remove_dir_all(&memory).expect("the folder goes");
-    let at: Vec<&String> = rounds.iter().flat_map(|kills| &kills.at).collect();
-    let inside: usize = rounds.iter().map(|kills| kills.inside).sum();
-    for name in names() {
-        let count = at.iter().filter(|&&at| *at == name).count();
-        progress(&format!("power cuts: {count} at `{name}`"));
-        assert!(count > 0, "no kill at `{name}`");
+    let program = Program::compiled(EXAMPLE, "lasting_unit_cut", &[]);
+    let memory = Folder::new("kills");
+    let mut cases = cases(&program);
+    let (mut at, mut after, mut rounds) = (Vec::new(), 0, 0);
+    while at.len() + after < KILLS {
+        let numbered: Vec<(usize, Case)> = (rounds..).zip(cases).collect();
+        let kills = parallel::map(&numbered, |(number, case)| {
+            let rng = Rng::new(seed(), &format!("power cuts {number}"));
+            played(&program, case, memory.0.join(number.to_string()), rng).unwrap_or_else(|fault| {
+                let title = SCRIPTS[case.script].title;
+                panic!("{title}, round {number}, {:?}: {fault}; ZOLBINE_SEED={}", case.cuts, seed())
+            })
+        });
+        after += kills.iter().map(|kills| kills.after).sum::<usize>();
+        at.extend(kills.into_iter().flat_map(|kills| kills.at));
+        rounds += numbered.len();
+        // More by chance.
+        cases = (0..50).map(|number| Case { script: number % SCRIPTS.len(), cuts: Vec::new() }).collect();
     }
-    progress(&format!("power cuts: {} at a point, {inside} inside a step, {} rounds", at.len(), rounds.len()));
-    assert!(at.len() + inside >= KILLS && inside > KILLS / 20, "{} and {inside} kills", at.len());
+    let counts = names().into_iter().map(|name| {
+        let count = at.iter().filter(|&at| *at == name).count();
+        assert!(count > 0, "no kill at `{name}`");
+        format!("{name} {count}")
+    });
+    let counts = counts.collect::<Vec<_>>().join(", ");
+    progress(&format!("power cuts: {} kills at a point ({counts}), {after} after one, {rounds} rounds", at.len()));
+    assert!(after >= KILLS / 20, "{after} kills after a point");
 }
 
-/// An edit of the example, and what the same rounds then say of it.
+/// An edit of the example, and the verdicts of the same rounds on it.
 struct Fault {
     name: &'static str,
     edits: &'static [(&'static str, &'static str)],
-    caught: &'static [&'static str],
+    verdicts: &'static [&'static str],
 }
 
 const FAULTS: [Fault; 8] = [
     Fault {
         name: "sends_before_it_keeps",
         edits: &[("    keep(unit);\n    send_from(unit, sent);\n", "    send_from(unit, sent);\n    keep(unit);\n")],
-        caught: &["2 layouts signed"],
+        verdicts: &["signed twice"],
     },
     Fault {
         name: "comes_back_blank",
         edits: &[("if (has_file(unit))", "if (has_file(unit) && false)")],
-        caught: &["2 layouts signed"],
+        verdicts: &["signed twice"],
     },
     Fault {
-        name: "store_not_kept",
+        name: "comes_back_with_another_store",
         edits: &[(
-            "    unit->record = opened.record;\n",
-            "    unit->record = opened.record;\n    memset(unit->store, 7, unit->store_len);\n",
+            "unit->messages_len = len - pair;",
+            "unit->messages_len = len - pair; memset(unit->store, 7, unit->store_len);",
         )],
-        caught: &["FULL refused: 14", "EVIDENCE: "],
+        verdicts: &["refused: FULL", "refused: EVIDENCE"],
     },
     Fault {
         name: "messages_not_kept",
-        edits: &[("unit->messages_len = len - pair", "unit->messages_len = 0 * len")],
-        caught: &["the round is lost"],
+        edits: &[("unit->messages_len = len - pair;", "unit->messages_len = 0;")],
+        verdicts: &["lost"],
     },
-    Fault {
-        name: "sends_nothing_again",
-        edits: &[("    send_from(&unit, 0);", "")],
-        caught: &["the round is lost", "never did"],
-    },
+    Fault { name: "sends_nothing_again", edits: &[("    send_from(&unit, 0);", "")], verdicts: &["lost"] },
     Fault {
         name: "written_in_place",
         edits: &[
             ("open(\"aside\", O_WRONLY | O_CREAT | O_TRUNC, 0600)", "open(unit->file, O_WRONLY | O_CREAT, 0600)"),
             ("rename(\"aside\", unit->file) != 0", "false"),
         ],
-        caught: &["the round is lost", "isn't whole", "refused", "0 layouts signed"],
+        verdicts: &["stopped", "refused: EVIDENCE"],
     },
     Fault {
-        name: "not_flushed",
+        name: "aside_not_flushed",
         edits: &[("    flush(aside);\n    CUT(\"aside flushed\");\n", "")],
-        caught: &["isn't whole", "the round is lost", "0 layouts signed"],
+        verdicts: &["stopped"],
     },
     Fault {
         name: "folder_not_flushed",
         edits: &[("    flush(unit->folder);\n    CUT(\"folder flushed\");\n", "")],
-        caught: &["2 layouts signed"],
+        verdicts: &["signed twice"],
     },
 ];
 
 impl Fault {
-    fn program(&self) -> PathBuf {
+    fn program(&self) -> Program {
         let mut text = source();
         for (from, to) in self.edits {
             assert_eq!(text.matches(from).count(), 1, "{}: {from}", self.name);
@@ -599,55 +633,65 @@ impl Fault {
         }
         let path = Path::new(env!("CARGO_TARGET_TMPDIR")).join(format!("{}.c", self.name));
         fs::write(&path, text).expect("a source file");
-        compiled(path.to_str().expect("a path"), self.name)
+        Program::compiled(path.to_str().expect("a path"), self.name, &[])
+    }
+
+    /// Plays the rounds until each of the verdicts has come, and counts them.
+    fn rounds_to_catch(&self) -> usize {
+        let program = self.program();
+        let memory = Folder::new(self.name);
+        let numbered: Vec<(usize, Case)> = cases(&program).into_iter().enumerate().collect();
+        let (rounds, told) = (AtomicUsize::new(0), Mutex::new(BTreeSet::new()));
+        let missing = || {
+            let told: MutexGuard<BTreeSet<String>> = told.lock().unwrap();
+            self.verdicts.iter().find(|&verdict| !told.iter().any(|told| told.starts_with(verdict)))
+        };
+        parallel::map(&numbered, |(number, case)| {
+            if missing().is_some() {
+                rounds.fetch_add(1, Ordering::Relaxed);
+                let rng = Rng::new(seed(), &format!("{} {number}", self.name));
+                let round = played(&program, case, memory.0.join(number.to_string()), rng);
+                told.lock().unwrap().extend(round.err());
+            }
+        });
+        if let Some(verdict) = missing() {
+            panic!("{}: never `{verdict}`, but {:?}; ZOLBINE_SEED={}", self.name, told.lock().unwrap(), seed());
+        }
+        rounds.into_inner()
     }
 }
 
-/// The same rounds find each fault, and for its own reason.
 #[test]
 fn a_host_that_keeps_badly_is_caught() {
     for fault in &FAULTS {
-        let program = fault.program();
-        let memory = folder(fault.name);
-        let cases: Vec<(usize, Case)> = cases(&program, &memory).into_iter().enumerate().collect();
-        let (done, rounds) = (AtomicBool::new(false), AtomicUsize::new(0));
-        let caught = parallel::map(&cases, |(number, case)| {
-            if done.load(Ordering::Relaxed) {
-                return None;
-            }
-            rounds.fetch_add(1, Ordering::Relaxed);
-            let rng = Rng::new(seed(), &format!("{} {number}", fault.name));
-            let told = played(&program, case, memory.join(number.to_string()), rng).err()?;
-            let as_expected = fault.caught.iter().any(|words| told.contains(words));
-            done.fetch_or(as_expected, Ordering::Relaxed);
-            Some((as_expected, told))
-        });
-        fs::remove_dir_all(&memory).expect("the folder goes");
-        let told: BTreeSet<(bool, String)> = caught.into_iter().flatten().collect();
-        let rounds = rounds.into_inner();
-        assert!(told.iter().any(|(as_expected, _)| *as_expected), "{} in {rounds} rounds: {told:?}", fault.name);
-        progress(&format!("power cuts: {} is caught in {rounds} rounds: {told:?}", fault.name));
+        let rounds = fault.rounds_to_catch();
+        progress(&format!("power cuts: {} {:?} in {rounds} rounds", fault.name, fault.verdicts));
     }
 }
 
-/// A start, a kill, and a start that goes on, under whatever watches the example's memory.
-fn watched(program: &Path, before: &[&str], name: &str) {
-    for (number, script) in SCRIPTS.iter().enumerate() {
-        let memory = folder(&format!("{name}-{number}"));
-        let mut boat = Boat::new(program, script, memory.clone(), Rng::new(seed(), name));
-        let _ = before;
-        boat.start(Some(Cut::At(40))).expect("a start");
-        let last = boat.start(None).expect("a start");
-        boat.judged(&last.words).unwrap_or_else(|fault| panic!("{name}, {}: {fault}", script.title));
-        fs::remove_dir_all(&memory).expect("the folder goes");
+/// A start, a kill, and a start that goes on, under whatever watches the example.
+fn runs_well(program: &Program) {
+    for script in &SCRIPTS {
+        let memory = Folder::new("watched");
+        let mut boat = Boat::new(program, script, memory.0.clone(), Rng::new(seed(), "watched"));
+        assert!(boat.start(Some(Cut::At(40))).expect("a start").killed);
+        let judged = boat.start(None).and_then(|last| boat.judged(&last.words));
+        judged.unwrap_or_else(|fault| panic!("{}: {fault}", script.title));
     }
 }
 
 #[test]
 fn under_the_sanitizers() {
-    let program = Path::new(env!("CARGO_TARGET_TMPDIR")).join("lasting_unit_sanitized");
-    let points = file("harness/c/cuts.h");
-    let flags = [&SANITIZED[..], &["-include", points.to_str().expect("a path")]].concat();
-    compile(compiler(false), EXAMPLE, &program, &flags);
-    watched(&program, &[], "sanitized");
+    runs_well(&Program::compiled(EXAMPLE, "lasting_unit_sanitized", &SANITIZED));
+}
+
+#[test]
+fn under_valgrind() {
+    if Command::new("valgrind").arg("--version").output().is_err() {
+        progress("valgrind isn't installed: the lasting unit runs under the sanitizers alone");
+        return;
+    }
+    let mut program = Program::compiled(EXAMPLE, "lasting_unit_watched", &["-g"]);
+    program.watcher = &["valgrind", "--quiet", "--error-exitcode=9", "--leak-check=full"];
+    runs_well(&program);
 }
