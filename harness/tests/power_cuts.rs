@@ -503,7 +503,7 @@ impl Drop for Folder {
     }
 }
 
-/// The example or an edit of it, which tells its points, and the command that watches it.
+/// The example or an edit of it, and the command that watches it.
 struct Program {
     path: PathBuf,
     watcher: &'static [&'static str],
@@ -512,9 +512,14 @@ struct Program {
 impl Program {
     fn compiled(source: &str, name: &str, flags: &[&str]) -> Program {
         let path = Path::new(env!("CARGO_TARGET_TMPDIR")).join(name);
-        let points = file("harness/c/cuts.h");
-        compile(compiler(false), source, &path, &[flags, &["-include", points.to_str().expect("a path")]].concat());
+        compile(compiler(false), source, &path, flags);
         Program { path, watcher: &[] }
+    }
+
+    /// It tells its points.
+    fn with_points(source: &str, name: &str, flags: &[&str]) -> Program {
+        let points = file("harness/c/cuts.h");
+        Program::compiled(source, name, &[flags, &["-include", points.to_str().expect("a path")]].concat())
     }
 
     fn command(&self) -> Command {
@@ -543,7 +548,7 @@ fn names() -> BTreeSet<String> {
 /// At each point of the source, at each that a start and the next one come to, and at moments after them.
 #[test]
 fn a_thousand_kills() {
-    let program = Program::compiled(EXAMPLE, "lasting_unit_cut", &[]);
+    let program = Program::with_points(EXAMPLE, "lasting_unit_cut", &[]);
     let memory = Folder::new("kills");
     let mut cases = cases(&program);
     let (mut at, mut after, mut rounds) = (Vec::new(), 0, 0);
@@ -633,7 +638,7 @@ impl Fault {
         }
         let path = Path::new(env!("CARGO_TARGET_TMPDIR")).join(format!("{}.c", self.name));
         fs::write(&path, text).expect("a source file");
-        Program::compiled(path.to_str().expect("a path"), self.name, &[])
+        Program::with_points(path.to_str().expect("a path"), self.name, &[])
     }
 
     /// Plays the rounds until each of the verdicts has come, and counts them.
@@ -669,20 +674,29 @@ fn a_host_that_keeps_badly_is_caught() {
     }
 }
 
-/// A start, a kill, and a start that goes on, under whatever watches the example.
-fn runs_well(program: &Program) {
+/// A start, with a kill or to its end, and one that goes on.
+fn runs_well(program: &Program, cut: Option<Cut>) {
     for script in &SCRIPTS {
-        let memory = Folder::new("watched");
-        let mut boat = Boat::new(program, script, memory.0.clone(), Rng::new(seed(), "watched"));
-        assert!(boat.start(Some(Cut::At(40))).expect("a start").killed);
+        let memory = Folder::new("well");
+        let mut boat = Boat::new(program, script, memory.0.clone(), Rng::new(seed(), "well"));
+        let first = boat.start(cut).expect("a start");
+        assert_eq!(first.killed, cut.is_some());
         let judged = boat.start(None).and_then(|last| boat.judged(&last.words));
         judged.unwrap_or_else(|fault| panic!("{}: {fault}", script.title));
     }
 }
 
 #[test]
+fn without_points() {
+    runs_well(&Program::compiled(EXAMPLE, "lasting_unit", &[]), None);
+}
+
+/// Somewhere in the middle.
+const MIDDLE: Option<Cut> = Some(Cut::At(40));
+
+#[test]
 fn under_the_sanitizers() {
-    runs_well(&Program::compiled(EXAMPLE, "lasting_unit_sanitized", &SANITIZED));
+    runs_well(&Program::with_points(EXAMPLE, "lasting_unit_sanitized", &SANITIZED), MIDDLE);
 }
 
 #[test]
@@ -691,7 +705,7 @@ fn under_valgrind() {
         progress("valgrind isn't installed: the lasting unit runs under the sanitizers alone");
         return;
     }
-    let mut program = Program::compiled(EXAMPLE, "lasting_unit_watched", &["-g"]);
+    let mut program = Program::with_points(EXAMPLE, "lasting_unit_watched", &["-g"]);
     program.watcher = &["valgrind", "--quiet", "--error-exitcode=9", "--leak-check=full"];
-    runs_well(&program);
+    runs_well(&program, MIDDLE);
 }
