@@ -1,22 +1,27 @@
 -- The note of a record and the record of a note, each from the other (`Note` has the definitions).
 -- Assumes nothing.
 use mathlib.Core.Path.{_≡_, refl, sym, ap, _∙_}
-use mathlib.Core.Bool.{Bool, true, false, cond, _&&_}
+use mathlib.Core.Bool.{Bool, true, false, not, cond, _&&_, _||_}
+use mathlib.Core.Logic.{_↔_}
 use mathlib.Core.List.{List, [], _∷_, _++_, append-assoc}
 use Prim.Native.Nat.{ℕ, zero, suc, _+_, _*_, _/_, _%_, _^_, _≤_, _<_}
-use native.Mathlib.Nat.{pow-le-pow-right}
+use native.Mathlib.Nat.{zero-add, pow-le-pow-right}
 use native.Mathlib.Omega.{arith}
 use lib.Dec.{lit<, eqb}
 use lib.ListN.{length, take, drop, length-append}
 use lib.Seq.{take-at, drop-at, drop-drop, take-all}
-use borrow.Author.Tests.{lt-leb}
+use borrow.Author.Tests.{lt-leb, leb-false, eq-eqb, eqb-true, not-false}
 use Rattle.octets.specs.Octets.{part, be, number, wordAt}
-use Rattle.octets.specs.OctetsLaws.{length-be}
-use Rattle.octets.specs.StringsLaws.{number-be, number-part-four}
+use Rattle.octets.specs.OctetsLaws.{length-be, length-part}
+use Rattle.octets.specs.StringsLaws.{part-all, number-be, number-part-four, be-wordAt}
+use Rattle.refusal.specs.RefusalLaws.{both-false}
 use Rattle.quorum.specs.Quorum.{mostSeats}
-use Rattle.protocol.specs.Layout.{valueLength, maskLength, noteSizeAt, noteSeatAt, noteOwnValueAt, noteCollectedAt, noteKeptAt, noteFirstAt, noteGuiltyAt, noteHeardValueAt, noteFirstValueAt, noteLength}
+use Rattle.protocol.specs.Layout.{valueLength, maskLength, noteSizeAt, noteSeatAt, noteRoundAt, noteFlagsAt, noteOwnValueAt, noteCollectedAt, noteKeptAt, noteFirstAt, noteGuiltyAt, noteHeardValueAt, noteFirstValueAt, noteLength}
 use Rattle.protocol.specs.Figures.{note-figure}
 use Rattle.protocol.specs.Message.{byteAt, readValue}
+use Rattle.protocol.specs.Entries.{eachBelow}
+use Rattle.protocol.specs.EntriesLaws.{each-at}
+use Rattle.protocol.specs.RoundTripLaws.{append-parts, one-byte, two-bytes}
 use Rattle.protocol.specs.Record.{Possible, oneHeard}
 use Rattle.protocol.specs.Note.{submittedFlag, confirmedFlag, sentFlag, oneFlag, twoFlag, twoHeard, flagIf, flagsOf, isSet, heardBy, renderNote, noteFlags, noteRound, noteRecord, bothHeard, unknownFlag, wrongNote}
 use Rattle.protocol.specs.declared.Record.{Record}
@@ -224,3 +229,87 @@ module _ (r : Record) (sized : ValuesSized r) (p : Possible r) where
   pub right-note : wrongNote note ≡ false
   unfolding wrongNote noteLength
   right-note = rw (length-renderNote r sized, head .command, head .flags, read-flags .apart, read-flags .known)
+
+-- ---- a note read and written back
+
+pub record NoteFits (note : List ℕ) : Type 0 where
+  pub size : length note ≡ noteLength
+  pub command : byteAt note 0 ≡ 0x20
+  pub apart : bothHeard (noteFlags note) ≡ false
+  pub known : noteFlags note < 32
+
+pub note-right : (note : List ℕ) → (wrongNote note ≡ false) ↔ NoteFits note
+unfolding wrongNote unknownFlag
+note-right note = (fits, λ f. rw (eq-eqb (length note) noteLength (f .size), eq-eqb (byteAt note 0) 0x20 (f .command), f .apart, lt-leb 32 (noteFlags note) (f .known)))
+  where
+    fits : wrongNote note ≡ false → NoteFits note
+    fits e =
+        let a = both-false _ (unknownFlag (noteFlags note)) e in
+        let b = both-false _ (bothHeard (noteFlags note)) (a .0) in
+        let c = both-false (not (eqb (length note) noteLength)) (not (eqb (byteAt note 0) 0x20)) (b .0) in
+        record {
+          size = eqb-true (length note) noteLength (not-false (eqb (length note) noteLength) (c .0));
+          command = eqb-true (byteAt note 0) 0x20 (not-false (eqb (byteAt note 0) 0x20) (c .1));
+          apart = b .1;
+          known = leb-false 32 (noteFlags note) (a .1);
+        }
+
+-- flags read and written again
+abbrev again : ℕ → ℕ
+again flags = sum (isSet submittedFlag flags) (isSet confirmedFlag flags) (isSet sentFlag flags) (eqb (heardBy flags) 1) (eqb (heardBy flags) 2)
+
+-- they are the same, unless both heard flags are set: a test of all 32
+abbrev flagsSame : ℕ → Bool
+flagsSame flags = bothHeard flags || eqb (again flags) flags
+
+all-same : eachBelow flagsSame 32 ≡ true
+unfolding eachBelow bothHeard flagIf isSet heardBy
+all-same = refl
+
+flags-again : (flags : ℕ) → flags < 32 → bothHeard flags ≡ false → again flags ≡ flags
+flags-again flags known apart = eqb-true (again flags) flags (rw apart at (each-at flagsSame flags 32 known all-same))
+
+module _ (note : List ℕ) (b : (i : ℕ) → byteAt note i < 256) (fits : NoteFits note) where
+  byte-back : (at : ℕ) → at < 118 → byteAt note at ∷ [] ≡ part at 1 note
+  byte-back at h = one-byte note at (byteAt note at) (omega (arith, fits .size, note-figure)) refl
+
+  mask-back : (at : ℕ) → at + 4 ≤ 118 → be maskLength (wordAt note at) ≡ part at maskLength note
+  mask-back at h = be-wordAt note b at (omega (arith, fits .size, note-figure))
+
+  -- a string that is the front of the note, and what comes after it
+  longer : (a b : ℕ) (us vs : List ℕ) → us ≡ part 0 a note → vs ≡ part a b note → us ++ vs ≡ part 0 (a + b) note
+  longer a b us vs e f = append-parts note 0 a b (a + b) us vs e (rw zero-add f) refl
+
+  pub note-back : renderNote (noteRecord note) ≡ note
+  unfolding renderNote noteRecord noteRound flagsOf oneHeard twoHeard readValue noteLength noteFlags
+  note-back =
+      let flags = flags-again (noteFlags note) (fits .known) (fits .apart) in
+      rw flags (longer noteFirstValueAt valueLength _ _
+      (longer noteHeardValueAt valueLength _ _
+      (longer noteGuiltyAt maskLength _ _
+      (longer noteFirstAt maskLength _ _
+      (longer noteKeptAt maskLength _ _
+      (longer noteCollectedAt maskLength _ _
+      (longer noteOwnValueAt valueLength _ _
+      (longer noteFlagsAt 1 _ _
+      (longer noteRoundAt 2 (0x20 ∷ byteAt note noteSizeAt ∷ byteAt note noteSeatAt ∷ []) _
+      (longer noteSeatAt 1 (0x20 ∷ byteAt note noteSizeAt ∷ []) _
+      (longer noteSizeAt 1 (0x20 ∷ []) _ (one-byte note 0 0x20 (omega (arith, fits .size, note-figure)) (fits .command)) (byte-back noteSizeAt (omega arith)))
+      (byte-back noteSeatAt (omega arith)))
+      (two-bytes note b noteRoundAt (omega (arith, fits .size, note-figure))))
+      (byte-back noteFlagsAt (omega arith)))
+      refl)
+      (mask-back noteCollectedAt (omega arith)))
+      (mask-back noteKeptAt (omega arith)))
+      (mask-back noteFirstAt (omega arith)))
+      (mask-back noteGuiltyAt (omega arith)))
+      refl)
+      refl
+      ∙ part-all note noteLength (fits .size))
+
+-- its record has values of 32 bytes
+pub values-sized : (note : List ℕ) → NoteFits note → ValuesSized (noteRecord note)
+unfolding noteRecord readValue
+values-sized note fits =
+    let value : (at : ℕ) → at + valueLength ≤ 118 → length (part at valueLength note) ≡ valueLength = λ at h. length-part at valueLength note (omega (arith, fits .size, note-figure)) in
+    record { own = value noteOwnValueAt (omega arith); heard = value noteHeardValueAt (omega arith); first = value noteFirstValueAt (omega arith) }
