@@ -73,7 +73,7 @@ same-record r s e f sized sized′ same = sym (record-back r sized (possible r e
 
 -- a note that is taken
 module _ (note : List ℕ) (e : readNote note .number ≡ 0) where
-  taken-fits : NoteFits note
+  pub taken-fits : NoteFits note
   unfolding readNote readNoteConditions openedBy
   taken-fits = note-right note .0 (firstOf-zero 16 _ _ e .0)
 
@@ -81,7 +81,7 @@ module _ (note : List ℕ) (e : readNote note .number ≡ 0) where
   unfolding readNote openedBy unrefused
   taken-record = rw e
 
-  taken-possible : impossible (noteRecord note) ≡ false
+  pub taken-possible : impossible (noteRecord note) ≡ false
   unfolding readNote readNoteConditions openedBy
   taken-possible = firstOf-zero 3 _ _ (firstOf-zero 16 _ _ e .1) .0
 
