@@ -1,4 +1,5 @@
--- The note (document 02, item 2): "A note read back is the record it came from, only notes that the writer could have written are taken".
+-- The note (document 02, item 2): "A note read back is the record it came from, and only notes that the writer could have written are
+-- taken."
 -- Assumes nothing.
 use mathlib.Core.Path.{_≡_, sym, ap, _∙_}
 use mathlib.Core.Bool.{false}
@@ -8,7 +9,7 @@ use Prim.Native.Nat.{ℕ, _≤_, _<_}
 use native.Mathlib.Decide.{ℕ-discrete}
 use native.Mathlib.Omega.{arith}
 use lib.ListN.{length}
-use borrow.Author.Tests.{le-ltb}
+use borrow.Author.Tests.{lt-ltb, le-ltb}
 use Rattle.refusal.specs.Refusal.{firstOf, unrefused}
 use Rattle.refusal.specs.RefusalLaws.{firstOf-zero, refused-old}
 use Rattle.protocol.specs.Layout.{noteLength}
@@ -21,7 +22,7 @@ use Rattle.protocol.specs.Refusals.{shortOut, writeNoteConditions, readN
 use Rattle.protocol.specs.Calls.{openedBy, notingBy, writeNote, readNote}
 use Rattle.protocol.specs.declared.Record.{Record}
 
--- ---- "The record shall be written out as a note", "That is 118 bytes"
+-- ---- "The record shall be written out as a note: .. That is 118 bytes, and a shorter out buffer is refused as 7."
 
 -- a writing that isn't refused
 module _ (r : Record) (out : List ℕ) (e : writeNote r out .refusal ≡ 0) where
@@ -41,7 +42,12 @@ pub note-written : (r : Record) (out : List ℕ) → impossible r ≡ false → 
 unfolding writeNote writeNoteConditions notingBy shortOut firstOf unrefused
 note-written r out e room = rw (e, le-ltb (length out) noteLength room)
 
--- a refused one writes nothing
+-- too little room
+pub short-refused : (r : Record) (out : List ℕ) → impossible r ≡ false → length out < noteLength → writeNote r out .refusal ≡ 7
+unfolding writeNote writeNoteConditions notingBy shortOut firstOf
+short-refused r out e short = rw (e, lt-ltb (length out) noteLength short)
+
+-- a refused writing writes nothing
 pub refused-writes-nothing : (r : Record) (out : List ℕ) → (writeNote r out .refusal ≡ 0 → ⊥) → writeNote r out .written ≡ []
 unfolding writeNote notingBy
 refused-writes-nothing r out = refused-old (firstOf (writeNoteConditions r out)) (renderNote r) []
@@ -69,7 +75,7 @@ read-back r out sized e = rw (written-note r out e) (note-read-back r (written-p
 pub same-record : (r s : Record) → impossible r ≡ false → impossible s ≡ false → ValuesSized r → ValuesSized s → renderNote r ≡ renderNote s → r ≡ s
 same-record r s e f sized sized′ same = sym (record-back r sized (possible r e)) ∙ ap noteRecord same ∙ record-back s sized′ (possible s f)
 
--- ---- "only notes that the writer could have written are taken"
+-- ---- ".. and only notes that the writer could have written are taken."
 
 -- a note that is taken
 module _ (note : List ℕ) (e : readNote note .number ≡ 0) where

@@ -126,10 +126,9 @@ module _ (note : List ℕ) where
       let read = next at maskLength (be maskLength m) rest (length-be maskLength m) e in
       (sym (number-part-four at note h) ∙ ap number (read .0) ∙ number-be maskLength m small, read .1)
 
-module _ (r : Record) (sized : ValuesSized r) where
-  pub length-renderNote : length (renderNote r) ≡ noteLength
-  unfolding renderNote noteLength
-  length-renderNote = simp (length-append, length-be) (omega (arith, sized .own, sized .heard, sized .first))
+pub length-renderNote : (r : Record) → ValuesSized r → length (renderNote r) ≡ noteLength
+unfolding renderNote noteLength
+length-renderNote r sized = simp (length-append, length-be) (omega arith)
 
 regroup : (a b c d e f g h : List ℕ) → a ++ b ++ c ++ d ++ e ++ f ++ g ++ h ≡ a ++ (b ++ (c ++ (d ++ (e ++ (f ++ (g ++ h))))))
 regroup a b c d e f g h = simp append-assoc
@@ -190,7 +189,7 @@ module _ (r : Record) (sized : ValuesSized r) (p : Possible r) where
         first = ap (take valueLength) (f .1) ∙ take-all valueLength (r .first .value) (omega (arith, sized .first));
       }
 
-  -- and before
+  -- and what stands up to them
   record Head : Type 0 where
     command : byteAt note 0 ≡ 0x20
     size : byteAt note noteSizeAt ≡ r .n
@@ -205,6 +204,7 @@ module _ (r : Record) (sized : ValuesSized r) (p : Possible r) where
   read-flags : FlagsRead r
   read-flags = flags-read r (p .heard)
 
+  -- the record in the note is the record
   pub record-back : noteRecord note ≡ r
   unfolding noteRecord
   record-back =
@@ -226,12 +226,14 @@ module _ (r : Record) (sized : ValuesSized r) (p : Possible r) where
         fields .first,
       )
 
+  -- and the note isn't wrong
   pub right-note : wrongNote note ≡ false
   unfolding wrongNote noteLength
   right-note = rw (length-renderNote r sized, head .command, head .flags, read-flags .apart, read-flags .known)
 
 -- ---- a note read and written back
 
+-- a note that isn't wrong, written out
 pub record NoteFits (note : List ℕ) : Type 0 where
   pub size : length note ≡ noteLength
   pub command : byteAt note 0 ≡ 0x20
@@ -270,44 +272,38 @@ flags-again : (flags : ℕ) → flags < 32 → bothHeard flags ≡ false → aga
 flags-again flags known apart = eqb-true (again flags) flags (rw apart at (each-at flagsSame flags 32 known all-same))
 
 module _ (note : List ℕ) (b : (i : ℕ) → byteAt note i < 256) (fits : NoteFits note) where
-  byte-back : (at : ℕ) → at < 118 → byteAt note at ∷ [] ≡ part at 1 note
-  byte-back at h = one-byte note at (byteAt note at) (omega (arith, fits .size, note-figure)) refl
+  long : length note ≡ 118
+  long = fits .size ∙ note-figure
 
-  mask-back : (at : ℕ) → at + 4 ≤ 118 → be maskLength (wordAt note at) ≡ part at maskLength note
-  mask-back at h = be-wordAt note b at (omega (arith, fits .size, note-figure))
+  byte-back : (at : ℕ) → at < 118 → byteAt note at ∷ [] ≡ part at 1 note
+  byte-back at h = one-byte note at (byteAt note at) (omega (arith, long)) refl
+
+  mask-back : (at : ℕ) → at + maskLength ≤ 118 → be maskLength (wordAt note at) ≡ part at maskLength note
+  mask-back at h = be-wordAt note b at (omega (arith, long))
 
   -- a string that is the front of the note, and what comes after it
-  longer : (a b : ℕ) (us vs : List ℕ) → us ≡ part 0 a note → vs ≡ part a b note → us ++ vs ≡ part 0 (a + b) note
-  longer a b us vs e f = append-parts note 0 a b (a + b) us vs e (rw zero-add f) refl
+  longer : {us vs : List ℕ} (a b : ℕ) → us ≡ part 0 a note → vs ≡ part a b note → us ++ vs ≡ part 0 (a + b) note
+  longer {us} {vs} a b e f = append-parts note 0 a b (a + b) us vs e (rw zero-add f) refl
 
+  -- the note of the record in it is the note
   pub note-back : renderNote (noteRecord note) ≡ note
-  unfolding renderNote noteRecord noteRound flagsOf oneHeard twoHeard readValue noteLength noteFlags
+  unfolding renderNote noteRecord noteRound noteFlags flagsOf oneHeard twoHeard readValue noteLength
   note-back =
-      let flags = flags-again (noteFlags note) (fits .known) (fits .apart) in
-      rw flags (longer noteFirstValueAt valueLength _ _
-      (longer noteHeardValueAt valueLength _ _
-      (longer noteGuiltyAt maskLength _ _
-      (longer noteFirstAt maskLength _ _
-      (longer noteKeptAt maskLength _ _
-      (longer noteCollectedAt maskLength _ _
-      (longer noteOwnValueAt valueLength _ _
-      (longer noteFlagsAt 1 _ _
-      (longer noteRoundAt 2 (0x20 ∷ byteAt note noteSizeAt ∷ byteAt note noteSeatAt ∷ []) _
-      (longer noteSeatAt 1 (0x20 ∷ byteAt note noteSizeAt ∷ []) _
-      (longer noteSizeAt 1 (0x20 ∷ []) _ (one-byte note 0 0x20 (omega (arith, fits .size, note-figure)) (fits .command)) (byte-back noteSizeAt (omega arith)))
-      (byte-back noteSeatAt (omega arith)))
-      (two-bytes note b noteRoundAt (omega (arith, fits .size, note-figure))))
-      (byte-back noteFlagsAt (omega arith)))
-      refl)
-      (mask-back noteCollectedAt (omega arith)))
-      (mask-back noteKeptAt (omega arith)))
-      (mask-back noteFirstAt (omega arith)))
-      (mask-back noteGuiltyAt (omega arith)))
-      refl)
-      refl
-      ∙ part-all note noteLength (fits .size))
+      let command = one-byte note 0 0x20 (omega (arith, long)) (fits .command) in
+      let size = longer noteSizeAt 1 command (byte-back noteSizeAt (omega arith)) in
+      let seat = longer noteSeatAt 1 size (byte-back noteSeatAt (omega arith)) in
+      let round = longer noteRoundAt 2 seat (two-bytes note b noteRoundAt (omega (arith, long))) in
+      let flags = longer noteFlagsAt 1 round (byte-back noteFlagsAt (omega arith)) in
+      let own = longer noteOwnValueAt valueLength flags refl in
+      let collected = longer noteCollectedAt maskLength own (mask-back noteCollectedAt (omega arith)) in
+      let kept = longer noteKeptAt maskLength collected (mask-back noteKeptAt (omega arith)) in
+      let certified = longer noteFirstAt maskLength kept (mask-back noteFirstAt (omega arith)) in
+      let guilty = longer noteGuiltyAt maskLength certified (mask-back noteGuiltyAt (omega arith)) in
+      let heard = longer noteHeardValueAt valueLength guilty refl in
+      let first = longer noteFirstValueAt valueLength heard refl in
+      rw (flags-again (noteFlags note) (fits .known) (fits .apart)) (first ∙ part-all note noteLength (fits .size))
 
--- its record has values of 32 bytes
+-- the record in it has values of 32 bytes
 pub values-sized : (note : List ℕ) → NoteFits note → ValuesSized (noteRecord note)
 unfolding noteRecord readValue
 values-sized note fits =
