@@ -4,7 +4,7 @@
 -- shows it for a step.
 -- Assumes nothing.
 use Prim.Native.Nat.{ℕ, _+_, _*_, _≤_, _<_}
-use mathlib.Core.Path.{_≡_, refl, sym, subst, _∙_}
+use mathlib.Core.Path.{_≡_, refl, sym, ap, subst, _∙_}
 use mathlib.Core.Bool.{true, false, not, _&&_, _||_, true≢false}
 use mathlib.Core.List.{List, [], _∷_, _++_, List·Memᴰ·head, List·Memᴰ·not-nil}
 use mathlib.Core.Logic.{_≢_, _↔_}
@@ -21,15 +21,18 @@ use Rattle.refusal.specs.RefusalLaws.{both-true, both-false, firstOf-zero}
 use Rattle.rfc8554.specs.Ots.{knownOts}
 use Rattle.rfc8554.specs.Tree.{knownLms}
 use Rattle.rfc8554.specs.Verify.{lmsTypeOf, otsTypeOf, valid}
-use Rattle.protocol.specs.Layout.{valueLength, signatureLength, treeLength, messageLimit, keyLength, keyAt, storeLength, outLength, evidenceOutLength}
+use Rattle.protocol.specs.Layout.{valueLength, signatureLength, treeLength, messageLimit, keyLength, keyAt, storeLength, outLength, evidenceOutLength, noteLength}
 use Rattle.protocol.specs.Message.{Message, Submit, Notice, Full, Evidence, Garbled, render, read, signed, seatsOf, entrySeats, roundOf, WellFormed}
 use Rattle.protocol.specs.MessageLaws.{read-render}
 use Rattle.protocol.specs.Certificate.{certificateIn}
 use Rattle.protocol.specs.Record.{lastRound, wrongSeat, impossible, fresh, InRange}
-use Rattle.protocol.specs.Refusals.{Condition, OUT, NO-CONFLICT-IN, NO-CONFLICT-BETWEEN, Checks, every, lengthIsnt, wrongKey, certificateConditions, checkConditions, makeKeyConditions, signConditions, wrongKeys, shortStore, shortOut, said, isForStep, isFull, isEvidence, wrongLengths, rising, badSignature, notLowerFirst, equalValues, messageConditions, outsideConditions, recordConditions, openingConditions, submitConditions, stepConditions, evidenceConditions, twoConditions, makingConditions}
+use Rattle.protocol.specs.Note.{noteRecord}
+use Rattle.protocol.specs.NoteLaws.{NoteFits, note-right}
+use Rattle.protocol.specs.NoteClaim.{note-written, taken-fits, taken-possible}
+use Rattle.protocol.specs.Refusals.{Condition, OUT, NO-CONFLICT-IN, NO-CONFLICT-BETWEEN, Checks, every, lengthIsnt, wrongKey, certificateConditions, checkConditions, makeKeyConditions, signConditions, wrongKeys, shortStore, shortOut, said, isForStep, isFull, isEvidence, wrongLengths, rising, badSignature, notLowerFirst, equalValues, messageConditions, outsideConditions, recordConditions, openingConditions, submitConditions, stepConditions, evidenceConditions, twoConditions, makingConditions, writeNoteConditions, readNoteConditions}
 use Rattle.protocol.specs.ConditionsLaws.{table-right}
 use Rattle.protocol.specs.Signatures.{checkSignature, makeKeyRefusal, makeKey, signRefusal, sign}
-use Rattle.protocol.specs.Calls.{openedBy, opening, resultBy, submit, step, makingBy, making, checkedBy, evidenceCheck}
+use Rattle.protocol.specs.Calls.{openedBy, opening, resultBy, submit, step, makingBy, making, checkedBy, evidenceCheck, notingBy, writeNote, readNote}
 use Rattle.protocol.specs.declared.Record.{Record}
 use Rattle.round.specs.Round.{Relation, EachSigned}
 use Rattle.reading.specs.ListsLaws.{each-one}
@@ -422,6 +425,38 @@ module _ (leaf : ℕ) (message seed I C tree out : List ℕ) where
   pub sign-not-refused : (sign leaf message seed I C tree out .refusal ≡ 0) ↔ SignFit leaf message seed I C tree out
   unfolding sign
   sign-not-refused = (sign-fit, fit-sign)
+
+-- ---- the note (document 02, item 2)
+
+pub record WriteNoteFit (r : Record) (out : List ℕ) : Type 0 where
+  -- 4: the record is possible
+  pub possible : impossible r ≡ false
+  -- 7: out has 118 bytes or more
+  pub outRoom : noteLength ≤ length out
+
+module _ (r : Record) (out : List ℕ) where
+  write-note-fit : writeNote r out .refusal ≡ 0 → WriteNoteFit r out
+  unfolding writeNote notingBy writeNoteConditions shortOut
+  write-note-fit e =
+      let a = firstOf-zero 3 _ _ e in
+      record { possible = a .0; outRoom = ltb-false (length out) noteLength (firstOf-zero 6 _ _ (a .1) .0) }
+
+  pub write-note-not-refused : (writeNote r out .refusal ≡ 0) ↔ WriteNoteFit r out
+  write-note-not-refused = (write-note-fit, λ t. ap (λ w. w .refusal) (note-written r out (t .possible) (t .outRoom)))
+
+pub record ReadNoteFit (note : List ℕ) : Type 0 where
+  -- 17: 118 bytes, of which the first is 0x20; not both heard flags, and no flag besides the five
+  pub fits : NoteFits note
+  -- 4: its record is possible
+  pub possible : impossible (noteRecord note) ≡ false
+
+module _ (note : List ℕ) where
+  fit-read-note : ReadNoteFit note → readNote note .number ≡ 0
+  unfolding readNote openedBy readNoteConditions firstOf
+  fit-read-note t = rw (note-right note .1 (t .fits), t .possible)
+
+  pub read-note-not-refused : (readNote note .number ≡ 0) ↔ ReadNoteFit note
+  read-note-not-refused = (λ e. record { fits = taken-fits note e; possible = taken-possible note e }, fit-read-note)
 
 -- ---- the premises can be met
 

@@ -11,7 +11,8 @@ use lib.Dec.{lit<, eqb}
 use lib.ListN.{length, take, drop, getD, length-append, length-take, length-drop}
 use lib.Seq.{ext-getD, drop-at, take-take, drop-drop, take-append-le, drop-append-le, drop-append-add, drop-cons, take-all, length-take-le}
 use borrow.Author.Tests.{eqb-true, eq-eqb}
-use Rattle.octets.specs.Octets.{part, patch, be, numberFrom, number, wordAt}
+use Rattle.octets.specs.Octets.{part, patch, be, numberFrom, number, word, wordAt}
+use Rattle.octets.specs.OctetsLaws.{be-four}
 use Rattle.octets.specs.Strings.{joined, same}
 
 -- ---- parts
@@ -112,7 +113,7 @@ number-be (suc w) x h =
     let ih : numberFrom 0 (be w (x / 256)) ≡ x / 256 = number-be w (x / 256) k in
     numberFrom-append 0 (be w (x / 256)) (x % 256 ∷ []) ∙ rw ih (omega arith)
 
-part-zero : (at : ℕ) (xs : List ℕ) → part at 0 xs ≡ []
+pub part-zero : (at : ℕ) (xs : List ℕ) → part at 0 xs ≡ []
 unfolding part
 part-zero at xs = refl
 
@@ -131,6 +132,30 @@ number-part-four at xs h =
       add-three,
     )
     (omega arith)
+
+be-word : (a b c d : ℕ) → a < 256 → b < 256 → c < 256 → d < 256 → be 4 (word a b c d) ≡ a ∷ b ∷ c ∷ d ∷ []
+be-word a b c d ha hb hc hd =
+    let x = word a b c d in
+    let p : x / 16777216 % 256 ≡ a = omega arith in
+    let q : x / 65536 % 256 ≡ b = omega arith in
+    let r : x / 256 % 256 ≡ c = omega arith in
+    let s : x % 256 ≡ d = omega arith in
+    rw (be-four, p, q, r, s)
+
+-- and the bytes of that number, where each is below 256
+pub be-wordAt : (xs : List ℕ) → ((i : ℕ) → getD xs i 0 < 256) → (at : ℕ) → at + 4 ≤ length xs → be 4 (wordAt xs at) ≡ part at 4 xs
+be-wordAt xs byte at h =
+    be-word _ _ _ _ (byte at) (byte (at + 1)) (byte (at + 2)) (byte (at + 3))
+    ∙ rw (
+      add-one,
+      add-two,
+      add-three,
+      part-suc at 3 xs (omega arith),
+      part-suc (suc at) 2 xs (omega arith),
+      part-suc (suc (suc at)) 1 xs (omega arith),
+      part-suc (suc (suc (suc at))) 0 xs (omega arith),
+      part-zero,
+    )
 
 -- ---- joined strings
 

@@ -4,14 +4,15 @@
 use mathlib.Core.Path.{_≡_, refl, sym, ap, ap₂, _∙_}
 use mathlib.Core.Bool.{true}
 use mathlib.Core.List.{List, [], _∷_, _++_}
-use Prim.Native.Nat.{ℕ, _+_, _*_, _/_, _%_, _≤_, _<_}
+use Prim.Native.Nat.{ℕ, suc, _+_, _*_, _/_, _%_, _≤_, _<_}
+use native.Mathlib.Numerals.{add-one}
 use native.Mathlib.Omega.{arith}
 use lib.ListN.{length}
 use Rattle.octets.specs.Octets.{part, be}
-use Rattle.octets.specs.StringsLaws.{be-two, part-suc, part-all}
+use Rattle.octets.specs.StringsLaws.{be-two, part-suc, part-zero, part-all}
 use Rattle.octets.specs.WriteLaws.{part-add}
 use Rattle.quorum.specs.Quorum.{k}
-use Rattle.protocol.specs.Layout.{valueLength, signatureLength, operandsAt, seatAt, valueAt, submitSignatureAt, submitLength, noticeLength, entryLength, fullCountAt, fullStart, fullEntryLength, fullEntryAt, fullLength, lowerAt, higherAt, evidenceCountAt, evidenceStart, evidenceEntryLength, evidenceEntryAt, evidenceLength}
+use Rattle.protocol.specs.Layout.{valueLength, signatureLength, roundAt, operandsAt, seatAt, valueAt, submitSignatureAt, submitLength, noticeLength, entryLength, fullCountAt, fullStart, fullEntryLength, fullEntryAt, fullLength, lowerAt, higherAt, evidenceCountAt, evidenceStart, evidenceEntryLength, evidenceEntryAt, evidenceLength}
 use Rattle.protocol.specs.Figures.{submit-figure, notice-figure, full-figure, evidence-figure}
 use Rattle.protocol.specs.Entries.{Form, placeOf, renderEntries, entryCommands, readEntries}
 use Rattle.protocol.specs.EntriesLaws.{Faithful, length-read, entries-back}
@@ -22,12 +23,21 @@ use Rattle.protocol.specs.MessageLaws.{full-faithful, evidence-faithful,
 
 module _ (bytes : List ℕ) where
   -- us and then vs, each a part of the bytes
-  append-parts : (at a b n : ℕ) (us vs : List ℕ) → us ≡ part at a bytes → vs ≡ part (at + a) b bytes → n ≡ a + b → us ++ vs ≡ part at n bytes
+  pub append-parts : (at a b n : ℕ) (us vs : List ℕ) → us ≡ part at a bytes → vs ≡ part (at + a) b bytes → n ≡ a + b → us ++ vs ≡ part at n bytes
   append-parts at a b n us vs e f q = ap₂ _++_ e f ∙ rw q (sym (part-add at a b bytes))
 
-  one-byte : (at b : ℕ) → at < length bytes → byteAt bytes at ≡ b → b ∷ [] ≡ part at 1 bytes
+  pub one-byte : (at b : ℕ) → at < length bytes → byteAt bytes at ≡ b → b ∷ [] ≡ part at 1 bytes
   unfolding part
   one-byte at b h e = sym (part-suc at 0 bytes h ∙ ap (λ (x : ℕ). x ∷ []) e)
+
+  -- a number of two bytes
+  pub two-bytes : ((i : ℕ) → byteAt bytes i < 256) → (at : ℕ) → at + 2 ≤ length bytes → be 2 (byteAt bytes at * 256 + byteAt bytes (at + 1)) ≡ part at 2 bytes
+  two-bytes b at h =
+      let x = byteAt bytes at in
+      let y = byteAt bytes (at + 1) in
+      let high : (x * 256 + y) / 256 % 256 ≡ x = omega (arith, b at, b (at + 1)) in
+      let low : (x * 256 + y) % 256 ≡ y = omega (arith, b (at + 1)) in
+      rw (be-two, high, low, add-one, part-suc at 1 bytes (omega arith), part-suc (suc at) 0 bytes (omega arith), part-zero)
 
   -- a front, and then the entries
   entries-after : {A : Type 0} (form : Form A) → Faithful form → (front : List ℕ) (t : ℕ) → front ≡ part 0 (form .start) bytes → length bytes ≡ placeOf form t → entryCommands form t bytes ≡ true
@@ -42,16 +52,9 @@ module _ (bytes : List ℕ) where
 
 -- the command and the round
 start-back : (bytes : List ℕ) (command : ℕ) → operandsAt ≤ length bytes → ((i : ℕ) → byteAt bytes i < 256) → byteAt bytes 0 ≡ command → command ∷ be 2 (readRound bytes) ≡ part 0 operandsAt bytes
-unfolding part readRound
-start-back [] command h b e = absurd (omega arith)
-start-back (x ∷ []) command h b e = absurd (omega arith)
-start-back (x ∷ y ∷ []) command h b e = absurd (omega arith)
-start-back (x ∷ y ∷ z ∷ rest) command h b e =
-    let hy : y < 256 = b 1 in
-    let hz : z < 256 = b 2 in
-    let high : (y * 256 + z) / 256 % 256 ≡ y = omega arith in
-    let low : (y * 256 + z) % 256 ≡ z = omega arith in
-    rw (be-two, high, low, e)
+unfolding readRound
+start-back bytes command h b e =
+    append-parts bytes 0 1 2 operandsAt (command ∷ []) (be 2 (readRound bytes)) (one-byte bytes 0 command (omega arith) e) (two-bytes bytes b roundAt (omega arith)) refl
 
 -- SUBMIT, NOTICE and FULL go on with a seat and the value
 head-back : (bytes : List ℕ) (command : ℕ) → valueAt + valueLength ≤ length bytes → ((i : ℕ) → byteAt bytes i < 256) → byteAt bytes 0 ≡ command
