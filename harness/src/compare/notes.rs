@@ -2,7 +2,7 @@
 //! bytes. The subject keeps step with the reference, and the reference with the item's sentences. What these tell apart is
 //! counted, and all of it must be reached.
 
-use super::engine::records::{any_possible, any_record, guilty_strangers, impossible};
+use super::engine::records::{any_possible, any_record, guilty_strangers, impossible, opened};
 use super::{count, covered, equal, long, noise, resized, run, sized, Tally};
 use crate::confirmer::Notes;
 use crate::fleet::{layouts, rounds, Fleet};
@@ -128,6 +128,7 @@ pub fn battery(subject: &dyn Notes) {
     let (mut possible, mut wrong) = (Vec::new(), Vec::new());
     for n in sizes {
         let fleet = Fleet { n, round: *rng.pick(&rounds()) };
+        possible.push(opened(fleet, rng.below(n as usize) as u32));
         possible.extend((0..sized(60)).map(|_| any_possible(fleet, &layouts(), &mut rng)));
         wrong.extend(impossible(fleet, &mut rng).into_iter().map(|(_, record)| record));
         wrong.extend(guilty_strangers(fleet, &mut rng));
@@ -169,9 +170,9 @@ impl Compared<'_> {
     fn possible(&mut self, record: &Record, rng: &mut Rng) -> Result<(), String> {
         let note = noted(self.subject, record, rng)?.ok_or("a possible record has no note")?;
         equal("the note", &note, &note::render(record))?;
-        let Record { n, own, confirmed, notices, first, sent, guilty, kept, .. } = *record;
+        let Record { n, seat, round, own, confirmed, notices, first, sent, guilty, kept } = *record;
         for (what, reached) in [
-            ("opened", *record == Record { n, seat: record.seat, round: record.round, ..Record::default() }),
+            ("opened", *record == opened(Fleet { n, round }, seat)),
             ("seats kept", kept != 0),
             ("submitted", own.submitted),
             ("confirmed", confirmed),

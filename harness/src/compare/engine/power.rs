@@ -33,12 +33,12 @@ const ALL: [&str; 25] = [
     "brought back: a first certificate",
     "brought back: FULL sent",
     "brought back: guilty seats",
-    "since then: submits",
-    "since then: kept ones are collected",
-    "since then: a second submit is refused",
-    "since then: confirms",
-    "since then: FULL is sent",
-    "since then: EVIDENCE is written",
+    "the next call: submits",
+    "the next call: kept ones are collected",
+    "the next call: a second submit is refused",
+    "the next call: confirms",
+    "the next call: FULL is sent",
+    "the next call: EVIDENCE is written",
     "an older note: two layouts signed",
     "another store: evidence that is refused",
 ];
@@ -186,7 +186,7 @@ impl<'a> Unit<'a> {
         if self.was_cut {
             let record = after.record;
             self.count_each(
-                "since then",
+                "the next call",
                 [
                     ("submits", record.own.submitted && !before.own.submitted),
                     ("kept ones are collected", before.kept != 0 && record.own.collected.count_ones() > 1),
