@@ -184,26 +184,27 @@ impl Unit {
         (number, answer.written)
     }
 
-    /// The record noted and read back, and both refused.
+    /// The record noted and read back, and the refusals of both.
     fn note(&self, depths: &Depths) {
         let mut out = [0; layout::NOTE];
         let (number, written) = depths.of("write_note", || {
             let answer = Library.write_note(self.record, &mut out);
             (answer.number, answer.written as usize)
         });
-        if number == 0 {
-            assert_eq!(written, layout::NOTE);
-            let read = |note: &[u8]| {
-                depths.of("read_note", || {
-                    let answer = Library.read_note(note);
-                    (answer.number, answer.record)
-                })
-            };
-            assert_eq!(read(&out), (0, self.record));
-            assert_eq!(read(&out[1..]), (17, Record::default()));
-            assert_eq!(read(&with(&out, NOTE_N_AT, 0)), (4, Record::default()));
-            depths.refused("write_note", 7, || Library.write_note(self.record, &mut out[1..]).number);
+        if number != 0 {
+            return assert_eq!((number, self.record.n), (4, 33));
         }
+        assert_eq!(written, layout::NOTE);
+        let read = |note: &[u8]| {
+            depths.of("read_note", || {
+                let answer = Library.read_note(note);
+                (answer.number, answer.record)
+            })
+        };
+        assert_eq!(read(&out), (0, self.record));
+        assert_eq!(read(&out[1..]), (17, Record::default()));
+        assert_eq!(read(&with(&out, NOTE_N_AT, 0)), (4, Record::default()));
+        depths.refused("write_note", 7, || Library.write_note(self.record, &mut out[1..]).number);
     }
 
     /// A step by value, and on copies the one that is lent its record.
