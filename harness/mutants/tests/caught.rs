@@ -41,6 +41,7 @@ fn run(battery: &str, subject: Subject) {
                     evidence: confirmer,
                     making: confirmer,
                     lower: confirmer,
+                    notes: confirmer,
                 }),
                 _ => unreachable!(),
             }
