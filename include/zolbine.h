@@ -18,7 +18,7 @@ extern "C" {
 /* The interface's version: a change of a call, a struct or a length raises it. zolbine_version answers that of the archive: a
  * program that was compiled with this header runs with an archive of the same version alone.
  */
-#define ZOLBINE_VERSION 2
+#define ZOLBINE_VERSION 3
 
 uint32_t zolbine_version(void);
 
@@ -27,6 +27,7 @@ enum {
     ZOLBINE_SIZE = 1,          /* n outside 1 to 32 */
     ZOLBINE_SEAT = 2,          /* own seat at or above n (opening) */
     ZOLBINE_ROUND = 3,         /* a round or leaf above 1,023 */
+    ZOLBINE_NOTE = 17,         /* no note: not 118 bytes, another command than 0x20, both heard flags or an unknown flag set */
     ZOLBINE_RECORD = 4,        /* impossible record */
     ZOLBINE_KEYS = 5,          /* key table not 56 x n bytes, or a type not allowed */
     ZOLBINE_STORE = 6,         /* store too short */
@@ -78,7 +79,8 @@ enum {
     ZOLBINE_FULL_ENTRY_LEN = 1 + 1 + ZOLBINE_SIGNATURE_LEN,          /* command, seat, signature */
     ZOLBINE_EVIDENCE_COUNT_AT = 1 + 2 + 2 * ZOLBINE_VALUE_LEN,       /* in EVIDENCE: after the two values */
     ZOLBINE_EVIDENCE_HEAD_LEN = 1 + 2 + 2 * ZOLBINE_VALUE_LEN + 1,   /* command, round, two values, count */
-    ZOLBINE_EVIDENCE_ENTRY_LEN = 1 + 1 + 2 * ZOLBINE_SIGNATURE_LEN   /* command, seat, two signatures */
+    ZOLBINE_EVIDENCE_ENTRY_LEN = 1 + 1 + 2 * ZOLBINE_SIGNATURE_LEN,  /* command, seat, two signatures */
+    ZOLBINE_NOTE_LEN = 1 + 1 + 1 + 2 + 1 + 4 * 4 + 3 * ZOLBINE_VALUE_LEN /* command, n, seat, round, flags, masks, values */
 };
 
 /* A number of any integer type as a size_t, for the lengths below. */
@@ -295,6 +297,20 @@ struct zolbine_written zolbine_step_lent(struct zolbine_record *record,
                                          uint8_t *store, size_t store_len,
                                          const uint8_t *message, size_t message_len,
                                          uint8_t *out, size_t out_len);
+
+/* The note of a record, for a unit that may lose power during a round: ZOLBINE_NOTE_LEN bytes at the start of out, which has as
+ * many or more. It is the same on every processor; docs/PROTOCOL.md has its bytes. Refusals: ZOLBINE_RECORD, ZOLBINE_OUT.
+ *
+ * WARNING: keep note and store, both of them or neither, BEFORE anything that the calls since the last note wrote is sent. The unit
+ * goes on from its newest note with the store kept with it, as if the calls after that note had never been made. One that goes on
+ * from an older note, or with another store, may sign a second layout, or write evidence that is refused.
+ */
+struct zolbine_written zolbine_write_note(struct zolbine_record record, uint8_t *out, size_t out_len);
+
+/* The record that a note came from. Only notes that zolbine_write_note could have written are taken. Refusals: ZOLBINE_NOTE, then
+ * ZOLBINE_RECORD (the note of an impossible record).
+ */
+struct zolbine_opened zolbine_read_note(const uint8_t *note, size_t note_len);
 
 #ifdef __cplusplus
 }

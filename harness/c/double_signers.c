@@ -1,5 +1,5 @@
 /* A round in which two double signers split a fleet of four: two honest boats confirm different layouts, and each then holds
- * evidence that names both. It is written from include/zolbine.h, docs/HOST.md and docs/PROTOCOL.md alone, as a display's firmware
+ * evidence that names both. Either honest boat loses power once on the way. It is written from include/zolbine.h, docs/HOST.md and docs/PROTOCOL.md alone, as a display's firmware
  * would be, in C11 that is C++ too. It prints what happens, and ends with 1 if something goes wrong.
  */
 #include "zolbine.h"
@@ -20,12 +20,19 @@ struct signer {
     unsigned signatures; /* each draws its own randomizer */
 };
 
-/* An honest boat's display. Record and store are kept together. */
+/* What stays when the power goes. In a display note and store are kept so that it finds both of them or neither. */
+struct kept {
+    uint8_t note[ZOLBINE_NOTE_LEN];
+    uint8_t store[ZOLBINE_STORE_LEN(N)];
+    bool leaf_used;
+};
+
+/* An honest boat's display. Record and store belong together. */
 struct display {
     struct zolbine_record record;
     uint8_t store[ZOLBINE_STORE_LEN(N)];
     uint8_t out[ZOLBINE_OUT_LEN(N)];
-    bool leaf_used;
+    struct kept kept;
     uint8_t evidence[ZOLBINE_EVIDENCE_LEN(N)]; /* written by this boat */
     size_t evidence_len;
 };
@@ -125,9 +132,38 @@ static void send_all(uint32_t seat, uint32_t written)
     }
 }
 
-/* After a call that wasn't refused: the display's own news, then all that was written. */
+/* Keeps the unit as it is: before anything of it is sent. */
+static void keep(uint32_t seat)
+{
+    struct display *display = &displays[seat];
+    struct zolbine_written noted = zolbine_write_note(display->record, display->kept.note, sizeof display->kept.note);
+
+    if (noted.number != 0 || noted.written != ZOLBINE_NOTE_LEN)
+        stop("noting", noted.number);
+    memcpy(display->kept.store, display->store, sizeof display->store);
+}
+
+/* The memory is lost. The unit goes on from its newest note, with the store kept with it. */
+static void lose_power(uint32_t seat)
+{
+    struct display *display = &displays[seat];
+    struct zolbine_opened back;
+
+    memset(&display->record, 0xff, sizeof display->record);
+    memset(display->store, 0xff, sizeof display->store);
+    memset(display->out, 0xff, sizeof display->out);
+    back = zolbine_read_note(display->kept.note, sizeof display->kept.note);
+    printf("boat %u loses power and comes back: %u\n", (unsigned)seat, (unsigned)back.number);
+    if (back.number != 0)
+        stop("a note that isn't taken", back.number);
+    display->record = back.record;
+    memcpy(display->store, display->kept.store, sizeof display->store);
+}
+
+/* After a call that wasn't refused: the display's own news, then all that was written, once the unit is kept. */
 static void answered(uint32_t seat, bool was_confirmed, uint32_t written)
 {
+    keep(seat);
     if (displays[seat].record.confirmed && !was_confirmed)
         printf("    boat %u: CONFIRMED\n", (unsigned)seat);
     send_all(seat, written);
@@ -163,9 +199,9 @@ static void submit(uint32_t seat, const uint8_t *layout)
     uint8_t own[ZOLBINE_SUBMIT_LEN];
     struct zolbine_stepped answer;
 
-    if (display->leaf_used)
+    if (display->kept.leaf_used)
         stop("a second signature in a round", seat);
-    display->leaf_used = true;
+    display->kept.leaf_used = true;
     make_submit(seat, layout, own);
     answer = zolbine_submit(display->record, keys, sizeof keys, display->store, sizeof display->store,
                             layout, ZOLBINE_VALUE_LEN, own + ZOLBINE_SIGNED_LEN, ZOLBINE_SIGNATURE_LEN,
@@ -216,14 +252,17 @@ int main(void)
         if (opened.number != 0)
             stop("opening", opened.number);
         displays[seat].record = opened.record;
+        keep(seat);
     }
 
     deceive(2, 1, south); /* boat 1 has no layout yet, so its unit keeps these two SUBMITs */
     deceive(3, 1, south);
+    lose_power(1);
     submit(0, north);
     submit(1, south);     /* with the two kept it has three signatures, and confirms in this very call */
     deceive(2, 0, north);
     deliver();            /* boat 0 hears of the other layout before it confirms: its next call writes two messages */
+    lose_power(0);        /* it has submitted, and knows that it has */
     deceive(3, 0, north);
     deliver();
 

@@ -116,6 +116,29 @@ static void places(struct zolbine_record record)
     is("a stranger's FULL", n, stepped(record, ZOLBINE_FULL_LEN(n), ZOLBINE_STORE_LEN(n), ZOLBINE_OUT_LEN(n)), ZOLBINE_STRANGER);
 }
 
+/* The note of a record, in an out of its length, a byte less and a byte more, and read in the same lengths. */
+static void notes(struct zolbine_record record)
+{
+    uint32_t n = record.n;
+    size_t len;
+
+    for (len = ZOLBINE_NOTE_LEN - 1; len <= ZOLBINE_NOTE_LEN + 1; len++) {
+        bool room = len >= ZOLBINE_NOTE_LEN;
+        struct zolbine_written noted = zolbine_write_note(record, out, len);
+
+        is("out, note", n, noted.number, room ? 0 : ZOLBINE_OUT);
+        is("note", n, noted.written, room ? ZOLBINE_NOTE_LEN : 0);
+    }
+    for (len = ZOLBINE_NOTE_LEN - 1; len <= ZOLBINE_NOTE_LEN + 1; len++) {
+        struct zolbine_opened back = zolbine_read_note(out, len);
+
+        is("note", n, back.number, len == ZOLBINE_NOTE_LEN ? 0 : ZOLBINE_NOTE);
+        is("n of a note", n, back.record.n, len == ZOLBINE_NOTE_LEN ? n : 0);
+    }
+    record.n = N + 1;
+    is("a record's n", n, zolbine_write_note(record, out, ZOLBINE_NOTE_LEN).number, ZOLBINE_RECORD);
+}
+
 static void by_n(uint32_t n)
 {
     size_t keys_len = ZOLBINE_KEYS_LEN(n), store_len = ZOLBINE_STORE_LEN(n), out_len = ZOLBINE_OUT_LEN(n);
@@ -142,6 +165,7 @@ static void by_n(uint32_t n)
     start(ZOLBINE_SUBMIT);
     message_is("SUBMIT", record, ZOLBINE_SUBMIT_LEN);
     places(record);
+    notes(record);
     full(n);
     message_is("FULL", record, full_len);
     is("out, evidence", n, made_evidence(n, full_len, making_len - 1), ZOLBINE_OUT);

@@ -19,7 +19,7 @@ const PARTS: [Part; 4] = [
     Part {
         subject: "Confirmer",
         calls: "confirmer_of",
-        files: &["engine", "evidence", "impossible", "layout", "messages", "quorum", "seats", "refusals"],
+        files: &["engine", "evidence", "impossible", "layout", "messages", "note", "quorum", "seats", "refusals"],
         whole: "pub use harness::reference::{calls, lms, record, verdicts};",
     },
     Part { subject: "Hashes", calls: "hashes_of", files: &["sha256"], whole: "" },

@@ -32,6 +32,13 @@ pub trait LentStep: Sync {
     fn step_lent(&self, record: &mut Record, keys: &[u8], store: &mut [u8], message: &[u8], out: &mut [u8]) -> Written;
 }
 
+/// The record as a note, and back.
+pub trait Notes: Sync {
+    fn write_note(&self, record: Record, out: &mut [u8]) -> Written;
+
+    fn read_note(&self, note: &[u8]) -> Opened;
+}
+
 /// Evidence from two certificates in hand.
 pub trait Making: Sync {
     fn make_evidence(&self, n: u32, round: u32, keys: &[u8], first: &[u8], second: &[u8], out: &mut [u8]) -> Written;
@@ -62,9 +69,9 @@ impl<T: Lower> LowerCopy for T {
 }
 
 /// All of the calls.
-pub trait Confirmer: Framing + EvidenceCheck + Engine + LentStep + Making + Lower + LowerCopy {}
+pub trait Confirmer: Framing + EvidenceCheck + Engine + LentStep + Notes + Making + Lower + LowerCopy {}
 
-impl<T: Framing + EvidenceCheck + Engine + LentStep + Making + Lower + LowerCopy> Confirmer for T {}
+impl<T: Framing + EvidenceCheck + Engine + LentStep + Notes + Making + Lower + LowerCopy> Confirmer for T {}
 
 /// Gives a type the calls of a module like [`crate::reference`].
 #[macro_export]
@@ -121,6 +128,20 @@ macro_rules! confirmer_of {
                 out: &mut [u8],
             ) -> $crate::reference::record::Written {
                 $($module)+::engine::step_lent(record, keys, store, message, out)
+            }
+        }
+
+        impl $crate::confirmer::Notes for $subject {
+            fn write_note(
+                &self,
+                record: $crate::reference::record::Record,
+                out: &mut [u8],
+            ) -> $crate::reference::record::Written {
+                $($module)+::note::write_note(record, out)
+            }
+
+            fn read_note(&self, note: &[u8]) -> $crate::reference::record::Opened {
+                $($module)+::note::read_note(note)
             }
         }
 

@@ -5,7 +5,7 @@ pub struct Library;
 #[cfg(feature = "zolbine")]
 mod calls {
     use super::Library;
-    use crate::confirmer::{Engine, EvidenceCheck, Framing, LentStep, Making};
+    use crate::confirmer::{Engine, EvidenceCheck, Framing, LentStep, Making, Notes};
     use crate::reference::record::{Opened, Record, Stepped, Verdict, Written};
     use crate::subject::{c_calls, c_functions};
 
@@ -31,6 +31,8 @@ mod calls {
             message: &[u8],
             out: &mut [u8]
         ) -> Written;
+        fn zolbine_write_note(record: Record, out: &mut [u8]) -> Written;
+        fn zolbine_read_note(note: &[u8]) -> Opened;
         fn zolbine_make_evidence(
             n: u32,
             round: u32,
@@ -95,6 +97,16 @@ mod calls {
             out: &mut [u8],
         ) -> Written {
             zolbine_step_lent(record, keys, store, message, out)
+        }
+    }
+
+    impl Notes for Library {
+        fn write_note(&self, record: Record, out: &mut [u8]) -> Written {
+            zolbine_write_note(record, out)
+        }
+
+        fn read_note(&self, note: &[u8]) -> Opened {
+            zolbine_read_note(note)
         }
     }
 

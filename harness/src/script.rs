@@ -3,12 +3,12 @@
 use std::collections::BTreeMap;
 
 use crate::compare::equal;
-use crate::confirmer::{Engine, EvidenceCheck, LowerCopy, Making};
+use crate::confirmer::{Engine, EvidenceCheck, LowerCopy, Making, Notes};
 use crate::fleet::Fleet;
 use crate::reference::layout;
-use crate::reference::record::{First, Notices, Own, Record, Stepped, Verdict};
+use crate::reference::record::{First, Notices, Opened, Own, Record, Stepped, Verdict};
 use crate::reference::seats::mask;
-use crate::terms::{change, each_line, each_script, expect, length, number, seats, Terms, Words};
+use crate::terms::{bytes, change, each_line, each_script, expect, length, number, seats, Terms, Words};
 
 /// The calls that a script is run with.
 #[derive(Clone, Copy)]
@@ -17,6 +17,7 @@ pub struct Calls<'a> {
     pub evidence: &'a dyn EvidenceCheck,
     pub making: &'a dyn Making,
     pub lower: &'a dyn LowerCopy,
+    pub notes: &'a dyn Notes,
 }
 
 /// Content of `out` and of a store before anything is written there.
@@ -40,6 +41,8 @@ pub fn run(text: &str, calls: Calls) -> Result<(), String> {
 struct Unit {
     record: Record,
     store: Vec<u8>,
+    /// Its notes, each with the store kept with it.
+    notes: Vec<(Vec<u8>, Vec<u8>)>,
 }
 
 struct Script<'a> {
@@ -96,6 +99,8 @@ impl Script<'_> {
                     "opens" => self.open(seat),
                     "submits" => self.submit(seat, words)?,
                     "hears" => self.step(seat, words)?,
+                    "notes" => self.note(seat, words)?,
+                    "comes" => self.come_back(seat, words)?,
                     "has" => return self.has(seat, words),
                     verb => return Err(format!("`{verb}` isn't understood")),
                 }
@@ -109,7 +114,8 @@ impl Script<'_> {
         let opened = self.calls.engine.open(n, seat, round, &self.terms.fleet.key_table());
         self.answer = Some(Answer::Opened(opened.number));
         if opened.number == 0 {
-            self.units.insert(seat, Unit { record: opened.record, store: vec![BLANK; layout::store(n)] });
+            let store = vec![BLANK; layout::store(n)];
+            self.units.insert(seat, Unit { record: opened.record, store, notes: Vec::new() });
         }
     }
 
@@ -163,9 +169,45 @@ impl Script<'_> {
             return Err("a refusal changed something".to_string());
         }
         if answer.number == 0 {
-            *unit = Unit { record: answer.record, store };
+            (unit.record, unit.store) = (answer.record, store);
         }
         self.answer = Some(Answer::Written(answer.number, written));
+        Ok(())
+    }
+
+    /// A note that isn't refused is kept, with the store.
+    fn note(&mut self, seat: u32, words: &mut Words) -> Result<(), String> {
+        let lent = self.changes(words, &mut Vec::new())?;
+        let unit = self.units.get_mut(&seat).ok_or("the unit isn't open")?;
+        let mut out = vec![BLANK; lent.out.unwrap_or(layout::NOTE)];
+        let answer = self.calls.notes.write_note(unit.record, &mut out);
+        let written: Vec<u8> = out.drain(..answer.written as usize).collect();
+        equal("bytes of out beyond those written", out.iter().all(|&byte| byte == BLANK), true)?;
+        if answer.number == 0 {
+            unit.notes.push((written.clone(), unit.store.clone()));
+        }
+        self.answer = Some(Answer::Written(answer.number, written));
+        Ok(())
+    }
+
+    /// The unit lost its record and store. From its newest note, or `from` another by number, with changes to it.
+    fn come_back(&mut self, seat: u32, words: &mut Words) -> Result<(), String> {
+        expect(words, "back")?;
+        let unit = self.units.get(&seat).ok_or("the unit isn't open")?;
+        let which = match words.next_if_eq(&"from") {
+            Some(_) => number(words)? as usize,
+            None => unit.notes.len(),
+        };
+        let (mut note, store) =
+            which.checked_sub(1).and_then(|at| unit.notes.get(at)).cloned().ok_or("no such note")?;
+        self.changes(words, &mut note)?;
+        let Opened { number, record } = self.calls.notes.read_note(&note);
+        let unit = self.units.get_mut(&seat).expect("an open unit");
+        match number {
+            0 => (unit.record, unit.store) = (record, store),
+            _ => equal("the record of a refused note", record, Record::default())?,
+        }
+        self.answer = Some(Answer::Opened(number));
         Ok(())
     }
 
@@ -220,6 +262,9 @@ impl Script<'_> {
                 equal("the number", is, number(words)?)?;
                 equal("the bytes written", written.len() as u32, number(words)?)?;
                 let mut expected = Vec::new();
+                if words.next_if_eq(&"bytes").is_some() {
+                    expected = words.flat_map(bytes).collect();
+                }
                 while words.peek().is_some() {
                     expected.extend(self.terms.message(words)?);
                     words.next_if_eq(&",");

@@ -133,6 +133,14 @@ pub fn expect(words: &mut Words, expected: &str) -> Result<(), String> {
     words.next_if_eq(&expected).map(|_| ()).ok_or_else(|| format!("`{expected}` is missing"))
 }
 
+/// `03ff`, and `11*32` for the same byte 32 times.
+pub fn bytes(word: &str) -> Vec<u8> {
+    match word.split_once('*') {
+        Some((byte, times)) => hex::decode(byte).repeat(times.parse().expect("a number of times")),
+        None => hex::decode(word),
+    }
+}
+
 /// `of LENGTH`.
 pub fn length(words: &mut Words) -> Result<usize, String> {
     expect(words, "of")?;

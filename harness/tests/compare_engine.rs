@@ -1,10 +1,10 @@
 //! Opening, submit and step against the reference.
 #![cfg(feature = "zolbine")]
 
-use harness::compare::engine::{kept, lists, opening, records, refusals, Subject};
+use harness::compare::engine::{kept, lists, opening, power, records, refusals, Subject};
 use harness::library::Library;
 
-const SUBJECT: Subject<'static> = Subject { engine: &Library, lent: &Library };
+const SUBJECT: Subject<'static> = Subject { engine: &Library, lent: &Library, notes: &Library };
 
 #[test]
 fn openings() {
@@ -24,6 +24,11 @@ fn refusals_alone_and_together() {
 #[test]
 fn submits_before_the_own() {
     kept::battery(SUBJECT);
+}
+
+#[test]
+fn units_that_lose_power() {
+    power::battery(SUBJECT);
 }
 
 #[test]

@@ -9,7 +9,7 @@ use harness::library::Library;
 const SUBJECTS: Subjects<'static> = Subjects {
     signatures: &Library,
     evidence: &Library,
-    engine: Subject { engine: &Library, lent: &Library },
+    engine: Subject { engine: &Library, lent: &Library, notes: &Library },
     making: &Library,
 };
 

@@ -15,12 +15,13 @@ use std::time::{Duration, Instant};
 use harness::air;
 use harness::c_program::{compile, compiler, file, SANITIZED};
 use harness::compare::progress;
-use harness::confirmer::{Engine, EvidenceCheck, Framing, Reference};
+use harness::confirmer::{Engine, EvidenceCheck, Framing, Notes, Reference};
 use harness::fleet::{self, rounds, Fleet};
 use harness::library::Library;
 use harness::parallel;
 use harness::reference::layout::{self, SIGNATURE_AT, SIGNED, VALUE_AT};
 use harness::reference::messages::{Value, EVIDENCE, FULL, SUBMIT};
+use harness::reference::note::render;
 use harness::reference::record::Record;
 use harness::rng::{seed, Rng};
 use harness::terms::{change, each_line, Terms};
@@ -215,8 +216,9 @@ impl<'a> Boat<'a> {
 
     /// The layout that the note says is submitted.
     fn submitted(&self) -> Option<Value> {
-        let note = fs::read(self.file()).ok()?;
-        (note.len() > NOTE && note[5] & 1 == 1).then(|| note[6..38].try_into().expect("32 bytes"))
+        let lasting = fs::read(self.file()).ok()?;
+        let own = Reference.read_note(lasting.get(..layout::NOTE)?).record.own;
+        own.submitted.then_some(own.value)
     }
 
     fn start(&mut self, cut: Option<Cut>) -> Result<Start, String> {
@@ -356,7 +358,7 @@ impl<'a> Boat<'a> {
         let (confirmed, guilty) = (unit.record.confirmed, unit.record.guilty);
         assert!(confirmed && guilty == self.script.guilty, "{}: {:?}", self.script.title, unit.record);
         let lasting = fs::read(self.file()).expect("the round's file");
-        if lasting[..NOTE] != note(&unit.record) {
+        if lasting[..layout::NOTE] != render(&unit.record) {
             return Err(format!("another note than that of {:?}", unit.record));
         }
         if words != format!("confirmed; double signers 0x{guilty:08x}") {
@@ -402,24 +404,6 @@ impl Unit {
             Err(number)
         }
     }
-}
-
-/// Length of a note.
-const NOTE: usize = 118;
-
-/// A record as document 02's item 2 writes it.
-fn note(record: &Record) -> Vec<u8> {
-    let Record { own, notices, first, .. } = record;
-    let flags = [own.submitted, record.confirmed, record.sent, notices.heard == 1, notices.heard == 2];
-    let flags = (0..).zip(flags).map(|(bit, flag)| u8::from(flag) << bit).sum();
-    let mut note = vec![0x20, record.n as u8, record.seat as u8];
-    note.extend((record.round as u16).to_be_bytes());
-    note.push(flags);
-    note.extend(own.value);
-    note.extend([own.collected, record.kept, first.seats, record.guilty].map(u32::to_be_bytes).concat());
-    note.extend(notices.value);
-    note.extend(first.value);
-    note
 }
 
 /// A round with kills in its first starts; others follow by chance.

@@ -5,7 +5,7 @@ use harness::reference::layout::SUBMIT;
 use harness::script::{self, Calls};
 
 const REFERENCE: Calls<'static> =
-    Calls { engine: &Reference, evidence: &Reference, making: &Reference, lower: &Reference };
+    Calls { engine: &Reference, evidence: &Reference, making: &Reference, lower: &Reference, notes: &Reference };
 
 #[test]
 fn on_the_reference() {
@@ -17,13 +17,13 @@ fn on_the_reference() {
 #[test]
 fn on_the_library() {
     use harness::library::Library;
-    script::all(Calls { engine: &Library, evidence: &Library, making: &Library, lower: &Library });
+    script::all(Calls { engine: &Library, evidence: &Library, making: &Library, lower: &Library, notes: &Library });
 }
 
 #[test]
 fn a_wrong_answer_is_told() {
     let opening = "fleet 4 round 5\nlayout A 11\n0 opens\n= 0\n";
-    let cases: [(&str, u32); 7] = [
+    let cases: [(&str, u32); 10] = [
         (&format!("0 submits A\n= 0 {} SUBMIT 0 A", SUBMIT - 1), 6),
         (&format!("0 submits A\n= 0 {SUBMIT} SUBMIT 0 A'"), 6),
         ("0 submits A\n= 8 0", 6),
@@ -31,6 +31,9 @@ fn a_wrong_answer_is_told() {
         ("0 submits A\n0 submits A", 6),
         ("check EVIDENCE A A of 1\n= 14", 6),
         ("lower NOTICE 1 A and NOTICE 1 A\n= first", 6),
+        ("0 notes\n= 0 118", 6),
+        ("0 notes\n= 0 118 bytes 20 04 00 0005 00*112 01", 6),
+        ("0 comes back\n= 0", 5),
     ];
     for (rest, line) in cases {
         let told = script::run(&format!("{opening}{rest}"), REFERENCE).unwrap_err();

@@ -5,13 +5,13 @@ use std::cell::RefCell;
 use std::collections::BTreeMap;
 
 use harness::compare::progress;
-use harness::confirmer::{Engine, EvidenceCheck, Framing, LentStep, Making};
+use harness::confirmer::{Engine, EvidenceCheck, Framing, LentStep, Making, Notes};
 use harness::fleet::{layouts, Fleet};
 use harness::library::Library;
 use harness::reference::calls::{MAX_LEAF, MAX_MESSAGE, TREE};
 use harness::reference::layout::{
-    self, ENTRY_SEAT_AT, EVIDENCE_ENTRIES_AT, EVIDENCE_ENTRY, FULL_ENTRIES_AT, FULL_ENTRY, ROUND_AT, SEAT_AT,
-    SIGNATURE, SIGNED,
+    self, ENTRY_SEAT_AT, EVIDENCE_ENTRIES_AT, EVIDENCE_ENTRY, FULL_ENTRIES_AT, FULL_ENTRY, NOTE_N_AT, ROUND_AT,
+    SEAT_AT, SIGNATURE, SIGNED,
 };
 use harness::reference::lms::{IDENTIFIER, N, PUBLIC_KEY};
 use harness::reference::messages::Value;
@@ -25,7 +25,7 @@ const UNSIGNED: usize = 4;
 
 /// The answers that a call gives before it comes to a signature, and the stack stated for them. Each is measured; any other answer
 /// may take the stack stated for a call. Of two certificates the second is looked at after the first one's signatures.
-const BEFORE_SIGNATURES: [(&str, &[u32], usize); 15] = [
+const BEFORE_SIGNATURES: [(&str, &[u32], usize); 17] = [
     ("version", &[0], UNSIGNED),
     ("message_length", &[0], UNSIGNED),
     ("check_signature", &[5, 9], UNSIGNED),
@@ -41,6 +41,8 @@ const BEFORE_SIGNATURES: [(&str, &[u32], usize); 15] = [
     ("step_lent, SUBMIT", &[4, 5, 6, 7, 9, 10, 11], UNSIGNED),
     ("step_lent, NOTICE", &[0, 4, 5, 6, 7, 9, 10, 11], UNSIGNED),
     ("step_lent, FULL", &[4, 5, 6, 7, 9, 10, 11, 12], UNSIGNED),
+    ("write_note", &[0, 4, 7], UNSIGNED),
+    ("read_note", &[0, 4, 17], UNSIGNED),
 ];
 
 /// The greatest depth of each call, by the number that it answered.
@@ -178,7 +180,31 @@ impl Unit {
             (answer.number, answer)
         });
         self.record = answer.record;
+        self.note(depths);
         (number, answer.written)
+    }
+
+    /// The record noted and read back, and the refusals of both.
+    fn note(&self, depths: &Depths) {
+        let mut out = [0; layout::NOTE];
+        let (number, written) = depths.of("write_note", || {
+            let answer = Library.write_note(self.record, &mut out);
+            (answer.number, answer.written as usize)
+        });
+        if number != 0 {
+            return assert_eq!((number, self.record.n), (4, 33));
+        }
+        assert_eq!(written, layout::NOTE);
+        let read = |note: &[u8]| {
+            depths.of("read_note", || {
+                let answer = Library.read_note(note);
+                (answer.number, answer.record)
+            })
+        };
+        assert_eq!(read(&out), (0, self.record));
+        assert_eq!(read(&out[1..]), (17, Record::default()));
+        assert_eq!(read(&with(&out, NOTE_N_AT, 0)), (4, Record::default()));
+        depths.refused("write_note", 7, || Library.write_note(self.record, &mut out[1..]).number);
     }
 
     /// A step by value, and on copies the one that is lent its record.
@@ -194,6 +220,7 @@ impl Unit {
             (answer.number, answer)
         });
         self.record = answer.record;
+        self.note(depths);
         (number, answer.written)
     }
 }

@@ -71,12 +71,13 @@ fn the_headers_macros_in_cpp_without_old_casts() {
 }
 
 /// Boat 1 has kept the SUBMITs of two seats when it submits, and so confirms at once: 3 of 4. Boat 0 hears of boat 1's layout before
-/// it confirms its own. Each of these two calls writes two messages.
+/// it confirms its own. Each of these two calls writes two messages. Before each of them its boat loses power, and nothing by that.
 const SPLIT: &str = "\
 (seat 2 signs for boat 1)
 boat 1 hears SUBMIT: 0
 (seat 3 signs for boat 1)
 boat 1 hears SUBMIT: 0
+boat 1 loses power and comes back: 0
 boat 0 submits: 0
     boat 0 sends SUBMIT, 1488 bytes
 boat 1 submits: 0
@@ -88,6 +89,7 @@ boat 0 hears SUBMIT: 0
 boat 1 hears SUBMIT: 0
 boat 0 hears SUBMIT: 0
 boat 0 hears NOTICE: 0
+boat 0 loses power and comes back: 0
 (seat 3 signs for boat 0)
 boat 0 hears SUBMIT: 0
     boat 0: CONFIRMED

@@ -2,14 +2,14 @@
 
 use std::panic::{catch_unwind, set_hook, take_hook, AssertUnwindSafe};
 
-use harness::compare::engine::{self, kept, lists, opening, records, refusals};
-use harness::compare::{check_signature, evidence, framing, hashes, make_key, making, progress, sign};
+use harness::compare::engine::{self, kept, lists, opening, power, records, refusals};
+use harness::compare::{check_signature, evidence, framing, hashes, make_key, making, notes, progress, sign};
 use harness::confirmer::Reference;
 use harness::script;
 use mutants::{Mutant, Subject};
 
-const OF_THE_CONFIRMER: [&str; 9] =
-    ["evidence", "framing", "kept", "lists", "making", "opening", "records", "refusals", "rounds"];
+const OF_THE_CONFIRMER: [&str; 11] =
+    ["evidence", "framing", "kept", "lists", "making", "notes", "opening", "power", "records", "refusals", "rounds"];
 const OF_SIGNATURES: [&str; 3] = ["check", "make_key", "sign"];
 const OF_HASHES: [&str; 2] = ["compressions", "digests"];
 
@@ -24,14 +24,16 @@ fn batteries(subject: Subject) -> &'static [&'static str] {
 fn run(battery: &str, subject: Subject) {
     match subject {
         Subject::Confirmer(confirmer) => {
-            let engine = engine::Subject { engine: confirmer, lent: confirmer };
+            let engine = engine::Subject { engine: confirmer, lent: confirmer, notes: confirmer };
             match battery {
                 "evidence" => evidence::battery(confirmer),
                 "framing" => framing::battery(confirmer),
                 "kept" => kept::battery(engine),
                 "lists" => lists::battery(engine),
                 "making" => making::battery(making::Subject { making: confirmer, lower: Some(confirmer) }),
+                "notes" => notes::battery(confirmer),
                 "opening" => opening::battery(confirmer),
+                "power" => power::battery(engine),
                 "records" => records::battery(engine),
                 "refusals" => refusals::battery(engine),
                 "rounds" => script::all(script::Calls {
@@ -39,6 +41,7 @@ fn run(battery: &str, subject: Subject) {
                     evidence: confirmer,
                     making: confirmer,
                     lower: confirmer,
+                    notes: confirmer,
                 }),
                 _ => unreachable!(),
             }

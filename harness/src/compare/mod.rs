@@ -10,6 +10,7 @@ pub mod make_key;
 pub mod making;
 mod messages;
 pub mod noise;
+pub mod notes;
 mod refusals;
 pub mod sign;
 
@@ -42,8 +43,8 @@ fn sized(count: usize) -> usize {
     }
 }
 
-/// Every buffer of the confirmer's calls at every length around its own, for each n. The signature calls' batteries have
-/// theirs.
+/// Every buffer of the confirmer's calls at every length around its own, for each n. The batteries of the signature calls and of
+/// notes have theirs.
 pub fn lengths(subjects: noise::Subjects) {
     for_each_n("buffer lengths", |n, rng| {
         let mut calls = engine::refusals::lengths_around(subjects.engine, n, rng)?;

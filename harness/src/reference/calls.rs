@@ -26,7 +26,7 @@ pub fn check_signature(key: &[u8], message: &[u8], signature: &[u8]) -> u32 {
 }
 
 /// Refuses, or copies the bytes that a call writes to the start of `out`.
-fn answer(passed: Passed, out: &mut [u8], bytes: impl FnOnce() -> Vec<u8>) -> Written {
+pub fn answer(passed: Passed, out: &mut [u8], bytes: impl FnOnce() -> Vec<u8>) -> Written {
     if let Err(number) = passed {
         return Written { number, written: 0 };
     }

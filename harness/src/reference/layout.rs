@@ -10,6 +10,8 @@ const COMMAND: usize = 1;
 const ROUND: usize = 2;
 const SEAT: usize = 1;
 const COUNT: usize = 1;
+const FLAGS: usize = 1;
+pub const MASK: usize = 4;
 pub const VALUE: usize = 32;
 /// A signature of the engine's types.
 pub const SIGNATURE: usize = Types::ENGINE.signature();
@@ -41,6 +43,17 @@ pub const ENTRY_SEAT_AT: usize = COMMAND;
 pub const ENTRY_SIGNATURE_AT: usize = ENTRY_SEAT_AT + SEAT;
 pub const FULL_ENTRY: usize = ENTRY_SIGNATURE_AT + SIGNATURE;
 pub const EVIDENCE_ENTRY: usize = ENTRY_SIGNATURE_AT + 2 * SIGNATURE;
+
+// The note: n, seat, round and flags after the command; the own value, four masks, and two values.
+pub const NOTE_N_AT: usize = COMMAND;
+pub const NOTE_SEAT_AT: usize = NOTE_N_AT + COUNT;
+pub const NOTE_ROUND_AT: usize = NOTE_SEAT_AT + SEAT;
+pub const NOTE_FLAGS_AT: usize = NOTE_ROUND_AT + ROUND;
+pub const NOTE_OWN_AT: usize = NOTE_FLAGS_AT + FLAGS;
+pub const NOTE_MASKS_AT: usize = NOTE_OWN_AT + VALUE;
+pub const NOTE_HEARD_AT: usize = NOTE_MASKS_AT + 4 * MASK;
+pub const NOTE_FIRST_AT: usize = NOTE_HEARD_AT + VALUE;
+pub const NOTE: usize = NOTE_FIRST_AT + VALUE;
 
 pub const fn full(count: u32) -> usize {
     FULL_ENTRIES_AT + FULL_ENTRY * count as usize
@@ -92,10 +105,11 @@ fn slot(number: u32) -> Range<usize> {
 mod tests {
     use super::*;
 
-    /// The figures that documents 01 and 02 (item 1) state.
+    /// The figures that documents 01 and 02 (items 1 and 2) state.
     #[test]
     fn figures_of_the_documents() {
         assert_eq!((SIGNATURE, SIGNED, SUBMIT, NOTICE), (1452, 36, 1488, 36));
+        assert_eq!(NOTE, 118);
         for n in 1..=32 {
             let (count, k) = (n as usize, k(n) as usize);
             assert_eq!((full(n), evidence(n)), (37 + 1454 * count, 68 + 2906 * count));

@@ -1,5 +1,5 @@
-//! A second implementation of the standards, document 01 and document 02's item 1 in the plainest style: slow, and short enough
-//! to read. It is no independent reading of them: README.md says what it shows, and what the outside vectors show.
+//! A second implementation of the standards, document 01 and document 02's items 1 and 2 in the plainest style: slow, and short
+//! enough to read. It is no independent reading of them: README.md says what it shows, and what the outside vectors show.
 
 pub mod calls;
 pub mod engine;
@@ -9,6 +9,7 @@ pub mod layout;
 pub mod lmots;
 pub mod lms;
 pub mod messages;
+pub mod note;
 pub mod quorum;
 pub mod record;
 pub mod refusals;

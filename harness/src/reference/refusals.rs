@@ -1,4 +1,4 @@
-//! The conditions of document 01's table that several calls share, and the order in which they count.
+//! The conditions of the documents' table that several calls share, and the order in which they count.
 
 use super::calls::MAX_LEAF;
 use super::lms::PUBLIC_KEY;
@@ -7,8 +7,8 @@ use super::quorum;
 use super::verdicts;
 
 /// The table's numbers in the order in which they count: "The lowest number whose condition holds is returned". "Number 13 no
-/// longer occurs."
-pub const ORDER: &[u32] = &[1, 2, 3, 4, 5, 6, 7, 8, 9, 10, 11, 12, 14, 15, 16];
+/// longer occurs." 17 "comes before 4".
+pub const ORDER: &[u32] = &[1, 2, 3, 17, 4, 5, 6, 7, 8, 9, 10, 11, 12, 14, 15, 16];
 
 /// The place of a number in the order.
 pub fn place(number: u32) -> usize {

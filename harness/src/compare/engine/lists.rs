@@ -1,10 +1,11 @@
 //! Long random lists of calls: boats under test among seats that sign whatever the script wants, over links that lose,
-//! copy, reorder and garble. The subject keeps step with the reference, and the reference with demands 1 and 3.
+//! copy, reorder and garble. The subject keeps step with the reference, and the reference with demands 1 and 3, also where boats
+//! lose power.
 
 use super::records::{any_impossible, opened};
 use super::{both, Call, Case, Subject};
 use crate::air;
-use crate::compare::{count, covered, equal, long, run, Tally};
+use crate::compare::{count, covered, equal, long, notes, run, Tally};
 use crate::fleet::{fewest_to_split, layouts, rounds, some_seats, Fleet, HANDS};
 use crate::reference::evidence::check_evidence;
 use crate::reference::layout::{self, SIGNATURE};
@@ -24,6 +25,8 @@ struct Plan {
     calls: usize,
     /// No signature over another layout than its own is delivered for a boat's seat.
     fair: bool,
+    /// Boats lose power now and then.
+    cuts: bool,
 }
 
 /// Hundreds of calls for each n, ten thousand in the long battery.
@@ -41,6 +44,7 @@ pub fn battery(subject: Subject) {
             layouts: 2 + list / 3 % 2,
             calls,
             fair: list.is_multiple_of(2),
+            cuts: list / 2 % 2 == 1,
         };
         plans.extend((0..lists).map(plan));
     }
@@ -57,6 +61,7 @@ pub fn whole_rounds(subject: Subject) {
         layouts: 2,
         calls: 100,
         fair: true,
+        cuts: list % 2 == 1,
     };
     let plans: Vec<Plan> = (0..count).map(plan).collect();
     let tally = covered("whole rounds", played("whole rounds", subject, &plans), []);
@@ -90,7 +95,8 @@ fn answers() -> impl Iterator<Item = String> {
         " SUBMIT NOTICE FULL EVIDENCE",
     ];
     let written = written.map(|names| format!("wrote{names}"));
-    steps.into_iter().chain(submits).chain(written).chain(["disagreement".to_string()])
+    let others = ["disagreement", "lost power", "lost power and an own submit", "lost power and messages written"];
+    steps.into_iter().chain(submits).chain(written).chain(others.map(String::from))
 }
 
 /// A unit under test.
@@ -98,6 +104,10 @@ struct Boat {
     layout: Value,
     record: Record,
     store: Vec<u8>,
+    /// The newest note, and the store kept with it.
+    kept: Option<(Vec<u8>, Vec<u8>)>,
+    /// Written since that note, and sent with the next.
+    unsent: Vec<Vec<u8>>,
     said: Vec<Vec<u8>>,
 }
 
@@ -109,6 +119,7 @@ struct Sea<'a> {
     /// Every message that was written or sent.
     air: Vec<Vec<u8>>,
     calls: Vec<String>,
+    cuts: bool,
     tally: Tally,
 }
 
@@ -124,11 +135,14 @@ impl<'a> Sea<'a> {
                 layout: chosen[place % chosen.len()],
                 record: opened(fleet, seat),
                 store: rng.bytes(layout::store(fleet.n) + spare),
+                kept: None,
+                unsent: Vec::new(),
                 said: Vec::new(),
             }
         };
         let boats = seats.into_iter().enumerate().map(boat).collect();
-        Sea { subject, plan, layouts: chosen, boats, air: Vec::new(), calls: Vec::new(), tally: Tally::new() }
+        let (air, calls, cuts, tally) = (Vec::new(), Vec::new(), plan.cuts, Tally::new());
+        Sea { subject, plan, layouts: chosen, boats, air, calls, cuts, tally }
     }
 
     /// The last calls, for the report of a difference.
@@ -139,6 +153,7 @@ impl<'a> Sea<'a> {
 
     fn play(&mut self, rng: &mut Rng) -> Result<(), String> {
         for boat in 0..self.boats.len() {
+            self.send(boat, rng)?;
             let (heard_before, lacking) =
                 *rng.pick(&[(0, None), (0, Some(1)), (0, Some(2)), (6, Some(0)), (6, Some(1))]);
             for _ in 0..heard_before {
@@ -339,7 +354,7 @@ impl<'a> Sea<'a> {
             let signature = self.plan.fleet.signature(record.seat, &layout, 0);
             case.call = Call::Submit { value: layout.to_vec(), signature };
         }
-        self.note(boat, what, &case.call);
+        self.log(boat, what, &case.call);
         let after = both(self.subject, &case, rng)?;
         self.count(&case.call, after.number);
         equal("the reference's number", after.number, number)?;
@@ -348,7 +363,7 @@ impl<'a> Sea<'a> {
 
     /// A call in the boat's list.
     fn right_call(&mut self, boat: usize, what: &str, call: Call, rng: &mut Rng) -> Result<(), String> {
-        self.note(boat, what, &call);
+        self.log(boat, what, &call);
         let case = self.case(boat, call, rng);
         let after = both(self.subject, &case, rng)?;
         self.count(&case.call, after.number);
@@ -362,9 +377,40 @@ impl<'a> Sea<'a> {
         count(&mut self.tally, format!("wrote{names}"));
         self.boats[boat].record = after.record;
         self.boats[boat].store = after.store;
-        for message in messages {
+        self.boats[boat].unsent.extend(messages);
+        match rng.below(8) {
+            0 if self.cuts => self.lose_power(boat, rng),
+            1 if self.cuts => Ok(()),
+            _ => self.send(boat, rng),
+        }
+    }
+
+    /// "The host keeps the note and the store, both of them or neither, before it sends anything."
+    fn send(&mut self, boat: usize, rng: &mut Rng) -> Result<(), String> {
+        let Boat { record, store, kept, unsent, .. } = &mut self.boats[boat];
+        let note = notes::noted(self.subject.notes, record, rng)?.ok_or("the record has no note")?;
+        *kept = Some((note, store.clone()));
+        for message in std::mem::take(unsent) {
             self.said(boat, message)?;
         }
+        Ok(())
+    }
+
+    /// The boat is brought back from its newest note and the store kept with it.
+    fn lose_power(&mut self, boat: usize, rng: &mut Rng) -> Result<(), String> {
+        let Boat { record, store, kept, unsent, .. } = &mut self.boats[boat];
+        let (note, kept_store) = kept.as_ref().expect("each boat is noted when it is opened");
+        let back = notes::read(self.subject.notes, note, rng)?;
+        equal("the newest note", back.number, 0)?;
+        count(&mut self.tally, "lost power");
+        if record.own.submitted && !back.record.own.submitted {
+            count(&mut self.tally, "lost power and an own submit");
+        }
+        if !unsent.is_empty() {
+            count(&mut self.tally, "lost power and messages written");
+        }
+        (*record, *store) = (back.record, kept_store.clone());
+        unsent.clear();
         Ok(())
     }
 
@@ -387,7 +433,9 @@ impl<'a> Sea<'a> {
     /// The end of a fair list: each boat gets the signatures that it lacks, and its NOTICE and FULL reach every other. Demand 3: where two have confirmed
     /// different layouts, each boat has written evidence that names at least t0 + 1 seats.
     fn settle(&mut self, rng: &mut Rng) -> Result<(), String> {
+        self.cuts = false;
         for boat in 0..self.boats.len() {
+            self.send(boat, rng)?;
             self.collect(boat, 0, rng)?;
         }
         let mut reached = vec![0; self.boats.len()];
@@ -411,7 +459,7 @@ impl<'a> Sea<'a> {
         Ok(())
     }
 
-    fn note(&mut self, boat: usize, what: &str, call: &Call) {
+    fn log(&mut self, boat: usize, what: &str, call: &Call) {
         let told = match call {
             Call::Submit { value, signature } => format!("submit of {} and {} bytes", value.len(), signature.len()),
             Call::Step { message } => {

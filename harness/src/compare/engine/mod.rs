@@ -1,14 +1,16 @@
-//! Opening, submit and step: each call given to a subject and to the reference, every byte afterwards compared.
+//! Opening, submit and step: each call given to a subject and to the reference, every byte afterwards compared. Each record that
+//! comes back from a submit or a step is noted and read back.
 
 pub mod kept;
 pub mod lists;
 pub mod opening;
+pub mod power;
 pub mod records;
 pub mod refusals;
 
 use super::arguments::untouched;
-use super::equal;
-use crate::confirmer::{Engine, LentStep};
+use super::{equal, notes};
+use crate::confirmer::{Engine, LentStep, Notes};
 use crate::guarded::{Guarded, GuardedItem};
 use crate::reference::record::{Record, Stepped};
 use crate::reference::{engine, verdicts};
@@ -19,6 +21,7 @@ use crate::rng::Rng;
 pub struct Subject<'a> {
     pub engine: &'a dyn Engine,
     pub lent: &'a dyn LentStep,
+    pub notes: &'a dyn Notes,
 }
 
 #[derive(Clone)]
@@ -93,6 +96,7 @@ pub fn both(subject: Subject, case: &Case, rng: &mut Rng) -> Result<After, Strin
     equal("the bytes written", answer.written, expected.written)?;
     equal("the record", answer.record, expected.record)?;
     untouched(&[("keys", &keys, &case.keys), ("store", &lent_store, &store), ("out", &lent_out, &out)])?;
+    notes::noted(subject.notes, &expected.record, rng)?;
     out.truncate(expected.written as usize);
     Ok(After { number: expected.number, record: expected.record, store, written: out, checks })
 }

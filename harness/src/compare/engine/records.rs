@@ -49,7 +49,7 @@ pub fn seats_with(fleet: Fleet, seat: u32, rng: &mut Rng) -> Vec<u32> {
 
 /// Impossible records of a fleet, each with the cause that makes it so; the strangers need n below 32, and more than k
 /// seats need t0 above 0.
-fn impossible(fleet: Fleet, rng: &mut Rng) -> Vec<(&'static str, Record)> {
+pub fn impossible(fleet: Fleet, rng: &mut Rng) -> Vec<(&'static str, Record)> {
     let Fleet { n, .. } = fleet;
     let k = fleet.k();
     let seat = rng.below(n as usize) as u32;
@@ -124,7 +124,7 @@ fn impossible(fleet: Fleet, rng: &mut Rng) -> Vec<(&'static str, Record)> {
 }
 
 /// Records with a guilty seat at or above n, outside the first certificate or a stranger in it too.
-fn guilty_strangers(fleet: Fleet, rng: &mut Rng) -> Vec<Record> {
+pub fn guilty_strangers(fleet: Fleet, rng: &mut Rng) -> Vec<Record> {
     if fleet.n == 32 {
         return Vec::new();
     }
@@ -255,7 +255,7 @@ fn noise_case(rng: &mut Rng, call: impl Fn(&Record, &mut Rng) -> Call) -> Case {
 }
 
 /// Any bytes, but for the flags, which are 0 or 1.
-fn any_record(rng: &mut Rng) -> Record {
+pub fn any_record(rng: &mut Rng) -> Record {
     let mut value = || rng.bytes(32).try_into().expect("32 bytes");
     let values: [Value; 3] = [value(), value(), value()];
     Record {
