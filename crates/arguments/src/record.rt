@@ -1,12 +1,46 @@
-// Impossible records, test by test (document 01, "A record is impossible if"; document 02, item 1): 4.
+// A unit's record: with nothing set, and impossible records, test by test (document 01, "A record is impossible if"; document 02,
+// item 1): 4.
 ghost use mathlib.Core.Path.{_≡_};
 ghost use Rattle.octets.specs.Strings.{same};
+ghost use Rattle.protocol.specs.Record as Records;
 ghost use Rattle.protocol.specs.Record.{holds, outOfRange, namesStranger, wrongCollected, wrongFirst, lacksFirst, wrongGuilty, wrongSent, wrongKept, wrongUnset, impossible, InRange};
 ghost use Rattle.protocol.specs.Values.{unset};
 use crate::range::wrong_round;
 use crate::range::wrong_seat;
 use crate::range::wrong_size;
+use protocol::First;
+use protocol::Notices;
+use protocol::Own;
 use protocol::Record;
+
+// The record with n, seat and round set, and nothing else.
+pub fn fresh(n: u32, seat: u32, round: u32) -> Record
+    ensures { λ r. ⌜ r ≡ Records.fresh n seat round ⌝ }
+{
+    let zeros = [0u8; 32];
+    Record {
+        n,
+        seat,
+        round,
+        own: Own {
+            submitted: false,
+            value: zeros,
+            collected: 0,
+        },
+        confirmed: false,
+        notices: Notices {
+            heard: 0,
+            value: zeros,
+        },
+        first: First {
+            value: zeros,
+            seats: 0,
+        },
+        sent: false,
+        guilty: 0,
+        kept: 0,
+    }
+}
 
 // Whether a value is 32 zero bytes.
 fn is_unset(value: [u8; 32]) -> bool

@@ -61,6 +61,33 @@ const SEAT_SIGNATURES: usize = 3 * SIGNATURE;
 
 pub const SEAT_SLOTS: usize = SEAT_SIGNATURES + VALUE;
 
+// The note (document 02, item 2): the places of its parts, and its length.
+const MASK: usize = 4;
+
+pub const NOTE_SIZE_AT: usize = 1;
+
+pub const NOTE_SEAT_AT: usize = NOTE_SIZE_AT + 1;
+
+pub const NOTE_ROUND_AT: usize = NOTE_SEAT_AT + 1;
+
+pub const NOTE_FLAGS_AT: usize = NOTE_ROUND_AT + 2;
+
+pub const NOTE_OWN_VALUE_AT: usize = NOTE_FLAGS_AT + 1;
+
+pub const NOTE_COLLECTED_AT: usize = NOTE_OWN_VALUE_AT + VALUE;
+
+pub const NOTE_KEPT_AT: usize = NOTE_COLLECTED_AT + MASK;
+
+pub const NOTE_FIRST_AT: usize = NOTE_KEPT_AT + MASK;
+
+pub const NOTE_GUILTY_AT: usize = NOTE_FIRST_AT + MASK;
+
+pub const NOTE_HEARD_VALUE_AT: usize = NOTE_GUILTY_AT + MASK;
+
+pub const NOTE_FIRST_VALUE_AT: usize = NOTE_HEARD_VALUE_AT + VALUE;
+
+pub const NOTE: usize = NOTE_FIRST_VALUE_AT + VALUE;
+
 pub fn signature_length() -> usize
     ensures { λ r. ⌜ r ≡ Layout.signatureLength ⌝ }
 {
@@ -261,6 +288,13 @@ pub fn out_length(n: u32) -> usize
     ensures { λ r. ⌜ r ≡ Layout.outLength n ⌝ }
 {
     SUBMIT + NOTICE + full_length(n) + evidence_out_length(n)
+}
+
+// A note, and `out` for one.
+pub fn note_length() -> usize
+    ensures { λ r. ⌜ r ≡ Layout.noteLength ⌝ }
+{
+    NOTE
 }
 
 // ---- values, keys, trees, signed messages, rounds

@@ -1,5 +1,6 @@
 -- "A refusal returns its number and 0 bytes written; record, store, tree and out keep every byte.": the law for the results
--- that the contracts of a submit and of a step, by value and through the thin entry, promise.
+-- that the contracts of a submit, of a step, by value and through the thin entry, and of writing a note promise. "A refused note
+-- gives a record of zeros." (document 02, item 2): the law for the result that the contract of reading one promises.
 -- Assumes nothing.
 use Prim.Native.Nat.{ℕ}
 use mathlib.Core.Path.{_≡_, refl}
@@ -7,9 +8,10 @@ use mathlib.Core.Logic.{_≢_}
 use mathlib.Core.List.{List, []}
 use Rattle.octets.specs.StringsLaws.{patch-nothing}
 use Rattle.refusal.specs.RefusalLaws.{refused-old}
+use Rattle.protocol.specs.Record.{zeros}
 use Rattle.protocol.specs.Refusals.{Checks}
 use Rattle.protocol.specs.Step.{State}
-use Rattle.protocol.specs.Calls.{Result, resultBy, submit, step, outAfter}
+use Rattle.protocol.specs.Calls.{Result, resultBy, submit, step, outAfter, notingBy, writeNote, openedBy, readNote}
 use Rattle.protocol.specs.declared.Record.{Record}
 
 -- the record, the store and out are as they were lent
@@ -29,3 +31,12 @@ pub step-refused : (checks : Checks) (keys : List ℕ) (r : Record) (store bytes
     → step checks keys r store bytes out .refusal ≢ 0 → Unchanged (step checks keys r store bytes out) r store out
 unfolding step resultBy
 step-refused checks keys r store bytes out = refused-by _ _ r store out
+
+pub write-note-refused : (r : Record) (out : List ℕ) → writeNote r out .refusal ≢ 0
+    → (writeNote r out .written ≡ []) × (outAfter (writeNote r out .written) out ≡ out)
+unfolding writeNote notingBy outAfter
+write-note-refused r out h = simp refused-old (refl, patch-nothing out)
+
+pub read-note-refused : (note : List ℕ) → readNote note .number ≢ 0 → readNote note .unit ≡ zeros
+unfolding readNote openedBy
+read-note-refused note h = simp refused-old

@@ -17,7 +17,7 @@ use protocol::Written;
 pub extern "C" fn zolbine_version() -> u32
     ensures { λ r. ⌜ r ≡ version ⌝ }
 {
-    2
+    3
 }
 
 // The length of the first message in a buffer; 0 where no message of a fleet of n seats stands there whole.
@@ -180,4 +180,23 @@ pub extern "C" fn zolbine_step_lent(
         number: a.number,
         written: a.written,
     }
+}
+
+// "The record shall be written out as a note" (document 02, item 2).
+#[no_mangle]
+pub extern "C" fn zolbine_write_note(unit: Record, out: &mut [u8]) -> Written
+    ensures { λ r.
+        let result = calls.writeNote unit (now (out .entry)) in
+        ⌜ (r ≡ calls.made result)
+        × (now (out .exit) ≡ calls.outAfter (result .written) (now (out .entry))) ⌝ }
+{
+    notes::write_note(unit, out)
+}
+
+// "A note read back is the record it came from"; "a refused note gives a record of zeros" (document 02, item 2).
+#[no_mangle]
+pub extern "C" fn zolbine_read_note(note: &[u8]) -> Opened
+    ensures { λ r. ⌜ r ≡ calls.readNote (now (note .entry)) ⌝ }
+{
+    notes::read_note(note)
 }

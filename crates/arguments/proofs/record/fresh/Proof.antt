@@ -1,9 +1,9 @@
--- `confirmer::opening::fresh` meets its contract.
+-- `arguments::record::fresh` meets its contract.
 use mathlib.Core.Path.{refl}
 use Rattle.protocol.specs.Values.{unset}
 use Rattle.protocol.specs.Record.{fresh}
-use Rattle.confirmer.proofs.opening.fresh.Statement.{statement}
-use Rattle.confirmer.proofs.opening.fresh.Tie as tie
+use Rattle.arguments.proofs.record.fresh.Statement.{statement}
+use Rattle.arguments.proofs.record.fresh.Tie as tie
 
 returns : tie.Need-returns
 unfolding fresh unset

@@ -1,0 +1,12 @@
+-- `notes::flags::wrong_flags` meets its contract.
+use borrow.Author.Needs.{needs}
+use Rattle.protocol.specs.Note.{bothHeard, unknownFlag}
+use Rattle.notes.proofs.flags.wrong_flags.Statement.{statement}
+use Rattle.notes.proofs.flags.wrong_flags.Tie as tie
+
+returns : tie.Need-returns
+unfolding bothHeard unknownFlag
+returns c = cc
+
+pub wrong-flags-spec : {M : Type 1} → statement M
+wrong-flags-spec = tie.close (tie.spec (λ c κs. search needs) (λ c κs. search needs) returns)

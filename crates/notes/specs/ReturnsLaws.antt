@@ -1,0 +1,92 @@
+-- The returns of writing and reading a note, over plain values.
+-- Assumes nothing.
+use mathlib.Core.Path.{_≡_, refl, sym, ap, _∙_}
+use mathlib.Core.Bool.{Bool, true, false, not, _||_, or-assoc}
+use mathlib.Core.List.{List, [], _∷_}
+use Prim.Native.Nat.{ℕ, _≤_, _<_}
+use native.Mathlib.Omega.{arith}
+use lib.Dec.{eqb}
+use lib.ListN.{length}
+use borrow.Author.Tests.{eqb-true, eq-eqb, ltb-false, not-false}
+use Rattle.octets.specs.Octets.{patch}
+use Rattle.octets.specs.StringsLaws.{patch-nothing}
+use Rattle.refusal.specs.Refusal.{firstOf, unrefused}
+use Rattle.refusal.specs.RefusalLaws.{both-false, firstOf-zero, refused-old, test-held, test-passed, none-left}
+use Rattle.protocol.specs.Layout.{noteLength}
+use Rattle.protocol.specs.Record.{impossible, zeros}
+use Rattle.protocol.specs.RecordLaws.{possible}
+use Rattle.protocol.specs.Message.{byteAt}
+use Rattle.protocol.specs.Note.{renderNote, noteRecord, noteFlags, bothHeard, unknownFlag, wrongNote}
+use Rattle.protocol.specs.Refusals.{shortOut, RECORD, OUT, writeNoteConditions, readNoteConditions}
+use Rattle.protocol.specs.Calls.{outAfter, made, notingBy, openedBy, writeNote, readNote}
+use Rattle.protocol.specs.declared.Record.{Record}
+use Rattle.protocol.specs.declared.Opened.{Opened}
+use Rattle.protocol.specs.declared.Written.{Written}
+use Rattle.notes.specs.Parts.{refusedWith}
+
+-- ---- writing
+
+abbrev answered : ℕ → ℕ → Written
+answered number written = record { number = number; written = written }
+
+module _ (r : Record) (out : List ℕ) {number : ℕ} (told : number ≡ firstOf (writeNoteConditions r out)) where
+  -- answer of the call, and `out` after it
+  abbrev Writes : ℕ → ℕ → List ℕ → Type 0
+  Writes number written after = (answered number written ≡ made (writeNote r out)) × (after ≡ outAfter (writeNote r out .written) out)
+
+  pub write-refused : (number ≡ 0 → ⊥) → Writes number 0 out
+  unfolding writeNote notingBy made outAfter
+  write-refused h = rw (← told, refused-old) (refl, sym (patch-nothing out))
+
+  module _ (none : number ≡ 0) where
+    pub write-fits : (r .n < 256) × (r .seat < 256) × (noteLength ≤ length out)
+    unfolding writeNoteConditions shortOut
+    write-fits =
+        let one = firstOf-zero 3 (impossible r) (OUT noteLength out ∷ []) (sym told ∙ none) in
+        let two = firstOf-zero 6 (shortOut noteLength out) [] (one .1) in
+        let range = possible r (one .0) .range in
+        (omega (arith, range .most, range .seated), omega (arith, range .most, range .seated), ltb-false (length out) noteLength (two .0))
+
+    pub write-done : {after : List ℕ} {end : ℕ} → after ≡ patch 0 (renderNote r) out → end ≡ length (renderNote r) → Writes 0 end after
+    unfolding writeNote notingBy made unrefused outAfter
+    write-done w e = rw (sym told ∙ none) (ap (answered 0) e, w)
+
+-- ---- reading
+
+-- in a note of the right length, the tests after that of the length
+pub others-tested : (note : List ℕ) → length note ≡ noteLength → {rest : Bool} → rest ≡ (bothHeard (noteFlags note) || unknownFlag (noteFlags note))
+    → (not (eqb (byteAt note 0) 0x20) || rest) ≡ wrongNote note
+unfolding wrongNote
+others-tested note l e = rw (eq-eqb (length note) noteLength l, e) (sym (or-assoc (not (eqb (byteAt note 0) 0x20)) (bothHeard (noteFlags note)) (unknownFlag (noteFlags note))))
+
+abbrev taken : ℕ → Record → Opened
+taken number unit = record { number = number; unit = unit }
+
+module _ (note : List ℕ) {test : Bool} (is : test ≡ wrongNote note) where
+  refused : {number : ℕ} → number ≡ firstOf (readNoteConditions note) → (number ≡ 0 → ⊥) → refusedWith number ≡ readNote note
+  unfolding readNote openedBy
+  refused e h = rw (← e, refused-old)
+
+  pub read-wrong : test ≡ true → {a : Opened} → a ≡ refusedWith 17 → a ≡ readNote note
+  unfolding readNoteConditions
+  read-wrong h p = p ∙ refused (test-held 17 (wrongNote note) _ test is h) (λ z. omega (arith, z))
+
+  module _ (right : test ≡ false) where
+    pub right-length : length note ≡ noteLength
+    unfolding wrongNote
+    right-length =
+        let a = both-false _ (unknownFlag (noteFlags note)) (sym is ∙ right) in
+        let b = both-false _ (bothHeard (noteFlags note)) (a .0) in
+        let c = both-false (not (eqb (length note) noteLength)) (not (eqb (byteAt note 0) 0x20)) (b .0) in
+        eqb-true (length note) noteLength (not-false _ (c .0))
+
+    module _ {unit : Record} (e : unit ≡ noteRecord note) {held : Bool} (f : held ≡ impossible unit) where
+      pub read-impossible : held ≡ true → {a : Opened} → a ≡ refusedWith 4 → a ≡ readNote note
+      unfolding readNoteConditions
+      read-impossible h p = p ∙ refused (test-passed 17 (wrongNote note) _ test is 4 right (test-held 4 (impossible (noteRecord note)) [] held (f ∙ ap impossible e) h)) (λ z. omega (arith, z))
+
+      pub read-taken : held ≡ false → taken 0 unit ≡ readNote note
+      unfolding readNote readNoteConditions openedBy unrefused
+      read-taken h =
+          let none : firstOf (readNoteConditions note) ≡ 0 = sym (test-passed 17 (wrongNote note) _ test is 0 right (test-passed 4 (impossible (noteRecord note)) [] held (f ∙ ap impossible e) 0 h (none-left 0 refl))) in
+          rw (none, e)

@@ -1,0 +1,69 @@
+// The note of a unit's record, written and read back (document 02, item 2).
+ghost use mathlib.Core.Path.{_≡_};
+ghost use Rattle.refusal.specs.Refusal.{firstOf};
+ghost use Rattle.protocol.specs.Refusals.{writeNoteConditions};
+ghost use Rattle.protocol.specs.Calls as calls;
+ghost use Rattle.notes.specs.Parts.{refusedWith};
+use crate::read::note_record;
+use crate::read::wrong_note;
+use crate::write::put_note;
+use arguments::buffers::short_out;
+use arguments::record::fresh;
+use arguments::record::is_impossible;
+use protocol::Opened;
+use protocol::Record;
+use protocol::Written;
+
+mod flags;
+mod read;
+mod write;
+
+// Refusal of writing a note: 4, 7.
+fn write_refusal(r: Record, out: &[u8]) -> u32
+    ensures { λ b. ⌜ b ≡ firstOf (writeNoteConditions r (now (out .entry))) ⌝ }
+{
+    if is_impossible(r) {
+        return refusal::RECORD;
+    }
+    if short_out(layout::note_length(), out) {
+        return refusal::OUT;
+    }
+    0
+}
+
+// "The record shall be written out as a note": the refusal number and 0, or 0 and the number of bytes written to `out`.
+pub fn write_note(r: Record, out: &mut [u8]) -> Written
+    ensures { λ answer.
+        let result = calls.writeNote r (now (out .entry)) in
+        ⌜ (answer ≡ calls.made result)
+        × (now (out .exit) ≡ calls.outAfter (result .written) (now (out .entry))) ⌝ }
+{
+    let number = write_refusal(r, out);
+    if number != 0 {
+        return Written { number, written: 0 };
+    }
+    let written = put_note(r, out);
+    Written { number: 0, written }
+}
+
+// "A refused note gives a record of zeros."
+fn refused(number: u32) -> Opened
+    ensures { λ r. ⌜ r ≡ refusedWith number ⌝ }
+{
+    let unit = fresh(0, 0, 0);
+    Opened { number, unit }
+}
+
+// "A note read back is the record it came from": the record, or the refusal number (17, 4) and a record of zeros.
+pub fn read_note(note: &[u8]) -> Opened
+    ensures { λ answer. ⌜ answer ≡ calls.readNote (now (note .entry)) ⌝ }
+{
+    if wrong_note(note) {
+        return refused(refusal::NOTE);
+    }
+    let unit = note_record(note);
+    if is_impossible(unit) {
+        return refused(refusal::RECORD);
+    }
+    Opened { number: 0, unit }
+}
