@@ -130,7 +130,7 @@ module _ (S : Setting) where
         h
         (Heard value)
         (λ r r′ g. g .heard value)
-        (λ r store e z room settled. notice-heard checks Any (start r store) z room settled round seat value)
+        (λ r store e z room settled. notice-heard checks Any (start r store) z room settled round seat value sized)
 
     -- a FULL that reached the unit is held at the end, or was compared with the one held
     reached-held : (sender : ℕ) (value : List ℕ) (es : List Entry) → sender < n → Entries checks Any n value es → Reached S u (render (Full round sender value es)) → Held value end
