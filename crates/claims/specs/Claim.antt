@@ -17,7 +17,9 @@ use Rattle.protocol.specs.Calls.{Result, submit, step, opening}
 use Rattle.protocol.specs.declared.Record.{Record}
 use Rattle.round.specs.Round.{Setting, Call, BySubmit, ByStep, ByThinEntry, Boat, Called, outcome, resultOf, listFrom, listOf, IsHonest, Family}
 use Rattle.round.specs.Demand3.{Demand3}
-use Rattle.claims.specs.Units.{any-worthy, start-round, stop}
+use Rattle.claims.specs.Journey.{any-worthy}
+use Rattle.claims.specs.Opened.{start-round}
+use Rattle.claims.specs.Units.{stop}
 use Rattle.claims.specs.Sound.{Any}
 use Rattle.claims.specs.Safe.{safe, safe-delivered}
 use Rattle.claims.specs.Blamed.{blamed}
