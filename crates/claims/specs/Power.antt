@@ -15,8 +15,8 @@ use Rattle.round.specs.Demand1.{SendsWritten}
 use Rattle.reading.specs.MessagesLaws.{counted-written}
 use Rattle.reading.specs.UnbrokenLaws.{unbroken}
 use Rattle.claims.specs.Sound.{Any, Sound, Settled}
-use Rattle.claims.specs.Journey.{lastOf, leftBy, journey, any-worthy}
-use Rattle.claims.specs.Opened.{startOf, start-sound, start-settled}
+use Rattle.claims.specs.Journey.{lastOf, leftBy, Journey, journey, any-worthy}
+use Rattle.claims.specs.Opened.{startOf, start-n, start-round, start-sound, start-settled}
 
 -- the unit at the end of its events
 abbrev pub nowOf : Setting → Boat → Moment
@@ -46,10 +46,6 @@ module _ (S : Setting) where
   unfolding made
   note-is r out = counted-written (writeNote r out .written) out
 
-  -- the values of a sound record have their length
-  values-sized : (W : Relation) (r : Record) (store : List ℕ) → Sound (S .checks) W r store → ValuesSized r
-  values-sized W r store z = record { own = z .own .collection .sized; heard = z .heard .sized; first = z .first .sized }
-
 -- ---- the invariant of a unit's events
 
 module _ (S : Setting) (u : Boat) (honest : IsHonest S u) where
@@ -62,7 +58,7 @@ module _ (S : Setting) (u : Boat) (honest : IsHonest S u) where
   Newest (saved ∷ older) store cs = (readNote (saved .note) ≡ record { number = 0; unit = lastOf S start store cs }) × (saved .store ≡ leftBy S start store cs)
 
   -- the calls that count, one after another: those before the newest note, and those since
-  record Runs (m : Moment) : Type 0 where
+  pub record Runs (m : Moment) : Type 0 where
     store : List ℕ
     early : List Call
     late : List Call
@@ -84,13 +80,24 @@ module _ (S : Setting) (u : Boat) (honest : IsHonest S u) where
     whole-left : m .store ≡ leftBy S start store (early ++ late)
     whole-left = h .left ∙ sym (left-then S start store early late)
 
+  journey-to : (m : Moment) (h : Runs m) → Journey S Any start (m .unit) (m .store) (listFrom S start (h .store) (h .early ++ h .late))
+  journey-to m h =
+      let cs = h .early ++ h .late in
+      rw (whole-unit m h, whole-left m h) (journey S Any start (h .store) cs (start-sound S u honest Any (h .store)) (start-settled S u honest) (any-worthy S (listFrom S start (h .store) cs)))
+
+  -- the values of its record have their length
   sized : (m : Moment) → Runs m → ValuesSized (m .unit)
   sized m h =
-      let cs = h .early ++ h .late in
-      subst ValuesSized (sym (whole-unit m h))
-      (values-sized S Any (lastOf S start (h .store) cs) (leftBy S start (h .store) cs) (journey S Any start (h .store) cs (start-sound S u honest Any (h .store)) (start-settled S u honest) (any-worthy S (listFrom S start (h .store) cs)) .sound))
+      let z = journey-to m h .sound in
+      record { own = z .own .collection .sized; heard = z .heard .sized; first = z .first .sized }
 
-  runs-after : (m : Moment) (e : Event) → Runs m → Allowed S m e → Runs (after S (u .seat) m e)
+  -- the record is of the setting's n and round
+  pub runs-setting : (m : Moment) → Runs m → (m .unit .n ≡ S .n) × (m .unit .round ≡ S .round)
+  runs-setting m h =
+      let g = journey-to m h .grows in
+      (g .n ∙ start-n S u honest, g .round ∙ start-round S u honest)
+
+  pub runs-after : (m : Moment) (e : Event) → Runs m → Allowed S m e → Runs (after S (u .seat) m e)
   unfolding after listFrom lastOf leftBy Newest
   runs-after m (Makes c) h a =
       let r = lastOf S start (h .store) (h .early) in
@@ -146,7 +153,7 @@ module _ (S : Setting) (u : Boat) (honest : IsHonest S u) where
   runs-along m [] h a = h
   runs-along m (e ∷ es) h a = runs-along (after S (u .seat) m e) es (runs-after m e h (a .0)) (a .1)
 
-  runs-first : Runs (begins S u)
+  pub runs-first : Runs (begins S u)
   unfolding begins listFrom lastOf leftBy Newest
   runs-first = record { store = u .store; early = []; late = []; noted = refl; since = refl; unit = refl; left = refl; newest = refl }
 
