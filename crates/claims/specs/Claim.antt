@@ -10,14 +10,17 @@
 -- 5. `as-promised`, in this file: the lists of the claim are the lists by the contracts of the code.
 -- Assumes nothing.
 use mathlib.Core.Path.{_≡_, refl, sym, ap, ap₂, _∙_}
+use mathlib.Core.Bool.{true}
 use mathlib.Core.List.{List, [], _∷_}
 use Prim.Native.Nat.{ℕ}
+use Rattle.protocol.specs.Message.{Message, render}
 use Rattle.protocol.specs.Signatures.{checks}
-use Rattle.round.specs.Round.{Setting, Each, resultOf, Event, Boat, Moment, begins, after, afterAll, listOf, AllowedAll, IsHonest, Family}
-use Rattle.round.specs.Demand3.{Demand3}
+use Rattle.protocol.specs.Refusals.{isEvidence}
+use Rattle.round.specs.Round.{Setting, Each, resultOf, Event, Boat, Moment, begins, after, afterAll, listOf, AllowedAll, IsHonest, Family, Sent, Delivered, Names}
+use Rattle.round.specs.Demand3.{NoneForged, Demand3}
 use Rattle.claims.specs.Journey.{any-worthy}
 use Rattle.claims.specs.Opened.{start-n, start-round}
-use Rattle.claims.specs.Power.{nowOf, Runs, runs-setting, runs-first, runs-after}
+use Rattle.claims.specs.Power.{nowOf, Runs, runs-setting, runs-first, runs-after, sends-written}
 use Rattle.claims.specs.Units.{stop}
 use Rattle.claims.specs.Sound.{Any}
 use Rattle.claims.specs.Safe.{safe, safe-delivered}
@@ -32,6 +35,12 @@ wherever-seated S boat honest = record { safety = safe-delivered S boat honest; 
 -- "let some units be honest: each alone in its seat and opened once": `Family`. For any signature check:
 pub demand-3-any : (S : Setting) {I : Type 0} (boat : I → Boat) → Family S boat → Demand3 S boat
 demand-3-any S boat family = wherever-seated S boat (family .honest)
+
+-- and so no honest seat stands in any evidence that an honest unit sends, however often it loses power
+pub none-blamed-by-sent : (S : Setting) {I : Type 0} (boat : I → Boat) → Family S boat → NoneForged S boat (Delivered S boat)
+    → (i j : I) (m : Message) → isEvidence m ≡ true → Sent (boat j) m → Names S (render m) (boat i .seat) → ⊥
+none-blamed-by-sent S boat family none i j m is sent =
+    demand-3-any S boat family .safety none .written i j (render m) (record { message = m; kind = is; bytes = refl; writes = sends-written S (boat j) (family .honest j) m sent })
 
 -- "In one round and under one key table", and "A signature checks for a seat over a layout when RFC 8554 accepts it under that
 -- seat's key for the 36 bytes of the round, that seat and that layout, and its leaf is the round."

@@ -8,13 +8,13 @@ use Prim.Native.Nat.{ℕ}
 use Rattle.protocol.specs.Message.{Message}
 use Rattle.protocol.specs.NoteLaws.{ValuesSized}
 use Rattle.protocol.specs.NoteClaim.{read-back}
-use Rattle.protocol.specs.Calls.{Making, opening, made, writeNote, readNote}
+use Rattle.protocol.specs.Calls.{opening, made, writeNote, readNote}
 use Rattle.protocol.specs.declared.Record.{Record}
-use Rattle.round.specs.Round.{Setting, Relation, Call, Called, outcome, StandsIn, writtenIn, Saved, Event, Makes, Keeps, Sends, ComesBack, OpensAgain, InHand, Boat, Moment, noteOf, begins, after, afterAll, listOf, Allowed, AllowedAll, IsHonest, Sent, listFrom, Writes}
+use Rattle.round.specs.Round.{Setting, Call, Called, outcome, StandsIn, writtenIn, Saved, Event, Makes, Keeps, Sends, ComesBack, OpensAgain, InHand, Boat, Moment, noteOf, begins, after, afterAll, listOf, Allowed, AllowedAll, IsHonest, listFrom}
 use Rattle.round.specs.Demand1.{SendsWritten}
 use Rattle.reading.specs.MessagesLaws.{counted-written}
 use Rattle.reading.specs.UnbrokenLaws.{unbroken}
-use Rattle.claims.specs.Sound.{Any, Sound, Settled}
+use Rattle.claims.specs.Sound.{Any}
 use Rattle.claims.specs.Journey.{lastOf, leftBy, Journey, journey, any-worthy}
 use Rattle.claims.specs.Opened.{startOf, start-n, start-round, start-sound, start-settled}
 
