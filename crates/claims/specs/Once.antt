@@ -30,7 +30,7 @@ use Rattle.claims.specs.UnrefusedLaws.{possible}
 use Rattle.reading.specs.Messages.{messages, allMessages}
 use Rattle.claims.specs.Journey.{Worthy, Passed, any-worthy}
 use Rattle.claims.specs.Opened.{start-n, start-sound, start-settled}
-use Rattle.claims.specs.Power.{sends-written}
+use Rattle.claims.specs.Power.{nowOf, sends-written}
 use Rattle.claims.specs.Units.{endOf, trip, stop, result-grows, written-are, written-member, all-are}
 
 -- ---- messages by kind
@@ -146,6 +146,12 @@ module _ (S : Setting) (u : Boat) (honest : IsHonest S u) where
   pub opened-possible : impossible (opening n (u .seat) round keys .unit) ≡ false
   opened-possible =
       possible checks Any (opening n (u .seat) round keys .unit) (u .store) (start-sound S u honest Any (u .store)) (start-settled S u honest)
+
+  -- nor is the one that the unit has, after calls and power cuts alike
+  pub now-possible : impossible (endOf S u honest) ≡ false
+  now-possible =
+      let now = trip S u honest Any any in
+      possible checks Any (endOf S u honest) (nowOf S u .store) (now .sound) (now .settled)
 
   -- ---- at each call
 

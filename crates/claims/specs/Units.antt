@@ -49,7 +49,7 @@ good-formed checks W r Garbled range g = absurd g
 -- ---- the unit
 
 module _ (S : Setting) (u : Boat) (honest : IsHonest S u) where
-  open Setting S using (n, round, keys, checks)
+  open Setting S using (n, round, checks)
 
   abbrev start : Record
   start = startOf S u honest

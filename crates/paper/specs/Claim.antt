@@ -22,7 +22,7 @@ use Rattle.paper.specs.Along.{does-as, init-recorded, init-mirrors, init
 -- For any honest unit, with any signature check, any store and any out buffers. Where it loses power, the machine sees the calls that count
 -- (`Round: listOf`) and no others.
 module _ (S : Setting) (u : Boat) (honest : IsHonest S u) where
-  open Setting S using (n, round, keys, checks)
+  open Setting S using (n, round, checks)
 
   -- the machine's actions over the list
   abbrev pub actions : List Action
