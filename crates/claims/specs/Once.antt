@@ -1,5 +1,6 @@
 -- Demand 1 over a whole list: "in a round a unit on one unbroken record sends at most one submission, one notice and one full
--- certificate." And so "two units can[not] reply to each other without end".
+-- certificate." And so "two units can[not] reply to each other without end". A unit that loses power writes no second message of a kind
+-- in the calls that count, and sends no other than the one written.
 -- Assumes nothing.
 use mathlib.Core.Path.{_≡_, refl, sym, ap, subst, _∙_}
 use mathlib.Core.Bool.{Bool, true, false}
@@ -29,7 +30,7 @@ use Rattle.claims.specs.UnrefusedLaws.{possible}
 use Rattle.reading.specs.Messages.{messages, allMessages}
 use Rattle.claims.specs.Journey.{Worthy, Passed, any-worthy}
 use Rattle.claims.specs.Opened.{start-n, start-sound, start-settled}
-use Rattle.claims.specs.Power.{sends-written}
+use Rattle.claims.specs.Power.{nowOf, sends-written}
 use Rattle.claims.specs.Units.{endOf, trip, stop, result-grows, written-are, written-member, all-are}
 
 -- ---- messages by kind
@@ -128,7 +129,7 @@ module _ (S : Setting) (u : Boat) (honest : IsHonest S u) where
       let l = worth-le-one (flagOf κ (endOf S u honest)) in
       rw e (omega arith)
 
-  -- "may send a message again, and no other of its kind": what it sends was written by a call that counts (`Power: sends-written`)
+  -- the claim for what is sent: the same message again, or none of its kind. It was written by a call that counts (`Power: sends-written`).
   pub sends-one : SendsOne u
   sends-one κ m m′ is is′ d d′ =
       let member : (x : Message) → Sent u x → List·Memᴰ x (allMessages S ts) = λ x e. written-member S u honest Any any x (sends-written S u honest x e) in
@@ -145,6 +146,12 @@ module _ (S : Setting) (u : Boat) (honest : IsHonest S u) where
   pub opened-possible : impossible (opening n (u .seat) round keys .unit) ≡ false
   opened-possible =
       possible checks Any (opening n (u .seat) round keys .unit) (u .store) (start-sound S u honest Any (u .store)) (start-settled S u honest)
+
+  -- nor is the one that the unit has, after calls and power cuts alike
+  pub now-possible : impossible (endOf S u honest) ≡ false
+  now-possible =
+      let now = trip S u honest Any any in
+      possible checks Any (endOf S u honest) (nowOf S u .store) (now .sound) (now .settled)
 
   -- ---- at each call
 

@@ -184,6 +184,22 @@ newest-is-taken S u honest saved older e =
     let h = runs-now S u honest in
     ap (λ x. x .number) (subst (λ (kept : List Saved). Newest S u honest kept (h .store) (h .early)) e (h .newest) .0)
 
+-- ---- earlier moments
+
+-- An honest unit was honest at every earlier moment. So what is claimed of its list was true then of the calls that counted then, also of
+-- calls that a power cut took away.
+module _ (S : Setting) where
+  allowed-earlier : (seat : ℕ) (m : Moment) (es fs : List Event) → AllowedAll S seat m (es ++ fs) → AllowedAll S seat m es
+  unfolding AllowedAll
+  allowed-earlier seat m [] fs a = tt
+  allowed-earlier seat m (e ∷ es) fs a = (a .0, allowed-earlier seat (after S seat m e) es fs (a .1))
+
+  pub earlier-honest : (seat : ℕ) (store : List ℕ) (es fs : List Event) (inHand : List InHand)
+      → IsHonest S (record { seat = seat; store = store; events = es ++ fs; inHand = inHand }) → IsHonest S (record { seat = seat; store = store; events = es; inHand = inHand })
+  unfolding begins
+  earlier-honest seat store es fs inHand honest =
+      record { opened = honest .opened; allowed = allowed-earlier seat (begins S (record { seat = seat; store = store; events = es; inHand = inHand })) es fs (honest .allowed) }
+
 -- ---- messages sent
 
 -- a call before the newest note counts from then on

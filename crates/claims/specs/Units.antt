@@ -1,4 +1,4 @@
--- An honest unit's list: it starts from the record with nothing set, and its calls write messages one after another.
+-- An honest unit's list, the calls that count: it starts from the record with nothing set, and its calls write messages one after another.
 -- Assumes nothing.
 use mathlib.Core.Path.{_≡_, subst, _∙_}
 use mathlib.Core.Bool.{true}
@@ -49,7 +49,7 @@ good-formed checks W r Garbled range g = absurd g
 -- ---- the unit
 
 module _ (S : Setting) (u : Boat) (honest : IsHonest S u) where
-  open Setting S using (n, round, keys, checks)
+  open Setting S using (n, round, checks)
 
   abbrev start : Record
   start = startOf S u honest
@@ -61,7 +61,7 @@ module _ (S : Setting) (u : Boat) (honest : IsHonest S u) where
   abbrev ts : List Called
   ts = listOf S u
 
-  -- what holds of every list without power cuts, by its end, holds of the calls that count
+  -- a fact about every list without power cuts, its last record and its last store, is one about the unit's
   pub by-unbroken : (P : Record → List ℕ → List Called → Type 0) → ((store : List ℕ) (cs : List Call) → P (lastOf S start store cs) (leftBy S start store cs) (listFrom S start store cs)) → P endOf (nowOf S u .store) ts
   by-unbroken P all =
       let c = counted-is-unbroken S u honest in

@@ -1,4 +1,4 @@
--- The claim: over any list of calls from an opening, the engine does exactly what the paper's machine does. (`Happens` shows which calls
+-- The claim: over the list of any honest unit, the engine does exactly what the paper's machine does. (`Happens` shows which calls
 -- are the machine's events.)
 -- Assumes nothing.
 use Prim.Native.Nat.{ℕ}
@@ -19,9 +19,10 @@ use Rattle.paper.specs.Received.{Collected, IsSubmitted, Came, Received}
 use Rattle.paper.specs.Based.{Sent, init-based, full-from, evidence-from}
 use Rattle.paper.specs.Along.{does-as, init-recorded, init-mirrors, init-rest, over-list}
 
--- For any list of calls of a unit after an opening without a refusal, with any signature check, any store and any out buffers:
+-- For any honest unit, with any signature check, any store and any out buffers. Where it loses power, the machine sees the calls that count
+-- (`Round: listOf`) and no others.
 module _ (S : Setting) (u : Boat) (honest : IsHonest S u) where
-  open Setting S using (n, round, keys, checks)
+  open Setting S using (n, round, checks)
 
   -- the machine's actions over the list
   abbrev pub actions : List Action
