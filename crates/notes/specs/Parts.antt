@@ -23,7 +23,7 @@ noteStart r = 0x20 ∷ r .n ∷ r .seat ∷ be 2 (r .round) ++ flagsOf r ∷ []
 abbrev pub noteMasks : Record → List ℕ
 noteMasks r = be maskLength (r .own .collected) ++ be maskLength (r .kept) ++ be maskLength (r .first .seats) ++ be maskLength (r .guilty)
 
--- ---- read
+-- ---- read: the own submission, the notices heard and the first certificate
 
 abbrev pub noteOwn : ℕ → List ℕ → Own
 noteOwn flags note = record { submitted = isSet submittedFlag flags; value = readValue noteOwnValueAt note; collected = wordAt note noteCollectedAt }

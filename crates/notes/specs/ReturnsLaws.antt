@@ -13,11 +13,11 @@ use Rattle.octets.specs.StringsLaws.{patch-nothing}
 use Rattle.refusal.specs.Refusal.{firstOf, unrefused}
 use Rattle.refusal.specs.RefusalLaws.{both-false, firstOf-zero, refused-old, test-held, test-passed, none-left}
 use Rattle.protocol.specs.Layout.{noteLength}
-use Rattle.protocol.specs.Record.{impossible, zeros}
+use Rattle.protocol.specs.Record.{impossible}
 use Rattle.protocol.specs.RecordLaws.{possible}
 use Rattle.protocol.specs.Message.{byteAt}
 use Rattle.protocol.specs.Note.{renderNote, noteRecord, noteFlags, bothHeard, unknownFlag, wrongNote}
-use Rattle.protocol.specs.Refusals.{shortOut, RECORD, OUT, writeNoteConditions, readNoteConditions}
+use Rattle.protocol.specs.Refusals.{shortOut, OUT, writeNoteConditions, readNoteConditions}
 use Rattle.protocol.specs.Calls.{outAfter, made, notingBy, openedBy, writeNote, readNote}
 use Rattle.protocol.specs.declared.Record.{Record}
 use Rattle.protocol.specs.declared.Opened.{Opened}

@@ -2,7 +2,7 @@
 ghost use mathlib.Core.Path.{_≡_};
 ghost use lib.ListN.{length};
 ghost use Rattle.protocol.specs.Layout.{noteLength};
-ghost use Rattle.protocol.specs.Note.{noteFlags, noteRound, noteRecord, wrongNote};
+ghost use Rattle.protocol.specs.Note.{noteRound, noteRecord, wrongNote};
 ghost use Rattle.notes.specs.Parts.{noteOwn, noteNotices, noteFirst};
 use crate::flags::CONFIRMED;
 use crate::flags::SENT;
@@ -40,6 +40,7 @@ pub(crate) fn wrong_note(note: &[u8]) -> bool
     (note[0] != 0x20) | wrong_flags(flags)
 }
 
+// The round.
 fn note_round(note: &[u8]) -> u32
     requires { ⌜ length (now note) ≡ noteLength ⌝ }
     ensures { λ r. ⌜ r ≡ noteRound (now (note .entry)) ⌝ }
@@ -47,6 +48,7 @@ fn note_round(note: &[u8]) -> u32
     wide(note[NOTE_ROUND_AT]) * 256 + wide(note[NOTE_ROUND_AT + 1])
 }
 
+// The own submission.
 fn note_own(note: &[u8], flags: u32) -> Own
     requires { ⌜ length (now note) ≡ noteLength ⌝ }
     ensures { λ r. ⌜ r ≡ noteOwn flags (now (note .entry)) ⌝ }
@@ -61,6 +63,7 @@ fn note_own(note: &[u8], flags: u32) -> Own
     }
 }
 
+// The notices heard.
 fn note_notices(note: &[u8], flags: u32) -> Notices
     requires { ⌜ length (now note) ≡ noteLength ⌝ }
     ensures { λ r. ⌜ r ≡ noteNotices flags (now (note .entry)) ⌝ }
@@ -70,6 +73,7 @@ fn note_notices(note: &[u8], flags: u32) -> Notices
     Notices { heard, value }
 }
 
+// The first certificate.
 fn note_first(note: &[u8]) -> First
     requires { ⌜ length (now note) ≡ noteLength ⌝ }
     ensures { λ r. ⌜ r ≡ noteFirst (now (note .entry)) ⌝ }

@@ -17,7 +17,9 @@ long c = omega (arith, c .before .note-length .ensures, c .if1 .left)
 
 returns : tie.Need-returns
 unfolding wrongNote
-returns c = rw (← c .before .note-length .ensures, ne-eqb _ _ (c .if1 .taken))
+returns c =
+    let told = c .before in
+    rw (ne-eqb (length (now (told .before .before .args .note))) noteLength (λ e. omega (arith, e, told .note-length .ensures, c .if1 .taken)))
 
 shared-slice-read-wide : tie.Need-shared-slice-read-wide
 unfolding noteLength

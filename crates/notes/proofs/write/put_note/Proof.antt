@@ -47,8 +47,7 @@ returns c =
     let own = valued masks in
     let start = headed own in
     let args = opened start .args in
-    let whole : Whole (args .r) = record { own = own .put-value .ensures .0; heard = heard .put-value2 .ensures .0; first = first .put-value3 .ensures .0 } in
-    (
+    let whole : Whole (args .r) = record { own = own .put-value .ensures .0; heard = heard .put-value2 .ensures .0; first = first .put-value3 .ensures .0 } in (
       note-written whole (now (args .out)) (start .put-start .ensures) (own .put-value .ensures .1) (masks .put-masks .ensures) (heard .put-value2 .ensures .1) (first .put-value3 .ensures .1),
       sym (length-note whole),
     )
