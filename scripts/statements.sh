@@ -9,8 +9,8 @@ set -euo pipefail
 cd "$(dirname "$0")/.."
 page=${1:-docs/STATEMENTS.md}
 claims='claims/specs/Claim claims/specs/Once claims/specs/Made claims/specs/NotRefused paper/specs/Claim paper/specs/Happens'
-claims="$claims protocol/specs/Order protocol/specs/Figures protocol/specs/SignatureClaim zolbine/specs/Refused"
-claims="$claims examples/specs/SplitProof examples/specs/Fleets claims/specs/Before claims/specs/Gain"
+claims="$claims protocol/specs/Order protocol/specs/Figures protocol/specs/SignatureClaim protocol/specs/NoteClaim zolbine/specs/Refused"
+claims="$claims examples/specs/SplitProof examples/specs/Fleets claims/specs/Before claims/specs/Gain claims/specs/Power"
 
 {
     find crates/*/specs crates/*/src crates/*/must-fail mutations scripts harness/data harness/tests -print | sed 's/^/path /'

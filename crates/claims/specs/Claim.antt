@@ -18,11 +18,12 @@ use Prim.Native.Nat.{ℕ}
 use Rattle.protocol.specs.Message.{Message, render}
 use Rattle.protocol.specs.Signatures.{checks}
 use Rattle.protocol.specs.Refusals.{isEvidence}
-use Rattle.round.specs.Round.{Setting, Each, resultOf, Event, Boat, Moment, begins, after, afterAll, listOf, AllowedAll, IsHonest, Family, Sent, Delivered, Names}
+use Rattle.round.specs.Round.{Setting, Each, resultOf, Event, Boat, Moment, begins, after, afterAll, nowOf, listOf, AllowedAll, IsHonest, Family, Sent, Delivered, Names}
 use Rattle.round.specs.Demand3.{NoneForged, Demand3}
 use Rattle.claims.specs.Journey.{any-worthy}
 use Rattle.claims.specs.Opened.{start-n, start-round}
-use Rattle.claims.specs.Power.{nowOf, Runs, runs-setting, runs-first, runs-after, sends-written}
+use Rattle.claims.specs.PowerLaws.{Runs, runs-setting, runs-first, runs-after}
+use Rattle.claims.specs.Power.{sends-written}
 use Rattle.claims.specs.Units.{stop}
 use Rattle.claims.specs.Sound.{Any}
 use Rattle.claims.specs.Safe.{safe, safe-delivered}

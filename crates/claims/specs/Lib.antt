@@ -21,6 +21,7 @@ pub mod UnrefusedLaws
 pub mod NotRefused
 pub mod Journey
 pub mod Opened
+pub mod PowerLaws
 pub mod Power
 pub mod Units
 pub mod Once

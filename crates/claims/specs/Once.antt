@@ -19,7 +19,7 @@ use Rattle.protocol.specs.Record.{impossible}
 use Rattle.protocol.specs.Refusals.{Checks, isFull, isEvidence}
 use Rattle.protocol.specs.Calls.{opening}
 use Rattle.protocol.specs.declared.Record.{Record}
-use Rattle.round.specs.Round.{Setting, IsHonest, Each, Relation, Boat, Called, resultOf, writtenIn, Are, listOf, Sent}
+use Rattle.round.specs.Round.{Setting, IsHonest, Each, Relation, Boat, Called, resultOf, writtenIn, Are, nowOf, listOf, Sent}
 use Rattle.round.specs.Demand1.{Kind, SUBMIT, NOTICE, FULL, EVIDENCE, isOf, isSubmit, isNotice, worth, count, writtenOver, AtMostOne, SendsOne}
 use Rattle.reading.specs.ListsLaws.{worth-le-one, worth-true, true-of-worth, count-pos}
 use Rattle.claims.specs.Sound.{Any, flagOf, Good}
@@ -30,7 +30,7 @@ use Rattle.claims.specs.UnrefusedLaws.{possible}
 use Rattle.reading.specs.Messages.{messages, allMessages}
 use Rattle.claims.specs.Journey.{Worthy, Passed, any-worthy}
 use Rattle.claims.specs.Opened.{start-n, start-sound, start-settled}
-use Rattle.claims.specs.Power.{nowOf, sends-written}
+use Rattle.claims.specs.Power.{sends-written}
 use Rattle.claims.specs.Units.{endOf, trip, stop, result-grows, written-are, written-member, all-are}
 
 -- ---- messages by kind

@@ -10,7 +10,7 @@ use Rattle.protocol.specs.Message.{Pair, PairValues, Message, Submit, Notice, F
 use Rattle.protocol.specs.Record.{lastRound, InRange}
 use Rattle.protocol.specs.Refusals.{Checks}
 use Rattle.protocol.specs.declared.Record.{Record}
-use Rattle.round.specs.Round.{Setting, IsHonest, Each, Relation, Call, Boat, Called, resultOf, writtenIn, Are, StandsIn, listFrom, listOf, Writes}
+use Rattle.round.specs.Round.{Setting, IsHonest, Each, Relation, Call, Boat, Called, resultOf, writtenIn, Are, StandsIn, listFrom, nowOf, listOf, Writes}
 use Rattle.round.specs.Demand1.{Kind, isOf, writtenOver}
 use Rattle.reading.specs.ListsLaws.{worth-le-one, worth-true, true-of-worth, count-pos, count-member}
 use Rattle.claims.specs.Sound.{Any, flagOf, Grows, Pairs, Good}
@@ -21,7 +21,7 @@ use Rattle.reading.specs.Messages.{messages, allMessages}
 use Rattle.reading.specs.MessagesLaws.{all-member, member-all, written-is, list-are}
 use Rattle.claims.specs.Journey.{lastOf, leftBy, Worthy, any-worthy, At, Journey, journey}
 use Rattle.claims.specs.Opened.{startOf, start-n, start-seat, start-round, start-unset, start-sound, start-settled}
-use Rattle.claims.specs.Power.{nowOf, counted-is-unbroken}
+use Rattle.claims.specs.Power.{counted-is-unbroken}
 
 -- ---- form of the messages that a unit writes
 

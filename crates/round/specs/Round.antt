@@ -142,9 +142,13 @@ module _ (S : Setting) where
   afterAll seat m [] = m
   afterAll seat m (e ∷ es) = afterAll seat (after seat m e) es
 
+  -- the unit after its events
+  abbrev pub nowOf : Boat → Moment
+  nowOf u = afterAll (u .seat) (begins u) (u .events)
+
   -- The calls that count, in their order: a unit's list.
   abbrev pub listOf : Boat → List Called
-  listOf u = let m = afterAll (u .seat) (begins u) (u .events) in m .noted ++ m .since
+  listOf u = nowOf u .noted ++ nowOf u .since
 
   -- what an honest unit's host does at a moment
   abbrev pub Allowed : Moment → Event → Type 0
