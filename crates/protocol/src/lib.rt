@@ -1,4 +1,4 @@
-// A unit's record, and the answers of the calls (document 01, "A unit's record and store"; document 02, item 1). The
+// A unit's record, and the answers of the calls (document 01, "A unit's record and store"; document 02, items 1 and 2). The
 // definitions of every call over these types are in specs/.
 ghost use mathlib.Core.Path.{_≡_};
 ghost use Rattle.protocol.specs.Signatures.{signatureNumber};
@@ -42,7 +42,7 @@ pub struct Record {
     pub kept: Mask,
 }
 
-// Answer of opening: the refusal number or 0, and the record (`unit`, since `record` is a word of antt).
+// Answer of opening and of reading a note: the refusal number or 0, and the record (`unit`, since `record` is a word of antt).
 #[repr(C)]
 pub struct Opened {
     pub number: u32,
@@ -57,8 +57,8 @@ pub struct Stepped {
     pub unit: Record,
 }
 
-// Answer of the key maker, the signer, evidence from two certificates and the thin entry: the refusal number or 0, and the
-// number of bytes written.
+// Answer of the key maker, the signer, evidence from two certificates, writing a note and the thin entry: the refusal number or
+// 0, and the number of bytes written.
 #[repr(C)]
 pub struct Written {
     pub number: u32,
