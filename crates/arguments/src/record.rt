@@ -1,15 +1,17 @@
-// A unit's record: with nothing set, and impossible records, test by test (document 01, "A record is impossible if"; document 02,
-// item 1): 4.
+// A unit's record: with nothing set, as an answer, and impossible records, test by test (document 01, "A record is impossible
+// if"; document 02, item 1): 4.
 ghost use mathlib.Core.Path.{_≡_};
 ghost use Rattle.octets.specs.Strings.{same};
 ghost use Rattle.protocol.specs.Record as Records;
 ghost use Rattle.protocol.specs.Record.{holds, outOfRange, namesStranger, wrongCollected, wrongFirst, lacksFirst, wrongGuilty, wrongSent, wrongKept, wrongUnset, impossible, InRange};
 ghost use Rattle.protocol.specs.Values.{unset};
+ghost use Rattle.protocol.specs.Calls.{openedBy};
 use crate::range::wrong_round;
 use crate::range::wrong_seat;
 use crate::range::wrong_size;
 use protocol::First;
 use protocol::Notices;
+use protocol::Opened;
 use protocol::Own;
 use protocol::Record;
 
@@ -39,6 +41,20 @@ pub fn fresh(n: u32, seat: u32, round: u32) -> Record
         sent: false,
         guilty: 0,
         kept: 0,
+    }
+}
+
+// Answer of opening and of reading a note: the record, or the refusal number and a record of zeros.
+pub fn opened_by(number: u32, unit: Record) -> Opened
+    ensures { λ r. ⌜ r ≡ openedBy number unit ⌝ }
+{
+    if number == 0 {
+        return Opened { number, unit };
+    }
+    let zeros = fresh(0, 0, 0);
+    Opened {
+        number,
+        unit: zeros,
     }
 }
 

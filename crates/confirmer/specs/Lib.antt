@@ -1,4 +1,3 @@
 -- The answer of submit and step (`Returns`), and the laws of the confirmer's code.
-pub mod OpeningLaws
 pub mod Returns
 pub mod ReturnsLaws

@@ -2,6 +2,7 @@
 ghost use mathlib.Core.Path.{_≡_};
 ghost use Rattle.protocol.specs.Calls.{opening};
 use arguments::record::fresh;
+use arguments::record::opened_by;
 use protocol::Opened;
 use validate::calls::opening_refusal;
 
@@ -10,10 +11,6 @@ pub fn open(n: u32, seat: u32, round: u32, keys: &[u8]) -> Opened
     ensures { λ r. ⌜ r ≡ opening n seat round (now (keys .entry)) ⌝ }
 {
     let number = opening_refusal(n, seat, round, keys);
-    if number == 0 {
-        let unit = fresh(n, seat, round);
-        return Opened { number, unit };
-    }
-    let unit = fresh(0, 0, 0);
-    Opened { number, unit }
+    let unit = fresh(n, seat, round);
+    opened_by(number, unit)
 }

@@ -1,17 +1,15 @@
--- Parts of a note as they are written and read, and the answer to a refused one.
+-- Parts of a note as they are written and read.
 -- Assumes nothing.
 use Prim.Native.Nat.{ℕ}
 use mathlib.Core.List.{List, [], _∷_, _++_}
 use Rattle.octets.specs.Octets.{be, wordAt}
 use Rattle.protocol.specs.Layout.{maskLength, noteOwnValueAt, noteCollectedAt, noteFirstAt, noteHeardValueAt, noteFirstValueAt}
 use Rattle.protocol.specs.Message.{readValue}
-use Rattle.protocol.specs.Record.{zeros}
 use Rattle.protocol.specs.Note.{submittedFlag, flagsOf, isSet, heardBy}
 use Rattle.protocol.specs.declared.Own.{Own}
 use Rattle.protocol.specs.declared.Notices.{Notices}
 use Rattle.protocol.specs.declared.First.{First}
 use Rattle.protocol.specs.declared.Record.{Record}
-use Rattle.protocol.specs.declared.Opened.{Opened}
 
 -- ---- written
 
@@ -33,7 +31,3 @@ noteNotices flags note = record { heard = heardBy flags; value = readValue noteH
 
 abbrev pub noteFirst : List ℕ → First
 noteFirst note = record { value = readValue noteFirstValueAt note; seats = wordAt note noteFirstAt }
-
--- "A refused note gives a record of zeros."
-abbrev pub refusedWith : ℕ → Opened
-refusedWith number = record { number = number; unit = zeros }

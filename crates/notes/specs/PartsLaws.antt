@@ -10,8 +10,9 @@ use Rattle.octets.specs.Octets.{patch, be}
 use Rattle.octets.specs.OctetsLaws.{length-be}
 use Rattle.octets.specs.StringsLaws.{be-two}
 use Rattle.octets.specs.WriteLaws.{patch-next}
-use Rattle.protocol.specs.Layout.{maskLength, valueLength, noteOwnValueAt, noteCollectedAt, noteKeptAt, noteFirstAt, noteGuiltyAt, noteHeardValueAt, noteFirstValueAt, noteLength}
+use Rattle.protocol.specs.Layout.{maskLength, noteOwnValueAt, noteCollectedAt, noteKeptAt, noteFirstAt, noteGuiltyAt, noteHeardValueAt, noteFirstValueAt}
 use Rattle.protocol.specs.Note.{renderNote}
+use Rattle.protocol.specs.NoteLaws.{ValuesSized}
 use Rattle.protocol.specs.declared.Record.{Record}
 use Rattle.notes.specs.Parts.{noteStart, noteMasks}
 
@@ -37,17 +38,7 @@ masks-written r xs {a} {b} {c} {d} h p q s t =
 regrouped : (p a b c d : List ℕ) → p ++ (a ++ b ++ c ++ d) ≡ p ++ a ++ b ++ c ++ d
 regrouped p a b c d = simp append-assoc
 
--- values of 32 bytes
-pub record Whole (r : Record) : Type 0 where
-  pub own : length (r .own .value) ≡ valueLength
-  pub heard : length (r .notices .value) ≡ valueLength
-  pub first : length (r .first .value) ≡ valueLength
-
-module _ {r : Record} (whole : Whole r) where
-  pub length-note : length (renderNote r) ≡ noteLength
-  unfolding renderNote noteLength
-  length-note = simp (length-append, length-be, whole .own, whole .heard, whole .first)
-
+module _ {r : Record} (sized : ValuesSized r) where
   -- the five parts, one after another
   pub note-written : (xs : List ℕ) {a b c d e : List ℕ}
       → a ≡ patch 0 (noteStart r) xs
@@ -60,7 +51,7 @@ module _ {r : Record} (whole : Whole r) where
   note-written xs {a} {b} {c} {d} {e} p q s t u =
       let start = noteStart r in
       let two = patch-next 0 noteOwnValueAt start _ xs a b p (simp (length-append, length-be)) (omega arith) q in
-      let three = patch-next 0 noteCollectedAt _ (noteMasks r) xs b c two (simp (length-append, length-be, whole .own)) (omega arith) s in
+      let three = patch-next 0 noteCollectedAt _ (noteMasks r) xs b c two (simp (length-append, length-be, sized .own)) (omega arith) s in
       let front = rw regrouped at three in
-      let four = patch-next 0 noteHeardValueAt _ _ xs c d front (simp (length-append, length-be, whole .own)) (omega arith) t in
-      patch-next 0 noteFirstValueAt _ _ xs d e four (simp (length-append, length-be, whole .own, whole .heard)) (omega arith) u
+      let four = patch-next 0 noteHeardValueAt _ _ xs c d front (simp (length-append, length-be, sized .own)) (omega arith) t in
+      patch-next 0 noteFirstValueAt _ _ xs d e four (simp (length-append, length-be, sized .own, sized .heard)) (omega arith) u

@@ -11,18 +11,16 @@ use borrow.Author.Tests.{eqb-true, eq-eqb, ltb-false, not-false}
 use Rattle.octets.specs.Octets.{patch}
 use Rattle.octets.specs.StringsLaws.{patch-nothing}
 use Rattle.refusal.specs.Refusal.{firstOf, unrefused}
-use Rattle.refusal.specs.RefusalLaws.{both-false, firstOf-zero, refused-old, test-held, test-passed, none-left}
+use Rattle.refusal.specs.RefusalLaws.{both-false, firstOf-zero, refused-old, test-held, test-passed}
 use Rattle.protocol.specs.Layout.{noteLength}
 use Rattle.protocol.specs.Record.{impossible}
 use Rattle.protocol.specs.RecordLaws.{possible}
 use Rattle.protocol.specs.Message.{byteAt}
 use Rattle.protocol.specs.Note.{renderNote, noteRecord, noteFlags, bothHeard, unknownFlag, wrongNote}
-use Rattle.protocol.specs.Refusals.{shortOut, OUT, writeNoteConditions, readNoteConditions}
+use Rattle.protocol.specs.Refusals.{shortOut, RECORD, OUT, writeNoteConditions, readNoteConditions}
 use Rattle.protocol.specs.Calls.{outAfter, made, notingBy, openedBy, writeNote, readNote}
 use Rattle.protocol.specs.declared.Record.{Record}
-use Rattle.protocol.specs.declared.Opened.{Opened}
 use Rattle.protocol.specs.declared.Written.{Written}
-use Rattle.notes.specs.Parts.{refusedWith}
 
 -- ---- writing
 
@@ -59,17 +57,10 @@ pub others-tested : (note : List ℕ) → length note ≡ noteLength → {rest :
 unfolding wrongNote
 others-tested note l e = rw (eq-eqb (length note) noteLength l, e) (sym (or-assoc (not (eqb (byteAt note 0) 0x20)) (bothHeard (noteFlags note)) (unknownFlag (noteFlags note))))
 
-abbrev taken : ℕ → Record → Opened
-taken number unit = record { number = number; unit = unit }
-
 module _ (note : List ℕ) {test : Bool} (is : test ≡ wrongNote note) where
-  refused : {number : ℕ} → number ≡ firstOf (readNoteConditions note) → (number ≡ 0 → ⊥) → refusedWith number ≡ readNote note
-  unfolding readNote openedBy
-  refused e h = rw (← e, refused-old)
-
-  pub read-wrong : test ≡ true → {a : Opened} → a ≡ refusedWith 17 → a ≡ readNote note
-  unfolding readNoteConditions
-  read-wrong h p = p ∙ refused (test-held 17 (wrongNote note) _ test is h) (λ z. omega (arith, z))
+  pub read-wrong : test ≡ true → (unit : Record) → openedBy 17 unit ≡ readNote note
+  unfolding readNote openedBy readNoteConditions unrefused
+  read-wrong h unit = rw (← test-held 17 (wrongNote note) _ test is h)
 
   module _ (right : test ≡ false) where
     pub right-length : length note ≡ noteLength
@@ -80,13 +71,6 @@ module _ (note : List ℕ) {test : Bool} (is : test ≡ wrongNote note) where
         let c = both-false (not (eqb (length note) noteLength)) (not (eqb (byteAt note 0) 0x20)) (b .0) in
         eqb-true (length note) noteLength (not-false _ (c .0))
 
-    module _ {unit : Record} (e : unit ≡ noteRecord note) {held : Bool} (f : held ≡ impossible unit) where
-      pub read-impossible : held ≡ true → {a : Opened} → a ≡ refusedWith 4 → a ≡ readNote note
-      unfolding readNoteConditions
-      read-impossible h p = p ∙ refused (test-passed 17 (wrongNote note) _ test is 4 right (test-held 4 (impossible (noteRecord note)) [] held (f ∙ ap impossible e) h)) (λ z. omega (arith, z))
-
-      pub read-taken : held ≡ false → taken 0 unit ≡ readNote note
-      unfolding readNote readNoteConditions openedBy unrefused
-      read-taken h =
-          let none : firstOf (readNoteConditions note) ≡ 0 = sym (test-passed 17 (wrongNote note) _ test is 0 right (test-passed 4 (impossible (noteRecord note)) [] held (f ∙ ap impossible e) 0 h (none-left 0 refl))) in
-          rw (none, e)
+    pub read-right : (number : ℕ) → number ≡ firstOf (RECORD (noteRecord note) ∷ []) → openedBy number (noteRecord note) ≡ readNote note
+    unfolding readNote readNoteConditions
+    read-right number e = ap (λ (m : ℕ). openedBy m (noteRecord note)) (test-passed 17 (wrongNote note) _ test is number right e)

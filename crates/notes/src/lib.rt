@@ -1,15 +1,16 @@
 // The note of a unit's record, written and read back (document 02, item 2).
 ghost use mathlib.Core.Path.{_≡_};
 ghost use Rattle.refusal.specs.Refusal.{firstOf};
-ghost use Rattle.protocol.specs.Refusals.{writeNoteConditions};
+ghost use mathlib.Core.List.{[], _∷_};
+ghost use Rattle.protocol.specs.Refusals.{RECORD, writeNoteConditions};
 ghost use Rattle.protocol.specs.Calls as calls;
-ghost use Rattle.notes.specs.Parts.{refusedWith};
 use crate::read::note_record;
 use crate::read::wrong_note;
 use crate::write::put_note;
 use arguments::buffers::short_out;
 use arguments::record::fresh;
 use arguments::record::is_impossible;
+use arguments::record::opened_by;
 use protocol::Opened;
 use protocol::Record;
 use protocol::Written;
@@ -46,12 +47,14 @@ pub fn write_note(r: Record, out: &mut [u8]) -> Written
     Written { number: 0, written }
 }
 
-// "A refused note gives a record of zeros."
-fn refused(number: u32) -> Opened
-    ensures { λ r. ⌜ r ≡ refusedWith number ⌝ }
+// Refusal of the record in a note: 4.
+fn record_refusal(r: Record) -> u32
+    ensures { λ b. ⌜ b ≡ firstOf (RECORD r ∷ []) ⌝ }
 {
-    let unit = fresh(0, 0, 0);
-    Opened { number, unit }
+    if is_impossible(r) {
+        return refusal::RECORD;
+    }
+    0
 }
 
 // "A note read back is the record it came from": the record, or the refusal number (17, 4) and a record of zeros.
@@ -59,11 +62,10 @@ pub fn read_note(note: &[u8]) -> Opened
     ensures { λ answer. ⌜ answer ≡ calls.readNote (now (note .entry)) ⌝ }
 {
     if wrong_note(note) {
-        return refused(refusal::NOTE);
+        let zeros = fresh(0, 0, 0);
+        return opened_by(refusal::NOTE, zeros);
     }
     let unit = note_record(note);
-    if is_impossible(unit) {
-        return refused(refusal::RECORD);
-    }
-    Opened { number: 0, unit }
+    let number = record_refusal(unit);
+    opened_by(number, unit)
 }
