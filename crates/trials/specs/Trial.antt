@@ -4,23 +4,23 @@
 use Prim.Native.Nat.{ℕ}
 use mathlib.Core.Path.{_≡_, refl, sym, ap, subst, _∙_}
 use mathlib.Core.Bool.{Bool, true, false, not, _&&_, _||_, true≢false}
-use mathlib.Core.List.{List, List·Memᴰ}
+use mathlib.Core.List.{List, [], _∷_, List·Memᴰ}
 use mathlib.Core.Logic.{inl, ⊎-elim, _≢_}
 use lib.Dec.{eqb, leb}
 use borrow.Author.Tests.{eqb-true, eqb-false, eq-eqb, le-leb, not-true, not-false}
 use Rattle.octets.specs.Strings.{same}
 use Rattle.octets.specs.StringsLaws.{same-refl}
-use Rattle.refusal.specs.RefusalLaws.{both-true}
-use Rattle.protocol.specs.Message.{Signed, read, signed, entrySeats}
+use Rattle.refusal.specs.RefusalLaws.{both-true, both-false}
+use Rattle.protocol.specs.Message.{Message, Signed, render, read, signed, entrySeats}
 use Rattle.protocol.specs.Record.{impossible}
 use Rattle.protocol.specs.Refusals.{every}
 use Rattle.protocol.specs.Calls.{evidenceCheck}
 use Rattle.round.specs.Round.{Setting, InHand, Boat, Called, IsHonest, Family, resultOf, listOf, StepGiven, MadeFrom, Delivered, AcceptedFrom, Names}
-use Rattle.round.specs.Demand1.{Kind, SUBMIT, NOTICE, FULL, EVIDENCE, isOf, count, AtMostOne}
+use Rattle.round.specs.Demand1.{Kind, SUBMIT, NOTICE, FULL, EVIDENCE, isOf, count, AtMostOne, SendsOne}
 use Rattle.round.specs.Demand3.{NoneForged, NoneBlamed, ReachedOthers, Demand3}
 use Rattle.protocol.specs.ConditionsLaws.{every-each}
 use Rattle.reading.specs.ListsLaws.{or-true-either}
-use Rattle.trials.specs.Tests.{found, found-one, every-false, found-seat, signedIn, given-signed, signed-given, sameSigned, same-signed, isOpened, isOpened-says, all, formed, submits, submits-says, confirms, confirms-says, haveReached, haveReached-says, blames, blames-not, accuses, accuses-says, all-are}
+use Rattle.trials.specs.Tests.{found, found-one, every-false, found-seat, signedIn, given-signed, signed-given, sameSigned, same-signed, sentIn, sentIn-says, isHonest, isHonest-says, all, formed, submits, submits-says, confirms, confirms-says, haveReached, haveReached-says, blames, blames-not, accuses, accuses-says, all-are}
 
 pub record Trial {ℓ} (claim : Type ℓ) : Type ℓ where
   pub premises : Bool
@@ -48,12 +48,36 @@ module _ (S : Setting) (u : Boat) where
   -- at most one message of each kind
   unfoldable pub onceEach : Trial (IsHonest S u → AtMostOne S u)
   onceEach = record {
-    premises = isOpened S u && formed S u;
+    premises = isHonest S u && formed S u;
     conclusion = once SUBMIT && (once NOTICE && (once FULL && once EVIDENCE));
     refutes = λ p c claim.
-        let both = both-true (isOpened S u) (formed S u) p in
-        let one : (κ : Kind) → once κ ≡ true = λ κ. le-leb (count (isOf κ) (all S u)) 1 (claim (isOpened-says S u (both .0)) (all S u) (all-are S u (both .1)) κ) in
+        let both = both-true (isHonest S u) (formed S u) p in
+        let one : (κ : Kind) → once κ ≡ true = λ κ. le-leb (count (isOf κ) (all S u)) 1 (claim (isHonest-says S u (both .0)) (all S u) (all-are S u (both .1)) κ) in
         true≢false (sym (rw (one SUBMIT, one NOTICE, one FULL, one EVIDENCE)) ∙ c);
+  }
+
+  -- whether a message sent is another one again, where both are of one kind
+  abbrev pub ofOneKind : Message → Message → Bool
+  ofOneKind m x = found (λ κ. isOf κ m && isOf κ x) (SUBMIT ∷ NOTICE ∷ FULL ∷ EVIDENCE ∷ [])
+
+  abbrev pub again : Message → Message → Bool
+  again m x = not (ofOneKind m x) || same (render m) (render x)
+
+  unfoldable pub sendsOne : Trial (IsHonest S u → SendsOne u)
+  sendsOne = record {
+    premises = isHonest S u;
+    conclusion = every (λ m. every (again m) (sentIn (u .events))) (sentIn (u .events));
+    refutes = λ p c claim.
+        let sent = sentIn (u .events) in
+        let f = every-false (λ m. every (again m) sent) sent c in
+        let m = f .0 in
+        let g = every-false (again m) sent (f .2) in
+        let x = g .0 in
+        let differ = both-false (not (ofOneKind m x)) (same (render m) (render x)) (g .2) in
+        let κ = found-one (λ κ. isOf κ m && isOf κ x) (SUBMIT ∷ NOTICE ∷ FULL ∷ EVIDENCE ∷ []) (not-false (ofOneKind m x) (differ .0)) in
+        let kind = both-true (isOf (κ .0) m) (isOf (κ .0) x) (κ .2) in
+        let is : m ≡ x = claim (isHonest-says S u p) (κ .0) m x (kind .0) (kind .1) (sentIn-says (u .events) m (f .1)) (sentIn-says (u .events) x (g .1)) in
+        true≢false (sym (same-refl (render m)) ∙ ap (λ y. same (render m) (render y)) is ∙ differ .1);
   }
 
   -- whether the record that comes out of a call is possible
@@ -62,11 +86,11 @@ module _ (S : Setting) (u : Boat) where
 
   unfoldable pub possibleEach : Trial (IsHonest S u → (c : Called) → List·Memᴰ c (listOf S u) → impossible (resultOf S c .unit) ≡ false)
   possibleEach = record {
-    premises = isOpened S u;
+    premises = isHonest S u;
     conclusion = every possible (listOf S u);
     refutes = λ p c claim.
         let f = every-false possible (listOf S u) c in
-        true≢false (sym (not-false (impossible (resultOf S (f .0) .unit)) (f .2)) ∙ claim (isOpened-says S u p) (f .0) (f .1));
+        true≢false (sym (not-false (impossible (resultOf S (f .0) .unit)) (f .2)) ∙ claim (isHonest-says S u p) (f .0) (f .1));
   }
 
 -- ---- demand 3: some boats
@@ -97,19 +121,19 @@ module _ (S : Setting) {I : Type 0} (crew : Crew I) (boat : I → Boat) where
   abbrev pub someone : (I → Bool) → Bool
   someone test = found test (crew .everyone)
 
-  -- openings that aren't refused, each boat in its own seat, and well-formed messages written
+  -- honest boats, each in its own seat, and well-formed messages written
   abbrev pub apart : I → I → Bool
   apart i j = alike i j || not (eqb (boat i .seat) (boat j .seat))
 
   abbrev pub family : Bool
-  family = each (λ i. isOpened S (boat i)) && (each (λ i. each (apart i)) && each (λ i. formed S (boat i)))
+  family = each (λ i. isHonest S (boat i)) && (each (λ i. each (apart i)) && each (λ i. formed S (boat i)))
 
   pub family-says : family ≡ true → Family S boat × ((i : I) → formed S (boat i) ≡ true)
   family-says e =
-      let a = both-true (each (λ i. isOpened S (boat i))) (each (λ i. each (apart i)) && each (λ i. formed S (boat i))) e in
+      let a = both-true (each (λ i. isHonest S (boat i))) (each (λ i. each (apart i)) && each (λ i. formed S (boat i))) e in
       let b = both-true (each (λ i. each (apart i))) (each (λ i. formed S (boat i))) (a .1) in (
         record {
-          opened = λ i. isOpened-says S (boat i) (each-says (λ l. isOpened S (boat l)) (a .0) i);
+          honest = λ i. isHonest-says S (boat i) (each-says (λ l. isHonest S (boat l)) (a .0) i);
           apart = λ i j other same.
               ⊎-elim (λ q. other (alike-same i j q)) (λ q. eqb-false (boat i .seat) (boat j .seat) (not-true (eqb (boat i .seat) (boat j .seat)) q) same)
               (or-true-either (alike i j) (not (eqb (boat i .seat) (boat j .seat))) (each-says (apart i) (each-says (λ l. each (apart l)) (b .0) i) j));

@@ -1,22 +1,22 @@
--- Runs for trials of edited definitions: four seats, one to three boats with short lists of calls, and a toy signature check. A run
--- may give a boat the messages that another writes by the definitions, edited or not.
+-- Runs for trials of edited definitions: four seats, or two, one to three boats with short lists of calls and of power cuts, and a toy
+-- signature check. A run may give a boat the messages that another writes by the definitions, edited or not.
 -- Assumes nothing.
 use Prim.Native.Nat.{ℕ, zero, suc}
 use mathlib.Core.Path.{_≡_, refl}
 use mathlib.Core.Bool.{Bool, true, false, cond}
 use mathlib.Core.List.{List, [], _∷_, _++_, map, List·Memᴰ, List·Memᴰ·head, List·Memᴰ·tail}
 use lib.ListN.{replicate}
-use Rattle.protocol.specs.Layout.{storeLength, outLength}
+use Rattle.protocol.specs.Layout.{noteLength, storeLength, outLength}
 use Rattle.protocol.specs.Message.{Message, Submit, Notice, Full, Evidence, Garbled, render, byteAt}
-use Rattle.round.specs.Round.{Setting, Call, BySubmit, ByStep, Called, Boat, IsHonest, Family, outcome, resultOf, listFrom, listOf}
-use Rattle.round.specs.Demand1.{isSubmit, isNotice, worth, count, AtMostOne}
+use Rattle.round.specs.Round.{Setting, Call, BySubmit, ByStep, Called, Saved, Event, Makes, Keeps, Sends, ComesBack, OpensAgain, Boat, begins, after, afterAll, IsHonest, Family, outcome, resultOf, listOf}
+use Rattle.round.specs.Demand1.{isSubmit, isNotice, worth, count, AtMostOne, SendsOne}
 use Rattle.round.specs.Demand3.{Demand3}
 use Rattle.protocol.specs.Record.{impossible}
 use Rattle.protocol.specs.Refusals.{isFull}
 use Rattle.reading.specs.Messages.{refusalOf, cameTo, allMessages}
 use Rattle.trials.specs.Toy.{unfolded, toy, layout, sign, keys, submitBy, entryBy, fullBy}
-use Rattle.trials.specs.Tests.{found, entrySized, pairSized, wellFormed, isNoticeOf, isEvidenceOn, isStepOf, isSubmitOf, signedIn, sameSigned, isOpened, all, formed, submits, reached, confirms, mustReach, haveReached, blamesIn, blames, accuses}
-use Rattle.trials.specs.Trial.{Trial, onceEach, possibleEach, Crew, accountability, safety}
+use Rattle.trials.specs.Tests.{found, entrySized, pairSized, wellFormed, isNoticeOf, isEvidenceOn, isStepOf, isSubmitOf, signedIn, sameSigned, sentIn, sameSaved, isNewest, keepsNone, wrote, allowed, allowedAll, isHonest, all, formed, submits, reached, confirms, mustReach, haveReached, blamesIn, blames, accuses}
+use Rattle.trials.specs.Trial.{Trial, onceEach, sendsOne, possibleEach, Crew, accountability, safety}
 
 -- ---- setting and calls of the runs
 
@@ -33,7 +33,14 @@ abbrev pub hears : Message → Call
 hears m = ByStep (render m) room
 
 abbrev pub boatAt : ℕ → List Call → Boat
-boatAt seat calls = record { seat = seat; store = replicate (storeLength 4) 1; calls = calls; inHand = [] }
+boatAt seat calls = record { seat = seat; store = replicate (storeLength 4) 1; events = map Makes calls; inHand = [] }
+
+-- a boat with more events, or calls, at the end
+abbrev pub does : Boat → List Event → Boat
+does u more = record { seat = u .seat; store = u .store; events = u .events ++ more; inHand = [] }
+
+abbrev pub then : Boat → List Call → Boat
+then u more = does u (map Makes more)
 
 -- the members of a list that pass a test
 unfoldable pub those {ℓ} : {A : Type ℓ} → (A → Bool) → List A → List A
@@ -97,10 +104,6 @@ three = record { everyone = Zeroth ∷ First ∷ Second ∷ []; complete = three
 abbrev pub noticed : ℕ → ℕ → ℕ → ℕ → Boat
 noticed seat b other c = boatAt seat (hears (Notice 5 other (layout c)) ∷ says seat b ∷ hears (submitBy 2 b) ∷ hears (submitBy 3 b) ∷ [])
 
--- a boat with more calls at the end of its list
-abbrev pub then : Boat → List Call → Boat
-then u more = record { seat = u .seat; store = u .store; calls = u .calls ++ more; inHand = [] }
-
 abbrev pub seven : Boat
 seven = noticed 0 7 1 9
 
@@ -129,7 +132,7 @@ witnessedBoats = accountability four three witnessed Zeroth First (layout 7) (la
 
 -- a third boat's store is a byte short
 abbrev pub shortStored : Three → Boat
-shortStored = ofThree (divided false) (divided true) (record { seat = 2; store = replicate 17551 1; calls = map hears (sentBy seven ++ sentBy nine); inHand = [] })
+shortStored = ofThree (divided false) (divided true) (record { seat = 2; store = replicate 17551 1; events = map Makes (map hears (sentBy seven ++ sentBy nine)); inHand = [] })
 
 unfoldable pub shortStoredBoats : Trial (Family four shortStored → Demand3 four shortStored)
 shortStoredBoats = accountability four three shortStored Zeroth First (layout 7) (layout 9)
@@ -242,7 +245,108 @@ slow = boatAt 0 (hears (submitBy 1 7) ∷ hears (submitBy 2 7) ∷ hears (submit
 unfoldable pub slowBoat : Trial (IsHonest four slow → (c : Called) → List·Memᴰ c (listOf four slow) → impossible (resultOf four c .unit) ≡ false)
 slowBoat = possibleEach four slow
 
+-- ---- power cuts (document 02, item 2)
+
+-- two seats, of which none confirms alone
+abbrev pub pair : Setting
+pair = record { n = 2; round = 5; keys = keys 2; checks = toy }
+
+abbrev pub boatOfPair : List Event → Boat
+boatOfPair events = record { seat = 0; store = replicate (storeLength 2) 1; events = events; inHand = [] }
+
+abbrev pub keeps : Event
+keeps = Keeps (replicate noteLength 0)
+
+-- what a boat has kept, newest first, and one of these by its place
+unfoldable pub keptBy : Setting → Boat → List Saved
+keptBy S u = afterAll S (u .seat) (begins S u) (u .events) .kept
+
+unfoldable pub savedAt : ℕ → List Saved → Saved
+savedAt i [] = record { note = []; store = [] }
+savedAt zero (saved ∷ older) = saved
+savedAt (suc i) (saved ∷ older) = savedAt i older
+
+-- the boat comes back from a note that it kept, by its place, and the store kept with it
+abbrev pub comesBack : Setting → ℕ → Boat → Boat
+comesBack S i u = does u (ComesBack (savedAt i (keptBy S u)) ∷ [])
+
+-- A submit of the layout 9 is lost before the first note; one of the layout 7 is kept, and power is lost before it is sent; the layout 9
+-- is now refused; a confirmation is lost, and comes again.
+abbrev pub interrupted : Boat
+interrupted =
+    let opened = boatOfPair (Makes (says 0 9) ∷ OpensAgain (replicate (storeLength 2) 2) ∷ []) in
+    let submitted = comesBack pair 0 (does opened (Makes (says 0 7) ∷ keeps ∷ [])) in
+    let confirmed = comesBack pair 0 (does submitted (Sends (submitBy 0 7) ∷ Makes (says 0 9) ∷ Makes (hears (submitBy 1 7)) ∷ [])) in
+    does confirmed (Makes (hears (submitBy 1 7)) ∷ keeps ∷ Sends (submitBy 0 7) ∷ Sends (Notice 5 0 (layout 7)) ∷ [])
+
+unfoldable pub interruptedBoat : Trial (IsHonest pair interrupted → AtMostOne pair interrupted)
+interruptedBoat = onceEach pair interrupted
+
+unfoldable pub interruptedSending : Trial (IsHonest pair interrupted → SendsOne interrupted)
+interruptedSending = sendsOne pair interrupted
+
+-- a boat submits the layout 7 and sends it before it keeps a note, or it is opened again after the note; then it submits the layout 9
+abbrev pub opensAgain : List Event → Boat
+opensAgain sending = boatOfPair (Makes (says 0 7) ∷ sending ++ OpensAgain (replicate (storeLength 2) 1) ∷ Makes (says 0 9) ∷ keeps ∷ Sends (submitBy 0 9) ∷ [])
+
+abbrev pub hasty : Boat
+hasty = opensAgain (Sends (submitBy 0 7) ∷ [])
+
+abbrev pub blank : Boat
+blank = opensAgain (keeps ∷ Sends (submitBy 0 7) ∷ [])
+
+unfoldable pub hastyBoat : Trial (IsHonest pair hasty → SendsOne hasty)
+hastyBoat = sendsOne pair hasty
+
+unfoldable pub blankBoat : Trial (IsHonest pair blank → SendsOne blank)
+blankBoat = sendsOne pair blank
+
+-- seat 0 keeps a note, submits the layout 7, keeps and sends; it comes back from a note by its place, submits the layout 9, keeps and sends
+-- what was written. Seats 2 and 3 make a certificate with each SUBMIT that it sends.
+abbrev pub returning : ℕ → List Message → Bool → Boat
+returning i more =
+    let u = comesBack four i (does (boatAt 0 []) (keeps ∷ Makes (says 0 7) ∷ keeps ∷ Sends (submitBy 0 7) ∷ [])) in
+    let sender = does u (Makes (says 0 9) ∷ keeps ∷ map Sends more) in
+    ofTwo sender (boatAt 1 (certifiedEach (sentIn (sender .events))))
+
+abbrev pub newest : Bool → Boat
+newest = returning 0 (submitBy 0 7 ∷ [])
+
+abbrev pub older : Bool → Boat
+older = returning 1 (submitBy 0 9 ∷ [])
+
+unfoldable pub newestBoats : Trial (Family four newest → Demand3 four newest)
+newestBoats = safety four two newest []
+
+unfoldable pub olderBoats : Trial (Family four older → Demand3 four older)
+olderBoats = safety four two older []
+
+-- two boats confirm different layouts, and one of them keeps a note in this out and comes back from it, with a store made of the one kept
+abbrev pub returned : List ℕ → (List ℕ → List ℕ) → Bool → Boat
+returned out with =
+    let u = does seven (Keeps out ∷ []) in
+    let saved = savedAt 0 (keptBy four u) in
+    ofTwo (then (does u (ComesBack (record { note = saved .note; store = with (saved .store) }) ∷ [])) (map hears (sentBy nine))) (divided true)
+
+abbrev pub sameStored : Bool → Boat
+sameStored = returned (replicate noteLength 0) (λ store. store)
+
+abbrev pub otherStored : Bool → Boat
+otherStored = returned (replicate noteLength 0) (λ store. replicate (storeLength 4) 1)
+
+abbrev pub unnoted : Bool → Boat
+unnoted = returned [] (λ store. store)
+
+unfoldable pub sameStoredBoats : Trial (Family four sameStored → Demand3 four sameStored)
+sameStoredBoats = accountability four two sameStored false true (layout 7) (layout 9)
+
+unfoldable pub otherStoredBoats : Trial (Family four otherStored → Demand3 four otherStored)
+otherStoredBoats = accountability four two otherStored false true (layout 7) (layout 9)
+
+unfoldable pub unnotedBoats : Trial (Family four unnoted → Demand3 four unnoted)
+unnotedBoats = accountability four two unnoted false true (layout 7) (layout 9)
+
 -- a name that unfolds every definition of a run
 unfoldable pub unfoldedTrials : Bool
-unfolding unfolded outcome listFrom isSubmit isNotice worth count refusalOf cameTo allMessages found entrySized pairSized wellFormed isNoticeOf isEvidenceOn isStepOf isSubmitOf signedIn sameSigned isOpened all formed submits reached confirms mustReach haveReached blamesIn blames accuses onceEach possibleEach accountability safety those sentBy certified certifiedEach two three
+unfolding unfolded outcome begins after afterAll isSubmit isNotice worth count refusalOf cameTo allMessages found entrySized pairSized wellFormed isNoticeOf isEvidenceOn isStepOf isSubmitOf signedIn sameSigned sentIn sameSaved isNewest keepsNone wrote allowed allowedAll isHonest all formed submits reached confirms mustReach haveReached blamesIn blames accuses onceEach sendsOne possibleEach accountability safety those sentBy certified certifiedEach two three keptBy savedAt
 unfoldedTrials = true
