@@ -31,8 +31,9 @@ use Rattle.claims.specs.Whole.{notice-heard, full-held}
 use Rattle.claims.specs.UnrefusedLaws.{possible, Taken, full-taken}
 use Rattle.claims.specs.NotRefused.{Table, message-not-refused}
 use Rattle.reading.specs.MessagesLaws.{step-is, unrefused-unit}
-use Rattle.claims.specs.Journey.{Worthy, At}
-use Rattle.claims.specs.Units.{any-worthy, startOf, endOf, opened-range, opened-fit, opened-outside, start-n, start-round, trip, stop, end-n, end-seat, end-round, written-flag, flag-written, writes-good}
+use Rattle.claims.specs.Journey.{Worthy, At, any-worthy}
+use Rattle.claims.specs.Opened.{startOf, opened-range, opened-fit, opened-outside, start-n, start-round}
+use Rattle.claims.specs.Units.{endOf, trip, stop, end-n, end-seat, end-round, written-flag, flag-written, writes-good}
 use Rattle.claims.specs.Safe.{evidence-cases}
 use Rattle.claims.specs.Made.{evidence-accepted}
 
@@ -130,7 +131,7 @@ module _ (S : Setting) where
         h
         (Heard value)
         (λ r r′ g. g .heard value)
-        (λ r store e z room settled. notice-heard checks Any (start r store) z room settled round seat value)
+        (λ r store e z room settled. notice-heard checks Any (start r store) z room settled round seat value sized)
 
     -- a FULL that reached the unit is held at the end, or was compared with the one held
     reached-held : (sender : ℕ) (value : List ℕ) (es : List Entry) → sender < n → Entries checks Any n value es → Reached S u (render (Full round sender value es)) → Held value end

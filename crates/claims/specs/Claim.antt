@@ -9,15 +9,16 @@
 -- 4. `protocol/specs/Signatures: checks`: the signature check, by `rfc8554/specs`' `Verify`, `Tree` and `Ots`, and `fips180/specs/Fips`.
 -- 5. `as-promised`, in this file: the lists of the claim are the lists by the contracts of the code.
 -- Assumes nothing.
-use mathlib.Core.Path.{_≡_, refl, ap, _∙_}
-use mathlib.Core.List.{List, [], _∷_, map, List·Memᴰ, List·Memᴰ·head, List·Memᴰ·tail}
+use mathlib.Core.Path.{_≡_, refl, sym, ap, ap₂, _∙_}
+use mathlib.Core.List.{List, [], _∷_}
 use Prim.Native.Nat.{ℕ}
 use Rattle.protocol.specs.Signatures.{checks}
-use Rattle.protocol.specs.Calls.{Result, submit, step, opening}
-use Rattle.protocol.specs.declared.Record.{Record}
-use Rattle.round.specs.Round.{Setting, Call, BySubmit, ByStep, ByThinEntry, Boat, Called, outcome, resultOf, listFrom, listOf, IsHonest, Family}
+use Rattle.round.specs.Round.{Setting, Each, resultOf, Event, Boat, Moment, begins, after, afterAll, listOf, AllowedAll, IsHonest, Family}
 use Rattle.round.specs.Demand3.{Demand3}
-use Rattle.claims.specs.Units.{any-worthy, start-round, stop}
+use Rattle.claims.specs.Journey.{any-worthy}
+use Rattle.claims.specs.Opened.{start-n, start-round}
+use Rattle.claims.specs.Power.{nowOf, Runs, runs-setting, runs-first, runs-after}
+use Rattle.claims.specs.Units.{stop}
 use Rattle.claims.specs.Sound.{Any}
 use Rattle.claims.specs.Safe.{safe, safe-delivered}
 use Rattle.claims.specs.Blamed.{blamed}
@@ -40,41 +41,32 @@ setting n round keys = record { n = n; round = round; keys = keys; checks = chec
 pub demand-3 : (n round : ℕ) (keys : List ℕ) {I : Type 0} (boat : I → Boat) → Family (setting n round keys) boat → Demand3 (setting n round keys) boat
 demand-3 n round keys = demand-3-any (setting n round keys)
 
--- ---- lists of calls by the code's contracts
+-- ---- a unit's round by the code's contracts
 
--- Calls one after another from a record and a store, each with its result as the contract of submit, step or thin entry promises it:
--- signatures are checked in the round of the record that the call is given.
-unfoldable pub promised : List ℕ → Record → List ℕ → List Call → List (Called × Result)
-promised keys r store [] = []
-promised keys r store (c ∷ cs) =
-    let result = outcome (setting (r .n) (r .round) keys) c r store in
-    (record { given = c; unit = r; store = store }, result) ∷ promised keys (result .unit) (result .store) cs
+-- A unit's moments one after another, as the contracts promise each event: a submit, step or thin entry checks signatures in the round of
+-- the record that it is given, the writing of a note, its reading and an opening have contracts of their own.
+unfoldable pub promised : List ℕ → ℕ → Moment → List Event → Moment
+promised keys seat m [] = m
+promised keys seat m (e ∷ es) = promised keys seat (after (setting (m .unit .n) (m .unit .round) keys) seat m e) es
 
-module _ (n round : ℕ) (keys : List ℕ) where
+module _ (n round : ℕ) (keys : List ℕ) (u : Boat) (honest : IsHonest (setting n round keys) u) where
   abbrev S : Setting
   S = setting n round keys
 
-  abbrev withResult : Called → Called × Result
-  withResult c = (c, resultOf S c)
+  same-moment : (m : Moment) (es : List Event) → Runs S u honest m → AllowedAll S (u .seat) m es → promised keys (u .seat) m es ≡ afterAll S (u .seat) m es
+  unfolding promised afterAll AllowedAll
+  same-moment m [] h a = refl
+  same-moment m (e ∷ es) h a =
+      let of = runs-setting S u honest m h in
+      ap (λ (x : Moment). promised keys (u .seat) x es) (ap₂ (λ i ρ. after (setting i ρ keys) (u .seat) m e) (of .0) (of .1))
+      ∙ same-moment (after S (u .seat) m e) es (runs-after S u honest m e h (a .0)) (a .1)
 
-  same-outcome : (c : Call) (r : Record) (store : List ℕ) → r .round ≡ round → outcome (setting (r .n) (r .round) keys) c r store ≡ outcome S c r store
-  unfolding outcome
-  same-outcome (BySubmit value signature out) r store e = ap (λ (ρ : ℕ). submit (checks keys ρ) keys r store value signature out) e
-  same-outcome (ByStep bytes out) r store e = ap (λ (ρ : ℕ). step (checks keys ρ) keys r store bytes out) e
-  same-outcome (ByThinEntry bytes out) r store e = ap (λ (ρ : ℕ). step (checks keys ρ) keys r store bytes out) e
+  -- after an opening without a refusal: moment by moment the round of the claim
+  pub as-promised : promised keys (u .seat) (begins S u) (u .events) ≡ nowOf S u
+  as-promised = same-moment (begins S u) (u .events) (runs-first S u honest) (honest .allowed)
 
-  same-list : (r : Record) (store : List ℕ) (cs : List Call) → ((c : Called) → List·Memᴰ c (listFrom S r store cs) → c .unit .round ≡ round)
-      → promised keys r store cs ≡ map withResult (listFrom S r store cs)
-  unfolding promised listFrom
-  same-list r store [] h = refl
-  same-list r store (c ∷ cs) h =
-      let first : Called = record { given = c; unit = r; store = store } in
-      let result = outcome S c r store in
-      rw (same-outcome c r store (h first (List·Memᴰ·head refl)))
-      (ap (λ (rest : List (Called × Result)). (first, result) ∷ rest) (same-list (result .unit) (result .store) cs (λ x d. h x (List·Memᴰ·tail d))))
-
-  -- after an opening without a refusal: call by call and result by result the list of the claim
-  pub as-promised : (u : Boat) → IsHonest S u → promised keys (opening n (u .seat) round keys .unit) (u .store) (u .calls) ≡ map withResult (listOf S u)
-  as-promised u honest =
-      same-list (opening n (u .seat) round keys .unit) (u .store) (u .calls)
-      (λ c d. stop S u honest Any (any-worthy S (listOf S u)) c d .since .round ∙ start-round S u honest)
+  -- and so each call that counts has the result that its contract promises
+  pub results-promised : Each (λ c. resultOf S c ≡ resultOf (setting (c .unit .n) (c .unit .round) keys) c) (listOf S u)
+  results-promised c d =
+      let at = stop S u honest Any (any-worthy S (listOf S u)) c d .since in
+      ap₂ (λ i ρ. resultOf (setting i ρ keys) c) (sym (at .n ∙ start-n S u honest)) (sym (at .round ∙ start-round S u honest))

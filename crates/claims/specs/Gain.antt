@@ -27,8 +27,10 @@ use Rattle.claims.specs.Parts.{confirmed-submitted}
 use Rattle.claims.specs.Whole.{submitted-value}
 use Rattle.claims.specs.UnrefusedLaws.{possible, Taken}
 use Rattle.claims.specs.NotRefused.{Table, StepFit, SubmitFit, step-not-refused}
-use Rattle.claims.specs.Journey.{At}
-use Rattle.claims.specs.Units.{any-worthy, startOf, endOf, opened-fit, start-seat, stop, written-are}
+use Rattle.claims.specs.Journey.{At, any-worthy}
+use Rattle.claims.specs.Opened.{startOf, opened-fit, start-seat}
+use Rattle.claims.specs.Power.{Unbroken, counted-is-unbroken}
+use Rattle.claims.specs.Units.{endOf, stop, written-are}
 use Rattle.claims.specs.Kept.{SubmitsNow, Hears, submits-fit, submits-result, hears-fit, early-kept, kept-stays, call-does, OfKept, kept-next, start-none, size-is, round-is}
 use Rattle.claims.specs.CollectKeptLaws.{confirms-at-once}
 
@@ -242,8 +244,11 @@ module _ (S : Setting) where
     module _ (h : SubmitsAfter S u) where
       open SubmitsAfter h using (before, call as t, after, split, submits as s, others, apart, enough, given)
 
-      chain : Chain (startOf S u honest) (u .store) (before ++ t ∷ after)
-      chain = subst (Chain (startOf S u honest) (u .store)) split (chain-of (startOf S u honest) (u .store) (u .calls))
+      abbrev counted : Unbroken S u
+      counted = counted-is-unbroken S u honest
+
+      chain : Chain (startOf S u honest) (counted .store) (before ++ t ∷ after)
+      chain = subst (Chain (startOf S u honest) (counted .store)) (sym (counted .list) ∙ split) (chain-of (startOf S u honest) (counted .store) (counted .calls))
 
       inList : List·Memᴰ t list
       inList = subst (λ l. List·Memᴰ t l) (sym split) (Memᴰ·append-right before (List·Memᴰ·head refl))
@@ -263,7 +268,7 @@ module _ (S : Setting) where
 
       earlier-unsaid : Each (λ x. resultOf S x .unit .own .submitted ≡ false) before
       earlier-unsaid =
-          unsaid-before (startOf S u honest) (u .store) before t after chain (λ x d e. at x (earlier-inList x d) .after .grows .said e .0) (fit .first)
+          unsaid-before (startOf S u honest) (counted .store) before t after chain (λ x d e. at x (earlier-inList x d) .after .grows .said e .0) (fit .first)
 
       ready : Each Ready before
       ready x d =
@@ -276,7 +281,7 @@ module _ (S : Setting) where
 
       kept-it : (seat : ℕ) → In seat others → KeptIt seat (s .layout) (t .unit) (t .store)
       kept-it seat i =
-          first-kept seat (s .layout) (startOf S u honest) (u .store) before t after chain ready (λ x e. absurd (omega (arith, ap (bit x) (start-none S u honest), bit-empty x))) (given seat i)
+          first-kept seat (s .layout) (startOf S u honest) (counted .store) before t after chain ready (λ x e. absurd (omega (arith, ap (bit x) (start-none S u honest), bit-empty x))) (given seat i)
 
       -- it has confirmed
       confirmed-there : resultOf S t .unit .confirmed ≡ true

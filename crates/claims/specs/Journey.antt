@@ -17,17 +17,21 @@ use Rattle.round.specs.Demand1.{isOf}
 use Rattle.reading.specs.Messages.{refusalOf, cameTo, messages, allMessages}
 use Rattle.reading.specs.MessagesLaws.{outcome-is}
 use Rattle.reading.specs.ListsLaws.{count-append, count-nil, each-nil, each-cons}
-use Rattle.claims.specs.Sound.{Grows, Counts, Settled, Sound, Good}
+use Rattle.claims.specs.Sound.{Any, Grows, Counts, Settled, Sound, Good}
 use Rattle.claims.specs.Parts.{grows-refl, grows-trans}
 use Rattle.claims.specs.Whole.{Done, submitted-done, submitted-value, stepped-done}
 use Rattle.claims.specs.NotRefused.{submit-fit, step-fit, brings}
 
 -- ---- the end of a list
 
--- the record at the end of a list
+-- the record and the store at the end of a list
 unfoldable pub lastOf : Setting → Record → List ℕ → List Call → Record
 lastOf S r store [] = r
 lastOf S r store (c ∷ cs) = lastOf S (outcome S c r store .unit) (outcome S c r store .store) cs
+
+unfoldable pub leftBy : Setting → Record → List ℕ → List Call → List ℕ
+leftBy S r store [] = store
+leftBy S r store (c ∷ cs) = leftBy S (outcome S c r store .unit) (outcome S c r store .store) cs
 
 -- ---- the invariant over one call
 
@@ -108,16 +112,19 @@ module _ (S : Setting) (W : Relation) where
     pub after : Passed (t .unit) (t .store) (resultOf S t .unit) (resultOf S t .store) (messages S t)
     pub before : Grows (resultOf S t .unit) end
 
-  pub record Journey (r : Record) (end : Record) (ts : List Called) : Type 0 where
+  -- from a record, by the calls, to a record and a store
+  pub record Journey (r end : Record) (left : List ℕ) (ts : List Called) : Type 0 where
     pub grows : Grows r end
     pub at : Each (λ t. At r t end) ts
     pub counts : Counts r (allMessages S ts) end
+    pub sound : Sound checks W end left
     pub settled : Settled end
 
   pub journey : (r : Record) (store : List ℕ) (cs : List Call) → Sound checks W r store → Settled r → Each Worthy (listFrom S r store cs)
-      → Journey r (lastOf S r store cs) (listFrom S r store cs)
-  unfolding listFrom lastOf allMessages
-  journey r store [] z e w = record { grows = grows-refl r; at = each-nil (λ t. At r t r); counts = λ κ. let y = count-nil (isOf κ) in omega arith; settled = e }
+      → Journey r (lastOf S r store cs) (leftBy S r store cs) (listFrom S r store cs)
+  unfolding listFrom lastOf leftBy allMessages
+  journey r store [] z e w =
+      record { grows = grows-refl r; at = each-nil (λ t. At r t r); counts = λ κ. let y = count-nil (isOf κ) in omega arith; sound = z; settled = e }
   journey r store (c ∷ cs) z e w =
       let t : Called = record { given = c; unit = r; store = store } in
       let after = outcome S c r store in
@@ -131,5 +138,16 @@ module _ (S : Setting) (W : Relation) where
             (λ x d. let y = rest .at x d in
             record { since = grows-trans r (after .unit) (x .unit) (a .grows) (y .since); sound = y .sound; settled = y .settled; after = y .after; before = y .before });
         counts = λ κ. let x = a .counts κ in let y = rest .counts κ in omega (arith, count-append (isOf κ) (messages S t) (allMessages S ts));
+        sound = rest .sound;
         settled = rest .settled;
       }
+
+-- ---- no condition on signatures
+
+any-given : (S : Setting) (c : Call) (r : Record) → WorthyGiven S Any c r
+any-given S (BySubmit value signature out) r = tt
+any-given S (ByStep bytes out) r = λ s d. tt
+any-given S (ByThinEntry bytes out) r = λ s d. tt
+
+pub any-worthy : (S : Setting) (ts : List Called) → Each (Worthy S Any) ts
+any-worthy S ts t d q = any-given S (t .given) (t .unit)

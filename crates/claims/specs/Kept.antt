@@ -35,8 +35,9 @@ use Rattle.claims.specs.KeptPartLaws.{Aside, Emptied, kept-value-beside,
 use Rattle.claims.specs.Parts.{k-pos, in-below}
 use Rattle.claims.specs.UnrefusedLaws.{Taken}
 use Rattle.claims.specs.NotRefused.{SubmitFit, StepFit, submit-fit, step-fit}
-use Rattle.claims.specs.Journey.{At}
-use Rattle.claims.specs.Units.{any-worthy, startOf, endOf, opened-fresh, start-n, start-round, stop}
+use Rattle.claims.specs.Journey.{At, any-worthy}
+use Rattle.claims.specs.Opened.{startOf, opened-fresh, start-n, start-round}
+use Rattle.claims.specs.Units.{endOf, by-unbroken, stop}
 
 -- ---- before the own submit
 
@@ -368,7 +369,9 @@ module _ (S : Setting) where
       pub kept-was-heard : (seat : ℕ) → In seat (t .unit .kept) → HeardIn seat (keptValue n (t .store) seat) (keptSignature n (t .store) seat)
       kept-was-heard seat i =
           subst (λ m. HeardIn seat (keptValue m (t .store) seat) (keptSignature m (t .store) seat)) size-is
-          (kept-of HeardIn (startOf S u honest) (u .store) (u .calls) (λ s e. absurd (omega (arith, ap (bit s) start-none, bit-empty s))) (λ y e s value signature h. (y, e, h)) t d seat i)
+          (by-unbroken S u honest (λ end left ts. Each (OfHeard HeardIn) ts → Each (λ x. OfKept HeardIn (x .unit) (x .store)) ts)
+          (λ store cs. kept-of HeardIn (startOf S u honest) store cs (λ s e. absurd (omega (arith, ap (bit s) start-none, bit-empty s))))
+          (λ y e s value signature h. (y, e, h)) t d seat i)
 
       -- "then the kept seats are empty": none is kept once the unit has submitted
       pub none-kept-once-submitted : t .unit .own .submitted ≡ true → t .unit .kept ≡ 0

@@ -18,6 +18,8 @@ pub mod Whole
 pub mod UnrefusedLaws
 pub mod NotRefused
 pub mod Journey
+pub mod Opened
+pub mod Power
 pub mod Units
 pub mod Once
 pub mod Kept

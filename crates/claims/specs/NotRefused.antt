@@ -188,7 +188,7 @@ module _ (checks : Checks) (keys : List ℕ) (r : Record) (store bytes out : Lis
       go : (m : Message) → Taken checks (r .n) (r .round) m → Sized (r .n) m → EachSigned W m → Brings checks W r m
       go (Submit ρ seat value signature) t l w =
           (t .inside seat (List·Memᴰ·head refl), l .0, record { checked = t .checked _ (List·Memᴰ·head refl); sized = l .1; worthy = w _ (List·Memᴰ·head refl) })
-      go (Notice ρ seat value) t l w = tt
+      go (Notice ρ seat value) t l w = l
       go (Full ρ sender value es) t l w = entries-taken checks W (r .n) (r .round) ρ sender value es t l w
       go (Evidence ρ values ps) t l w = tt
       go Garbled t l w = tt

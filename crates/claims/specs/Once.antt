@@ -27,8 +27,9 @@ use Rattle.claims.specs.Parts.{confirmed-submitted}
 use Rattle.reading.specs.ReadingLaws.{are-unique}
 use Rattle.claims.specs.UnrefusedLaws.{possible}
 use Rattle.reading.specs.Messages.{messages, allMessages}
-use Rattle.claims.specs.Journey.{Worthy, Passed}
-use Rattle.claims.specs.Units.{any-worthy, endOf, start-n, start-sound, start-settled, trip, stop, result-grows, written-are, all-are}
+use Rattle.claims.specs.Journey.{Worthy, Passed, any-worthy}
+use Rattle.claims.specs.Opened.{start-n, start-sound, start-settled}
+use Rattle.claims.specs.Units.{endOf, trip, stop, result-grows, written-are, all-are}
 
 -- ---- messages by kind
 
@@ -125,7 +126,7 @@ module _ (S : Setting) (u : Boat) (honest : IsHonest S u) where
   -- the record that the opening gave isn't impossible
   pub opened-possible : impossible (opening n (u .seat) round keys .unit) ≡ false
   opened-possible =
-      possible checks Any (opening n (u .seat) round keys .unit) (u .store) (start-sound S u honest Any) (start-settled S u honest)
+      possible checks Any (opening n (u .seat) round keys .unit) (u .store) (start-sound S u honest Any (u .store)) (start-settled S u honest)
 
   -- ---- at each call
 

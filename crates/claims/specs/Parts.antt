@@ -33,7 +33,7 @@ use Rattle.round.specs.Round.{Each, Relation}
 use Rattle.round.specs.Demand1.{Kind, SUBMIT, NOTICE, FULL, EVIDENCE, isOf, isSubmit, isNotice, worth}
 use Rattle.reading.specs.ListsLaws.{cond-elim, and-false-either, each-one, each-append, count-append, count-one}
 use Rattle.claims.specs.SlotsLaws.{fill-length, slot-fill-same, slot-fill-other, fillEach-length, slot-fillEach-other, slot-fillEach-same}
-use Rattle.claims.specs.Sound.{flagOf, Heard, Held, Grows, Room, Attested, Certifies, Pairs, Collection, Holding, Keeping, Sound, Said, Good, Leads}
+use Rattle.claims.specs.Sound.{flagOf, Heard, Held, Grows, Room, Attested, Hearing, Certifies, Pairs, Collection, Holding, Keeping, Sound, Said, Good, Leads}
 use Rattle.claims.specs.CertificatesLaws.{entries-of, evidence-elim}
 
 -- ---- growth of records
@@ -297,20 +297,20 @@ module _ (checks : Checks) (W : Relation) where
   -- ---- hear
 
   module _ (value : List ℕ) (s : State) where
-    pub hear-leads : Sound checks W (s .unit) (s .store) → Leads checks W s (hear value s)
+    pub hear-leads : length value ≡ valueLength → Sound checks W (s .unit) (s .store) → Leads checks W s (hear value s)
     unfolding hear
-    hear-leads z =
+    hear-leads sized z =
         let r = s .unit in
-        let sound : (noticesWith value r .heard ≤ 2) × (noticesWith value r .heard ≡ 0 → noticesWith value r .value ≡ unset) =
-        notices-elim (λ x. (x .heard ≤ 2) × (x .heard ≡ 0 → x .value ≡ unset)) value r
-        (λ e. (omega arith, λ q. absurd (omega arith)))
-        (λ e d. (omega arith, λ q. absurd (omega arith)))
-        (λ a b. (z .heard .few, z .heard .unheard)) in
+        let hearing : Hearing (noticesWith value r) =
+        notices-elim Hearing value r
+        (λ e. record { sized = sized; few = omega arith; unheard = λ q. absurd (omega arith) })
+        (λ e d. record { sized = z .heard .sized; few = omega arith; unheard = λ q. absurd (omega arith) })
+        (λ a b. z .heard) in
         leads-quiet s (hear value s)
         (record {
           range = z .range;
           own = z .own;
-          heard = record { few = sound .0; unheard = sound .1 };
+          heard = hearing;
           first = z .first;
           flags = z .flags;
           kept = z .kept;

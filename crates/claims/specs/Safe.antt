@@ -28,8 +28,9 @@ use Rattle.claims.specs.UnrefusedLaws.{Taken, signed-pairs, entries-take
 use Rattle.claims.specs.NotRefused.{evidence-not-refused, making-fit}
 use Rattle.reading.specs.Messages.{refusalOf, cameTo}
 use Rattle.reading.specs.MessagesLaws.{counted-written, unrefused-result}
-use Rattle.claims.specs.Journey.{WorthyGiven, Worthy, At, submit-value}
-use Rattle.claims.specs.Units.{any-worthy, startOf, endOf, start-n, start-seat, stop, writes-good, pairs-formed}
+use Rattle.claims.specs.Journey.{WorthyGiven, Worthy, At, submit-value, any-worthy}
+use Rattle.claims.specs.Opened.{startOf, start-n, start-seat}
+use Rattle.claims.specs.Units.{endOf, stop, writes-good, pairs-formed}
 
 -- a value isn't lower than itself
 lower-self : (v : List ℕ) → isLower v v ≡ false

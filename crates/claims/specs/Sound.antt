@@ -65,6 +65,7 @@ Room s = storeLength (s .unit .n) ≤ length (s .store)
 -- ---- notices heard, and flags
 
 pub record Hearing (notices : Notices) : Type 0 where
+  pub sized : length (notices .value) ≡ valueLength
   pub few : notices .heard ≤ 2
   pub unheard : notices .heard ≡ 0 → notices .value ≡ unset
 

@@ -6,24 +6,22 @@ use mathlib.Core.List.{List, List·Memᴰ}
 use Prim.Native.Nat.{ℕ, _≤_}
 use native.Mathlib.Omega.{arith}
 use Rattle.quorum.specs.Quorum.{k}
-use Rattle.refusal.specs.Refusal.{unrefused}
 use Rattle.protocol.specs.Message.{Pair, PairValues, Message, Submit, Notice, Full, Evidence, Garbled, WellFormed}
 use Rattle.protocol.specs.Record.{fresh, lastRound, InRange}
 use Rattle.protocol.specs.Refusals.{Checks}
-use Rattle.protocol.specs.Calls.{openedBy, opening}
 use Rattle.protocol.specs.declared.Record.{Record}
-use Rattle.round.specs.Round.{Setting, IsHonest, Each, Relation, Call, BySubmit, ByStep, ByThinEntry, Boat, Called, resultOf, writtenIn, Are, StandsIn, listOf, Writes}
+use Rattle.round.specs.Round.{Setting, IsHonest, Each, Relation, Call, Boat, Called, resultOf, writtenIn, Are, StandsIn, listFrom, listOf, Writes}
 use Rattle.round.specs.Demand1.{Kind, SUBMIT, NOTICE, FULL, EVIDENCE, isOf, worth, writtenOver}
 use Rattle.reading.specs.ListsLaws.{worth-le-one, worth-true, true-of-worth, count-pos, count-member}
 use Rattle.claims.specs.Sound.{Any, flagOf, Grows, Settled, Pairs, Sound, Good}
 use Rattle.claims.specs.CertificatesLaws.{entries-laid}
 use Rattle.claims.specs.Parts.{grows-trans, good-grows}
 use Rattle.reading.specs.ReadingLaws.{are-unique}
-use Rattle.claims.specs.NotRefused.{OpeningFit, opening-not-refused, Outside}
 use Rattle.reading.specs.Messages.{messages, allMessages}
 use Rattle.reading.specs.MessagesLaws.{all-member, member-all, written-is, list-are}
-use Rattle.claims.specs.UnrefusedLaws.{fresh-sound, fresh-settled}
-use Rattle.claims.specs.Journey.{lastOf, WorthyGiven, Worthy, At, Journey, journey}
+use Rattle.claims.specs.Journey.{lastOf, leftBy, Worthy, any-worthy, At, Journey, journey}
+use Rattle.claims.specs.Opened.{startOf, start-n, start-seat, start-round, start-unset, start-sound, start-settled}
+use Rattle.claims.specs.Power.{nowOf, counted-is-unbroken}
 
 -- ---- form of the messages that a unit writes
 
@@ -48,85 +46,43 @@ good-formed checks W r (Full ρ sender value es) range g =
 good-formed checks W r (Evidence ρ values ps) range g = pairs-formed checks W (r .n) ρ values ps (rw (g .0) (range .dated)) (g .1)
 good-formed checks W r Garbled range g = absurd g
 
-any-given : (S : Setting) (c : Call) (r : Record) → WorthyGiven S Any c r
-any-given S (BySubmit value signature out) r = tt
-any-given S (ByStep bytes out) r = λ s d. tt
-any-given S (ByThinEntry bytes out) r = λ s d. tt
-
-pub any-worthy : (S : Setting) (ts : List Called) → Each (Worthy S Any) ts
-any-worthy S ts t d q = any-given S (t .given) (t .unit)
-
-fresh-flag : (n seat round : ℕ) (κ : Kind) → worth (flagOf κ (fresh n seat round)) ≡ 0
-unfolding fresh worth
-fresh-flag n seat round SUBMIT = refl
-fresh-flag n seat round NOTICE = refl
-fresh-flag n seat round FULL = refl
-fresh-flag n seat round EVIDENCE = refl
-
 -- ---- the unit
 
 module _ (S : Setting) (u : Boat) (honest : IsHonest S u) where
   open Setting S using (n, round, keys, checks)
 
-  abbrev pub startOf : Record
-  startOf = opening n (u .seat) round keys .unit
+  abbrev start : Record
+  start = startOf S u honest
 
+  -- the record that the unit has
   abbrev pub endOf : Record
-  endOf = lastOf S startOf (u .store) (u .calls)
+  endOf = nowOf S u .unit
 
   abbrev ts : List Called
   ts = listOf S u
 
-  pub opened-fit : OpeningFit n (u .seat) round keys
-  opened-fit = opening-not-refused n (u .seat) round keys .0 honest
-
-  pub opened-range : InRange n (u .seat) round
-  opened-range = opened-fit .range
-
-  pub opened-outside : Outside n round keys
-  opened-outside = record { some = opened-range .some; most = opened-range .most; inTime = opened-range .dated; table = opened-fit .table }
-
-  pub opened-fresh : startOf ≡ fresh n (u .seat) round
-  unfolding opening openedBy unrefused
-  opened-fresh = rw honest
-
-  pub start-n : startOf .n ≡ n
-  unfolding fresh
-  start-n = ap (λ (r : Record). r .n) opened-fresh
-
-  pub start-seat : startOf .seat ≡ u .seat
-  unfolding fresh
-  start-seat = ap (λ (r : Record). r .seat) opened-fresh
-
-  pub start-round : startOf .round ≡ round
-  unfolding fresh
-  start-round = ap (λ (r : Record). r .round) opened-fresh
-
-  -- no flag is set at the start
-  pub start-unset : (κ : Kind) → worth (flagOf κ startOf) ≡ 0
-  start-unset κ = rw opened-fresh (fresh-flag n (u .seat) round κ)
-
-  pub start-sound : (W : Relation) → Sound checks W startOf (u .store)
-  start-sound W = subst (λ r. Sound checks W r (u .store)) (sym opened-fresh) (fresh-sound checks W n (u .seat) round (u .store) opened-range)
-
-  pub start-settled : Settled startOf
-  start-settled = subst Settled (sym opened-fresh) (fresh-settled n (u .seat) round (opened-range .some))
+  -- what holds of every list without power cuts, by its end, holds of the calls that count
+  pub by-unbroken : (P : Record → List ℕ → List Called → Type 0) → ((store : List ℕ) (cs : List Call) → P (lastOf S start store cs) (leftBy S start store cs) (listFrom S start store cs)) → P endOf (nowOf S u .store) ts
+  by-unbroken P all =
+      let c = counted-is-unbroken S u honest in
+      rw (c .unit, c .left, c .list) (all (c .store) (c .calls))
 
   module _ (W : Relation) (w : Each (Worthy S W) ts) where
-    pub trip : Journey S W startOf endOf ts
-    trip = journey S W startOf (u .store) (u .calls) (start-sound W) start-settled w
+    pub trip : Journey S W start endOf (nowOf S u .store) ts
+    trip =
+        by-unbroken (λ end left ts. Each (Worthy S W) ts → Journey S W start end left ts) (λ store cs. journey S W start store cs (start-sound S u honest W store) (start-settled S u honest)) w
 
     module _ (t : Called) (d : List·Memᴰ t ts) where
-      pub stop : At S W startOf t endOf
+      pub stop : At S W start t endOf
       stop = trip .at t d
 
-      pub result-grows : Grows startOf (resultOf S t .unit)
-      result-grows = grows-trans startOf (t .unit) (resultOf S t .unit) (stop .since) (stop .after .grows)
+      pub result-grows : Grows start (resultOf S t .unit)
+      result-grows = grows-trans start (t .unit) (resultOf S t .unit) (stop .since) (stop .after .grows)
 
       -- form of the messages that the call writes
       messages-formed : Each (WellFormed n) (messages S t)
       messages-formed m e =
-          subst (λ i. WellFormed i m) (result-grows .n ∙ start-n) (good-formed checks W (resultOf S t .unit) m (stop .after .sound .range) (stop .after .good m e))
+          subst (λ i. WellFormed i m) (result-grows .n ∙ start-n S u honest) (good-formed checks W (resultOf S t .unit) m (stop .after .sound .range) (stop .after .good m e))
 
       pub written-are : Are n (writtenIn S t) (messages S t)
       written-are = (messages-formed, written-is S t)
@@ -142,13 +98,13 @@ module _ (S : Setting) (u : Boat) (honest : IsHonest S u) where
           good-grows checks W (resultOf S t .unit) endOf (stop .before) m (stop .after .good m (stands-message m s))
 
     pub end-n : endOf .n ≡ n
-    end-n = trip .grows .n ∙ start-n
+    end-n = trip .grows .n ∙ start-n S u honest
 
     pub end-seat : endOf .seat ≡ u .seat
-    end-seat = trip .grows .seat ∙ start-seat
+    end-seat = trip .grows .seat ∙ start-seat S u honest
 
     pub end-round : endOf .round ≡ round
-    end-round = trip .grows .round ∙ start-round
+    end-round = trip .grows .round ∙ start-round S u honest
 
     -- a message is written in the list exactly where its flag is set at the end
     pub written-flag : (κ : Kind) (m : Message) → isOf κ m ≡ true → Writes S u m → flagOf κ endOf ≡ true
@@ -158,7 +114,7 @@ module _ (S : Setting) (u : Boat) (honest : IsHonest S u) where
 
     pub flag-written : (κ : Kind) → flagOf κ endOf ≡ true → (m : Message) × (isOf κ m ≡ true) × Writes S u m
     flag-written κ e =
-        let c = count-member (isOf κ) (allMessages S ts) (omega (arith, trip .counts κ, start-unset κ, worth-true (flagOf κ endOf) e)) in
+        let c = count-member (isOf κ) (allMessages S ts) (omega (arith, trip .counts κ, start-unset S u honest κ, worth-true (flagOf κ endOf) e)) in
         let h = member-all S ts (c .0) (c .1) in
         (c .0, c .2, record { call = h .0; inList = h .1; stands = (messages S (h .0), written-are (h .0) (h .1), h .2) })
 

@@ -112,7 +112,7 @@ fresh-sound checks W n seat round store range = record {
     unsaid = λ e. (refl, refl);
     said = λ e. absurd (false≢true e);
   };
-  heard = record { few = omega arith; unheard = λ e. refl };
+  heard = record { sized = refl; few = omega arith; unheard = λ e. refl };
   first = record {
     sized = refl;
     below = pow-pos n;

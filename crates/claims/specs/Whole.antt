@@ -111,7 +111,7 @@ module _ (checks : Checks) (W : Relation) where
   module _ (c : Certificate) (s : State) (z : Sound checks W (s .unit) (s .store)) (room : Room s) (y : Certifies checks W (s .unit .n) c) where
     heard-leads : Leads checks W s (reply (hear (c .value) s))
     heard-leads =
-        let a = hear-leads checks W (c .value) s z in
+        let a = hear-leads checks W (c .value) s (y .sized) z in
         leads-trans checks W s (hear (c .value) s) (reply (hear (c .value) s)) a (reply-leads checks W (hear (c .value) s) (a .sound))
 
     heard-certifies : Certifies checks W (reply (hear (c .value) s) .unit .n) c
@@ -266,7 +266,7 @@ module _ (checks : Checks) (W : Relation) where
   -- facts about a message that a step doesn't refuse
   abbrev pub Brings : Record → Message → Type 0
   Brings r (Submit ρ seat value signature) = (seat < r .n) × (length value ≡ valueLength) × Attested checks W seat value signature
-  Brings r (Notice ρ seat value) = Unit {0}
+  Brings r (Notice ρ seat value) = length value ≡ valueLength
   Brings r (Full ρ sender value entries) = Entries checks W (r .n) value entries
   Brings r (Evidence ρ values entries) = Unit {0}
   Brings r Garbled = Unit {0}
@@ -299,7 +299,7 @@ module _ (checks : Checks) (W : Relation) where
     unfolding stepped certificateIn
     stepped-done (Submit ρ seat value signature) w = hearSubmit-done seat value signature (w .0) (w .1) (w .2)
     stepped-done (Notice ρ seat value) w =
-        let a = hear-leads checks W value s z in
+        let a = hear-leads checks W value s w z in
         let b = reply-leads checks W (hear value s) (a .sound) in
         let t = reply (hear value s) in
         let c = leads-trans checks W s (hear value s) t a b in
@@ -315,10 +315,10 @@ module _ (checks : Checks) (W : Relation) where
     stepped-done Garbled w = record { leads = leads-refl checks W s z; settled = e }
 
     -- a NOTICE taken is heard, and a FULL taken is held or compared
-    pub notice-heard : (ρ seat : ℕ) (value : List ℕ) → Heard value (stepped (Notice ρ seat value) s .unit)
+    pub notice-heard : (ρ seat : ℕ) (value : List ℕ) → length value ≡ valueLength → Heard value (stepped (Notice ρ seat value) s .unit)
     unfolding stepped
-    notice-heard ρ seat value =
-        reply-leads checks W (hear value s) (hear-leads checks W value s z .sound) .grows .heard value (hear-heard checks W value s)
+    notice-heard ρ seat value sized =
+        reply-leads checks W (hear value s) (hear-leads checks W value s sized z .sound) .grows .heard value (hear-heard checks W value s)
 
     pub full-held : (ρ sender : ℕ) (value : List ℕ) (es : List Entry) → Entries checks W (s .unit .n) value es → Held value (stepped (Full ρ sender value es) s .unit)
     unfolding stepped certificateIn certificateOf

@@ -11,7 +11,9 @@ use Rattle.protocol.specs.Calls.{opening, openedBy}
 use Rattle.round.specs.Round.{Setting, IsHonest, Each, Boat, listOf, Writes}
 use Rattle.claims.specs.Sound.{Any}
 use Rattle.protocol.specs.Record.{InRange}
-use Rattle.claims.specs.Units.{any-worthy, opened-range, written-are}
+use Rattle.claims.specs.Journey.{any-worthy}
+use Rattle.claims.specs.Opened.{opened-range}
+use Rattle.claims.specs.Units.{written-are}
 use Rattle.paper.specs.Machine.{init, Event, Action, Says}
 use Rattle.paper.specs.Memory.{recordOf}
 use Rattle.paper.specs.Events.{DoesAs, actionsOver, TakenIn}

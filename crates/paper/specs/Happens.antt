@@ -16,8 +16,9 @@ use Rattle.protocol.specs.Calls.{resultBy, step}
 use Rattle.round.specs.Round.{Setting, IsHonest, Each, Call, BySubmit, ByStep, ByThinEntry, Boat, Called, outcome, resultOf, listOf}
 use Rattle.claims.specs.UnrefusedLaws.{possible}
 use Rattle.claims.specs.NotRefused.{Table, Lent, submit-not-refused}
-use Rattle.claims.specs.Journey.{At}
-use Rattle.claims.specs.Units.{any-worthy, startOf, endOf, opened-fit, start-n, start-seat, start-round, stop}
+use Rattle.claims.specs.Journey.{At, any-worthy}
+use Rattle.claims.specs.Opened.{startOf, opened-fit, start-n, start-seat, start-round}
+use Rattle.claims.specs.Units.{endOf, stop}
 use Rattle.claims.specs.Sound.{Any}
 use Rattle.paper.specs.Machine.{Event, Submitted}
 use Rattle.paper.specs.Events.{delivered, isDelivered, eventOf, FitSubmit, FitStep}

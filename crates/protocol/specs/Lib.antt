@@ -5,7 +5,7 @@
 -- `Refusals` the causes of a refusal (`Order`: their order), `Step` submit and step once nothing is refused, `Signatures` a seat's
 -- signature and the calls on keys and signatures, and `Calls` each other call as a whole. `XLaws` has the laws of `X`,
 -- `RoundTripLaws` the law that bytes read are written back the same, `SignatureClaim` the claim that signatures made by the signer are
--- accepted.
+-- accepted, `NoteClaim` the claims on a note written and read back.
 pub mod Layout
 pub mod LayoutLaws
 pub mod Figures
@@ -21,6 +21,7 @@ pub mod CertificateLaws
 pub mod Record
 pub mod RecordLaws
 pub mod Note
+pub mod NoteLaws
 pub mod Conditions
 pub mod ConditionsLaws
 pub mod Refusals
@@ -31,3 +32,4 @@ pub mod Signatures
 pub mod SignaturesLaws
 pub mod SignatureClaim
 pub mod Calls
+pub mod NoteClaim

@@ -158,9 +158,12 @@ pub record InRange (n seat round : ℕ) : Type 0 where
 
 pub record Possible (r : Record) : Type 0 where
   pub range : InRange (r .n) (r .seat) (r .round)
+  -- notices heard are none, one value or two
+  pub heard : r .notices .heard ≤ 2
   -- the masks name seats below n
   pub collected : r .own .collected < 2 ^ r .n
   pub first : r .first .seats < 2 ^ r .n
+  pub guilty : r .guilty < 2 ^ r .n
   pub kept : r .kept < 2 ^ r .n
   -- nothing is collected before the submission, at most k are, and k are just where the unit has confirmed
   pub unsaid : r .own .submitted ≡ false → r .own .collected ≡ 0

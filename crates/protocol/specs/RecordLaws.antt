@@ -57,7 +57,7 @@ none-or-k s k e = go (eqb s 0) refl
     go false h = omega (arith, eqb-true s k (then-so true (eqb s k) (rw h at e) refl))
 
 module _ (r : Record) (e : impossible r ≡ false) where
-  parts : (outOfRange r ≡ false) × (namesStranger r ≡ false) × (wrongCollected r ≡ false) × (wrongFirst r ≡ false)
+  parts : (outOfRange r ≡ false) × (wrongHeard r ≡ false) × (namesStranger r ≡ false) × (wrongCollected r ≡ false) × (wrongFirst r ≡ false)
   unfolding impossible
   parts =
       let a = both-false _ (wrongUnset r) e .0 in
@@ -69,26 +69,28 @@ module _ (r : Record) (e : impossible r ≡ false) where
       let g = both-false _ (wrongCollected r) (f .0) in
       let h = both-false _ (namesStranger r) (g .0) in
       let i = both-false (outOfRange r) (wrongHeard r) (h .0) in
-      (i .0, h .1, g .1, f .1)
+      (i .0, i .1, h .1, g .1, f .1)
 
   pub possible : Possible r
-  unfolding namesStranger wrongCollected wrongFirst
+  unfolding wrongHeard namesStranger wrongCollected wrongFirst
   possible =
-      let all = both-false _ (outside (r .n) (r .kept)) (parts .1) in
+      let all = both-false _ (outside (r .n) (r .kept)) (parts .2) in
       let masks = both-false _ (outside (r .n) (r .guilty)) (all .0) in
       let two = both-false (outside (r .n) (r .own .collected)) (outside (r .n) (r .first .seats)) (masks .0) in
-      let a = both-false _ (r .confirmed && not (eqb (size (r .own .collected)) (k (r .n)))) (parts .2) in
+      let a = both-false _ (r .confirmed && not (eqb (size (r .own .collected)) (k (r .n)))) (parts .3) in
       let b = both-false _ (eqb (size (r .own .collected)) (k (r .n)) && not (r .confirmed)) (a .0) in
       let c = both-false _ (ltb (k (r .n)) (size (r .own .collected))) (b .0) in
       let d = both-false (not (r .own .submitted) && not (eqb (r .own .collected) 0)) (r .own .submitted && not (has (r .seat) (r .own .collected))) (c .0) in
       record {
         range = in-range r (parts .0);
+        heard = ltb-false 2 (r .notices .heard) (parts .1);
         collected = outside-false (r .n) (r .own .collected) .0 (two .0);
         first = outside-false (r .n) (r .first .seats) .0 (two .1);
+        guilty = outside-false (r .n) (r .guilty) .0 (masks .1);
         kept = outside-false (r .n) (r .kept) .0 (all .1);
         unsaid = λ h. eqb-true (r .own .collected) 0 (then-so (not (r .own .submitted)) (eqb (r .own .collected) 0) (d .0) (rw h));
         few = ltb-false (k (r .n)) (size (r .own .collected)) (c .1);
         complete = λ h. then-so (eqb (size (r .own .collected)) (k (r .n))) (r .confirmed) (b .1) (eq-eqb (size (r .own .collected)) (k (r .n)) h);
         confirmed = λ h. eqb-true (size (r .own .collected)) (k (r .n)) (then-so (r .confirmed) (eqb (size (r .own .collected)) (k (r .n))) (a .1) h);
-        held = none-or-k (size (r .first .seats)) (k (r .n)) (parts .3);
+        held = none-or-k (size (r .first .seats)) (k (r .n)) (parts .4);
       }
