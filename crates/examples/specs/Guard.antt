@@ -7,6 +7,7 @@ use mathlib.Core.Bool.{Bool, true, false}
 use mathlib.Core.List.{List, [], _∷_}
 use Rattle.round.specs.Round.{IsHonest, Boat, Family, Delivered, WritesEvidence, Names}
 use Rattle.round.specs.Demand3.{NoneForged}
+use Rattle.reading.specs.UnbrokenLaws.{unbroken-honest}
 use Rattle.claims.specs.Claim.{demand-3-any}
 use Rattle.trials.specs.Toy.{fullBy}
 use Rattle.trials.specs.Tests.{formed, accuses, accuses-says}
@@ -19,8 +20,8 @@ boat true = boatAt 1 (hears (fullBy 7 0 2 3) ∷ hears (fullBy 9 0 2 3) ∷ [])
 
 honest : (i : Bool) → IsHonest four (boat i)
 unfolding unfoldedTrials
-honest false = refl
-honest true = refl
+honest false = unbroken-honest four 0 (boat false .store) (says 0 7 ∷ []) [] refl
+honest true = unbroken-honest four 1 (boat true .store) (hears (fullBy 7 0 2 3) ∷ hears (fullBy 9 0 2 3) ∷ []) [] refl
 
 at-seat : (i : Bool) → atTwo (boat i .seat) ≡ i
 at-seat false = refl
