@@ -10,7 +10,7 @@ use Rattle.round.specs.Demand3.{NoneForged}
 use Rattle.reading.specs.UnbrokenLaws.{unbroken-honest}
 use Rattle.claims.specs.Claim.{demand-3-any}
 use Rattle.trials.specs.Toy.{fullBy}
-use Rattle.trials.specs.Tests.{formed, accuses, accuses-says}
+use Rattle.trials.specs.Tests.{all, formed, accuses, accuses-says}
 use Rattle.trials.specs.Trials.{unfoldedTrials, four, says, hears, boatAt, atTwo}
 
 -- seat 0 submits the layout 7 alone, and certificates of two layouts with signatures of seat 0 reach seat 1
@@ -31,11 +31,11 @@ family : Family four boat
 family = record { honest = honest; apart = λ i j d e. d (sym (at-seat i) ∙ ap atTwo e ∙ at-seat j) }
 
 -- an honest seat is blamed
-well-formed : formed four (boat true) ≡ true
+well-formed : formed four (all four (boat true)) ≡ true
 unfolding unfoldedTrials
 well-formed = refl
 
-named : accuses four (boat true) 0 ≡ true
+named : accuses four (all four (boat true)) 0 ≡ true
 unfolding unfoldedTrials
 named = refl
 

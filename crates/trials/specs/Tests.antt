@@ -316,13 +316,14 @@ module _ (S : Setting) where
   unfoldable pub all : Boat → List Message
   all u = allMessages S (listOf S u)
 
-  unfoldable pub formed : Boat → Bool
-  formed u = every (wellFormed n) (all u)
+  -- The tests take a unit's list, or its messages, so that a run computes them once.
+  unfoldable pub formed : List Message → Bool
+  formed ms = every (wellFormed n) ms
 
-  unfoldable pub submits : Boat → List ℕ → Bool
-  submits u layout = found (λ (c : Called). isSubmitOf layout (c .given) && eqb (resultOf S c .refusal) 0) (listOf S u)
+  unfoldable pub submits : List Called → List ℕ → Bool
+  submits cs layout = found (λ (c : Called). isSubmitOf layout (c .given) && eqb (resultOf S c .refusal) 0) cs
 
-  pub submits-says : (u : Boat) (layout : List ℕ) → submits u layout ≡ true → Submits S u layout
+  pub submits-says : (u : Boat) (layout : List ℕ) → submits (listOf S u) layout ≡ true → Submits S u layout
   unfolding submits
   submits-says u layout e =
       let f = found-one (λ (c : Called). isSubmitOf layout (c .given) && eqb (resultOf S c .refusal) 0) (listOf S u) e in
@@ -338,11 +339,11 @@ module _ (S : Setting) where
   abbrev outAsked : ℕ
   outAsked = outLength n
 
-  unfoldable pub reached : Boat → List ℕ → Bool
-  reached u bytes =
-      found (λ (c : Called). isStepOf bytes (c .given) && (leb storeAsked (length (c .store)) && leb outAsked (length (outOf (c .given))))) (listOf S u)
+  unfoldable pub reached : List Called → List ℕ → Bool
+  reached cs bytes =
+      found (λ (c : Called). isStepOf bytes (c .given) && (leb storeAsked (length (c .store)) && leb outAsked (length (outOf (c .given))))) cs
 
-  reached-says : (u : Boat) (bytes : List ℕ) → reached u bytes ≡ true → Reached S u bytes
+  reached-says : (u : Boat) (bytes : List ℕ) → reached (listOf S u) bytes ≡ true → Reached S u bytes
   unfolding reached
   reached-says u bytes e =
       let f = found-one (λ (c : Called). isStepOf bytes (c .given) && (leb storeAsked (length (c .store)) && leb outAsked (length (outOf (c .given))))) (listOf S u) e in
@@ -355,15 +356,15 @@ module _ (S : Setting) where
         outRoom = leb-true outAsked (length (outOf (c .given))) (b .1);
       }
 
-  unfoldable pub confirms : Boat → List ℕ → Bool
-  confirms u layout = found (isNoticeOf layout) (all u)
+  unfoldable pub confirms : List Message → List ℕ → Bool
+  confirms ms layout = found (isNoticeOf layout) ms
 
   -- "the notice and full certificate of each"
   unfoldable pub mustReach : Message → Bool
   mustReach m = isNotice m || isFull m
 
-  unfoldable pub haveReached : Boat → Boat → Bool
-  haveReached u other = every (λ (m : Message). not (mustReach m) || reached other (render m)) (all u)
+  unfoldable pub haveReached : List Message → List Called → Bool
+  haveReached ms cs = every (λ (m : Message). not (mustReach m) || reached cs (render m)) ms
 
   -- "at least t0 + 1 seats"
   abbrev seatsOwed : ℕ
@@ -374,14 +375,14 @@ module _ (S : Setting) where
       let answer = evidenceCheck checks n round keys (render m) in
       isEvidence m && (eqb (answer .number) 0 && leb seatsOwed (size (answer .mask)))
 
-  unfoldable pub blames : Boat → Bool
-  blames u = found blamesIn (all u)
+  unfoldable pub blames : List Message → Bool
+  blames ms = found blamesIn ms
 
-  unfoldable pub accuses : Boat → ℕ → Bool
-  accuses u seat = found (isEvidenceOn seat) (all u)
+  unfoldable pub accuses : List Message → ℕ → Bool
+  accuses ms seat = found (isEvidenceOn seat) ms
 
   -- a unit whose messages are all well-formed: its list writes these messages
-  module _ (u : Boat) (f : formed u ≡ true) where
+  module _ (u : Boat) (f : formed (all u) ≡ true) where
     all-formed : Each (WellFormed n) (all u)
     unfolding formed
     all-formed m d = wellFormed-says n m (every-each (wellFormed n) (all u) f m d)
@@ -405,24 +406,24 @@ module _ (S : Setting) where
     unfolding all
     all-are = list-are S n (listOf S u) (λ c d. (λ m e. all-formed m (all-member S (listOf S u) c m d e), written-is S c))
 
-    pub confirms-says : (layout : List ℕ) → confirms u layout ≡ true → Confirms S u layout
+    pub confirms-says : (layout : List ℕ) → confirms (all u) layout ≡ true → Confirms S u layout
     unfolding confirms
     confirms-says layout e =
         let g = found-one (isNoticeOf layout) (all u) e in
         let s = notice-of layout (g .0) (g .2) in
         (s .0, s .1, member-writes (Notice (s .0) (s .1) layout) (subst (λ m. List·Memᴰ m (all u)) (s .2) (g .1)))
 
-    pub haveReached-says : (other : Boat) → haveReached u other ≡ true → HaveReached S u other
+    pub haveReached-says : (other : Boat) → haveReached (all u) (listOf S other) ≡ true → HaveReached S u other
     unfolding haveReached mustReach isNotice isFull
     haveReached-says other e =
-        let each = every-each (λ (m : Message). not (mustReach m) || reached other (render m)) (all u) e in
+        let each = every-each (λ (m : Message). not (mustReach m) || reached (listOf S other) (render m)) (all u) e in
         record {
           notice = λ ρ seat layout w. reached-says other (render (Notice ρ seat layout)) (each (Notice ρ seat layout) (writes-member (Notice ρ seat layout) w));
           full = λ ρ sender layout es w. reached-says other (render (Full ρ sender layout es)) (each (Full ρ sender layout es) (writes-member (Full ρ sender layout es) w));
         }
 
     -- a unit that fails the test has written no evidence that is accepted and names enough seats
-    pub blames-not : blames u ≡ false → Blames S u → ⊥
+    pub blames-not : blames (all u) ≡ false → Blames S u → ⊥
     unfolding blames blamesIn
     blames-not e b =
         let m = b .written .message in
@@ -433,7 +434,7 @@ module _ (S : Setting) where
         let enough : leb seatsOwed (size (answer .mask)) ≡ true = le-leb seatsOwed (size (answer .mask)) (subst (λ s. seatsOwed ≤ size s) (sym mask) (b .enough)) in
         true≢false (sym (rw (b .written .kind, eq-eqb (answer .number) 0 number, enough)) ∙ found-none blamesIn (all u) e m d)
 
-    pub accuses-says : (seat : ℕ) → accuses u seat ≡ true → (evidence : List ℕ) × WritesEvidence S u evidence × Names S evidence seat
+    pub accuses-says : (seat : ℕ) → accuses (all u) seat ≡ true → (evidence : List ℕ) × WritesEvidence S u evidence × Names S evidence seat
     unfolding accuses isEvidenceOn
     accuses-says seat e =
         let g = found-one (isEvidenceOn seat) (all u) e in

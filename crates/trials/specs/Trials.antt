@@ -16,7 +16,7 @@ use Rattle.protocol.specs.Refusals.{isFull}
 use Rattle.reading.specs.Messages.{refusalOf, cameTo, allMessages}
 use Rattle.trials.specs.Toy.{unfolded, toy, layout, sign, keys, submitBy, entryBy, fullBy}
 use Rattle.trials.specs.Tests.{found, entrySized, pairSized, wellFormed, isNoticeOf, isEvidenceOn, isStepOf, isSubmitOf, signedIn, sameSigned, sentIn, sameSaved, isNewest, keepsNone, wrote, allowed, allowedAll, isHonest, all, formed, submits, reached, confirms, mustReach, haveReached, blamesIn, blames, accuses}
-use Rattle.trials.specs.Trial.{Trial, onceEach, sendsOne, possibleEach, Crew, accountability, safety}
+use Rattle.trials.specs.Trial.{Trial, onceEach, sendsOne, possibleEach, Crew, computed, accountability, safety}
 
 -- ---- setting and calls of the runs
 
@@ -77,8 +77,20 @@ pub two-at : (i : Bool) → atTwo (ofTwo 0 1 i) ≡ i
 two-at false = refl
 two-at true = refl
 
+pub two-shared : {A : Type 0} (f : Bool → A) (i : Bool) → ofTwo (f false) (f true) i ≡ f i
+two-shared f false = refl
+two-shared f true = refl
+
 unfoldable pub two : Crew Bool
-two = record { everyone = false ∷ true ∷ []; complete = two-complete; place = ofTwo 0 1; at = atTwo; at-place = two-at }
+two = record {
+  everyone = false ∷ true ∷ [];
+  complete = two-complete;
+  place = ofTwo 0 1;
+  at = atTwo;
+  at-place = two-at;
+  shared = λ f. ofTwo (f false) (f true);
+  shared-same = two-shared;
+}
 
 abbrev pub atThree : ℕ → Three
 atThree zero = Zeroth
@@ -95,8 +107,21 @@ three-at Zeroth = refl
 three-at First = refl
 three-at Second = refl
 
+pub three-shared : {A : Type 0} (f : Three → A) (i : Three) → ofThree (f Zeroth) (f First) (f Second) i ≡ f i
+three-shared f Zeroth = refl
+three-shared f First = refl
+three-shared f Second = refl
+
 unfoldable pub three : Crew Three
-three = record { everyone = Zeroth ∷ First ∷ Second ∷ []; complete = three-complete; place = ofThree 0 1 2; at = atThree; at-place = three-at }
+three = record {
+  everyone = Zeroth ∷ First ∷ Second ∷ [];
+  complete = three-complete;
+  place = ofThree 0 1 2;
+  at = atThree;
+  at-place = three-at;
+  shared = λ f. ofThree (f Zeroth) (f First) (f Second);
+  shared-same = three-shared;
+}
 
 -- ---- accountability: seats 2 and 3 sign twice, and seats 0 and 1 confirm different layouts
 
@@ -348,5 +373,5 @@ unnotedBoats = accountability four two unnoted false true (layout 7) (layout 9)
 
 -- a name that unfolds every definition of a run
 unfoldable pub unfoldedTrials : Bool
-unfolding unfolded outcome begins after afterAll isSubmit isNotice worth count refusalOf cameTo allMessages found entrySized pairSized wellFormed isNoticeOf isEvidenceOn isStepOf isSubmitOf signedIn sameSigned sentIn sameSaved isNewest keepsNone wrote allowed allowedAll isHonest all formed submits reached confirms mustReach haveReached blamesIn blames accuses onceEach sendsOne possibleEach accountability safety those sentBy certified certifiedEach two three keptBy savedAt
+unfolding unfolded outcome begins after afterAll isSubmit isNotice worth count refusalOf cameTo allMessages found entrySized pairSized wellFormed isNoticeOf isEvidenceOn isStepOf isSubmitOf signedIn sameSigned sentIn sameSaved isNewest keepsNone wrote allowed allowedAll isHonest all formed submits reached confirms mustReach haveReached blamesIn blames accuses onceEach sendsOne possibleEach computed accountability safety those sentBy certified certifiedEach two three keptBy savedAt
 unfoldedTrials = true
