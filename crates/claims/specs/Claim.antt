@@ -2,22 +2,27 @@
 --
 -- Statements and definitions to read in order to believe it, without any proof:
 -- 1. `demand-3`, in this file, and `Demand3` in `round/specs/Demand3`: the demand, sentence by sentence.
--- 2. `round/specs/Round`: the words of the demand, beside document 01's "A round as a whole".
--- 3. `protocol/specs/Calls`: the results of an opening, a submit, a step, a making of evidence and the evidence check; with the files
---    of `protocol/specs` under it (`Step`, `Refusals`, `Conditions`, `Record`, `Certificate`, `Message`, `Entries`, `Layout`,
---    `Values`), and `quorum/specs/Quorum`: t0, k, sets of seats and their sizes.
+-- 2. `round/specs/Round`: the words of the demand, beside document 01's "A round as a whole" and, for units that lose power, document 02's
+--    item 2: the events of a round, what an honest unit's host does, and the calls that count.
+-- 3. `protocol/specs/Calls`: the results of an opening, a submit, a step, a making of evidence, the evidence check, and the writing and the
+--    reading of a note; with the files of `protocol/specs` under it (`Step`, `Refusals`, `Conditions`, `Record`, `Note`, `Certificate`,
+--    `Message`, `Entries`, `Layout`, `Values`), and `quorum/specs/Quorum`: t0, k, sets of seats and their sizes.
 -- 4. `protocol/specs/Signatures: checks`: the signature check, by `rfc8554/specs`' `Verify`, `Tree` and `Ots`, and `fips180/specs/Fips`.
--- 5. `as-promised`, in this file: the lists of the claim are the lists by the contracts of the code.
+-- 5. `as-promised` and `results-promised`, in this file: the rounds of the claim are those by the contracts of the code.
+-- `none-blamed-by-sent` follows for the messages that are sent.
 -- Assumes nothing.
 use mathlib.Core.Path.{_≡_, refl, sym, ap, ap₂, _∙_}
+use mathlib.Core.Bool.{true}
 use mathlib.Core.List.{List, [], _∷_}
 use Prim.Native.Nat.{ℕ}
+use Rattle.protocol.specs.Message.{Message, render}
 use Rattle.protocol.specs.Signatures.{checks}
-use Rattle.round.specs.Round.{Setting, Each, resultOf, Event, Boat, Moment, begins, after, afterAll, listOf, AllowedAll, IsHonest, Family}
-use Rattle.round.specs.Demand3.{Demand3}
+use Rattle.protocol.specs.Refusals.{isEvidence}
+use Rattle.round.specs.Round.{Setting, Each, resultOf, Event, Boat, Moment, begins, after, afterAll, listOf, AllowedAll, IsHonest, Family, Sent, Delivered, Names}
+use Rattle.round.specs.Demand3.{NoneForged, Demand3}
 use Rattle.claims.specs.Journey.{any-worthy}
 use Rattle.claims.specs.Opened.{start-n, start-round}
-use Rattle.claims.specs.Power.{nowOf, Runs, runs-setting, runs-first, runs-after}
+use Rattle.claims.specs.Power.{nowOf, Runs, runs-setting, runs-first, runs-after, sends-written}
 use Rattle.claims.specs.Units.{stop}
 use Rattle.claims.specs.Sound.{Any}
 use Rattle.claims.specs.Safe.{safe, safe-delivered}
@@ -33,6 +38,12 @@ wherever-seated S boat honest = record { safety = safe-delivered S boat honest; 
 pub demand-3-any : (S : Setting) {I : Type 0} (boat : I → Boat) → Family S boat → Demand3 S boat
 demand-3-any S boat family = wherever-seated S boat (family .honest)
 
+-- and so no honest seat stands in any evidence that an honest unit sends, however often it loses power
+pub none-blamed-by-sent : (S : Setting) {I : Type 0} (boat : I → Boat) → Family S boat → NoneForged S boat (Delivered S boat)
+    → (i j : I) (m : Message) → isEvidence m ≡ true → Sent (boat j) m → Names S (render m) (boat i .seat) → ⊥
+none-blamed-by-sent S boat family none i j m is sent =
+    demand-3-any S boat family .safety none .written i j (render m) (record { message = m; kind = is; bytes = refl; writes = sends-written S (boat j) (family .honest j) m sent })
+
 -- "In one round and under one key table", and "A signature checks for a seat over a layout when RFC 8554 accepts it under that
 -- seat's key for the 36 bytes of the round, that seat and that layout, and its leaf is the round."
 abbrev pub setting : ℕ → ℕ → List ℕ → Setting
@@ -43,8 +54,8 @@ demand-3 n round keys = demand-3-any (setting n round keys)
 
 -- ---- a unit's round by the code's contracts
 
--- A unit's moments one after another, as the contracts promise each event: a submit, step or thin entry checks signatures in the round of
--- the record that it is given, the writing of a note, its reading and an opening have contracts of their own.
+-- The moment after a unit's events, each as the contracts promise it. A submit, a step and the thin entry check signatures in the round of the
+-- record that they are given; the writing of a note, its reading and the opening have contracts of their own.
 unfoldable pub promised : List ℕ → ℕ → Moment → List Event → Moment
 promised keys seat m [] = m
 promised keys seat m (e ∷ es) = promised keys seat (after (setting (m .unit .n) (m .unit .round) keys) seat m e) es
@@ -61,11 +72,12 @@ module _ (n round : ℕ) (keys : List ℕ) (u : Boat) (honest : IsHonest (settin
       ap (λ (x : Moment). promised keys (u .seat) x es) (ap₂ (λ i ρ. after (setting i ρ keys) (u .seat) m e) (of .0) (of .1))
       ∙ same-moment (after S (u .seat) m e) es (runs-after S u honest m e h (a .0)) (a .1)
 
-  -- after an opening without a refusal: moment by moment the round of the claim
+  -- after an opening without a refusal: the moment of the claim. As a beginning of the events is an honest unit's too
+  -- (`Power: earlier-honest`), this holds after each.
   pub as-promised : promised keys (u .seat) (begins S u) (u .events) ≡ nowOf S u
   as-promised = same-moment (begins S u) (u .events) (runs-first S u honest) (honest .allowed)
 
-  -- and so each call that counts has the result that its contract promises
+  -- each call that counts has the result that its contract promises
   pub results-promised : Each (λ c. resultOf S c ≡ resultOf (setting (c .unit .n) (c .unit .round) keys) c) (listOf S u)
   results-promised c d =
       let at = stop S u honest Any (any-worthy S (listOf S u)) c d .since in

@@ -8,7 +8,7 @@ use mathlib.Core.Logic.{_⊎_, inl, inr, ⊎-elim}
 use Prim.Native.Nat.{ℕ, _+_, _≤_, _<_}
 use native.Mathlib.Omega.{arith}
 use lib.ListN.{length}
-use Rattle.quorum.specs.Quorum.{k, bit, In, has, size}
+use Rattle.quorum.specs.Quorum.{k, bit, In, size}
 use Rattle.quorum.specs.QuorumLaws.{bit-empty}
 use Rattle.refusal.specs.Refusal.{unrefused}
 use Rattle.protocol.specs.Layout.{storeLength, outLength}

@@ -3,10 +3,12 @@
 -- The claims are in `Claim` (the whole of demand 3, with an order of reading) and at the end of `Once` (demand 1); the two halves of
 -- demand 3 are at the end of `Safe` and of `Blamed`, and the claim about evidence made from two certificates is at the end of `Made`.
 -- Crate `examples` has rounds in which their premises hold. The claims of document 02, item 1, are in `Kept` (what is kept of early
--- SUBMITs), `Before` (answers as before) and at the end of `Gain` (a unit that has kept enough confirms at its submit).
+-- SUBMITs), `Before` (answers as before) and at the end of `Gain` (a unit that has kept enough confirms at its submit); those of item 2
+-- are in `Power` (the calls that count of a unit that loses power), and `Once` and `Claim` have what it sends.
 --
 -- `Sound` has the invariant of record and store along a list; `Parts` and `KeptLaws` prove it for the parts of a step, `Whole`
--- for a whole step, `Journey` and `Units` for a list. The files named `..Laws` have laws for these.
+-- for a whole step, `Journey` for a list without power cuts. `Opened` has an honest unit's opening, `Power` turns its list into one
+-- without power cuts, and `Units` has its list. The files named `..Laws` have laws for these.
 
 pub mod SlotsLaws
 pub mod Sound

@@ -1,9 +1,10 @@
 -- Demand 1 over a whole list: "in a round a unit on one unbroken record sends at most one submission, one notice and one full
--- certificate." And so "two units can[not] reply to each other without end".
+-- certificate." And so "two units can[not] reply to each other without end". A unit that loses power writes no second message of a kind
+-- in the calls that count, and sends no other than the one written.
 -- Assumes nothing.
-use mathlib.Core.Path.{_≡_, refl, ap, subst, _∙_}
-use mathlib.Core.Bool.{true, false}
-use mathlib.Core.List.{List, [], _∷_, append-nil, List·Memᴰ, List·Memᴰ·head, List·Memᴰ·tail}
+use mathlib.Core.Path.{_≡_, refl, sym, ap, subst, _∙_}
+use mathlib.Core.Bool.{Bool, true, false}
+use mathlib.Core.List.{List, [], _∷_, append-nil, List·Memᴰ, List·Memᴰ·head, List·Memᴰ·tail, List·Memᴰ·not-nil, List·Memᴰ·cases-cons}
 use mathlib.Core.Logic.{_⊎_, inl, inr, ⊎-elim, _≢_}
 use Prim.Native.Nat.{ℕ, zero, suc, _+_, _*_, _≤_}
 use native.Mathlib.Omega.{arith}
@@ -18,8 +19,8 @@ use Rattle.protocol.specs.Record.{impossible}
 use Rattle.protocol.specs.Refusals.{Checks, isFull, isEvidence}
 use Rattle.protocol.specs.Calls.{opening}
 use Rattle.protocol.specs.declared.Record.{Record}
-use Rattle.round.specs.Round.{Setting, IsHonest, Each, Relation, Boat, Called, resultOf, writtenIn, Are, listOf}
-use Rattle.round.specs.Demand1.{Kind, SUBMIT, NOTICE, FULL, EVIDENCE, isOf, isSubmit, isNotice, worth, count, writtenOver, AtMostOne}
+use Rattle.round.specs.Round.{Setting, IsHonest, Each, Relation, Boat, Called, resultOf, writtenIn, Are, listOf, Sent}
+use Rattle.round.specs.Demand1.{Kind, SUBMIT, NOTICE, FULL, EVIDENCE, isOf, isSubmit, isNotice, worth, count, writtenOver, AtMostOne, SendsOne}
 use Rattle.reading.specs.ListsLaws.{worth-le-one, worth-true, true-of-worth, count-pos}
 use Rattle.claims.specs.Sound.{Any, flagOf, Good}
 use Rattle.claims.specs.CertificatesLaws.{entries-laid}
@@ -29,7 +30,8 @@ use Rattle.claims.specs.UnrefusedLaws.{possible}
 use Rattle.reading.specs.Messages.{messages, allMessages}
 use Rattle.claims.specs.Journey.{Worthy, Passed, any-worthy}
 use Rattle.claims.specs.Opened.{start-n, start-sound, start-settled}
-use Rattle.claims.specs.Units.{endOf, trip, stop, result-grows, written-are, all-are}
+use Rattle.claims.specs.Power.{nowOf, sends-written}
+use Rattle.claims.specs.Units.{endOf, trip, stop, result-grows, written-are, written-member, all-are}
 
 -- ---- messages by kind
 
@@ -45,6 +47,17 @@ kinds-all n (Notice ρ seat value ∷ ms) w = omega (arith, kinds-all n ms (λ m
 kinds-all n (Full ρ sender value es ∷ ms) w = omega (arith, kinds-all n ms (λ m d. w m (List·Memᴰ·tail d)))
 kinds-all n (Evidence ρ values ps ∷ ms) w = omega (arith, kinds-all n ms (λ m d. w m (List·Memᴰ·tail d)))
 kinds-all n (Garbled ∷ ms) w = absurd (w Garbled (List·Memᴰ·head refl))
+
+-- at most one passes the test
+count-unique {ℓ} : {A : Type ℓ} (test : A → Bool) (xs : List A) (x y : A) → count test xs ≤ 1 → List·Memᴰ x xs → List·Memᴰ y xs → test x ≡ true → test y ≡ true → x ≡ y
+unfolding count
+count-unique test [] x y l d e p q = absurd (List·Memᴰ·not-nil d)
+count-unique test (z ∷ zs) x y l d e p q =
+    let here : (w : _) → w ≡ z → test w ≡ true → worth (test z) ≡ 1 = λ w i t. worth-true (test z) (subst (λ v. test v ≡ true) i t) in
+    ⊎-elim
+    (λ i. ⊎-elim (λ j. i ∙ sym j) (λ f. absurd (omega (arith, here x i p, count-pos test zs y f q))) (List·Memᴰ·cases-cons e))
+    (λ c. ⊎-elim (λ j. absurd (omega (arith, here y j q, count-pos test zs x c p))) (λ f. count-unique test zs x y (omega arith) c f p q) (List·Memᴰ·cases-cons e))
+    (List·Memᴰ·cases-cons d)
 
 evidence-room : (a b : ℕ) → a ≤ b → evidenceEntryAt a ≤ evidenceEntryAt b
 unfolding evidenceEntryAt evidenceEntryLength signatureLength
@@ -116,6 +129,12 @@ module _ (S : Setting) (u : Boat) (honest : IsHonest S u) where
       let l = worth-le-one (flagOf κ (endOf S u honest)) in
       rw e (omega arith)
 
+  -- the claim for what is sent: the same message again, or none of its kind. It was written by a call that counts (`Power: sends-written`).
+  pub sends-one : SendsOne u
+  sends-one κ m m′ is is′ d d′ =
+      let member : (x : Message) → Sent u x → List·Memᴰ x (allMessages S ts) = λ x e. written-member S u honest Any any x (sends-written S u honest x e) in
+      count-unique (isOf κ) (allMessages S ts) m m′ (at-most-one (allMessages S ts) (all-are S u honest) κ) (member m d) (member m′ d′) is is′
+
   -- four messages in all, however long the list: no two units reply to each other without end
   pub at-most-four : (ms : List Message) → Are n (writtenOver S ts) ms → length ms ≤ 4
   unfolding kinds
@@ -127,6 +146,12 @@ module _ (S : Setting) (u : Boat) (honest : IsHonest S u) where
   pub opened-possible : impossible (opening n (u .seat) round keys .unit) ≡ false
   opened-possible =
       possible checks Any (opening n (u .seat) round keys .unit) (u .store) (start-sound S u honest Any (u .store)) (start-settled S u honest)
+
+  -- nor is the one that the unit has, after calls and power cuts alike
+  pub now-possible : impossible (endOf S u honest) ≡ false
+  now-possible =
+      let now = trip S u honest Any any in
+      possible checks Any (endOf S u honest) (nowOf S u .store) (now .sound) (now .settled)
 
   -- ---- at each call
 

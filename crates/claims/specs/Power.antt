@@ -8,13 +8,13 @@ use Prim.Native.Nat.{ℕ}
 use Rattle.protocol.specs.Message.{Message}
 use Rattle.protocol.specs.NoteLaws.{ValuesSized}
 use Rattle.protocol.specs.NoteClaim.{read-back}
-use Rattle.protocol.specs.Calls.{Making, opening, made, writeNote, readNote}
+use Rattle.protocol.specs.Calls.{opening, made, writeNote, readNote}
 use Rattle.protocol.specs.declared.Record.{Record}
-use Rattle.round.specs.Round.{Setting, Relation, Call, Called, outcome, StandsIn, writtenIn, Saved, Event, Makes, Keeps, Sends, ComesBack, OpensAgain, InHand, Boat, Moment, noteOf, begins, after, afterAll, listOf, Allowed, AllowedAll, IsHonest, Sent, listFrom, Writes}
+use Rattle.round.specs.Round.{Setting, Call, Called, outcome, StandsIn, writtenIn, Saved, Event, Makes, Keeps, Sends, ComesBack, OpensAgain, InHand, Boat, Moment, noteOf, begins, after, afterAll, listOf, Allowed, AllowedAll, IsHonest, listFrom}
 use Rattle.round.specs.Demand1.{SendsWritten}
 use Rattle.reading.specs.MessagesLaws.{counted-written}
 use Rattle.reading.specs.UnbrokenLaws.{unbroken}
-use Rattle.claims.specs.Sound.{Any, Sound, Settled}
+use Rattle.claims.specs.Sound.{Any}
 use Rattle.claims.specs.Journey.{lastOf, leftBy, Journey, journey, any-worthy}
 use Rattle.claims.specs.Opened.{startOf, start-n, start-round, start-sound, start-settled}
 
@@ -183,6 +183,22 @@ unfolding Newest
 newest-is-taken S u honest saved older e =
     let h = runs-now S u honest in
     ap (λ x. x .number) (subst (λ (kept : List Saved). Newest S u honest kept (h .store) (h .early)) e (h .newest) .0)
+
+-- ---- earlier moments
+
+-- An honest unit was honest at every earlier moment. So what is claimed of its list was true then of the calls that counted then, also of
+-- calls that a power cut took away.
+module _ (S : Setting) where
+  allowed-earlier : (seat : ℕ) (m : Moment) (es fs : List Event) → AllowedAll S seat m (es ++ fs) → AllowedAll S seat m es
+  unfolding AllowedAll
+  allowed-earlier seat m [] fs a = tt
+  allowed-earlier seat m (e ∷ es) fs a = (a .0, allowed-earlier seat (after S seat m e) es fs (a .1))
+
+  pub earlier-honest : (seat : ℕ) (store : List ℕ) (es fs : List Event) (inHand : List InHand)
+      → IsHonest S (record { seat = seat; store = store; events = es ++ fs; inHand = inHand }) → IsHonest S (record { seat = seat; store = store; events = es; inHand = inHand })
+  unfolding begins
+  earlier-honest seat store es fs inHand honest =
+      record { opened = honest .opened; allowed = allowed-earlier seat (begins S (record { seat = seat; store = store; events = es; inHand = inHand })) es fs (honest .allowed) }
 
 -- ---- messages sent
 

@@ -1,19 +1,19 @@
--- An honest unit's list: it starts from the record with nothing set, and its calls write messages one after another.
+-- An honest unit's list, the calls that count: it starts from the record with nothing set, and its calls write messages one after another.
 -- Assumes nothing.
-use mathlib.Core.Path.{_≡_, refl, sym, ap, subst, _∙_}
+use mathlib.Core.Path.{_≡_, subst, _∙_}
 use mathlib.Core.Bool.{true}
 use mathlib.Core.List.{List, List·Memᴰ}
 use Prim.Native.Nat.{ℕ, _≤_}
 use native.Mathlib.Omega.{arith}
 use Rattle.quorum.specs.Quorum.{k}
 use Rattle.protocol.specs.Message.{Pair, PairValues, Message, Submit, Notice, Full, Evidence, Garbled, WellFormed}
-use Rattle.protocol.specs.Record.{fresh, lastRound, InRange}
+use Rattle.protocol.specs.Record.{lastRound, InRange}
 use Rattle.protocol.specs.Refusals.{Checks}
 use Rattle.protocol.specs.declared.Record.{Record}
 use Rattle.round.specs.Round.{Setting, IsHonest, Each, Relation, Call, Boat, Called, resultOf, writtenIn, Are, StandsIn, listFrom, listOf, Writes}
-use Rattle.round.specs.Demand1.{Kind, SUBMIT, NOTICE, FULL, EVIDENCE, isOf, worth, writtenOver}
+use Rattle.round.specs.Demand1.{Kind, isOf, writtenOver}
 use Rattle.reading.specs.ListsLaws.{worth-le-one, worth-true, true-of-worth, count-pos, count-member}
-use Rattle.claims.specs.Sound.{Any, flagOf, Grows, Settled, Pairs, Sound, Good}
+use Rattle.claims.specs.Sound.{Any, flagOf, Grows, Pairs, Good}
 use Rattle.claims.specs.CertificatesLaws.{entries-laid}
 use Rattle.claims.specs.Parts.{grows-trans, good-grows}
 use Rattle.reading.specs.ReadingLaws.{are-unique}
@@ -49,7 +49,7 @@ good-formed checks W r Garbled range g = absurd g
 -- ---- the unit
 
 module _ (S : Setting) (u : Boat) (honest : IsHonest S u) where
-  open Setting S using (n, round, keys, checks)
+  open Setting S using (n, round, checks)
 
   abbrev start : Record
   start = startOf S u honest
@@ -61,7 +61,7 @@ module _ (S : Setting) (u : Boat) (honest : IsHonest S u) where
   abbrev ts : List Called
   ts = listOf S u
 
-  -- what holds of every list without power cuts, by its end, holds of the calls that count
+  -- a fact about every list without power cuts, its last record and its last store, is one about the unit's
   pub by-unbroken : (P : Record → List ℕ → List Called → Type 0) → ((store : List ℕ) (cs : List Call) → P (lastOf S start store cs) (leftBy S start store cs) (listFrom S start store cs)) → P endOf (nowOf S u .store) ts
   by-unbroken P all =
       let c = counted-is-unbroken S u honest in
@@ -106,11 +106,14 @@ module _ (S : Setting) (u : Boat) (honest : IsHonest S u) where
     pub end-round : endOf .round ≡ round
     end-round = trip .grows .round ∙ start-round S u honest
 
+    -- a message that the list writes is one of its messages
+    pub written-member : (m : Message) → Writes S u m → List·Memᴰ m (allMessages S ts)
+    written-member m h = all-member S ts (h .call) m (h .inList) (stands-message (h .call) (h .inList) m (h .stands))
+
     -- a message is written in the list exactly where its flag is set at the end
     pub written-flag : (κ : Kind) (m : Message) → isOf κ m ≡ true → Writes S u m → flagOf κ endOf ≡ true
     written-flag κ m is h =
-        let d = all-member S ts (h .call) m (h .inList) (stands-message (h .call) (h .inList) m (h .stands)) in
-        true-of-worth (flagOf κ endOf) (omega (arith, count-pos (isOf κ) (allMessages S ts) m d is, trip .counts κ, worth-le-one (flagOf κ endOf)))
+        true-of-worth (flagOf κ endOf) (omega (arith, count-pos (isOf κ) (allMessages S ts) m (written-member m h) is, trip .counts κ, worth-le-one (flagOf κ endOf)))
 
     pub flag-written : (κ : Kind) → flagOf κ endOf ≡ true → (m : Message) × (isOf κ m ≡ true) × Writes S u m
     flag-written κ e =

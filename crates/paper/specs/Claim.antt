@@ -1,29 +1,28 @@
--- The claim: over any list of calls from an opening, the engine does exactly what the paper's machine does. (`Happens` shows which calls
+-- The claim: over the list of any honest unit, the engine does exactly what the paper's machine does. (`Happens` shows which calls
 -- are the machine's events.)
 -- Assumes nothing.
-use Prim.Native.Nat.{ℕ, _≤_, _<_}
-use mathlib.Core.Path.{_≡_}
+use Prim.Native.Nat.{ℕ}
+use mathlib.Core.Path.{_∙_}
 use mathlib.Core.List.{List, List·Memᴰ}
 use mathlib.Core.Logic.{_↔_}
-use Rattle.refusal.specs.Refusal.{unrefused}
 use Rattle.protocol.specs.Message.{Entry, Pair, PairValues, Message, Full, Evidence}
-use Rattle.protocol.specs.Calls.{opening, openedBy}
-use Rattle.round.specs.Round.{Setting, IsHonest, Each, Boat, listOf, Writes}
+use Rattle.round.specs.Round.{Setting, IsHonest, Each, Boat, writtenIn, Are, listOf, Writes}
+use Rattle.reading.specs.Messages.{messages}
 use Rattle.claims.specs.Sound.{Any}
 use Rattle.protocol.specs.Record.{InRange}
 use Rattle.claims.specs.Journey.{any-worthy}
-use Rattle.claims.specs.Opened.{opened-range}
-use Rattle.claims.specs.Units.{written-are}
+use Rattle.claims.specs.Opened.{startOf, opened-range, opened-fresh}
+use Rattle.claims.specs.Units.{by-unbroken, written-are}
 use Rattle.paper.specs.Machine.{init, Event, Action, Says}
-use Rattle.paper.specs.Memory.{recordOf}
 use Rattle.paper.specs.Events.{DoesAs, actionsOver, TakenIn}
 use Rattle.paper.specs.Received.{Collected, IsSubmitted, Came, Received}
 use Rattle.paper.specs.Based.{Sent, init-based, full-from, evidence-from}
 use Rattle.paper.specs.Along.{does-as, init-recorded, init-mirrors, init-rest, over-list}
 
--- For any list of calls of a unit after an opening without a refusal, with any signature check, any store and any out buffers:
+-- For any honest unit, with any signature check, any store and any out buffers. Where it loses power, the machine sees the calls that count
+-- (`Round: listOf`) and no others.
 module _ (S : Setting) (u : Boat) (honest : IsHonest S u) where
-  open Setting S using (n, round, keys, checks)
+  open Setting S using (n, round, checks)
 
   -- the machine's actions over the list
   abbrev pub actions : List Action
@@ -33,10 +32,6 @@ module _ (S : Setting) (u : Boat) (honest : IsHonest S u) where
   abbrev pub Took : Event → Type 0
   Took = TakenIn S (listOf S u)
 
-  opened-recorded : 1 ≤ n → u .seat < n → opening n (u .seat) round keys .unit ≡ recordOf n (u .seat) round init
-  unfolding opening openedBy unrefused
-  opened-recorded some-seats inside = rw honest (init-recorded S (u .seat) some-seats inside)
-
   range : InRange n (u .seat) round
   range = opened-range S u honest
 
@@ -44,10 +39,13 @@ module _ (S : Setting) (u : Boat) (honest : IsHonest S u) where
   along =
       let some-seats = range .some in
       let inside = range .seated in
-      does-as S (u .seat) some-seats inside (listOf S u) (opening n (u .seat) round keys .unit) (u .store) (u .calls) init (opened-recorded some-seats inside)
-      (init-mirrors S (u .seat) some-seats inside (u .store))
+      by-unbroken S u honest
+      (λ end left ts. Each (λ t. List·Memᴰ t (listOf S u)) ts → Each (λ t. Are n (writtenIn S t) (messages S t)) ts
+      → DoesAs S (u .seat) init ts × Each (Sent checks n (u .seat) Took some-seats inside) (actionsOver S (u .seat) init ts))
+      (λ store cs. does-as S (u .seat) some-seats inside (listOf S u) (startOf S u honest) store cs init (opened-fresh S u honest ∙ init-recorded S (u .seat) some-seats inside)
+      (init-mirrors S (u .seat) some-seats inside store)
       (init-rest S (u .seat) some-seats inside)
-      (init-based checks n (u .seat) Took some-seats inside)
+      (init-based checks n (u .seat) Took some-seats inside))
       (λ t d. d)
       (λ t d. written-are S u honest Any (any-worthy S (listOf S u)) t d)
 

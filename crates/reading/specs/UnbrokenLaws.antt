@@ -4,7 +4,6 @@ use Prim.Native.Nat.{ℕ}
 use mathlib.Core.Path.{_≡_, sym, ap, _∙_}
 use mathlib.Core.List.{List, [], _∷_, _++_, map, append-nil, append-assoc}
 use Rattle.protocol.specs.Calls.{opening}
-use Rattle.protocol.specs.declared.Record.{Record}
 use Rattle.round.specs.Round.{Setting, Call, Called, Makes, InHand, Boat, Moment, outcome, begins, after, afterAll, listOf, AllowedAll, IsHonest, listFrom}
 
 -- a unit that makes these calls and nothing else
