@@ -11,6 +11,7 @@ pub mod Marked
 pub mod Runs
 pub mod Guard
 pub mod SlowBoat
+pub mod PowerCuts
 pub mod Split
 pub mod SplitProof
 pub mod MadeKeys

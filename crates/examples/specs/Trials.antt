@@ -3,7 +3,7 @@
 -- Assumes nothing.
 use mathlib.Core.Path.{_≡_, refl}
 use mathlib.Core.Bool.{true, false}
-use Rattle.claims.specs.Once.{at-most-one, none-impossible}
+use Rattle.claims.specs.Once.{at-most-one, sends-one, none-impossible}
 use Rattle.trials.specs.Trial.{claimOf, answer}
 use Rattle.trials.specs.Trials.{unfoldedTrials, four, pair, answering, sharing, slow, interrupted, dividedBoats, forewarnedBoats, witnessedBoats, shortStoredBoats, shortOutedBoats, unheardBoats, unsignedBoats, twiceBoats, holdingBoats, keptOtherBoats, keptUnsignedBoats, unsignedEvidence, equalEvidence, answeringBoat, sharingBoat, slowBoat, interruptedBoat, interruptedSending, newestBoats, olderBoats, sameStoredBoats, otherStoredBoats, unnotedBoats, hastyBoat, blankBoat}
 

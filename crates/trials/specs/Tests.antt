@@ -387,7 +387,7 @@ module _ (S : Setting) where
     unfolding formed
     all-formed m d = wellFormed-says n m (every-each (wellFormed n) (all u) f m d)
 
-    member-writes : (m : Message) → List·Memᴰ m (all u) → Writes S u m
+    pub member-writes : (m : Message) → List·Memᴰ m (all u) → Writes S u m
     unfolding all formed
     member-writes m d =
         let h = calls-stand (listOf S u) f m d in

@@ -295,13 +295,13 @@ savedAt (suc i) (saved ∷ older) = savedAt i older
 abbrev pub comesBack : Setting → ℕ → Boat → Boat
 comesBack S i u = does u (ComesBack (savedAt i (keptBy S u)) ∷ [])
 
--- A submit of the layout 9 is lost before the first note; one of the layout 7 is kept, and power is lost before it is sent; the layout 9
--- is now refused; a confirmation is lost, and comes again.
+-- A submit of the layout 9 is lost before the first note. One of the layout 7 is kept, power is lost before it is sent, and it is sent then;
+-- the layout 9 is refused. A confirmation is lost, and comes again.
 abbrev pub interrupted : Boat
 interrupted =
     let opened = boatOfPair (Makes (says 0 9) ∷ OpensAgain (replicate (storeLength 2) 2) ∷ []) in
     let submitted = comesBack pair 0 (does opened (Makes (says 0 7) ∷ keeps ∷ [])) in
-    let confirmed = comesBack pair 0 (does submitted (Sends (submitBy 0 7) ∷ Makes (says 0 9) ∷ Makes (hears (submitBy 1 7)) ∷ [])) in
+    let confirmed = comesBack pair 0 (does submitted (Sends (submitBy 0 7) ∷ Makes (says 0 9) ∷ keeps ∷ Makes (hears (submitBy 1 7)) ∷ [])) in
     does confirmed (Makes (hears (submitBy 1 7)) ∷ keeps ∷ Sends (submitBy 0 7) ∷ Sends (Notice 5 0 (layout 7)) ∷ [])
 
 unfoldable pub interruptedBoat : Trial (IsHonest pair interrupted → AtMostOne pair interrupted)
