@@ -129,41 +129,41 @@ three = record {
 abbrev pub noticed : ℕ → ℕ → ℕ → ℕ → Boat
 noticed seat b other c = boatAt seat (hears (Notice 5 other (layout c)) ∷ says seat b ∷ hears (submitBy 2 b) ∷ hears (submitBy 3 b) ∷ [])
 
-abbrev pub seven : Boat
+unfoldable pub seven : Boat
 seven = noticed 0 7 1 9
 
-abbrev pub nine : Boat
+unfoldable pub nine : Boat
 nine = noticed 1 9 0 7
 
-abbrev pub divided : Bool → Boat
+unfoldable pub divided : Bool → Boat
 divided = ofTwo (then seven (map hears (sentBy nine))) (then nine (map hears (sentBy seven)))
 
 unfoldable pub dividedBoats : Trial (Family four divided → Demand3 four divided)
 dividedBoats = accountability four two divided false true (layout 7) (layout 9)
 
 -- each boat hears a NOTICE of the other's layout before it submits, and of the other's messages only the FULL
-abbrev pub forewarned : Bool → Boat
+unfoldable pub forewarned : Bool → Boat
 forewarned = ofTwo (then seven (map hears (those isFull (all four nine)))) (then nine (map hears (those isFull (all four seven))))
 
 unfoldable pub forewarnedBoats : Trial (Family four forewarned → Demand3 four forewarned)
 forewarnedBoats = accountability four two forewarned false true (layout 7) (layout 9)
 
 -- a third boat, which has submitted nothing, hears the NOTICE and FULL of both
-abbrev pub witnessed : Three → Boat
+unfoldable pub witnessed : Three → Boat
 witnessed = ofThree (divided false) (divided true) (boatAt 2 (map hears (sentBy seven ++ sentBy nine)))
 
 unfoldable pub witnessedBoats : Trial (Family four witnessed → Demand3 four witnessed)
 witnessedBoats = accountability four three witnessed Zeroth First (layout 7) (layout 9)
 
 -- a third boat's store is a byte short
-abbrev pub shortStored : Three → Boat
+unfoldable pub shortStored : Three → Boat
 shortStored = ofThree (divided false) (divided true) (record { seat = 2; store = replicate 17551 1; events = map Makes (map hears (sentBy seven ++ sentBy nine)); inHand = [] })
 
 unfoldable pub shortStoredBoats : Trial (Family four shortStored → Demand3 four shortStored)
 shortStoredBoats = accountability four three shortStored Zeroth First (layout 7) (layout 9)
 
 -- one boat's out is a byte short for the other's NOTICE and FULL
-abbrev pub shortOuted : Bool → Boat
+unfoldable pub shortOuted : Bool → Boat
 shortOuted = ofTwo (divided false) (then nine (map (λ m. ByStep (render m) (replicate 14708 0)) (sentBy seven)))
 
 unfoldable pub shortOutedBoats : Trial (Family four shortOuted → Demand3 four shortOuted)
@@ -173,7 +173,7 @@ shortOutedBoats = accountability four two shortOuted false true (layout 7) (layo
 abbrev pub confirming : ℕ → ℕ → Boat
 confirming seat b = boatAt seat (says seat b ∷ hears (submitBy 2 b) ∷ hears (submitBy 3 b) ∷ [])
 
-abbrev pub unheard : Bool → Boat
+unfoldable pub unheard : Bool → Boat
 unheard = ofTwo (then (confirming 0 7) (map hears (those isFull (all four (confirming 1 9))))) (then (confirming 1 9) (map hears (those isFull (all four (confirming 0 7)))))
 
 unfoldable pub unheardBoats : Trial (Family four unheard → Demand3 four unheard)
@@ -182,7 +182,7 @@ unheardBoats = accountability four two unheard false true (layout 7) (layout 9)
 -- ---- safety: seat 0 submits the layout 7 and nobody forges
 
 -- seat 1 hears a certificate of the layout 7, then one of the layout 9 with a signature of seat 0 that doesn't check
-abbrev pub unsigned : Bool → Boat
+unfoldable pub unsigned : Bool → Boat
 unsigned = ofTwo (boatAt 0 (says 0 7 ∷ [])) (boatAt 1 (hears (fullBy 7 0 2 3) ∷ hears (Full 5 2 (layout 9) (entryBy 7 0 ∷ entryBy 9 2 ∷ entryBy 9 3 ∷ [])) ∷ []))
 
 unfoldable pub unsignedBoats : Trial (Family four unsigned → Demand3 four unsigned)
@@ -201,17 +201,17 @@ unfoldable pub certifiedEach : List Message → List Call
 certifiedEach [] = []
 certifiedEach (m ∷ ms) = certified m ++ certifiedEach ms
 
-abbrev pub submitting : Boat
+unfoldable pub submitting : Boat
 submitting = boatAt 0 (says 0 7 ∷ says 0 9 ∷ [])
 
-abbrev pub twice : Bool → Boat
+unfoldable pub twice : Bool → Boat
 twice = ofTwo submitting (boatAt 1 (certifiedEach (all four submitting)))
 
 unfoldable pub twiceBoats : Trial (Family four twice → Demand3 four twice)
 twiceBoats = safety four two twice []
 
 -- seat 0 holds a certificate of seats 1, 2 and 3, and confirms with seats 2 and 3
-abbrev pub holding : Bool → Boat
+unfoldable pub holding : Bool → Boat
 holding = ofTwo (boatAt 0 (hears (fullBy 9 1 2 3) ∷ says 0 7 ∷ hears (submitBy 2 7) ∷ hears (submitBy 3 7) ∷ [])) (boatAt 1 (says 1 9 ∷ []))
 
 unfoldable pub holdingBoats : Trial (Family four holding → Demand3 four holding)
@@ -222,10 +222,10 @@ abbrev pub keptBefore : Message → Bool → Boat
 keptBefore m = ofTwo (boatAt 0 (says 0 9 ∷ [])) (boatAt 1 (hears m ∷ hears (submitBy 2 7) ∷ says 1 7 ∷ hears (fullBy 9 0 2 3) ∷ []))
 
 -- seat 0's own SUBMIT, and one of the layout 7 with its signature, which doesn't check there
-abbrev pub keptOther : Bool → Boat
+unfoldable pub keptOther : Bool → Boat
 keptOther = keptBefore (submitBy 0 9)
 
-abbrev pub keptUnsigned : Bool → Boat
+unfoldable pub keptUnsigned : Bool → Boat
 keptUnsigned = keptBefore (Submit 5 0 (layout 7) (sign 0 9))
 
 unfoldable pub keptOtherBoats : Trial (Family four keptOther → Demand3 four keptOther)
@@ -235,7 +235,7 @@ unfoldable pub keptUnsignedBoats : Trial (Family four keptUnsigned → Demand3 f
 keptUnsignedBoats = safety four two keptUnsigned []
 
 -- seat 1 hears seat 0's SUBMIT, and one of another layout with the same signature; evidence of both layouts, and of one layout twice
-abbrev pub heardTwice : Bool → Boat
+unfoldable pub heardTwice : Bool → Boat
 heardTwice = ofTwo (boatAt 0 (says 0 7 ∷ [])) (boatAt 1 (hears (submitBy 0 7) ∷ hears (Submit 5 0 (layout 9) (sign 0 7)) ∷ []))
 
 abbrev pub framing : ℕ → ℕ → List ℕ
@@ -250,21 +250,21 @@ equalEvidence = safety four two heardTwice (framing 7 7 ∷ [])
 -- ---- demand 1: one boat
 
 -- a boat hears another layout's NOTICE before its submit, and again after it has confirmed
-abbrev pub answering : Boat
+unfoldable pub answering : Boat
 answering = then seven (hears (Notice 5 1 (layout 9)) ∷ [])
 
 unfoldable pub answeringBoat : Trial (IsHonest four answering → AtMostOne four answering)
 answeringBoat = onceEach four answering
 
 -- a boat hears two certificates that share two seats of three
-abbrev pub sharing : Boat
+unfoldable pub sharing : Boat
 sharing = boatAt 0 (hears (fullBy 7 0 1 2) ∷ hears (fullBy 9 1 2 3) ∷ [])
 
 unfoldable pub sharingBoat : Trial (IsHonest four sharing → (c : Called) → List·Memᴰ c (listOf four sharing) → impossible (resultOf four c .unit) ≡ false)
 sharingBoat = possibleEach four sharing
 
 -- a boat hears a SUBMIT of every other seat before its submit
-abbrev pub slow : Boat
+unfoldable pub slow : Boat
 slow = boatAt 0 (hears (submitBy 1 7) ∷ hears (submitBy 2 7) ∷ hears (submitBy 3 7) ∷ says 0 7 ∷ [])
 
 unfoldable pub slowBoat : Trial (IsHonest four slow → (c : Called) → List·Memᴰ c (listOf four slow) → impossible (resultOf four c .unit) ≡ false)
@@ -297,7 +297,7 @@ comesBack S i u = does u (ComesBack (savedAt i (keptBy S u)) ∷ [])
 
 -- A submit of the layout 9 is lost before the first note. One of the layout 7 is kept, power is lost before it is sent, and it is sent then;
 -- the layout 9 is refused. A confirmation is lost, and comes again.
-abbrev pub interrupted : Boat
+unfoldable pub interrupted : Boat
 interrupted =
     let opened = boatOfPair (Makes (says 0 9) ∷ OpensAgain (replicate (storeLength 2) 2) ∷ []) in
     let submitted = comesBack pair 0 (does opened (Makes (says 0 7) ∷ keeps ∷ [])) in
@@ -314,10 +314,10 @@ interruptedSending = sendsOne pair interrupted
 abbrev pub opensAgain : List Event → Boat
 opensAgain sending = boatOfPair (Makes (says 0 7) ∷ sending ++ OpensAgain (replicate (storeLength 2) 1) ∷ Makes (says 0 9) ∷ keeps ∷ Sends (submitBy 0 9) ∷ [])
 
-abbrev pub hasty : Boat
+unfoldable pub hasty : Boat
 hasty = opensAgain (Sends (submitBy 0 7) ∷ [])
 
-abbrev pub blank : Boat
+unfoldable pub blank : Boat
 blank = opensAgain (keeps ∷ Sends (submitBy 0 7) ∷ [])
 
 unfoldable pub hastyBoat : Trial (IsHonest pair hasty → SendsOne hasty)
@@ -334,10 +334,10 @@ returning i more =
     let sender = does u (Makes (says 0 9) ∷ keeps ∷ map Sends more) in
     ofTwo sender (boatAt 1 (certifiedEach (sentIn (sender .events))))
 
-abbrev pub newest : Bool → Boat
+unfoldable pub newest : Bool → Boat
 newest = returning 0 (submitBy 0 7 ∷ [])
 
-abbrev pub older : Bool → Boat
+unfoldable pub older : Bool → Boat
 older = returning 1 (submitBy 0 9 ∷ [])
 
 unfoldable pub newestBoats : Trial (Family four newest → Demand3 four newest)
@@ -353,13 +353,13 @@ returned out with =
     let saved = savedAt 0 (keptBy four u) in
     ofTwo (then (does u (ComesBack (record { note = saved .note; store = with (saved .store) }) ∷ [])) (map hears (sentBy nine))) (divided true)
 
-abbrev pub sameStored : Bool → Boat
+unfoldable pub sameStored : Bool → Boat
 sameStored = returned (replicate noteLength 0) (λ store. store)
 
-abbrev pub otherStored : Bool → Boat
+unfoldable pub otherStored : Bool → Boat
 otherStored = returned (replicate noteLength 0) (λ store. replicate (storeLength 4) 1)
 
-abbrev pub unnoted : Bool → Boat
+unfoldable pub unnoted : Bool → Boat
 unnoted = returned [] (λ store. store)
 
 unfoldable pub sameStoredBoats : Trial (Family four sameStored → Demand3 four sameStored)
@@ -373,5 +373,5 @@ unnotedBoats = accountability four two unnoted false true (layout 7) (layout 9)
 
 -- a name that unfolds every definition of a run
 unfoldable pub unfoldedTrials : Bool
-unfolding unfolded outcome begins after afterAll isSubmit isNotice worth count refusalOf cameTo allMessages found entrySized pairSized wellFormed isNoticeOf isEvidenceOn isStepOf isSubmitOf signedIn sameSigned sentIn sameSaved isNewest keepsNone wrote allowed allowedAll isHonest all formed submits reached confirms mustReach haveReached blamesIn blames accuses onceEach sendsOne possibleEach computed accountability safety those sentBy certified certifiedEach two three keptBy savedAt
+unfolding unfolded outcome begins after afterAll isSubmit isNotice worth count refusalOf cameTo allMessages found entrySized pairSized wellFormed isNoticeOf isEvidenceOn isStepOf isSubmitOf signedIn sameSigned sentIn sameSaved isNewest keepsNone wrote allowed allowedAll isHonest all formed submits reached confirms mustReach haveReached blamesIn blames accuses onceEach sendsOne possibleEach computed accountability safety those sentBy certified certifiedEach two three keptBy savedAt seven nine divided forewarned witnessed shortStored shortOuted unheard unsigned submitting twice holding keptOther keptUnsigned heardTwice answering sharing slow interrupted hasty blank newest older sameStored otherStored unnoted
 unfoldedTrials = true
