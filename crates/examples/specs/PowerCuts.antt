@@ -30,11 +30,11 @@ pub interrupted-is-honest : IsHonest pair interrupted
 unfolding unfoldedTrials
 interrupted-is-honest = isHonest-says pair interrupted refl
 
-pub interrupted-answers : map (λ (c : Called). resultOf pair c .refusal) (listOf pair interrupted) ≡ 0 ∷ 8 ∷ 0 ∷ []
+interrupted-answers : map (λ (c : Called). resultOf pair c .refusal) (listOf pair interrupted) ≡ 0 ∷ 8 ∷ 0 ∷ []
 unfolding unfoldedTrials
 interrupted-answers = refl
 
-pub interrupted-writes : all pair interrupted ≡ submitBy 0 7 ∷ Notice 5 0 (layout 7) ∷ []
+interrupted-writes : all pair interrupted ≡ submitBy 0 7 ∷ Notice 5 0 (layout 7) ∷ []
 unfolding unfoldedTrials
 interrupted-writes = refl
 
@@ -47,7 +47,7 @@ interrupted-sends = refl
 
 -- The unit of seat 0 keeps the note of its opening, submits the layout 7, keeps and sends. Brought back from the first note, it knows of no
 -- submission: it submits the layout 9, keeps and sends.
-pub older-sends : sentIn (older false .events) ≡ submitBy 0 7 ∷ submitBy 0 9 ∷ []
+older-sends : sentIn (older false .events) ≡ submitBy 0 7 ∷ submitBy 0 9 ∷ []
 unfolding unfoldedTrials
 older-sends = refl
 
@@ -86,7 +86,7 @@ older-is-not-honest h =
     absurd (omega arith)
 
 -- from its newest note it sends the same SUBMIT again, and nobody is blamed
-pub newest-is-not-blamed : all four (newest true) ≡ []
+newest-is-not-blamed : all four (newest true) ≡ []
 unfolding unfoldedTrials
 newest-is-not-blamed = refl
 
@@ -116,7 +116,7 @@ spoiltPair seat = record { seat = seat; lowerValue = layout 7; higherValue = lay
 abbrev spoiltEvidence : Message
 spoiltEvidence = Evidence 5 (record { lower = layout 7; higher = layout 9 }) (spoiltPair 2 ∷ spoiltPair 3 ∷ [])
 
-pub restored-writes : all four restored ≡ submitBy 0 7 ∷ Notice 5 0 (layout 7) ∷ spoiltFull ∷ spoiltEvidence ∷ []
+restored-writes : all four restored ≡ submitBy 0 7 ∷ Notice 5 0 (layout 7) ∷ spoiltFull ∷ spoiltEvidence ∷ []
 unfolding unfoldedTrials
 restored-writes = refl
 
