@@ -7,9 +7,10 @@ use mathlib.Core.Bool.{Bool, true, false}
 use mathlib.Core.List.{List, [], _∷_}
 use Rattle.round.specs.Round.{IsHonest, Boat, Family, Delivered, WritesEvidence, Names}
 use Rattle.round.specs.Demand3.{NoneForged}
+use Rattle.reading.specs.UnbrokenLaws.{unbroken-honest}
 use Rattle.claims.specs.Claim.{demand-3-any}
 use Rattle.trials.specs.Toy.{fullBy}
-use Rattle.trials.specs.Tests.{formed, accuses, accuses-says}
+use Rattle.trials.specs.Tests.{all, formed, accuses, accuses-says}
 use Rattle.trials.specs.Trials.{unfoldedTrials, four, says, hears, boatAt, atTwo}
 
 -- seat 0 submits the layout 7 alone, and certificates of two layouts with signatures of seat 0 reach seat 1
@@ -19,8 +20,8 @@ boat true = boatAt 1 (hears (fullBy 7 0 2 3) ∷ hears (fullBy 9 0 2 3) ∷ [])
 
 honest : (i : Bool) → IsHonest four (boat i)
 unfolding unfoldedTrials
-honest false = refl
-honest true = refl
+honest false = unbroken-honest four 0 (boat false .store) (says 0 7 ∷ []) [] refl
+honest true = unbroken-honest four 1 (boat true .store) (hears (fullBy 7 0 2 3) ∷ hears (fullBy 9 0 2 3) ∷ []) [] refl
 
 at-seat : (i : Bool) → atTwo (boat i .seat) ≡ i
 at-seat false = refl
@@ -30,11 +31,11 @@ family : Family four boat
 family = record { honest = honest; apart = λ i j d e. d (sym (at-seat i) ∙ ap atTwo e ∙ at-seat j) }
 
 -- an honest seat is blamed
-well-formed : formed four (boat true) ≡ true
+well-formed : formed four (all four (boat true)) ≡ true
 unfolding unfoldedTrials
 well-formed = refl
 
-named : accuses four (boat true) 0 ≡ true
+named : accuses four (all four (boat true)) 0 ≡ true
 unfolding unfoldedTrials
 named = refl
 

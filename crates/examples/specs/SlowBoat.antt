@@ -18,6 +18,7 @@ use Rattle.protocol.specs.MessageLaws.{read-render}
 use Rattle.protocol.specs.Calls.{opening}
 use Rattle.protocol.specs.declared.Record.{Record}
 use Rattle.round.specs.Round.{Call, ByStep, Boat, Called, IsHonest, resultOf, listFrom, StandsIn, writtenIn}
+use Rattle.reading.specs.UnbrokenLaws.{unbroken-list, unbroken-honest}
 use Rattle.claims.specs.Parts.{in-below}
 use Rattle.claims.specs.Gain.{GivesGood, FirstIs, SubmitsAfter, confirms-in-that-call}
 use Rattle.trials.specs.Toy.{layout, sign, submitBy}
@@ -56,12 +57,15 @@ gives-seven seat r store s other g =
 
 -- ---- the boat
 
+abbrev calls : List Call
+calls = hears (submitBy 1 7) ∷ hears (submitBy 2 7) ∷ says 0 7 ∷ []
+
 abbrev boat : Boat
-boat = boatAt 0 (hears (submitBy 1 7) ∷ hears (submitBy 2 7) ∷ says 0 7 ∷ [])
+boat = boatAt 0 calls
 
 honest : IsHonest four boat
 unfolding unfoldedTrials
-honest = refl
+honest = unbroken-honest four 0 (boat .store) calls [] refl
 
 abbrev next : Called → Call → Called
 next t c = record { given = c; unit = resultOf four t .unit; store = resultOf four t .store }
@@ -96,7 +100,7 @@ submits-after = record {
   before = first ∷ second ∷ [];
   call = own;
   after = [];
-  split = refl;
+  split = unbroken-list four 0 (boat .store) calls [];
   submits = record { layout = layout 7; signature = sign 0 7; out = room; carries = refl; unrefused = own-unrefused };
   others = 0b0110;
   apart = refl;

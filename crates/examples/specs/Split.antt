@@ -16,6 +16,7 @@ use Rattle.protocol.specs.Refusals.{isFull}
 use Rattle.protocol.specs.Calls.{evidenceCheck}
 use Rattle.round.specs.Round.{Setting, Call, BySubmit, ByStep, ByThinEntry, InHand, Boat, Each, Family, Confirms, Delivered, MakesEvidence, makingOf}
 use Rattle.round.specs.Demand3.{NoneForged, NoneBlamed, ReachedOthers, Blames}
+use Rattle.reading.specs.UnbrokenLaws.{unbroken}
 use Rattle.claims.specs.NotRefused.{Table}
 use Rattle.claims.specs.Made.{Accuses}
 
@@ -92,8 +93,11 @@ module _ (S : Setting) {I : Type 0} (P : Plan I) where
   abbrev pub inHand : InHand
   inHand = record { a = render (fullBy false); b = render (fullBy true); out = out }
 
+  abbrev pub calls : I → List Call
+  calls i = ownSubmit i ∷ map given (heard i)
+
   abbrev pub boat : I → Boat
-  boat i = record { seat = role i .seat; store = store; calls = ownSubmit i ∷ map given (heard i); inHand = inHand ∷ [] }
+  boat i = unbroken (role i .seat) store (calls i) (inHand ∷ [])
 
   -- ---- premises
 

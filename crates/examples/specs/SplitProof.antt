@@ -24,7 +24,7 @@ use Rattle.protocol.specs.Refusals.{isForStep, isFull, isEvidence, rising, step
 use Rattle.protocol.specs.Step.{State, write, collect, isWanted, collectIfWanted, hearSubmit, reply, isComplete, confirm, hearOwn, confirmIfComplete, submitted, stepped}
 use Rattle.protocol.specs.Calls.{Result, resultBy, start, submit, step, makingBy, making}
 use Rattle.protocol.specs.declared.Record.{Record}
-use Rattle.round.specs.Round.{Setting, Call, ByStep, ByThinEntry, IsStep, Boat, Called, Each, Relation, EachSigned, outcome, listFrom, listOf, IsHonest, Family, Writes, Submits, Confirms, StepGiven, Reached, MadeFrom, Delivered, MakesEvidence, makingOf}
+use Rattle.round.specs.Round.{Setting, Call, ByStep, ByThinEntry, IsStep, Makes, Boat, Moment, Called, Each, Relation, EachSigned, outcome, begins, after as next-moment, afterAll, listFrom, listOf, IsHonest, Family, Writes, Submits, Confirms, StepGiven, Reached, MadeFrom, Delivered, MakesEvidence, makingOf}
 use Rattle.round.specs.Demand1.{SUBMIT, NOTICE, isNotice, isOf}
 use Rattle.round.specs.Demand3.{NoneForged, ReachedOthers}
 use Rattle.reading.specs.ListsLaws.{cond-elim, and-false-either, worth-le-one, worth-true, true-of-worth, count-nil, each-nil, each-cons, each-one, each-append, each-map, rising-first}
@@ -35,14 +35,16 @@ use Rattle.claims.specs.Whole.{reply-stays, hearing-stays, Done, submitted-done
 use Rattle.reading.specs.ReadingLaws.{read-sized}
 use Rattle.reading.specs.Messages.{refusalOf, cameTo}
 use Rattle.reading.specs.MessagesLaws.{outcome-is, step-is}
+use Rattle.reading.specs.UnbrokenLaws.{unbroken-list, unbroken-honest}
 use Rattle.claims.specs.UnrefusedLaws.{possible, Taken, signed-entries, full-taken}
-use Rattle.claims.specs.Journey.{lastOf, WorthyGiven, Worthy, step-done}
-use Rattle.claims.specs.Units.{any-worthy, startOf, endOf, start-n, start-seat, start-round, start-unset, start-sound, start-settled, stop, end-n, end-seat, end-round, flag-written, writes-good, pairs-formed}
+use Rattle.claims.specs.Journey.{lastOf, WorthyGiven, Worthy, any-worthy, step-done}
+use Rattle.claims.specs.Opened.{startOf, start-n, start-seat, start-round, start-unset, start-sound, start-settled}
+use Rattle.claims.specs.Units.{endOf, stop, end-n, end-seat, end-round, flag-written, writes-good, pairs-formed}
 use Rattle.claims.specs.NotRefused.{opening-not-refused, submit-not-refused, message-not-refused, making-not-refused, making-fit}
 use Rattle.claims.specs.Safe.{conditions, evidenceFrom, making-bytes, certifies-in, submits-end}
 use Rattle.claims.specs.Made.{Accuses, made-accepted}
 use Rattle.claims.specs.Claim.{demand-3-any}
-use Rattle.examples.specs.Split.{Fleet, Plan, certificate, submitBy, noticeOf, fullBy, leaders, heard, given, ownSubmit, inHand, boat, Splits, Split}
+use Rattle.examples.specs.Split.{Fleet, Plan, certificate, submitBy, noticeOf, fullBy, leaders, heard, given, ownSubmit, calls, inHand, boat, Splits, Split}
 
 -- ---- sets and rising lists of seats
 
@@ -124,6 +126,12 @@ call-of S r store (x ∷ cs) c d =
     ⊎-elim (λ e. (record { given = x; unit = r; store = store }, List·Memᴰ·head refl, sym e))
     (λ t. let h = call-of S (outcome S x r store .unit) (outcome S x r store .store) cs c t in (h .0, List·Memᴰ·tail (h .1), h .2))
     (List·Memᴰ·cases-cons d)
+
+-- the record at the end of calls without a power cut
+unbroken-end : (S : Setting) (seat : ℕ) (m : Moment) (cs : List Call) → afterAll S seat m (map Makes cs) .unit ≡ lastOf S (m .unit) (m .store) cs
+unfolding next-moment afterAll lastOf
+unbroken-end S seat m [] = refl
+unbroken-end S seat m (c ∷ cs) = unbroken-end S seat (next-moment S seat m (Makes c)) cs
 
 module _ (S : Setting) {I : Type 0} (P : Plan I) (z : Splits S P) where
   open Setting S using (n, round, keys, checks)
@@ -228,14 +236,22 @@ module _ (S : Setting) {I : Type 0} (P : Plan I) (z : Splits S P) where
 
   honest : (i : I) → IsHonest S (boat S P i)
   honest i =
-      opening-not-refused n (role i .seat) round keys .1
-      (record { range = record { some = z .fits .some; most = z .fits .most; seated = inside (role i .side) (role i .seat) (z .fits .signs i); dated = z .early }; table = z .table })
+      unbroken-honest S (role i .seat) store (calls S P i) (inHand S P ∷ [])
+      (opening-not-refused n (role i .seat) round keys .1
+      (record { range = record { some = z .fits .some; most = z .fits .most; seated = inside (role i .side) (role i .seat) (z .fits .signs i); dated = z .early }; table = z .table }))
+
+  list-is : (i : I) → listOf S (boat S P i) ≡ listFrom S (startOf S (boat S P i) (honest i)) store (calls S P i)
+  list-is i = unbroken-list S (role i .seat) store (calls S P i) (inHand S P ∷ [])
+
+  end-is : (i : I) → endOf S (boat S P i) (honest i) ≡ lastOf S (startOf S (boat S P i) (honest i)) store (calls S P i)
+  unfolding begins
+  end-is i = unbroken-end S (role i .seat) (begins S (boat S P i)) (calls S P i)
 
   family : Family S (boat S P)
   family = record { honest = honest; apart = z .fits .apart }
 
   -- every signature that a unit is given is one of the round
-  calls-worthy : (i : I) (r : Record) → r .n ≡ n → r .seat ≡ role i .seat → Each (λ c. WorthyGiven S W c r) (boat S P i .calls)
+  calls-worthy : (i : I) (r : Record) → r .n ≡ n → r .seat ≡ role i .seat → Each (λ c. WorthyGiven S W c r) (calls S P i)
   calls-worthy i r en es =
       let own : W (r .seat) (layout (role i .side)) (signature (role i .side) (role i .seat)) =
       subst (λ s. W s (layout (role i .side)) (signature (role i .side) (role i .seat))) (sym es) (role i .side, refl, z .fits .signs i, refl) in
@@ -250,7 +266,7 @@ module _ (S : Setting) {I : Type 0} (P : Plan I) (z : Splits S P) where
       let u = boat S P i in
       let at = stop S u (honest i) Any (any-worthy S (listOf S u)) t d in
       calls-worthy i (t .unit) (at .since .n ∙ start-n S u (honest i)) (at .since .seat ∙ start-seat S u (honest i)) (t .given)
-      (called-given S (startOf S u (honest i)) (u .store) (u .calls) t d)
+      (called-given S (startOf S u (honest i)) store (calls S P i) t (subst (List·Memᴰ t) (list-is i) d))
 
   worthy : (i : I) → Each (Worthy S W) (listOf S (boat S P i))
   worthy i t d q = call-worthy i t d
@@ -431,7 +447,7 @@ module _ (S : Setting) {I : Type 0} (P : Plan I) (z : Splits S P) where
         submit-not-refused checks keys start-record store (layout side) (signature side (role i .seat)) out .1
         (record {
           lent = record {
-            possible = possible checks W start-record store (start-sound S u (honest i) W) (start-settled S u (honest i));
+            possible = possible checks W start-record store (start-sound S u (honest i) W store) (start-settled S u (honest i));
             table = rw same (z .table);
             storeRoom = start-room;
             outRoom = rw same (z .outRoom);
@@ -451,7 +467,7 @@ module _ (S : Setting) {I : Type 0} (P : Plan I) (z : Splits S P) where
 
     submit-ready : Ready (submitted-state .unit) (submitted-state .store)
     submit-ready =
-        let sound = start-sound S u (honest i) W in
+        let sound = start-sound S u (honest i) W store in
         let done = submitted-done checks W (layout side) (signature side (role i .seat)) (start start-record store) sound start-room unsaid (z .layouts side) own-attested in
         let value = submitted-value checks W (layout side) (signature side (role i .seat)) (start start-record store) sound start-room unsaid (z .layouts side) own-attested in
         record {
@@ -464,11 +480,14 @@ module _ (S : Setting) {I : Type 0} (P : Plan I) (z : Splits S P) where
           room = rw (done .leads .stored) (z .storeRoom);
         }
 
+    abbrev own-call : Called
+    own-call = record { given = ownSubmit S P i; unit = start-record; store = store }
+
     submits : Submits S u (layout side)
     unfolding listFrom resultBy
     submits = record {
-      call = record { given = ownSubmit S P i; unit = start-record; store = store };
-      inList = List·Memᴰ·head refl;
+      call = own-call;
+      inList = subst (List·Memᴰ own-call) (sym (list-is i)) (List·Memᴰ·head refl);
       signature = signature side (role i .seat);
       out = out;
       carries = refl;
@@ -481,15 +500,17 @@ module _ (S : Setting) {I : Type 0} (P : Plan I) (z : Splits S P) where
     unfolding listFrom resultBy unrefused
     list-room =
         let after = outcome S (ownSubmit S P i) start-record store in
-        each-cons Room (record { given = ownSubmit S P i; unit = start-record; store = store }) (listFrom S (after .unit) (after .store) (map (given S P) (heard S P i))) (z .storeRoom)
-        (subst (λ (o : Result). Each Room (listFrom S (o .unit) (o .store) (map (given S P) (heard S P i)))) (sym submit-leaves) (rooms (heard S P i) (submitted-state .unit) (submitted-state .store) submit-ready (heard-sent i)))
+        subst (Each Room) (sym (list-is i))
+        (each-cons Room own-call (listFrom S (after .unit) (after .store) (map (given S P) (heard S P i))) (z .storeRoom)
+        (subst (λ (o : Result). Each Room (listFrom S (o .unit) (o .store) (map (given S P) (heard S P i)))) (sym submit-leaves) (rooms (heard S P i) (submitted-state .unit) (submitted-state .store) submit-ready (heard-sent i))))
 
     heard-reached : (m : Message) → List·Memᴰ m (heard S P i) → Reached S u (render m)
     heard-reached m d =
-        let c = call-of S start-record store (u .calls) (given S P m) (List·Memᴰ·tail (Memᴰ·map (given S P) d)) in
+        let c = call-of S start-record store (calls S P i) (given S P m) (List·Memᴰ·tail (Memᴰ·map (given S P) d)) in
+        let inList = subst (List·Memᴰ (c .0)) (sym (list-is i)) (c .1) in
         record {
-          step = record { call = c .0; inList = c .1; out = out; isStep = subst (λ x. IsStep x (render m) out) (sym (c .2)) (given-step m) };
-          storeRoom = list-room (c .0) (c .1);
+          step = record { call = c .0; inList = inList; out = out; isStep = subst (λ x. IsStep x (render m) out) (sym (c .2)) (given-step m) };
+          storeRoom = list-room (c .0) inList;
           outRoom = z .outRoom;
         }
 
@@ -543,9 +564,10 @@ module _ (S : Setting) {I : Type 0} (P : Plan I) (z : Splits S P) where
   leader-confirmed b =
       let i = leader b in
       let t = submitted-state i in
-      subst (λ (o : Result). lastOf S (o .unit) (o .store) (map (given S P) (heard S P i)) .confirmed ≡ true) (sym (submit-leaves i))
+      subst (λ (r : Record). r .confirmed ≡ true) (sym (end-is i))
+      (subst (λ (o : Result). lastOf S (o .unit) (o .store) (map (given S P) (heard S P i)) .confirmed ≡ true) (sym (submit-leaves i))
       (confirms-last i (role i .hears) (leaders S P) (t .unit) (t .store) (submit-ready i) (z .fits .hearsSigners i) leaders-sent
-      (inr (λ s h. let signs = subst (λ c. In s (signers c)) (z .fits .leads b) h in inr (subst (List·Memᴰ s) (sym (z .fits .hearsAll b)) (mem-seats n s (signers b) .1 (inside b s signs, signs))))))
+      (inr (λ s h. let signs = subst (λ c. In s (signers c)) (z .fits .leads b) h in inr (subst (List·Memᴰ s) (sym (z .fits .hearsAll b)) (mem-seats n s (signers b) .1 (inside b s signs, signs)))))))
 
   confirmed : (b : Bool) → Confirms S (boat S P (leader b)) (layout b)
   confirmed b =

@@ -3,9 +3,9 @@
 -- Assumes nothing.
 use mathlib.Core.Path.{_≡_, refl}
 use mathlib.Core.Bool.{true, false}
-use Rattle.claims.specs.Once.{at-most-one, none-impossible}
+use Rattle.claims.specs.Once.{at-most-one, sends-one, none-impossible}
 use Rattle.trials.specs.Trial.{claimOf, answer}
-use Rattle.trials.specs.Trials.{unfoldedTrials, four, answering, sharing, slow, dividedBoats, forewarnedBoats, witnessedBoats, shortStoredBoats, shortOutedBoats, unheardBoats, unsignedBoats, twiceBoats, holdingBoats, keptOtherBoats, keptUnsignedBoats, unsignedEvidence, equalEvidence, answeringBoat, sharingBoat, slowBoat}
+use Rattle.trials.specs.Trials.{unfoldedTrials, four, pair, answering, sharing, slow, interrupted, dividedBoats, forewarnedBoats, witnessedBoats, shortStoredBoats, shortOutedBoats, unheardBoats, unsignedBoats, twiceBoats, holdingBoats, keptOtherBoats, keptUnsignedBoats, unsignedEvidence, equalEvidence, answeringBoat, sharingBoat, slowBoat, interruptedBoat, interruptedSending, newestBoats, olderBoats, sameStoredBoats, otherStoredBoats, unnotedBoats, hastyBoat, blankBoat}
 
 divided : answer dividedBoats ≡ (true, true)
 unfolding unfoldedTrials dividedBoats
@@ -71,6 +71,42 @@ possible-slow : answer slowBoat ≡ (true, true)
 unfolding unfoldedTrials slowBoat
 possible-slow = refl
 
+interrupted-once : answer interruptedBoat ≡ (true, true)
+unfolding unfoldedTrials interruptedBoat
+interrupted-once = refl
+
+interrupted-sends : answer interruptedSending ≡ (true, true)
+unfolding unfoldedTrials interruptedSending
+interrupted-sends = refl
+
+newest : answer newestBoats ≡ (true, true)
+unfolding unfoldedTrials newestBoats
+newest = refl
+
+older : answer olderBoats ≡ (false, false)
+unfolding unfoldedTrials olderBoats
+older = refl
+
+same-stored : answer sameStoredBoats ≡ (true, true)
+unfolding unfoldedTrials sameStoredBoats
+same-stored = refl
+
+other-stored : answer otherStoredBoats ≡ (false, false)
+unfolding unfoldedTrials otherStoredBoats
+other-stored = refl
+
+unnoted : answer unnotedBoats ≡ (false, false)
+unfolding unfoldedTrials unnotedBoats
+unnoted = refl
+
+hasty : answer hastyBoat ≡ (false, false)
+unfolding unfoldedTrials hastyBoat
+hasty = refl
+
+blank : answer blankBoat ≡ (false, false)
+unfolding unfoldedTrials blankBoat
+blank = refl
+
 -- demand 1's claims, for the boats of their trials
 once-claimed : claimOf answeringBoat
 once-claimed = at-most-one four answering
@@ -80,3 +116,9 @@ possible-claimed = none-impossible four sharing
 
 slow-claimed : claimOf slowBoat
 slow-claimed = none-impossible four slow
+
+interrupted-claimed : claimOf interruptedBoat
+interrupted-claimed = at-most-one pair interrupted
+
+sends-claimed : claimOf interruptedSending
+sends-claimed = sends-one pair interrupted

@@ -1,4 +1,4 @@
--- Computable tests of lists of calls, each with its meaning in the words of `Round` and `Demand3`. Nothing here uses a proof of the
+-- Computable tests of lists of events and calls, each with its meaning in the words of `Round` and `Demand3`. Nothing here uses a proof of the
 -- claims, so that all of it holds for an edited definition too.
 -- Assumes nothing.
 use Prim.Native.Nat.{ℕ, _+_, _≤_}
@@ -18,8 +18,8 @@ use Rattle.protocol.specs.Message.{Entry, Pair, PairValues, Message, Submit, No
 use Rattle.protocol.specs.Entries.{Laid}
 use Rattle.protocol.specs.MessageLaws.{pair-laid, read-render}
 use Rattle.protocol.specs.Refusals.{every, isFull, isEvidence}
-use Rattle.protocol.specs.Calls.{opening, evidenceCheck}
-use Rattle.round.specs.Round.{Each, Are, Setting, Call, BySubmit, ByStep, ByThinEntry, IsStep, Boat, Called, outOf, resultOf, listOf, Writes, Submits, Confirms, Reached, HaveReached, writtenIn, WritesEvidence, Names, IsHonest}
+use Rattle.protocol.specs.Calls.{opening, evidenceCheck, writeNote}
+use Rattle.round.specs.Round.{Each, Are, StandsIn, Setting, Call, BySubmit, ByStep, ByThinEntry, IsStep, Called, outOf, resultOf, writtenIn, Saved, Event, Makes, Keeps, Sends, ComesBack, OpensAgain, Boat, Moment, begins, after, listOf, Allowed, AllowedAll, IsHonest, Writes, Submits, Confirms, Reached, HaveReached, WritesEvidence, Names}
 use Rattle.round.specs.Demand1.{isNotice, writtenOver}
 use Rattle.round.specs.Demand3.{Blames}
 use Rattle.protocol.specs.ConditionsLaws.{every-each}
@@ -193,29 +193,137 @@ same-signed s z e =
     ∙ ap (λ (x : List ℕ). record { seat = z .seat; value = x; signature = s .signature }) (same-true (s .value) (z .value) (b .0))
     ∙ ap (λ (x : List ℕ). record { seat = z .seat; value = z .value; signature = x }) (same-true (s .signature) (z .signature) (b .1))
 
+-- ---- events
+
+-- the messages that are sent
+unfoldable pub sentIn : List Event → List Message
+sentIn [] = []
+sentIn (Makes c ∷ es) = sentIn es
+sentIn (Keeps out ∷ es) = sentIn es
+sentIn (Sends m ∷ es) = m ∷ sentIn es
+sentIn (ComesBack saved ∷ es) = sentIn es
+sentIn (OpensAgain store ∷ es) = sentIn es
+
+pub sentIn-says : (es : List Event) (m : Message) → List·Memᴰ m (sentIn es) → List·Memᴰ (Sends m) es
+unfolding sentIn
+sentIn-says [] m d = absurd (List·Memᴰ·not-nil d)
+sentIn-says (Makes c ∷ es) m d = List·Memᴰ·tail (sentIn-says es m d)
+sentIn-says (Keeps out ∷ es) m d = List·Memᴰ·tail (sentIn-says es m d)
+sentIn-says (Sends x ∷ es) m d = ⊎-elim (λ q. List·Memᴰ·head (ap Sends q)) (λ q. List·Memᴰ·tail (sentIn-says es m q)) (List·Memᴰ·cases-cons d)
+sentIn-says (ComesBack saved ∷ es) m d = List·Memᴰ·tail (sentIn-says es m d)
+sentIn-says (OpensAgain store ∷ es) m d = List·Memᴰ·tail (sentIn-says es m d)
+
 -- ---- an honest unit
+
+-- whether two notes kept are the same, and their stores
+unfoldable pub sameSaved : Saved → Saved → Bool
+sameSaved s z = same (s .note) (z .note) && same (s .store) (z .store)
+
+same-saved : (s z : Saved) → sameSaved s z ≡ true → s ≡ z
+unfolding sameSaved
+same-saved s z e =
+    let both = both-true (same (s .note) (z .note)) (same (s .store) (z .store)) e in
+    ap (λ (x : List ℕ). record { note = x; store = s .store }) (same-true (s .note) (z .note) (both .0))
+    ∙ ap (λ (x : List ℕ). record { note = z .note; store = x }) (same-true (s .store) (z .store) (both .1))
+
+-- whether one is the newest
+unfoldable pub isNewest : Saved → List Saved → Bool
+isNewest saved [] = false
+isNewest saved (newest ∷ older) = sameSaved newest saved
+
+newest-says : (saved : Saved) (kept : List Saved) → isNewest saved kept ≡ true → (older : List Saved) × (kept ≡ saved ∷ older)
+unfolding isNewest
+newest-says saved [] e = absurd (false≢true e)
+newest-says saved (newest ∷ older) e = (older, ap (λ (x : Saved). x ∷ older) (same-saved newest saved e))
+
+-- whether nothing is kept
+unfoldable pub keepsNone : List Saved → Bool
+keepsNone [] = true
+keepsNone (newest ∷ older) = false
+
+none-says : (kept : List Saved) → keepsNone kept ≡ true → kept ≡ []
+unfolding keepsNone
+none-says [] e = refl
+none-says (newest ∷ older) e = absurd (false≢true e)
 
 module _ (S : Setting) where
   open Setting S using (n, round, keys, checks)
 
-  unfoldable pub isOpened : Boat → Bool
-  isOpened u = eqb (opening n (u .seat) round keys .number) 0
+  -- a message of calls whose messages are all well-formed
+  calls-stand : (cs : List Called) → every (wellFormed n) (allMessages S cs) ≡ true → (m : Message) → List·Memᴰ m (allMessages S cs)
+      → (c : Called) × List·Memᴰ c cs × StandsIn n m (writtenIn S c)
+  calls-stand cs f m d =
+      let h = member-all S cs m d in
+      let formed : Each (WellFormed n) (messages S (h .0)) = λ x e. wellFormed-says n x (every-each (wellFormed n) (allMessages S cs) f x (all-member S cs (h .0) x (h .1) e)) in
+      (h .0, h .1, (messages S (h .0), (formed, written-is S (h .0)), h .2))
 
-  pub isOpened-says : (u : Boat) → isOpened u ≡ true → IsHonest S u
-  unfolding isOpened
-  isOpened-says u e = eqb-true (opening n (u .seat) round keys .number) 0 e
+  -- whether one of the calls writes the message
+  unfoldable pub wrote : List Called → Message → Bool
+  wrote cs m = wellFormed n m && (every (wellFormed n) (allMessages S cs) && found (λ x. same (render m) (render x)) (allMessages S cs))
+
+  wrote-says : (cs : List Called) (m : Message) → wrote cs m ≡ true → (c : Called) × List·Memᴰ c cs × StandsIn n m (writtenIn S c)
+  unfolding wrote
+  wrote-says cs m e =
+      let a = both-true (wellFormed n m) (every (wellFormed n) (allMessages S cs) && found (λ x. same (render m) (render x)) (allMessages S cs)) e in
+      let b = both-true (every (wellFormed n) (allMessages S cs)) (found (λ x. same (render m) (render x)) (allMessages S cs)) (a .1) in
+      let g = found-one (λ x. same (render m) (render x)) (allMessages S cs) (b .1) in
+      let x = g .0 in
+      let formed = wellFormed-says n x (every-each (wellFormed n) (allMessages S cs) (b .0) x (g .1)) in
+      let is : m ≡ x = sym (read-render n m (wellFormed-says n m (a .0))) ∙ ap (read n) (same-true (render m) (render x) (g .2)) ∙ read-render n x formed in
+      calls-stand cs (b .0) m (subst (λ y. List·Memᴰ y (allMessages S cs)) (sym is) (g .1))
+
+  -- "before it sends anything": the calls whose messages may be sent
+  abbrev sendable : Moment → List Called
+  sendable m = m .noted
+
+  -- whether an honest unit's host does this at a moment
+  unfoldable pub allowed : Moment → Event → Bool
+  allowed m (Makes c) = true
+  allowed m (Keeps out) = eqb (writeNote (m .unit) out .refusal) 0
+  allowed m (Sends message) = wrote (sendable m) message
+  allowed m (ComesBack saved) = isNewest saved (m .kept)
+  allowed m (OpensAgain store) = keepsNone (m .kept)
+
+  allowed-says : (m : Moment) (e : Event) → allowed m e ≡ true → Allowed S m e
+  unfolding allowed
+  allowed-says m (Makes c) e = tt
+  allowed-says m (Keeps out) e = eqb-true (writeNote (m .unit) out .refusal) 0 e
+  allowed-says m (Sends message) e = wrote-says (sendable m) message e
+  allowed-says m (ComesBack saved) e = newest-says saved (m .kept) e
+  allowed-says m (OpensAgain store) e = none-says (m .kept) e
+
+  unfoldable pub allowedAll : ℕ → Moment → List Event → Bool
+  allowedAll seat m [] = true
+  allowedAll seat m (e ∷ es) = allowed m e && allowedAll seat (after S seat m e) es
+
+  allowedAll-says : (seat : ℕ) (m : Moment) (es : List Event) → allowedAll seat m es ≡ true → AllowedAll S seat m es
+  unfolding allowedAll AllowedAll
+  allowedAll-says seat m [] h = tt
+  allowedAll-says seat m (e ∷ es) h =
+      let both = both-true (allowed m e) (allowedAll seat (after S seat m e) es) h in
+      (allowed-says m e (both .0), allowedAll-says seat (after S seat m e) es (both .1))
+
+  unfoldable pub isHonest : Boat → Bool
+  isHonest u = eqb (opening n (u .seat) round keys .number) 0 && allowedAll (u .seat) (begins S u) (u .events)
+
+  pub isHonest-says : (u : Boat) → isHonest u ≡ true → IsHonest S u
+  unfolding isHonest
+  isHonest-says u e =
+      let both = both-true (eqb (opening n (u .seat) round keys .number) 0) (allowedAll (u .seat) (begins S u) (u .events)) e in
+      record { opened = eqb-true (opening n (u .seat) round keys .number) 0 (both .0); allowed = allowedAll-says (u .seat) (begins S u) (u .events) (both .1) }
 
   -- the messages that a unit's list writes
   unfoldable pub all : Boat → List Message
   all u = allMessages S (listOf S u)
 
-  unfoldable pub formed : Boat → Bool
-  formed u = every (wellFormed n) (all u)
+  -- The tests take a unit's list, or its messages, so that a run computes them once.
+  unfoldable pub formed : List Message → Bool
+  formed ms = every (wellFormed n) ms
 
-  unfoldable pub submits : Boat → List ℕ → Bool
-  submits u layout = found (λ (c : Called). isSubmitOf layout (c .given) && eqb (resultOf S c .refusal) 0) (listOf S u)
+  unfoldable pub submits : List Called → List ℕ → Bool
+  submits cs layout = found (λ (c : Called). isSubmitOf layout (c .given) && eqb (resultOf S c .refusal) 0) cs
 
-  pub submits-says : (u : Boat) (layout : List ℕ) → submits u layout ≡ true → Submits S u layout
+  pub submits-says : (u : Boat) (layout : List ℕ) → submits (listOf S u) layout ≡ true → Submits S u layout
   unfolding submits
   submits-says u layout e =
       let f = found-one (λ (c : Called). isSubmitOf layout (c .given) && eqb (resultOf S c .refusal) 0) (listOf S u) e in
@@ -231,11 +339,11 @@ module _ (S : Setting) where
   abbrev outAsked : ℕ
   outAsked = outLength n
 
-  unfoldable pub reached : Boat → List ℕ → Bool
-  reached u bytes =
-      found (λ (c : Called). isStepOf bytes (c .given) && (leb storeAsked (length (c .store)) && leb outAsked (length (outOf (c .given))))) (listOf S u)
+  unfoldable pub reached : List Called → List ℕ → Bool
+  reached cs bytes =
+      found (λ (c : Called). isStepOf bytes (c .given) && (leb storeAsked (length (c .store)) && leb outAsked (length (outOf (c .given))))) cs
 
-  reached-says : (u : Boat) (bytes : List ℕ) → reached u bytes ≡ true → Reached S u bytes
+  reached-says : (u : Boat) (bytes : List ℕ) → reached (listOf S u) bytes ≡ true → Reached S u bytes
   unfolding reached
   reached-says u bytes e =
       let f = found-one (λ (c : Called). isStepOf bytes (c .given) && (leb storeAsked (length (c .store)) && leb outAsked (length (outOf (c .given))))) (listOf S u) e in
@@ -248,15 +356,15 @@ module _ (S : Setting) where
         outRoom = leb-true outAsked (length (outOf (c .given))) (b .1);
       }
 
-  unfoldable pub confirms : Boat → List ℕ → Bool
-  confirms u layout = found (isNoticeOf layout) (all u)
+  unfoldable pub confirms : List Message → List ℕ → Bool
+  confirms ms layout = found (isNoticeOf layout) ms
 
   -- "the notice and full certificate of each"
   unfoldable pub mustReach : Message → Bool
   mustReach m = isNotice m || isFull m
 
-  unfoldable pub haveReached : Boat → Boat → Bool
-  haveReached u other = every (λ (m : Message). not (mustReach m) || reached other (render m)) (all u)
+  unfoldable pub haveReached : List Message → List Called → Bool
+  haveReached ms cs = every (λ (m : Message). not (mustReach m) || reached cs (render m)) ms
 
   -- "at least t0 + 1 seats"
   abbrev seatsOwed : ℕ
@@ -267,23 +375,23 @@ module _ (S : Setting) where
       let answer = evidenceCheck checks n round keys (render m) in
       isEvidence m && (eqb (answer .number) 0 && leb seatsOwed (size (answer .mask)))
 
-  unfoldable pub blames : Boat → Bool
-  blames u = found blamesIn (all u)
+  unfoldable pub blames : List Message → Bool
+  blames ms = found blamesIn ms
 
-  unfoldable pub accuses : Boat → ℕ → Bool
-  accuses u seat = found (isEvidenceOn seat) (all u)
+  unfoldable pub accuses : List Message → ℕ → Bool
+  accuses ms seat = found (isEvidenceOn seat) ms
 
   -- a unit whose messages are all well-formed: its list writes these messages
-  module _ (u : Boat) (f : formed u ≡ true) where
+  module _ (u : Boat) (f : formed (all u) ≡ true) where
     all-formed : Each (WellFormed n) (all u)
     unfolding formed
     all-formed m d = wellFormed-says n m (every-each (wellFormed n) (all u) f m d)
 
-    member-writes : (m : Message) → List·Memᴰ m (all u) → Writes S u m
-    unfolding all
+    pub member-writes : (m : Message) → List·Memᴰ m (all u) → Writes S u m
+    unfolding all formed
     member-writes m d =
-        let h = member-all S (listOf S u) m d in
-        record { call = h .0; inList = h .1; stands = (messages S (h .0), (λ x e. all-formed x (all-member S (listOf S u) (h .0) x (h .1) e), written-is S (h .0)), h .2) }
+        let h = calls-stand (listOf S u) f m d in
+        record { call = h .0; inList = h .1; stands = h .2 }
 
     writes-member : (m : Message) → Writes S u m → List·Memᴰ m (all u)
     unfolding all
@@ -298,24 +406,24 @@ module _ (S : Setting) where
     unfolding all
     all-are = list-are S n (listOf S u) (λ c d. (λ m e. all-formed m (all-member S (listOf S u) c m d e), written-is S c))
 
-    pub confirms-says : (layout : List ℕ) → confirms u layout ≡ true → Confirms S u layout
+    pub confirms-says : (layout : List ℕ) → confirms (all u) layout ≡ true → Confirms S u layout
     unfolding confirms
     confirms-says layout e =
         let g = found-one (isNoticeOf layout) (all u) e in
         let s = notice-of layout (g .0) (g .2) in
         (s .0, s .1, member-writes (Notice (s .0) (s .1) layout) (subst (λ m. List·Memᴰ m (all u)) (s .2) (g .1)))
 
-    pub haveReached-says : (other : Boat) → haveReached u other ≡ true → HaveReached S u other
+    pub haveReached-says : (other : Boat) → haveReached (all u) (listOf S other) ≡ true → HaveReached S u other
     unfolding haveReached mustReach isNotice isFull
     haveReached-says other e =
-        let each = every-each (λ (m : Message). not (mustReach m) || reached other (render m)) (all u) e in
+        let each = every-each (λ (m : Message). not (mustReach m) || reached (listOf S other) (render m)) (all u) e in
         record {
           notice = λ ρ seat layout w. reached-says other (render (Notice ρ seat layout)) (each (Notice ρ seat layout) (writes-member (Notice ρ seat layout) w));
           full = λ ρ sender layout es w. reached-says other (render (Full ρ sender layout es)) (each (Full ρ sender layout es) (writes-member (Full ρ sender layout es) w));
         }
 
     -- a unit that fails the test has written no evidence that is accepted and names enough seats
-    pub blames-not : blames u ≡ false → Blames S u → ⊥
+    pub blames-not : blames (all u) ≡ false → Blames S u → ⊥
     unfolding blames blamesIn
     blames-not e b =
         let m = b .written .message in
@@ -326,7 +434,7 @@ module _ (S : Setting) where
         let enough : leb seatsOwed (size (answer .mask)) ≡ true = le-leb seatsOwed (size (answer .mask)) (subst (λ s. seatsOwed ≤ size s) (sym mask) (b .enough)) in
         true≢false (sym (rw (b .written .kind, eq-eqb (answer .number) 0 number, enough)) ∙ found-none blamesIn (all u) e m d)
 
-    pub accuses-says : (seat : ℕ) → accuses u seat ≡ true → (evidence : List ℕ) × WritesEvidence S u evidence × Names S evidence seat
+    pub accuses-says : (seat : ℕ) → accuses (all u) seat ≡ true → (evidence : List ℕ) × WritesEvidence S u evidence × Names S evidence seat
     unfolding accuses isEvidenceOn
     accuses-says seat e =
         let g = found-one (isEvidenceOn seat) (all u) e in

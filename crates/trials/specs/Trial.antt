@@ -2,25 +2,26 @@
 -- conclusion doesn't.
 -- Assumes nothing.
 use Prim.Native.Nat.{ℕ}
-use mathlib.Core.Path.{_≡_, refl, sym, ap, subst, _∙_}
+use mathlib.Core.Path.{_≡_, refl, sym, ap, subst, fun-ext, _∙_}
 use mathlib.Core.Bool.{Bool, true, false, not, _&&_, _||_, true≢false}
-use mathlib.Core.List.{List, List·Memᴰ}
+use mathlib.Core.List.{List, [], _∷_, List·Memᴰ}
 use mathlib.Core.Logic.{inl, ⊎-elim, _≢_}
 use lib.Dec.{eqb, leb}
 use borrow.Author.Tests.{eqb-true, eqb-false, eq-eqb, le-leb, not-true, not-false}
 use Rattle.octets.specs.Strings.{same}
 use Rattle.octets.specs.StringsLaws.{same-refl}
-use Rattle.refusal.specs.RefusalLaws.{both-true}
-use Rattle.protocol.specs.Message.{Signed, read, signed, entrySeats}
+use Rattle.refusal.specs.RefusalLaws.{both-true, both-false}
+use Rattle.protocol.specs.Message.{Message, Signed, render, read, signed, entrySeats}
 use Rattle.protocol.specs.Record.{impossible}
 use Rattle.protocol.specs.Refusals.{every}
 use Rattle.protocol.specs.Calls.{evidenceCheck}
 use Rattle.round.specs.Round.{Setting, InHand, Boat, Called, IsHonest, Family, resultOf, listOf, StepGiven, MadeFrom, Delivered, AcceptedFrom, Names}
-use Rattle.round.specs.Demand1.{Kind, SUBMIT, NOTICE, FULL, EVIDENCE, isOf, count, AtMostOne}
+use Rattle.round.specs.Demand1.{Kind, SUBMIT, NOTICE, FULL, EVIDENCE, isOf, count, AtMostOne, SendsOne}
 use Rattle.round.specs.Demand3.{NoneForged, NoneBlamed, ReachedOthers, Demand3}
 use Rattle.protocol.specs.ConditionsLaws.{every-each}
 use Rattle.reading.specs.ListsLaws.{or-true-either}
-use Rattle.trials.specs.Tests.{found, found-one, every-false, found-seat, signedIn, given-signed, signed-given, sameSigned, same-signed, isOpened, isOpened-says, all, formed, submits, submits-says, confirms, confirms-says, haveReached, haveReached-says, blames, blames-not, accuses, accuses-says, all-are}
+use Rattle.reading.specs.Messages.{allMessages}
+use Rattle.trials.specs.Tests.{found, found-one, every-false, found-seat, signedIn, given-signed, signed-given, sameSigned, same-signed, sentIn, sentIn-says, isHonest, isHonest-says, all, formed, submits, submits-says, confirms, confirms-says, haveReached, haveReached-says, blames, blames-not, accuses, accuses-says, all-are}
 
 pub record Trial {ℓ} (claim : Type ℓ) : Type ℓ where
   pub premises : Bool
@@ -48,12 +49,36 @@ module _ (S : Setting) (u : Boat) where
   -- at most one message of each kind
   unfoldable pub onceEach : Trial (IsHonest S u → AtMostOne S u)
   onceEach = record {
-    premises = isOpened S u && formed S u;
+    premises = isHonest S u && formed S (all S u);
     conclusion = once SUBMIT && (once NOTICE && (once FULL && once EVIDENCE));
     refutes = λ p c claim.
-        let both = both-true (isOpened S u) (formed S u) p in
-        let one : (κ : Kind) → once κ ≡ true = λ κ. le-leb (count (isOf κ) (all S u)) 1 (claim (isOpened-says S u (both .0)) (all S u) (all-are S u (both .1)) κ) in
+        let both = both-true (isHonest S u) (formed S (all S u)) p in
+        let one : (κ : Kind) → once κ ≡ true = λ κ. le-leb (count (isOf κ) (all S u)) 1 (claim (isHonest-says S u (both .0)) (all S u) (all-are S u (both .1)) κ) in
         true≢false (sym (rw (one SUBMIT, one NOTICE, one FULL, one EVIDENCE)) ∙ c);
+  }
+
+  -- whether a message sent is another one again, where both are of one kind
+  abbrev pub ofOneKind : Message → Message → Bool
+  ofOneKind m x = found (λ κ. isOf κ m && isOf κ x) (SUBMIT ∷ NOTICE ∷ FULL ∷ EVIDENCE ∷ [])
+
+  abbrev pub again : Message → Message → Bool
+  again m x = not (ofOneKind m x) || same (render m) (render x)
+
+  unfoldable pub sendsOne : Trial (IsHonest S u → SendsOne u)
+  sendsOne = record {
+    premises = isHonest S u;
+    conclusion = every (λ m. every (again m) (sentIn (u .events))) (sentIn (u .events));
+    refutes = λ p c claim.
+        let sent = sentIn (u .events) in
+        let f = every-false (λ m. every (again m) sent) sent c in
+        let m = f .0 in
+        let g = every-false (again m) sent (f .2) in
+        let x = g .0 in
+        let differ = both-false (not (ofOneKind m x)) (same (render m) (render x)) (g .2) in
+        let κ = found-one (λ κ. isOf κ m && isOf κ x) (SUBMIT ∷ NOTICE ∷ FULL ∷ EVIDENCE ∷ []) (not-false (ofOneKind m x) (differ .0)) in
+        let kind = both-true (isOf (κ .0) m) (isOf (κ .0) x) (κ .2) in
+        let is : m ≡ x = claim (isHonest-says S u p) (κ .0) m x (kind .0) (kind .1) (sentIn-says (u .events) m (f .1)) (sentIn-says (u .events) x (g .1)) in
+        true≢false (sym (same-refl (render m)) ∙ ap (λ y. same (render m) (render y)) is ∙ differ .1);
   }
 
   -- whether the record that comes out of a call is possible
@@ -62,22 +87,29 @@ module _ (S : Setting) (u : Boat) where
 
   unfoldable pub possibleEach : Trial (IsHonest S u → (c : Called) → List·Memᴰ c (listOf S u) → impossible (resultOf S c .unit) ≡ false)
   possibleEach = record {
-    premises = isOpened S u;
+    premises = isHonest S u;
     conclusion = every possible (listOf S u);
     refutes = λ p c claim.
         let f = every-false possible (listOf S u) c in
-        true≢false (sym (not-false (impossible (resultOf S (f .0) .unit)) (f .2)) ∙ claim (isOpened-says S u p) (f .0) (f .1));
+        true≢false (sym (not-false (impossible (resultOf S (f .0) .unit)) (f .2)) ∙ claim (isHonest-says S u p) (f .0) (f .1));
   }
 
 -- ---- demand 3: some boats
 
--- all boats, each with a number of its own
-pub record Crew (I : Type 0) : Type 0 where
+-- what boats have done: the calls that count, and the messages that they write
+pub record Done (I : Type 0) : Type 0 where
+  pub calls : I → List Called
+  pub messages : I → List Message
+
+-- all boats, each with a number of its own; and a function of the boats with each of its values computed once
+pub record Crew (I : Type 0) : Type 1 where
   pub everyone : List I
   pub complete : (i : I) → List·Memᴰ i everyone
   pub place : I → ℕ
   pub at : ℕ → I
   pub at-place : (i : I) → at (place i) ≡ i
+  pub shared : {A : Type 0} → (I → A) → I → A
+  pub shared-same : {A : Type 0} (f : I → A) (i : I) → shared f i ≡ f i
 
 module _ (S : Setting) {I : Type 0} (crew : Crew I) (boat : I → Boat) where
   open Setting S using (n, round, keys, checks)
@@ -97,70 +129,99 @@ module _ (S : Setting) {I : Type 0} (crew : Crew I) (boat : I → Boat) where
   abbrev pub someone : (I → Bool) → Bool
   someone test = found test (crew .everyone)
 
-  -- openings that aren't refused, each boat in its own seat, and well-formed messages written
+  -- what the boats have done, and the same, computed once
+  abbrev done : Done I
+  done = record { calls = λ i. listOf S (boat i); messages = λ i. all S (boat i) }
+
+  unfoldable pub computed : Done I
+  computed =
+      let calls : I → List Called = crew .shared (λ i. listOf S (boat i)) in
+      record { calls = calls; messages = crew .shared (λ i. allMessages S (calls i)) }
+
+  pub computed-same : computed ≡ done
+  unfolding computed all
+  computed-same =
+      let calls : crew .shared (λ i. listOf S (boat i)) ≡ (λ i. listOf S (boat i)) = fun-ext (crew .shared-same (λ i. listOf S (boat i))) in
+      ap (λ (c : I → List Called). record { calls = c; messages = crew .shared (λ i. allMessages S (c i)) }) calls
+      ∙ ap (λ (m : I → List Message). record { calls = λ i. listOf S (boat i); messages = m }) (fun-ext (crew .shared-same (λ i. allMessages S (listOf S (boat i)))))
+
+  -- a trial by tests of what the boats have done
+  abbrev trialBy {ℓ} : {claim : Type ℓ} (premises conclusion : Done I → Bool) → (premises done ≡ true → conclusion done ≡ false → claim → ⊥) → Trial claim
+  trialBy premises conclusion refutes =
+      let d : Done I = computed in
+      record {
+        premises = premises d;
+        conclusion = conclusion d;
+        refutes = λ p c. refutes (subst (λ (x : Done I). premises x ≡ true) computed-same p) (subst (λ (x : Done I). conclusion x ≡ false) computed-same c);
+      }
+
+  -- honest boats, each in its own seat, and well-formed messages written
   abbrev pub apart : I → I → Bool
   apart i j = alike i j || not (eqb (boat i .seat) (boat j .seat))
 
-  abbrev pub family : Bool
-  family = each (λ i. isOpened S (boat i)) && (each (λ i. each (apart i)) && each (λ i. formed S (boat i)))
+  abbrev pub family : Done I → Bool
+  family d = each (λ i. isHonest S (boat i)) && (each (λ i. each (apart i)) && each (λ i. formed S (d .messages i)))
 
-  pub family-says : family ≡ true → Family S boat × ((i : I) → formed S (boat i) ≡ true)
+  pub family-says : family done ≡ true → Family S boat × ((i : I) → formed S (all S (boat i)) ≡ true)
   family-says e =
-      let a = both-true (each (λ i. isOpened S (boat i))) (each (λ i. each (apart i)) && each (λ i. formed S (boat i))) e in
-      let b = both-true (each (λ i. each (apart i))) (each (λ i. formed S (boat i))) (a .1) in (
+      let a = both-true (each (λ i. isHonest S (boat i))) (each (λ i. each (apart i)) && each (λ i. formed S (all S (boat i)))) e in
+      let b = both-true (each (λ i. each (apart i))) (each (λ i. formed S (all S (boat i)))) (a .1) in (
         record {
-          opened = λ i. isOpened-says S (boat i) (each-says (λ l. isOpened S (boat l)) (a .0) i);
+          honest = λ i. isHonest-says S (boat i) (each-says (λ l. isHonest S (boat l)) (a .0) i);
           apart = λ i j other same.
               ⊎-elim (λ q. other (alike-same i j q)) (λ q. eqb-false (boat i .seat) (boat j .seat) (not-true (eqb (boat i .seat) (boat j .seat)) q) same)
               (or-true-either (alike i j) (not (eqb (boat i .seat) (boat j .seat))) (each-says (apart i) (each-says (λ l. each (apart l)) (b .0) i) j));
         },
-        each-says (λ i. formed S (boat i)) (b .1),
+        each-says (λ i. formed S (all S (boat i))) (b .1),
       )
 
   -- ---- accountability
 
-  abbrev pub reachedOthers : I → Bool
-  reachedOthers i = each (λ l. alike l i || haveReached S (boat i) (boat l))
+  abbrev pub reachedOthers : Done I → I → Bool
+  reachedOthers d i = each (λ l. alike l i || haveReached S (d .messages i) (d .calls l))
 
-  pub reachedOthers-says : (i : I) → formed S (boat i) ≡ true → reachedOthers i ≡ true → ReachedOthers S boat i
+  pub reachedOthers-says : (i : I) → formed S (all S (boat i)) ≡ true → reachedOthers done i ≡ true → ReachedOthers S boat i
   reachedOthers-says i f e l other =
+      let reached : I → Bool = λ x. haveReached S (all S (boat i)) (listOf S (boat x)) in
       ⊎-elim (λ q. absurd (other (alike-same l i q))) (λ q. haveReached-says S (boat i) f (boat l) q)
-      (or-true-either (alike l i) (haveReached S (boat i) (boat l)) (each-says (λ x. alike x i || haveReached S (boat i) (boat x)) e l))
+      (or-true-either (alike l i) (reached l) (each-says (λ x. alike x i || reached x) e l))
 
   -- whether every boat blames, where two boats confirm two layouts
   unfoldable pub accountability : I → I → List ℕ → List ℕ → Trial (Family S boat → Demand3 S boat)
-  accountability i j a b = record {
-    premises = family && (not (same a b) && (confirms S (boat i) a && (confirms S (boat j) b && (reachedOthers i && reachedOthers j))));
-    conclusion = each (λ l. blames S (boat l));
-    refutes = λ p c claim.
-        let q = both-true family (not (same a b) && (confirms S (boat i) a && (confirms S (boat j) b && (reachedOthers i && reachedOthers j)))) p in
-        let r = both-true (not (same a b)) (confirms S (boat i) a && (confirms S (boat j) b && (reachedOthers i && reachedOthers j))) (q .1) in
-        let s = both-true (confirms S (boat i) a) (confirms S (boat j) b && (reachedOthers i && reachedOthers j)) (r .1) in
-        let t = both-true (confirms S (boat j) b) (reachedOthers i && reachedOthers j) (s .1) in
-        let u = both-true (reachedOthers i) (reachedOthers j) (t .1) in
-        let known = family-says (q .0) in
-        let formed = known .1 in
-        let different : a ≢ b = λ e. true≢false (sym (subst (λ x. same a x ≡ true) e (same-refl a)) ∙ not-true (same a b) (r .0)) in
-        let l = every-false (λ l. blames S (boat l)) (crew .everyone) c in
-        blames-not S (boat (l .0)) (formed (l .0)) (l .2)
-        (claim (known .0) .accountability i j a b different (confirms-says S (boat i) (formed i) a (s .0)) (confirms-says S (boat j) (formed j) b (t .0))
-        (reachedOthers-says i (formed i) (u .0)) (reachedOthers-says j (formed j) (u .1)) (l .0));
-  }
+  accountability i j a b =
+      trialBy
+      (λ d. family d && (not (same a b) && (confirms S (d .messages i) a && (confirms S (d .messages j) b && (reachedOthers d i && reachedOthers d j)))))
+      (λ d. each (λ l. blames S (d .messages l)))
+      (λ p c claim.
+      let mine = confirms S (all S (boat i)) a in
+      let other = confirms S (all S (boat j)) b in
+      let q = both-true (family done) (not (same a b) && (mine && (other && (reachedOthers done i && reachedOthers done j)))) p in
+      let r = both-true (not (same a b)) (mine && (other && (reachedOthers done i && reachedOthers done j))) (q .1) in
+      let s = both-true mine (other && (reachedOthers done i && reachedOthers done j)) (r .1) in
+      let t = both-true other (reachedOthers done i && reachedOthers done j) (s .1) in
+      let u = both-true (reachedOthers done i) (reachedOthers done j) (t .1) in
+      let known = family-says (q .0) in
+      let formed = known .1 in
+      let different : a ≢ b = λ e. true≢false (sym (subst (λ x. same a x ≡ true) e (same-refl a)) ∙ not-true (same a b) (r .0)) in
+      let l = every-false (λ l. blames S (all S (boat l))) (crew .everyone) c in
+      blames-not S (boat (l .0)) (formed (l .0)) (l .2)
+      (claim (known .0) .accountability i j a b different (confirms-says S (boat i) (formed i) a (s .0)) (confirms-says S (boat j) (formed j) b (t .0))
+      (reachedOthers-says i (formed i) (u .0)) (reachedOthers-says j (formed j) (u .1)) (l .0)))
 
   -- ---- safety
 
   -- whether a signature isn't forged: of another seat than the boat's, or over a layout that it submitted, or one that doesn't check
-  abbrev pub genuine : I → Signed → Bool
-  genuine i s = not (eqb (s .seat) (boat i .seat)) || (submits S (boat i) (s .value) || not (checks (s .seat) (s .value) (s .signature)))
+  abbrev pub genuine : Done I → I → Signed → Bool
+  genuine d i s = not (eqb (s .seat) (boat i .seat)) || (submits S (d .calls i) (s .value) || not (checks (s .seat) (s .value) (s .signature)))
 
-  abbrev pub noneForged : Bool
-  noneForged = each (λ i. each (λ j. every (λ (c : Called). every (genuine i) (signedIn n (c .given))) (listOf S (boat j))))
+  abbrev pub noneForged : Done I → Bool
+  noneForged d = each (λ i. each (λ j. every (λ (c : Called). every (genuine d i) (signedIn n (c .given))) (d .calls j)))
 
   -- whether no boat has certificates in hand
   abbrev pub noneInHand : Bool
   noneInHand = each (λ i. every (λ (h : InHand). false) (boat i .inHand))
 
-  pub noneForged-says : noneForged ≡ true → noneInHand ≡ true → NoneForged S boat (Delivered S boat)
+  pub noneForged-says : noneForged done ≡ true → noneInHand ≡ true → NoneForged S boat (Delivered S boat)
   noneForged-says e empty i layout signature d never = ⊎-elim stepped made (d .given)
     where
       s : Signed
@@ -169,22 +230,24 @@ module _ (S : Setting) {I : Type 0} (crew : Crew I) (boat : I → Boat) where
       stepped : StepGiven S (boat (d .to)) (d .bytes) → checks (boat i .seat) layout signature ≡ false
       stepped g =
           let c = g .call in
-          let mine = each-says (λ j. every (λ (x : Called). every (genuine i) (signedIn n (x .given))) (listOf S (boat j))) (each-says (λ l. each (λ j. every (λ (x : Called). every (genuine l) (signedIn n (x .given))) (listOf S (boat j)))) e i) (d .to) in
-          let here = every-each (λ (x : Called). every (genuine i) (signedIn n (x .given))) (listOf S (boat (d .to))) mine c (g .inList) in
+          let all : I → Called → Bool = λ l x. every (genuine done l) (signedIn n (x .given)) in
+          let mine = each-says (λ j. every (all i) (listOf S (boat j))) (each-says (λ l. each (λ j. every (all l) (listOf S (boat j)))) e i) (d .to) in
+          let here = every-each (all i) (listOf S (boat (d .to))) mine c (g .inList) in
           let m : List·Memᴰ s (signedIn n (c .given)) = subst (λ l. List·Memᴰ s l) (sym (given-signed n (c .given) (d .bytes) (g .out) (g .isStep))) (d .stands) in
-          let test = every-each (genuine i) (signedIn n (c .given)) here s m in
+          let test = every-each (genuine done i) (signedIn n (c .given)) here s m in
+          let said = submits S (listOf S (boat i)) layout in
           ⊎-elim (λ q. absurd (true≢false (sym (eq-eqb (boat i .seat) (boat i .seat) refl) ∙ not-true (eqb (boat i .seat) (boat i .seat)) q)))
-          (λ q. ⊎-elim (λ p. absurd (never (submits-says S (boat i) layout p))) (λ p. not-true (checks (boat i .seat) layout signature) p) (or-true-either (submits S (boat i) layout) (not (checks (boat i .seat) layout signature)) q))
-          (or-true-either (not (eqb (boat i .seat) (boat i .seat))) (submits S (boat i) layout || not (checks (boat i .seat) layout signature)) test)
+          (λ q. ⊎-elim (λ p. absurd (never (submits-says S (boat i) layout p))) (λ p. not-true (checks (boat i .seat) layout signature) p) (or-true-either said (not (checks (boat i .seat) layout signature)) q))
+          (or-true-either (not (eqb (boat i .seat) (boat i .seat))) (said || not (checks (boat i .seat) layout signature)) test)
 
       made : MadeFrom S (boat (d .to)) (d .bytes) → checks (boat i .seat) layout signature ≡ false
       made h = absurd (true≢false (sym (every-each (λ (x : InHand). false) (boat (d .to) .inHand) (each-says (λ l. every (λ (x : InHand). false) (boat l .inHand)) empty (d .to)) (h .hand) (h .has))))
 
   -- whether a signature is in the message of a step in a list
-  abbrev pub delivered : Signed → Bool
-  delivered s = someone (λ i. found (λ (c : Called). found (sameSigned s) (signedIn n (c .given))) (listOf S (boat i)))
+  abbrev pub delivered : Done I → Signed → Bool
+  delivered d s = someone (λ i. found (λ (c : Called). found (sameSigned s) (signedIn n (c .given))) (d .calls i))
 
-  delivered-says : (s : Signed) → delivered s ≡ true → Delivered S boat (s .seat) (s .value) (s .signature)
+  delivered-says : (s : Signed) → delivered done s ≡ true → Delivered S boat (s .seat) (s .value) (s .signature)
   delivered-says s e =
       let i = found-one (λ i. found (λ (c : Called). found (sameSigned s) (signedIn n (c .given))) (listOf S (boat i))) (crew .everyone) e in
       let c = found-one (λ (c : Called). found (sameSigned s) (signedIn n (c .given))) (listOf S (boat (i .0))) (i .2) in
@@ -193,40 +256,39 @@ module _ (S : Setting) {I : Type 0} (crew : Crew I) (boat : I → Boat) where
       record { to = i .0; bytes = g .0; given = inl (record { call = c .0; inList = c .1; out = g .1; isStep = g .2 }); stands = g .3 }
 
   -- whether evidence is accepted from delivered signatures and names the boat's seat
-  abbrev pub framed : I → List ℕ → Bool
-  framed i evidence =
+  abbrev pub framed : Done I → I → List ℕ → Bool
+  framed d i evidence =
       eqb (evidenceCheck checks n round keys evidence .number) 0
-      && (every delivered (signed (read n evidence)) && found (eqb (boat i .seat)) (entrySeats (read n evidence)))
+      && (every (delivered d) (signed (read n evidence)) && found (eqb (boat i .seat)) (entrySeats (read n evidence)))
 
-  pub framed-says : (i : I) (evidence : List ℕ) → framed i evidence ≡ true → AcceptedFrom S (Delivered S boat) evidence × Names S evidence (boat i .seat)
+  pub framed-says : (i : I) (evidence : List ℕ) → framed done i evidence ≡ true → AcceptedFrom S (Delivered S boat) evidence × Names S evidence (boat i .seat)
   framed-says i evidence e =
       let m = read n evidence in
       let number = evidenceCheck checks n round keys evidence .number in
-      let a = both-true (eqb number 0) (every delivered (signed m) && found (eqb (boat i .seat)) (entrySeats m)) e in
-      let b = both-true (every delivered (signed m)) (found (eqb (boat i .seat)) (entrySeats m)) (a .1) in
-      ((eqb-true number 0 (a .0), λ s d. delivered-says s (every-each delivered (signed m) (b .0) s d)), found-seat (boat i .seat) (entrySeats m) (b .1))
+      let a = both-true (eqb number 0) (every (delivered done) (signed m) && found (eqb (boat i .seat)) (entrySeats m)) e in
+      let b = both-true (every (delivered done) (signed m)) (found (eqb (boat i .seat)) (entrySeats m)) (a .1) in
+      ((eqb-true number 0 (a .0), λ s d. delivered-says s (every-each (delivered done) (signed m) (b .0) s d)), found-seat (boat i .seat) (entrySeats m) (b .1))
 
   -- whether no boat's seat is in evidence that a boat writes, or in one of these that is accepted from delivered signatures, where no
   -- signature is forged
   unfoldable pub safety : List (List ℕ) → Trial (Family S boat → Demand3 S boat)
-  safety tried = record {
-    premises = family && (noneForged && noneInHand);
-    conclusion = each (λ i. not (someone (λ j. accuses S (boat j) (boat i .seat)) || found (framed i) tried));
-    refutes = λ p c claim.
-        let a = both-true family (noneForged && noneInHand) p in
-        let b = both-true noneForged noneInHand (a .1) in
-        let known = family-says (a .0) in
-        let none : NoneBlamed S boat (Delivered S boat) = claim (known .0) .safety (noneForged-says (b .0) (b .1)) in
-        let l = every-false (λ i. not (someone (λ j. accuses S (boat j) (boat i .seat)) || found (framed i) tried)) (crew .everyone) c in
-        let i = l .0 in
-        ⊎-elim
-        (λ q.
-        let j = found-one (λ j. accuses S (boat j) (boat i .seat)) (crew .everyone) q in
-        let w = accuses-says S (boat (j .0)) (known .1 (j .0)) (boat i .seat) (j .2) in
-        none .written i (j .0) (w .0) (w .1) (w .2))
-        (λ q.
-        let e = found-one (framed i) tried q in
-        let w = framed-says i (e .0) (e .2) in
-        none .accepted i (e .0) (w .0) (w .1))
-        (or-true-either (someone (λ j. accuses S (boat j) (boat i .seat))) (found (framed i) tried) (not-false (someone (λ j. accuses S (boat j) (boat i .seat)) || found (framed i) tried) (l .2)));
-  }
+  safety tried =
+      trialBy (λ d. family d && (noneForged d && noneInHand)) (λ d. each (λ i. not (someone (λ j. accuses S (d .messages j) (boat i .seat)) || found (framed d i) tried)))
+      (λ p c claim.
+      let accused : I → Bool = λ i. someone (λ j. accuses S (all S (boat j)) (boat i .seat)) in
+      let a = both-true (family done) (noneForged done && noneInHand) p in
+      let b = both-true (noneForged done) noneInHand (a .1) in
+      let known = family-says (a .0) in
+      let none : NoneBlamed S boat (Delivered S boat) = claim (known .0) .safety (noneForged-says (b .0) (b .1)) in
+      let l = every-false (λ i. not (accused i || found (framed done i) tried)) (crew .everyone) c in
+      let i = l .0 in
+      ⊎-elim
+      (λ q.
+      let j = found-one (λ j. accuses S (all S (boat j)) (boat i .seat)) (crew .everyone) q in
+      let w = accuses-says S (boat (j .0)) (known .1 (j .0)) (boat i .seat) (j .2) in
+      none .written i (j .0) (w .0) (w .1) (w .2))
+      (λ q.
+      let e = found-one (framed done i) tried q in
+      let w = framed-says i (e .0) (e .2) in
+      none .accepted i (e .0) (w .0) (w .1))
+      (or-true-either (accused i) (found (framed done i) tried) (not-false (accused i || found (framed done i) tried) (l .2))))

@@ -1,22 +1,22 @@
--- Runs for trials of edited definitions: four seats, one to three boats with short lists of calls, and a toy signature check. A run
--- may give a boat the messages that another writes by the definitions, edited or not.
+-- Runs for trials of edited definitions: four seats, or two, one to three boats with short lists of calls and of power cuts, and a toy
+-- signature check. A run may give a boat the messages that another writes by the definitions, edited or not.
 -- Assumes nothing.
 use Prim.Native.Nat.{ℕ, zero, suc}
 use mathlib.Core.Path.{_≡_, refl}
 use mathlib.Core.Bool.{Bool, true, false, cond}
 use mathlib.Core.List.{List, [], _∷_, _++_, map, List·Memᴰ, List·Memᴰ·head, List·Memᴰ·tail}
 use lib.ListN.{replicate}
-use Rattle.protocol.specs.Layout.{storeLength, outLength}
+use Rattle.protocol.specs.Layout.{noteLength, storeLength, outLength}
 use Rattle.protocol.specs.Message.{Message, Submit, Notice, Full, Evidence, Garbled, render, byteAt}
-use Rattle.round.specs.Round.{Setting, Call, BySubmit, ByStep, Called, Boat, IsHonest, Family, outcome, resultOf, listFrom, listOf}
-use Rattle.round.specs.Demand1.{isSubmit, isNotice, worth, count, AtMostOne}
+use Rattle.round.specs.Round.{Setting, Call, BySubmit, ByStep, Called, Saved, Event, Makes, Keeps, Sends, ComesBack, OpensAgain, Boat, begins, after, afterAll, IsHonest, Family, outcome, resultOf, listOf}
+use Rattle.round.specs.Demand1.{isSubmit, isNotice, worth, count, AtMostOne, SendsOne}
 use Rattle.round.specs.Demand3.{Demand3}
 use Rattle.protocol.specs.Record.{impossible}
 use Rattle.protocol.specs.Refusals.{isFull}
 use Rattle.reading.specs.Messages.{refusalOf, cameTo, allMessages}
 use Rattle.trials.specs.Toy.{unfolded, toy, layout, sign, keys, submitBy, entryBy, fullBy}
-use Rattle.trials.specs.Tests.{found, entrySized, pairSized, wellFormed, isNoticeOf, isEvidenceOn, isStepOf, isSubmitOf, signedIn, sameSigned, isOpened, all, formed, submits, reached, confirms, mustReach, haveReached, blamesIn, blames, accuses}
-use Rattle.trials.specs.Trial.{Trial, onceEach, possibleEach, Crew, accountability, safety}
+use Rattle.trials.specs.Tests.{found, entrySized, pairSized, wellFormed, isNoticeOf, isEvidenceOn, isStepOf, isSubmitOf, signedIn, sameSigned, sentIn, sameSaved, isNewest, keepsNone, wrote, allowed, allowedAll, isHonest, all, formed, submits, reached, confirms, mustReach, haveReached, blamesIn, blames, accuses}
+use Rattle.trials.specs.Trial.{Trial, onceEach, sendsOne, possibleEach, Crew, computed, accountability, safety}
 
 -- ---- setting and calls of the runs
 
@@ -33,7 +33,14 @@ abbrev pub hears : Message → Call
 hears m = ByStep (render m) room
 
 abbrev pub boatAt : ℕ → List Call → Boat
-boatAt seat calls = record { seat = seat; store = replicate (storeLength 4) 1; calls = calls; inHand = [] }
+boatAt seat calls = record { seat = seat; store = replicate (storeLength 4) 1; events = map Makes calls; inHand = [] }
+
+-- a boat with more events, or calls, at the end
+abbrev pub does : Boat → List Event → Boat
+does u more = record { seat = u .seat; store = u .store; events = u .events ++ more; inHand = [] }
+
+abbrev pub then : Boat → List Call → Boat
+then u more = does u (map Makes more)
 
 -- the members of a list that pass a test
 unfoldable pub those {ℓ} : {A : Type ℓ} → (A → Bool) → List A → List A
@@ -70,8 +77,20 @@ pub two-at : (i : Bool) → atTwo (ofTwo 0 1 i) ≡ i
 two-at false = refl
 two-at true = refl
 
+pub two-shared : {A : Type 0} (f : Bool → A) (i : Bool) → ofTwo (f false) (f true) i ≡ f i
+two-shared f false = refl
+two-shared f true = refl
+
 unfoldable pub two : Crew Bool
-two = record { everyone = false ∷ true ∷ []; complete = two-complete; place = ofTwo 0 1; at = atTwo; at-place = two-at }
+two = record {
+  everyone = false ∷ true ∷ [];
+  complete = two-complete;
+  place = ofTwo 0 1;
+  at = atTwo;
+  at-place = two-at;
+  shared = λ f. ofTwo (f false) (f true);
+  shared-same = two-shared;
+}
 
 abbrev pub atThree : ℕ → Three
 atThree zero = Zeroth
@@ -88,8 +107,21 @@ three-at Zeroth = refl
 three-at First = refl
 three-at Second = refl
 
+pub three-shared : {A : Type 0} (f : Three → A) (i : Three) → ofThree (f Zeroth) (f First) (f Second) i ≡ f i
+three-shared f Zeroth = refl
+three-shared f First = refl
+three-shared f Second = refl
+
 unfoldable pub three : Crew Three
-three = record { everyone = Zeroth ∷ First ∷ Second ∷ []; complete = three-complete; place = ofThree 0 1 2; at = atThree; at-place = three-at }
+three = record {
+  everyone = Zeroth ∷ First ∷ Second ∷ [];
+  complete = three-complete;
+  place = ofThree 0 1 2;
+  at = atThree;
+  at-place = three-at;
+  shared = λ f. ofThree (f Zeroth) (f First) (f Second);
+  shared-same = three-shared;
+}
 
 -- ---- accountability: seats 2 and 3 sign twice, and seats 0 and 1 confirm different layouts
 
@@ -97,45 +129,41 @@ three = record { everyone = Zeroth ∷ First ∷ Second ∷ []; complete = three
 abbrev pub noticed : ℕ → ℕ → ℕ → ℕ → Boat
 noticed seat b other c = boatAt seat (hears (Notice 5 other (layout c)) ∷ says seat b ∷ hears (submitBy 2 b) ∷ hears (submitBy 3 b) ∷ [])
 
--- a boat with more calls at the end of its list
-abbrev pub then : Boat → List Call → Boat
-then u more = record { seat = u .seat; store = u .store; calls = u .calls ++ more; inHand = [] }
-
-abbrev pub seven : Boat
+unfoldable pub seven : Boat
 seven = noticed 0 7 1 9
 
-abbrev pub nine : Boat
+unfoldable pub nine : Boat
 nine = noticed 1 9 0 7
 
-abbrev pub divided : Bool → Boat
+unfoldable pub divided : Bool → Boat
 divided = ofTwo (then seven (map hears (sentBy nine))) (then nine (map hears (sentBy seven)))
 
 unfoldable pub dividedBoats : Trial (Family four divided → Demand3 four divided)
 dividedBoats = accountability four two divided false true (layout 7) (layout 9)
 
 -- each boat hears a NOTICE of the other's layout before it submits, and of the other's messages only the FULL
-abbrev pub forewarned : Bool → Boat
+unfoldable pub forewarned : Bool → Boat
 forewarned = ofTwo (then seven (map hears (those isFull (all four nine)))) (then nine (map hears (those isFull (all four seven))))
 
 unfoldable pub forewarnedBoats : Trial (Family four forewarned → Demand3 four forewarned)
 forewarnedBoats = accountability four two forewarned false true (layout 7) (layout 9)
 
 -- a third boat, which has submitted nothing, hears the NOTICE and FULL of both
-abbrev pub witnessed : Three → Boat
+unfoldable pub witnessed : Three → Boat
 witnessed = ofThree (divided false) (divided true) (boatAt 2 (map hears (sentBy seven ++ sentBy nine)))
 
 unfoldable pub witnessedBoats : Trial (Family four witnessed → Demand3 four witnessed)
 witnessedBoats = accountability four three witnessed Zeroth First (layout 7) (layout 9)
 
 -- a third boat's store is a byte short
-abbrev pub shortStored : Three → Boat
-shortStored = ofThree (divided false) (divided true) (record { seat = 2; store = replicate 17551 1; calls = map hears (sentBy seven ++ sentBy nine); inHand = [] })
+unfoldable pub shortStored : Three → Boat
+shortStored = ofThree (divided false) (divided true) (record { seat = 2; store = replicate 17551 1; events = map Makes (map hears (sentBy seven ++ sentBy nine)); inHand = [] })
 
 unfoldable pub shortStoredBoats : Trial (Family four shortStored → Demand3 four shortStored)
 shortStoredBoats = accountability four three shortStored Zeroth First (layout 7) (layout 9)
 
 -- one boat's out is a byte short for the other's NOTICE and FULL
-abbrev pub shortOuted : Bool → Boat
+unfoldable pub shortOuted : Bool → Boat
 shortOuted = ofTwo (divided false) (then nine (map (λ m. ByStep (render m) (replicate 14708 0)) (sentBy seven)))
 
 unfoldable pub shortOutedBoats : Trial (Family four shortOuted → Demand3 four shortOuted)
@@ -145,7 +173,7 @@ shortOutedBoats = accountability four two shortOuted false true (layout 7) (layo
 abbrev pub confirming : ℕ → ℕ → Boat
 confirming seat b = boatAt seat (says seat b ∷ hears (submitBy 2 b) ∷ hears (submitBy 3 b) ∷ [])
 
-abbrev pub unheard : Bool → Boat
+unfoldable pub unheard : Bool → Boat
 unheard = ofTwo (then (confirming 0 7) (map hears (those isFull (all four (confirming 1 9))))) (then (confirming 1 9) (map hears (those isFull (all four (confirming 0 7)))))
 
 unfoldable pub unheardBoats : Trial (Family four unheard → Demand3 four unheard)
@@ -154,7 +182,7 @@ unheardBoats = accountability four two unheard false true (layout 7) (layout 9)
 -- ---- safety: seat 0 submits the layout 7 and nobody forges
 
 -- seat 1 hears a certificate of the layout 7, then one of the layout 9 with a signature of seat 0 that doesn't check
-abbrev pub unsigned : Bool → Boat
+unfoldable pub unsigned : Bool → Boat
 unsigned = ofTwo (boatAt 0 (says 0 7 ∷ [])) (boatAt 1 (hears (fullBy 7 0 2 3) ∷ hears (Full 5 2 (layout 9) (entryBy 7 0 ∷ entryBy 9 2 ∷ entryBy 9 3 ∷ [])) ∷ []))
 
 unfoldable pub unsignedBoats : Trial (Family four unsigned → Demand3 four unsigned)
@@ -173,17 +201,17 @@ unfoldable pub certifiedEach : List Message → List Call
 certifiedEach [] = []
 certifiedEach (m ∷ ms) = certified m ++ certifiedEach ms
 
-abbrev pub submitting : Boat
+unfoldable pub submitting : Boat
 submitting = boatAt 0 (says 0 7 ∷ says 0 9 ∷ [])
 
-abbrev pub twice : Bool → Boat
+unfoldable pub twice : Bool → Boat
 twice = ofTwo submitting (boatAt 1 (certifiedEach (all four submitting)))
 
 unfoldable pub twiceBoats : Trial (Family four twice → Demand3 four twice)
 twiceBoats = safety four two twice []
 
 -- seat 0 holds a certificate of seats 1, 2 and 3, and confirms with seats 2 and 3
-abbrev pub holding : Bool → Boat
+unfoldable pub holding : Bool → Boat
 holding = ofTwo (boatAt 0 (hears (fullBy 9 1 2 3) ∷ says 0 7 ∷ hears (submitBy 2 7) ∷ hears (submitBy 3 7) ∷ [])) (boatAt 1 (says 1 9 ∷ []))
 
 unfoldable pub holdingBoats : Trial (Family four holding → Demand3 four holding)
@@ -194,10 +222,10 @@ abbrev pub keptBefore : Message → Bool → Boat
 keptBefore m = ofTwo (boatAt 0 (says 0 9 ∷ [])) (boatAt 1 (hears m ∷ hears (submitBy 2 7) ∷ says 1 7 ∷ hears (fullBy 9 0 2 3) ∷ []))
 
 -- seat 0's own SUBMIT, and one of the layout 7 with its signature, which doesn't check there
-abbrev pub keptOther : Bool → Boat
+unfoldable pub keptOther : Bool → Boat
 keptOther = keptBefore (submitBy 0 9)
 
-abbrev pub keptUnsigned : Bool → Boat
+unfoldable pub keptUnsigned : Bool → Boat
 keptUnsigned = keptBefore (Submit 5 0 (layout 7) (sign 0 9))
 
 unfoldable pub keptOtherBoats : Trial (Family four keptOther → Demand3 four keptOther)
@@ -207,7 +235,7 @@ unfoldable pub keptUnsignedBoats : Trial (Family four keptUnsigned → Demand3 f
 keptUnsignedBoats = safety four two keptUnsigned []
 
 -- seat 1 hears seat 0's SUBMIT, and one of another layout with the same signature; evidence of both layouts, and of one layout twice
-abbrev pub heardTwice : Bool → Boat
+unfoldable pub heardTwice : Bool → Boat
 heardTwice = ofTwo (boatAt 0 (says 0 7 ∷ [])) (boatAt 1 (hears (submitBy 0 7) ∷ hears (Submit 5 0 (layout 9) (sign 0 7)) ∷ []))
 
 abbrev pub framing : ℕ → ℕ → List ℕ
@@ -222,27 +250,128 @@ equalEvidence = safety four two heardTwice (framing 7 7 ∷ [])
 -- ---- demand 1: one boat
 
 -- a boat hears another layout's NOTICE before its submit, and again after it has confirmed
-abbrev pub answering : Boat
+unfoldable pub answering : Boat
 answering = then seven (hears (Notice 5 1 (layout 9)) ∷ [])
 
 unfoldable pub answeringBoat : Trial (IsHonest four answering → AtMostOne four answering)
 answeringBoat = onceEach four answering
 
 -- a boat hears two certificates that share two seats of three
-abbrev pub sharing : Boat
+unfoldable pub sharing : Boat
 sharing = boatAt 0 (hears (fullBy 7 0 1 2) ∷ hears (fullBy 9 1 2 3) ∷ [])
 
 unfoldable pub sharingBoat : Trial (IsHonest four sharing → (c : Called) → List·Memᴰ c (listOf four sharing) → impossible (resultOf four c .unit) ≡ false)
 sharingBoat = possibleEach four sharing
 
 -- a boat hears a SUBMIT of every other seat before its submit
-abbrev pub slow : Boat
+unfoldable pub slow : Boat
 slow = boatAt 0 (hears (submitBy 1 7) ∷ hears (submitBy 2 7) ∷ hears (submitBy 3 7) ∷ says 0 7 ∷ [])
 
 unfoldable pub slowBoat : Trial (IsHonest four slow → (c : Called) → List·Memᴰ c (listOf four slow) → impossible (resultOf four c .unit) ≡ false)
 slowBoat = possibleEach four slow
 
+-- ---- power cuts (document 02, item 2)
+
+-- two seats, of which none confirms alone
+abbrev pub pair : Setting
+pair = record { n = 2; round = 5; keys = keys 2; checks = toy }
+
+abbrev pub boatOfPair : List Event → Boat
+boatOfPair events = record { seat = 0; store = replicate (storeLength 2) 1; events = events; inHand = [] }
+
+abbrev pub keeps : Event
+keeps = Keeps (replicate noteLength 0)
+
+-- what a boat has kept, newest first, and one of these by its place
+unfoldable pub keptBy : Setting → Boat → List Saved
+keptBy S u = afterAll S (u .seat) (begins S u) (u .events) .kept
+
+unfoldable pub savedAt : ℕ → List Saved → Saved
+savedAt i [] = record { note = []; store = [] }
+savedAt zero (saved ∷ older) = saved
+savedAt (suc i) (saved ∷ older) = savedAt i older
+
+-- the boat comes back from a note that it kept, by its place, and the store kept with it
+abbrev pub comesBack : Setting → ℕ → Boat → Boat
+comesBack S i u = does u (ComesBack (savedAt i (keptBy S u)) ∷ [])
+
+-- A submit of the layout 9 is lost before the first note. One of the layout 7 is kept, power is lost before it is sent, and it is sent then;
+-- the layout 9 is refused. A confirmation is lost, and comes again.
+unfoldable pub interrupted : Boat
+interrupted =
+    let opened = boatOfPair (Makes (says 0 9) ∷ OpensAgain (replicate (storeLength 2) 2) ∷ []) in
+    let submitted = comesBack pair 0 (does opened (Makes (says 0 7) ∷ keeps ∷ [])) in
+    let confirmed = comesBack pair 0 (does submitted (Sends (submitBy 0 7) ∷ Makes (says 0 9) ∷ keeps ∷ Makes (hears (submitBy 1 7)) ∷ [])) in
+    does confirmed (Makes (hears (submitBy 1 7)) ∷ keeps ∷ Sends (submitBy 0 7) ∷ Sends (Notice 5 0 (layout 7)) ∷ [])
+
+unfoldable pub interruptedBoat : Trial (IsHonest pair interrupted → AtMostOne pair interrupted)
+interruptedBoat = onceEach pair interrupted
+
+unfoldable pub interruptedSending : Trial (IsHonest pair interrupted → SendsOne interrupted)
+interruptedSending = sendsOne pair interrupted
+
+-- a boat submits the layout 7 and sends it before it keeps a note, or it is opened again after the note; then it submits the layout 9
+abbrev pub opensAgain : List Event → Boat
+opensAgain sending = boatOfPair (Makes (says 0 7) ∷ sending ++ OpensAgain (replicate (storeLength 2) 1) ∷ Makes (says 0 9) ∷ keeps ∷ Sends (submitBy 0 9) ∷ [])
+
+unfoldable pub hasty : Boat
+hasty = opensAgain (Sends (submitBy 0 7) ∷ [])
+
+unfoldable pub blank : Boat
+blank = opensAgain (keeps ∷ Sends (submitBy 0 7) ∷ [])
+
+unfoldable pub hastyBoat : Trial (IsHonest pair hasty → SendsOne hasty)
+hastyBoat = sendsOne pair hasty
+
+unfoldable pub blankBoat : Trial (IsHonest pair blank → SendsOne blank)
+blankBoat = sendsOne pair blank
+
+-- seat 0 keeps a note, submits the layout 7, keeps and sends; it comes back from a note by its place, submits the layout 9, keeps and sends
+-- what was written. Seats 2 and 3 make a certificate with each SUBMIT that it sends.
+abbrev pub returning : ℕ → List Message → Bool → Boat
+returning i more =
+    let u = comesBack four i (does (boatAt 0 []) (keeps ∷ Makes (says 0 7) ∷ keeps ∷ Sends (submitBy 0 7) ∷ [])) in
+    let sender = does u (Makes (says 0 9) ∷ keeps ∷ map Sends more) in
+    ofTwo sender (boatAt 1 (certifiedEach (sentIn (sender .events))))
+
+unfoldable pub newest : Bool → Boat
+newest = returning 0 (submitBy 0 7 ∷ [])
+
+unfoldable pub older : Bool → Boat
+older = returning 1 (submitBy 0 9 ∷ [])
+
+unfoldable pub newestBoats : Trial (Family four newest → Demand3 four newest)
+newestBoats = safety four two newest []
+
+unfoldable pub olderBoats : Trial (Family four older → Demand3 four older)
+olderBoats = safety four two older []
+
+-- two boats confirm different layouts, and one of them keeps a note in this out and comes back from it, with a store made of the one kept
+abbrev pub returned : List ℕ → (List ℕ → List ℕ) → Bool → Boat
+returned out with =
+    let u = does seven (Keeps out ∷ []) in
+    let saved = savedAt 0 (keptBy four u) in
+    ofTwo (then (does u (ComesBack (record { note = saved .note; store = with (saved .store) }) ∷ [])) (map hears (sentBy nine))) (divided true)
+
+unfoldable pub sameStored : Bool → Boat
+sameStored = returned (replicate noteLength 0) (λ store. store)
+
+unfoldable pub otherStored : Bool → Boat
+otherStored = returned (replicate noteLength 0) (λ store. replicate (storeLength 4) 1)
+
+unfoldable pub unnoted : Bool → Boat
+unnoted = returned [] (λ store. store)
+
+unfoldable pub sameStoredBoats : Trial (Family four sameStored → Demand3 four sameStored)
+sameStoredBoats = accountability four two sameStored false true (layout 7) (layout 9)
+
+unfoldable pub otherStoredBoats : Trial (Family four otherStored → Demand3 four otherStored)
+otherStoredBoats = accountability four two otherStored false true (layout 7) (layout 9)
+
+unfoldable pub unnotedBoats : Trial (Family four unnoted → Demand3 four unnoted)
+unnotedBoats = accountability four two unnoted false true (layout 7) (layout 9)
+
 -- a name that unfolds every definition of a run
 unfoldable pub unfoldedTrials : Bool
-unfolding unfolded outcome listFrom isSubmit isNotice worth count refusalOf cameTo allMessages found entrySized pairSized wellFormed isNoticeOf isEvidenceOn isStepOf isSubmitOf signedIn sameSigned isOpened all formed submits reached confirms mustReach haveReached blamesIn blames accuses onceEach possibleEach accountability safety those sentBy certified certifiedEach two three
+unfolding unfolded outcome begins after afterAll isSubmit isNotice worth count refusalOf cameTo allMessages found entrySized pairSized wellFormed isNoticeOf isEvidenceOn isStepOf isSubmitOf signedIn sameSigned sentIn sameSaved isNewest keepsNone wrote allowed allowedAll isHonest all formed submits reached confirms mustReach haveReached blamesIn blames accuses onceEach sendsOne possibleEach computed accountability safety those sentBy certified certifiedEach two three keptBy savedAt seven nine divided forewarned witnessed shortStored shortOuted unheard unsigned submitting twice holding keptOther keptUnsigned heardTwice answering sharing slow interrupted hasty blank newest older sameStored otherStored unnoted
 unfoldedTrials = true
