@@ -83,14 +83,16 @@ pub data Event : Type 0 where
   Makes : Call → Event
   -- "The host keeps the note and the store": the record is written out as a note, to any out buffer
   Keeps : (out : List ℕ) → Event
-  -- a message is sent
+  -- A message that a call of the unit wrote is sent. Evidence made from what is in hand, and messages of others passed on, stand outside
+  -- the lists.
   Sends : Message → Event
   -- power is lost, and the unit is brought back from a note and a store
   ComesBack : Saved → Event
   -- power is lost, and the unit is opened again, with a store holding any bytes
   OpensAgain : (store : List ℕ) → Event
 
--- "Making evidence from what is in hand .. stand[s] outside the lists": two certificates, and any out buffer
+-- "Making evidence from what is in hand .. stand[s] outside the lists": two certificates, and any out buffer. No power cut takes these
+-- away: they touch no record. The claims are for any such list, also for one without the makings that a cut took away.
 pub record InHand : Type 0 where
   pub a : List ℕ
   pub b : List ℕ
@@ -112,12 +114,12 @@ pub record Moment : Type 0 where
   pub noted : List Called
   pub since : List Called
 
+-- the note that is written of a record
+abbrev pub noteOf : Record → List ℕ → List ℕ
+noteOf r out = counted (made (writeNote r out) .written) (writeNote r out .written) out
+
 module _ (S : Setting) where
   open Setting S using (n, round, keys)
-
-  -- the note that is written of a record
-  abbrev pub noteOf : Record → List ℕ → List ℕ
-  noteOf r out = counted (made (writeNote r out) .written) (writeNote r out .written) out
 
   -- "It starts from the record that an opening at its seat gave"
   unfoldable pub begins : Boat → Moment
@@ -159,6 +161,7 @@ module _ (S : Setting) where
   Allowed m (Sends message) = (c : Called) × List·Memᴰ c (m .noted) × StandsIn n message (writtenIn S c)
   -- "from its newest note and the store kept with it"; "One brought back from an older note, or with another store, isn't honest."
   Allowed m (ComesBack saved) = (older : List Saved) × (m .kept ≡ saved ∷ older)
+  -- "opened once": while no note is kept nothing was sent, and the openings before this one count as never made
   Allowed m (OpensAgain store) = m .kept ≡ []
 
   unfoldable pub AllowedAll : ℕ → Moment → List Event → Type 0
