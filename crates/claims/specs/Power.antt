@@ -16,15 +16,15 @@ use Rattle.claims.specs.PowerLaws.{Newest, whole, whole-unit, whole-left
 
 -- The calls that count, as a list without power cuts: the store at its opening, its calls, and the record and the store at its end, which are
 -- those that the unit has.
-pub record Unbroken (S : Setting) (u : Boat) : Type 0 where
+pub record WithoutCuts (S : Setting) (u : Boat) : Type 0 where
   pub store : List ℕ
   pub calls : List Call
   pub list : listOf S u ≡ listFrom S (opening (S .n) (u .seat) (S .round) (S .keys) .unit) store calls
   pub unit : nowOf S u .unit ≡ lastOf S (opening (S .n) (u .seat) (S .round) (S .keys) .unit) store calls
   pub left : nowOf S u .store ≡ leftBy S (opening (S .n) (u .seat) (S .round) (S .keys) .unit) store calls
 
-pub counted-is-unbroken : (S : Setting) (u : Boat) → IsHonest S u → Unbroken S u
-counted-is-unbroken S u honest =
+pub list-is-unbroken : (S : Setting) (u : Boat) → IsHonest S u → WithoutCuts S u
+list-is-unbroken S u honest =
     let m = nowOf S u in
     let h = runs-now S u honest in
     record { store = h .store; calls = h .early ++ h .late; list = whole S u honest m h; unit = whole-unit S u honest m h; left = whole-left S u honest m h }

@@ -5,7 +5,7 @@ use borrow.Author.Needs.{needs}
 use denote.Ref.{now}
 use Rattle.protocol.specs.Layout.{noteLength}
 use Rattle.protocol.specs.NoteLaws.{ValuesSized, length-renderNote}
-use Rattle.notes.specs.PartsLaws.{note-written}
+use Rattle.notes.specs.PartsLaws.{parts-written}
 use Rattle.notes.proofs.write.put_note.Statement.{statement}
 use Rattle.notes.proofs.write.put_note.Tie as tie
 
@@ -49,7 +49,7 @@ returns c =
     let start = headed own in
     let args = opened start .args in
     let sized : ValuesSized (args .r) = record { own = own .put-value .ensures .0; heard = heard .put-value2 .ensures .0; first = first .put-value3 .ensures .0 } in (
-      note-written sized (now (args .out)) (start .put-start .ensures) (own .put-value .ensures .1) (masks .put-masks .ensures) (heard .put-value2 .ensures .1) (first .put-value3 .ensures .1),
+      parts-written sized (now (args .out)) (start .put-start .ensures) (own .put-value .ensures .1) (masks .put-masks .ensures) (heard .put-value2 .ensures .1) (first .put-value3 .ensures .1),
       sym (length-renderNote (args .r) sized),
     )
 
