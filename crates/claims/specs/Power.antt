@@ -30,11 +30,11 @@ list-is-unbroken S u honest =
     record { store = h .store; calls = h .early ++ h .late; list = whole S u honest m h; unit = whole-unit S u honest m h; left = whole-left S u honest m h }
 
 -- the newest note isn't refused: an honest unit can always be brought back
-pub newest-is-taken : (S : Setting) (u : Boat) → IsHonest S u → (saved : Saved) (older : List Saved) → nowOf S u .kept ≡ saved ∷ older → readNote (saved .note) .number ≡ 0
+pub newest-is-taken : (S : Setting) (u : Boat) → IsHonest S u → (saved : Saved) (older : List Saved) → nowOf S u .saved ≡ saved ∷ older → readNote (saved .note) .number ≡ 0
 unfolding Newest
 newest-is-taken S u honest saved older e =
     let h = runs-now S u honest in
-    ap (λ x. x .number) (subst (λ (kept : List Saved). Newest S u honest kept (h .store) (h .early)) e (h .newest) .0)
+    ap (λ x. x .number) (subst (λ (pairs : List Saved). Newest S u honest pairs (h .store) (h .early)) e (h .newest) .0)
 
 -- ---- "the calls made after that note count as never made, and what they were given as never having reached it"
 
@@ -74,7 +74,7 @@ module _ (S : Setting) (u : Boat) (honest : IsHonest S u) where
       ∙ sym (after-then S seat m (u .events) (Keeps out ∷ fs))
 
   -- Before the first note, the unit is opened again. Whatever comes later is then as if the unit began with that store.
-  pub never-made-unnoted : nowOf S u .kept ≡ [] → (store : List ℕ) (fs : List Event)
+  pub never-made-unnoted : nowOf S u .saved ≡ [] → (store : List ℕ) (fs : List Event)
       → nowOf S (goingOn u (OpensAgain store ∷ fs)) ≡ nowOf S (record { seat = u .seat; store = store; events = fs; inHand = u .inHand })
   unfolding begins afterAll after
   never-made-unnoted none store fs =

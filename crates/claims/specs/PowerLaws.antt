@@ -60,7 +60,7 @@ module _ (S : Setting) (u : Boat) (honest : IsHonest S u) where
     pub since : m .since ≡ listFrom S (lastOf S start store early) (leftBy S start store early) late
     pub unit : m .unit ≡ lastOf S (lastOf S start store early) (leftBy S start store early) late
     pub left : m .store ≡ leftBy S (lastOf S start store early) (leftBy S start store early) late
-    pub newest : Newest (m .kept) store early
+    pub newest : Newest (m .saved) store early
 
   module _ (m : Moment) (h : Runs m) where
     open Runs h using (store, early, late)
@@ -75,9 +75,9 @@ module _ (S : Setting) (u : Boat) (honest : IsHonest S u) where
     whole-left = h .left ∙ sym (left-then S start store early late)
 
   -- while no note is kept, no call stands before one
-  pub unnoted : (m : Moment) → Runs m → m .kept ≡ [] → m .noted ≡ []
+  pub unnoted : (m : Moment) → Runs m → m .saved ≡ [] → m .noted ≡ []
   unfolding listFrom Newest
-  unnoted m h e = h .noted ∙ ap (listFrom S start (h .store)) (subst (λ (kept : List Saved). Newest kept (h .store) (h .early)) e (h .newest))
+  unnoted m h e = h .noted ∙ ap (listFrom S start (h .store)) (subst (λ (pairs : List Saved). Newest pairs (h .store) (h .early)) e (h .newest))
 
   journey-to : (m : Moment) (h : Runs m) → Journey S Any start (m .unit) (m .store) (listFrom S start (h .store) (h .early ++ h .late))
   journey-to m h =
@@ -123,7 +123,7 @@ module _ (S : Setting) (u : Boat) (honest : IsHonest S u) where
   }
   runs-after m (Sends message) h a = h
   runs-after m (ComesBack saved) h a =
-      let newest = subst (λ (kept : List Saved). Newest kept (h .store) (h .early)) (a .1) (h .newest) in
+      let newest = subst (λ (pairs : List Saved). Newest pairs (h .store) (h .early)) (a .1) (h .newest) in
       record {
         store = h .store;
         early = h .early;
@@ -143,7 +143,7 @@ module _ (S : Setting) (u : Boat) (honest : IsHonest S u) where
         since = refl;
         unit = refl;
         left = refl;
-        newest = subst (λ (kept : List Saved). Newest kept store []) (sym a) refl;
+        newest = subst (λ (pairs : List Saved). Newest pairs store []) (sym a) refl;
       }
 
   runs-along : (m : Moment) (es : List Event) → Runs m → AllowedAll S (u .seat) m es → Runs (afterAll S (u .seat) m es)
@@ -168,7 +168,7 @@ after-then S seat m (e ∷ es) fs = after-then S seat (after S seat m e) es fs
 
 -- the notes and stores kept, and the calls before the newest, stay
 module _ (S : Setting) (seat : ℕ) where
-  stays-after : (m : Moment) (e : Event) → ((out : List ℕ) → e ≢ Keeps out) → (after S seat m e .kept ≡ m .kept) × (after S seat m e .noted ≡ m .noted)
+  stays-after : (m : Moment) (e : Event) → ((out : List ℕ) → e ≢ Keeps out) → (after S seat m e .saved ≡ m .saved) × (after S seat m e .noted ≡ m .noted)
   unfolding after
   stays-after m (Makes c) h = (refl, refl)
   stays-after m (Keeps out) h = absurd (h out refl)
@@ -177,7 +177,7 @@ module _ (S : Setting) (seat : ℕ) where
   stays-after m (OpensAgain store) h = (refl, refl)
 
   pub stays-along : (m : Moment) (es : List Event) → Each (λ e. (out : List ℕ) → e ≢ Keeps out) es
-      → (afterAll S seat m es .kept ≡ m .kept) × (afterAll S seat m es .noted ≡ m .noted)
+      → (afterAll S seat m es .saved ≡ m .saved) × (afterAll S seat m es .noted ≡ m .noted)
   unfolding afterAll
   stays-along m [] h = (refl, refl)
   stays-along m (e ∷ es) h =
