@@ -9,7 +9,7 @@
 --    `Message`, `Entries`, `Layout`, `Values`), and `quorum/specs/Quorum`: t0, k, sets of seats and their sizes.
 -- 4. `protocol/specs/Signatures: checks`: the signature check, by `rfc8554/specs`' `Verify`, `Tree` and `Ots`, and `fips180/specs/Fips`.
 -- 5. `as-promised` and `results-promised`, in this file: the rounds of the claim are those by the contracts of the code.
--- `none-blamed-by-sent` follows for the messages that are sent.
+-- 6. `none-blamed-by-sent`, in this file: the same for the messages that are sent.
 -- Assumes nothing.
 use mathlib.Core.Path.{_≡_, refl, sym, ap, ap₂, _∙_}
 use mathlib.Core.Bool.{true}
@@ -56,7 +56,8 @@ demand-3 n round keys = demand-3-any (setting n round keys)
 -- ---- a unit's round by the code's contracts
 
 -- The moment after a unit's events, each as the contracts promise it. A submit, a step and the thin entry check signatures in the round of the
--- record that they are given; the writing of a note, its reading and the opening have contracts of their own.
+-- record that they are given; the writing of a note, its reading and the opening have contracts of their own. An opening again is given the n
+-- and the round of the first.
 unfoldable pub promised : List ℕ → ℕ → Moment → List Event → Moment
 promised keys seat m [] = m
 promised keys seat m (e ∷ es) = promised keys seat (after (setting (m .unit .n) (m .unit .round) keys) seat m e) es
@@ -73,8 +74,7 @@ module _ (n round : ℕ) (keys : List ℕ) (u : Boat) (honest : IsHonest (settin
       ap (λ (x : Moment). promised keys (u .seat) x es) (ap₂ (λ i ρ. after (setting i ρ keys) (u .seat) m e) (of .0) (of .1))
       ∙ same-moment (after S (u .seat) m e) es (runs-after S u honest m e h (a .0)) (a .1)
 
-  -- after an opening without a refusal: the moment of the claim. As a beginning of the events is an honest unit's too
-  -- (`Power: earlier-honest`), this holds after each.
+  -- The unit's moment by the contracts is its moment in the claim. By `Power: earlier-honest` this is so after every earlier event too.
   pub as-promised : promised keys (u .seat) (begins S u) (u .events) ≡ nowOf S u
   as-promised = same-moment (begins S u) (u .events) (runs-first S u honest) (honest .allowed)
 

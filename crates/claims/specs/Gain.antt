@@ -29,7 +29,7 @@ use Rattle.claims.specs.UnrefusedLaws.{possible, Taken}
 use Rattle.claims.specs.NotRefused.{Table, StepFit, SubmitFit, step-not-refused}
 use Rattle.claims.specs.Journey.{At, any-worthy}
 use Rattle.claims.specs.Opened.{startOf, opened-fit, start-seat}
-use Rattle.claims.specs.Power.{Unbroken, counted-is-unbroken}
+use Rattle.claims.specs.Power.{WithoutCuts, list-is-unbroken}
 use Rattle.claims.specs.Units.{endOf, stop, written-are}
 use Rattle.claims.specs.Kept.{SubmitsNow, Hears, submits-fit, submits-result, hears-fit, early-kept, kept-stays, call-does, OfKept, kept-next, start-none, size-is, round-is}
 use Rattle.claims.specs.CollectKeptLaws.{confirms-at-once}
@@ -244,8 +244,8 @@ module _ (S : Setting) where
     module _ (h : SubmitsAfter S u) where
       open SubmitsAfter h using (before, call as t, after, split, submits as s, others, apart, enough, given)
 
-      abbrev counted : Unbroken S u
-      counted = counted-is-unbroken S u honest
+      abbrev counted : WithoutCuts S u
+      counted = list-is-unbroken S u honest
 
       chain : Chain (startOf S u honest) (counted .store) (before ++ t ∷ after)
       chain = subst (Chain (startOf S u honest) (counted .store)) (sym (counted .list) ∙ split) (chain-of (startOf S u honest) (counted .store) (counted .calls))

@@ -24,12 +24,12 @@ pub mod Opened
 pub mod PowerLaws
 pub mod Power
 pub mod Units
-pub mod Once
 pub mod Kept
 pub mod Before
 pub mod CollectKeptLaws
 pub mod Gain
 pub mod Safe
+pub mod Once
 pub mod Made
 pub mod Blamed
 pub mod Claim

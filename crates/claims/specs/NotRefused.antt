@@ -1,6 +1,6 @@
 -- Calls that are not refused (demand 1: "for a cause in document 01's table, .. and for no other"): exactly those for which no number has
 -- a cause. Each record type lists what a call asks, number by number in the table's words. The claims go both ways, for every record of
--- a unit, possible or not, every message and every buffer. So a call that refuses more, or everything, doesn't meet them; the last claim
+-- a unit, possible or not, every message, every note and every buffer. So a call that refuses more, or everything, doesn't meet them; the last claim
 -- shows it for a step.
 -- Assumes nothing.
 use Prim.Native.Nat.{ℕ, _+_, _*_, _≤_, _<_}

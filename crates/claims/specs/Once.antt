@@ -1,6 +1,7 @@
 -- Demand 1 over a whole list: "in a round a unit on one unbroken record sends at most one submission, one notice and one full
 -- certificate." And so "two units can[not] reply to each other without end". A unit that loses power writes no second message of a kind
--- in the calls that count, and sends no other than the one written.
+-- in the calls that count, and sends no other than the one written; and all that it sends carries one layout, which it submitted in these
+-- calls.
 -- Assumes nothing.
 use mathlib.Core.Path.{_≡_, refl, sym, ap, subst, _∙_}
 use mathlib.Core.Bool.{Bool, true, false}
@@ -12,26 +13,32 @@ use native.Mathlib.Decide.{ℕ-discrete}
 use lib.ListN.{length, length-append}
 use borrow.Author.Tests.{ne-eqb}
 use Rattle.quorum.specs.Quorum.{k}
-use Rattle.protocol.specs.Layout.{signatureLength, submitLength, noticeLength, fullEntryAt, fullLength, evidenceEntryLength, evidenceEntryAt, evidenceLength, outLength}
-use Rattle.protocol.specs.Message.{Message, Submit, Notice, Full, Evidence, Garbled, render, renderAll, WellFormed}
+use Rattle.refusal.specs.Refusal.{unrefused}
+use Rattle.protocol.specs.Layout.{signatureLength, submitLength, noticeLength, fullEntryAt, fullLength, evidenceEntryLength, evidenceEntryAt, evidenceLength, outLength, noteLength}
+use Rattle.protocol.specs.Message.{Message, Submit, Notice, Full, Evidence, Garbled, render, renderAll, read, WellFormed}
 use Rattle.protocol.specs.MessageLaws.{length-submit, length-notice, length-full, length-evidence}
 use Rattle.protocol.specs.Record.{impossible}
 use Rattle.protocol.specs.Refusals.{Checks, isFull, isEvidence}
-use Rattle.protocol.specs.Calls.{opening}
+use Rattle.protocol.specs.NoteClaim.{note-written}
+use Rattle.protocol.specs.Step.{State, stepped}
+use Rattle.protocol.specs.Calls.{opening, Result, resultBy, start, writeNote}
 use Rattle.protocol.specs.declared.Record.{Record}
-use Rattle.round.specs.Round.{Setting, IsHonest, Each, Relation, Boat, Called, resultOf, writtenIn, Are, nowOf, listOf, Sent}
-use Rattle.round.specs.Demand1.{Kind, SUBMIT, NOTICE, FULL, EVIDENCE, isOf, isSubmit, isNotice, worth, count, writtenOver, AtMostOne, SendsOne}
+use Rattle.round.specs.Round.{Setting, IsHonest, Each, Relation, Call, BySubmit, ByStep, ByThinEntry, Boat, Called, resultOf, writtenIn, Are, nowOf, listOf, Sent, Writes, Submits}
+use Rattle.round.specs.Demand1.{Kind, SUBMIT, NOTICE, FULL, EVIDENCE, isOf, isSubmit, isNotice, worth, count, writtenOver, AtMostOne, SendsOne, Carries, SendsSubmitted, SendsOneLayout}
 use Rattle.reading.specs.ListsLaws.{worth-le-one, worth-true, true-of-worth, count-pos}
-use Rattle.claims.specs.Sound.{Any, flagOf, Good}
+use Rattle.claims.specs.Sound.{Any, flagOf, Said, Good}
 use Rattle.claims.specs.CertificatesLaws.{entries-laid}
 use Rattle.claims.specs.Parts.{confirmed-submitted}
 use Rattle.reading.specs.ReadingLaws.{are-unique}
 use Rattle.claims.specs.UnrefusedLaws.{possible}
-use Rattle.reading.specs.Messages.{messages, allMessages}
+use Rattle.claims.specs.Whole.{step-submits-none}
+use Rattle.reading.specs.Messages.{refusalOf, cameTo, messages, allMessages}
+use Rattle.reading.specs.MessagesLaws.{outcome-is, unrefused-unit, member-all}
 use Rattle.claims.specs.Journey.{Worthy, Passed, any-worthy}
 use Rattle.claims.specs.Opened.{start-n, start-sound, start-settled}
 use Rattle.claims.specs.Power.{sends-written}
-use Rattle.claims.specs.Units.{endOf, trip, stop, result-grows, written-are, written-member, all-are}
+use Rattle.claims.specs.Units.{endOf, trip, stop, result-grows, written-are, written-member, flag-written, writes-good, all-are}
+use Rattle.claims.specs.Safe.{submits-end}
 
 -- ---- messages by kind
 
@@ -152,6 +159,76 @@ module _ (S : Setting) (u : Boat) (honest : IsHonest S u) where
   now-possible =
       let now = trip S u honest Any any in
       possible checks Any (endOf S u honest) (nowOf S u .store) (now .sound) (now .settled)
+
+  -- and so it can always keep a note
+  pub can-always-keep : (out : List ℕ) → noteLength ≤ length out → writeNote (nowOf S u .unit) out .refusal ≡ 0
+  can-always-keep out room = ap (λ w. w .refusal) (note-written (nowOf S u .unit) out now-possible room)
+
+  -- ---- the one layout that it sends
+
+  -- a call that writes a SUBMIT is a submit that isn't refused
+  module _ (t : Called) (d : List·Memᴰ t ts) (m : Message) (e : List·Memᴰ m (messages S t)) (is : isSubmit m ≡ true) where
+    writer-unrefused : refusalOf S (t .given) (t .unit) (t .store) ≡ 0
+    unfolding unrefused
+    writer-unrefused = go (refusalOf S (t .given) (t .unit) (t .store)) e
+      where
+        go : (q : ℕ) → List·Memᴰ m (unrefused q (cameTo (t .given) (t .unit) (t .store) .written) []) → q ≡ 0
+        go zero f = refl
+        go (suc q) f = absurd (List·Memᴰ·not-nil f)
+
+    writer-sets : resultOf S t .unit .own .submitted ≢ t .unit .own .submitted
+    writer-sets same =
+        let c = stop S u honest Any any t d .after .counts SUBMIT in
+        absurd (omega (arith, c, ap worth same, count-pos (isOf SUBMIT) (messages S t) m e is))
+
+    stepped-sets-none : (bytes : List ℕ) → cameTo (t .given) (t .unit) (t .store) ≡ stepped (read (t .unit .n) bytes) (start (t .unit) (t .store)) → ⊥
+    stepped-sets-none bytes came =
+        writer-sets (ap (λ (r : Record). r .own .submitted) (unrefused-unit S t writer-unrefused ∙ ap (λ (s : State). s .unit) came) ∙ step-submits-none (read (t .unit .n) bytes) (start (t .unit) (t .store)))
+
+    writer-submits : (layout : List ℕ) × Submits S u layout
+    unfolding cameTo resultBy
+    writer-submits = go (t .given) refl
+      where
+        go : (c : Call) → t .given ≡ c → (layout : List ℕ) × Submits S u layout
+        go (BySubmit layout signature out) q =
+            (layout, record { call = t; inList = d; signature = signature; out = out; carries = q; unrefused = ap (λ (x : Result). x .refusal) (outcome-is S (t .given) (t .unit) (t .store)) ∙ writer-unrefused })
+        go (ByStep bytes out) q = absurd (stepped-sets-none bytes (ap (λ (c : Call). cameTo c (t .unit) (t .store)) q))
+        go (ByThinEntry bytes out) q = absurd (stepped-sets-none bytes (ap (λ (c : Call). cameTo c (t .unit) (t .store)) q))
+
+  -- the value of a unit that has submitted is a layout that it submitted
+  own-submitted : endOf S u honest .own .submitted ≡ true → Submits S u (endOf S u honest .own .value)
+  own-submitted said =
+      let w = flag-written S u honest Any any SUBMIT said in
+      let h = member-all S ts (w .0) (written-member S u honest Any any (w .0) (w .2)) in
+      let s = writer-submits (h .0) (h .1) (w .0) (h .2) (w .1) in
+      subst (Submits S u) (sym (submits-end S u honest (s .0) (s .1))) (s .1)
+
+  said-submitted : (ρ seat : ℕ) (value layout : List ℕ) → Said (endOf S u honest) ρ seat value → value ≡ layout → Submits S u layout
+  said-submitted ρ seat value layout said e = subst (Submits S u) (sym (said .ofValue) ∙ e) (own-submitted (said .submitted))
+
+  -- what it writes carries a layout that it submitted
+  pub written-was-submitted : (m : Message) (layout : List ℕ) → Carries m layout → Writes S u m → Submits S u layout
+  written-was-submitted m layout carries w = go m carries (writes-good S u honest Any any m w)
+    where
+      go : (x : Message) → Carries x layout → Good checks Any (endOf S u honest) x → Submits S u layout
+      go (Submit ρ seat value signature) c g = said-submitted ρ seat value layout (g .0) c
+      go (Notice ρ seat value) c g = said-submitted ρ seat value layout g c
+      go (Full ρ sender value entries) c g = said-submitted ρ sender value layout (g .0) c
+      go (Evidence ρ values entries) c g = absurd c
+      go Garbled c g = absurd c
+
+  -- and so does what it sends
+  pub sent-was-submitted : SendsSubmitted S u
+  sent-was-submitted m layout carries d = written-was-submitted m layout carries (sends-written S u honest m d)
+
+  -- it has submitted one layout
+  pub one-layout-submitted : (layout layout′ : List ℕ) → Submits S u layout → Submits S u layout′ → layout ≡ layout′
+  one-layout-submitted layout layout′ s s′ = sym (submits-end S u honest layout s) ∙ submits-end S u honest layout′ s′
+
+  -- and sends one
+  pub one-layout-sent : SendsOneLayout u
+  one-layout-sent m m′ layout layout′ carries carries′ d d′ =
+      one-layout-submitted layout layout′ (sent-was-submitted m layout carries d) (sent-was-submitted m′ layout′ carries′ d′)
 
   -- ---- at each call
 

@@ -2,19 +2,24 @@
 -- another, and the newest note and store kept are those to which the calls before it came.
 -- Assumes nothing.
 use mathlib.Core.Path.{_≡_, refl, sym, ap, subst, _∙_}
-use mathlib.Core.List.{List, [], _∷_, _++_, List·Memᴰ, List·Memᴰ·not-nil, List·Memᴰ·cases-cons, Memᴰ·append-left}
-use mathlib.Core.Logic.{⊎-elim}
+use mathlib.Core.List.{List, [], _∷_, _++_, List·Memᴰ, List·Memᴰ·head, List·Memᴰ·tail, List·Memᴰ·not-nil, List·Memᴰ·cases-cons, Memᴰ·append-left}
+use mathlib.Core.Logic.{⊎-elim, _≢_}
 use Prim.Native.Nat.{ℕ}
 use Rattle.protocol.specs.Message.{Message}
 use Rattle.protocol.specs.NoteLaws.{ValuesSized}
 use Rattle.protocol.specs.NoteClaim.{read-back}
 use Rattle.protocol.specs.Calls.{made, writeNote, readNote}
 use Rattle.protocol.specs.declared.Record.{Record}
-use Rattle.round.specs.Round.{Setting, Call, Called, outcome, StandsIn, writtenIn, Saved, Event, Makes, Keeps, Sends, ComesBack, OpensAgain, Boat, Moment, noteOf, begins, after, afterAll, nowOf, Allowed, AllowedAll, IsHonest, listFrom}
+use Rattle.round.specs.Round.{Setting, Each, Call, Called, outcome, StandsIn, writtenIn, Saved, Event, Makes, Keeps, Sends, ComesBack, OpensAgain, Boat, Moment, noteOf, begins, after, afterAll, nowOf, Allowed, AllowedAll, IsHonest, listFrom}
 use Rattle.reading.specs.MessagesLaws.{counted-written}
 use Rattle.claims.specs.Sound.{Any}
 use Rattle.claims.specs.Journey.{lastOf, leftBy, Journey, journey, any-worthy}
 use Rattle.claims.specs.Opened.{startOf, start-n, start-round, start-sound, start-settled}
+
+-- the note that is kept is what the writing writes
+note-is : (r : Record) (out : List ℕ) → noteOf r out ≡ writeNote r out .written
+unfolding made
+note-is r out = counted-written (writeNote r out .written) out
 
 -- ---- a list goes on where it ended
 
@@ -34,11 +39,6 @@ module _ (S : Setting) where
   unfolding lastOf leftBy
   left-then r store [] ds = refl
   left-then r store (c ∷ cs) ds = left-then (outcome S c r store .unit) (outcome S c r store .store) cs ds
-
-  -- the note that is kept is what the writing writes
-  note-is : (r : Record) (out : List ℕ) → noteOf S r out ≡ writeNote r out .written
-  unfolding made
-  note-is r out = counted-written (writeNote r out .written) out
 
 -- ---- the invariant of a unit's events
 
@@ -60,7 +60,7 @@ module _ (S : Setting) (u : Boat) (honest : IsHonest S u) where
     pub since : m .since ≡ listFrom S (lastOf S start store early) (leftBy S start store early) late
     pub unit : m .unit ≡ lastOf S (lastOf S start store early) (leftBy S start store early) late
     pub left : m .store ≡ leftBy S (lastOf S start store early) (leftBy S start store early) late
-    pub newest : Newest (m .kept) store early
+    pub newest : Newest (m .saved) store early
 
   module _ (m : Moment) (h : Runs m) where
     open Runs h using (store, early, late)
@@ -73,6 +73,11 @@ module _ (S : Setting) (u : Boat) (honest : IsHonest S u) where
 
     pub whole-left : m .store ≡ leftBy S start store (early ++ late)
     whole-left = h .left ∙ sym (left-then S start store early late)
+
+  -- while no note is kept, no call stands before one
+  pub unnoted : (m : Moment) → Runs m → m .saved ≡ [] → m .noted ≡ []
+  unfolding listFrom Newest
+  unnoted m h e = h .noted ∙ ap (listFrom S start (h .store)) (subst (λ (pairs : List Saved). Newest pairs (h .store) (h .early)) e (h .newest))
 
   journey-to : (m : Moment) (h : Runs m) → Journey S Any start (m .unit) (m .store) (listFrom S start (h .store) (h .early ++ h .late))
   journey-to m h =
@@ -114,11 +119,11 @@ module _ (S : Setting) (u : Boat) (honest : IsHonest S u) where
     since = refl;
     unit = whole-unit m h;
     left = whole-left m h;
-    newest = (ap readNote (note-is S (m .unit) out) ∙ read-back (m .unit) out (sized m h) a ∙ ap (λ (r : Record). record { number = 0; unit = r }) (whole-unit m h), whole-left m h);
+    newest = (ap readNote (note-is (m .unit) out) ∙ read-back (m .unit) out (sized m h) a ∙ ap (λ (r : Record). record { number = 0; unit = r }) (whole-unit m h), whole-left m h);
   }
   runs-after m (Sends message) h a = h
   runs-after m (ComesBack saved) h a =
-      let newest = subst (λ (kept : List Saved). Newest kept (h .store) (h .early)) (a .1) (h .newest) in
+      let newest = subst (λ (pairs : List Saved). Newest pairs (h .store) (h .early)) (a .1) (h .newest) in
       record {
         store = h .store;
         early = h .early;
@@ -130,16 +135,15 @@ module _ (S : Setting) (u : Boat) (honest : IsHonest S u) where
         newest = h .newest;
       }
   runs-after m (OpensAgain store) h a =
-      let none : h .early ≡ [] = subst (λ (kept : List Saved). Newest kept (h .store) (h .early)) a (h .newest) in
       record {
         store = store;
         early = [];
         late = [];
-        noted = h .noted ∙ ap (listFrom S start (h .store)) none;
+        noted = unnoted m h a;
         since = refl;
         unit = refl;
         left = refl;
-        newest = subst (λ (kept : List Saved). Newest kept store []) (sym a) refl;
+        newest = subst (λ (pairs : List Saved). Newest pairs store []) (sym a) refl;
       }
 
   runs-along : (m : Moment) (es : List Event) → Runs m → AllowedAll S (u .seat) m es → Runs (afterAll S (u .seat) m es)
@@ -153,6 +157,40 @@ module _ (S : Setting) (u : Boat) (honest : IsHonest S u) where
 
   pub runs-now : Runs (nowOf S u)
   runs-now = runs-along (begins S u) (u .events) runs-first (honest .allowed)
+
+-- ---- events without a keeping
+
+-- the moment of events one after another
+pub after-then : (S : Setting) (seat : ℕ) (m : Moment) (es fs : List Event) → afterAll S seat m (es ++ fs) ≡ afterAll S seat (afterAll S seat m es) fs
+unfolding afterAll
+after-then S seat m [] fs = refl
+after-then S seat m (e ∷ es) fs = after-then S seat (after S seat m e) es fs
+
+-- the notes and stores kept, and the calls before the newest, stay
+module _ (S : Setting) (seat : ℕ) where
+  stays-after : (m : Moment) (e : Event) → ((out : List ℕ) → e ≢ Keeps out) → (after S seat m e .saved ≡ m .saved) × (after S seat m e .noted ≡ m .noted)
+  unfolding after
+  stays-after m (Makes c) h = (refl, refl)
+  stays-after m (Keeps out) h = absurd (h out refl)
+  stays-after m (Sends message) h = (refl, refl)
+  stays-after m (ComesBack saved) h = (refl, refl)
+  stays-after m (OpensAgain store) h = (refl, refl)
+
+  pub stays-along : (m : Moment) (es : List Event) → Each (λ e. (out : List ℕ) → e ≢ Keeps out) es
+      → (afterAll S seat m es .saved ≡ m .saved) × (afterAll S seat m es .noted ≡ m .noted)
+  unfolding afterAll
+  stays-along m [] h = (refl, refl)
+  stays-along m (e ∷ es) h =
+      let here = stays-after m e (h e (List·Memᴰ·head refl)) in
+      let rest = stays-along (after S seat m e) es (λ x d. h x (List·Memᴰ·tail d)) in
+      (rest .0 ∙ here .0, rest .1 ∙ here .1)
+
+-- the note of an honest unit's record is read back
+pub note-back-now : (S : Setting) (u : Boat) (honest : IsHonest S u) (out : List ℕ) → writeNote (nowOf S u .unit) out .refusal ≡ 0
+    → readNote (noteOf (nowOf S u .unit) out) .unit ≡ nowOf S u .unit
+note-back-now S u honest out e =
+    let r = nowOf S u .unit in
+    ap (λ x. x .unit) (ap readNote (note-is r out) ∙ read-back r out (sized S u honest (nowOf S u) (runs-now S u honest)) e)
 
 -- ---- messages sent
 

@@ -21,7 +21,7 @@ use Rattle.reading.specs.Messages.{messages, allMessages}
 use Rattle.reading.specs.MessagesLaws.{all-member, member-all, written-is, list-are}
 use Rattle.claims.specs.Journey.{lastOf, leftBy, Worthy, any-worthy, At, Journey, journey}
 use Rattle.claims.specs.Opened.{startOf, start-n, start-seat, start-round, start-unset, start-sound, start-settled}
-use Rattle.claims.specs.Power.{counted-is-unbroken}
+use Rattle.claims.specs.Power.{list-is-unbroken}
 
 -- ---- form of the messages that a unit writes
 
@@ -64,7 +64,7 @@ module _ (S : Setting) (u : Boat) (honest : IsHonest S u) where
   -- a fact about every list without power cuts, its last record and its last store, is one about the unit's
   pub by-unbroken : (P : Record → List ℕ → List Called → Type 0) → ((store : List ℕ) (cs : List Call) → P (lastOf S start store cs) (leftBy S start store cs) (listFrom S start store cs)) → P endOf (nowOf S u .store) ts
   by-unbroken P all =
-      let c = counted-is-unbroken S u honest in
+      let c = list-is-unbroken S u honest in
       rw (c .unit, c .left, c .list) (all (c .store) (c .calls))
 
   module _ (W : Relation) (w : Each (Worthy S W) ts) where

@@ -72,6 +72,30 @@ hearing-stays c s =
     stays-trans (s .unit) (reply heard .unit) (hearCertificate c s .unit) (stays-trans (s .unit) (heard .unit) (reply heard .unit) (hear-stays (c .value) s) (reply-stays heard))
     (holdOrBlame-quiet c (reply heard) .stays)
 
+-- a step never submits
+hears-stays : (seat : ℕ) (value signature : List ℕ) (s : State) → hearSubmit seat value signature s .unit .own .submitted ≡ s .unit .own .submitted
+unfolding hearSubmit collectIfWanted keepIfFirst collect keep
+hears-stays seat value signature s =
+    let P : State → Type 0 = λ x. x .unit .own .submitted ≡ s .unit .own .submitted in
+    cond-elim P (s .unit .own .submitted) (collectIfWanted seat value signature s) (keepIfFirst seat value signature s)
+    (λ e. cond-elim P (isWanted seat value (s .unit)) (collect seat signature s) s (λ f. refl) (λ f. refl))
+    (λ e. cond-elim P (has seat (s .unit .kept)) s (keep seat value signature s) (λ f. refl) (λ f. refl))
+
+completing-stays : (s : State) → confirmIfComplete s .unit .own ≡ s .unit .own
+unfolding confirmIfComplete hearOwn confirm write
+completing-stays s =
+    cond-elim (λ (x : State). x .unit .own ≡ s .unit .own) (isComplete (s .unit)) (hearOwn (confirm s)) (reply s)
+    (λ e. hearing-stays (ownCertificate (confirm s .unit) (confirm s .store)) (confirm s) .own) (λ e. reply-stays s .own)
+
+pub step-submits-none : (m : Message) (s : State) → stepped m s .unit .own .submitted ≡ s .unit .own .submitted
+unfolding stepped
+step-submits-none (Submit ρ seat value signature) s =
+    ap (λ o. o .submitted) (completing-stays (hearSubmit seat value signature s)) ∙ hears-stays seat value signature s
+step-submits-none (Notice ρ seat value) s = ap (λ o. o .submitted) (reply-stays (hear value s) .own ∙ hear-stays value s .own)
+step-submits-none (Full ρ sender value entries) s = ap (λ o. o .submitted) (hearing-stays (certificateIn (Full ρ sender value entries)) s .own)
+step-submits-none (Evidence ρ values entries) s = refl
+step-submits-none Garbled s = refl
+
 hearing-owes : (c : Certificate) (s : State) → owesFull (hearCertificate c s .unit) ≡ false
 unfolding hearCertificate
 hearing-owes c s = holdOrBlame-quiet c (reply (hear (c .value) s)) .owes ∙ reply-owes (hear (c .value) s)

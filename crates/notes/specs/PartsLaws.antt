@@ -40,7 +40,7 @@ regrouped p a b c d = simp append-assoc
 
 module _ {r : Record} (sized : ValuesSized r) where
   -- the five parts, one after another
-  pub note-written : (xs : List ℕ) {a b c d e : List ℕ}
+  pub parts-written : (xs : List ℕ) {a b c d e : List ℕ}
       → a ≡ patch 0 (noteStart r) xs
       → b ≡ patch noteOwnValueAt (r .own .value) a
       → c ≡ patch noteCollectedAt (noteMasks r) b
@@ -48,7 +48,7 @@ module _ {r : Record} (sized : ValuesSized r) where
       → e ≡ patch noteFirstValueAt (r .first .value) d
       → e ≡ patch 0 (renderNote r) xs
   unfolding renderNote
-  note-written xs {a} {b} {c} {d} {e} p q s t u =
+  parts-written xs {a} {b} {c} {d} {e} p q s t u =
       let start = noteStart r in
       let two = patch-next 0 noteOwnValueAt start _ xs a b p (simp (length-append, length-be)) (omega arith) q in
       let three = patch-next 0 noteCollectedAt _ (noteMasks r) xs b c two (simp (length-append, length-be, sized .own)) (omega arith) s in

@@ -7,16 +7,17 @@ use Prim.Native.Nat.{ℕ, _≤_, _<_}
 use native.Mathlib.Omega.{arith}
 use lib.Dec.{eqb}
 use lib.ListN.{length}
-use borrow.Author.Tests.{eqb-true, eq-eqb, ltb-false, not-false}
+use borrow.Author.Tests.{eq-eqb, ltb-false}
 use Rattle.octets.specs.Octets.{patch}
 use Rattle.octets.specs.StringsLaws.{patch-nothing}
 use Rattle.refusal.specs.Refusal.{firstOf, unrefused}
-use Rattle.refusal.specs.RefusalLaws.{both-false, firstOf-zero, refused-old, test-held, test-passed}
+use Rattle.refusal.specs.RefusalLaws.{firstOf-zero, refused-old, test-held, test-passed}
 use Rattle.protocol.specs.Layout.{noteLength}
 use Rattle.protocol.specs.Record.{impossible}
 use Rattle.protocol.specs.RecordLaws.{possible}
 use Rattle.protocol.specs.Message.{byteAt}
 use Rattle.protocol.specs.Note.{renderNote, noteRecord, noteFlags, bothHeard, unknownFlag, wrongNote}
+use Rattle.protocol.specs.NoteLaws.{note-right}
 use Rattle.protocol.specs.Refusals.{shortOut, RECORD, OUT, writeNoteConditions, readNoteConditions}
 use Rattle.protocol.specs.Calls.{outAfter, made, notingBy, openedBy, writeNote, readNote}
 use Rattle.protocol.specs.declared.Record.{Record}
@@ -64,12 +65,7 @@ module _ (note : List ℕ) {test : Bool} (is : test ≡ wrongNote note) where
 
   module _ (right : test ≡ false) where
     pub right-length : length note ≡ noteLength
-    unfolding wrongNote
-    right-length =
-        let a = both-false _ (unknownFlag (noteFlags note)) (sym is ∙ right) in
-        let b = both-false _ (bothHeard (noteFlags note)) (a .0) in
-        let c = both-false (not (eqb (length note) noteLength)) (not (eqb (byteAt note 0) 0x20)) (b .0) in
-        eqb-true (length note) noteLength (not-false _ (c .0))
+    right-length = note-right note .0 (sym is ∙ right) .size
 
     pub read-right : (number : ℕ) → number ≡ firstOf (RECORD (noteRecord note) ∷ []) → openedBy number (noteRecord note) ≡ readNote note
     unfolding readNote readNoteConditions

@@ -62,6 +62,7 @@ pub fn read_note(note: &[u8]) -> Opened
     ensures { λ answer. ⌜ answer ≡ calls.readNote (now (note .entry)) ⌝ }
 {
     if wrong_note(note) {
+        // opened_by doesn't look at this record, as the number isn't 0.
         let zeros = fresh(0, 0, 0);
         return opened_by(refusal::NOTE, zeros);
     }

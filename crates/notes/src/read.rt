@@ -88,7 +88,9 @@ pub(crate) fn note_record(note: &[u8]) -> Record
     requires { ⌜ length (now note) ≡ noteLength ⌝ }
     ensures { λ r. ⌜ r ≡ noteRecord (now (note .entry)) ⌝ }
 {
-    let flags = note[NOTE_FLAGS_AT] as u32;
+    let n = wide(note[NOTE_SIZE_AT]);
+    let seat = wide(note[NOTE_SEAT_AT]);
+    let flags = wide(note[NOTE_FLAGS_AT]);
     let round = note_round(note);
     let own = note_own(note, flags);
     let confirmed = is_set(CONFIRMED, flags);
@@ -98,8 +100,8 @@ pub(crate) fn note_record(note: &[u8]) -> Record
     let guilty = word_at(note, NOTE_GUILTY_AT);
     let kept = word_at(note, NOTE_KEPT_AT);
     Record {
-        n: note[NOTE_SIZE_AT] as u32,
-        seat: note[NOTE_SEAT_AT] as u32,
+        n,
+        seat,
         round,
         own,
         confirmed,

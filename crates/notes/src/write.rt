@@ -7,7 +7,6 @@ ghost use Rattle.protocol.specs.Layout.{valueLength, noteCollectedAt, noteLengt
 ghost use Rattle.protocol.specs.Note.{renderNote};
 ghost use Rattle.notes.specs.Parts.{noteStart, noteMasks};
 use crate::flags::flags_of;
-use layout::NOTE;
 use layout::NOTE_COLLECTED_AT;
 use layout::NOTE_FIRST_AT;
 use layout::NOTE_FIRST_VALUE_AT;
@@ -67,5 +66,5 @@ pub(crate) fn put_note(r: Record, out: &mut [u8]) -> u32
     put_masks(r, out);
     put_value(out, NOTE_HEARD_VALUE_AT, heard);
     put_value(out, NOTE_FIRST_VALUE_AT, first);
-    NOTE as u32
+    layout::note_length() as u32
 }

@@ -39,7 +39,7 @@ use Rattle.paper.specs.ConflictsLaws.{some-none}
 use Rattle.paper.specs.EntriesLaws.{seats-none, from-seats, from-member, signature-is, distinct-take}
 use Rattle.paper.specs.Spoken.{spoken, Formed, FormedAction, each-says, stands-sent}
 use Rattle.paper.specs.Received.{Obtained}
-use Rattle.paper.specs.Based.{BasedOn, Sent, Good, react-good}
+use Rattle.paper.specs.Based.{BasedOn, Sendable, Good, react-good}
 use Rattle.paper.specs.Rules.{AtRest, rules-rest}
 use Rattle.paper.specs.Discards.{refused-signature, unsigned-discarded}
 use Rattle.paper.specs.Mirror.{Quorum, Mirrors}
@@ -154,7 +154,7 @@ module _ (S : Setting) (seat : ℕ) (some-seats : 1 ≤ S .n) (inside : seat < S
     Done = Good checks n seat Happened some-seats inside
 
     still-good : (m : Machine) → Has m → Done (record { machine = m; actions = [] })
-    still-good m z = (z, each-nil (Sent checks n seat Happened some-seats inside))
+    still-good m z = (z, each-nil (Sendable checks n seat Happened some-seats inside))
 
     step-good : (msg : Message) (m : Machine) → Taken checks n round msg → Sized n msg → ((e : Event) → delivered msg ≡ some e → Happened e) → Has m → Done (reactTo checks n seat (delivered msg) m)
     unfolding delivered reactTo seatsOf entrySeats formSeats fullForm
@@ -214,9 +214,9 @@ module _ (S : Setting) (seat : ℕ) (some-seats : 1 ≤ S .n) (inside : seat < S
 
     pub does-as : (r : Record) (store : List ℕ) (cs : List Call) (m : Machine) → r ≡ recordOf n seat round m → Mirrors checks n store m → AtRest n m → Has m → Each (λ t. List·Memᴰ t all) (listFrom S r store cs)
         → Each (λ t. Are n (writtenIn S t) (messages S t)) (listFrom S r store cs)
-        → DoesAs S seat m (listFrom S r store cs) × Each (Sent checks n seat Happened some-seats inside) (actionsOver S seat m (listFrom S r store cs))
+        → DoesAs S seat m (listFrom S r store cs) × Each (Sendable checks n seat Happened some-seats inside) (actionsOver S seat m (listFrom S r store cs))
     unfolding listFrom reaction actionsOver
-    does-as r store [] m e z rest b in-all are = (tt, each-nil (Sent checks n seat Happened some-seats inside))
+    does-as r store [] m e z rest b in-all are = (tt, each-nil (Sendable checks n seat Happened some-seats inside))
     does-as r store (c ∷ cs) m e z rest b in-all are =
         let t : Called = record { given = c; unit = r; store = store } in
         let now = reaction S seat t m in
@@ -239,7 +239,7 @@ module _ (S : Setting) (seat : ℕ) (some-seats : 1 ≤ S .n) (inside : seat < S
             },
             later .0,
           ),
-          each-append (Sent checks n seat Happened some-seats inside) (now .actions) (actionsOver S seat (now .machine) (listFrom S (outcome S c r store .unit) (outcome S c r store .store) cs)) (g .1) (later .1),
+          each-append (Sendable checks n seat Happened some-seats inside) (now .actions) (actionsOver S seat (now .machine) (listFrom S (outcome S c r store .unit) (outcome S c r store .store) cs)) (g .1) (later .1),
         )
 
   -- ---- the opening

@@ -62,11 +62,11 @@ module _ (checks : Checks) (n own : ℕ) (Happened : Event → Type 0) (some-sea
   BasedOn m = Based (m .value) (m .confirmed) (m .early) (m .collected) (m .obtained)
 
   -- an action made of received values and signatures, which can be sent
-  abbrev pub Sent : Action → Type 0
-  Sent a = Received own Happened a × FormedAction n a
+  abbrev pub Sendable : Action → Type 0
+  Sendable a = Received own Happened a × FormedAction n a
 
   abbrev pub Good : Reaction → Type 0
-  Good x = BasedOn (x .machine) × Each Sent (x .actions)
+  Good x = BasedOn (x .machine) × Each Sendable (x .actions)
 
   empty : (v : List ℕ) → Collection v []
   unfolding distinct
@@ -149,7 +149,7 @@ module _ (checks : Checks) (n own : ℕ) (Happened : Event → Type 0) (some-sea
           collection = subst (Collection v) (sym (z .0 .unsaid unsaid .0)) (empty v);
           certified = z .0 .certified;
         },
-        each-append Sent (x .actions) (BroadcastSubmit v g ∷ []) (z .1) (each-one Sent (BroadcastSubmit v g) (came, tt)),
+        each-append Sendable (x .actions) (BroadcastSubmit v g ∷ []) (z .1) (each-one Sendable (BroadcastSubmit v g) (came, tt)),
       ))
 
   -- ---- certificates: lines 35, 25, 33 and 39
@@ -211,7 +211,7 @@ module _ (checks : Checks) (n own : ℕ) (Happened : Event → Type 0) (some-sea
       let c = own-certified m (z .0) said in
       obtain-good (ownFull checks n own m) (act notice (setConfirmed x)) (c .0, inl (c .1)) (
         record { heard = z .0 .heard; said = z .0 .said; unsaid = λ q. absurd (said q); collection = z .0 .collection; certified = z .0 .certified },
-        each-append Sent (x .actions) (notice ∷ []) (z .1) (each-one Sent notice (own-said (m .value) (z .0 .said) said .1, tt)),
+        each-append Sendable (x .actions) (notice ∷ []) (z .1) (each-one Sendable notice (own-said (m .value) (z .0 .said) said .1, tt)),
       ))
       (λ h. z)
 
@@ -228,7 +228,7 @@ module _ (checks : Checks) (n own : ℕ) (Happened : Event → Type 0) (some-sea
       cond-elim Good (noticesDue (x .machine)) (sending checks n own x) x
       (λ h.
       let c = own-certified (x .machine) (z .0) (confirmed-said (x .machine) (z .0) h) in
-      (z .0, each-append Sent (x .actions) (BroadcastFull full ∷ []) (z .1) (each-one Sent (BroadcastFull full) (c .1, c .0))))
+      (z .0, each-append Sendable (x .actions) (BroadcastFull full ∷ []) (z .1) (each-one Sendable (BroadcastFull full) (c .1, c .0))))
       (λ h. z)
 
   fulls-good : (x : Reaction) → Good x → Good (uponFullsConflict checks n own x)
@@ -243,7 +243,7 @@ module _ (checks : Checks) (n own : ℕ) (Happened : Event → Type 0) (some-sea
           let found = conflict-found valueOfFull (x .machine .obtained) p e in
           let c = z .0 .certified (p .0) (found .0) in
           let d = z .0 .certified (p .1) (found .1) in
-          (z .0, each-append Sent (x .actions) (Detect (p .0) (p .1) ∷ []) (z .1) (each-one Sent (Detect (p .0) (p .1)) ((c .1, d .1, found .2), (c .0, d .0, found .2))))
+          (z .0, each-append Sendable (x .actions) (Detect (p .0) (p .1) ∷ []) (z .1) (each-one Sendable (Detect (p .0) (p .1)) ((c .1, d .1, found .2), (c .0, d .0, found .2))))
 
   -- ---- at every event
 
@@ -267,7 +267,7 @@ module _ (checks : Checks) (n own : ℕ) (Happened : Event → Type 0) (some-sea
       let x : Reaction = record { machine = m; actions = [] } in
       let y = uponEvent checks n own e x in
       let w = uponQuorum checks n own y in
-      fulls-good (uponNoticesConflict checks n own w) (notices-good w (quorum-good y (event-good e x came b (z, each-nil Sent))))
+      fulls-good (uponNoticesConflict checks n own w) (notices-good w (quorum-good y (event-good e x came b (z, each-nil Sendable))))
 
   pub init-based : BasedOn init
   unfolding init ownValue

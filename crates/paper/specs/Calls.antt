@@ -253,9 +253,9 @@ module _ (n seat round : ℕ) where
             rw unkept
 
         -- its first is collected where it is wanted
-        honest : (e : Signed) → firstFrom t (m .early) ≡ some e → collectKeptSeat t now ≡ cond (wants n y t (e .value) (a .collected)) (collect t (e .signature) now) now
+        opened : (e : Signed) → firstFrom t (m .early) ≡ some e → collectKeptSeat t now ≡ cond (wants n y t (e .value) (a .collected)) (collect t (e .signature) now) now
         unfolding collectKeptSeat isOpenTo collectIfWanted isWanted recordOf ownValue
-        honest e h =
+        opened e h =
             let first = a .keeping .stored t e h in
             let kept-some : has t kept ≡ true = ap (has t) (unsaid-kept (m .value) (m .early) unsaid) ∙ has-true t (earlySeats (m .early)) .1 (first-some t (m .early) e h) in
             ap (λ (b : Bool). cond (has t kept && ltb (size (seatsIn (take (k n) (a .collected)))) (k n))
@@ -277,7 +277,7 @@ module _ (n seat round : ℕ) where
                 let f = first-in t (m .early) e h in
                 let good = z .keeping .signed e (f .0) .1 in
                 let is : collectKeptSeat t st ≡ cond (wants n y t (e .value) (a .collected)) (collect t (e .signature) st) st =
-                ap (collectKeptSeat t) (a .is) ∙ honest e h ∙ ap (λ (u : State). cond (wants n y t (e .value) (a .collected)) (collect t (e .signature) u) u) (sym (a .is)) in
+                ap (collectKeptSeat t) (a .is) ∙ opened e h ∙ ap (λ (u : State). cond (wants n y t (e .value) (a .collected)) (collect t (e .signature) u) u) (sym (a .is)) in
                 let of-seat : checks t (e .value) (e .signature) ≡ true = subst (λ (i : ℕ). checks i (e .value) (e .signature) ≡ true) (f .1) (good .checked) in
                 subst (λ (u : State). Gathering u (collecting checks n seat (e .seat) (e .value) (e .signature) w)) (sym is)
                 (subst (λ (i : ℕ). Gathering (cond (wants n y t (e .value) (a .collected)) (collect t (e .signature) st) st) (collecting checks n seat i (e .value) (e .signature) w)) (sym (f .1))

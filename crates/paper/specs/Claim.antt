@@ -16,7 +16,7 @@ use Rattle.claims.specs.Units.{by-unbroken, written-are}
 use Rattle.paper.specs.Machine.{init, Event, Action, Says}
 use Rattle.paper.specs.Events.{DoesAs, actionsOver, TakenIn}
 use Rattle.paper.specs.Received.{Collected, IsSubmitted, Came, Received}
-use Rattle.paper.specs.Based.{Sent, init-based, full-from, evidence-from}
+use Rattle.paper.specs.Based.{Sendable, init-based, full-from, evidence-from}
 use Rattle.paper.specs.Along.{does-as, init-recorded, init-mirrors, init-rest, over-list}
 
 -- For any honest unit, with any signature check, any store and any out buffers. Where it loses power, the machine sees the calls that count
@@ -35,13 +35,13 @@ module _ (S : Setting) (u : Boat) (honest : IsHonest S u) where
   range : InRange n (u .seat) round
   range = opened-range S u honest
 
-  along : DoesAs S (u .seat) init (listOf S u) × Each (Sent checks n (u .seat) Took (range .some) (range .seated)) actions
+  along : DoesAs S (u .seat) init (listOf S u) × Each (Sendable checks n (u .seat) Took (range .some) (range .seated)) actions
   along =
       let some-seats = range .some in
       let inside = range .seated in
       by-unbroken S u honest
       (λ end left ts. Each (λ t. List·Memᴰ t (listOf S u)) ts → Each (λ t. Are n (writtenIn S t) (messages S t)) ts
-      → DoesAs S (u .seat) init ts × Each (Sent checks n (u .seat) Took some-seats inside) (actionsOver S (u .seat) init ts))
+      → DoesAs S (u .seat) init ts × Each (Sendable checks n (u .seat) Took some-seats inside) (actionsOver S (u .seat) init ts))
       (λ store cs. does-as S (u .seat) some-seats inside (listOf S u) (startOf S u honest) store cs init (opened-fresh S u honest ∙ init-recorded S (u .seat) some-seats inside)
       (init-mirrors S (u .seat) some-seats inside store)
       (init-rest S (u .seat) some-seats inside)

@@ -26,7 +26,8 @@ outAfter written out = patch 0 written out
 
 -- ---- opening
 
--- "gives the record with nothing else set; a refused opening gives a record of zeros"
+-- "gives the record with nothing else set; a refused opening gives a record of zeros", and "A refused note gives a record of zeros."
+-- (document 02, item 2): the answer of either
 unfoldable pub openedBy : ℕ → Record → Opened
 openedBy refusal r = record { number = refusal; unit = unrefused refusal r zeros }
 

@@ -52,7 +52,7 @@ pub refused-writes-nothing : (r : Record) (out : List ℕ) → (writeNote r out 
 unfolding writeNote notingBy
 refused-writes-nothing r out = refused-old (firstOf (writeNoteConditions r out)) (renderNote r) []
 
--- and none writes more
+-- no writing writes more than 118 bytes
 pub written-most : (r : Record) (out : List ℕ) → ValuesSized r → length (writeNote r out .written) ≤ noteLength
 written-most r out sized = go (ℕ-discrete (writeNote r out .refusal) 0)
   where
@@ -95,7 +95,7 @@ module _ (note : List ℕ) (e : readNote note .number ≡ 0) where
   pub taken-sized : ValuesSized (readNote note .unit)
   taken-sized = rw taken-record (values-sized note taken-fits)
 
--- it is, byte for byte, what the writer writes of the record read
+-- it is, byte for byte, what the writer writes of the record read. That bytes are below 256 is so by the code's type.
 pub taken-was-written : (note : List ℕ) → ((i : ℕ) → byteAt note i < 256) → readNote note .number ≡ 0 → (out : List ℕ) → noteLength ≤ length out
     → writeNote (readNote note .unit) out ≡ record { refusal = 0; written = note }
 taken-was-written note b e out room =

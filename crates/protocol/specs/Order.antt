@@ -1,6 +1,6 @@
 -- The order of the table's numbers. Every call answers the first number in it whose condition holds; "over two certificates, the
 -- first one's 9 to 14 come before the second's". The numbers of document 01 rise in this order, and so, as it says, "The lowest number
--- whose condition holds is returned"; 17, which reading a note alone has, "comes before 4" (document 02, item 2).
+-- whose condition holds is returned"; 17, which only reading a note answers, "comes before 4" (document 02, item 2).
 -- Assumes nothing.
 use Prim.Native.Nat.{ℕ}
 use mathlib.Core.Path.{_≡_, refl, ap, _∙_}
@@ -33,17 +33,17 @@ order-distinct : distinct order ≡ true
 unfolding order distinct isIn
 order-distinct = refl
 
--- document 01's numbers in the order, which rise
-unfoldable pub rising : List ℕ
-rising = 1 ∷ 2 ∷ 3 ∷ 4 ∷ 5 ∷ 6 ∷ 7 ∷ 8 ∷ 9 ∷ 10 ∷ 11 ∷ 12 ∷ 14 ∷ 15 ∷ 16 ∷ []
+-- document 01's numbers keep their order, in which they rise
+unfoldable pub ofDocument01 : List ℕ
+ofDocument01 = 1 ∷ 2 ∷ 3 ∷ 4 ∷ 5 ∷ 6 ∷ 7 ∷ 8 ∷ 9 ∷ 10 ∷ 11 ∷ 12 ∷ 14 ∷ 15 ∷ 16 ∷ []
 
-rising-in-order : follows order rising ≡ true
-unfolding order rising follows
-rising-in-order = refl
+pub ofDocument01-in-order : follows order ofDocument01 ≡ true
+unfolding order ofDocument01 follows
+ofDocument01-in-order = refl
 
-rising-rises : rise rising ≡ true
-unfolding rising rise riseFrom
-rising-rises = refl
+ofDocument01-rises : rise ofDocument01 ≡ true
+unfolding ofDocument01 rise riseFrom
+ofDocument01-rises = refl
 
 -- the number is the first in the order whose condition holds, or 0 where none does
 abbrev pub FirstInOrder : ℕ → List Condition → Type 0
@@ -56,8 +56,8 @@ Follows numbered conditions = follows numbered (numbers conditions) ≡ true
 finds-first : (conditions : List Condition) → Follows order conditions → FirstInOrder (firstOf conditions) conditions
 finds-first conditions f = firstOf-in-order order conditions order-distinct f
 
-finds-lowest : (conditions : List Condition) → Follows rising conditions → Lowest (firstOf conditions) conditions
-finds-lowest conditions f = firstOf-lowest conditions (rise-in rising (numbers conditions) rising-rises f)
+finds-lowest : (conditions : List Condition) → Follows ofDocument01 conditions → Lowest (firstOf conditions) conditions
+finds-lowest conditions f = firstOf-lowest conditions (rise-in ofDocument01 (numbers conditions) ofDocument01-rises f)
 
 -- ---- every list
 
@@ -126,8 +126,8 @@ module _
         ∷ []
 
     -- by computation: a list's numbers don't depend on its conditions
-    pub lists-follow : (every (follows order) (map numbers lists) ≡ true) × (every (follows rising) (map numbers lists) ≡ true)
-    unfolding every follows order rising numbers openingConditions submitConditions stepConditions evidenceConditions checkConditions makeKeyConditions signConditions writeNoteConditions outsideConditions recordConditions messageConditions certificateConditions
+    pub lists-follow : (every (follows order) (map numbers lists) ≡ true) × (every (follows ofDocument01) (map numbers lists) ≡ true)
+    unfolding every follows order ofDocument01 numbers openingConditions submitConditions stepConditions evidenceConditions checkConditions makeKeyConditions signConditions writeNoteConditions outsideConditions recordConditions messageConditions certificateConditions
     lists-follow = (refl, refl)
 
     -- each call answers the number with this property; over two certificates, that of the other arguments comes first, then that of
@@ -176,11 +176,11 @@ module _
     pub answers : Answers FirstInOrder
     answers = answers-each FirstInOrder order finds-first (lists-follow .0)
 
-    -- and reading a note, of all calls the one with 17
+    -- and reading a note, the only call that has 17
     pub answers-note : FirstInOrder (calls.readNote note .number) (readNoteConditions note)
     unfolding calls.readNote calls.openedBy follows order numbers readNoteConditions
     answers-note = finds-first (readNoteConditions note) refl
 
     -- "The lowest number whose condition holds is returned": of document 01's numbers
     pub answers-lowest : Answers Lowest
-    answers-lowest = answers-each Lowest rising finds-lowest (lists-follow .1)
+    answers-lowest = answers-each Lowest ofDocument01 finds-lowest (lists-follow .1)

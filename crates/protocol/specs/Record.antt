@@ -50,7 +50,7 @@ fresh n seat round = record {
   kept = 0;
 }
 
--- "a refused opening gives a record of zeros"
+-- "a refused opening gives a record of zeros", and so does a refused note: "A refused note gives a record of zeros." (document 02, item 2)
 unfoldable pub zeros : Record
 zeros = fresh 0 0 0
 

@@ -7,7 +7,7 @@ use mathlib.Core.Bool.{Bool, true, false}
 use mathlib.Core.List.{List, [], _∷_, _++_}
 use Rattle.protocol.specs.Message.{Message, Submit, Notice, Full, Evidence, Garbled}
 use Rattle.protocol.specs.Refusals.{isFull, isEvidence}
-use Rattle.round.specs.Round.{Setting, Boat, Called, listOf, writtenIn, Are, Sent, Writes}
+use Rattle.round.specs.Round.{Setting, Boat, Called, listOf, writtenIn, Are, Sent, Writes, Submits}
 
 -- the bytes that calls write, one after another
 unfoldable pub writtenOver : Setting → List Called → List ℕ
@@ -58,3 +58,20 @@ SendsWritten S u = (m : Message) → Sent u m → Writes S u m
 -- of two messages of one kind that a unit sends, one is the other again
 abbrev pub SendsOne : Boat → Type 0
 SendsOne u = (κ : Kind) (m m′ : Message) → isOf κ m ≡ true → isOf κ m′ ≡ true → Sent u m → Sent u m′ → m ≡ m′
+
+-- the layout that a message of the unit's own carries: SUBMIT, NOTICE and FULL have one
+abbrev pub Carries : Message → List ℕ → Type 0
+Carries (Submit ρ seat value signature) layout = value ≡ layout
+Carries (Notice ρ seat value) layout = value ≡ layout
+Carries (Full ρ sender value entries) layout = value ≡ layout
+Carries (Evidence ρ values entries) layout = ⊥
+Carries Garbled layout = ⊥
+
+-- "A display that comes back blank could sign a second layout in good faith" (document 02, item 2). All that a unit sends carries a layout
+-- that it submitted, in a call that counts,
+abbrev pub SendsSubmitted : Setting → Boat → Type 0
+SendsSubmitted S u = (m : Message) (layout : List ℕ) → Carries m layout → Sent u m → Submits S u layout
+
+-- and one layout, in messages of one kind or of two
+abbrev pub SendsOneLayout : Boat → Type 0
+SendsOneLayout u = (m m′ : Message) (layout layout′ : List ℕ) → Carries m layout → Carries m′ layout′ → Sent u m → Sent u m′ → layout ≡ layout′

@@ -83,14 +83,16 @@ pub data Event : Type 0 where
   Makes : Call → Event
   -- "The host keeps the note and the store": the record is written out as a note, to any out buffer
   Keeps : (out : List ℕ) → Event
-  -- a message is sent
+  -- A message that a call of the unit wrote is sent. Evidence made from what is in hand, and messages of others passed on, stand outside
+  -- the lists.
   Sends : Message → Event
   -- power is lost, and the unit is brought back from a note and a store
   ComesBack : Saved → Event
   -- power is lost, and the unit is opened again, with a store holding any bytes
   OpensAgain : (store : List ℕ) → Event
 
--- "Making evidence from what is in hand .. stand[s] outside the lists": two certificates, and any out buffer
+-- "Making evidence from what is in hand .. stand[s] outside the lists": two certificates, and any out buffer. No power cut takes these
+-- away: they touch no record. The claims are for any such list, also for one without the makings that a cut took away.
 pub record InHand : Type 0 where
   pub a : List ℕ
   pub b : List ℕ
@@ -108,20 +110,20 @@ pub record Boat : Type 0 where
 pub record Moment : Type 0 where
   pub unit : Record
   pub store : List ℕ
-  pub kept : List Saved
+  pub saved : List Saved
   pub noted : List Called
   pub since : List Called
+
+-- the note that is written of a record
+abbrev pub noteOf : Record → List ℕ → List ℕ
+noteOf r out = counted (made (writeNote r out) .written) (writeNote r out .written) out
 
 module _ (S : Setting) where
   open Setting S using (n, round, keys)
 
-  -- the note that is written of a record
-  abbrev pub noteOf : Record → List ℕ → List ℕ
-  noteOf r out = counted (made (writeNote r out) .written) (writeNote r out .written) out
-
   -- "It starts from the record that an opening at its seat gave"
   unfoldable pub begins : Boat → Moment
-  begins u = record { unit = opening n (u .seat) round keys .unit; store = u .store; kept = []; noted = []; since = [] }
+  begins u = record { unit = opening n (u .seat) round keys .unit; store = u .store; saved = []; noted = []; since = [] }
 
   -- the moment after an event; the number is the unit's seat
   unfoldable pub after : ℕ → Moment → Event → Moment
@@ -129,14 +131,14 @@ module _ (S : Setting) where
   -- either."
   after seat m (Makes c) =
       let result = outcome S c (m .unit) (m .store) in
-      record { unit = result .unit; store = result .store; kept = m .kept; noted = m .noted; since = m .since ++ record { given = c; unit = m .unit; store = m .store } ∷ [] }
+      record { unit = result .unit; store = result .store; saved = m .saved; noted = m .noted; since = m .since ++ record { given = c; unit = m .unit; store = m .store } ∷ [] }
   after seat m (Keeps out) =
-      record { unit = m .unit; store = m .store; kept = record { note = noteOf (m .unit) out; store = m .store } ∷ m .kept; noted = m .noted ++ m .since; since = [] }
+      record { unit = m .unit; store = m .store; saved = record { note = noteOf (m .unit) out; store = m .store } ∷ m .saved; noted = m .noted ++ m .since; since = [] }
   after seat m (Sends message) = m
   -- "the calls made after that note count as never made, and what they were given as never having reached it"
-  after seat m (ComesBack saved) = record { unit = readNote (saved .note) .unit; store = saved .store; kept = m .kept; noted = m .noted; since = [] }
+  after seat m (ComesBack saved) = record { unit = readNote (saved .note) .unit; store = saved .store; saved = m .saved; noted = m .noted; since = [] }
   -- before the first note: nothing was sent, so the calls made count as never made, and the opening is this one
-  after seat m (OpensAgain store) = record { unit = opening n seat round keys .unit; store = store; kept = m .kept; noted = m .noted; since = [] }
+  after seat m (OpensAgain store) = record { unit = opening n seat round keys .unit; store = store; saved = m .saved; noted = m .noted; since = [] }
 
   unfoldable pub afterAll : ℕ → Moment → List Event → Moment
   afterAll seat m [] = m
@@ -158,8 +160,9 @@ module _ (S : Setting) where
   -- "The host keeps the note and the store, both of them or neither, before it sends anything.": a call before the newest note wrote it
   Allowed m (Sends message) = (c : Called) × List·Memᴰ c (m .noted) × StandsIn n message (writtenIn S c)
   -- "from its newest note and the store kept with it"; "One brought back from an older note, or with another store, isn't honest."
-  Allowed m (ComesBack saved) = (older : List Saved) × (m .kept ≡ saved ∷ older)
-  Allowed m (OpensAgain store) = m .kept ≡ []
+  Allowed m (ComesBack saved) = (older : List Saved) × (m .saved ≡ saved ∷ older)
+  -- "opened once": while no note is kept nothing was sent, and the openings before this one count as never made
+  Allowed m (OpensAgain store) = m .saved ≡ []
 
   unfoldable pub AllowedAll : ℕ → Moment → List Event → Type 0
   AllowedAll seat m [] = Unit {0}

@@ -11,7 +11,8 @@ use Rattle.refusal.specs.RefusalLaws.{refused-old}
 use Rattle.protocol.specs.Record.{zeros}
 use Rattle.protocol.specs.Refusals.{Checks}
 use Rattle.protocol.specs.Step.{State}
-use Rattle.protocol.specs.Calls.{Result, resultBy, submit, step, outAfter, notingBy, writeNote, openedBy, readNote}
+use Rattle.protocol.specs.NoteClaim.{refused-writes-nothing, refused-gives-zeros}
+use Rattle.protocol.specs.Calls.{Result, resultBy, submit, step, outAfter, writeNote, readNote}
 use Rattle.protocol.specs.declared.Record.{Record}
 
 -- the record, the store and out are as they were lent
@@ -34,9 +35,10 @@ step-refused checks keys r store bytes out = refused-by _ _ r store out
 
 pub write-note-refused : (r : Record) (out : List ℕ) → writeNote r out .refusal ≢ 0
     → (writeNote r out .written ≡ []) × (outAfter (writeNote r out .written) out ≡ out)
-unfolding writeNote notingBy outAfter
-write-note-refused r out h = simp refused-old (refl, patch-nothing out)
+unfolding outAfter
+write-note-refused r out h =
+    let nothing = refused-writes-nothing r out h in
+    (nothing, rw nothing (patch-nothing out))
 
 pub read-note-refused : (note : List ℕ) → readNote note .number ≢ 0 → readNote note .unit ≡ zeros
-unfolding readNote openedBy
-read-note-refused note h = simp refused-old
+read-note-refused = refused-gives-zeros

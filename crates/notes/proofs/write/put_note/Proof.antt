@@ -1,11 +1,12 @@
 -- `notes::write::put_note` meets its contract.
-use mathlib.Core.Path.{sym}
+use mathlib.Core.Path.{sym, _∙_}
 use native.Mathlib.Omega.{arith}
 use borrow.Author.Needs.{needs}
 use denote.Ref.{now}
 use Rattle.protocol.specs.Layout.{noteLength}
+use Rattle.protocol.specs.Figures.{note-figure}
 use Rattle.protocol.specs.NoteLaws.{ValuesSized, length-renderNote}
-use Rattle.notes.specs.PartsLaws.{note-written}
+use Rattle.notes.specs.PartsLaws.{parts-written}
 use Rattle.notes.proofs.write.put_note.Statement.{statement}
 use Rattle.notes.proofs.write.put_note.Tie as tie
 
@@ -39,18 +40,20 @@ put-value-requires-3 c κs =
     let start = headed own in
     omega (arith, opened start .pre .2, start .put-start .kept, own .put-value .kept, masks .put-masks .kept, heard .put-value2 .kept)
 
+cast-result : tie.Need-cast-result
+cast-result c = omega (arith, c .note-length .ensures, note-figure)
+
 returns : tie.Need-returns
-unfolding noteLength
 returns c =
-    let first = c .before .before in
+    let first = c .before .before .before in
     let heard = first .before .before .before .before in
     let masks = masked heard in
     let own = valued masks in
     let start = headed own in
     let args = opened start .args in
     let sized : ValuesSized (args .r) = record { own = own .put-value .ensures .0; heard = heard .put-value2 .ensures .0; first = first .put-value3 .ensures .0 } in (
-      note-written sized (now (args .out)) (start .put-start .ensures) (own .put-value .ensures .1) (masks .put-masks .ensures) (heard .put-value2 .ensures .1) (first .put-value3 .ensures .1),
-      sym (length-renderNote (args .r) sized),
+      parts-written sized (now (args .out)) (start .put-start .ensures) (own .put-value .ensures .1) (masks .put-masks .ensures) (heard .put-value2 .ensures .1) (first .put-value3 .ensures .1),
+      c .note-length .ensures ∙ sym (length-renderNote (args .r) sized),
     )
 
 pub put-note-spec : {M : Type 1} → statement M
@@ -62,6 +65,7 @@ put-note-spec =
     (λ c κs. search needs)
     put-value-requires-2
     put-value-requires-3
-    (λ c. search needs)
+    (λ c κs. search needs)
+    cast-result
     (λ c. search needs)
     returns)
