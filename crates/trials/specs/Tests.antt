@@ -281,16 +281,16 @@ module _ (S : Setting) where
   allowed m (Makes c) = true
   allowed m (Keeps out) = eqb (writeNote (m .unit) out .refusal) 0
   allowed m (Sends message) = wrote (sendable m) message
-  allowed m (ComesBack saved) = isNewest saved (m .kept)
-  allowed m (OpensAgain store) = keepsNone (m .kept)
+  allowed m (ComesBack saved) = isNewest saved (m .saved)
+  allowed m (OpensAgain store) = keepsNone (m .saved)
 
   allowed-says : (m : Moment) (e : Event) → allowed m e ≡ true → Allowed S m e
   unfolding allowed
   allowed-says m (Makes c) e = tt
   allowed-says m (Keeps out) e = eqb-true (writeNote (m .unit) out .refusal) 0 e
   allowed-says m (Sends message) e = wrote-says (sendable m) message e
-  allowed-says m (ComesBack saved) e = newest-says saved (m .kept) e
-  allowed-says m (OpensAgain store) e = none-says (m .kept) e
+  allowed-says m (ComesBack saved) e = newest-says saved (m .saved) e
+  allowed-says m (OpensAgain store) e = none-says (m .saved) e
 
   unfoldable pub allowedAll : ℕ → Moment → List Event → Bool
   allowedAll seat m [] = true

@@ -284,7 +284,7 @@ keeps = Keeps (replicate noteLength 0)
 
 -- what a boat has kept, newest first, and one of these by its place
 unfoldable pub keptBy : Setting → Boat → List Saved
-keptBy S u = afterAll S (u .seat) (begins S u) (u .events) .kept
+keptBy S u = afterAll S (u .seat) (begins S u) (u .events) .saved
 
 unfoldable pub savedAt : ℕ → List Saved → Saved
 savedAt i [] = record { note = []; store = [] }
