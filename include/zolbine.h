@@ -302,10 +302,10 @@ struct zolbine_written zolbine_step_lent(struct zolbine_record *record,
 /* The note of a record, for a unit that may lose power during a round: ZOLBINE_NOTE_LEN bytes at the start of out, which has as
  * many or more. It is the same on every processor; docs/PROTOCOL.md has its bytes. Refusals: ZOLBINE_RECORD, ZOLBINE_OUT.
  *
- * WARNING: keep note and store, both of them or neither, BEFORE anything that the calls since the last note wrote is sent. Keep with
- * them the bytes written: no call writes them again. The unit goes on from its newest note with the store kept with it, as if the
- * calls after that note had never been made. One that goes on from an older note, or with another store, may sign a second layout,
- * or write evidence that is refused.
+ * WARNING: keep note and store, both of them or neither, BEFORE anything that the calls since the last note wrote is sent. Keep
+ * with them the bytes written: no call writes them again. The unit goes on from its newest note with the store kept with it, as if
+ * the calls after that note had never been made. One that goes on from an older note, or with another store, may sign a second
+ * layout, or write evidence that is refused.
  */
 struct zolbine_written zolbine_write_note(struct zolbine_record record, uint8_t *out, size_t out_len);
 
