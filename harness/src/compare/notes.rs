@@ -276,7 +276,8 @@ impl Compared<'_> {
         Ok(())
     }
 
-    /// Refused by 4 whatever the length of `out`. Its note, as no writer writes it, is refused by 4, and by 17 where that holds too.
+    /// Refused by 4 whatever the length of `out`. Its note, as no writer writes it, is refused by 4, and by 17 where that holds
+    /// too.
     fn impossible(&mut self, record: &Record, rng: &mut Rng) -> Result<(), String> {
         for length in [0, layout::NOTE - 1, layout::NOTE, layout::NOTE + 1] {
             let out = rng.bytes(length);

@@ -235,8 +235,8 @@ impl<'a> Unit<'a> {
         Call::Submit { value: value.to_vec(), signature: self.fleet.signature(self.now.record.seat, value, hand) }
     }
 
-    /// "One brought back from an older note [..] isn't honest": the opened unit's note lets it sign a second layout, which the newer
-    /// one doesn't, and the two signatures are evidence against it.
+    /// "One brought back from an older note [..] isn't honest": the opened unit's note lets it sign a second layout, which the
+    /// newer one doesn't, and the two signatures are evidence against it.
     fn older_note(&mut self, rng: &mut Rng) -> Result<(), String> {
         let Fleet { n, round } = self.fleet;
         let record = opened(self.fleet, rng.below(n as usize) as u32);
