@@ -3,12 +3,14 @@
  *     gcc -std=c11 -Iinclude examples/lasting_unit.c target/staticlib/libzolbine.a -o lasting_unit
  *     ./lasting_unit MEMORY INPUTS >AIR
  *
- * MEMORY is a folder, the boat's lasting memory. Its file `key` has the boat's seed (32 bytes), identifier (16) and tree (65,536).
- * In round 5 the program makes the file `round-0005`: the unit's note (118 bytes), its store, and each message that it has written.
- * INPUTS is like the file of unit.c, but for 0x12, which has the own layout alone: the program signs it. The messages that are sent
- * go to standard output. Started again, with these or other inputs, the program goes on from the file.
+ * MEMORY is a folder, the boat's lasting memory, for one program at a time. Its file `key` has the boat's seed (32 bytes),
+ * identifier (16) and tree (65,536). In round 5 the program makes the file `round-0005`: the unit's note (118 bytes), its store,
+ * each message that it has written, and a checksum (8). INPUTS is like the file of unit.c, but for 0x12, which has the own layout
+ * alone: the program signs it. The messages that are sent go to standard output. Started again, with these or other inputs, the
+ * program goes on from the file.
  *
- * The order is always: the call; note, store and messages into the file, all or none; only then the messages on the air.
+ * The order is always: the call; note, store and messages into the file, all or none; only then the messages on the air. A call
+ * that has changed nothing costs no writing.
  */
 #define _POSIX_C_SOURCE 200809L
 
@@ -26,13 +28,15 @@
 #define CUT(point) ((void)0)
 #endif
 
+#define SUM_LEN 8
+
 struct key {
     uint8_t seed[ZOLBINE_SEED_LEN];
     uint8_t identifier[ZOLBINE_IDENTIFIER_LEN];
     uint8_t tree[ZOLBINE_TREE_LEN];
 };
 
-/* One round of one boat. The file's bytes lie in one piece: note, store, messages. A call writes after the last message. */
+/* One round of one boat. The file's bytes lie in one piece: note, store, messages, sum. A call writes after the last message. */
 struct unit {
     struct zolbine_record record;
     uint8_t *keys, *lasting, *store, *messages;
@@ -91,22 +95,32 @@ static void flush(int file)
         stop("a flush fails");
 }
 
+/* The checksum: FNV-1a of 64 bits. */
+static void write_sum(const uint8_t *bytes, size_t len, uint8_t *out)
+{
+    uint64_t sum = UINT64_C(0xcbf29ce484222325);
+
+    for (size_t i = 0; i < len; i++)
+        sum = (sum ^ bytes[i]) * UINT64_C(0x100000001b3);
+    for (int i = 0; i < SUM_LEN; i++)
+        out[i] = (uint8_t)(sum >> 8 * i);
+}
+
 /* Note, store and messages go into the file together: written aside, flushed, and renamed over the former file. A cut at any point
  * leaves the former file whole, or the new one. What it leaves aside is written over the next time.
  */
-static void keep(struct unit *unit)
+static void keep(struct unit *unit, const uint8_t *note)
 {
-    struct zolbine_written note = zolbine_write_note(unit->record, unit->lasting, ZOLBINE_NOTE_LEN);
+    size_t len = ZOLBINE_NOTE_LEN + unit->store_len + unit->messages_len;
     int aside;
 
-    if (note.number != 0)
-        stop("the note is refused");
-    CUT("note written");
+    memcpy(unit->lasting, note, ZOLBINE_NOTE_LEN);
+    write_sum(unit->lasting, len, unit->lasting + len);
     aside = open("aside", O_WRONLY | O_CREAT | O_TRUNC, 0600);
     if (aside < 0)
         stop("no file aside");
     CUT("aside opened");
-    write_bytes(aside, unit->lasting, ZOLBINE_NOTE_LEN + unit->store_len + unit->messages_len);
+    write_bytes(aside, unit->lasting, len + SUM_LEN);
     CUT("aside written");
     flush(aside);
     CUT("aside flushed");
@@ -135,16 +149,22 @@ static void send_from(const struct unit *unit, size_t place)
     }
 }
 
-/* After each call. A refusal has changed nothing. */
+/* After each call. A refusal has changed nothing; nor has a call after which the note is still that of the file. */
 static void answered(struct unit *unit, uint32_t number, uint32_t written)
 {
     size_t sent = unit->messages_len;
+    uint8_t note[ZOLBINE_NOTE_LEN];
 
     CUT("after a call");
     if (number != 0)
         return;
+    if (zolbine_write_note(unit->record, note, sizeof note).number != 0)
+        stop("the note is refused");
+    CUT("note written");
+    if (written == 0 && memcmp(note, unit->lasting, sizeof note) == 0)
+        return;
     unit->messages_len += written;
-    keep(unit);
+    keep(unit, note);
     send_from(unit, sent);
 }
 
@@ -201,19 +221,24 @@ static void submit(struct unit *unit, const struct key *key, const uint8_t *layo
     answered(unit, answer.number, answer.written);
 }
 
-/* Whether the file is there; its bytes are then in memory. A file that can't be read is no reason to begin anew. */
+/* Whether the file is there; its bytes are then in memory. A file that can't be read, or is damaged, is no reason to begin anew. */
 static bool has_file(struct unit *unit)
 {
     FILE *file = fopen(unit->file, "rb");
     size_t pair = ZOLBINE_NOTE_LEN + unit->store_len, len;
+    uint8_t sum[SUM_LEN];
 
     if (file == NULL && errno == ENOENT)
         return false;
     if (file == NULL)
         stop("the round's file isn't read");
-    len = fread(unit->lasting, 1, pair + unit->room, file);
-    if (len < pair || getc(file) != EOF)
+    len = fread(unit->lasting, 1, pair + unit->room + SUM_LEN, file);
+    if (len < pair + SUM_LEN || getc(file) != EOF)
         stop("the round's file isn't whole: the boat sits out the round");
+    len -= SUM_LEN;
+    write_sum(unit->lasting, len, sum);
+    if (memcmp(sum, unit->lasting + len, SUM_LEN) != 0)
+        stop("the round's file is damaged: the boat sits out the round");
     unit->messages_len = len - pair;
     fclose(file);
     return true;
@@ -238,7 +263,7 @@ static void open_unit(struct unit *unit, FILE *inputs)
         stop("the opening is refused");
     unit->store_len = ZOLBINE_STORE_LEN(n);
     unit->room = 2 * ZOLBINE_OUT_LEN(n); /* once for those of the round so far, each written once, and once for the next call */
-    unit->lasting = buffer(ZOLBINE_NOTE_LEN + unit->store_len + unit->room);
+    unit->lasting = buffer(ZOLBINE_NOTE_LEN + unit->store_len + unit->room + SUM_LEN);
     unit->store = unit->lasting + ZOLBINE_NOTE_LEN;
     unit->messages = unit->store + unit->store_len;
     unit->messages_len = 0;
@@ -299,7 +324,8 @@ int main(int argc, char **argv)
     read_key(&key);
     open_unit(&unit, inputs);
     CUT("brought back");
-    flush(unit.folder);  /* where the program was stopped and not the power, the file read may not be lasting yet */
+    flush(unit.folder); /* where the program was stopped and not the power, the file read may not be lasting yet */
+    CUT("folder flushed again");
     send_from(&unit, 0); /* nobody knows which of them left; one heard twice changes nothing */
     for (int command = getc(inputs); command != EOF; command = getc(inputs))
         take(&unit, &key, inputs, command);

@@ -92,8 +92,8 @@ static void send_all(uint32_t n, const uint8_t *out, uint32_t written)
     }
 }
 
-/* A refusal has changed nothing: record and store go on as they are, and nothing was written. Otherwise record and store are kept
- * in lasting memory here, before the first byte leaves.
+/* A refusal has changed nothing: record and store go on as they are, and nothing was written. Otherwise the record's note, the
+ * store and the bytes written are kept in lasting memory here, before the first byte leaves: see lasting_unit.c.
  */
 static void answered(const struct unit *unit, const char *what, uint32_t number, uint32_t written)
 {

@@ -137,8 +137,9 @@ struct zolbine_written zolbine_make_key(const uint8_t *seed, size_t seed_len,
  * compare it with the seed. Refusals: ZOLBINE_ROUND (leaf), ZOLBINE_OUT, ZOLBINE_GARBLED (message too long),
  * ZOLBINE_KEY_MATERIAL.
  *
- * WARNING: a leaf is never to be signed twice with different messages. Two signatures under one leaf let anyone forge
- * others under it, and in a round they make the seat a double signer. Keep the leaf as used BEFORE the signature leaves.
+ * WARNING: of one leaf never more than one signature is to leave the boat. Two over different messages let anyone forge others
+ * under it, and in a round they make the seat a double signer. Mark the leaf as used BEFORE the signature leaves; docs/HOST.md
+ * ("The leaf") says what holds after a power cut.
  */
 struct zolbine_written zolbine_sign(uint32_t leaf,
                                     const uint8_t *seed, size_t seed_len,
@@ -179,7 +180,7 @@ struct zolbine_written zolbine_make_evidence(uint32_t n, uint32_t round,
  *
  * It has 140 bytes and is aligned to 4. Numbers are in the processor's own byte order. Nine bytes are padding, three after
  * own.value, three after confirmed and three after sent: they mean nothing, and a copy of a record may have others there. So two
- * records are compared field by field, and a checksum is made over the bytes as they are kept.
+ * records are compared field by field. A record is kept as its note (zolbine_write_note).
  */
 struct zolbine_own {
     bool submitted;                   /* whether the unit has submitted */
@@ -301,9 +302,10 @@ struct zolbine_written zolbine_step_lent(struct zolbine_record *record,
 /* The note of a record, for a unit that may lose power during a round: ZOLBINE_NOTE_LEN bytes at the start of out, which has as
  * many or more. It is the same on every processor; docs/PROTOCOL.md has its bytes. Refusals: ZOLBINE_RECORD, ZOLBINE_OUT.
  *
- * WARNING: keep note and store, both of them or neither, BEFORE anything that the calls since the last note wrote is sent. The unit
- * goes on from its newest note with the store kept with it, as if the calls after that note had never been made. One that goes on
- * from an older note, or with another store, may sign a second layout, or write evidence that is refused.
+ * WARNING: keep note and store, both of them or neither, BEFORE anything that the calls since the last note wrote is sent. Keep
+ * with them the bytes written: no call writes them again. The unit goes on from its newest note with the store kept with it, as if
+ * the calls after that note had never been made. One that goes on from an older note, or with another store, may sign a second
+ * layout, or write evidence that is refused.
  */
 struct zolbine_written zolbine_write_note(struct zolbine_record record, uint8_t *out, size_t out_len);
 

@@ -1,6 +1,7 @@
 /* A round in which two double signers split a fleet of four: two honest boats confirm different layouts, and each then holds
- * evidence that names both. Either honest boat loses power once on the way. It is written from include/zolbine.h, docs/HOST.md and docs/PROTOCOL.md alone, as a display's firmware
- * would be, in C11 that is C++ too. It prints what happens, and ends with 1 if something goes wrong.
+ * evidence that names both. Each honest boat loses power once on the way. It is written from include/zolbine.h, docs/HOST.md and
+ * docs/PROTOCOL.md alone, as a display's firmware would be, in C11 that is C++ too. It prints what happens, and ends with 1 if
+ * something goes wrong.
  */
 #include "zolbine.h"
 
@@ -20,7 +21,9 @@ struct signer {
     unsigned signatures; /* each draws its own randomizer */
 };
 
-/* What stays when the power goes. In a display note and store are kept so that it finds both of them or neither. */
+/* What stays when the power goes. In a display note and store are kept so that it finds both of them or neither. Here every message
+ * has arrived before a cut, so the bytes written aren't kept; a display keeps them too (HOST).
+ */
 struct kept {
     uint8_t note[ZOLBINE_NOTE_LEN];
     uint8_t store[ZOLBINE_STORE_LEN(N)];
@@ -192,7 +195,7 @@ static void hear(uint32_t seat, const uint8_t *bytes, size_t len)
     answered(seat, was_confirmed, answer.written);
 }
 
-/* Submits the own layout: the leaf is noted as used, then signed with. It may confirm, by SUBMITs that came before. */
+/* Submits the own layout: the leaf is marked as used, then signed with. It may confirm, by SUBMITs that came before. */
 static void submit(uint32_t seat, const uint8_t *layout)
 {
     struct display *display = &displays[seat];

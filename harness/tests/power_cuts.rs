@@ -1,5 +1,6 @@
-//! The example that keeps its round in a file, killed at each point between two steps and at moments between them, a thousand times.
-//! A kill leaves what the kernel holds, and a power cut doesn't: so the test takes what the example hadn't flushed by then.
+//! The example that keeps its round in a file, killed at each point between two steps and at moments between them, a thousand
+//! times. A kill leaves what the kernel holds, and a power cut doesn't: so the test takes away what the example hadn't flushed by
+//! then.
 #![cfg(feature = "zolbine")]
 
 use std::collections::BTreeSet;
@@ -23,6 +24,7 @@ use harness::reference::layout::{self, SIGNATURE_AT, SIGNED, VALUE_AT};
 use harness::reference::messages::{Value, EVIDENCE, FULL, SUBMIT};
 use harness::reference::note::render;
 use harness::reference::record::Record;
+use harness::reference::seats::list;
 use harness::rng::{seed, Rng};
 use harness::terms::{change, each_line, Terms};
 use harness::yard::{hearing, opening};
@@ -32,6 +34,8 @@ const N: u32 = 4;
 /// The example's seat, and one that is honest too.
 const OWN: u32 = 0;
 const OTHER: u32 = 1;
+/// The checksum at the end of the round's file.
+const SUM: usize = 8;
 const KILLS: usize = 1000;
 const SIGKILL: i32 = 9;
 
@@ -130,9 +134,11 @@ impl Script {
 enum Cut {
     At(usize),
     After(usize, Duration),
+    /// At a point: the program stops and the power stays. Nothing is taken.
+    Stopped(usize),
 }
 
-/// What a power cut may take, by the points told so far.
+/// What a power cut may take, by the points told so far. What stays may still go at the next one.
 #[derive(Default)]
 struct Unflushed {
     /// Content of the file aside, and of the round's file where it was renamed so.
@@ -157,22 +163,25 @@ impl Unflushed {
                 self.file = std::mem::take(&mut self.aside);
                 self.renamed = true;
             }
-            "folder flushed" => self.renamed = false,
+            "folder flushed" | "folder flushed again" => self.renamed = false,
             _ => (),
         }
     }
 
     /// Takes each of them, or by chance doesn't.
-    fn lose(self, file: &Path, rng: &mut Rng) {
-        for (unflushed, path) in [(self.aside, file.with_file_name("aside")), (self.file, file.to_path_buf())] {
-            if unflushed && rng.one_in(2) {
-                if let Ok(content) = fs::read(&path) {
+    fn lose(&mut self, file: &Path, rng: &mut Rng) {
+        let aside = file.with_file_name("aside");
+        for (unflushed, path) in [(&mut self.aside, aside.as_path()), (&mut self.file, file)] {
+            if *unflushed && rng.one_in(2) {
+                *unflushed = false;
+                if let Ok(content) = fs::read(path) {
                     fs::write(path, &content[..rng.below(content.len() + 1)]).expect("a file cut short");
                 }
             }
         }
         if self.renamed && rng.one_in(2) {
-            match self.former {
+            self.renamed = false;
+            match self.former.take() {
                 Some(former) => fs::write(file, former).expect("the former file"),
                 None => fs::remove_file(file).expect("the round's file"),
             }
@@ -193,7 +202,10 @@ struct Start {
 struct Boat<'a> {
     program: &'a Program,
     script: &'a Script,
-    memory: PathBuf,
+    memory: Folder,
+    unflushed: Unflushed,
+    /// Renamings after which the round's file was as before.
+    idle: usize,
     starts: usize,
     sent: Vec<Vec<u8>>,
     /// First bytes of messages that a kill broke off.
@@ -202,16 +214,17 @@ struct Boat<'a> {
 }
 
 impl<'a> Boat<'a> {
-    fn new(program: &'a Program, script: &'a Script, memory: PathBuf, rng: Rng) -> Boat<'a> {
-        fs::create_dir_all(&memory).expect("a folder");
+    fn new(program: &'a Program, script: &'a Script, rng: Rng) -> Boat<'a> {
+        let memory = Folder::new();
         let key = fleet::key(OWN);
         let bytes = [&key.seed[..], &key.identifier, &key.lent_tree(&[0; 32])].concat();
-        fs::write(memory.join("key"), bytes).expect("the key's file");
-        Boat { program, script, memory, starts: 0, sent: Vec::new(), broken: Vec::new(), rng }
+        fs::write(memory.0.join("key"), bytes).expect("the key's file");
+        let (unflushed, sent, broken) = (Unflushed::default(), Vec::new(), Vec::new());
+        Boat { program, script, memory, unflushed, idle: 0, starts: 0, sent, broken, rng }
     }
 
     fn file(&self) -> PathBuf {
-        self.memory.join(format!("round-{:04}", fleet().round))
+        self.memory.0.join(format!("round-{:04}", fleet().round))
     }
 
     /// The layout that the note says is submitted.
@@ -231,10 +244,10 @@ impl<'a> Boat<'a> {
                 Input::Hears(message) => hearing(&message),
             });
         }
-        let (inputs, air) = (self.memory.join("inputs"), self.memory.join("air"));
+        let (inputs, air) = (self.memory.0.join("inputs"), self.memory.0.join("air"));
         fs::write(&inputs, bytes).expect("the inputs' file");
         let mut command = self.program.command();
-        command.arg(&self.memory).arg(&inputs).stdout(File::create(&air).expect("a file"));
+        command.arg(&self.memory.0).arg(&inputs).stdout(File::create(&air).expect("a file"));
         let start = self.run(command, cut)?;
         self.listen(&fs::read(air).expect("what was sent"), start.killed)?;
         Ok(start)
@@ -245,7 +258,7 @@ impl<'a> Boat<'a> {
         let mut child = command.stdin(Stdio::piped()).stderr(Stdio::piped()).spawn().expect("the example starts");
         let (mut go, told) = (child.stdin.take().expect("a pipe"), child.stderr.take().expect("a pipe"));
         let (mut points, mut words) = (Vec::new(), String::new());
-        let mut unflushed = Unflushed::default();
+        let (file, mut content) = (self.file(), None);
         for line in BufReader::new(told).lines() {
             let line = line.expect("text");
             let Some(point) = line.strip_prefix("point: ") else {
@@ -253,9 +266,14 @@ impl<'a> Boat<'a> {
                 continue;
             };
             points.push(point.to_string());
-            unflushed.told(point, &self.file());
+            self.unflushed.told(point, &file);
+            match point {
+                "aside opened" => content = fs::read(&file).ok(),
+                "renamed" if fs::read(&file).ok() == content => self.idle += 1,
+                _ => (),
+            }
             match cut {
-                Some(Cut::At(number)) if number == points.len() => {
+                Some(Cut::At(number) | Cut::Stopped(number)) if number == points.len() => {
                     child.kill().expect("a kill");
                     break;
                 }
@@ -273,10 +291,11 @@ impl<'a> Boat<'a> {
         }
         let status = child.wait().expect("the example ends");
         let killed = status.signal() == Some(SIGKILL);
-        if killed {
-            unflushed.lose(&self.file(), &mut self.rng);
-        } else if !status.success() {
+        if !killed && !status.success() {
             return Err(format!("stopped: {status}, {words}"));
+        }
+        if killed && !matches!(cut, Some(Cut::Stopped(_))) {
+            self.unflushed.lose(&file, &mut self.rng);
         }
         Ok(Start { points, killed, words })
     }
@@ -330,11 +349,14 @@ impl<'a> Boat<'a> {
                 return Err(format!("refused: EVIDENCE, {verdict:?}"));
             }
         }
+        if self.idle > 0 {
+            return Err(format!("kept again: nothing has changed, {} times", self.idle));
+        }
         let own = of(SUBMIT).ok_or("lost: the SUBMIT")?;
         self.compared(&distinct, own, words)
     }
 
-    /// The messages and the note are those of the reference in the same round without a cut.
+    /// The messages and the file are those of the reference in the same round without a cut.
     fn compared(&self, distinct: &[&Vec<u8>], own: &[u8], words: &str) -> Result<(), String> {
         let value: Value = own[VALUE_AT..SIGNED].try_into().expect("32 bytes");
         let mut unit = Unit::open(OWN);
@@ -358,8 +380,18 @@ impl<'a> Boat<'a> {
         let (confirmed, guilty) = (unit.record.confirmed, unit.record.guilty);
         assert!(confirmed && guilty == self.script.guilty, "{}: {:?}", self.script.title, unit.record);
         let lasting = fs::read(self.file()).expect("the round's file");
-        if lasting[..layout::NOTE] != render(&unit.record) {
+        let (note, after) = lasting.split_at(layout::NOTE);
+        if note != render(&unit.record) {
             return Err(format!("another note than that of {:?}", unit.record));
+        }
+        let (store, after) = after.split_at(layout::store(N));
+        let collected = list(unit.record.own.collected).into_iter().map(layout::collected);
+        let first = list(unit.record.first.seats).into_iter().map(|seat| layout::first(N, seat));
+        if let Some(slot) = collected.chain(first).find(|slot| store[slot.clone()] != unit.store[slot.clone()]) {
+            return Err(format!("another store: bytes {slot:?}"));
+        }
+        if after[..after.len() - SUM] != unit.written.concat() {
+            return Err("other messages in the file".into());
         }
         if words != format!("confirmed; double signers 0x{guilty:08x}") {
             return Err(format!("other words: {words}"));
@@ -425,18 +457,20 @@ struct Kills {
 const BY_CHANCE: usize = 5;
 
 /// A round to its end: the last start runs through.
-fn played(program: &Program, case: &Case, memory: PathBuf, mut rng: Rng) -> Result<Kills, String> {
+fn played(program: &Program, case: &Case, mut rng: Rng) -> Result<Kills, String> {
     let mut cuts = case.cuts.clone();
     while cuts.len() < case.cuts.len() + BY_CHANCE && !rng.one_in(3) {
         let (point, time) = (1 + rng.below(60), Duration::from_micros(rng.below(800) as u64));
         cuts.push(if rng.one_in(2) { Cut::At(point) } else { Cut::After(point, time) });
     }
-    let mut boat = Boat::new(program, &SCRIPTS[case.script], memory, rng);
+    let mut boat = Boat::new(program, &SCRIPTS[case.script], rng);
     let mut kills = Kills::default();
     for (number, &cut) in cuts.iter().enumerate() {
         let start = boat.start(Some(cut))?;
         match cut {
-            Cut::At(_) if start.killed => kills.at.push(start.points.last().expect("a point").clone()),
+            Cut::At(_) | Cut::Stopped(_) if start.killed => {
+                kills.at.push(start.points.last().expect("a point").clone())
+            }
             Cut::After(..) if start.killed => kills.after += 1,
             _ if number < case.cuts.len() => return Err(format!("no kill: {cut:?} is after the end")),
             _ => (),
@@ -444,24 +478,28 @@ fn played(program: &Program, case: &Case, memory: PathBuf, mut rng: Rng) -> Resu
     }
     let last = boat.start(None)?;
     boat.judged(&last.words)?;
-    fs::remove_dir_all(&boat.memory).expect("the folder goes");
     Ok(kills)
 }
 
 /// Points of a start that runs through, and of the next one.
-fn points(program: &Program, script: &Script) -> [usize; 2] {
-    let memory = Folder::new("points");
-    let mut boat = Boat::new(program, script, memory.0.clone(), Rng::new(seed(), "points"));
-    [1, 2].map(|_| boat.start(None).expect("a start").points.len())
+fn points(program: &Program, script: &Script) -> [Vec<String>; 2] {
+    let mut boat = Boat::new(program, script, Rng::new(seed(), "points"));
+    [1, 2].map(|_| boat.start(None).expect("a start").points)
 }
 
-/// A kill at each point of the first start, and at each of the second one where the first was killed at its last point.
+/// A kill at each point of the first start, and at each of the second one where the first was killed at its last point. Then one
+/// of the program alone, when the file says that the layout is submitted and the folder isn't flushed, with kills soon after the
+/// next start.
 fn cases(program: &Program) -> Vec<Case> {
     let mut cases = Vec::new();
-    for (number, script) in SCRIPTS.iter().enumerate() {
-        let [first, second] = points(program, script);
-        cases.extend((1..=first).map(|point| Case { script: number, cuts: vec![Cut::At(point)] }));
-        cases.extend((1..=second).map(|point| Case { script: number, cuts: vec![Cut::At(first), Cut::At(point)] }));
+    for (script, text) in SCRIPTS.iter().enumerate() {
+        let [first, second] = points(program, text);
+        let end = first.len();
+        cases.extend((1..=end).map(|point| Case { script, cuts: vec![Cut::At(point)] }));
+        cases.extend((1..=second.len()).map(|point| Case { script, cuts: vec![Cut::At(end), Cut::At(point)] }));
+        let mut places = (1..).zip(&first).skip_while(|(_, point)| *point != "signed");
+        let (renamed, _) = places.find(|(_, point)| *point == "renamed").expect("the submit is kept");
+        cases.extend((3..=9).map(|point| Case { script, cuts: vec![Cut::Stopped(renamed), Cut::At(point)] }));
     }
     cases
 }
@@ -470,14 +508,11 @@ fn cases(program: &Program) -> Vec<Case> {
 struct Folder(PathBuf);
 
 impl Folder {
-    fn new(name: &str) -> Folder {
+    fn new() -> Folder {
         static NUMBER: AtomicUsize = AtomicUsize::new(0);
-        let shared = Path::new("/dev/shm");
-        let root = if shared.is_dir() { shared } else { Path::new(env!("CARGO_TARGET_TMPDIR")) };
-        let number = NUMBER.fetch_add(1, Ordering::Relaxed);
-        let folder = root.join(format!("zolbine-{}-{number}-{name}", std::process::id()));
-        fs::create_dir_all(&folder).expect("a folder");
-        Folder(folder)
+        let name = format!("zolbine-{}-{}", std::process::id(), NUMBER.fetch_add(1, Ordering::Relaxed));
+        let mut folders = ["/dev/shm", env!("CARGO_TARGET_TMPDIR")].map(|root| Path::new(root).join(&name)).into_iter();
+        Folder(folders.find(|folder| fs::create_dir(folder).is_ok()).expect("a folder"))
     }
 }
 
@@ -533,14 +568,13 @@ fn names() -> BTreeSet<String> {
 #[test]
 fn a_thousand_kills() {
     let program = Program::with_points(EXAMPLE, "lasting_unit_cut", &[]);
-    let memory = Folder::new("kills");
     let mut cases = cases(&program);
     let (mut at, mut after, mut rounds) = (Vec::new(), 0, 0);
     while at.len() + after < KILLS {
         let numbered: Vec<(usize, Case)> = (rounds..).zip(cases).collect();
         let kills = parallel::map(&numbered, |(number, case)| {
             let rng = Rng::new(seed(), &format!("power cuts {number}"));
-            played(&program, case, memory.0.join(number.to_string()), rng).unwrap_or_else(|fault| {
+            played(&program, case, rng).unwrap_or_else(|fault| {
                 let title = SCRIPTS[case.script].title;
                 panic!("{title}, round {number}, {:?}: {fault}; ZOLBINE_SEED={}", case.cuts, seed())
             })
@@ -568,10 +602,13 @@ struct Fault {
     verdicts: &'static [&'static str],
 }
 
-const FAULTS: [Fault; 8] = [
+const FAULTS: [Fault; 11] = [
     Fault {
         name: "sends_before_it_keeps",
-        edits: &[("    keep(unit);\n    send_from(unit, sent);\n", "    send_from(unit, sent);\n    keep(unit);\n")],
+        edits: &[(
+            "    keep(unit, note);\n    send_from(unit, sent);\n",
+            "    send_from(unit, sent);\n    keep(unit, note);\n",
+        )],
         verdicts: &["signed twice"],
     },
     Fault {
@@ -593,13 +630,11 @@ const FAULTS: [Fault; 8] = [
         verdicts: &["lost"],
     },
     Fault { name: "sends_nothing_again", edits: &[("    send_from(&unit, 0);", "")], verdicts: &["lost"] },
+    Fault { name: "written_in_place", edits: &IN_PLACE, verdicts: &["stopped"] },
     Fault {
-        name: "written_in_place",
-        edits: &[
-            ("open(\"aside\", O_WRONLY | O_CREAT | O_TRUNC, 0600)", "open(unit->file, O_WRONLY | O_CREAT, 0600)"),
-            ("rename(\"aside\", unit->file) != 0", "false"),
-        ],
-        verdicts: &["stopped", "refused: EVIDENCE"],
+        name: "written_in_place_without_a_checksum",
+        edits: &[IN_PLACE[0], IN_PLACE[1], ("memcmp(sum, unit->lasting + len, SUM_LEN) != 0", "false")],
+        verdicts: &["refused: EVIDENCE"],
     },
     Fault {
         name: "aside_not_flushed",
@@ -611,6 +646,22 @@ const FAULTS: [Fault; 8] = [
         edits: &[("    flush(unit->folder);\n    CUT(\"folder flushed\");\n", "")],
         verdicts: &["signed twice"],
     },
+    Fault {
+        name: "folder_not_flushed_again",
+        edits: &[("    CUT(\"folder flushed again\");\n", ""), ("    flush(unit.folder);", "")],
+        verdicts: &["signed twice"],
+    },
+    Fault {
+        name: "keeps_what_has_not_changed",
+        edits: &[("written == 0 && memcmp(note, unit->lasting, sizeof note) == 0", "false")],
+        verdicts: &["kept again"],
+    },
+];
+
+/// Not aside.
+const IN_PLACE: [(&str, &str); 2] = [
+    ("open(\"aside\", O_WRONLY | O_CREAT | O_TRUNC, 0600)", "open(unit->file, O_WRONLY | O_CREAT, 0600)"),
+    ("rename(\"aside\", unit->file) != 0", "false"),
 ];
 
 impl Fault {
@@ -628,7 +679,6 @@ impl Fault {
     /// Plays the rounds until each of the verdicts has come, and counts them.
     fn rounds_to_catch(&self) -> usize {
         let program = self.program();
-        let memory = Folder::new(self.name);
         let numbered: Vec<(usize, Case)> = cases(&program).into_iter().enumerate().collect();
         let (rounds, told) = (AtomicUsize::new(0), Mutex::new(BTreeSet::new()));
         let missing = || {
@@ -639,8 +689,7 @@ impl Fault {
             if missing().is_some() {
                 rounds.fetch_add(1, Ordering::Relaxed);
                 let rng = Rng::new(seed(), &format!("{} {number}", self.name));
-                let round = played(&program, case, memory.0.join(number.to_string()), rng);
-                told.lock().unwrap().extend(round.err());
+                told.lock().unwrap().extend(played(&program, case, rng).err());
             }
         });
         if let Some(verdict) = missing() {
@@ -661,13 +710,33 @@ fn a_host_that_keeps_badly_is_caught() {
 /// A start, with a kill or to its end, and one that goes on.
 fn runs_well(program: &Program, cut: Option<Cut>) {
     for script in &SCRIPTS {
-        let memory = Folder::new("well");
-        let mut boat = Boat::new(program, script, memory.0.clone(), Rng::new(seed(), "well"));
+        let mut boat = Boat::new(program, script, Rng::new(seed(), "well"));
         let first = boat.start(cut).expect("a start");
         assert_eq!(first.killed, cut.is_some());
         let judged = boat.start(None).and_then(|last| boat.judged(&last.words));
         judged.unwrap_or_else(|fault| panic!("{}: {fault}", script.title));
     }
+}
+
+/// A byte of it changed, its end taken away, or bytes put after it.
+#[test]
+fn a_damaged_file_is_seen() {
+    let program = Program::compiled(EXAMPLE, "lasting_unit_damaged", &[]);
+    let mut boat = Boat::new(&program, &SCRIPTS[1], Rng::new(seed(), "damage"));
+    boat.start(None).expect("a start");
+    let whole = fs::read(boat.file()).expect("the round's file");
+    let changed = |at: usize| [&whole[..at], &[whole[at] ^ 1], &whole[at + 1..]].concat();
+    let pair = layout::NOTE + layout::store(N);
+    let places = [0, 1, 5, layout::NOTE - 1, layout::NOTE, pair - 1, pair, whole.len() - SUM, whole.len() - 1];
+    let shorter = [0, 1, layout::NOTE, pair, pair + SUM, whole.len() - 1].map(|len| whole[..len].to_vec());
+    let longer = [1, SUM, layout::out(N)].map(|more| [whole.as_slice(), &vec![0; more]].concat());
+    for damaged in places.map(changed).into_iter().chain(shorter).chain(longer) {
+        fs::write(boat.file(), damaged).expect("a damaged file");
+        let told = boat.start(None).err().expect("a damaged file is taken");
+        assert!(told.contains("the round's file is"), "{told}");
+    }
+    fs::write(boat.file(), &whole).expect("the whole file");
+    boat.start(None).expect("the whole file is taken");
 }
 
 #[test]

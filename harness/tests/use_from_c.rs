@@ -70,8 +70,9 @@ fn the_headers_macros_in_cpp_without_old_casts() {
     printed(&compiled_by(compiler(true), source.to_str().unwrap(), "macros_cpp", &["-Wold-style-cast"]));
 }
 
-/// Boat 1 has kept the SUBMITs of two seats when it submits, and so confirms at once: 3 of 4. Boat 0 hears of boat 1's layout before
-/// it confirms its own. Each of these two calls writes two messages. Before each of them its boat loses power, and nothing by that.
+/// Boat 1 has kept the SUBMITs of two seats when it submits, and so confirms at once: 3 of 4. Boat 0 hears of boat 1's layout
+/// before it confirms its own. Each of these two calls writes two messages. Before each of them its boat loses power, and loses
+/// nothing by it.
 const SPLIT: &str = "\
 (seat 2 signs for boat 1)
 boat 1 hears SUBMIT: 0

@@ -16,8 +16,8 @@ use crate::reference::note::{self, ONE_HEARD, TWO_HEARD};
 use crate::reference::record::{Opened, Record, Written};
 use crate::rng::{seed, Rng};
 
-/// The parts of a note, each with its first byte, and the answers to a note with a bit of that part turned. Other answers don't
-/// occur, or need a fleet of one.
+/// The parts of a note, each with its first byte, and the answers to a note with a bit of that part turned. Others don't occur,
+/// but for 0 at the first certificate's seats in a fleet of one.
 const PARTS: [(&str, usize, &[u32]); 12] = [
     ("command", 0, &[17]),
     ("n", NOTE_N_AT, &[0, 4]),
@@ -27,11 +27,13 @@ const PARTS: [(&str, usize, &[u32]); 12] = [
     ("own value", NOTE_OWN_AT, &[0, 4]),
     ("collected", NOTE_MASKS_AT, &[0, 4]),
     ("kept", NOTE_MASKS_AT + MASK, &[0, 4]),
-    ("first certificate", NOTE_MASKS_AT + 2 * MASK, &[4]),
+    (FIRST, NOTE_MASKS_AT + 2 * MASK, &[4]),
     ("guilty", NOTE_MASKS_AT + 3 * MASK, &[0, 4]),
     ("value heard", NOTE_HEARD_AT, &[0, 4]),
     ("first certificate's value", NOTE_FIRST_AT, &[0, 4]),
 ];
+
+const FIRST: &str = "first certificate";
 
 /// What the cases must come by besides.
 const ALL: [&str; 21] = [
@@ -78,6 +80,23 @@ pub fn written(subject: &dyn Notes, record: &Record, out: &[u8], rng: &mut Rng) 
     equal("out after the note", &expected_out[layout::NOTE..], &out[layout::NOTE..])?;
     expected_out.truncate(layout::NOTE);
     Ok(Ok(expected_out))
+}
+
+/// The item's parts of a note, at the places that its widths add up to.
+fn parts_stand(record: &Record, note: &[u8]) -> Result<(), String> {
+    let Record { n, seat, round, own, confirmed, notices, first, sent, guilty, kept } = *record;
+    let head = [0x20, n as u8, seat as u8, (round >> 8) as u8, round as u8];
+    equal("command, n, seat and round", &note[..5], &head)?;
+    let set = |flag: bool, worth: u8| if flag { worth } else { 0 };
+    let flags = set(own.submitted, 1) + set(confirmed, 2) + set(sent, 4) + [0, 8, 16][notices.heard as usize];
+    equal("the flags", note[5], flags)?;
+    for (at, value) in [(6, own.value), (54, notices.value), (86, first.value)] {
+        equal(&format!("the value at {at}"), &note[at..at + 32], &value)?;
+    }
+    for (at, mask) in [(38, own.collected), (42, kept), (46, first.seats), (50, guilty)] {
+        equal(&format!("the mask at {at}"), &note[at..at + 4], &mask.to_be_bytes())?;
+    }
+    Ok(())
 }
 
 /// A note, or the number of the refusal.
@@ -169,7 +188,7 @@ impl Compared<'_> {
 
     fn possible(&mut self, record: &Record, rng: &mut Rng) -> Result<(), String> {
         let note = noted(self.subject, record, rng)?.ok_or("a possible record has no note")?;
-        equal("the note", &note, &note::render(record))?;
+        parts_stand(record, &note)?;
         let Record { n, seat, round, own, confirmed, notices, first, sent, guilty, kept } = *record;
         for (what, reached) in [
             ("opened", *record == opened(Fleet { n, round }, seat)),
@@ -230,7 +249,10 @@ impl Compared<'_> {
             let mut damaged = note.to_vec();
             damaged[at] ^= 1 << (bit % 8);
             let number = answered(self.subject, &damaged, rng)?;
-            let (part, ..) = PARTS.iter().rfind(|(_, first, _)| *first <= at).expect("the command is the first");
+            let (part, _, numbers) =
+                PARTS.iter().rfind(|(_, first, _)| *first <= at).expect("the command is the first");
+            let listed = numbers.contains(&number) || (*part, note[NOTE_N_AT], number) == (FIRST, 1, 0);
+            equal(&format!("{} among {numbers:?}", turned(part, number)), listed, true)?;
             self.count(turned(part, number));
         }
         Ok(())
@@ -254,7 +276,8 @@ impl Compared<'_> {
         Ok(())
     }
 
-    /// Refused by 4 whatever the length of `out`. Its note, as no writer writes it, is refused by 4, and by 17 where that holds too.
+    /// Refused by 4 whatever the length of `out`. Its note, as no writer writes it, is refused by 4, and by 17 where that holds
+    /// too.
     fn impossible(&mut self, record: &Record, rng: &mut Rng) -> Result<(), String> {
         for length in [0, layout::NOTE - 1, layout::NOTE, layout::NOTE + 1] {
             let out = rng.bytes(length);

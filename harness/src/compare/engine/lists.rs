@@ -2,8 +2,8 @@
 //! copy, reorder and garble. The subject keeps step with the reference, and the reference with demands 1 and 3, also where boats
 //! lose power.
 
-use super::records::{any_impossible, opened};
-use super::{both, Call, Case, Subject};
+use super::records::any_impossible;
+use super::{blank, both, Call, Case, Subject};
 use crate::air;
 use crate::compare::{count, covered, equal, long, notes, run, Tally};
 use crate::fleet::{fewest_to_split, layouts, rounds, some_seats, Fleet, HANDS};
@@ -12,7 +12,7 @@ use crate::reference::layout::{self, SIGNATURE};
 use crate::reference::lms::PUBLIC_KEY;
 use crate::reference::messages::{Value, EVIDENCE, FULL, NOTICE};
 use crate::reference::quorum::t0;
-use crate::reference::record::{Record, Verdict};
+use crate::reference::record::{Opened, Record, Verdict};
 use crate::reference::seats::{contains, mask, size};
 use crate::rng::Rng;
 
@@ -71,7 +71,7 @@ pub fn whole_rounds(subject: Subject) {
 /// Plays the lists, and counts their calls by their answer, and by the messages that they wrote together.
 fn played(title: &str, subject: Subject, plans: &[Plan]) -> Vec<Tally> {
     run(title, plans, |plan, rng| {
-        let mut sea = Sea::new(subject, plan, rng);
+        let mut sea = Sea::new(subject, plan, rng)?;
         sea.play(rng).map_err(|difference| format!("{plan:?}, {}: {difference}", sea.trail()))?;
         Ok(sea.tally)
     })
@@ -95,7 +95,13 @@ fn answers() -> impl Iterator<Item = String> {
         " SUBMIT NOTICE FULL EVIDENCE",
     ];
     let written = written.map(|names| format!("wrote{names}"));
-    let others = ["disagreement", "lost power", "lost power and an own submit", "lost power and messages written"];
+    let others = [
+        "disagreement",
+        "lost power",
+        "lost power before the first note",
+        "lost power and an own submit",
+        "lost power and messages written",
+    ];
     steps.into_iter().chain(submits).chain(written).chain(others.map(String::from))
 }
 
@@ -124,25 +130,18 @@ struct Sea<'a> {
 }
 
 impl<'a> Sea<'a> {
-    fn new(subject: Subject<'a>, plan: &'a Plan, rng: &mut Rng) -> Sea<'a> {
+    fn new(subject: Subject<'a>, plan: &'a Plan, rng: &mut Rng) -> Result<Sea<'a>, String> {
         let fleet = plan.fleet;
         let mut all = layouts();
         let chosen: Vec<Value> = (0..plan.layouts).map(|_| all.swap_remove(rng.below(all.len()))).collect();
         let seats = some_seats(fleet.n, plan.boats, rng);
-        let boat = |(place, seat): (usize, u32)| {
-            let spare = *rng.pick(&[0, 0, 1, 100]);
-            Boat {
-                layout: chosen[place % chosen.len()],
-                record: opened(fleet, seat),
-                store: rng.bytes(layout::store(fleet.n) + spare),
-                kept: None,
-                unsent: Vec::new(),
-                said: Vec::new(),
-            }
-        };
-        let boats = seats.into_iter().enumerate().map(boat).collect();
+        let mut boats = Vec::new();
+        for (place, seat) in seats.into_iter().enumerate() {
+            let (layout, (record, store)) = (chosen[place % chosen.len()], blank(subject, fleet, seat, rng)?);
+            boats.push(Boat { layout, record, store, kept: None, unsent: Vec::new(), said: Vec::new() });
+        }
         let (air, calls, cuts, tally) = (Vec::new(), Vec::new(), plan.cuts, Tally::new());
-        Sea { subject, plan, layouts: chosen, boats, air, calls, cuts, tally }
+        Ok(Sea { subject, plan, layouts: chosen, boats, air, calls, cuts, tally })
     }
 
     /// The last calls, for the report of a difference.
@@ -153,7 +152,9 @@ impl<'a> Sea<'a> {
 
     fn play(&mut self, rng: &mut Rng) -> Result<(), String> {
         for boat in 0..self.boats.len() {
-            self.send(boat, rng)?;
+            if rng.one_in(2) {
+                self.send(boat, rng)?;
+            }
             let (heard_before, lacking) =
                 *rng.pick(&[(0, None), (0, Some(1)), (0, Some(2)), (6, Some(0)), (6, Some(1))]);
             for _ in 0..heard_before {
@@ -396,20 +397,25 @@ impl<'a> Sea<'a> {
         Ok(())
     }
 
-    /// The boat is brought back from its newest note and the store kept with it.
+    /// The boat is brought back from its newest note and the store kept with it, or opened again where it has none.
     fn lose_power(&mut self, boat: usize, rng: &mut Rng) -> Result<(), String> {
         let Boat { record, store, kept, unsent, .. } = &mut self.boats[boat];
-        let (note, kept_store) = kept.as_ref().expect("each boat is noted when it is opened");
-        let back = notes::read(self.subject.notes, note, rng)?;
-        equal("the newest note", back.number, 0)?;
+        let back = if let Some((note, store)) = kept {
+            let Opened { number, record } = notes::read(self.subject.notes, note, rng)?;
+            equal("the newest note", number, 0)?;
+            (record, store.clone())
+        } else {
+            count(&mut self.tally, "lost power before the first note");
+            blank(self.subject, self.plan.fleet, record.seat, rng)?
+        };
         count(&mut self.tally, "lost power");
-        if record.own.submitted && !back.record.own.submitted {
+        if record.own.submitted && !back.0.own.submitted {
             count(&mut self.tally, "lost power and an own submit");
         }
         if !unsent.is_empty() {
             count(&mut self.tally, "lost power and messages written");
         }
-        (*record, *store) = (back.record, kept_store.clone());
+        (*record, *store) = back;
         unsent.clear();
         Ok(())
     }
@@ -430,8 +436,8 @@ impl<'a> Sea<'a> {
         Ok(())
     }
 
-    /// The end of a fair list: each boat gets the signatures that it lacks, and its NOTICE and FULL reach every other. Demand 3: where two have confirmed
-    /// different layouts, each boat has written evidence that names at least t0 + 1 seats.
+    /// The end of a fair list: each boat gets the signatures that it lacks, and its NOTICE and FULL reach every other. Demand 3:
+    /// where two have confirmed different layouts, each boat has written evidence that names at least t0 + 1 seats.
     fn settle(&mut self, rng: &mut Rng) -> Result<(), String> {
         self.cuts = false;
         for boat in 0..self.boats.len() {

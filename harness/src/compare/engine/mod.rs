@@ -11,9 +11,10 @@ pub mod refusals;
 use super::arguments::untouched;
 use super::{equal, notes};
 use crate::confirmer::{Engine, LentStep, Notes};
+use crate::fleet::Fleet;
 use crate::guarded::{Guarded, GuardedItem};
-use crate::reference::record::{Record, Stepped};
-use crate::reference::{engine, verdicts};
+use crate::reference::record::{Opened, Record, Stepped};
+use crate::reference::{engine, layout, verdicts};
 use crate::rng::Rng;
 
 /// The calls under test; about every other step goes through the one that is lent its record.
@@ -48,6 +49,16 @@ pub struct After {
     pub written: Vec<u8>,
     /// The reference's signature checks.
     pub checks: usize,
+}
+
+/// A unit of the subject with no note in the round: opened, with a store of any bytes.
+fn blank(subject: Subject, fleet: Fleet, seat: u32, rng: &mut Rng) -> Result<(Record, Vec<u8>), String> {
+    let Fleet { n, round } = fleet;
+    let record = records::opened(fleet, seat);
+    let answer = subject.engine.open(n, seat, round, &fleet.key_table());
+    equal("the opening", answer, Opened { number: 0, record })?;
+    let spare = *rng.pick(&[0, 0, 1, 100]);
+    Ok((record, rng.bytes(layout::store(n) + spare)))
 }
 
 /// Result of the case given to both, or their difference.

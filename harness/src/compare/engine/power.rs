@@ -1,9 +1,9 @@
 //! Units that lose power during a round (document 02, item 2): lists of one unit that is noted now and then, with its store, and
-//! brought back from the newest note. It keeps step with a unit that never stopped and was given only the calls that count. What
-//! the lists tell apart is counted, and all of it must be reached.
+//! brought back from the newest note, or opened again before the first. It keeps step with a unit that never stopped and was given
+//! only the calls that count. What the lists tell apart is counted, and all of it must be reached.
 
 use super::records::opened;
-use super::{both, After, Call, Case, Subject};
+use super::{blank, both, After, Call, Case, Subject};
 use crate::air;
 use crate::compare::{count, covered, equal, long, notes, run, Tally};
 use crate::fleet::{layouts, rounds, some_seats, Fleet, HANDS};
@@ -15,9 +15,10 @@ use crate::reference::seats::mask;
 use crate::rng::Rng;
 
 /// What the lists must come by.
-const ALL: [&str; 25] = [
+const ALL: [&str; 26] = [
     "note: after a refused call",
     "note: a second time in a row",
+    "cut: before the first note",
     "cut: no call since the note",
     "cut: calls lost",
     "cut: the own submit lost",
@@ -47,11 +48,11 @@ pub fn battery(subject: Subject) {
     let sizes: Vec<u32> = if long() { (1..=32).rev().collect() } else { vec![32, 7, 4, 3, 2, 1] };
     let mut fleets = Vec::new();
     for n in sizes {
-        let lists = if n <= 7 { 24 } else { 4 };
+        let lists = if n <= 7 { 32 } else { 4 };
         fleets.extend((0..lists).map(|list| Fleet { n, round: rounds()[list % 4] }));
     }
     let tallies = run("lost power", &fleets, |fleet, rng| {
-        let mut unit = Unit::new(subject, *fleet, rng);
+        let mut unit = Unit::new(subject, *fleet, rng)?;
         unit.play(rng).map_err(|difference| format!("{fleet:?}, {:?}: {difference}", unit.now.record))?;
         unit.older_note(rng).map_err(|difference| format!("{fleet:?}, an older note: {difference}"))?;
         unit.another_store(rng).map_err(|difference| format!("{fleet:?}, another store: {difference}"))?;
@@ -74,8 +75,7 @@ struct Unit<'a> {
     values: [Value; 3],
     now: State,
     /// The newest note, and the store kept with it.
-    note: Vec<u8>,
-    store: Vec<u8>,
+    kept: Option<(Vec<u8>, Vec<u8>)>,
     /// The calls since that note, with what came of them.
     since: Vec<(Call, After)>,
     /// The unit that never stopped, at the newest note.
@@ -85,15 +85,13 @@ struct Unit<'a> {
 }
 
 impl<'a> Unit<'a> {
-    fn new(subject: Subject<'a>, fleet: Fleet, rng: &mut Rng) -> Unit<'a> {
+    fn new(subject: Subject<'a>, fleet: Fleet, rng: &mut Rng) -> Result<Unit<'a>, String> {
         let mut all = layouts();
         let values = [0; 3].map(|_: u8| all.swap_remove(rng.below(all.len())));
-        let spare = *rng.pick(&[0, 0, 1, 100]);
-        let store = rng.bytes(layout::store(fleet.n) + spare);
-        let now = State { record: opened(fleet, rng.below(fleet.n as usize) as u32), store };
-        let (twin, store) = (now.clone(), now.store.clone());
-        let (note, since, tally) = (Vec::new(), Vec::new(), Tally::new());
-        Unit { subject, fleet, values, now, note, store, since, twin, was_cut: false, tally }
+        let (record, store) = blank(subject, fleet, rng.below(fleet.n as usize) as u32, rng)?;
+        let now = State { record, store };
+        let (twin, since, tally) = (now.clone(), Vec::new(), Tally::new());
+        Ok(Unit { subject, fleet, values, now, kept: None, since, twin, was_cut: false, tally })
     }
 
     fn count_each<const N: usize>(&mut self, group: &str, situations: [(&str, bool); N]) {
@@ -105,7 +103,9 @@ impl<'a> Unit<'a> {
     }
 
     fn play(&mut self, rng: &mut Rng) -> Result<(), String> {
-        self.keep(rng)?;
+        if rng.one_in(4) {
+            self.keep(rng)?;
+        }
         let calls = if self.fleet.n <= 7 { 60 } else { 100 };
         for _ in 0..calls {
             match rng.below(12) {
@@ -120,10 +120,10 @@ impl<'a> Unit<'a> {
     /// The record is noted and the store kept with it. The calls so far count: the twin is given them.
     fn keep(&mut self, rng: &mut Rng) -> Result<(), String> {
         let refused = self.since.last().is_some_and(|(_, after)| after.number != 0);
-        let again = !self.note.is_empty() && self.since.is_empty();
+        let again = self.kept.is_some() && self.since.is_empty();
         self.count_each("note", [("after a refused call", refused), ("a second time in a row", again)]);
-        self.note = notes::noted(self.subject.notes, &self.now.record, rng)?.ok_or("no note")?;
-        self.store = self.now.store.clone();
+        let note = notes::noted(self.subject.notes, &self.now.record, rng)?.ok_or("no note")?;
+        self.kept = Some((note, self.now.store.clone()));
         for (call, answer) in std::mem::take(&mut self.since) {
             let after = both(self.subject, &self.case(&self.twin, call, rng), rng)?;
             equal("the twin's number", after.number, answer.number)?;
@@ -135,19 +135,28 @@ impl<'a> Unit<'a> {
         Ok(())
     }
 
-    /// The unit is brought back: "the calls made after that note count as never made".
+    /// The unit is brought back: "the calls made after that note count as never made". With no note it is opened again, and so is
+    /// the twin: no call counts.
     fn cut(&mut self, rng: &mut Rng) -> Result<(), String> {
         let lost = std::mem::take(&mut self.since);
         let before = self.now.record;
-        let Opened { number, record } = notes::read(self.subject.notes, &self.note, rng)?;
-        equal("the newest note", number, 0)?;
-        self.now = State { record, store: self.store.clone() };
+        if let Some((note, store)) = &self.kept {
+            let Opened { number, record } = notes::read(self.subject.notes, note, rng)?;
+            equal("the newest note", number, 0)?;
+            self.now = State { record, store: store.clone() };
+        } else {
+            let (record, store) = blank(self.subject, self.fleet, before.seat, rng)?;
+            self.now = State { record, store };
+            self.twin = self.now.clone();
+        }
+        let (record, noted) = (self.now.record, self.kept.is_some());
         equal("the record brought back", record, self.twin.record)?;
         equal("the store brought back", self.now.store == self.twin.store, true)?;
         self.count_each(
             "cut",
             [
-                ("no call since the note", lost.is_empty() && !self.was_cut),
+                ("before the first note", !noted && !lost.is_empty()),
+                ("no call since the note", noted && lost.is_empty() && !self.was_cut),
                 ("calls lost", !lost.is_empty()),
                 ("the own submit lost", before.own.submitted && !record.own.submitted),
                 ("a confirmation lost", before.confirmed && !record.confirmed),
@@ -158,7 +167,7 @@ impl<'a> Unit<'a> {
         self.count_each(
             "brought back",
             [
-                ("opened", record == opened(self.fleet, record.seat)),
+                ("opened", noted && record == opened(self.fleet, record.seat)),
                 ("seats kept", record.kept != 0),
                 ("submitted", record.own.submitted),
                 ("confirmed", record.confirmed),
@@ -226,8 +235,8 @@ impl<'a> Unit<'a> {
         Call::Submit { value: value.to_vec(), signature: self.fleet.signature(self.now.record.seat, value, hand) }
     }
 
-    /// "One brought back from an older note [..] isn't honest": the opened unit's note lets it sign a second layout, and the two
-    /// signatures are evidence against it.
+    /// "One brought back from an older note [..] isn't honest": the opened unit's note lets it sign a second layout, which the
+    /// newer one doesn't, and the two signatures are evidence against it.
     fn older_note(&mut self, rng: &mut Rng) -> Result<(), String> {
         let Fleet { n, round } = self.fleet;
         let record = opened(self.fleet, rng.below(n as usize) as u32);
@@ -242,6 +251,11 @@ impl<'a> Unit<'a> {
             let after = both(self.subject, &self.case(&state, self.submit(&value, 0), rng), rng)?;
             equal("the submit", after.number, 0)?;
             signatures.push(after.written[SIGNATURE_AT..layout::SUBMIT].to_vec());
+            let newer = notes::noted(self.subject.notes, &after.record, rng)?.ok_or("no note")?;
+            let record = notes::read(self.subject.notes, &newer, rng)?.record;
+            let state = State { record, store: after.store };
+            let second = both(self.subject, &self.case(&state, self.submit(rng.pick(&layouts), 1), rng), rng)?;
+            equal("a submit after the newer note", second.number, 8)?;
         }
         let [lower, higher] = layouts;
         let entry =
