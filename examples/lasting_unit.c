@@ -190,8 +190,8 @@ static void draw(uint8_t *bytes, size_t len)
 
 /* The own layout, signed and submitted: once in a round, whatever layout is wanted after a power cut.
  *
- * The note that says `submitted` is the mark that the round's leaf is used. It is in the file before the SUBMIT leaves. A signature
- * whose note a cut kept out of the file has left the boat with no byte: it counts as never made, and the leaf is free.
+ * The note that says `submitted` is the mark that the round's leaf is used. It is in the file before the SUBMIT leaves. Where a cut
+ * comes before that, no byte of the signature has left the boat: it counts as never made, and the leaf is free.
  */
 static void submit(struct unit *unit, const struct key *key, const uint8_t *layout)
 {

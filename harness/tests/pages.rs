@@ -3,6 +3,7 @@
 use std::mem::offset_of;
 
 use harness::reference::layout;
+use harness::reference::note::{CONFIRMED, ONE_HEARD, SENT, SUBMITTED, TWO_HEARD};
 use harness::reference::quorum::{k, t0};
 use harness::reference::record::{Opened, Record, Stepped};
 
@@ -71,6 +72,46 @@ fn record() {
     assert!(PROTOCOL.contains("It has 140 bytes and is aligned to 4"));
     assert!(HEADER.contains("It has 140 bytes and is aligned to 4"));
     assert!(HOST.contains("`struct zolbine_opened` has 144 and `struct zolbine_stepped` 148"));
+}
+
+/// The note's places and flags.
+#[test]
+fn note() {
+    let parts = [
+        (0, 1, "0x20"),
+        (layout::NOTE_N_AT, 1, "number of boats"),
+        (layout::NOTE_SEAT_AT, 1, "own seat"),
+        (layout::NOTE_ROUND_AT, 2, "round"),
+        (layout::NOTE_FLAGS_AT, 1, "flags"),
+        (layout::NOTE_OWN_AT, 32, "own layout"),
+        (layout::NOTE_MASKS_AT, 4, "seats collected"),
+        (layout::NOTE_MASKS_AT + 4, 4, "seats kept"),
+        (layout::NOTE_MASKS_AT + 8, 4, "seats of the first certificate"),
+        (layout::NOTE_MASKS_AT + 12, 4, "guilty seats"),
+        (layout::NOTE_HEARD_AT, 32, "first layout heard"),
+        (layout::NOTE_FIRST_AT, 32, "layout of the first certificate"),
+    ];
+    let mut end = 0;
+    for (at, length, name) in parts {
+        assert_eq!(at, end, "{name}");
+        assert!(PROTOCOL.contains(&format!("| {at} | {length} | {name}")), "{name} isn't {length} bytes at {at}");
+        end += length;
+    }
+    assert_eq!(end, layout::NOTE);
+    for page in [HOST, PROTOCOL] {
+        assert!(page.contains("118 bytes"));
+    }
+    let flags = [
+        (SUBMITTED, "own.submitted"),
+        (CONFIRMED, "confirmed"),
+        (SENT, "sent"),
+        (ONE_HEARD, "notices.heard` is 1"),
+        (TWO_HEARD, "notices.heard` is 2"),
+    ];
+    for (flag, name) in flags {
+        let row = PROTOCOL.lines().find(|line| line.starts_with(&format!("| {flag} | ")) && line.contains(name));
+        assert!(row.is_some(), "{name} isn't the flag {flag}");
+    }
 }
 
 /// The store's length and places.

@@ -592,6 +592,7 @@ fn a_thousand_kills() {
     });
     let counts = counts.collect::<Vec<_>>().join(", ");
     progress(&format!("power cuts: {} kills at a point ({counts}), {after} after one, {rounds} rounds", at.len()));
+    assert!(at.len() + after >= KILLS);
     assert!(after >= KILLS / 20, "{after} kills after a point");
 }
 

@@ -55,9 +55,9 @@ demand-3 n round keys = demand-3-any (setting n round keys)
 
 -- ---- a unit's round by the code's contracts
 
--- The moment after a unit's events, each as the contracts promise it. A submit, a step and the thin entry check signatures in the round of the
--- record that they are given; the writing of a note, its reading and the opening have contracts of their own. An opening again is given the n
--- and the round of the first.
+-- The moment after a unit's events, each as the contracts promise it. A submit, a step and the thin entry check signatures in the round of
+-- the record that they are given; the writing of a note, its reading and the opening have contracts of their own. An opening again is
+-- given the n and the round of the first.
 unfoldable pub promised : List ℕ → ℕ → Moment → List Event → Moment
 promised keys seat m [] = m
 promised keys seat m (e ∷ es) = promised keys seat (after (setting (m .unit .n) (m .unit .round) keys) seat m e) es

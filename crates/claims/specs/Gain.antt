@@ -244,11 +244,11 @@ module _ (S : Setting) where
     module _ (h : SubmitsAfter S u) where
       open SubmitsAfter h using (before, call as t, after, split, submits as s, others, apart, enough, given)
 
-      abbrev counted : WithoutCuts S u
-      counted = list-is-unbroken S u honest
+      abbrev withoutCuts : WithoutCuts S u
+      withoutCuts = list-is-unbroken S u honest
 
-      chain : Chain (startOf S u honest) (counted .store) (before ++ t ∷ after)
-      chain = subst (Chain (startOf S u honest) (counted .store)) (sym (counted .list) ∙ split) (chain-of (startOf S u honest) (counted .store) (counted .calls))
+      chain : Chain (startOf S u honest) (withoutCuts .store) (before ++ t ∷ after)
+      chain = subst (Chain (startOf S u honest) (withoutCuts .store)) (sym (withoutCuts .list) ∙ split) (chain-of (startOf S u honest) (withoutCuts .store) (withoutCuts .calls))
 
       inList : List·Memᴰ t list
       inList = subst (λ l. List·Memᴰ t l) (sym split) (Memᴰ·append-right before (List·Memᴰ·head refl))
@@ -268,7 +268,7 @@ module _ (S : Setting) where
 
       earlier-unsaid : Each (λ x. resultOf S x .unit .own .submitted ≡ false) before
       earlier-unsaid =
-          unsaid-before (startOf S u honest) (counted .store) before t after chain (λ x d e. at x (earlier-inList x d) .after .grows .said e .0) (fit .first)
+          unsaid-before (startOf S u honest) (withoutCuts .store) before t after chain (λ x d e. at x (earlier-inList x d) .after .grows .said e .0) (fit .first)
 
       ready : Each Ready before
       ready x d =
@@ -281,7 +281,7 @@ module _ (S : Setting) where
 
       kept-it : (seat : ℕ) → In seat others → KeptIt seat (s .layout) (t .unit) (t .store)
       kept-it seat i =
-          first-kept seat (s .layout) (startOf S u honest) (counted .store) before t after chain ready (λ x e. absurd (omega (arith, ap (bit x) (start-none S u honest), bit-empty x))) (given seat i)
+          first-kept seat (s .layout) (startOf S u honest) (withoutCuts .store) before t after chain ready (λ x e. absurd (omega (arith, ap (bit x) (start-none S u honest), bit-empty x))) (given seat i)
 
       -- it has confirmed
       confirmed-there : resultOf S t .unit .confirmed ≡ true

@@ -1,7 +1,7 @@
 -- Calls that are not refused (demand 1: "for a cause in document 01's table, .. and for no other"): exactly those for which no number has
 -- a cause. Each record type lists what a call asks, number by number in the table's words. The claims go both ways, for every record of
--- a unit, possible or not, every message, every note and every buffer. So a call that refuses more, or everything, doesn't meet them; the last claim
--- shows it for a step.
+-- a unit, possible or not, every message, every note and every buffer. So a call that refuses more, or everything, doesn't meet them;
+-- the last claim shows it for a step.
 -- Assumes nothing.
 use Prim.Native.Nat.{ℕ, _+_, _*_, _≤_, _<_}
 use mathlib.Core.Path.{_≡_, refl, sym, ap, subst, _∙_}
@@ -26,8 +26,8 @@ use Rattle.protocol.specs.Message.{Message, Submit, Notice, Full, Evidence, Gar
 use Rattle.protocol.specs.MessageLaws.{read-render}
 use Rattle.protocol.specs.Certificate.{certificateIn}
 use Rattle.protocol.specs.Record.{lastRound, wrongSeat, impossible, fresh, InRange}
-use Rattle.protocol.specs.Note.{noteRecord}
-use Rattle.protocol.specs.NoteLaws.{NoteFits, note-right}
+use Rattle.protocol.specs.Note.{noteRecord, NoteFits}
+use Rattle.protocol.specs.NoteLaws.{note-right}
 use Rattle.protocol.specs.NoteClaim.{note-written, taken-fits, taken-possible}
 use Rattle.protocol.specs.Refusals.{Condition, OUT, NO-CONFLICT-IN, NO-CONFLICT-BETWEEN, Checks, every, lengthIsnt, wrongKey, certificateConditions, checkConditions, makeKeyConditions, signConditions, wrongKeys, shortStore, shortOut, said, isForStep, isFull, isEvidence, wrongLengths, rising, badSignature, notLowerFirst, equalValues, messageConditions, outsideConditions, recordConditions, openingConditions, submitConditions, stepConditions, evidenceConditions, twoConditions, makingConditions, writeNoteConditions, readNoteConditions}
 use Rattle.protocol.specs.ConditionsLaws.{table-right}

@@ -1,7 +1,7 @@
 -- Demand 1 over a whole list: "in a round a unit on one unbroken record sends at most one submission, one notice and one full
 -- certificate." And so "two units can[not] reply to each other without end". A unit that loses power writes no second message of a kind
--- in the calls that count, and sends no other than the one written; and all that it sends carries one layout, which it submitted in these
--- calls.
+-- in the calls that count, and sends no other than the one written; and each SUBMIT, NOTICE and FULL that it sends carries one layout,
+-- which it submitted in these calls.
 -- Assumes nothing.
 use mathlib.Core.Path.{_≡_, refl, sym, ap, subst, _∙_}
 use mathlib.Core.Bool.{Bool, true, false}

@@ -3,14 +3,12 @@
 -- Assumes nothing.
 use mathlib.Core.Path.{_≡_, refl, sym, ap, subst, _∙_}
 use mathlib.Core.List.{List, [], _∷_, _++_, map, Memᴰ·append-left}
-use mathlib.Core.Logic.{_≢_}
 use Prim.Native.Nat.{ℕ}
 use Rattle.protocol.specs.Calls.{opening, writeNote, readNote}
-use Rattle.round.specs.Round.{Setting, Each, Call, Saved, Event, Makes, Keeps, ComesBack, OpensAgain, InHand, Boat, Moment, noteOf, begins, after, afterAll, nowOf, listOf, AllowedAll, IsHonest, listFrom}
+use Rattle.round.specs.Round.{Setting, Call, Saved, Event, Makes, Keeps, ComesBack, OpensAgain, InHand, Boat, Moment, noteOf, begins, after, afterAll, nowOf, listOf, AllowedAll, IsHonest, unbroken, listFrom}
 use Rattle.round.specs.Demand1.{SendsWritten}
-use Rattle.reading.specs.UnbrokenLaws.{unbroken}
 use Rattle.claims.specs.Journey.{lastOf, leftBy}
-use Rattle.claims.specs.PowerLaws.{Newest, whole, whole-unit, whole-left, runs-now, unnoted, after-then, stays-along, note-back-now, sent-noted}
+use Rattle.claims.specs.PowerLaws.{Newest, KeepsNone, whole, whole-unit, whole-left, runs-now, unnoted, after-then, stays-along, note-back-now, sent-noted}
 
 -- ---- the calls that count
 
@@ -41,10 +39,6 @@ newest-is-taken S u honest saved older e =
 -- a unit whose round goes on with these events
 abbrev pub goingOn : Boat → List Event → Boat
 goingOn u es = record { seat = u .seat; store = u .store; events = u .events ++ es; inHand = u .inHand }
-
--- no note is kept in these events
-abbrev pub KeepsNone : List Event → Type 0
-KeepsNone es = Each (λ e. (out : List ℕ) → e ≢ Keeps out) es
 
 -- what is kept at a keeping, to this out: the note, and the store with it
 abbrev pub savedBy : Setting → Boat → List ℕ → Saved
@@ -105,7 +99,7 @@ sends-written S u honest message d =
     let w = sent-noted S (u .seat) message (begins S u) (u .events) (honest .allowed) d in
     record { call = w .0; inList = Memᴰ·append-left (nowOf S u .since) (w .1); stands = w .2 }
 
--- ---- a unit that loses no power
+-- ---- a unit that only makes calls
 
 module _ (S : Setting) (seat : ℕ) where
   last-along : (m : Moment) (cs : List Call) → afterAll S seat m (map Makes cs) .unit ≡ lastOf S (m .unit) (m .store) cs

@@ -1,12 +1,12 @@
 -- Laws of a unit that loses power during its round (`Power` has the claims): at every moment the calls that count are calls one after
--- another, and the newest note and store kept are those to which the calls before it came.
+-- another, and the newest note and store are of the record and the store after the calls before them.
 -- Assumes nothing.
 use mathlib.Core.Path.{_≡_, refl, sym, ap, subst, _∙_}
 use mathlib.Core.List.{List, [], _∷_, _++_, List·Memᴰ, List·Memᴰ·head, List·Memᴰ·tail, List·Memᴰ·not-nil, List·Memᴰ·cases-cons, Memᴰ·append-left}
 use mathlib.Core.Logic.{⊎-elim, _≢_}
 use Prim.Native.Nat.{ℕ}
 use Rattle.protocol.specs.Message.{Message}
-use Rattle.protocol.specs.NoteLaws.{ValuesSized}
+use Rattle.protocol.specs.Note.{ValuesSized}
 use Rattle.protocol.specs.NoteClaim.{read-back}
 use Rattle.protocol.specs.Calls.{made, writeNote, readNote}
 use Rattle.protocol.specs.declared.Record.{Record}
@@ -167,6 +167,10 @@ after-then S seat m [] fs = refl
 after-then S seat m (e ∷ es) fs = after-then S seat (after S seat m e) es fs
 
 -- the notes and stores kept, and the calls before the newest, stay
+-- no note is kept in these events
+abbrev pub KeepsNone : List Event → Type 0
+KeepsNone es = Each (λ e. (out : List ℕ) → e ≢ Keeps out) es
+
 module _ (S : Setting) (seat : ℕ) where
   stays-after : (m : Moment) (e : Event) → ((out : List ℕ) → e ≢ Keeps out) → (after S seat m e .saved ≡ m .saved) × (after S seat m e .noted ≡ m .noted)
   unfolding after
@@ -176,7 +180,7 @@ module _ (S : Setting) (seat : ℕ) where
   stays-after m (ComesBack saved) h = (refl, refl)
   stays-after m (OpensAgain store) h = (refl, refl)
 
-  pub stays-along : (m : Moment) (es : List Event) → Each (λ e. (out : List ℕ) → e ≢ Keeps out) es
+  pub stays-along : (m : Moment) (es : List Event) → KeepsNone es
       → (afterAll S seat m es .saved ≡ m .saved) × (afterAll S seat m es .noted ≡ m .noted)
   unfolding afterAll
   stays-along m [] h = (refl, refl)

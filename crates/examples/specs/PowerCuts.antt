@@ -1,6 +1,5 @@
--- A unit that loses power during its round (document 02, item 2), in three runs: an honest one, one brought back from an older note, and one
--- brought back with another store. Computed with the toy signature check (`trials/specs/Toy: toy`); that the last two aren't honest is
--- deduced.
+-- A unit that loses power during its round (document 02, item 2): two honest runs, one from an older note and one with another store.
+-- Computed with the toy signature check (`trials/specs/Toy: toy`); that the last two aren't honest is deduced.
 -- Assumes nothing.
 use Prim.Native.Nat.{ℕ}
 use mathlib.Core.Path.{_≡_, refl, sym, ap, subst}
@@ -67,7 +66,7 @@ pub pack-is-accepted : evidenceCheck toy 4 5 (keys 4) (render pack) ≡ record {
 unfolding unfoldedTrials
 pack-is-accepted = refl
 
--- two SUBMITs sent: not an honest unit
+-- first byte of a SUBMIT's layout
 submitted : Message → ℕ
 submitted (Submit ρ seat value signature) = byteAt value 0
 submitted (Notice ρ seat value) = 0
@@ -75,6 +74,7 @@ submitted (Full ρ sender value es) = 0
 submitted (Evidence ρ values ps) = 0
 submitted Garbled = 0
 
+-- two different SUBMITs sent: not an honest unit
 pub older-is-not-honest : IsHonest four (older false) → ⊥
 unfolding unfoldedTrials submitted
 older-is-not-honest h =
@@ -120,7 +120,7 @@ restored-writes : all four restored ≡ submitBy 0 7 ∷ Notice 5 0 (layout 7) �
 unfolding unfoldedTrials
 restored-writes = refl
 
--- the check refuses the one with 14, and every unit the other
+-- the evidence check refuses the EVIDENCE with 14, and so does a unit just opened the FULL
 pub evidence-is-refused : evidenceCheck toy 4 5 (keys 4) (render spoiltEvidence) ≡ record { number = 14; mask = 0 }
 unfolding unfoldedTrials
 evidence-is-refused = refl

@@ -18,8 +18,8 @@ use Rattle.trials.specs.Toy.{unfolded, toy, layout, sign, keys, submitBy, entry
 -- ---- calls of the runs
 
 -- the unit of seat 0 among n in round 5, after an opening and before its first call
-abbrev honest : ℕ → Result
-honest n = record { refusal = 0; unit = fresh n 0 5; store = replicate (storeLength n) 1; written = [] }
+abbrev opened : ℕ → Result
+opened n = record { refusal = 0; unit = fresh n 0 5; store = replicate (storeLength n) 1; written = [] }
 
 abbrev room : ℕ → List ℕ
 room length = replicate length 0
@@ -51,7 +51,7 @@ refuses r number = eqb (r .refusal) number && eqb (length (r .written)) 0
 alone : Bool
 unfolding unfolded
 alone =
-    let r = submits (honest 1) 7 in
+    let r = submits (opened 1) 7 in
     writes r (submitBy 0 7 ∷ Notice 5 0 (layout 7) ∷ [])
     && r .unit .confirmed
     && eqb (r .unit .own .collected) 1
@@ -68,7 +68,7 @@ alone-run = tt
 threeConfirm : Bool
 unfolding unfolded
 threeConfirm =
-    let a = submits (honest 4) 7 in
+    let a = submits (opened 4) 7 in
     let b = hears a (submitBy 2 7) in
     let c = hears b (Submit 5 2 (layout 7) (2 ∷ 7 ∷ replicate (signatureLength - 2) 3)) in
     let d = hears c (submitBy 1 9) in
@@ -95,7 +95,7 @@ threeConfirm-run = tt
 noticeFirst : Bool
 unfolding unfolded
 noticeFirst =
-    let a = hears (honest 4) (Notice 5 3 (layout 9)) in
+    let a = hears (opened 4) (Notice 5 3 (layout 9)) in
     let b = hears (hears (submits a 7) (submitBy 1 7)) (submitBy 2 7) in
     let c = hears b (Notice 5 3 (layout 9)) in
     writes a []
@@ -119,7 +119,7 @@ unwritten slots = replicate (slots * signatureLength) 1
 keptConfirm : Bool
 unfolding unfolded
 keptConfirm =
-    let a = hears (honest 4) (submitBy 3 7) in
+    let a = hears (opened 4) (submitBy 3 7) in
     let b = hears a (submitBy 1 7) in
     let c = submits b 7 in
     let collected = sign 0 7 ++ sign 1 7 ++ unwritten 1 ++ sign 3 7 in
@@ -145,7 +145,7 @@ keptConfirm-run = tt
 keptPassedOver : Bool
 unfolding unfolded
 keptPassedOver =
-    let a = hears (hears (hears (honest 4) (submitBy 0 7)) (submitBy 1 9)) (submitBy 2 7) in
+    let a = hears (hears (hears (opened 4) (submitBy 0 7)) (submitBy 1 9)) (submitBy 2 7) in
     let b = submits a 7 in
     let c = hears b (submitBy 1 7) in
     eqb (a .unit .kept) 7
@@ -163,7 +163,7 @@ keptPassedOver-run = tt
 keptLowest : Bool
 unfolding unfolded
 keptLowest =
-    let a = hears (hears (hears (honest 4) (submitBy 3 7)) (submitBy 2 7)) (submitBy 1 7) in
+    let a = hears (hears (hears (opened 4) (submitBy 3 7)) (submitBy 2 7)) (submitBy 1 7) in
     let b = submits a 7 in
     eqb (a .unit .kept) 14
     && writes b (submitBy 0 7 ∷ Notice 5 0 (layout 7) ∷ [])
@@ -178,7 +178,7 @@ keptLowest-run = tt
 keptOnce : Bool
 unfolding unfolded
 keptOnce =
-    let a = hears (honest 2) (submitBy 1 7) in
+    let a = hears (opened 2) (submitBy 1 7) in
     let b = hears a (submitBy 1 9) in
     writes b []
     && eqb (b .unit .kept) 2
@@ -204,7 +204,7 @@ evidenceBoth = Evidence 5 (values 7 9) (pairBy 7 9 1 ∷ pairBy 7 9 2 ∷ [])
 conflict : Bool
 unfolding unfolded
 conflict =
-    let a = hears (honest 4) (fullBy 9 1 2 3) in
+    let a = hears (opened 4) (fullBy 9 1 2 3) in
     let b = hears (submits a 7) (submitBy 1 7) in
     let c = hears b (submitBy 2 7) in
     let d = hears c (fullBy 8 1 2 3) in
@@ -226,7 +226,7 @@ conflict-run = tt
 keptConflict : Bool
 unfolding unfolded
 keptConflict =
-    let a = hears (hears (hears (honest 4) (fullBy 9 1 2 3)) (submitBy 1 7)) (submitBy 2 7) in
+    let a = hears (hears (hears (opened 4) (fullBy 9 1 2 3)) (submitBy 1 7)) (submitBy 2 7) in
     let b = submits a 7 in
     writes b (submitBy 0 7 ∷ Notice 5 0 (layout 7) ∷ fullBy 7 0 1 2 ∷ evidenceBoth ∷ [])
     && eqb (b .unit .guilty) 6
@@ -240,11 +240,11 @@ keptConflict-run = tt
 heardConflicts : Bool
 unfolding unfolded
 heardConflicts =
-    let a = hears (hears (submits (honest 4) 7) (submitBy 1 7)) (submitBy 2 7) in
+    let a = hears (hears (submits (opened 4) 7) (submitBy 1 7)) (submitBy 2 7) in
     let higher = hears a (fullBy 9 1 2 3) in
     let lower = hears a (fullBy 3 1 2 3) in
     let held = hears a (fullBy 7 1 2 3) in
-    let silent = hears (hears (honest 4) (fullBy 7 0 1 2)) (fullBy 9 1 2 3) in
+    let silent = hears (hears (opened 4) (fullBy 7 0 1 2)) (fullBy 9 1 2 3) in
     writes higher (fullBy 7 0 1 2 ∷ evidenceBoth ∷ [])
     && eqb (higher .unit .guilty) 6
     && writes lower (fullBy 7 0 1 2 ∷ Evidence 5 (values 3 7) (pairBy 3 7 1 ∷ pairBy 3 7 2 ∷ []) ∷ [])
@@ -386,14 +386,14 @@ openings-run = tt
 submitsRefused : Bool
 unfolding unfolded
 submitsRefused =
-    let fresh4 = honest 4 .unit in
-    let store = honest 4 .store in
+    let fresh4 = opened 4 .unit in
+    let store = opened 4 .store in
     let out = room (outLength 4) in
     refuses (submit toy (keys 4) zeros store (layout 7) (sign 0 7) out) 4
     && refuses (submit toy (keys 3) fresh4 (room 17551) (layout 7) (sign 0 7) out) 5
     && refuses (submit toy (keys 4) fresh4 (room 17551) (layout 7) (sign 0 7) (room 14708)) 6
     && refuses (submit toy (keys 4) fresh4 store (layout 7) (sign 0 7) (room 14708)) 7
-    && refuses (submit toy (keys 4) (submits (honest 4) 7 .unit) store [] [] out) 8
+    && refuses (submit toy (keys 4) (submits (opened 4) 7 .unit) store [] [] out) 8
     && refuses (submit toy (keys 4) fresh4 store (replicate 31 7) (sign 0 7) out) 9
     && refuses (submit toy (keys 4) fresh4 store (layout 7) (0 ∷ sign 0 7) out) 9
     && refuses (submit toy (keys 4) fresh4 store (layout 7) (sign 1 7) out) 14
@@ -405,7 +405,7 @@ submitsRefused-run = tt
 stepsRefused : Bool
 unfolding unfolded
 stepsRefused =
-    let r = submits (honest 4) 7 in
+    let r = submits (opened 4) 7 in
     refuses (given r []) 9
     && refuses (given r (0x01 ∷ [])) 9
     && refuses (given r (0 ∷ render (Notice 5 3 (layout 9)))) 9
@@ -419,8 +419,8 @@ stepsRefused =
     && refuses (hears r (fullBy 9 3 2 4)) 11
     && refuses (hears r (fullBy 9 1 3 2)) 12
     && refuses (hears r (fullBy 9 1 2 2)) 12
-    && refuses (hears (honest 4) (Submit 5 1 (layout 7) (sign 2 7))) 14
-    && refuses (hears (honest 4) (submitBy 4 7)) 11
+    && refuses (hears (opened 4) (Submit 5 1 (layout 7) (sign 2 7))) 14
+    && refuses (hears (opened 4) (submitBy 4 7)) 11
     && refuses (hears r (Submit 5 1 (layout 9) (sign 1 7))) 14
     && refuses (hears r (Full 5 1 (layout 9) (entryBy 9 1 ∷ entryBy 9 2 ∷ entryBy 7 3 ∷ []))) 14
 

@@ -14,9 +14,8 @@ use Rattle.protocol.specs.Certificate.{Certificate, fullOf}
 use Rattle.protocol.specs.Record.{lastRound}
 use Rattle.protocol.specs.Refusals.{isFull}
 use Rattle.protocol.specs.Calls.{evidenceCheck}
-use Rattle.round.specs.Round.{Setting, Call, BySubmit, ByStep, ByThinEntry, InHand, Boat, Each, Family, Confirms, Delivered, MakesEvidence, makingOf}
+use Rattle.round.specs.Round.{Setting, Call, BySubmit, ByStep, ByThinEntry, InHand, Boat, Each, Family, Confirms, Delivered, MakesEvidence, makingOf, unbroken}
 use Rattle.round.specs.Demand3.{NoneForged, NoneBlamed, ReachedOthers, Blames}
-use Rattle.reading.specs.UnbrokenLaws.{unbroken}
 use Rattle.claims.specs.NotRefused.{Table}
 use Rattle.claims.specs.Made.{Accuses}
 

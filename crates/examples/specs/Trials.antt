@@ -75,9 +75,9 @@ interrupted-once : answer interruptedBoat ≡ (true, true)
 unfolding unfoldedTrials interruptedBoat
 interrupted-once = refl
 
-interrupted-sends : answer interruptedSending ≡ (true, true)
+interrupted-sends-one : answer interruptedSending ≡ (true, true)
 unfolding unfoldedTrials interruptedSending
-interrupted-sends = refl
+interrupted-sends-one = refl
 
 newest : answer newestBoats ≡ (true, true)
 unfolding unfoldedTrials newestBoats

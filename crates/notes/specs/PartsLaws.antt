@@ -11,8 +11,7 @@ use Rattle.octets.specs.OctetsLaws.{length-be}
 use Rattle.octets.specs.StringsLaws.{be-two}
 use Rattle.octets.specs.WriteLaws.{patch-next}
 use Rattle.protocol.specs.Layout.{maskLength, noteOwnValueAt, noteCollectedAt, noteKeptAt, noteFirstAt, noteGuiltyAt, noteHeardValueAt, noteFirstValueAt}
-use Rattle.protocol.specs.Note.{renderNote}
-use Rattle.protocol.specs.NoteLaws.{ValuesSized}
+use Rattle.protocol.specs.Note.{renderNote, ValuesSized}
 use Rattle.protocol.specs.declared.Record.{Record}
 use Rattle.notes.specs.Parts.{noteStart, noteMasks}
 

@@ -30,10 +30,10 @@ answered number written = record { number = number; written = written }
 
 module _ (r : Record) (out : List ℕ) {number : ℕ} (told : number ≡ firstOf (writeNoteConditions r out)) where
   -- answer of the call, and `out` after it
-  abbrev Writes : ℕ → ℕ → List ℕ → Type 0
-  Writes number written after = (answered number written ≡ made (writeNote r out)) × (after ≡ outAfter (writeNote r out .written) out)
+  abbrev WriteReturns : ℕ → ℕ → List ℕ → Type 0
+  WriteReturns number written after = (answered number written ≡ made (writeNote r out)) × (after ≡ outAfter (writeNote r out .written) out)
 
-  pub write-refused : (number ≡ 0 → ⊥) → Writes number 0 out
+  pub write-refused : (number ≡ 0 → ⊥) → WriteReturns number 0 out
   unfolding writeNote notingBy made outAfter
   write-refused h = rw (← told, refused-old) (refl, sym (patch-nothing out))
 
@@ -46,7 +46,7 @@ module _ (r : Record) (out : List ℕ) {number : ℕ} (told : number ≡ firstOf
         let range = possible r (one .0) .range in
         (omega (arith, range .most, range .seated), omega (arith, range .most, range .seated), ltb-false (length out) noteLength (two .0))
 
-    pub write-done : {after : List ℕ} {end : ℕ} → after ≡ patch 0 (renderNote r) out → end ≡ length (renderNote r) → Writes 0 end after
+    pub write-done : {after : List ℕ} {end : ℕ} → after ≡ patch 0 (renderNote r) out → end ≡ length (renderNote r) → WriteReturns 0 end after
     unfolding writeNote notingBy made unrefused outAfter
     write-done w e = rw (sym told ∙ none) (ap (answered 0) e, w)
 

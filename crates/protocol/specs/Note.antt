@@ -1,12 +1,13 @@
 -- A unit's record as a note: "The record shall be written out as a note" (document 02, item 2).
 -- Assumes nothing.
-use Prim.Native.Nat.{ℕ, _+_, _*_, _/_, _%_}
-use mathlib.Core.Bool.{Bool, not, cond, _&&_, _||_}
+use Prim.Native.Nat.{ℕ, _+_, _*_, _/_, _%_, _<_}
+use mathlib.Core.Path.{_≡_}
+use mathlib.Core.Bool.{Bool, false, not, cond, _&&_, _||_}
 use mathlib.Core.List.{List, [], _∷_, _++_}
 use lib.Dec.{leb, eqb}
 use lib.ListN.{length}
 use Rattle.octets.specs.Octets.{be, wordAt}
-use Rattle.protocol.specs.Layout.{maskLength, noteSizeAt, noteSeatAt, noteRoundAt, noteFlagsAt, noteOwnValueAt, noteCollectedAt, noteKeptAt, noteFirstAt, noteGuiltyAt, noteHeardValueAt, noteFirstValueAt, noteLength}
+use Rattle.protocol.specs.Layout.{valueLength, maskLength, noteSizeAt, noteSeatAt, noteRoundAt, noteFlagsAt, noteOwnValueAt, noteCollectedAt, noteKeptAt, noteFirstAt, noteGuiltyAt, noteHeardValueAt, noteFirstValueAt, noteLength}
 use Rattle.protocol.specs.Message.{byteAt, readValue}
 use Rattle.protocol.specs.Record.{oneHeard}
 use Rattle.protocol.specs.declared.Record.{Record}
@@ -63,6 +64,12 @@ renderNote r =
     ++ be maskLength (r .own .collected) ++ be maskLength (r .kept) ++ be maskLength (r .first .seats) ++ be maskLength (r .guilty)
     ++ r .notices .value ++ r .first .value
 
+-- the three values of a record have 32 bytes, as they have in the code's type
+pub record ValuesSized (r : Record) : Type 0 where
+  pub own : length (r .own .value) ≡ valueLength
+  pub heard : length (r .notices .value) ≡ valueLength
+  pub first : length (r .first .value) ≡ valueLength
+
 -- ---- the record of a note
 
 -- flags and round of a note
@@ -91,7 +98,7 @@ noteRecord note =
 
 -- ---- 17: "when the length isn't 118, the command isn't 0x20, both heard flags or an unknown flag are set"
 
--- both heard flags: "two heard" sets 16 alone
+-- both heard flags: a record's note has one of them at most
 unfoldable pub bothHeard : ℕ → Bool
 bothHeard flags = isSet oneFlag flags && isSet twoFlag flags
 
@@ -101,3 +108,10 @@ unknownFlag flags = leb 32 flags
 
 unfoldable pub wrongNote : List ℕ → Bool
 wrongNote note = not (eqb (length note) noteLength) || not (eqb (byteAt note 0) 0x20) || bothHeard (noteFlags note) || unknownFlag (noteFlags note)
+
+-- none of these
+pub record NoteFits (note : List ℕ) : Type 0 where
+  pub size : length note ≡ noteLength
+  pub command : byteAt note 0 ≡ 0x20
+  pub apart : bothHeard (noteFlags note) ≡ false
+  pub known : noteFlags note < 32

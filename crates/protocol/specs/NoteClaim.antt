@@ -16,8 +16,8 @@ use Rattle.protocol.specs.Layout.{noteLength}
 use Rattle.protocol.specs.Message.{byteAt}
 use Rattle.protocol.specs.Record.{zeros, impossible}
 use Rattle.protocol.specs.RecordLaws.{possible}
-use Rattle.protocol.specs.Note.{renderNote, noteRecord}
-use Rattle.protocol.specs.NoteLaws.{ValuesSized, length-renderNote, record-back, right-note, NoteFits, note-right, note-back, values-sized}
+use Rattle.protocol.specs.Note.{renderNote, noteRecord, ValuesSized, NoteFits}
+use Rattle.protocol.specs.NoteLaws.{length-renderNote, record-back, right-note, note-right, note-back, values-sized}
 use Rattle.protocol.specs.Refusals.{shortOut, writeNoteConditions, readNoteConditions}
 use Rattle.protocol.specs.Calls.{openedBy, notingBy, writeNote, readNote}
 use Rattle.protocol.specs.declared.Record.{Record}
@@ -95,7 +95,7 @@ module _ (note : List ℕ) (e : readNote note .number ≡ 0) where
   pub taken-sized : ValuesSized (readNote note .unit)
   taken-sized = rw taken-record (values-sized note taken-fits)
 
--- it is, byte for byte, what the writer writes of the record read. That bytes are below 256 is so by the code's type.
+-- it is, byte for byte, what the writer writes of the record read. Bytes are below 256 by the code's type.
 pub taken-was-written : (note : List ℕ) → ((i : ℕ) → byteAt note i < 256) → readNote note .number ≡ 0 → (out : List ℕ) → noteLength ≤ length out
     → writeNote (readNote note .unit) out ≡ record { refusal = 0; written = note }
 taken-was-written note b e out room =

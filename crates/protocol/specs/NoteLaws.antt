@@ -23,14 +23,8 @@ use Rattle.protocol.specs.Entries.{eachBelow}
 use Rattle.protocol.specs.EntriesLaws.{each-at}
 use Rattle.protocol.specs.RoundTripLaws.{append-parts, one-byte, two-bytes}
 use Rattle.protocol.specs.Record.{Possible, oneHeard}
-use Rattle.protocol.specs.Note.{submittedFlag, confirmedFlag, sentFlag, oneFlag, twoFlag, twoHeard, flagIf, flagsOf, isSet, heardBy, renderNote, noteFlags, noteRound, noteRecord, bothHeard, unknownFlag, wrongNote}
+use Rattle.protocol.specs.Note.{submittedFlag, confirmedFlag, sentFlag, oneFlag, twoFlag, twoHeard, flagIf, flagsOf, isSet, heardBy, renderNote, noteFlags, noteRound, noteRecord, bothHeard, unknownFlag, wrongNote, ValuesSized, NoteFits}
 use Rattle.protocol.specs.declared.Record.{Record}
-
--- the three values of a record have 32 bytes, as they have in the code's type
-pub record ValuesSized (r : Record) : Type 0 where
-  pub own : length (r .own .value) ≡ valueLength
-  pub heard : length (r .notices .value) ≡ valueLength
-  pub first : length (r .first .value) ≡ valueLength
 
 -- ---- flags
 
@@ -232,13 +226,6 @@ module _ (r : Record) (sized : ValuesSized r) (p : Possible r) where
   right-note = rw (length-renderNote r sized, head .command, head .flags, read-flags .apart, read-flags .known)
 
 -- ---- a note read and written back
-
--- a note that isn't wrong, written out
-pub record NoteFits (note : List ℕ) : Type 0 where
-  pub size : length note ≡ noteLength
-  pub command : byteAt note 0 ≡ 0x20
-  pub apart : bothHeard (noteFlags note) ≡ false
-  pub known : noteFlags note < 32
 
 pub note-right : (note : List ℕ) → (wrongNote note ≡ false) ↔ NoteFits note
 unfolding wrongNote unknownFlag

@@ -1,14 +1,10 @@
--- A unit that loses no power and keeps no note: its list is its calls, one after another, and it is honest where its opening isn't refused.
+-- A unit that only makes calls: its list is its calls, one after another, and it is honest where its opening isn't refused.
 -- Assumes nothing.
 use Prim.Native.Nat.{ℕ}
 use mathlib.Core.Path.{_≡_, sym, ap, _∙_}
 use mathlib.Core.List.{List, [], _∷_, _++_, map, append-nil, append-assoc}
 use Rattle.protocol.specs.Calls.{opening}
-use Rattle.round.specs.Round.{Setting, Call, Called, Makes, InHand, Boat, Moment, outcome, begins, after, afterAll, listOf, AllowedAll, IsHonest, listFrom}
-
--- a unit that makes these calls and nothing else
-abbrev pub unbroken : ℕ → List ℕ → List Call → List InHand → Boat
-unbroken seat store calls inHand = record { seat = seat; store = store; events = map Makes calls; inHand = inHand }
+use Rattle.round.specs.Round.{Setting, Call, Called, Makes, InHand, Moment, outcome, begins, after, afterAll, listOf, AllowedAll, IsHonest, unbroken, listFrom}
 
 module _ (S : Setting) (seat : ℕ) where
   open Setting S using (n, round, keys)

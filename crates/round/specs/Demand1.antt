@@ -67,11 +67,11 @@ Carries (Full ρ sender value entries) layout = value ≡ layout
 Carries (Evidence ρ values entries) layout = ⊥
 Carries Garbled layout = ⊥
 
--- "A display that comes back blank could sign a second layout in good faith" (document 02, item 2). All that a unit sends carries a layout
--- that it submitted, in a call that counts,
+-- "A display that comes back blank could sign a second layout in good faith" (document 02, item 2). Each SUBMIT, NOTICE and FULL that a
+-- unit sends carries a layout that it submitted in a call that counts.
 abbrev pub SendsSubmitted : Setting → Boat → Type 0
 SendsSubmitted S u = (m : Message) (layout : List ℕ) → Carries m layout → Sent u m → Submits S u layout
 
--- and one layout, in messages of one kind or of two
+-- All of them carry one layout.
 abbrev pub SendsOneLayout : Boat → Type 0
 SendsOneLayout u = (m m′ : Message) (layout layout′ : List ℕ) → Carries m layout → Carries m′ layout′ → Sent u m → Sent u m′ → layout ≡ layout′

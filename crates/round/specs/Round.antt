@@ -3,7 +3,7 @@
 use Prim.Native.Nat.{ℕ, _≤_}
 use mathlib.Core.Path.{_≡_}
 use mathlib.Core.Bool.{true}
-use mathlib.Core.List.{List, [], _∷_, _++_, List·Memᴰ}
+use mathlib.Core.List.{List, [], _∷_, _++_, map, List·Memᴰ}
 use mathlib.Core.Logic.{_⊎_, _≢_}
 use lib.ListN.{length, take}
 use Rattle.protocol.specs.Layout.{storeLength, outLength}
@@ -77,7 +77,7 @@ pub record Saved : Type 0 where
   pub note : List ℕ
   pub store : List ℕ
 
--- Event in a unit's round. A unit that loses no power needs `Makes` alone.
+-- Event in a unit's round. Document 01's lists have `Makes` alone.
 pub data Event : Type 0 where
   -- a call
   Makes : Call → Event
@@ -91,8 +91,8 @@ pub data Event : Type 0 where
   -- power is lost, and the unit is opened again, with a store holding any bytes
   OpensAgain : (store : List ℕ) → Event
 
--- "Making evidence from what is in hand .. stand[s] outside the lists": two certificates, and any out buffer. No power cut takes these
--- away: they touch no record. The claims are for any such list, also for one without the makings that a cut took away.
+-- "Making evidence from what is in hand, and the evidence check, touch no record and stand outside the lists": two certificates, and
+-- any out buffer. A power cut takes none of them away. The claims are for any list of them.
 pub record InHand : Type 0 where
   pub a : List ℕ
   pub b : List ℕ
@@ -181,6 +181,10 @@ module _ (S : Setting) where
 -- the unit sends the message
 abbrev pub Sent : Boat → Message → Type 0
 Sent u m = List·Memᴰ (Sends m) (u .events)
+
+-- a unit that makes these calls and nothing else
+abbrev pub unbroken : ℕ → List ℕ → List Call → List InHand → Boat
+unbroken seat store calls inHand = record { seat = seat; store = store; events = map Makes calls; inHand = inHand }
 
 -- a list without power cuts: calls one after another from a record and a store
 unfoldable pub listFrom : Setting → Record → List ℕ → List Call → List Called

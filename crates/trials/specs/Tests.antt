@@ -237,12 +237,12 @@ newest-says saved [] e = absurd (false≢true e)
 newest-says saved (newest ∷ older) e = (older, ap (λ (x : Saved). x ∷ older) (same-saved newest saved e))
 
 -- whether nothing is kept
-unfoldable pub keepsNone : List Saved → Bool
-keepsNone [] = true
-keepsNone (newest ∷ older) = false
+unfoldable pub noneSaved : List Saved → Bool
+noneSaved [] = true
+noneSaved (newest ∷ older) = false
 
-none-says : (kept : List Saved) → keepsNone kept ≡ true → kept ≡ []
-unfolding keepsNone
+none-says : (kept : List Saved) → noneSaved kept ≡ true → kept ≡ []
+unfolding noneSaved
 none-says [] e = refl
 none-says (newest ∷ older) e = absurd (false≢true e)
 
@@ -282,7 +282,7 @@ module _ (S : Setting) where
   allowed m (Keeps out) = eqb (writeNote (m .unit) out .refusal) 0
   allowed m (Sends message) = wrote (sendable m) message
   allowed m (ComesBack saved) = isNewest saved (m .saved)
-  allowed m (OpensAgain store) = keepsNone (m .saved)
+  allowed m (OpensAgain store) = noneSaved (m .saved)
 
   allowed-says : (m : Moment) (e : Event) → allowed m e ≡ true → Allowed S m e
   unfolding allowed

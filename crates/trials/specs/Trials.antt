@@ -15,7 +15,7 @@ use Rattle.protocol.specs.Record.{impossible}
 use Rattle.protocol.specs.Refusals.{isFull}
 use Rattle.reading.specs.Messages.{refusalOf, cameTo, allMessages}
 use Rattle.trials.specs.Toy.{unfolded, toy, layout, sign, keys, submitBy, entryBy, fullBy}
-use Rattle.trials.specs.Tests.{found, entrySized, pairSized, wellFormed, isNoticeOf, isEvidenceOn, isStepOf, isSubmitOf, signedIn, sameSigned, sentIn, sameSaved, isNewest, keepsNone, wrote, allowed, allowedAll, isHonest, all, formed, submits, reached, confirms, mustReach, haveReached, blamesIn, blames, accuses}
+use Rattle.trials.specs.Tests.{found, entrySized, pairSized, wellFormed, isNoticeOf, isEvidenceOn, isStepOf, isSubmitOf, signedIn, sameSigned, sentIn, sameSaved, isNewest, noneSaved, wrote, allowed, allowedAll, isHonest, all, formed, submits, reached, confirms, mustReach, haveReached, blamesIn, blames, accuses}
 use Rattle.trials.specs.Trial.{Trial, onceEach, sendsOne, possibleEach, Crew, computed, accountability, safety}
 
 -- ---- setting and calls of the runs
@@ -295,8 +295,8 @@ savedAt (suc i) (saved ∷ older) = savedAt i older
 abbrev pub comesBack : Setting → ℕ → Boat → Boat
 comesBack S i u = does u (ComesBack (savedAt i (keptBy S u)) ∷ [])
 
--- A submit of the layout 9 is lost before the first note. One of the layout 7 is kept, power is lost before it is sent, and it is sent then;
--- the layout 9 is refused. A confirmation is lost, and comes again.
+-- A submit of the layout 9 is lost before the first note. A submit of the layout 7 is kept; power is lost, and the SUBMIT is sent after
+-- that. The layout 9 is then refused. A confirmation is lost, and made again.
 unfoldable pub interrupted : Boat
 interrupted =
     let opened = boatOfPair (Makes (says 0 9) ∷ OpensAgain (replicate (storeLength 2) 2) ∷ []) in
@@ -310,7 +310,7 @@ interruptedBoat = onceEach pair interrupted
 unfoldable pub interruptedSending : Trial (IsHonest pair interrupted → SendsOne interrupted)
 interruptedSending = sendsOne pair interrupted
 
--- a boat submits the layout 7 and sends it before it keeps a note, or it is opened again after the note; then it submits the layout 9
+-- a boat submits the layout 7 and sends it, before a note is kept (`hasty`) or after (`blank`); it is opened again and submits the layout 9
 abbrev pub opensAgain : List Event → Boat
 opensAgain sending = boatOfPair (Makes (says 0 7) ∷ sending ++ OpensAgain (replicate (storeLength 2) 1) ∷ Makes (says 0 9) ∷ keeps ∷ Sends (submitBy 0 9) ∷ [])
 
@@ -346,7 +346,7 @@ newestBoats = safety four two newest []
 unfoldable pub olderBoats : Trial (Family four older → Demand3 four older)
 olderBoats = safety four two older []
 
--- two boats confirm different layouts, and one of them keeps a note in this out and comes back from it, with a store made of the one kept
+-- two boats confirm different layouts; one keeps a note, written to this out, and comes back from it with a store made of the one kept
 abbrev pub returned : List ℕ → (List ℕ → List ℕ) → Bool → Boat
 returned out with =
     let u = does seven (Keeps out ∷ []) in
@@ -359,6 +359,7 @@ sameStored = returned (replicate noteLength 0) (λ store. store)
 unfoldable pub otherStored : Bool → Boat
 otherStored = returned (replicate noteLength 0) (λ store. replicate (storeLength 4) 1)
 
+-- no room for the note: it is refused
 unfoldable pub unnoted : Bool → Boat
 unnoted = returned [] (λ store. store)
 
@@ -373,5 +374,5 @@ unnotedBoats = accountability four two unnoted false true (layout 7) (layout 9)
 
 -- a name that unfolds every definition of a run
 unfoldable pub unfoldedTrials : Bool
-unfolding unfolded outcome begins after afterAll isSubmit isNotice worth count refusalOf cameTo allMessages found entrySized pairSized wellFormed isNoticeOf isEvidenceOn isStepOf isSubmitOf signedIn sameSigned sentIn sameSaved isNewest keepsNone wrote allowed allowedAll isHonest all formed submits reached confirms mustReach haveReached blamesIn blames accuses onceEach sendsOne possibleEach computed accountability safety those sentBy certified certifiedEach two three keptBy savedAt seven nine divided forewarned witnessed shortStored shortOuted unheard unsigned submitting twice holding keptOther keptUnsigned heardTwice answering sharing slow interrupted hasty blank newest older sameStored otherStored unnoted
+unfolding unfolded outcome begins after afterAll isSubmit isNotice worth count refusalOf cameTo allMessages found entrySized pairSized wellFormed isNoticeOf isEvidenceOn isStepOf isSubmitOf signedIn sameSigned sentIn sameSaved isNewest noneSaved wrote allowed allowedAll isHonest all formed submits reached confirms mustReach haveReached blamesIn blames accuses onceEach sendsOne possibleEach computed accountability safety those sentBy certified certifiedEach two three keptBy savedAt seven nine divided forewarned witnessed shortStored shortOuted unheard unsigned submitting twice holding keptOther keptUnsigned heardTwice answering sharing slow interrupted hasty blank newest older sameStored otherStored unnoted
 unfoldedTrials = true

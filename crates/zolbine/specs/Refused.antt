@@ -1,6 +1,6 @@
 -- "A refusal returns its number and 0 bytes written; record, store, tree and out keep every byte.": the law for the results
--- that the contracts of a submit, of a step, by value and through the thin entry, and of writing a note promise. "A refused note
--- gives a record of zeros." (document 02, item 2): the law for the result that the contract of reading one promises.
+-- that the contracts of a submit, of a step, by value and through the thin entry, and of writing a note promise. That of reading a note is
+-- `protocol/specs/NoteClaim: refused-gives-zeros`.
 -- Assumes nothing.
 use Prim.Native.Nat.{ℕ}
 use mathlib.Core.Path.{_≡_, refl}
@@ -8,11 +8,10 @@ use mathlib.Core.Logic.{_≢_}
 use mathlib.Core.List.{List, []}
 use Rattle.octets.specs.StringsLaws.{patch-nothing}
 use Rattle.refusal.specs.RefusalLaws.{refused-old}
-use Rattle.protocol.specs.Record.{zeros}
 use Rattle.protocol.specs.Refusals.{Checks}
 use Rattle.protocol.specs.Step.{State}
-use Rattle.protocol.specs.NoteClaim.{refused-writes-nothing, refused-gives-zeros}
-use Rattle.protocol.specs.Calls.{Result, resultBy, submit, step, outAfter, writeNote, readNote}
+use Rattle.protocol.specs.NoteClaim.{refused-writes-nothing}
+use Rattle.protocol.specs.Calls.{Result, resultBy, submit, step, outAfter, writeNote}
 use Rattle.protocol.specs.declared.Record.{Record}
 
 -- the record, the store and out are as they were lent
@@ -39,6 +38,3 @@ unfolding outAfter
 write-note-refused r out h =
     let nothing = refused-writes-nothing r out h in
     (nothing, rw nothing (patch-nothing out))
-
-pub read-note-refused : (note : List ℕ) → readNote note .number ≢ 0 → readNote note .unit ≡ zeros
-read-note-refused = refused-gives-zeros

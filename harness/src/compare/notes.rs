@@ -14,6 +14,7 @@ use crate::reference::layout::{
 };
 use crate::reference::note::{self, ONE_HEARD, TWO_HEARD};
 use crate::reference::record::{Opened, Record, Written};
+use crate::reference::refusals::Passed;
 use crate::rng::{seed, Rng};
 
 /// The parts of a note, each with its first byte, and the answers to a note with a bit of that part turned. Others don't occur,
@@ -64,7 +65,7 @@ const ALL: [&str; 21] = [
 const LENGTHS: std::ops::RangeInclusive<usize> = 0..=200;
 
 /// A record given to both: its note, none where it is refused. `out` keeps its other bytes.
-pub fn written(subject: &dyn Notes, record: &Record, out: &[u8], rng: &mut Rng) -> Result<Passed, String> {
+pub fn written(subject: &dyn Notes, record: &Record, out: &[u8], rng: &mut Rng) -> Result<Passed<Vec<u8>>, String> {
     let mut expected_out = out.to_vec();
     let expected = note::write_note(*record, &mut expected_out);
     let mut lent = Guarded::new(out, rng);
@@ -98,9 +99,6 @@ fn parts_stand(record: &Record, note: &[u8]) -> Result<(), String> {
     }
     Ok(())
 }
-
-/// A note, or the number of the refusal.
-type Passed = Result<Vec<u8>, u32>;
 
 /// Bytes given to both as a note. "A refused note gives a record of zeros."
 pub fn read(subject: &dyn Notes, bytes: &[u8], rng: &mut Rng) -> Result<Opened, String> {

@@ -5,7 +5,8 @@ use borrow.Author.Needs.{needs}
 use denote.Ref.{now}
 use Rattle.protocol.specs.Layout.{noteLength}
 use Rattle.protocol.specs.Figures.{note-figure}
-use Rattle.protocol.specs.NoteLaws.{ValuesSized, length-renderNote}
+use Rattle.protocol.specs.Note.{ValuesSized}
+use Rattle.protocol.specs.NoteLaws.{length-renderNote}
 use Rattle.notes.specs.PartsLaws.{parts-written}
 use Rattle.notes.proofs.write.put_note.Statement.{statement}
 use Rattle.notes.proofs.write.put_note.Tie as tie
