@@ -10,7 +10,7 @@ use Rattle.quorum.specs.Quorum.{shared, with, seats}
 use Rattle.protocol.specs.Layout.{collectedBank, firstBank, keptBank, keptValueBank, slotLength, slotAt}
 use Rattle.protocol.specs.Values.{isLower}
 use Rattle.protocol.specs.Entries.{formSeats}
-use Rattle.protocol.specs.Message.{Entry, Pair, PairValues, Message, Submit, Notice, Full, Evidence, Garbled, fullForm}
+use Rattle.protocol.specs.Message.{Entry, Pair, ValuesEach, Message, Submit, Notice, Full, Evidence, Garbled, fullForm}
 use Rattle.protocol.specs.declared.Record.{Record}
 
 pub record Certificate : Type 0 where
@@ -71,7 +71,7 @@ unfoldable pub certificateIn : Message → Certificate
 certificateIn (Submit round seat value signature) = certificateOf [] []
 certificateIn (Notice round seat value) = certificateOf [] []
 certificateIn (Full round sender value entries) = certificateOf value entries
-certificateIn (Evidence round values entries) = certificateOf [] []
+certificateIn (Evidence round form entries) = certificateOf [] []
 certificateIn Garbled = certificateOf [] []
 
 -- ---- messages from certificates: "Entry seats rise."
@@ -97,13 +97,9 @@ pairOf low high seat =
 unfoldable pub pairsOf : ℕ → ℕ → Certificate → Certificate → List Pair
 pairsOf n mask low high = map (pairOf low high) (seats n mask)
 
--- the values of evidence from two certificates, the lower value first
-abbrev pub valuesOf : Certificate → Certificate → PairValues
-valuesOf low high = record { lower = low .value; higher = high .value }
-
--- evidence from two certificates for the seats of a set, the lower value first
+-- evidence from two certificates for the seats of a set, the lower value first: 0x07, each seat with its own pair
 unfoldable pub orderedEvidence : ℕ → ℕ → ℕ → Certificate → Certificate → Message
-orderedEvidence n round mask low high = Evidence round (valuesOf low high) (pairsOf n mask low high)
+orderedEvidence n round mask low high = Evidence round ValuesEach (pairsOf n mask low high)
 
 -- evidence from two certificates of different values for the seats of a set, in either order
 unfoldable pub evidenceOf : ℕ → ℕ → ℕ → Certificate → Certificate → Message

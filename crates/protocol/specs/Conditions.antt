@@ -13,7 +13,7 @@ use Rattle.rfc8554.specs.Verify.{lmsTypeOf, otsTypeOf}
 use Rattle.protocol.specs.Layout.{valueLength, signatureLength, keyLength, keyAt, treeLength, messageLimit, storeLength}
 use Rattle.protocol.specs.Values.{isLower}
 use Rattle.protocol.specs.Entries.{eachBelow}
-use Rattle.protocol.specs.Message.{Message, Submit, Notice, Full, Evidence, Garbled, Signed, roundOf, entrySeats, seatsOf, signed}
+use Rattle.protocol.specs.Message.{Pair, Message, Submit, Notice, Full, Evidence, Garbled, Signed, roundOf, entrySeats, seatsOf, signed}
 use Rattle.protocol.specs.Certificate.{certificateIn}
 use Rattle.protocol.specs.declared.Record.{Record}
 
@@ -64,21 +64,21 @@ unfoldable pub isForStep : Message → Bool
 isForStep (Submit round seat value signature) = true
 isForStep (Notice round seat value) = true
 isForStep (Full round sender value entries) = true
-isForStep (Evidence round values entries) = false
+isForStep (Evidence round form entries) = false
 isForStep Garbled = false
 
 unfoldable pub isFull : Message → Bool
 isFull (Submit round seat value signature) = false
 isFull (Notice round seat value) = false
 isFull (Full round sender value entries) = true
-isFull (Evidence round values entries) = false
+isFull (Evidence round form entries) = false
 isFull Garbled = false
 
 unfoldable pub isEvidence : Message → Bool
 isEvidence (Submit round seat value signature) = false
 isEvidence (Notice round seat value) = false
 isEvidence (Full round sender value entries) = false
-isEvidence (Evidence round values entries) = true
+isEvidence (Evidence round form entries) = true
 isEvidence Garbled = false
 
 unfoldable pub wrongLengths : List ℕ → List ℕ → Bool
@@ -109,12 +109,16 @@ disorder m = not (rising (entrySeats m))
 unfoldable pub badSignature : Checks → Message → Bool
 badSignature checks m = not (every (λ (s : Signed). checks (s .seat) (s .value) (s .signature)) (signed m))
 
--- 15: "evidence whose values are equal or not lower first; two certificates with equal values"
+-- 15: "evidence whose values are equal or not lower first; two certificates with equal values". "An entry whose values are equal or not
+-- lower first is 15." (document 02, item 3)
+unfoldable pub lowerFirst : Pair → Bool
+lowerFirst p = isLower (p .lowerValue) (p .higherValue)
+
 unfoldable pub notLowerFirst : Message → Bool
 notLowerFirst (Submit round seat value signature) = false
 notLowerFirst (Notice round seat value) = false
 notLowerFirst (Full round sender value entries) = false
-notLowerFirst (Evidence round values entries) = not (isLower (values .lower) (values .higher))
+notLowerFirst (Evidence round form entries) = not (every lowerFirst entries)
 notLowerFirst Garbled = false
 
 unfoldable pub equalValues : Message → Message → Bool

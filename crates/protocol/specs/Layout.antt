@@ -1,5 +1,5 @@
 -- Lengths and places in bytes (document 01, "Signatures", "Commands on the air" and "A unit's record and store"; document 02, items 1
--- and 2).
+-- to 3).
 -- Each is made of its parts; the documents' figures follow from them, in `Figures`.
 -- Assumes nothing.
 use Prim.Native.Nat.{ℕ, zero, suc, _+_, _*_}
@@ -92,28 +92,64 @@ fullEntryAt i = entryAt fullStart fullEntryLength i
 unfoldable pub fullLength : ℕ → ℕ
 fullLength n = fullEntryAt (k n)
 
--- EVIDENCE: "round 2, lower value 32, higher value 32, count 1 (1 to n), then entries: 0x06, seat 1, the signature over the lower
--- value, the signature over the higher"
-abbrev pub lowerAt : ℕ
-lowerAt = operandsAt
-
-abbrev pub higherAt : ℕ
-higherAt = lowerAt + valueLength
-
+-- "Evidence becomes 0x07: round 2, count 1 (1 to n), then entries of 0x08, seat 1, lower value 32, higher value 32 and their
+-- signatures in that order" (document 02, item 3)
 abbrev pub evidenceCountAt : ℕ
-evidenceCountAt = higherAt + valueLength
+evidenceCountAt = operandsAt
 
 abbrev pub evidenceStart : ℕ
 evidenceStart = evidenceCountAt + 1
 
+-- places of a pair's values and signatures, from the start of the bytes that its entry holds
+abbrev pub pairLowerValueAt : ℕ
+pairLowerValueAt = 0
+
+abbrev pub pairHigherValueAt : ℕ
+pairHigherValueAt = pairLowerValueAt + valueLength
+
+abbrev pub pairLowerAt : ℕ
+pairLowerAt = pairHigherValueAt + valueLength
+
+abbrev pub pairHigherAt : ℕ
+pairHigherAt = pairLowerAt + signatureLength
+
+abbrev pub pairLength : ℕ
+pairLength = pairHigherAt + signatureLength
+
 unfoldable pub evidenceEntryLength : ℕ
-evidenceEntryLength = entryLength (signatureLength + signatureLength)
+evidenceEntryLength = entryLength pairLength
 
 unfoldable pub evidenceEntryAt : ℕ → ℕ
 evidenceEntryAt i = entryAt evidenceStart evidenceEntryLength i
 
 unfoldable pub evidenceLength : ℕ → ℕ
 evidenceLength count = evidenceEntryAt count
+
+-- "The old 0x05 is still accepted by the check.": "round 2, lower value 32, higher value 32, count 1 (1 to n), then entries: 0x06,
+-- seat 1, the signature over the lower value, the signature over the higher"
+abbrev pub lowerAt : ℕ
+lowerAt = operandsAt
+
+abbrev pub higherAt : ℕ
+higherAt = lowerAt + valueLength
+
+abbrev pub oldEvidenceCountAt : ℕ
+oldEvidenceCountAt = higherAt + valueLength
+
+abbrev pub oldEvidenceStart : ℕ
+oldEvidenceStart = oldEvidenceCountAt + 1
+
+abbrev pub oldPairLength : ℕ
+oldPairLength = signatureLength + signatureLength
+
+unfoldable pub oldEvidenceEntryLength : ℕ
+oldEvidenceEntryLength = entryLength oldPairLength
+
+unfoldable pub oldEvidenceEntryAt : ℕ → ℕ
+oldEvidenceEntryAt i = entryAt oldEvidenceStart oldEvidenceEntryLength i
+
+unfoldable pub oldEvidenceLength : ℕ → ℕ
+oldEvidenceLength count = oldEvidenceEntryAt count
 
 -- ---- the store: "n slots of 1,452 for collected signatures, then n for the first certificate, each by seat"; "after the old slots,
 -- n of 1,452 for kept signatures, then n values of 32" (document 02, item 1)

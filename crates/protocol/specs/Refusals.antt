@@ -2,7 +2,7 @@
 -- the list of its rows, of which the first that holds is answered. The conditions in full are in `Conditions`, `Record` and `Note`;
 -- those of `Conditions` are exported from here too.
 -- Assumes nothing.
-unfoldable pub use Rattle.protocol.specs.Conditions.{Checks, every, keyAllowed, keysAllowed, wrongKeys, lengthIsnt, wrongKey, shortStore, shortOut, said, isForStep, isFull, isEvidence, wrongLengths, tooLong, otherRound, stranger, rising, disorder, badSignature, notLowerFirst, equalValues, wrongMakerMaterial, wrongSignerMaterial}
+unfoldable pub use Rattle.protocol.specs.Conditions.{Checks, every, keyAllowed, keysAllowed, wrongKeys, lengthIsnt, wrongKey, shortStore, shortOut, said, isForStep, isFull, isEvidence, wrongLengths, tooLong, otherRound, stranger, rising, disorder, badSignature, lowerFirst, notLowerFirst, equalValues, wrongMakerMaterial, wrongSignerMaterial}
 use Prim.Native.Nat.{ℕ}
 use mathlib.Core.Bool.{Bool, not}
 use mathlib.Core.List.{List, [], _∷_, _++_}
@@ -92,7 +92,8 @@ SIGNATURE checks m = (14, badSignature checks m)
 abbrev pub SIGNATURE-ALONE : List ℕ → List ℕ → List ℕ → Condition
 SIGNATURE-ALONE key message signature = (14, not (valid key message signature))
 
--- 15, no conflict: "evidence whose values are equal or not lower first; two certificates with equal values"
+-- 15, no conflict: "evidence whose values are equal or not lower first; two certificates with equal values", and "An entry whose values
+-- are equal or not lower first is 15." (document 02, item 3)
 abbrev pub NO-CONFLICT-IN : Message → Condition
 NO-CONFLICT-IN m = (15, notLowerFirst m)
 

@@ -1,10 +1,10 @@
--- Submit and step once nothing is refused (document 01, "Steps"; document 02, item 1).
+-- Submit and step once nothing is refused (document 01, "Steps"; document 02, items 1 and 3).
 -- Assumes nothing.
 use Prim.Native.Nat.{ℕ, zero, suc}
 use mathlib.Core.Bool.{Bool, true, false, cond, not, _&&_}
 use mathlib.Core.List.{List, [], _∷_, _++_}
 use lib.Dec.{ltb, eqb}
-use Rattle.quorum.specs.Quorum.{k, has, size, shared, with, seats}
+use Rattle.quorum.specs.Quorum.{k, has, size, union, shared, less, with, seats}
 use Rattle.protocol.specs.Layout.{collectedBank, firstBank}
 use Rattle.octets.specs.Strings.{same}
 use Rattle.protocol.specs.Message.{Message, Submit, Notice, Full, Evidence, Garbled}
@@ -145,22 +145,22 @@ hold c s = record {
   written = s .written;
 }
 
--- the seats that a certificate makes guilty: "the shared seats"
+-- "those newly found" (document 02, item 3): the seats that a certificate shares with the first one held, less those guilty already
 unfoldable pub found : Certificate → Record → ℕ
-found c r = shared (r .first .seats) (c .seats)
+found c r = less (shared (r .first .seats) (c .seats)) (r .guilty)
 
--- "makes the shared seats guilty and EVIDENCE is written"
+-- "each certificate that conflicts with the first one held adds the seats that it shares, and EVIDENCE is written for those newly found"
 unfoldable pub blame : Certificate → State → State
 blame c s =
     write (evidenceOf (s .unit .n) (s .unit .round) (found c (s .unit)) (firstCertificate (s .unit) (s .store)) c)
-    (withUnit s (withGuilty (s .unit) (found c (s .unit))))
+    (withUnit s (withGuilty (s .unit) (union (s .unit .guilty) (found c (s .unit)))))
 
--- "One with another value, while guilty seats are empty"
+-- "that conflicts with the first one held": it has another value. "if any": there are seats newly found.
 unfoldable pub blames : Certificate → Record → Bool
-blames c r = not (same (c .value) (r .first .value)) && eqb (r .guilty) 0
+blames c r = not (same (c .value) (r .first .value)) && not (eqb (found c r) 0)
 
--- "The first is held. One with another value, while guilty seats are empty, makes the shared seats guilty and EVIDENCE is
--- written. Otherwise nothing more changes."
+-- "The first is held." "From now on each certificate that conflicts with the first one held adds the seats that it shares, and EVIDENCE is
+-- written for those newly found, if any." "Otherwise nothing more changes."
 unfoldable pub holdOrBlame : Certificate → State → State
 holdOrBlame c s = cond (holds (s .unit)) (cond (blames c (s .unit)) (blame c s) s) (hold c s)
 
@@ -198,5 +198,5 @@ unfoldable pub stepped : Message → State → State
 stepped (Submit round seat value signature) s = confirmIfComplete (hearSubmit seat value signature s)
 stepped (Notice round seat value) s = reply (hear value s)
 stepped (Full round sender value entries) s = hearCertificate (certificateIn (Full round sender value entries)) s
-stepped (Evidence round values entries) s = s
+stepped (Evidence round form entries) s = s
 stepped Garbled s = s

@@ -4,7 +4,7 @@ use mathlib.Core.Path.{_≡_}
 use mathlib.Core.Bool.{Bool}
 use mathlib.Core.List.{List, [], _∷_, _++_}
 use Prim.Native.Nat.{ℕ, zero, suc, _+_, _-_, _/_, _%_, _^_}
-use lib.Bits.{bitAnd, bitOr}
+use lib.Bits.{bitAnd, bitOr, bitXor}
 use lib.Count.{ones}
 use lib.Dec.{leb, eqb}
 
@@ -48,6 +48,10 @@ union a b = bitOr a b
 -- the seats of both sets
 unfoldable pub shared : ℕ → ℕ → ℕ
 shared a b = bitAnd a b
+
+-- the seats of the first set that the second doesn't have
+unfoldable pub less : ℕ → ℕ → ℕ
+less a b = bitXor a (shared a b)
 
 -- the set with seat s added
 unfoldable pub with : ℕ → ℕ → ℕ

@@ -1,18 +1,16 @@
 -- Demand 1, over a whole list: "in a round a unit on one unbroken record sends at most one submission, one notice and one full
--- certificate"; and at most one evidence. A unit that loses power (document 02, item 2) may send a message again, and no other of its kind.
+-- certificate"; and at most t0 + 1 packs of evidence (document 02, item 3). A unit that loses power (document 02, item 2) may send a message
+-- again, and no other of its kind but further packs, each of which names other seats.
 -- Assumes nothing.
 use Prim.Native.Nat.{ℕ, _+_, _≤_}
+use Rattle.quorum.specs.Quorum.{t0}
 use mathlib.Core.Path.{_≡_}
 use mathlib.Core.Bool.{Bool, true, false}
-use mathlib.Core.List.{List, [], _∷_, _++_}
-use Rattle.protocol.specs.Message.{Message, Submit, Notice, Full, Evidence, Garbled}
+use mathlib.Core.List.{List, [], _∷_, List·Memᴰ}
+use mathlib.Core.Logic.{_⊎_}
+use Rattle.protocol.specs.Message.{Message, Submit, Notice, Full, Evidence, Garbled, entrySeats}
 use Rattle.protocol.specs.Refusals.{isFull, isEvidence}
-use Rattle.round.specs.Round.{Setting, Boat, Called, listOf, writtenIn, Are, Sent, Writes, Submits}
-
--- the bytes that calls write, one after another
-unfoldable pub writtenOver : Setting → List Called → List ℕ
-writtenOver S [] = []
-writtenOver S (c ∷ cs) = writtenIn S c ++ writtenOver S cs
+use Rattle.round.specs.Round.{Setting, Boat, listOf, writtenOver, Are, Sent, Writes, Submits}
 
 -- kinds of message that a unit sends
 pub data Kind : Type 0 where
@@ -22,14 +20,14 @@ unfoldable pub isSubmit : Message → Bool
 isSubmit (Submit ρ seat value signature) = true
 isSubmit (Notice ρ seat value) = false
 isSubmit (Full ρ sender value entries) = false
-isSubmit (Evidence ρ values entries) = false
+isSubmit (Evidence ρ form entries) = false
 isSubmit Garbled = false
 
 unfoldable pub isNotice : Message → Bool
 isNotice (Submit ρ seat value signature) = false
 isNotice (Notice ρ seat value) = true
 isNotice (Full ρ sender value entries) = false
-isNotice (Evidence ρ values entries) = false
+isNotice (Evidence ρ form entries) = false
 isNotice Garbled = false
 
 abbrev pub isOf : Kind → Message → Bool
@@ -47,24 +45,36 @@ unfoldable pub count {ℓ} : {A : Type ℓ} → (A → Bool) → List A → ℕ
 count test [] = 0
 count test (x ∷ xs) = worth (test x) + count test xs
 
--- at most one message of each kind among those that a unit's list writes, for every reading of the bytes as messages
-abbrev pub AtMostOne : Setting → Boat → Type 0
-AtMostOne S u = (ms : List Message) → Are (S .n) (writtenOver S (listOf S u)) ms → (κ : Kind) → count (isOf κ) ms ≤ 1
+-- the most messages of a kind that a unit writes in a round. Each pack after the first names new seats of the first certificate held: of its
+-- n − t0 the first pack names n − 2 × t0 or more.
+unfoldable pub most : ℕ → Kind → ℕ
+most n SUBMIT = 1
+most n NOTICE = 1
+most n FULL = 1
+most n EVIDENCE = t0 n + 1
+
+-- no more than that among those that a unit's list writes, for every reading of the bytes as messages
+abbrev pub AtMost : Setting → Boat → Type 0
+AtMost S u = (ms : List Message) → Are (S .n) (writtenOver S (listOf S u)) ms → (κ : Kind) → count (isOf κ) ms ≤ most (S .n) κ
 
 -- every message that a unit sends was written by a call that counts
 abbrev pub SendsWritten : Setting → Boat → Type 0
 SendsWritten S u = (m : Message) → Sent u m → Writes S u m
 
--- of two messages of one kind that a unit sends, one is the other again
+-- two messages name no seat both
+abbrev pub Apart : Message → Message → Type 0
+Apart m m′ = (seat : ℕ) → List·Memᴰ seat (entrySeats m) → List·Memᴰ seat (entrySeats m′) → ⊥
+
+-- of two messages of one kind that a unit sends, one is the other again, or they are packs that name no seat both
 abbrev pub SendsOne : Boat → Type 0
-SendsOne u = (κ : Kind) (m m′ : Message) → isOf κ m ≡ true → isOf κ m′ ≡ true → Sent u m → Sent u m′ → m ≡ m′
+SendsOne u = (κ : Kind) (m m′ : Message) → isOf κ m ≡ true → isOf κ m′ ≡ true → Sent u m → Sent u m′ → (m ≡ m′) ⊎ ((κ ≡ EVIDENCE) × Apart m m′)
 
 -- the layout that a message of the unit's own carries: SUBMIT, NOTICE and FULL have one
 abbrev pub Carries : Message → List ℕ → Type 0
 Carries (Submit ρ seat value signature) layout = value ≡ layout
 Carries (Notice ρ seat value) layout = value ≡ layout
 Carries (Full ρ sender value entries) layout = value ≡ layout
-Carries (Evidence ρ values entries) layout = ⊥
+Carries (Evidence ρ form entries) layout = ⊥
 Carries Garbled layout = ⊥
 
 -- "A display that comes back blank could sign a second layout in good faith" (document 02, item 2). Each SUBMIT, NOTICE and FULL that a

@@ -2,7 +2,7 @@
 -- Assumes nothing.
 use Prim.Native.Nat.{ℕ, _≤_}
 use mathlib.Core.Path.{_≡_}
-use mathlib.Core.Bool.{true}
+use mathlib.Core.Bool.{true, false}
 use mathlib.Core.List.{List, [], _∷_, _++_, map, List·Memᴰ}
 use mathlib.Core.Logic.{_⊎_, _≢_}
 use lib.ListN.{length, take}
@@ -69,6 +69,11 @@ StandsIn n m bytes = (ms : List Message) × Are n bytes ms × List·Memᴰ m ms
 -- "Written is what stands in the bytes that a call's answer counts."
 abbrev pub writtenIn : Setting → Called → List ℕ
 writtenIn S c = counted (answer (resultOf S c) .written) (resultOf S c .written) (outOf (c .given))
+
+-- the bytes that calls write, one after another
+unfoldable pub writtenOver : Setting → List Called → List ℕ
+writtenOver S [] = []
+writtenOver S (c ∷ cs) = writtenIn S c ++ writtenOver S cs
 
 -- ---- the lists
 
@@ -259,6 +264,16 @@ module _ (S : Setting) where
     pub kind : isEvidence message ≡ true
     pub bytes : evidence ≡ render message
     pub writes : Writes S u message
+
+  -- "the first pack a unit writes in a submit or a step" (document 02, item 3): no EVIDENCE stands before it in what its list writes
+  pub record WritesFirst (u : Boat) (evidence : List ℕ) : Type 0 where
+    pub message : Message
+    pub kind : isEvidence message ≡ true
+    pub bytes : evidence ≡ render message
+    pub before : List Message
+    pub later : List Message
+    pub are : Are n (writtenOver S (listOf S u)) (before ++ message ∷ later)
+    pub none : Each (λ (m : Message). isEvidence m ≡ false) before
 
   -- "or made or joined by an honest unit, with this n, round and key table, from what it has in hand."
   abbrev pub makingOf : InHand → List ℕ
