@@ -3,21 +3,23 @@
 use mathlib.Core.Path.{_≡_, refl, sym, ap, _∙_}
 use mathlib.Core.Bool.{Bool, true, false, cond, _&&_, and-false, false≢true}
 use mathlib.Core.List.{List, [], _∷_, _++_, append-assoc}
+use mathlib.Core.Logic.{_≢_}
 use Prim.Native.Nat.{ℕ, _+_, _*_, _/_, _%_, _≤_, _<_}
 use native.Mathlib.Omega.{arith}
 use lib.Dec.{leb, eqb}
 use lib.ListN.{length, drop, length-append, take-append-drop}
 use lib.Seq.{take-at, drop-at, take-all, take-length}
-use borrow.Author.Tests.{eq-eqb, eqb-true, le-leb, leb-true}
+use borrow.Author.Tests.{eq-eqb, ne-eqb, eqb-true, le-leb, leb-true}
 use Rattle.octets.specs.Octets.{be, part}
 use Rattle.octets.specs.OctetsLaws.{length-be}
-use Rattle.octets.specs.StringsLaws.{part-left, part-between}
+use Rattle.octets.specs.StringsLaws.{part-skip, part-left, part-front, part-end, part-between}
+use Rattle.octets.specs.WriteLaws.{part-add}
 use Rattle.quorum.specs.Quorum.{k}
 use Rattle.refusal.specs.RefusalLaws.{both-true}
-use Rattle.protocol.specs.Layout.{valueLength, signatureLength, valueAt, submitLength, noticeLength, fullCountAt, fullStart, fullEntryLength, fullEntryAt, fullLength, lowerAt, higherAt, evidenceCountAt, evidenceStart, evidenceEntryLength, evidenceEntryAt, evidenceLength}
-use Rattle.protocol.specs.Entries.{Each, Form, Laid, renderEntries, entryCommands}
+use Rattle.protocol.specs.Layout.{valueLength, signatureLength, operandsAt, valueAt, submitLength, noticeLength, fullCountAt, fullStart, fullEntryLength, fullEntryAt, fullLength, pairLowerValueAt, pairHigherValueAt, pairLowerAt, pairHigherAt, pairLength, evidenceEntryLength, evidenceEntryAt, evidenceLength, lowerAt, higherAt, oldEvidenceEntryLength, oldEvidenceEntryAt, oldEvidenceLength}
+use Rattle.protocol.specs.Entries.{Each, Form, placeOf, Laid, renderEntries, entryCommands}
 use Rattle.protocol.specs.EntriesLaws.{byte-after, Faithful, length-entries, commands-right, entries-read}
-use Rattle.protocol.specs.Message.{Entry, Pair, PairValues, Message, Submit, Notice, Full, Evidence, Garbled, WellFormed, fullForm, evidenceForm, ValuesFormed, formOf, countOf, render, renderAll, byteAt, readRound, readValue, readSignature, fitsSubmit, fitsNotice, fitsFull, fitsEvidence, readSubmit, readNotice, readFull, readEvidence, read}
+use Rattle.protocol.specs.Message.{Entry, Pair, PairValues, PackForm, ValuesOnce, ValuesEach, packCommand, packValues, packCountAt, packStart, pairBytes, pairMade, Message, Submit, Notice, Full, Evidence, Garbled, WellFormed, fullForm, evidenceForm, ValuesFormed, packIn, formOf, countOf, readValues, render, renderAll, byteAt, readRound, readValue, readSignature, fitsSubmit, fitsNotice, fitsFull, fitsEvidence, readSubmit, readNotice, readFull, readEvidence, read}
 use Rattle.protocol.specs.Conditions.{isFull}
 
 -- ---- messages one after another
@@ -41,10 +43,28 @@ pub length-full : (round sender : ℕ) (value : List ℕ) (es : List Entry) → 
 unfolding render fullForm fullEntryAt fullEntryLength
 length-full round sender value es v h = simp (length-append, length-be) (omega (arith, length-entries fullForm es h))
 
-pub length-evidence : (round : ℕ) (values : PairValues) (ps : List Pair) → ValuesFormed values → Laid (evidenceForm values) ps
-    → length (render (Evidence round values ps)) ≡ evidenceEntryAt (length ps)
-unfolding render evidenceForm evidenceEntryAt evidenceEntryLength
-length-evidence round values ps f h = simp (length-append, length-be) (omega (arith, f, length-entries (evidenceForm values) ps h))
+-- EVIDENCE: its values fill the place between the round and the count, and its entries come after the count
+length-values : (form : PackForm) → ValuesFormed form → operandsAt + length (packValues form) ≡ packCountAt form
+length-values (ValuesOnce values) f = simp length-append (omega arith)
+length-values ValuesEach f = refl
+
+pub count-before-start : (form : PackForm) → packStart form ≡ packCountAt form + 1
+count-before-start (ValuesOnce values) = refl
+count-before-start ValuesEach = refl
+
+pub length-evidence : (round : ℕ) (form : PackForm) (ps : List Pair) → ValuesFormed form → Laid (evidenceForm form) ps
+    → length (render (Evidence round form ps)) ≡ placeOf (evidenceForm form) (length ps)
+unfolding render evidenceForm placeOf
+length-evidence round form ps f h = simp (length-append, length-be) (omega (arith, length-values form f, count-before-start form, length-entries (evidenceForm form) ps h))
+
+-- the lengths of either form
+pub evidence-place : (count : ℕ) → placeOf (evidenceForm ValuesEach) count ≡ evidenceLength count
+unfolding placeOf evidenceForm evidenceLength evidenceEntryAt evidenceEntryLength
+evidence-place count = refl
+
+pub old-evidence-place : (values : PairValues) (count : ℕ) → placeOf (evidenceForm (ValuesOnce values)) count ≡ oldEvidenceLength count
+unfolding placeOf evidenceForm oldEvidenceLength oldEvidenceEntryAt oldEvidenceEntryLength
+old-evidence-place values count = refl
 
 -- ---- the two lists of entries
 
@@ -52,20 +72,42 @@ pub full-faithful : Faithful fullForm
 unfolding fullForm
 full-faithful seat bytes = (refl, refl)
 
-pub evidence-faithful : (values : PairValues) → Faithful (evidenceForm values)
-unfolding evidenceForm
-evidence-faithful values seat bytes = (refl, take-append-drop signatureLength bytes)
+-- the parts of a pair's bytes one after another
+pair-whole : (held : List ℕ) → part pairLowerValueAt pairHigherAt held ++ drop pairHigherAt held ≡ held
+unfolding part
+pair-whole held = take-append-drop pairHigherAt held
 
--- a pair of the form: its values are the message's, and its signatures have their length
-pub pair-laid : (values : PairValues) (p : Pair) → p .lowerValue ≡ values .lower → p .higherValue ≡ values .higher → length (p .lower) ≡ signatureLength → length (p .higher) ≡ signatureLength
-    → (length (p .lower ++ p .higher) ≡ evidenceForm values .held) × (evidenceForm values .make (p .seat) (p .lower ++ p .higher) ≡ p)
-unfolding evidenceForm
-pair-laid values p v w l h = (
-  simp length-append (omega arith),
-  rw (take-at (p .lower) (p .higher) signatureLength l, drop-at (p .lower) (p .higher) signatureLength l, ← v, ← w),
-)
+pair-parts : (held : List ℕ)
+    → part pairLowerValueAt valueLength held ++ part pairHigherValueAt valueLength held ++ part pairLowerAt signatureLength held ++ drop pairHigherAt held ≡ held
+pair-parts held =
+    ap (λ (xs : List ℕ). xs ++ part pairLowerAt signatureLength held ++ drop pairHigherAt held) (sym (part-add pairLowerValueAt valueLength valueLength held))
+    ∙ ap (λ (xs : List ℕ). xs ++ drop pairHigherAt held) (sym (part-add pairLowerValueAt pairLowerAt signatureLength held))
+    ∙ pair-whole held
 
-pub laid-values : (values : PairValues) (ps : List Pair) → Laid (evidenceForm values) ps → Each (λ (p : Pair). (values .lower ≡ p .lowerValue) × (values .higher ≡ p .higherValue)) ps
+pub evidence-faithful : (form : PackForm) → Faithful (evidenceForm form)
+unfolding evidenceForm
+evidence-faithful (ValuesOnce values) seat held = (refl, take-append-drop signatureLength held)
+evidence-faithful ValuesEach seat held = (refl, pair-parts held)
+
+-- a pair whose values and signatures have their lengths
+pub pair-laid : (p : Pair) → length (p .lowerValue) ≡ valueLength → length (p .higherValue) ≡ valueLength → length (p .lower) ≡ signatureLength → length (p .higher) ≡ signatureLength
+    → (length (pairBytes ValuesEach p) ≡ pairLength) × (pairMade ValuesEach (p .seat) (pairBytes ValuesEach p) ≡ p)
+pair-laid p v w l h =
+    let values = p .lowerValue ++ p .higherValue in
+    let front = values ++ p .lower in
+    let lowerValue : part pairLowerValueAt valueLength (front ++ p .higher) ≡ p .lowerValue =
+    part-left front (p .higher) pairLowerValueAt valueLength (simp length-append (omega arith))
+    ∙ part-left values (p .lower) pairLowerValueAt valueLength (simp length-append (omega arith))
+    ∙ part-front (p .lowerValue) (p .higherValue) valueLength v in
+    let higherValue : part pairHigherValueAt valueLength (front ++ p .higher) ≡ p .higherValue =
+    part-left front (p .higher) pairHigherValueAt valueLength (simp length-append (omega arith))
+    ∙ part-between (p .lowerValue) (p .higherValue) (p .lower) pairHigherValueAt valueLength v w in
+    let lower = part-between values (p .lower) (p .higher) pairLowerAt signatureLength (simp length-append (omega arith)) l in
+    let higher = drop-at front (p .higher) pairHigherAt (simp length-append (omega arith)) in
+    (simp length-append (omega arith), rw (lowerValue, higherValue, lower, higher))
+
+-- the pairs of an old EVIDENCE have its two values
+pub laid-values : (values : PairValues) (ps : List Pair) → Laid (evidenceForm (ValuesOnce values)) ps → Each (λ (p : Pair). (values .lower ≡ p .lowerValue) × (values .higher ≡ p .higherValue)) ps
 unfolding evidenceForm
 laid-values values ps h p d = let made = h p d .1 in (ap (λ (x : Pair). x .lowerValue) made, ap (λ (x : Pair). x .higherValue) made)
 
@@ -110,23 +152,27 @@ module _ (n : ℕ) (bytes : List ℕ) where
   counted = countOf bytes
 
   pub record EvidenceFits : Type 0 where
-    pub code : byteAt bytes 0 ≡ 0x05
+    pub code : byteAt bytes 0 ≡ packCommand (packIn bytes)
+    pub some : 1 ≤ counted
     pub few : counted ≤ n
-    pub size : length bytes ≡ evidenceLength counted
+    pub size : length bytes ≡ placeOf (formOf bytes) counted
     pub commands : entryCommands (formOf bytes) counted bytes ≡ true
 
   pub evidence-fits : fitsEvidence n bytes ≡ true → EvidenceFits
   unfolding fitsEvidence
   evidence-fits h =
-      let code = eqb (byteAt bytes 0) 0x05 in
-      let size = eqb (length bytes) (evidenceLength counted) in
+      let command = packCommand (packIn bytes) in
+      let code = eqb (byteAt bytes 0) command in
+      let size = eqb (length bytes) (placeOf (formOf bytes) counted) in
       let four = both-true (code && leb 1 counted && leb counted n && size) (entryCommands (formOf bytes) counted bytes) h in
       let three = both-true (code && leb 1 counted && leb counted n) size (four .0) in
       let two = both-true (code && leb 1 counted) (leb counted n) (three .0) in
+      let one = both-true code (leb 1 counted) (two .0) in
       record {
-        code = eqb-true (byteAt bytes 0) 0x05 (both-true code (leb 1 counted) (two .0) .0);
+        code = eqb-true (byteAt bytes 0) command (one .0);
+        some = leb-true 1 counted (one .1);
         few = leb-true counted n (two .1);
-        size = eqb-true (length bytes) (evidenceLength counted) (three .1);
+        size = eqb-true (length bytes) (placeOf (formOf bytes) counted) (three .1);
         commands = four .1;
       }
 
@@ -244,66 +290,123 @@ module _ (n round sender : ℕ) (value : List ℕ) (es : List Entry) (h : round 
 
 -- ---- EVIDENCE
 
-module _ (n round : ℕ) (values : PairValues) (ps : List Pair) (h : round < 65536) (f : ValuesFormed values) (few : 1 ≤ length ps) (many : length ps ≤ n)
-    (g : Laid (evidenceForm values) ps) where
-  open PairValues values using (lower, higher)
+-- the form by its command
+pub pack-old : (bytes : List ℕ) → byteAt bytes 0 ≡ 0x05 → packIn bytes ≡ ValuesOnce (readValues bytes)
+unfolding packIn
+pack-old bytes h = rw h
 
-  abbrev form : Form Pair
-  form = evidenceForm values
+pub pack-new : (bytes : List ℕ) → byteAt bytes 0 ≡ 0x07 → packIn bytes ≡ ValuesEach
+unfolding packIn
+pack-new bytes h = rw h
+
+module _ (round : ℕ) (form : PackForm) (ps : List Pair) where
+  abbrev entries : Form Pair
+  entries = evidenceForm form
 
   abbrev evidence : List ℕ
-  evidence = render (Evidence round values ps)
+  evidence = render (Evidence round form ps)
 
-  -- command and round; up to the count
-  abbrev evidence-head : List ℕ
-  evidence-head = 0x05 ∷ be 2 round
-
-  abbrev evidence-front : List ℕ
-  evidence-front = evidence-head ++ lower ++ higher ++ length ps ∷ []
-
-  evidence-count : byteAt evidence evidenceCountAt ≡ length ps
+  evidence-code : byteAt evidence 0 ≡ packCommand form
   unfolding render
-  evidence-count = byte-after (evidence-head ++ lower ++ higher) (length ps) (renderEntries form ps) evidenceCountAt (simp (length-append, length-be) (omega arith))
+  evidence-code = refl
 
-  evidence-entries : drop (form .start) evidence ≡ renderEntries form ps
+  evidence-round : round < 65536 → readRound evidence ≡ round
+  unfolding readRound render be
+  evidence-round h = round-read round h
+
+  -- up to the count
+  abbrev evidence-front : List ℕ
+  evidence-front = packCommand form ∷ be 2 round ++ packValues form
+
+  evidence-count : ValuesFormed form → byteAt evidence (packCountAt form) ≡ length ps
+  unfolding render
+  evidence-count f = byte-after evidence-front (length ps) (renderEntries entries ps) (packCountAt form) (simp (length-append, length-be) (omega (arith, length-values form f)))
+
+  evidence-entries : ValuesFormed form → drop (entries .start) evidence ≡ renderEntries entries ps
   unfolding render evidenceForm
-  evidence-entries = drop-at evidence-front (renderEntries form ps) evidenceStart (simp (length-append, length-be) (omega arith))
+  evidence-entries f =
+      drop-at (evidence-front ++ length ps ∷ []) (renderEntries entries ps) (packStart form)
+      (simp (length-append, length-be) (omega (arith, length-values form f, count-before-start form)))
 
-  evidence-lower : readValue lowerAt evidence ≡ lower
+-- the two values of an old one
+module _ (round : ℕ) (values : PairValues) (ps : List Pair) (f : ValuesFormed (ValuesOnce values)) where
+  open PairValues values using (lower, higher)
+
+  abbrev old : List ℕ
+  old = render (Evidence round (ValuesOnce values) ps)
+
+  abbrev old-head : List ℕ
+  old-head = 0x05 ∷ be 2 round
+
+  abbrev old-front : List ℕ
+  old-front = old-head ++ (lower ++ higher)
+
+  abbrev old-rest : List ℕ
+  old-rest = renderEntries (evidenceForm (ValuesOnce values)) ps
+
+  -- a part of its values
+  old-part : (i : ℕ) → i ≤ valueLength → readValue (lowerAt + i) old ≡ part i valueLength (lower ++ higher)
   unfolding readValue render
-  evidence-lower =
-      part-left evidence-front (renderEntries form ps) lowerAt valueLength (simp (length-append, length-be) (omega arith))
-      ∙ part-left (evidence-head ++ lower ++ higher) (length ps ∷ []) lowerAt valueLength (simp (length-append, length-be) (omega arith))
-      ∙ part-between evidence-head lower higher lowerAt valueLength (simp length-be) (f .0)
+  old-part i l =
+      part-left (old-front ++ length ps ∷ []) old-rest (lowerAt + i) valueLength (simp (length-append, length-be) (omega arith))
+      ∙ part-left old-front (length ps ∷ []) (lowerAt + i) valueLength (simp (length-append, length-be) (omega arith))
+      ∙ part-skip old-head (lower ++ higher) lowerAt i valueLength (simp length-be)
 
-  evidence-higher : readValue higherAt evidence ≡ higher
-  unfolding readValue render
-  evidence-higher =
-      part-left evidence-front (renderEntries form ps) higherAt valueLength (simp (length-append, length-be) (omega arith))
-      ∙ part-between (evidence-head ++ lower) higher (length ps ∷ []) higherAt valueLength (simp (length-append, length-be) (omega arith)) (f .1)
+  old-lower : readValue lowerAt old ≡ lower
+  old-lower = old-part 0 (omega arith) ∙ part-front lower higher valueLength (f .0)
 
-  evidence-passes : fitsEvidence n evidence ≡ true
-  unfolding fitsEvidence evidenceLength render
+  old-higher : readValue higherAt old ≡ higher
+  old-higher = old-part valueLength (omega arith) ∙ part-end lower higher valueLength valueLength (f .0) (f .1)
+
+pack-read : (round : ℕ) (form : PackForm) (ps : List Pair) → ValuesFormed form → packIn (render (Evidence round form ps)) ≡ form
+unfolding packIn render
+pack-read round (ValuesOnce values) ps f = rw (old-lower round values ps f, old-higher round values ps f)
+pack-read round ValuesEach ps f = refl
+
+-- its command is no other's
+other-command : (round : ℕ) (form : PackForm) (ps : List Pair) (command : ℕ) → 0x05 ≢ command → 0x07 ≢ command → eqb (byteAt (render (Evidence round form ps)) 0) command ≡ false
+unfolding render
+other-command round (ValuesOnce values) ps command old new = ne-eqb 0x05 command old
+other-command round ValuesEach ps command old new = ne-eqb 0x07 command new
+
+module _ (n round : ℕ) (form : PackForm) (ps : List Pair) (h : round < 65536) (f : ValuesFormed form) (few : 1 ≤ length ps) (many : length ps ≤ n)
+    (g : Laid (evidenceForm form) ps) where
+  evidence-passes : fitsEvidence n (evidence round form ps) ≡ true
+  unfolding fitsEvidence
   evidence-passes =
       rw (
-        evidence-count,
-        evidence-lower,
-        evidence-higher,
-        length-evidence round values ps f g,
+        pack-read round form ps f,
+        evidence-count round form ps f,
+        length-evidence round form ps f g,
         le-leb 1 (length ps) few,
         le-leb (length ps) n many,
-        commands-right form evidence ps evidence-entries g (length ps) (omega arith),
-        eq-eqb (evidenceEntryAt (length ps)) (evidenceEntryAt (length ps)) refl,
+        commands-right (evidenceForm form) (evidence round form ps) ps (evidence-entries round form ps f) g (length ps) (omega arith),
+        eq-eqb (placeOf (evidenceForm form) (length ps)) (placeOf (evidenceForm form) (length ps)) refl,
+        evidence-code round form ps,
+        eq-eqb (packCommand form) (packCommand form) refl,
       )
 
-  evidence-reads : readEvidence evidence ≡ Evidence round values ps
-  unfolding readEvidence readRound render be
+  evidence-reads : readEvidence (evidence round form ps) ≡ Evidence round form ps
+  unfolding readEvidence
   evidence-reads =
-      rw (round-read round h, evidence-lower, evidence-higher, evidence-count, entries-read form evidence ps evidence-entries g (length ps) (omega arith), take-length ps)
+      rw (
+        evidence-round round form ps h,
+        pack-read round form ps f,
+        evidence-count round form ps f,
+        entries-read (evidenceForm form) (evidence round form ps) ps (evidence-entries round form ps f) g (length ps) (omega arith),
+        take-length ps,
+      )
 
-  read-evidence : read n evidence ≡ Evidence round values ps
-  unfolding read render
-  read-evidence = rw (no-submit evidence refl, no-notice evidence refl, no-full n evidence refl, evidence-passes, evidence-reads)
+  read-evidence : read n (evidence round form ps) ≡ Evidence round form ps
+  unfolding read
+  read-evidence =
+      rw (
+        no-submit (evidence round form ps) (other-command round form ps 0x01 (λ e. omega arith) (λ e. omega arith)),
+        no-notice (evidence round form ps) (other-command round form ps 0x02 (λ e. omega arith) (λ e. omega arith)),
+        no-full n (evidence round form ps) (other-command round form ps 0x03 (λ e. omega arith) (λ e. omega arith)),
+        evidence-passes,
+        evidence-reads,
+      )
 
 -- ---- any message
 
@@ -311,5 +414,5 @@ pub read-render : (n : ℕ) (m : Message) → WellFormed n m → read n (render 
 read-render n (Submit round seat value signature) w = read-submit n round seat value (w .0) (w .1) signature (w .2)
 read-render n (Notice round seat value) w = read-notice n round seat value (w .0) (w .1)
 read-render n (Full round sender value es) w = read-full n round sender value es (w .0) (w .1) (w .2) (w .3)
-read-render n (Evidence round values ps) w = read-evidence n round values ps (w .0) (w .1) (w .2) (w .3) (w .4)
+read-render n (Evidence round form ps) w = read-evidence n round form ps (w .0) (w .1) (w .2) (w .3) (w .4)
 read-render n Garbled w = absurd w

@@ -2,22 +2,24 @@
 -- written are read back the same.)
 -- Assumes nothing.
 use mathlib.Core.Path.{_≡_, refl, sym, ap, ap₂, _∙_}
-use mathlib.Core.Bool.{true}
+use mathlib.Core.Bool.{Bool, true, false, cond}
 use mathlib.Core.List.{List, [], _∷_, _++_}
-use Prim.Native.Nat.{ℕ, suc, _+_, _*_, _/_, _%_, _≤_, _<_}
+use Prim.Native.Nat.{ℕ, suc, _+_, _-_, _*_, _/_, _%_, _≤_, _<_}
+use native.Mathlib.Nat.{zero-add}
 use native.Mathlib.Numerals.{add-one}
 use native.Mathlib.Omega.{arith}
+use lib.Dec.{eqb}
 use lib.ListN.{length}
 use Rattle.octets.specs.Octets.{part, be}
 use Rattle.octets.specs.StringsLaws.{be-two, part-suc, part-zero, part-all}
 use Rattle.octets.specs.WriteLaws.{part-add}
 use Rattle.quorum.specs.Quorum.{k}
-use Rattle.protocol.specs.Layout.{valueLength, signatureLength, roundAt, operandsAt, seatAt, valueAt, submitSignatureAt, submitLength, noticeLength, entryLength, fullCountAt, fullStart, fullEntryLength, fullEntryAt, fullLength, lowerAt, higherAt, evidenceCountAt, evidenceStart, evidenceEntryLength, evidenceEntryAt, evidenceLength}
-use Rattle.protocol.specs.Figures.{submit-figure, notice-figure, full-figure, evidence-figure}
+use Rattle.protocol.specs.Layout.{valueLength, signatureLength, roundAt, operandsAt, seatAt, valueAt, submitSignatureAt, submitLength, noticeLength, entryLength, fullCountAt, fullStart, fullEntryLength, fullEntryAt, fullLength, lowerAt}
+use Rattle.protocol.specs.Figures.{submit-figure, notice-figure, full-figure}
 use Rattle.protocol.specs.Entries.{Form, placeOf, renderEntries, entryCommands, readEntries}
 use Rattle.protocol.specs.EntriesLaws.{Faithful, length-read, entries-back}
-use Rattle.protocol.specs.Message.{Garbled, fullForm, evidenceForm, readValues, formOf, countOf, render, byteAt, readRound, readValue, readSignature, readSubmit, readNotice, readFull, readEvidence, fitsSubmit, fitsNotice, fitsFull, fitsEvidence, read}
-use Rattle.protocol.specs.MessageLaws.{full-faithful, evidence-faithful, submit-fits, notice-fits, full-fits, evidence-fits, read-cases}
+use Rattle.protocol.specs.Message.{PackForm, ValuesOnce, ValuesEach, packCommand, packValues, packCountAt, packStart, Garbled, fullForm, evidenceForm, readValues, packIn, formOf, countOf, render, byteAt, readRound, readValue, readSignature, readSubmit, readNotice, readFull, readEvidence, fitsSubmit, fitsNotice, fitsFull, fitsEvidence, read}
+use Rattle.protocol.specs.MessageLaws.{count-before-start, full-faithful, evidence-faithful, submit-fits, notice-fits, full-fits, evidence-fits, read-cases}
 
 -- ---- parts one after another
 
@@ -91,21 +93,36 @@ full-back n bytes b h =
     let front = append-parts bytes 0 fullCountAt 1 fullStart (0x03 ∷ be 2 (readRound bytes) ++ byteAt bytes seatAt ∷ [] ++ readValue valueAt bytes) (many ∷ []) head (one-byte bytes fullCountAt many (omega (arith, full-figure n)) count) refl in
     entries-after bytes fullForm full-faithful (0x03 ∷ be 2 (readRound bytes) ++ byteAt bytes seatAt ∷ [] ++ readValue valueAt bytes ++ many ∷ []) (k n) front (fits .size) (fits .commands)
 
+-- what stands between the round and the count of an EVIDENCE
+values-back : (bytes : List ℕ) → packValues (packIn bytes) ≡ part operandsAt (packCountAt (packIn bytes) - operandsAt) bytes
+unfolding packIn readValue
+values-back bytes = go (eqb (byteAt bytes 0) 0x05)
+  where
+    form : Bool → PackForm
+    form b = cond b (ValuesOnce (readValues bytes)) ValuesEach
+
+    go : (b : Bool) → packValues (form b) ≡ part operandsAt (packCountAt (form b) - operandsAt) bytes
+    go true = sym (part-add lowerAt valueLength valueLength bytes)
+    go false = sym (part-zero operandsAt bytes)
+
+pack-count-at : (form : PackForm) → operandsAt ≤ packCountAt form
+pack-count-at (ValuesOnce values) = omega arith
+pack-count-at ValuesEach = omega arith
+
 evidence-back : (n : ℕ) (bytes : List ℕ) → ((i : ℕ) → byteAt bytes i < 256) → fitsEvidence n bytes ≡ true → render (readEvidence bytes) ≡ bytes
-unfolding render readEvidence readValue evidenceForm placeOf evidenceLength evidenceEntryAt evidenceEntryLength
+unfolding render readEvidence evidenceForm placeOf
 evidence-back n bytes b h =
     let fits = evidence-fits n bytes h in
-    let counted = countOf bytes in
-    let long : evidenceStart ≤ length bytes = omega (arith, evidence-figure counted) in
-    let many = length (readEntries (formOf bytes) counted bytes) in
-    let start = start-back bytes 0x05 (omega arith) b (fits .code) in
-    let lower = append-parts bytes 0 operandsAt valueLength higherAt (0x05 ∷ be 2 (readRound bytes)) (part lowerAt valueLength bytes) start refl refl in
-    let higher = append-parts bytes 0 higherAt valueLength evidenceCountAt (0x05 ∷ be 2 (readRound bytes) ++ part lowerAt valueLength bytes) (part higherAt valueLength bytes) lower refl refl in
-    let front =
-    append-parts bytes 0 evidenceCountAt 1 evidenceStart (0x05 ∷ be 2 (readRound bytes) ++ part lowerAt valueLength bytes ++ part higherAt valueLength bytes) (many ∷ []) higher
-    (one-byte bytes evidenceCountAt many (omega arith) (sym (length-read (formOf bytes) counted bytes))) refl in
-    entries-after bytes (formOf bytes) (evidence-faithful (readValues bytes))
-    (0x05 ∷ be 2 (readRound bytes) ++ part lowerAt valueLength bytes ++ part higherAt valueLength bytes ++ many ∷ []) counted front (fits .size) (fits .commands)
+    let form = packIn bytes in
+    let countAt = packCountAt form in
+    let many = length (readEntries (formOf bytes) (countOf bytes) bytes) in
+    let head = packCommand form ∷ be 2 (readRound bytes) in
+    let after : operandsAt ≤ countAt = pack-count-at form in
+    let long : countAt + 1 ≤ length bytes = omega (arith, fits .size, count-before-start form) in
+    let start = start-back bytes (packCommand form) (omega arith) b (fits .code) in
+    let values = append-parts bytes 0 operandsAt (countAt - operandsAt) countAt head (packValues form) start (values-back bytes) (omega arith) in
+    let front = append-parts bytes 0 countAt 1 (packStart form) (head ++ packValues form) (many ∷ []) values (simp zero-add (one-byte bytes countAt many (omega arith) (sym (length-read (formOf bytes) (countOf bytes) bytes)))) (count-before-start form) in
+    entries-after bytes (formOf bytes) (evidence-faithful form) (head ++ packValues form ++ many ∷ []) (countOf bytes) front (fits .size) (fits .commands)
 
 -- ---- any message
 

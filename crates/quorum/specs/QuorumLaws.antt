@@ -4,19 +4,19 @@ use mathlib.Core.Path.{_≡_, refl, sym, ap, subst, _∙_}
 use mathlib.Core.Bool.{true, false}
 use mathlib.Core.List.{List, [], _∷_, _++_, append-nil, List·Memᴰ, List·Memᴰ·head, List·Memᴰ·tail, List·Memᴰ·not-nil, List·Memᴰ·append-cases, List·Memᴰ·eq-of-singleton, Memᴰ·append-left, Memᴰ·append-right}
 use mathlib.Core.Logic.{_⊎_, inl, inr, ⊎-elim, _≢_, _↔_}
-use Prim.Native.Nat.{ℕ, zero, suc, _+_, _*_, _/_, _%_, _^_, _<_, _≤_, min, max}
+use Prim.Native.Nat.{ℕ, zero, suc, _+_, _*_, _/_, _%_, _-_, _^_, _<_, _≤_, min, max}
 use native.Mathlib.Nat.{div-one, pow-suc, div-eq-of-lt, lt-of-lt-of-le, lt-of-not-le, le-of-suc-le-suc, mod-lt, mod-one, mod-eq-of-lt, eq-zero-or-pos, eq-or-lt-of-le}
-use native.Mathlib.Numerals.{one-add, add-one}
+use native.Mathlib.Numerals.{one-add, add-one, unary-clauses}
 use native.Mathlib.Omega.{arith}
 use native.Mathlib.Decide.{ℕ-discrete, decLt}
 use borrow.Author.Tests.{leb-false, lt-leb, eqb-true, eqb-false, eq-eqb, ne-eqb}
 use lib.Arith.{bin-ind}
-use lib.Bits.{and-step, or-step, or-lt, and-lt}
+use lib.Bits.{differ, and-step, or-step, xor-step, or-lt, and-lt, xor-lt}
 use lib.Count.{ones, ones-step, ones-cat, ones-le}
 use lib.ListN.{length, getD, length-append, List·getD-append}
 use lib.Seq.{getD-at}
 use lib.Pow.{pow-mono, pow-pos, pow-lt, shr-shr, mod-pow-add}
-use Rattle.quorum.specs.Quorum.{t0, k, bit, In, has, size, one, union, shared, with, all, outside, seatIf, seats}
+use Rattle.quorum.specs.Quorum.{t0, k, bit, In, has, size, one, union, shared, less, with, all, outside, seatIf, seats}
 
 -- ---- seat 0, and the other seats moved down by one
 
@@ -35,6 +35,21 @@ shared-low a b = omega (arith, and-step a b)
 shared-half : (a b : ℕ) → shared a b / 2 ≡ shared (a / 2) (b / 2)
 unfolding shared
 shared-half a b = omega (arith, and-step a b)
+
+differ-shared : (x y : ℕ) → differ x (min x y) ≡ x - y
+differ-shared zero y = omega arith
+differ-shared (suc x) zero = simp unary-clauses refl
+differ-shared (suc x) (suc y) = simp unary-clauses (differ-shared x y)
+
+less-step : (a b : ℕ) → less a b ≡ less (a / 2) (b / 2) * 2 + (a % 2 - b % 2)
+unfolding less
+less-step a b = rw (← differ-shared (a % 2) (b % 2), ← shared-low a b, ← shared-half a b) (xor-step a (shared a b))
+
+less-low : (a b : ℕ) → less a b % 2 ≡ a % 2 - b % 2
+less-low a b = omega (arith, less-step a b)
+
+less-half : (a b : ℕ) → less a b / 2 ≡ less (a / 2) (b / 2)
+less-half a b = omega (arith, less-step a b)
 
 -- ---- the bit of a seat
 
@@ -74,6 +89,11 @@ unfolding bit
 bit-shared zero a b = shared-low a b
 bit-shared (suc s) a b = rw shared-half (bit-shared s (a / 2) (b / 2))
 
+pub bit-less : (s a b : ℕ) → bit s (less a b) ≡ bit s a - bit s b
+unfolding bit
+bit-less zero a b = less-low a b
+bit-less (suc s) a b = rw less-half (bit-less s (a / 2) (b / 2))
+
 pub in-union : (s a b : ℕ) → In s (union a b) ↔ (In s a ⊎ In s b)
 in-union s a b = (
   λ h. ⊎-elim (λ z. inr (omega (arith, bit-union s a b))) inl (bit-cases s a),
@@ -82,6 +102,9 @@ in-union s a b = (
 
 pub in-shared : (s a b : ℕ) → In s (shared a b) ↔ (In s a × In s b)
 in-shared s a b = omega (arith, bit-shared s a b, bit-lt-two s a, bit-lt-two s b)
+
+pub in-less : (s a b : ℕ) → In s (less a b) ↔ (In s a × (bit s b ≡ 0))
+in-less s a b = omega (arith, bit-less s a b, bit-lt-two s a, bit-lt-two s b)
 
 pub bit-empty : (s : ℕ) → bit s 0 ≡ 0
 unfolding bit
@@ -231,6 +254,14 @@ shared-one-new s m h = zero-of-none-in (shared m (one s)) (λ t. go t (ℕ-discr
     go t (yes e) = rw e (omega (arith, bit-shared s m (one s)))
     go t (no d) = omega (arith, bit-shared t m (one s), bit-one-other t s d)
 
+-- sets that share no seat are counted one after the other
+pub size-union-apart : (a b : ℕ) → ((s : ℕ) → In s b → bit s a ≡ 0) → size (union a b) ≡ size a + size b
+size-union-apart a b h = omega (arith, size-union-shared a b, ap size (zero-of-none-in (shared a b) (λ s. go s (bit-cases s b))), size-empty)
+  where
+    go : (s : ℕ) → (bit s b ≡ 0) ⊎ In s b → bit s (shared a b) ≡ 0
+    go s (inl e) = omega (arith, bit-shared s a b)
+    go s (inr i) = omega (arith, bit-shared s a b, h s i)
+
 -- a new seat counts one
 pub size-with-new : (s m : ℕ) → bit s m ≡ 0 → size (with s m) ≡ size m + 1
 unfolding with
@@ -241,13 +272,17 @@ size-with-new s m h = omega (arith, size-union-shared m (one s), ap size (shared
 pub size-le : (n m : ℕ) → m < 2 ^ n → size m ≤ n
 size-le = ones-le
 
-union-lt : (n a b : ℕ) → a < 2 ^ n → b < 2 ^ n → union a b < 2 ^ n
+pub union-lt : (n a b : ℕ) → a < 2 ^ n → b < 2 ^ n → union a b < 2 ^ n
 unfolding union
 union-lt = or-lt
 
 pub shared-lt : (n a b : ℕ) → a < 2 ^ n → b < 2 ^ n → shared a b < 2 ^ n
 unfolding shared
 shared-lt = and-lt
+
+pub less-lt : (n a b : ℕ) → a < 2 ^ n → b < 2 ^ n → less a b < 2 ^ n
+unfolding less
+less-lt n a b h g = xor-lt n a (shared a b) h (shared-lt n a b h g)
 
 pub with-lt : (n s m : ℕ) → s < n → m < 2 ^ n → with s m < 2 ^ n
 unfolding with
@@ -360,3 +395,8 @@ k-of-n-share-in w n a b h _ _ _ oa ob = k-of-n-share n a b h (outside-false n a 
 pub k-of-n-share-32 : (n a b : ℕ) → 1 ≤ n → n ≤ 32 → a < 2 ^ 32 → b < 2 ^ 32 → outside n a ≡ false → outside n b ≡ false
     → size a ≡ k n → size b ≡ k n → t0 n + 1 ≤ size (shared a b)
 k-of-n-share-32 = k-of-n-share-in 32
+
+-- of k seats all but t0 stand in any other k
+pub k-of-n-share-most : (n a b : ℕ) → 1 ≤ n → a < 2 ^ n → b < 2 ^ n → size a ≡ k n → size b ≡ k n → k n ≤ size (shared a b) + t0 n
+unfolding k
+k-of-n-share-most n a b h la lb ea eb = omega (arith, t0-below-third n h, size-union-shared a b, size-le n (union a b) (union-lt n a b la lb))

@@ -1,7 +1,7 @@
 // Seats and thresholds: t0 and k of n, and sets of seats as masks.
 ghost use mathlib.Core.Path.{_≡_};
 ghost use Prim.Native.Nat.{_≤_, _<_};
-ghost use Rattle.quorum.specs.Quorum.{mostSeats, t0, k, has, size, one, with, all, shared, outside};
+ghost use Rattle.quorum.specs.Quorum.{mostSeats, t0, k, has, size, one, union, with, all, shared, less, outside};
 
 // A set of seats: seat s is the bit of worth 2 to the power s.
 pub type Mask = u32;
@@ -69,6 +69,20 @@ pub fn shared(a: Mask, b: Mask) -> Mask
     ensures { λ r. ⌜ r ≡ shared a b ⌝ }
 {
     a & b
+}
+
+// The seats of either set.
+pub fn union(a: Mask, b: Mask) -> Mask
+    ensures { λ r. ⌜ r ≡ union a b ⌝ }
+{
+    a | b
+}
+
+// The seats of the first set that the second doesn't have.
+pub fn less(a: Mask, b: Mask) -> Mask
+    ensures { λ r. ⌜ r ≡ less a b ⌝ }
+{
+    a ^ shared(a, b)
 }
 
 // The number of seats that two sets share.
