@@ -33,7 +33,7 @@ use Rattle.claims.specs.NotRefused.{submit-fit, step-fit, brings}
 use Rattle.reading.specs.Messages.{refusalOf, cameTo, messages}
 use Rattle.reading.specs.MessagesLaws.{outcome-is}
 use Rattle.paper.specs.Machine.{FullCertificate, Machine, init, Event, Submitted, SubmitDelivered, NoticeDelivered, FullDelivered, Action, Reaction, isSome, ownValue, firstFrom, distinct, conflict, uponEvent, react, Says}
-use Rattle.paper.specs.Memory.{seatsIn, earlySeats, keptOf, noticesOf, heldFirst, guiltyOf, recordOf, firstEntries, Recorded}
+use Rattle.paper.specs.Memory.{seatsIn, earlySeats, keptOf, noticesOf, heldFirst, recordOf, firstEntries, Recorded}
 use Rattle.paper.specs.Events.{delivered, isDelivered, eventOf, reactTo, reaction, DoesAs, actionsOver, TakenIn}
 use Rattle.paper.specs.ConflictsLaws.{some-none}
 use Rattle.paper.specs.EntriesLaws.{seats-none, from-seats, from-member, signature-is, distinct-take}
@@ -163,7 +163,7 @@ module _ (S : Setting) (seat : ℕ) (some-seats : 1 ≤ S .n) (inside : seat < S
     step-good (Full ρ sender v es) m t l came z =
         let c : FullCertificate = record { value = v; entries = es } in
         react-good checks n seat Happened some-seats inside (FullDelivered c) m (came (FullDelivered c) refl) (l .0, λ e d. t .inside (e .seat) (List·Memᴰ·tail (Memᴰ·map (λ (x : Entry). x .seat) d))) z
-    step-good (Evidence ρ values ps) m t l came z = still-good m z
+    step-good (Evidence ρ form ps) m t l came z = still-good m z
     step-good Garbled m t l came z = still-good m z
 
     react-is : (e : Event) (m : Machine) → Done (react checks n seat e m) → Done (reactTo checks n seat (some e) m)
@@ -245,7 +245,7 @@ module _ (S : Setting) (seat : ℕ) (some-seats : 1 ≤ S .n) (inside : seat < S
   -- ---- the opening
 
   pub init-recorded : fresh n seat round ≡ recordOf n seat round init
-  unfolding fresh recordOf init isSome ownValue keptOf earlySeats setOf noticesOf heldFirst guiltyOf
+  unfolding fresh recordOf init isSome ownValue keptOf earlySeats setOf noticesOf heldFirst
   init-recorded = rw (take-none (k n), seats-none)
 
   pub init-mirrors : (store : List ℕ) → Mirrors checks n store init
@@ -258,7 +258,7 @@ module _ (S : Setting) (seat : ℕ) (some-seats : 1 ≤ S .n) (inside : seat < S
       sized = each-nil (λ (e : Entry). length (e .signature) ≡ signatureLength);
       counted = rw (take-none (k n), seats-none) size-empty;
     };
-    obtaining = record { quorums = each-nil (Quorum n); agreed = λ e. refl; guilty = λ p e. absurd (some-none p none e refl) };
+    obtaining = record { quorums = each-nil (Quorum n); quiet = tt };
     stored = record {
       own = λ s i. absurd (let j : bit s 0 ≡ 1 = sym (ap (bit s) (ap seatsIn (take-none (k n)) ∙ seats-none)) ∙ i in omega (arith, bit-empty s));
       first = λ s i. absurd (omega (arith, bit-empty s));
@@ -268,7 +268,7 @@ module _ (S : Setting) (seat : ℕ) (some-seats : 1 ≤ S .n) (inside : seat < S
 
   pub init-rest : AtRest n init
   unfolding init conflict
-  init-rest = record { quorum = rw (lt-leb (k n) 0 (k-pos n some-seats)); notices = refl; fulls = λ e. refl }
+  init-rest = record { quorum = rw (lt-leb (k n) 0 (k-pos n some-seats)); notices = refl; fulls = tt }
 
 module _ (S : Setting) (seat : ℕ) (m : Message) where
   open Setting S using (n, round)

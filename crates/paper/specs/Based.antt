@@ -15,17 +15,17 @@ use Rattle.quorum.specs.Quorum.{k}
 use Rattle.refusal.specs.RefusalLaws.{both-true}
 use Rattle.protocol.specs.Layout.{valueLength}
 use Rattle.protocol.specs.Values.{unset}
-use Rattle.protocol.specs.Message.{Entry, Pair, PairValues, Signed, Full, Evidence}
+use Rattle.protocol.specs.Message.{Entry, Pair, PackForm, Signed, Full, Evidence}
 use Rattle.protocol.specs.Refusals.{Checks, every, isFull, isEvidence}
 use Rattle.round.specs.Round.{Each}
 use Rattle.reading.specs.ListsLaws.{cond-elim, each-nil, each-one, each-append}
 use Rattle.claims.specs.Parts.{k-pos}
-use Rattle.paper.specs.Machine.{FullCertificate, Machine, init, Event, Submitted, SubmitDelivered, NoticeDelivered, FullDelivered, Action, BroadcastSubmit, ConfirmAndNotice, BroadcastFull, Detect, Reaction, act, setValue, setConfirmed, addCollected, addEarly, isSome, isOwn, ownValue, isFrom, firstFrom, distinct, conflict, valueOfFull, isFullCertificate, ownFull, isCollected, collecting, keeping, uponSubmitDelivered, takingUp, takingUpBelow, uponSubmit, uponNoticeDelivered, obtain, uponFullDelivered, confirming, uponQuorum, sending, uponNoticesConflict, detecting, uponFullsConflict, uponEvent, uponRules, react, SaysConflict, Says}
-use Rattle.paper.specs.ConflictsLaws.{some-none, conflict-found}
-use Rattle.paper.specs.EntriesLaws.{distinct-more, each-take, distinct-take, first-in}
+use Rattle.paper.specs.Machine.{FullCertificate, Machine, init, Event, Submitted, SubmitDelivered, NoticeDelivered, FullDelivered, Action, BroadcastSubmit, ConfirmAndNotice, BroadcastFull, Detect, Reaction, act, setValue, setConfirmed, addCollected, addEarly, isSome, isOwn, ownValue, isFrom, firstFrom, distinct, conflict, newly, isFullCertificate, ownFull, isCollected, collecting, keeping, uponSubmitDelivered, takingUp, takingUpBelow, uponSubmit, uponNoticeDelivered, obtain, uponFullDelivered, confirming, uponQuorum, sending, uponNoticesConflict, detecting, uponFullsConflict, uponEvent, uponRules, react, SaysConflict, Says}
+use Rattle.paper.specs.ConflictsLaws.{some-none}
+use Rattle.paper.specs.EntriesLaws.{shows-found, distinct-more, each-take, distinct-take, first-in}
 use Rattle.paper.specs.Received.{Collected, IsSubmitted, IsOwnFull, Obtained, Came, Received}
 use Rattle.paper.specs.Spoken.{Formed, FormedAction}
-use Rattle.paper.specs.Rules.{quorumDue, noticesDue}
+use Rattle.paper.specs.Rules.{quorumDue, noticesDue, fulls-elim}
 
 own-value : (v : List ℕ) (o : Option (List ℕ)) → isOwn v o ≡ true → (v ≡ ownValue o) × (o ≢ none)
 unfolding isOwn ownValue
@@ -232,18 +232,17 @@ module _ (checks : Checks) (n own : ℕ) (Happened : Event → Type 0) (some-sea
       (λ h. z)
 
   fulls-good : (x : Reaction) → Good x → Good (uponFullsConflict checks n own x)
-  unfolding uponFullsConflict detecting act
+  unfolding detecting act
   fulls-good x z =
-      cond-elim Good (isSome (x .machine .detected)) x (detecting checks n own (conflict valueOfFull (x .machine .obtained)) x) (λ h. z)
-      (λ h. go (conflict valueOfFull (x .machine .obtained)) refl)
-    where
-      go : (o : Option (FullCertificate × FullCertificate)) → conflict valueOfFull (x .machine .obtained) ≡ o → Good (detecting checks n own o x)
-      go none e = z
-      go (some p) e =
-          let found = conflict-found valueOfFull (x .machine .obtained) p e in
-          let c = z .0 .certified (p .0) (found .0) in
-          let d = z .0 .certified (p .1) (found .1) in
-          (z .0, each-append Sendable (x .actions) (Detect (p .0) (p .1) ∷ []) (z .1) (each-one Sendable (Detect (p .0) (p .1)) ((c .1, d .1, found .2), (c .0, d .0, found .2))))
+      fulls-elim checks n own (λ y. (y .machine .obtained ≡ x .machine .obtained) × Good y) x (refl, z)
+      (λ c d y i j e p.
+      let obtained : (b : FullCertificate) → List·Memᴰ b (x .machine .obtained) → Certified b = λ b m. p .1 .0 .certified b (subst (List·Memᴰ b) (sym (p .0)) m) in
+      let seats = newly (y .machine .detected) (c .entries) (d .entries) in
+      let first = obtained c i in
+      let other = obtained d j in
+      let found = shows-found (y .machine .detected) c d e in
+      (p .0, (p .1 .0, each-append Sendable (y .actions) (Detect c d seats ∷ []) (p .1 .1) (each-one Sendable (Detect c d seats) ((first .1, other .1, found .0), (first .0, other .0, found .0, found .1))))))
+      .1
 
   -- ---- at every event
 
@@ -293,27 +292,26 @@ module _ (seat round : ℕ) (Happened : Event → Type 0) where
         subst (IsSubmitted seat Happened) same-value (r .submitted),
         λ e d. subst (λ (v : List ℕ). Collected seat Happened (e .seat) v (e .signature)) same-value (r .collected e (s .2 .just e .0 (subst (λ (xs : List Entry). List·Memᴰ e xs) same-entries d))),
       )
-  full-from ρ sender value es (Detect c d) (inl s) r = absurd (true≢false (ap isFull (s .2)))
-  full-from ρ sender value es (Detect c d) (inr s) r = absurd (true≢false (ap isFull (s .2)))
+  full-from ρ sender value es (Detect c d seats) (inl s) r = absurd (true≢false (ap isFull (s .2)))
+  full-from ρ sender value es (Detect c d seats) (inr s) r = absurd (true≢false (ap isFull (s .2)))
 
-  abbrev pub BothCame : PairValues → Pair → Type 0
-  BothCame values p = Came seat Happened (p .seat) (values .lower) (p .lower) × Came seat Happened (p .seat) (values .higher) (p .higher)
+  abbrev pub BothCame : Pair → Type 0
+  BothCame p = Came seat Happened (p .seat) (p .lowerValue) (p .lower) × Came seat Happened (p .seat) (p .higherValue) (p .higher)
 
-  conflict-from : (ρ : ℕ) (values : PairValues) (ps : List Pair) (c d : FullCertificate) → SaysConflict round seat c d (Evidence ρ values ps) → Obtained seat Happened c → Obtained seat Happened d
-      → Each (BothCame values) ps
-  conflict-from ρ values ps c d s a b p e =
+  conflict-from : (ρ : ℕ) (form : PackForm) (ps : List Pair) (c d : FullCertificate) (seats : List ℕ) → SaysConflict round seat c d seats (Evidence ρ form ps) → Obtained seat Happened c → Obtained seat Happened d
+      → Each BothCame ps
+  conflict-from ρ form ps c d seats s a b p e =
       let is = s .2 in
-      let same-values : record { lower = c .value; higher = d .value } ≡ values = cc in
       let same-pairs : ps ≡ s .0 = cc in
-      let of = s .3 .just p .0 (subst (λ (xs : List Pair). List·Memᴰ p xs) same-pairs e) in (
-        subst (λ (v : PairValues). Came seat Happened (p .seat) (v .lower) (p .lower)) same-values (entry-came c a (record { seat = p .seat; signature = p .lower }) (of .0)),
-        subst (λ (v : PairValues). Came seat Happened (p .seat) (v .higher) (p .higher)) same-values (entry-came d b (record { seat = p .seat; signature = p .higher }) (of .1)),
+      let of = s .3 .just p .0 (subst (λ (xs : List Pair). List·Memᴰ p xs) same-pairs e) .0 in (
+        subst (λ (v : List ℕ). Came seat Happened (p .seat) v (p .lower)) (sym (of .2)) (entry-came c a (record { seat = p .seat; signature = p .lower }) (of .0)),
+        subst (λ (v : List ℕ). Came seat Happened (p .seat) v (p .higher)) (sym (of .3)) (entry-came d b (record { seat = p .seat; signature = p .higher }) (of .1)),
       )
 
-  pub evidence-from : (ρ : ℕ) (values : PairValues) (ps : List Pair) (a : Action) → Says round seat a (Evidence ρ values ps) → Received seat Happened a → Each (BothCame values) ps
+  pub evidence-from : (ρ : ℕ) (form : PackForm) (ps : List Pair) (a : Action) → Says round seat a (Evidence ρ form ps) → Received seat Happened a → Each BothCame ps
   unfolding isEvidence
-  evidence-from ρ values ps (BroadcastSubmit v g) s r = absurd (true≢false (ap isEvidence s))
-  evidence-from ρ values ps (ConfirmAndNotice v) s r = absurd (true≢false (ap isEvidence s))
-  evidence-from ρ values ps (BroadcastFull c) s r = absurd (true≢false (ap isEvidence (s .1)))
-  evidence-from ρ values ps (Detect c d) (inl s) r = conflict-from ρ values ps c d s (r .0) (r .1)
-  evidence-from ρ values ps (Detect c d) (inr s) r = conflict-from ρ values ps d c s (r .1) (r .0)
+  evidence-from ρ form ps (BroadcastSubmit v g) s r = absurd (true≢false (ap isEvidence s))
+  evidence-from ρ form ps (ConfirmAndNotice v) s r = absurd (true≢false (ap isEvidence s))
+  evidence-from ρ form ps (BroadcastFull c) s r = absurd (true≢false (ap isEvidence (s .1)))
+  evidence-from ρ form ps (Detect c d seats) (inl s) r = conflict-from ρ form ps c d seats s (r .0) (r .1)
+  evidence-from ρ form ps (Detect c d seats) (inr s) r = conflict-from ρ form ps d c seats s (r .1) (r .0)

@@ -344,7 +344,7 @@ module _ (n seat round : ℕ) where
         let w = noticed-too v in
         let now = uponNoticesConflict checks n seat y in
         let rules : uponRules checks n seat y ≡ now =
-        ap (λ (r : Reaction). uponFullsConflict checks n seat (uponNoticesConflict checks n seat r)) (quorum-quiet y (z .resting .complete)) ∙ fulls-quiet checks n seat now (reply-mirrors n seat round checks y store w .obtaining .agreed) in
+        ap (λ (r : Reaction). uponFullsConflict checks n seat (uponNoticesConflict checks n seat r)) (quorum-quiet y (z .resting .complete)) ∙ fulls-quiet checks n seat now (reply-mirrors n seat round checks y store w .obtaining .quiet) in
         subst (Comes n seat round checks (reply (hear v (at n seat round x store)))) (sym rules)
         (record { store = store; is = ap reply (hear-is n seat round v x store) ∙ reply-is n seat round checks y store w; mirrors = reply-mirrors n seat round checks y store w })
 
@@ -388,5 +388,5 @@ module _ (n seat round : ℕ) where
   step-is checks keys m store (Submit ρ s v g) some-seats room z b = submit-heard checks some-seats (still m) store room z s v g (b .0) (b .1) (b .2)
   step-is checks keys m store (Notice ρ s v) some-seats room z b = notice-is checks some-seats (still m) store room z v
   step-is checks keys m store (Full ρ sender v es) some-seats room z b = full-is checks some-seats (still m) store room z ρ sender v es b
-  step-is checks keys m store (Evidence ρ values ps) some-seats room z b = record { store = store; is = refl; mirrors = z }
+  step-is checks keys m store (Evidence ρ form ps) some-seats room z b = record { store = store; is = refl; mirrors = z }
   step-is checks keys m store Garbled some-seats room z b = record { store = store; is = refl; mirrors = z }

@@ -5,7 +5,7 @@ use Prim.Native.Nat.{ℕ}
 use mathlib.Core.Path.{_∙_}
 use mathlib.Core.List.{List, List·Memᴰ}
 use mathlib.Core.Logic.{_↔_}
-use Rattle.protocol.specs.Message.{Entry, Pair, PairValues, Message, Full, Evidence}
+use Rattle.protocol.specs.Message.{Entry, Pair, PackForm, Message, Full, Evidence}
 use Rattle.round.specs.Round.{Setting, IsHonest, Each, Boat, writtenIn, Are, listOf, Writes}
 use Rattle.reading.specs.Messages.{messages}
 use Rattle.claims.specs.Sound.{Any}
@@ -71,7 +71,7 @@ module _ (S : Setting) (u : Boat) (honest : IsHonest S u) where
       → IsSubmitted (u .seat) Took value × Each (λ (e : Entry). Collected (u .seat) Took (e .seat) value (e .signature)) es
   full-received ρ sender value es w = let a = writes-what-the-paper-does (Full ρ sender value es) .0 w in full-from (u .seat) round Took ρ sender value es (a .0) (a .2) (sends-what-it-received (a .0) (a .1))
 
-  -- In the bytes: the two signatures of every pair in an EVIDENCE came for their seat, over the lower value and over the higher.
-  pub evidence-received : (ρ : ℕ) (values : PairValues) (ps : List Pair) → Writes S u (Evidence ρ values ps)
-      → Each (λ (p : Pair). Came (u .seat) Took (p .seat) (values .lower) (p .lower) × Came (u .seat) Took (p .seat) (values .higher) (p .higher)) ps
-  evidence-received ρ values ps w = let a = writes-what-the-paper-does (Evidence ρ values ps) .0 w in evidence-from (u .seat) round Took ρ values ps (a .0) (a .2) (sends-what-it-received (a .0) (a .1))
+  -- In the bytes: the two signatures of every pair in an EVIDENCE came for their seat, over the pair's lower value and over its higher.
+  pub evidence-received : (ρ : ℕ) (form : PackForm) (ps : List Pair) → Writes S u (Evidence ρ form ps)
+      → Each (λ (p : Pair). Came (u .seat) Took (p .seat) (p .lowerValue) (p .lower) × Came (u .seat) Took (p .seat) (p .higherValue) (p .higher)) ps
+  evidence-received ρ form ps w = let a = writes-what-the-paper-does (Evidence ρ form ps) .0 w in evidence-from (u .seat) round Took ρ form ps (a .0) (a .2) (sends-what-it-received (a .0) (a .1))

@@ -35,6 +35,11 @@ module _ {A : Type 0} (valueOf : A → List ℕ) where
       go true q p rest = each-cons (λ y. valueOf y ≡ v) x xs (sym (same-true v (valueOf x) q)) (rest p)
       go false q p rest = absurd (some-none x (some x) refl p)
 
+  pub other-all : (v : List ℕ) (xs : List A) → Each (λ x. same v (valueOf x) ≡ true) xs → other valueOf v xs ≡ none
+  unfolding other
+  other-all v [] h = refl
+  other-all v (x ∷ xs) h = rw (h x (List·Memᴰ·head refl)) (other-all v xs (λ y d. h y (List·Memᴰ·tail d)))
+
   -- a list with one more member at the end
   pub other-more : (v : List ℕ) (xs : List A) (y : A) → other valueOf v xs ≡ none → other valueOf v (xs ++ y ∷ []) ≡ cond (same v (valueOf y)) none (some y)
   unfolding other

@@ -98,5 +98,5 @@ module _ (checks : Checks) (n seat : ℕ) (m : Machine) (rest : AtRest n m) wher
       sym (signed-every checks v es) ∙ not-true (every (λ (s : Signed). checks (s .seat) (s .value) (s .signature)) (flatMap (signedEntry v) es)) e in
       not-obtained (record { value = v; entries = es })
       (ap (λ (b : Bool). leb (k n) (length es) && distinct es && b) unsigned ∙ and-false (leb (k n) (length es) && distinct es))
-  unsigned-discarded (Evidence ρ values ps) e = refl
+  unsigned-discarded (Evidence ρ form ps) e = refl
   unsigned-discarded Garbled e = refl

@@ -3,7 +3,7 @@
 -- Assumes nothing.
 use Prim.Native.Nat.{ℕ, zero, suc, _^_, _<_}
 use mathlib.Core.Path.{_≡_, refl, sym, ap, ap₂, subst, _∙_}
-use mathlib.Core.Bool.{Bool, true, false, cond, not, _||_, true≢false}
+use mathlib.Core.Bool.{Bool, true, false, cond, not, _&&_, _||_, true≢false}
 use mathlib.Core.List.{List, [], _∷_, _++_, map, map-append, List·Memᴰ, List·Memᴰ·head, List·Memᴰ·tail, List·Memᴰ·not-nil, List·Memᴰ·cases-cons, Memᴰ·map}
 use mathlib.Core.Logic.{_⊎_, inl, inr, ⊎-elim, _≢_}
 use mathlib.Core.Option.{Option, none, some}
@@ -12,20 +12,24 @@ use native.Mathlib.Decide.{ℕ-discrete}
 use lib.Dec.{eqb}
 use lib.ListN.{take}
 use borrow.Author.Tests.{eqb-true, eqb-false, eq-eqb, ne-eqb, not-true}
-use Rattle.quorum.specs.Quorum.{bit, In, has, shared, with, seats}
-use Rattle.quorum.specs.QuorumLaws.{bit-cases, bit-empty, bit-with-same, bit-with-other, has-true, has-false, in-shared, mem-seats, same-seats}
+use Rattle.octets.specs.Strings.{same}
+use Rattle.octets.specs.StringsLaws.{same-refl}
+use Rattle.quorum.specs.Quorum.{bit, In, has, one, union, shared, less, with, seats}
+use Rattle.quorum.specs.QuorumLaws.{bit-empty, bit-union, bit-shared, bit-less, bit-with-same, bit-with-other, has-true, has-false, in-shared, in-less, mem-seats, same-seats}
 use Rattle.refusal.specs.RefusalLaws.{both-true, both-false}
 use Rattle.protocol.specs.Values.{isLower}
-use Rattle.protocol.specs.Message.{Entry, Signed, Full, Evidence}
+use Rattle.protocol.specs.Message.{Entry, Signed, ValuesEach, Full, Evidence}
 use Rattle.protocol.specs.Certificate.{setOf, signatureOf, entriesOf, fullOf, pairOf, pairsOf, orderedEvidence, evidenceOf}
 use Rattle.protocol.specs.CertificateLaws.{in-set, set-snoc}
 use Rattle.protocol.specs.Refusals.{rising}
 use Rattle.round.specs.Round.{Each}
+use Rattle.round.specs.Demand1.{worth}
 use Rattle.reading.specs.ListsLaws.{cond-elim, each-nil, each-cons, each-map, rising-first}
 use Rattle.claims.specs.CertificatesLaws.{set-below}
-use Rattle.paper.specs.Machine.{isFrom, firstFrom, distinct}
+use Rattle.paper.specs.Machine.{FullCertificate, isFrom, firstFrom, distinct, isIn, isEmpty, newly, showsMore}
 use Rattle.paper.specs.Memory.{seatsIn, earlySeats}
 use Rattle.paper.specs.ConflictsLaws.{some-none}
+use Rattle.paper.specs.NewlyLaws.{newly-is}
 
 -- ---- the set of seats
 
@@ -41,24 +45,100 @@ pub seats-below : (n : ℕ) (es : List Entry) → Each (λ (e : Entry). e .seat 
 unfolding seatsIn
 seats-below n es h = set-below n (map (λ (e : Entry). e .seat) es) (each-map (λ s. s < n) (λ (e : Entry). e .seat) es h)
 
+-- another seat added changes nothing for a seat
+has-still : (s t m : ℕ) → s ≢ t → has s m ≡ has s (with t m)
+unfolding has
+has-still s t m d = ap (λ (b : ℕ). eqb b 1) (sym (bit-with-other s t m d))
+
 -- a seat is in the set exactly where an entry is from it
 pub from-seats : (s : ℕ) (es : List Entry) → isFrom s es ≡ has s (seatsIn es)
 unfolding isFrom seatsIn setOf
 from-seats s [] = sym (has-false s 0 .1 (bit-empty s))
 from-seats s (e ∷ es) = go (ℕ-discrete s (e .seat)) (from-seats s es)
   where
-    still : (m t : ℕ) → s ≢ t → (bit s m ≡ 0) ⊎ In s m → has s m ≡ has s (with t m)
-    still m t d (inl z) = has-false s m .1 z ∙ sym (has-false s (with t m) .1 (bit-with-other s t m d ∙ z))
-    still m t d (inr i) = has-true s m .1 i ∙ sym (has-true s (with t m) .1 (bit-with-other s t m d ∙ i))
-
     go : Dec (s ≡ e .seat) → isFrom s es ≡ has s (seatsIn es) → (eqb (e .seat) s || isFrom s es) ≡ has s (with (e .seat) (seatsIn es))
     go (yes q) rest = rw (eq-eqb (e .seat) s (sym q)) (sym (has-true s (with (e .seat) (seatsIn es)) .1 (rw q (bit-with-same (e .seat) (seatsIn es)))))
-    go (no d) rest = rw (ne-eqb (e .seat) s (λ q. d (sym q))) (rest ∙ still (seatsIn es) (e .seat) d (bit-cases s (seatsIn es)))
+    go (no d) rest = rw (ne-eqb (e .seat) s (λ q. d (sym q))) (rest ∙ has-still s (e .seat) (seatsIn es) d)
 
 pub from-member : (e : Entry) (es : List Entry) → List·Memᴰ e es → isFrom (e .seat) es ≡ true
 unfolding seatsIn
 from-member e es d =
     from-seats (e .seat) es ∙ has-true (e .seat) (seatsIn es) .1 (in-set (e .seat) (map (λ (x : Entry). x .seat) es) .1 (Memᴰ·map (λ (x : Entry). x .seat) d))
+
+-- ---- sets of seats, from lists
+
+-- a list of seats, by the set of them
+in-has : (s : ℕ) (xs : List ℕ) → isIn s xs ≡ has s (setOf xs)
+unfolding isIn setOf
+in-has s [] = sym (has-false s 0 .1 (bit-empty s))
+in-has s (x ∷ xs) = go (ℕ-discrete s x) (in-has s xs)
+  where
+    go : Dec (s ≡ x) → isIn s xs ≡ has s (setOf xs) → (eqb x s || isIn s xs) ≡ has s (with x (setOf xs))
+    go (yes q) rest = rw (eq-eqb x s (sym q)) (sym (has-true s (with x (setOf xs)) .1 (rw q (bit-with-same x (setOf xs)))))
+    go (no d) rest = rw (ne-eqb x s (λ q. d (sym q))) (rest ∙ has-still s x (setOf xs) d)
+
+pub set-empty : (xs : List ℕ) → eqb (setOf xs) 0 ≡ isEmpty xs
+unfolding setOf isEmpty
+set-empty [] = refl
+set-empty (x ∷ xs) = ne-eqb (with x (setOf xs)) 0 (λ e. absurd (omega (arith, bit-with-same x (setOf xs), ap (bit x) e, bit-empty x)))
+
+pub set-append : (xs ys : List ℕ) → setOf (xs ++ ys) ≡ union (setOf xs) (setOf ys)
+unfolding setOf with union
+set-append [] ys = refl
+set-append (x ∷ xs) ys =
+    let a = setOf xs in
+    let b = setOf ys in
+    rw (set-append xs ys)
+    (same-seats (union (union a b) (one x)) (union (union a (one x)) b)
+    (λ s. omega (arith, bit-union s a b, bit-union s (union a b) (one x), bit-union s a (one x), bit-union s (union a (one x)) b)))
+
+-- the bit of a seat, by the test
+bit-of : (s m : ℕ) (b : Bool) → has s m ≡ b → bit s m ≡ worth b
+unfolding worth
+bit-of s m true e = has-true s m .0 e
+bit-of s m false e = has-false s m .0 e
+
+-- "those newly found": the shared seats, less those guilty
+pub set-newly : (detected : List ℕ) (es ds : List Entry) → setOf (newly detected es ds) ≡ less (shared (seatsIn es) (seatsIn ds)) (setOf detected)
+unfolding worth
+set-newly detected es ds =
+    same-seats (setOf (newly detected es ds)) (less (shared a b) c)
+    (λ s.
+    let told : has s new ≡ (has s a && (has s b && not (has s c))) = sym (in-has s (newly detected es ds)) ∙ newly-is s detected es ds ∙ rw (from-seats s es, from-seats s ds, in-has s detected) in
+    go s (has s a) (has s b) (has s c) refl refl refl told)
+  where
+    new : ℕ
+    new = setOf (newly detected es ds)
+
+    a : ℕ
+    a = seatsIn es
+
+    b : ℕ
+    b = seatsIn ds
+
+    c : ℕ
+    c = setOf detected
+
+    go : (s : ℕ) (x y z : Bool) → has s a ≡ x → has s b ≡ y → has s c ≡ z → has s new ≡ (x && (y && not z)) → bit s new ≡ bit s (less (shared a b) c)
+    go s true true true p q r h = omega (arith, bit-of s new false h, bit-of s a true p, bit-of s b true q, bit-of s c true r, bit-shared s a b, bit-less s (shared a b) c)
+    go s true true false p q r h = omega (arith, bit-of s new true h, bit-of s a true p, bit-of s b true q, bit-of s c false r, bit-shared s a b, bit-less s (shared a b) c)
+    go s true false z p q r h = omega (arith, bit-of s new false h, bit-of s b false q, bit-shared s a b, bit-less s (shared a b) c)
+    go s false y z p q r h = omega (arith, bit-of s new false h, bit-of s a false p, bit-shared s a b, bit-less s (shared a b) c)
+
+-- they are seats of both
+pub newly-within : (detected : List ℕ) (es ds : List Entry) (s : ℕ) → In s (setOf (newly detected es ds)) → In s (seatsIn es) × In s (seatsIn ds)
+newly-within detected es ds s i =
+    in-shared s (seatsIn es) (seatsIn ds) .0 (in-less s (shared (seatsIn es) (seatsIn ds)) (setOf detected) .0 (subst (In s) (set-newly detected es ds) i) .0)
+
+pub shows-found : (detected : List ℕ) (c d : FullCertificate) → showsMore detected c d ≡ true
+    → (c .value ≢ d .value) × Each (λ (s : ℕ). In s (seatsIn (c .entries)) × In s (seatsIn (d .entries))) (newly detected (c .entries) (d .entries))
+unfolding showsMore
+shows-found detected c d e =
+    let new = newly detected (c .entries) (d .entries) in
+    let differ = not-true (same (c .value) (d .value)) (both-true (not (same (c .value) (d .value))) (not (isEmpty new)) e .0) in (
+      λ h. true≢false (sym (same-refl (c .value)) ∙ ap (same (c .value)) h ∙ differ),
+      λ s m. newly-within detected (c .entries) (d .entries) s (in-set s new .1 m),
+    )
 
 -- ---- the signature of a seat
 
@@ -129,14 +209,11 @@ module _ (n round : ℕ) where
         let i = mem-seats n s mask .0 d .1 in
         ap₂ (λ (x y : List ℕ). record { seat = s; lowerValue = v; higherValue = w; lower = x; higher = y }) (p s i) (q s i))
 
-  pub evidence-same : (v w : List ℕ) (a b : ℕ) (f f′ g g′ : ℕ → List ℕ) → ((s : ℕ) → In s a → f s ≡ f′ s) → ((s : ℕ) → In s b → g s ≡ g′ s)
-      → evidenceOf n round (shared a b) (record { value = v; seats = a; signature = f }) (record { value = w; seats = b; signature = g }) ≡ evidenceOf n round (shared a b) (record { value = v; seats = a; signature = f′ }) (record { value = w; seats = b; signature = g′ })
+  pub evidence-same : (mask : ℕ) (v w : List ℕ) (a b : ℕ) (f f′ g g′ : ℕ → List ℕ) → ((s : ℕ) → In s mask → f s ≡ f′ s) → ((s : ℕ) → In s mask → g s ≡ g′ s)
+      → evidenceOf n round mask (record { value = v; seats = a; signature = f }) (record { value = w; seats = b; signature = g }) ≡ evidenceOf n round mask (record { value = v; seats = a; signature = f′ }) (record { value = w; seats = b; signature = g′ })
   unfolding evidenceOf orderedEvidence
-  evidence-same v w a b f f′ g g′ p q =
-      let x : (s : ℕ) → In s (shared a b) → f s ≡ f′ s = λ s i. p s (in-shared s a b .0 i .0) in
-      let y : (s : ℕ) → In s (shared a b) → g s ≡ g′ s = λ s i. q s (in-shared s a b .0 i .1) in
-      ap₂ (cond (isLower v w)) (ap (Evidence round (record { lower = v; higher = w })) (pairs-same (shared a b) v w a b f f′ g g′ x y))
-      (ap (Evidence round (record { lower = w; higher = v })) (pairs-same (shared a b) w v b a g g′ f f′ y x))
+  evidence-same mask v w a b f f′ g g′ p q =
+      ap₂ (cond (isLower v w)) (ap (Evidence round ValuesEach) (pairs-same mask v w a b f f′ g g′ p q)) (ap (Evidence round ValuesEach) (pairs-same mask w v b a g g′ f f′ q p))
 
 -- ---- different seats
 

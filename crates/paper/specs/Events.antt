@@ -20,7 +20,7 @@ unfoldable pub delivered : Message → Option Event
 delivered (Submit ρ seat value signature) = some (SubmitDelivered seat value signature)
 delivered (Notice ρ seat value) = some (NoticeDelivered value)
 delivered (Full ρ sender value entries) = some (FullDelivered (record { value = value; entries = entries }))
-delivered (Evidence ρ values entries) = none
+delivered (Evidence ρ form entries) = none
 delivered Garbled = none
 
 -- Whether a step with this refusal number is an event. A message refused for a signature (14) is delivered all the same: the machine

@@ -8,15 +8,16 @@ use native.Mathlib.Omega.{arith}
 use lib.Dec.{eqb}
 use lib.ListN.{getD, replicate}
 use Rattle.octets.specs.Strings.{same}
-use Rattle.quorum.specs.Quorum.{t0, k, bit, union, shared, with, seats}
+use Rattle.quorum.specs.Quorum.{t0, k, bit, In, union, with, seats}
 use Rattle.protocol.specs.Values.{isLower}
 use Rattle.protocol.specs.Entries.{formSeats}
-use Rattle.protocol.specs.Message.{Entry, Pair, Full, Evidence, fullForm}
-use Rattle.protocol.specs.Certificate.{setOf, signatureOf, certificateOf, entriesOf, fullOf, pairsOf, orderedEvidence, evidenceOf, conflictOf}
+use Rattle.protocol.specs.Message.{Entry, Pair, ValuesEach, Full, Evidence, fullForm}
+use Rattle.protocol.specs.Certificate.{setOf, signatureOf, certificateOf, entriesOf, fullOf, pairsOf, orderedEvidence, evidenceOf}
 use Rattle.protocol.specs.Refusals.{every}
 use Rattle.round.specs.Round.{Each}
 use Rattle.reading.specs.ListsLaws.{each-one, each-cons}
-use Rattle.paper.specs.Machine.{FullCertificate, Machine, init, Event, Submitted, SubmitDelivered, NoticeDelivered, FullDelivered, Action, BroadcastSubmit, ConfirmAndNotice, BroadcastFull, Detect, act, isSome, isOwn, ownValue, isFrom, firstFrom, distinct, other, pairOr, conflict, isFullCertificate, ownFull, isCollected, collecting, keeping, uponSubmitDelivered, takingUp, takingUpBelow, uponSubmit, uponNoticeDelivered, obtain, uponFullDelivered, confirming, uponQuorum, sending, uponNoticesConflict, detecting, uponFullsConflict, uponEvent, uponRules, react, Says}
+use Rattle.paper.specs.Machine.{FullCertificate, Machine, init, Event, Submitted, SubmitDelivered, NoticeDelivered, FullDelivered, Action, BroadcastSubmit, ConfirmAndNotice, BroadcastFull, Detect, act, isSome, isOwn, ownValue, isFrom, firstFrom, distinct, other, pairOr, conflict, isIn, isEmpty, newly, showsMore, isFullCertificate, ownFull, isCollected, collecting, keeping, uponSubmitDelivered, takingUp, takingUpBelow, uponSubmit, uponNoticeDelivered, obtain, uponFullDelivered, confirming, uponQuorum, sending, uponNoticesConflict, detecting, uponConflict, uponConflicts, uponConflictsIn, uponFullsConflict, uponEvent, uponRules, react, Says}
+use Rattle.paper.specs.Memory.{seatsIn}
 use Rattle.paper.specs.Spoken.{spoken, Formed, spoken-says}
 
 -- toy signature check: a signature's first byte is its seat
@@ -30,7 +31,7 @@ does n m (e ∷ es) = react toy n 0 e m .actions ∷ does n (react toy n 0 e m .
 
 -- a name that unfolds every definition
 unfolded : Bool
-unfolding does t0 k same every init act isSome isOwn ownValue isFrom distinct other pairOr conflict isFullCertificate ownFull isCollected collecting keeping uponSubmitDelivered firstFrom takingUp takingUpBelow uponSubmit uponNoticeDelivered obtain uponFullDelivered confirming uponQuorum sending uponNoticesConflict detecting uponFullsConflict uponEvent uponRules react
+unfolding does t0 k same every init act isSome isOwn ownValue isFrom distinct other pairOr conflict isIn isEmpty newly showsMore isFullCertificate ownFull isCollected collecting keeping uponSubmitDelivered firstFrom takingUp takingUpBelow uponSubmit uponNoticeDelivered obtain uponFullDelivered confirming uponQuorum sending uponNoticesConflict detecting uponConflict uponConflicts uponConflictsIn uponFullsConflict uponEvent uponRules react
 unfolded = true
 
 abbrev seven : List ℕ
@@ -51,7 +52,7 @@ by value s t u = record { value = value; entries = entry s ∷ entry t ∷ entry
 -- ---- a unit confirms, hears of another value, and detects
 
 -- a seat heard twice, a seat with another value and a fourth seat after three change nothing that is sent; neither does a third
--- certificate that conflicts
+-- certificate that conflicts and shows no more. One that shows a further seat does, once; (10)
 confirms-then-detects : does 4 init (
     Submitted seven (0 ∷ [])
     ∷ hears 2 seven
@@ -64,6 +65,8 @@ confirms-then-detects : does 4 init (
     ∷ NoticeDelivered nine
     ∷ FullDelivered (by nine 1 2 3)
     ∷ FullDelivered (by (5 ∷ []) 1 2 3)
+    ∷ FullDelivered (by (5 ∷ []) 0 1 2)
+    ∷ FullDelivered (by (5 ∷ []) 0 1 3)
     ∷ []
     ) ≡ (BroadcastSubmit seven (0 ∷ []) ∷ [])
     ∷ []
@@ -74,7 +77,9 @@ confirms-then-detects : does 4 init (
     ∷ []
     ∷ (BroadcastFull (by seven 0 2 3) ∷ [])
     ∷ []
-    ∷ (Detect (by seven 0 2 3) (by nine 1 2 3) ∷ [])
+    ∷ (Detect (by seven 0 2 3) (by nine 1 2 3) (2 ∷ 3 ∷ []) ∷ [])
+    ∷ []
+    ∷ (Detect (by seven 0 2 3) (by (5 ∷ []) 0 1 2) (0 ∷ []) ∷ [])
     ∷ []
     ∷ []
 unfolding unfolded
@@ -98,7 +103,7 @@ hears-before-submitting : does 4 init (
     ∷ []
     ∷ []
     ∷ (BroadcastSubmit seven (0 ∷ []) ∷ [])
-    ∷ (ConfirmAndNotice seven ∷ BroadcastFull (by seven 0 2 3) ∷ Detect (by nine 1 2 3) (by seven 0 2 3) ∷ [])
+    ∷ (ConfirmAndNotice seven ∷ BroadcastFull (by seven 0 2 3) ∷ Detect (by nine 1 2 3) (by seven 0 2 3) (2 ∷ 3 ∷ []) ∷ [])
     ∷ []
     ∷ []
 unfolding unfolded
@@ -170,7 +175,7 @@ formed b s t u h i j d = record { sized = refl; below = below b s t u h i j; apa
 
 -- a name that unfolds every definition of a message sent
 unfoldedSent : Bool
-unfolding bit union shared with seats isLower setOf signatureOf certificateOf formSeats fullForm entriesOf fullOf pairsOf orderedEvidence evidenceOf conflictOf distinct isFrom spoken
+unfolding bit union with seats isLower setOf signatureOf certificateOf formSeats fullForm entriesOf fullOf pairsOf orderedEvidence evidenceOf distinct isFrom seatsIn spoken
 unfoldedSent = true
 
 -- a certificate whose entries came in another order is sent with seats rising
@@ -182,12 +187,14 @@ full-in-order = spoken-says 4 5 0 (BroadcastFull (three 7 0 3 2)) (formed 7 0 3 
 abbrev both : ℕ → Pair
 both seat = record { seat = seat; lowerValue = long 7; higherValue = long 9; lower = signedBy 7 seat .signature; higher = signedBy 9 seat .signature }
 
--- the evidence of two certificates has the seats of both, with the signature over the lower value first
-evidence-of-both : Says 5 0 (Detect (three 9 1 2 3) (three 7 0 3 2)) (Evidence 5 (record { lower = long 7; higher = long 9 }) (both 2 ∷ both 3 ∷ []))
+-- the evidence of two certificates has the seats detected, with the signature over the lower value first
+evidence-of-both : Says 5 0 (Detect (three 9 1 2 3) (three 7 0 3 2) (3 ∷ 2 ∷ [])) (Evidence 5 ValuesEach (both 2 ∷ both 3 ∷ []))
 unfolding unfoldedSent
 evidence-of-both =
-    spoken-says 4 5 0 (Detect (three 9 1 2 3) (three 7 0 3 2)) (
+    let Both : ℕ → Type 0 = λ s. In s (seatsIn (three 9 1 2 3 .entries)) × In s (seatsIn (three 7 0 3 2 .entries)) in
+    spoken-says 4 5 0 (Detect (three 9 1 2 3) (three 7 0 3 2) (3 ∷ 2 ∷ [])) (
       formed 9 1 2 3 (omega arith) (omega arith) (omega arith) refl,
       formed 7 0 3 2 (omega arith) (omega arith) (omega arith) refl,
       λ e. let first = ap (λ (v : List ℕ). getD v 0 0) e in omega arith,
+      each-cons Both 3 (2 ∷ []) (refl, refl) (each-one Both 2 (refl, refl)),
     )

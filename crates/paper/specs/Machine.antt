@@ -15,6 +15,9 @@
 -- (9) "A SUBMIT heard before the own submit is now checked, and the first good one from each seat is kept with its value": line 20
 --     passes over it, since value_i is ⊥. Here it is remembered, and at the submission lines 20 to 23 are done for the first of
 --     each seat.
+-- Item 3:
+-- (10) "The papers detect once; the engine's definition now says each time": the rule of line 39 is tried for each certificate that
+--      conflicts with the first one obtained, and detects the processes that weren't detected before.
 -- Assumes nothing.
 use Prim.Native.Nat.{ℕ, zero, suc}
 use mathlib.Core.Path.{_≡_}
@@ -27,7 +30,7 @@ use lib.ListN.{length, take}
 use Rattle.octets.specs.Strings.{same}
 use Rattle.quorum.specs.Quorum.{k}
 use Rattle.protocol.specs.Values.{unset, isLower}
-use Rattle.protocol.specs.Message.{Entry, Pair, Signed, Message, Submit, Notice, Full, Evidence}
+use Rattle.protocol.specs.Message.{Entry, Pair, ValuesEach, Signed, Message, Submit, Notice, Full, Evidence}
 use Rattle.protocol.specs.Refusals.{Checks, every, rising}
 
 -- ---- the state
@@ -51,13 +54,13 @@ pub record Machine : Type 0 where
   pub noticed : List (List ℕ)
   -- "obtainedFullCertificates_i ← ∅": all certificates
   pub obtained : List FullCertificate
-  -- "Rules at lines 25, 33 and 39 are activated at most once.": whether line 33's was, and the two certificates if line 39's was.
-  -- Line 25's was where `confirmed` is set.
+  -- "Rules at lines 25, 33 and 39 are activated at most once.": whether line 33's was. Line 25's was where `confirmed` is set.
   pub sent : Bool
-  pub detected : Option (FullCertificate × FullCertificate)
+  -- the seats of the processes detected; (10)
+  pub detected : List ℕ
 
 unfoldable pub init : Machine
-init = record { value = none; confirmed = false; early = []; collected = []; noticed = []; obtained = []; sent = false; detected = none }
+init = record { value = none; confirmed = false; early = []; collected = []; noticed = []; obtained = []; sent = false; detected = [] }
 
 -- ---- events and actions
 
@@ -78,8 +81,8 @@ pub data Action : Type 0 where
   ConfirmAndNotice : (value : List ℕ) → Action
   -- "trigger ⟨beb, Broadcast | [FULL-CERTIFICATE, value_i, fullCertificate_i]⟩"
   BroadcastFull : FullCertificate → Action
-  -- "trigger ⟨ac, Detect | F, proof⟩": the proof is the two certificates, and F the seats that they share; (6)
-  Detect : FullCertificate → FullCertificate → Action
+  -- "trigger ⟨ac, Detect | F, proof⟩": the proof is the two certificates, and F are seats that they share; (6)
+  Detect : FullCertificate → FullCertificate → (seats : List ℕ) → Action
 
 -- the machine within one event, and its actions so far
 pub record Reaction : Type 0 where
@@ -95,8 +98,8 @@ act a x = record { machine = x .machine; actions = x .actions ++ a ∷ [] }
 abbrev pub setOwn : Option (List ℕ) → Bool → List Entry → Reaction → Reaction
 setOwn value confirmed collected x = let m = x .machine in record { machine = record { value = value; confirmed = confirmed; early = m .early; collected = collected; noticed = m .noticed; obtained = m .obtained; sent = m .sent; detected = m .detected }; actions = x .actions }
 
--- certificates, light and full, and whether the rules of lines 33 and 39 were activated
-abbrev pub setCertificates : List (List ℕ) → List FullCertificate → Bool → Option (FullCertificate × FullCertificate) → Reaction → Reaction
+-- certificates, light and full, whether the rule of line 33 was activated, and the seats detected
+abbrev pub setCertificates : List (List ℕ) → List FullCertificate → Bool → List ℕ → Reaction → Reaction
 setCertificates noticed obtained sent detected x = let m = x .machine in record { machine = record { value = m .value; confirmed = m .confirmed; early = m .early; collected = m .collected; noticed = noticed; obtained = obtained; sent = sent; detected = detected }; actions = x .actions }
 
 abbrev pub setValue : List ℕ → Reaction → Reaction
@@ -120,8 +123,8 @@ addObtained c x = let m = x .machine in setCertificates (m .noticed) (m .obtaine
 abbrev pub setSent : Reaction → Reaction
 setSent x = let m = x .machine in setCertificates (m .noticed) (m .obtained) true (m .detected) x
 
-abbrev pub setDetected : FullCertificate × FullCertificate → Reaction → Reaction
-setDetected p x = let m = x .machine in setCertificates (m .noticed) (m .obtained) (m .sent) (some p) x
+abbrev pub addDetected : List ℕ → Reaction → Reaction
+addDetected seats x = let m = x .machine in setCertificates (m .noticed) (m .obtained) (m .sent) (m .detected ++ seats) x
 
 -- ---- tests
 
@@ -163,7 +166,7 @@ unfoldable pub pairOr {ℓ} : {A : Type ℓ} → A → Option A → Option (A ×
 pairOr x none rest = rest
 pairOr x (some y) rest = some (x, y)
 
--- "certificate_1, certificate_2 ∈ .. where certificate_1 conflicts with certificate_2": of any two that conflict, the first pair.
+-- "certificate_1, certificate_2 ∈ .. where certificate_1 conflicts with certificate_2", of line 33: of any two that conflict, the first pair.
 -- It is always the first of the list with the first that conflicts with it: of any two that conflict, one conflicts with the
 -- first of the list (`ConflictsLaws: conflict-head`). So the first moment at which any two conflict is that at which one conflicts
 -- with the first.
@@ -171,12 +174,28 @@ unfoldable pub conflict {ℓ} : {A : Type ℓ} → (A → List ℕ) → List A �
 conflict valueOf [] = none
 conflict valueOf (x ∷ xs) = pairOr x (other valueOf (valueOf x) xs) (conflict valueOf xs)
 
--- two values conflict where they differ, and two certificates where their values do
+-- two values conflict where they differ
 abbrev pub valueOfNotice : List ℕ → List ℕ
 valueOfNotice v = v
 
-abbrev pub valueOfFull : FullCertificate → List ℕ
-valueOfFull c = c .value
+unfoldable pub isIn : ℕ → List ℕ → Bool
+isIn seat [] = false
+isIn seat (s ∷ ss) = eqb s seat || isIn seat ss
+
+unfoldable pub isEmpty : List ℕ → Bool
+isEmpty [] = true
+isEmpty (s ∷ ss) = false
+
+-- 40: "proof ← extract proof of culpability of (at least) t0 + 1 processes from certificate_1 and certificate_2"
+-- 41: "F ← the set of processes detected via proof": those of both certificates that weren't detected before; (10)
+unfoldable pub newly : List ℕ → List Entry → List Entry → List ℕ
+newly detected [] ds = []
+newly detected (e ∷ es) ds =
+    cond (isFrom (e .seat) ds && not (isIn (e .seat) detected)) (e .seat ∷ newly detected es ds) (newly detected es ds)
+
+-- "where certificate_1 conflicts with certificate_2": their values differ, and there is someone to detect; (10)
+unfoldable pub showsMore : List ℕ → FullCertificate → FullCertificate → Bool
+showsMore detected c d = not (same (c .value) (d .value)) && not (isEmpty (newly detected (c .entries) (d .entries)))
 
 -- ---- each `upon`: under one signature check, in a fleet of n seats, at a seat
 
@@ -260,16 +279,27 @@ module _ (checks : Checks) (n own : ℕ) where
   uponNoticesConflict x =
       cond (x .machine .confirmed && not (x .machine .sent) && isSome (conflict valueOfNotice (x .machine .noticed))) (sending x) x
 
-  -- 40: "proof ← extract proof of culpability of (at least) t0 + 1 processes from certificate_1 and certificate_2"
-  -- 41: "F ← the set of processes detected via proof"
   -- 42: "trigger ⟨ac, Detect | F, proof⟩"
-  unfoldable pub detecting : Option (FullCertificate × FullCertificate) → Reaction → Reaction
-  detecting none x = x
-  detecting (some p) x = act (Detect (p .0) (p .1)) (setDetected p x)
+  unfoldable pub detecting : FullCertificate → FullCertificate → Reaction → Reaction
+  detecting c d x =
+      let seats = newly (x .machine .detected) (c .entries) (d .entries) in
+      act (Detect c d seats) (addDetected seats x)
 
   -- 39: "upon certificate_1, certificate_2 ∈ obtainedFullCertificates_i where certificate_1 conflicts with certificate_2 do"
+  unfoldable pub uponConflict : FullCertificate → FullCertificate → Reaction → Reaction
+  uponConflict c d x = cond (showsMore (x .machine .detected) c d) (detecting c d x) x
+
+  -- certificate_1 is the first one obtained, and certificate_2 each of the others; (10)
+  unfoldable pub uponConflicts : FullCertificate → List FullCertificate → Reaction → Reaction
+  uponConflicts c [] x = x
+  uponConflicts c (d ∷ ds) x = uponConflicts c ds (uponConflict c d x)
+
+  unfoldable pub uponConflictsIn : List FullCertificate → Reaction → Reaction
+  uponConflictsIn [] x = x
+  uponConflictsIn (c ∷ ds) x = uponConflicts c ds x
+
   unfoldable pub uponFullsConflict : Reaction → Reaction
-  uponFullsConflict x = cond (isSome (x .machine .detected)) x (detecting (conflict valueOfFull (x .machine .obtained)) x)
+  uponFullsConflict x = uponConflictsIn (x .machine .obtained) x
 
   -- ---- one event after another
 
@@ -304,11 +334,11 @@ PairOf low high p =
 
 -- messages of a unit at a seat in a round
 module _ (round seat : ℕ) where
-  -- EVIDENCE, with the lower value first: every such pair of the two certificates
-  abbrev pub SaysConflict : FullCertificate → FullCertificate → Message → Type 0
-  SaysConflict low high m =
-      (ps : List Pair) × (isLower (low .value) (high .value) ≡ true) × (m ≡ Evidence round (record { lower = low .value; higher = high .value }) ps)
-      × InOrder (λ (p : Pair). p .seat) (PairOf low high) ps
+  -- EVIDENCE, with the lower value first: every such pair of the two certificates, of the seats detected
+  abbrev pub SaysConflict : FullCertificate → FullCertificate → List ℕ → Message → Type 0
+  SaysConflict low high seats m =
+      (ps : List Pair) × (isLower (low .value) (high .value) ≡ true) × (m ≡ Evidence round ValuesEach ps)
+      × InOrder (λ (p : Pair). p .seat) (λ (p : Pair). PairOf low high p × List·Memᴰ (p .seat) seats) ps
 
   -- the message that an action is sent as. A FULL has the entries of the certificate, each with its signature there.
   abbrev pub Says : Action → Message → Type 0
@@ -316,7 +346,7 @@ module _ (round seat : ℕ) where
   Says (ConfirmAndNotice v) m = m ≡ Notice round seat v
   Says (BroadcastFull c) m =
       (es : List Entry) × (m ≡ Full round seat (c .value) es) × InOrder (λ (e : Entry). e .seat) (λ (e : Entry). List·Memᴰ e (c .entries)) es
-  Says (Detect c d) m = SaysConflict c d m ⊎ SaysConflict d c m
+  Says (Detect c d seats) m = SaysConflict c d seats m ⊎ SaysConflict d c seats m
 
   -- messages of actions, one after another
   abbrev pub SaysEach : List Action → List Message → Type 0

@@ -6,7 +6,7 @@ use mathlib.Core.Bool.{cond}
 use mathlib.Core.List.{List, [], _∷_, map}
 use mathlib.Core.Option.{Option, none, some}
 use lib.ListN.{take}
-use Rattle.quorum.specs.Quorum.{k, shared}
+use Rattle.quorum.specs.Quorum.{k}
 use Rattle.protocol.specs.Layout.{collectedBank, firstBank}
 use Rattle.protocol.specs.Values.{unset}
 use Rattle.protocol.specs.Message.{Entry, Signed}
@@ -41,11 +41,6 @@ unfoldable pub heldFirst : List FullCertificate → First
 heldFirst [] = record { value = unset; seats = 0 }
 heldFirst (c ∷ cs) = record { value = c .value; seats = seatsIn (c .entries) }
 
--- the record's part of the two certificates detected: "the shared seats"
-unfoldable pub guiltyOf : Option (FullCertificate × FullCertificate) → ℕ
-guiltyOf none = 0
-guiltyOf (some p) = shared (seatsIn (p .0 .entries)) (seatsIn (p .1 .entries))
-
 -- the record of a unit at a seat in a round: of all signatures over its value, the seats of the first k
 unfoldable pub recordOf : ℕ → ℕ → ℕ → Machine → Record
 recordOf n seat round m = record {
@@ -57,7 +52,7 @@ recordOf n seat round m = record {
   notices = noticesOf (m .noticed);
   first = heldFirst (m .obtained);
   sent = m .sent;
-  guilty = guiltyOf (m .detected);
+  guilty = setOf (m .detected);
   kept = keptOf (m .value) (m .early);
 }
 

@@ -4,7 +4,6 @@ use Prim.Native.Nat.{ℕ, _^_, _<_}
 use mathlib.Core.Path.{_≡_}
 use mathlib.Core.Bool.{Bool, true}
 use mathlib.Core.List.{List, [], List·Memᴰ}
-use mathlib.Core.Logic.{_≢_}
 use mathlib.Core.Option.{Option, none, some}
 use lib.Dec.{leb}
 use lib.ListN.{length, take}
@@ -15,8 +14,9 @@ use Rattle.protocol.specs.Certificate.{slot, keptValue, keptSignature, signatur
 use Rattle.protocol.specs.Refusals.{Checks}
 use Rattle.round.specs.Round.{Each}
 use Rattle.claims.specs.Sound.{Any, Attested}
-use Rattle.paper.specs.Machine.{FullCertificate, Machine, ownValue, firstFrom, conflict, valueOfFull}
-use Rattle.paper.specs.Memory.{seatsIn, heldFirst, guiltyOf, firstEntries}
+use Rattle.paper.specs.Machine.{FullCertificate, Machine, ownValue, firstFrom}
+use Rattle.paper.specs.Memory.{seatsIn, heldFirst, firstEntries}
+use Rattle.paper.specs.Rules.{Quiet}
 
 -- the signatures collected: nothing before the own submission, and of the first k each from a seat of its own
 pub record Collecting (n : ℕ) (value : Option (List ℕ)) (collected : List Entry) : Type 0 where
@@ -31,11 +31,10 @@ pub record Quorum (n : ℕ) (c : FullCertificate) : Type 0 where
   pub enough : size (seatsIn (c .entries)) ≡ k n
   pub sized : (s : ℕ) → In s (seatsIn (c .entries)) → length (signatureOf (c .entries) s) ≡ signatureLength
 
--- the certificates obtained: until two are detected, no two conflict
-pub record Obtaining (n : ℕ) (obtained : List FullCertificate) (detected : Option (FullCertificate × FullCertificate)) : Type 0 where
+-- the certificates obtained: none shows more than was detected
+pub record Obtaining (n : ℕ) (obtained : List FullCertificate) (detected : List ℕ) : Type 0 where
   pub quorums : Each (Quorum n) obtained
-  pub agreed : detected ≡ none → conflict valueOfFull obtained ≡ none
-  pub guilty : (p : FullCertificate × FullCertificate) → detected ≡ some p → guiltyOf (some p) ≢ 0
+  pub quiet : Quiet detected obtained
 
 -- the store has the signatures of the first k, and those of the first certificate
 pub record Stored (n : ℕ) (store : List ℕ) (collected : List Entry) (obtained : List FullCertificate) : Type 0 where

@@ -2,8 +2,8 @@
 -- next state, with the machine's messages written.
 -- Assumes nothing.
 use Prim.Native.Nat.{ℕ, _^_, _≤_, _<_}
-use mathlib.Core.Path.{_≡_, refl, sym, ap, subst, _∙_}
-use mathlib.Core.Bool.{Bool, true, false, cond, not, _&&_, and-true, and-false, true≢false}
+use mathlib.Core.Path.{_≡_, refl, sym, ap, ap₂, subst, _∙_}
+use mathlib.Core.Bool.{Bool, true, false, cond, not, _&&_, true≢false}
 use mathlib.Core.List.{List, [], _∷_, _++_, map, map-append, List·Memᴰ, List·Memᴰ·head, List·Memᴰ·not-nil, List·Memᴰ·cases-cons, Memᴰ·append-right}
 use mathlib.Core.Logic.{⊎-elim, _≢_}
 use mathlib.Core.Option.{Option, none, some}
@@ -15,28 +15,29 @@ use lib.Seq.{take-all, length-take-le}
 use borrow.Author.Tests.{leb-true, leb-false, eq-eqb, ne-eqb}
 use Rattle.octets.specs.Strings.{same}
 use Rattle.octets.specs.StringsLaws.{same-refl}
-use Rattle.quorum.specs.Quorum.{k, In, size, shared, seats}
-use Rattle.quorum.specs.QuorumLaws.{size-empty, mem-seats, k-of-n-share}
+use Rattle.quorum.specs.Quorum.{k, In, size, union, seats}
+use Rattle.quorum.specs.QuorumLaws.{size-empty, mem-seats}
 use Rattle.protocol.specs.Layout.{signatureLength, banks, storeLength, collectedBank, firstBank, keptBank, keptValueBank}
 use Rattle.protocol.specs.LayoutLaws.{collected-bank, first-bank, kept-bank, kept-value-bank}
 use Rattle.protocol.specs.Entries.{formSeats}
 use Rattle.protocol.specs.Message.{Entry, Signed, Message, fullForm}
-use Rattle.protocol.specs.Certificate.{Certificate, slot, fillEach, ownCertificate, firstCertificate, signatureOf, certificateOf, conflictOf}
-use Rattle.protocol.specs.Record.{withNotices, noneHeard, oneHeard, holds}
+use Rattle.protocol.specs.Certificate.{Certificate, slot, fillEach, ownCertificate, firstCertificate, setOf, signatureOf, certificateOf, evidenceOf}
+use Rattle.protocol.specs.Record.{withNotices, withGuilty, noneHeard, oneHeard, holds}
 use Rattle.protocol.specs.Refusals.{Checks}
 use Rattle.protocol.specs.Step.{State, withUnit, write, noticesWith, hear, otherHeard, owesFull, sendFull, reply, hold, found, blame, blames, holdOrBlame, hearCertificate, isComplete, confirm, hearOwn, confirmIfComplete}
 use Rattle.protocol.specs.declared.Notices.{Notices}
 use Rattle.protocol.specs.declared.Record.{Record}
 use Rattle.round.specs.Round.{Each}
-use Rattle.reading.specs.ListsLaws.{cond-elim, each-one, each-append}
+use Rattle.reading.specs.ListsLaws.{cond-elim, each-nil, each-one, each-append}
 use Rattle.claims.specs.Parts.{k-pos, in-below}
 use Rattle.claims.specs.SlotsLaws.{slot-fillEach-other, slot-fillEach-same}
-use Rattle.paper.specs.Machine.{FullCertificate, Machine, Action, ConfirmAndNotice, BroadcastFull, Detect, Reaction, act, setConfirmed, addNoticed, addObtained, setCertificates, setSent, isSome, ownValue, other, pairOr, conflict, valueOfNotice, valueOfFull, ownFull, uponNoticeDelivered, obtain, confirming, uponQuorum, sending, uponNoticesConflict, detecting, uponFullsConflict, uponRules}
-use Rattle.paper.specs.Memory.{seatsIn, noticesOf, heldFirst, guiltyOf, recordOf, firstEntries}
-use Rattle.paper.specs.ConflictsLaws.{same-sym, some-none, other-none, other-more, other-still, conflict-head, head-none}
-use Rattle.paper.specs.EntriesLaws.{seats-below, signature-each, full-same, evidence-same, each-take, first-in}
+use Rattle.paper.specs.Machine.{FullCertificate, Machine, Action, ConfirmAndNotice, BroadcastFull, Detect, Reaction, act, setConfirmed, addNoticed, addObtained, addDetected, setCertificates, setSent, isSome, ownValue, other, pairOr, conflict, valueOfNotice, newly, showsMore, ownFull, uponNoticeDelivered, obtain, confirming, uponQuorum, sending, uponNoticesConflict, detecting, uponConflict, uponConflicts, uponConflictsIn, uponFullsConflict, uponRules}
+use Rattle.paper.specs.Memory.{seatsIn, noticesOf, heldFirst, recordOf, firstEntries}
+use Rattle.paper.specs.ConflictsLaws.{same-sym, other-none, other-more, other-still, conflict-head}
+use Rattle.paper.specs.NewlyLaws.{shows-no-more, still-no-more}
+use Rattle.paper.specs.EntriesLaws.{seats-below, set-empty, set-append, set-newly, newly-within, signature-each, full-same, evidence-same, each-take, first-in}
 use Rattle.paper.specs.Spoken.{spoken}
-use Rattle.paper.specs.Rules.{fulls-quiet}
+use Rattle.paper.specs.Rules.{Quiet, conflict-last, fulls-quiet}
 use Rattle.paper.specs.Mirror.{Collecting, Quorum, Obtaining, Stored, Keeping, Mirrors}
 
 -- ---- notices
@@ -170,21 +171,21 @@ module _ (n seat round : ℕ) where
       fit s d = let m = mem-seats n s (seatsIn (q .entries)) .0 d in (m .0, ap length (agree s (m .1)) ∙ y .sized s (m .1))
 
       module _ (x : Reaction) (store : List ℕ) (room : storeLength n ≤ length store) where
-        abbrev with-certificates : List FullCertificate → Option (FullCertificate × FullCertificate) → Reaction
+        abbrev with-certificates : List FullCertificate → List ℕ → Reaction
         with-certificates obtained detected = setCertificates (x .machine .noticed) obtained (x .machine .sent) detected x
 
-        abbrev Mirrored : List FullCertificate → Option (FullCertificate × FullCertificate) → Type 0
+        abbrev Mirrored : List FullCertificate → List ℕ → Type 0
         Mirrored obtained detected = Mirrors checks n store (with-certificates obtained detected .machine)
 
         -- "The first is held."
-        hold-mirror : (detected : Option (FullCertificate × FullCertificate)) → Mirrored [] detected
+        hold-mirror : (detected : List ℕ) → Mirrored [] detected
             → Mirrors checks n (fillEach n firstBank signature (seats n (seatsIn (q .entries))) store) (with-certificates (q ∷ []) detected .machine)
-        unfolding heldFirst firstEntries conflict other pairOr
+        unfolding heldFirst firstEntries
         hold-mirror detected z = record {
           keeping = keeping-like checks n store (fillEach n firstBank signature (seats n (seatsIn (q .entries))) store) (x .machine .early) (z .keeping)
               (λ bank t later b l. slot-fillEach-other n firstBank signature first-bank (seats n (seatsIn (q .entries))) store bank t fit room b l (λ u d p _. omega arith));
           collecting = z .collecting;
-          obtaining = record { quorums = each-one (Quorum n) q y; agreed = λ e. refl; guilty = z .obtaining .guilty };
+          obtaining = record { quorums = each-one (Quorum n) q y; quiet = each-nil (λ d. showsMore detected q d ≡ false) };
           stored = record {
             own = λ s i.
                 slot-fillEach-other n firstBank signature first-bank (seats n (seatsIn (q .entries))) store collectedBank s fit room (collected-bank .0)
@@ -198,105 +199,87 @@ module _ (n seat round : ℕ) where
         }
 
         -- another certificate, where one is held
-        more-mirror : (f : FullCertificate) (rest : List FullCertificate) (old new : Option (FullCertificate × FullCertificate)) → Mirrored (f ∷ rest) old
-            → (new ≡ none → conflict valueOfFull (f ∷ (rest ++ q ∷ [])) ≡ none) → ((p : FullCertificate × FullCertificate) → new ≡ some p → guiltyOf (some p) ≢ 0)
-            → Mirrored (f ∷ (rest ++ q ∷ [])) new
+        more-mirror : (f : FullCertificate) (rest : List FullCertificate) (old new : List ℕ) → Mirrored (f ∷ rest) old → Quiet new (f ∷ (rest ++ q ∷ [])) → Mirrored (f ∷ (rest ++ q ∷ [])) new
         unfolding heldFirst firstEntries
-        more-mirror f rest old new z agreed guilty = record {
+        more-mirror f rest old new z quiet = record {
           keeping = z .keeping;
           collecting = z .collecting;
-          obtaining = record { quorums = each-append (Quorum n) (f ∷ rest) (q ∷ []) (z .obtaining .quorums) (each-one (Quorum n) q y); agreed = agreed; guilty = guilty };
+          obtaining = record { quorums = each-append (Quorum n) (f ∷ rest) (q ∷ []) (z .obtaining .quorums) (each-one (Quorum n) q y); quiet = quiet };
           stored = record { own = z .stored .own; first = z .stored .first };
           resting = z .resting;
         }
 
-        module _ (f : FullCertificate) (rest : List FullCertificate) where
-          held : (detected : Option (FullCertificate × FullCertificate)) → Mirrored (f ∷ rest) detected → holds (recordOf n seat round (with-certificates (f ∷ rest) detected .machine)) ≡ true
+        module _ (f : FullCertificate) (rest : List FullCertificate) (detected : List ℕ) where
+          -- before the certificate comes, and with it obtained
+          abbrev before : Reaction
+          before = with-certificates (f ∷ rest) detected
+
+          abbrev after : Reaction
+          after = with-certificates (f ∷ (rest ++ q ∷ [])) detected
+
+          abbrev new : List ℕ
+          new = newly detected (f .entries) (q .entries)
+
+          held : Mirrors checks n store (before .machine) → holds (recordOf n seat round (before .machine)) ≡ true
           unfolding holds recordOf heldFirst
-          held detected z = rw (ne-eqb (seatsIn (f .entries)) 0 (quorum-some f (z .obtaining .quorums f (List·Memᴰ·head refl))))
+          held z = rw (ne-eqb (seatsIn (f .entries)) 0 (quorum-some f (z .obtaining .quorums f (List·Memᴰ·head refl))))
+
+          -- it is blamed where it conflicts with the first and shows more
+          blames-is : blames c (recordOf n seat round (before .machine)) ≡ showsMore detected f q
+          unfolding blames found recordOf heldFirst showsMore
+          blames-is =
+              ap₂ (λ (a b : Bool). not a && not b) (same-sym (q .value) (f .value)) (ap (λ (m : ℕ). eqb m 0) (sym (set-newly detected (f .entries) (q .entries))) ∙ set-empty new)
 
           -- the first stays the first
-          still : (detected : Option (FullCertificate × FullCertificate)) → at (with-certificates (f ∷ rest) detected) store ≡ at (with-certificates (f ∷ (rest ++ q ∷ [])) detected) store
+          quiet-is : at before store ≡ at after store
           unfolding recordOf heldFirst
-          still detected = refl
+          quiet-is = refl
 
-          quiet-is : (detected : Option (FullCertificate × FullCertificate)) → Mirrored (f ∷ rest) detected → blames c (recordOf n seat round (with-certificates (f ∷ rest) detected .machine)) ≡ false
-              → holdOrBlame c (at (with-certificates (f ∷ rest) detected) store) ≡ at (with-certificates (f ∷ (rest ++ q ∷ [])) detected) store
-          unfolding holdOrBlame
-          quiet-is detected z b = rw (held detected z, b) (still detected)
+          -- the record blamed, with the seats to write and the guilty set
+          abbrev blamed : ℕ → ℕ → State
+          blamed mask guilty =
+              write (evidenceOf n round mask (record { value = f .value; seats = seatsIn (f .entries); signature = slot n firstBank store }) c)
+              (withUnit (at before store) (withGuilty (recordOf n seat round (before .machine)) guilty))
 
-          -- while no seat is guilty, a certificate with another value is blamed
-          blames-is : blames c (recordOf n seat round (with-certificates (f ∷ rest) none .machine)) ≡ not (same (f .value) (q .value))
-          unfolding blames recordOf heldFirst guiltyOf
-          blames-is = and-true (not (same (q .value) (f .value))) ∙ ap not (same-sym (q .value) (f .value))
-
-          -- once seats are guilty, none is blamed
-          blames-none : (p : FullCertificate × FullCertificate) → guiltyOf (some p) ≢ 0 → blames c (recordOf n seat round (with-certificates (f ∷ rest) (some p) .machine)) ≡ false
-          unfolding blames recordOf heldFirst
-          blames-none p g = rw (ne-eqb (guiltyOf (some p)) 0 g) (and-false (not (same (q .value) (f .value))))
-
-          blame-is : ((s : ℕ) → In s (seatsIn (f .entries)) → slot n firstBank store s ≡ signatureOf (f .entries) s)
-              → blame c (at (with-certificates (f ∷ rest) none) store) ≡ at (act (Detect f q) (with-certificates (f ∷ (rest ++ q ∷ [])) (some (f, q)))) store
-          unfolding blame found firstCertificate recordOf heldFirst guiltyOf spoken conflictOf certificateOf formSeats fullForm seatsIn
+          blame-is : ((s : ℕ) → In s (seatsIn (f .entries)) → slot n firstBank store s ≡ signatureOf (f .entries) s) → blame c (at before store) ≡ at (detecting checks n seat f q after) store
+          unfolding blame found firstCertificate recordOf heldFirst spoken certificateOf formSeats fullForm seatsIn detecting
           blame-is first =
-              ap (λ (m : Message). write m (at (with-certificates (f ∷ (rest ++ q ∷ [])) (some (f, q))) store))
-              (evidence-same n round (f .value) (q .value) (seatsIn (f .entries)) (seatsIn (q .entries)) (slot n firstBank store) (signatureOf (f .entries)) signature (signatureOf (q .entries)) first agree)
-              ∙ write-is (Detect f q) (with-certificates (f ∷ (rest ++ q ∷ [])) (some (f, q))) store
+              ap (λ (m : ℕ). blamed m (union (setOf detected) m)) (sym (set-newly detected (f .entries) (q .entries)))
+              ∙ ap (blamed (setOf new)) (sym (set-append detected new))
+              ∙ ap (λ (m : Message). write m (at (addDetected new after) store))
+              (evidence-same n round (setOf new) (f .value) (q .value) (seatsIn (f .entries)) (seatsIn (q .entries)) (slot n firstBank store) (signatureOf (f .entries)) signature (signatureOf (q .entries))
+              (λ s i. first s (newly-within detected (f .entries) (q .entries) s i .0)) (λ s i. agree s (newly-within detected (f .entries) (q .entries) s i .1)))
+              ∙ write-is (Detect f q new) (addDetected new after) store
 
-          blame-guilty : Mirrored (f ∷ rest) none → (p : FullCertificate × FullCertificate) → _≡_ {A = Option (FullCertificate × FullCertificate)} (some (f, q)) (some p) → guiltyOf (some p) ≢ 0
-          unfolding guiltyOf
-          blame-guilty z p e =
-              let is : _≡_ {A = FullCertificate × FullCertificate} (f, q) p = cc in
-              let of-first = z .obtaining .quorums f (List·Memᴰ·head refl) in
-              let many = k-of-n-share n (seatsIn (f .entries)) (seatsIn (q .entries)) some-seats (of-first .below) (y .below) (of-first .enough) (y .enough) in
-              subst (λ (w : FullCertificate × FullCertificate). shared (seatsIn (w .0 .entries)) (seatsIn (w .1 .entries)) ≢ 0) is
-              (λ h. let none-in = ap size h ∙ size-empty in omega arith)
+          hold-or-blame-is : Mirrors checks n store (before .machine) → (b : Bool) → showsMore detected f q ≡ b
+              → holdOrBlame c (at before store) ≡ at (cond b (detecting checks n seat f q after) after) store
+          unfolding holdOrBlame seatsIn heldFirst firstEntries
+          hold-or-blame-is z true e = rw (held z, blames-is, e) (blame-is (z .stored .first))
+          hold-or-blame-is z false e = rw (held z, blames-is, e) quiet-is
 
-          more-conflict : Mirrored (f ∷ rest) none → conflict valueOfFull (f ∷ (rest ++ q ∷ [])) ≡ pairOr f (cond (same (f .value) (q .value)) none (some q)) none
-          more-conflict z =
-              conflict-head valueOfFull f (rest ++ q ∷ [])
-              ∙ ap (λ (o : Option FullCertificate). pairOr f o none) (other-more valueOfFull (f .value) rest q (head-none valueOfFull f rest (z .obtaining .agreed refl)))
+          -- none that came before shows more, and neither does this one once it was looked at
+          now-quiet : Mirrors checks n store (before .machine) → (b : Bool) → showsMore detected f q ≡ b → Mirrors checks n store (cond b (detecting checks n seat f q after) after .machine)
+          unfolding detecting act
+          now-quiet z true e =
+              more-mirror f rest detected (detected ++ new) z
+              (each-append (λ d. showsMore (detected ++ new) f d ≡ false) rest (q ∷ []) (λ d m. still-no-more f d detected new (z .obtaining .quiet d m)) (each-one (λ d. showsMore (detected ++ new) f d ≡ false) q (shows-no-more f q detected)))
+          now-quiet z false e = more-mirror f rest detected detected z (each-append (λ d. showsMore detected f d ≡ false) rest (q ∷ []) (z .obtaining .quiet) (each-one (λ d. showsMore detected f d ≡ false) q e))
 
-          blame-comes : Mirrored (f ∷ rest) none → (b : Bool) → same (f .value) (q .value) ≡ b
-              → Comes (holdOrBlame c (at (with-certificates (f ∷ rest) none) store)) (uponFullsConflict checks n seat (with-certificates (f ∷ (rest ++ q ∷ [])) none))
-          unfolding uponFullsConflict isSome detecting pairOr holdOrBlame act heldFirst firstEntries
-          blame-comes z true e =
-              let none-found : conflict valueOfFull (f ∷ (rest ++ q ∷ [])) ≡ none = more-conflict z ∙ ap (λ (b : Bool). pairOr f (cond b none (some q)) none) e in
-              subst (Comes (holdOrBlame c (at (with-certificates (f ∷ rest) none) store))) (sym (fulls-quiet checks n seat (with-certificates (f ∷ (rest ++ q ∷ [])) none) (λ h. none-found)))
-              (record {
-                store = store;
-                is = quiet-is none z (blames-is ∙ ap not e);
-                mirrors = more-mirror f rest none none z (λ h. none-found) (λ p h. absurd (some-none p none h refl));
-              })
-          blame-comes z false e =
-              let found : conflict valueOfFull (f ∷ (rest ++ q ∷ [])) ≡ some (f, q) = more-conflict z ∙ ap (λ (b : Bool). pairOr f (cond b none (some q)) none) e in
-              subst (Comes (holdOrBlame c (at (with-certificates (f ∷ rest) none) store))) (ap (λ (o : Option (FullCertificate × FullCertificate)). detecting checks n seat o (with-certificates (f ∷ (rest ++ q ∷ [])) none)) (sym found))
-              (record {
-                store = store;
-                is = ap (λ (b : Bool). cond b (cond (blames c (recordOf n seat round (with-certificates (f ∷ rest) none .machine))) (blame c (at (with-certificates (f ∷ rest) none) store)) (at (with-certificates (f ∷ rest) none) store)) (hold c (at (with-certificates (f ∷ rest) none) store))) (held none z)
-                    ∙ ap (λ (b : Bool). cond b (blame c (at (with-certificates (f ∷ rest) none) store)) (at (with-certificates (f ∷ rest) none) store)) (blames-is ∙ ap not e)
-                    ∙ blame-is (z .stored .first);
-                mirrors = more-mirror f rest none (some (f, q)) z (λ h. absurd (some-none (f, q) (some (f, q)) refl h)) (blame-guilty z);
-              })
+          blame-comes : Mirrors checks n store (before .machine) → Comes (holdOrBlame c (at before store)) (uponFullsConflict checks n seat after)
+          unfolding uponFullsConflict uponConflictsIn uponConflict
+          blame-comes z =
+              subst (Comes (holdOrBlame c (at before store))) (sym (conflict-last checks n seat f rest q after (z .obtaining .quiet)))
+              (record { store = store; is = hold-or-blame-is z (showsMore detected f q) refl; mirrors = now-quiet z (showsMore detected f q) refl })
 
-        hold-comes : (detected : Option (FullCertificate × FullCertificate)) → Mirrored [] detected
+        hold-comes : (detected : List ℕ) → Mirrored [] detected
             → Comes (holdOrBlame c (at (with-certificates [] detected) store)) (uponFullsConflict checks n seat (with-certificates (q ∷ []) detected))
-        unfolding holdOrBlame hold holds recordOf heldFirst conflict other pairOr
-        hold-comes detected z =
-            subst (Comes (holdOrBlame c (at (with-certificates [] detected) store))) (sym (fulls-quiet checks n seat (with-certificates (q ∷ []) detected) (λ h. refl)))
-            (record { store = fillEach n firstBank signature (seats n (seatsIn (q .entries))) store; is = refl; mirrors = hold-mirror detected z })
+        unfolding holdOrBlame hold holds recordOf heldFirst uponFullsConflict uponConflictsIn uponConflicts
+        hold-comes detected z = record { store = fillEach n firstBank signature (seats n (seatsIn (q .entries))) store; is = refl; mirrors = hold-mirror detected z }
 
-        hold-is : (obtained : List FullCertificate) (detected : Option (FullCertificate × FullCertificate)) → Mirrored obtained detected
+        hold-is : (obtained : List FullCertificate) (detected : List ℕ) → Mirrored obtained detected
             → Comes (holdOrBlame c (at (with-certificates obtained detected) store)) (uponFullsConflict checks n seat (addObtained q (with-certificates obtained detected)))
         hold-is [] detected z = hold-comes detected z
-        hold-is (f ∷ rest) none z = blame-comes f rest z (same (f .value) (q .value)) refl
-        hold-is (f ∷ rest) (some p) z =
-            subst (Comes (holdOrBlame c (at (with-certificates (f ∷ rest) (some p)) store))) (sym (fulls-quiet checks n seat (with-certificates (f ∷ (rest ++ q ∷ [])) (some p)) (λ h. absurd (some-none p (some p) refl h))))
-            (record {
-              store = store;
-              is = quiet-is f rest (some p) z (blames-none f rest p (z .obtaining .guilty p refl));
-              mirrors = more-mirror f rest (some p) (some p) z (λ h. absurd (some-none p (some p) refl h)) (z .obtaining .guilty);
-            })
+        hold-is (f ∷ rest) detected z = blame-comes f rest detected z
 
       -- ---- a certificate heard, or the unit's own
 
@@ -378,7 +361,7 @@ module _ (n seat round : ℕ) where
                 resting = record { complete = h; heard = λ p. rested p .1 };
               } in
               let now = uponNoticesConflict checks n seat x in
-              let rule : uponRules checks n seat x ≡ now = ap (λ (b : Bool). uponFullsConflict checks n seat (uponNoticesConflict checks n seat (cond b (confirming checks n seat x) x))) e ∙ fulls-quiet checks n seat now (reply-mirrors x store z .obtaining .agreed) in
+              let rule : uponRules checks n seat x ≡ now = ap (λ (b : Bool). uponFullsConflict checks n seat (uponNoticesConflict checks n seat (cond b (confirming checks n seat x) x))) e ∙ fulls-quiet checks n seat now (reply-mirrors x store z .obtaining .quiet) in
               subst (Comes (confirmIfComplete (at x store))) (sym rule)
               (record {
                 store = store;

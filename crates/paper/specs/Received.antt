@@ -39,4 +39,4 @@ module _ (own : ℕ) (Happened : Event → Type 0) where
   Received (BroadcastSubmit v signature) = Happened (Submitted v signature)
   Received (ConfirmAndNotice v) = IsSubmitted v
   Received (BroadcastFull c) = IsOwnFull c
-  Received (Detect c d) = Obtained c × Obtained d × (c .value ≢ d .value)
+  Received (Detect c d seats) = Obtained c × Obtained d × (c .value ≢ d .value)

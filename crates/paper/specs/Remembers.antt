@@ -19,9 +19,9 @@ use Rattle.protocol.specs.Message.{Entry, Signed}
 use Rattle.protocol.specs.Refusals.{Checks}
 use Rattle.round.specs.Round.{Each}
 use Rattle.reading.specs.ListsLaws.{cond-elim, or-true-either}
-use Rattle.paper.specs.Machine.{FullCertificate, Machine, Event, Submitted, SubmitDelivered, NoticeDelivered, FullDelivered, BroadcastSubmit, ConfirmAndNotice, Reaction, act, setValue, setConfirmed, addCollected, addEarly, isSome, isOwn, ownValue, isFrom, firstFrom, conflict, valueOfFull, isFullCertificate, ownFull, isCollected, collecting, keeping, uponSubmitDelivered, takingUp, takingUpBelow, uponSubmit, uponNoticeDelivered, obtain, uponFullDelivered, confirming, uponQuorum, sending, uponNoticesConflict, detecting, uponFullsConflict, uponEvent, uponRules, react}
+use Rattle.paper.specs.Machine.{FullCertificate, Machine, Event, Submitted, SubmitDelivered, NoticeDelivered, FullDelivered, BroadcastSubmit, ConfirmAndNotice, Reaction, act, setValue, setConfirmed, addCollected, addEarly, isSome, isOwn, ownValue, isFrom, firstFrom, isFullCertificate, ownFull, isCollected, collecting, keeping, uponSubmitDelivered, takingUp, takingUpBelow, uponSubmit, uponNoticeDelivered, obtain, uponFullDelivered, confirming, uponQuorum, sending, uponNoticesConflict, detecting, uponFullsConflict, uponEvent, uponRules, react}
 use Rattle.paper.specs.EntriesLaws.{from-member, first-in}
-use Rattle.paper.specs.Rules.{quorumDue, noticesDue, detecting-elim}
+use Rattle.paper.specs.Rules.{quorumDue, noticesDue, fulls-elim}
 
 pub record Remembers (m m′ : Machine) : Type 0 where
   pub early : Each (λ (e : Signed). List·Memᴰ e (m′ .early)) (m .early)
@@ -111,12 +111,10 @@ module _ (checks : Checks) (n own : ℕ) where
       (λ h. record { early = λ a d. d; collected = λ a d. d; noticed = λ a d. d; obtained = λ a d. d }) (λ h. remembers-refl (x .machine))
 
   fulls-remember : (x : Reaction) → Remembers (x .machine) (uponFullsConflict checks n own x .machine)
-  unfolding uponFullsConflict act
+  unfolding detecting act
   fulls-remember x =
-      let P : Reaction → Type 0 = λ y. Remembers (x .machine) (y .machine) in
-      let all : P x = remembers-refl (x .machine) in
-      cond-elim P (isSome (x .machine .detected)) x (detecting checks n own (conflict valueOfFull (x .machine .obtained)) x) (λ h. all)
-      (λ h. detecting-elim checks n own P (conflict valueOfFull (x .machine .obtained)) x all (λ p. record { early = λ a d. d; collected = λ a d. d; noticed = λ a d. d; obtained = λ a d. d }))
+      fulls-elim checks n own (λ y. Remembers (x .machine) (y .machine)) x (remembers-refl (x .machine))
+      (λ c d y i j e p. record { early = p .early; collected = p .collected; noticed = p .noticed; obtained = p .obtained })
 
   rules-remember : (x : Reaction) → Remembers (x .machine) (uponRules checks n own x .machine)
   unfolding uponRules

@@ -7,13 +7,13 @@ use mathlib.Core.List.{List, [], _∷_, map, List·Memᴰ, List·Memᴰ·head, L
 use mathlib.Core.Logic.{inl, inr, ⊎-elim, _≢_, _↔_}
 use native.Mathlib.Omega.{arith}
 use lib.ListN.{length}
-use Rattle.quorum.specs.Quorum.{In, shared, seats}
-use Rattle.quorum.specs.QuorumLaws.{mem-seats, in-shared, shared-comm}
+use Rattle.quorum.specs.Quorum.{In, seats}
+use Rattle.quorum.specs.QuorumLaws.{mem-seats}
 use Rattle.protocol.specs.Layout.{valueLength}
 use Rattle.protocol.specs.Values.{isLower}
 use Rattle.protocol.specs.Entries.{formSeats}
-use Rattle.protocol.specs.Message.{Entry, Pair, Message, Submit, Notice, Full, Evidence, fullForm}
-use Rattle.protocol.specs.Certificate.{Certificate, certificateOf, entryOf, entriesOf, fullOf, pairOf, pairsOf, orderedEvidence, evidenceOf, conflictOf}
+use Rattle.protocol.specs.Message.{Entry, Pair, ValuesEach, Message, Submit, Notice, Full, Evidence, fullForm}
+use Rattle.protocol.specs.Certificate.{Certificate, setOf, certificateOf, entryOf, entriesOf, fullOf, pairOf, pairsOf, orderedEvidence, evidenceOf}
 use Rattle.protocol.specs.ValuesLaws.{lower-other}
 use Rattle.protocol.specs.CertificateLaws.{in-set}
 use Rattle.protocol.specs.Refusals.{rising}
@@ -29,7 +29,7 @@ unfoldable pub spoken : ℕ → ℕ → ℕ → Action → Message
 spoken n round seat (BroadcastSubmit v signature) = Submit round seat v signature
 spoken n round seat (ConfirmAndNotice v) = Notice round seat v
 spoken n round seat (BroadcastFull c) = fullOf n round seat (certificateOf (c .value) (c .entries))
-spoken n round seat (Detect c d) = conflictOf n round (certificateOf (c .value) (c .entries)) (certificateOf (d .value) (d .entries))
+spoken n round seat (Detect c d seats) = evidenceOf n round (setOf seats) (certificateOf (c .value) (c .entries)) (certificateOf (d .value) (d .entries))
 
 -- a certificate that can be sent: a value of its length, and entries of different seats below n
 pub record Formed (n : ℕ) (c : FullCertificate) : Type 0 where
@@ -41,7 +41,7 @@ abbrev pub FormedAction : ℕ → Action → Type 0
 FormedAction n (BroadcastSubmit v signature) = Unit {0}
 FormedAction n (ConfirmAndNotice v) = Unit {0}
 FormedAction n (BroadcastFull c) = Formed n c
-FormedAction n (Detect c d) = Formed n c × Formed n d × (c .value ≢ d .value)
+FormedAction n (Detect c d seats) = Formed n c × Formed n d × (c .value ≢ d .value) × Each (λ (s : ℕ). In s (seatsIn (c .entries)) × In s (seatsIn (d .entries))) seats
 
 -- ---- entries of FULL and EVIDENCE: those of the certificates
 
@@ -75,23 +75,24 @@ module _ (n : ℕ) where
     );
   }
 
-  evidence-pairs : (c d : FullCertificate) → Formed n c → Formed n d → InOrder (λ (p : Pair). p .seat) (PairOf c d) (pairsOf n (shared (certificate c .seats) (certificate d .seats)) (certificate c) (certificate d))
-  unfolding pairsOf certificateOf
-  evidence-pairs c d f g =
-      let both = shared (certificate c .seats) (certificate d .seats) in
+  evidence-pairs : (c d : FullCertificate) (these : List ℕ) → Formed n c → Formed n d → Each (λ (s : ℕ). In s (seatsIn (c .entries)) × In s (seatsIn (d .entries))) these
+      → InOrder (λ (p : Pair). p .seat) (λ (p : Pair). PairOf c d p × List·Memᴰ (p .seat) these) (pairsOf n (setOf these) (certificate c) (certificate d))
+  unfolding pairsOf certificateOf formSeats fullForm seatsIn
+  evidence-pairs c d these f g within =
       let pair : ℕ → Pair = pairOf (certificate c) (certificate d) in
       record {
-        rise = ap rising (pair-seats n both (certificate c) (certificate d)) ∙ seats-rising n both;
+        rise = ap rising (pair-seats n (setOf these) (certificate c) (certificate d)) ∙ seats-rising n (setOf these);
         just = λ p. (
           λ m.
-              let o = Memᴰ·of-map pair (seats n both) m in
-              let i = in-shared (o .0) (certificate c .seats) (certificate d .seats) .0 (mem-seats n (o .0) both .0 (o .1) .1) in
-              subst (PairOf c d) (o .2) (entry-in c (o .0) (i .0), entry-in d (o .0) (i .1), refl, refl),
+              let o = Memᴰ·of-map pair (seats n (setOf these)) m in
+              let i = in-set (o .0) these .0 (mem-seats n (o .0) (setOf these) .0 (o .1) .1) in
+              let w = within (o .0) i in
+              subst (λ (x : Pair). PairOf c d x × List·Memᴰ (x .seat) these) (o .2) ((entry-in c (o .0) (w .0), entry-in d (o .0) (w .1), refl, refl), i),
           λ h.
               let low : Entry = record { seat = p .seat; signature = p .lower } in
               let high : Entry = record { seat = p .seat; signature = p .higher } in
-              let at = mem-seats n (p .seat) both .1 (f .below low (h .0), in-shared (p .seat) (certificate c .seats) (certificate d .seats) .1 (seat-in c low (h .0), seat-in d high (h .1))) in
-              subst (λ (x : Pair). List·Memᴰ x (map pair (seats n both))) (pair-is p (entry-is c f low (h .0)) (entry-is d g high (h .1)) (sym (h .2)) (sym (h .3))) (Memᴰ·map pair at),
+              let at = mem-seats n (p .seat) (setOf these) .1 (f .below low (h .0 .0), in-set (p .seat) these .1 (h .1)) in
+              subst (λ (x : Pair). List·Memᴰ x (map pair (seats n (setOf these)))) (pair-is p (entry-is c f low (h .0 .0)) (entry-is d g high (h .0 .1)) (sym (h .0 .2)) (sym (h .0 .3))) (Memᴰ·map pair at),
         );
       }
     where
@@ -101,23 +102,24 @@ module _ (n : ℕ) where
 -- ---- messages that meet `Says`
 
 module _ (n round seat : ℕ) where
-  conflict-says : (c d : FullCertificate) → Formed n c → Formed n d → isLower (c .value) (d .value) ≡ true → SaysConflict round seat c d (orderedEvidence n round (shared (certificate c .seats) (certificate d .seats)) (certificate c) (certificate d))
-  unfolding orderedEvidence certificateOf
-  conflict-says c d f g l = (pairsOf n (shared (certificate c .seats) (certificate d .seats)) (certificate c) (certificate d), l, refl, evidence-pairs n c d f g)
+  conflict-says : (c d : FullCertificate) (these : List ℕ) → Formed n c → Formed n d → Each (λ (s : ℕ). In s (seatsIn (c .entries)) × In s (seatsIn (d .entries))) these → isLower (c .value) (d .value) ≡ true
+      → SaysConflict round seat c d these (orderedEvidence n round (setOf these) (certificate c) (certificate d))
+  unfolding orderedEvidence
+  conflict-says c d these f g within l = (pairsOf n (setOf these) (certificate c) (certificate d), l, refl, evidence-pairs n c d these f g within)
 
   -- of two values that differ, one is lower
-  other-lower : (c d : FullCertificate) → FormedAction n (Detect c d) → isLower (d .value) (c .value) ≡ not (isLower (c .value) (d .value))
-  other-lower c d f = lower-other (c .value) (d .value) (f .0 .sized ∙ sym (f .1 .sized)) (f .2)
+  other-lower : (c d : FullCertificate) (these : List ℕ) → FormedAction n (Detect c d these) → isLower (d .value) (c .value) ≡ not (isLower (c .value) (d .value))
+  other-lower c d these f = lower-other (c .value) (d .value) (f .0 .sized ∙ sym (f .1 .sized)) (f .2)
 
   pub spoken-says : (a : Action) → FormedAction n a → Says round seat a (spoken n round seat a)
-  unfolding spoken fullOf conflictOf evidenceOf certificateOf
+  unfolding spoken fullOf evidenceOf certificateOf
   spoken-says (BroadcastSubmit v signature) f = refl
   spoken-says (ConfirmAndNotice v) f = refl
   spoken-says (BroadcastFull c) f = (entriesOf n (certificate c), refl, full-entries n c f)
-  spoken-says (Detect c d) f =
-      cond-elim (Says round seat (Detect c d)) (isLower (c .value) (d .value)) (orderedEvidence n round (shared (certificate c .seats) (certificate d .seats)) (certificate c) (certificate d)) (orderedEvidence n round (shared (certificate c .seats) (certificate d .seats)) (certificate d) (certificate c))
-      (λ l. inl (conflict-says c d (f .0) (f .1) l))
-      (λ l. inr (subst (λ (both : ℕ). SaysConflict round seat d c (orderedEvidence n round both (certificate d) (certificate c))) (shared-comm (certificate d .seats) (certificate c .seats)) (conflict-says d c (f .1) (f .0) (other-lower c d f ∙ ap not l))))
+  spoken-says (Detect c d these) f =
+      cond-elim (Says round seat (Detect c d these)) (isLower (c .value) (d .value)) (orderedEvidence n round (setOf these) (certificate c) (certificate d)) (orderedEvidence n round (setOf these) (certificate d) (certificate c))
+      (λ l. inl (conflict-says c d these (f .0) (f .1) (f .3) l))
+      (λ l. inr (conflict-says d c these (f .1) (f .0) (λ s m. let w = f .3 s m in (w .1, w .0)) (other-lower c d these f ∙ ap not l)))
 
   pub each-says : (acts : List Action) → Each (FormedAction n) acts → SaysEach round seat acts (map (spoken n round seat) acts)
   each-says [] f = tt
@@ -148,19 +150,19 @@ in-order-unique {A = A} seatOf These xs ys a b = go xs ys (a .rise) (b .rise) (�
         cc
 
 module _ (n round seat : ℕ) where
-  conflict-unique : (c d : FullCertificate) (m m′ : Message) → SaysConflict round seat c d m → SaysConflict round seat c d m′ → m ≡ m′
-  conflict-unique c d m m′ a b =
-      a .2 ∙ ap (Evidence round (record { lower = c .value; higher = d .value })) (in-order-unique (λ (p : Pair). p .seat) (PairOf c d) (a .0) (b .0) (a .3) (b .3)) ∙ sym (b .2)
+  conflict-unique : (c d : FullCertificate) (these : List ℕ) (m m′ : Message) → SaysConflict round seat c d these m → SaysConflict round seat c d these m′ → m ≡ m′
+  conflict-unique c d these m m′ a b =
+      a .2 ∙ ap (Evidence round ValuesEach) (in-order-unique (λ (p : Pair). p .seat) (λ (p : Pair). PairOf c d p × List·Memᴰ (p .seat) these) (a .0) (b .0) (a .3) (b .3)) ∙ sym (b .2)
 
   pub says-unique : (a : Action) → FormedAction n a → (m m′ : Message) → Says round seat a m → Says round seat a m′ → m ≡ m′
   says-unique (BroadcastSubmit v signature) f m m′ p q = p ∙ sym q
   says-unique (ConfirmAndNotice v) f m m′ p q = p ∙ sym q
   says-unique (BroadcastFull c) f m m′ p q =
       p .1 ∙ ap (Full round seat (c .value)) (in-order-unique (λ (e : Entry). e .seat) (λ (e : Entry). List·Memᴰ e (c .entries)) (p .0) (q .0) (p .2) (q .2)) ∙ sym (q .1)
-  says-unique (Detect c d) f m m′ (inl p) (inl q) = conflict-unique c d m m′ p q
-  says-unique (Detect c d) f m m′ (inl p) (inr q) = absurd (true≢false (sym (q .1) ∙ other-lower n round seat c d f ∙ ap not (p .1)))
-  says-unique (Detect c d) f m m′ (inr p) (inl q) = absurd (true≢false (sym (p .1) ∙ other-lower n round seat c d f ∙ ap not (q .1)))
-  says-unique (Detect c d) f m m′ (inr p) (inr q) = conflict-unique d c m m′ p q
+  says-unique (Detect c d these) f m m′ (inl p) (inl q) = conflict-unique c d these m m′ p q
+  says-unique (Detect c d these) f m m′ (inl p) (inr q) = absurd (true≢false (sym (q .1) ∙ other-lower n round seat c d these f ∙ ap not (p .1)))
+  says-unique (Detect c d these) f m m′ (inr p) (inl q) = absurd (true≢false (sym (p .1) ∙ other-lower n round seat c d these f ∙ ap not (q .1)))
+  says-unique (Detect c d these) f m m′ (inr p) (inr q) = conflict-unique d c these m m′ p q
 
   -- ---- bytes of the messages of actions
 
