@@ -3,7 +3,6 @@
 use mathlib.Core.Path.{_≡_, refl, sym, ap, _∙_}
 use mathlib.Core.Bool.{Bool, true, false≢true}
 use mathlib.Core.List.{[], _∷_}
-use mathlib.Core.Logic.{_⊎_, inl, inr}
 use Prim.Native.Nat.{ℕ}
 use borrow.Author.Tests.{not-false}
 use Rattle.refusal.specs.Refusal.{firstOf, numbers, nonzero}
@@ -12,7 +11,6 @@ use Rattle.protocol.specs.Message.{ValuesOnce, ValuesEach, Message, Submit, Not
 use Rattle.protocol.specs.Refusals.{Checks, isForStep, isFull, isEvidence, SIGNATURE, messageConditions}
 use Rattle.wire.specs.Reading.{kindOf}
 use Rattle.wire.specs.Answers.{commandOf}
-use Rattle.wire.specs.KindLaws.{tag}
 use Rattle.wire.specs.declared.read.Kind.{Kind}
 use Rattle.wire.specs.declared.read.Kind.the-variants as kind
 use Rattle.validate.specs.Messages.{within, formConditions, Formed}
@@ -66,15 +64,6 @@ full-kind (Notice round seat value) e = absurd (false≢true e)
 full-kind (Full round sender value entries) e = refl
 full-kind (Evidence round form entries) e = absurd (false≢true e)
 full-kind Garbled e = absurd (false≢true e)
-
-pub evidence-kind : (m : Message) → isEvidence m ≡ true → (tag (kindOf m) ≡ 3) ⊎ (tag (kindOf m) ≡ 4)
-unfolding kindOf isEvidence
-evidence-kind (Submit round seat value signature) e = absurd (false≢true e)
-evidence-kind (Notice round seat value) e = absurd (false≢true e)
-evidence-kind (Full round sender value entries) e = absurd (false≢true e)
-evidence-kind (Evidence round (ValuesOnce values) entries) e = inl refl
-evidence-kind (Evidence round ValuesEach entries) e = inr refl
-evidence-kind Garbled e = absurd (false≢true e)
 
 -- ---- the form of a message: 9 to 12
 

@@ -2,7 +2,7 @@
 -- Assumes nothing.
 use mathlib.Core.Path.{_≡_, refl, sym, _∙_}
 use mathlib.Core.Bool.{Bool, true, false, not, _&&_}
-use mathlib.Core.Logic.{_⊎_}
+use mathlib.Core.Logic.{_⊎_, ⊎-elim}
 use mathlib.Core.List.{List, [], _∷_, _++_}
 use Prim.Native.Nat.{ℕ, _<_}
 use native.Mathlib.Decide.{decLt, ℕ-discrete}
@@ -50,15 +50,15 @@ unfolding sendersOf readSubmit readNotice readFull
 names-sender kind.Submit n bytes e h = rw (read-as kind.Submit n bytes e .0)
 names-sender kind.Notice n bytes e h = rw (read-as kind.Notice n bytes e .0)
 names-sender kind.Full n bytes e h = rw (read-as kind.Full n bytes e .0)
-names-sender kind.OldEvidence n bytes e h = absurd (omega arith)
-names-sender kind.Evidence n bytes e h = absurd (omega arith)
-names-sender kind.Garbled n bytes e h = absurd (omega arith)
+names-sender kind.OldEvidence n bytes e h = absurd (⊎-elim (λ a. omega arith) (⊎-elim (λ a. omega arith) (λ a. omega arith)) h)
+names-sender kind.Evidence n bytes e h = absurd (⊎-elim (λ a. omega arith) (⊎-elim (λ a. omega arith) (λ a. omega arith)) h)
+names-sender kind.Garbled n bytes e h = absurd (⊎-elim (λ a. omega arith) (⊎-elim (λ a. omega arith) (λ a. omega arith)) h)
 
 names-none : (t : Kind) (n : ℕ) (bytes : List ℕ) → t ≡ kindOf (read n bytes) → (tag t ≡ 3) ⊎ ((tag t ≡ 4) ⊎ (tag t ≡ 5)) → sendersOf (read n bytes) ≡ []
 unfolding sendersOf readEvidence
-names-none kind.Submit n bytes e h = absurd (omega arith)
-names-none kind.Notice n bytes e h = absurd (omega arith)
-names-none kind.Full n bytes e h = absurd (omega arith)
+names-none kind.Submit n bytes e h = absurd (⊎-elim (λ a. omega arith) (⊎-elim (λ a. omega arith) (λ a. omega arith)) h)
+names-none kind.Notice n bytes e h = absurd (⊎-elim (λ a. omega arith) (⊎-elim (λ a. omega arith) (λ a. omega arith)) h)
+names-none kind.Full n bytes e h = absurd (⊎-elim (λ a. omega arith) (⊎-elim (λ a. omega arith) (λ a. omega arith)) h)
 names-none kind.OldEvidence n bytes e h = rw (read-as kind.OldEvidence n bytes e .0)
 names-none kind.Evidence n bytes e h = rw (read-as kind.Evidence n bytes e .0)
 names-none kind.Garbled n bytes e h = rw (read-as kind.Garbled n bytes e .0)

@@ -141,9 +141,12 @@ module _ (checks : Checks) (bytes : List ℕ) where
   evidence-bad size =
       ap not (every-flat test signedPair (readEntries (formOf bytes) (countOf bytes) bytes) ∙ each-pair bytes size _ ∙ each-same _ pairCheck (countOf bytes) (λ i h. pair-is (pairIn bytes i)))
 
--- ---- the order of its values
+-- ---- the order of the values of EVIDENCE
 
-pub evidence-order : (bytes : List ℕ) → length bytes ≡ commandPlace (packEntries bytes) (countOf bytes)
-    → notLowerFirst (readEvidence bytes) ≡ not (eachBelow (λ (i : ℕ). lowerFirst (pairRead bytes (pairIn bytes i))) (countOf bytes))
+-- the lower value of the pair at an index is the lower one
+abbrev pub pairOrder : List ℕ → ℕ → Bool
+pairOrder bytes i = lowerFirst (pairRead bytes (pairIn bytes i))
+
+pub evidence-order : (bytes : List ℕ) → length bytes ≡ commandPlace (packEntries bytes) (countOf bytes) → notLowerFirst (readEvidence bytes) ≡ not (eachBelow (pairOrder bytes) (countOf bytes))
 unfolding notLowerFirst readEvidence
 evidence-order bytes size = ap not (each-pair bytes size lowerFirst)

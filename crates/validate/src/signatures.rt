@@ -240,7 +240,8 @@ pub(crate) fn message_verdict(
         Kind::Submit => submit_verdict(k, n, round, keys, m),
         Kind::Notice => Verdict { number: 0 },
         Kind::Full => full_verdict(k, n, round, keys, m),
-        Kind::OldEvidence | Kind::Evidence => evidence_verdict(k, n, round, keys, m),
+        Kind::OldEvidence => evidence_verdict(k, n, round, keys, m),
+        Kind::Evidence => evidence_verdict(k, n, round, keys, m),
         Kind::Garbled => Verdict { number: 0 },
     }
 }
