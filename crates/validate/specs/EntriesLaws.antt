@@ -14,7 +14,7 @@ use Rattle.refusal.specs.Refusal.{firstOf}
 use Rattle.quorum.specs.Quorum.{k}
 use Rattle.protocol.specs.Layout.{valueLength, signatureLength, seatAt, valueAt, submitSignatureAt, entrySeatAt, entryHeldAt, fullEntryLength, fullEntryAt, fullLength}
 use Rattle.protocol.specs.Entries.{eachBelow, placeOf, readEntry}
-use Rattle.protocol.specs.EntriesLaws.{Passed, passed-next, passed-all, each-not, each-at, each-all}
+use Rattle.protocol.specs.EntriesLaws.{Passed, passed-none, passed-next, passed-all, each-not, each-at, each-all}
 use Rattle.protocol.specs.Message.{Entry, fullForm, evidenceForm, byteAt, countOf, readValue, readSignature, fitsEvidence, read, readSubmit, readNotice, readEvidence, seatsOf, signed}
 use Rattle.protocol.specs.MessageLaws.{submit-fits, full-fits, evidence-fits, read-is-evidence}
 use Rattle.protocol.specs.Refusals.{Checks, every, isFull, isEvidence, stranger, badSignature, lowerFirst, notLowerFirst, SIGNATURE}
@@ -57,7 +57,7 @@ module _ (n : ℕ) (bytes : List ℕ) (t : Kind) (e : t ≡ kindOf (read n bytes
   full-taken g =
       let r = read-as kind.Full n bytes (sym g ∙ e) in
       let fits = full-fits n bytes (r .1) in
-      let seats = full-seats n bytes t e (k n) g refl .0 in
+      let seats = full-seats n bytes t e g (k n) refl .0 in
       let below = known-entries n (read n bytes) (seatsIn (full (k n)) bytes) n (omega arith) s seats in
       record { says = r .0; size = fits .size; count = fits .count; known = λ i h. below-at (seatPlace (full (k n))) bytes n (k n) i h below }
 

@@ -4,7 +4,7 @@ use mathlib.Core.Bool.{Bool, _&&_}
 use mathlib.Core.List.{List}
 use Prim.Native.Nat.{ℕ, _+_, _≤_, _<_}
 use lib.ListN.{length}
-use Rattle.protocol.specs.Layout.{valueLength, signatureLength, entrySeatAt, entryHeldAt, pairLowerValueAt, pairHigherValueAt, pairLowerAt, pairHigherAt, lowerAt, higherAt}
+use Rattle.protocol.specs.Layout.{valueLength, signatureLength, entrySeatAt, entryHeldAt, pairLowerAt, lowerAt}
 use Rattle.protocol.specs.Message as message
 use Rattle.protocol.specs.Message.{PackForm, ValuesOnce, ValuesEach, packIn, byteAt, readValue, readSignature}
 use Rattle.protocol.specs.Refusals.{Checks}
@@ -36,19 +36,19 @@ pairRead bytes p = record {
   higher = readSignature (p .higher .signature) bytes;
 }
 
--- the entry of EVIDENCE at a place: "0x08, seat 1, lower value 32, higher value 32 and their signatures in that order" (document 02,
--- item 3); in the old one "0x06, seat 1, the signature over the lower value, the signature over the higher", over the values of the message
+-- a seat's pair over two values, one after the other, with their signatures in the same order
+abbrev pub pairOf : ℕ → ℕ → ℕ → Pair
+pairOf seat values signatures = record {
+  seat = seat;
+  lower = record { value = values; signature = signatures };
+  higher = record { value = values + valueLength; signature = signatures + signatureLength };
+}
+
+-- the pair in an entry of EVIDENCE: "0x08, seat 1, lower value 32, higher value 32 and their signatures in that order" (document 02, item
+-- 3); in the old one, over the values of the message, "0x06, seat 1, the signature over the lower value, the signature over the higher"
 abbrev pub pairPlaces : PackForm → List ℕ → ℕ → Pair
-pairPlaces (ValuesOnce values) bytes at = record {
-  seat = byteAt bytes (at + entrySeatAt);
-  lower = record { value = lowerAt; signature = at + entryHeldAt };
-  higher = record { value = higherAt; signature = at + entryHeldAt + signatureLength };
-}
-pairPlaces ValuesEach bytes at = record {
-  seat = byteAt bytes (at + entrySeatAt);
-  lower = record { value = at + entryHeldAt + pairLowerValueAt; signature = at + entryHeldAt + pairLowerAt };
-  higher = record { value = at + entryHeldAt + pairHigherValueAt; signature = at + entryHeldAt + pairHigherAt };
-}
+pairPlaces (ValuesOnce values) bytes at = pairOf (byteAt bytes (at + entrySeatAt)) lowerAt (at + entryHeldAt)
+pairPlaces ValuesEach bytes at = pairOf (byteAt bytes (at + entrySeatAt)) (at + entryHeldAt) (at + entryHeldAt + pairLowerAt)
 
 -- and the one at an index from 0
 abbrev pub pairIn : List ℕ → ℕ → Pair

@@ -1,10 +1,10 @@
 -- The signatures of a message, one entry after another.
 -- Assumes nothing.
-use mathlib.Core.Path.{_≡_, refl, ap, _∙_}
+use mathlib.Core.Path.{_≡_, refl, sym, ap, _∙_}
 use mathlib.Core.Bool.{Bool, true, false, not, and-true}
 use mathlib.Core.List.{List, [], _∷_}
 use Prim.Native.Nat.{ℕ, zero, suc, _+_, _≤_, _<_}
-use native.Mathlib.Nat.{mul-suc, mul-le-mul-left}
+use native.Mathlib.Nat.{add-zero, add-assoc, mul-suc, mul-le-mul-left}
 use native.Mathlib.Omega.{arith}
 use lib.Dec.{eqb}
 use lib.ListN.{length, take, drop}
@@ -13,15 +13,17 @@ use Rattle.octets.specs.Octets.{part}
 use Rattle.octets.specs.OctetsLaws.{length-part}
 use Rattle.octets.specs.StringsLaws.{part-part}
 use Rattle.quorum.specs.Quorum.{k}
-use Rattle.protocol.specs.Layout.{valueLength, signatureLength, seatAt, valueAt, submitSignatureAt, entrySeatAt, entryHeldAt, entryLength, fullEntryLength, fullEntryAt, pairLowerValueAt, pairHigherValueAt, pairLowerAt, pairHigherAt, pairLength, oldPairLength}
+use Rattle.protocol.specs.Layout.{valueLength, signatureLength, seatAt, valueAt, submitSignatureAt, entrySeatAt, entryHeldAt, entryLength, fullEntryLength, fullEntryAt, pairLowerValueAt, pairHigherValueAt, pairLowerAt, pairHigherAt, pairLength, lowerAt, oldPairLength}
 use Rattle.protocol.specs.Entries.{eachBelow, Form, placeOf, readEntry, readEntries}
 use Rattle.protocol.specs.Message as message
 use Rattle.protocol.specs.Message.{PackForm, ValuesOnce, ValuesEach, packStart, pairHeld, pairMade, Signed, byteAt, fullForm, evidenceForm, packIn, formOf, countOf, readValue, readValues, readSignature, readSubmit, readFull, readEvidence, signedEntry, signedPair, signed}
+use Rattle.protocol.specs.MessageLaws.{pack-old, pack-new}
 use Rattle.protocol.specs.Refusals.{Checks, every, badSignature, lowerFirst, notLowerFirst}
 use Rattle.protocol.specs.ConditionsLaws.{every-append, every-flat}
 use Rattle.layout.specs.declared.Entries.{Entries}
-use Rattle.wire.specs.Reading.{commandPlace, seatPlace, packEntries}
-use Rattle.validate.specs.Places.{PairInside, pairChecks, pairRead, pairPlaces, pairIn}
+use Rattle.wire.specs.Reading.{commandPlace, seatPlace, packEntries, Inside}
+use Rattle.validate.specs.Entries.{Pack}
+use Rattle.validate.specs.Places.{PairInside, pairChecks, pairRead, pairOf, pairPlaces, pairIn}
 use Rattle.validate.specs.declared.signatures.Pair.{Pair}
 
 -- two tests that agree below t
@@ -79,6 +81,8 @@ module _ (bytes : List ℕ) (at : ℕ) where
         part-part pairHigherValueAt valueLength held pairLength bytes (omega arith),
         part-part pairLowerAt signatureLength held pairLength bytes (omega arith),
         part-rest held pairHigherAt signatureLength bytes (omega arith),
+        add-zero,
+        ← add-assoc held pairLowerAt signatureLength,
       )
 
   -- they lie in the message
@@ -88,8 +92,28 @@ module _ (bytes : List ℕ) (at : ℕ) where
   places-inside n ValuesEach start room known = (known, (omega arith, omega arith), (omega arith, omega arith))
 
 -- an entry ends before those after it
-pub entry-room : (entries : Entries) (i : ℕ) → i < entries .count → commandPlace entries i + entries .length ≤ commandPlace entries (entries .count)
+entry-room : (entries : Entries) (i : ℕ) → i < entries .count → commandPlace entries i + entries .length ≤ commandPlace entries (entries .count)
 entry-room entries i l = omega (arith, mul-le-mul-left (entries .length) l, mul-suc (entries .length) i)
+
+-- the entries of EVIDENCE as the code has them, and one of them
+module _ (entries : Entries) (bytes : List ℕ) (pack : Pack entries bytes) (i : ℕ) where
+  pub pack-room : i < entries .count → Inside entries bytes × (commandPlace entries i + entryHeldAt + pairHigherAt ≤ length bytes)
+  unfolding signatureLength
+  pack-room l = go (packIn bytes) (ap (λ (e : Entries). e .length) (pack .listed)) (entry-room entries i l)
+    where
+      go : (form : PackForm) → entries .length ≡ entryLength (pairHeld form) → commandPlace entries i + entries .length ≤ commandPlace entries (entries .count)
+          → Inside entries bytes × (commandPlace entries i + entryHeldAt + pairHigherAt ≤ length bytes)
+      go (ValuesOnce values) e room = (omega (arith, pack .size), omega (arith, pack .size))
+      go ValuesEach e room = (omega (arith, pack .size), omega (arith, pack .size))
+
+  -- its pair, by the command of the message
+  module _ (seat held : ℕ) (s : seat ≡ byteAt bytes (seatPlace entries i)) (h : held ≡ commandPlace entries i + entryHeldAt) (command : ℕ) (c : command ≡ byteAt bytes 0)
+      (at : ℕ) (p : Pair) where
+    pub pair-once : command ≡ 0x05 → at ≡ lowerAt → p ≡ pairOf seat at held → p ≡ pairIn bytes i
+    pair-once e v q = q ∙ rw (s, h, v, pack .listed, pack-old bytes (sym c ∙ e))
+
+    pub pair-each : (command ≡ 0x05 → ⊥) → at ≡ pairLowerAt → p ≡ pairOf seat held (held + at) → p ≡ pairIn bytes i
+    pair-each d v q = q ∙ rw (s, h, v, pack .listed, pack-new bytes (λ e. d (c ∙ e)))
 
 -- EVIDENCE as long as its entries say
 module _ (bytes : List ℕ) (size : length bytes ≡ commandPlace (packEntries bytes) (countOf bytes)) where

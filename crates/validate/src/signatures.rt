@@ -2,7 +2,7 @@
 ghost use mathlib.Core.Path.{_≡_};
 ghost use mathlib.Core.Bool.{false};
 ghost use mathlib.Core.List.{[], _∷_};
-ghost use Prim.Native.Nat.{_+_, _≤_, _<_};
+ghost use Prim.Native.Nat.{_+_, _≤_, _<_, _^_};
 ghost use lib.ListN.{length};
 ghost use Rattle.fips180.specs.Constants.{constants};
 ghost use Rattle.refusal.specs.Refusal.{firstOf};
@@ -13,7 +13,7 @@ ghost use Rattle.protocol.specs.Signatures.{signedBytes, checks, signatureNumbe
 ghost use Rattle.wire.specs.Reading.{kindOf};
 ghost use Rattle.validate.specs.Given.{Given};
 ghost use Rattle.validate.specs.Entries.{SubmitTaken, FullTaken, EvidenceTaken, Pack, Fits, foundChecks, goesOn};
-ghost use Rattle.validate.specs.Places.{PlaceInside, PairInside, placeChecks, pairChecks, pairIn};
+ghost use Rattle.validate.specs.Places.{PlaceInside, PairInside, placeChecks, pairChecks, pairOf, pairIn};
 use crate::keys::seat_key;
 use crate::message::OLD_EVIDENCE;
 use layout::Entries;
@@ -166,6 +166,26 @@ fn pair_verdict(k: &[u32; 64], n: u32, round: u32, keys: &[u8], m: &[u8], pair: 
     place_verdict(k, n, round, keys, m, pair.seat, higher)
 }
 
+// A seat's pair over two values, one after the other, with their signatures in the same order.
+fn pair_of(seat: u32, values: usize, signatures: usize) -> Pair
+    requires { ⌜ (values + valueLength < 2 ^ 64) × (signatures + signatureLength < 2 ^ 64) ⌝ }
+    ensures { λ p. ⌜ p ≡ pairOf seat values signatures ⌝ }
+{
+    let lower = Place {
+        value: values,
+        signature: signatures,
+    };
+    let higher = Place {
+        value: values + layout::value_length(),
+        signature: signatures + layout::signature_length(),
+    };
+    Pair {
+        seat,
+        lower,
+        higher,
+    }
+}
+
 // The pair in an entry of EVIDENCE: over the entry's own values or, in the old one, over those of the message.
 pub(crate) fn pair_at(m: &[u8], entries: Entries, i: usize) -> Pair
     requires { ⌜ Pack entries (now m) × (i < entries .count) ⌝ }
@@ -174,33 +194,9 @@ pub(crate) fn pair_at(m: &[u8], entries: Entries, i: usize) -> Pair
     let seat = seat_of_entry(m, entries, i);
     let held = layout::entry_held_at(entries, i);
     if number_at(m, 0) == OLD_EVIDENCE {
-        let lower = Place {
-            value: layout::lower_at(),
-            signature: held,
-        };
-        let higher = Place {
-            value: layout::higher_at(),
-            signature: held + layout::signature_length(),
-        };
-        return Pair {
-            seat,
-            lower,
-            higher,
-        };
+        return pair_of(seat, layout::lower_at(), held);
     }
-    let lower = Place {
-        value: held,
-        signature: held + layout::pair_lower_at(),
-    };
-    let higher = Place {
-        value: held + layout::pair_higher_value_at(),
-        signature: held + layout::pair_higher_at(),
-    };
-    Pair {
-        seat,
-        lower,
-        higher,
-    }
+    pair_of(seat, held, held + layout::pair_lower_at())
 }
 
 // Verdict on the signatures of EVIDENCE: its pairs one after another.

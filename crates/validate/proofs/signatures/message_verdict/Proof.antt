@@ -25,4 +25,5 @@ message-verdict-spec =
     (λ c. search notice-row)
     (λ c. search needs)
     (λ c. search needs)
+    (λ c. search needs)
     (λ c. search garbled-row))
