@@ -4,7 +4,7 @@ ghost use Prim.Native.Nat.{_+_, _*_, _<_, _≤_, _^_};
 ghost use Rattle.quorum.specs.Quorum.{mostSeats};
 ghost use Rattle.protocol.specs.Layout as Layout;
 ghost use Rattle.protocol.specs.Record.{lastRound};
-ghost use Rattle.layout.specs.Places.{full, evidence, bankOf};
+ghost use Rattle.layout.specs.Places.{full, evidence, oldEvidence, bankOf};
 
 // The constants, also for lengths of arrays. Each is made of its parts.
 
@@ -45,16 +45,31 @@ pub const FULL_START: usize = FULL_COUNT_AT + 1;
 
 pub const FULL_ENTRY: usize = ENTRY_HELD_AT + SIGNATURE;
 
-// EVIDENCE: the places of both values, of its count and of its first entry, and the length of an entry.
+// EVIDENCE: the places of its count and of its first entry.
+const EVIDENCE_COUNT_AT: usize = OPERANDS_AT;
+
+pub const EVIDENCE_START: usize = EVIDENCE_COUNT_AT + 1;
+
+// Its entry's content: the places of the higher value and of both signatures, from its start, where the lower value is; and the length of
+// an entry.
+const PAIR_HIGHER_VALUE_AT: usize = VALUE;
+
+const PAIR_LOWER_AT: usize = PAIR_HIGHER_VALUE_AT + VALUE;
+
+const PAIR_HIGHER_AT: usize = PAIR_LOWER_AT + SIGNATURE;
+
+pub const EVIDENCE_ENTRY: usize = ENTRY_HELD_AT + PAIR_HIGHER_AT + SIGNATURE;
+
+// The old EVIDENCE: the places of both values, of its count and of its first entry, and the length of an entry.
 const LOWER_AT: usize = OPERANDS_AT;
 
 const HIGHER_AT: usize = LOWER_AT + VALUE;
 
-const EVIDENCE_COUNT_AT: usize = HIGHER_AT + VALUE;
+const OLD_EVIDENCE_COUNT_AT: usize = HIGHER_AT + VALUE;
 
-pub const EVIDENCE_START: usize = EVIDENCE_COUNT_AT + 1;
+const OLD_EVIDENCE_START: usize = OLD_EVIDENCE_COUNT_AT + 1;
 
-pub const EVIDENCE_ENTRY: usize = ENTRY_HELD_AT + SIGNATURE + SIGNATURE;
+const OLD_EVIDENCE_ENTRY: usize = ENTRY_HELD_AT + SIGNATURE + SIGNATURE;
 
 // The store: the signatures of one seat, one in each of three banks, and all its slots with the kept value.
 const SEAT_SIGNATURES: usize = 3 * SIGNATURE;
@@ -124,14 +139,14 @@ pub fn submit_signature_at() -> usize
     SUBMIT_SIGNATURE_AT
 }
 
-// The lower value in EVIDENCE.
+// The lower value in the old EVIDENCE.
 pub fn lower_at() -> usize
     ensures { λ r. ⌜ r ≡ Layout.lowerAt ⌝ }
 {
     LOWER_AT
 }
 
-// The higher value in EVIDENCE.
+// The higher value in the old EVIDENCE.
 pub fn higher_at() -> usize
     ensures { λ r. ⌜ r ≡ Layout.higherAt ⌝ }
 {
@@ -150,6 +165,13 @@ pub fn evidence_count_at() -> usize
     ensures { λ r. ⌜ r ≡ Layout.evidenceCountAt ⌝ }
 {
     EVIDENCE_COUNT_AT
+}
+
+// The count in the old EVIDENCE.
+pub fn old_evidence_count_at() -> usize
+    ensures { λ r. ⌜ r ≡ Layout.oldEvidenceCountAt ⌝ }
+{
+    OLD_EVIDENCE_COUNT_AT
 }
 
 // ---- lists of entries
@@ -183,6 +205,17 @@ pub fn evidence_entries(count: usize) -> Entries
     }
 }
 
+// The entries of the old EVIDENCE.
+pub fn old_evidence_entries(count: usize) -> Entries
+    ensures { λ r. ⌜ r ≡ oldEvidence count ⌝ }
+{
+    Entries {
+        start: OLD_EVIDENCE_START,
+        length: OLD_EVIDENCE_ENTRY,
+        count,
+    }
+}
+
 // The place of an entry, by its index from 0.
 pub fn entry_at(entries: Entries, i: usize) -> usize
     requires { ⌜ Layout.entryAt (entries .start) (entries .length) i < 2 ^ 64 ⌝ }
@@ -205,6 +238,25 @@ pub fn entry_held_at(entries: Entries, i: usize) -> usize
     ensures { λ r. ⌜ r ≡ Layout.entryAt (entries .start) (entries .length) i + Layout.entryHeldAt ⌝ }
 {
     entry_at(entries, i) + ENTRY_HELD_AT
+}
+
+// In an entry of EVIDENCE, from the start of its content: the higher value, and the signatures over the lower and the higher one.
+pub fn pair_higher_value_at() -> usize
+    ensures { λ r. ⌜ r ≡ Layout.pairHigherValueAt ⌝ }
+{
+    PAIR_HIGHER_VALUE_AT
+}
+
+pub fn pair_lower_at() -> usize
+    ensures { λ r. ⌜ r ≡ Layout.pairLowerAt ⌝ }
+{
+    PAIR_LOWER_AT
+}
+
+pub fn pair_higher_at() -> usize
+    ensures { λ r. ⌜ r ≡ Layout.pairHigherAt ⌝ }
+{
+    PAIR_HIGHER_AT
 }
 
 // ---- lengths of messages

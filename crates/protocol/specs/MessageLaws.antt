@@ -44,7 +44,7 @@ unfolding render fullForm fullEntryAt fullEntryLength
 length-full round sender value es v h = simp (length-append, length-be) (omega (arith, length-entries fullForm es h))
 
 -- EVIDENCE: its values fill the place between the round and the count, and its entries come after the count
-length-values : (form : PackForm) → ValuesFormed form → operandsAt + length (packValues form) ≡ packCountAt form
+pub length-values : (form : PackForm) → ValuesFormed form → operandsAt + length (packValues form) ≡ packCountAt form
 length-values (ValuesOnce values) f = simp length-append (omega arith)
 length-values ValuesEach f = refl
 

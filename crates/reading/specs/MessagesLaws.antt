@@ -14,8 +14,7 @@ use Rattle.protocol.specs.Refusals.{stepConditions}
 use Rattle.protocol.specs.Step.{stepped}
 use Rattle.protocol.specs.Calls.{Result, resultBy, start, outAfter, submit, step, answer}
 use Rattle.protocol.specs.declared.Record.{Record}
-use Rattle.round.specs.Round.{Each, Are, Call, BySubmit, ByStep, ByThinEntry, IsStep, Setting, Called, outcome, resultOf, counted, writtenIn, outOf}
-use Rattle.round.specs.Demand1.{writtenOver}
+use Rattle.round.specs.Round.{Each, Are, Call, BySubmit, ByStep, ByThinEntry, IsStep, Setting, Called, outcome, resultOf, counted, writtenIn, writtenOver, outOf}
 use Rattle.reading.specs.ListsLaws.{each-nil, each-append}
 use Rattle.reading.specs.Messages.{refusalOf, cameTo, messages, allMessages}
 

@@ -11,11 +11,11 @@ use lib.Seq.{take-at, drop-at, take-append-seam}
 use Rattle.octets.specs.Octets.{be, part}
 use Rattle.octets.specs.OctetsLaws.{length-be, length-part}
 use Rattle.quorum.specs.Quorum.{k}
-use Rattle.protocol.specs.Layout.{valueLength, signatureLength, entrySeatAt, entryHeldAt, entryLength, valueAt, submitSignatureAt, submitLength, noticeLength, fullEntryLength, fullEntryAt, fullLength, evidenceCountAt, evidenceEntryLength, evidenceEntryAt, evidenceLength}
+use Rattle.protocol.specs.Layout.{valueLength, signatureLength, entrySeatAt, entryHeldAt, entryLength, valueAt, submitSignatureAt, submitLength, noticeLength, fullEntryLength, fullEntryAt, fullLength, evidenceLength, oldEvidenceLength}
 use Rattle.protocol.specs.Entries.{Form, Laid, placeOf, renderEntries, readEntry, readEntries}
 use Rattle.protocol.specs.EntriesLaws.{byte-after, Faithful, length-read}
-use Rattle.protocol.specs.Message.{Pair, PairValues, Message, Submit, Notice, Full, Evidence, Garbled, WellFormed, fullForm, evidenceForm, ValuesFormed, readValues, formOf, countOf, render, renderAll, byteAt, readValue, readSignature, fitsSubmit, fitsNotice, fitsFull, fitsEvidence, readSubmit, readNotice, readFull, readEvidence, read}
-use Rattle.protocol.specs.MessageLaws.{length-submit, length-notice, length-full, length-evidence, full-faithful, evidence-faithful, submit-fits, notice-fits, full-fits, evidence-fits, read-cases, read-render}
+use Rattle.protocol.specs.Message.{Pair, PackForm, ValuesOnce, ValuesEach, packCommand, packValues, packCountAt, Message, Submit, Notice, Full, Evidence, Garbled, WellFormed, fullForm, evidenceForm, ValuesFormed, packIn, formOf, countOf, render, renderAll, byteAt, readValue, readSignature, fitsSubmit, fitsNotice, fitsFull, fitsEvidence, readSubmit, readNotice, readFull, readEvidence, read}
+use Rattle.protocol.specs.MessageLaws.{length-submit, length-notice, length-full, length-values, length-evidence, evidence-place, old-evidence-place, full-faithful, evidence-faithful, submit-fits, notice-fits, full-fits, evidence-fits, read-cases, read-render}
 use Rattle.round.specs.Round.{Each, Are}
 use Rattle.reading.specs.ListsLaws.{each-nil, each-one, each-append}
 use Rattle.reading.specs.Reading.{Sized, frameLength}
@@ -55,29 +55,31 @@ module _ (n : ℕ) (bytes : List ℕ) where
       (length-part valueAt valueLength bytes (omega arith), length-read fullForm (k n) bytes, entries-laid fullForm full-faithful bytes (k n) (omega arith))
 
   evidence-sized : fitsEvidence n bytes ≡ true → Sized n (readEvidence bytes)
-  unfolding readEvidence evidenceLength evidenceEntryAt evidenceEntryLength evidenceForm placeOf
-  evidence-sized e =
-      entries-laid (formOf bytes) (evidence-faithful (readValues bytes)) bytes (countOf bytes) (omega (arith, evidence-fits n bytes e .size))
+  unfolding readEvidence
+  evidence-sized e = entries-laid (formOf bytes) (evidence-faithful (packIn bytes)) bytes (countOf bytes) (omega (arith, evidence-fits n bytes e .size))
 
   pub read-sized : Sized n (read n bytes)
   read-sized = read-cases (Sized n) n bytes submit-sized notice-sized full-sized evidence-sized tt
 
 -- ---- the end of a message
 
-evidence-counted : (ρ : ℕ) (values : PairValues) (ps : List Pair) (rest : List ℕ) → ValuesFormed values → countOf (render (Evidence ρ values ps) ++ rest) ≡ length ps
+evidence-counted : (ρ : ℕ) (form : PackForm) (ps : List Pair) (rest : List ℕ) → ValuesFormed form → byteAt (render (Evidence ρ form ps) ++ rest) (packCountAt form) ≡ length ps
 unfolding render
-evidence-counted ρ values ps rest f =
-    let front = 0x05 ∷ be 2 ρ ++ values .lower ++ values .higher in
-    let entries = renderEntries (evidenceForm values) ps in
-    ap (λ (b : List ℕ). byteAt b evidenceCountAt) (append-assoc (front ++ length ps ∷ []) entries rest)
-    ∙ byte-after front (length ps) (entries ++ rest) evidenceCountAt (simp (length-append, length-be) (omega (arith, f)))
+evidence-counted ρ form ps rest f =
+    let front = packCommand form ∷ be 2 ρ ++ packValues form in
+    let entries = renderEntries (evidenceForm form) ps in
+    ap (λ (b : List ℕ). byteAt b (packCountAt form)) (append-assoc (front ++ length ps ∷ []) entries rest)
+    ∙ byte-after front (length ps) (entries ++ rest) (packCountAt form) (simp (length-append, length-be) (omega (arith, length-values form f)))
 
 pub frame-length : (n : ℕ) (m : Message) (rest : List ℕ) → WellFormed n m → frameLength n (render m ++ rest) ≡ length (render m)
-unfolding frameLength render fullLength evidenceLength
+unfolding frameLength render fullLength
 frame-length n (Submit ρ seat value signature) rest w = sym (length-submit ρ seat value signature (w .1) (w .2))
 frame-length n (Notice ρ seat value) rest w = sym (length-notice ρ seat value (w .1))
 frame-length n (Full ρ sender value es) rest w = ap fullEntryAt (sym (w .2)) ∙ sym (length-full ρ sender value es (w .1) (w .3))
-frame-length n (Evidence ρ values ps) rest w = ap evidenceEntryAt (evidence-counted ρ values ps rest (w .1)) ∙ sym (length-evidence ρ values ps (w .1) (w .4))
+frame-length n (Evidence ρ (ValuesOnce values) ps) rest w =
+    ap oldEvidenceLength (evidence-counted ρ (ValuesOnce values) ps rest (w .1)) ∙ sym (old-evidence-place values (length ps)) ∙ sym (length-evidence ρ (ValuesOnce values) ps (w .1) (w .4))
+frame-length n (Evidence ρ ValuesEach ps) rest w =
+    ap evidenceLength (evidence-counted ρ ValuesEach ps rest (w .1)) ∙ sym (evidence-place (length ps)) ∙ sym (length-evidence ρ ValuesEach ps (w .1) (w .4))
 frame-length n Garbled rest w = absurd w
 
 render-some : (n : ℕ) (m : Message) → WellFormed n m → 1 ≤ length (render m)
@@ -85,7 +87,7 @@ unfolding render
 render-some n (Submit ρ seat value signature) w = omega arith
 render-some n (Notice ρ seat value) w = omega arith
 render-some n (Full ρ sender value es) w = omega arith
-render-some n (Evidence ρ values ps) w = omega arith
+render-some n (Evidence ρ form ps) w = omega arith
 render-some n Garbled w = absurd w
 
 -- bytes are messages one after another in one way only
