@@ -53,14 +53,15 @@ module _ (r : Record) (store out : List ℕ) (at : ℕ) (out′ : List ℕ) (end
       did-writing-one sendFull r store (fullOf (r .n) (r .round) (r .seat) (ownCertificate r store)) out at (withSent r) store out′ end refl
       (record { recorded = refl; stored = refl }) w
 
-  pub evidence-sent : (source : Source) (value m bytes : List ℕ) (guilty : ℕ) → bytes ≡ bytesOf (source .place) store m → guilty ≡ shared (r .first .seats) (source .seats)
-      → Wrote at (render (evidenceOf (r .n) (r .round) guilty (certificateFrom (r .n) (inBank bank.First (r .first .seats)) (r .first .value) store) (certificateFrom (r .n) source value bytes))) out out′ end
+  pub evidence-sent : (source : Source) (value m bytes : List ℕ) (mask guilty : ℕ) → bytes ≡ bytesOf (source .place) store m → mask ≡ less (shared (r .first .seats) (source .seats)) (r .guilty)
+      → guilty ≡ union (r .guilty) mask
+      → Wrote at (render (evidenceOf (r .n) (r .round) mask (certificateFrom (r .n) (inBank bank.First (r .first .seats)) (r .first .value) store) (certificateFrom (r .n) source value bytes))) out out′ end
       → Did (blame (heard (r .n) source value store m)) r store out at (withGuilty r guilty) store out′ end
   unfolding blame found write firstCertificate signatureAt bankOf
-  evidence-sent source value m bytes guilty chosen e w =
+  evidence-sent source value m bytes mask guilty chosen new grown w =
       let c = heard (r .n) source value store m in
       did-writing-one (blame c) r store (evidenceOf (r .n) (r .round) (found c r) (firstCertificate r store) c) out at (withGuilty r guilty) store out′ end refl
-      (record { recorded = rw e; stored = refl }) (rw (← e, ← chosen) w)
+      (record { recorded = rw (grown, new); stored = refl }) (rw (← new, ← chosen) w)
 
 -- ---- replies, and certificates held or blaming
 
@@ -82,14 +83,14 @@ module _ (r : Record) (store out : List ℕ) (at : ℕ) where
     first-held unit store′ e h =
         did-same (hold c) r store (holdOrBlame c) out at unit store′ out at (rw (eq-eqb (r .first .seats) 0 e)) (did-writing-none (hold c) r store out at unit store′ refl h)
 
-    module _ (some : r .first .seats ≡ 0 → ⊥) (b : Bool) (tested : b ≡ (not (same (c .value) (r .first .value)) && eqb (r .guilty) 0)) where
+    module _ (some : r .first .seats ≡ 0 → ⊥) (b : Bool) (tested : b ≡ blames c r) where
       pub blamed : (unit : Record) (store′ out′ : List ℕ) (end : ℕ) → b ≡ true → Did (blame c) r store out at unit store′ out′ end → Did (holdOrBlame c) r store out at unit store′ out′ end
-      unfolding holdOrBlame holds blames
+      unfolding holdOrBlame holds
       blamed unit store′ out′ end e d =
           did-same (blame c) r store (holdOrBlame c) out at unit store′ out′ end (rw (ne-eqb (r .first .seats) 0 some, ← tested, e)) d
 
       pub not-blamed : b ≡ false → Did (holdOrBlame c) r store out at r store out at
-      unfolding holdOrBlame holds blames
+      unfolding holdOrBlame holds
       not-blamed e = did-same (λ s. s) r store (holdOrBlame c) out at r store out at (rw (ne-eqb (r .first .seats) 0 some, ← tested, e)) nothing-done
 
 -- ---- hearing and replying

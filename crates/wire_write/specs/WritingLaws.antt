@@ -3,6 +3,7 @@
 use mathlib.Core.Path.{_≡_, refl, sym, ap, _∙_}
 use mathlib.Core.Bool.{Bool, true, false}
 use mathlib.Core.List.{List, [], _∷_, _++_, append-assoc, append-nil, map, map-append}
+use mathlib.Core.Logic.{⊎-elim}
 use Prim.Native.Nat.{ℕ, suc, _+_, _*_, _/_, _%_, _^_, _≤_, _<_}
 use native.Mathlib.Nat.{add-zero, mul-zero, mul-suc, mul-le-mul-left}
 use native.Mathlib.Numerals.{add-one, add-two}
@@ -13,7 +14,7 @@ use Rattle.octets.specs.Octets.{patch, be}
 use Rattle.octets.specs.OctetsLaws.{length-be, patch-patch, length-patch}
 use Rattle.octets.specs.StringsLaws.{be-two}
 use Rattle.quorum.specs.Quorum.{k, bit, In, shared, seats, size}
-use Rattle.quorum.specs.QuorumLaws.{in-shared, shared-lt, size-shared-le, seats-in, seats-out, length-seats}
+use Rattle.quorum.specs.QuorumLaws.{bit-cases, in-shared, bit-outside, lt-of-none-outside, size-within, seats-in, seats-out, length-seats}
 use Rattle.protocol.specs.Layout.{valueLength, operandsAt, noticeLength, entryLength, evidenceEntryLength, evidenceEntryAt, evidenceLength}
 use Rattle.protocol.specs.Values.{isLower}
 use Rattle.protocol.specs.Entries.{Form, renderEntry, renderEntries}
@@ -143,14 +144,21 @@ module _ (n round mask : ℕ) (c d : Certificate) {t : Bool} (e : t ≡ isLower 
   unfolding evidenceOf
   given-higher f w = rw (← e, f) w
 
--- the seats that two sets share, as the set to write: all are below n and in both
-module _ (n a b : ℕ) {mask : ℕ} (is : mask ≡ shared a b) where
-  pub shared-seats : a < 2 ^ n → b < 2 ^ n → (mask < 2 ^ n) × ((s : ℕ) → In s mask → In s a) × ((s : ℕ) → In s mask → In s b)
-  shared-seats x y = rw is (shared-lt n a b x y, λ s i. in-shared s a b .0 i .0, λ s i. in-shared s a b .0 i .1)
+-- seats that two sets share, as the set to write: all are below n and in both
+module _ (n a b mask : ℕ) (among : (s : ℕ) → In s mask → In s (shared a b)) where
+  in-first : (s : ℕ) → In s mask → In s a
+  in-first s i = in-shared s a b .0 (among s i) .0
+
+  pub shared-seats : a < 2 ^ n → (mask < 2 ^ n) × ((s : ℕ) → In s mask → In s a) × ((s : ℕ) → In s mask → In s b)
+  shared-seats below = (
+    lt-of-none-outside n mask (λ s l. ⊎-elim (λ z. z) (λ i. absurd (omega (arith, in-first s i, bit-outside s n a below l))) (bit-cases s mask)),
+    in-first,
+    λ s i. in-shared s a b .0 (among s i) .1,
+  )
 
   -- they are at most k, where the first set has no more
   pub shared-room : size a ≤ k n → evidenceLength (size mask) ≤ evidenceLength (k n)
   unfolding evidenceLength evidenceEntryAt
   shared-room h =
-      let few : size mask ≤ k n = rw is (omega (arith, size-shared-le a b)) in
+      let few : size mask ≤ k n = omega (arith, size-within a mask in-first) in
       omega (arith, mul-le-mul-left evidenceEntryLength few)
