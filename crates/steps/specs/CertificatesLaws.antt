@@ -1,15 +1,14 @@
 -- The returns of replying, holding and blaming, over plain values.
 use mathlib.Core.Path.{_≡_, refl, subst, _∙_}
-use mathlib.Core.Bool.{Bool, true, false, cond, not, _&&_}
-use mathlib.Core.List.{List}
+use mathlib.Core.Bool.{Bool, true, false, cond}
+use mathlib.Core.List.{List, []}
 use Prim.Native.Nat.{ℕ, _+_, _^_, _≤_, _<_}
 use native.Mathlib.Nat.{mul-le-mul-left}
 use native.Mathlib.Omega.{arith}
-use lib.Dec.{eqb}
 use lib.ListN.{length}
 use borrow.Author.Tests.{eq-eqb, ne-eqb}
-use Rattle.octets.specs.Strings.{same}
-use Rattle.quorum.specs.Quorum.{k, shared}
+use Rattle.quorum.specs.Quorum.{k, In, union, shared}
+use Rattle.quorum.specs.QuorumLaws.{in-less}
 use Rattle.protocol.specs.Layout.{storeLength, fullEntryLength, fullEntryAt, fullLength, evidenceLength}
 use Rattle.protocol.specs.Message.{render}
 use Rattle.protocol.specs.Calls.{start}
@@ -43,6 +42,11 @@ pub full-bound : (n size : ℕ) → size ≤ k n → fullEntryAt size ≤ fullLe
 unfolding fullLength fullEntryAt
 full-bound n size h = omega (arith, mul-le-mul-left fullEntryLength h)
 
+-- seats newly found are seats shared with the first certificate
+pub found-shared : (c : Certificate) (r : Record) (mask : ℕ) → mask ≡ found c r → (s : ℕ) → In s mask → In s (shared (r .first .seats) (c .seats))
+unfolding found
+found-shared c r mask e s i = in-less s (shared (r .first .seats) (c .seats)) (r .guilty) .0 (rw e at i) .0
+
 -- ---- messages written
 
 module _ (r : Record) (store out : List ℕ) (at : ℕ) (out′ : List ℕ) (end : ℕ) where
@@ -53,7 +57,7 @@ module _ (r : Record) (store out : List ℕ) (at : ℕ) (out′ : List ℕ) (end
       did-writing-one sendFull r store (fullOf (r .n) (r .round) (r .seat) (ownCertificate r store)) out at (withSent r) store out′ end refl
       (record { recorded = refl; stored = refl }) w
 
-  pub evidence-sent : (source : Source) (value m bytes : List ℕ) (mask guilty : ℕ) → bytes ≡ bytesOf (source .place) store m → mask ≡ less (shared (r .first .seats) (source .seats)) (r .guilty)
+  pub evidence-sent : (source : Source) (value m bytes : List ℕ) (mask guilty : ℕ) → bytes ≡ bytesOf (source .place) store m → mask ≡ found (heard (r .n) source [] [] []) r
       → guilty ≡ union (r .guilty) mask
       → Wrote at (render (evidenceOf (r .n) (r .round) mask (certificateFrom (r .n) (inBank bank.First (r .first .seats)) (r .first .value) store) (certificateFrom (r .n) source value bytes))) out out′ end
       → Did (blame (heard (r .n) source value store m)) r store out at (withGuilty r guilty) store out′ end
