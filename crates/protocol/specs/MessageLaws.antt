@@ -295,9 +295,9 @@ pub pack-old : (bytes : List ℕ) → byteAt bytes 0 ≡ 0x05 → packIn bytes �
 unfolding packIn
 pack-old bytes h = rw h
 
-pub pack-new : (bytes : List ℕ) → byteAt bytes 0 ≡ 0x07 → packIn bytes ≡ ValuesEach
+pub pack-new : (bytes : List ℕ) → byteAt bytes 0 ≢ 0x05 → packIn bytes ≡ ValuesEach
 unfolding packIn
-pack-new bytes h = rw h
+pack-new bytes h = rw (ne-eqb (byteAt bytes 0) 0x05 h)
 
 module _ (round : ℕ) (form : PackForm) (ps : List Pair) where
   abbrev entries : Form Pair

@@ -11,5 +11,6 @@ pub tags : (k : Kind) → tagOf the-type k ≡ tag k
 tags kind.Submit = refl
 tags kind.Notice = refl
 tags kind.Full = refl
+tags kind.OldEvidence = refl
 tags kind.Evidence = refl
 tags kind.Garbled = refl

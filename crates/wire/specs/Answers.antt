@@ -17,12 +17,14 @@ use Rattle.wire.specs.declared.reader.Next.the-variants as next
 
 -- ---- the kind of a message
 
--- "0x01 SUBMIT", "0x02 NOTICE", "0x03 FULL", "0x05 EVIDENCE"; 0, which is no command, for bytes that are none of these
+-- "0x01 SUBMIT", "0x02 NOTICE", "0x03 FULL", "0x05 EVIDENCE"; "Evidence becomes 0x07" (document 02, item 3); 0, which is no command, for
+-- bytes that are none of these
 unfoldable pub commandOf : Kind → ℕ
 commandOf kind.Submit = 0x01
 commandOf kind.Notice = 0x02
 commandOf kind.Full = 0x03
-commandOf kind.Evidence = 0x05
+commandOf kind.OldEvidence = 0x05
+commandOf kind.Evidence = 0x07
 commandOf kind.Garbled = 0
 
 -- "Each starts with a one-byte command"

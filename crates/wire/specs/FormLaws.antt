@@ -1,18 +1,20 @@
 -- The tests for FULL and EVIDENCE, return by return.
 -- Assumes nothing.
-use mathlib.Core.Path.{_≡_, sym, _∙_}
-use mathlib.Core.Bool.{Bool, false, and-false}
+use mathlib.Core.Path.{_≡_, refl, sym, _∙_}
+use mathlib.Core.Bool.{Bool, true, false, and-false}
 use mathlib.Core.List.{List}
-use Prim.Native.Nat.{ℕ, _≤_, _<_}
+use mathlib.Core.Logic.{_⊎_, inl, inr}
+use Prim.Native.Nat.{ℕ, _+_, _≤_}
 use native.Mathlib.Omega.{arith}
-use lib.ListN.{length, List·getD-eq-default}
-use borrow.Author.Tests.{le-leb, lt-leb, eq-eqb, ne-eqb}
+use lib.ListN.{length}
+use borrow.Author.Tests.{le-leb, eq-eqb, ne-eqb}
 use Rattle.quorum.specs.Quorum.{k}
-use Rattle.protocol.specs.Layout.{fullCountAt, fullEntryLength, fullLength, evidenceCountAt, evidenceEntryLength, evidenceLength}
+use Rattle.protocol.specs.Layout.{fullCountAt, fullEntryLength, fullLength}
 use Rattle.protocol.specs.Entries.{placeOf, entryCommands}
-use Rattle.protocol.specs.Message.{byteAt, fullForm, evidenceForm, fitsFull, fitsEvidence}
-use Rattle.layout.specs.Places.{full, evidence}
-use Rattle.wire.specs.Reading.{commandsAre}
+use Rattle.protocol.specs.Message.{packCommand, pairCommand, byteAt, fullForm, evidenceForm, packIn, formOf, countOf, fitsFull, fitsEvidence}
+use Rattle.protocol.specs.MessageLaws.{EvidenceFits, evidence-fits, pack-old, pack-new}
+use Rattle.layout.specs.Places.{full}
+use Rattle.wire.specs.Reading.{commandsAre, packEntries}
 
 -- ---- FULL
 
@@ -42,37 +44,28 @@ module _ (n : ℕ) (bytes : List ℕ) where
 -- ---- EVIDENCE
 
 module _ (n : ℕ) (bytes : List ℕ) where
-  abbrev counted : ℕ
-  counted = byteAt bytes evidenceCountAt
+  -- one of the tests fails
+  pub evidence-not : (EvidenceFits n bytes → ⊥) → false ≡ fitsEvidence n bytes
+  evidence-not h = go (fitsEvidence n bytes) (λ f. h (evidence-fits n bytes f))
+    where
+      go : (b : Bool) → (b ≡ true → ⊥) → false ≡ b
+      go true h = absurd (h refl)
+      go false h = refl
 
-  pub evidence-code : (byteAt bytes 0 ≡ 0x05 → ⊥) → false ≡ fitsEvidence n bytes
-  unfolding fitsEvidence
-  evidence-code h = sym (rw (ne-eqb (byteAt bytes 0) 0x05 h))
-
-  pub evidence-none : counted < 1 → false ≡ fitsEvidence n bytes
-  unfolding fitsEvidence
-  evidence-none h = sym (rw (lt-leb 1 counted h, and-false))
-
-  pub evidence-short : length bytes ≤ evidenceCountAt → false ≡ fitsEvidence n bytes
-  evidence-short h =
-      let past : counted ≡ 0 = List·getD-eq-default bytes 0 {n = evidenceCountAt} h in
-      evidence-none (omega arith)
-
-  pub evidence-many : n < counted → false ≡ fitsEvidence n bytes
-  unfolding fitsEvidence
-  evidence-many h = sym (rw (lt-leb counted n h, and-false))
-
-  pub evidence-size : (size : ℕ) → size ≡ evidenceLength counted → (length bytes ≡ size → ⊥) → false ≡ fitsEvidence n bytes
-  unfolding fitsEvidence
-  evidence-size size e h = sym (rw (ne-eqb (length bytes) (evidenceLength counted) (λ q. h (q ∙ sym e)), and-false))
-
-  pub evidence-entries : (r : Bool) → byteAt bytes 0 ≡ 0x05 → 1 ≤ counted → counted ≤ n → length bytes ≡ evidenceLength counted
-      → r ≡ commandsAre 0x06 (evidence counted) bytes → r ≡ fitsEvidence n bytes
-  unfolding fitsEvidence entryCommands evidenceForm placeOf evidenceEntryLength
+  -- all but that of the entries' commands hold
+  pub evidence-entries : (r : Bool) → byteAt bytes 0 ≡ packCommand (packIn bytes) → 1 ≤ countOf bytes → countOf bytes ≤ n → length bytes ≡ placeOf (formOf bytes) (countOf bytes)
+      → r ≡ commandsAre (pairCommand (packIn bytes)) (packEntries bytes) bytes → r ≡ fitsEvidence n bytes
+  unfolding fitsEvidence entryCommands evidenceForm placeOf
   evidence-entries r z a b l h =
       h ∙ sym (rw (
-        eq-eqb (byteAt bytes 0) 0x05 z,
-        le-leb 1 counted a,
-        le-leb counted n b,
-        eq-eqb (length bytes) (evidenceLength counted) l,
+        eq-eqb (byteAt bytes 0) (packCommand (packIn bytes)) z,
+        le-leb 1 (countOf bytes) a,
+        le-leb (countOf bytes) n b,
+        eq-eqb (length bytes) (placeOf (formOf bytes) (countOf bytes)) l,
       ))
+
+-- its command, and that of its entries
+pub pack-commands : (bytes : List ℕ) → (byteAt bytes 0 ≡ 0x05) ⊎ (byteAt bytes 0 ≡ 0x07)
+    → (byteAt bytes 0 ≡ packCommand (packIn bytes)) × (byteAt bytes 0 + 1 ≡ pairCommand (packIn bytes))
+pack-commands bytes (inl h) = rw (pack-old bytes h, h) (refl, refl)
+pack-commands bytes (inr h) = rw (pack-new bytes (λ e. omega arith), h) (refl, refl)

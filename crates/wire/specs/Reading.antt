@@ -5,19 +5,24 @@ use mathlib.Core.List.{List, [], _∷_, _++_}
 use Prim.Native.Nat.{ℕ, zero, suc, _+_, _<_}
 use lib.Dec.{eqb}
 use lib.ListN.{length}
-use Rattle.protocol.specs.Layout.{entrySeatAt, entryAt}
+use Rattle.protocol.specs.Layout.{entrySeatAt, entryLength, entryAt}
 use Rattle.protocol.specs.Entries.{eachBelow}
-use Rattle.protocol.specs.Message.{Message, Submit, Notice, Full, Evidence, Garbled, byteAt}
+use Rattle.protocol.specs.Message.{PackForm, ValuesOnce, ValuesEach, packStart, pairHeld, Message, Submit, Notice, Full, Evidence, Garbled, packIn, countOf, byteAt}
 use Rattle.layout.specs.declared.Entries.{Entries}
 use Rattle.wire.specs.declared.read.Kind.{Kind}
 use Rattle.wire.specs.declared.read.Kind.the-variants as kind
+
+-- the kind of an EVIDENCE, by its form
+abbrev pub packKind : PackForm → Kind
+packKind (ValuesOnce values) = kind.OldEvidence
+packKind ValuesEach = kind.Evidence
 
 -- the kind of a message
 unfoldable pub kindOf : Message → Kind
 kindOf (Submit round seat value signature) = kind.Submit
 kindOf (Notice round seat value) = kind.Notice
 kindOf (Full round sender value entries) = kind.Full
-kindOf (Evidence round values entries) = kind.Evidence
+kindOf (Evidence round form entries) = packKind form
 kindOf Garbled = kind.Garbled
 
 -- ---- entries
@@ -40,6 +45,10 @@ commandsAre command entries bytes = eachBelow (λ (i : ℕ). eqb (byteAt bytes (
 
 abbrev pub seatsIn : Entries → List ℕ → List ℕ
 seatsIn entries bytes = bytesAt (seatPlace entries) (entries .count) bytes
+
+-- the entries of an EVIDENCE, by its form
+abbrev pub packEntries : List ℕ → Entries
+packEntries bytes = record { start = packStart (packIn bytes); length = entryLength (pairHeld (packIn bytes)); count = countOf bytes }
 
 -- the command and the seat of the last entry lie in the message
 abbrev pub Inside : Entries → List ℕ → Type 0

@@ -1,25 +1,26 @@
 // Readers: the kind, operands and entries of a message from its bytes.
 ghost use mathlib.Core.Path.{_≡_};
 ghost use mathlib.Core.Bool.{false};
-ghost use Prim.Native.Nat.{_<_, _≤_};
+ghost use Prim.Native.Nat.{_<_, _≤_, _^_};
 ghost use lib.ListN.{length};
 ghost use Rattle.quorum.specs.Quorum.{mostSeats};
 ghost use Rattle.protocol.specs.Layout.{operandsAt};
 ghost use Rattle.protocol.specs.Message.{byteAt, readRound, fitsSubmit, fitsNotice, fitsFull, fitsEvidence, read, entrySeats};
 ghost use Rattle.protocol.specs.Certificate.{setOf};
 ghost use Rattle.protocol.specs.Refusals.{stranger};
-ghost use Rattle.wire.specs.Reading.{kindOf, seatsIn, Inside};
+ghost use Rattle.wire.specs.Reading.{kindOf, commandPlace, seatsIn, packEntries, Inside};
 ghost use Rattle.wire.specs.Answers.{commandOf, command};
 use crate::entries;
 use layout::Entries;
 use octets::wide;
 use quorum::Mask;
 
-// The kinds of messages; `Garbled` is for bytes that are none.
+// The kinds of messages: EVIDENCE is of two, the old 0x05 and 0x07; `Garbled` is for bytes that are none.
 pub enum Kind {
     Submit,
     Notice,
     Full,
+    OldEvidence,
     Evidence,
     Garbled,
 }
@@ -30,6 +31,16 @@ pub fn number_at(m: &[u8], at: usize) -> u32
     ensures { λ r. ⌜ (r ≡ byteAt (now (m .entry)) at) × (r < 256) ⌝ }
 {
     wide(m[at])
+}
+
+// The byte at an index, 0 past the end.
+pub fn byte_or_zero(m: &[u8], at: usize) -> u32
+    ensures { λ r. ⌜ (r ≡ byteAt (now (m .entry)) at) × (r < 256) ⌝ }
+{
+    if m.len() <= at {
+        return 0;
+    }
+    number_at(m, at)
 }
 
 // The round: the two bytes after the command.
@@ -81,29 +92,38 @@ fn is_full(n: u32, m: &[u8]) -> bool
     entries::have_command(m, layout::full_entries(count as usize), 4)
 }
 
-// Whether they are those of an EVIDENCE.
+// The entries of an EVIDENCE: those of the old one by its command, else those of 0x07.
+pub fn evidence_entries(m: &[u8]) -> Entries
+    ensures { λ r. ⌜ (r ≡ packEntries (now (m .entry))) × (commandPlace r (r .count) < 2 ^ 32) ⌝ }
+{
+    if byte_or_zero(m, 0) == 5 {
+        let count = byte_or_zero(m, layout::old_evidence_count_at());
+        return layout::old_evidence_entries(count as usize);
+    }
+    let count = byte_or_zero(m, layout::evidence_count_at());
+    layout::evidence_entries(count as usize)
+}
+
+// Whether they are those of an EVIDENCE. The command of its entries is the next after its own.
 fn is_evidence(n: u32, m: &[u8]) -> bool
-    requires { ⌜ (1 ≤ n) × (n ≤ mostSeats) ⌝ }
     ensures { λ r. ⌜ r ≡ fitsEvidence n (now (m .entry)) ⌝ }
 {
-    let count_at = layout::evidence_count_at();
-    if m.len() <= count_at {
+    let command = byte_or_zero(m, 0);
+    if (command != 5) & (command != 7) {
         return false;
     }
-    if m[0] != 5 {
-        return false;
-    }
-    let count = number_at(m, count_at);
+    let found = evidence_entries(m);
+    let count = found.count;
     if count < 1 {
         return false;
     }
-    if n < count {
+    if (n as usize) < count {
         return false;
     }
-    if m.len() != layout::evidence_length(count as usize) {
+    if m.len() != layout::entry_at(found, count) {
         return false;
     }
-    entries::have_command(m, layout::evidence_entries(count as usize), 6)
+    entries::have_command(m, found, command + 1)
 }
 
 // The kind of a message in a fleet of n seats.
@@ -120,10 +140,13 @@ pub fn classify(n: u32, m: &[u8]) -> Kind
     if is_full(n, m) {
         return Kind::Full;
     }
-    if is_evidence(n, m) {
-        return Kind::Evidence;
+    if !is_evidence(n, m) {
+        return Kind::Garbled;
     }
-    Kind::Garbled
+    if byte_or_zero(m, 0) == 5 {
+        return Kind::OldEvidence;
+    }
+    Kind::Evidence
 }
 
 // The entries of a message: none where its command has no entries. Promised are the seats read there, in the message; start and
@@ -134,10 +157,7 @@ pub fn entries_of(n: u32, kind: Kind, m: &[u8]) -> Entries
 {
     match kind {
         Kind::Full => layout::full_entries(quorum::k(n) as usize),
-        Kind::Evidence => {
-            let count = number_at(m, layout::evidence_count_at());
-            layout::evidence_entries(count as usize)
-        },
+        Kind::OldEvidence | Kind::Evidence => evidence_entries(m),
         Kind::Submit | Kind::Notice | Kind::Garbled => layout::full_entries(0),
     }
 }
