@@ -1,20 +1,23 @@
 -- The tests for FULL and EVIDENCE, return by return.
 -- Assumes nothing.
 use mathlib.Core.Path.{_≡_, refl, sym, _∙_}
-use mathlib.Core.Bool.{Bool, true, false, and-false}
+use mathlib.Core.Bool.{Bool, true, false, not, _&&_, and-false, false≢true}
 use mathlib.Core.List.{List}
-use mathlib.Core.Logic.{_⊎_, inl, inr}
-use Prim.Native.Nat.{ℕ, _+_, _≤_}
+use mathlib.Core.Logic.{_≢_}
+use Prim.Native.Nat.{ℕ, _+_, _≤_, _<_, _^_}
 use native.Mathlib.Omega.{arith}
+use native.Mathlib.Decide.{ℕ-discrete}
+use lib.Dec.{eqb}
 use lib.ListN.{length}
-use borrow.Author.Tests.{le-leb, eq-eqb, ne-eqb}
+use borrow.Author.Tests.{le-leb, eq-eqb, ne-eqb, eqb-true, not-false}
 use Rattle.quorum.specs.Quorum.{k}
-use Rattle.protocol.specs.Layout.{fullCountAt, fullEntryLength, fullLength}
+use Rattle.protocol.specs.Layout.{signatureLength, fullCountAt, fullEntryLength, fullLength, evidenceCountAt, evidenceEntryLength, oldEvidenceCountAt, oldEvidenceEntryLength}
 use Rattle.protocol.specs.Entries.{placeOf, entryCommands}
-use Rattle.protocol.specs.Message.{packCommand, pairCommand, byteAt, fullForm, evidenceForm, packIn, formOf, countOf, fitsFull, fitsEvidence}
+use Rattle.protocol.specs.Message.{PackForm, ValuesOnce, ValuesEach, packCommand, pairCommand, byteAt, fullForm, evidenceForm, packIn, formOf, countOf, fitsFull, fitsEvidence}
 use Rattle.protocol.specs.MessageLaws.{EvidenceFits, evidence-fits, pack-old, pack-new}
-use Rattle.layout.specs.Places.{full}
-use Rattle.wire.specs.Reading.{commandsAre, packEntries}
+use Rattle.layout.specs.Places.{full, evidence, oldEvidence}
+use Rattle.layout.specs.declared.Entries.{Entries}
+use Rattle.wire.specs.Reading.{commandPlace, commandsAre, packEntries}
 
 -- ---- FULL
 
@@ -43,6 +46,28 @@ module _ (n : ℕ) (bytes : List ℕ) where
 
 -- ---- EVIDENCE
 
+-- the command that the code reads
+module _ (bytes : List ℕ) (command : ℕ) (e : command ≡ byteAt bytes 0) where
+  -- its entries
+  module _ (count at : ℕ) (q : count ≡ byteAt bytes at) (few : count < 256) (found : Entries) where
+    pub entries-old : command ≡ 0x05 → at ≡ oldEvidenceCountAt → found ≡ oldEvidence count → (found ≡ packEntries bytes) × (commandPlace found (found .count) < 2 ^ 32)
+    unfolding oldEvidenceEntryLength signatureLength
+    entries-old h p g = rw (g, pack-old bytes (sym e ∙ h), ← p) (rw q, omega arith)
+
+    pub entries-new : command ≢ 0x05 → at ≡ evidenceCountAt → found ≡ evidence count → (found ≡ packEntries bytes) × (commandPlace found (found .count) < 2 ^ 32)
+    unfolding evidenceEntryLength signatureLength
+    entries-new h p g = rw (g, pack-new bytes (λ o. h (e ∙ o)), ← p) (rw q, omega arith)
+
+  -- it is one of the two, and that of the entries is the next
+  pub commands-told : (not (eqb command 0x05) && not (eqb command 0x07)) ≡ false → (byteAt bytes 0 ≡ packCommand (packIn bytes)) × (command + 1 ≡ pairCommand (packIn bytes))
+  commands-told h = go (ℕ-discrete command 0x05)
+    where
+      go : Dec (command ≡ 0x05) → (byteAt bytes 0 ≡ packCommand (packIn bytes)) × (command + 1 ≡ pairCommand (packIn bytes))
+      go (yes old) = rw (pack-old bytes (sym e ∙ old)) (sym e ∙ old, omega arith)
+      go (no other) =
+          let new : command ≡ 0x07 = eqb-true command 0x07 (not-false (eqb command 0x07) (rw (ne-eqb command 0x05 other) at h)) in
+          rw (pack-new bytes (λ old. other (e ∙ old))) (sym e ∙ new, omega arith)
+
 module _ (n : ℕ) (bytes : List ℕ) where
   -- one of the tests fails
   pub evidence-not : (EvidenceFits n bytes → ⊥) → false ≡ fitsEvidence n bytes
@@ -52,7 +77,14 @@ module _ (n : ℕ) (bytes : List ℕ) where
       go true h = absurd (h refl)
       go false h = refl
 
-  -- all but that of the entries' commands hold
+  pub command-not : (command : ℕ) → command ≡ byteAt bytes 0 → (not (eqb command 0x05) && not (eqb command 0x07)) ≡ true → false ≡ fitsEvidence n bytes
+  command-not command e h = evidence-not (λ f. go (packIn bytes) (e ∙ f .code))
+    where
+      go : (form : PackForm) → command ≡ packCommand form → ⊥
+      go (ValuesOnce values) q = false≢true (rw q at h)
+      go ValuesEach q = false≢true (rw q at h)
+
+  -- all hold but perhaps that of the entries' commands
   pub evidence-entries : (r : Bool) → byteAt bytes 0 ≡ packCommand (packIn bytes) → 1 ≤ countOf bytes → countOf bytes ≤ n → length bytes ≡ placeOf (formOf bytes) (countOf bytes)
       → r ≡ commandsAre (pairCommand (packIn bytes)) (packEntries bytes) bytes → r ≡ fitsEvidence n bytes
   unfolding fitsEvidence entryCommands evidenceForm placeOf
@@ -63,9 +95,3 @@ module _ (n : ℕ) (bytes : List ℕ) where
         le-leb (countOf bytes) n b,
         eq-eqb (length bytes) (placeOf (formOf bytes) (countOf bytes)) l,
       ))
-
--- its command, and that of its entries
-pub pack-commands : (bytes : List ℕ) → (byteAt bytes 0 ≡ 0x05) ⊎ (byteAt bytes 0 ≡ 0x07)
-    → (byteAt bytes 0 ≡ packCommand (packIn bytes)) × (byteAt bytes 0 + 1 ≡ pairCommand (packIn bytes))
-pack-commands bytes (inl h) = rw (pack-old bytes h, h) (refl, refl)
-pack-commands bytes (inr h) = rw (pack-new bytes (λ e. omega arith), h) (refl, refl)

@@ -1,11 +1,12 @@
 -- The kind of a message, and the content of its bytes by kind.
 -- Assumes nothing.
-use mathlib.Core.Path.{_≡_, refl, ap, _∙_}
-use mathlib.Core.Bool.{Bool, true, false, cond}
+use mathlib.Core.Path.{_≡_, refl, sym, ap, _∙_}
+use mathlib.Core.Bool.{Bool, true, false, cond, not}
 use mathlib.Core.List.{List}
 use mathlib.Core.Logic.{_≢_}
 use Prim.Native.Nat.{ℕ}
 use lib.Dec.{eqb}
+use borrow.Author.Tests.{not-true, not-false}
 use Rattle.protocol.specs.Message.{PackForm, ValuesOnce, ValuesEach, packCommand, Message, Submit, Notice, Full, Evidence, Garbled, packIn, byteAt, render, readSubmit, readNotice, readFull, readEvidence, fitsSubmit, fitsNotice, fitsFull, fitsEvidence, read}
 use Rattle.protocol.specs.MessageLaws.{read-cases, pack-old, pack-new}
 use Rattle.wire.specs.Reading.{packKind, kindOf}
@@ -15,38 +16,38 @@ use Rattle.wire.specs.declared.read.Kind.the-variants as kind
 
 -- ---- its command, by the tests in their order
 
-module _ (n : ℕ) (bytes : List ℕ) where
-  pub told-submit : fitsSubmit bytes ≡ true → commandOf kind.Submit ≡ command (read n bytes)
+module _ (n : ℕ) (bytes : List ℕ) (submit : Bool) (s : submit ≡ fitsSubmit bytes) where
+  pub told-submit : submit ≡ true → commandOf kind.Submit ≡ command (read n bytes)
   unfolding commandOf command render read readSubmit
-  told-submit h = rw h
+  told-submit h = rw (← s, h)
 
-  module _ (no-submit : fitsSubmit bytes ≡ false) where
-    pub told-notice : fitsNotice bytes ≡ true → commandOf kind.Notice ≡ command (read n bytes)
+  module _ (no-submit : submit ≡ false) (notice : Bool) (t : notice ≡ fitsNotice bytes) where
+    pub told-notice : notice ≡ true → commandOf kind.Notice ≡ command (read n bytes)
     unfolding commandOf command render read readNotice
-    told-notice h = rw (no-submit, h)
+    told-notice h = rw (← s, no-submit, ← t, h)
 
-    module _ (no-notice : fitsNotice bytes ≡ false) where
-      pub told-full : fitsFull n bytes ≡ true → commandOf kind.Full ≡ command (read n bytes)
+    module _ (no-notice : notice ≡ false) (full : Bool) (u : full ≡ fitsFull n bytes) where
+      pub told-full : full ≡ true → commandOf kind.Full ≡ command (read n bytes)
       unfolding commandOf command render read readFull
-      told-full h = rw (no-submit, no-notice, h)
+      told-full h = rw (← s, no-submit, ← t, no-notice, ← u, h)
 
-      module _ (no-full : fitsFull n bytes ≡ false) where
-        pub told-garbled : fitsEvidence n bytes ≡ false → commandOf kind.Garbled ≡ command (read n bytes)
+      module _ (no-full : full ≡ false) (evidence : Bool) (v : evidence ≡ fitsEvidence n bytes) where
+        pub told-garbled : not evidence ≡ true → commandOf kind.Garbled ≡ command (read n bytes)
         unfolding commandOf command render read
-        told-garbled h = rw (no-submit, no-notice, no-full, h)
+        told-garbled h = rw (← s, no-submit, ← t, no-notice, ← u, no-full, ← v, not-true evidence h)
 
-        module _ (h : fitsEvidence n bytes ≡ true) where
+        module _ (h : not evidence ≡ false) (code : ℕ) (w : code ≡ byteAt bytes 0) where
           told-pack : packCommand (packIn bytes) ≡ command (read n bytes)
           unfolding command render read readEvidence
-          told-pack = rw (no-submit, no-notice, no-full, h)
+          told-pack = rw (← s, no-submit, ← t, no-notice, ← u, no-full, ← v, not-false evidence h)
 
-          pub told-old-evidence : byteAt bytes 0 ≡ 0x05 → commandOf kind.OldEvidence ≡ command (read n bytes)
+          pub told-old-evidence : code ≡ 0x05 → commandOf kind.OldEvidence ≡ command (read n bytes)
           unfolding commandOf
-          told-old-evidence old = rw (pack-old bytes old) at told-pack
+          told-old-evidence old = rw (pack-old bytes (sym w ∙ old)) at told-pack
 
-          pub told-evidence : byteAt bytes 0 ≢ 0x05 → commandOf kind.Evidence ≡ command (read n bytes)
+          pub told-evidence : code ≢ 0x05 → commandOf kind.Evidence ≡ command (read n bytes)
           unfolding commandOf
-          told-evidence new = rw (pack-new bytes new) at told-pack
+          told-evidence new = rw (pack-new bytes (λ old. new (w ∙ old))) at told-pack
 
 -- ---- the kind by its command
 

@@ -47,9 +47,9 @@ long-enough kind.Garbled n bytes e h = absurd (h refl)
 -- ---- the seats of the entries
 
 module _ (n : ℕ) (bytes : List ℕ) where
-  pub full-seats : (t : Kind) → t ≡ kindOf (read n bytes) → (count : ℕ) → t ≡ kind.Full → count ≡ k n → (seatsIn (full count) bytes ≡ entrySeats (read n bytes)) × Inside (full count) bytes
+  pub full-seats : (t : Kind) → t ≡ kindOf (read n bytes) → t ≡ kind.Full → (count : ℕ) → count ≡ k n → (seatsIn (full count) bytes ≡ entrySeats (read n bytes)) × Inside (full count) bytes
   unfolding entrySeats readFull fullForm placeOf fullEntryLength signatureLength
-  full-seats t e count g q =
+  full-seats t e g count q =
       let r = read-as kind.Full n bytes (sym g ∙ e) in
       (rw (r .0, q) (seats-walked fullForm bytes full-faithful (k n)), omega (arith, full-fits n bytes (r .1) .size, full-figure n))
 
