@@ -26,7 +26,7 @@ use Rattle.store.specs.declared.sources.Place.the-variants as place
 use Rattle.store.specs.declared.sources.Source.{Source}
 use Rattle.wire_write.specs.Writing.{Wrote}
 use Rattle.steps.specs.Phases.{Changed, Did, Fits}
-use Rattle.steps.specs.PhasesLaws.{fits-like, did-same, did-writing-none, did-writing-one, did-then}
+use Rattle.steps.specs.PhasesLaws.{fits-like, did-same, did-writing-none, did-writing-one, did-then, unchanged}
 use Rattle.steps.specs.Certificates.{heard}
 
 -- ---- sources and room
@@ -70,16 +70,13 @@ module _ (r : Record) (store out : List ℕ) (at : ℕ) (out′ : List ℕ) (end
 -- ---- replies, and certificates held or blaming
 
 module _ (r : Record) (store out : List ℕ) (at : ℕ) where
-  nothing-done : Did (λ s. s) r store out at r store out at
-  nothing-done = did-writing-none (λ s. s) r store out at r store refl (record { recorded = refl; stored = refl })
-
   pub reply-owed : (unit : Record) (store′ out′ : List ℕ) (end : ℕ) → owesFull r ≡ true → Did sendFull r store out at unit store′ out′ end → Did reply r store out at unit store′ out′ end
   unfolding reply
   reply-owed unit store′ out′ end e d = did-same sendFull r store reply out at unit store′ out′ end (rw e) d
 
   pub reply-not-owed : owesFull r ≡ false → Did reply r store out at r store out at
   unfolding reply
-  reply-not-owed e = did-same (λ s. s) r store reply out at r store out at (rw e) nothing-done
+  reply-not-owed e = unchanged r store reply out at (rw e)
 
   module _ (c : Certificate) where
     pub first-held : (unit : Record) (store′ : List ℕ) → r .first .seats ≡ 0 → Changed (hold c) r store unit store′ → Did (holdOrBlame c) r store out at unit store′ out at
@@ -95,7 +92,7 @@ module _ (r : Record) (store out : List ℕ) (at : ℕ) where
 
       pub not-blamed : b ≡ false → Did (holdOrBlame c) r store out at r store out at
       unfolding holdOrBlame holds
-      not-blamed e = did-same (λ s. s) r store (holdOrBlame c) out at r store out at (rw (ne-eqb (r .first .seats) 0 some, ← tested, e)) nothing-done
+      not-blamed e = unchanged r store (holdOrBlame c) out at (rw (ne-eqb (r .first .seats) 0 some, ← tested, e))
 
 -- ---- hearing and replying
 
