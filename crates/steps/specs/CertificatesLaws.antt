@@ -1,15 +1,14 @@
 -- The returns of replying, holding and blaming, over plain values.
 use mathlib.Core.Path.{_≡_, refl, subst, _∙_}
-use mathlib.Core.Bool.{Bool, true, false, cond, not, _&&_}
-use mathlib.Core.List.{List}
+use mathlib.Core.Bool.{Bool, true, false, cond}
+use mathlib.Core.List.{List, []}
 use Prim.Native.Nat.{ℕ, _+_, _^_, _≤_, _<_}
 use native.Mathlib.Nat.{mul-le-mul-left}
 use native.Mathlib.Omega.{arith}
-use lib.Dec.{eqb}
 use lib.ListN.{length}
 use borrow.Author.Tests.{eq-eqb, ne-eqb}
-use Rattle.octets.specs.Strings.{same}
-use Rattle.quorum.specs.Quorum.{k, shared}
+use Rattle.quorum.specs.Quorum.{k, In, union, shared}
+use Rattle.quorum.specs.QuorumLaws.{in-less}
 use Rattle.protocol.specs.Layout.{storeLength, fullEntryLength, fullEntryAt, fullLength, evidenceLength}
 use Rattle.protocol.specs.Message.{render}
 use Rattle.protocol.specs.Calls.{start}
@@ -27,7 +26,7 @@ use Rattle.store.specs.declared.sources.Place.the-variants as place
 use Rattle.store.specs.declared.sources.Source.{Source}
 use Rattle.wire_write.specs.Writing.{Wrote}
 use Rattle.steps.specs.Phases.{Changed, Did, Fits}
-use Rattle.steps.specs.PhasesLaws.{fits-like, did-same, did-writing-none, did-writing-one, did-then}
+use Rattle.steps.specs.PhasesLaws.{fits-like, did-same, did-writing-none, did-writing-one, did-then, unchanged}
 use Rattle.steps.specs.Certificates.{heard}
 
 -- ---- sources and room
@@ -43,6 +42,11 @@ pub full-bound : (n size : ℕ) → size ≤ k n → fullEntryAt size ≤ fullLe
 unfolding fullLength fullEntryAt
 full-bound n size h = omega (arith, mul-le-mul-left fullEntryLength h)
 
+-- seats newly found are seats shared with the first certificate
+pub found-shared : (c : Certificate) (r : Record) (mask : ℕ) → mask ≡ found c r → (s : ℕ) → In s mask → In s (shared (r .first .seats) (c .seats))
+unfolding found
+found-shared c r mask e s i = in-less s (shared (r .first .seats) (c .seats)) (r .guilty) .0 (rw e at i) .0
+
 -- ---- messages written
 
 module _ (r : Record) (store out : List ℕ) (at : ℕ) (out′ : List ℕ) (end : ℕ) where
@@ -53,28 +57,26 @@ module _ (r : Record) (store out : List ℕ) (at : ℕ) (out′ : List ℕ) (end
       did-writing-one sendFull r store (fullOf (r .n) (r .round) (r .seat) (ownCertificate r store)) out at (withSent r) store out′ end refl
       (record { recorded = refl; stored = refl }) w
 
-  pub evidence-sent : (source : Source) (value m bytes : List ℕ) (guilty : ℕ) → bytes ≡ bytesOf (source .place) store m → guilty ≡ shared (r .first .seats) (source .seats)
-      → Wrote at (render (evidenceOf (r .n) (r .round) guilty (certificateFrom (r .n) (inBank bank.First (r .first .seats)) (r .first .value) store) (certificateFrom (r .n) source value bytes))) out out′ end
+  pub evidence-sent : (source : Source) (value m bytes : List ℕ) (mask guilty : ℕ) → bytes ≡ bytesOf (source .place) store m → mask ≡ found (heard (r .n) source [] [] []) r
+      → guilty ≡ union (r .guilty) mask
+      → Wrote at (render (evidenceOf (r .n) (r .round) mask (certificateFrom (r .n) (inBank bank.First (r .first .seats)) (r .first .value) store) (certificateFrom (r .n) source value bytes))) out out′ end
       → Did (blame (heard (r .n) source value store m)) r store out at (withGuilty r guilty) store out′ end
   unfolding blame found write firstCertificate signatureAt bankOf
-  evidence-sent source value m bytes guilty chosen e w =
+  evidence-sent source value m bytes mask guilty chosen new grown w =
       let c = heard (r .n) source value store m in
       did-writing-one (blame c) r store (evidenceOf (r .n) (r .round) (found c r) (firstCertificate r store) c) out at (withGuilty r guilty) store out′ end refl
-      (record { recorded = rw e; stored = refl }) (rw (← e, ← chosen) w)
+      (record { recorded = rw (grown, new); stored = refl }) (rw (← new, ← chosen) w)
 
 -- ---- replies, and certificates held or blaming
 
 module _ (r : Record) (store out : List ℕ) (at : ℕ) where
-  nothing-done : Did (λ s. s) r store out at r store out at
-  nothing-done = did-writing-none (λ s. s) r store out at r store refl (record { recorded = refl; stored = refl })
-
   pub reply-owed : (unit : Record) (store′ out′ : List ℕ) (end : ℕ) → owesFull r ≡ true → Did sendFull r store out at unit store′ out′ end → Did reply r store out at unit store′ out′ end
   unfolding reply
   reply-owed unit store′ out′ end e d = did-same sendFull r store reply out at unit store′ out′ end (rw e) d
 
   pub reply-not-owed : owesFull r ≡ false → Did reply r store out at r store out at
   unfolding reply
-  reply-not-owed e = did-same (λ s. s) r store reply out at r store out at (rw e) nothing-done
+  reply-not-owed e = unchanged r store reply out at (rw e)
 
   module _ (c : Certificate) where
     pub first-held : (unit : Record) (store′ : List ℕ) → r .first .seats ≡ 0 → Changed (hold c) r store unit store′ → Did (holdOrBlame c) r store out at unit store′ out at
@@ -82,15 +84,15 @@ module _ (r : Record) (store out : List ℕ) (at : ℕ) where
     first-held unit store′ e h =
         did-same (hold c) r store (holdOrBlame c) out at unit store′ out at (rw (eq-eqb (r .first .seats) 0 e)) (did-writing-none (hold c) r store out at unit store′ refl h)
 
-    module _ (some : r .first .seats ≡ 0 → ⊥) (b : Bool) (tested : b ≡ (not (same (c .value) (r .first .value)) && eqb (r .guilty) 0)) where
+    module _ (some : r .first .seats ≡ 0 → ⊥) (b : Bool) (tested : b ≡ blames c r) where
       pub blamed : (unit : Record) (store′ out′ : List ℕ) (end : ℕ) → b ≡ true → Did (blame c) r store out at unit store′ out′ end → Did (holdOrBlame c) r store out at unit store′ out′ end
-      unfolding holdOrBlame holds blames
+      unfolding holdOrBlame holds
       blamed unit store′ out′ end e d =
           did-same (blame c) r store (holdOrBlame c) out at unit store′ out′ end (rw (ne-eqb (r .first .seats) 0 some, ← tested, e)) d
 
       pub not-blamed : b ≡ false → Did (holdOrBlame c) r store out at r store out at
-      unfolding holdOrBlame holds blames
-      not-blamed e = did-same (λ s. s) r store (holdOrBlame c) out at r store out at (rw (ne-eqb (r .first .seats) 0 some, ← tested, e)) nothing-done
+      unfolding holdOrBlame holds
+      not-blamed e = unchanged r store (holdOrBlame c) out at (rw (ne-eqb (r .first .seats) 0 some, ← tested, e))
 
 -- ---- hearing and replying
 

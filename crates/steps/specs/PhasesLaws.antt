@@ -1,5 +1,5 @@
 -- Phases by their results, and two phases in a row as one.
-use mathlib.Core.Path.{_≡_, sym, ap, _∙_}
+use mathlib.Core.Path.{_≡_, refl, sym, ap, _∙_}
 use mathlib.Core.Bool.{Bool, true, false, cond}
 use mathlib.Core.List.{List, [], _∷_, append-nil}
 use Prim.Native.Nat.{ℕ, _≤_}
@@ -59,6 +59,11 @@ module _ (f : State → State) (r : Record) (store : List ℕ) where
       → Changed f r store unit store′ → Wrote at (render m) out out′ end → Did f r store out at unit store′ out′ end
   unfolding renderAll
   did-writing-one m out at unit store′ out′ end e k w = record { changed = k; wrote = rw (e, append-nil) w }
+
+-- a phase that leaves all as it is
+pub unchanged : (r : Record) (store : List ℕ) (f : State → State) (out : List ℕ) (at : ℕ) → start r store ≡ f (start r store) → Did f r store out at r store out at
+unchanged r store f out at e =
+    did-same (λ s. s) r store f out at r store out at e (did-writing-none (λ s. s) r store out at r store refl (record { recorded = refl; stored = refl }))
 
 -- one phase after another, where the first writes nothing
 pub changed-then : (f g : State → State) (r : Record) (store : List ℕ) (u : Record) (store′ : List ℕ) (v : Record) (store″ : List ℕ) → f (start r store) .written ≡ []

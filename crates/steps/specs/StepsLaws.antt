@@ -2,7 +2,6 @@
 use mathlib.Core.Path.{_≡_, refl}
 use mathlib.Core.Bool.{true, false, and-eq-true-iff}
 use mathlib.Core.List.{List}
-use mathlib.Core.Logic.{_⊎_, ⊎-elim}
 use Prim.Native.Nat.{ℕ, _+_, _≤_, _<_}
 use native.Mathlib.Omega.{arith}
 use lib.Dec.{ltb}
@@ -27,7 +26,7 @@ use Rattle.store.specs.SourcesLaws.{inFull, full-certificate}
 use Rattle.wire.specs.declared.read.Kind.{Kind}
 use Rattle.wire.specs.declared.read.Kind.the-variants as kind
 use Rattle.steps.specs.Phases.{Changed, Did, Fits}
-use Rattle.steps.specs.PhasesLaws.{did-same, did-writing-none, did-then}
+use Rattle.steps.specs.PhasesLaws.{did-same, did-writing-none, did-then, unchanged}
 use Rattle.steps.specs.KeepingLaws.{hearSubmit-quiet, collectKept-quiet, collectKept-after}
 
 -- ---- the start of a call
@@ -118,15 +117,11 @@ module _ (r : Record) (store out : List ℕ) (m : List ℕ) (u : Record) (v : Re
       (rw (full-certificate (r .n) m (full-said (r .n) m said) known ordered seats set value at-value, read-as kind.Full (r .n) m said .0)) d
 
 -- a message that no step takes changes nothing
-pub nothing-heard : (t : Kind) (r : Record) (store out m : List ℕ) → t ≡ kindOf (read (r .n) m) → (tag t ≡ 3) ⊎ (tag t ≡ 4)
-    → Did (stepped (read (r .n) m)) r store out 0 r store out 0
+pub nothing-heard : (t : Kind) (r : Record) (store out m : List ℕ) → t ≡ kindOf (read (r .n) m) → 2 < tag t → Did (stepped (read (r .n) m)) r store out 0 r store out 0
 unfolding stepped readEvidence
-nothing-heard kind.Submit r store out m e h = absurd (⊎-elim (λ a. omega arith) (λ a. omega arith) h)
-nothing-heard kind.Notice r store out m e h = absurd (⊎-elim (λ a. omega arith) (λ a. omega arith) h)
-nothing-heard kind.Full r store out m e h = absurd (⊎-elim (λ a. omega arith) (λ a. omega arith) h)
-nothing-heard kind.Evidence r store out m e h =
-    let same = read-as kind.Evidence (r .n) m e .0 in
-    did-writing-none (stepped (read (r .n) m)) r store out 0 r store (rw same) (record { recorded = rw same; stored = rw same })
-nothing-heard kind.Garbled r store out m e h =
-    let same = read-as kind.Garbled (r .n) m e .0 in
-    did-writing-none (stepped (read (r .n) m)) r store out 0 r store (rw same) (record { recorded = rw same; stored = rw same })
+nothing-heard kind.Submit r store out m e h = absurd (omega arith)
+nothing-heard kind.Notice r store out m e h = absurd (omega arith)
+nothing-heard kind.Full r store out m e h = absurd (omega arith)
+nothing-heard kind.OldEvidence r store out m e h = unchanged r store (stepped (read (r .n) m)) out 0 (rw (read-as kind.OldEvidence (r .n) m e .0))
+nothing-heard kind.Evidence r store out m e h = unchanged r store (stepped (read (r .n) m)) out 0 (rw (read-as kind.Evidence (r .n) m e .0))
+nothing-heard kind.Garbled r store out m e h = unchanged r store (stepped (read (r .n) m)) out 0 (rw (read-as kind.Garbled (r .n) m e .0))

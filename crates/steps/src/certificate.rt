@@ -1,14 +1,12 @@
-// Certificates heard: the first is held, and one with another value makes the shared seats guilty.
+// Certificates heard: the first is held, and each with another value makes the seats guilty that it shares with the first.
 ghost use mathlib.Core.Path.{_≡_};
-ghost use mathlib.Core.Bool.{_&&_, not};
+ghost use mathlib.Core.List.{[]};
 ghost use Prim.Native.Nat.{_+_, _≤_};
-ghost use lib.Dec.{eqb};
 ghost use lib.ListN.{length};
-ghost use Rattle.octets.specs.Strings.{same};
-ghost use Rattle.quorum.specs.Quorum.{k, shared};
+ghost use Rattle.quorum.specs.Quorum.{k};
 ghost use Rattle.protocol.specs.Layout.{fullLength, evidenceLength};
 ghost use Rattle.protocol.specs.Record.{withFirst};
-ghost use Rattle.protocol.specs.Step.{hold, blame, holdOrBlame, hearCertificate};
+ghost use Rattle.protocol.specs.Step.{hold, found, blames, blame, holdOrBlame, hearCertificate};
 ghost use Rattle.steps.specs.Phases.{Changed, Did, Fits};
 ghost use Rattle.steps.specs.Certificates.{Heard, heard};
 use crate::hear::hear;
@@ -41,16 +39,25 @@ fn hold(r: Record, store: &mut [u8], value: [u8; 32], source: Source, m: &[u8]) 
     with_first(r, first)
 }
 
-// Whether the value isn't the first certificate's, while guilty seats are empty.
-fn blames(r: Record, value: [u8; 32]) -> bool
-    ensures { λ b. ⌜ b ≡ (not (same value (r .first .value)) && eqb (r .guilty) 0) ⌝ }
+// The seats newly found: those that a certificate shares with the first one held, less those guilty already.
+fn found(r: Record, source: Source) -> Mask
+    ensures { λ mask. ⌜ mask ≡ found (heard (r .n) source [] [] []) r ⌝ }
+{
+    let shared = quorum::shared(r.first.seats, source.seats);
+    quorum::less(shared, r.guilty)
+}
+
+// Whether a certificate has another value than the first one held, and seats newly found.
+fn blames(r: Record, value: [u8; 32], source: Source) -> bool
+    ensures { λ b. ⌜ b ≡ blames (heard (r .n) source value [] []) r ⌝ }
 {
     let first = r.first.value;
     let same = octets::same(&value, &first);
-    !same & (r.guilty == 0)
+    let mask = found(r, source);
+    !same & (mask != 0)
 }
 
-// Makes the shared seats guilty, and writes EVIDENCE.
+// Makes the seats newly found guilty, and writes EVIDENCE for them.
 fn blame<'a>(
     r: Record,
     store: &'a [u8],
@@ -59,11 +66,11 @@ fn blame<'a>(
     value: [u8; 32],
     source: Source,
     m: &'a [u8],
-    guilty: Mask,
 ) -> Phase
-    requires { ⌜ Fits r (now store) × Heard (r .n) source (now store) (now m) × (at + evidenceLength (k (r .n)) ≤ length (now out)) × (guilty ≡ shared (r .first .seats) (source .seats)) ⌝ }
+    requires { ⌜ Fits r (now store) × Heard (r .n) source (now store) (now m) × (at + evidenceLength (k (r .n)) ≤ length (now out)) ⌝ }
     ensures { λ p. ⌜ Did (blame (heard (r .n) source value (now (store .entry)) (now (m .entry)))) r (now (store .entry)) (now (out .entry)) at (p .unit) (now (store .entry)) (now (out .exit)) (p .at) ⌝ }
 {
+    let mask = found(r, source);
     let first_value = r.first.value;
     let first = Source {
         place: Place::Slots(Bank::First),
@@ -75,7 +82,7 @@ fn blame<'a>(
         at,
         r.n,
         r.round,
-        guilty,
+        mask,
         &first_value,
         first,
         store,
@@ -84,11 +91,11 @@ fn blame<'a>(
         bytes,
     );
     let mut unit = r;
-    unit.guilty = guilty;
+    unit.guilty = quorum::union(r.guilty, mask);
     Phase { unit, at: end }
 }
 
-// Holds a certificate where none is held; otherwise blames, where its value is another.
+// Holds a certificate where none is held; otherwise blames, where its value is another and it adds seats.
 fn hold_or_blame(
     r: Record,
     store: &mut [u8],
@@ -105,14 +112,13 @@ fn hold_or_blame(
         let unit = hold(r, store, value, source, m);
         return Phase { unit, at };
     }
-    if blames(r, value) {
-        let guilty = quorum::shared(r.first.seats, source.seats);
-        return blame(r, store, out, at, value, source, m, guilty);
+    if blames(r, value, source) {
+        return blame(r, store, out, at, value, source, m);
     }
     Phase { unit: r, at }
 }
 
-// A certificate heard: a notice for its value, then the reply, then the certificate held or the shared seats blamed.
+// A certificate heard: a notice for its value, then the reply, then the certificate held or the seats newly found blamed.
 pub(crate) fn hear_certificate(
     r: Record,
     store: &mut [u8],

@@ -1,4 +1,4 @@
-// Submit and step once nothing is refused (document 01, "Steps"; document 02, item 1), as phases one after another.
+// Submit and step once nothing is refused (document 01, "Steps"; document 02, items 1 and 3), as phases one after another.
 ghost use mathlib.Core.Path.{_≡_};
 ghost use mathlib.Core.Bool.{false};
 ghost use lib.ListN.{length};
@@ -91,6 +91,6 @@ pub fn step_phase(r: Record, store: &mut [u8], out: &mut [u8], kind: Kind, messa
         Kind::Submit => step_submit(r, store, out, message),
         Kind::Notice => step_notice(r, store, out, message),
         Kind::Full => step_full(r, store, out, message),
-        Kind::Evidence | Kind::Garbled => Phase { unit: r, at: 0 },
+        Kind::OldEvidence | Kind::Evidence | Kind::Garbled => Phase { unit: r, at: 0 },
     }
 }

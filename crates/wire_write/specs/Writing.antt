@@ -6,7 +6,7 @@ use Prim.Native.Nat.{ℕ, _+_}
 use lib.ListN.{length}
 use Rattle.octets.specs.Octets.{patch, be}
 use Rattle.quorum.specs.Quorum.{In}
-use Rattle.protocol.specs.Message.{Entry, Pair, PairValues}
+use Rattle.protocol.specs.Message.{Entry, Pair}
 use Rattle.store.specs.declared.sources.Source.{Source}
 
 -- a buffer after `bytes` were written from index `at`: every other byte keeps what it held, and `end` is the place after them
@@ -18,19 +18,12 @@ pub record Wrote (at : ℕ) (bytes before after : List ℕ) (end : ℕ) : Type 0
 abbrev pub head : ℕ → ℕ → ℕ → List ℕ → List ℕ
 head command round seat value = command ∷ be 2 round ++ seat ∷ [] ++ value
 
--- the start of EVIDENCE: "round 2, lower value 32, higher value 32, count 1" after the command
-abbrev pub evidenceHead : ℕ → List ℕ → List ℕ → ℕ → List ℕ
-evidenceHead round lower higher count = 0x05 ∷ be 2 round ++ lower ++ higher ++ count ∷ []
-
--- entries, as they are written: the bytes of a pair don't say its values
+-- entries, as they are written
 abbrev pub entry : ℕ → List ℕ → Entry
 entry seat signature = record { seat = seat; signature = signature }
 
-abbrev pub noValues : PairValues
-noValues = record { lower = []; higher = [] }
-
-abbrev pub pair : ℕ → List ℕ → List ℕ → Pair
-pair seat lower higher = record { seat = seat; lowerValue = []; higherValue = []; lower = lower; higher = higher }
+abbrev pub pair : ℕ → List ℕ → List ℕ → List ℕ → List ℕ → Pair
+pair seat lowerValue higherValue lower higher = record { seat = seat; lowerValue = lowerValue; higherValue = higherValue; lower = lower; higher = higher }
 
 -- every seat of a set is the certificate's
 abbrev pub Within : ℕ → Source → Type 0

@@ -3,6 +3,7 @@
 use mathlib.Core.Path.{_≡_, refl, sym, ap, _∙_}
 use mathlib.Core.Bool.{Bool, true, false}
 use mathlib.Core.List.{List, [], _∷_, _++_, append-assoc, append-nil, map, map-append}
+use mathlib.Core.Logic.{⊎-elim}
 use Prim.Native.Nat.{ℕ, suc, _+_, _*_, _/_, _%_, _^_, _≤_, _<_}
 use native.Mathlib.Nat.{add-zero, mul-zero, mul-suc, mul-le-mul-left}
 use native.Mathlib.Numerals.{add-one, add-two}
@@ -13,17 +14,15 @@ use Rattle.octets.specs.Octets.{patch, be}
 use Rattle.octets.specs.OctetsLaws.{length-be, patch-patch, length-patch}
 use Rattle.octets.specs.StringsLaws.{be-two}
 use Rattle.quorum.specs.Quorum.{k, bit, In, shared, seats, size}
-use Rattle.quorum.specs.QuorumLaws.{in-shared, shared-lt, size-shared-le, seats-in, seats-out, length-seats}
-use Rattle.protocol.specs.Layout.{valueLength, operandsAt, noticeLength, entryLength, evidenceStart, evidenceEntryLength, evidenceEntryAt, evidenceLength}
+use Rattle.quorum.specs.QuorumLaws.{bit-cases, in-shared, bit-outside, lt-of-none-outside, size-within, seats-in, seats-out, length-seats}
+use Rattle.protocol.specs.Layout.{valueLength, operandsAt, noticeLength, entryLength, evidenceEntryLength, evidenceEntryAt, evidenceLength}
 use Rattle.protocol.specs.Values.{isLower}
 use Rattle.protocol.specs.Entries.{Form, renderEntry, renderEntries}
 use Rattle.protocol.specs.EntriesLaws.{entries-append, length-entry}
-use Rattle.protocol.specs.Message.{evidenceForm, render}
+use Rattle.protocol.specs.Message.{ValuesEach, evidenceForm, render}
 use Rattle.protocol.specs.Certificate.{Certificate, pairOf, pairsOf, orderedEvidence, evidenceOf}
-use Rattle.store.specs.Sources.{certificateFrom}
 use Rattle.store.specs.SeatLaws.{seats-split}
-use Rattle.store.specs.declared.sources.Source.{Source}
-use Rattle.wire_write.specs.Writing.{Wrote, noValues, head, evidenceHead}
+use Rattle.wire_write.specs.Writing.{Wrote, head}
 
 -- ---- one write after another
 
@@ -58,9 +57,6 @@ length-head command round seat value h = simp (length-append, length-be) (omega 
 
 pub length-command : (command round : ℕ) → length (command ∷ be 2 round) ≡ operandsAt
 length-command command round = rw length-be
-
-pub length-evidence-head : (round : ℕ) (lower higher : List ℕ) (count : ℕ) → length lower ≡ valueLength → length higher ≡ valueLength → length (evidenceHead round lower higher count) ≡ evidenceStart
-length-evidence-head round lower higher count l h = simp (length-append, length-be) (omega arith)
 
 -- ---- an entry for each seat of a set
 
@@ -130,24 +126,13 @@ list-written form f n m front {count = count} u v h inside c =
     let counted : length (map f (seats n m)) ≡ count = length-map (seats n m) f ∙ length-seats n m inside ∙ sym c in
     rw counted (wrote-then u v h)
 
--- the bytes of pairs don't say their values
-pairs-values : (n : ℕ) (low : Source) (lows : List ℕ) (high : Source) (highs lower higher l : List ℕ)
-    → renderEntries (evidenceForm noValues) (map (pairOf (certificateFrom n low [] lows) (certificateFrom n high [] highs)) l)
-    ≡ renderEntries (evidenceForm (record { lower = lower; higher = higher })) (map (pairOf (certificateFrom n low lower lows) (certificateFrom n high higher highs)) l)
-unfolding renderEntries renderEntry evidenceForm
-pairs-values n low lows high highs lower higher [] = refl
-pairs-values n low lows high highs lower higher (s ∷ l) = rw (pairs-values n low lows high highs lower higher l)
-
--- EVIDENCE from its parts: its start, and the entries of a set of seats
-pub evidence-written : (n round mask : ℕ) (lower : List ℕ) (low : Source) (lows higher : List ℕ) (high : Source) (highs : List ℕ)
-    → {at count a e : ℕ} {before one after : List ℕ} → Wrote at (evidenceHead round lower higher count) before one a
-    → Wrote a (renderEntries (evidenceForm noValues) (pairsOf n mask (certificateFrom n low [] lows) (certificateFrom n high [] highs))) one after e
-    → at ≤ length before → mask < 2 ^ n → count ≡ size mask
-    → Wrote at (render (orderedEvidence n round mask (certificateFrom n low lower lows) (certificateFrom n high higher highs))) before after e
-unfolding render orderedEvidence pairsOf
-evidence-written n round mask lower low lows higher high highs u v h inside c =
-    list-written (evidenceForm (record { lower = lower; higher = higher })) (pairOf (certificateFrom n low lower lows) (certificateFrom n high higher highs)) n mask (0x05 ∷ be 2 round ++ lower ++ higher) u
-    (rw (pairs-values n low lows high highs lower higher (seats n mask)) at v) h inside c
+-- EVIDENCE from its parts: command and round, the count, and the entries of a set of seats
+pub evidence-written : (n round mask : ℕ) (low high : Certificate) {at count a e : ℕ} {before one after : List ℕ}
+    → Wrote at (0x07 ∷ be 2 round ++ count ∷ []) before one a → Wrote a (renderEntries (evidenceForm ValuesEach) (pairsOf n mask low high)) one after e
+    → at ≤ length before → mask < 2 ^ n → count ≡ size mask → Wrote at (render (orderedEvidence n round mask low high)) before after e
+unfolding render orderedEvidence pairsOf be
+evidence-written n round mask low high u v h inside c =
+    list-written (evidenceForm ValuesEach) (pairOf low high) n mask (0x07 ∷ be 2 round) u v h inside c
 
 -- EVIDENCE from two certificates in either order, by a test of their values
 module _ (n round mask : ℕ) (c d : Certificate) {t : Bool} (e : t ≡ isLower (c .value) (d .value)) {at : ℕ} {before after : List ℕ} {end : ℕ} where
@@ -159,14 +144,21 @@ module _ (n round mask : ℕ) (c d : Certificate) {t : Bool} (e : t ≡ isLower 
   unfolding evidenceOf
   given-higher f w = rw (← e, f) w
 
--- the seats that two sets share, as the set to write: all are below n and in both
-module _ (n a b : ℕ) {mask : ℕ} (is : mask ≡ shared a b) where
-  pub shared-seats : a < 2 ^ n → b < 2 ^ n → (mask < 2 ^ n) × ((s : ℕ) → In s mask → In s a) × ((s : ℕ) → In s mask → In s b)
-  shared-seats x y = rw is (shared-lt n a b x y, λ s i. in-shared s a b .0 i .0, λ s i. in-shared s a b .0 i .1)
+-- seats that two sets share, as the set to write: all are below n and in both
+module _ (n a b mask : ℕ) (among : (s : ℕ) → In s mask → In s (shared a b)) where
+  in-first : (s : ℕ) → In s mask → In s a
+  in-first s i = in-shared s a b .0 (among s i) .0
+
+  pub shared-seats : a < 2 ^ n → (mask < 2 ^ n) × ((s : ℕ) → In s mask → In s a) × ((s : ℕ) → In s mask → In s b)
+  shared-seats below = (
+    lt-of-none-outside n mask (λ s l. ⊎-elim (λ z. z) (λ i. absurd (omega (arith, in-first s i, bit-outside s n a below l))) (bit-cases s mask)),
+    in-first,
+    λ s i. in-shared s a b .0 (among s i) .1,
+  )
 
   -- they are at most k, where the first set has no more
   pub shared-room : size a ≤ k n → evidenceLength (size mask) ≤ evidenceLength (k n)
   unfolding evidenceLength evidenceEntryAt
   shared-room h =
-      let few : size mask ≤ k n = rw is (omega (arith, size-shared-le a b)) in
+      let few : size mask ≤ k n = omega (arith, size-within a mask in-first) in
       omega (arith, mul-le-mul-left evidenceEntryLength few)

@@ -5,12 +5,12 @@ ghost use Prim.Native.Nat.{_+_, _*_, _^_, _<_, _≤_};
 ghost use lib.ListN.{length};
 ghost use Rattle.octets.specs.Octets.{be};
 ghost use Rattle.quorum.specs.Quorum.{mostSeats, seats, size};
-ghost use Rattle.protocol.specs.Layout.{valueLength, signatureLength, operandsAt, submitLength, noticeLength, entryHeldAt, fullEntryLength, fullEntryAt, evidenceStart, evidenceEntryLength, evidenceLength};
+ghost use Rattle.protocol.specs.Layout.{valueLength, signatureLength, operandsAt, submitLength, noticeLength, entryHeldAt, fullEntryLength, fullEntryAt, evidenceEntryLength, evidenceLength};
 ghost use Rattle.protocol.specs.Entries.{renderEntry, renderEntries};
-ghost use Rattle.protocol.specs.Message.{Submit, Notice, fullForm, evidenceForm, render};
+ghost use Rattle.protocol.specs.Message.{Submit, Notice, ValuesEach, fullForm, evidenceForm, render};
 ghost use Rattle.protocol.specs.Certificate.{entriesOf, fullOf, pairsOf, orderedEvidence, evidenceOf};
 ghost use Rattle.store.specs.Sources.{Readable, certificateFrom};
-ghost use Rattle.wire_write.specs.Writing.{Wrote, Within, noValues, head, evidenceHead, entry, pair};
+ghost use Rattle.wire_write.specs.Writing.{Wrote, Within, head, entry, pair};
 use quorum::Mask;
 use store::sources::Source;
 use store::sources::signature_of;
@@ -97,14 +97,24 @@ fn write_entry(out: &mut [u8], at: usize, seat: u32, signature: &[u8]) -> usize
     put(out, a, signature)
 }
 
-// An entry of EVIDENCE.
-fn write_pair(out: &mut [u8], at: usize, seat: u32, lower: &[u8], higher: &[u8]) -> usize
-    requires { ⌜ (seat < 256) × (length (now lower) ≡ signatureLength) × (length (now higher) ≡ signatureLength) × (at + evidenceEntryLength ≤ length (now out)) ⌝ }
-    ensures { λ r. ⌜ Wrote at (renderEntry (evidenceForm noValues) (pair seat (now (lower .entry)) (now (higher .entry)))) (now (out .entry)) (now (out .exit)) r ⌝ }
+// An entry of EVIDENCE: the seat, both values, and the signatures over them.
+fn write_pair(
+    out: &mut [u8],
+    at: usize,
+    seat: u32,
+    lower: &[u8],
+    higher: &[u8],
+    low: &[u8],
+    high: &[u8],
+) -> usize
+    requires { ⌜ (seat < 256) × (length (now lower) ≡ valueLength) × (length (now higher) ≡ valueLength) × (length (now low) ≡ signatureLength) × (length (now high) ≡ signatureLength) × (at + evidenceEntryLength ≤ length (now out)) ⌝ }
+    ensures { λ r. ⌜ Wrote at (renderEntry (evidenceForm ValuesEach) (pair seat (now (lower .entry)) (now (higher .entry)) (now (low .entry)) (now (high .entry)))) (now (out .entry)) (now (out .exit)) r ⌝ }
 {
-    let a = put_tag(out, at, 6, seat);
+    let a = put_tag(out, at, 8, seat);
     let b = put(out, a, lower);
-    put(out, b, higher)
+    let c = put(out, b, higher);
+    let d = put(out, c, low);
+    put(out, d, high)
 }
 
 // The entries of FULL for a certificate, rising.
@@ -150,43 +160,27 @@ fn write_pairs(
     at: usize,
     n: u32,
     mask: Mask,
+    lower: &[u8],
     low: Source,
     lows: &[u8],
+    higher: &[u8],
     high: Source,
     highs: &[u8],
 ) -> usize
-    requires { ⌜ (n ≤ mostSeats) × Within mask low × Readable n low (now lows) × Within mask high × Readable n high (now highs) × (at + evidenceEntryLength * length (seats n mask) ≤ length (now out)) ⌝ }
-    ensures { λ r. ⌜ Wrote at (renderEntries (evidenceForm noValues) (pairsOf n mask (certificateFrom n low [] (now (lows .entry))) (certificateFrom n high [] (now (highs .entry))))) (now (out .entry)) (now (out .exit)) r × (r ≡ at + evidenceEntryLength * length (seats n mask)) ⌝ }
+    requires { ⌜ (n ≤ mostSeats) × (length (now lower) ≡ valueLength) × Within mask low × Readable n low (now lows) × (length (now higher) ≡ valueLength) × Within mask high × Readable n high (now highs) × (at + evidenceEntryLength * length (seats n mask) ≤ length (now out)) ⌝ }
+    ensures { λ r. ⌜ Wrote at (renderEntries (evidenceForm ValuesEach) (pairsOf n mask (certificateFrom n low (now (lower .entry)) (now (lows .entry))) (certificateFrom n high (now (higher .entry)) (now (highs .entry))))) (now (out .entry)) (now (out .exit)) r × (r ≡ at + evidenceEntryLength * length (seats n mask)) ⌝ }
 {
     let mut end = at;
     let mut s = 0;
     while s < n {
         if quorum::has(mask, s) {
-            let lower = signature_of(low, n, s, lows);
-            let higher = signature_of(high, n, s, highs);
-            end = write_pair(out, end, s, lower, higher);
+            let l = signature_of(low, n, s, lows);
+            let h = signature_of(high, n, s, highs);
+            end = write_pair(out, end, s, lower, higher, l, h);
         }
         s += 1;
     }
     end
-}
-
-// The start of EVIDENCE: code, round, both values and the count.
-fn write_evidence_head(
-    out: &mut [u8],
-    at: usize,
-    round: u32,
-    lower: &[u8],
-    higher: &[u8],
-    count: u32,
-) -> usize
-    requires { ⌜ (count < 256) × (length (now lower) ≡ valueLength) × (length (now higher) ≡ valueLength) × (at + evidenceStart ≤ length (now out)) ⌝ }
-    ensures { λ r. ⌜ Wrote at (evidenceHead round (now (lower .entry)) (now (higher .entry)) count) (now (out .entry)) (now (out .exit)) r × (r ≡ at + evidenceStart) ⌝ }
-{
-    let a = put_command(out, at, 5, round);
-    let b = put(out, a, lower);
-    let c = put(out, b, higher);
-    put_byte(out, c, count as u8)
 }
 
 // EVIDENCE from two certificates for a set of seats that both have, the one with the lower value first.
@@ -207,8 +201,9 @@ fn write_ordered(
     ensures { λ r. ⌜ Wrote at (render (orderedEvidence n round mask (certificateFrom n low (now (lower .entry)) (now (lows .entry))) (certificateFrom n high (now (higher .entry)) (now (highs .entry))))) (now (out .entry)) (now (out .exit)) r × (r ≡ at + evidenceLength (size mask)) ⌝ }
 {
     let count = quorum::size(mask);
-    let a = write_evidence_head(out, at, round, lower, higher, count);
-    write_pairs(out, a, n, mask, low, lows, high, highs)
+    let a = put_command(out, at, 7, round);
+    let b = put_byte(out, a, count as u8);
+    write_pairs(out, b, n, mask, lower, low, lows, higher, high, highs)
 }
 
 // EVIDENCE from two certificates for a set of seats that both have, in either order: values va and vb, signatures from ma and mb.

@@ -17,7 +17,7 @@ use protocol::Written;
 pub extern "C" fn zolbine_version() -> u32
     ensures { λ r. ⌜ r ≡ version ⌝ }
 {
-    3
+    4
 }
 
 // The length of the first message in a buffer; 0 where no message of a fleet of n seats stands there whole.
@@ -75,7 +75,8 @@ pub extern "C" fn zolbine_sign(
     lms::calls::sign(leaf, seed, identifier, randomizer, tree, message, out)
 }
 
-// "The evidence check answers the mask of the seats named, 0 with a refusal."
+// "The evidence check answers the mask of the seats named, 0 with a refusal." "The old 0x05 is still accepted by the check." (document
+// 02, item 3)
 #[no_mangle]
 pub extern "C" fn zolbine_check_evidence(
     n: u32,

@@ -1,5 +1,6 @@
 -- `wire_write::write_ordered` meets its contract.
-use mathlib.Core.Path.{_≡_, _∙_}
+use mathlib.Core.Path.{_≡_}
+use Prim.Native.Nat.{_≤_}
 use native.Mathlib.Omega.{arith}
 use lib.ListN.{length}
 use borrow.Author.Needs.{needs}
@@ -7,48 +8,69 @@ use denote.Ref.{now}
 use Rattle.quorum.specs.Quorum.{size, seats}
 use Rattle.quorum.specs.QuorumLaws.{size-le, length-seats}
 use Rattle.protocol.specs.Layout.{evidenceEntryAt, evidenceLength}
-use Rattle.wire_write.specs.WritingLaws.{evidence-written}
+use Rattle.protocol.specs.Certificate.{Certificate}
+use Rattle.store.specs.Sources.{certificateFrom}
+use Rattle.wire_write.specs.WritingLaws.{wrote-then, length-command, evidence-written}
 use Rattle.wire_write.proofs.write_ordered.Statement.{statement}
 use Rattle.wire_write.proofs.write_ordered.Tie as tie
 
 abbrev started : tie.After-size → tie.Start
 started c = c .before .before .before .before .before .before
 
-abbrev counted : tie.After-write-evidence-head → tie.After-size
+-- command and round are written, then the count
+abbrev counted : tie.After-put-command → tie.After-size
 counted c = c .before .before
+
+abbrev commanded : tie.After-put-byte-arg → tie.After-put-command
+commanded c = c .before .before .before
 
 -- the seats to write are as many as were counted
 many : (c : tie.After-size) → length (seats (started c .args .n) (started c .args .mask)) ≡ size (started c .args .mask)
 many c = length-seats (started c .args .n) (started c .args .mask) (started c .pre .5)
 
-write-evidence-head-requires : tie.Need-write-evidence-head-requires
+put-command-requires : tie.Need-put-command-requires
 unfolding evidenceLength evidenceEntryAt
-write-evidence-head-requires c κs =
-    let sized = c .before in
+put-command-requires c κs = omega arith
+
+cast-put-byte : tie.Need-cast-put-byte
+cast-put-byte c =
+    let sized = counted (commanded c) in
     let start = started sized in
-    let few = size-le (start .args .n) (start .args .mask) (start .pre .5) in
-    (omega (arith, start .pre .0, sized .size .ensures), start .pre .1, start .pre .3, omega (arith, start .pre .8))
+    omega (arith, start .pre .0, sized .size .ensures, size-le (start .args .n) (start .args .mask) (start .pre .5))
+
+put-byte-requires : tie.Need-put-byte-requires
+unfolding evidenceLength evidenceEntryAt
+put-byte-requires c κs =
+    let start = started (counted (commanded c)) in
+    omega (arith, length-command 7 (start .args .round), start .pre .8)
 
 write-pairs-requires : tie.Need-write-pairs-requires
 unfolding evidenceLength evidenceEntryAt
 write-pairs-requires c κs =
-    let head = c .before .before .before in
-    let sized = counted head in
-    let pre = started sized .pre in
-    (pre .0, pre .6, pre .2, pre .7, pre .4, rw (many sized) (omega (arith, pre .8, head .write-evidence-head .ensures .1, head .write-evidence-head .kept)))
+    let second = c .before .before .before in
+    let first = commanded (second .before) in
+    let sized = counted first in
+    let start = started sized in
+    let pre = start .pre in
+    let command = first .put-command in
+    (pre .0, pre .1, pre .6, pre .2, pre .3, pre .7, pre .4, rw (many sized) (omega (arith, length-command 7 (start .args .round), pre .8, command .ensures .ends, command .kept, second .put-byte .ensures .ends)))
 
 returns : tie.Need-returns
 unfolding evidenceLength evidenceEntryAt
 returns c =
-    let second = c .before .before in
-    let first = second .before .before .before .before in
+    let third = c .before .before in
+    let second = third .before .before .before .before in
+    let first = commanded (second .before) in
     let sized = counted first in
     let start = started sized in
     let args = start .args in
-    let pre = start .pre in (
-      evidence-written (args .n) (args .round) (args .mask) (now (args .lower)) (args .low) (now (args .lows)) (now (args .higher)) (args .high) (now (args .highs)) (first .write-evidence-head .ensures .0)
-          (second .write-pairs .ensures .0) (omega (arith, pre .8)) (pre .5) (sized .size .ensures),
-      second .write-pairs .ensures .1 ∙ rw (many sized) (omega (arith, first .write-evidence-head .ensures .1)),
+    let pre = start .pre in
+    let n = args .n in
+    let low = certificateFrom n (args .low) (now (args .lower)) (now (args .lows)) in
+    let high = certificateFrom n (args .high) (now (args .higher)) (now (args .highs)) in
+    let room : args .at ≤ length (now (args .out)) = omega (arith, pre .8) in (
+      evidence-written n (args .round) (args .mask) low high (wrote-then (first .put-command .ensures) (second .put-byte .ensures) room) (third .write-pairs .ensures .0) room (pre .5) (sized .size .ensures),
+      omega (arith, length-command 7 (args .round), rw (many sized) at (third .write-pairs .ensures .1), first .put-command .ensures .ends, second .put-byte .ensures .ends),
     )
 
 pub write-ordered-spec : {M : Type 1} → statement M
@@ -56,7 +78,9 @@ write-ordered-spec =
     tie.close
     (tie.spec
     (λ c κs. search needs)
-    write-evidence-head-requires
+    put-command-requires
+    cast-put-byte
+    put-byte-requires
     write-pairs-requires
     (λ c. search needs)
     returns)

@@ -1,5 +1,6 @@
 -- `steps::certificate::hold_or_blame` meets its contract.
 use Rattle.protocol.specs.Certificate.{Certificate}
+use Rattle.protocol.specs.Step.{found, blames}
 use denote.Ref.{now}
 use Rattle.steps.specs.Certificates.{heard}
 use Rattle.steps.specs.CertificatesLaws.{first-held, blamed, not-blamed}
@@ -21,7 +22,7 @@ abbrev taken : tie.After-hold → tie.Then1
 taken c = c .before .before
 
 abbrev tested : tie.After-blame → tie.Then2
-tested c = c .before .before .before .before
+tested c = c .before .before .before
 
 returns : tie.Need-returns
 returns c =
@@ -32,6 +33,7 @@ returns c =
     first-held (args .r) (now (args .store)) (now (args .out)) (args .at) (certificate start) (held .result) (held .last .1 .0) (taken last .if1 .taken) (held .ensures)
 
 returns-2 : tie.Need-returns-2
+unfolding blames found
 returns-2 c =
     let last = c .before .before in
     let done = last .blame in
@@ -42,6 +44,7 @@ returns-2 c =
     (done .result .unit) (now (args .store)) (done .last .1 .1 .0) (done .result .at) (tested last .if2 .taken) (done .ensures)
 
 returns-3 : tie.Need-returns-3
+unfolding blames found
 returns-3 c =
     let asked = c .before in
     let start = begun asked in
@@ -55,7 +58,6 @@ hold-or-blame-spec =
     (λ c κs. search needs)
     (λ c. search needs)
     returns
-    (λ c κs. search needs)
     (λ c κs. search needs)
     (λ c κs. search needs)
     (λ c. search needs)

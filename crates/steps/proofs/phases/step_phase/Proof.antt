@@ -1,5 +1,7 @@
 -- `steps::phases::step_phase` meets its contract.
 use mathlib.Core.Path.{sym, _∙_}
+use mathlib.Core.Logic.{⊎-elim}
+use native.Mathlib.Omega.{arith}
 use denote.Ref.{now}
 use Rattle.steps.specs.StepsLaws.{nothing-heard}
 use Rattle.wire.proofs.Tags.{tags}
@@ -38,7 +40,8 @@ returns-4 : tie.Need-returns-4
 returns-4 c =
     let start = started (c .before) in
     let args = start .args in
-    nothing-heard (args .kind) (args .r) (now (args .store)) (now (args .out)) (now (args .message)) (start .pre .1) (rw (tags (args .kind)) at (c .match .keys4))
+    nothing-heard (args .kind) (args .r) (now (args .store)) (now (args .out)) (now (args .message)) (start .pre .1)
+    (⊎-elim (λ a. omega arith) (⊎-elim (λ a. omega arith) (λ a. omega arith)) (rw (tags (args .kind)) at (c .match .keys4)))
 
 pub step-phase-spec : {M : Type 1} → statement M
 step-phase-spec =
