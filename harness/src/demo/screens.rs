@@ -511,10 +511,12 @@ impl<'a> Screens<'a> {
             blamed => format!("HONEST BOATS ARE NAMED: {}.", boats_of(blamed)),
         };
         let (at_first, in_the_end) = (fewest(&first), fewest(&all));
-        let more =
-            if in_the_end > at_first { format!(" at first, and {in_the_end} in the end") } else { String::new() };
+        let more = match in_the_end > at_first {
+            true => format!(" at first, and {in_the_end} in the end; together they name "),
+            false => ": ".to_string(),
+        };
         let mut told = format!(
-            "{held} of {} honest boats hold evidence that the check accepts. Each names at least {} ({} promised){more}: {}. \
+            "{held} of {} honest boats hold evidence that the check accepts. Each names at least {} ({} promised){more}{}. \
              {blamed}",
             honest.len(),
             count(at_first, "boat"),

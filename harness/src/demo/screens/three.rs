@@ -65,13 +65,13 @@ impl Screens<'_> {
         let (mut rows, mut told) = (vec![row(&first)], Vec::new());
         for (number, pack) in (1..).zip(played.packs(seat)) {
             let named = pack.verdict.mask;
-            let (end, shows) = match number {
-                1 => (count(size(named), "boat"), ""),
-                _ => (format!("{} more", size(named)), ", which no certificate before that one shows"),
+            let [held, other] = [&first, &pack.certificate].map(|certificate| self.name(&certificate.value));
+            let (how_many, shows) = match number {
+                1 => (count(size(named), "boat"), format!("The certificate for {other} shows that")),
+                _ => (format!("{} more", size(named)), format!("The one for {other} shows {} more:", size(named))),
             };
-            rows.extend([row(&pack.certificate), pointed_at(format!("EVIDENCE {number}"), named, end)]);
-            let layouts = [&first, &pack.certificate].map(|certificate| self.name(&certificate.value).to_string());
-            told.push(format!("{} signed {}{shows}.", capital(&boats_of(named)), and(&layouts)));
+            rows.extend([row(&pack.certificate), pointed_at(format!("EVIDENCE {number}"), named, how_many)]);
+            told.push(format!("{shows} {} signed {held} and {other}.", boats_of(named)));
         }
         self.line(format!("\nBoat {seat}, certificate by certificate:\n"));
         self.text += &picture(self.n, &rows);
