@@ -30,6 +30,12 @@
 
 #define SUM_LEN 8
 
+/* The most bytes that a unit writes in a round: SUBMIT, NOTICE and FULL once each, and up to t0 + 1 EVIDENCEs. Each EVIDENCE names
+ * seats that none before it names, all of them among the k of the first certificate held. So together they have k entries at most,
+ * and a head each; ZOLBINE_OUT_LEN(n) has room for k entries and one head.
+ */
+#define ROUND_LEN(n) (ZOLBINE_OUT_LEN(n) + ZOLBINE_T0(n) * ZOLBINE_EVIDENCE_HEAD_LEN)
+
 struct key {
     uint8_t seed[ZOLBINE_SEED_LEN];
     uint8_t identifier[ZOLBINE_IDENTIFIER_LEN];
@@ -149,13 +155,17 @@ static void send_from(const struct unit *unit, size_t place)
     }
 }
 
-/* After each call. A refusal has changed nothing; nor has a call after which the note is still that of the file. */
+/* After each call. A refusal has changed nothing; nor has a call after which the note is still that of the file. A number below 8 is
+ * about the record, the keys or a buffer, and so a fault of this program or its memory.
+ */
 static void answered(struct unit *unit, uint32_t number, uint32_t written)
 {
     size_t sent = unit->messages_len;
     uint8_t note[ZOLBINE_NOTE_LEN];
 
     CUT("after a call");
+    if (number != 0 && number < ZOLBINE_SAID)
+        stop("a call refuses the record, the keys or a buffer");
     if (number != 0)
         return;
     if (zolbine_write_note(unit->record, note, sizeof note).number != 0)
@@ -262,7 +272,7 @@ static void open_unit(struct unit *unit, FILE *inputs)
     if (opened.number != 0)
         stop("the opening is refused");
     unit->store_len = ZOLBINE_STORE_LEN(n);
-    unit->room = 2 * ZOLBINE_OUT_LEN(n); /* once for those of the round so far, each written once, and once for the next call */
+    unit->room = ROUND_LEN(n) + ZOLBINE_OUT_LEN(n); /* all that a round writes, and the out buffer of a call after that */
     unit->lasting = buffer(ZOLBINE_NOTE_LEN + unit->store_len + unit->room + SUM_LEN);
     unit->store = unit->lasting + ZOLBINE_NOTE_LEN;
     unit->messages = unit->store + unit->store_len;

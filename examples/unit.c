@@ -75,6 +75,7 @@ static const char *name_of(const uint8_t *message, size_t len)
     case ZOLBINE_NOTICE: return "NOTICE";
     case ZOLBINE_FULL: return "FULL";
     case ZOLBINE_EVIDENCE: return "EVIDENCE";
+    case ZOLBINE_OLD_EVIDENCE: return "old EVIDENCE";
     default: return "garbled";
     }
 }
@@ -128,7 +129,7 @@ static void step(struct unit *unit, const uint8_t *message, size_t len)
         printf("  kept for the own submit\n");
 }
 
-/* EVIDENCE is for the evidence check; every other message is for the unit. */
+/* EVIDENCE, in the form that units write or in the old one, is for the evidence check; every other message is for the unit. */
 static void hear(struct unit *unit, FILE *file)
 {
     uint8_t head[2], *message;
@@ -138,7 +139,7 @@ static void hear(struct unit *unit, FILE *file)
     len = number(head);
     message = buffer(len);
     read_bytes(file, message, len);
-    if (len > 0 && message[0] == ZOLBINE_EVIDENCE) {
+    if (len > 0 && (message[0] == ZOLBINE_EVIDENCE || message[0] == ZOLBINE_OLD_EVIDENCE)) {
         struct zolbine_verdict verdict = zolbine_check_evidence(unit->record.n, unit->record.round, unit->keys,
                                                                 unit->keys_len, message, len);
         printf("%s: %u, seats 0x%08x\n", name_of(message, len), (unsigned)verdict.number, (unsigned)verdict.mask);

@@ -13,16 +13,16 @@ use harness::reference::record::{Opened, Record, Stepped, Verdict};
 
 const LIBRARY: Calls = Calls { signatures: &Library, engine: &Library, evidence: &Library };
 
-/// Ten boats; a smaller fleet has the first of them.
+/// As many boats as round 4 has; a smaller fleet has the first of them.
 fn fleet() -> &'static [Boat] {
     static BOATS: OnceLock<Vec<Boat>> = OnceLock::new();
-    BOATS.get_or_init(|| boats(LIBRARY, 10, 1))
+    BOATS.get_or_init(|| boats(LIBRARY, 13, 1))
 }
 
 fn run(calls: Calls, flags: &str) -> Told {
     let words: Vec<String> = flags.split_whitespace().map(str::to_string).collect();
     let options = Options::parse(&words).unwrap();
-    told_by(calls, &fleet()[..options.n as usize], &options)
+    told_by(calls, fleet(), &options)
 }
 
 /// A held file is what `demo` prints with its flags.
@@ -87,12 +87,17 @@ fn evidence_counts_by_the_checks_verdict_alone() {
     ] {
         let Told { text, faults } = run(Calls { evidence: &check, ..LIBRARY }, "");
         assert!(text.contains(told), "{text}");
-        assert_eq!(faults.len(), 8, "each EVIDENCE, and each honest boat: {faults:?}");
+        // Four honest boats in round 3 with an EVIDENCE each, three in round 4 with two: each EVIDENCE isn't accepted as it should be,
+        // and each boat names others than it can show, and too few at first.
+        assert_eq!(faults.len(), 4 + 3 * 2 + 2 * (4 + 3), "{faults:?}");
     }
 }
 
-/// A step with another answer.
-struct Steps(fn(Stepped) -> Stepped);
+/// A step with another record given, and with another answer.
+struct Steps {
+    given: fn(Record) -> Record,
+    answer: fn(Record, Stepped) -> Stepped,
+}
 
 impl Engine for Steps {
     fn open(&self, n: u32, seat: u32, round: u32, keys: &[u8]) -> Opened {
@@ -112,21 +117,34 @@ impl Engine for Steps {
     }
 
     fn step(&self, record: Record, keys: &[u8], store: &mut [u8], message: &[u8], out: &mut [u8]) -> Stepped {
-        self.0(Library.step(record, keys, store, message, out))
+        (self.answer)(record, Library.step((self.given)(record), keys, store, message, out))
     }
 }
 
 #[test]
 fn an_engine_that_answers_otherwise_is_told() {
-    let silent = Steps(|stepped| Stepped { written: 0, ..stepped });
-    let takes_all = Steps(|stepped| Stepped { number: 0, ..stepped });
-    let unconfirmed = Steps(|stepped| Stepped { record: Record { confirmed: false, ..stepped.record }, ..stepped });
-    let keeps_none = Steps(|stepped| Stepped { record: Record { kept: 0, ..stepped.record }, ..stepped });
+    let answers = |answer| Steps { given: |record| record, answer };
+    let silent = answers(|_, stepped| Stepped { written: 0, ..stepped });
+    let takes_all = answers(|_, stepped| Stepped { number: 0, ..stepped });
+    let unconfirmed =
+        answers(|_, stepped| Stepped { record: Record { confirmed: false, ..stepped.record }, ..stepped });
+    let keeps_none = answers(|_, stepped| Stepped { record: Record { kept: 0, ..stepped.record }, ..stepped });
+    let names_once = answers(|before, stepped| match before.guilty {
+        0 => stepped,
+        _ => Stepped { written: 0, record: before, ..stepped },
+    });
+    let names_all_again = Steps { given: |record| Record { guilty: 0, ..record }, answer: |_, stepped| stepped };
     for (engine, flags, told) in [
         (silent, "", "round 3: boat 0 holds no evidence that the check accepts"),
         (takes_all, "--forged 1", "round 1: boat 0 answers 0 to SUBMIT of boat 1, and not 14"),
         (unconfirmed, "--double-signers 2", "round 1: boat 0 answers 4 to SUBMIT of boat 5, and not 0"),
         (keeps_none, "", "round 2: boat 6 has kept enough and doesn't confirm"),
+        (names_once, "", "round 4: boat 0 names boats 7 to 12, and its certificates show boats 5 to 12"),
+        (
+            names_all_again,
+            "",
+            "round 4: boat 0 has found boats 5 and 6, and of its evidence the check says number 0, mask 0x1e60",
+        ),
     ] {
         let faults = run(Calls { engine: &engine, ..LIBRARY }, flags).faults;
         assert!(faults.iter().any(|fault| fault == told), "{flags}: {faults:?}");

@@ -3,6 +3,7 @@
 use std::mem::offset_of;
 
 use harness::reference::layout;
+use harness::reference::messages::{EVIDENCE, EVIDENCE_ENTRY, OLD_EVIDENCE, OLD_EVIDENCE_ENTRY};
 use harness::reference::note::{CONFIRMED, ONE_HEARD, SENT, SUBMITTED, TWO_HEARD};
 use harness::reference::quorum::{k, t0};
 use harness::reference::record::{Opened, Record, Stepped};
@@ -42,10 +43,51 @@ fn places() {
         ("VALUE_AT", layout::VALUE_AT),
         ("FULL_COUNT_AT", layout::FULL_COUNT_AT),
         ("EVIDENCE_COUNT_AT", layout::EVIDENCE_COUNT_AT),
+        ("OLD_EVIDENCE_COUNT_AT", layout::OLD_EVIDENCE_COUNT_AT),
     ];
     for (name, at) in places {
         assert!(PROTOCOL.contains(&format!("| {at} (`ZOLBINE_{name}`) |")), "{name} isn't {at}");
     }
+}
+
+/// EVIDENCE in PROTOCOL, in both forms: command, length, and the parts of an entry one after another.
+#[test]
+fn evidence() {
+    let page = PROTOCOL.replace(',', "");
+    let signatures = [layout::SIGNATURE; 2];
+    let forms = [
+        (EVIDENCE, EVIDENCE_ENTRY, layout::evidence as fn(u32) -> usize, vec![layout::VALUE; 2]),
+        (OLD_EVIDENCE, OLD_EVIDENCE_ENTRY, layout::old_evidence, vec![]),
+    ];
+    for (command, entry_command, length, values) in forms {
+        let (head, entry) = (length(0), length(1) - length(0));
+        let section = page.split("\n### ").find(|section| section.contains(&format!("| 0 | 1 | {command:#04x} |")));
+        let section = section.unwrap_or_else(|| panic!("no section on {command:#04x}"));
+        assert!(section.lines().next().unwrap().contains(&format!("EVIDENCE {head} + {entry} × count bytes")));
+        let mut at = head;
+        for part in [vec![1, 1], values, signatures.to_vec()].concat() {
+            assert!(section.contains(&format!("| {at} + {entry} × i | {part} |")), "{part} bytes at {at}: {section}");
+            at += part;
+        }
+        assert_eq!(at, length(1));
+        assert!(section.contains(&format!("| {head} + {entry} × i | 1 | {entry_command:#04x}")), "{section}");
+        let count = head - 1;
+        assert!(page.contains(&format!("| {command:#04x} | {head} + {entry} × the byte at {count} |")));
+    }
+}
+
+/// The bytes that a unit of HOST keeps in a round, for n of 7 and of 32.
+#[test]
+fn kept_in_a_round() {
+    let row = |title: &str| {
+        let line = HOST.lines().find(|line| line.starts_with(title)).unwrap_or_else(|| panic!("no row {title}"));
+        let cells: Vec<&str> = cells(line).expect("a row").collect();
+        [cells[cells.len() - 2], cells[cells.len() - 1]].map(|cell| cell.replace(',', "").parse::<usize>().unwrap())
+    };
+    let written = [7, 32].map(|n| layout::out(n) + t0(n) as usize * layout::EVIDENCE_ENTRIES_AT);
+    assert_eq!(row("| bytes to send, of the whole round |"), written);
+    let all = [7, 32].map(|n| layout::NOTE + layout::store(n));
+    assert_eq!(row("| in all, without number and checksum |"), [all[0] + written[0], all[1] + written[1]]);
 }
 
 /// The record's fields and length, as in PROTOCOL; those of the answers, as in HOST.

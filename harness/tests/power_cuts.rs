@@ -3,7 +3,7 @@
 //! then.
 #![cfg(feature = "zolbine")]
 
-use std::collections::BTreeSet;
+use std::collections::{BTreeMap, BTreeSet};
 use std::fs::{self, File};
 use std::io::{BufRead, BufReader, Write};
 use std::os::unix::process::ExitStatusExt;
@@ -20,18 +20,18 @@ use harness::confirmer::{Engine, EvidenceCheck, Framing, Notes, Reference};
 use harness::fleet::{self, rounds, Fleet};
 use harness::library::Library;
 use harness::parallel;
-use harness::reference::layout::{self, SIGNATURE_AT, SIGNED, VALUE_AT};
-use harness::reference::messages::{Value, EVIDENCE, FULL, SUBMIT};
+use harness::reference::layout::{self, EVIDENCE_ENTRIES_AT, EVIDENCE_ENTRY, SIGNATURE_AT, SIGNED, VALUE_AT};
+use harness::reference::messages::{Evidence, Value, EVIDENCE, FULL, SUBMIT};
 use harness::reference::note::render;
-use harness::reference::record::Record;
-use harness::reference::seats::list;
+use harness::reference::quorum::{k, t0};
+use harness::reference::record::{Record, Stepped};
+use harness::reference::seats::{list, mask};
 use harness::rng::{seed, Rng};
 use harness::terms::{change, each_line, Terms};
 use harness::yard::{hearing, opening};
 
 const EXAMPLE: &str = "examples/lasting_unit.c";
-const N: u32 = 4;
-/// The example's seat, and one that is honest too.
+/// The example's seat, and one that hears its FULL.
 const OWN: u32 = 0;
 const OTHER: u32 = 1;
 /// The checksum at the end of the round's file.
@@ -43,14 +43,16 @@ const SIGKILL: i32 = 9;
 /// that its skipper wants since this start.
 struct Script {
     title: &'static str,
+    n: u32,
     inputs: &'static str,
-    /// The double signers.
-    guilty: u32,
+    /// The double signers that each EVIDENCE names.
+    packs: &'static [u32],
 }
 
-const SCRIPTS: [Script; 3] = [
+const SCRIPTS: [Script; 5] = [
     Script {
         title: "all sign one layout",
+        n: 4,
         inputs: "
             hears SUBMIT 2 A                    # kept
             settles
@@ -58,10 +60,11 @@ const SCRIPTS: [Script; 3] = [
             hears SUBMIT 3 A byte 700 flipped   # refused
             hears SUBMIT 1 A                    # confirms
             hears NOTICE 1 A",
-        guilty: 0,
+        packs: &[],
     },
     Script {
         title: "two double signers, heard of before the own submit",
+        n: 4,
         inputs: "
             layout B 42
             hears SUBMIT 1 B                    # kept
@@ -70,10 +73,11 @@ const SCRIPTS: [Script; 3] = [
             hears SUBMIT 2 A
             hears SUBMIT 3 A                    # confirms, with NOTICE and FULL
             hears FULL 1 B of 1 2 3             # EVIDENCE",
-        guilty: 0b1100,
+        packs: &[0b1100],
     },
     Script {
         title: "two double signers, and a submit that writes all four messages",
+        n: 4,
         inputs: "
             layout B 12
             hears SUBMIT 2 A                    # kept
@@ -82,7 +86,45 @@ const SCRIPTS: [Script; 3] = [
             settles                             # confirms, where those kept are over A
             hears SUBMIT 2 A
             hears SUBMIT 3 A",
-        guilty: 0b1100,
+        packs: &[0b1100],
+    },
+    // t0 + 1 EVIDENCEs, which name all k seats of the first certificate held: no round writes more bytes.
+    Script {
+        title: "five double signers in three EVIDENCEs",
+        n: 7,
+        inputs: "
+            layout B 42
+            layout C 12
+            layout D 32
+            hears FULL 1 B of 1-5               # held
+            settles
+            hears SUBMIT 1 A
+            hears SUBMIT 2 A
+            hears SUBMIT 3 A
+            hears SUBMIT 6 A                    # confirms, with all of NOTICE, FULL and EVIDENCE
+            hears FULL 6 D of 1-3 5 6 byte 5000 flipped   # refused
+            hears FULL 6 C of 1-4 6             # EVIDENCE of one more
+            hears FULL 6 C of 1-4 6             # nobody new
+            hears FULL 6 D of 1-3 5 6           # EVIDENCE of the last one
+            hears NOTICE 6 D                    # with all of the round's bytes kept",
+        packs: &[0b1110, 0b10000, 0b100000],
+    },
+    Script {
+        title: "five double signers in two EVIDENCEs, the first before the own submit",
+        n: 7,
+        inputs: "
+            layout B 22
+            layout C 42
+            hears SUBMIT 5 A                    # kept
+            hears FULL 1 B of 1-5               # held
+            hears FULL 6 C of 1-4 6             # EVIDENCE
+            settles
+            hears SUBMIT 5 A
+            hears SUBMIT 4 A
+            hears SUBMIT 2 A
+            hears SUBMIT 6 A                    # confirms, with all of NOTICE, FULL and EVIDENCE of one more
+            hears FULL 6 C of 1-4 6",
+        packs: &[0b11110, 0b100000],
     },
 ];
 
@@ -92,8 +134,8 @@ enum Input {
     Hears(Vec<u8>),
 }
 
-fn fleet() -> Fleet {
-    Fleet { n: N, round: rounds()[2] }
+fn round() -> u32 {
+    rounds()[2]
 }
 
 /// The layout that the skipper wants since a start: each time another one.
@@ -104,8 +146,16 @@ fn wanted(start: usize) -> Value {
 }
 
 impl Script {
+    fn fleet(&self) -> Fleet {
+        Fleet { n: self.n, round: round() }
+    }
+
+    fn guilty(&self) -> u32 {
+        self.packs.iter().fold(0, |guilty, pack| guilty | pack)
+    }
+
     fn inputs(&self, a: &Value) -> Vec<Input> {
-        let head = format!("fleet {N} round {}\nlayout A {:02x} {:02x}\n", fleet().round, a[0], a[31]);
+        let head = format!("fleet {} round {}\nlayout A {:02x} {:02x}\n", self.n, round(), a[0], a[31]);
         let mut terms = Terms::default();
         let mut inputs = Vec::new();
         let read = each_line(&(head + self.inputs), |words| {
@@ -224,7 +274,7 @@ impl<'a> Boat<'a> {
     }
 
     fn file(&self) -> PathBuf {
-        self.memory.0.join(format!("round-{:04}", fleet().round))
+        self.memory.0.join(format!("round-{:04}", round()))
     }
 
     /// The layout that the note says is submitted.
@@ -237,7 +287,8 @@ impl<'a> Boat<'a> {
     fn start(&mut self, cut: Option<Cut>) -> Result<Start, String> {
         self.starts += 1;
         let wants = wanted(self.starts);
-        let mut bytes = opening(N, OWN, fleet().round, &fleet().key_table());
+        let Fleet { n, round } = self.script.fleet();
+        let mut bytes = opening(n, OWN, round, &self.script.fleet().key_table());
         for input in self.script.inputs(&self.submitted().unwrap_or(wants)) {
             bytes.extend(match input {
                 Input::Settles => [&[0x12][..], &wants].concat(),
@@ -303,7 +354,7 @@ impl<'a> Boat<'a> {
     /// Takes what a start has sent; of the last message a kill may have left a part.
     fn listen(&mut self, mut bytes: &[u8], killed: bool) -> Result<(), String> {
         while !bytes.is_empty() {
-            let length = Reference.message_length(N, bytes) as usize;
+            let length = Reference.message_length(self.script.n, bytes) as usize;
             if length == 0 && killed {
                 self.broken.push(bytes.to_vec());
                 return Ok(());
@@ -329,8 +380,8 @@ impl<'a> Boat<'a> {
             if distinct.contains(&message) {
                 continue;
             }
-            if distinct.iter().any(|other| other[0] == message[0]) {
-                return Err(format!("said twice: two different messages {}", air::name(message)));
+            for other in distinct.iter().filter(|other| other[0] == message[0]) {
+                self.go_together(other, message)?;
             }
             distinct.push(message);
         }
@@ -339,13 +390,13 @@ impl<'a> Boat<'a> {
         }
         let of = |command: u8| distinct.iter().find(|message| message[0] == command);
         if let Some(full) = of(FULL) {
-            let unit = &mut Unit::open(OTHER);
+            let unit = &mut Unit::open(self.script.fleet(), OTHER);
             unit.step(full).map_err(|number| format!("refused: FULL, {number}"))?;
         }
-        if let Some(evidence) = of(EVIDENCE) {
-            let (n, round, keys) = (N, fleet().round, fleet().key_table());
-            let verdict = Library.check_evidence(n, round, &keys, evidence);
-            if (verdict.number, verdict.mask) != (0, self.script.guilty) {
+        for (evidence, &named) in self.packs().into_iter().zip(self.script.packs) {
+            let Fleet { n, round } = self.script.fleet();
+            let verdict = Library.check_evidence(n, round, &self.script.fleet().key_table(), evidence);
+            if (verdict.number, verdict.mask) != (0, named) {
                 return Err(format!("refused: EVIDENCE, {verdict:?}"));
             }
         }
@@ -356,10 +407,32 @@ impl<'a> Boat<'a> {
         self.compared(&distinct, own, words)
     }
 
+    /// Two different messages of one kind: EVIDENCEs that name no seat both.
+    fn go_together(&self, one: &[u8], other: &[u8]) -> Result<(), String> {
+        let named = |message: &[u8]| Evidence::read(message, self.script.n).map(|evidence| mask(&evidence.seats()));
+        match named(one).zip(named(other)).map(|(one, other)| list(one & other)) {
+            None => Err(format!("said twice: two different messages {}", air::name(one))),
+            Some(both) if !both.is_empty() => Err(format!("named twice: {both:?}, in two EVIDENCEs")),
+            Some(_) => Ok(()),
+        }
+    }
+
+    /// The different EVIDENCEs sent so far.
+    fn packs(&self) -> Vec<&[u8]> {
+        let mut packs: Vec<&[u8]> = Vec::new();
+        for message in self.sent.iter().filter(|message| message[0] == EVIDENCE) {
+            if !packs.contains(&message.as_slice()) {
+                packs.push(message);
+            }
+        }
+        packs
+    }
+
     /// The messages and the file are those of the reference in the same round without a cut.
     fn compared(&self, distinct: &[&Vec<u8>], own: &[u8], words: &str) -> Result<(), String> {
         let value: Value = own[VALUE_AT..SIGNED].try_into().expect("32 bytes");
-        let mut unit = Unit::open(OWN);
+        let n = self.script.n;
+        let mut unit = Unit::open(self.script.fleet(), OWN);
         for input in self.script.inputs(&value) {
             match input {
                 Input::Settles => {
@@ -378,15 +451,15 @@ impl<'a> Boat<'a> {
             return Err("other messages than the reference's".into());
         }
         let (confirmed, guilty) = (unit.record.confirmed, unit.record.guilty);
-        assert!(confirmed && guilty == self.script.guilty, "{}: {:?}", self.script.title, unit.record);
+        assert!(confirmed && guilty == self.script.guilty(), "{}: {:?}", self.script.title, unit.record);
         let lasting = fs::read(self.file()).expect("the round's file");
         let (note, after) = lasting.split_at(layout::NOTE);
         if note != render(&unit.record) {
             return Err(format!("another note than that of {:?}", unit.record));
         }
-        let (store, after) = after.split_at(layout::store(N));
+        let (store, after) = after.split_at(layout::store(n));
         let collected = list(unit.record.own.collected).into_iter().map(layout::collected);
-        let first = list(unit.record.first.seats).into_iter().map(|seat| layout::first(N, seat));
+        let first = list(unit.record.first.seats).into_iter().map(|seat| layout::first(n, seat));
         if let Some(slot) = collected.chain(first).find(|slot| store[slot.clone()] != unit.store[slot.clone()]) {
             return Err(format!("another store: bytes {slot:?}"));
         }
@@ -402,34 +475,38 @@ impl<'a> Boat<'a> {
 
 /// A unit of the reference, and the messages that it has written.
 struct Unit {
+    keys: Vec<u8>,
     record: Record,
     store: Vec<u8>,
+    out: Vec<u8>,
     written: Vec<Vec<u8>>,
 }
 
 impl Unit {
-    fn open(seat: u32) -> Unit {
-        let opened = Reference.open(N, seat, fleet().round, &fleet().key_table());
+    fn open(fleet: Fleet, seat: u32) -> Unit {
+        let keys = fleet.key_table();
+        let opened = Reference.open(fleet.n, seat, fleet.round, &keys);
         assert_eq!(opened.number, 0);
-        Unit { record: opened.record, store: vec![0; layout::store(N)], written: Vec::new() }
+        let (store, out) = (vec![0; layout::store(fleet.n)], vec![0; layout::out(fleet.n)]);
+        Unit { keys, record: opened.record, store, out, written: Vec::new() }
     }
 
     fn submit(&mut self, value: &Value, signature: &[u8]) -> Result<(), u32> {
-        let mut out = vec![0; layout::out(N)];
-        let keys = fleet().key_table();
-        let answer = Reference.submit(self.record, &keys, &mut self.store, value, signature, &mut out);
-        self.answered(answer.number, answer.record, &out[..answer.written as usize])
+        let Unit { keys, record, store, out, .. } = self;
+        let answer = Reference.submit(*record, keys, store, value, signature, out);
+        self.answered(answer)
     }
 
     fn step(&mut self, message: &[u8]) -> Result<(), u32> {
-        let mut out = vec![0; layout::out(N)];
-        let answer = Reference.step(self.record, &fleet().key_table(), &mut self.store, message, &mut out);
-        self.answered(answer.number, answer.record, &out[..answer.written as usize])
+        let Unit { keys, record, store, out, .. } = self;
+        let answer = Reference.step(*record, keys, store, message, out);
+        self.answered(answer)
     }
 
-    fn answered(&mut self, number: u32, record: Record, written: &[u8]) -> Result<(), u32> {
+    fn answered(&mut self, answer: Stepped) -> Result<(), u32> {
+        let Stepped { number, written, record } = answer;
         self.record = record;
-        self.written.extend(air::messages(N, written));
+        self.written.extend(air::messages(record.n, &self.out[..written as usize]));
         if number == 0 {
             Ok(())
         } else {
@@ -451,6 +528,8 @@ struct Kills {
     at: Vec<String>,
     /// At some moment after a point.
     after: usize,
+    /// The EVIDENCEs that had left the boat at each of them.
+    packs: Vec<usize>,
 }
 
 /// The most kills by chance in one round.
@@ -460,7 +539,7 @@ const BY_CHANCE: usize = 5;
 fn played(program: &Program, case: &Case, mut rng: Rng) -> Result<Kills, String> {
     let mut cuts = case.cuts.clone();
     while cuts.len() < case.cuts.len() + BY_CHANCE && !rng.one_in(3) {
-        let (point, time) = (1 + rng.below(60), Duration::from_micros(rng.below(800) as u64));
+        let (point, time) = (1 + rng.below(100), Duration::from_micros(rng.below(800) as u64));
         cuts.push(if rng.one_in(2) { Cut::At(point) } else { Cut::After(point, time) });
     }
     let mut boat = Boat::new(program, &SCRIPTS[case.script], rng);
@@ -473,8 +552,9 @@ fn played(program: &Program, case: &Case, mut rng: Rng) -> Result<Kills, String>
             }
             Cut::After(..) if start.killed => kills.after += 1,
             _ if number < case.cuts.len() => return Err(format!("no kill: {cut:?} is after the end")),
-            _ => (),
+            _ => continue,
         }
+        kills.packs.push(boat.packs().len());
     }
     let last = boat.start(None)?;
     boat.judged(&last.words)?;
@@ -569,7 +649,7 @@ fn names() -> BTreeSet<String> {
 fn a_thousand_kills() {
     let program = Program::with_points(EXAMPLE, "lasting_unit_cut", &[]);
     let mut cases = cases(&program);
-    let (mut at, mut after, mut rounds) = (Vec::new(), 0, 0);
+    let (mut at, mut after, mut packs, mut rounds) = (Vec::new(), 0, BTreeMap::new(), 0);
     while at.len() + after < KILLS {
         let numbered: Vec<(usize, Case)> = (rounds..).zip(cases).collect();
         let kills = parallel::map(&numbered, |(number, case)| {
@@ -579,8 +659,13 @@ fn a_thousand_kills() {
                 panic!("{title}, round {number}, {:?}: {fault}; ZOLBINE_SEED={}", case.cuts, seed())
             })
         });
-        after += kills.iter().map(|kills| kills.after).sum::<usize>();
-        at.extend(kills.into_iter().flat_map(|kills| kills.at));
+        for (kills, (_, case)) in kills.into_iter().zip(&numbered) {
+            after += kills.after;
+            at.extend(kills.at);
+            for number in kills.packs {
+                *packs.entry((case.script, number)).or_insert(0) += 1;
+            }
+        }
         rounds += numbered.len();
         // More by chance.
         cases = (0..50).map(|number| Case { script: number % SCRIPTS.len(), cuts: Vec::new() }).collect();
@@ -592,6 +677,12 @@ fn a_thousand_kills() {
     });
     let counts = counts.collect::<Vec<_>>().join(", ");
     progress(&format!("power cuts: {} kills at a point ({counts}), {after} after one, {rounds} rounds", at.len()));
+    for (script, text) in SCRIPTS.iter().enumerate() {
+        let counts = (0..=text.packs.len()).map(|number| packs.get(&(script, number)).copied().unwrap_or_default());
+        let counts: Vec<usize> = counts.collect();
+        progress(&format!("power cuts: {}: {counts:?} kills after 0, 1, .. EVIDENCEs", text.title));
+        assert!(counts.iter().all(|&count| count > 0), "{}: {counts:?}", text.title);
+    }
     assert!(at.len() + after >= KILLS);
     assert!(after >= KILLS / 20, "{after} kills after a point");
 }
@@ -603,7 +694,7 @@ struct Fault {
     verdicts: &'static [&'static str],
 }
 
-const FAULTS: [Fault; 11] = [
+const FAULTS: [Fault; 12] = [
     Fault {
         name: "sends_before_it_keeps",
         edits: &[(
@@ -651,6 +742,14 @@ const FAULTS: [Fault; 11] = [
         name: "folder_not_flushed_again",
         edits: &[("    CUT(\"folder flushed again\");\n", ""), ("    flush(unit.folder);", "")],
         verdicts: &["signed twice"],
+    },
+    Fault {
+        name: "forgets_whom_it_has_named",
+        edits: &[(
+            "    unit->record = opened.record;\n",
+            "    unit->record = opened.record; unit->record.guilty = 0;\n",
+        )],
+        verdicts: &["named twice"],
     },
     Fault {
         name: "keeps_what_has_not_changed",
@@ -708,6 +807,35 @@ fn a_host_that_keeps_badly_is_caught() {
     }
 }
 
+const ROOM: Fault = Fault {
+    name: "room_for_one_byte_less",
+    edits: &[("unit->room = ROUND_LEN(n) + ", "unit->room = ROUND_LEN(n) - 1 + ")],
+    verdicts: &["stopped"],
+};
+
+/// The round that writes most needs all of the example's room: with a byte less its last call is refused.
+#[test]
+fn a_round_that_writes_most() {
+    let script = &SCRIPTS[3];
+    let start = |program: &Program| Boat::new(program, script, Rng::new(seed(), "room")).start(None).map(drop);
+    assert_eq!(start(&Program::with_points(EXAMPLE, "lasting_unit_room", &[])), Ok(()));
+    let told = start(&ROOM.program()).expect_err("a byte less is enough");
+    assert!(told.starts_with(ROOM.verdicts[0]) && told.contains("refuses"), "{told}");
+
+    let mut unit = Unit::open(script.fleet(), OWN);
+    let value = wanted(1);
+    for input in script.inputs(&value) {
+        let refused = match input {
+            Input::Settles => unit.submit(&value, &script.fleet().signature(OWN, &value, 0)),
+            Input::Hears(message) => unit.step(&message),
+        };
+        assert!(matches!(refused, Ok(()) | Err(14)), "{refused:?}");
+    }
+    let [t0, k] = [t0(script.n), k(script.n)].map(|number| number as usize);
+    let packs = (t0 + 1) * EVIDENCE_ENTRIES_AT + k * EVIDENCE_ENTRY;
+    assert_eq!(unit.written.concat().len(), layout::SUBMIT + layout::NOTICE + layout::full(k as u32) + packs);
+}
+
 /// A start, with a kill or to its end, and one that goes on.
 fn runs_well(program: &Program, cut: Option<Cut>) {
     for script in &SCRIPTS {
@@ -727,10 +855,11 @@ fn a_damaged_file_is_seen() {
     boat.start(None).expect("a start");
     let whole = fs::read(boat.file()).expect("the round's file");
     let changed = |at: usize| [&whole[..at], &[whole[at] ^ 1], &whole[at + 1..]].concat();
-    let pair = layout::NOTE + layout::store(N);
+    let n = boat.script.n;
+    let pair = layout::NOTE + layout::store(n);
     let places = [0, 1, 5, layout::NOTE - 1, layout::NOTE, pair - 1, pair, whole.len() - SUM, whole.len() - 1];
     let shorter = [0, 1, layout::NOTE, pair, pair + SUM, whole.len() - 1].map(|len| whole[..len].to_vec());
-    let longer = [1, SUM, layout::out(N)].map(|more| [whole.as_slice(), &vec![0; more]].concat());
+    let longer = [1, SUM, layout::out(n)].map(|more| [whole.as_slice(), &vec![0; more]].concat());
     for damaged in places.map(changed).into_iter().chain(shorter).chain(longer) {
         fs::write(boat.file(), damaged).expect("a damaged file");
         let told = boat.start(None).err().expect("a damaged file is taken");

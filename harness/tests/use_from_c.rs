@@ -99,9 +99,9 @@ boat 0 hears SUBMIT: 0
 boat 1 hears NOTICE: 0
     boat 1 sends FULL, 4399 bytes
 boat 1 hears FULL: 0
-    boat 1 sends EVIDENCE, 5880 bytes
+    boat 1 sends EVIDENCE, 5944 bytes
 boat 0 hears FULL: 0
-    boat 0 sends EVIDENCE, 5880 bytes
+    boat 0 sends EVIDENCE, 5944 bytes
 boat 0 hears EVIDENCE: 0, seats 0x0000000c
 boat 1 hears EVIDENCE: 0, seats 0x0000000c
 boat 0: north confirmed, evidence against 0x0000000c
@@ -216,7 +216,13 @@ fn the_archive_shares_nothing() {
 
 mod example {
     use super::*;
+    use harness::air;
     use harness::compare::progress;
+    use harness::confirmer::{Engine, EvidenceCheck, Reference};
+    use harness::reference::layout::{self, SIGNATURE, VALUE};
+    use harness::reference::lms::PUBLIC_KEY;
+    use harness::reference::messages::{EVIDENCE, FULL, NOTICE, OLD_EVIDENCE, SUBMIT};
+    use harness::reference::record::Record;
     use harness::{reference, yard};
 
     /// The program's output is the expected one, and whatever watches it has nothing to say.
@@ -233,6 +239,69 @@ mod example {
         let runs = yard::runs(include_str!("../data/yard/radio.txt")).unwrap();
         let recorded = std::fs::read(file("examples/round.bin")).unwrap();
         assert_eq!((recorded.len(), reference::yard::yard(&recorded)), (runs[0].input.len(), runs[0].output.clone()));
+    }
+
+    /// What a recorded round comes to by the reference, in the example's words.
+    fn by_the_reference(mut input: &[u8]) -> String {
+        let mut take = |length: usize| {
+            let (taken, rest) = input.split_at_checked(length)?;
+            input = rest;
+            Some(taken)
+        };
+        let (n, seat) = match take(3) {
+            Some(&[0x10, n, seat]) => (n.into(), seat.into()),
+            other => panic!("no opening: {other:?}"),
+        };
+        let number = |bytes: &[u8]| u32::from(bytes[0]) << 8 | u32::from(bytes[1]);
+        let round = number(take(2).unwrap());
+        let keys = take(PUBLIC_KEY * n as usize).unwrap();
+        let opened = Reference.open(n, seat, round, keys);
+        let mut told = format!("open n {n}, seat {seat}, round {round}: {}\n", opened.number);
+        let (mut record, mut store, mut out) = (opened.record, vec![0; layout::store(n)], vec![0; layout::out(n)]);
+        while let Some(&[command]) = take(1) {
+            let Record { kept, .. } = record;
+            let (name, answer) = if command == 0x12 {
+                let (value, signature) = (take(VALUE).unwrap(), take(SIGNATURE).unwrap());
+                ("submit", Reference.submit(record, keys, &mut store, value, signature, &mut out))
+            } else {
+                let length = number(take(2).unwrap());
+                let message = take(length as usize).unwrap();
+                if [EVIDENCE, OLD_EVIDENCE].contains(&message[0]) {
+                    let verdict = Reference.check_evidence(n, round, keys, message);
+                    told += &format!("{}: {}, seats {:#010x}\n", name(message), verdict.number, verdict.mask);
+                    continue;
+                }
+                (name(message), Reference.step(record, keys, &mut store, message, &mut out))
+            };
+            record = answer.record;
+            told += &format!("{name}: {}\n", answer.number);
+            for message in air::messages(n, &out[..answer.written as usize]) {
+                told += &format!("  sends {}, {} bytes\n", self::name(&message), message.len());
+            }
+            if command == 0x11 && record.kept != kept {
+                told += "  kept for the own submit\n";
+            }
+        }
+        let confirmed = if record.confirmed { "confirmed" } else { "not confirmed" };
+        told + &format!("{confirmed}; double signers {:#010x}\n", record.guilty)
+    }
+
+    fn name(message: &[u8]) -> &'static str {
+        match message[0] {
+            SUBMIT => "SUBMIT",
+            NOTICE => "NOTICE",
+            FULL => "FULL",
+            EVIDENCE => "EVIDENCE",
+            OLD_EVIDENCE => "old EVIDENCE",
+            _ => "garbled",
+        }
+    }
+
+    #[test]
+    fn the_expected_output_is_the_references() {
+        let recorded = std::fs::read(file("examples/round.bin")).unwrap();
+        let expected = std::fs::read_to_string(file("examples/unit.txt")).unwrap();
+        assert_eq!(by_the_reference(&recorded), expected);
     }
 
     #[test]

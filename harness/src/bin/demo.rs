@@ -22,7 +22,7 @@ fn main() {
         exit(1);
     };
     let calls = Calls { signatures, engine, evidence };
-    let told = told_by(calls, &boats(calls, options.n, options.seed), &options);
+    let told = told_by(calls, &boats(calls, options.larger(), options.seed), &options);
     print!("{}", told.text);
     for fault in &told.faults {
         eprintln!("demo: NOT AS PROMISED: {fault}");

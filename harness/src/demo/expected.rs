@@ -1,6 +1,7 @@
 //! Promises to a fleet for a round in which every message arrives in the end, compared with the round as it was played.
 
-use super::round::{Event, Given, Played, Sent, Stage};
+use super::round::{Certificate, Event, Given, Pack, Played};
+use super::words::boats_of;
 use crate::air;
 use crate::fleet::fewest_to_split;
 use crate::reference::layout::{SIGNED, VALUE_AT};
@@ -9,7 +10,7 @@ use crate::reference::record::{Record, Verdict};
 use crate::reference::seats::{mask, size};
 
 /// The promises that the round broke.
-pub fn faults(n: u32, played: &Played) -> Vec<String> {
+pub fn faults(played: &Played) -> Vec<String> {
     let mut faults: Vec<String> =
         played.stages().into_iter().flat_map(|stage| &stage.events).filter_map(refusal).collect();
     let mut expect = |holds: bool, fault: String| {
@@ -18,29 +19,32 @@ pub fn faults(n: u32, played: &Played) -> Vec<String> {
         }
     };
     for seat in played.honest() {
-        expect(confirms_in_time(n, &played.submits, seat), format!("boat {seat} has kept enough and doesn't confirm"));
+        expect(confirms_in_time(played, seat), format!("boat {seat} has kept enough and doesn't confirm"));
     }
     for event in &played.again.events {
         let silent = event.answer.as_ref().is_some_and(|answer| answer.written.is_empty());
         expect(silent, format!("boat {} answers a message that it has heard before", event.seat));
     }
-    let can_split = played.sides.len() == 1 || played.double.len() as u32 >= fewest_to_split(n);
-    let confirmed = |side: &[u32]| side.iter().filter(|&&seat| played.late.record(seat).confirmed).count();
-    if can_split {
-        expect(
-            confirmed(&played.honest()) == played.honest().len(),
-            "a boat that has heard enough doesn't confirm".into(),
-        );
-    } else {
-        let sides = played.sides.iter().filter(|side| confirmed(&side.honest) > 0).count();
-        expect(sides < 2, format!("{} double signers have split {n} boats", played.double.len()));
+    for side in &played.sides {
+        let (name, signers) = (side.layout.name, size(side.signers()));
+        let due = signers >= k(played.n);
+        for &seat in &side.honest {
+            let confirms = if due { "doesn't confirm" } else { "confirms" };
+            let fault = format!("boat {seat} {confirms} {name}, which {signers} boats have signed");
+            expect(played.late.record(seat).confirmed == due, fault);
+        }
     }
-    for (sent, verdict) in &played.evidence {
-        expect(names_double_signers(n, played, verdict), refused(sent, verdict));
+    for pack in &played.evidence {
+        expect(names_new(played, pack), refused(pack));
+    }
+    for seat in played.honest() {
+        let named = played.packs(seat).fold(0, |named, pack| named | pack.verdict.mask);
+        let [names, shows] = [named, shown(played, seat)].map(boats_of);
+        expect(names == shows, format!("boat {seat} names {names}, and its certificates show {shows}"));
     }
     if is_split(&played.late.records) {
         for seat in played.honest() {
-            expect(holds(n, played, seat), format!("boat {seat} holds no evidence that the check accepts"));
+            expect(holds(played, seat), format!("boat {seat} holds no evidence that the check accepts"));
         }
     } else {
         expect(played.evidence.is_empty(), "there is evidence, and nobody has confirmed another layout".into());
@@ -50,13 +54,14 @@ pub fn faults(n: u32, played: &Played) -> Vec<String> {
 
 /// Whether a boat that was given the good SUBMITs of k - 1 others over its layout before its own submit confirmed in that very
 /// call. Each boat sends it one SUBMIT.
-fn confirms_in_time(n: u32, submits: &Stage, seat: u32) -> bool {
+fn confirms_in_time(played: &Played, seat: u32) -> bool {
+    let submits = &played.submits;
     let own = submits.of(seat).find(|event| matches!(event.given, Given::Own)).and_then(|event| event.answer.as_ref());
     let Some(own) = own else { return false };
     let before = submits.of(seat).take_while(|event| !matches!(event.given, Given::Own));
     let good = before.filter(|event| event.answer.is_some()).filter_map(Event::message).filter(|sent| !sent.forged);
     let same = good.filter(|sent| sent.bytes[VALUE_AT..SIGNED] == own.after.own.value);
-    own.after.confirmed || (same.count() as u32) < k(n) - 1
+    own.after.confirmed || (same.count() as u32) < k(played.n) - 1
 }
 
 /// Whether two honest boats have confirmed different layouts.
@@ -66,19 +71,31 @@ pub fn is_split(records: &[Record]) -> bool {
     values.len() > 1
 }
 
-/// Whether a boat has sent evidence that the check accepts, and that names as many double signers as two sets of k share.
-pub fn holds(n: u32, played: &Played, seat: u32) -> bool {
-    played.evidence.iter().any(|(sent, verdict)| sent.from == seat && names_double_signers(n, played, verdict))
+/// Whether a boat has sent evidence that the check accepts, and whose first names as many double signers as two sets of k share.
+pub fn holds(played: &Played, seat: u32) -> bool {
+    let enough = |first: &Pack| size(first.verdict.mask) >= fewest_to_split(played.n) && names_new(played, first);
+    played.packs(seat).next().is_some_and(enough)
 }
 
-fn names_double_signers(n: u32, played: &Played, verdict: &Verdict) -> bool {
-    let honest = verdict.mask & mask(&played.honest());
-    verdict.number == 0 && honest == 0 && size(verdict.mask) >= fewest_to_split(n)
+/// Whether the check accepts an EVIDENCE, and it names those whom the unit found in that call, one or more and none of them honest.
+fn names_new(played: &Played, pack: &Pack) -> bool {
+    let Verdict { number, mask: named } = pack.verdict;
+    number == 0 && named == pack.found() && named != 0 && named & mask(&played.honest()) == 0
 }
 
-fn refused(sent: &Sent, verdict: &Verdict) -> String {
-    let Verdict { number, mask } = verdict;
-    format!("of the evidence of boat {} the check says number {number}, mask {mask:#x}", sent.from)
+/// The double signers whom a boat can show: they stand in the first certificate that it held, and in one of another layout that it
+/// has heard or confirmed by.
+fn shown(played: &Played, seat: u32) -> u32 {
+    let record = played.late.record(seat);
+    let heard = played.stages().into_iter().flat_map(|stage| stage.of(seat)).filter_map(Event::certificate);
+    let own = record.confirmed.then_some(Certificate::own(record));
+    let others = heard.chain(own).filter(|other| other.value != record.first.value);
+    others.fold(0, |shown, other| shown | other.seats & record.first.seats)
+}
+
+fn refused(pack: &Pack) -> String {
+    let (boat, found, Verdict { number, mask }) = (pack.sent.from, boats_of(pack.found()), pack.verdict);
+    format!("boat {boat} has found {found}, and of its evidence the check says number {number}, mask {mask:#x}")
 }
 
 /// A refusal that isn't due, or one that is due and doesn't come.

@@ -1,5 +1,5 @@
-//! The demonstration: a fleet in the terminal, sound, with a slow boat, and with double signers. Its text follows from the calls'
-//! answers, and an answer that breaks a promise to the fleet is reported.
+//! The demonstration: a fleet in the terminal, sound, with a slow boat, with double signers, and with more of them than two
+//! certificates show. Its text follows from the calls' answers, and an answer that breaks a promise to the fleet is reported.
 
 mod boat;
 mod expected;
@@ -8,11 +8,13 @@ mod round;
 mod screens;
 mod words;
 
+use std::ops::Range;
 use std::sync::atomic::{AtomicU32, Ordering};
 
 use crate::compare::progress;
 use crate::confirmer::{Engine, EvidenceCheck};
 use crate::parallel;
+use crate::reference::quorum::t0;
 use crate::rng::Rng;
 use crate::subject;
 pub use boat::Boat;
@@ -47,28 +49,51 @@ pub fn boats(calls: Calls, n: u32, seed: u64) -> Vec<Boat> {
 
 /// The whole demonstration, by boats of the options' number and seed.
 pub fn told_by(calls: Calls, boats: &[Boat], options: &Options) -> Told {
-    assert_eq!(boats.len(), options.n as usize);
-    let keys = boats.iter().flat_map(|boat| boat.public.clone()).collect();
     let layout = |name| {
         let value = Rng::new(options.seed, &format!("layout {name}")).bytes(32);
         Layout { name, value: value.try_into().expect("32 bytes") }
     };
-    let fleet = Fleet { calls, options, boats, keys, layouts: ['A', 'B'].map(layout) };
-    let ([left, right], double) = sides(options);
-    let [a, b] = fleet.layouts;
-    let side = |layout, honest| Side { layout, honest };
-    let all = || vec![side(a, (0..options.n).collect())];
-    let sound = fleet.play(1, all(), vec![], None);
-    let slow = fleet.play(2, all(), vec![], Some(options.slow));
-    let apart = fleet.play(3, vec![side(a, left), side(b, right)], double, None);
-    let faults = [&sound, &slow, &apart].map(|played| expected::faults(options.n, played)).concat();
-    Told { text: Screens::of(options, fleet.layouts, [&sound, &slow, &apart]), faults }
+    let layouts = ['A', 'B', 'C'].map(layout);
+    let fleet = |n: u32| {
+        let boats = &boats[..n as usize];
+        Fleet { calls, options, boats, keys: boats.iter().flat_map(|boat| boat.public.clone()).collect() }
+    };
+    let (usual, larger) = (fleet(options.n), fleet(options.larger()));
+    let sound = usual.play(1, agreed(options.n, layouts[0]), None);
+    let slow = usual.play(2, agreed(options.n, layouts[0]), Some(options.slow));
+    let apart = usual.play(3, two_sides(options, layouts), None);
+    let three = larger.play(4, three_sides(options.larger(), layouts), None);
+    let played = [&sound, &slow, &apart, &three];
+    Told { text: Screens::of(options, layouts, played), faults: played.map(expected::faults).concat() }
 }
 
-/// The honest boats of either side, and the double signers.
-fn sides(options: &Options) -> ([Vec<u32>; 2], Vec<u32>) {
+/// All boats sign one layout.
+fn agreed(n: u32, layout: Layout) -> Vec<Side> {
+    vec![Side { layout, honest: (0..n).collect(), double: Vec::new() }]
+}
+
+/// The honest boats sign one layout or the other, and the double signers both.
+fn two_sides(options: &Options, [a, b, _]: [Layout; 3]) -> Vec<Side> {
     let Options { n, double_signers, .. } = *options;
     let honest = n - double_signers;
     let half = honest.div_ceil(2);
-    ([(0..half).collect(), (half..honest).collect()], (honest..n).collect())
+    let side = |layout, honest: Range<u32>, double: Range<u32>| Side {
+        layout,
+        honest: honest.collect(),
+        double: double.collect(),
+    };
+    vec![side(a, 0..half, honest..n), side(b, half..honest, honest..n)]
+}
+
+/// An honest boat for each of three layouts, and double signers that make up k with it. Each layout lacks t0 boats: the two other
+/// honest ones, and t0 - 2 double signers, which sign the other two layouts. So of two certificates that conflict with a third, each
+/// shows t0 - 2 double signers that the other one doesn't.
+fn three_sides(n: u32, layouts: [Layout; 3]) -> Vec<Side> {
+    let lacking = t0(n) - 2;
+    let side = |place: u32| {
+        let lack = 3 + place * lacking..3 + (place + 1) * lacking;
+        let double = (3..n).filter(|seat| !lack.contains(seat)).collect();
+        Side { layout: layouts[place as usize], honest: vec![place], double }
+    };
+    [0, 1, 2].map(side).into()
 }

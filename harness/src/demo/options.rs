@@ -6,7 +6,7 @@ use crate::fleet::fewest_to_split;
 pub struct Options {
     /// Boats in the fleet.
     pub n: u32,
-    /// Boats that sign both layouts.
+    /// Boats that sign both layouts in round 3.
     pub double_signers: u32,
     /// Pairs of boats that don't hear each other at first.
     pub lost_links: Vec<(u32, u32)>,
@@ -20,11 +20,16 @@ pub struct Options {
     pub seed: u64,
 }
 
+/// The fewest boats in round 4. Each of its three layouts is signed by all boats but t0. These are the honest boats of the other two
+/// layouts, and two double signers: so t0 is 4.
+const FEWEST_IN_ROUND_4: u32 = 13;
+
 pub const USAGE: &str = "\
 demo [--boats N] [--slow SEAT] [--double-signers N] [--lost-link SEAT-SEAT]..
      [--forged SEAT] [--early SEAT] [--seed NUMBER]
 
-  --boats N            boats in the fleet, 2 to 32; without it 7
+  --boats N            boats in the fleet, 2 to 32; without it 7; in round 4 the
+                       fleet has 13 at least
   --slow SEAT          the boat whose skipper settles late in round 2; without it
                        the last seat that isn't early
   --double-signers N   boats that sign two layouts in round 3, the last seats;
@@ -102,6 +107,11 @@ impl Options {
             return Err(format!("--slow {}: this boat is early", self.slow));
         }
         Ok(self)
+    }
+
+    /// Boats in round 4.
+    pub fn larger(&self) -> u32 {
+        self.n.max(FEWEST_IN_ROUND_4)
     }
 
     /// Whether two boats hear each other from the start.

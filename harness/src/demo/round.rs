@@ -7,20 +7,30 @@ use super::options::Options;
 use super::Calls;
 use crate::air;
 use crate::parallel;
-use crate::reference::messages::{Submit, Value, EVIDENCE, FULL, NOTICE};
+use crate::reference::messages::{Full, Submit, Value, EVIDENCE, FULL, NOTICE};
+use crate::reference::quorum::k;
 use crate::reference::record::{Record, Verdict};
+use crate::reference::seats::{list, mask};
 
-/// The two layouts of the demonstration.
+/// A layout of the demonstration.
 #[derive(Clone, Copy, PartialEq, Eq, PartialOrd, Ord)]
 pub struct Layout {
     pub name: char,
     pub value: Value,
 }
 
-/// Honest boats that sign one layout.
+/// The boats that sign a layout.
 pub struct Side {
     pub layout: Layout,
     pub honest: Vec<u32>,
+    /// Those that sign another one too.
+    pub double: Vec<u32>,
+}
+
+impl Side {
+    pub fn signers(&self) -> u32 {
+        mask(&self.honest) | mask(&self.double)
+    }
 }
 
 pub struct Fleet<'a> {
@@ -28,7 +38,6 @@ pub struct Fleet<'a> {
     pub options: &'a Options,
     pub boats: &'a [Boat],
     pub keys: Vec<u8>,
-    pub layouts: [Layout; 2],
 }
 
 /// A message on the air.
@@ -59,11 +68,32 @@ pub struct Stage {
     pub records: Vec<Record>,
 }
 
+/// The signatures that confirm a layout.
+pub struct Certificate {
+    /// The boat that confirmed by it.
+    pub of: u32,
+    pub value: Value,
+    pub seats: u32,
+}
+
+/// An EVIDENCE that a unit wrote.
+pub struct Pack {
+    pub sent: Sent,
+    /// The certificate that it was written for: one heard, or the own.
+    pub certificate: Certificate,
+    /// The unit's record before and after the call.
+    pub before: Record,
+    pub after: Record,
+    /// The check's.
+    pub verdict: Verdict,
+}
+
 /// A round as it was played.
 pub struct Played {
+    /// Boats in the fleet.
+    pub n: u32,
     pub number: u32,
     pub sides: Vec<Side>,
-    pub double: Vec<u32>,
     /// The boat that signs after it has heard the others.
     pub slow: Option<u32>,
     pub submits: Stage,
@@ -71,8 +101,7 @@ pub struct Played {
     pub fulls: Stage,
     /// The lost messages, sent again, and the answers to them.
     pub late: Stage,
-    /// The check's verdict on each EVIDENCE.
-    pub evidence: Vec<(Sent, Verdict)>,
+    pub evidence: Vec<Pack>,
     /// Every message of the round, heard a second time.
     pub again: Stage,
 }
@@ -104,6 +133,31 @@ impl Event {
         let written = self.answer.iter().flat_map(|answer| air::messages(answer.before.n, &answer.written));
         written.map(|bytes| Sent { from: self.seat, bytes, forged: false }).collect()
     }
+
+    /// The certificate in a FULL that the unit has heard.
+    pub fn certificate(&self) -> Option<Certificate> {
+        let full = Full::read(&self.message()?.bytes, k(self.answer.as_ref()?.before.n))?;
+        Some(Certificate { of: full.sender, value: full.value, seats: mask(&full.seats()) })
+    }
+
+    /// The certificate of a call that takes one in: that of the FULL, or the own.
+    fn at_hand(&self) -> Option<Certificate> {
+        self.certificate().or(self.answer.as_ref().map(|answer| Certificate::own(&answer.after)))
+    }
+}
+
+impl Pack {
+    /// The double signers that the unit found in the call.
+    pub fn found(&self) -> u32 {
+        self.after.guilty & !self.before.guilty
+    }
+}
+
+impl Certificate {
+    /// The own one of a unit that has confirmed.
+    pub fn own(record: &Record) -> Certificate {
+        Certificate { of: record.seat, value: record.own.value, seats: record.own.collected }
+    }
 }
 
 impl Played {
@@ -115,23 +169,49 @@ impl Played {
     pub fn honest(&self) -> Vec<u32> {
         self.sides.iter().flat_map(|side| side.honest.clone()).collect()
     }
+
+    pub fn double(&self) -> Vec<u32> {
+        list(self.sides.iter().fold(0, |double, side| double | mask(&side.double)))
+    }
+
+    /// The first certificate that a boat held.
+    pub fn first_held(&self, seat: u32) -> Option<Certificate> {
+        let held = |event: &&Event| event.answer.as_ref().is_some_and(|answer| answer.after.first.seats != 0);
+        self.stages().into_iter().flat_map(|stage| stage.of(seat)).find(held).and_then(Event::at_hand)
+    }
+
+    /// A boat's EVIDENCEs, one after another.
+    pub fn packs(&self, seat: u32) -> impl Iterator<Item = &Pack> {
+        self.evidence.iter().filter(move |pack| pack.sent.from == seat)
+    }
 }
 
 impl Fleet<'_> {
-    pub fn play(&self, number: u32, sides: Vec<Side>, double: Vec<u32>, slow: Option<u32>) -> Played {
-        let mut air = Air::new(self, number, &sides, &double);
+    fn n(&self) -> u32 {
+        self.boats.len() as u32
+    }
+
+    pub fn play(&self, number: u32, sides: Vec<Side>, slow: Option<u32>) -> Played {
+        let mut air = Air::new(self, number, &sides);
         let submits = air.submits(&sides, slow);
         let notices = air.broadcast(of_command(submits.sent(), NOTICE));
         let fulls = air.broadcast(of_command(notices.sent(), FULL));
         let late = air.late(fulls.sent());
-        let said = [&submits, &notices, &fulls, &late].into_iter().flat_map(Stage::sent).collect();
-        let check = |sent: Sent| {
-            let verdict = self.calls.evidence.check_evidence(self.options.n, number, &self.keys, &sent.bytes);
-            (sent, verdict)
+        let stages = [&submits, &notices, &fulls, &late];
+        let evidence = stages.iter().flat_map(|stage| &stage.events).flat_map(|event| self.packs(event)).collect();
+        let again = air.again(stages);
+        Played { n: self.n(), number, sides, slow, submits, notices, fulls, late, evidence, again }
+    }
+
+    /// Each EVIDENCE that a unit wrote in a call, and the check's verdict on it.
+    fn packs(&self, event: &Event) -> Vec<Pack> {
+        let Some(Answer { before, after, .. }) = event.answer else { return Vec::new() };
+        let pack = |sent: Sent| {
+            let certificate = event.at_hand().expect("a message that was heard");
+            let verdict = self.calls.evidence.check_evidence(self.n(), after.round, &self.keys, &sent.bytes);
+            Pack { sent, certificate, before, after, verdict }
         };
-        let evidence = of_command(said, EVIDENCE).into_iter().map(check).collect();
-        let again = air.again([&submits, &notices, &fulls, &late]);
-        Played { number, sides, double, slow, submits, notices, fulls, late, evidence, again }
+        of_command(event.sent(), EVIDENCE).into_iter().map(pack).collect()
     }
 }
 
@@ -154,19 +234,19 @@ struct Air<'a> {
 }
 
 impl<'a> Air<'a> {
-    fn new(fleet: &'a Fleet<'a>, number: u32, sides: &[Side], double: &[u32]) -> Air<'a> {
-        let Fleet { calls, options, boats, keys, .. } = fleet;
-        let open = |&seat: &u32| Unit::open(*calls, options.n, seat, number, keys);
+    fn new(fleet: &'a Fleet<'a>, number: u32, sides: &[Side]) -> Air<'a> {
+        let Fleet { calls, options, boats, keys } = fleet;
+        let open = |&seat: &u32| Unit::open(*calls, fleet.n(), seat, number, keys);
         let signs = |side: &Side| {
             let layout = side.layout;
-            side.honest.iter().chain(double).map(|&seat| (seat, layout)).collect::<Vec<_>>()
+            list(side.signers()).into_iter().map(move |seat| (seat, layout))
         };
         let pairs: Vec<(u32, Layout)> = sides.iter().flat_map(signs).collect();
         let submits =
             parallel::map(&pairs, |(seat, layout)| boats[*seat as usize].submit(*calls, number, &layout.value));
         let forge = |side: &Side| {
             let seat = options.forged?;
-            let forger = &boats[((seat + 1) % options.n) as usize];
+            let forger = &boats[((seat + 1) % fleet.n()) as usize];
             let bytes = forger.submit_as(seat, *calls, number, &side.layout.value).write();
             Some((side.layout, Sent { from: seat, bytes, forged: true }))
         };
@@ -195,7 +275,7 @@ impl<'a> Air<'a> {
     fn submits_to(&mut self, seat: u32, own: Layout, slow: Option<u32>) -> Vec<Event> {
         let options = self.fleet.options;
         let early = options.early.filter(|&early| early != seat && options.linked(early, seat));
-        let mut others: Vec<u32> = (0..options.n).filter(|&from| from != seat && Some(from) != early).collect();
+        let mut others: Vec<u32> = (0..self.fleet.n()).filter(|&from| from != seat && Some(from) != early).collect();
         others.sort_by_key(|&from| Some(from) == slow);
         let mut events = Vec::new();
         if let Some(from) = early {
@@ -216,7 +296,7 @@ impl<'a> Air<'a> {
         events
     }
 
-    /// The SUBMIT that a boat sends to a unit with this layout; a double signer sends one of that layout.
+    /// The SUBMIT that a boat sends to a unit with this layout: a double signer's is of that layout where it has signed it.
     fn shown_to(&self, own: Layout, from: u32) -> Sent {
         let signed = self.signed.get(&(from, own));
         let other = || self.signed.iter().find(|((seat, _), _)| *seat == from).map(|(_, submit)| submit);

@@ -1,23 +1,25 @@
 //! The demonstration's screens: the text of each, from the rounds as they were played.
 
 mod mates;
+mod three;
 
 use super::boat::Answer;
 use super::expected::{holds, is_split};
 use super::options::Options;
-use super::round::{Event, Given, Layout, Played, Sent, Side, Stage};
-use super::words::{and, boats, boats_of, capital, count, picture, thousands};
+use super::round::{Event, Given, Layout, Pack, Played, Sent, Side, Stage};
+use super::words::{and, boats, boats_of, capital, count, picture, pointed_at, signers, thousands};
 use crate::air;
 use crate::fleet::fewest_to_split;
-use crate::reference::layout::{ENTRY_SEAT_AT, FULL_ENTRIES_AT, FULL_ENTRY, SIGNED, VALUE_AT};
+use crate::reference::layout::{SIGNED, VALUE_AT};
 use crate::reference::quorum::k;
 use crate::reference::record::Record;
 use crate::reference::seats::{list, mask, size};
 
-/// The text so far.
+/// The text so far, about a fleet of n boats.
 pub struct Screens<'a> {
     options: &'a Options,
-    layouts: [Layout; 2],
+    layouts: [Layout; 3],
+    n: u32,
     /// The signatures that confirm.
     k: u32,
     /// The fewest boats that two sets of k share.
@@ -29,14 +31,16 @@ pub struct Screens<'a> {
 const WIDTH: usize = 79;
 
 impl<'a> Screens<'a> {
-    pub fn of(options: &'a Options, layouts: [Layout; 2], [sound, slow, apart]: [&Played; 3]) -> String {
-        let (k, shared) = (k(options.n), fewest_to_split(options.n));
-        let mut screens = Screens { options, layouts, k, shared, text: String::new() };
+    pub fn of(options: &'a Options, layouts: [Layout; 3], [sound, slow, apart, three]: [&Played; 4]) -> String {
+        let about = |n| Screens { options, layouts, n, k: k(n), shared: fewest_to_split(n), text: String::new() };
+        let (mut screens, mut larger) = (about(options.n), about(options.larger()));
         screens.introduction();
         screens.sound(sound);
         screens.slow(slow);
         screens.apart(apart);
-        screens.mates(sound, apart);
+        larger.three(three);
+        screens.text += &larger.text;
+        screens.mates(sound, apart, three);
         screens.text
     }
 
@@ -69,8 +73,8 @@ impl<'a> Screens<'a> {
     }
 
     fn introduction(&mut self) {
-        let Options { n, .. } = *self.options;
-        let (k, shared, last) = (self.k, self.shared, n - 1);
+        let Screens { n, k, shared, .. } = *self;
+        let last = n - 1;
         self.prose(&format!(
             "A fleet of {n} boats is to shoot its gear by one layout. Each boat has a seat, 0 to {last}. In a round every boat \
              signs the layout that it means to shoot by, once, and tells the others. When a boat has {k} signatures for its own \
@@ -83,7 +87,7 @@ impl<'a> Screens<'a> {
         ));
         self.line("");
         let from_to = |first: u32, end: u32| mask(&(first..end).collect::<Vec<_>>());
-        self.text += &picture(n, [from_to(0, k), from_to(n - k, n)]);
+        self.layouts_signed(&[from_to(0, k), from_to(n - k, n)]);
         self.line("");
         self.prose(&format!(
             "So two mates can see different layouts confirmed only if {shared} boats sign both. Such a boat is a double signer. \
@@ -145,13 +149,13 @@ impl<'a> Screens<'a> {
         self.late(played);
         self.line("");
         let confirmed = played.late.records.iter().filter(|record| record.confirmed).count();
-        let mates = if confirmed as u32 == self.options.n { " Every mate may shoot." } else { "" };
-        self.line(format!("{confirmed} of {} boats have confirmed layout A.{mates}", self.options.n));
+        let mates = if confirmed as u32 == self.n { " Every mate may shoot." } else { "" };
+        self.line(format!("{confirmed} of {} boats have confirmed layout A.{mates}", self.n));
         self.silence(played);
     }
 
     fn apart(&mut self, played: &Played) {
-        self.heading(&match played.double.len() {
+        self.heading(&match played.double().len() {
             0 => "ROUND 3: THE MATES WANT DIFFERENT LAYOUTS".to_string(),
             1 => "ROUND 3: 1 BOAT SIGNS TWO LAYOUTS".to_string(),
             double => format!("ROUND 3: {double} BOATS SIGN TWO LAYOUTS"),
@@ -162,13 +166,7 @@ impl<'a> Screens<'a> {
             self.message_by_message(played, side);
         }
         self.collected(played);
-        if is_split(&played.submits.records) {
-            self.line("");
-            self.prose(
-                "Mates see different layouts confirmed and would shoot gear across each other. The next messages show whose \
-                 fault it is.",
-            );
-        }
+        self.split(played);
         self.line("");
         self.notices(played);
         self.fulls(played);
@@ -188,14 +186,15 @@ impl<'a> Screens<'a> {
             boats(right),
             signs(right)
         );
-        match played.double.len() {
+        let double = played.double();
+        match double.len() {
             0 => story += " Nobody signs both.",
-            double => {
+            number => {
                 story += &format!(
                     " {} {} both, against the rule. {} the SUBMIT for A to {} and the one for B to {}.",
-                    capital(&boats(&played.double)),
-                    signs(&played.double),
-                    if double == 1 { "It sends" } else { "They send" },
+                    capital(&boats(&double)),
+                    signs(&double),
+                    if number == 1 { "It sends" } else { "They send" },
                     boats(left),
                     boats(right)
                 )
@@ -203,8 +202,27 @@ impl<'a> Screens<'a> {
         }
         self.prose(&story);
         self.line("");
-        let signers = [left, right].map(|side| mask(side) | mask(&played.double));
-        self.text += &picture(self.options.n, signers);
+        self.layouts_signed(&played.sides.iter().map(Side::signers).collect::<Vec<_>>());
+    }
+
+    /// The picture of who signs which layout; of two layouts those in both.
+    fn layouts_signed(&mut self, signed: &[u32]) {
+        let row = |(layout, &boats): (&Layout, &u32)| signers(format!("for {}", layout.name), layout.name, boats);
+        let mut rows: Vec<_> = self.layouts.iter().zip(signed).map(row).collect();
+        if let [a, b] = signed {
+            rows.push(pointed_at("both".to_string(), a & b, count(size(a & b), "boat")));
+        }
+        self.text += &picture(self.n, &rows);
+    }
+
+    fn split(&mut self, played: &Played) {
+        if is_split(&played.submits.records) {
+            self.line("");
+            self.prose(
+                "Mates see different layouts confirmed and would shoot gear across each other. The next messages show whose \
+                 fault it is.",
+            );
+        }
     }
 
     /// Effects of the options on messages.
@@ -380,29 +398,32 @@ impl<'a> Screens<'a> {
         self.rows(&rows);
     }
 
-    /// A boat's rows, at length or in one line.
+    /// A boat's rows: its first find at length or in one line, and later ones.
     fn compared(&self, fulls: &Stage, seat: u32, at_length: bool) -> Vec<(String, String)> {
-        let boat = format!("boat {seat}");
-        let wrote = |event: &&Event| event.answer.as_ref().is_some_and(|answer| !answer.written.is_empty());
-        let found = fulls.of(seat).find(wrote).and_then(|event| Some((event.message()?, event.answer.as_ref()?)));
-        let Some((sent, Answer { before, after, written, .. })) = found else {
-            return vec![(boat, "hears no FULL for another layout".to_string())];
-        };
-        let guilty = boats_of(after.guilty);
-        let (from, sends) = (sent.from, messages(before.n, written));
-        if !at_length {
-            return vec![(boat, format!("hears FULL of boat {from}: {guilty} signed both, sends {sends}"))];
+        let mut rows = Vec::new();
+        for event in fulls.of(seat) {
+            let (Some(full), Some(Answer { before, after, written, .. })) = (event.certificate(), &event.answer) else {
+                continue;
+            };
+            if written.is_empty() {
+                continue;
+            }
+            let (found, sends) = (boats_of(after.guilty & !before.guilty), messages(before.n, written));
+            let (held, name) = (self.name(&before.first.value), self.name(&full.value));
+            let hears = format!("hears FULL of boat {}", full.of);
+            match at_length && rows.is_empty() {
+                true => rows.extend([
+                    format!("has {held} signed by {}", boats_of(before.first.seats)),
+                    format!("{hears}: {name} signed by {}", boats_of(full.seats)),
+                    format!("{found} signed both: sends {sends}"),
+                ]),
+                false => rows.push(format!("{hears}: {found} signed both, sends {sends}")),
+            }
         }
-        let signers = sent.bytes[FULL_ENTRIES_AT..]
-            .chunks(FULL_ENTRY)
-            .map(|entry| u32::from(entry[ENTRY_SEAT_AT]))
-            .collect::<Vec<_>>();
-        let (held, name) = (self.name(&before.first.value), self.name(&value(sent)));
-        vec![
-            (boat, format!("has {held} signed by {}", boats_of(before.first.seats))),
-            (String::new(), format!("hears FULL of boat {from}: {name} signed by {}", boats(&signers))),
-            (String::new(), format!("{guilty} signed both: sends {sends}")),
-        ]
+        if rows.is_empty() {
+            rows.push("hears no FULL for another layout".to_string());
+        }
+        std::iter::once(format!("boat {seat}")).chain(std::iter::repeat(String::new())).zip(rows).collect()
     }
 
     /// Results of the messages that were lost at first.
@@ -432,23 +453,28 @@ impl<'a> Screens<'a> {
         self.rows(&rows);
     }
 
-    /// The check of each EVIDENCE.
+    /// The check of each EVIDENCE, boat by boat.
     fn evidence(&mut self, played: &Played) {
         if played.evidence.is_empty() {
             return;
         }
         self.line("");
-        self.prose("Each EVIDENCE is checked, as anyone can who has the fleet's public keys:");
+        self.prose(
+            "Each EVIDENCE is checked, as anyone can who has the fleet's public keys. It names the boats that signed twice:",
+        );
         self.line("");
-        let row = |(sent, verdict): &(Sent, crate::reference::record::Verdict)| {
-            let told = match verdict.number {
-                0 => format!("accepted: {} signed twice", boats_of(verdict.mask)),
+        let several = played.honest().into_iter().any(|seat| played.packs(seat).count() > 1);
+        let row = |(number, pack): (u32, &Pack)| {
+            let number = if several { format!(" {number}") } else { String::new() };
+            let told = match pack.verdict.number {
+                0 => format!("accepted: {}", boats_of(pack.verdict.mask)),
                 number => format!("REFUSED ({number})"),
             };
-            (format!("EVIDENCE of boat {}, {} bytes", sent.from, thousands(sent.bytes.len())), told)
+            let bytes = thousands(pack.sent.bytes.len());
+            (format!("EVIDENCE{number} of boat {}, {bytes} bytes", pack.sent.from), told)
         };
-        let rows: Vec<_> = played.evidence.iter().map(row).collect();
-        self.rows(&rows);
+        let packs = |seat: u32| (1..).zip(played.packs(seat)).map(row).collect::<Vec<_>>();
+        self.rows(&played.honest().into_iter().flat_map(packs).collect::<Vec<_>>());
     }
 
     /// Boats that have confirmed, and boats that hold evidence.
@@ -458,7 +484,7 @@ impl<'a> Screens<'a> {
         self.prose(&sides.join(" "));
         match is_split(&played.late.records) {
             true => self.blame(played),
-            false => self.lesson(),
+            false => self.lesson(played),
         }
     }
 
@@ -474,23 +500,30 @@ impl<'a> Screens<'a> {
 
     /// The evidence that the check accepted, by its masks.
     fn blame(&mut self, played: &Played) {
-        let n = self.options.n;
         let honest = played.honest();
-        let held = honest.iter().filter(|&&seat| holds(n, played, seat)).count();
-        let named = played.evidence.iter().fold(0, |named, (_, verdict)| named | verdict.mask);
-        let fewest = played.evidence.iter().map(|(_, verdict)| size(verdict.mask)).min().unwrap_or_default();
+        let held = honest.iter().filter(|&&seat| holds(played, seat)).count();
+        let all = |seat: u32| played.packs(seat).fold(0, |named, pack| named | pack.verdict.mask);
+        let first = |seat: u32| played.packs(seat).next().map_or(0, |pack| pack.verdict.mask);
+        let fewest = |of: &dyn Fn(u32) -> u32| honest.iter().map(|&seat| size(of(seat))).min().unwrap_or_default();
+        let named = honest.iter().fold(0, |named, &seat| named | all(seat));
         let blamed = match named & mask(&honest) {
             0 => "No honest boat is named.".to_string(),
             blamed => format!("HONEST BOATS ARE NAMED: {}.", boats_of(blamed)),
         };
+        let (at_first, in_the_end) = (fewest(&first), fewest(&all));
+        let more = match in_the_end > at_first {
+            true => format!(" at first, and {in_the_end} in the end; together they name "),
+            false => ": ".to_string(),
+        };
         let mut told = format!(
-            "{held} of {} honest boats hold evidence that the check accepts. Each names at least {} ({} promised): {}. {blamed}",
+            "{held} of {} honest boats hold evidence that the check accepts. Each names at least {} ({} promised){more}{}. \
+             {blamed}",
             honest.len(),
-            count(fewest, "boat"),
+            count(at_first, "boat"),
             self.shared,
             boats_of(named),
         );
-        let unnamed = list(mask(&played.double) & !named);
+        let unnamed = list(mask(&played.double()) & !named);
         if !unnamed.is_empty() {
             let (who, stand) =
                 (capital(&boats(&unnamed)), if unnamed.len() == 1 { "doesn't stand" } else { "don't stand" });
@@ -500,15 +533,16 @@ impl<'a> Screens<'a> {
     }
 
     /// The reason why the fleet isn't split.
-    fn lesson(&mut self) {
-        let Options { n, double_signers, .. } = *self.options;
+    fn lesson(&mut self, played: &Played) {
+        let double_signers = played.double().len() as u32;
         if double_signers == 0 {
             return self.line("No two mates see different layouts confirmed.");
         }
         self.prose(&format!(
-            "No two mates see different layouts confirmed: {} can't split {n} boats. It takes {}. Nobody holds evidence, for it is \
+            "No two mates see different layouts confirmed: {} can't split {} boats. It takes {}. Nobody holds evidence, for it is \
              found only where two layouts are confirmed.",
             count(double_signers, "double signer"),
+            self.n,
             self.shared,
         ));
     }

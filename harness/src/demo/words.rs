@@ -22,9 +22,13 @@ fn run((first, last): (u32, u32)) -> Vec<String> {
     }
 }
 
-/// `boat 3`, `boats 3 and 4`.
+/// `no boat`, `boat 3`, `boats 3 and 4`.
 pub fn boats(of: &[u32]) -> String {
-    format!("boat{} {}", if of.len() == 1 { "" } else { "s" }, seats(of))
+    match of.len() {
+        0 => "no boat".to_string(),
+        1 => format!("boat {}", seats(of)),
+        _ => format!("boats {}", seats(of)),
+    }
 }
 
 /// The same at the start of a sentence.
@@ -53,27 +57,40 @@ pub fn and(words: &[impl AsRef<str>]) -> String {
     }
 }
 
-/// The signers of two layouts as rows of letters over n boats, and below them those in both.
-pub fn picture(n: u32, signers: [u32; 2]) -> String {
+/// A row of a picture: a letter for each boat of a set, and words at its end.
+pub struct Row {
+    title: String,
+    boats: u32,
+    letters: [char; 2],
+    end: String,
+}
+
+/// The boats that signed a layout.
+pub fn signers(title: String, layout: char, boats: u32) -> Row {
+    Row { title, boats, letters: [layout, '.'], end: count(size(boats), "boat") }
+}
+
+/// Boats of the rows above.
+pub fn pointed_at(title: String, boats: u32, end: String) -> Row {
+    Row { title, boats, letters: ['^', ' '], end }
+}
+
+/// Rows over n boats, with the seats above them.
+pub fn picture(n: u32, rows: &[Row]) -> String {
     let wide = n <= 16;
-    let row = |title: &str, cell: &dyn Fn(u32) -> String, end: String| {
+    let longest = rows.iter().map(|row| row.title.len()).max().unwrap_or_default();
+    let line = |title: &str, cell: &dyn Fn(u32) -> String, end: &str| {
         let cells: String = (0..n).map(|seat| format!("{:>1$}", cell(seat), if wide { 3 } else { 1 })).collect();
-        format!("    {title:7}{cells}   {end}").trim_end().to_string() + "\n"
-    };
-    let letters = |mask: u32, signs: &'static str, not: &'static str| {
-        move |seat: u32| (if contains(mask, seat) { signs } else { not }).to_string()
+        format!("    {title:longest$}  {cells}   {end}").trim_end().to_string() + "\n"
     };
     let ones = |seat: u32| if wide { seat.to_string() } else { (seat % 10).to_string() };
     let tens = |seat: u32| if seat.is_multiple_of(10) { (seat / 10).to_string() } else { " ".to_string() };
-    let [a, b] = signers;
-    let rows = [
-        row("boat", &ones, String::new()),
-        row("for A", &letters(a, "A", "."), count(size(a), "boat")),
-        row("for B", &letters(b, "B", "."), count(size(b), "boat")),
-        row("both", &letters(a & b, "^", " "), count(size(a & b), "boat")),
-    ];
-    let above = if wide { String::new() } else { row("", &tens, String::new()) };
-    above + &rows.concat()
+    let letters = |row: &Row| {
+        let [signs, not] = row.letters;
+        line(&row.title, &|seat| (if contains(row.boats, seat) { signs } else { not }).to_string(), &row.end)
+    };
+    let above = if wide { String::new() } else { line("", &tens, "") };
+    above + &line("boat", &ones, "") + &rows.iter().map(letters).collect::<String>()
 }
 
 /// The seats of a mask, as [`boats`] lists them.
@@ -96,7 +113,7 @@ mod tests {
         ] {
             assert_eq!(seats(&given), told);
         }
-        assert_eq!([boats(&[3]), boats(&[3, 4])], ["boat 3", "boats 3 and 4"]);
+        assert_eq!([boats(&[]), boats(&[3]), boats(&[3, 4])], ["no boat", "boat 3", "boats 3 and 4"]);
         assert_eq!(capital("boat 3"), "Boat 3");
         assert_eq!([count(1, "boat"), count(0, "boat")], ["1 boat", "0 boats"]);
         assert_eq!([and(&["A"]), and(&["A", "B", "C"])], ["A", "A, B and C"]);
@@ -105,13 +122,17 @@ mod tests {
     #[test]
     fn pictures() {
         let rows = |rows: &[&str]| rows.iter().map(|row| format!("{row}\n")).collect::<String>();
+        let both = |a: u32, b: u32| {
+            let both = pointed_at("both".to_string(), a & b, count(size(a & b), "boat"));
+            [signers("for A".to_string(), 'A', a), signers("for B".to_string(), 'B', b), both]
+        };
         let four = [
             "    boat     0  1  2  3",
             "    for A    A  A  A  .   3 boats",
             "    for B    .  B  B  B   3 boats",
             "    both        ^  ^      2 boats",
         ];
-        assert_eq!(picture(4, [7, 14]), rows(&four));
+        assert_eq!(picture(4, &both(7, 14)), rows(&four));
         let seventeen = [
             "           0         1",
             "    boat   01234567890123456",
@@ -119,7 +140,7 @@ mod tests {
             "    for B  ..BBBBBBBBBBBBBBB   15 boats",
             "    both     ^                 1 boat",
         ];
-        assert_eq!(picture(17, [7, 0x1fffc]), rows(&seventeen));
+        assert_eq!(picture(17, &both(7, 0x1fffc)), rows(&seventeen));
     }
 
     #[test]

@@ -8,7 +8,7 @@ use crate::reference::seats::{list, size};
 
 impl Screens<'_> {
     /// The displays at each stage.
-    pub fn mates(&mut self, sound: &Played, apart: &Played) {
+    pub fn mates(&mut self, sound: &Played, apart: &Played, three: &Played) {
         self.heading("WHAT THE MATE SEES");
         self.line("What a display can say at each stage, by what its unit knows:\n");
         let shown = [(sound, 0), (apart, 0), (apart, 1)].map(|(played, side)| (played, played.sides[side].honest[0]));
@@ -32,7 +32,19 @@ impl Screens<'_> {
             self.line(row(stage, records.map(|record| self.display(&record))));
         }
         self.line("");
+        self.names_more(three, three.honest()[0]);
+        self.line("");
         self.meanings(&stages.iter().flat_map(|(_, records)| *records).collect::<Vec<_>>());
+    }
+
+    /// A display that names more boats with each EVIDENCE.
+    fn names_more(&mut self, played: &Played, seat: u32) {
+        self.line(format!("  {:14}round {}, boat {seat}", "", played.number));
+        for pack in played.packs(seat) {
+            let layout = self.name(&pack.certificate.value);
+            let stage = if pack.certificate.of == seat { "confirms" } else { "FULL for" };
+            self.line(format!("  {:14}{}", format!("{stage} {layout}"), self.display(&pack.after)));
+        }
     }
 
     /// A display's text for a record.
@@ -54,7 +66,7 @@ impl Screens<'_> {
     /// Another layout than the own one that a NOTICE or FULL spoke of.
     fn spoken_of(&self, record: &Record) -> Option<char> {
         let other = record.notices.heard == 2 || record.notices.heard == 1 && record.notices.value != record.own.value;
-        let [a, b] = self.layouts.map(|layout| layout.name);
+        let [a, b, _] = self.layouts.map(|layout| layout.name);
         other.then(|| if self.name(&record.own.value) == a { b } else { a })
     }
 
@@ -84,8 +96,8 @@ impl Screens<'_> {
             (
                 guilty != 0,
                 format!("DOUBLE SIGNERS {}", seats(&list(guilty))),
-                "these boats signed two layouts. Keep the evidence, which shows it to anyone; hold the gear and call the \
-                 honest boats",
+                "these boats signed two layouts, and more may come to light. Keep all evidence, which shows it to anyone; \
+                 hold the gear and call the honest boats",
             ),
         ];
         let mut rows = Vec::new();
