@@ -20,7 +20,7 @@ use Rattle.protocol.specs.Layout.{valueLength, signatureLength, operands
 use Rattle.protocol.specs.Entries.{Each, Form, placeOf, Laid, renderEntries, entryCommands}
 use Rattle.protocol.specs.EntriesLaws.{byte-after, Faithful, length-entries, commands-right, entries-read}
 use Rattle.protocol.specs.Message.{Entry, Pair, PairValues, PackForm, ValuesOnce, ValuesEach, packCommand, packValues, packCountAt, packStart, pairBytes, pairMade, Message, Submit, Notice, Full, Evidence, Garbled, WellFormed, fullForm, evidenceForm, ValuesFormed, packIn, formOf, countOf, readValues, render, renderAll, byteAt, readRound, readValue, readSignature, fitsSubmit, fitsNotice, fitsFull, fitsEvidence, readSubmit, readNotice, readFull, readEvidence, read}
-use Rattle.protocol.specs.Conditions.{isFull}
+use Rattle.protocol.specs.Conditions.{isFull, isEvidence}
 
 -- ---- messages one after another
 
@@ -199,6 +199,13 @@ unfolding isFull readSubmit readNotice readEvidence
 read-is-full n bytes =
     read-cases (λ m. isFull m ≡ true → (fitsFull n bytes ≡ true) × (m ≡ readFull n bytes)) n bytes
     (λ f h. absurd (false≢true h)) (λ f h. absurd (false≢true h)) (λ f h. (f, refl)) (λ f h. absurd (false≢true h)) (λ h. absurd (false≢true h))
+
+-- and an EVIDENCE's
+pub read-is-evidence : (n : ℕ) (bytes : List ℕ) → isEvidence (read n bytes) ≡ true → (read n bytes ≡ readEvidence bytes) × (fitsEvidence n bytes ≡ true)
+unfolding isEvidence readSubmit readNotice readFull
+read-is-evidence n bytes =
+    read-cases (λ m. isEvidence m ≡ true → (m ≡ readEvidence bytes) × (fitsEvidence n bytes ≡ true)) n bytes
+    (λ f h. absurd (false≢true h)) (λ f h. absurd (false≢true h)) (λ f h. absurd (false≢true h)) (λ f h. (refl, f)) (λ h. absurd (false≢true h))
 
 -- ---- SUBMIT and NOTICE
 

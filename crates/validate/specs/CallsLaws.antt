@@ -10,11 +10,10 @@ use borrow.Author.Tests.{eqb-true, not-false}
 use Rattle.octets.specs.Strings.{same}
 use Rattle.refusal.specs.Refusal.{firstOf, numbers, nonzero}
 use Rattle.refusal.specs.RefusalLaws.{both-false, firstOf-zero, refused-later, passed-first, rows-passed}
-use Rattle.protocol.specs.Layout.{valueLength, signatureLength, valueAt, lowerAt, higherAt}
-use Rattle.protocol.specs.Values.{isLower}
-use Rattle.protocol.specs.Message.{Message, Submit, readValue, read, readFull, readEvidence, signed}
+use Rattle.protocol.specs.Layout.{valueLength, signatureLength, valueAt}
+use Rattle.protocol.specs.Message.{Message, Submit, readValue, read, readFull, signed}
 use Rattle.protocol.specs.Certificate.{certificateOf, certificateIn}
-use Rattle.protocol.specs.Refusals.{Checks, Condition, every, said, wrongLengths, isForStep, isFull, isEvidence, badSignature, notLowerFirst, equalValues, SIGNATURE, NO-CONFLICT-IN, NO-CONFLICT-BETWEEN, outsideConditions, messageConditions, certificateConditions, twoConditions, evidenceConditions}
+use Rattle.protocol.specs.Refusals.{Checks, Condition, every, said, wrongLengths, isForStep, isFull, isEvidence, badSignature, equalValues, SIGNATURE, NO-CONFLICT-IN, NO-CONFLICT-BETWEEN, outsideConditions, messageConditions, certificateConditions, twoConditions, evidenceConditions}
 use Rattle.protocol.specs.Signatures.{signatureNumber}
 use Rattle.protocol.specs.SignaturesLaws.{signature-row}
 use Rattle.protocol.specs.declared.Record.{Record}
@@ -80,11 +79,6 @@ evidence-right checks n round bytes number e z =
 -- ---- values
 
 module _ (n : ℕ) (bytes : List ℕ) where
-  pub pack-order : EvidenceTaken n bytes → (i j : ℕ) → i ≡ lowerAt → j ≡ higherAt → (lower higher : List ℕ) (b : Bool) → lower ≡ readValue i bytes → higher ≡ readValue j bytes
-      → b ≡ isLower lower higher → not b ≡ notLowerFirst (read n bytes)
-  unfolding notLowerFirst readEvidence
-  pack-order h i j f g lower higher b p q e = rw (h .says, e, p, q, f, g)
-
   pub certificate-says : FullTaken n bytes → (at : ℕ) → at ≡ valueAt → (value : List ℕ) → value ≡ readValue at bytes → value ≡ certificateIn (read n bytes) .value
   unfolding certificateIn certificateOf readFull
   certificate-says h at f value e = rw (h .says, ← f) e

@@ -1,7 +1,7 @@
 -- Bytes and signatures of a message with no stranger in it, kind by kind.
 -- Assumes nothing.
 use mathlib.Core.Path.{_≡_, refl, sym, ap, _∙_}
-use mathlib.Core.Bool.{Bool, true, false, _&&_, and-eq-true-iff, false≢true}
+use mathlib.Core.Bool.{Bool, true, false, not, _&&_, and-eq-true-iff, false≢true}
 use mathlib.Core.List.{List, [], _∷_}
 use Prim.Native.Nat.{ℕ, _+_, _≤_, _<_}
 use native.Mathlib.Decide.{decLt}
@@ -9,21 +9,22 @@ use native.Mathlib.Numerals.{add-one}
 use native.Mathlib.Omega.{arith}
 use lib.Dec.{ltb, eqb}
 use lib.ListN.{length}
-use borrow.Author.Tests.{le-leb, lt-ltb, le-ltb, ltb-true, eqb-true, eqb-false, not-false}
+use borrow.Author.Tests.{le-leb, lt-ltb, le-ltb, ltb-true, eqb-true, eqb-false, not-true, not-false}
 use Rattle.refusal.specs.Refusal.{firstOf}
 use Rattle.quorum.specs.Quorum.{k}
-use Rattle.protocol.specs.Layout.{valueLength, signatureLength, seatAt, valueAt, submitSignatureAt, entrySeatAt, entryHeldAt, fullEntryLength, fullEntryAt, fullLength, evidenceCountAt, evidenceEntryLength, evidenceEntryAt}
-use Rattle.protocol.specs.Entries.{eachBelow, readEntry}
-use Rattle.protocol.specs.EntriesLaws.{Passed, passed-next, passed-all, each-not, each-at, each-all}
-use Rattle.protocol.specs.Message.{Entry, fullForm, byteAt, readValue, readSignature, read, readSubmit, readNotice, seatsOf, signed}
-use Rattle.protocol.specs.MessageLaws.{submit-fits, full-fits, evidence-fits}
-use Rattle.protocol.specs.Refusals.{Checks, every, isFull, isEvidence, stranger, badSignature, SIGNATURE}
+use Rattle.protocol.specs.Layout.{valueLength, signatureLength, seatAt, valueAt, submitSignatureAt, entrySeatAt, entryHeldAt, fullEntryLength, fullEntryAt, fullLength}
+use Rattle.protocol.specs.Entries.{eachBelow, placeOf, readEntry}
+use Rattle.protocol.specs.EntriesLaws.{Passed, passed-none, passed-next, passed-all, each-not, each-at, each-all}
+use Rattle.protocol.specs.Message.{Entry, fullForm, evidenceForm, byteAt, countOf, readValue, readSignature, fitsEvidence, read, readSubmit, readNotice, readEvidence, seatsOf, signed}
+use Rattle.protocol.specs.MessageLaws.{submit-fits, full-fits, evidence-fits, read-is-evidence}
+use Rattle.protocol.specs.Refusals.{Checks, every, isFull, isEvidence, stranger, badSignature, lowerFirst, notLowerFirst, SIGNATURE}
 use Rattle.protocol.specs.Signatures.{signatureNumber}
 use Rattle.protocol.specs.SignaturesLaws.{signature-row}
-use Rattle.layout.specs.Places.{full, evidence}
-use Rattle.wire.specs.Reading.{kindOf, seatPlace, seatsIn}
+use Rattle.layout.specs.Places.{full}
+use Rattle.layout.specs.declared.Entries.{Entries}
+use Rattle.wire.specs.Reading.{kindOf, seatPlace, seatsIn, packEntries}
 use Rattle.wire.specs.KindLaws.{read-as}
-use Rattle.wire.specs.MessageLaws.{known-entries, full-seats, evidence-seats}
+use Rattle.wire.specs.MessageLaws.{known-entries, full-seats, pack-seats}
 use Rattle.wire.specs.WalkLaws.{below-at}
 use Rattle.wire.specs.Answers.{entryOf, nthEntry, Found}
 use Rattle.wire.specs.declared.reader.Next.{Next}
@@ -31,10 +32,11 @@ use Rattle.wire.specs.declared.reader.Next.the-variants as next
 use Rattle.wire.specs.declared.read.Kind.{Kind}
 use Rattle.wire.specs.declared.read.Kind.the-variants as kind
 use Rattle.validate.specs.Messages.{Formed}
-use Rattle.validate.specs.MessagesLaws.{full-kind, evidence-kind}
-use Rattle.validate.specs.Places.{PairInside, pairPlaces}
-use Rattle.validate.specs.SignaturesLaws.{entryCheck, pairCheck, submit-bad, full-bad, evidence-bad, entry-inside}
-use Rattle.validate.specs.Entries.{SubmitTaken, FullTaken, EvidenceTaken, Fits, foundChecks, goesOn}
+use Rattle.validate.specs.MessagesLaws.{full-kind}
+use Rattle.validate.specs.Places.{PairInside, pairChecks, pairRead, pairIn}
+use Rattle.validate.specs.SignaturesLaws.{pair-inside, entryCheck, pairCheck, pairOrder, submit-bad, full-bad, evidence-bad, evidence-order}
+use Rattle.validate.specs.Entries.{SubmitTaken, FullTaken, EvidenceTaken, Pack, Fits, foundChecks, goesOn}
+use Rattle.validate.specs.declared.signatures.Pair.{Pair}
 
 -- ---- its bytes
 
@@ -55,19 +57,21 @@ module _ (n : ℕ) (bytes : List ℕ) (t : Kind) (e : t ≡ kindOf (read n bytes
   full-taken g =
       let r = read-as kind.Full n bytes (sym g ∙ e) in
       let fits = full-fits n bytes (r .1) in
-      let seats = full-seats t n bytes e (k n) g refl .0 in
+      let seats = full-seats n bytes t e g (k n) refl .0 in
       let below = known-entries n (read n bytes) (seatsIn (full (k n)) bytes) n (omega arith) s seats in
       record { says = r .0; size = fits .size; count = fits .count; known = λ i h. below-at (seatPlace (full (k n))) bytes n (k n) i h below }
 
+  pack-known : (read n bytes ≡ readEvidence bytes) × (fitsEvidence n bytes ≡ true) → EvidenceTaken n bytes
+  unfolding evidenceForm placeOf
+  pack-known r =
+      let below = known-entries n (read n bytes) (seatsIn (packEntries bytes) bytes) n (omega arith) s (pack-seats n bytes r .0) in
+      record { says = r .0; size = evidence-fits n bytes (r .1) .size; known = λ i h. below-at (seatPlace (packEntries bytes)) bytes n (countOf bytes) i h below }
+
+  pub old-evidence-taken : t ≡ kind.OldEvidence → EvidenceTaken n bytes
+  old-evidence-taken g = pack-known (read-as kind.OldEvidence n bytes (sym g ∙ e))
+
   pub evidence-taken : t ≡ kind.Evidence → EvidenceTaken n bytes
-  unfolding evidenceEntryAt
-  evidence-taken g =
-      let r = read-as kind.Evidence n bytes (sym g ∙ e) in
-      let fits = evidence-fits n bytes (r .1) in
-      let count = byteAt bytes evidenceCountAt in
-      let seats = evidence-seats t n bytes e count g refl .0 in
-      let below = known-entries n (read n bytes) (seatsIn (evidence count) bytes) n (omega arith) s seats in
-      record { says = r .0; size = fits .size; few = fits .few; known = λ i h. below-at (seatPlace (evidence count)) bytes n count i h below }
+  evidence-taken g = pack-known (read-as kind.Evidence n bytes (sym g ∙ e))
 
 -- a certificate, and an EVIDENCE, that a call takes
 module _ (n round : ℕ) (bytes : List ℕ) where
@@ -75,7 +79,7 @@ module _ (n round : ℕ) (bytes : List ℕ) where
   certificate-taken f = full-taken n bytes kind.Full (full-kind (read n bytes) (f .is)) (f .known) refl
 
   pub pack-taken : Formed n round (isEvidence (read n bytes)) (read n bytes) → EvidenceTaken n bytes
-  pack-taken f = evidence-taken n bytes kind.Evidence (evidence-kind (read n bytes) (f .is)) (f .known) refl
+  pack-taken f = pack-known n bytes _ refl (f .known) (read-is-evidence n bytes (f .is))
 
 -- ---- verdicts
 
@@ -120,34 +124,66 @@ unfolding signatureNumber
 rejects true number e h = absurd (h e)
 rejects false number e h = (refl, e)
 
--- the loop over the pairs: all before index t check
-abbrev pub Checked : Checks → List ℕ → ℕ → Type 0
-Checked checks bytes t = Passed (pairCheck checks bytes) (byteAt bytes evidenceCountAt) t
+-- a loop over the pairs, at index t: those before it pass the test
+pub record Paired (test : ℕ → Bool) (bytes : List ℕ) (entries : Entries) (count t : ℕ) : Type 0 where
+  pub pack : Pack entries bytes
+  pub counted : count ≡ entries .count
+  pub passed : Passed test count t
 
-module _ (checks : Checks) (n : ℕ) (bytes : List ℕ) (h : EvidenceTaken n bytes) where
-  abbrev count : ℕ
-  count = byteAt bytes evidenceCountAt
+module _ {test : ℕ → Bool} {bytes : List ℕ} {entries : Entries} {count t : ℕ} (w : Paired test bytes entries count t) where
+  bound : count ≡ countOf bytes
+  bound = w .counted ∙ ap (λ (e : Entries). e .count) (w .pack .listed)
 
-  -- the pair of an index lies in the message
-  pub pair-inside : (i : ℕ) → i < byteAt bytes evidenceCountAt → PairInside n (pairPlaces bytes (evidenceEntryAt i)) bytes
-  unfolding evidenceEntryAt evidenceEntryLength signatureLength
-  pair-inside i l =
-      let room = entry-inside bytes count i (h .size) l in
-      (h .known i l, (omega arith, omega arith), (omega arith, omega arith))
+  paired-next : t < count → test t ≡ true → Paired test bytes entries count (t + 1)
+  paired-next l e = record { pack = w .pack; counted = w .counted; passed = passed-next (w .passed) l e }
 
-  module _ (t number : ℕ) (l : t < byteAt bytes evidenceCountAt) (v : number ≡ signatureNumber (pairCheck checks bytes t)) where
-    pub checked-more : Checked checks bytes t → number ≡ 0 → Checked checks bytes (t + 1)
-    checked-more c z = passed-next c l (accepts (pairCheck checks bytes t) number v z)
+  paired-not : t < count → test t ≡ false → eachBelow test (countOf bytes) ≡ false
+  paired-not l e = each-not test t (countOf bytes) (omega (arith, bound)) e
 
-    pub checked-not : (number ≡ 0 → ⊥) → number ≡ firstOf (SIGNATURE checks (read n bytes) ∷ [])
-    unfolding firstOf
-    checked-not d =
-        let bad = rejects (pairCheck checks bytes t) number v d in
-        bad .1 ∙ sym (rw (h .says, evidence-bad checks bytes (h .size), each-not (pairCheck checks bytes) t count l (bad .0)))
+  paired-all : count ≤ t → eachBelow test (countOf bytes) ≡ true
+  paired-all l = rw bound at (passed-all (w .passed) l)
 
-  pub checked-all : (t : ℕ) → Checked checks bytes t → byteAt bytes evidenceCountAt ≤ t → 0 ≡ firstOf (SIGNATURE checks (read n bytes) ∷ [])
-  unfolding firstOf
-  checked-all t c l = rw (h .says, evidence-bad checks bytes (h .size), passed-all c l)
+module _ (n : ℕ) (bytes : List ℕ) (h : EvidenceTaken n bytes) (entries : Entries) where
+  pub paired-none : entries ≡ packEntries bytes → (test : ℕ → Bool) → Paired test bytes entries (entries .count) 0
+  paired-none e test = record { pack = record { listed = e; size = rw e (h .size) }; counted = refl; passed = passed-none }
+
+  module _ (count t : ℕ) where
+    -- the pair of an index lies in the message
+    pub paired-inside : (test : ℕ → Bool) → Paired test bytes entries count t → t < count → (p : Pair) → p ≡ pairIn bytes t → PairInside n p bytes
+    paired-inside test w l p e =
+        let below : t < countOf bytes = omega (arith, bound w) in
+        rw e (pair-inside bytes (h .size) n t below (h .known t below))
+
+    -- both signatures of it check: 14
+    module _ (checks : Checks) (w : Paired (pairCheck checks bytes) bytes entries count t) where
+      module _ (l : t < count) (p : Pair) (e : p ≡ pairIn bytes t) (number : ℕ) (v : number ≡ signatureNumber (pairChecks checks bytes p)) where
+        indexed : number ≡ signatureNumber (pairCheck checks bytes t)
+        indexed = v ∙ rw e
+
+        pub checked-more : number ≡ 0 → Paired (pairCheck checks bytes) bytes entries count (t + 1)
+        checked-more z = paired-next w l (accepts (pairCheck checks bytes t) number indexed z)
+
+        pub checked-not : (number ≡ 0 → ⊥) → number ≡ firstOf (SIGNATURE checks (read n bytes) ∷ [])
+        unfolding firstOf
+        checked-not d =
+            let bad = rejects (pairCheck checks bytes t) number indexed d in
+            bad .1 ∙ sym (rw (h .says, evidence-bad checks bytes (h .size), paired-not w l (bad .0)))
+
+      pub checked-all : count ≤ t → 0 ≡ firstOf (SIGNATURE checks (read n bytes) ∷ [])
+      unfolding firstOf
+      checked-all l = rw (h .says, evidence-bad checks bytes (h .size), paired-all w l)
+
+    -- its lower value is the lower one: 15
+    module _ (w : Paired (pairOrder bytes) bytes entries count t) where
+      module _ (l : t < count) (p : Pair) (e : p ≡ pairIn bytes t) (b : Bool) (v : b ≡ lowerFirst (pairRead bytes p)) where
+        pub ordered-more : not b ≡ false → Paired (pairOrder bytes) bytes entries count (t + 1)
+        ordered-more z = paired-next w l (rw (← e, ← v) (not-false b z))
+
+        pub ordered-not : not b ≡ true → true ≡ notLowerFirst (read n bytes)
+        ordered-not z = sym (rw (h .says, evidence-order bytes (h .size), paired-not w l (rw (← e, ← v) (not-true b z))))
+
+      pub ordered-all : count ≤ t → false ≡ notLowerFirst (read n bytes)
+      ordered-all l = sym (rw (h .says, evidence-order bytes (h .size), paired-all w l))
 
 -- ---- the entries of FULL, as a reader finds them
 

@@ -7,7 +7,7 @@ use Prim.Native.Nat.{ℕ}
 use borrow.Author.Tests.{not-false}
 use Rattle.refusal.specs.Refusal.{firstOf, numbers, nonzero}
 use Rattle.refusal.specs.RefusalLaws.{firstOf-zero, refused-first, refused-later, passed-first}
-use Rattle.protocol.specs.Message.{Message, Submit, Notice, Full, Evidence, Garbled}
+use Rattle.protocol.specs.Message.{ValuesOnce, ValuesEach, Message, Submit, Notice, Full, Evidence, Garbled}
 use Rattle.protocol.specs.Refusals.{Checks, isForStep, isFull, isEvidence, SIGNATURE, messageConditions}
 use Rattle.wire.specs.Reading.{kindOf}
 use Rattle.wire.specs.Answers.{commandOf}
@@ -23,7 +23,8 @@ unfolding within commandOf kindOf isForStep
 for-step (Submit round seat value signature) = refl
 for-step (Notice round seat value) = refl
 for-step (Full round sender value entries) = refl
-for-step (Evidence round values entries) = refl
+for-step (Evidence round (ValuesOnce values) entries) = refl
+for-step (Evidence round ValuesEach entries) = refl
 for-step Garbled = refl
 
 -- a certificate is "0x03 FULL"
@@ -32,16 +33,18 @@ unfolding within commandOf kindOf isFull
 for-certificate (Submit round seat value signature) = refl
 for-certificate (Notice round seat value) = refl
 for-certificate (Full round sender value entries) = refl
-for-certificate (Evidence round values entries) = refl
+for-certificate (Evidence round (ValuesOnce values) entries) = refl
+for-certificate (Evidence round ValuesEach entries) = refl
 for-certificate Garbled = refl
 
--- "EVIDENCE goes to its own check": 0x05
-for-evidence : (m : Message) → within 0x05 0x05 (kindOf m) ≡ isEvidence m
+-- "EVIDENCE goes to its own check": 0x07, and "The old 0x05 is still accepted by the check." (document 02, item 3). 0x06 starts no message.
+for-evidence : (m : Message) → within 0x05 0x07 (kindOf m) ≡ isEvidence m
 unfolding within commandOf kindOf isEvidence
 for-evidence (Submit round seat value signature) = refl
 for-evidence (Notice round seat value) = refl
 for-evidence (Full round sender value entries) = refl
-for-evidence (Evidence round values entries) = refl
+for-evidence (Evidence round (ValuesOnce values) entries) = refl
+for-evidence (Evidence round ValuesEach entries) = refl
 for-evidence Garbled = refl
 
 module _ (m : Message) (t : Kind) (e : t ≡ kindOf m) (b : Bool) where
@@ -51,24 +54,16 @@ module _ (m : Message) (t : Kind) (e : t ≡ kindOf m) (b : Bool) where
   pub certificate-takes : b ≡ within 0x03 0x03 t → b ≡ isFull m
   certificate-takes f = f ∙ ap (within 0x03 0x03) e ∙ for-certificate m
 
-  pub evidence-takes : b ≡ within 0x05 0x05 t → b ≡ isEvidence m
-  evidence-takes f = f ∙ ap (within 0x05 0x05) e ∙ for-evidence m
+  pub evidence-takes : b ≡ within 0x05 0x07 t → b ≡ isEvidence m
+  evidence-takes f = f ∙ ap (within 0x05 0x07) e ∙ for-evidence m
 
 pub full-kind : (m : Message) → isFull m ≡ true → kind.Full ≡ kindOf m
 unfolding kindOf isFull
 full-kind (Submit round seat value signature) e = absurd (false≢true e)
 full-kind (Notice round seat value) e = absurd (false≢true e)
 full-kind (Full round sender value entries) e = refl
-full-kind (Evidence round values entries) e = absurd (false≢true e)
+full-kind (Evidence round form entries) e = absurd (false≢true e)
 full-kind Garbled e = absurd (false≢true e)
-
-pub evidence-kind : (m : Message) → isEvidence m ≡ true → kind.Evidence ≡ kindOf m
-unfolding kindOf isEvidence
-evidence-kind (Submit round seat value signature) e = absurd (false≢true e)
-evidence-kind (Notice round seat value) e = absurd (false≢true e)
-evidence-kind (Full round sender value entries) e = absurd (false≢true e)
-evidence-kind (Evidence round values entries) e = refl
-evidence-kind Garbled e = absurd (false≢true e)
 
 -- ---- the form of a message: 9 to 12
 

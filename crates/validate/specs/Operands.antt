@@ -9,5 +9,5 @@ unfoldable pub sendersOf : Message → List ℕ
 sendersOf (Submit round seat value signature) = seat ∷ []
 sendersOf (Notice round seat value) = seat ∷ []
 sendersOf (Full round sender value entries) = sender ∷ []
-sendersOf (Evidence round values entries) = []
+sendersOf (Evidence round form entries) = []
 sendersOf Garbled = []

@@ -21,15 +21,16 @@ use Rattle.validate.specs.Operands.{sendersOf}
 
 -- ---- 10: the round
 
-round-read : (t : Kind) (n : ℕ) (bytes : List ℕ) → t ≡ kindOf (read n bytes) → (tag t ≡ 4 → ⊥) → roundOf (read n bytes) ≡ readRound bytes
+round-read : (t : Kind) (n : ℕ) (bytes : List ℕ) → t ≡ kindOf (read n bytes) → (tag t ≡ 5 → ⊥) → roundOf (read n bytes) ≡ readRound bytes
 unfolding roundOf readSubmit readNotice readFull readEvidence
 round-read kind.Submit n bytes e h = rw (read-as kind.Submit n bytes e .0)
 round-read kind.Notice n bytes e h = rw (read-as kind.Notice n bytes e .0)
 round-read kind.Full n bytes e h = rw (read-as kind.Full n bytes e .0)
+round-read kind.OldEvidence n bytes e h = rw (read-as kind.OldEvidence n bytes e .0)
 round-read kind.Evidence n bytes e h = rw (read-as kind.Evidence n bytes e .0)
 round-read kind.Garbled n bytes e h = absurd (h refl)
 
-pub round-told : (t : Kind) (n : ℕ) (bytes : List ℕ) → t ≡ kindOf (read n bytes) → (tag t ≡ 4 → ⊥)
+pub round-told : (t : Kind) (n : ℕ) (bytes : List ℕ) → t ≡ kindOf (read n bytes) → (tag t ≡ 5 → ⊥)
     → (r round : ℕ) → r ≡ readRound bytes → not (eqb r round) ≡ otherRound round (read n bytes)
 unfolding otherRound
 round-told t n bytes e h r round q = rw (q, round-read t n bytes e h)
@@ -49,14 +50,16 @@ unfolding sendersOf readSubmit readNotice readFull
 names-sender kind.Submit n bytes e h = rw (read-as kind.Submit n bytes e .0)
 names-sender kind.Notice n bytes e h = rw (read-as kind.Notice n bytes e .0)
 names-sender kind.Full n bytes e h = rw (read-as kind.Full n bytes e .0)
+names-sender kind.OldEvidence n bytes e h = absurd (⊎-elim (λ a. omega arith) (⊎-elim (λ a. omega arith) (λ a. omega arith)) h)
 names-sender kind.Evidence n bytes e h = absurd (⊎-elim (λ a. omega arith) (⊎-elim (λ a. omega arith) (λ a. omega arith)) h)
 names-sender kind.Garbled n bytes e h = absurd (⊎-elim (λ a. omega arith) (⊎-elim (λ a. omega arith) (λ a. omega arith)) h)
 
-names-none : (t : Kind) (n : ℕ) (bytes : List ℕ) → t ≡ kindOf (read n bytes) → (tag t ≡ 3) ⊎ (tag t ≡ 4) → sendersOf (read n bytes) ≡ []
+names-none : (t : Kind) (n : ℕ) (bytes : List ℕ) → t ≡ kindOf (read n bytes) → (tag t ≡ 3) ⊎ ((tag t ≡ 4) ⊎ (tag t ≡ 5)) → sendersOf (read n bytes) ≡ []
 unfolding sendersOf readEvidence
-names-none kind.Submit n bytes e h = absurd (⊎-elim (λ a. omega arith) (λ a. omega arith) h)
-names-none kind.Notice n bytes e h = absurd (⊎-elim (λ a. omega arith) (λ a. omega arith) h)
-names-none kind.Full n bytes e h = absurd (⊎-elim (λ a. omega arith) (λ a. omega arith) h)
+names-none kind.Submit n bytes e h = absurd (⊎-elim (λ a. omega arith) (⊎-elim (λ a. omega arith) (λ a. omega arith)) h)
+names-none kind.Notice n bytes e h = absurd (⊎-elim (λ a. omega arith) (⊎-elim (λ a. omega arith) (λ a. omega arith)) h)
+names-none kind.Full n bytes e h = absurd (⊎-elim (λ a. omega arith) (⊎-elim (λ a. omega arith) (λ a. omega arith)) h)
+names-none kind.OldEvidence n bytes e h = rw (read-as kind.OldEvidence n bytes e .0)
 names-none kind.Evidence n bytes e h = rw (read-as kind.Evidence n bytes e .0)
 names-none kind.Garbled n bytes e h = rw (read-as kind.Garbled n bytes e .0)
 
@@ -72,7 +75,7 @@ pub sender-told : (t : Kind) (n : ℕ) (bytes : List ℕ) → t ≡ kindOf (read
 unfolding every
 sender-told t n bytes e h r q = rw (names-sender t n bytes e h, q) (not-below (byteAt bytes seatAt) n)
 
-pub sender-none : (t : Kind) (n : ℕ) (bytes : List ℕ) → t ≡ kindOf (read n bytes) → (tag t ≡ 3) ⊎ (tag t ≡ 4) → false ≡ not (every (λ (s : ℕ). ltb s n) (sendersOf (read n bytes)))
+pub sender-none : (t : Kind) (n : ℕ) (bytes : List ℕ) → t ≡ kindOf (read n bytes) → (tag t ≡ 3) ⊎ ((tag t ≡ 4) ⊎ (tag t ≡ 5)) → false ≡ not (every (λ (s : ℕ). ltb s n) (sendersOf (read n bytes)))
 unfolding every
 sender-none t n bytes e h = rw (names-none t n bytes e h)
 
@@ -82,7 +85,7 @@ unfolding seatsOf sendersOf entrySeats
 seats-parts (Submit round seat value signature) = refl
 seats-parts (Notice round seat value) = refl
 seats-parts (Full round sender value entries) = refl
-seats-parts (Evidence round values entries) = refl
+seats-parts (Evidence round form entries) = refl
 seats-parts Garbled = refl
 
 module _ (n : ℕ) (m : Message) where

@@ -4,9 +4,11 @@ use mathlib.Core.Bool.{Bool, _&&_}
 use mathlib.Core.List.{List}
 use Prim.Native.Nat.{ℕ, _+_, _≤_, _<_}
 use lib.ListN.{length}
-use Rattle.protocol.specs.Layout.{valueLength, signatureLength, entrySeatAt, entryHeldAt, lowerAt, higherAt}
-use Rattle.protocol.specs.Message.{byteAt, readValue, readSignature}
+use Rattle.protocol.specs.Layout.{valueLength, signatureLength, entrySeatAt, entryHeldAt, pairLowerAt, lowerAt}
+use Rattle.protocol.specs.Message as message
+use Rattle.protocol.specs.Message.{PackForm, ValuesOnce, ValuesEach, packIn, byteAt, readValue, readSignature}
 use Rattle.protocol.specs.Refusals.{Checks}
+use Rattle.wire.specs.Reading.{commandPlace, packEntries}
 use Rattle.validate.specs.declared.signatures.Place.{Place}
 use Rattle.validate.specs.declared.signatures.Pair.{Pair}
 
@@ -24,10 +26,30 @@ placeChecks checks bytes seat p = checks seat (readValue (p .value) bytes) (read
 abbrev pub pairChecks : Checks → List ℕ → Pair → Bool
 pairChecks checks bytes p = placeChecks checks bytes (p .seat) (p .lower) && placeChecks checks bytes (p .seat) (p .higher)
 
--- the entry of EVIDENCE at a place: "0x06, seat 1, the signature over the lower value, the signature over the higher"
-abbrev pub pairPlaces : List ℕ → ℕ → Pair
-pairPlaces bytes at = record {
-  seat = byteAt bytes (at + entrySeatAt);
-  lower = record { value = lowerAt; signature = at + entryHeldAt };
-  higher = record { value = higherAt; signature = at + entryHeldAt + signatureLength };
+-- the pair of EVIDENCE at given places
+abbrev pub pairRead : List ℕ → Pair → message.Pair
+pairRead bytes p = record {
+  seat = p .seat;
+  lowerValue = readValue (p .lower .value) bytes;
+  higherValue = readValue (p .higher .value) bytes;
+  lower = readSignature (p .lower .signature) bytes;
+  higher = readSignature (p .higher .signature) bytes;
 }
+
+-- a seat's pair over two values, one after the other, with their signatures in the same order
+abbrev pub pairOf : ℕ → ℕ → ℕ → Pair
+pairOf seat values signatures = record {
+  seat = seat;
+  lower = record { value = values; signature = signatures };
+  higher = record { value = values + valueLength; signature = signatures + signatureLength };
+}
+
+-- the pair in an entry of EVIDENCE: "0x08, seat 1, lower value 32, higher value 32 and their signatures in that order" (document 02, item
+-- 3); in the old one, over the values of the message, "0x06, seat 1, the signature over the lower value, the signature over the higher"
+abbrev pub pairPlaces : PackForm → List ℕ → ℕ → Pair
+pairPlaces (ValuesOnce values) bytes at = pairOf (byteAt bytes (at + entrySeatAt)) lowerAt (at + entryHeldAt)
+pairPlaces ValuesEach bytes at = pairOf (byteAt bytes (at + entrySeatAt)) (at + entryHeldAt) (at + entryHeldAt + pairLowerAt)
+
+-- and the one at an index from 0
+abbrev pub pairIn : List ℕ → ℕ → Pair
+pairIn bytes i = pairPlaces (packIn bytes) bytes (commandPlace (packEntries bytes) i)

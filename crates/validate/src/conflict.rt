@@ -2,17 +2,40 @@
 ghost use mathlib.Core.Path.{_≡_};
 ghost use Rattle.protocol.specs.Message.{read};
 ghost use Rattle.protocol.specs.Certificate.{certificateIn};
-ghost use Rattle.protocol.specs.Refusals.{notLowerFirst, equalValues};
+ghost use Rattle.protocol.specs.Refusals.{lowerFirst, notLowerFirst, equalValues};
+ghost use Rattle.validate.specs.Places.{PlaceInside, pairRead};
 ghost use Rattle.validate.specs.Entries.{FullTaken, EvidenceTaken};
+use crate::signatures::Pair;
+use crate::signatures::pair_at;
 
-// Whether the values of EVIDENCE are equal or not lower first.
+// Whether the lower value of a pair is the lower one.
+fn lower_first(m: &[u8], pair: Pair) -> bool
+    requires { ⌜ PlaceInside (pair .lower) (now m) × PlaceInside (pair .higher) (now m) ⌝ }
+    ensures { λ r. ⌜ r ≡ lowerFirst (pairRead (now (m .entry)) pair) ⌝ }
+{
+    let low = pair.lower;
+    let high = pair.higher;
+    let lower = wire::values::value_at(m, low.value);
+    let higher = wire::values::value_at(m, high.value);
+    wire::values::lower(&lower, &higher)
+}
+
+// Whether the values of an entry of EVIDENCE are equal or not lower first.
 pub(crate) fn not_lower_first(n: u32, m: &[u8]) -> bool
     requires { ⌜ EvidenceTaken n (now m) ⌝ }
     ensures { λ r. ⌜ r ≡ notLowerFirst (read n (now (m .entry))) ⌝ }
 {
-    let lower = wire::values::value_at(m, layout::lower_at());
-    let higher = wire::values::value_at(m, layout::higher_at());
-    !wire::values::lower(&lower, &higher)
+    let entries = wire::read::evidence_entries(m);
+    let count = entries.count;
+    let mut t = 0;
+    while t < count {
+        let pair = pair_at(m, entries, t);
+        if !lower_first(m, pair) {
+            return true;
+        }
+        t += 1;
+    }
+    false
 }
 
 // The value of a certificate.

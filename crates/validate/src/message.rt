@@ -27,7 +27,9 @@ pub(crate) const SUBMIT: u32 = 1;
 
 pub(crate) const FULL: u32 = 3;
 
-pub(crate) const EVIDENCE: u32 = 5;
+pub(crate) const OLD_EVIDENCE: u32 = 5;
+
+pub(crate) const EVIDENCE: u32 = 7;
 
 // The command of a message; 0 where it is garbled.
 fn command(kind: Kind) -> u32
@@ -37,6 +39,7 @@ fn command(kind: Kind) -> u32
         Kind::Submit => SUBMIT,
         Kind::Notice => 2,
         Kind::Full => FULL,
+        Kind::OldEvidence => OLD_EVIDENCE,
         Kind::Evidence => EVIDENCE,
         Kind::Garbled => 0,
     }
@@ -68,7 +71,7 @@ fn sender_outside(n: u32, kind: Kind, m: &[u8]) -> bool
 {
     match kind {
         Kind::Submit | Kind::Notice | Kind::Full => n <= number_at(m, layout::seat_at()),
-        Kind::Evidence | Kind::Garbled => false,
+        Kind::OldEvidence | Kind::Evidence | Kind::Garbled => false,
     }
 }
 

@@ -2,23 +2,25 @@
 ghost use mathlib.Core.Path.{_≡_};
 ghost use mathlib.Core.Bool.{false};
 ghost use mathlib.Core.List.{[], _∷_};
-ghost use Prim.Native.Nat.{_+_, _≤_, _<_};
+ghost use Prim.Native.Nat.{_+_, _≤_, _<_, _^_};
 ghost use lib.ListN.{length};
 ghost use Rattle.fips180.specs.Constants.{constants};
 ghost use Rattle.refusal.specs.Refusal.{firstOf};
-ghost use Rattle.protocol.specs.Layout.{valueLength, signatureLength, valueAt, evidenceEntryLength};
+ghost use Rattle.protocol.specs.Layout.{valueLength, signatureLength, valueAt};
 ghost use Rattle.protocol.specs.Message.{read};
 ghost use Rattle.protocol.specs.Refusals.{stranger, SIGNATURE};
 ghost use Rattle.protocol.specs.Signatures.{signedBytes, checks, signatureNumber};
-ghost use Rattle.wire.specs.Reading.{kindOf, commandPlace, Inside};
+ghost use Rattle.wire.specs.Reading.{kindOf};
 ghost use Rattle.validate.specs.Given.{Given};
-ghost use Rattle.validate.specs.Entries.{SubmitTaken, FullTaken, EvidenceTaken, Fits, foundChecks, goesOn};
-ghost use Rattle.validate.specs.Places.{PlaceInside, PairInside, placeChecks, pairChecks, pairPlaces};
+ghost use Rattle.validate.specs.Entries.{SubmitTaken, FullTaken, EvidenceTaken, Pack, Fits, foundChecks, goesOn};
+ghost use Rattle.validate.specs.Places.{PlaceInside, PairInside, placeChecks, pairChecks, pairOf, pairIn};
 use crate::keys::seat_key;
+use crate::message::OLD_EVIDENCE;
 use layout::Entries;
 use protocol::Verdict;
 use wire::entries::seat_of_entry;
 use wire::read::Kind;
+use wire::read::number_at;
 use wire::reader::Next;
 
 // The 36 bytes that a seat signs.
@@ -85,7 +87,7 @@ fn submit_verdict(k: &[u32; 64], n: u32, round: u32, keys: &[u8], m: &[u8]) -> V
     requires { ⌜ (now k ≡ constants) × Given n round (now keys) × SubmitTaken n (now m) ⌝ }
     ensures { λ v. ⌜ v .number ≡ firstOf (SIGNATURE (checks (now (keys .entry)) round) (read n (now (m .entry))) ∷ []) ⌝ }
 {
-    let seat = wire::read::number_at(m, layout::seat_at());
+    let seat = number_at(m, layout::seat_at());
     let place = Place {
         value: layout::value_at(),
         signature: layout::submit_signature_at(),
@@ -164,25 +166,37 @@ fn pair_verdict(k: &[u32; 64], n: u32, round: u32, keys: &[u8], m: &[u8], pair: 
     place_verdict(k, n, round, keys, m, pair.seat, higher)
 }
 
-// The pair in an entry of EVIDENCE, over the two values of the message.
-fn pair_at(m: &[u8], entries: Entries, i: usize) -> Pair
-    requires { ⌜ Inside entries (now m) × (i < entries .count) × (commandPlace entries i + evidenceEntryLength ≤ length (now m)) ⌝ }
-    ensures { λ p. ⌜ p ≡ pairPlaces (now (m .entry)) (commandPlace entries i) ⌝ }
+// A seat's pair over two values, one after the other, with their signatures in the same order.
+fn pair_of(seat: u32, values: usize, signatures: usize) -> Pair
+    requires { ⌜ (values + valueLength < 2 ^ 64) × (signatures + signatureLength < 2 ^ 64) ⌝ }
+    ensures { λ p. ⌜ p ≡ pairOf seat values signatures ⌝ }
 {
-    let held = layout::entry_held_at(entries, i);
     let lower = Place {
-        value: layout::lower_at(),
-        signature: held,
+        value: values,
+        signature: signatures,
     };
     let higher = Place {
-        value: layout::higher_at(),
-        signature: held + layout::signature_length(),
+        value: values + layout::value_length(),
+        signature: signatures + layout::signature_length(),
     };
     Pair {
-        seat: seat_of_entry(m, entries, i),
+        seat,
         lower,
         higher,
     }
+}
+
+// The pair in an entry of EVIDENCE: over the entry's own values or, in the old one, over those of the message.
+pub(crate) fn pair_at(m: &[u8], entries: Entries, i: usize) -> Pair
+    requires { ⌜ Pack entries (now m) × (i < entries .count) ⌝ }
+    ensures { λ p. ⌜ p ≡ pairIn (now (m .entry)) i ⌝ }
+{
+    let seat = seat_of_entry(m, entries, i);
+    let held = layout::entry_held_at(entries, i);
+    if number_at(m, 0) == OLD_EVIDENCE {
+        return pair_of(seat, layout::lower_at(), held);
+    }
+    pair_of(seat, held, held + layout::pair_lower_at())
 }
 
 // Verdict on the signatures of EVIDENCE: its pairs one after another.
@@ -190,8 +204,8 @@ fn evidence_verdict(k: &[u32; 64], n: u32, round: u32, keys: &[u8], m: &[u8]) ->
     requires { ⌜ (now k ≡ constants) × Given n round (now keys) × EvidenceTaken n (now m) ⌝ }
     ensures { λ v. ⌜ v .number ≡ firstOf (SIGNATURE (checks (now (keys .entry)) round) (read n (now (m .entry))) ∷ []) ⌝ }
 {
-    let count = wire::read::number_at(m, layout::evidence_count_at()) as usize;
-    let entries = layout::evidence_entries(count);
+    let entries = wire::read::evidence_entries(m);
+    let count = entries.count;
     let mut t = 0;
     while t < count {
         let pair = pair_at(m, entries, t);
@@ -222,6 +236,7 @@ pub(crate) fn message_verdict(
         Kind::Submit => submit_verdict(k, n, round, keys, m),
         Kind::Notice => Verdict { number: 0 },
         Kind::Full => full_verdict(k, n, round, keys, m),
+        Kind::OldEvidence => evidence_verdict(k, n, round, keys, m),
         Kind::Evidence => evidence_verdict(k, n, round, keys, m),
         Kind::Garbled => Verdict { number: 0 },
     }

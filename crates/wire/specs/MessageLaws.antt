@@ -54,7 +54,7 @@ module _ (n : ℕ) (bytes : List ℕ) where
       (rw (r .0, q) (seats-walked fullForm bytes full-faithful (k n)), omega (arith, full-fits n bytes (r .1) .size, full-figure n))
 
   -- in either form of EVIDENCE
-  pack-seats : (read n bytes ≡ readEvidence bytes) × (fitsEvidence n bytes ≡ true) → (seatsIn (packEntries bytes) bytes ≡ entrySeats (read n bytes)) × Inside (packEntries bytes) bytes
+  pub pack-seats : (read n bytes ≡ readEvidence bytes) × (fitsEvidence n bytes ≡ true) → (seatsIn (packEntries bytes) bytes ≡ entrySeats (read n bytes)) × Inside (packEntries bytes) bytes
   unfolding entrySeats readEvidence evidenceForm placeOf
   pack-seats r = (rw (r .0) (seats-walked (formOf bytes) bytes (evidence-faithful (packIn bytes)) (countOf bytes)), omega (arith, evidence-fits n bytes (r .1) .size))
 

@@ -1,28 +1,37 @@
 -- `validate::conflict::not_lower_first` meets its contract.
+use Prim.Native.Nat.{_-_}
 use native.Mathlib.Omega.{arith}
 use borrow.Author.Needs.{needs}
-use Rattle.protocol.specs.Layout.{signatureLength, evidenceEntryLength, evidenceEntryAt, evidenceLength}
-use Rattle.validate.specs.CallsLaws.{pack-order}
+use Rattle.validate.specs.SignaturesLaws.{pairOrder}
+use Rattle.validate.specs.EntriesLaws.{Paired, paired-none, paired-inside, ordered-more, ordered-not, ordered-all}
 use Rattle.validate.proofs.conflict.not_lower_first.Statement.{statement}
 use Rattle.validate.proofs.conflict.not_lower_first.Tie as tie
 
-value-at-requires : tie.Need-value-at-requires
-unfolding evidenceLength evidenceEntryAt evidenceEntryLength signatureLength
-value-at-requires c κs = omega arith
+abbrev Inv-loop : tie.InvT-loop
+Inv-loop n m entries count t₀ t = Paired (pairOrder m) m entries count t
 
-value-at-requires-2 : tie.Need-value-at-requires-2
-unfolding evidenceLength evidenceEntryAt evidenceEntryLength signatureLength
-value-at-requires-2 c κs = omega arith
+abbrev μ-loop : tie.MeasureT-loop
+μ-loop n m entries count t₀ t = count - t
+
+lower-first-requires : tie.Need-lower-first-requires Inv-loop μ-loop
+lower-first-requires c κs =
+    let at-loop = c .before .before in
+    let start = at-loop .before .before .before in
+    let inside = paired-inside _ _ (start .pre) _ _ _ _ (at-loop .loop .inv) (search needs) _ (c .pair-at .ensures) in
+    (inside .1, inside .2)
 
 pub not-lower-first-spec : {M : Type 1} → statement M
 not-lower-first-spec =
     tie.close
     (tie.spec
+    Inv-loop
+    μ-loop
     (λ c κs. search needs)
-    value-at-requires
+    (λ c. search paired-none)
     (λ c κs. search needs)
-    value-at-requires-2
-    (λ c. search needs)
-    (λ c. search needs)
-    (λ c κs. search needs)
-    (λ c. search pack-order))
+    lower-first-requires
+    (λ c. search ordered-not)
+    (λ c. omega arith)
+    (λ c. omega arith)
+    (λ c. search ordered-more)
+    (λ c. search ordered-all))

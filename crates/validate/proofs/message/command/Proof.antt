@@ -27,6 +27,10 @@ returns-5 : tie.Need-returns-5
 unfolding commandOf
 returns-5 c = rw (c .enum-told5 .given .1)
 
+returns-6 : tie.Need-returns-6
+unfolding commandOf
+returns-6 c = rw (c .enum-told6 .given .1)
+
 pub command-spec : {M : Type 1} → statement M
 command-spec =
     tie.close
@@ -36,8 +40,10 @@ command-spec =
     (λ c. search needs)
     (λ c. search needs)
     (λ c. search needs)
+    (λ c. search needs)
     returns
     returns-2
     returns-3
     returns-4
-    returns-5)
+    returns-5
+    returns-6)

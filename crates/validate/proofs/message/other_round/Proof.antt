@@ -12,14 +12,14 @@ use Rattle.validate.specs.OperandsLaws.{round-told, round-garbled}
 use Rattle.validate.proofs.message.other_round.Statement.{statement}
 use Rattle.validate.proofs.message.other_round.Tie as tie
 
-not-fourth : (t : ℕ) → (t ≡ 0) ⊎ ((t ≡ 1) ⊎ ((t ≡ 2) ⊎ (t ≡ 3))) → t ≡ 4 → ⊥
-not-fourth t some e = ⊎-elim (λ a. omega arith) (⊎-elim (λ a. omega arith) (⊎-elim (λ a. omega arith) (λ a. omega arith))) some
+not-fifth : (t : ℕ) → (t ≡ 0) ⊎ ((t ≡ 1) ⊎ ((t ≡ 2) ⊎ ((t ≡ 3) ⊎ (t ≡ 4)))) → t ≡ 5 → ⊥
+not-fifth t some e = ⊎-elim (λ a. omega arith) (⊎-elim (λ a. omega arith) (⊎-elim (λ a. omega arith) (⊎-elim (λ a. omega arith) (λ a. omega arith)))) some
 
 abbrev start : tie.At-match-keys2 → tie.Start
 start c = c .before .before
 
-not-garbled : (c : tie.At-match-keys2) → tag (start c .args .kind) ≡ 4 → ⊥
-not-garbled c = let k = start c .args .kind in not-fourth (tag k) (rw (tags k) at (c .match .keys2))
+not-garbled : (c : tie.At-match-keys2) → tag (start c .args .kind) ≡ 5 → ⊥
+not-garbled c = let k = start c .args .kind in not-fifth (tag k) (rw (tags k) at (c .match .keys2))
 
 enum-told : tie.Need-enum-told
 enum-told c = search needs

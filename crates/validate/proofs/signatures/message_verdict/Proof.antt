@@ -1,6 +1,6 @@
 -- `validate::signatures::message_verdict` meets its contract.
 use borrow.Author.Needs.{needs}
-use Rattle.validate.specs.EntriesLaws.{submit-taken, full-taken, evidence-taken, notice-row, garbled-row}
+use Rattle.validate.specs.EntriesLaws.{submit-taken, full-taken, old-evidence-taken, evidence-taken, notice-row, garbled-row}
 use Rattle.validate.proofs.signatures.message_verdict.Statement.{statement}
 use Rattle.validate.proofs.signatures.message_verdict.Tie as tie
 
@@ -17,10 +17,13 @@ message-verdict-spec =
     (λ c. search needs)
     (λ c κs. search (needs, full-taken))
     (λ c. search needs)
+    (λ c κs. search (needs, old-evidence-taken))
+    (λ c. search needs)
     (λ c κs. search (needs, evidence-taken))
     (λ c. search needs)
     (λ c. search needs)
     (λ c. search notice-row)
+    (λ c. search needs)
     (λ c. search needs)
     (λ c. search needs)
     (λ c. search garbled-row))
