@@ -17,7 +17,7 @@ unfoldable pub isGarbled : Message → Bool
 isGarbled (Submit round seat value signature) = false
 isGarbled (Notice round seat value) = false
 isGarbled (Full round sender value entries) = false
-isGarbled (Evidence round values entries) = false
+isGarbled (Evidence round form entries) = false
 isGarbled Garbled = true
 
 -- the same of a kind of message
@@ -25,6 +25,7 @@ abbrev pub noMessage : Kind → Bool
 noMessage kind.Submit = false
 noMessage kind.Notice = false
 noMessage kind.Full = false
+noMessage kind.OldEvidence = false
 noMessage kind.Evidence = false
 noMessage kind.Garbled = true
 

@@ -1,23 +1,26 @@
 -- "Messages go to `out` one after another": the first of them has its own length, whatever follows.
 -- Assumes nothing.
-use mathlib.Core.Path.{_≡_, refl, ap, _∙_}
+use mathlib.Core.Path.{_≡_, refl, sym, ap, _∙_}
 use mathlib.Core.Bool.{Bool, false, cond}
 use mathlib.Core.List.{List, _++_}
+use mathlib.Core.Logic.{_≢_}
 use Prim.Native.Nat.{ℕ, _≤_, _<_, _^_}
 use native.Mathlib.Omega.{arith}
-use lib.Dec.{ltb}
+use native.Mathlib.Decide.{ℕ-discrete}
+use lib.Dec.{ltb, eqb}
 use lib.ListN.{length, take, length-append}
 use lib.Seq.{take-append-seam}
 use borrow.Author.Tests.{ne-eqb, lt-ltb, le-ltb}
 use Rattle.quorum.specs.Quorum.{mostSeats, k}
-use Rattle.protocol.specs.Layout.{submitLength, noticeLength, fullLength, evidenceCountAt, evidenceLength}
-use Rattle.protocol.specs.Figures.{submit-figure, notice-figure, full-figure, evidence-figure}
-use Rattle.protocol.specs.Message.{Message, Submit, Notice, Full, Evidence, Garbled, render, byteAt, read, WellFormed}
-use Rattle.protocol.specs.MessageLaws.{read-render}
+use Rattle.protocol.specs.Layout.{submitLength, noticeLength, fullLength, evidenceCountAt, evidenceEntryLength, evidenceEntryAt, evidenceLength, oldEvidenceCountAt, oldEvidenceEntryLength, oldEvidenceEntryAt, oldEvidenceLength}
+use Rattle.protocol.specs.Figures.{submit-figure, notice-figure, full-figure}
+use Rattle.protocol.specs.Message.{ValuesOnce, ValuesEach, Message, Submit, Notice, Full, Evidence, Garbled, render, byteAt, read, WellFormed}
+use Rattle.protocol.specs.MessageLaws.{read-render, pack-old, pack-new}
 use Rattle.protocol.specs.Record.{wrongSize}
 use Rattle.reading.specs.Reading.{frameLength}
 use Rattle.reading.specs.ReadingLaws.{frame-length}
-use Rattle.wire.specs.Reading.{kindOf}
+use Rattle.layout.specs.declared.Entries.{Entries}
+use Rattle.wire.specs.Reading.{kindOf, commandPlace, packEntries}
 use Rattle.wire.specs.Answers.{commandOf, command}
 use Rattle.wire.specs.KindLaws.{kind-told}
 use Rattle.wire.specs.declared.read.Kind.{Kind}
@@ -30,7 +33,7 @@ unfolding isGarbled
 well-formed-said n (Submit round seat value signature) w = refl
 well-formed-said n (Notice round seat value) w = refl
 well-formed-said n (Full round sender value entries) w = refl
-well-formed-said n (Evidence round values entries) w = refl
+well-formed-said n (Evidence round form entries) w = refl
 well-formed-said n Garbled w = absurd w
 
 pub first-length : (n : ℕ) (m : Message) (rest : List ℕ) → wrongSize n ≡ false → WellFormed n m → messageLength n (render m ++ rest) ≡ length (render m)
@@ -47,7 +50,8 @@ unfolding kindOf isGarbled
 kind-garbled (Submit round seat value signature) = refl
 kind-garbled (Notice round seat value) = refl
 kind-garbled (Full round sender value entries) = refl
-kind-garbled (Evidence round values entries) = refl
+kind-garbled (Evidence round (ValuesOnce values) entries) = refl
+kind-garbled (Evidence round ValuesEach entries) = refl
 kind-garbled Garbled = refl
 
 garbled-told : (c : Kind) (m : Message) → commandOf c ≡ command m → noMessage c ≡ isGarbled m
@@ -95,7 +99,10 @@ module _ (n : ℕ) (bytes : List ℕ) (c : ℕ) (e : c ≡ byteAt bytes 0) (r : 
       unfolding frameLength k
       frame-full few h q = (rw (← e, h) q, omega (arith, full-figure n))
 
-      pub frame-evidence : (c ≡ 0x03 → ⊥) → (count : ℕ) → count ≡ byteAt bytes evidenceCountAt → count < 256 → r ≡ evidenceLength count → Told
-      unfolding frameLength
-      frame-evidence no-full count p few q =
-          (rw (← e, ne-eqb c 0x01 no-submit, ne-eqb c 0x02 no-notice, ne-eqb c 0x03 no-full, ← p) q, omega (arith, evidence-figure count))
+      pub frame-evidence : c ≢ 0x03 → (found : Entries) → found ≡ packEntries bytes → commandPlace found (found .count) < 2 ^ 32 → r ≡ commandPlace found (found .count) → Told
+      unfolding frameLength evidenceLength evidenceEntryAt evidenceEntryLength oldEvidenceLength oldEvidenceEntryAt oldEvidenceEntryLength
+      frame-evidence no-full found g few q = (rw (← e, ne-eqb c 0x01 no-submit, ne-eqb c 0x02 no-notice, ne-eqb c 0x03 no-full) (go (ℕ-discrete c 0x05)), omega arith)
+        where
+          go : Dec (c ≡ 0x05) → r ≡ cond (eqb c 0x05) (oldEvidenceLength (byteAt bytes oldEvidenceCountAt)) (evidenceLength (byteAt bytes evidenceCountAt))
+          go (yes old) = rw old (rw (g, pack-old bytes (sym e ∙ old)) at q)
+          go (no new) = rw (ne-eqb c 0x05 new) (rw (g, pack-new bytes (λ old. new (e ∙ old))) at q)

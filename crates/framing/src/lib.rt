@@ -2,27 +2,16 @@
 ghost use mathlib.Core.Path.{_≡_};
 ghost use Prim.Native.Nat.{_≤_, _<_, _^_};
 ghost use Rattle.quorum.specs.Quorum.{mostSeats};
-ghost use Rattle.protocol.specs.Message.{byteAt};
 ghost use Rattle.reading.specs.Reading.{frameLength};
 ghost use Rattle.framing.specs.Framing.{messageLength, noMessage};
 use wire::read::Kind;
 
-// The byte at an index, 0 past the end.
-fn byte_or_zero(bytes: &[u8], at: usize) -> u32
-    ensures { λ r. ⌜ (r ≡ byteAt (now (bytes .entry)) at) × (r < 256) ⌝ }
-{
-    if bytes.len() <= at {
-        return 0;
-    }
-    wire::read::number_at(bytes, at)
-}
-
-// The length by the command and, for EVIDENCE, the count. Bytes with no command go by that count too, and are garbled.
+// The length by the command and, for EVIDENCE, the count. Bytes with no command go by the count of 0x07, and are garbled.
 fn frame_length(n: u32, bytes: &[u8]) -> usize
     requires { ⌜ (1 ≤ n) × (n ≤ mostSeats) ⌝ }
     ensures { λ r. ⌜ (r ≡ frameLength n (now (bytes .entry))) × (r < 2 ^ 32) ⌝ }
 {
-    let command = byte_or_zero(bytes, 0);
+    let command = wire::read::byte_or_zero(bytes, 0);
     if command == 1 {
         return layout::submit_length();
     }
@@ -32,8 +21,9 @@ fn frame_length(n: u32, bytes: &[u8]) -> usize
     if command == 3 {
         return layout::full_length(n);
     }
-    let count = byte_or_zero(bytes, layout::evidence_count_at());
-    layout::evidence_length(count as usize)
+    let found = wire::read::evidence_entries(bytes);
+    let count = found.count;
+    layout::entry_at(found, count)
 }
 
 // Whether bytes of a kind are no message.
@@ -44,6 +34,7 @@ fn is_garbled(kind: Kind) -> bool
         Kind::Submit => false,
         Kind::Notice => false,
         Kind::Full => false,
+        Kind::OldEvidence => false,
         Kind::Evidence => false,
         Kind::Garbled => true,
     }

@@ -146,13 +146,6 @@ pub fn lower_at() -> usize
     LOWER_AT
 }
 
-// The higher value in the old EVIDENCE.
-pub fn higher_at() -> usize
-    ensures { λ r. ⌜ r ≡ Layout.higherAt ⌝ }
-{
-    HIGHER_AT
-}
-
 // The count in FULL.
 pub fn full_count_at() -> usize
     ensures { λ r. ⌜ r ≡ Layout.fullCountAt ⌝ }
@@ -240,23 +233,11 @@ pub fn entry_held_at(entries: Entries, i: usize) -> usize
     entry_at(entries, i) + ENTRY_HELD_AT
 }
 
-// In an entry of EVIDENCE, from the start of its content: the higher value, and the signatures over the lower and the higher one.
-pub fn pair_higher_value_at() -> usize
-    ensures { λ r. ⌜ r ≡ Layout.pairHigherValueAt ⌝ }
-{
-    PAIR_HIGHER_VALUE_AT
-}
-
+// The signatures in an entry of EVIDENCE, from the start of its content, where its values are.
 pub fn pair_lower_at() -> usize
     ensures { λ r. ⌜ r ≡ Layout.pairLowerAt ⌝ }
 {
     PAIR_LOWER_AT
-}
-
-pub fn pair_higher_at() -> usize
-    ensures { λ r. ⌜ r ≡ Layout.pairHigherAt ⌝ }
-{
-    PAIR_HIGHER_AT
 }
 
 // ---- lengths of messages
@@ -279,14 +260,6 @@ pub fn full_length(n: u32) -> usize
     ensures { λ r. ⌜ r ≡ Layout.fullLength n ⌝ }
 {
     FULL_START + FULL_ENTRY * (quorum::k(n) as usize)
-}
-
-// EVIDENCE with `count` entries.
-pub fn evidence_length(count: usize) -> usize
-    requires { ⌜ count < 2 ^ 32 ⌝ }
-    ensures { λ r. ⌜ r ≡ Layout.evidenceLength count ⌝ }
-{
-    EVIDENCE_START + EVIDENCE_ENTRY * count
 }
 
 // ---- store and out
@@ -331,7 +304,7 @@ pub fn evidence_out_length(n: u32) -> usize
     requires { ⌜ (1 ≤ n) × (n ≤ mostSeats) ⌝ }
     ensures { λ r. ⌜ r ≡ Layout.evidenceOutLength n ⌝ }
 {
-    evidence_length(quorum::k(n) as usize)
+    EVIDENCE_START + EVIDENCE_ENTRY * (quorum::k(n) as usize)
 }
 
 // `out` for a submit or a step: SUBMIT, NOTICE, FULL and EVIDENCE.

@@ -4,7 +4,7 @@ use mathlib.Core.Path.{_≡_, refl, sym, _∙_}
 use mathlib.Core.Bool.{true, false}
 use mathlib.Core.Logic.{_⊎_, ⊎-elim}
 use mathlib.Core.List.{List}
-use Prim.Native.Nat.{ℕ, _+_, _≤_, _<_}
+use Prim.Native.Nat.{ℕ, _+_, _≤_}
 use native.Mathlib.Omega.{arith}
 use lib.Dec.{ltb}
 use lib.ListN.{length}
@@ -27,7 +27,7 @@ use Rattle.wire.specs.declared.read.Kind.the-variants as kind
 
 -- ---- lengths
 
--- either form of EVIDENCE has 2,974 bytes for its first entry
+-- an EVIDENCE has an entry or more, and with one entry either form has 2,974 bytes
 evidence-long : (n : ℕ) (bytes : List ℕ) → fitsEvidence n bytes ≡ true → evidenceLength 1 ≤ length bytes
 evidence-long n bytes h = let fits = evidence-fits n bytes h in go (packIn bytes) (countOf bytes) (fits .some) (fits .size)
   where

@@ -92,11 +92,12 @@ fn is_full(n: u32, m: &[u8]) -> bool
     entries::have_command(m, layout::full_entries(count as usize), 4)
 }
 
-// The entries of an EVIDENCE: those of the old one by its command, else those of 0x07.
+// The entries of an EVIDENCE: at the places of the old one where the command is 0x05, else at those of 0x07.
 pub fn evidence_entries(m: &[u8]) -> Entries
     ensures { λ r. ⌜ (r ≡ packEntries (now (m .entry))) × (commandPlace r (r .count) < 2 ^ 32) ⌝ }
 {
-    if byte_or_zero(m, 0) == 5 {
+    let command = byte_or_zero(m, 0);
+    if command == 5 {
         let count = byte_or_zero(m, layout::old_evidence_count_at());
         return layout::old_evidence_entries(count as usize);
     }
@@ -104,7 +105,7 @@ pub fn evidence_entries(m: &[u8]) -> Entries
     layout::evidence_entries(count as usize)
 }
 
-// Whether they are those of an EVIDENCE. The command of its entries is the next after its own.
+// Whether the bytes are those of an EVIDENCE in either form. The command of an entry is the next after the message's.
 fn is_evidence(n: u32, m: &[u8]) -> bool
     ensures { λ r. ⌜ r ≡ fitsEvidence n (now (m .entry)) ⌝ }
 {
