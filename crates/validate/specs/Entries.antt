@@ -10,7 +10,6 @@ use Rattle.quorum.specs.Quorum.{k}
 use Rattle.protocol.specs.Layout.{signatureLength, seatAt, valueAt, submitLength, entrySeatAt, fullCountAt, fullEntryAt, fullLength}
 use Rattle.protocol.specs.Message.{byteAt, countOf, readValue, readSignature, read, readSubmit, readFull, readEvidence}
 use Rattle.protocol.specs.Refusals.{Checks}
-use Rattle.layout.specs.declared.Entries.{Entries}
 use Rattle.wire.specs.Reading.{commandPlace, seatPlace, packEntries}
 use Rattle.wire.specs.declared.reader.Next.{Next}
 use Rattle.wire.specs.declared.reader.Next.the-variants as next
@@ -28,16 +27,14 @@ pub record FullTaken (n : ℕ) (bytes : List ℕ) : Type 0 where
   pub count : byteAt bytes fullCountAt ≡ k n
   pub known : (i : ℕ) → i < k n → byteAt bytes (fullEntryAt i + entrySeatAt) < n
 
--- EVIDENCE in either form
+-- EVIDENCE, in either form, ends with its last entry
+abbrev pub Ends : List ℕ → Type 0
+Ends bytes = length bytes ≡ commandPlace (packEntries bytes) (countOf bytes)
+
 pub record EvidenceTaken (n : ℕ) (bytes : List ℕ) : Type 0 where
   pub says : read n bytes ≡ readEvidence bytes
-  pub size : length bytes ≡ commandPlace (packEntries bytes) (countOf bytes)
+  pub ends : Ends bytes
   pub known : (i : ℕ) → i < countOf bytes → byteAt bytes (seatPlace (packEntries bytes) i) < n
-
--- the entries of an EVIDENCE, which ends with the last
-pub record Pack (entries : Entries) (bytes : List ℕ) : Type 0 where
-  pub listed : entries ≡ packEntries bytes
-  pub size : length bytes ≡ commandPlace entries (entries .count)
 
 -- ---- the entries of FULL, as a reader finds them
 

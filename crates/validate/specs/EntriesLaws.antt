@@ -35,7 +35,7 @@ use Rattle.validate.specs.Messages.{Formed}
 use Rattle.validate.specs.MessagesLaws.{full-kind}
 use Rattle.validate.specs.Places.{PairInside, pairChecks, pairRead, pairIn}
 use Rattle.validate.specs.SignaturesLaws.{pair-inside, entryCheck, pairCheck, pairOrder, submit-bad, full-bad, evidence-bad, evidence-order}
-use Rattle.validate.specs.Entries.{SubmitTaken, FullTaken, EvidenceTaken, Pack, Fits, foundChecks, goesOn}
+use Rattle.validate.specs.Entries.{SubmitTaken, FullTaken, EvidenceTaken, Fits, foundChecks, goesOn}
 use Rattle.validate.specs.declared.signatures.Pair.{Pair}
 
 -- ---- its bytes
@@ -65,7 +65,7 @@ module _ (n : ℕ) (bytes : List ℕ) (t : Kind) (e : t ≡ kindOf (read n bytes
   unfolding evidenceForm placeOf
   pack-known r =
       let below = known-entries n (read n bytes) (seatsIn (packEntries bytes) bytes) n (omega arith) s (pack-seats n bytes r .0) in
-      record { says = r .0; size = evidence-fits n bytes (r .1) .size; known = λ i h. below-at (seatPlace (packEntries bytes)) bytes n (countOf bytes) i h below }
+      record { says = r .0; ends = evidence-fits n bytes (r .1) .size; known = λ i h. below-at (seatPlace (packEntries bytes)) bytes n (countOf bytes) i h below }
 
   pub old-evidence-taken : t ≡ kind.OldEvidence → EvidenceTaken n bytes
   old-evidence-taken g = pack-known (read-as kind.OldEvidence n bytes (sym g ∙ e))
@@ -126,64 +126,51 @@ rejects false number e h = (refl, e)
 
 -- a loop over the pairs, at index t: those before it pass the test
 pub record Paired (test : ℕ → Bool) (bytes : List ℕ) (entries : Entries) (count t : ℕ) : Type 0 where
-  pub pack : Pack entries bytes
-  pub counted : count ≡ entries .count
-  pub passed : Passed test count t
+  pub listed : entries ≡ packEntries bytes
+  pub counted : count ≡ countOf bytes
+  pub passed : Passed test (countOf bytes) t
 
-module _ {test : ℕ → Bool} {bytes : List ℕ} {entries : Entries} {count t : ℕ} (w : Paired test bytes entries count t) where
-  bound : count ≡ countOf bytes
-  bound = w .counted ∙ ap (λ (e : Entries). e .count) (w .pack .listed)
+pub paired-none : (test : ℕ → Bool) (bytes : List ℕ) (entries : Entries) → entries ≡ packEntries bytes → Paired test bytes entries (entries .count) 0
+paired-none test bytes entries e = record { listed = e; counted = ap (λ (x : Entries). x .count) e; passed = passed-none }
 
-  paired-next : t < count → test t ≡ true → Paired test bytes entries count (t + 1)
-  paired-next l e = record { pack = w .pack; counted = w .counted; passed = passed-next (w .passed) l e }
+paired-next : {test : ℕ → Bool} {bytes : List ℕ} {entries : Entries} {count t : ℕ} → Paired test bytes entries count t → t < count → test t ≡ true → Paired test bytes entries count (t + 1)
+paired-next w l e = record { listed = w .listed; counted = w .counted; passed = passed-next (w .passed) (omega arith) e }
 
-  paired-not : t < count → test t ≡ false → eachBelow test (countOf bytes) ≡ false
-  paired-not l e = each-not test t (countOf bytes) (omega (arith, bound)) e
+module _ (n : ℕ) (bytes : List ℕ) (h : EvidenceTaken n bytes) (entries : Entries) (count t : ℕ) where
+  -- the pair of an index lies in the message
+  pub paired-inside : (test : ℕ → Bool) → Paired test bytes entries count t → t < count → (p : Pair) → p ≡ pairIn bytes t → PairInside n p bytes
+  paired-inside test w l p e = rw e (pair-inside bytes (h .ends) t (omega arith) n (h .known t (omega arith)))
 
-  paired-all : count ≤ t → eachBelow test (countOf bytes) ≡ true
-  paired-all l = rw bound at (passed-all (w .passed) l)
+  -- both signatures of it check: 14
+  module _ (checks : Checks) (w : Paired (pairCheck checks bytes) bytes entries count t) where
+    module _ (l : t < count) (p : Pair) (e : p ≡ pairIn bytes t) (number : ℕ) (v : number ≡ signatureNumber (pairChecks checks bytes p)) where
+      pub checked-more : number ≡ 0 → Paired (pairCheck checks bytes) bytes entries count (t + 1)
+      checked-more z = paired-next w l (rw (← e) (accepts (pairChecks checks bytes p) number v z))
 
-module _ (n : ℕ) (bytes : List ℕ) (h : EvidenceTaken n bytes) (entries : Entries) where
-  pub paired-none : entries ≡ packEntries bytes → (test : ℕ → Bool) → Paired test bytes entries (entries .count) 0
-  paired-none e test = record { pack = record { listed = e; size = rw e (h .size) }; counted = refl; passed = passed-none }
-
-  module _ (count t : ℕ) where
-    -- the pair of an index lies in the message
-    pub paired-inside : (test : ℕ → Bool) → Paired test bytes entries count t → t < count → (p : Pair) → p ≡ pairIn bytes t → PairInside n p bytes
-    paired-inside test w l p e =
-        let below : t < countOf bytes = omega (arith, bound w) in
-        rw e (pair-inside bytes (h .size) n t below (h .known t below))
-
-    -- both signatures of it check: 14
-    module _ (checks : Checks) (w : Paired (pairCheck checks bytes) bytes entries count t) where
-      module _ (l : t < count) (p : Pair) (e : p ≡ pairIn bytes t) (number : ℕ) (v : number ≡ signatureNumber (pairChecks checks bytes p)) where
-        indexed : number ≡ signatureNumber (pairCheck checks bytes t)
-        indexed = v ∙ rw e
-
-        pub checked-more : number ≡ 0 → Paired (pairCheck checks bytes) bytes entries count (t + 1)
-        checked-more z = paired-next w l (accepts (pairCheck checks bytes t) number indexed z)
-
-        pub checked-not : (number ≡ 0 → ⊥) → number ≡ firstOf (SIGNATURE checks (read n bytes) ∷ [])
-        unfolding firstOf
-        checked-not d =
-            let bad = rejects (pairCheck checks bytes t) number indexed d in
-            bad .1 ∙ sym (rw (h .says, evidence-bad checks bytes (h .size), paired-not w l (bad .0)))
-
-      pub checked-all : count ≤ t → 0 ≡ firstOf (SIGNATURE checks (read n bytes) ∷ [])
+      pub checked-not : (number ≡ 0 → ⊥) → number ≡ firstOf (SIGNATURE checks (read n bytes) ∷ [])
       unfolding firstOf
-      checked-all l = rw (h .says, evidence-bad checks bytes (h .size), paired-all w l)
+      checked-not d =
+          let bad = rejects (pairChecks checks bytes p) number v d in
+          let fails : pairCheck checks bytes t ≡ false = rw (← e) (bad .0) in
+          bad .1 ∙ sym (rw (h .says, evidence-bad checks bytes (h .ends), each-not (pairCheck checks bytes) t (countOf bytes) (omega arith) fails))
 
-    -- its lower value is the lower one: 15
-    module _ (w : Paired (pairOrder bytes) bytes entries count t) where
-      module _ (l : t < count) (p : Pair) (e : p ≡ pairIn bytes t) (b : Bool) (v : b ≡ lowerFirst (pairRead bytes p)) where
-        pub ordered-more : not b ≡ false → Paired (pairOrder bytes) bytes entries count (t + 1)
-        ordered-more z = paired-next w l (rw (← e, ← v) (not-false b z))
+    pub checked-all : count ≤ t → 0 ≡ firstOf (SIGNATURE checks (read n bytes) ∷ [])
+    unfolding firstOf
+    checked-all l = rw (h .says, evidence-bad checks bytes (h .ends), passed-all (w .passed) (omega arith))
 
-        pub ordered-not : not b ≡ true → true ≡ notLowerFirst (read n bytes)
-        ordered-not z = sym (rw (h .says, evidence-order bytes (h .size), paired-not w l (rw (← e, ← v) (not-true b z))))
+  -- its lower value is the lower one: 15
+  module _ (w : Paired (pairOrder bytes) bytes entries count t) where
+    module _ (l : t < count) (p : Pair) (e : p ≡ pairIn bytes t) (b : Bool) (v : b ≡ lowerFirst (pairRead bytes p)) where
+      pub ordered-more : not b ≡ false → Paired (pairOrder bytes) bytes entries count (t + 1)
+      ordered-more z = paired-next w l (rw (← e, ← v) (not-false b z))
 
-      pub ordered-all : count ≤ t → false ≡ notLowerFirst (read n bytes)
-      ordered-all l = sym (rw (h .says, evidence-order bytes (h .size), paired-all w l))
+      pub ordered-not : not b ≡ true → true ≡ notLowerFirst (read n bytes)
+      ordered-not z =
+          let fails : pairOrder bytes t ≡ false = rw (← e, ← v) (not-true b z) in
+          rw (h .says, evidence-order bytes (h .ends), each-not (pairOrder bytes) t (countOf bytes) (omega arith) fails)
+
+    pub ordered-all : count ≤ t → false ≡ notLowerFirst (read n bytes)
+    ordered-all l = rw (h .says, evidence-order bytes (h .ends), passed-all (w .passed) (omega arith))
 
 -- ---- the entries of FULL, as a reader finds them
 

@@ -1,7 +1,7 @@
 -- The signatures of a message, one entry after another.
 -- Assumes nothing.
 use mathlib.Core.Path.{_≡_, refl, sym, ap, _∙_}
-use mathlib.Core.Bool.{Bool, true, false, not, and-true}
+use mathlib.Core.Bool.{Bool, true, false, cond, not, and-true}
 use mathlib.Core.List.{List, [], _∷_}
 use Prim.Native.Nat.{ℕ, zero, suc, _+_, _≤_, _<_}
 use native.Mathlib.Nat.{add-zero, add-assoc, mul-suc, mul-le-mul-left}
@@ -22,7 +22,7 @@ use Rattle.protocol.specs.Refusals.{Checks, every, badSignature, lowerFirst, no
 use Rattle.protocol.specs.ConditionsLaws.{every-append, every-flat}
 use Rattle.layout.specs.declared.Entries.{Entries}
 use Rattle.wire.specs.Reading.{commandPlace, seatPlace, packEntries, Inside}
-use Rattle.validate.specs.Entries.{Pack}
+use Rattle.validate.specs.Entries.{Ends}
 use Rattle.validate.specs.Places.{PairInside, pairChecks, pairRead, pairOf, pairPlaces, pairIn}
 use Rattle.validate.specs.declared.signatures.Pair.{Pair}
 
@@ -52,30 +52,17 @@ unfolding part
 part-rest from a b xs h =
     rw (take-add a b (drop from xs)) (drop-at (part from a xs) _ a (length-part from a xs h) ∙ ap (take b) (drop-drop a from xs))
 
--- values that EVIDENCE has once are those of its bytes
-abbrev HasValues : PackForm → List ℕ → Type 0
-HasValues (ValuesOnce values) bytes = values ≡ readValues bytes
-HasValues ValuesEach bytes = Unit {0}
-
-has-values : (bytes : List ℕ) → HasValues (packIn bytes) bytes
-unfolding packIn
-has-values bytes = go (eqb (byteAt bytes 0) 0x05) refl
-  where
-    go : (b : Bool) → eqb (byteAt bytes 0) 0x05 ≡ b → HasValues (packIn bytes) bytes
-    go true e = rw e refl
-    go false e = rw e tt
-
--- the pair in an entry, by its places
 module _ (bytes : List ℕ) (at : ℕ) where
   abbrev held : ℕ
   held = at + entryHeldAt
 
-  pair-made : (form : PackForm) → HasValues form bytes → at + entryLength (pairHeld form) ≤ length bytes
+  -- the pair in an entry at a place, by whether the command is that of the old EVIDENCE
+  pair-made : (old : Bool) → let form = cond old (ValuesOnce (readValues bytes)) ValuesEach in at + entryLength (pairHeld form) ≤ length bytes
       → pairMade form (byteAt bytes (at + entrySeatAt)) (part (at + entryHeldAt) (pairHeld form) bytes) ≡ pairRead bytes (pairPlaces form bytes at)
   unfolding readValue readSignature
-  pair-made (ValuesOnce values) v room =
-      rw (v, part-first held signatureLength oldPairLength bytes (omega arith), part-rest held signatureLength signatureLength bytes (omega arith))
-  pair-made ValuesEach v room =
+  pair-made true room =
+      rw (part-first held signatureLength oldPairLength bytes (omega arith), part-rest held signatureLength signatureLength bytes (omega arith))
+  pair-made false room =
       rw (
         part-part pairLowerValueAt valueLength held pairLength bytes (omega arith),
         part-part pairHigherValueAt valueLength held pairLength bytes (omega arith),
@@ -85,51 +72,47 @@ module _ (bytes : List ℕ) (at : ℕ) where
         ← add-assoc held pairLowerAt signatureLength,
       )
 
-  -- they lie in the message
-  places-inside : (n : ℕ) (form : PackForm) → packStart form ≤ at → at + entryLength (pairHeld form) ≤ length bytes → byteAt bytes (at + entrySeatAt) < n
+  -- its places lie in the message
+  places-inside : (form : PackForm) (n : ℕ) → packStart form ≤ at → at + entryLength (pairHeld form) ≤ length bytes → byteAt bytes (at + entrySeatAt) < n
       → PairInside n (pairPlaces form bytes at) bytes
-  places-inside n (ValuesOnce values) start room known = (known, (omega arith, omega arith), (omega arith, omega arith))
-  places-inside n ValuesEach start room known = (known, (omega arith, omega arith), (omega arith, omega arith))
+  places-inside (ValuesOnce values) n start room known = (known, (omega arith, omega arith), (omega arith, omega arith))
+  places-inside ValuesEach n start room known = (known, (omega arith, omega arith), (omega arith, omega arith))
 
--- an entry ends before those after it
-entry-room : (entries : Entries) (i : ℕ) → i < entries .count → commandPlace entries i + entries .length ≤ commandPlace entries (entries .count)
-entry-room entries i l = omega (arith, mul-le-mul-left (entries .length) l, mul-suc (entries .length) i)
+-- the least that an entry holds
+least-held : (form : PackForm) → pairHigherAt ≤ pairHeld form
+unfolding signatureLength
+least-held (ValuesOnce values) = omega arith
+least-held ValuesEach = omega arith
 
--- the entries of EVIDENCE as the code has them, and one of them
-module _ (entries : Entries) (bytes : List ℕ) (pack : Pack entries bytes) (i : ℕ) where
-  pub pack-room : i < entries .count → Inside entries bytes × (commandPlace entries i + entryHeldAt + pairHigherAt ≤ length bytes)
-  unfolding signatureLength
-  pack-room l = go (packIn bytes) (ap (λ (e : Entries). e .length) (pack .listed)) (entry-room entries i l)
-    where
-      go : (form : PackForm) → entries .length ≡ entryLength (pairHeld form) → commandPlace entries i + entries .length ≤ commandPlace entries (entries .count)
-          → Inside entries bytes × (commandPlace entries i + entryHeldAt + pairHigherAt ≤ length bytes)
-      go (ValuesOnce values) e room = (omega (arith, pack .size), omega (arith, pack .size))
-      go ValuesEach e room = (omega (arith, pack .size), omega (arith, pack .size))
+-- an entry of EVIDENCE
+module _ (bytes : List ℕ) (ends : Ends bytes) (i : ℕ) (l : i < countOf bytes) where
+  room : commandPlace (packEntries bytes) i + entryLength (pairHeld (packIn bytes)) ≤ length bytes
+  room = let each = entryLength (pairHeld (packIn bytes)) in omega (arith, mul-le-mul-left each l, mul-suc each i)
 
-  -- its pair, by the command of the message
-  module _ (seat held : ℕ) (s : seat ≡ byteAt bytes (seatPlace entries i)) (h : held ≡ commandPlace entries i + entryHeldAt) (command : ℕ) (c : command ≡ byteAt bytes 0)
-      (at : ℕ) (p : Pair) where
-    pub pair-once : command ≡ 0x05 → at ≡ lowerAt → p ≡ pairOf seat at held → p ≡ pairIn bytes i
-    pair-once e v q = q ∙ rw (s, h, v, pack .listed, pack-old bytes (sym c ∙ e))
+  pub entry-room : (entries : Entries) → entries ≡ packEntries bytes → Inside entries bytes × (i < entries .count) × (commandPlace entries i + entryHeldAt + pairHigherAt ≤ length bytes)
+  entry-room entries e = rw e (omega arith, l, omega (arith, room, least-held (packIn bytes)))
 
-    pub pair-each : (command ≡ 0x05 → ⊥) → at ≡ pairLowerAt → p ≡ pairOf seat held (held + at) → p ≡ pairIn bytes i
-    pair-each d v q = q ∙ rw (s, h, v, pack .listed, pack-new bytes (λ e. d (c ∙ e)))
+  pub pair-inside : (n : ℕ) → byteAt bytes (seatPlace (packEntries bytes) i) < n → PairInside n (pairIn bytes i) bytes
+  pair-inside n = places-inside bytes (commandPlace (packEntries bytes) i) (packIn bytes) n (omega arith) room
 
--- EVIDENCE as long as its entries say
-module _ (bytes : List ℕ) (size : length bytes ≡ commandPlace (packEntries bytes) (countOf bytes)) where
-  room : (i : ℕ) → i < countOf bytes → commandPlace (packEntries bytes) i + packEntries bytes .length ≤ length bytes
-  room i l = omega (arith, entry-room (packEntries bytes) i l)
+  pair-read : readEntry (formOf bytes) (placeOf (formOf bytes) i) bytes ≡ pairRead bytes (pairIn bytes i)
+  unfolding readEntry evidenceForm placeOf packIn
+  pair-read = pair-made bytes (commandPlace (packEntries bytes) i) (eqb (byteAt bytes 0) 0x05) room
 
-  pub pair-inside : (n i : ℕ) → i < countOf bytes → byteAt bytes (seatPlace (packEntries bytes) i) < n → PairInside n (pairIn bytes i) bytes
-  pair-inside n i l known = places-inside bytes (commandPlace (packEntries bytes) i) n (packIn bytes) (omega arith) (room i l) known
+-- a test of every pair
+each-pair : (test : message.Pair → Bool) (bytes : List ℕ) → Ends bytes
+    → every test (readEntries (formOf bytes) (countOf bytes) bytes) ≡ eachBelow (λ (i : ℕ). test (pairRead bytes (pairIn bytes i))) (countOf bytes)
+each-pair test bytes ends =
+    each-read test (formOf bytes) bytes (countOf bytes) ∙ each-same _ _ (countOf bytes) (λ i l. ap test (pair-read bytes ends i l))
 
-  -- a test of all its pairs
-  pub each-pair : (test : message.Pair → Bool)
-      → every test (readEntries (formOf bytes) (countOf bytes) bytes) ≡ eachBelow (λ (i : ℕ). test (pairRead bytes (pairIn bytes i))) (countOf bytes)
-  unfolding readEntry evidenceForm placeOf
-  each-pair test =
-      each-read test (formOf bytes) bytes (countOf bytes)
-      ∙ each-same _ _ (countOf bytes) (λ i l. ap test (pair-made bytes (commandPlace (packEntries bytes) i) (packIn bytes) (has-values bytes) (room i l)))
+-- the pair as the code finds it, by the command of the message
+module _ (bytes : List ℕ) (entries : Entries) (e : entries ≡ packEntries bytes) (i seat held : ℕ) (s : seat ≡ byteAt bytes (seatPlace entries i))
+    (h : held ≡ commandPlace entries i + entryHeldAt) (command : ℕ) (c : command ≡ byteAt bytes 0) (at : ℕ) (p : Pair) where
+  pub pair-once : command ≡ 0x05 → at ≡ lowerAt → p ≡ pairOf seat at held → p ≡ pairIn bytes i
+  pair-once d v q = q ∙ rw (s, h, v, e, pack-old bytes (sym c ∙ d))
+
+  pub pair-each : (command ≡ 0x05 → ⊥) → at ≡ pairLowerAt → p ≡ pairOf seat held (held + at) → p ≡ pairIn bytes i
+  pair-each d v q = q ∙ rw (s, h, v, e, pack-new bytes (λ z. d (c ∙ z)))
 
 module _ (checks : Checks) (bytes : List ℕ) where
   abbrev test : Signed → Bool
@@ -160,10 +143,10 @@ module _ (checks : Checks) (bytes : List ℕ) where
   unfolding every signedPair
   pair-is p = rw and-true
 
-  pub evidence-bad : length bytes ≡ commandPlace (packEntries bytes) (countOf bytes) → badSignature checks (readEvidence bytes) ≡ not (eachBelow pairCheck (countOf bytes))
+  pub evidence-bad : Ends bytes → badSignature checks (readEvidence bytes) ≡ not (eachBelow pairCheck (countOf bytes))
   unfolding badSignature signed readEvidence
-  evidence-bad size =
-      ap not (every-flat test signedPair (readEntries (formOf bytes) (countOf bytes) bytes) ∙ each-pair bytes size _ ∙ each-same _ pairCheck (countOf bytes) (λ i h. pair-is (pairIn bytes i)))
+  evidence-bad ends =
+      ap not (every-flat test signedPair (readEntries (formOf bytes) (countOf bytes) bytes) ∙ each-pair _ bytes ends ∙ each-same _ pairCheck (countOf bytes) (λ i h. pair-is (pairIn bytes i)))
 
 -- ---- the order of the values of EVIDENCE
 
@@ -171,6 +154,6 @@ module _ (checks : Checks) (bytes : List ℕ) where
 abbrev pub pairOrder : List ℕ → ℕ → Bool
 pairOrder bytes i = lowerFirst (pairRead bytes (pairIn bytes i))
 
-pub evidence-order : (bytes : List ℕ) → length bytes ≡ commandPlace (packEntries bytes) (countOf bytes) → notLowerFirst (readEvidence bytes) ≡ not (eachBelow (pairOrder bytes) (countOf bytes))
+pub evidence-order : (bytes : List ℕ) → Ends bytes → notLowerFirst (readEvidence bytes) ≡ not (eachBelow (pairOrder bytes) (countOf bytes))
 unfolding notLowerFirst readEvidence
-evidence-order bytes size = ap not (each-pair bytes size lowerFirst)
+evidence-order bytes ends = ap not (each-pair lowerFirst bytes ends)

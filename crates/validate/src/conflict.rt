@@ -13,10 +13,8 @@ fn lower_first(m: &[u8], pair: Pair) -> bool
     requires { ⌜ PlaceInside (pair .lower) (now m) × PlaceInside (pair .higher) (now m) ⌝ }
     ensures { λ r. ⌜ r ≡ lowerFirst (pairRead (now (m .entry)) pair) ⌝ }
 {
-    let low = pair.lower;
-    let high = pair.higher;
-    let lower = wire::values::value_at(m, low.value);
-    let higher = wire::values::value_at(m, high.value);
+    let lower = wire::values::value_at(m, pair.lower.value);
+    let higher = wire::values::value_at(m, pair.higher.value);
     wire::values::lower(&lower, &higher)
 }
 

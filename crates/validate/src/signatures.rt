@@ -7,12 +7,12 @@ ghost use lib.ListN.{length};
 ghost use Rattle.fips180.specs.Constants.{constants};
 ghost use Rattle.refusal.specs.Refusal.{firstOf};
 ghost use Rattle.protocol.specs.Layout.{valueLength, signatureLength, valueAt};
-ghost use Rattle.protocol.specs.Message.{read};
+ghost use Rattle.protocol.specs.Message.{countOf, read};
 ghost use Rattle.protocol.specs.Refusals.{stranger, SIGNATURE};
 ghost use Rattle.protocol.specs.Signatures.{signedBytes, checks, signatureNumber};
-ghost use Rattle.wire.specs.Reading.{kindOf};
+ghost use Rattle.wire.specs.Reading.{kindOf, packEntries};
 ghost use Rattle.validate.specs.Given.{Given};
-ghost use Rattle.validate.specs.Entries.{SubmitTaken, FullTaken, EvidenceTaken, Pack, Fits, foundChecks, goesOn};
+ghost use Rattle.validate.specs.Entries.{SubmitTaken, FullTaken, Ends, EvidenceTaken, Fits, foundChecks, goesOn};
 ghost use Rattle.validate.specs.Places.{PlaceInside, PairInside, placeChecks, pairChecks, pairOf, pairIn};
 use crate::keys::seat_key;
 use crate::message::OLD_EVIDENCE;
@@ -188,7 +188,7 @@ fn pair_of(seat: u32, values: usize, signatures: usize) -> Pair
 
 // The pair in an entry of EVIDENCE: over the entry's own values or, in the old one, over those of the message.
 pub(crate) fn pair_at(m: &[u8], entries: Entries, i: usize) -> Pair
-    requires { ⌜ Pack entries (now m) × (i < entries .count) ⌝ }
+    requires { ⌜ (entries ≡ packEntries (now m)) × Ends (now m) × (i < countOf (now m)) ⌝ }
     ensures { λ p. ⌜ p ≡ pairIn (now (m .entry)) i ⌝ }
 {
     let seat = seat_of_entry(m, entries, i);
