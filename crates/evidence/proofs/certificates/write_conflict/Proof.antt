@@ -1,7 +1,7 @@
 -- `evidence::certificates::write_conflict` meets its contract.
-use Prim.Native.Nat.{_≤_}
+use Prim.Native.Nat.{ℕ, _≤_}
 use native.Mathlib.Omega.{arith}
-use Rattle.quorum.specs.Quorum.{k, size}
+use Rattle.quorum.specs.Quorum.{k, In, size, shared}
 use Rattle.protocol.specs.Layout.{signatureLength, evidenceEntryLength, evidenceEntryAt, evidenceLength, evidenceOutLength}
 use Rattle.validate.specs.MessagesLaws.{full-kind}
 use Rattle.evidence.specs.PassedLaws.{both-taken}
@@ -59,6 +59,10 @@ entry-set-requires-2 c κs =
     let pre = valued (c .before) .pre in
     (pre .0, pre .1, full-kind _ (pre .2 .second .is), pre .2 .second .known)
 
+-- the set to write is that of the seats shared
+among : (c : tie.After-shared) (s : ℕ) → In s (c .shared .result) → In s (shared (first-set (c .before) .entry-set .result) (c .before .entry-set2 .result))
+among c s i = rw (c .shared .ensures) at i
+
 -- the first certificate has k seats, so that EVIDENCE fits
 few : (b : tie.After-entry-set2) → size (first-set b .entry-set .result) ≤ k (given b .args .n)
 few b = omega (arith, sized _ (given b .pre .2 .first) (first-set b .entry-set .ensures))
@@ -69,26 +73,26 @@ write-evidence-requires c κs =
     let b = sets c in
     let pre = given b .pre in
     let sa = first-set b .entry-set in
-    let is = shared-at c .shared .ensures in
+    let both = among (shared-at c) in
     let ra = readable _ (pre .2 .first) (sa .ensures) in
     let rb = readable _ (pre .2 .second) (b .entry-set2 .ensures) in
-    let shared = shared-seats _ _ _ is (ra .inside) (rb .inside) in (
+    let seats = shared-seats _ _ _ _ both (ra .inside) in (
       pre .1,
       search needs,
       ra,
       search needs,
       rb,
-      shared .0,
-      shared .1,
-      shared .2,
-      omega (arith, shared-room _ _ _ is (few b), pre .3),
+      seats .0,
+      seats .1,
+      seats .2,
+      omega (arith, shared-room _ _ _ _ both (few b), pre .3),
     )
 
 cast-result : tie.Need-cast-result
 unfolding evidenceLength evidenceEntryAt evidenceEntryLength signatureLength k
 cast-result c =
     let b = sources c in
-    omega (arith, shared-room _ _ _ (chosen c .shared .ensures) (few b), written c .write-evidence .ensures .1)
+    omega (arith, shared-room _ _ _ _ (among (chosen c)) (few b), written c .write-evidence .ensures .1)
 
 returns : tie.Need-returns
 returns c =
