@@ -1,7 +1,7 @@
 -- "Where no seat is kept in the record lent, no SUBMIT comes early and the store has the new length, every answer is the one given
 -- before" (document 02, item 1). First the definitions as they were before item 1, where they differed; then the claims. The record is
 -- today's, and these definitions don't look at its seats kept. What they share with today's uses the first two banks of the store
--- alone, whose slots stand where they stood.
+-- alone, whose slots stand where they stood. What item 3 changed is today's in both.
 -- Assumes nothing.
 use mathlib.Core.Path.{_≡_, refl, sym, ap, ap₂, _∙_}
 use mathlib.Core.Bool.{Bool, false, cond, not, _&&_, _||_, and-false, or-false}

@@ -11,7 +11,7 @@ use lib.Dec.{eqb}
 use lib.ListN.{length, length-map}
 use lib.Pow.{pow-pos}
 use borrow.Author.Tests.{eqb-true, eqb-false}
-use Rattle.quorum.specs.Quorum.{t0, k, In, size, shared, seats}
+use Rattle.quorum.specs.Quorum.{t0, In, size, shared, seats}
 use Rattle.quorum.specs.QuorumLaws.{bit-cases, in-shared, shared-lt, with-lt, size-empty, size-within, size-with-new, length-seats, mem-seats, seats-rise, k-of-n-share}
 use Rattle.protocol.specs.Values.{isLower}
 use Rattle.protocol.specs.Message.{Entry, Pair, ValuesEach, Message, Evidence, fullForm, evidenceForm}

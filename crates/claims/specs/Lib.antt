@@ -4,7 +4,9 @@
 -- demand 3 are at the end of `Safe` and of `Blamed`, and the claim about evidence made from two certificates is at the end of `Made`.
 -- Crate `examples` has rounds in which their premises hold. The claims of document 02, item 1, are in `Kept` (what is kept of early
 -- SUBMITs), `Before` (answers as before) and at the end of `Gain` (a unit that has kept enough confirms at its submit); those of item 2
--- are in `Power` (the calls that count of a unit that loses power), and `Once` and `Claim` have what it sends.
+-- are in `Power` (the calls that count of a unit that loses power), and `Once` and `Claim` have what it sends; those of item 3 are in
+-- `Culprits` (guilty seats, and the packs that name them) and `OldPacks` (0x05 is checked as before), with the number of packs in `Once` and
+-- the first one's seats in `Blamed`.
 --
 -- `Sound` has the invariant of record and store along a list; `Parts` and `KeptLaws` prove it for the parts of a step, `Whole`
 -- for a whole step, `Journey` for a list without power cuts. `Opened` has an honest unit's opening, `Power` turns its list into one
@@ -27,6 +29,7 @@ pub mod Power
 pub mod Units
 pub mod Kept
 pub mod Before
+pub mod OldPacks
 pub mod CollectKeptLaws
 pub mod Gain
 pub mod Safe

@@ -130,14 +130,22 @@ by-test : {C : Type 0} (b : Bool) → (b ≡ true → C) → (b ≡ false → C)
 by-test true f g = f refl
 by-test false f g = g refl
 
+after-other : (m : Message) (ms : List Message) → isEvidence m ≡ false → FirstPack ms → FirstPack (m ∷ ms)
+after-other m ms e f = record {
+  before = m ∷ f .before;
+  pack = f .pack;
+  later = f .later;
+  split = rw (f .split);
+  isOne = f .isOne;
+  none = each-cons (λ x. isEvidence x ≡ false) m (f .before) e (f .none);
+}
+
 pub first-pack : (ms : List Message) → count isEvidence ms ≢ 0 → FirstPack ms
 unfolding count worth
 first-pack [] some = absurd (some refl)
 first-pack (m ∷ ms) some =
     by-test (isEvidence m) (λ e. record { before = []; pack = m; later = ms; split = refl; isOne = e; none = each-nil (λ x. isEvidence x ≡ false) })
-    (λ e.
-    let rest = first-pack ms (λ z. some (rw e (omega arith))) in
-    record { before = m ∷ rest .before; pack = rest .pack; later = rest .later; split = ap (λ xs. m ∷ xs) (rest .split); isOne = rest .isOne; none = each-cons (λ x. isEvidence x ≡ false) m (rest .before) e (rest .none) })
+    (λ e. after-other m ms e (first-pack ms (λ z. some (rw e (omega arith)))))
 
 pub first-large : (n : ℕ) (before : List Message) (m : Message) (later : List Message) → LargeFirst n (before ++ m ∷ later) → isEvidence m ≡ true → Each (λ x. isEvidence x ≡ false) before
     → k n ≤ packSize m + t0 n

@@ -30,7 +30,7 @@ use Rattle.protocol.specs.declared.First.{First}
 use Rattle.protocol.specs.declared.Notices.{Notices}
 use Rattle.protocol.specs.declared.Record.{Record}
 use Rattle.round.specs.Round.{Each, Relation}
-use Rattle.round.specs.Demand1.{isSubmit, isNotice, worth, count}
+use Rattle.round.specs.Demand1.{isSubmit, isNotice, worth}
 use Rattle.reading.specs.ListsLaws.{cond-elim, and-false-either, worth-le-one, each-nil, each-one, each-append, count-append, count-nil, count-one}
 use Rattle.claims.specs.SlotsLaws.{fill-length, slot-fill-same, slot-fill-other, fillEach-length, slot-fillEach-other, slot-fillEach-same}
 use Rattle.claims.specs.Sound.{Heard, Held, Grows, Counts, Room, Attested, Hearing, Certifies, Collection, Holding, Keeping, Sound, Said, Good, Leads}
