@@ -1,4 +1,4 @@
--- The signatures of a message, one entry after another.
+-- The pairs of EVIDENCE in either form, and the signatures of a message, one entry after another.
 -- Assumes nothing.
 use mathlib.Core.Path.{_≡_, refl, sym, ap, _∙_}
 use mathlib.Core.Bool.{Bool, true, false, cond, not, and-true}
@@ -8,7 +8,7 @@ use native.Mathlib.Nat.{add-zero, add-assoc, mul-suc, mul-le-mul-left}
 use native.Mathlib.Omega.{arith}
 use lib.Dec.{eqb}
 use lib.ListN.{length, take, drop}
-use lib.Seq.{take-add, take-take, drop-at, drop-drop}
+use lib.Seq.{take-add, drop-at, drop-drop}
 use Rattle.octets.specs.Octets.{part}
 use Rattle.octets.specs.OctetsLaws.{length-part}
 use Rattle.octets.specs.StringsLaws.{part-part}
@@ -40,13 +40,9 @@ each-read test form bytes zero = refl
 each-read test form bytes (suc t) =
     every-append test (readEntries form t bytes) (readEntry form (placeOf form t) bytes ∷ []) ∙ rw (each-read test form bytes t, and-true)
 
--- ---- the signatures of a message
+-- ---- the pairs of EVIDENCE
 
--- the first of a part, and the rest
-part-first : (from a size : ℕ) (xs : List ℕ) → a ≤ size → take a (part from size xs) ≡ part from a xs
-unfolding part
-part-first from a size xs h = take-take a size (drop from xs) h
-
+-- a part without its first bytes
 part-rest : (from a b : ℕ) (xs : List ℕ) → from + a ≤ length xs → drop a (part from (a + b) xs) ≡ part (from + a) b xs
 unfolding part
 part-rest from a b xs h =
@@ -59,9 +55,9 @@ module _ (bytes : List ℕ) (at : ℕ) where
   -- the pair in an entry at a place, by whether the command is that of the old EVIDENCE
   pair-made : (old : Bool) → let form = cond old (ValuesOnce (readValues bytes)) ValuesEach in at + entryLength (pairHeld form) ≤ length bytes
       → pairMade form (byteAt bytes (at + entrySeatAt)) (part (at + entryHeldAt) (pairHeld form) bytes) ≡ pairRead bytes (pairPlaces form bytes at)
-  unfolding readValue readSignature
+  unfolding readValue readSignature part
   pair-made true room =
-      rw (part-first held signatureLength oldPairLength bytes (omega arith), part-rest held signatureLength signatureLength bytes (omega arith))
+      rw (part-part 0 signatureLength held oldPairLength bytes (omega arith), part-rest held signatureLength signatureLength bytes (omega arith), add-zero)
   pair-made false room =
       rw (
         part-part pairLowerValueAt valueLength held pairLength bytes (omega arith),
@@ -113,6 +109,8 @@ module _ (bytes : List ℕ) (entries : Entries) (e : entries ≡ packEntries byt
 
   pub pair-each : (command ≡ 0x05 → ⊥) → at ≡ pairLowerAt → p ≡ pairOf seat held (held + at) → p ≡ pairIn bytes i
   pair-each d v q = q ∙ rw (s, h, v, e, pack-new bytes (λ z. d (c ∙ z)))
+
+-- ---- the signatures of a message
 
 module _ (checks : Checks) (bytes : List ℕ) where
   abbrev test : Signed → Bool

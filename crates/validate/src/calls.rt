@@ -137,6 +137,7 @@ pub fn evidence_refusal(n: u32, round: u32, keys: &[u8], kind: Kind, m: &[u8]) -
     requires { ⌜ Given n round (now keys) × (kind ≡ kindOf (read n (now m))) ⌝ }
     ensures { λ v. ⌜ v .number ≡ firstOf (packConditions (checks (now (keys .entry)) round) n round (read n (now (m .entry)))) ⌝ }
 {
+    // No message has the command between the two.
     let taken = is_within(kind, message::OLD_EVIDENCE, message::EVIDENCE);
     let v = message_refusal(n, round, keys, taken, kind, m);
     if v.number != 0 {
