@@ -19,8 +19,8 @@ use Rattle.protocol.specs.Layout.{valueLength, operandsAt, noticeLength, entryL
 use Rattle.protocol.specs.Values.{isLower}
 use Rattle.protocol.specs.Entries.{Form, renderEntry, renderEntries}
 use Rattle.protocol.specs.EntriesLaws.{entries-append, length-entry}
-use Rattle.protocol.specs.Message.{ValuesEach, evidenceForm, render}
-use Rattle.protocol.specs.Certificate.{Certificate, pairOf, pairsOf, orderedEvidence, evidenceOf}
+use Rattle.protocol.specs.Message.{render}
+use Rattle.protocol.specs.Certificate.{Certificate, orderedEvidence, evidenceOf}
 use Rattle.store.specs.SeatLaws.{seats-split}
 use Rattle.wire_write.specs.Writing.{Wrote, head}
 
@@ -125,14 +125,6 @@ pub list-written : {A : Type 0} (form : Form A) (f : ℕ → A) (n m : ℕ) (fro
 list-written form f n m front {count = count} u v h inside c =
     let counted : length (map f (seats n m)) ≡ count = length-map (seats n m) f ∙ length-seats n m inside ∙ sym c in
     rw counted (wrote-then u v h)
-
--- EVIDENCE from its parts: command and round, the count, and the entries of a set of seats
-pub evidence-written : (n round mask : ℕ) (low high : Certificate) {at count a e : ℕ} {before one after : List ℕ}
-    → Wrote at (0x07 ∷ be 2 round ++ count ∷ []) before one a → Wrote a (renderEntries (evidenceForm ValuesEach) (pairsOf n mask low high)) one after e
-    → at ≤ length before → mask < 2 ^ n → count ≡ size mask → Wrote at (render (orderedEvidence n round mask low high)) before after e
-unfolding render orderedEvidence pairsOf be
-evidence-written n round mask low high u v h inside c =
-    list-written (evidenceForm ValuesEach) (pairOf low high) n mask (0x07 ∷ be 2 round) u v h inside c
 
 -- EVIDENCE from two certificates in either order, by a test of their values
 module _ (n round mask : ℕ) (c d : Certificate) {t : Bool} (e : t ≡ isLower (c .value) (d .value)) {at : ℕ} {before after : List ℕ} {end : ℕ} where

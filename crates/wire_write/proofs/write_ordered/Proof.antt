@@ -1,16 +1,19 @@
 -- `wire_write::write_ordered` meets its contract.
 use mathlib.Core.Path.{_≡_}
+use mathlib.Core.List.{_∷_}
 use Prim.Native.Nat.{_≤_}
 use native.Mathlib.Omega.{arith}
 use lib.ListN.{length}
 use borrow.Author.Needs.{needs}
 use denote.Ref.{now}
+use Rattle.octets.specs.Octets.{be}
 use Rattle.quorum.specs.Quorum.{size, seats}
 use Rattle.quorum.specs.QuorumLaws.{size-le, length-seats}
 use Rattle.protocol.specs.Layout.{evidenceEntryAt, evidenceLength}
-use Rattle.protocol.specs.Certificate.{Certificate}
+use Rattle.protocol.specs.Message.{ValuesEach, evidenceForm, render}
+use Rattle.protocol.specs.Certificate.{pairOf, pairsOf, orderedEvidence}
 use Rattle.store.specs.Sources.{certificateFrom}
-use Rattle.wire_write.specs.WritingLaws.{wrote-then, length-command, evidence-written}
+use Rattle.wire_write.specs.WritingLaws.{wrote-then, length-command, list-written}
 use Rattle.wire_write.proofs.write_ordered.Statement.{statement}
 use Rattle.wire_write.proofs.write_ordered.Tie as tie
 
@@ -56,7 +59,7 @@ write-pairs-requires c κs =
     (pre .0, pre .1, pre .6, pre .2, pre .3, pre .7, pre .4, rw (many sized) (omega (arith, length-command 7 (start .args .round), pre .8, command .ensures .ends, command .kept, second .put-byte .ensures .ends)))
 
 returns : tie.Need-returns
-unfolding evidenceLength evidenceEntryAt
+unfolding evidenceLength evidenceEntryAt render orderedEvidence pairsOf be
 returns c =
     let third = c .before .before in
     let second = third .before .before .before .before in
@@ -69,7 +72,7 @@ returns c =
     let low = certificateFrom n (args .low) (now (args .lower)) (now (args .lows)) in
     let high = certificateFrom n (args .high) (now (args .higher)) (now (args .highs)) in
     let room : args .at ≤ length (now (args .out)) = omega (arith, pre .8) in (
-      evidence-written n (args .round) (args .mask) low high (wrote-then (first .put-command .ensures) (second .put-byte .ensures) room) (third .write-pairs .ensures .0) room (pre .5) (sized .size .ensures),
+      list-written (evidenceForm ValuesEach) (pairOf low high) n (args .mask) (0x07 ∷ be 2 (args .round)) (wrote-then (first .put-command .ensures) (second .put-byte .ensures) room) (third .write-pairs .ensures .0) room (pre .5) (sized .size .ensures),
       omega (arith, length-command 7 (args .round), rw (many sized) at (third .write-pairs .ensures .1), first .put-command .ensures .ends, second .put-byte .ensures .ends),
     )
 
