@@ -477,12 +477,12 @@ module _ (S : Setting) where
       let answer = evidenceCheck checks n round keys (render m) in
       isEvidence m && (eqb (answer .number) 0 && leb seatsOwed (size (answer .mask)))
 
-  -- whether the first pack does, and whether it does if there is one
+  -- whether there is a first pack that does, and whether the first one does where there is one
   unfoldable pub blames : List Message → Bool
   blames ms = namesEnough (firstPack ms)
 
-  unfoldable pub paid : List Message → Bool
-  paid ms = not (isEvidence (firstPack ms)) || namesEnough (firstPack ms)
+  unfoldable pub firstPays : List Message → Bool
+  firstPays ms = not (isEvidence (firstPack ms)) || namesEnough (firstPack ms)
 
   unfoldable pub accuses : List Message → ℕ → Bool
   accuses ms seat = found (isEvidenceOn seat) ms
@@ -515,8 +515,11 @@ module _ (S : Setting) where
   heardGuilty r Garbled = true
 
   -- for the certificate that a call was given and didn't refuse, and the own one
+  abbrev taken : Called → Bool
+  taken c = eqb (resultOf S c .refusal) 0
+
   unfoldable pub givenGuilty : Record → Called → Bool
-  givenGuilty r c = not (eqb (resultOf S c .refusal) 0) || heardGuilty r (messageIn n (c .given))
+  givenGuilty r c = not (taken c) || heardGuilty r (messageIn n (c .given))
 
   unfoldable pub ownGuilty : Record → Bool
   ownGuilty r = not (r .confirmed) || sharedGuilty r (r .own .value) (seats n (r .own .collected))
@@ -525,11 +528,11 @@ module _ (S : Setting) where
     abbrev unit : Record
     unit = unitOf S u
 
-    heard-guilty : (c : Called) (m : Message) → List·Memᴰ c (listOf S u) → resultOf S c .refusal ≡ 0 → messageIn n (c .given) ≡ m → heardGuilty unit m ≡ false → ⊥
+    heard-guilty : (c : Called) (m : Message) → List·Memᴰ c (listOf S u) → taken c ≡ true → messageIn n (c .given) ≡ m → heardGuilty unit m ≡ false → ⊥
     unfolding heardGuilty isFull
-    heard-guilty c (Submit ρ seat value signature) d z g e = true≢false e
-    heard-guilty c (Notice ρ seat value) d z g e = true≢false e
-    heard-guilty c (Full ρ sender value es) d z g e =
+    heard-guilty c (Submit ρ seat value signature) d t g e = true≢false e
+    heard-guilty c (Notice ρ seat value) d t g e = true≢false e
+    heard-guilty c (Full ρ sender value es) d t g e =
         ⊎-elim (λ none. true≢false (ap isFull (sym g ∙ none)))
         (λ given.
         let reads : read n (given .0) ≡ Full ρ sender value es = sym (given .3) ∙ g in
@@ -538,7 +541,7 @@ module _ (S : Setting) where
         (inl (record {
           bytes = given .0;
           given = record { call = c; inList = d; out = given .1; isStep = given .2 };
-          unrefused = z;
+          unrefused = eqb-true (resultOf S c .refusal) 0 t;
           ρ = ρ;
           sender = sender;
           entries = es;
@@ -547,14 +550,14 @@ module _ (S : Setting) where
         }))
         held))
         (message-given n (c .given))
-    heard-guilty c (Evidence ρ form ps) d z g e = true≢false e
-    heard-guilty c Garbled d z g e = true≢false e
+    heard-guilty c (Evidence ρ form ps) d t g e = true≢false e
+    heard-guilty c Garbled d t g e = true≢false e
 
     pub givenGuilty-not : (c : Called) → List·Memᴰ c (listOf S u) → givenGuilty unit c ≡ false → ⊥
     unfolding givenGuilty
     givenGuilty-not c d e =
-        let both = both-false (not (eqb (resultOf S c .refusal) 0)) (heardGuilty unit (messageIn n (c .given))) e in
-        heard-guilty c (messageIn n (c .given)) d (eqb-true (resultOf S c .refusal) 0 (not-false (eqb (resultOf S c .refusal) 0) (both .0))) refl (both .1)
+        let both = both-false (not (taken c)) (heardGuilty unit (messageIn n (c .given))) e in
+        heard-guilty c (messageIn n (c .given)) d (not-false (taken c) (both .0)) refl (both .1)
 
     pub ownGuilty-not : ownGuilty unit ≡ false → ⊥
     unfolding ownGuilty
@@ -624,10 +627,10 @@ module _ (S : Setting) where
         let first : firstPack (all u) ≡ w .message = ap firstPack list ∙ first-pack (w .before) (w .later) (w .message) (w .none) (w .kind) in
         true≢false (sym (enough-says (w .message) (b .evidence) (w .kind) (w .bytes) (b .names)) ∙ sym (ap namesEnough first) ∙ e)
 
-    -- a unit that fails the other has written a first pack that doesn't
-    pub paid-not : paid (all u) ≡ false → (evidence : List ℕ) × WritesFirst S u evidence × (NamesEnough S evidence → ⊥)
-    unfolding paid
-    paid-not e =
+    -- a unit that fails the other test has written a first pack that isn't accepted or names too few
+    pub firstPays-not : firstPays (all u) ≡ false → (evidence : List ℕ) × WritesFirst S u evidence × (NamesEnough S evidence → ⊥)
+    unfolding firstPays
+    firstPays-not e =
         let m = firstPack (all u) in
         let both = both-false (not (isEvidence m)) (namesEnough m) e in
         let kind = not-false (isEvidence m) (both .0) in

@@ -24,7 +24,7 @@ use Rattle.round.specs.Demand3.{NoneForged, NoneBlamed, ReachedOthers, Demand3}
 use Rattle.protocol.specs.ConditionsLaws.{every-each}
 use Rattle.reading.specs.ListsLaws.{and-false-either, or-true-either}
 use Rattle.reading.specs.Messages.{allMessages}
-use Rattle.trials.specs.Tests.{found, found-one, every-false, found-seat, messageIn, given-message, signed-given, newForm, newForm-not, apart, apart-not, readable, readable-says, sameSigned, same-signed, sentIn, sentIn-says, isHonest, isHonest-says, all, formed, submits, submits-says, confirms, confirms-says, haveReached, haveReached-says, blames, blames-not, paid, paid-not, accuses, accuses-says, all-are, member-writes, givenGuilty, givenGuilty-not, ownGuilty, ownGuilty-not}
+use Rattle.trials.specs.Tests.{found, found-one, every-false, found-seat, messageIn, given-message, signed-given, newForm, newForm-not, apart, apart-not, readable, readable-says, sameSigned, same-signed, sentIn, sentIn-says, isHonest, isHonest-says, all, formed, submits, submits-says, confirms, confirms-says, haveReached, haveReached-says, blames, blames-not, firstPays, firstPays-not, accuses, accuses-says, all-are, member-writes, givenGuilty, givenGuilty-not, ownGuilty, ownGuilty-not}
 
 pub record Trial {ℓ} (claim : Type ℓ) : Type ℓ where
   pub premises : Bool
@@ -155,10 +155,10 @@ module _ (S : Setting) (u : Boat) where
   unfoldable pub firstPackPays : Trial (Family S (λ (i : Unit {0}). u) → Demand3 S (λ (i : Unit {0}). u))
   firstPackPays = record {
     premises = isHonest S u && formed S (all S u);
-    conclusion = paid S (all S u);
+    conclusion = firstPays S (all S u);
     refutes = λ p c claim.
         let both = both-true (isHonest S u) (formed S (all S u)) p in
-        let w = paid-not S u (both .1) c in
+        let w = firstPays-not S u (both .1) c in
         w .2 (claim (record { honest = λ i. isHonest-says S u (both .0); apart = λ i j d. absurd (d refl) }) .firstPack tt (w .0) (w .1));
   }
 

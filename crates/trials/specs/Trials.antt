@@ -17,7 +17,7 @@ use Rattle.protocol.specs.Refusals.{isFull}
 use Rattle.reading.specs.Reading.{frameLength}
 use Rattle.reading.specs.Messages.{refusalOf, cameTo, allMessages}
 use Rattle.trials.specs.Toy.{unfolded, toy, layout, sign, keys, submitBy, entryBy, fullBy, pairBy}
-use Rattle.trials.specs.Tests.{found, entrySized, samePair, pairSized, valuesSized, wellFormed, isNoticeOf, isEvidenceOn, firstPack, newForm, apart, isMessage, readable, isStepOf, isSubmitOf, messageIn, sameSigned, sentIn, sameSaved, isNewest, noneSaved, wrote, allowed, allowedAll, isHonest, all, formed, submits, reached, confirms, mustReach, haveReached, namesEnough, blames, paid, accuses, sharedGuilty, heardGuilty, givenGuilty, ownGuilty}
+use Rattle.trials.specs.Tests.{found, entrySized, samePair, pairSized, valuesSized, wellFormed, isNoticeOf, isEvidenceOn, firstPack, newForm, apart, isMessage, readable, isStepOf, isSubmitOf, messageIn, sameSigned, sentIn, sameSaved, isNewest, noneSaved, wrote, allowed, allowedAll, isHonest, all, formed, submits, reached, confirms, mustReach, haveReached, namesEnough, blames, firstPays, accuses, sharedGuilty, heardGuilty, givenGuilty, ownGuilty}
 use Rattle.trials.specs.Trial.{Trial, atMost, sendsOne, readableAll, possibleEach, sharedAreGuilty, guiltyOnce, writesNewForm, firstPackPays, Crew, computed, accountability, safety}
 
 -- ---- setting and calls of the runs
@@ -300,6 +300,10 @@ thirdGuilty = sharedAreGuilty four third
 unfoldable pub ownThirdGuilty : Trial (IsHonest four ownThird → SharedAreGuilty four ownThird)
 ownThirdGuilty = sharedAreGuilty four ownThird
 
+-- a boat that hears a certificate of another layout with a signature that doesn't check
+unfoldable pub refusedGuilty : Trial (IsHonest four (unsigned true) → SharedAreGuilty four (unsigned true))
+refusedGuilty = sharedAreGuilty four (unsigned true)
+
 unfoldable pub thirdOnce : Trial (IsHonest four third → GuiltyOnce four third)
 thirdOnce = guiltyOnce four third (0 ∷ 1 ∷ 2 ∷ 3 ∷ [])
 
@@ -419,5 +423,5 @@ unnotedBoats = accountability four two unnoted false true (layout 7) (layout 9)
 
 -- a name that unfolds every definition of a run
 unfoldable pub unfoldedTrials : Bool
-unfolding unfolded outcome begins after afterAll isSubmit isNotice worth count most frameLength writtenOver refusalOf cameTo allMessages found entrySized samePair pairSized valuesSized wellFormed isNoticeOf isEvidenceOn firstPack newForm apart isMessage readable isStepOf isSubmitOf messageIn sameSigned sentIn sameSaved isNewest noneSaved wrote allowed allowedAll isHonest all formed submits reached confirms mustReach haveReached namesEnough blames paid accuses sharedGuilty heardGuilty givenGuilty ownGuilty atMost sendsOne readableAll possibleEach sharedAreGuilty guiltyOnce writesNewForm firstPackPays computed accountability safety those sentBy certified certifiedEach two three keptBy savedAt seven nine divided forewarned witnessed shortStored shortOuted unheard unsigned submitting twice holding keptOther keptUnsigned heardTwice answering sharing slow third ownThird interrupted hasty blank newest older sameStored otherStored unnoted
+unfolding unfolded outcome begins after afterAll isSubmit isNotice worth count most frameLength writtenOver refusalOf cameTo allMessages found entrySized samePair pairSized valuesSized wellFormed isNoticeOf isEvidenceOn firstPack newForm apart isMessage readable isStepOf isSubmitOf messageIn sameSigned sentIn sameSaved isNewest noneSaved wrote allowed allowedAll isHonest all formed submits reached confirms mustReach haveReached namesEnough blames firstPays accuses sharedGuilty heardGuilty givenGuilty ownGuilty atMost sendsOne readableAll possibleEach sharedAreGuilty guiltyOnce writesNewForm firstPackPays computed accountability safety those sentBy certified certifiedEach two three keptBy savedAt seven nine divided forewarned witnessed shortStored shortOuted unheard unsigned submitting twice holding keptOther keptUnsigned heardTwice answering sharing slow third ownThird interrupted hasty blank newest older sameStored otherStored unnoted
 unfoldedTrials = true
