@@ -60,7 +60,7 @@ unfoldable pub early : Record → Message → Bool
 early r (Submit round seat value signature) = not (r .own .submitted)
 early r (Notice round seat value) = false
 early r (Full round sender value entries) = false
-early r (Evidence round values entries) = false
+early r (Evidence round form entries) = false
 early r Garbled = false
 
 unfoldable pub recordConditionsBefore : List ℕ → Record → List ℕ → List ℕ → List Condition
@@ -95,7 +95,7 @@ unfoldable pub steppedBefore : Message → State → State
 steppedBefore (Submit round seat value signature) s = confirmIfComplete (hearSubmitBefore seat value signature s)
 steppedBefore (Notice round seat value) s = reply (hear value s)
 steppedBefore (Full round sender value entries) s = hearCertificate (certificateIn (Full round sender value entries)) s
-steppedBefore (Evidence round values entries) s = s
+steppedBefore (Evidence round form entries) s = s
 steppedBefore Garbled s = s
 
 unfoldable pub submitBefore : Checks → List ℕ → Record → List ℕ → List ℕ → List ℕ → List ℕ → Result
@@ -206,7 +206,7 @@ unfolding early stepped steppedBefore hearSubmitBefore collectIfWanted
 stepped-as-before (Submit round seat value signature) s e = stepped-late round seat value signature s (not-false (s .unit .own .submitted) e)
 stepped-as-before (Notice round seat value) s e = refl
 stepped-as-before (Full round sender value entries) s e = refl
-stepped-as-before (Evidence round values entries) s e = refl
+stepped-as-before (Evidence round form entries) s e = refl
 stepped-as-before Garbled s e = refl
 
 -- ---- the claims: the same number, record, store and bytes written, and so the same answer
@@ -275,7 +275,7 @@ module _ (checks : Checks) (keys : List ℕ) (r : Record) (store bytes out : Lis
           late-aside (start r store) room ρ seat value signature (not-false (r .own .submitted) e) (taken .inside seat (List·Memᴰ·head refl)) (omega (arith, sized .1))
       go (Notice ρ seat value) room taken sized e = notice-aside (start r store) room ρ seat value
       go (Full ρ sender value es) room taken sized e = full-aside (start r store) room ρ sender value es (sized .2)
-      go (Evidence ρ values ps) room taken sized e = aside-refl (start r store)
+      go (Evidence ρ form ps) room taken sized e = aside-refl (start r store)
       go Garbled room taken sized e = aside-refl (start r store)
 
   pub step-rest : drop (storeLengthBefore (r .n)) (step checks keys r store bytes out .store) ≡ drop (storeLengthBefore (r .n)) store

@@ -1,5 +1,5 @@
 -- Certificates, and the messages made from them: a FULL's entries make a certificate, and a certificate makes a FULL's entries;
--- two certificates of different values make evidence that names t0 + 1 seats or more.
+-- two certificates of different values make evidence for any seats that both have.
 -- Assumes nothing.
 use mathlib.Core.Path.{_≡_, refl, sym, ap, subst, _∙_}
 use mathlib.Core.Bool.{true, not}
@@ -12,15 +12,15 @@ use lib.ListN.{length, length-map}
 use lib.Pow.{pow-pos}
 use borrow.Author.Tests.{eqb-true, eqb-false}
 use Rattle.quorum.specs.Quorum.{t0, k, In, size, shared, seats}
-use Rattle.quorum.specs.QuorumLaws.{bit-cases, in-shared, shared-lt, with-lt, size-empty, size-shared-le, size-with-new, length-seats, mem-seats, seats-rise, k-of-n-share}
+use Rattle.quorum.specs.QuorumLaws.{bit-cases, in-shared, shared-lt, with-lt, size-empty, size-within, size-with-new, length-seats, mem-seats, seats-rise, k-of-n-share}
 use Rattle.protocol.specs.Values.{isLower}
-use Rattle.protocol.specs.Message.{Entry, Pair, PairValues, Message, Evidence, fullForm, evidenceForm, entrySeats}
-use Rattle.protocol.specs.Certificate.{Certificate, setOf, signatureOf, certificateOf, entryOf, entriesOf, pairOf, pairsOf, valuesOf, orderedEvidence, evidenceOf}
+use Rattle.protocol.specs.Message.{Entry, Pair, ValuesEach, Message, Evidence, fullForm, evidenceForm}
+use Rattle.protocol.specs.Certificate.{Certificate, setOf, signatureOf, certificateOf, entryOf, entriesOf, pairOf, pairsOf, orderedEvidence, evidenceOf, conflictOf}
 use Rattle.protocol.specs.ValuesLaws.{lower-other}
 use Rattle.protocol.specs.CertificateLaws.{in-set, set-seats}
 use Rattle.protocol.specs.Entries.{Laid, formSeats}
 use Rattle.protocol.specs.MessageLaws.{pair-laid}
-use Rattle.protocol.specs.Refusals.{Checks, rising}
+use Rattle.protocol.specs.Refusals.{Checks, rising, lowerFirst}
 use Rattle.round.specs.Round.{Each, Relation}
 use Rattle.reading.specs.ListsLaws.{cond-elim, each-map, rising-first, rising-of-rises}
 use Rattle.claims.specs.Sound.{Attested, Certifies, Entries, Pairs}
@@ -39,6 +39,15 @@ pub set-below : (n : ℕ) (xs : List ℕ) → Each (λ s. s < n) xs → setOf xs
 unfolding setOf
 set-below n [] h = pow-pos n
 set-below n (x ∷ xs) h = with-lt n x (setOf xs) (h x (List·Memᴰ·head refl)) (set-below n xs (λ s d. h s (List·Memᴰ·tail d)))
+
+-- a set that isn't empty has a seat or more
+pub size-some : (n m : ℕ) → m < 2 ^ n → m ≢ 0 → 1 ≤ size m
+unfolding setOf
+size-some n m below some = go (seats n m) refl
+  where
+    go : (xs : List ℕ) → seats n m ≡ xs → 1 ≤ size m
+    go [] e = absurd (some (sym (set-seats n m below) ∙ ap setOf e))
+    go (x ∷ xs) e = omega (arith, sym (length-seats n m below) ∙ ap length e)
 
 module _ (n m : ℕ) where
   pub seats-rising : rising (seats n m) ≡ true
@@ -96,54 +105,43 @@ module _ (checks : Checks) (W : Relation) where
   }
 
   -- the evidence of two certificates for a set of seats that both have, the lower value first
-  pairs-of : (n mask : ℕ) (c d : Certificate) → mask < 2 ^ n → ((s : ℕ) → In s mask → In s (c .seats) × In s (d .seats)) → t0 n + 1 ≤ size mask → size mask ≤ k n
-      → Certifies checks W n c → Certifies checks W n d → isLower (c .value) (d .value) ≡ true → Pairs checks W n (valuesOf c d) (pairsOf n mask c d)
-  unfolding pairsOf evidenceForm
-  pairs-of n mask c d below both enough few y z l =
+  pairs-of : (n mask : ℕ) (c d : Certificate) → mask < 2 ^ n → mask ≢ 0 → ((s : ℕ) → In s mask → In s (c .seats) × In s (d .seats))
+      → Certifies checks W n c → Certifies checks W n d → isLower (c .value) (d .value) ≡ true → Pairs checks W n (pairsOf n mask c d)
+  unfolding pairsOf evidenceForm lowerFirst
+  pairs-of n mask c d below some both y z l =
       let pair : ℕ → Pair = pairOf c d in
       let sized : length (pairsOf n mask c d) ≡ size mask = length-map (seats n mask) pair ∙ length-seats n mask below in
       let low : (s : ℕ) → List·Memᴰ s (seats n mask) → Attested checks W s (c .value) (c .signature s) = λ s m. y .attested s (both s (seats-in-set n mask s m) .0) in
       let high : (s : ℕ) → List·Memᴰ s (seats n mask) → Attested checks W s (d .value) (d .signature s) = λ s m. z .attested s (both s (seats-in-set n mask s m) .1) in
       record {
-        formed = (y .sized, z .sized);
-        laid = each-map _ pair (seats n mask) (λ s m. pair-laid (valuesOf c d) (pair s) refl refl (low s m .sized) (high s m .sized));
-        ordered = l;
-        named = rw (pair-seats n mask c d, set-seats n mask below) enough;
-        some = omega arith;
-        few = omega arith;
+        laid = each-map _ pair (seats n mask) (λ s m. pair-laid (pair s) (y .sized) (z .sized) (low s m .sized) (high s m .sized));
+        ordered = each-map (λ (p : Pair). lowerFirst p ≡ true) pair (seats n mask) (λ s m. l);
+        some = omega (arith, size-some n mask below some);
+        few = omega (arith, size-within (c .seats) mask (λ s i. both s i .0), y .enough);
         rise = ap rising (pair-seats n mask c d) ∙ seats-rising n mask;
         below = each-map (λ (p : Pair). p .seat < n) pair (seats n mask) (seats-below n mask);
         lows = each-map (λ (p : Pair). Attested checks W (p .seat) (p .lowerValue) (p .lower)) pair (seats n mask) low;
         highs = each-map (λ (p : Pair). Attested checks W (p .seat) (p .higherValue) (p .higher)) pair (seats n mask) high;
       }
 
-  -- the evidence of two certificates for all seats that they share, in either order
-  module _ (n : ℕ) (c d : Certificate) (some : 1 ≤ n) (y : Certifies checks W n c) (z : Certifies checks W n d) where
-    abbrev both : ℕ
-    both = shared (c .seats) (d .seats)
-
-    both-below : both < 2 ^ n
-    both-below = shared-lt n (c .seats) (d .seats) (y .below) (z .below)
-
-    both-enough : t0 n + 1 ≤ size both
-    both-enough = k-of-n-share n (c .seats) (d .seats) some (y .below) (z .below) (y .enough) (z .enough)
-
-    both-few : size both ≤ k n
-    both-few = omega (arith, size-shared-le (c .seats) (d .seats), y .enough)
-
-    pub evidence-elim : (P : Message → Type 0) (round : ℕ) → c .value ≢ d .value
-        → ((values : PairValues) (ps : List Pair) → Pairs checks W n values ps → P (Evidence round values ps)) → P (evidenceOf n round both c d)
+  module _ (n : ℕ) (c d : Certificate) (y : Certifies checks W n c) (z : Certifies checks W n d) (P : Message → Type 0) (round : ℕ) (different : c .value ≢ d .value) where
+    -- in either order; it names the seats of the set
+    pub evidence-elim : (mask : ℕ) → mask < 2 ^ n → mask ≢ 0 → ((s : ℕ) → In s mask → In s (c .seats) × In s (d .seats))
+        → ((ps : List Pair) → Pairs checks W n ps → setOf (map (λ (p : Pair). p .seat) ps) ≡ mask → P (Evidence round ValuesEach ps)) → P (evidenceOf n round mask c d)
     unfolding evidenceOf orderedEvidence
-    evidence-elim P round different f =
-        cond-elim P (isLower (c .value) (d .value)) (orderedEvidence n round both c d) (orderedEvidence n round both d c)
-        (λ l. f (valuesOf c d) (pairsOf n both c d) (pairs-of n both c d both-below (λ s i. in-shared s (c .seats) (d .seats) .0 i) both-enough both-few y z l))
-        (λ l. f (valuesOf d c) (pairsOf n both d c)
-        (pairs-of n both d c both-below (λ s i. let h = in-shared s (c .seats) (d .seats) .0 i in (h .1, h .0)) both-enough both-few z y (lower-other (c .value) (d .value) (y .sized ∙ sym (z .sized)) different ∙ ap not l)))
+    evidence-elim mask below some both f =
+        let names : (low high : Certificate) → setOf (map (λ (p : Pair). p .seat) (pairsOf n mask low high)) ≡ mask = λ low high. ap setOf (pair-seats n mask low high) ∙ set-seats n mask below in
+        cond-elim P (isLower (c .value) (d .value)) (orderedEvidence n round mask c d) (orderedEvidence n round mask d c)
+        (λ l. f (pairsOf n mask c d) (pairs-of n mask c d below some both y z l) (names c d))
+        (λ l. f (pairsOf n mask d c)
+        (pairs-of n mask d c below some (λ s i. let h = both s i in (h .1, h .0)) z y (lower-other (c .value) (d .value) (y .sized ∙ sym (z .sized)) different ∙ ap not l)) (names d c))
 
-  -- evidence for a set of seats names the seats of the set
-  pub evidence-names : (n round mask : ℕ) (c d : Certificate) → mask < 2 ^ n → setOf (entrySeats (evidenceOf n round mask c d)) ≡ mask
-  unfolding evidenceOf orderedEvidence entrySeats formSeats evidenceForm
-  evidence-names n round mask c d below =
-      cond-elim (λ m. setOf (entrySeats m) ≡ mask) (isLower (c .value) (d .value)) (orderedEvidence n round mask c d) (orderedEvidence n round mask d c)
-      (λ _. rw (pair-seats n mask c d, set-seats n mask below))
-      (λ _. rw (pair-seats n mask d c, set-seats n mask below))
+    -- for all seats that the two share, t0 + 1 or more
+    pub conflict-elim : 1 ≤ n
+        → ((ps : List Pair) → Pairs checks W n ps → setOf (map (λ (p : Pair). p .seat) ps) ≡ shared (c .seats) (d .seats) → t0 n + 1 ≤ size (shared (c .seats) (d .seats)) → P (Evidence round ValuesEach ps))
+        → P (conflictOf n round c d)
+    unfolding conflictOf
+    conflict-elim some f =
+        let both = shared (c .seats) (d .seats) in
+        let enough = k-of-n-share n (c .seats) (d .seats) some (y .below) (z .below) (y .enough) (z .enough) in
+        evidence-elim both (shared-lt n (c .seats) (d .seats) (y .below) (z .below)) (λ e. omega (arith, ap size e, size-empty)) (λ s i. in-shared s (c .seats) (d .seats) .0 i) (λ ps p e. f ps p e enough)

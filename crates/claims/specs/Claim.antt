@@ -27,13 +27,18 @@ use Rattle.claims.specs.Power.{sends-written}
 use Rattle.claims.specs.Units.{stop}
 use Rattle.claims.specs.Sound.{Any}
 use Rattle.claims.specs.Safe.{safe, safe-delivered}
-use Rattle.claims.specs.Blamed.{blamed}
+use Rattle.claims.specs.Blamed.{first-pack-names, blamed}
 
 -- ---- the claim
 
 -- beyond the demand: the same without "each alone in its seat"
 pub wherever-seated : (S : Setting) {I : Type 0} (boat : I → Boat) → ((i : I) → IsHonest S (boat i)) → Demand3 S boat
-wherever-seated S boat honest = record { safety = safe-delivered S boat honest; accountability = blamed S boat honest; safety-however = safe S boat honest }
+wherever-seated S boat honest = record {
+  safety = safe-delivered S boat honest;
+  accountability = blamed S boat honest;
+  firstPack = λ i. first-pack-names S (boat i) (honest i);
+  safety-however = safe S boat honest;
+}
 
 -- "let some units be honest: each alone in its seat and opened once": `Family`. For any signature check:
 pub demand-3-any : (S : Setting) {I : Type 0} (boat : I → Boat) → Family S boat → Demand3 S boat

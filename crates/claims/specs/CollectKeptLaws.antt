@@ -54,7 +54,7 @@ module _ (checks : Checks) (W : Relation) (value signature : List ℕ) (s : Stat
         said = (refl, refl);
         unconfirmed = go (s .unit .confirmed) refl;
         sound = a .sound;
-        roomy = room-leads checks W s (submitOwn value signature s) a room;
+        roomy = room-leads checks W 0 s (submitOwn value signature s) a room;
         own = bit-with-same (s .unit .seat) (s .unit .own .collected);
         got = inr (λ i l q. absurd (omega arith));
       }
@@ -122,7 +122,7 @@ module _ (checks : Checks) (W : Relation) (value signature : List ℕ) (s : Stat
             said = h .said;
             unconfirmed = h .unconfirmed;
             sound = a .sound;
-            roomy = room-leads checks W e (collect t kg e) a (h .roomy);
+            roomy = room-leads checks W 0 e (collect t kg e) a (h .roomy);
             own = held (s .unit .seat) (h .own) (ℕ-discrete (s .unit .seat) t);
             got = ⊎-elim (λ full. absurd (omega arith)) (λ before. inr (λ i j q. on before i j q (ℕ-discrete i t))) (h .got);
           }

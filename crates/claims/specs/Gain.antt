@@ -18,11 +18,11 @@ use Rattle.protocol.specs.Certificate.{keptValue}
 use Rattle.protocol.specs.Calls.{Result, resultBy, start, step}
 use Rattle.protocol.specs.declared.Record.{Record}
 use Rattle.round.specs.Round.{Setting, IsHonest, Each, Relation, Call, BySubmit, ByStep, ByThinEntry, Boat, Called, IsStep, outcome, resultOf, listFrom, listOf, StandsIn, writtenIn, Confirms}
-use Rattle.round.specs.Demand1.{NOTICE, isOf, isNotice, worth}
+use Rattle.round.specs.Demand1.{isNotice, worth}
 use Rattle.reading.specs.ListsLaws.{each-nil, each-one, each-cons, count-member, worth-true}
 use Rattle.reading.specs.Messages.{messages}
 use Rattle.reading.specs.MessagesLaws.{outcome-is, step-is}
-use Rattle.claims.specs.Sound.{Any, Said, Good}
+use Rattle.claims.specs.Sound.{Any, CONFIRMED, Said, Good}
 use Rattle.claims.specs.Parts.{confirmed-submitted}
 use Rattle.claims.specs.Whole.{submitted-value}
 use Rattle.claims.specs.UnrefusedLaws.{possible, Taken}
@@ -87,7 +87,7 @@ abbrev valueOf : Message → List ℕ
 valueOf (Submit ρ seat value signature) = value
 valueOf (Notice ρ seat value) = []
 valueOf (Full ρ sender value entries) = []
-valueOf (Evidence ρ values entries) = []
+valueOf (Evidence ρ form entries) = []
 valueOf Garbled = []
 
 -- the only case of a message that is a NOTICE
@@ -96,7 +96,7 @@ unfolding isNotice
 notice-cases P (Submit ρ seat value signature) e f = absurd (false≢true e)
 notice-cases P (Notice ρ seat value) e f = f ρ seat value
 notice-cases P (Full ρ sender value es) e f = absurd (false≢true e)
-notice-cases P (Evidence ρ values ps) e f = absurd (false≢true e)
+notice-cases P (Evidence ρ form ps) e f = absurd (false≢true e)
 notice-cases P Garbled e f = absurd (false≢true e)
 
 module _ (S : Setting) where
@@ -314,7 +314,7 @@ module _ (S : Setting) where
       unfolding isNotice
       notice-there =
           let z = at t inList in
-          let n-is = count-member (isOf NOTICE) (messages S t) (omega (arith, z .after .counts NOTICE, worth-true (resultOf S t .unit .confirmed) confirmed-there, worth-unconfirmed)) in
+          let n-is = count-member isNotice (messages S t) (omega (arith, z .after .counts .marked CONFIRMED, worth-true (resultOf S t .unit .confirmed) confirmed-there, worth-unconfirmed)) in
           notice-cases (λ m. List·Memᴰ m (messages S t) → Good checks Any (resultOf S t .unit) m → StandsIn n (Notice round (u .seat) (s .layout)) (writtenIn S t)) (n-is .0) (n-is .2)
           (λ ρ seat value d g. (messages S t, written-are S u honest Any (any-worthy S list) t inList, subst (λ m. List·Memᴰ m (messages S t)) (own-notice ρ seat value g) d))
           (n-is .1) (z .after .good (n-is .0) (n-is .1))

@@ -1,23 +1,24 @@
--- A list of calls from end to end: the invariant holds before and after each; values said, heard and held stay; and over the whole
--- list a message is written exactly where its flag becomes set.
+-- A list of calls from end to end: the invariant holds before and after each; values said and heard, the certificate held and the guilty
+-- seats stay; over the whole list a message is written exactly where its mark becomes set, and a call writes one pack at most.
 -- Assumes nothing.
 use mathlib.Core.Path.{_≡_, refl, ap, _∙_}
 use mathlib.Core.Bool.{true}
 use mathlib.Core.List.{List, [], _∷_, List·Memᴰ·head, List·Memᴰ·tail}
-use Prim.Native.Nat.{ℕ, zero, suc}
+use Prim.Native.Nat.{ℕ, zero, suc, _≤_}
 use native.Mathlib.Omega.{arith}
 use Rattle.refusal.specs.Refusal.{firstOf, unrefused}
 use Rattle.protocol.specs.Message.{Message, read}
-use Rattle.protocol.specs.Refusals.{stepConditions}
+use Rattle.protocol.specs.Refusals.{isEvidence, stepConditions}
 use Rattle.protocol.specs.Step.{State, stepped}
 use Rattle.protocol.specs.Calls.{Result, resultBy, start}
 use Rattle.protocol.specs.declared.Record.{Record}
 use Rattle.round.specs.Round.{Each, Relation, EachSigned, Call, BySubmit, ByStep, ByThinEntry, Setting, Called, outcome, resultOf, listFrom}
-use Rattle.round.specs.Demand1.{isOf}
+use Rattle.round.specs.Demand1.{count}
 use Rattle.reading.specs.Messages.{refusalOf, cameTo, messages, allMessages}
 use Rattle.reading.specs.MessagesLaws.{outcome-is}
-use Rattle.reading.specs.ListsLaws.{count-append, count-nil, each-nil, each-cons}
+use Rattle.reading.specs.ListsLaws.{count-nil, each-nil, each-cons}
 use Rattle.claims.specs.Sound.{Any, Grows, Counts, Settled, Sound, Good}
+use Rattle.claims.specs.PacksLaws.{counts-append, counts-none}
 use Rattle.claims.specs.Parts.{grows-refl, grows-trans}
 use Rattle.claims.specs.Whole.{Done, submitted-done, submitted-value, stepped-done}
 use Rattle.claims.specs.NotRefused.{submit-fit, step-fit, brings}
@@ -76,6 +77,7 @@ module _ (S : Setting) (W : Relation) where
     pub settled : Settled r′
     pub grows : Grows r r′
     pub counts : Counts r ms r′
+    pub packs : count isEvidence ms ≤ 1
     pub good : Each (Good checks W r′) ms
 
   passed-by : (refusal : ℕ) (s : State) (r : Record) (store : List ℕ) → Sound checks W r store → Settled r → (refusal ≡ 0 → Done checks W (start r store) s)
@@ -87,11 +89,12 @@ module _ (S : Setting) (W : Relation) where
         sound = f .leads .sound;
         settled = f .settled;
         grows = f .leads .grows;
-        counts = λ κ. let x = f .leads .counts κ in let y = count-nil (isOf κ) in omega arith;
-        good = f .leads .good (each-nil (Good checks W r));
+        counts = rw (f .leads .written) (f .leads .counts);
+        packs = rw (f .leads .written) (f .leads .packs);
+        good = rw (f .leads .written) (f .leads .good);
       }
   passed-by (suc refusal) s r store z e d =
-      record { sound = z; settled = e; grows = grows-refl r; counts = λ κ. let y = count-nil (isOf κ) in omega arith; good = each-nil (Good checks W r) }
+      record { sound = z; settled = e; grows = grows-refl r; counts = counts-none r r refl refl refl refl; packs = omega (arith, count-nil isEvidence); good = each-nil (Good checks W r) }
 
   pub passed : (t : Called) → Sound checks W (t .unit) (t .store) → Settled (t .unit) → Worthy t
       → Passed (t .unit) (t .store) (resultOf S t .unit) (resultOf S t .store) (messages S t)
@@ -124,7 +127,7 @@ module _ (S : Setting) (W : Relation) where
       → Journey r (lastOf S r store cs) (leftBy S r store cs) (listFrom S r store cs)
   unfolding listFrom lastOf leftBy allMessages
   journey r store [] z e w =
-      record { grows = grows-refl r; at = each-nil (λ t. At r t r); counts = λ κ. let y = count-nil (isOf κ) in omega arith; sound = z; settled = e }
+      record { grows = grows-refl r; at = each-nil (λ t. At r t r); counts = counts-none r r refl refl refl refl; sound = z; settled = e }
   journey r store (c ∷ cs) z e w =
       let t : Called = record { given = c; unit = r; store = store } in
       let after = outcome S c r store in
@@ -137,7 +140,7 @@ module _ (S : Setting) (W : Relation) where
         at = each-cons (λ x. At r x end) t ts (record { since = grows-refl r; sound = z; settled = e; after = a; before = rest .grows })
             (λ x d. let y = rest .at x d in
             record { since = grows-trans r (after .unit) (x .unit) (a .grows) (y .since); sound = y .sound; settled = y .settled; after = y .after; before = y .before });
-        counts = λ κ. let x = a .counts κ in let y = rest .counts κ in omega (arith, count-append (isOf κ) (messages S t) (allMessages S ts));
+        counts = counts-append r (after .unit) end (messages S t) (allMessages S ts) (rest .grows .n) (a .counts) (rest .counts);
         sound = rest .sound;
         settled = rest .settled;
       }

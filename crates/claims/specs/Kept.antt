@@ -191,7 +191,7 @@ module _ (S : Setting) where
               (early-does seat value signature (reads ∙ ap (λ i. Submit i seat value signature) (taken .inRound)) (taken .inside seat (List·Memᴰ·head refl)) (sized .0) (sized .1) unsaid)
       heard-does (Notice ρ seat value) reads taken sized = aside-does (stepped (Notice ρ seat value) first) (notice-aside first room ρ seat value)
       heard-does (Full ρ sender value es) reads taken sized = aside-does (stepped (Full ρ sender value es) first) (full-aside first room ρ sender value es (sized .2))
-      heard-does (Evidence ρ values ps) reads taken sized = aside-does first (aside-refl first)
+      heard-does (Evidence ρ form ps) reads taken sized = aside-does first (aside-refl first)
       heard-does Garbled reads taken sized = aside-does first (aside-refl first)
 
     step-does : (bytes out : List ℕ) → IsStep (t .given) bytes out → resultOf S t .refusal ≡ 0 → firstOf (stepConditions checks keys (t .unit) (t .store) (read (r .n) bytes) out) ≡ 0 → Does t (came (stepped (read (r .n) bytes) first))

@@ -23,19 +23,18 @@ use Rattle.round.specs.Round.{Relation}
 use Rattle.reading.specs.ListsLaws.{cond-elim}
 use Rattle.claims.specs.SlotsLaws.{fillKept-length, keptValue-fillKept, keptSignature-fillKept, slot-fillKept-other}
 use Rattle.claims.specs.Sound.{Room, Attested, Sound, Leads}
-use Rattle.claims.specs.Parts.{in-below, same-flags, leads-quiet, leads-trans, leads-refl, room-leads, collection-like, holding-like, collect-leads}
+use Rattle.claims.specs.Parts.{in-below, leads-quiet, leads-trans, leads-refl, room-leads, collection-like, holding-like, collect-leads}
 
 module _ (checks : Checks) (W : Relation) where
   -- ---- other kept seats
 
   other-kept-leads : (s : State) (kept : ℕ) (store′ : List ℕ) → Sound checks W (withKept (s .unit) kept) store′ → length store′ ≡ length (s .store)
-      → Leads checks W s (record { unit = withKept (s .unit) kept; store = store′; written = s .written })
+      → Leads checks W 0 s (record { unit = withKept (s .unit) kept; store = store′; written = s .written })
   other-kept-leads s kept store′ sound long =
       let r = s .unit in
-      leads-quiet checks W s (record { unit = withKept r kept; store = store′; written = s .written }) sound long
-      (record { n = refl; seat = refl; round = refl; said = λ e. (e, refl); heard = λ v h. h; held = λ v h. h })
-      refl
-      (same-flags r (withKept r kept) refl refl refl refl)
+      leads-quiet checks W 0 s (record { unit = withKept r kept; store = store′; written = s .written }) sound long
+      (record { n = refl; seat = refl; round = refl; said = λ e. (e, refl); heard = λ v h. h; first = λ h. refl; guilty = λ t i. i })
+      refl refl refl refl refl
 
   -- ---- a SUBMIT kept
 
@@ -63,7 +62,7 @@ module _ (checks : Checks) (W : Relation) where
             rw (aside keptValueBank t (kept-value-bank .0) l (λ _ q. d (sym q)) (λ q _. omega arith), aside keptBank t (kept-bank .0) l (λ q _. omega arith) (λ _ q. d (sym q)))
             (z .kept .attested t old)
 
-    pub keep-leads : Leads checks W s (keep seat value signature s)
+    pub keep-leads : Leads checks W 0 s (keep seat value signature s)
     unfolding keep
     keep-leads =
         let r = s .unit in
@@ -85,7 +84,7 @@ module _ (checks : Checks) (W : Relation) where
   -- ---- kept ones collected
 
   module _ (s : State) (z : Sound checks W (s .unit) (s .store)) where
-    emptyKept-leads : Leads checks W s (emptyKept s)
+    emptyKept-leads : Leads checks W 0 s (emptyKept s)
     unfolding emptyKept
     emptyKept-leads =
         other-kept-leads s 0 (s .store)
@@ -99,36 +98,36 @@ module _ (checks : Checks) (W : Relation) where
         })
         refl
 
-    seat-leads : (seat : ℕ) → Room s → s .unit .own .submitted ≡ true → seat < s .unit .n → Leads checks W s (collectKeptSeat seat s)
+    seat-leads : (seat : ℕ) → Room s → s .unit .own .submitted ≡ true → seat < s .unit .n → Leads checks W 0 s (collectKeptSeat seat s)
     unfolding collectKeptSeat collectIfWanted isOpenTo
     seat-leads seat room said inside =
         let r = s .unit in
         let value = keptValue (r .n) (s .store) seat in
         let signature = keptSignature (r .n) (s .store) seat in
-        cond-elim (Leads checks W s) (isOpenTo seat r) (collectIfWanted seat value signature s) s
+        cond-elim (Leads checks W 0 s) (isOpenTo seat r) (collectIfWanted seat value signature s) s
         (λ e.
         let both = both-true (has seat (r .kept)) (ltb (size (r .own .collected)) (k (r .n))) e in
         let few = ltb-true (size (r .own .collected)) (k (r .n)) (both .1) in
-        cond-elim (Leads checks W s) (isWanted seat value r) (collect seat signature s) s
+        cond-elim (Leads checks W 0 s) (isWanted seat value r) (collect seat signature s) s
         (λ w. collect-leads checks W seat value signature s z room w said (λ q. absurd (omega arith)) inside (z .kept .attested seat (has-true seat (r .kept) .0 (both .0))))
-        (λ w. leads-refl checks W s z))
-        (λ e. leads-refl checks W s z)
+        (λ w. leads-refl checks W s z 0))
+        (λ e. leads-refl checks W s z 0)
 
   module _ (s : State) (z : Sound checks W (s .unit) (s .store)) (room : Room s) (said : s .unit .own .submitted ≡ true) where
-    below-leads : (t : ℕ) → t ≤ s .unit .n → Leads checks W s (collectKeptBelow t s)
+    below-leads : (t : ℕ) → t ≤ s .unit .n → Leads checks W 0 s (collectKeptBelow t s)
     unfolding collectKeptBelow
-    below-leads zero l = leads-refl checks W s z
+    below-leads zero l = leads-refl checks W s z 0
     below-leads (suc t) l =
         let u = collectKeptBelow t s in
         let a = below-leads t (omega arith) in
-        leads-trans checks W s u (collectKeptSeat t u) a (seat-leads u (a .sound) t (room-leads checks W s u a room) (a .grows .said said .0) (omega (arith, a .grows .n)))
+        leads-trans checks W 0 0 s u (collectKeptSeat t u) a (seat-leads u (a .sound) t (room-leads checks W 0 s u a room) (a .grows .said said .0) (omega (arith, a .grows .n)))
 
-    pub collectKept-leads : Leads checks W s (collectKept s)
+    pub collectKept-leads : Leads checks W 0 s (collectKept s)
     unfolding collectKept
     collectKept-leads =
         let u = collectKeptBelow (s .unit .n) s in
         let a = below-leads (s .unit .n) (omega arith) in
-        leads-trans checks W s u (emptyKept u) a (emptyKept-leads u (a .sound))
+        leads-trans checks W 0 0 s u (emptyKept u) a (emptyKept-leads u (a .sound))
 
 -- ---- what collecting kept ones leaves
 

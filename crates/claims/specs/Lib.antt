@@ -14,6 +14,7 @@ pub mod SlotsLaws
 pub mod Sound
 pub mod KeptPartLaws
 pub mod CertificatesLaws
+pub mod PacksLaws
 pub mod Parts
 pub mod KeptLaws
 pub mod Whole
@@ -31,5 +32,6 @@ pub mod Gain
 pub mod Safe
 pub mod Once
 pub mod Made
+pub mod Culprits
 pub mod Blamed
 pub mod Claim

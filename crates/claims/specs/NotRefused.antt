@@ -193,7 +193,7 @@ module _ (checks : Checks) (keys : List ℕ) (r : Record) (store bytes out : Lis
           (t .inside seat (List·Memᴰ·head refl), l .0, record { checked = t .checked _ (List·Memᴰ·head refl); sized = l .1; worthy = w _ (List·Memᴰ·head refl) })
       go (Notice ρ seat value) t l w = l
       go (Full ρ sender value es) t l w = entries-taken checks W (r .n) (r .round) ρ sender value es t l w
-      go (Evidence ρ values ps) t l w = tt
+      go (Evidence ρ form ps) t l w = tt
       go Garbled t l w = tt
 
 -- a step with a message as document 01 lays it out
@@ -227,7 +227,7 @@ pub record EvidenceFit (checks : Checks) (n round : ℕ) (keys bytes : List ℕ)
   pub isOne : isEvidence (read n bytes) ≡ true
   -- 10, 11, 12, 14
   pub message : Taken checks n round (read n bytes)
-  -- 15: the lower value comes first
+  -- 15: in each entry the lower value comes first
   pub conflict : notLowerFirst (read n bytes) ≡ false
 
 outside-of : (n round : ℕ) (keys : List ℕ) (rest : List Condition) → firstOf (outsideConditions n round keys ++ rest) ≡ 0 → Outside n round keys × (firstOf rest ≡ 0)
@@ -268,7 +268,7 @@ module _ (checks : Checks) (n round : ℕ) (keys bytes : List ℕ) where
 pub record MakingFit (checks : Checks) (n round : ℕ) (keys a b out : List ℕ) : Type 0 where
   -- 1, 3, 5
   pub outside : Outside n round keys
-  -- 7: "68 + 2,906 × k for evidence from two certificates"
+  -- 7: "4 + 2,970 × k for evidence from two certificates"
   pub outRoom : evidenceOutLength n ≤ length out
   -- 9: the bytes of either are a FULL
   pub firstFull : isFull (read n a) ≡ true

@@ -1,44 +1,47 @@
 -- Demand 1 over a whole list: "in a round a unit on one unbroken record sends at most one submission, one notice and one full
--- certificate." And so "two units can[not] reply to each other without end". A unit that loses power writes no second message of a kind
--- in the calls that count, and sends no other than the one written; and each SUBMIT, NOTICE and FULL that it sends carries one layout,
--- which it submitted in these calls.
+-- certificate"; and at most t0 + 1 packs of evidence (document 02, item 3). And so "two units can[not] reply to each other without end". A
+-- unit that loses power writes no more in the calls that count, and sends nothing else than what these wrote; and each SUBMIT, NOTICE and
+-- FULL that it sends carries one layout, which it submitted in these calls.
 -- Assumes nothing.
 use mathlib.Core.Path.{_≡_, refl, sym, ap, subst, _∙_}
 use mathlib.Core.Bool.{Bool, true, false}
-use mathlib.Core.List.{List, [], _∷_, append-nil, List·Memᴰ, List·Memᴰ·head, List·Memᴰ·tail, List·Memᴰ·not-nil, List·Memᴰ·cases-cons}
+use mathlib.Core.List.{List, [], _∷_, map, append-nil, List·Memᴰ, List·Memᴰ·head, List·Memᴰ·tail, List·Memᴰ·not-nil}
 use mathlib.Core.Logic.{_⊎_, inl, inr, ⊎-elim, _≢_}
-use Prim.Native.Nat.{ℕ, zero, suc, _+_, _*_, _≤_}
+use Prim.Native.Nat.{ℕ, zero, suc, _+_, _*_, _≤_, _<_}
 use native.Mathlib.Omega.{arith}
 use native.Mathlib.Decide.{ℕ-discrete}
-use lib.ListN.{length, length-append}
-use borrow.Author.Tests.{ne-eqb}
-use Rattle.quorum.specs.Quorum.{k}
+use lib.ListN.{length, length-append, length-map}
+use Rattle.quorum.specs.Quorum.{t0, k, In, has, size}
+use Rattle.quorum.specs.QuorumLaws.{size-empty, size-within}
 use Rattle.refusal.specs.Refusal.{unrefused}
 use Rattle.protocol.specs.Layout.{signatureLength, submitLength, noticeLength, fullEntryAt, fullLength, evidenceEntryLength, evidenceEntryAt, evidenceLength, outLength, noteLength}
-use Rattle.protocol.specs.Message.{Message, Submit, Notice, Full, Evidence, Garbled, render, renderAll, read, WellFormed}
-use Rattle.protocol.specs.MessageLaws.{length-submit, length-notice, length-full, length-evidence}
+use Rattle.protocol.specs.Entries.{formSeats}
+use Rattle.protocol.specs.Message.{Pair, ValuesEach, Message, Submit, Notice, Full, Evidence, Garbled, evidenceForm, render, renderAll, read, entrySeats, WellFormed}
+use Rattle.protocol.specs.MessageLaws.{length-submit, length-notice, length-full, length-evidence, evidence-place}
 use Rattle.protocol.specs.Record.{impossible}
 use Rattle.protocol.specs.Refusals.{Checks, isFull, isEvidence}
 use Rattle.protocol.specs.NoteClaim.{note-written}
 use Rattle.protocol.specs.Step.{State, stepped}
 use Rattle.protocol.specs.Calls.{opening, Result, resultBy, start, writeNote}
+use Rattle.protocol.specs.declared.First.{First}
 use Rattle.protocol.specs.declared.Record.{Record}
-use Rattle.round.specs.Round.{Setting, IsHonest, Each, Relation, Call, BySubmit, ByStep, ByThinEntry, Boat, Called, resultOf, writtenIn, Are, nowOf, listOf, Sent, Writes, Submits}
-use Rattle.round.specs.Demand1.{Kind, SUBMIT, NOTICE, FULL, EVIDENCE, isOf, isSubmit, isNotice, worth, count, writtenOver, AtMostOne, SendsOne, Carries, SendsSubmitted, SendsOneLayout}
+use Rattle.round.specs.Round.{Setting, IsHonest, Each, Relation, Call, BySubmit, ByStep, ByThinEntry, Boat, Called, resultOf, writtenIn, writtenOver, Are, nowOf, listOf, Sent, Writes, Submits}
+use Rattle.round.specs.Demand1.{Kind, SUBMIT, NOTICE, FULL, EVIDENCE, isOf, isSubmit, isNotice, worth, count, most, AtMost, Apart, SendsOne, Carries, SendsSubmitted, SendsOneLayout}
+use Rattle.round.specs.Culprits.{packNames}
 use Rattle.reading.specs.ListsLaws.{worth-le-one, worth-true, true-of-worth, count-pos}
-use Rattle.claims.specs.Sound.{Any, flagOf, Said, Good}
-use Rattle.claims.specs.CertificatesLaws.{entries-laid}
-use Rattle.claims.specs.Parts.{confirmed-submitted}
-use Rattle.reading.specs.ReadingLaws.{are-unique}
+use Rattle.claims.specs.Sound.{Any, Mark, SUBMITTED, CONFIRMED, SENT, NAMED, sets, flagOf, packSize, packSizes, Said, Good}
+use Rattle.claims.specs.CertificatesLaws.{set-size, entries-laid}
+use Rattle.claims.specs.PacksLaws.{one-or-two, pack-names, Names, packs-at-most}
+use Rattle.claims.specs.Parts.{guilty-held, confirmed-submitted}
 use Rattle.claims.specs.UnrefusedLaws.{possible}
 use Rattle.claims.specs.Whole.{step-submits-none}
 use Rattle.reading.specs.Messages.{refusalOf, cameTo, messages, allMessages}
-use Rattle.reading.specs.MessagesLaws.{outcome-is, unrefused-unit, member-all}
+use Rattle.reading.specs.MessagesLaws.{outcome-is, unrefused-unit, all-member, member-all}
 use Rattle.claims.specs.Journey.{Worthy, Passed, any-worthy}
-use Rattle.claims.specs.Opened.{start-n, start-sound, start-settled}
+use Rattle.claims.specs.Opened.{start-n, start-innocent, start-sound, start-settled}
 use Rattle.claims.specs.Power.{sends-written}
-use Rattle.claims.specs.Units.{endOf, trip, stop, result-grows, written-are, written-member, flag-written, writes-good, all-are}
-use Rattle.claims.specs.Safe.{submits-end}
+use Rattle.claims.specs.Units.{endOf, trip, stop, result-grows, written-are, written-member, member-written, marked-at-end, begun-at-end, flag-written, writes-good, end-n, all-are, by-messages}
+use Rattle.claims.specs.Safe.{pack-cases, submits-end}
 
 -- ---- messages by kind
 
@@ -52,19 +55,8 @@ kinds-all n [] w = refl
 kinds-all n (Submit ρ seat value signature ∷ ms) w = omega (arith, kinds-all n ms (λ m d. w m (List·Memᴰ·tail d)))
 kinds-all n (Notice ρ seat value ∷ ms) w = omega (arith, kinds-all n ms (λ m d. w m (List·Memᴰ·tail d)))
 kinds-all n (Full ρ sender value es ∷ ms) w = omega (arith, kinds-all n ms (λ m d. w m (List·Memᴰ·tail d)))
-kinds-all n (Evidence ρ values ps ∷ ms) w = omega (arith, kinds-all n ms (λ m d. w m (List·Memᴰ·tail d)))
+kinds-all n (Evidence ρ form ps ∷ ms) w = omega (arith, kinds-all n ms (λ m d. w m (List·Memᴰ·tail d)))
 kinds-all n (Garbled ∷ ms) w = absurd (w Garbled (List·Memᴰ·head refl))
-
--- at most one passes the test
-count-unique {ℓ} : {A : Type ℓ} (test : A → Bool) (xs : List A) (x y : A) → count test xs ≤ 1 → List·Memᴰ x xs → List·Memᴰ y xs → test x ≡ true → test y ≡ true → x ≡ y
-unfolding count
-count-unique test [] x y l d e p q = absurd (List·Memᴰ·not-nil d)
-count-unique test (z ∷ zs) x y l d e p q =
-    let here : (w : _) → w ≡ z → test w ≡ true → worth (test z) ≡ 1 = λ w i t. worth-true (test z) (subst (λ v. test v ≡ true) i t) in
-    ⊎-elim
-    (λ i. ⊎-elim (λ j. i ∙ sym j) (λ f. absurd (omega (arith, here x i p, count-pos test zs y f q))) (List·Memᴰ·cases-cons e))
-    (λ c. ⊎-elim (λ j. absurd (omega (arith, here y j q, count-pos test zs x c p))) (λ f. count-unique test zs x y (omega arith) c f p q) (List·Memᴰ·cases-cons e))
-    (List·Memᴰ·cases-cons d)
 
 evidence-room : (a b : ℕ) → a ≤ b → evidenceEntryAt a ≤ evidenceEntryAt b
 unfolding evidenceEntryAt evidenceEntryLength signatureLength
@@ -91,7 +83,7 @@ evidence-alone (m ∷ m′ ∷ ms) e l = absurd (omega arith)
 module _ (checks : Checks) (W : Relation) (r : Record) where
   bytes-by-kind : (ms : List Message) → Each (Good checks W r) ms
       → length (renderAll ms) ≤ count (isOf SUBMIT) ms * submitLength + count (isOf NOTICE) ms * noticeLength + count (isOf FULL) ms * fullEntryAt (k (r .n)) + count (isOf EVIDENCE) ms * evidenceEntryAt (k (r .n))
-  unfolding renderAll count worth isSubmit isNotice isFull isEvidence
+  unfolding renderAll count worth isSubmit isNotice isFull isEvidence evidenceLength
   bytes-by-kind [] g = omega arith
   bytes-by-kind (Submit ρ seat value signature ∷ ms) g =
       let h = g (Submit ρ seat value signature) (List·Memᴰ·head refl) in
@@ -106,11 +98,13 @@ module _ (checks : Checks) (W : Relation) (r : Record) where
       let l : length (render (Full ρ sender value es)) ≡ fullEntryAt (k (r .n)) =
       length-full ρ sender value es (h .0 .sized) (entries-laid checks W (r .n) value es (h .1)) ∙ ap fullEntryAt (h .1 .many) in
       omega (arith, length-append (render (Full ρ sender value es)) (renderAll ms), bytes-by-kind ms (λ m d. g m (List·Memᴰ·tail d)))
-  bytes-by-kind (Evidence ρ values ps ∷ ms) g =
-      let h = g (Evidence ρ values ps) (List·Memᴰ·head refl) in
-      let l = length-evidence ρ values ps (h .1 .formed) (h .1 .laid) in
-      let f = evidence-room (length ps) (k (r .n)) (h .1 .few) in
-      omega (arith, length-append (render (Evidence ρ values ps)) (renderAll ms), bytes-by-kind ms (λ m d. g m (List·Memᴰ·tail d)))
+  bytes-by-kind (Evidence ρ form ps ∷ ms) g =
+      let m = Evidence ρ form ps in
+      let h = g m (List·Memᴰ·head refl) in
+      let l : length (render m) ≡ evidenceEntryAt (length ps) =
+      ap (λ f. length (render (Evidence ρ f ps))) (h .1) ∙ length-evidence ρ ValuesEach ps tt (h .2 .laid) ∙ evidence-place (length ps) in
+      let f = evidence-room (length ps) (k (r .n)) (h .2 .few) in
+      omega (arith, length-append (render m) (renderAll ms), bytes-by-kind ms (λ x d. g x (List·Memᴰ·tail d)))
   bytes-by-kind (Garbled ∷ ms) g = absurd (g Garbled (List·Memᴰ·head refl))
 
 -- ---- an honest unit's list
@@ -128,26 +122,67 @@ module _ (S : Setting) (u : Boat) (honest : IsHonest S u) where
   pub written-messages : (ms : List Message) × Are n (writtenOver S ts) ms
   written-messages = (allMessages S ts, all-are S u honest)
 
-  -- the claim: at most one of each kind, SUBMIT, NOTICE, FULL and EVIDENCE
-  pub at-most-one : AtMostOne S u
-  at-most-one ms a κ =
-      let e = are-unique n (writtenOver S ts) ms (allMessages S ts) a (all-are S u honest) in
-      let c = trip S u honest Any any .counts κ in
-      let l = worth-le-one (flagOf κ (endOf S u honest)) in
-      rw e (omega arith)
+  abbrev end : Record
+  end = endOf S u honest
 
-  -- the claim for what is sent: the same message again, or none of its kind. It was written by a call that counts (`Power: sends-written`).
+  -- each pack that the list writes names a seat or more
+  packs-name : Each Names (allMessages S ts)
+  unfolding packSize isEvidence entrySeats formSeats evidenceForm
+  packs-name m d is =
+      let good = writes-good S u honest Any any m (member-written S u honest Any any m d) in
+      pack-cases checks Any end (λ x. 1 ≤ packSize x) m is good (λ ps z. omega (arith, set-size (map (λ (p : Pair). p .seat) ps) (z .rise), length-map ps (λ (p : Pair). p .seat), z .some))
+
+  -- all packs together name the guilty seats, which stand in the first certificate
+  guilty-few : size (end .guilty) ≤ k n
+  guilty-few =
+      let sound = trip S u honest Any any .sound in
+      let few : size (end .first .seats) ≤ k (end .n) = ⊎-elim (λ e. omega (arith, ap size e, size-empty)) (λ e. omega arith) (sound .first .enough) in
+      omega (arith, size-within (end .first .seats) (end .guilty) (guilty-held checks Any end (nowOf S u .store) sound), ap k (end-n S u honest Any any))
+
+  packs-at-end : count isEvidence (allMessages S ts) ≤ t0 n + 1
+  packs-at-end = go (ℕ-discrete (count isEvidence (allMessages S ts)) 0)
+    where
+      go : Dec (count isEvidence (allMessages S ts) ≡ 0) → count isEvidence (allMessages S ts) ≤ t0 n + 1
+      go (yes e) = omega arith
+      go (no d) =
+          let l = packs-at-most n (allMessages S ts) (begun-at-end S u honest Any any .0) packs-name d in
+          omega (arith, trip S u honest Any any .counts .named, ap size (start-innocent S u honest), size-empty, guilty-few)
+
+  at-most-at-end : (κ : Kind) → count (isOf κ) (allMessages S ts) ≤ most n κ
+  unfolding most
+  at-most-at-end SUBMIT = omega (arith, marked-at-end S u honest Any any SUBMITTED, worth-le-one (end .own .submitted))
+  at-most-at-end NOTICE = omega (arith, marked-at-end S u honest Any any CONFIRMED, worth-le-one (end .confirmed))
+  at-most-at-end FULL = omega (arith, marked-at-end S u honest Any any SENT, worth-le-one (end .sent))
+  at-most-at-end EVIDENCE = packs-at-end
+
+  -- the claim: at most one SUBMIT, NOTICE and FULL, and t0 + 1 packs
+  pub at-most : AtMost S u
+  at-most ms a κ = by-messages S u honest (λ xs. count (isOf κ) xs ≤ most n κ) (at-most-at-end κ) ms a
+
+  -- in all t0 + 4 messages, however long the list: no two units reply to each other without end
+  pub at-most-in-all : (ms : List Message) → Are n (writtenOver S ts) ms → length ms ≤ t0 n + 4
+  unfolding kinds most
+  at-most-in-all ms a =
+      let most = at-most ms a in
+      omega (arith, kinds-all n ms (a .0), most SUBMIT, most NOTICE, most FULL, most EVIDENCE)
+
+  -- no seat stands in two packs
+  named-once : (seat : ℕ) → count (packNames seat) (allMessages S ts) ≤ 1
+  named-once seat = omega (arith, marked-at-end S u honest Any any (NAMED seat), worth-le-one (has seat (end .guilty)))
+
+  -- The claim for what is sent: the same message again, or none of its kind but a pack that names other seats. It was written by a call
+  -- that counts (`Power: sends-written`).
   pub sends-one : SendsOne u
+  unfolding most
   sends-one κ m m′ is is′ d d′ =
       let member : (x : Message) → Sent u x → List·Memᴰ x (allMessages S ts) = λ x e. written-member S u honest Any any x (sends-written S u honest x e) in
-      count-unique (isOf κ) (allMessages S ts) m m′ (at-most-one (allMessages S ts) (all-are S u honest) κ) (member m d) (member m′ d′) is is′
-
-  -- four messages in all, however long the list: no two units reply to each other without end
-  pub at-most-four : (ms : List Message) → Are n (writtenOver S ts) ms → length ms ≤ 4
-  unfolding kinds
-  at-most-four ms a =
-      let one = at-most-one ms a in
-      omega (arith, kinds-all n ms (a .0), one SUBMIT, one NOTICE, one FULL, one EVIDENCE)
+      ⊎-elim inl (λ two. inr (go κ is is′ two)) (one-or-two (allMessages S ts) m m′ (member m d) (member m′ d′))
+    where
+      go : (κ : Kind) → isOf κ m ≡ true → isOf κ m′ ≡ true → ((test : Message → Bool) → test m ≡ true → test m′ ≡ true → 2 ≤ count test (allMessages S ts)) → (κ ≡ EVIDENCE) × Apart m m′
+      go SUBMIT is is′ two = absurd (omega (arith, two isSubmit is is′, at-most-at-end SUBMIT))
+      go NOTICE is is′ two = absurd (omega (arith, two isNotice is is′, at-most-at-end NOTICE))
+      go FULL is is′ two = absurd (omega (arith, two isFull is is′, at-most-at-end FULL))
+      go EVIDENCE is is′ two = (refl, λ seat e e′. omega (arith, two (packNames seat) (pack-names seat m is e) (pack-names seat m′ is′ e′), named-once seat))
 
   -- the record that the opening gave isn't impossible
   pub opened-possible : impossible (opening n (u .seat) round keys .unit) ≡ false
@@ -178,8 +213,8 @@ module _ (S : Setting) (u : Boat) (honest : IsHonest S u) where
 
     writer-sets : resultOf S t .unit .own .submitted ≢ t .unit .own .submitted
     writer-sets same =
-        let c = stop S u honest Any any t d .after .counts SUBMIT in
-        absurd (omega (arith, c, ap worth same, count-pos (isOf SUBMIT) (messages S t) m e is))
+        let c = stop S u honest Any any t d .after .counts .marked SUBMITTED in
+        absurd (omega (arith, c, ap worth same, count-pos isSubmit (messages S t) m e is))
 
     stepped-sets-none : (bytes : List ℕ) → cameTo (t .given) (t .unit) (t .store) ≡ stepped (read (t .unit .n) bytes) (start (t .unit) (t .store)) → ⊥
     stepped-sets-none bytes came =
@@ -198,7 +233,7 @@ module _ (S : Setting) (u : Boat) (honest : IsHonest S u) where
   -- the value of a unit that has submitted is a layout that it submitted
   own-submitted : endOf S u honest .own .submitted ≡ true → Submits S u (endOf S u honest .own .value)
   own-submitted said =
-      let w = flag-written S u honest Any any SUBMIT said in
+      let w = flag-written S u honest Any any SUBMITTED said in
       let h = member-all S ts (w .0) (written-member S u honest Any any (w .0) (w .2)) in
       let s = writer-submits (h .0) (h .1) (w .0) (h .2) (w .1) in
       subst (Submits S u) (sym (submits-end S u honest (s .0) (s .1))) (s .1)
@@ -214,7 +249,7 @@ module _ (S : Setting) (u : Boat) (honest : IsHonest S u) where
       go (Submit ρ seat value signature) c g = said-submitted ρ seat value layout (g .0) c
       go (Notice ρ seat value) c g = said-submitted ρ seat value layout g c
       go (Full ρ sender value entries) c g = said-submitted ρ sender value layout (g .0) c
-      go (Evidence ρ values entries) c g = absurd c
+      go (Evidence ρ form entries) c g = absurd c
       go Garbled c g = absurd c
 
   -- and so does what it sends
@@ -240,8 +275,8 @@ module _ (S : Setting) (u : Boat) (honest : IsHonest S u) where
     pub none-impossible : impossible (resultOf S t .unit) ≡ false
     none-impossible = possible checks Any (resultOf S t .unit) (resultOf S t .store) (here .sound) (here .settled)
 
-    counted-once : (κ : Kind) → count (isOf κ) (messages S t) ≤ 1
-    counted-once κ = let c = here .counts κ in let l = worth-le-one (flagOf κ (resultOf S t .unit)) in omega arith
+    marked-once : (μ : Mark) → count (sets μ) (messages S t) ≤ 1
+    marked-once μ = omega (arith, here .counts .marked μ, worth-le-one (flagOf μ (resultOf S t .unit)))
 
     -- the bytes written fit the stated out
     pub written-fits : length (writtenIn S t) ≤ outLength n
@@ -255,25 +290,25 @@ module _ (S : Setting) (u : Boat) (honest : IsHonest S u) where
           arith,
           bytes-by-kind checks Any (resultOf S t .unit) ms (here .good),
           out-filled size,
-          once-le (count (isOf SUBMIT) ms) submitLength (counted-once SUBMIT),
-          once-le (count (isOf NOTICE) ms) noticeLength (counted-once NOTICE),
-          once-le (count (isOf FULL) ms) (fullEntryAt (k size)) (counted-once FULL),
-          once-le (count (isOf EVIDENCE) ms) (evidenceEntryAt (k size)) (counted-once EVIDENCE),
+          once-le (count (isOf SUBMIT) ms) submitLength (marked-once SUBMITTED),
+          once-le (count (isOf NOTICE) ms) noticeLength (marked-once CONFIRMED),
+          once-le (count (isOf FULL) ms) (fullEntryAt (k size)) (marked-once SENT),
+          once-le (count (isOf EVIDENCE) ms) (evidenceEntryAt (k size)) (here .packs),
         )))
 
-    none-of : (κ : Kind) → flagOf κ (t .unit) ≡ true → count (isOf κ) (messages S t) ≡ 0
-    none-of κ e = omega (arith, here .counts κ, worth-true (flagOf κ (t .unit)) e, worth-le-one (flagOf κ (resultOf S t .unit)))
+    none-of : (μ : Mark) → flagOf μ (t .unit) ≡ true → count (sets μ) (messages S t) ≡ 0
+    none-of μ e = omega (arith, here .counts .marked μ, worth-true (flagOf μ (t .unit)) e, worth-le-one (flagOf μ (resultOf S t .unit)))
 
-    innocent : (m : Message) → List·Memᴰ m (messages S t) → isEvidence m ≡ true → t .unit .guilty ≡ 0
-    innocent m e is = go (ℕ-discrete (t .unit .guilty) 0)
-      where
-        go : Dec (t .unit .guilty ≡ 0) → t .unit .guilty ≡ 0
-        go (yes q) = q
-        go (no q) = absurd (omega (arith, count-pos (isOf EVIDENCE) (messages S t) m e is, none-of EVIDENCE (rw (ne-eqb (t .unit .guilty) 0 q))))
+    -- a pack makes seats guilty
+    pack-adds : (m : Message) → isEvidence m ≡ true → messages S t ≡ m ∷ [] → size (t .unit .guilty) < size (resultOf S t .unit .guilty)
+    unfolding packSizes
+    pack-adds m is e =
+        let some = packs-name m (all-member S ts t m d (rw e (List·Memᴰ·head refl))) is in
+        omega (arith, here .counts .named, ap packSizes e)
 
-    -- once FULL is sent, a call writes nothing, or one EVIDENCE, and that only while no seat is guilty
+    -- once FULL is sent, a call writes nothing, or one EVIDENCE, and then more seats are guilty than before
     pub quiet-once-sent : t .unit .sent ≡ true
-        → (writtenIn S t ≡ []) ⊎ ((m : Message) × (isEvidence m ≡ true) × (t .unit .guilty ≡ 0) × (writtenIn S t ≡ render m))
+        → (writtenIn S t ≡ []) ⊎ ((m : Message) × (isEvidence m ≡ true) × (size (t .unit .guilty) < size (resultOf S t .unit .guilty)) × (writtenIn S t ≡ render m))
     unfolding kinds renderAll
     quiet-once-sent sent =
         let z = stop S u honest Any any t d .sound in
@@ -281,12 +316,21 @@ module _ (S : Setting) (u : Boat) (honest : IsHonest S u) where
         let submitted = confirmed-submitted checks Any (t .unit) (t .store) z confirmed in
         let ms = messages S t in
         let are = written-are S u honest Any any t d in
-        let alone = evidence-alone ms (omega (arith, kinds-all n ms (are .0), none-of SUBMIT submitted, none-of NOTICE confirmed, none-of FULL sent)) (counted-once EVIDENCE) in
+        let alone = evidence-alone ms (omega (arith, kinds-all n ms (are .0), none-of SUBMITTED submitted, none-of CONFIRMED confirmed, none-of SENT sent)) (here .packs) in
         ⊎-elim
         (λ e. inl (are .1 ∙ ap renderAll e))
-        (λ h. inr (h .0, h .1, innocent (h .0) (rw (h .2) (List·Memᴰ·head refl)) (h .1), are .1 ∙ ap renderAll (h .2) ∙ append-nil (render (h .0))))
+        (λ h. inr (h .0, h .1, pack-adds (h .0) (h .1) (h .2), are .1 ∙ ap renderAll (h .2) ∙ append-nil (render (h .0))))
         alone
 
-    -- after FULL and EVIDENCE, nothing is written
-    pub nothing-more : t .unit .sent ≡ true → t .unit .guilty ≢ 0 → writtenIn S t ≡ []
-    nothing-more sent guilty = ⊎-elim (λ e. e) (λ h. absurd (guilty (h .2))) (quiet-once-sent sent)
+    -- once FULL is sent and every seat of the first certificate is guilty, nothing is written
+    pub nothing-more : t .unit .sent ≡ true → ((seat : ℕ) → In seat (t .unit .first .seats) → In seat (t .unit .guilty)) → writtenIn S t ≡ []
+    nothing-more sent all =
+        ⊎-elim (λ e. e)
+        (λ h. absurd (
+        let at = stop S u honest Any any t d in
+        let r′ = resultOf S t .unit in
+        let stays = here .grows .first (at .settled .holds (at .sound .flags .confirmed sent) .0) in
+        let within = size-within (r′ .first .seats) (r′ .guilty) (guilty-held checks Any r′ (resultOf S t .store) (here .sound)) in
+        omega (arith, h .2, within, ap (λ (f : First). size (f .seats)) stays, size-within (t .unit .guilty) (t .unit .first .seats) all)
+        ))
+        (quiet-once-sent sent)

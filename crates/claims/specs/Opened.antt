@@ -3,22 +3,23 @@
 use mathlib.Core.Path.{_≡_, refl, sym, ap, subst}
 use mathlib.Core.List.{List}
 use Prim.Native.Nat.{ℕ}
+use Rattle.quorum.specs.QuorumLaws.{bit-empty, has-false}
 use Rattle.refusal.specs.Refusal.{unrefused}
 use Rattle.protocol.specs.Record.{fresh, InRange}
 use Rattle.protocol.specs.Calls.{openedBy, opening}
 use Rattle.protocol.specs.declared.Record.{Record}
 use Rattle.round.specs.Round.{Setting, IsHonest, Relation, Boat}
-use Rattle.round.specs.Demand1.{Kind, SUBMIT, NOTICE, FULL, EVIDENCE, worth}
-use Rattle.claims.specs.Sound.{flagOf, Settled, Sound}
+use Rattle.round.specs.Demand1.{worth}
+use Rattle.claims.specs.Sound.{Mark, SUBMITTED, CONFIRMED, SENT, NAMED, flagOf, Settled, Sound}
 use Rattle.claims.specs.NotRefused.{OpeningFit, opening-not-refused, Outside}
 use Rattle.claims.specs.UnrefusedLaws.{fresh-sound, fresh-settled}
 
-fresh-flag : (n seat round : ℕ) (κ : Kind) → worth (flagOf κ (fresh n seat round)) ≡ 0
+fresh-flag : (n seat round : ℕ) (μ : Mark) → worth (flagOf μ (fresh n seat round)) ≡ 0
 unfolding fresh worth
-fresh-flag n seat round SUBMIT = refl
-fresh-flag n seat round NOTICE = refl
-fresh-flag n seat round FULL = refl
-fresh-flag n seat round EVIDENCE = refl
+fresh-flag n seat round SUBMITTED = refl
+fresh-flag n seat round CONFIRMED = refl
+fresh-flag n seat round SENT = refl
+fresh-flag n seat round (NAMED other) = rw (has-false other 0 .1 (bit-empty other))
 
 module _ (S : Setting) (u : Boat) (honest : IsHonest S u) where
   open Setting S using (n, round, keys, checks)
@@ -51,9 +52,13 @@ module _ (S : Setting) (u : Boat) (honest : IsHonest S u) where
   unfolding fresh
   start-round = ap (λ (r : Record). r .round) opened-fresh
 
-  -- no flag is set at the start
-  pub start-unset : (κ : Kind) → worth (flagOf κ startOf) ≡ 0
-  start-unset κ = rw opened-fresh (fresh-flag n (u .seat) round κ)
+  -- no mark is set at the start, and no seat is guilty
+  pub start-unset : (μ : Mark) → worth (flagOf μ startOf) ≡ 0
+  start-unset μ = rw opened-fresh (fresh-flag n (u .seat) round μ)
+
+  pub start-innocent : startOf .guilty ≡ 0
+  unfolding fresh
+  start-innocent = ap (λ (r : Record). r .guilty) opened-fresh
 
   -- with any store
   pub start-sound : (W : Relation) (store : List ℕ) → Sound checks W startOf store

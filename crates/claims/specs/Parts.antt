@@ -1,10 +1,10 @@
--- The parts of a submit and a step: each leaves record and store sound, keeps values said, heard and held, and writes a message
--- exactly where its flag becomes set.
+-- The parts of a submit and a step: each leaves record and store sound, keeps values said and heard, the certificate held and the guilty
+-- seats, and writes a message exactly where its mark becomes set.
 -- Assumes nothing.
 use mathlib.Core.Path.{_≡_, refl, sym, ap, subst, _∙_}
 use mathlib.Core.Bool.{Bool, true, false, cond, not, _&&_, true≢false}
-use mathlib.Core.List.{List, [], _∷_, _++_}
-use mathlib.Core.Logic.{inl, inr, ⊎-elim, _≢_}
+use mathlib.Core.List.{List, [], _∷_, _++_, append-assoc, append-nil}
+use mathlib.Core.Logic.{_⊎_, inl, inr, ⊎-elim, _≢_}
 use Prim.Native.Nat.{ℕ, _+_, _^_, _≤_, _<_}
 use native.Mathlib.Omega.{arith}
 use native.Mathlib.Decide.{ℕ-discrete, decLt}
@@ -14,14 +14,15 @@ use lib.ListN.{length}
 use borrow.Author.Tests.{eqb-true, eqb-false, ne-eqb, not-true, not-false}
 use Rattle.octets.specs.Strings.{same}
 use Rattle.octets.specs.StringsLaws.{same-refl, same-true, same-false}
-use Rattle.quorum.specs.Quorum.{k, bit, In, has, size, shared, with, seats}
-use Rattle.quorum.specs.QuorumLaws.{bit-empty, bit-with-other, bit-with-same, has-false, bit-shared, same-seats, shared-lt, with-lt, size-empty, size-with-new, bit-outside, mem-seats, t0-below-third, k-of-n-share}
+use Rattle.quorum.specs.Quorum.{t0, k, bit, In, has, size, union, shared, less, with, seats}
+use Rattle.quorum.specs.QuorumLaws.{bit-lt-two, bit-cases, bit-empty, bit-with-other, bit-with-same, has-false, bit-union, bit-shared, bit-less, in-union, in-shared, in-less, same-seats, union-lt, shared-lt, less-lt, with-lt, size-empty, size-with-new, bit-outside, mem-seats, t0-below-third, k-of-n-share-most}
 use Rattle.refusal.specs.RefusalLaws.{both-true}
 use Rattle.protocol.specs.Layout.{valueLength, signatureLength, banks, storeLength, collectedBank, firstBank, keptBank, keptValueBank}
-use Rattle.protocol.specs.Message.{Pair, PairValues, Message, Submit, Notice, Full, Evidence, Garbled}
+use Rattle.protocol.specs.Entries.{formSeats}
+use Rattle.protocol.specs.Message.{ValuesEach, Message, Submit, Notice, Full, Evidence, Garbled, evidenceForm, entrySeats}
 use Rattle.protocol.specs.LayoutLaws.{collected-bank, first-bank, kept-bank, kept-value-bank}
-use Rattle.protocol.specs.Certificate.{Certificate, slot, fill, fillEach, ownCertificate, firstCertificate, fullOf, evidenceOf}
-use Rattle.protocol.specs.Record.{noneHeard, oneHeard, holds}
+use Rattle.protocol.specs.Certificate.{Certificate, slot, fill, fillEach, ownCertificate, firstCertificate, fullOf}
+use Rattle.protocol.specs.Record.{withGuilty, noneHeard, oneHeard, holds}
 use Rattle.protocol.specs.Refusals.{Checks, isFull, isEvidence}
 use Rattle.protocol.specs.Step.{State, write, collect, setOwnValue, submitOwn, isWanted, noticesWith, hear, otherHeard, owesFull, sendFull, reply, hold, found, blame, blames, holdOrBlame}
 use Rattle.protocol.specs.declared.Own.{Own}
@@ -29,16 +30,17 @@ use Rattle.protocol.specs.declared.First.{First}
 use Rattle.protocol.specs.declared.Notices.{Notices}
 use Rattle.protocol.specs.declared.Record.{Record}
 use Rattle.round.specs.Round.{Each, Relation}
-use Rattle.round.specs.Demand1.{Kind, SUBMIT, NOTICE, FULL, EVIDENCE, isOf, isSubmit, isNotice, worth}
-use Rattle.reading.specs.ListsLaws.{cond-elim, and-false-either, each-one, each-append, count-append, count-one}
+use Rattle.round.specs.Demand1.{isSubmit, isNotice, worth, count}
+use Rattle.reading.specs.ListsLaws.{cond-elim, and-false-either, worth-le-one, each-nil, each-one, each-append, count-append, count-nil, count-one}
 use Rattle.claims.specs.SlotsLaws.{fill-length, slot-fill-same, slot-fill-other, fillEach-length, slot-fillEach-other, slot-fillEach-same}
-use Rattle.claims.specs.Sound.{flagOf, Heard, Held, Grows, Room, Attested, Hearing, Certifies, Pairs, Collection, Holding, Keeping, Sound, Said, Good, Leads}
+use Rattle.claims.specs.Sound.{Heard, Held, Grows, Counts, Room, Attested, Hearing, Certifies, Collection, Holding, Keeping, Sound, Said, Good, Leads}
 use Rattle.claims.specs.CertificatesLaws.{entries-of, evidence-elim}
+use Rattle.claims.specs.PacksLaws.{counts-append, counts-none, counts-other, counts-pack}
 
 -- ---- growth of records
 
 pub grows-refl : (r : Record) → Grows r r
-grows-refl r = record { n = refl; seat = refl; round = refl; said = λ e. (e, refl); heard = λ v h. h; held = λ v h. h }
+grows-refl r = record { n = refl; seat = refl; round = refl; said = λ e. (e, refl); heard = λ v h. h; first = λ h. refl; guilty = λ t i. i }
 
 pub grows-trans : (r r′ r″ : Record) → Grows r r′ → Grows r′ r″ → Grows r r″
 grows-trans r r′ r″ a b = record {
@@ -47,8 +49,14 @@ grows-trans r r′ r″ a b = record {
   round = b .round ∙ a .round;
   said = λ e. let x = a .said e in let y = b .said (x .0) in (y .0, y .1 ∙ x .1);
   heard = λ v h. b .heard v (a .heard v h);
-  held = λ v h. b .held v (a .held v h);
+  first = λ h. b .first (λ e. h (sym (ap (λ (f : First). f .seats) (a .first h)) ∙ e)) ∙ a .first h;
+  guilty = λ t i. b .guilty t (a .guilty t i);
 }
+
+-- a certificate that was held or compared
+pub held-grows : (value : List ℕ) (seats : ℕ) (r r′ : Record) → Grows r r′ → Held value seats r → Held value seats r′
+held-grows value seats r r′ g h =
+    rw (g .first (h .0)) (h .0, ⊎-elim inl (λ compared. inr (λ s f i. g .guilty s (compared s f i))) (h .1))
 
 -- a fleet of one seat or more has a threshold of one or more
 pub k-pos : (n : ℕ) → 1 ≤ n → 1 ≤ k n
@@ -77,13 +85,6 @@ in-below n s m l i = go (decLt s n)
 pub shared-none : (m : ℕ) → shared 0 m ≡ 0
 unfolding shared
 shared-none m = and-zero-l m
-
--- a part that leaves every flag as it was
-pub same-flags : (r r′ : Record) → r′ .own .submitted ≡ r .own .submitted → r′ .confirmed ≡ r .confirmed → r′ .sent ≡ r .sent → r′ .guilty ≡ r .guilty → (κ : Kind) → flagOf κ r′ ≡ flagOf κ r
-same-flags r r′ a b c d SUBMIT = a
-same-flags r r′ a b c d NOTICE = b
-same-flags r r′ a b c d FULL = c
-same-flags r r′ a b c d EVIDENCE = rw d
 
 -- the three cases of one more value heard: the first, another one, or nothing new
 notices-elim : (P : Notices → Type 0) (value : List ℕ) (r : Record) → (r .notices .heard ≡ 0 → P (record { heard = 1; value = value }))
@@ -115,42 +116,51 @@ module _ (checks : Checks) (W : Relation) where
   good-grows r r′ g (Submit ρ seat value signature) h = (said-grows r r′ ρ seat value g (h .0), h .1)
   good-grows r r′ g (Notice ρ seat value) h = said-grows r r′ ρ seat value g h
   good-grows r r′ g (Full ρ sender value entries) h = (said-grows r r′ ρ sender value g (h .0), rw (g .n) (h .1))
-  good-grows r r′ g (Evidence ρ values entries) h = (h .0 ∙ sym (g .round), rw (g .n) (h .1))
+  good-grows r r′ g (Evidence ρ form entries) h = (h .0 ∙ sym (g .round), h .1, rw (g .n) (h .2))
   good-grows r r′ g Garbled h = h
 
-  pub leads-trans : (s s′ s″ : State) → Leads checks W s s′ → Leads checks W s′ s″ → Leads checks W s s″
-  leads-trans s s′ s″ a b = record {
+  pub leads-trans : (p q : ℕ) (s s′ s″ : State) → Leads checks W p s s′ → Leads checks W q s′ s″ → Leads checks W (p + q) s s″
+  leads-trans p q s s′ s″ a b = record {
     sound = b .sound;
     stored = b .stored ∙ a .stored;
     grows = grows-trans (s .unit) (s′ .unit) (s″ .unit) (a .grows) (b .grows);
-    counts = λ κ. let x = a .counts κ in let y = b .counts κ in omega arith;
-    good = λ h. b .good (a .good h);
+    added = a .added ++ b .added;
+    written = rw (b .written, a .written, append-assoc);
+    counts = counts-append (s .unit) (s′ .unit) (s″ .unit) (a .added) (b .added) (b .grows .n) (a .counts) (b .counts);
+    packs = omega (arith, a .packs, b .packs, count-append isEvidence (a .added) (b .added));
+    good = each-append (Good checks W (s″ .unit)) (a .added) (b .added) (λ m d. good-grows (s′ .unit) (s″ .unit) (b .grows) m (a .good m d)) (b .good);
   }
 
   -- room in a later state
-  pub room-leads : (s s′ : State) → Leads checks W s s′ → Room s → Room s′
-  room-leads s s′ a room = rw (a .stored, a .grows .n) room
+  pub room-leads : (p : ℕ) (s s′ : State) → Leads checks W p s s′ → Room s → Room s′
+  room-leads p s s′ a room = rw (a .stored, a .grows .n) room
 
-  -- a part that writes nothing and sets no flag
-  pub leads-quiet : (s s′ : State) → Sound checks W (s′ .unit) (s′ .store) → length (s′ .store) ≡ length (s .store) → Grows (s .unit) (s′ .unit) → s′ .written ≡ s .written
-      → ((κ : Kind) → flagOf κ (s′ .unit) ≡ flagOf κ (s .unit)) → Leads checks W s s′
-  leads-quiet s s′ sound stored grows e flags = record {
+  -- a part that writes nothing and sets no mark
+  pub leads-quiet : (p : ℕ) (s s′ : State) → Sound checks W (s′ .unit) (s′ .store) → length (s′ .store) ≡ length (s .store) → Grows (s .unit) (s′ .unit) → s′ .written ≡ s .written
+      → s′ .unit .own .submitted ≡ s .unit .own .submitted → s′ .unit .confirmed ≡ s .unit .confirmed → s′ .unit .sent ≡ s .unit .sent → s′ .unit .guilty ≡ s .unit .guilty → Leads checks W p s s′
+  leads-quiet p s s′ sound stored grows e a b c d = record {
     sound = sound;
     stored = stored;
     grows = grows;
-    counts = λ κ. rw (e, flags κ);
-    good = λ h. rw e (λ m d. good-grows (s .unit) (s′ .unit) grows m (h m d));
+    added = [];
+    written = e ∙ sym (append-nil (s .written));
+    counts = counts-none (s .unit) (s′ .unit) a b c d;
+    packs = omega (arith, count-nil isEvidence);
+    good = each-nil (Good checks W (s′ .unit));
   }
 
   -- a part that writes one message
-  pub leads-writing : (s s′ : State) (m : Message) → Sound checks W (s′ .unit) (s′ .store) → length (s′ .store) ≡ length (s .store) → Grows (s .unit) (s′ .unit) → s′ .written ≡ s .written ++ m ∷ []
-      → Good checks W (s′ .unit) m → ((κ : Kind) → worth (isOf κ m) + worth (flagOf κ (s .unit)) ≡ worth (flagOf κ (s′ .unit))) → Leads checks W s s′
-  leads-writing s s′ m sound stored grows e good flags = record {
+  pub leads-writing : (p : ℕ) (s s′ : State) (m : Message) → Sound checks W (s′ .unit) (s′ .store) → length (s′ .store) ≡ length (s .store) → Grows (s .unit) (s′ .unit) → s′ .written ≡ s .written ++ m ∷ []
+      → worth (isEvidence m) ≤ p → Good checks W (s′ .unit) m → Counts (s .unit) (m ∷ []) (s′ .unit) → Leads checks W p s s′
+  leads-writing p s s′ m sound stored grows e packs good counts = record {
     sound = sound;
     stored = stored;
     grows = grows;
-    counts = λ κ. rw e (omega (arith, count-append (isOf κ) (s .written) (m ∷ []), count-one (isOf κ) m, flags κ));
-    good = λ h. rw e (each-append (Good checks W (s′ .unit)) (s .written) (m ∷ []) (λ x d. good-grows (s .unit) (s′ .unit) grows x (h x d)) (each-one (Good checks W (s′ .unit)) m good));
+    added = m ∷ [];
+    written = e;
+    counts = counts;
+    packs = omega (arith, count-one isEvidence m);
+    good = each-one (Good checks W (s′ .unit)) m good;
   }
 
   -- ---- collect
@@ -216,7 +226,7 @@ module _ (checks : Checks) (W : Relation) where
   module _ (seat : ℕ) (value signature : List ℕ) (s : State) (z : Sound checks W (s .unit) (s .store)) (room : Room s) where
     -- "the value is the own one and the seat is new, its signature is collected"
     pub collect-leads : isWanted seat value (s .unit) ≡ true → s .unit .own .submitted ≡ true → (size (s .unit .own .collected) ≡ k (s .unit .n) → s .unit .confirmed ≡ true)
-        → seat < s .unit .n → Attested checks W seat value signature → Leads checks W s (collect seat signature s)
+        → seat < s .unit .n → Attested checks W seat value signature → Leads checks W 0 s (collect seat signature s)
     unfolding collect isWanted
     collect-leads wanted submitted complete inside g =
         let r = s .unit in
@@ -228,7 +238,7 @@ module _ (checks : Checks) (W : Relation) where
         let few : size (r .own .collected) ≢ k (r .n) = λ e. true≢false (sym (complete e) ∙ unconfirmed) in
         let attested : Attested checks W seat (r .own .value) signature = subst (λ (v : List ℕ). Attested checks W seat v signature) own g in
         let at-most : size (r .own .collected) ≤ k (r .n) = z .own .collection .few in
-        leads-quiet s (collect seat signature s)
+        leads-quiet 0 s (collect seat signature s)
         (record {
           range = z .range;
           own = record {
@@ -242,9 +252,8 @@ module _ (checks : Checks) (W : Relation) where
           kept = keeping-beside (r .n) seat (r .kept) signature (s .store) inside room (g .sized) (z .kept);
         })
         (fill-length (r .n) collectedBank seat signature (s .store) (collected-bank .0) inside room (g .sized ∙ sym (collected-bank .1)))
-        (record { n = refl; seat = refl; round = refl; said = λ e. (e, refl); heard = λ v h. h; held = λ v h. h })
-        refl
-        (same-flags r (collect seat signature s .unit) refl refl refl refl)
+        (record { n = refl; seat = refl; round = refl; said = λ e. (e, refl); heard = λ v h. h; first = λ h. refl; guilty = λ t i. i })
+        refl refl refl refl refl
       where
         go : Dec (s .unit .seat ≡ seat) → In (s .unit .seat) (with seat (s .unit .own .collected))
         go (yes e) = rw e (bit-with-same seat (s .unit .own .collected))
@@ -253,7 +262,7 @@ module _ (checks : Checks) (W : Relation) where
   -- ---- submit
 
   module _ (value signature : List ℕ) (s : State) (z : Sound checks W (s .unit) (s .store)) (room : Room s) where
-    pub submitOwn-leads : s .unit .own .submitted ≡ false → length value ≡ valueLength → Attested checks W (s .unit .seat) value signature → Leads checks W s (submitOwn value signature s)
+    pub submitOwn-leads : s .unit .own .submitted ≡ false → length value ≡ valueLength → Attested checks W (s .unit .seat) value signature → Leads checks W 0 s (submitOwn value signature s)
     unfolding submitOwn write collect setOwnValue isSubmit isNotice isFull isEvidence worth
     submitOwn-leads unsaid sized g =
         let r = s .unit in
@@ -268,7 +277,7 @@ module _ (checks : Checks) (W : Relation) where
           few = z .own .collection .few;
           attested = λ t i. absurd (let b : bit t (r .own .collected) ≡ 0 = rw empty (bit-empty t) in omega arith);
         } in
-        leads-writing s (submitOwn value signature s) (Submit (r .round) (r .seat) value signature)
+        leads-writing 0 s (submitOwn value signature s) (Submit (r .round) (r .seat) value signature)
         (record {
           range = z .range;
           own = record {
@@ -282,21 +291,16 @@ module _ (checks : Checks) (W : Relation) where
           kept = keeping-beside (r .n) (r .seat) (r .kept) signature (s .store) (z .range .seated) room (g .sized) (z .kept);
         })
         (fill-length (r .n) collectedBank (r .seat) signature (s .store) (collected-bank .0) (z .range .seated) room (g .sized ∙ sym (collected-bank .1)))
-        (record { n = refl; seat = refl; round = refl; said = λ e. absurd (true≢false (sym e ∙ unsaid)); heard = λ v h. h; held = λ v h. h })
+        (record { n = refl; seat = refl; round = refl; said = λ e. absurd (true≢false (sym e ∙ unsaid)); heard = λ v h. h; first = λ h. refl; guilty = λ t i. i })
         refl
+        (omega arith)
         (record { ofRound = refl; ofSeat = refl; ofValue = refl; submitted = refl; sized = sized }, g)
-        flags
-      where
-        flags : (κ : Kind) → worth (isOf κ (Submit (s .unit .round) (s .unit .seat) value signature)) + worth (flagOf κ (s .unit)) ≡ worth (flagOf κ (submitOwn value signature s .unit))
-        flags SUBMIT = rw unsaid
-        flags NOTICE = omega arith
-        flags FULL = omega arith
-        flags EVIDENCE = omega arith
+        (counts-other r (submitOwn value signature s .unit) (Submit (r .round) (r .seat) value signature) refl refl (rw unsaid) (omega arith) (omega arith))
 
   -- ---- hear
 
   module _ (value : List ℕ) (s : State) where
-    pub hear-leads : length value ≡ valueLength → Sound checks W (s .unit) (s .store) → Leads checks W s (hear value s)
+    pub hear-leads : length value ≡ valueLength → Sound checks W (s .unit) (s .store) → Leads checks W 0 s (hear value s)
     unfolding hear
     hear-leads sized z =
         let r = s .unit in
@@ -305,7 +309,7 @@ module _ (checks : Checks) (W : Relation) where
         (λ e. record { sized = sized; few = omega arith; unheard = λ q. absurd (omega arith) })
         (λ e d. record { sized = z .heard .sized; few = omega arith; unheard = λ q. absurd (omega arith) })
         (λ a b. z .heard) in
-        leads-quiet s (hear value s)
+        leads-quiet 0 s (hear value s)
         (record {
           range = z .range;
           own = z .own;
@@ -321,10 +325,10 @@ module _ (checks : Checks) (W : Relation) where
           round = refl;
           said = λ e. (e, refl);
           heard = λ v h. notices-elim (λ x. (x .heard ≢ 0) × (x .heard ≡ 1 → x .value ≡ v)) value r (λ e. absurd (h .0 e)) (λ e d. ((λ q. omega arith), λ q. absurd (omega arith))) (λ a b. h);
-          held = λ v h. h;
+          first = λ h. refl;
+          guilty = λ t i. i;
         })
-        refl
-        (same-flags r (hear value s .unit) refl refl refl refl)
+        refl refl refl refl refl
 
     pub hear-heard : Heard value (hear value s .unit)
     unfolding hear
@@ -346,10 +350,17 @@ module _ (checks : Checks) (W : Relation) where
   unfolding ownCertificate
   own-certifies r store z e = record { sized = z .own .collection .sized; below = z .own .collection .below; enough = e; attested = z .own .collection .attested }
 
+  pub first-enough : (r : Record) (store : List ℕ) → Sound checks W r store → r .first .seats ≢ 0 → size (r .first .seats) ≡ k (r .n)
+  first-enough r store z held = ⊎-elim (λ e. absurd (held e)) (λ e. e) (z .first .enough)
+
+  -- a guilty seat stands in the first certificate
+  pub guilty-held : (r : Record) (store : List ℕ) → Sound checks W r store → (seat : ℕ) → In seat (r .guilty) → In seat (r .first .seats)
+  guilty-held r store z seat i = in-shared seat (r .guilty) (r .first .seats) .0 (rw (z .first .guiltyWithin) i) .1
+
   first-certifies : (r : Record) (store : List ℕ) → Sound checks W r store → r .first .seats ≢ 0 → Certifies checks W (r .n) (firstCertificate r store)
   unfolding firstCertificate
   first-certifies r store z held =
-      record { sized = z .first .sized; below = z .first .below; enough = ⊎-elim (λ e. absurd (held e)) (λ e. e) (z .first .enough); attested = z .first .attested }
+      record { sized = z .first .sized; below = z .first .below; enough = first-enough r store z held; attested = z .first .attested }
 
   -- ---- reply
 
@@ -365,13 +376,13 @@ module _ (checks : Checks) (W : Relation) where
         let front = both-true (r .confirmed) (not (r .sent)) (both-true (r .confirmed && not (r .sent)) (otherHeard r) e .0) in
         (front .0, not-true (r .sent) (front .1))
 
-    sendFull-leads : owesFull (s .unit) ≡ true → Leads checks W s (sendFull s)
+    sendFull-leads : owesFull (s .unit) ≡ true → Leads checks W 0 s (sendFull s)
     unfolding sendFull write fullOf ownCertificate isSubmit isNotice isFull isEvidence worth
     sendFull-leads owes =
         let r = s .unit in
         let parts = owes-parts owes in
         let own = own-certifies r (s .store) z (z .flags .full (parts .0)) in
-        leads-writing s (sendFull s) (fullOf (r .n) (r .round) (r .seat) (ownCertificate r (s .store)))
+        leads-writing 0 s (sendFull s) (fullOf (r .n) (r .round) (r .seat) (ownCertificate r (s .store)))
         (record {
           range = z .range;
           own = z .own;
@@ -381,23 +392,18 @@ module _ (checks : Checks) (W : Relation) where
           kept = z .kept;
         })
         refl
-        (record { n = refl; seat = refl; round = refl; said = λ e. (e, refl); heard = λ v h. h; held = λ v h. h })
+        (record { n = refl; seat = refl; round = refl; said = λ e. (e, refl); heard = λ v h. h; first = λ h. refl; guilty = λ t i. i })
         refl
+        (omega arith)
         (record { ofRound = refl; ofSeat = refl; ofValue = refl; submitted = confirmed-submitted r (s .store) z (parts .0); sized = z .own .collection .sized }, entries-of checks W (r .n) (ownCertificate r (s .store)) own)
-        (flags (parts .1))
-      where
-        flags : s .unit .sent ≡ false → (κ : Kind) → worth (isOf κ (fullOf (s .unit .n) (s .unit .round) (s .unit .seat) (ownCertificate (s .unit) (s .store)))) + worth (flagOf κ (s .unit)) ≡ worth (flagOf κ (sendFull s .unit))
-        flags unsent SUBMIT = omega arith
-        flags unsent NOTICE = omega arith
-        flags unsent FULL = rw unsent
-        flags unsent EVIDENCE = omega arith
+        (counts-other r (sendFull s .unit) (fullOf (r .n) (r .round) (r .seat) (ownCertificate r (s .store))) refl refl (omega arith) (omega arith) (rw (parts .1)))
 
-    pub leads-refl : Leads checks W s s
-    leads-refl = leads-quiet s s z refl (grows-refl (s .unit)) refl (λ κ. refl)
+    pub leads-refl : (p : ℕ) → Leads checks W p s s
+    leads-refl p = leads-quiet p s s z refl (grows-refl (s .unit)) refl refl refl refl refl
 
-    pub reply-leads : Leads checks W s (reply s)
+    pub reply-leads : Leads checks W 0 s (reply s)
     unfolding reply
-    reply-leads = cond-elim (λ x. Leads checks W s x) (owesFull (s .unit)) (sendFull s) s sendFull-leads (λ e. leads-refl)
+    reply-leads = cond-elim (λ x. Leads checks W 0 s x) (owesFull (s .unit)) (sendFull s) s sendFull-leads (λ e. leads-refl 0)
 
   -- ---- hold or blame
 
@@ -408,13 +414,13 @@ module _ (checks : Checks) (W : Relation) where
     certificate-fit : Each (λ t. (t < s .unit .n) × (length (c .signature t) ≡ signatureLength)) (seats (s .unit .n) (c .seats))
     certificate-fit t d = let m = mem-seats (s .unit .n) t (c .seats) .0 d in (m .0, y .attested t (m .1) .sized)
 
-    hold-leads : s .unit .first .seats ≡ 0 → Leads checks W s (hold c s)
+    hold-leads : s .unit .first .seats ≡ 0 → Leads checks W 1 s (hold c s)
     unfolding hold
     hold-leads empty =
         let r = s .unit in
         let innocent : r .guilty ≡ 0 = z .first .unheld empty .1 in
         let store = fillEach (r .n) firstBank (c .signature) (seats (r .n) (c .seats)) (s .store) in
-        leads-quiet s (hold c s)
+        leads-quiet 1 s (hold c s)
         (record {
           range = z .range;
           own = record {
@@ -438,27 +444,53 @@ module _ (checks : Checks) (W : Relation) where
               (λ bank t a b l. slot-fillEach-other (r .n) firstBank (c .signature) first-bank (seats (r .n) (c .seats)) (s .store) bank t certificate-fit room b l (λ u d q _. omega arith));
         })
         (fillEach-length (r .n) firstBank (c .signature) first-bank (seats (r .n) (c .seats)) (s .store) certificate-fit room)
-        (record { n = refl; seat = refl; round = refl; said = λ e. (e, refl); heard = λ v h. h; held = λ v h. absurd (h .0 empty) })
-        refl
-        (same-flags r (hold c s .unit) refl refl refl refl)
+        (record { n = refl; seat = refl; round = refl; said = λ e. (e, refl); heard = λ v h. h; first = λ h. absurd (h empty); guilty = λ t i. i })
+        refl refl refl refl refl
 
-    -- "makes the shared seats guilty and EVIDENCE is written"
-    shared-some : s .unit .first .seats ≢ 0 → shared (s .unit .first .seats) (c .seats) ≢ 0
-    shared-some held e =
+    -- the seats newly found stand in both certificates, and none of them is guilty
+    found-in : (t : ℕ) → In t (found c (s .unit)) → In t (s .unit .first .seats) × In t (c .seats) × (bit t (s .unit .guilty) ≡ 0)
+    unfolding found
+    found-in t i =
         let r = s .unit in
-        let enough : size (r .first .seats) ≡ k (r .n) = ⊎-elim (λ q. absurd (held q)) (λ q. q) (z .first .enough) in
-        let many = k-of-n-share (r .n) (r .first .seats) (c .seats) (z .range .some) (z .first .below) (y .below) enough (y .enough) in
-        let none = ap size e ∙ size-empty in
-        omega arith
+        let new = in-less t (shared (r .first .seats) (c .seats)) (r .guilty) .0 i in
+        let both = in-shared t (r .first .seats) (c .seats) .0 (new .0) in
+        (both .0, both .1, new .1)
 
-    blame-leads : s .unit .first .seats ≢ 0 → s .unit .first .value ≢ c .value → s .unit .guilty ≡ 0 → Leads checks W s (blame c s)
-    unfolding blame found write firstCertificate isSubmit isNotice isFull isEvidence worth
-    blame-leads held other innocent =
+    -- a seat of both is guilty, or newly found
+    guilty-or-found : (t : ℕ) → In t (s .unit .first .seats) → In t (c .seats) → In t (s .unit .guilty) ⊎ In t (found c (s .unit))
+    unfolding found
+    guilty-or-found t f i =
+        let r = s .unit in
+        ⊎-elim (λ z. inr (in-less t (shared (r .first .seats) (c .seats)) (r .guilty) .1 (in-shared t (r .first .seats) (c .seats) .1 (f, i), z))) inl (bit-cases t (r .guilty))
+
+    found-below : found c (s .unit) < 2 ^ s .unit .n
+    unfolding found
+    found-below =
+        let r = s .unit in
+        less-lt (r .n) (shared (r .first .seats) (c .seats)) (r .guilty) (shared-lt (r .n) (r .first .seats) (c .seats) (z .first .below) (y .below)) (z .first .guiltyBelow)
+
+    -- while no seat is guilty, all that are shared are new, and these are all but t0 of k or more
+    found-large : s .unit .first .seats ≢ 0 → s .unit .guilty ≡ 0 → k (s .unit .n) ≤ size (found c (s .unit)) + t0 (s .unit .n)
+    unfolding found
+    found-large held innocent =
+        let r = s .unit in
+        let both = shared (r .first .seats) (c .seats) in
+        let all : less both (r .guilty) ≡ both = same-seats (less both (r .guilty)) both (λ t. omega (arith, bit-less t both (r .guilty), ap (bit t) innocent, bit-empty t)) in
+        rw all (k-of-n-share-most (r .n) (r .first .seats) (c .seats) (z .range .some) (z .first .below) (y .below) (first-enough r (s .store) z held) (y .enough))
+
+    -- "adds the seats that it shares, and EVIDENCE is written for those newly found"
+    blame-leads : s .unit .first .seats ≢ 0 → s .unit .first .value ≢ c .value → found c (s .unit) ≢ 0 → Leads checks W 1 s (blame c s)
+    unfolding blame write firstCertificate entrySeats formSeats evidenceForm
+    blame-leads held other some =
         let r = s .unit in
         let first = firstCertificate r (s .store) in
-        let guilty = shared (r .first .seats) (c .seats) in
-        let f = first-certifies r (s .store) z held in
-        leads-writing s (blame c s) (evidenceOf (r .n) (r .round) guilty first c)
+        let new = found c r in
+        let guilty = union (r .guilty) new in
+        evidence-elim checks W (r .n) first c (first-certifies r (s .store) z held) y
+        (λ m. Leads checks W 1 s (record { unit = withGuilty r guilty; store = s .store; written = s .written ++ m ∷ [] })) (r .round) other new found-below some (λ t i. let h = found-in t i in (h .0, h .1))
+        (λ ps p names.
+        let m = Evidence (r .round) ValuesEach ps in
+        leads-writing 1 s (record { unit = withGuilty r guilty; store = s .store; written = s .written ++ m ∷ [] }) m
         (record {
           range = z .range;
           own = z .own;
@@ -468,47 +500,55 @@ module _ (checks : Checks) (W : Relation) where
             below = z .first .below;
             enough = z .first .enough;
             attested = z .first .attested;
-            guiltyBelow = shared-lt (r .n) (r .first .seats) (c .seats) (z .first .below) (y .below);
-            guiltyWithin = same-seats (shared guilty (r .first .seats)) guilty (λ t. omega (arith, bit-shared t guilty (r .first .seats), bit-shared t (r .first .seats) (c .seats)));
+            guiltyBelow = union-lt (r .n) (r .guilty) new (z .first .guiltyBelow) found-below;
+            guiltyWithin = same-seats (shared guilty (r .first .seats)) guilty within;
             unheld = λ e. absurd (held e);
           };
           flags = z .flags;
           kept = z .kept;
         })
         refl
-        (record { n = refl; seat = refl; round = refl; said = λ e. (e, refl); heard = λ v h. h; held = λ v h. (held, ⊎-elim inl (λ g. absurd (g innocent)) (h .1)) })
+        (record { n = refl; seat = refl; round = refl; said = λ e. (e, refl); heard = λ v h. h; first = λ h. refl; guilty = λ t i. in-union t (r .guilty) new .1 (inl i) })
         refl
-        (evidence-elim checks W (r .n) first c (z .range .some) f y (Good checks W (blame c s .unit)) (r .round) other (λ values ps p. (refl, p)))
-        (evidence-elim checks W (r .n) first c (z .range .some) f y (λ m. (κ : Kind) → worth (isOf κ m) + worth (flagOf κ r) ≡ worth (flagOf κ (blame c s .unit))) (r .round) other flags)
+        (worth-le-one (isEvidence m))
+        (refl, refl, p)
+        (counts-pack r (withGuilty r guilty) (r .round) ValuesEach ps new names (λ t i. found-in t i .2) (found-large held) refl refl refl refl))
       where
-        flags : (values : PairValues) (ps : List Pair) → Pairs checks W (s .unit .n) values ps → (κ : Kind)
-            → worth (isOf κ (Evidence (s .unit .round) values ps)) + worth (flagOf κ (s .unit)) ≡ worth (flagOf κ (blame c s .unit))
-        flags values ps p SUBMIT = omega arith
-        flags values ps p NOTICE = omega arith
-        flags values ps p FULL = omega arith
-        flags values ps p EVIDENCE = rw (innocent, ne-eqb (shared (s .unit .first .seats) (c .seats)) 0 (shared-some held))
+        within : (t : ℕ) → bit t (shared (union (s .unit .guilty) (found c (s .unit))) (s .unit .first .seats)) ≡ bit t (union (s .unit .guilty) (found c (s .unit)))
+        within t =
+            let r = s .unit in
+            let new = found c r in
+            let of-new : bit t new ≤ bit t (r .first .seats) = ⊎-elim (λ e. omega arith) (λ i. let h = found-in t i .0 in omega arith) (bit-cases t new) in
+            omega (arith, bit-shared t (union (r .guilty) new) (r .first .seats), bit-union t (r .guilty) new, bit-shared t (r .guilty) (r .first .seats), ap (bit t) (z .first .guiltyWithin), bit-lt-two t (r .first .seats), bit-lt-two t new)
 
-    pub holdOrBlame-leads : Leads checks W s (holdOrBlame c s)
+    pub holdOrBlame-leads : Leads checks W 1 s (holdOrBlame c s)
     unfolding holdOrBlame blames holds
     holdOrBlame-leads =
         let r = s .unit in
         let same-value = same (c .value) (r .first .value) in
-        cond-elim (λ x. Leads checks W s x) (not (eqb (r .first .seats) 0)) (cond (not same-value && eqb (r .guilty) 0) (blame c s) s) (hold c s)
-        (λ held. cond-elim (λ x. Leads checks W s x) (not same-value && eqb (r .guilty) 0) (blame c s) s
-        (λ e. let both = both-true (not same-value) (eqb (r .guilty) 0) e in
-        blame-leads (eqb-false (r .first .seats) 0 (not-true (eqb (r .first .seats) 0) held)) (λ q. true≢false (sym (same-refl (c .value)) ∙ subst (λ (v : List ℕ). same (c .value) v ≡ false) q (not-true same-value (both .0)))) (eqb-true (r .guilty) 0 (both .1)))
-        (λ e. leads-refl s z))
+        let none = eqb (found c r) 0 in
+        cond-elim (λ x. Leads checks W 1 s x) (not (eqb (r .first .seats) 0)) (cond (not same-value && not none) (blame c s) s) (hold c s)
+        (λ held. cond-elim (λ x. Leads checks W 1 s x) (not same-value && not none) (blame c s) s
+        (λ e. let both = both-true (not same-value) (not none) e in
+        blame-leads (eqb-false (r .first .seats) 0 (not-true (eqb (r .first .seats) 0) held)) (λ q. true≢false (sym (same-refl (c .value)) ∙ subst (λ (v : List ℕ). same (c .value) v ≡ false) q (not-true same-value (both .0)))) (eqb-false (found c r) 0 (not-true none (both .1))))
+        (λ e. leads-refl s z 1))
         (λ empty. hold-leads (eqb-true (r .first .seats) 0 (not-false (eqb (r .first .seats) 0) empty)))
 
     -- the certificate is held, or compared with the one held
-    pub holdOrBlame-held : Held (c .value) (holdOrBlame c s .unit)
-    unfolding holdOrBlame blames holds hold blame found write
+    pub holdOrBlame-held : Held (c .value) (c .seats) (holdOrBlame c s .unit)
+    unfolding holdOrBlame blames holds hold blame write
     holdOrBlame-held =
         let r = s .unit in
+        let P : State → Type 0 = λ x. Held (c .value) (c .seats) (x .unit) in
         let same-value = same (c .value) (r .first .value) in
-        cond-elim (λ x. Held (c .value) (x .unit)) (not (eqb (r .first .seats) 0)) (cond (not same-value && eqb (r .guilty) 0) (blame c s) s) (hold c s)
+        let none = eqb (found c r) 0 in
+        cond-elim P (not (eqb (r .first .seats) 0)) (cond (not same-value && not none) (blame c s) s) (hold c s)
         (λ h. let held = eqb-false (r .first .seats) 0 (not-true (eqb (r .first .seats) 0) h) in
-        cond-elim (λ x. Held (c .value) (x .unit)) (not same-value && eqb (r .guilty) 0) (blame c s) s
-        (λ e. (held, inr (shared-some held)))
-        (λ e. (held, ⊎-elim (λ q. inl (sym (same-true (c .value) (r .first .value) (not-false same-value q)))) (λ q. inr (eqb-false (r .guilty) 0 q)) (and-false-either (not same-value) (eqb (r .guilty) 0) e))))
+        cond-elim P (not same-value && not none) (blame c s) s
+        (λ e. (held, inr (λ t f i. in-union t (r .guilty) (found c r) .1 (guilty-or-found t f i))))
+        (λ e. (
+          held,
+          ⊎-elim (λ q. inl (sym (same-true (c .value) (r .first .value) (not-false same-value q))))
+              (λ q. inr (λ t f i. ⊎-elim (λ g. g) (λ new. absurd (omega (arith, ap (bit t) (eqb-true (found c r) 0 (not-false none q)), bit-empty t))) (guilty-or-found t f i))) (and-false-either (not same-value) (not none) e),
+        )))
         (λ empty. (certificate-some, inl refl))

@@ -10,18 +10,19 @@ use native.Mathlib.Omega.{arith}
 use borrow.Author.Tests.{le-ltb, eq-eqb, not-false}
 use Rattle.refusal.specs.Refusal.{firstOf, unrefused}
 use Rattle.protocol.specs.Values.{isLower}
-use Rattle.protocol.specs.Entries.{Laid, formSeats}
-use Rattle.protocol.specs.Message.{Pair, PairValues, Message, Submit, Notice, Full, Evidence, Garbled, evidenceForm, render, renderAll, read, signed, entrySeats, WellFormed}
-use Rattle.protocol.specs.MessageLaws.{laid-values, read-render}
+use Rattle.protocol.specs.Entries.{formSeats}
+use Rattle.protocol.specs.Message.{Pair, PackForm, ValuesEach, Message, Submit, Notice, Full, Evidence, Garbled, evidenceForm, render, renderAll, read, signed, entrySeats, WellFormed}
+use Rattle.protocol.specs.MessageLaws.{read-render}
 use Rattle.protocol.specs.Certificate.{certificateIn, conflictOf}
-use Rattle.protocol.specs.Refusals.{Checks, isFull, isEvidence, notLowerFirst, makingConditions}
+use Rattle.protocol.specs.ConditionsLaws.{every-each}
+use Rattle.protocol.specs.Refusals.{Checks, isFull, isEvidence, lowerFirst, notLowerFirst, makingConditions}
 use Rattle.protocol.specs.Calls.{makingBy, making, made, checkedBy, evidenceCheck}
 use Rattle.protocol.specs.declared.Record.{Record}
 use Rattle.round.specs.Round.{Setting, IsHonest, Each, Relation, EachSigned, Call, BySubmit, ByStep, ByThinEntry, InHand, Boat, IsStep, Called, resultOf, StandsIn, listOf, Submits, WritesEvidence, makingOf, MakesEvidence, Names, AcceptedFrom, Delivered}
 use Rattle.round.specs.Demand3.{Takes, NoneForged, NoneBlamed}
 use Rattle.reading.specs.ListsLaws.{each-nil, each-one}
 use Rattle.claims.specs.Sound.{Any, Certifies, Pairs, Good}
-use Rattle.claims.specs.CertificatesLaws.{certifies-of, evidence-elim}
+use Rattle.claims.specs.CertificatesLaws.{certifies-of, conflict-elim}
 use Rattle.reading.specs.Reading.{Sized}
 use Rattle.reading.specs.ReadingLaws.{read-sized, are-unique}
 use Rattle.claims.specs.UnrefusedLaws.{Taken, signed-pairs, entries-taken}
@@ -41,18 +42,20 @@ lower-self (x ∷ v) = rw (le-ltb x x (omega arith), eq-eqb x x refl) (lower-sel
 lower-differs : (lower higher : List ℕ) → isLower lower higher ≡ true → lower ≢ higher
 lower-differs lower higher l e = true≢false (sym l ∙ subst (λ v. isLower v higher ≡ false) (sym e) (lower-self higher))
 
--- the lower value stands first in each pair, as in the message
-lower-first : (values : PairValues) (ps : List Pair) → Laid (evidenceForm values) ps → isLower (values .lower) (values .higher) ≡ true → Each (λ (p : Pair). isLower (p .lowerValue) (p .higherValue) ≡ true) ps
-lower-first values ps h l p d = let own = laid-values values ps h p d in rw (← own .0, ← own .1) l
-
 -- the only case of a message that is an EVIDENCE
-pub evidence-cases : (P : Message → Type 0) (m : Message) → isEvidence m ≡ true → ((ρ : ℕ) (values : PairValues) (ps : List Pair) → P (Evidence ρ values ps)) → P m
+pub evidence-cases : (P : Message → Type 0) (m : Message) → isEvidence m ≡ true → ((ρ : ℕ) (form : PackForm) (ps : List Pair) → P (Evidence ρ form ps)) → P m
 unfolding isEvidence
 evidence-cases P (Submit ρ seat value signature) e f = absurd (false≢true e)
 evidence-cases P (Notice ρ seat value) e f = absurd (false≢true e)
 evidence-cases P (Full ρ sender value es) e f = absurd (false≢true e)
-evidence-cases P (Evidence ρ values ps) e f = f ρ values ps
+evidence-cases P (Evidence ρ form ps) e f = f ρ form ps
 evidence-cases P Garbled e f = absurd (false≢true e)
+
+-- and of one that a unit wrote
+pub pack-cases : (checks : Checks) (W : Relation) (r : Record) (P : Message → Type 0) (m : Message) → isEvidence m ≡ true → Good checks W r m
+    → ((ps : List Pair) → Pairs checks W (r .n) ps → P (Evidence (r .round) ValuesEach ps)) → P m
+pack-cases checks W r P m e g f =
+    evidence-cases (λ x. Good checks W r x → P x) m e (λ ρ form ps h. rw (h .0, h .1) (f ps (h .2))) g
 
 -- the certificate of a FULL that a making of evidence takes
 pub certifies-in : (checks : Checks) (R : Relation) (n round : ℕ) (m : Message) → isFull m ≡ true → Taken checks n round m → Sized n m → EachSigned R m → Certifies checks R n (certificateIn m)
@@ -60,7 +63,7 @@ unfolding isFull certificateIn
 certifies-in checks R n round (Submit ρ seat value signature) e t l w = absurd (false≢true e)
 certifies-in checks R n round (Notice ρ seat value) e t l w = absurd (false≢true e)
 certifies-in checks R n round (Full ρ sender value es) e t l w = certifies-of checks R n value es (entries-taken checks R n round ρ sender value es t l w)
-certifies-in checks R n round (Evidence ρ values ps) e t l w = absurd (false≢true e)
+certifies-in checks R n round (Evidence ρ form ps) e t l w = absurd (false≢true e)
 certifies-in checks R n round Garbled e t l w = absurd (false≢true e)
 
 module _ (S : Setting) where
@@ -133,7 +136,8 @@ module _ (S : Setting) where
         (checks (p .seat) (p .lowerValue) (p .lower) ≡ true) × Backed j (p .seat) (p .lowerValue) (p .lower)
         × (checks (p .seat) (p .higherValue) (p .higher) ≡ true) × Backed j (p .seat) (p .higherValue) (p .higher)
 
-    not-both : (i : I) (p : Pair) → isLower (p .lowerValue) (p .higherValue) ≡ true → boat i .seat ≡ p .seat → Both i p → ⊥
+    not-both : (i : I) (p : Pair) → lowerFirst p ≡ true → boat i .seat ≡ p .seat → Both i p → ⊥
+    unfolding lowerFirst
     not-both i p l e h =
         let lower = p .lowerValue in
         let higher = p .higherValue in
@@ -142,19 +146,19 @@ module _ (S : Setting) where
         one-layout i lower higher l (submitted-of i lower (p .lower) (b .0) (b .1)) (submitted-of i higher (p .higher) (b .2) (b .3))
 
     -- the same for an entry that another unit has stored
-    unnamed-at : (i j : I) (p : Pair) → isLower (p .lowerValue) (p .higherValue) ≡ true → boat i .seat ≡ p .seat → checks (p .seat) (p .lowerValue) (p .lower) ≡ true → Backed j (p .seat) (p .lowerValue) (p .lower) → checks (p .seat) (p .higherValue) (p .higher) ≡ true → Backed j (p .seat) (p .higherValue) (p .higher) → ⊥
+    unnamed-at : (i j : I) (p : Pair) → lowerFirst p ≡ true → boat i .seat ≡ p .seat → checks (p .seat) (p .lowerValue) (p .lower) ≡ true → Backed j (p .seat) (p .lowerValue) (p .lower) → checks (p .seat) (p .higherValue) (p .higher) ≡ true → Backed j (p .seat) (p .higherValue) (p .higher) → ⊥
     unnamed-at i j p l e c (inl a) d (inl b) = not-both i p l e (c, inl a, d, inl b)
     unnamed-at i j p l e c (inr a) d b = not-both j p l (sym (a .0)) (c, inr a, d, b)
     unnamed-at i j p l e c (inl a) d (inr b) = not-both j p l (sym (b .0)) (c, inl a, d, inr b)
 
-    unnamed : (i j : I) (ps : List Pair) → Each (λ (p : Pair). isLower (p .lowerValue) (p .higherValue) ≡ true) ps → Each (Both j) ps → List·Memᴰ (boat i .seat) (map (λ (p : Pair). p .seat) ps) → ⊥
+    unnamed : (i j : I) (ps : List Pair) → Each (λ (p : Pair). lowerFirst p ≡ true) ps → Each (Both j) ps → List·Memᴰ (boat i .seat) (map (λ (p : Pair). p .seat) ps) → ⊥
     unnamed i j ps l h d =
         let m = Memᴰ·of-map (λ (p : Pair). p .seat) ps d in
         let b = h (m .0) (m .1) in
         unnamed-at i j (m .0) (l (m .0) (m .1)) (sym (m .2)) (b .0) (b .1) (b .2) (b .3)
 
-    backed-both : (j : I) (W : Relation) (size : ℕ) (values : PairValues) (ps : List Pair) → ((s : ℕ) (v g : List ℕ) → W s v g → Backed j s v g) → Pairs checks W size values ps → Each (Both j) ps
-    backed-both j W size values ps f z p d =
+    backed-both : (j : I) (W : Relation) (size : ℕ) (ps : List Pair) → ((s : ℕ) (v g : List ℕ) → W s v g → Backed j s v g) → Pairs checks W size ps → Each (Both j) ps
+    backed-both j W size ps f z p d =
         (z .lows p d .checked, f (p .seat) (p .lowerValue) (p .lower) (z .lows p d .worthy), z .highs p d .checked, f (p .seat) (p .higherValue) (p .higher) (z .highs p d .worthy))
 
     -- ---- the three kinds of evidence
@@ -169,9 +173,9 @@ module _ (S : Setting) where
         let stands = w .writes .stands in
         let end = endOf S (boat j) (honest j) in
         let good = writes-good S (boat j) (honest j) (Backed j) (backed j) m (w .writes) in
-        evidence-cases (λ x. Good checks (Backed j) end x → List·Memᴰ (boat i .seat) (entrySeats x) → ⊥) m (w .kind)
-        (λ ρ values ps g e. unnamed i j ps (lower-first values ps (g .1 .laid) (g .1 .ordered)) (backed-both j (Backed j) (end .n) values ps (λ s v h b. b) (g .1)) e)
-        good (named-in m evidence (boat i .seat) (stands .1 .0 m (stands .2)) (w .bytes) d)
+        pack-cases checks (Backed j) end (λ x. List·Memᴰ (boat i .seat) (entrySeats x) → ⊥) m (w .kind) good
+        (λ ps z e. unnamed i j ps (z .ordered) (backed-both j (Backed j) (end .n) ps (λ s v h b. b) z) e)
+        (named-in m evidence (boat i .seat) (stands .1 .0 m (stands .2)) (w .bytes) d)
 
     making-refused : (h : InHand) (q : ℕ) → firstOf (conditions h) ≡ suc q → makingOf S h ≡ renderAll []
     unfolding unrefused renderAll
@@ -182,7 +186,7 @@ module _ (S : Setting) where
     making-number h e = e
 
     making-unnamed : (i j : I) (h : InHand) (m : Message) → List·Memᴰ h (boat j .inHand) → firstOf (conditions h) ≡ 0 → StandsIn n m (makingOf S h) → List·Memᴰ (boat i .seat) (entrySeats m) → ⊥
-    unfolding unrefused renderAll entrySeats formSeats evidenceForm conflictOf
+    unfolding unrefused renderAll entrySeats formSeats evidenceForm
     making-unnamed i j h m d e stands named =
         let a = read n (h .a) in
         let b = read n (h .b) in
@@ -191,12 +195,12 @@ module _ (S : Setting) where
         let ca = certifies-in checks R n round a (t .firstFull) (t .first) (read-sized n (h .a)) (r .0) in
         let cb = certifies-in checks R n round b (t .secondFull) (t .second) (read-sized n (h .b)) (r .1) in
         let bytes : makingOf S h ≡ render (evidenceFrom h) = making-bytes h ∙ rw e in
-        evidence-elim checks R n (certificateIn a) (certificateIn b) (t .outside .some) ca cb (λ x. makingOf S h ≡ render x → ⊥) round (t .conflict)
-        (λ values ps z is.
-        let x = Evidence round values ps in
-        let only = are-unique n (makingOf S h) (stands .0) (x ∷ []) (stands .1) (each-one (WellFormed n) x (pairs-formed checks R n round values ps (t .outside .inTime) z), is ∙ sym (append-nil (render x))) in
+        conflict-elim checks R n (certificateIn a) (certificateIn b) ca cb (λ x. makingOf S h ≡ render x → ⊥) round (t .conflict) (t .outside .some)
+        (λ ps z names enough is.
+        let x = Evidence round ValuesEach ps in
+        let only = are-unique n (makingOf S h) (stands .0) (x ∷ []) (stands .1) (each-one (WellFormed n) x (pairs-formed checks R n round ps (t .outside .inTime) z), is ∙ sym (append-nil (render x))) in
         let same : m ≡ x = List·Memᴰ·eq-of-singleton (subst (λ ms. List·Memᴰ m ms) only (stands .2)) in
-        unnamed i j ps (lower-first values ps (z .laid) (z .ordered)) (backed-both j R n values ps (λ s v g w. inl w) z) (subst (λ y. List·Memᴰ (boat i .seat) (entrySeats y)) same named))
+        unnamed i j ps (z .ordered) (backed-both j R n ps (λ s v g w. inl w) z) (subst (λ y. List·Memᴰ (boat i .seat) (entrySeats y)) same named))
         bytes
 
     made-safe : (i j : I) (evidence : List ℕ) → MakesEvidence S (boat j) evidence → Names S evidence (boat i .seat) → ⊥
@@ -214,14 +218,14 @@ module _ (S : Setting) where
     unfolding evidenceCheck checkedBy entrySeats formSeats evidenceForm notLowerFirst signed
     accepted-safe i evidence a d =
         let t = evidence-not-refused checks n round keys evidence .0 (a .0) in
-        evidence-cases (λ x. Taken checks n round x → notLowerFirst x ≡ false → Sized n x → EachSigned R x → List·Memᴰ (boat i .seat) (entrySeats x) → ⊥) (read n evidence) (t .isOne)
-        (λ ρ values ps taken low sized r e.
-        unnamed i i ps (lower-first values ps sized (not-false _ low))
+        evidence-cases (λ x. Taken checks n round x → notLowerFirst x ≡ false → EachSigned R x → List·Memᴰ (boat i .seat) (entrySeats x) → ⊥) (read n evidence) (t .isOne)
+        (λ ρ form ps taken low r e.
+        unnamed i i ps (every-each lowerFirst ps (not-false _ low))
         (λ p m.
         let c = signed-pairs (λ s v g. checks s v g ≡ true) ps .0 (taken .checked) p m in
         let b = signed-pairs R ps .0 r p m in
         (c .0, inl (b .0), c .1, inl (b .1))) e)
-        (t .message) (t .conflict) (read-sized n evidence) (a .1) d
+        (t .message) (t .conflict) (a .1) d
 
 -- ---- the claim
 

@@ -2,27 +2,27 @@
 -- a record from call to call.
 -- Assumes nothing.
 use mathlib.Core.Path.{_≡_}
-use mathlib.Core.Bool.{Bool, true, false, not}
-use mathlib.Core.List.{List, map}
+use mathlib.Core.Bool.{Bool, true, false, cond}
+use mathlib.Core.List.{List, [], _∷_, _++_, map}
 use mathlib.Core.Logic.{_⊎_, _≢_}
 use Prim.Native.Nat.{ℕ, _+_, _^_, _≤_, _<_}
-use lib.Dec.{eqb}
 use lib.ListN.{length}
-use Rattle.quorum.specs.Quorum.{t0, k, In, size, shared}
+use Rattle.quorum.specs.Quorum.{t0, k, In, has, size, shared}
 use Rattle.protocol.specs.Record.{InRange}
 use Rattle.protocol.specs.Layout.{valueLength, signatureLength, storeLength, collectedBank, firstBank}
-use Rattle.protocol.specs.Values.{unset, isLower}
-use Rattle.protocol.specs.Message.{Entry, Pair, PairValues, Message, Submit, Notice, Full, Evidence, Garbled, evidenceForm, ValuesFormed}
+use Rattle.protocol.specs.Values.{unset}
+use Rattle.protocol.specs.Message.{Entry, Pair, ValuesEach, Message, Submit, Notice, Full, Evidence, Garbled, evidenceForm, entrySeats}
 use Rattle.protocol.specs.Entries.{Laid}
 use Rattle.protocol.specs.Certificate.{Certificate, slot, keptValue, keptSignature, setOf}
-use Rattle.protocol.specs.Refusals.{Checks, rising}
+use Rattle.protocol.specs.Refusals.{Checks, isFull, isEvidence, rising, lowerFirst}
 use Rattle.protocol.specs.Step.{State, owesFull}
 use Rattle.protocol.specs.declared.Own.{Own}
 use Rattle.protocol.specs.declared.Notices.{Notices}
 use Rattle.protocol.specs.declared.First.{First}
 use Rattle.protocol.specs.declared.Record.{Record}
 use Rattle.round.specs.Round.{Each, Relation}
-use Rattle.round.specs.Demand1.{Kind, SUBMIT, NOTICE, FULL, EVIDENCE, isOf, worth, count}
+use Rattle.round.specs.Demand1.{isSubmit, isNotice, worth, count}
+use Rattle.round.specs.Culprits.{packNames}
 
 -- ---- growth of a record
 
@@ -30,29 +30,65 @@ use Rattle.round.specs.Demand1.{Kind, SUBMIT, NOTICE, FULL, EVIDENCE, isOf, wor
 abbrev pub Heard : List ℕ → Record → Type 0
 Heard value r = (r .notices .heard ≢ 0) × (r .notices .heard ≡ 1 → r .notices .value ≡ value)
 
--- a certificate of the value has been held, or compared with the one held
-abbrev pub Held : List ℕ → Record → Type 0
-Held value r = (r .first .seats ≢ 0) × ((r .first .value ≡ value) ⊎ (r .guilty ≢ 0))
+-- a certificate, by its value and its seats, has been held, or compared with the one held: the seats that the two share are guilty
+abbrev pub Held : List ℕ → ℕ → Record → Type 0
+Held value seats r =
+    (r .first .seats ≢ 0) × ((r .first .value ≡ value) ⊎ ((s : ℕ) → In s (r .first .seats) → In s seats → In s (r .guilty)))
 
--- values said, heard and held stay
+-- values said and heard, the first certificate held and the guilty seats stay
 pub record Grows (r r′ : Record) : Type 0 where
   pub n : r′ .n ≡ r .n
   pub seat : r′ .seat ≡ r .seat
   pub round : r′ .round ≡ r .round
   pub said : r .own .submitted ≡ true → (r′ .own .submitted ≡ true) × (r′ .own .value ≡ r .own .value)
   pub heard : (value : List ℕ) → Heard value r → Heard value r′
-  pub held : (value : List ℕ) → Held value r → Held value r′
+  pub first : r .first .seats ≢ 0 → r′ .first ≡ r .first
+  pub guilty : (s : ℕ) → In s (r .guilty) → In s (r′ .guilty)
 
--- a record's flag for messages of this kind sent
-abbrev pub flagOf : Kind → Record → Bool
-flagOf SUBMIT r = r .own .submitted
-flagOf NOTICE r = r .confirmed
-flagOf FULL r = r .sent
-flagOf EVIDENCE r = not (eqb (r .guilty) 0)
+-- ---- messages written
 
--- a message is written exactly where its flag becomes set
-abbrev pub Counts : Record → List Message → Record → Type 0
-Counts r ms r′ = (κ : Kind) → count (isOf κ) ms + worth (flagOf κ r) ≡ worth (flagOf κ r′)
+-- a record's marks for messages written: SUBMIT, NOTICE, FULL, and for each seat a pack that names it
+pub data Mark : Type 0 where
+  SUBMITTED CONFIRMED SENT : Mark
+  NAMED : (seat : ℕ) → Mark
+
+-- messages that set a mark
+abbrev pub sets : Mark → Message → Bool
+sets SUBMITTED m = isSubmit m
+sets CONFIRMED m = isNotice m
+sets SENT m = isFull m
+sets (NAMED seat) m = packNames seat m
+
+-- the record has the mark
+abbrev pub flagOf : Mark → Record → Bool
+flagOf SUBMITTED r = r .own .submitted
+flagOf CONFIRMED r = r .confirmed
+flagOf SENT r = r .sent
+flagOf (NAMED seat) r = has seat (r .guilty)
+
+-- number of seats that a message names, if it is a pack; and over messages, pack by pack
+unfoldable pub packSize : Message → ℕ
+packSize m = cond (isEvidence m) (size (setOf (entrySeats m))) 0
+
+unfoldable pub packSizes : List Message → ℕ
+packSizes [] = 0
+packSizes (m ∷ ms) = packSize m + packSizes ms
+
+-- the first pack among messages names all but t0 of k seats, or more
+unfoldable pub LargeFirst : ℕ → List Message → Type 0
+LargeFirst n [] = Unit {0}
+LargeFirst n (m ∷ ms) = (isEvidence m ≡ true → k n ≤ packSize m + t0 n) × (isEvidence m ≡ false → LargeFirst n ms)
+
+-- messages written since a time when no seat was guilty: while there is no pack among them, none is
+pub record Begun (r : Record) (ms : List Message) : Type 0 where
+  pub large : LargeFirst (r .n) ms
+  pub innocent : count isEvidence ms ≡ 0 → r .guilty ≡ 0
+
+-- a message is written exactly where its mark becomes set, and packs name as many seats as become guilty
+pub record Counts (r : Record) (ms : List Message) (r′ : Record) : Type 0 where
+  pub marked : (μ : Mark) → count (sets μ) ms + worth (flagOf μ r) ≡ worth (flagOf μ r′)
+  pub named : packSizes ms + size (r .guilty) ≡ size (r′ .guilty)
+  pub begun : r .guilty ≡ 0 → Begun r′ ms
 
 -- the relation that holds of every signature
 abbrev pub Any : Relation
@@ -77,7 +113,7 @@ pub record Flags (n collected : ℕ) (isConfirmed isSent : Bool) : Type 0 where
 
 pub record Settled (r : Record) : Type 0 where
   pub complete : size (r .own .collected) ≡ k (r .n) → r .confirmed ≡ true
-  pub holds : r .confirmed ≡ true → Held (r .own .value) r
+  pub holds : r .confirmed ≡ true → Held (r .own .value) (r .own .collected) r
   pub owes : owesFull r ≡ false
   -- "then the kept seats are empty" (document 02, item 1)
   pub emptied : r .own .submitted ≡ true → r .kept ≡ 0
@@ -114,12 +150,10 @@ module _ (checks : Checks) (W : Relation) where
     pub below : Each (λ (e : Entry). e .seat < n) es
     pub attested : Each (λ (e : Entry). Attested (e .seat) value (e .signature)) es
 
-  -- the entries of an EVIDENCE
-  pub record Pairs (n : ℕ) (values : PairValues) (ps : List Pair) : Type 0 where
-    pub formed : ValuesFormed values
-    pub laid : Laid (evidenceForm values) ps
-    pub ordered : isLower (values .lower) (values .higher) ≡ true
-    pub named : t0 n + 1 ≤ size (setOf (map (λ (p : Pair). p .seat) ps))
+  -- the entries of an EVIDENCE that a unit writes
+  pub record Pairs (n : ℕ) (ps : List Pair) : Type 0 where
+    pub laid : Laid (evidenceForm ValuesEach) ps
+    pub ordered : Each (λ (p : Pair). lowerFirst p ≡ true) ps
     pub some : 1 ≤ length ps
     pub few : length ps ≤ k n
     pub rise : rising (map (λ (p : Pair). p .seat) ps) ≡ true
@@ -173,14 +207,18 @@ module _ (checks : Checks) (W : Relation) where
   Good r (Submit ρ seat value signature) = Said r ρ seat value × Attested seat value signature
   Good r (Notice ρ seat value) = Said r ρ seat value
   Good r (Full ρ sender value entries) = Said r ρ sender value × Entries (r .n) value entries
-  Good r (Evidence ρ values entries) = (ρ ≡ r .round) × Pairs (r .n) values entries
+  Good r (Evidence ρ form entries) = (ρ ≡ r .round) × (form ≡ ValuesEach) × Pairs (r .n) entries
   Good r Garbled = ⊥
 
   -- ---- from one state of a call to a later one
 
-  pub record Leads (s s′ : State) : Type 0 where
+  -- with as many packs written in between, or fewer
+  pub record Leads (most : ℕ) (s s′ : State) : Type 0 where
     pub sound : Sound (s′ .unit) (s′ .store)
     pub stored : length (s′ .store) ≡ length (s .store)
     pub grows : Grows (s .unit) (s′ .unit)
-    pub counts : (κ : Kind) → count (isOf κ) (s′ .written) + worth (flagOf κ (s .unit)) ≡ count (isOf κ) (s .written) + worth (flagOf κ (s′ .unit))
-    pub good : Each (Good (s .unit)) (s .written) → Each (Good (s′ .unit)) (s′ .written)
+    pub added : List Message
+    pub written : s′ .written ≡ s .written ++ added
+    pub counts : Counts (s .unit) added (s′ .unit)
+    pub packs : count isEvidence added ≤ most
+    pub good : Each (Good (s′ .unit)) added

@@ -1,26 +1,29 @@
 -- An honest unit's list, the calls that count: it starts from the record with nothing set, and its calls write messages one after another.
 -- Assumes nothing.
-use mathlib.Core.Path.{_≡_, subst, _∙_}
+use mathlib.Core.Path.{_≡_, sym, ap, subst, _∙_}
 use mathlib.Core.Bool.{true}
-use mathlib.Core.List.{List, List·Memᴰ}
+use mathlib.Core.List.{List, [], List·Memᴰ}
 use Prim.Native.Nat.{ℕ, _≤_}
 use native.Mathlib.Omega.{arith}
 use Rattle.quorum.specs.Quorum.{k}
-use Rattle.protocol.specs.Message.{Pair, PairValues, Message, Submit, Notice, Full, Evidence, Garbled, WellFormed}
+use Rattle.protocol.specs.Message.{Pair, ValuesEach, Message, Submit, Notice, Full, Evidence, Garbled, read, WellFormed}
 use Rattle.protocol.specs.Record.{lastRound, InRange}
-use Rattle.protocol.specs.Refusals.{Checks}
+use Rattle.protocol.specs.Refusals.{Checks, isEvidence}
+use Rattle.protocol.specs.Step.{State, stepped}
 use Rattle.protocol.specs.declared.Record.{Record}
-use Rattle.round.specs.Round.{Setting, IsHonest, Each, Relation, Call, Boat, Called, resultOf, writtenIn, Are, StandsIn, listFrom, nowOf, listOf, Writes}
-use Rattle.round.specs.Demand1.{Kind, isOf, writtenOver}
+use Rattle.round.specs.Round.{Setting, IsHonest, Each, Relation, Call, Boat, Called, resultOf, writtenIn, writtenOver, Are, StandsIn, listFrom, nowOf, listOf, Writes, StepGiven}
+use Rattle.round.specs.Demand1.{worth, count}
 use Rattle.reading.specs.ListsLaws.{worth-le-one, worth-true, true-of-worth, count-pos, count-member}
-use Rattle.claims.specs.Sound.{Any, flagOf, Grows, Pairs, Good}
+use Rattle.claims.specs.Sound.{Any, Mark, sets, flagOf, LargeFirst, Grows, Room, Settled, Pairs, Sound, Good}
 use Rattle.claims.specs.CertificatesLaws.{entries-laid}
 use Rattle.claims.specs.Parts.{grows-trans, good-grows}
+use Rattle.claims.specs.Whole.{Brings}
+use Rattle.claims.specs.NotRefused.{step-fit, brings}
 use Rattle.reading.specs.ReadingLaws.{are-unique}
 use Rattle.reading.specs.Messages.{messages, allMessages}
-use Rattle.reading.specs.MessagesLaws.{all-member, member-all, written-is, list-are}
+use Rattle.reading.specs.MessagesLaws.{step-is, unrefused-result, all-member, member-all, written-is, list-are}
 use Rattle.claims.specs.Journey.{lastOf, leftBy, Worthy, any-worthy, At, Journey, journey}
-use Rattle.claims.specs.Opened.{startOf, start-n, start-seat, start-round, start-unset, start-sound, start-settled}
+use Rattle.claims.specs.Opened.{startOf, start-n, start-seat, start-round, start-unset, start-innocent, start-sound, start-settled}
 use Rattle.claims.specs.Power.{list-is-unbroken}
 
 -- ---- form of the messages that a unit writes
@@ -29,10 +32,10 @@ k-le : (n : ℕ) → k n ≤ n
 unfolding k
 k-le n = omega arith
 
-pub pairs-formed : (checks : Checks) (W : Relation) (n round : ℕ) (values : PairValues) (ps : List Pair) → round ≤ lastRound → Pairs checks W n values ps → WellFormed n (Evidence round values ps)
-pairs-formed checks W n round values ps early z = (
+pub pairs-formed : (checks : Checks) (W : Relation) (n round : ℕ) (ps : List Pair) → round ≤ lastRound → Pairs checks W n ps → WellFormed n (Evidence round ValuesEach ps)
+pairs-formed checks W n round ps early z = (
   omega arith,
-  z .formed,
+  tt,
   z .some,
   (let f = z .few in let h = k-le n in omega arith),
   z .laid,
@@ -43,13 +46,13 @@ good-formed checks W r (Submit ρ seat value signature) range g = (rw (g .0 .ofR
 good-formed checks W r (Notice ρ seat value) range g = (rw (g .ofRound) (let e = range .dated in omega arith), g .sized)
 good-formed checks W r (Full ρ sender value es) range g =
     (rw (g .0 .ofRound) (let e = range .dated in omega arith), g .0 .sized, g .1 .many, entries-laid checks W (r .n) value es (g .1))
-good-formed checks W r (Evidence ρ values ps) range g = pairs-formed checks W (r .n) ρ values ps (rw (g .0) (range .dated)) (g .1)
+good-formed checks W r (Evidence ρ form ps) range g = rw (g .1) (pairs-formed checks W (r .n) ρ ps (rw (g .0) (range .dated)) (g .2))
 good-formed checks W r Garbled range g = absurd g
 
 -- ---- the unit
 
 module _ (S : Setting) (u : Boat) (honest : IsHonest S u) where
-  open Setting S using (n, round, checks)
+  open Setting S using (n, round, keys, checks)
 
   abbrev start : Record
   start = startOf S u honest
@@ -106,20 +109,33 @@ module _ (S : Setting) (u : Boat) (honest : IsHonest S u) where
     pub end-round : endOf .round ≡ round
     end-round = trip .grows .round ∙ start-round S u honest
 
-    -- a message that the list writes is one of its messages
+    -- a message that the list writes is one of its messages, and the other way round
     pub written-member : (m : Message) → Writes S u m → List·Memᴰ m (allMessages S ts)
     written-member m h = all-member S ts (h .call) m (h .inList) (stands-message (h .call) (h .inList) m (h .stands))
 
-    -- a message is written in the list exactly where its flag is set at the end
-    pub written-flag : (κ : Kind) (m : Message) → isOf κ m ≡ true → Writes S u m → flagOf κ endOf ≡ true
-    written-flag κ m is h =
-        true-of-worth (flagOf κ endOf) (omega (arith, count-pos (isOf κ) (allMessages S ts) m (written-member m h) is, trip .counts κ, worth-le-one (flagOf κ endOf)))
+    pub member-written : (m : Message) → List·Memᴰ m (allMessages S ts) → Writes S u m
+    member-written m d =
+        let h = member-all S ts m d in
+        record { call = h .0; inList = h .1; stands = (messages S (h .0), written-are (h .0) (h .1), h .2) }
 
-    pub flag-written : (κ : Kind) → flagOf κ endOf ≡ true → (m : Message) × (isOf κ m ≡ true) × Writes S u m
-    flag-written κ e =
-        let c = count-member (isOf κ) (allMessages S ts) (omega (arith, trip .counts κ, start-unset S u honest κ, worth-true (flagOf κ endOf) e)) in
-        let h = member-all S ts (c .0) (c .1) in
-        (c .0, c .2, record { call = h .0; inList = h .1; stands = (messages S (h .0), written-are (h .0) (h .1), h .2) })
+    -- how many messages of the list set a mark: one where the unit has it at the end, and none where it doesn't
+    pub marked-at-end : (μ : Mark) → count (sets μ) (allMessages S ts) ≡ worth (flagOf μ endOf)
+    marked-at-end μ = omega (arith, trip .counts .marked μ, start-unset S u honest μ)
+
+    -- the first pack of the list names all but t0 of k seats, and without a pack no seat is guilty
+    pub begun-at-end : LargeFirst n (allMessages S ts) × (count isEvidence (allMessages S ts) ≡ 0 → endOf .guilty ≡ 0)
+    begun-at-end =
+        let b = trip .counts .begun (start-innocent S u honest) in
+        (subst (λ i. LargeFirst i (allMessages S ts)) end-n (b .large), b .innocent)
+
+    pub written-flag : (μ : Mark) (m : Message) → sets μ m ≡ true → Writes S u m → flagOf μ endOf ≡ true
+    written-flag μ m is h =
+        true-of-worth (flagOf μ endOf) (omega (arith, count-pos (sets μ) (allMessages S ts) m (written-member m h) is, marked-at-end μ, worth-le-one (flagOf μ endOf)))
+
+    pub flag-written : (μ : Mark) → flagOf μ endOf ≡ true → (m : Message) × (sets μ m ≡ true) × Writes S u m
+    flag-written μ e =
+        let c = count-member (sets μ) (allMessages S ts) (omega (arith, marked-at-end μ, worth-true (flagOf μ endOf) e)) in
+        (c .0, c .2, member-written (c .0) (c .1))
 
     pub writes-good : (m : Message) → Writes S u m → Good checks W endOf m
     writes-good m h = stands-good (h .call) (h .inList) m (h .stands)
@@ -127,3 +143,24 @@ module _ (S : Setting) (u : Boat) (honest : IsHonest S u) where
   -- all bytes that the list writes
   pub all-are : Are n (writtenOver S ts) (allMessages S ts)
   all-are = list-are S n ts (λ t d. written-are Any (any-worthy S ts) t d)
+
+  -- a fact about the list's messages is one about every reading of these bytes
+  pub by-messages : (P : List Message → Type 0) → P (allMessages S ts) → (ms : List Message) → Are n (writtenOver S ts) ms → P ms
+  by-messages P p ms a = rw (are-unique n (writtenOver S ts) ms (allMessages S ts) a all-are) p
+
+  -- a fact about the record after a step that isn't refused, by its message: where later calls keep it, it is one about the record that the
+  -- unit has
+  pub step-end : (bytes : List ℕ) (g : StepGiven S u bytes) → resultOf S (g .call) .refusal ≡ 0 → (m : Message) → read n bytes ≡ m → (P : Record → Type 0) → ((r r′ : Record) → Grows r r′ → P r → P r′)
+      → ((s : State) → Sound checks Any (s .unit) (s .store) → Room s → Settled (s .unit) → Brings checks Any (s .unit) m → P (stepped m s .unit)) → P endOf
+  step-end bytes g q m reads P grows f =
+      let t = g .call in
+      let r = t .unit in
+      let s : State = record { unit = r; store = t .store; written = [] } in
+      let at = stop Any (any-worthy S ts) t (g .inList) in
+      let is = step-is S (t .given) bytes (g .out) r (t .store) (g .isStep) in
+      let result = unrefused-result S t q in
+      let fit = step-fit checks keys r (t .store) bytes (g .out) (sym (is .0) ∙ result .0) in
+      let here : read (r .n) bytes ≡ m = ap (λ i. read i bytes) (at .since .n ∙ start-n S u honest) ∙ reads in
+      let came : resultOf S t .unit ≡ stepped m s .unit = result .1 ∙ ap (λ (x : State). x .unit) (is .1) ∙ ap (λ x. stepped x s .unit) here in
+      grows (resultOf S t .unit) endOf (at .before)
+      (subst P (sym came) (f s (at .sound) (fit .lent .storeRoom) (at .settled) (subst (Brings checks Any r) here (brings checks keys r (t .store) bytes (g .out) Any fit (λ x d. tt)))))

@@ -21,7 +21,7 @@ use Rattle.protocol.specs.Values.{unset}
 use Rattle.protocol.specs.Entries.{formSeats}
 use Rattle.protocol.specs.EntriesLaws.{each-flat}
 use Rattle.protocol.specs.ConditionsLaws.{every-each, each-every}
-use Rattle.protocol.specs.Message.{Entry, Pair, PairValues, Message, Full, Evidence, fullForm, evidenceForm, Signed, signedEntry, signedPair, signed, roundOf, entrySeats, seatsOf}
+use Rattle.protocol.specs.Message.{Entry, Pair, ValuesEach, Message, Full, Evidence, fullForm, evidenceForm, Signed, signedEntry, signedPair, signed, roundOf, entrySeats, seatsOf}
 use Rattle.protocol.specs.Record.{fresh, wrongSeat, noneHeard, holds, outOfRange, wrongHeard, namesStranger, wrongCollected, wrongFirst, lacksFirst, wrongGuilty, wrongSent, wrongKept, wrongUnset, impossible, InRange}
 use Rattle.protocol.specs.Refusals.{Condition, Checks, every, said, otherRound, stranger, rising, disorder, badSignature, messageConditions}
 use Rattle.protocol.specs.Step.{owesFull}
@@ -234,9 +234,9 @@ module _ (checks : Checks) (W : Relation) where
     checked = signed-entries (λ s v g. checks s v g ≡ true) value es .1 (λ e d. z .attested e d .checked);
   }
 
-  pub evidence-taken : (n ρ : ℕ) (values : PairValues) (ps : List Pair) → Pairs checks W n values ps → Taken checks n ρ (Evidence ρ values ps)
+  pub evidence-taken : (n ρ : ℕ) (ps : List Pair) → Pairs checks W n ps → Taken checks n ρ (Evidence ρ ValuesEach ps)
   unfolding roundOf signed seatsOf entrySeats formSeats evidenceForm
-  evidence-taken n ρ values ps z = record {
+  evidence-taken n ρ ps z = record {
     inRound = refl;
     inside = each-map (λ s. s < n) (λ (p : Pair). p .seat) ps (z .below);
     rises = z .rise;

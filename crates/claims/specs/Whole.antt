@@ -1,14 +1,15 @@
 -- A whole submit and a whole step, from the laws of their parts.
 -- Assumes nothing.
 use mathlib.Core.Path.{_≡_, refl, sym, ap, _∙_}
-use mathlib.Core.Bool.{true, false, cond, not, and-false, true≢false}
+use mathlib.Core.Bool.{true, false, cond, not, _&&_, and-false, true≢false}
 use mathlib.Core.List.{List}
 use mathlib.Core.Logic.{⊎-elim}
-use Prim.Native.Nat.{ℕ, _+_, _<_}
+use Prim.Native.Nat.{ℕ, _<_}
 use native.Mathlib.Omega.{arith}
 use lib.Dec.{eqb}
 use lib.ListN.{length}
 use borrow.Author.Tests.{eqb-true, eqb-false, not-true, not-false}
+use Rattle.octets.specs.Strings.{same}
 use Rattle.quorum.specs.Quorum.{k, has, size}
 use Rattle.refusal.specs.RefusalLaws.{both-true}
 use Rattle.protocol.specs.Layout.{valueLength}
@@ -19,12 +20,13 @@ use Rattle.protocol.specs.Refusals.{Checks, isFull, isEvidence}
 use Rattle.protocol.specs.Step.{State, write, collect, setOwnValue, submitOwn, isWanted, collectIfWanted, keep, keepIfFirst, hearSubmit, collectKept, hear, otherHeard, owesFull, sendFull, reply, hold, blame, blames, holdOrBlame, hearCertificate, isComplete, confirm, hearOwn, confirmIfComplete, submitted, stepped}
 use Rattle.protocol.specs.declared.Record.{Record}
 use Rattle.round.specs.Round.{Relation}
-use Rattle.round.specs.Demand1.{Kind, SUBMIT, NOTICE, FULL, EVIDENCE, isOf, isSubmit, isNotice, worth}
+use Rattle.round.specs.Demand1.{isSubmit, isNotice, worth}
 use Rattle.reading.specs.ListsLaws.{cond-elim, and-false-either}
-use Rattle.claims.specs.Sound.{flagOf, Heard, Held, Grows, Room, Settled, Attested, Certifies, Entries, Sound, Leads}
+use Rattle.claims.specs.Sound.{Heard, Held, Grows, Room, Settled, Attested, Certifies, Entries, Sound, Leads}
 use Rattle.claims.specs.CertificatesLaws.{certifies-of}
 use Rattle.claims.specs.KeptLaws.{keep-leads, collectKept-leads, collectKept-confirmed, collectKept-emptied}
-use Rattle.claims.specs.Parts.{k-pos, room-leads, leads-trans, leads-writing, leads-refl, collect-leads, submitOwn-leads, hear-leads, hear-heard, reply-leads, holdOrBlame-leads, holdOrBlame-held, own-certifies, collected-submitted, confirmed-submitted}
+use Rattle.claims.specs.PacksLaws.{counts-other}
+use Rattle.claims.specs.Parts.{k-pos, held-grows, room-leads, leads-trans, leads-writing, leads-refl, collect-leads, submitOwn-leads, hear-leads, hear-heard, reply-leads, holdOrBlame-leads, holdOrBlame-held, own-certifies, collected-submitted, confirmed-submitted}
 
 -- ---- parts of a record that hearing leaves as they are
 
@@ -93,7 +95,7 @@ step-submits-none (Submit ρ seat value signature) s =
     ap (λ o. o .submitted) (completing-stays (hearSubmit seat value signature s)) ∙ hears-stays seat value signature s
 step-submits-none (Notice ρ seat value) s = ap (λ o. o .submitted) (reply-stays (hear value s) .own ∙ hear-stays value s .own)
 step-submits-none (Full ρ sender value entries) s = ap (λ o. o .submitted) (hearing-stays (certificateIn (Full ρ sender value entries)) s .own)
-step-submits-none (Evidence ρ values entries) s = refl
+step-submits-none (Evidence ρ form entries) s = refl
 step-submits-none Garbled s = refl
 
 hearing-owes : (c : Certificate) (s : State) → owesFull (hearCertificate c s .unit) ≡ false
@@ -104,15 +106,20 @@ submitOwn-confirmed : (value signature : List ℕ) (s : State) → submitOwn val
 unfolding submitOwn write collect setOwnValue
 submitOwn-confirmed value signature s = refl
 
-collect-held : (seat : ℕ) (signature : List ℕ) (s : State) → (s .unit .confirmed ≡ true → Held (s .unit .own .value) (s .unit))
-    → collect seat signature s .unit .confirmed ≡ true → Held (collect seat signature s .unit .own .value) (collect seat signature s .unit)
-unfolding collect
-collect-held seat signature s held e = held e
+-- the certificate of a unit that has confirmed is held, or was compared with the one held
+abbrev OwnHeld : Record → Type 0
+OwnHeld r = r .confirmed ≡ true → Held (r .own .value) (r .own .collected) r
 
-keep-held : (seat : ℕ) (value signature : List ℕ) (s : State) → (s .unit .confirmed ≡ true → Held (s .unit .own .value) (s .unit))
-    → keep seat value signature s .unit .confirmed ≡ true → Held (keep seat value signature s .unit .own .value) (keep seat value signature s .unit)
+collect-held : (seat : ℕ) (value signature : List ℕ) (s : State) → isWanted seat value (s .unit) ≡ true → OwnHeld (collect seat signature s .unit)
+unfolding collect isWanted
+collect-held seat value signature s wanted e =
+    let r = s .unit in
+    let front = both-true (not (r .confirmed) && same value (r .own .value)) (not (has seat (r .own .collected))) wanted .0 in
+    absurd (true≢false (sym e ∙ not-true (r .confirmed) (both-true (not (r .confirmed)) (same value (r .own .value)) front .0)))
+
+keep-held : (seat : ℕ) (value signature : List ℕ) (s : State) → OwnHeld (s .unit) → OwnHeld (keep seat value signature s .unit)
 unfolding keep
-keep-held seat value signature s held e = held e
+keep-held seat value signature s held = held
 
 -- after a submission no seat is kept
 abbrev NoneKept : Record → Type 0
@@ -133,51 +140,50 @@ module _ (checks : Checks) (W : Relation) where
   -- ---- a certificate heard
 
   module _ (c : Certificate) (s : State) (z : Sound checks W (s .unit) (s .store)) (room : Room s) (y : Certifies checks W (s .unit .n) c) where
-    heard-leads : Leads checks W s (reply (hear (c .value) s))
+    heard-leads : Leads checks W 0 s (reply (hear (c .value) s))
     heard-leads =
         let a = hear-leads checks W (c .value) s (y .sized) z in
-        leads-trans checks W s (hear (c .value) s) (reply (hear (c .value) s)) a (reply-leads checks W (hear (c .value) s) (a .sound))
+        leads-trans checks W 0 0 s (hear (c .value) s) (reply (hear (c .value) s)) a (reply-leads checks W (hear (c .value) s) (a .sound))
 
     heard-certifies : Certifies checks W (reply (hear (c .value) s) .unit .n) c
     heard-certifies = rw (heard-leads .grows .n) y
 
     heard-room : Room (reply (hear (c .value) s))
-    heard-room = room-leads checks W s (reply (hear (c .value) s)) heard-leads room
+    heard-room = room-leads checks W 0 s (reply (hear (c .value) s)) heard-leads room
 
-    hearing-leads : Leads checks W s (hearCertificate c s)
+    hearing-leads : Leads checks W 1 s (hearCertificate c s)
     unfolding hearCertificate
     hearing-leads =
-        leads-trans checks W s (reply (hear (c .value) s)) (hearCertificate c s) heard-leads (holdOrBlame-leads checks W c (reply (hear (c .value) s)) (heard-leads .sound) heard-room heard-certifies)
+        leads-trans checks W 0 1 s (reply (hear (c .value) s)) (hearCertificate c s) heard-leads (holdOrBlame-leads checks W c (reply (hear (c .value) s)) (heard-leads .sound) heard-room heard-certifies)
 
-    hearing-held : Held (c .value) (hearCertificate c s .unit)
+    hearing-held : Held (c .value) (c .seats) (hearCertificate c s .unit)
     unfolding hearCertificate
     hearing-held = holdOrBlame-held checks W c (reply (hear (c .value) s)) (heard-leads .sound) heard-room heard-certifies
 
   -- ---- at the end of a call
 
   pub record Done (s s′ : State) : Type 0 where
-    pub leads : Leads checks W s s′
+    pub leads : Leads checks W 1 s s′
     pub settled : Settled (s′ .unit)
 
   -- a record stays settled where own value, collected seats, confirmed and kept seats stay
-  settled-stays : (r r′ : Record) → Grows r r′ → Stays r r′ → owesFull r′ ≡ false → (size (r .own .collected) ≡ k (r .n) → r .confirmed ≡ true) → (r .confirmed ≡ true → Held (r .own .value) r)
-      → NoneKept r → Settled r′
+  settled-stays : (r r′ : Record) → Grows r r′ → Stays r r′ → owesFull r′ ≡ false → (size (r .own .collected) ≡ k (r .n) → r .confirmed ≡ true) → OwnHeld r → NoneKept r → Settled r′
   settled-stays r r′ g t owes complete held none = record {
     complete = λ e. t .confirmed ∙ complete (sym (ap (λ o. size (o .collected)) (t .own)) ∙ e ∙ ap k (g .n));
-    holds = λ e. rw (t .own) (g .held (r .own .value) (held (sym (t .confirmed) ∙ e)));
+    holds = λ e. rw (t .own) (held-grows (r .own .value) (r .own .collected) r r′ g (held (sym (t .confirmed) ∙ e)));
     owes = owes;
     emptied = none-stays r r′ t none;
   }
 
   module _ (s : State) (z : Sound checks W (s .unit) (s .store)) (room : Room s) where
-    confirm-leads : isComplete (s .unit) ≡ true → Leads checks W s (confirm s)
+    confirm-leads : isComplete (s .unit) ≡ true → Leads checks W 0 s (confirm s)
     unfolding confirm write isComplete isSubmit isNotice isFull isEvidence worth
     confirm-leads e =
         let r = s .unit in
         let both = both-true (not (r .confirmed)) (eqb (size (r .own .collected)) (k (r .n))) e in
         let full = eqb-true (size (r .own .collected)) (k (r .n)) (both .1) in
         let pos = k-pos (r .n) (z .range .some) in
-        leads-writing checks W s (confirm s) (Notice (r .round) (r .seat) (r .own .value))
+        leads-writing checks W 0 s (confirm s) (Notice (r .round) (r .seat) (r .own .value))
         (record {
           range = z .range;
           own = z .own;
@@ -187,16 +193,11 @@ module _ (checks : Checks) (W : Relation) where
           kept = z .kept;
         })
         refl
-        (record { n = refl; seat = refl; round = refl; said = λ q. (q, refl); heard = λ v h. h; held = λ v h. h })
+        (record { n = refl; seat = refl; round = refl; said = λ q. (q, refl); heard = λ v h. h; first = λ h. refl; guilty = λ t i. i })
         refl
+        (omega arith)
         (record { ofRound = refl; ofSeat = refl; ofValue = refl; submitted = collected-submitted checks W r (s .store) z (omega arith); sized = z .own .collection .sized })
-        (flags (not-true (r .confirmed) (both .0)))
-      where
-        flags : s .unit .confirmed ≡ false → (κ : Kind) → worth (isOf κ (Notice (s .unit .round) (s .unit .seat) (s .unit .own .value))) + worth (flagOf κ (s .unit)) ≡ worth (flagOf κ (confirm s .unit))
-        flags unconfirmed SUBMIT = omega arith
-        flags unconfirmed NOTICE = rw unconfirmed
-        flags unconfirmed FULL = omega arith
-        flags unconfirmed EVIDENCE = omega arith
+        (counts-other r (confirm s .unit) (Notice (r .round) (r .seat) (r .own .value)) refl refl (omega arith) (rw (not-true (r .confirmed) (both .0))) (omega arith))
 
     complete-size : isComplete (s .unit) ≡ true → size (s .unit .own .collected) ≡ k (s .unit .n)
     unfolding isComplete
@@ -222,11 +223,11 @@ module _ (checks : Checks) (W : Relation) where
         let c = ownCertificate (t .unit) (t .store) in
         let a = confirm-leads e in
         let y : Certifies checks W (t .unit .n) c = own-certifies checks W (t .unit) (t .store) (a .sound) (confirm-size e) in
-        let roomy = room-leads checks W s t a room in
+        let roomy = room-leads checks W 0 s t a room in
         let b = hearing-leads c t (a .sound) roomy y in
         let stays = hearing-stays c t in
         record {
-          leads = leads-trans checks W s t (hearOwn t) a b;
+          leads = leads-trans checks W 0 1 s t (hearOwn t) a b;
           settled = record {
             complete = λ q. stays .confirmed ∙ confirm-confirmed;
             holds = λ q. rw (stays .own) (hearing-held c t (a .sound) roomy y);
@@ -235,25 +236,25 @@ module _ (checks : Checks) (W : Relation) where
           };
         }
 
-    unconfirmed-done : isComplete (s .unit) ≡ false → (s .unit .confirmed ≡ true → Held (s .unit .own .value) (s .unit)) → NoneKept (s .unit) → Done s (reply s)
+    unconfirmed-done : isComplete (s .unit) ≡ false → OwnHeld (s .unit) → NoneKept (s .unit) → Done s (reply s)
     unfolding isComplete
     unconfirmed-done e held none =
         let r = s .unit in
         let a = reply-leads checks W s z in
         let complete : size (r .own .collected) ≡ k (r .n) → r .confirmed ≡ true =
         λ q. ⊎-elim (not-false (r .confirmed)) (λ p. absurd (eqb-false (size (r .own .collected)) (k (r .n)) p q)) (and-false-either (not (r .confirmed)) (eqb (size (r .own .collected)) (k (r .n))) e) in
-        record { leads = a; settled = settled-stays r (reply s .unit) (a .grows) (reply-stays s) (reply-owes s) complete held none }
+        record { leads = leads-trans checks W 0 1 s (reply s) (reply s) a (leads-refl checks W (reply s) (a .sound) 1); settled = settled-stays r (reply s .unit) (a .grows) (reply-stays s) (reply-owes s) complete held none }
 
-    confirmIfComplete-done : (s .unit .confirmed ≡ true → Held (s .unit .own .value) (s .unit)) → NoneKept (s .unit) → Done s (confirmIfComplete s)
+    confirmIfComplete-done : OwnHeld (s .unit) → NoneKept (s .unit) → Done s (confirmIfComplete s)
     unfolding confirmIfComplete
     confirmIfComplete-done held none =
         cond-elim (Done s) (isComplete (s .unit)) (hearOwn (confirm s)) (reply s) (λ e. confirmed-done e none) (λ e. unconfirmed-done e held none)
 
   -- a part of a call, and then the confirmation where k seats are collected
-  then-done : (s s′ : State) → Leads checks W s s′ → Room s → (s′ .unit .confirmed ≡ true → Held (s′ .unit .own .value) (s′ .unit)) → NoneKept (s′ .unit) → Done s (confirmIfComplete s′)
+  then-done : (s s′ : State) → Leads checks W 0 s s′ → Room s → OwnHeld (s′ .unit) → NoneKept (s′ .unit) → Done s (confirmIfComplete s′)
   then-done s s′ a room held none =
-      let b = confirmIfComplete-done s′ (a .sound) (room-leads checks W s s′ a room) held none in
-      record { leads = leads-trans checks W s s′ (confirmIfComplete s′) a (b .leads); settled = b .settled }
+      let b = confirmIfComplete-done s′ (a .sound) (room-leads checks W 0 s s′ a room) held none in
+      record { leads = leads-trans checks W 0 1 s s′ (confirmIfComplete s′) a (b .leads); settled = b .settled }
 
   -- ---- submit and step
 
@@ -261,11 +262,11 @@ module _ (checks : Checks) (W : Relation) where
     abbrev own : State
     own = submitOwn value signature s
 
-    own-leads : Leads checks W s own
+    own-leads : Leads checks W 0 s own
     own-leads = submitOwn-leads checks W value signature s z room unsaid sized g
 
     own-room : Room own
-    own-room = room-leads checks W s own own-leads room
+    own-room = room-leads checks W 0 s own own-leads room
 
     own-said : own .unit .own .submitted ≡ true
     unfolding submitOwn write collect setOwnValue
@@ -280,7 +281,7 @@ module _ (checks : Checks) (W : Relation) where
     own-done = then-done own (collectKept own) (collectKept-leads checks W own (own-leads .sound) own-room own-said) own-room (λ q. absurd (unconfirmed q)) (λ q. collectKept-emptied own)
 
     pub submitted-done : Done s (submitted value signature s)
-    submitted-done = record { leads = leads-trans checks W s own (submitted value signature s) own-leads (own-done .leads); settled = own-done .settled }
+    submitted-done = record { leads = leads-trans checks W 0 1 s own (submitted value signature s) own-leads (own-done .leads); settled = own-done .settled }
 
     -- "the value kept"
     pub submitted-value : (submitted value signature s .unit .own .submitted ≡ true) × (submitted value signature s .unit .own .value ≡ value)
@@ -292,7 +293,7 @@ module _ (checks : Checks) (W : Relation) where
   Brings r (Submit ρ seat value signature) = (seat < r .n) × (length value ≡ valueLength) × Attested checks W seat value signature
   Brings r (Notice ρ seat value) = length value ≡ valueLength
   Brings r (Full ρ sender value entries) = Entries checks W (r .n) value entries
-  Brings r (Evidence ρ values entries) = Unit {0}
+  Brings r (Evidence ρ form entries) = Unit {0}
   Brings r Garbled = Unit {0}
 
   module _ (s : State) (z : Sound checks W (s .unit) (s .store)) (room : Room s) (e : Settled (s .unit)) where
@@ -301,7 +302,7 @@ module _ (checks : Checks) (W : Relation) where
     unfolding collectIfWanted
     wanted-done seat value signature submitted inside g =
         cond-elim (λ x. Done s (confirmIfComplete x)) (isWanted seat value (s .unit)) (collect seat signature s) s
-        (λ w. then-done s (collect seat signature s) (collect-leads checks W seat value signature s z room w submitted (e .complete) inside g) room (collect-held seat signature s (e .holds)) (collect-none seat signature s (e .emptied)))
+        (λ w. then-done s (collect seat signature s) (collect-leads checks W seat value signature s z room w submitted (e .complete) inside g) room (collect-held seat value signature s w) (collect-none seat signature s (e .emptied)))
         (λ w. confirmIfComplete-done s z room (e .holds) (e .emptied))
 
     -- and one heard before it
@@ -326,17 +327,17 @@ module _ (checks : Checks) (W : Relation) where
         let a = hear-leads checks W value s w z in
         let b = reply-leads checks W (hear value s) (a .sound) in
         let t = reply (hear value s) in
-        let c = leads-trans checks W s (hear value s) t a b in
+        let c = leads-trans checks W 0 0 s (hear value s) t a b in
         record {
-          leads = c;
+          leads = leads-trans checks W 0 1 s t t c (leads-refl checks W t (c .sound) 1);
           settled = settled-stays (s .unit) (t .unit) (c .grows) (stays-trans (s .unit) (hear value s .unit) (t .unit) (hear-stays value s) (reply-stays (hear value s))) (reply-owes (hear value s)) (e .complete) (e .holds) (e .emptied);
         }
     stepped-done (Full ρ sender value entries) w =
         let c = certificateIn (Full ρ sender value entries) in
         let a = hearing-leads c s z room (certifies-of checks W (s .unit .n) value entries w) in
         record { leads = a; settled = settled-stays (s .unit) (hearCertificate c s .unit) (a .grows) (hearing-stays c s) (hearing-owes c s) (e .complete) (e .holds) (e .emptied) }
-    stepped-done (Evidence ρ values entries) w = record { leads = leads-refl checks W s z; settled = e }
-    stepped-done Garbled w = record { leads = leads-refl checks W s z; settled = e }
+    stepped-done (Evidence ρ form entries) w = record { leads = leads-refl checks W s z 1; settled = e }
+    stepped-done Garbled w = record { leads = leads-refl checks W s z 1; settled = e }
 
     -- a NOTICE taken is heard, and a FULL taken is held or compared
     pub notice-heard : (ρ seat : ℕ) (value : List ℕ) → length value ≡ valueLength → Heard value (stepped (Notice ρ seat value) s .unit)
@@ -344,6 +345,6 @@ module _ (checks : Checks) (W : Relation) where
     notice-heard ρ seat value sized =
         reply-leads checks W (hear value s) (hear-leads checks W value s sized z .sound) .grows .heard value (hear-heard checks W value s)
 
-    pub full-held : (ρ sender : ℕ) (value : List ℕ) (es : List Entry) → Entries checks W (s .unit .n) value es → Held value (stepped (Full ρ sender value es) s .unit)
+    pub full-held : (ρ sender : ℕ) (value : List ℕ) (es : List Entry) → Entries checks W (s .unit .n) value es → Held value (certificateOf value es .seats) (stepped (Full ρ sender value es) s .unit)
     unfolding stepped certificateIn certificateOf
     full-held ρ sender value es w = hearing-held (certificateOf value es) s z room (certifies-of checks W (s .unit .n) value es w)

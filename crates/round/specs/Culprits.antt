@@ -14,6 +14,10 @@ use Rattle.protocol.specs.declared.Record.{Record}
 use Rattle.round.specs.Round.{Setting, Boat, Each, resultOf, nowOf, listOf, Are, writtenOver, Writes, StepGiven}
 use Rattle.round.specs.Demand1.{worth, count, Apart}
 
+-- the message is a pack that names the seat
+abbrev pub packNames : ℕ → Message → Bool
+packNames seat m = isEvidence m && has seat (setOf (entrySeats m))
+
 module _ (S : Setting) where
   open Setting S using (n)
 
@@ -51,10 +55,6 @@ module _ (S : Setting) where
   GuiltyInFirst u = (seat : ℕ) → In seat (unitOf u .guilty) → In seat (unitOf u .first .seats)
 
   -- ---- the packs that name them
-
-  -- the message is a pack that names the seat
-  abbrev pub packNames : ℕ → Message → Bool
-  packNames seat m = isEvidence m && has seat (setOf (entrySeats m))
 
   -- a guilty seat stands in one pack that the unit's list writes, and any other seat in none
   abbrev pub GuiltyOnce : Boat → Type 0
