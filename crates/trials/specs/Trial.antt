@@ -126,7 +126,7 @@ module _ (S : Setting) (u : Boat) where
 
   -- whether each of these seats stands in one pack if it is guilty, and in none otherwise
   abbrev pub inOnePack : ℕ → Bool
-  inOnePack seat = eqb (count (packNames S seat) (all S u)) (worth (has seat (unitOf S u .guilty)))
+  inOnePack seat = eqb (count (packNames seat) (all S u)) (worth (has seat (unitOf S u .guilty)))
 
   unfoldable pub guiltyOnce : List ℕ → Trial (IsHonest S u → GuiltyOnce S u)
   guiltyOnce tried = record {
@@ -136,7 +136,7 @@ module _ (S : Setting) (u : Boat) where
         let both = both-true (isHonest S u) (formed S (all S u)) p in
         let f = every-false inOnePack tried c in
         let seat = f .0 in
-        true≢false (sym (eq-eqb (count (packNames S seat) (all S u)) (worth (has seat (unitOf S u .guilty))) (claim (isHonest-says S u (both .0)) (all S u) (all-are S u (both .1)) seat)) ∙ f .2);
+        true≢false (sym (eq-eqb (count (packNames seat) (all S u)) (worth (has seat (unitOf S u .guilty))) (claim (isHonest-says S u (both .0)) (all S u) (all-are S u (both .1)) seat)) ∙ f .2);
   }
 
   -- whether every pack is 0x07
