@@ -199,23 +199,23 @@ module _ (S : Setting) where
 
     -- ---- evidence that the unit wrote
 
-    -- "The t0 + 1 seats are owed by the first pack a unit writes in a submit or a step" (document 02, item 3): it names all but t0 of k
+    -- "The t0 + 1 seats are owed by the first pack a unit writes in a submit or a step" (document 02, item 3): it names k − t0 or more
     pub first-pack-names : (evidence : List ℕ) → WritesFirst S u evidence → NamesEnough S evidence
     unfolding k
     first-pack-names evidence w =
-        let m = w .message in
+        let m = w .written .message in
+        let kind = w .written .kind in
         let ms = w .before ++ m ∷ w .later in
         let is : ms ≡ allMessages S (listOf S u) = are-unique n (writtenOver S (listOf S u)) ms (allMessages S (listOf S u)) (w .are) (all-are S u honest) in
         let member : List·Memᴰ m ms = Memᴰ·append-right (w .before) (List·Memᴰ·head refl) in
-        let writes = member-written S u honest Any any m (subst (λ xs. List·Memᴰ m xs) is member) in
-        let accepted = packs-accepted S u honest evidence (record { message = m; kind = w .kind; bytes = w .bytes; writes = writes }) in
+        let accepted = packs-accepted S u honest evidence (w .written) in
         let mask : evidenceCheck checks n round keys evidence .mask ≡ setOf (entrySeats m) =
-        mask-is evidence accepted ∙ ap (λ x. setOf (entrySeats x)) (ap (read n) (w .bytes) ∙ read-render n m (w .are .0 m member)) in
-        let large = first-large n (w .before) m (w .later) (subst (LargeFirst n) (sym is) (begun-at-end S u honest Any any .0)) (w .kind) (w .none) in
+        mask-is evidence accepted ∙ ap (λ x. setOf (entrySeats x)) (ap (read n) (w .written .bytes) ∙ read-render n m (w .are .0 m member)) in
+        let large = first-large n (w .before) m (w .later) (subst (LargeFirst n) (sym is) (begun-at-end S u honest Any any .0)) kind (w .none) in
         record {
           seats = evidenceCheck checks n round keys evidence .mask;
           named = λ seat. mask-names evidence seat accepted;
-          enough = rw mask (omega (arith, pack-size m (w .kind), t0-below-third n (opened-range S u honest .some)));
+          enough = rw mask (omega (arith, pack-size m kind, t0-below-third n (opened-range S u honest .some)));
           accepted = accepted;
           answered = refl;
         }
@@ -223,10 +223,9 @@ module _ (S : Setting) where
     guilty-blames : end .guilty ≢ 0 → Blames S u
     guilty-blames guilty =
         let f = first-pack (allMessages S (listOf S u)) (λ none. guilty (begun-at-end S u honest Any any .1 none)) in
+        let member : List·Memᴰ (f .pack) (allMessages S (listOf S u)) = subst (List·Memᴰ (f .pack)) (sym (f .split)) (Memᴰ·append-right (f .before) (List·Memᴰ·head refl)) in
         let first : WritesFirst S u (render (f .pack)) = record {
-          message = f .pack;
-          kind = f .isOne;
-          bytes = refl;
+          written = record { message = f .pack; kind = f .isOne; bytes = refl; writes = member-written S u honest Any any (f .pack) member };
           before = f .before;
           later = f .later;
           are = subst (Are n (writtenOver S (listOf S u))) (f .split) (all-are S u honest);

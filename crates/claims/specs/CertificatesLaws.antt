@@ -70,7 +70,7 @@ unfolding pairsOf
 pair-seats n mask c d = map-map (λ (p : Pair). p .seat) (pairOf c d) (seats n mask) ∙ map-id (seats n mask)
 
 module _ (checks : Checks) (W : Relation) where
-  -- the form of a FULL's entries and of an EVIDENCE's pairs
+  -- the form of a FULL's entries
   pub entries-laid : (n : ℕ) (value : List ℕ) (es : List Entry) → Entries checks W n value es → Laid fullForm es
   unfolding fullForm
   entries-laid n value es z e d = (z .attested e d .sized, refl)

@@ -12,9 +12,9 @@ use Rattle.protocol.specs.Message.{Entry, ValuesEach, Full, Evidence, render, r
 use Rattle.protocol.specs.Certificate.{certificateOf}
 use Rattle.protocol.specs.CertificateLaws.{in-set}
 use Rattle.protocol.specs.declared.Record.{Record}
-use Rattle.round.specs.Round.{Setting, IsHonest, Each, Boat, resultOf, nowOf, listOf, StepGiven, WritesEvidence, Accepted}
+use Rattle.round.specs.Round.{Setting, IsHonest, Each, Boat, resultOf, nowOf, listOf, StepGiven, Accepted}
 use Rattle.round.specs.Demand1.{worth, count}
-use Rattle.round.specs.Culprits.{HeardCertificate, OwnCertificate, packNames, SharedAreGuilty, GuiltyInFirst, GuiltyOnce, OnlyNew, WritesNewForm, MoreCulprits}
+use Rattle.round.specs.Culprits.{HeardCertificate, OwnCertificate, packNames, SharedAreGuilty, GuiltyInFirst, GuiltyOnce, OnlyNew, WritesNewForm, PacksAccepted, MoreCulprits}
 use Rattle.reading.specs.ListsLaws.{worth-le-one, count-append, count-pos}
 use Rattle.claims.specs.Sound.{Any, NAMED, Held, Pairs}
 use Rattle.claims.specs.PacksLaws.{pack-names}
@@ -84,8 +84,8 @@ module _ (S : Setting) (u : Boat) (honest : IsHonest S u) where
   pub writes-new-form : WritesNewForm S u
   writes-new-form ρ form entries w = writes-good S u honest Any any (Evidence ρ form entries) w .1
 
-  -- every pack that the unit's list writes is accepted
-  pub packs-accepted : (evidence : List ℕ) → WritesEvidence S u evidence → Accepted S evidence
+  -- every unit accepts each pack that the unit's list writes
+  pub packs-accepted : PacksAccepted S u
   packs-accepted evidence w =
       rw (w .bytes)
       (pack-cases checks Any end (λ m. Accepted S (render m)) (w .message) (w .kind) (writes-good S u honest Any any (w .message) (w .writes))
@@ -100,4 +100,5 @@ more-culprits S u honest = record {
   once = guilty-once S u honest;
   onlyNew = only-new S u honest;
   newForm = writes-new-form S u honest;
+  accepted = packs-accepted S u honest;
 }

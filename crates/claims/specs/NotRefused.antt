@@ -98,7 +98,7 @@ pub record Lent (keys : List ℕ) (r : Record) (store out : List ℕ) : Type 0 w
   pub table : Table (r .n) keys
   -- 6: "the store grows to 4,388 × n bytes" (document 02, item 1)
   pub storeRoom : storeLength (r .n) ≤ length store
-  -- 7: "Out buffer: 1,629 + 4,360 × k bytes or more"
+  -- 7: "The out buffer becomes 1,565 + 4,424 × k" (document 02, item 3)
   pub outRoom : outLength (r .n) ≤ length out
 
 -- the rest of both lists of conditions

@@ -1,4 +1,5 @@
--- "The papers detect once; the engine's definition now says each time" (document 02, item 3): the first time is the paper's.
+-- "The papers detect once; the engine's definition now says each time" (document 02, item 3): the first time comes exactly when the paper's
+-- does. All seats that the two certificates share are detected then, since none was before.
 -- Assumes nothing.
 use Prim.Native.Nat.{ℕ, _≤_}
 use mathlib.Core.Path.{_≡_, refl, sym, ap, _∙_}
@@ -45,7 +46,7 @@ module _ (n : ℕ) (some-seats : 1 ≤ n) where
   shows-conflict c d y z e =
       not-false (same (c .value) (d .value)) (sym (and-true (not (same (c .value) (d .value)))) ∙ ap (λ (b : Bool). not (same (c .value) (d .value)) && not b) (sym (shows-some c d y z)) ∙ e)
 
-  -- Of certificates of k seats, while none is detected: line 39's rule is due exactly where any two conflict.
+  -- while no seat is detected, line 39's rule is due exactly where two certificates obtained, each of k seats, conflict
   pub first-is-the-papers : (obtained : List FullCertificate) → Each (Quorum n) obtained → Quiet [] obtained ↔ (conflict valueOfFull obtained ≡ none)
   unfolding conflict pairOr showsMore
   first-is-the-papers [] q = (λ h. refl, λ h. tt)

@@ -1,4 +1,4 @@
--- Document 01, with document 02's items 1 and 2, as definitions, from bytes up to calls.
+-- Document 01, with document 02's items 1 to 3, as definitions, from bytes up to calls.
 --
 -- `Layout` has lengths and places (`Figures`: the documents' figures), `Values` the order of values, `Entries` lists of entries, `Message`
 -- the commands on the air, `Certificate` the certificates behind FULL and EVIDENCE, `Record` a unit's record, `Note` its note, `Conditions` and

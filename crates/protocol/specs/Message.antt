@@ -34,7 +34,7 @@ pub record PairValues : Type 0 where
   pub lower : List ℕ
   pub higher : List ℕ
 
--- the form of an EVIDENCE: the values once, before the count, which is "the old 0x05"; or the values in each entry, which is 0x07
+-- the form of an EVIDENCE: the values once, before the count, which is the old 0x05; or the values in each entry, which is 0x07
 pub data PackForm : Type 0 where
   ValuesOnce : (values : PairValues) → PackForm
   ValuesEach : PackForm
@@ -132,7 +132,7 @@ render (Full round sender value entries) = 0x03 ∷ be 2 round ++ sender ∷ [] 
 render (Evidence round form entries) = packCommand form ∷ be 2 round ++ packValues form ++ length entries ∷ [] ++ renderEntries (evidenceForm form) entries
 render Garbled = []
 
--- a message that can be written in a fleet of n seats: operands of their widths, and as many entries as document 01 says
+-- a message that can be written in a fleet of n seats: operands of their widths, and as many entries as the documents say
 abbrev pub WellFormed : ℕ → Message → Type 0
 WellFormed n (Submit round seat value signature) = (round < 65536) × (length value ≡ valueLength) × (length signature ≡ signatureLength)
 WellFormed n (Notice round seat value) = (round < 65536) × (length value ≡ valueLength)

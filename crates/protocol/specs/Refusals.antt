@@ -1,4 +1,4 @@
--- "What is turned back" (document 01; document 02, item 2): the table's numbers, words and conditions in its order, and for each call
+-- "What is turned back" (document 01; document 02, items 2 and 3): the table's numbers, words and conditions in its order, and for each call
 -- the list of its rows, of which the first that holds is answered. The conditions in full are in `Conditions`, `Record` and `Note`;
 -- those of `Conditions` are exported from here too.
 -- Assumes nothing.

@@ -396,7 +396,7 @@ pub k-of-n-share-32 : (n a b : ℕ) → 1 ≤ n → n ≤ 32 → a < 2 ^ 32 → 
     → size a ≡ k n → size b ≡ k n → t0 n + 1 ≤ size (shared a b)
 k-of-n-share-32 = k-of-n-share-in 32
 
--- of k seats all but t0 stand in any other k
+-- of k seats, k − t0 or more stand in any other k
 pub k-of-n-share-most : (n a b : ℕ) → 1 ≤ n → a < 2 ^ n → b < 2 ^ n → size a ≡ k n → size b ≡ k n → k n ≤ size (shared a b) + t0 n
 unfolding k
 k-of-n-share-most n a b h la lb ea eb = omega (arith, t0-below-third n h, size-union-shared a b, size-le n (union a b) (union-lt n a b la lb))

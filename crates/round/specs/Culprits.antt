@@ -1,5 +1,5 @@
--- "More culprits as more certificates come in" (document 02, item 3), over a unit's whole list: which seats are guilty, and in which packs
--- they stand. Each is said of the unit after its list; by `claims/specs/Power: earlier-honest` it is so after every earlier event too.
+-- "More culprits as more certificates come in" (document 02, item 3), over a unit's whole list: which seats are guilty, in which packs
+-- they stand, and that every pack is accepted. Each is said of the unit after its list; by `claims/specs/Power: earlier-honest` it is so after every earlier event too.
 -- Assumes nothing.
 use Prim.Native.Nat.{ℕ}
 use mathlib.Core.Path.{_≡_}
@@ -11,7 +11,7 @@ use Rattle.protocol.specs.Message.{Message, Entry, Pair, Full, Evidence, PackFo
 use Rattle.protocol.specs.Certificate.{setOf}
 use Rattle.protocol.specs.Refusals.{isEvidence}
 use Rattle.protocol.specs.declared.Record.{Record}
-use Rattle.round.specs.Round.{Setting, Boat, Each, resultOf, nowOf, listOf, Are, writtenOver, Writes, StepGiven}
+use Rattle.round.specs.Round.{Setting, Boat, Each, resultOf, nowOf, listOf, Are, writtenOver, Writes, StepGiven, WritesEvidence, Accepted}
 use Rattle.round.specs.Demand1.{worth, count, Apart}
 
 -- the message is a pack that names the seat
@@ -72,9 +72,14 @@ module _ (S : Setting) where
   abbrev pub WritesNewForm : Boat → Type 0
   WritesNewForm u = (ρ : ℕ) (form : PackForm) (entries : List Pair) → Writes S u (Evidence ρ form entries) → form ≡ ValuesEach
 
+  -- every unit accepts each pack that the unit's list writes, the later ones too
+  abbrev pub PacksAccepted : Boat → Type 0
+  PacksAccepted u = (evidence : List ℕ) → WritesEvidence S u evidence → Accepted S evidence
+
   pub record MoreCulprits (u : Boat) : Type 0 where
     pub shared : SharedAreGuilty u
     pub inFirst : GuiltyInFirst u
     pub once : GuiltyOnce u
     pub onlyNew : OnlyNew u
     pub newForm : WritesNewForm u
+    pub accepted : PacksAccepted u

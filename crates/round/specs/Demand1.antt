@@ -1,6 +1,6 @@
 -- Demand 1, over a whole list: "in a round a unit on one unbroken record sends at most one submission, one notice and one full
--- certificate"; and at most t0 + 1 packs of evidence (document 02, item 3). A unit that loses power (document 02, item 2) may send a message
--- again, and no other of its kind but further packs, each of which names other seats.
+-- certificate"; and, as follows from document 02's item 3, at most t0 + 1 packs of evidence. A unit that loses power (document 02, item 2)
+-- may send a message again, and no other of its kind but further packs, each of which names other seats.
 -- Assumes nothing.
 use Prim.Native.Nat.{ℕ, _+_, _≤_}
 use Rattle.quorum.specs.Quorum.{t0}
@@ -45,8 +45,8 @@ unfoldable pub count {ℓ} : {A : Type ℓ} → (A → Bool) → List A → ℕ
 count test [] = 0
 count test (x ∷ xs) = worth (test x) + count test xs
 
--- the most messages of a kind that a unit writes in a round. Each pack after the first names new seats of the first certificate held: of its
--- n − t0 the first pack names n − 2 × t0 or more.
+-- the most messages of a kind that a unit writes in a round. The first pack names n − 2 × t0 or more of the n − t0 seats of the first
+-- certificate held, and each later one a new seat of them: so t0 packs at most follow the first.
 unfoldable pub most : ℕ → Kind → ℕ
 most n SUBMIT = 1
 most n NOTICE = 1
@@ -61,11 +61,11 @@ AtMost S u = (ms : List Message) → Are (S .n) (writtenOver S (listOf S u)) ms 
 abbrev pub SendsWritten : Setting → Boat → Type 0
 SendsWritten S u = (m : Message) → Sent u m → Writes S u m
 
--- two messages name no seat both
+-- no seat stands in both messages
 abbrev pub Apart : Message → Message → Type 0
 Apart m m′ = (seat : ℕ) → List·Memᴰ seat (entrySeats m) → List·Memᴰ seat (entrySeats m′) → ⊥
 
--- of two messages of one kind that a unit sends, one is the other again, or they are packs that name no seat both
+-- of two messages of one kind that a unit sends, one is the other again, or they are packs with no seat in common
 abbrev pub SendsOne : Boat → Type 0
 SendsOne u = (κ : Kind) (m m′ : Message) → isOf κ m ≡ true → isOf κ m′ ≡ true → Sent u m → Sent u m′ → (m ≡ m′) ⊎ ((κ ≡ EVIDENCE) × Apart m m′)
 

@@ -58,7 +58,7 @@ outOf (BySubmit value signature out) = out
 outOf (ByStep bytes out) = out
 outOf (ByThinEntry bytes out) = out
 
--- the bytes are these messages, one after another, each as document 01 lays it out
+-- the bytes are these messages, one after another, each as the documents lay it out
 abbrev pub Are : ℕ → List ℕ → List Message → Type 0
 Are n bytes ms = Each (WellFormed n) ms × (bytes ≡ renderAll ms)
 
@@ -267,12 +267,10 @@ module _ (S : Setting) where
 
   -- "the first pack a unit writes in a submit or a step" (document 02, item 3): no EVIDENCE stands before it in what its list writes
   pub record WritesFirst (u : Boat) (evidence : List ℕ) : Type 0 where
-    pub message : Message
-    pub kind : isEvidence message ≡ true
-    pub bytes : evidence ≡ render message
+    pub written : WritesEvidence u evidence
     pub before : List Message
     pub later : List Message
-    pub are : Are n (writtenOver S (listOf S u)) (before ++ message ∷ later)
+    pub are : Are n (writtenOver S (listOf S u)) (before ++ written .message ∷ later)
     pub none : Each (λ (m : Message). isEvidence m ≡ false) before
 
   -- "or made or joined by an honest unit, with this n, round and key table, from what it has in hand."

@@ -7,21 +7,24 @@ use mathlib.Core.Bool.{Bool, true, false, not, _&&_, _||_, true≢false}
 use mathlib.Core.List.{List, [], _∷_, List·Memᴰ}
 use mathlib.Core.Logic.{inl, ⊎-elim, _≢_}
 use lib.Dec.{eqb, leb}
+use lib.ListN.{length}
 use borrow.Author.Tests.{eqb-true, eqb-false, eq-eqb, le-leb, not-true, not-false}
 use Rattle.octets.specs.Strings.{same}
+use Rattle.quorum.specs.Quorum.{has}
 use Rattle.octets.specs.StringsLaws.{same-refl}
 use Rattle.refusal.specs.RefusalLaws.{both-true, both-false}
-use Rattle.protocol.specs.Message.{Message, Signed, render, read, signed, entrySeats}
+use Rattle.protocol.specs.Message.{Message, Evidence, Signed, render, read, signed, entrySeats}
 use Rattle.protocol.specs.Record.{impossible}
-use Rattle.protocol.specs.Refusals.{every}
+use Rattle.protocol.specs.Refusals.{every, isEvidence}
 use Rattle.protocol.specs.Calls.{evidenceCheck}
-use Rattle.round.specs.Round.{Setting, InHand, Boat, Called, IsHonest, Family, resultOf, listOf, StepGiven, MadeFrom, Delivered, AcceptedFrom, Names}
-use Rattle.round.specs.Demand1.{Kind, SUBMIT, NOTICE, FULL, EVIDENCE, isOf, count, AtMostOne, SendsOne}
+use Rattle.round.specs.Round.{Setting, InHand, Are, writtenOver, Boat, Called, IsHonest, Family, resultOf, listOf, StepGiven, MadeFrom, Delivered, AcceptedFrom, Names}
+use Rattle.round.specs.Demand1.{Kind, SUBMIT, NOTICE, FULL, EVIDENCE, isOf, count, worth, most, AtMost, SendsOne}
+use Rattle.round.specs.Culprits.{unitOf, SharedAreGuilty, packNames, GuiltyOnce, WritesNewForm}
 use Rattle.round.specs.Demand3.{NoneForged, NoneBlamed, ReachedOthers, Demand3}
 use Rattle.protocol.specs.ConditionsLaws.{every-each}
-use Rattle.reading.specs.ListsLaws.{or-true-either}
+use Rattle.reading.specs.ListsLaws.{and-false-either, or-true-either}
 use Rattle.reading.specs.Messages.{allMessages}
-use Rattle.trials.specs.Tests.{found, found-one, every-false, found-seat, signedIn, given-signed, signed-given, sameSigned, same-signed, sentIn, sentIn-says, isHonest, isHonest-says, all, formed, submits, submits-says, confirms, confirms-says, haveReached, haveReached-says, blames, blames-not, accuses, accuses-says, all-are}
+use Rattle.trials.specs.Tests.{found, found-one, every-false, found-seat, messageIn, given-message, signed-given, newForm, newForm-not, apart, apart-not, readable, readable-says, sameSigned, same-signed, sentIn, sentIn-says, isHonest, isHonest-says, all, formed, submits, submits-says, confirms, confirms-says, haveReached, haveReached-says, blames, blames-not, firstPays, firstPays-not, accuses, accuses-says, all-are, member-writes, givenGuilty, givenGuilty-not, ownGuilty, ownGuilty-not}
 
 pub record Trial {ℓ} (claim : Type ℓ) : Type ℓ where
   pub premises : Bool
@@ -43,42 +46,56 @@ refuted t e = t .refutes (ap (λ (p : Bool × Bool). p .0) e) (ap (λ (p : Bool 
 module _ (S : Setting) (u : Boat) where
   open Setting S using (n)
 
-  abbrev pub once : Kind → Bool
-  once κ = leb (count (isOf κ) (all S u)) 1
+  abbrev pub few : Kind → Bool
+  few κ = leb (count (isOf κ) (all S u)) (most n κ)
 
-  -- at most one message of each kind
-  unfoldable pub onceEach : Trial (IsHonest S u → AtMostOne S u)
-  onceEach = record {
+  -- no more messages of a kind than a unit writes in a round
+  unfoldable pub atMost : Trial (IsHonest S u → AtMost S u)
+  atMost = record {
     premises = isHonest S u && formed S (all S u);
-    conclusion = once SUBMIT && (once NOTICE && (once FULL && once EVIDENCE));
+    conclusion = few SUBMIT && (few NOTICE && (few FULL && few EVIDENCE));
     refutes = λ p c claim.
         let both = both-true (isHonest S u) (formed S (all S u)) p in
-        let one : (κ : Kind) → once κ ≡ true = λ κ. le-leb (count (isOf κ) (all S u)) 1 (claim (isHonest-says S u (both .0)) (all S u) (all-are S u (both .1)) κ) in
-        true≢false (sym (rw (one SUBMIT, one NOTICE, one FULL, one EVIDENCE)) ∙ c);
+        let each : (κ : Kind) → few κ ≡ true = λ κ. le-leb (count (isOf κ) (all S u)) (most n κ) (claim (isHonest-says S u (both .0)) (all S u) (all-are S u (both .1)) κ) in
+        true≢false (sym (rw (each SUBMIT, each NOTICE, each FULL, each EVIDENCE)) ∙ c);
   }
 
-  -- whether a message sent is another one again, where both are of one kind
+  -- whether a message sent is another one again, or both are packs that name no seat both, where they are of one kind
   abbrev pub ofOneKind : Message → Message → Bool
   ofOneKind m x = found (λ κ. isOf κ m && isOf κ x) (SUBMIT ∷ NOTICE ∷ FULL ∷ EVIDENCE ∷ [])
 
   abbrev pub again : Message → Message → Bool
-  again m x = not (ofOneKind m x) || same (render m) (render x)
+  again m x = same (render m) (render x) || (isEvidence m && apart m x)
 
   unfoldable pub sendsOne : Trial (IsHonest S u → SendsOne u)
   sendsOne = record {
     premises = isHonest S u;
-    conclusion = every (λ m. every (again m) (sentIn (u .events))) (sentIn (u .events));
+    conclusion = every (λ m. every (λ x. not (ofOneKind m x) || again m x) (sentIn (u .events))) (sentIn (u .events));
     refutes = λ p c claim.
         let sent = sentIn (u .events) in
-        let f = every-false (λ m. every (again m) sent) sent c in
+        let f = every-false (λ m. every (λ x. not (ofOneKind m x) || again m x) sent) sent c in
         let m = f .0 in
-        let g = every-false (again m) sent (f .2) in
+        let g = every-false (λ x. not (ofOneKind m x) || again m x) sent (f .2) in
         let x = g .0 in
-        let differ = both-false (not (ofOneKind m x)) (same (render m) (render x)) (g .2) in
-        let κ = found-one (λ κ. isOf κ m && isOf κ x) (SUBMIT ∷ NOTICE ∷ FULL ∷ EVIDENCE ∷ []) (not-false (ofOneKind m x) (differ .0)) in
-        let kind = both-true (isOf (κ .0) m) (isOf (κ .0) x) (κ .2) in
-        let is : m ≡ x = claim (isHonest-says S u p) (κ .0) m x (kind .0) (kind .1) (sentIn-says (u .events) m (f .1)) (sentIn-says (u .events) x (g .1)) in
-        true≢false (sym (same-refl (render m)) ∙ ap (λ y. same (render m) (render y)) is ∙ differ .1);
+        let differ = both-false (not (ofOneKind m x)) (again m x) (g .2) in
+        let neither = both-false (same (render m) (render x)) (isEvidence m && apart m x) (differ .1) in
+        let found = found-one (λ κ. isOf κ m && isOf κ x) (SUBMIT ∷ NOTICE ∷ FULL ∷ EVIDENCE ∷ []) (not-false (ofOneKind m x) (differ .0)) in
+        let κ = found .0 in
+        let kind = both-true (isOf κ m) (isOf κ x) (found .2) in
+        ⊎-elim (λ e. true≢false (sym (same-refl (render m)) ∙ ap (λ y. same (render m) (render y)) e ∙ neither .0))
+        (λ e.
+        ⊎-elim (λ q. true≢false (sym (subst (λ k. isOf k m ≡ true) (e .0) (kind .0)) ∙ q)) (λ q. apart-not m x q (e .1)) (and-false-either (isEvidence m) (apart m x) (neither .1)))
+        (claim (isHonest-says S u p) κ m x (kind .0) (kind .1) (sentIn-says (u .events) m (f .1)) (sentIn-says (u .events) x (g .1)));
+  }
+
+  -- whether what the list writes is messages one after another
+  unfoldable pub readableAll : Trial (IsHonest S u → (ms : List Message) × Are n (writtenOver S (listOf S u)) ms)
+  readableAll = record {
+    premises = isHonest S u;
+    conclusion = readable n (length (all S u)) (writtenOver S (listOf S u));
+    refutes = λ p c claim.
+        let is = claim (isHonest-says S u p) in
+        true≢false (sym (subst (λ bytes. readable n (length (all S u)) bytes ≡ true) (sym (is .1 .1)) (readable-says n (length (all S u)) (is .0) (is .1 .0))) ∙ c);
   }
 
   -- whether the record that comes out of a call is possible
@@ -92,6 +109,57 @@ module _ (S : Setting) (u : Boat) where
     refutes = λ p c claim.
         let f = every-false possible (listOf S u) c in
         true≢false (sym (not-false (impossible (resultOf S (f .0) .unit)) (f .2)) ∙ claim (isHonest-says S u p) (f .0) (f .1));
+  }
+
+  -- ---- more culprits (document 02, item 3)
+
+  -- whether all seats are guilty that a certificate which conflicts with the first one held shares with it
+  unfoldable pub sharedAreGuilty : Trial (IsHonest S u → SharedAreGuilty S u)
+  sharedAreGuilty = record {
+    premises = isHonest S u;
+    conclusion = every (givenGuilty S (unitOf S u)) (listOf S u) && ownGuilty S (unitOf S u);
+    refutes = λ p c claim.
+        let shared = claim (isHonest-says S u p) in
+        ⊎-elim (λ q. let f = every-false (givenGuilty S (unitOf S u)) (listOf S u) q in givenGuilty-not S u shared (f .0) (f .1) (f .2)) (λ q. ownGuilty-not S u shared q)
+        (and-false-either (every (givenGuilty S (unitOf S u)) (listOf S u)) (ownGuilty S (unitOf S u)) c);
+  }
+
+  -- whether each of these seats stands in one pack if it is guilty, and in none otherwise
+  abbrev pub inOnePack : ℕ → Bool
+  inOnePack seat = eqb (count (packNames seat) (all S u)) (worth (has seat (unitOf S u .guilty)))
+
+  unfoldable pub guiltyOnce : List ℕ → Trial (IsHonest S u → GuiltyOnce S u)
+  guiltyOnce tried = record {
+    premises = isHonest S u && formed S (all S u);
+    conclusion = every inOnePack tried;
+    refutes = λ p c claim.
+        let both = both-true (isHonest S u) (formed S (all S u)) p in
+        let f = every-false inOnePack tried c in
+        let seat = f .0 in
+        true≢false (sym (eq-eqb (count (packNames seat) (all S u)) (worth (has seat (unitOf S u .guilty))) (claim (isHonest-says S u (both .0)) (all S u) (all-are S u (both .1)) seat)) ∙ f .2);
+  }
+
+  -- whether every pack is 0x07
+  unfoldable pub writesNewForm : Trial (IsHonest S u → WritesNewForm S u)
+  writesNewForm = record {
+    premises = isHonest S u && formed S (all S u);
+    conclusion = every newForm (all S u);
+    refutes = λ p c claim.
+        let both = both-true (isHonest S u) (formed S (all S u)) p in
+        let f = every-false newForm (all S u) c in
+        let m = newForm-not (f .0) (f .2) in
+        m .4 (claim (isHonest-says S u (both .0)) (m .0) (m .1) (m .2) (member-writes S u (both .1) (Evidence (m .0) (m .1) (m .2)) (subst (λ x. List·Memᴰ x (all S u)) (m .3) (f .1))));
+  }
+
+  -- whether the first pack names enough seats, for the boat alone
+  unfoldable pub firstPackPays : Trial (Family S (λ (i : Unit {0}). u) → Demand3 S (λ (i : Unit {0}). u))
+  firstPackPays = record {
+    premises = isHonest S u && formed S (all S u);
+    conclusion = firstPays S (all S u);
+    refutes = λ p c claim.
+        let both = both-true (isHonest S u) (formed S (all S u)) p in
+        let w = firstPays-not S u (both .1) c in
+        w .2 (claim (record { honest = λ i. isHonest-says S u (both .0); apart = λ i j d. absurd (d refl) }) .firstPack tt (w .0) (w .1));
   }
 
 -- ---- demand 3: some boats
@@ -156,21 +224,21 @@ module _ (S : Setting) {I : Type 0} (crew : Crew I) (boat : I → Boat) where
       }
 
   -- honest boats, each in its own seat, and well-formed messages written
-  abbrev pub apart : I → I → Bool
-  apart i j = alike i j || not (eqb (boat i .seat) (boat j .seat))
+  abbrev pub seatedApart : I → I → Bool
+  seatedApart i j = alike i j || not (eqb (boat i .seat) (boat j .seat))
 
   abbrev pub family : Done I → Bool
-  family d = each (λ i. isHonest S (boat i)) && (each (λ i. each (apart i)) && each (λ i. formed S (d .messages i)))
+  family d = each (λ i. isHonest S (boat i)) && (each (λ i. each (seatedApart i)) && each (λ i. formed S (d .messages i)))
 
   pub family-says : family done ≡ true → Family S boat × ((i : I) → formed S (all S (boat i)) ≡ true)
   family-says e =
-      let a = both-true (each (λ i. isHonest S (boat i))) (each (λ i. each (apart i)) && each (λ i. formed S (all S (boat i)))) e in
-      let b = both-true (each (λ i. each (apart i))) (each (λ i. formed S (all S (boat i)))) (a .1) in (
+      let a = both-true (each (λ i. isHonest S (boat i))) (each (λ i. each (seatedApart i)) && each (λ i. formed S (all S (boat i)))) e in
+      let b = both-true (each (λ i. each (seatedApart i))) (each (λ i. formed S (all S (boat i)))) (a .1) in (
         record {
           honest = λ i. isHonest-says S (boat i) (each-says (λ l. isHonest S (boat l)) (a .0) i);
           apart = λ i j other same.
               ⊎-elim (λ q. other (alike-same i j q)) (λ q. eqb-false (boat i .seat) (boat j .seat) (not-true (eqb (boat i .seat) (boat j .seat)) q) same)
-              (or-true-either (alike i j) (not (eqb (boat i .seat) (boat j .seat))) (each-says (apart i) (each-says (λ l. each (apart l)) (b .0) i) j));
+              (or-true-either (alike i j) (not (eqb (boat i .seat) (boat j .seat))) (each-says (seatedApart i) (each-says (λ l. each (seatedApart l)) (b .0) i) j));
         },
         each-says (λ i. formed S (all S (boat i))) (b .1),
       )
@@ -215,7 +283,7 @@ module _ (S : Setting) {I : Type 0} (crew : Crew I) (boat : I → Boat) where
   genuine d i s = not (eqb (s .seat) (boat i .seat)) || (submits S (d .calls i) (s .value) || not (checks (s .seat) (s .value) (s .signature)))
 
   abbrev pub noneForged : Done I → Bool
-  noneForged d = each (λ i. each (λ j. every (λ (c : Called). every (genuine d i) (signedIn n (c .given))) (d .calls j)))
+  noneForged d = each (λ i. each (λ j. every (λ (c : Called). every (genuine d i) (signed (messageIn n (c .given)))) (d .calls j)))
 
   -- whether no boat has certificates in hand
   abbrev pub noneInHand : Bool
@@ -230,11 +298,11 @@ module _ (S : Setting) {I : Type 0} (crew : Crew I) (boat : I → Boat) where
       stepped : StepGiven S (boat (d .to)) (d .bytes) → checks (boat i .seat) layout signature ≡ false
       stepped g =
           let c = g .call in
-          let all : I → Called → Bool = λ l x. every (genuine done l) (signedIn n (x .given)) in
+          let all : I → Called → Bool = λ l x. every (genuine done l) (signed (messageIn n (x .given))) in
           let mine = each-says (λ j. every (all i) (listOf S (boat j))) (each-says (λ l. each (λ j. every (all l) (listOf S (boat j)))) e i) (d .to) in
           let here = every-each (all i) (listOf S (boat (d .to))) mine c (g .inList) in
-          let m : List·Memᴰ s (signedIn n (c .given)) = subst (λ l. List·Memᴰ s l) (sym (given-signed n (c .given) (d .bytes) (g .out) (g .isStep))) (d .stands) in
-          let test = every-each (genuine done i) (signedIn n (c .given)) here s m in
+          let m : List·Memᴰ s (signed (messageIn n (c .given))) = subst (λ l. List·Memᴰ s l) (sym (ap signed (given-message n (c .given) (d .bytes) (g .out) (g .isStep)))) (d .stands) in
+          let test = every-each (genuine done i) (signed (messageIn n (c .given))) here s m in
           let said = submits S (listOf S (boat i)) layout in
           ⊎-elim (λ q. absurd (true≢false (sym (eq-eqb (boat i .seat) (boat i .seat) refl) ∙ not-true (eqb (boat i .seat) (boat i .seat)) q)))
           (λ q. ⊎-elim (λ p. absurd (never (submits-says S (boat i) layout p))) (λ p. not-true (checks (boat i .seat) layout signature) p) (or-true-either said (not (checks (boat i .seat) layout signature)) q))
@@ -245,14 +313,14 @@ module _ (S : Setting) {I : Type 0} (crew : Crew I) (boat : I → Boat) where
 
   -- whether a signature is in the message of a step in a list
   abbrev pub delivered : Done I → Signed → Bool
-  delivered d s = someone (λ i. found (λ (c : Called). found (sameSigned s) (signedIn n (c .given))) (d .calls i))
+  delivered d s = someone (λ i. found (λ (c : Called). found (sameSigned s) (signed (messageIn n (c .given)))) (d .calls i))
 
   delivered-says : (s : Signed) → delivered done s ≡ true → Delivered S boat (s .seat) (s .value) (s .signature)
   delivered-says s e =
-      let i = found-one (λ i. found (λ (c : Called). found (sameSigned s) (signedIn n (c .given))) (listOf S (boat i))) (crew .everyone) e in
-      let c = found-one (λ (c : Called). found (sameSigned s) (signedIn n (c .given))) (listOf S (boat (i .0))) (i .2) in
-      let z = found-one (sameSigned s) (signedIn n (c .0 .given)) (c .2) in
-      let g = signed-given n (c .0 .given) s (subst (λ x. List·Memᴰ x (signedIn n (c .0 .given))) (sym (same-signed s (z .0) (z .2))) (z .1)) in
+      let i = found-one (λ i. found (λ (c : Called). found (sameSigned s) (signed (messageIn n (c .given)))) (listOf S (boat i))) (crew .everyone) e in
+      let c = found-one (λ (c : Called). found (sameSigned s) (signed (messageIn n (c .given)))) (listOf S (boat (i .0))) (i .2) in
+      let z = found-one (sameSigned s) (signed (messageIn n (c .0 .given))) (c .2) in
+      let g = signed-given n (c .0 .given) s (subst (λ x. List·Memᴰ x (signed (messageIn n (c .0 .given)))) (sym (same-signed s (z .0) (z .2))) (z .1)) in
       record { to = i .0; bytes = g .0; given = inl (record { call = c .0; inList = c .1; out = g .1; isStep = g .2 }); stands = g .3 }
 
   -- whether evidence is accepted from delivered signatures and names the boat's seat

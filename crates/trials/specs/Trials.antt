@@ -7,16 +7,18 @@ use mathlib.Core.Bool.{Bool, true, false, cond}
 use mathlib.Core.List.{List, [], _∷_, _++_, map, List·Memᴰ, List·Memᴰ·head, List·Memᴰ·tail}
 use lib.ListN.{replicate}
 use Rattle.protocol.specs.Layout.{noteLength, storeLength, outLength}
-use Rattle.protocol.specs.Message.{Message, Submit, Notice, Full, Evidence, Garbled, render, byteAt}
-use Rattle.round.specs.Round.{Setting, Call, BySubmit, ByStep, Called, Saved, Event, Makes, Keeps, Sends, ComesBack, OpensAgain, Boat, begins, after, afterAll, IsHonest, Family, outcome, resultOf, listOf}
-use Rattle.round.specs.Demand1.{isSubmit, isNotice, worth, count, AtMostOne, SendsOne}
+use Rattle.protocol.specs.Message.{Pair, ValuesOnce, ValuesEach, Message, Submit, Notice, Full, Evidence, Garbled, render, byteAt}
+use Rattle.round.specs.Round.{Setting, Call, BySubmit, ByStep, Called, Saved, Event, Makes, Keeps, Sends, ComesBack, OpensAgain, Boat, begins, after, afterAll, writtenOver, Are, IsHonest, Family, outcome, resultOf, listOf}
+use Rattle.round.specs.Demand1.{isSubmit, isNotice, worth, count, most, AtMost, SendsOne}
+use Rattle.round.specs.Culprits.{SharedAreGuilty, GuiltyOnce, WritesNewForm}
 use Rattle.round.specs.Demand3.{Demand3}
 use Rattle.protocol.specs.Record.{impossible}
 use Rattle.protocol.specs.Refusals.{isFull}
+use Rattle.reading.specs.Reading.{frameLength}
 use Rattle.reading.specs.Messages.{refusalOf, cameTo, allMessages}
-use Rattle.trials.specs.Toy.{unfolded, toy, layout, sign, keys, submitBy, entryBy, fullBy}
-use Rattle.trials.specs.Tests.{found, entrySized, pairSized, wellFormed, isNoticeOf, isEvidenceOn, isStepOf, isSubmitOf, signedIn, sameSigned, sentIn, sameSaved, isNewest, noneSaved, wrote, allowed, allowedAll, isHonest, all, formed, submits, reached, confirms, mustReach, haveReached, blamesIn, blames, accuses}
-use Rattle.trials.specs.Trial.{Trial, onceEach, sendsOne, possibleEach, Crew, computed, accountability, safety}
+use Rattle.trials.specs.Toy.{unfolded, toy, layout, sign, keys, submitBy, entryBy, fullBy, pairBy}
+use Rattle.trials.specs.Tests.{found, entrySized, samePair, pairSized, valuesSized, wellFormed, isNoticeOf, isEvidenceOn, firstPack, newForm, apart, isMessage, readable, isStepOf, isSubmitOf, messageIn, sameSigned, sentIn, sameSaved, isNewest, noneSaved, wrote, allowed, allowedAll, isHonest, all, formed, submits, reached, confirms, mustReach, haveReached, namesEnough, blames, firstPays, accuses, sharedGuilty, heardGuilty, givenGuilty, ownGuilty}
+use Rattle.trials.specs.Trial.{Trial, atMost, sendsOne, readableAll, possibleEach, sharedAreGuilty, guiltyOnce, writesNewForm, firstPackPays, Crew, computed, accountability, safety}
 
 -- ---- setting and calls of the runs
 
@@ -164,7 +166,7 @@ shortStoredBoats = accountability four three shortStored Zeroth First (layout 7)
 
 -- one boat's out is a byte short for the other's NOTICE and FULL
 unfoldable pub shortOuted : Bool → Boat
-shortOuted = ofTwo (divided false) (then nine (map (λ m. ByStep (render m) (replicate 14708 0)) (sentBy seven)))
+shortOuted = ofTwo (divided false) (then nine (map (λ m. ByStep (render m) (replicate 14836 0)) (sentBy seven)))
 
 unfoldable pub shortOutedBoats : Trial (Family four shortOuted → Demand3 four shortOuted)
 shortOutedBoats = accountability four two shortOuted false true (layout 7) (layout 9)
@@ -194,7 +196,7 @@ certified (Submit ρ seat value signature) =
     hears (Full ρ 2 value (record { seat = seat; signature = signature } ∷ entryBy (byteAt value 0) 2 ∷ entryBy (byteAt value 0) 3 ∷ [])) ∷ []
 certified (Notice ρ seat value) = []
 certified (Full ρ sender value entries) = []
-certified (Evidence ρ values entries) = []
+certified (Evidence ρ form entries) = []
 certified Garbled = []
 
 unfoldable pub certifiedEach : List Message → List Call
@@ -234,18 +236,29 @@ keptOtherBoats = safety four two keptOther []
 unfoldable pub keptUnsignedBoats : Trial (Family four keptUnsigned → Demand3 four keptUnsigned)
 keptUnsignedBoats = safety four two keptUnsigned []
 
--- seat 1 hears seat 0's SUBMIT, and one of another layout with the same signature; evidence of both layouts, and of one layout twice
+-- seat 2 hears both SUBMITs of seat 0, which signs twice; seat 1's, and one of another layout with the same signature
 unfoldable pub heardTwice : Bool → Boat
-heardTwice = ofTwo (boatAt 0 (says 0 7 ∷ [])) (boatAt 1 (hears (submitBy 0 7) ∷ hears (Submit 5 0 (layout 9) (sign 0 7)) ∷ []))
+heardTwice = ofTwo (boatAt 1 (says 1 7 ∷ [])) (boatAt 2 (hears (submitBy 0 7) ∷ hears (submitBy 0 9) ∷ hears (submitBy 1 7) ∷ hears (Submit 5 1 (layout 9) (sign 1 7)) ∷ []))
+
+-- EVIDENCE of seat 0's two signatures, and of seat 1's one given twice: over two layouts, or over one. The old form has the values of its
+-- message alone.
+abbrev pub twiceGiven : ℕ → ℕ → Pair
+twiceGiven b c = record { seat = 1; lowerValue = layout b; higherValue = layout c; lower = sign 1 7; higher = sign 1 7 }
 
 abbrev pub framing : ℕ → ℕ → List ℕ
-framing b c = render (Evidence 5 (record { lower = layout b; higher = layout c }) (record { seat = 0; lowerValue = layout b; higherValue = layout c; lower = sign 0 7; higher = sign 0 7 } ∷ []))
+framing b c = render (Evidence 5 ValuesEach (pairBy 7 9 0 ∷ twiceGiven b c ∷ []))
+
+abbrev pub oldFraming : ℕ → ℕ → List ℕ
+oldFraming b c = render (Evidence 5 (ValuesOnce (record { lower = layout b; higher = layout c })) (twiceGiven b c ∷ []))
 
 unfoldable pub unsignedEvidence : Trial (Family four heardTwice → Demand3 four heardTwice)
-unsignedEvidence = safety four two heardTwice (framing 7 9 ∷ [])
+unsignedEvidence = safety four two heardTwice (framing 7 9 ∷ oldFraming 7 9 ∷ [])
 
 unfoldable pub equalEvidence : Trial (Family four heardTwice → Demand3 four heardTwice)
 equalEvidence = safety four two heardTwice (framing 7 7 ∷ [])
+
+unfoldable pub equalOldEvidence : Trial (Family four heardTwice → Demand3 four heardTwice)
+equalOldEvidence = safety four two heardTwice (oldFraming 7 7 ∷ [])
 
 -- ---- demand 1: one boat
 
@@ -253,8 +266,8 @@ equalEvidence = safety four two heardTwice (framing 7 7 ∷ [])
 unfoldable pub answering : Boat
 answering = then seven (hears (Notice 5 1 (layout 9)) ∷ [])
 
-unfoldable pub answeringBoat : Trial (IsHonest four answering → AtMostOne four answering)
-answeringBoat = onceEach four answering
+unfoldable pub answeringBoat : Trial (IsHonest four answering → AtMost four answering)
+answeringBoat = atMost four answering
 
 -- a boat hears two certificates that share two seats of three
 unfoldable pub sharing : Boat
@@ -269,6 +282,42 @@ slow = boatAt 0 (hears (submitBy 1 7) ∷ hears (submitBy 2 7) ∷ hears (submit
 
 unfoldable pub slowBoat : Trial (IsHonest four slow → (c : Called) → List·Memᴰ c (listOf four slow) → impossible (resultOf four c .unit) ≡ false)
 slowBoat = possibleEach four slow
+
+-- ---- more culprits (document 02, item 3): seats 0, 1 and 2 sign twice
+
+-- Seat 3 hears a certificate of the layout 7 by seats 0, 1 and 2, twice one of the layout 9 by seats 0, 1 and 3, and one of the layout 8 by the
+-- seats of the first.
+unfoldable pub third : Boat
+third = boatAt 3 (hears (fullBy 7 0 1 2) ∷ hears (fullBy 9 0 1 3) ∷ hears (fullBy 9 0 1 3) ∷ hears (fullBy 8 0 1 2) ∷ [])
+
+-- Its own certificate, of the layout 9 with seats 1 and 2, comes third.
+unfoldable pub ownThird : Boat
+ownThird = boatAt 3 (hears (fullBy 7 0 1 2) ∷ hears (fullBy 9 0 1 3) ∷ says 3 9 ∷ hears (submitBy 1 9) ∷ hears (submitBy 2 9) ∷ [])
+
+unfoldable pub thirdGuilty : Trial (IsHonest four third → SharedAreGuilty four third)
+thirdGuilty = sharedAreGuilty four third
+
+unfoldable pub ownThirdGuilty : Trial (IsHonest four ownThird → SharedAreGuilty four ownThird)
+ownThirdGuilty = sharedAreGuilty four ownThird
+
+-- a boat that hears a certificate of another layout with a signature that doesn't check
+unfoldable pub refusedGuilty : Trial (IsHonest four (unsigned true) → SharedAreGuilty four (unsigned true))
+refusedGuilty = sharedAreGuilty four (unsigned true)
+
+unfoldable pub thirdOnce : Trial (IsHonest four third → GuiltyOnce four third)
+thirdOnce = guiltyOnce four third (0 ∷ 1 ∷ 2 ∷ 3 ∷ [])
+
+unfoldable pub thirdNewForm : Trial (IsHonest four third → WritesNewForm four third)
+thirdNewForm = writesNewForm four third
+
+unfoldable pub thirdAtMost : Trial (IsHonest four third → AtMost four third)
+thirdAtMost = atMost four third
+
+unfoldable pub thirdReadable : Trial (IsHonest four third → (ms : List Message) × Are 4 (writtenOver four (listOf four third)) ms)
+thirdReadable = readableAll four third
+
+unfoldable pub thirdPays : Trial (Family four (λ (i : Unit {0}). third) → Demand3 four (λ (i : Unit {0}). third))
+thirdPays = firstPackPays four third
 
 -- ---- power cuts (document 02, item 2)
 
@@ -304,8 +353,8 @@ interrupted =
     let confirmed = comesBack pair 0 (does submitted (Sends (submitBy 0 7) ∷ Makes (says 0 9) ∷ keeps ∷ Makes (hears (submitBy 1 7)) ∷ [])) in
     does confirmed (Makes (hears (submitBy 1 7)) ∷ keeps ∷ Sends (submitBy 0 7) ∷ Sends (Notice 5 0 (layout 7)) ∷ [])
 
-unfoldable pub interruptedBoat : Trial (IsHonest pair interrupted → AtMostOne pair interrupted)
-interruptedBoat = onceEach pair interrupted
+unfoldable pub interruptedBoat : Trial (IsHonest pair interrupted → AtMost pair interrupted)
+interruptedBoat = atMost pair interrupted
 
 unfoldable pub interruptedSending : Trial (IsHonest pair interrupted → SendsOne interrupted)
 interruptedSending = sendsOne pair interrupted
@@ -374,5 +423,5 @@ unnotedBoats = accountability four two unnoted false true (layout 7) (layout 9)
 
 -- a name that unfolds every definition of a run
 unfoldable pub unfoldedTrials : Bool
-unfolding unfolded outcome begins after afterAll isSubmit isNotice worth count refusalOf cameTo allMessages found entrySized pairSized wellFormed isNoticeOf isEvidenceOn isStepOf isSubmitOf signedIn sameSigned sentIn sameSaved isNewest noneSaved wrote allowed allowedAll isHonest all formed submits reached confirms mustReach haveReached blamesIn blames accuses onceEach sendsOne possibleEach computed accountability safety those sentBy certified certifiedEach two three keptBy savedAt seven nine divided forewarned witnessed shortStored shortOuted unheard unsigned submitting twice holding keptOther keptUnsigned heardTwice answering sharing slow interrupted hasty blank newest older sameStored otherStored unnoted
+unfolding unfolded outcome begins after afterAll isSubmit isNotice worth count most frameLength writtenOver refusalOf cameTo allMessages found entrySized samePair pairSized valuesSized wellFormed isNoticeOf isEvidenceOn firstPack newForm apart isMessage readable isStepOf isSubmitOf messageIn sameSigned sentIn sameSaved isNewest noneSaved wrote allowed allowedAll isHonest all formed submits reached confirms mustReach haveReached namesEnough blames firstPays accuses sharedGuilty heardGuilty givenGuilty ownGuilty atMost sendsOne readableAll possibleEach sharedAreGuilty guiltyOnce writesNewForm firstPackPays computed accountability safety those sentBy certified certifiedEach two three keptBy savedAt seven nine divided forewarned witnessed shortStored shortOuted unheard unsigned submitting twice holding keptOther keptUnsigned heardTwice answering sharing slow third ownThird interrupted hasty blank newest older sameStored otherStored unnoted
 unfoldedTrials = true

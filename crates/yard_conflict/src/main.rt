@@ -1,4 +1,5 @@
-// The yard's program, given a round with two certificates, answered by FULL and EVIDENCE.
+// The yard's program, given a round with certificates of three layouts: FULL and two packs of EVIDENCE answer them. A pack given to it is
+// refused.
 fn main() {
     yard_io::run();
 }
