@@ -23,8 +23,8 @@ use Rattle.protocol.specs.declared.Record.{Record}
 use Rattle.protocol.specs.declared.Stepped.{Stepped}
 use Rattle.validate.specs.Given.{Given}
 use Rattle.validate.specs.GivenLaws.{record-ready, record-given, record-nonzero}
-use Rattle.steps.specs.Phases.{Did}
-use Rattle.steps.specs.declared.phases.Phase.{Phase}
+use Rattle.phase.specs.Phases.{Did}
+use Rattle.phase.specs.declared.Phase.{Phase}
 use Rattle.confirmer.specs.Returns.{answered}
 
 -- a submit or a step: arguments, conditions after those of the record, and phases

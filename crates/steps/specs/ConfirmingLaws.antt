@@ -14,9 +14,9 @@ use Rattle.protocol.specs.declared.Record.{Record}
 use Rattle.layout.specs.Places.{bankOf}
 use Rattle.layout.specs.declared.Bank.the-variants as bank
 use Rattle.store.specs.Sources.{signatureAt, certificateFrom}
-use Rattle.steps.specs.CertificatesLaws.{inBank}
-use Rattle.steps.specs.Phases.{Changed, Did, Fits}
-use Rattle.steps.specs.PhasesLaws.{fits-like, did-same, did-then}
+use Rattle.certificates.specs.CertificatesLaws.{inBank}
+use Rattle.phase.specs.Phases.{Changed, Did, Fits}
+use Rattle.phase.specs.PhasesLaws.{fits-like, did-same, did-then}
 
 module _ (r : Record) (store : List ℕ) (u : Record) (done : Changed confirm r store u store) where
   pub confirmed-fits : Fits r store → Fits u store

@@ -25,9 +25,9 @@ use Rattle.store.specs.Sources.{certificateFrom}
 use Rattle.store.specs.SourcesLaws.{inFull, full-certificate}
 use Rattle.wire.specs.declared.read.Kind.{Kind}
 use Rattle.wire.specs.declared.read.Kind.the-variants as kind
-use Rattle.steps.specs.Phases.{Changed, Did, Fits}
-use Rattle.steps.specs.PhasesLaws.{did-same, did-writing-none, did-then, unchanged}
-use Rattle.steps.specs.KeepingLaws.{hearSubmit-quiet, collectKept-quiet, collectKept-after}
+use Rattle.phase.specs.Phases.{Changed, Did, Fits}
+use Rattle.phase.specs.PhasesLaws.{did-same, did-writing-none, did-then, unchanged}
+use Rattle.collecting.specs.KeepingLaws.{hearSubmit-quiet, collectKept-quiet, collectKept-after}
 
 -- ---- the start of a call
 

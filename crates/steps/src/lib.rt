@@ -1,8 +1,4 @@
-// Submit and step once nothing is refused: the phases of document 01's "Steps", with document 02's items 1 and 3.
-pub(crate) mod certificate;
-pub(crate) mod collect;
+// Submit and step once nothing is refused: the phases of document 01's "Steps", with document 02's items 1 and 3, one after another,
+// and the phase that confirms.
 pub(crate) mod confirm;
-pub(crate) mod hear;
-pub(crate) mod kept;
 pub mod phases;
-pub(crate) mod reply;

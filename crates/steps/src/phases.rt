@@ -8,25 +8,20 @@ ghost use Rattle.protocol.specs.Refusals.{said, stranger, disorder};
 ghost use Rattle.protocol.specs.Step.{submitted, stepped};
 ghost use Rattle.wire.specs.Reading.{kindOf};
 ghost use Rattle.wire.specs.declared.read.Kind.the-variants as kind;
-ghost use Rattle.steps.specs.Phases.{Did};
+ghost use Rattle.phase.specs.Phases.{Did};
 ghost use Rattle.protocol.specs.Record.{Ready};
-use crate::certificate::hear_certificate;
-use crate::collect::submit_own;
 use crate::confirm::confirm_if_complete;
-use crate::hear::hear;
-use crate::kept::collect_kept;
-use crate::kept::hear_submit;
-use crate::reply::reply;
+use certificates::certificate::hear_certificate;
+use certificates::hear::hear;
+use certificates::reply::reply;
+use collecting::collect::submit_own;
+use collecting::kept::collect_kept;
+use collecting::kept::hear_submit;
+use phase::Phase;
 use protocol::Record;
 use store::sources::Place;
 use store::sources::Source;
 use wire::read::Kind;
-
-// Result of a phase: the record, and the next place in `out`.
-pub struct Phase {
-    pub unit: Record,
-    pub at: usize,
-}
 
 // A submit.
 pub fn submit_phase(

@@ -1,5 +1,5 @@
 -- `steps::confirm::confirm` meets its contract.
-use Rattle.steps.specs.PhasesLaws.{did-writing-one}
+use Rattle.phase.specs.PhasesLaws.{did-writing-one}
 use Rattle.protocol.specs.Step.{confirm, write}
 use Rattle.protocol.specs.Message.{Notice}
 use Rattle.protocol.specs.Record.{withConfirmed}

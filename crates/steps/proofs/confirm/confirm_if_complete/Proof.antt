@@ -5,7 +5,7 @@ use native.Mathlib.Omega.{arith}
 use denote.Ref.{now}
 use Rattle.layout.specs.declared.Bank.the-variants as bank
 use Rattle.store.specs.Sources.{bytesOf}
-use Rattle.steps.specs.CertificatesLaws.{readable-bank}
+use Rattle.certificates.specs.CertificatesLaws.{readable-bank}
 use Rattle.steps.specs.ConfirmingLaws.{confirmed-fits, confirmed-room, confirmIfComplete-complete, confirmIfComplete-incomplete}
 use borrow.Author.Needs.{needs}
 use Rattle.steps.proofs.confirm.confirm_if_complete.Statement.{statement}

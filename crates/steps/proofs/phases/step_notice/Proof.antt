@@ -8,7 +8,7 @@ use Rattle.protocol.specs.Message.{readValue}
 use Rattle.protocol.specs.Step.{noticesWith}
 use Rattle.wire.specs.MessageLaws.{long-enough}
 use Rattle.wire.specs.declared.read.Kind.the-variants as kind
-use Rattle.steps.specs.CertificatesLaws.{heard-fits, heard-room}
+use Rattle.certificates.specs.CertificatesLaws.{heard-fits, heard-room}
 use Rattle.steps.specs.StepsLaws.{ready-fits, all-fits, notice-heard}
 use borrow.Author.Needs.{needs}
 use Rattle.steps.proofs.phases.step_notice.Statement.{statement}

@@ -6,8 +6,8 @@ use native.Mathlib.Omega.{arith}
 use denote.Ref.{now}
 use Rattle.protocol.specs.Layout.{signatureLength, seatAt, valueAt, submitSignatureAt}
 use Rattle.protocol.specs.Message.{byteAt, readValue, readSignature}
-use Rattle.steps.specs.Phases.{Fits}
-use Rattle.steps.specs.KeepingLaws.{heard-submit-fits}
+use Rattle.phase.specs.Phases.{Fits}
+use Rattle.collecting.specs.KeepingLaws.{heard-submit-fits}
 use Rattle.steps.specs.StepsLaws.{ready-fits, rest-fits, submit-long, submit-signature, submit-seat, submit-heard}
 use borrow.Author.Needs.{needs}
 use Rattle.steps.proofs.phases.step_submit.Statement.{statement}
