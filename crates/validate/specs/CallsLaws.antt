@@ -11,14 +11,17 @@ use Rattle.octets.specs.Strings.{same}
 use Rattle.refusal.specs.Refusal.{firstOf, numbers, nonzero}
 use Rattle.refusal.specs.RefusalLaws.{both-false, firstOf-zero, refused-later, passed-first, rows-passed}
 use Rattle.protocol.specs.Layout.{valueLength, signatureLength, valueAt}
+use Rattle.protocol.specs.Values.{isLower}
 use Rattle.protocol.specs.Message.{Message, Submit, readValue, read, readFull, signed}
 use Rattle.protocol.specs.Certificate.{certificateOf, certificateIn}
-use Rattle.protocol.specs.Refusals.{Checks, Condition, every, said, wrongLengths, isForStep, isFull, isEvidence, badSignature, equalValues, SIGNATURE, NO-CONFLICT-IN, NO-CONFLICT-BETWEEN, outsideConditions, messageConditions, certificateConditions, twoConditions, evidenceConditions}
+use Rattle.protocol.specs.Refusals.{Checks, Condition, every, said, wrongLengths, isForStep, isFull, isEvidence, badSignature, lowerFirst, equalValues, SIGNATURE, NO-CONFLICT-IN, NO-CONFLICT-BETWEEN, outsideConditions, messageConditions, certificateConditions, twoConditions, evidenceConditions}
 use Rattle.protocol.specs.Signatures.{signatureNumber}
 use Rattle.protocol.specs.SignaturesLaws.{signature-row}
 use Rattle.protocol.specs.declared.Record.{Record}
 use Rattle.validate.specs.Messages.{Formed}
 use Rattle.validate.specs.MessagesLaws.{message-nonzero, message-formed}
+use Rattle.validate.specs.Places.{pairRead}
+use Rattle.validate.specs.declared.signatures.Pair.{Pair}
 use Rattle.validate.specs.Entries.{FullTaken, EvidenceTaken}
 use Rattle.validate.specs.EntriesLaws.{certificate-taken, pack-taken}
 use Rattle.validate.specs.Calls.{ownConditions, packConditions, Conflict}
@@ -77,6 +80,11 @@ evidence-right checks n round bytes number e z =
     pack-taken n round bytes (message-formed n round (isEvidence m) m number checks e z)
 
 -- ---- values
+
+pub pair-order : (bytes : List ℕ) (p : Pair) (lower higher : List ℕ) (b : Bool) → lower ≡ readValue (p .lower .value) bytes → higher ≡ readValue (p .higher .value) bytes
+    → b ≡ isLower lower higher → b ≡ lowerFirst (pairRead bytes p)
+unfolding lowerFirst
+pair-order bytes p lower higher b q r e = e ∙ rw (q, r)
 
 module _ (n : ℕ) (bytes : List ℕ) where
   pub certificate-says : FullTaken n bytes → (at : ℕ) → at ≡ valueAt → (value : List ℕ) → value ≡ readValue at bytes → value ≡ certificateIn (read n bytes) .value
