@@ -561,10 +561,10 @@ fn played(program: &Program, case: &Case, mut rng: Rng) -> Result<Kills, String>
     Ok(kills)
 }
 
-/// Points of a start that runs through, and of the next one.
+/// Points of a start that runs through, and of the next one; none where a bad host stops.
 fn points(program: &Program, script: &Script) -> [Vec<String>; 2] {
     let mut boat = Boat::new(program, script, Rng::new(seed(), "points"));
-    [1, 2].map(|_| boat.start(None).expect("a start").points)
+    [1, 2].map(|_| boat.start(None).map_or(Vec::new(), |start| start.points))
 }
 
 /// A kill at each point of the first start, and at each of the second one where the first was killed at its last point. Then one
