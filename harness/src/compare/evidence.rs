@@ -83,7 +83,8 @@ pub fn battery(subject: &dyn EvidenceCheck) {
             cases.extend(right_ones(fleet, pack, &mut rng));
             cases.extend(in_other_fleets(fleet, pack, &mut rng));
             if long() || [1, 2, 3, 4, 7, 10, 31, 32].contains(&n) {
-                cases.extend(refusals(fleet, pack, &mut rng));
+                cases.extend(refusals(fleet, pack, 1, &mut rng));
+                cases.extend(refusals(fleet, pack, n.min(3), &mut rng));
             }
         }
         cases.extend(one_of_each(fleet, &mut rng));
@@ -157,8 +158,7 @@ fn in_other_fleets(fleet: Fleet, pack: Pack, rng: &mut Rng) -> Vec<Case> {
     cases
 }
 
-fn refusals(fleet: Fleet, pack: Pack, rng: &mut Rng) -> Vec<Case> {
-    let count = (1 + rng.below(3) as u32).min(fleet.n);
+fn refusals(fleet: Fleet, pack: Pack, count: u32, rng: &mut Rng) -> Vec<Case> {
     let right = any_evidence(fleet, pack, &some_seats(fleet.n, count, rng), rng);
     let base = accepted("", fleet, pack, &right);
     let mut cases = whole_entries(&base, pack);
