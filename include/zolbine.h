@@ -18,7 +18,7 @@ extern "C" {
 /* The interface's version: a change of a call, a struct or a length raises it. zolbine_version answers that of the archive: a
  * program that was compiled with this header runs with an archive of the same version alone.
  */
-#define ZOLBINE_VERSION 3
+#define ZOLBINE_VERSION 4
 
 uint32_t zolbine_version(void);
 
@@ -39,18 +39,20 @@ enum {
     ZOLBINE_DISORDER = 12,     /* entry seats don't rise */
     ZOLBINE_EARLY = 13,        /* retired: no call answers it any more, and the number isn't used again */
     ZOLBINE_SIGNATURE = 14,    /* a signature doesn't check, or its leaf isn't the round */
-    ZOLBINE_NO_CONFLICT = 15,  /* values equal or not lower first */
+    ZOLBINE_NO_CONFLICT = 15,  /* evidence with an entry whose values are equal or not lower first; certificates of equal values */
     ZOLBINE_KEY_MATERIAL = 16  /* seed, identifier, randomizer or tree of another length */
 };
 
 /* Commands: the first byte of a message. docs/PROTOCOL.md has the bytes after it. */
 enum {
-    ZOLBINE_SUBMIT = 0x01,         /* a seat signs a value */
-    ZOLBINE_NOTICE = 0x02,         /* a seat has confirmed a value */
-    ZOLBINE_FULL = 0x03,           /* the signatures of k seats over one value */
-    ZOLBINE_FULL_ENTRY = 0x04,     /* first byte of an entry of a FULL */
-    ZOLBINE_EVIDENCE = 0x05,       /* seats that signed two values */
-    ZOLBINE_EVIDENCE_ENTRY = 0x06  /* first byte of an entry of an EVIDENCE */
+    ZOLBINE_SUBMIT = 0x01,             /* a seat signs a value */
+    ZOLBINE_NOTICE = 0x02,             /* a seat has confirmed a value */
+    ZOLBINE_FULL = 0x03,               /* the signatures of k seats over one value */
+    ZOLBINE_FULL_ENTRY = 0x04,         /* first byte of an entry of a FULL */
+    ZOLBINE_OLD_EVIDENCE = 0x05,       /* EVIDENCE in the old form, one pair of values for all seats: no call writes it */
+    ZOLBINE_OLD_EVIDENCE_ENTRY = 0x06, /* first byte of an entry of an EVIDENCE in the old form */
+    ZOLBINE_EVIDENCE = 0x07,           /* seats that signed two values, each with its own pair */
+    ZOLBINE_EVIDENCE_ENTRY = 0x08      /* first byte of an entry of an EVIDENCE */
 };
 
 /* Lengths in bytes, and the last leaf. In a message the command, a seat and a count have 1 byte, the round has 2. A name that ends
@@ -77,9 +79,13 @@ enum {
     ZOLBINE_FULL_COUNT_AT = 1 + 2 + 1 + ZOLBINE_VALUE_LEN,           /* in FULL: after the value */
     ZOLBINE_FULL_HEAD_LEN = 1 + 2 + 1 + ZOLBINE_VALUE_LEN + 1,       /* command, round, sender's seat, value, count */
     ZOLBINE_FULL_ENTRY_LEN = 1 + 1 + ZOLBINE_SIGNATURE_LEN,          /* command, seat, signature */
-    ZOLBINE_EVIDENCE_COUNT_AT = 1 + 2 + 2 * ZOLBINE_VALUE_LEN,       /* in EVIDENCE: after the two values */
-    ZOLBINE_EVIDENCE_HEAD_LEN = 1 + 2 + 2 * ZOLBINE_VALUE_LEN + 1,   /* command, round, two values, count */
-    ZOLBINE_EVIDENCE_ENTRY_LEN = 1 + 1 + 2 * ZOLBINE_SIGNATURE_LEN,  /* command, seat, two signatures */
+    ZOLBINE_OLD_EVIDENCE_COUNT_AT = 1 + 2 + 2 * ZOLBINE_VALUE_LEN,      /* in EVIDENCE of the old form: after the two values */
+    ZOLBINE_OLD_EVIDENCE_HEAD_LEN = 1 + 2 + 2 * ZOLBINE_VALUE_LEN + 1,  /* command, round, two values, count */
+    ZOLBINE_OLD_EVIDENCE_ENTRY_LEN = 1 + 1 + 2 * ZOLBINE_SIGNATURE_LEN, /* command, seat, two signatures */
+    ZOLBINE_EVIDENCE_COUNT_AT = 1 + 2,                               /* in EVIDENCE: after the round */
+    ZOLBINE_EVIDENCE_HEAD_LEN = 1 + 2 + 1,                           /* command, round, count */
+    ZOLBINE_EVIDENCE_ENTRY_LEN =                                     /* command, seat, two values, two signatures */
+        1 + 1 + 2 * ZOLBINE_VALUE_LEN + 2 * ZOLBINE_SIGNATURE_LEN,
     ZOLBINE_NOTE_LEN = 1 + 1 + 1 + 2 + 1 + 4 * 4 + 3 * ZOLBINE_VALUE_LEN /* command, n, seat, round, flags, masks, values */
 };
 
@@ -91,8 +97,8 @@ enum {
 #endif
 
 /* Lengths by n, the number of seats, from 1 to 32. It takes the signatures of k = n - t0 seats to confirm a value, and more than
- * t0 double signers, t0 = n/3 rounded up, less one, to have two confirmed. An EVIDENCE is as long as its count of entries, 1 to
- * n, makes it. Each takes a number of any integer type and is a size_t, a constant where the number is one.
+ * t0 double signers, t0 = n/3 rounded up, less one, to have two confirmed. An EVIDENCE of either form is as long as its count of
+ * entries, 1 to n, makes it. Each takes a number of any integer type and is a size_t, a constant where the number is one.
  */
 #define ZOLBINE_T0(n) ((ZOLBINE_AS_SIZE(n) + 2) / 3 - 1)
 #define ZOLBINE_K(n) (ZOLBINE_AS_SIZE(n) - ZOLBINE_T0(n))
@@ -100,13 +106,15 @@ enum {
 #define ZOLBINE_STORE_LEN(n) ((3 * ZOLBINE_SIGNATURE_LEN + ZOLBINE_VALUE_LEN) * ZOLBINE_AS_SIZE(n))
 #define ZOLBINE_FULL_LEN(n) (ZOLBINE_FULL_HEAD_LEN + ZOLBINE_FULL_ENTRY_LEN * ZOLBINE_K(n))
 #define ZOLBINE_EVIDENCE_LEN(count) (ZOLBINE_EVIDENCE_HEAD_LEN + ZOLBINE_EVIDENCE_ENTRY_LEN * ZOLBINE_AS_SIZE(count))
+#define ZOLBINE_OLD_EVIDENCE_LEN(count) \
+    (ZOLBINE_OLD_EVIDENCE_HEAD_LEN + ZOLBINE_OLD_EVIDENCE_ENTRY_LEN * ZOLBINE_AS_SIZE(count))
 #define ZOLBINE_EVIDENCE_OUT_LEN(n) ZOLBINE_EVIDENCE_LEN(ZOLBINE_K(n)) /* out of zolbine_make_evidence */
 /* out of zolbine_submit and of the steps: room for one message of each kind */
 #define ZOLBINE_OUT_LEN(n) (ZOLBINE_SUBMIT_LEN + ZOLBINE_NOTICE_LEN + ZOLBINE_FULL_LEN(n) + ZOLBINE_EVIDENCE_OUT_LEN(n))
 
 /* The length of the first message in a buffer, for splitting the bytes that a call wrote into messages: 0 where no message of a
  * fleet of n seats stands there whole, with its command, length, count and entry commands right. Also 0 for n outside 1 to 32.
- * Seats, round and signatures aren't looked at.
+ * Seats, round, values and signatures aren't looked at. EVIDENCE in the old form is a message too.
  */
 uint32_t zolbine_message_length(uint32_t n, const uint8_t *bytes, size_t bytes_len);
 
@@ -154,10 +162,11 @@ struct zolbine_verdict {
     uint32_t mask;   /* the seats that the evidence names, seat s being bit s; 0 with a refusal */
 };
 
-/* The evidence check: an EVIDENCE command of a fleet of n seats in a round, under the fleet's key table (56 * n bytes, seat s's
- * key at byte 56 * s, types 6 and 4). Accepted evidence names double signers: each seat in the mask signed two layouts in the
- * round. Refusals: ZOLBINE_SIZE, ZOLBINE_ROUND, ZOLBINE_KEYS, ZOLBINE_GARBLED, ZOLBINE_OTHER_ROUND, ZOLBINE_STRANGER,
- * ZOLBINE_DISORDER, ZOLBINE_SIGNATURE, ZOLBINE_NO_CONFLICT. Signatures are checked only after everything cheaper has passed.
+/* The evidence check: an EVIDENCE command, in the old form too, of a fleet of n seats in a round, under the fleet's key table
+ * (56 * n bytes, seat s's key at byte 56 * s, types 6 and 4). Accepted evidence names double signers: each seat in the mask signed
+ * two layouts in the round. Refusals: ZOLBINE_SIZE, ZOLBINE_ROUND, ZOLBINE_KEYS, ZOLBINE_GARBLED, ZOLBINE_OTHER_ROUND,
+ * ZOLBINE_STRANGER, ZOLBINE_DISORDER, ZOLBINE_SIGNATURE (of any entry), ZOLBINE_NO_CONFLICT (of any entry). Signatures are checked
+ * only after everything cheaper has passed.
  */
 struct zolbine_verdict zolbine_check_evidence(uint32_t n, uint32_t round,
                                               const uint8_t *keys, size_t keys_len,
@@ -208,7 +217,7 @@ struct zolbine_record {
     struct zolbine_notices notices; /* notices heard */
     struct zolbine_first first;     /* the first certificate held */
     bool sent;                      /* whether FULL was sent */
-    uint32_t guilty;                /* seats shown to have signed two values */
+    uint32_t guilty;                /* seats shown to have signed two values: those that the EVIDENCEs written so far name */
     uint32_t kept;                  /* seats whose SUBMIT came before the own submit and is kept in the store; none after it */
 };
 
@@ -270,8 +279,11 @@ struct zolbine_opened zolbine_open(uint32_t n, uint32_t seat, uint32_t round,
  * order until k are; they were checked when they came, and aren't checked again. With k the unit confirms in this very call. The
  * store has ZOLBINE_STORE_LEN(n) bytes or more and holds the signatures that the record speaks of: the two belong together, and a
  * round's first call takes a store of any bytes. Out has ZOLBINE_OUT_LEN(n) bytes or more. Everything written to out is to be
- * sent, in its order, each message by itself: zolbine_message_length tells where one ends. Refusals: ZOLBINE_RECORD,
- * ZOLBINE_KEYS, ZOLBINE_STORE, ZOLBINE_OUT, ZOLBINE_SAID, ZOLBINE_GARBLED (a length), ZOLBINE_SIGNATURE (the own one).
+ * sent, in its order, each message by itself: zolbine_message_length tells where one ends. SUBMIT, NOTICE and FULL are written once
+ * in a round at most. EVIDENCE may be written in several calls of a round, t0 + 1 at most: each certificate, heard or the own one,
+ * that shows more double signers brings one. It names those seats alone; the first in a round names t0 + 1 or more. Refusals:
+ * ZOLBINE_RECORD, ZOLBINE_KEYS, ZOLBINE_STORE, ZOLBINE_OUT, ZOLBINE_SAID, ZOLBINE_GARBLED (a length), ZOLBINE_SIGNATURE (the own
+ * one).
  */
 struct zolbine_stepped zolbine_submit(struct zolbine_record record,
                                       const uint8_t *keys, size_t keys_len,
@@ -280,11 +292,11 @@ struct zolbine_stepped zolbine_submit(struct zolbine_record record,
                                       const uint8_t *signature, size_t signature_len,
                                       uint8_t *out, size_t out_len);
 
-/* A step: a SUBMIT, NOTICE or FULL heard, with store and out as for zolbine_submit. Each message is given when it comes, also
- * before the own submit: of each seat the first SUBMIT that checks is then kept, with its value, for the own submit to collect. A
- * second SUBMIT of a seat that is kept or collected is checked and changes nothing. Refusals: ZOLBINE_RECORD, ZOLBINE_KEYS,
- * ZOLBINE_STORE, ZOLBINE_OUT, ZOLBINE_GARBLED, ZOLBINE_OTHER_ROUND, ZOLBINE_STRANGER, ZOLBINE_DISORDER, ZOLBINE_SIGNATURE.
- * Signatures are checked only after everything cheaper has passed.
+/* A step: a SUBMIT, NOTICE or FULL heard, with store and out as for zolbine_submit. EVIDENCE goes to zolbine_check_evidence, and
+ * is garbled here. Each message is given when it comes, also before the own submit: of each seat the first SUBMIT that checks is
+ * then kept, with its value, for the own submit to collect. A second SUBMIT of a seat that is kept or collected is checked and
+ * changes nothing. Refusals: ZOLBINE_RECORD, ZOLBINE_KEYS, ZOLBINE_STORE, ZOLBINE_OUT, ZOLBINE_GARBLED, ZOLBINE_OTHER_ROUND,
+ * ZOLBINE_STRANGER, ZOLBINE_DISORDER, ZOLBINE_SIGNATURE. Signatures are checked only after everything cheaper has passed.
  */
 struct zolbine_stepped zolbine_step(struct zolbine_record record,
                                     const uint8_t *keys, size_t keys_len,

@@ -33,24 +33,33 @@ static void start(uint8_t command)
     message[ZOLBINE_ROUND_AT + 1] = OTHER_ROUND;
 }
 
-static void full(uint32_t n)
+/* A message of so many entries, all zeros but for their command. */
+static void with_entries(uint8_t command, size_t count_at, size_t head_len, size_t entry_len, uint8_t entry_command, uint32_t count)
 {
     uint32_t i;
 
-    start(ZOLBINE_FULL);
-    message[ZOLBINE_FULL_COUNT_AT] = (uint8_t)ZOLBINE_K(n);
-    for (i = 0; i < ZOLBINE_K(n); i++)
-        message[ZOLBINE_FULL_HEAD_LEN + ZOLBINE_FULL_ENTRY_LEN * i] = ZOLBINE_FULL_ENTRY;
+    start(command);
+    message[count_at] = (uint8_t)count;
+    for (i = 0; i < count; i++)
+        message[head_len + entry_len * i] = entry_command;
+}
+
+static void full(uint32_t n)
+{
+    with_entries(ZOLBINE_FULL, ZOLBINE_FULL_COUNT_AT, ZOLBINE_FULL_HEAD_LEN, ZOLBINE_FULL_ENTRY_LEN, ZOLBINE_FULL_ENTRY,
+                 (uint32_t)ZOLBINE_K(n));
 }
 
 static void evidence(uint32_t count)
 {
-    uint32_t i;
+    with_entries(ZOLBINE_EVIDENCE, ZOLBINE_EVIDENCE_COUNT_AT, ZOLBINE_EVIDENCE_HEAD_LEN, ZOLBINE_EVIDENCE_ENTRY_LEN,
+                 ZOLBINE_EVIDENCE_ENTRY, count);
+}
 
-    start(ZOLBINE_EVIDENCE);
-    message[ZOLBINE_EVIDENCE_COUNT_AT] = (uint8_t)count;
-    for (i = 0; i < count; i++)
-        message[ZOLBINE_EVIDENCE_HEAD_LEN + ZOLBINE_EVIDENCE_ENTRY_LEN * i] = ZOLBINE_EVIDENCE_ENTRY;
+static void old_evidence(uint32_t count)
+{
+    with_entries(ZOLBINE_OLD_EVIDENCE, ZOLBINE_OLD_EVIDENCE_COUNT_AT, ZOLBINE_OLD_EVIDENCE_HEAD_LEN,
+                 ZOLBINE_OLD_EVIDENCE_ENTRY_LEN, ZOLBINE_OLD_EVIDENCE_ENTRY, count);
 }
 
 static uint32_t stepped(struct zolbine_record record, size_t len, size_t store_len, size_t out_len)
@@ -87,7 +96,7 @@ static void message_is(const char *what, struct zolbine_record record, size_t le
     is(what, 0, zolbine_message_length(0, message, sizeof message), 0);
     for (tried = len - 1; tried <= len + 1; tried++) {
         uint32_t expected = tried == len ? ZOLBINE_OTHER_ROUND : ZOLBINE_GARBLED;
-        uint32_t number = message[0] == ZOLBINE_EVIDENCE
+        uint32_t number = message[0] == ZOLBINE_EVIDENCE || message[0] == ZOLBINE_OLD_EVIDENCE
             ? zolbine_check_evidence(n, ROUND, keys, ZOLBINE_KEYS_LEN(n), message, tried).number
             : stepped(record, tried, ZOLBINE_STORE_LEN(n), ZOLBINE_OUT_LEN(n));
         is(what, n, number, expected);
@@ -178,11 +187,19 @@ static void by_n(uint32_t n)
         message_is("EVIDENCE", record, ZOLBINE_EVIDENCE_LEN(count));
         message[ZOLBINE_EVIDENCE_HEAD_LEN + ZOLBINE_EVIDENCE_ENTRY_LEN * (count - 1)] ^= 1;
         is("an entry command", n, zolbine_message_length(n, message, sizeof message), 0);
+        old_evidence(count);
+        message_is("old EVIDENCE", record, ZOLBINE_OLD_EVIDENCE_LEN(count));
+        message[ZOLBINE_OLD_EVIDENCE_HEAD_LEN + ZOLBINE_OLD_EVIDENCE_ENTRY_LEN * (count - 1)] ^= 1;
+        is("an old entry command", n, zolbine_message_length(n, message, sizeof message), 0);
     }
     evidence(n + 1);
     is("a count above n", n, zolbine_message_length(n, message, sizeof message), 0);
     evidence(0);
     is("a count of 0", n, zolbine_message_length(n, message, sizeof message), 0);
+    old_evidence(n + 1);
+    is("an old count above n", n, zolbine_message_length(n, message, sizeof message), 0);
+    old_evidence(0);
+    is("an old count of 0", n, zolbine_message_length(n, message, sizeof message), 0);
     start(ZOLBINE_FULL_ENTRY);
     is("no command", n, zolbine_message_length(n, message, sizeof message), 0);
     is("no byte", n, zolbine_message_length(n, message, 0), 0);
@@ -200,6 +217,7 @@ static void by_byte(uint8_t n)
     is("store", n, ZOLBINE_STORE_LEN(n) == ZOLBINE_STORE_LEN(wide), true);
     is("FULL", n, ZOLBINE_FULL_LEN(n) == ZOLBINE_FULL_LEN(wide), true);
     is("EVIDENCE", n, ZOLBINE_EVIDENCE_LEN(n) == ZOLBINE_EVIDENCE_LEN(wide), true);
+    is("old EVIDENCE", n, ZOLBINE_OLD_EVIDENCE_LEN(n) == ZOLBINE_OLD_EVIDENCE_LEN(wide), true);
     is("out, evidence", n, ZOLBINE_EVIDENCE_OUT_LEN(n) == ZOLBINE_EVIDENCE_OUT_LEN(wide), true);
     is("out", n, ZOLBINE_OUT_LEN(n) == ZOLBINE_OUT_LEN(wide), true);
     is("out", n, ZOLBINE_OUT_LEN(n) == CONSTANT, n == N);

@@ -67,7 +67,7 @@ pub fn garbled(message: &[u8], rng: &mut Rng) -> (&'static str, Vec<u8>) {
             "noise"
         }
         5 => {
-            garbled[0] = rng.below(8) as u8;
+            garbled[0] = rng.below(10) as u8;
             "with another command"
         }
         6 => {

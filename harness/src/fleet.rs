@@ -60,6 +60,12 @@ pub fn layouts() -> Vec<Value> {
     ]
 }
 
+/// So many different ones of them.
+pub fn some_layouts<const COUNT: usize>(rng: &mut Rng) -> [Value; COUNT] {
+    let mut all = layouts();
+    [0; COUNT].map(|_| all.swap_remove(rng.below(all.len())))
+}
+
 /// Two signatures of a seat over one layout differ by their randomizer; a hand stands for one of them.
 pub const HANDS: u32 = 2;
 
@@ -93,14 +99,21 @@ impl Fleet {
         Full { round: self.round, sender, value: *value, entries: seats.iter().map(entry).collect() }
     }
 
+    /// All seats with the same two values.
     pub fn evidence(self, lower: (&Value, u32), higher: (&Value, u32), seats: &[u32]) -> Evidence {
-        let entry = |&seat: &u32| EvidenceEntry {
+        let entries = seats.iter().map(|&seat| self.pair(seat, lower, higher)).collect();
+        Evidence { round: self.round, entries }
+    }
+
+    /// A seat's two values, each with the hand that signs it.
+    pub fn pair(self, seat: u32, lower: (&Value, u32), higher: (&Value, u32)) -> EvidenceEntry {
+        EvidenceEntry {
             seat,
+            lower: *lower.0,
+            higher: *higher.0,
             over_lower: self.signature(seat, lower.0, lower.1),
             over_higher: self.signature(seat, higher.0, higher.1),
-        };
-        let entries = seats.iter().map(entry).collect();
-        Evidence { round: self.round, lower: *lower.0, higher: *higher.0, entries }
+        }
     }
 }
 

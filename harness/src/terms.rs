@@ -5,7 +5,7 @@ use std::iter::Peekable;
 
 use crate::fleet::Fleet;
 use crate::hex;
-use crate::reference::messages::Value;
+use crate::reference::messages::{Evidence, Value};
 
 /// The words of a line.
 pub type Words<'a> = Peekable<std::str::SplitWhitespace<'a>>;
@@ -97,13 +97,26 @@ impl Terms {
                 expect(words, "of")?;
                 fleet.full(sender, &value, &seats(words), hand).write()
             }
-            "EVIDENCE" => {
-                let (lower, higher) = (self.layout(words)?, self.layout(words)?);
-                expect(words, "of")?;
-                fleet.evidence((&lower.0, lower.1), (&higher.0, higher.1), &seats(words)).write()
+            "EVIDENCE" => self.evidence(words)?.write(),
+            "OLD" => {
+                expect(words, "EVIDENCE")?;
+                self.evidence(words)?.write_old()
             }
             word => return Err(format!("`{word}` is no message")),
         })
+    }
+
+    /// `A B of 2 3`, and `A B of 2 3 A C of 5` where a seat has other values.
+    fn evidence(&self, words: &mut Words) -> Result<Evidence, String> {
+        let mut entries = Vec::new();
+        loop {
+            let (lower, higher) = (self.layout(words)?, self.layout(words)?);
+            expect(words, "of")?;
+            entries.extend(self.fleet.evidence((&lower.0, lower.1), (&higher.0, higher.1), &seats(words)).entries);
+            if !words.peek().is_some_and(|word| self.layouts.contains_key(word.trim_end_matches('\''))) {
+                return Ok(Evidence { round: self.fleet.round, entries });
+            }
+        }
     }
 }
 

@@ -2,6 +2,8 @@
 
 use crate::hex;
 use crate::reference::lms::Types;
+use crate::reference::record::Verdict;
+use crate::terms;
 
 /// A public key, a message and a signature with the expected verdict.
 pub struct Record {
@@ -52,16 +54,15 @@ impl Fields {
         bytes(self.get(name).unwrap_or_else(|| panic!("no field {name}")))
     }
 
+    fn number(&self, name: &str) -> u32 {
+        self.get(name).and_then(|value| value.parse().ok()).unwrap_or_else(|| panic!("no {name}"))
+    }
+
     fn made(&self, lms_name: &str, ots_name: &str) -> Option<Made> {
         let seed = bytes(self.get("SEED")?);
-        let number = |name| self.get(name).and_then(|value| value.parse().ok()).unwrap_or_else(|| panic!("no {name}"));
-        Some(Made {
-            types: Types::of(number(lms_name), number(ots_name)).expect("types that the reference knows"),
-            identifier: self.bytes("I"),
-            seed,
-            q: number("q"),
-            randomizer: self.bytes("C"),
-        })
+        let types = Types::of(self.number(lms_name), self.number(ots_name)).expect("types that the reference knows");
+        let (identifier, q, randomizer) = (self.bytes("I"), self.number("q"), self.bytes("C"));
+        Some(Made { types, identifier, seed, q, randomizer })
     }
 }
 
@@ -109,9 +110,13 @@ pub fn lines(file: &str) -> Vec<Record> {
     records
 }
 
-/// The blocks of rfc8554-vectors.txt, each parted from the next by an empty line.
 pub fn rfc_blocks() -> Vec<Fields> {
-    let text = read("rfc8554-vectors.txt");
+    blocks("rfc8554-vectors.txt")
+}
+
+/// The blocks of a file, each parted from the next by an empty line.
+fn blocks(file: &str) -> Vec<Fields> {
+    let text = read(file);
     let blocks = text.split("\n\n").map(|block| {
         let lines = block.lines().filter(|line| !line.starts_with('#'));
         Fields::of(lines.filter_map(|line| line.split_once(" = ")))
@@ -133,4 +138,41 @@ pub fn rfc_levels() -> Vec<Record> {
         made: level.made("lms_type", "ots_type"),
     });
     records.collect()
+}
+
+/// A pack of evidence, and the answer that the check of the commit that made it gave.
+#[derive(Clone)]
+pub struct Pack {
+    pub what: String,
+    pub n: u32,
+    pub round: u32,
+    pub keys: Vec<u8>,
+    pub evidence: Vec<u8>,
+    pub answer: Verdict,
+}
+
+/// The packs of old-evidence.txt. A block with a change is about the last whole one, with some bytes changed.
+pub fn old_evidence() -> Vec<Pack> {
+    let mut packs = Vec::new();
+    let mut whole: Option<Pack> = None;
+    for block in blocks("old-evidence.txt") {
+        let mask = block.bytes("mask").try_into().expect("a mask of 32 bits");
+        let answer = Verdict { number: block.number("number"), mask: u32::from_be_bytes(mask) };
+        let pack = if let Some(change) = block.get("change") {
+            let mut pack = Pack { answer, ..whole.clone().expect("a pack before a change") };
+            let mut words = change.split_whitespace().peekable();
+            while let Some(word) = words.next() {
+                assert_eq!(terms::change(word, &mut words, &mut pack.evidence), Ok(true), "{change}");
+            }
+            pack.what += &format!(", {change}");
+            pack
+        } else {
+            let what = block.get("pack").expect("a pack or a change").to_string();
+            let (n, round) = (block.number("n"), block.number("round"));
+            let (keys, evidence) = (block.bytes("keys"), block.bytes("evidence"));
+            whole.insert(Pack { what, n, round, keys, evidence, answer }).clone()
+        };
+        packs.push(pack);
+    }
+    packs
 }

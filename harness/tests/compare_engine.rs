@@ -1,7 +1,7 @@
 //! Opening, submit and step against the reference.
 #![cfg(feature = "zolbine")]
 
-use harness::compare::engine::{kept, lists, opening, power, records, refusals, Subject};
+use harness::compare::engine::{culprits, kept, lists, opening, power, records, refusals, Subject};
 use harness::library::Library;
 
 const SUBJECT: Subject<'static> = Subject { engine: &Library, lent: &Library, notes: &Library };
@@ -24,6 +24,11 @@ fn refusals_alone_and_together() {
 #[test]
 fn submits_before_the_own() {
     kept::battery(SUBJECT);
+}
+
+#[test]
+fn culprits_of_many_certificates() {
+    culprits::battery(SUBJECT);
 }
 
 #[test]

@@ -4,17 +4,17 @@
 use std::cell::RefCell;
 use std::collections::BTreeMap;
 
+use harness::compare::messages::PACKS;
 use harness::compare::progress;
 use harness::confirmer::{Engine, EvidenceCheck, Framing, LentStep, Making, Notes};
 use harness::fleet::{layouts, Fleet};
 use harness::library::Library;
 use harness::reference::calls::{MAX_LEAF, MAX_MESSAGE, TREE};
 use harness::reference::layout::{
-    self, ENTRY_SEAT_AT, EVIDENCE_ENTRIES_AT, EVIDENCE_ENTRY, FULL_ENTRIES_AT, FULL_ENTRY, NOTE_N_AT, ROUND_AT,
-    SEAT_AT, SIGNATURE, SIGNED,
+    self, ENTRY_SEAT_AT, FULL_ENTRIES_AT, FULL_ENTRY, NOTE_N_AT, ROUND_AT, SEAT_AT, SIGNATURE, SIGNED,
 };
 use harness::reference::lms::{IDENTIFIER, N, PUBLIC_KEY};
-use harness::reference::messages::Value;
+use harness::reference::messages::{Evidence, Value};
 use harness::reference::record::Record;
 use harness::stack::used;
 use harness::subject::Calls;
@@ -76,6 +76,7 @@ fn the_stated_stack_is_enough() {
         message_lengths(&depths, fleet);
         round(&depths, fleet);
         slow(&depths, fleet);
+        culprits(&depths, fleet);
         refused_arguments(&depths, fleet);
         refused_steps(&depths, fleet);
     }
@@ -141,12 +142,12 @@ fn quorum(fleet: Fleet) -> Vec<u32> {
 fn message_lengths(depths: &Depths, fleet: Fleet) {
     let n = fleet.n;
     let [value, other] = two_layouts();
-    let messages = [
+    let mut messages = vec![
         fleet.submit(0, &value, 0).write(),
         fleet.notice(0, &value).write(),
         fleet.full(0, &value, &quorum(fleet), 0).write(),
-        fleet.evidence((&value, 0), (&other, 0), &fleet.seats()).write(),
     ];
+    messages.extend(PACKS.map(|pack| (pack.write)(&fleet.evidence((&value, 0), (&other, 0), &fleet.seats()))));
     let length = |n: u32, bytes: &[u8]| depths.of("message_length", || (0, Library.message_length(n, bytes))).1;
     for message in messages {
         assert_eq!(length(n, &message), message.len() as u32);
@@ -243,11 +244,14 @@ fn round(depths: &Depths, fleet: Fleet) {
     }
     let first = written as usize - layout::evidence(fleet.k());
     let evidence = unit.out[first..written as usize].to_vec();
-    let (number, named) = depths.of("check_evidence", || {
-        let verdict = Library.check_evidence(n, round, &unit.keys, &evidence);
-        (verdict.number, verdict.mask)
-    });
-    assert_eq!((number, named.count_ones()), (0, fleet.k()));
+    let old = Evidence::read(&evidence, n).expect("evidence").write_old();
+    for evidence in [evidence, old] {
+        let (number, named) = depths.of("check_evidence", || {
+            let verdict = Library.check_evidence(n, round, &unit.keys, &evidence);
+            (verdict.number, verdict.mask)
+        });
+        assert_eq!((number, named.count_ones()), (0, fleet.k()));
+    }
     let [one, another] = [value, other].map(|value| fleet.full(0, &value, &quorum, 0).write());
     let mut make = |number: u32, first: &[u8], second: &[u8]| {
         let out = &mut unit.out[..layout::evidence_out(n)];
@@ -275,6 +279,20 @@ fn slow(depths: &Depths, fleet: Fleet) {
     assert_eq!(unit.submit(depths, &value, &fleet.signature(0, &value, 0)), (0, written));
 }
 
+/// A unit that hears three certificates: the second shows as few seats as can be, and the third the others, where there are any.
+fn culprits(depths: &Depths, fleet: Fleet) {
+    let [value, other] = two_layouts();
+    let (k, outside) = (fleet.k(), fleet.n - fleet.k());
+    let last: Vec<u32> = (outside..fleet.n).collect();
+    let mut unit = Unit::open(depths, fleet);
+    for (value, seats, named) in
+        [(other, quorum(fleet), 0), (value, last, k - outside), (value, quorum(fleet), outside)]
+    {
+        let written = if named == 0 { 0 } else { layout::evidence(named) as u32 };
+        assert_eq!(unit.hear(depths, "FULL", &fleet.full(0, &value, &seats, 0).write()), (0, written));
+    }
+}
+
 /// Refusals of the calls that stand outside a record, before they come to a signature.
 fn refused_arguments(depths: &Depths, fleet: Fleet) {
     let Fleet { n, round } = fleet;
@@ -287,12 +305,14 @@ fn refused_arguments(depths: &Depths, fleet: Fleet) {
     }
     depths.refused("open", 2, || Library.open(n, n, round, &keys).number);
 
-    let evidence = fleet.evidence((&value, 0), (&other, 0), &quorum(fleet)).write();
-    for (number, n, round, keys) in wrong_arguments {
-        depths.refused("check_evidence", number, || Library.check_evidence(n, round, keys, &evidence).number);
-    }
-    for (number, wrong) in wrong_messages(fleet, &evidence, EVIDENCE_ENTRIES_AT, EVIDENCE_ENTRY) {
-        depths.refused("check_evidence", number, || Library.check_evidence(n, round, &keys, &wrong).number);
+    for pack in PACKS {
+        let evidence = (pack.write)(&fleet.evidence((&value, 0), (&other, 0), &quorum(fleet)));
+        for (number, n, round, keys) in wrong_arguments {
+            depths.refused("check_evidence", number, || Library.check_evidence(n, round, keys, &evidence).number);
+        }
+        for (number, wrong) in wrong_messages(fleet, &evidence, pack.entries_at, pack.entry) {
+            depths.refused("check_evidence", number, || Library.check_evidence(n, round, &keys, &wrong).number);
+        }
     }
 
     let [one, another] = [value, other].map(|value| fleet.full(0, &value, &quorum(fleet), 0).write());

@@ -2,14 +2,16 @@
 
 use std::panic::{catch_unwind, set_hook, take_hook, AssertUnwindSafe};
 
-use harness::compare::engine::{self, kept, lists, opening, power, records, refusals};
+use harness::compare::engine::{self, culprits, kept, lists, opening, power, records, refusals};
 use harness::compare::{check_signature, evidence, framing, hashes, make_key, making, notes, progress, sign};
 use harness::confirmer::Reference;
 use harness::script;
 use mutants::{Mutant, Subject};
 
-const OF_THE_CONFIRMER: [&str; 11] =
-    ["evidence", "framing", "kept", "lists", "making", "notes", "opening", "power", "records", "refusals", "rounds"];
+const OF_THE_CONFIRMER: [&str; 12] = [
+    "culprits", "evidence", "framing", "kept", "lists", "making", "notes", "opening", "power", "records", "refusals",
+    "rounds",
+];
 const OF_SIGNATURES: [&str; 3] = ["check", "make_key", "sign"];
 const OF_HASHES: [&str; 2] = ["compressions", "digests"];
 
@@ -26,6 +28,7 @@ fn run(battery: &str, subject: Subject) {
         Subject::Confirmer(confirmer) => {
             let engine = engine::Subject { engine: confirmer, lent: confirmer, notes: confirmer };
             match battery {
+                "culprits" => culprits::battery(engine),
                 "evidence" => evidence::battery(confirmer),
                 "framing" => framing::battery(confirmer),
                 "kept" => kept::battery(engine),

@@ -2,15 +2,15 @@
 //! bytes. Rounds, seats, values and signatures are random: the length doesn't depend on them.
 
 use super::arguments::untouched;
+use super::messages::{other_entry_commands, two_faced, Pack, PACKS};
 use super::{equal, for_each_n, sized};
 use crate::confirmer::Framing;
 use crate::fleet::some_seats;
 use crate::guarded::Guarded;
-use crate::reference::layout::{
-    self, EVIDENCE_COUNT_AT, EVIDENCE_ENTRIES_AT, FULL_COUNT_AT, FULL_ENTRIES_AT, SIGNATURE,
-};
+use crate::reference::layout::{self, FULL_COUNT_AT, FULL_ENTRIES_AT, SIGNATURE};
 use crate::reference::messages::{
-    message_length, Evidence, EvidenceEntry, Full, FullEntry, Notice, Submit, Value, EVIDENCE, FULL, NOTICE, SUBMIT,
+    message_length, Evidence, EvidenceEntry, Full, FullEntry, Notice, Submit, Value, EVIDENCE, FULL, NOTICE,
+    OLD_EVIDENCE, SUBMIT,
 };
 use crate::reference::quorum::k;
 use crate::rng::Rng;
@@ -46,14 +46,18 @@ impl Compared<'_> {
         counts.sort();
         counts.dedup();
         for count in counts {
-            self.evidence(n, count)?;
+            for pack in PACKS {
+                self.evidence(n, pack, count)?;
+            }
         }
+        self.both_commands(n)?;
+        let lengths =
+            [1, layout::NOTICE, layout::SUBMIT, layout::full(k(n)), layout::evidence(n), layout::old_evidence(n)];
         for _ in 0..sized(400) {
-            let length = *self.rng.pick(&[1, layout::NOTICE, layout::SUBMIT, layout::full(k(n)), layout::evidence(n)]);
-            let length = (length + 1).saturating_sub(self.rng.below(3));
+            let length = (self.rng.pick(&lengths) + 1).saturating_sub(self.rng.below(3));
             let mut bytes = self.rng.bytes(length);
             if let Some(command) = bytes.first_mut() {
-                *command = self.rng.below(8) as u8;
+                *command = self.rng.below(10) as u8;
             }
             self.agree("random bytes", n, &bytes)?;
         }
@@ -78,27 +82,45 @@ impl Compared<'_> {
         Ok(())
     }
 
-    fn evidence(&mut self, n: u32, count: u32) -> Result<(), String> {
-        let (round, lower, higher) = (number(16, self.rng), value(self.rng), value(self.rng));
+    fn evidence(&mut self, n: u32, pack: Pack, count: u32) -> Result<(), String> {
+        let Pack { name, count_at, .. } = pack;
+        let (lower, higher) = (value(self.rng), value(self.rng));
         let entry = |_| EvidenceEntry {
             seat: number(8, self.rng),
+            lower,
+            higher,
             over_lower: self.rng.bytes(SIGNATURE),
             over_higher: self.rng.bytes(SIGNATURE),
         };
         let entries = (0..count).map(entry).collect();
-        let bytes = Evidence { round, lower, higher, entries }.write();
-        self.message("EVIDENCE", n, &bytes, layout::evidence(count))?;
+        let bytes = (pack.write)(&Evidence { round: number(16, self.rng), entries });
+        self.message(name, n, &bytes, pack.length(count))?;
         for wrong in [0, count + 1, n + 1, 33, 128 + count, 255] {
-            self.refused("EVIDENCE of another count", n, &bytes, EVIDENCE_COUNT_AT, wrong as u8)?;
+            self.refused(&format!("{name} of another count"), n, &bytes, count_at, wrong as u8)?;
         }
         if count > 1 {
-            let fewer = with(&bytes, EVIDENCE_COUNT_AT, count as u8 - 1);
-            self.is("EVIDENCE and an entry behind it", n, &fewer, layout::evidence(count - 1))?;
+            let fewer = with(&bytes, count_at, count as u8 - 1);
+            self.is(&format!("{name} and an entry behind it"), n, &fewer, pack.length(count - 1))?;
         }
-        self.entry_commands("EVIDENCE", n, &bytes, EVIDENCE_ENTRIES_AT, layout::EVIDENCE_ENTRY)?;
+        self.entry_commands(name, n, &bytes, pack.entries_at, pack.entry)?;
         for other in 1..=32 {
             let length = if count <= other { bytes.len() } else { 0 };
-            self.is("EVIDENCE in another fleet", other, &bytes, length)?;
+            self.is(&format!("{name} in another fleet"), other, &bytes, length)?;
+        }
+        Ok(())
+    }
+
+    /// A pack of one entry that is as long by either command.
+    fn both_commands(&mut self, n: u32) -> Result<(), String> {
+        let (seat, over_lower, over_higher) = (n - 1, self.rng.bytes(SIGNATURE), self.rng.bytes(SIGNATURE));
+        let (lower, higher) = two_faced(seat);
+        let entries = vec![EvidenceEntry { seat, lower, higher, over_lower, over_higher }];
+        let evidence = Evidence { round: number(16, self.rng), entries };
+        for pack in PACKS {
+            for other in PACKS {
+                let bytes = with(&(pack.write)(&evidence), 0, other.command);
+                self.is(&format!("{} as {}", pack.name, other.name), n, &bytes, other.length(1))?;
+            }
         }
         Ok(())
     }
@@ -109,15 +131,16 @@ impl Compared<'_> {
         for rest in [vec![0], self.rng.bytes(1), self.rng.bytes(layout::FULL_ENTRY), bytes.to_vec()] {
             self.is(&format!("{what} and {} bytes", rest.len()), n, &[bytes, &rest].concat(), length)?;
         }
-        let mut cuts = vec![1, 2, FULL_COUNT_AT, EVIDENCE_COUNT_AT, EVIDENCE_COUNT_AT + 1, length - 2, length - 1];
+        let mut cuts = vec![1, 2, FULL_COUNT_AT, length - 2, length - 1];
+        cuts.extend(PACKS.iter().flat_map(|pack| [pack.count_at, pack.entries_at]));
         cuts.extend((0..sized(20)).map(|_| self.rng.below(length)));
         for cut in cuts.into_iter().filter(|&cut| cut < length) {
             self.is(&format!("{what} cut to {cut} bytes"), n, &bytes[..cut], 0)?;
         }
-        for command in [0x00, 0x04, 0x06, 0x07, 0x80 | bytes[0], 0xff] {
+        for command in [0x00, 0x04, 0x06, 0x08, 0x09, 0x80 | bytes[0], 0xff] {
             self.refused(&format!("{what} with another command"), n, bytes, 0, command)?;
         }
-        for command in [SUBMIT, NOTICE, FULL, EVIDENCE] {
+        for command in [SUBMIT, NOTICE, FULL, OLD_EVIDENCE, EVIDENCE] {
             self.agree(&format!("{what} with another message's command"), n, &with(bytes, 0, command))?;
         }
         for wrong in [0, 33, 34, 64, 256 + n, 65_536 + n, 1 << 31, 1 << 31 | n, u32::MAX] {
@@ -133,7 +156,7 @@ impl Compared<'_> {
     /// Every entry with commands of another message, entry or none.
     fn entry_commands(&mut self, what: &str, n: u32, bytes: &[u8], start: usize, width: usize) -> Result<(), String> {
         for at in (start..bytes.len()).step_by(width) {
-            for command in [0, bytes[at] - 1, bytes[at] + 1, bytes[at] ^ 2, bytes[at] ^ 0x80] {
+            for command in other_entry_commands(bytes[at]) {
                 self.refused(&format!("{what} with another entry command"), n, bytes, at, command)?;
             }
         }

@@ -4,11 +4,11 @@ use super::arguments::{untouched, Arguments};
 use super::refusals::{lengths, on_part, spoiled, spoiler, Spoiler};
 use super::{equal, long, messages, noise, resized, run};
 use crate::confirmer::{Lower, LowerCopy, Making};
-use crate::fleet::{layouts, rounds, some_seats, Fleet};
+use crate::fleet::{rounds, some_layouts, some_seats, Fleet};
 use crate::guarded::Guarded;
 use crate::reference::evidence::{check_evidence, lower_certificate, make_evidence};
 use crate::reference::layout::{self, evidence_out};
-use crate::reference::messages::{Full, FULL};
+use crate::reference::messages::{Full, Value, EVIDENCE, FULL};
 use crate::reference::quorum;
 use crate::reference::record::{Verdict, Written};
 use crate::reference::seats::mask;
@@ -41,6 +41,7 @@ fn compare(subject: Subject, case: &Case, rng: &mut Rng) -> Result<(), String> {
         let (answer, out) = both(subject.making, &case.arguments, &case.certificates, &case.out, rng)?;
         equal("the reference's answer", answer, case.made)?;
         if answer.number == 0 {
+            equal("the command", out[0], EVIDENCE)?;
             let verdict = check_evidence(n, round, keys, &out[..answer.written as usize]);
             equal("the evidence", verdict, Verdict { number: 0, mask: case.named })?;
         }
@@ -177,10 +178,9 @@ fn cases() -> Vec<Case> {
 
 /// Two certificates with different values, the lower first; their seats are chosen apart.
 fn pair(fleet: Fleet, rng: &mut Rng) -> [Full; 2] {
-    let mut values = layouts();
-    let mut chosen = [0; 2].map(|_: u8| values.swap_remove(rng.below(values.len())));
-    chosen.sort();
-    chosen.map(|value| {
+    let mut values: [Value; 2] = some_layouts(rng);
+    values.sort();
+    values.map(|value| {
         let sender = rng.below(fleet.n as usize) as u32;
         fleet.full(sender, &value, &some_seats(fleet.n, fleet.k(), rng), rng.below(2) as u32)
     })

@@ -8,7 +8,7 @@ pub mod framing;
 pub mod hashes;
 pub mod make_key;
 pub mod making;
-mod messages;
+pub mod messages;
 pub mod noise;
 pub mod notes;
 mod refusals;

@@ -1,5 +1,5 @@
-//! Document 01's opening and steps, with document 02's item 1. A call works on copies; only at its end are they handed over,
-//! so that a refusal changes nothing.
+//! Document 01's opening and steps, with document 02's items 1 and 3. A call works on copies; only at its end are they handed
+//! over, so that a refusal changes nothing.
 
 use super::calls::MAX_LEAF;
 use super::evidence;
@@ -201,9 +201,16 @@ impl Unit {
         self.hear_value(full.value);
         if self.record.first.seats == 0 {
             self.hold(full);
-        } else if self.record.first.value != full.value && self.record.guilty == 0 {
-            let evidence = evidence::of_conflict(&self.first_certificate(), full);
-            self.record.guilty = mask(&evidence.seats());
+        } else if self.record.first.value != full.value {
+            self.blame(evidence::of_conflict(&self.first_certificate(), full));
+        }
+    }
+
+    /// "EVIDENCE is written for those newly found, if any."
+    fn blame(&mut self, mut evidence: Evidence) {
+        evidence.entries.retain(|entry| !contains(self.record.guilty, entry.seat));
+        if !evidence.entries.is_empty() {
+            self.record.guilty |= mask(&evidence.seats());
             self.evidence = Some(evidence);
         }
     }

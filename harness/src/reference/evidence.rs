@@ -10,7 +10,8 @@ pub fn check_evidence(n: u32, round: u32, keys: &[u8], evidence: &[u8]) -> Verdi
     let named = || {
         let read = Evidence::read(evidence, n);
         let told = read.as_ref().map(Evidence::told);
-        let no_conflict = row(15, || read.as_ref().is_some_and(|evidence| evidence.lower >= evidence.higher));
+        let no_conflict =
+            row(15, || read.iter().flat_map(|read| &read.entries).any(|entry| entry.lower >= entry.higher));
         let rows = arguments(n, round, keys).into_iter().chain(message(n, round, keys, &told)).chain([no_conflict]);
         pass(rows)?;
         Ok(mask(&told.expect("a garbled one is refused").entries))
@@ -65,14 +66,11 @@ pub fn of_conflict(one: &Full, other: &Full) -> Evidence {
         let twin = higher.entries.iter().find(|twin| twin.seat == entry.seat)?;
         Some(EvidenceEntry {
             seat: entry.seat,
+            lower: lower.value,
+            higher: higher.value,
             over_lower: entry.signature.clone(),
             over_higher: twin.signature.clone(),
         })
     };
-    Evidence {
-        round: lower.round,
-        lower: lower.value,
-        higher: higher.value,
-        entries: lower.entries.iter().filter_map(shared).collect(),
-    }
+    Evidence { round: lower.round, entries: lower.entries.iter().filter_map(shared).collect() }
 }

@@ -32,17 +32,26 @@ pub const SUBMIT: usize = SIGNATURE_AT + SIGNATURE;
 pub const FULL_COUNT_AT: usize = SIGNED;
 pub const FULL_ENTRIES_AT: usize = FULL_COUNT_AT + COUNT;
 
-// EVIDENCE: the two values, the count and the entries.
-pub const LOWER_AT: usize = AFTER_ROUND;
-pub const HIGHER_AT: usize = LOWER_AT + VALUE;
-pub const EVIDENCE_COUNT_AT: usize = HIGHER_AT + VALUE;
+// EVIDENCE: the count and the entries.
+pub const EVIDENCE_COUNT_AT: usize = AFTER_ROUND;
 pub const EVIDENCE_ENTRIES_AT: usize = EVIDENCE_COUNT_AT + COUNT;
 
-// An entry of either: its command and its seat, then one signature or two.
+// The old EVIDENCE: the two values, the count and the entries.
+pub const LOWER_AT: usize = AFTER_ROUND;
+pub const HIGHER_AT: usize = LOWER_AT + VALUE;
+pub const OLD_EVIDENCE_COUNT_AT: usize = HIGHER_AT + VALUE;
+pub const OLD_EVIDENCE_ENTRIES_AT: usize = OLD_EVIDENCE_COUNT_AT + COUNT;
+
+// An entry of any: its command and its seat. In a FULL and in the old EVIDENCE one signature or two follow, in an EVIDENCE two values
+// and two signatures.
 pub const ENTRY_SEAT_AT: usize = COMMAND;
 pub const ENTRY_SIGNATURE_AT: usize = ENTRY_SEAT_AT + SEAT;
 pub const FULL_ENTRY: usize = ENTRY_SIGNATURE_AT + SIGNATURE;
-pub const EVIDENCE_ENTRY: usize = ENTRY_SIGNATURE_AT + 2 * SIGNATURE;
+pub const OLD_EVIDENCE_ENTRY: usize = ENTRY_SIGNATURE_AT + 2 * SIGNATURE;
+pub const ENTRY_LOWER_AT: usize = ENTRY_SEAT_AT + SEAT;
+pub const ENTRY_HIGHER_AT: usize = ENTRY_LOWER_AT + VALUE;
+pub const ENTRY_SIGNATURES_AT: usize = ENTRY_HIGHER_AT + VALUE;
+pub const EVIDENCE_ENTRY: usize = ENTRY_SIGNATURES_AT + 2 * SIGNATURE;
 
 // The note: n, seat, round and flags after the command; the own value, four masks, and two values.
 pub const NOTE_N_AT: usize = COMMAND;
@@ -61,6 +70,10 @@ pub const fn full(count: u32) -> usize {
 
 pub const fn evidence(count: u32) -> usize {
     EVIDENCE_ENTRIES_AT + EVIDENCE_ENTRY * count as usize
+}
+
+pub const fn old_evidence(count: u32) -> usize {
+    OLD_EVIDENCE_ENTRIES_AT + OLD_EVIDENCE_ENTRY * count as usize
 }
 
 /// `out` for a submit or a step: each message once.
@@ -105,15 +118,15 @@ fn slot(number: u32) -> Range<usize> {
 mod tests {
     use super::*;
 
-    /// The figures that documents 01 and 02 (items 1 and 2) state.
+    /// The figures that documents 01 and 02 (items 1 to 3) state.
     #[test]
     fn figures_of_the_documents() {
         assert_eq!((SIGNATURE, SIGNED, SUBMIT, NOTICE), (1452, 36, 1488, 36));
         assert_eq!(NOTE, 118);
         for n in 1..=32 {
             let (count, k) = (n as usize, k(n) as usize);
-            assert_eq!((full(n), evidence(n)), (37 + 1454 * count, 68 + 2906 * count));
-            assert_eq!((store(n), out(n), evidence_out(n)), (4388 * count, 1629 + 4360 * k, 68 + 2906 * k));
+            assert_eq!((full(n), old_evidence(n)), (37 + 1454 * count, 68 + 2906 * count));
+            assert_eq!((store(n), out(n), evidence_out(n)), (4388 * count, 1565 + 4424 * k, 4 + 2970 * k));
         }
     }
 

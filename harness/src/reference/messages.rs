@@ -1,5 +1,5 @@
-//! Document 01's commands on the air, written and read. None from a reader is refusal 9: a wrong command, length,
-//! count or entry command.
+//! The commands on the air of document 01 and of document 02's item 3, written and read. None from a reader is refusal 9: a wrong
+//! command, length, count or entry command.
 
 use super::layout::{SIGNATURE, VALUE};
 use super::quorum;
@@ -8,8 +8,11 @@ pub const SUBMIT: u8 = 0x01;
 pub const NOTICE: u8 = 0x02;
 pub const FULL: u8 = 0x03;
 pub const FULL_ENTRY: u8 = 0x04;
-pub const EVIDENCE: u8 = 0x05;
-pub const EVIDENCE_ENTRY: u8 = 0x06;
+/// "The old 0x05 is still accepted by the check."
+pub const OLD_EVIDENCE: u8 = 0x05;
+pub const OLD_EVIDENCE_ENTRY: u8 = 0x06;
+pub const EVIDENCE: u8 = 0x07;
+pub const EVIDENCE_ENTRY: u8 = 0x08;
 
 /// Compared byte by byte from the first, as Rust compares arrays.
 pub type Value = [u8; VALUE];
@@ -43,17 +46,19 @@ pub struct FullEntry {
     pub signature: Vec<u8>,
 }
 
+/// Evidence of either command: in the old one all entries have the same values.
 #[derive(Clone, Debug, PartialEq, Eq)]
 pub struct Evidence {
     pub round: u32,
-    pub lower: Value,
-    pub higher: Value,
     pub entries: Vec<EvidenceEntry>,
 }
 
+/// "each seat has its own pair"
 #[derive(Clone, Debug, PartialEq, Eq)]
 pub struct EvidenceEntry {
     pub seat: u32,
+    pub lower: Value,
+    pub higher: Value,
     pub over_lower: Vec<u8>,
     pub over_higher: Vec<u8>,
 }
@@ -174,12 +179,23 @@ impl Full {
 
 impl Evidence {
     pub fn write(&self) -> Vec<u8> {
-        let mut bytes = [&[EVIDENCE], two_bytes(self.round).as_slice(), &self.lower, &self.higher].concat();
-        bytes.push(count(self.entries.len()));
+        let mut bytes = [&[EVIDENCE], two_bytes(self.round).as_slice(), &[count(self.entries.len())]].concat();
         for entry in &self.entries {
             bytes.extend([EVIDENCE_ENTRY, one_byte(entry.seat)]);
-            bytes.extend(&entry.over_lower);
-            bytes.extend(&entry.over_higher);
+            bytes.extend([entry.lower, entry.higher].concat());
+            bytes.extend([&entry.over_lower[..], &entry.over_higher].concat());
+        }
+        bytes
+    }
+
+    /// The old command: the values of the first entry stand for all.
+    pub fn write_old(&self) -> Vec<u8> {
+        let EvidenceEntry { lower, higher, .. } = &self.entries[0];
+        let mut bytes = [&[OLD_EVIDENCE], two_bytes(self.round).as_slice(), lower, higher].concat();
+        bytes.push(count(self.entries.len()));
+        for entry in &self.entries {
+            bytes.extend([OLD_EVIDENCE_ENTRY, one_byte(entry.seat)]);
+            bytes.extend([&entry.over_lower[..], &entry.over_higher].concat());
         }
         bytes
     }
@@ -190,29 +206,36 @@ impl Evidence {
     }
 
     fn first(rest: &mut Rest, n: u32) -> Option<Evidence> {
-        rest.command(EVIDENCE)?;
-        let (round, lower, higher) = (rest.number(2)?, rest.value()?, rest.value()?);
+        let old = match rest.take(1)? {
+            [OLD_EVIDENCE] => true,
+            [EVIDENCE] => false,
+            _ => return None,
+        };
+        let round = rest.number(2)?;
+        let once = if old { Some((rest.value()?, rest.value()?)) } else { None };
         let count = rest.number(1)?;
         if count < 1 || count > n {
             return None;
         }
         let mut entries = Vec::new();
         for _ in 0..count {
-            rest.command(EVIDENCE_ENTRY)?;
-            entries.push(EvidenceEntry {
-                seat: rest.number(1)?,
-                over_lower: rest.signature()?,
-                over_higher: rest.signature()?,
-            });
+            rest.command(if old { OLD_EVIDENCE_ENTRY } else { EVIDENCE_ENTRY })?;
+            let seat = rest.number(1)?;
+            let (lower, higher) = match once {
+                Some(values) => values,
+                None => (rest.value()?, rest.value()?),
+            };
+            let (over_lower, over_higher) = (rest.signature()?, rest.signature()?);
+            entries.push(EvidenceEntry { seat, lower, higher, over_lower, over_higher });
         }
-        Some(Evidence { round, lower, higher, entries })
+        Some(Evidence { round, entries })
     }
 
     pub fn told(&self) -> Told<'_> {
         let mut signatures = Vec::new();
         for entry in &self.entries {
-            signatures.push((entry.seat, &self.lower, entry.over_lower.as_slice()));
-            signatures.push((entry.seat, &self.higher, entry.over_higher.as_slice()));
+            signatures.push((entry.seat, &entry.lower, entry.over_lower.as_slice()));
+            signatures.push((entry.seat, &entry.higher, entry.over_higher.as_slice()));
         }
         Told { round: self.round, sender: None, entries: self.seats(), signatures }
     }
@@ -232,7 +255,7 @@ pub fn message_length(n: u32, bytes: &[u8]) -> u32 {
         Some(&SUBMIT) => Submit::first(&mut rest).map(drop),
         Some(&NOTICE) => Notice::first(&mut rest).map(drop),
         Some(&FULL) => Full::first(&mut rest, quorum::k(n)).map(drop),
-        Some(&EVIDENCE) => Evidence::first(&mut rest, n).map(drop),
+        Some(&OLD_EVIDENCE | &EVIDENCE) => Evidence::first(&mut rest, n).map(drop),
         _ => None,
     };
     first.map_or(0, |()| (bytes.len() - rest.0.len()) as u32)
@@ -276,8 +299,9 @@ impl Rest<'_> {
 mod tests {
     use super::*;
     use crate::reference::layout::{
-        self, ENTRY_SEAT_AT, ENTRY_SIGNATURE_AT, EVIDENCE_COUNT_AT, EVIDENCE_ENTRIES_AT, FULL_COUNT_AT,
-        FULL_ENTRIES_AT, HIGHER_AT, LOWER_AT, ROUND_AT, SEAT_AT, VALUE_AT,
+        self, ENTRY_HIGHER_AT, ENTRY_LOWER_AT, ENTRY_SEAT_AT, ENTRY_SIGNATURES_AT, ENTRY_SIGNATURE_AT,
+        EVIDENCE_COUNT_AT, EVIDENCE_ENTRIES_AT, FULL_COUNT_AT, FULL_ENTRIES_AT, HIGHER_AT, LOWER_AT,
+        OLD_EVIDENCE_COUNT_AT, OLD_EVIDENCE_ENTRIES_AT, ROUND_AT, SEAT_AT, VALUE_AT,
     };
 
     fn signature(byte: u8) -> Vec<u8> {
@@ -289,10 +313,19 @@ mod tests {
         Full { round: 0x0102, sender: 3, value: [9; 32], entries }
     }
 
+    /// The pair of the seat with the bytes of its values.
+    fn pair(seat: u32, lower: u8, higher: u8) -> EvidenceEntry {
+        let (over_lower, over_higher) = (signature(seat as u8), signature(!seat as u8));
+        EvidenceEntry { seat, lower: [lower; VALUE], higher: [higher; VALUE], over_lower, over_higher }
+    }
+
+    /// Each seat with values of its own.
     fn evidence(count: u32) -> Evidence {
-        let entry =
-            |seat| EvidenceEntry { seat, over_lower: signature(seat as u8), over_higher: signature(!seat as u8) };
-        Evidence { round: 0x0102, lower: [1; 32], higher: [2; 32], entries: (0..count).map(entry).collect() }
+        Evidence { round: 0x0102, entries: (0..count).map(|seat| pair(seat, seat as u8, 100 + seat as u8)).collect() }
+    }
+
+    fn old_evidence(count: u32) -> Evidence {
+        Evidence { round: 0x0102, entries: (0..count).map(|seat| pair(seat, 1, 2)).collect() }
     }
 
     /// "Messages written are read back the same", in the lengths of the layout.
@@ -308,9 +341,13 @@ mod tests {
             assert_eq!((Full::read(&bytes, k + 1), Full::read(&bytes, k - 1)), (None, None));
         }
         for count in 1..=32 {
-            let bytes = evidence(count).write();
-            assert_eq!((bytes.len(), Evidence::read(&bytes, 32)), (layout::evidence(count), Some(evidence(count))));
-            assert_eq!(Evidence::read(&bytes, count - 1), None);
+            for (length, bytes, right) in [
+                (layout::evidence(count), evidence(count).write(), evidence(count)),
+                (layout::old_evidence(count), old_evidence(count).write_old(), old_evidence(count)),
+            ] {
+                assert_eq!((bytes.len(), Evidence::read(&bytes, 32)), (length, Some(right)));
+                assert_eq!(Evidence::read(&bytes, count - 1), None);
+            }
         }
         assert_eq!(Evidence::read(&evidence(0).write(), 32), None);
     }
@@ -326,10 +363,20 @@ mod tests {
             assert_eq!(entry[ENTRY_SIGNATURE_AT..], signature(seat));
         }
         let bytes = evidence(2).write();
+        assert_eq!((bytes[0], &bytes[ROUND_AT..EVIDENCE_COUNT_AT]), (0x07, [0x01, 0x02].as_slice()));
+        assert_eq!(bytes[EVIDENCE_COUNT_AT], 2);
+        for (seat, entry) in (0..2).zip(bytes[EVIDENCE_ENTRIES_AT..].chunks(layout::EVIDENCE_ENTRY)) {
+            assert_eq!((entry[0], entry[ENTRY_SEAT_AT]), (0x08, seat));
+            assert_eq!(entry[ENTRY_LOWER_AT..ENTRY_HIGHER_AT], [seat; VALUE]);
+            assert_eq!(entry[ENTRY_HIGHER_AT..ENTRY_SIGNATURES_AT], [100 + seat; VALUE]);
+            assert_eq!(entry[ENTRY_SIGNATURES_AT..], [signature(seat), signature(!seat)].concat());
+        }
+        let bytes = old_evidence(2).write_old();
         assert_eq!((bytes[0], &bytes[ROUND_AT..LOWER_AT]), (0x05, [0x01, 0x02].as_slice()));
         assert_eq!(bytes[LOWER_AT..HIGHER_AT], [1; VALUE]);
-        assert_eq!((&bytes[HIGHER_AT..EVIDENCE_COUNT_AT], bytes[EVIDENCE_COUNT_AT]), ([2; VALUE].as_slice(), 2));
-        for (seat, entry) in (0..2).zip(bytes[EVIDENCE_ENTRIES_AT..].chunks(layout::EVIDENCE_ENTRY)) {
+        assert_eq!(bytes[HIGHER_AT..OLD_EVIDENCE_COUNT_AT], [2; VALUE]);
+        assert_eq!(bytes[OLD_EVIDENCE_COUNT_AT], 2);
+        for (seat, entry) in (0..2).zip(bytes[OLD_EVIDENCE_ENTRIES_AT..].chunks(layout::OLD_EVIDENCE_ENTRY)) {
             assert_eq!((entry[0], entry[ENTRY_SEAT_AT]), (0x06, seat));
             assert_eq!(entry[ENTRY_SIGNATURE_AT..], [signature(seat), signature(!seat)].concat());
         }
@@ -340,13 +387,25 @@ mod tests {
 
     #[test]
     fn other_lengths_are_garbled() {
-        for whole in [full(3).write(), evidence(3).write()] {
+        for whole in [full(3).write(), evidence(3).write(), old_evidence(3).write_old()] {
             for length in 0..whole.len() {
                 assert_eq!(Full::read(&whole[..length], 3), None, "{length} bytes");
                 assert_eq!(Evidence::read(&whole[..length], 3), None, "{length} bytes");
             }
             let longer = [whole.as_slice(), &[0]].concat();
             assert_eq!((Full::read(&longer, 3), Evidence::read(&longer, 3)), (None, None));
+        }
+    }
+
+    /// Packs of count 1 have one length: neither is read as the other.
+    #[test]
+    fn the_command_tells_two_packs_of_one_entry_apart() {
+        let (new, old) = (evidence(1).write(), old_evidence(1).write_old());
+        assert_eq!((new.len(), old.len()), (2974, 2974));
+        for (right, other) in [(&new, &old), (&old, &new)] {
+            let mut bytes = right.clone();
+            bytes[0] = other[0];
+            assert_eq!(Evidence::read(&bytes, 1), None);
         }
     }
 }

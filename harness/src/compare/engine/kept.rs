@@ -7,7 +7,7 @@ use std::collections::BTreeMap;
 use super::records::{opened, seats_with, submitted};
 use super::{both, After, Call, Case, Subject};
 use crate::compare::{count, covered, equal, flip_bit, long, run, Tally};
-use crate::fleet::{layouts, rounds, Fleet, HANDS};
+use crate::fleet::{rounds, some_layouts, Fleet, HANDS};
 use crate::reference::layout::{self, SEAT_AT, SIGNATURE_AT};
 use crate::reference::lms::PUBLIC_KEY;
 use crate::reference::messages::{Submit, Value};
@@ -89,8 +89,7 @@ struct Unit<'a> {
 
 impl<'a> Unit<'a> {
     fn new(subject: Subject<'a>, fleet: Fleet, rng: &mut Rng) -> Unit<'a> {
-        let mut all = layouts();
-        let values = [0; 3].map(|_: u8| all.swap_remove(rng.below(all.len())));
+        let values = some_layouts(rng);
         let record = opened(fleet, rng.below(fleet.n as usize) as u32);
         let spare = *rng.pick(&[0, 0, 1, 100]);
         let store = rng.bytes(layout::store(fleet.n) + spare);

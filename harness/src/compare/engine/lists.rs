@@ -27,6 +27,8 @@ struct Plan {
     fair: bool,
     /// Boats lose power now and then.
     cuts: bool,
+    /// Certificates come often in a large fleet too.
+    certificates: bool,
 }
 
 /// Hundreds of calls for each n, ten thousand in the long battery.
@@ -41,10 +43,11 @@ pub fn battery(subject: Subject) {
         let plan = |list: usize| Plan {
             fleet: Fleet { n, round: rounds()[list % 4] },
             boats: 1 + (list % 3) as u32,
-            layouts: 2 + list / 3 % 2,
+            layouts: 2 + list / 3 % 3,
             calls,
             fair: list.is_multiple_of(2),
             cuts: list / 2 % 2 == 1,
+            certificates: list.is_multiple_of(5),
         };
         plans.extend((0..lists).map(plan));
     }
@@ -62,6 +65,7 @@ pub fn whole_rounds(subject: Subject) {
         calls: 100,
         fair: true,
         cuts: list % 2 == 1,
+        certificates: false,
     };
     let plans: Vec<Plan> = (0..count).map(plan).collect();
     let tally = covered("whole rounds", played("whole rounds", subject, &plans), []);
@@ -101,6 +105,16 @@ fn answers() -> impl Iterator<Item = String> {
         "lost power before the first note",
         "lost power and an own submit",
         "lost power and messages written",
+        "conflict 1",
+        "conflict 2",
+        "conflict 2, no seat added",
+        "conflict 3",
+        "conflict 3, no seat added",
+        "conflict 4",
+        "conflict 4, no seat added",
+        "pack 1",
+        "pack 2",
+        "pack 3",
     ];
     steps.into_iter().chain(submits).chain(written).chain(others.map(String::from))
 }
@@ -115,6 +129,10 @@ struct Boat {
     /// Written since that note, and sent with the next.
     unsent: Vec<Vec<u8>>,
     said: Vec<Vec<u8>>,
+    /// Certificates taken that conflict with the first held.
+    conflicts: usize,
+    /// The seats that each EVIDENCE said names.
+    packs: Vec<u32>,
 }
 
 struct Sea<'a> {
@@ -138,7 +156,8 @@ impl<'a> Sea<'a> {
         let mut boats = Vec::new();
         for (place, seat) in seats.into_iter().enumerate() {
             let (layout, (record, store)) = (chosen[place % chosen.len()], blank(subject, fleet, seat, rng)?);
-            boats.push(Boat { layout, record, store, kept: None, unsent: Vec::new(), said: Vec::new() });
+            let (unsent, said, packs) = (Vec::new(), Vec::new(), Vec::new());
+            boats.push(Boat { layout, record, store, kept: None, unsent, said, conflicts: 0, packs });
         }
         let (air, calls, cuts, tally) = (Vec::new(), Vec::new(), plan.cuts, Tally::new());
         Ok(Sea { subject, plan, layouts: chosen, boats, air, calls, cuts, tally })
@@ -259,16 +278,17 @@ impl<'a> Sea<'a> {
         pick.clone()
     }
 
-    /// A message of the script. The certificates of a large fleet take long to check, and come seldom.
+    /// A message of the script. The certificates of a large fleet take long to check, and come seldom in most lists.
     fn sent_to(&mut self, boat: usize, rng: &mut Rng) -> Vec<u8> {
         let fleet = self.plan.fleet;
         let seat = rng.below(fleet.n as usize) as u32;
         let value = *rng.pick(&self.layouts);
         let willing = self.willing(&value);
+        let often = fleet.n <= 7 || self.plan.certificates;
         let message = match rng.below(10) {
             0..=3 => self.helpful_submit(boat, rng),
             4 if willing.contains(&seat) => fleet.submit(seat, &value, 0).write(),
-            5..=7 if willing.len() as u32 >= fleet.k() && (fleet.n <= 7 || rng.one_in(4)) => {
+            5..=7 if willing.len() as u32 >= fleet.k() && (often || rng.one_in(4)) => {
                 let places = some_seats(willing.len() as u32, fleet.k(), rng);
                 let seats: Vec<u32> = places.into_iter().map(|place| willing[place as usize]).collect();
                 fleet.full(seat, &value, &seats, rng.below(HANDS as usize) as u32).write()
@@ -373,6 +393,11 @@ impl<'a> Sea<'a> {
             equal("the store after a refusal", after.store == case.store, true)?;
             return equal("bytes written with a refusal", after.written.len(), 0);
         }
+        if let Some(found) = after.found {
+            self.boats[boat].conflicts += 1;
+            let adds = if found == 0 { ", no seat added" } else { "" };
+            count(&mut self.tally, format!("conflict {}{adds}", self.boats[boat].conflicts.min(4)));
+        }
         let messages = air::messages(after.record.n, &after.written);
         let names: String = messages.iter().map(|message| format!(" {}", air::name(message))).collect();
         count(&mut self.tally, format!("wrote{names}"));
@@ -394,7 +419,8 @@ impl<'a> Sea<'a> {
         for message in std::mem::take(unsent) {
             self.said(boat, message)?;
         }
-        Ok(())
+        let Boat { record, packs, .. } = &self.boats[boat];
+        equal("the guilty seats and those named", record.guilty, packs.iter().sum())
     }
 
     /// The boat is brought back from its newest note and the store kept with it, or opened again where it has none.
@@ -420,24 +446,38 @@ impl<'a> Sea<'a> {
         Ok(())
     }
 
-    /// Demand 1: each message at most once in a round. Demand 3: evidence is accepted and names no honest seat.
+    /// Demand 1: SUBMIT, NOTICE and FULL at most once in a round.
     fn said(&mut self, boat: usize, message: Vec<u8>) -> Result<(), String> {
-        let Fleet { n, round } = self.plan.fleet;
         if message[0] == EVIDENCE {
-            let verdict = check_evidence(n, round, &self.plan.fleet.key_table(), &message);
-            equal("the evidence", verdict, Verdict { number: 0, mask: self.boats[boat].record.guilty })?;
-            let honest: Vec<u32> = self.boats.iter().map(|boat| boat.record.seat).collect();
-            equal("honest seats in fair evidence", self.plan.fair && verdict.mask & mask(&honest) != 0, false)?;
+            self.said_evidence(boat, &message)?;
+        } else {
+            let before = self.boats[boat].said.iter().any(|before| before[0] == message[0]);
+            equal("said before", before, false)?;
         }
-        let said = &mut self.boats[boat].said;
-        equal("said before", said.iter().any(|before| before[0] == message[0]), false)?;
-        said.push(message.clone());
+        self.boats[boat].said.push(message.clone());
         self.air.push(message);
         Ok(())
     }
 
+    /// Demand 3: evidence is accepted, the first pack names at least t0 + 1 seats, and none an honest one. Each later pack names only
+    /// seats that none before it names, so that there are at most t0 + 1 packs.
+    fn said_evidence(&mut self, boat: usize, pack: &[u8]) -> Result<(), String> {
+        let Fleet { n, round } = self.plan.fleet;
+        let honest: Vec<u32> = self.boats.iter().map(|boat| boat.record.seat).collect();
+        let Verdict { number, mask: named } = check_evidence(n, round, &self.plan.fleet.key_table(), pack);
+        equal("the refusal of evidence", number, 0)?;
+        equal("honest seats in fair evidence", self.plan.fair && named & mask(&honest) != 0, false)?;
+        let packs = &mut self.boats[boat].packs;
+        equal("seats named before", packs.iter().map(|before| before & named).sum(), 0)?;
+        equal("more than t0 seats in the first pack", !packs.is_empty() || size(named) > t0(n), true)?;
+        packs.push(named);
+        equal("at most t0 + 1 packs", packs.len() as u32 <= t0(n) + 1, true)?;
+        count(&mut self.tally, format!("pack {}", packs.len()));
+        Ok(())
+    }
+
     /// The end of a fair list: each boat gets the signatures that it lacks, and its NOTICE and FULL reach every other. Demand 3:
-    /// where two have confirmed different layouts, each boat has written evidence that names at least t0 + 1 seats.
+    /// where two have confirmed different layouts, each boat has written evidence.
     fn settle(&mut self, rng: &mut Rng) -> Result<(), String> {
         self.cuts = false;
         for boat in 0..self.boats.len() {
@@ -457,8 +497,7 @@ impl<'a> Sea<'a> {
         let confirmed = || self.boats.iter().filter(|boat| boat.record.confirmed).map(|boat| boat.layout);
         if confirmed().any(|layout| Some(layout) != confirmed().next()) {
             for boat in &self.boats {
-                equal("evidence written", boat.said.iter().any(|message| message[0] == EVIDENCE), true)?;
-                equal("more than t0 seats named", size(boat.record.guilty) > t0(self.plan.fleet.n), true)?;
+                equal("evidence written", boat.packs.is_empty(), false)?;
             }
             count(&mut self.tally, "disagreement");
         }

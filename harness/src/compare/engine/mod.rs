@@ -1,6 +1,7 @@
 //! Opening, submit and step: each call given to a subject and to the reference, every byte afterwards compared. Each record that
-//! comes back from a submit or a step is noted and read back.
+//! comes back from a submit or a step is noted and read back, and the evidence written with it held to the seats newly found.
 
+pub mod culprits;
 pub mod kept;
 pub mod lists;
 pub mod opening;
@@ -10,11 +11,14 @@ pub mod refusals;
 
 use super::arguments::untouched;
 use super::{equal, notes};
+use crate::air;
 use crate::confirmer::{Engine, LentStep, Notes};
 use crate::fleet::Fleet;
 use crate::guarded::{Guarded, GuardedItem};
+use crate::reference::messages::{Evidence, Full, EVIDENCE};
 use crate::reference::record::{Opened, Record, Stepped};
-use crate::reference::{engine, layout, verdicts};
+use crate::reference::seats::mask;
+use crate::reference::{engine, layout, quorum, verdicts};
 use crate::rng::Rng;
 
 /// The calls under test; about every other step goes through the one that is lent its record.
@@ -47,6 +51,8 @@ pub struct After {
     pub record: Record,
     pub store: Vec<u8>,
     pub written: Vec<u8>,
+    /// The seats newly found guilty, where the call brought a certificate that conflicts with the first held.
+    pub found: Option<u32>,
     /// The reference's signature checks.
     pub checks: usize,
 }
@@ -109,5 +115,26 @@ pub fn both(subject: Subject, case: &Case, rng: &mut Rng) -> Result<After, Strin
     untouched(&[("keys", &keys, &case.keys), ("store", &lent_store, &store), ("out", &lent_out, &out)])?;
     notes::noted(subject.notes, &expected.record, rng)?;
     out.truncate(expected.written as usize);
-    Ok(After { number: expected.number, record: expected.record, store, written: out, checks })
+    let found = if expected.number == 0 { newly_found(case, &expected.record, &out)? } else { None };
+    Ok(After { number: expected.number, record: expected.record, store, written: out, found, checks })
+}
+
+/// Holds a call that isn't refused to document 02's item 3: "each certificate that conflicts with the first one held adds the
+/// seats that it shares, and EVIDENCE is written for those newly found, if any". A call brings one certificate at most.
+fn newly_found(case: &Case, record: &Record, written: &[u8]) -> Result<Option<u32>, String> {
+    let (n, before) = (record.n, &case.record);
+    let certificate = match &case.call {
+        _ if record.confirmed && !before.confirmed => Some((record.own.value, record.own.collected)),
+        Call::Step { message } => Full::read(message, quorum::k(n)).map(|full| (full.value, mask(&full.seats()))),
+        Call::Submit { .. } => None,
+    };
+    let conflict = certificate.filter(|(value, _)| before.first.seats != 0 && before.first.value != *value);
+    let shared = conflict.map(|(_, seats)| before.first.seats & seats);
+    equal("the guilty seats", record.guilty, before.guilty | shared.unwrap_or(0))?;
+    let found = shared.map(|shared| shared & !before.guilty);
+    let packs = air::messages(n, written).into_iter().filter(|message| message[0] == EVIDENCE);
+    let named: Vec<u32> = packs.map(|pack| mask(&Evidence::read(&pack, n).expect("a whole one").seats())).collect();
+    let expected: Vec<u32> = found.into_iter().filter(|&found| found != 0).collect();
+    equal("the seats in EVIDENCE", named, expected)?;
+    Ok(found)
 }

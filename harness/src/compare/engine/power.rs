@@ -6,7 +6,7 @@ use super::records::opened;
 use super::{blank, both, After, Call, Case, Subject};
 use crate::air;
 use crate::compare::{count, covered, equal, long, notes, run, Tally};
-use crate::fleet::{layouts, rounds, some_seats, Fleet, HANDS};
+use crate::fleet::{rounds, some_layouts, some_seats, Fleet, HANDS};
 use crate::reference::evidence::check_evidence;
 use crate::reference::layout::{self, SIGNATURE_AT};
 use crate::reference::messages::{Evidence, EvidenceEntry, Value, EVIDENCE};
@@ -15,7 +15,7 @@ use crate::reference::seats::mask;
 use crate::rng::Rng;
 
 /// What the lists must come by.
-const ALL: [&str; 26] = [
+const ALL: [&str; 28] = [
     "note: after a refused call",
     "note: a second time in a row",
     "cut: before the first note",
@@ -24,6 +24,7 @@ const ALL: [&str; 26] = [
     "cut: the own submit lost",
     "cut: a confirmation lost",
     "cut: evidence lost",
+    "cut: a later pack lost",
     "cut: a second time in a row",
     "brought back: opened",
     "brought back: seats kept",
@@ -40,6 +41,7 @@ const ALL: [&str; 26] = [
     "the next call: confirms",
     "the next call: FULL is sent",
     "the next call: EVIDENCE is written",
+    "the next call: EVIDENCE is written again",
     "an older note: two layouts signed",
     "another store: evidence that is refused",
 ];
@@ -86,8 +88,7 @@ struct Unit<'a> {
 
 impl<'a> Unit<'a> {
     fn new(subject: Subject<'a>, fleet: Fleet, rng: &mut Rng) -> Result<Unit<'a>, String> {
-        let mut all = layouts();
-        let values = [0; 3].map(|_: u8| all.swap_remove(rng.below(all.len())));
+        let values = some_layouts(rng);
         let (record, store) = blank(subject, fleet, rng.below(fleet.n as usize) as u32, rng)?;
         let now = State { record, store };
         let (twin, since, tally) = (now.clone(), Vec::new(), Tally::new());
@@ -161,6 +162,7 @@ impl<'a> Unit<'a> {
                 ("the own submit lost", before.own.submitted && !record.own.submitted),
                 ("a confirmation lost", before.confirmed && !record.confirmed),
                 ("evidence lost", before.guilty != 0 && record.guilty == 0),
+                ("a later pack lost", before.guilty != record.guilty && record.guilty != 0),
                 ("a second time in a row", lost.is_empty() && self.was_cut),
             ],
         );
@@ -203,6 +205,7 @@ impl<'a> Unit<'a> {
                     ("confirms", record.confirmed && !before.confirmed),
                     ("FULL is sent", record.sent && !before.sent),
                     ("EVIDENCE is written", record.guilty != 0 && before.guilty == 0),
+                    ("EVIDENCE is written again", record.guilty != before.guilty && before.guilty != 0),
                 ],
             );
         }
@@ -218,14 +221,14 @@ impl<'a> Unit<'a> {
         let seat = rng.below(fleet.n as usize) as u32;
         let hand = rng.below(HANDS as usize) as u32;
         let value = self.values[*rng.pick(&[0, 0, 0, 0, 0, 0, 1, 2])];
-        let message = match rng.below(if fleet.n <= 7 { 16 } else { 40 }) {
+        let message = match rng.below(if fleet.n <= 7 { 18 } else { 40 }) {
             0 | 1 => return self.submit(&value, hand),
             2 => fleet.notice(seat, &value).write(),
-            3 | 4 => {
+            3..=6 => {
                 let value = *rng.pick(&self.values);
                 fleet.full(seat, &value, &some_seats(fleet.n, fleet.k(), rng), hand).write()
             }
-            5 => air::garbled(&fleet.submit(seat, &value, hand).write(), rng).1,
+            7 => air::garbled(&fleet.submit(seat, &value, hand).write(), rng).1,
             _ => fleet.submit(seat, &value, hand).write(),
         };
         Call::Step { message }
@@ -258,9 +261,9 @@ impl<'a> Unit<'a> {
             equal("a submit after the newer note", second.number, 8)?;
         }
         let [lower, higher] = layouts;
-        let entry =
-            EvidenceEntry { seat: record.seat, over_lower: signatures[0].clone(), over_higher: signatures[1].clone() };
-        let evidence = Evidence { round, lower, higher, entries: vec![entry] };
+        let [over_lower, over_higher] = signatures.try_into().expect("two signatures");
+        let entries = vec![EvidenceEntry { seat: record.seat, lower, higher, over_lower, over_higher }];
+        let evidence = Evidence { round, entries };
         let verdict = check_evidence(n, round, &self.fleet.key_table(), &evidence.write());
         equal("the evidence against it", verdict, Verdict { number: 0, mask: mask(&[record.seat]) })?;
         self.count_each("an older note", [("two layouts signed", true)]);

@@ -1,11 +1,12 @@
 //! Records: states of a unit, possible ones that no list of calls reaches, and impossible ones, each cause alone.
 
 use super::{both, Call, Case, Subject};
-use crate::compare::{equal, long, noise, run, sized};
-use crate::fleet::{layouts, rounds, some_seats, Fleet};
+use crate::air;
+use crate::compare::{count, covered, equal, long, noise, run, sized, Tally};
+use crate::fleet::{layouts, rounds, some_layouts, some_seats, Fleet};
 use crate::reference::impossible::causes;
 use crate::reference::layout::{self, SIGNATURE, VALUE};
-use crate::reference::messages::{Value, EVIDENCE, FULL, NOTICE, SUBMIT};
+use crate::reference::messages::{Value, EVIDENCE, FULL, NOTICE, OLD_EVIDENCE, SUBMIT};
 use crate::reference::quorum;
 use crate::reference::record::{First, Notices, Own, Record};
 use crate::reference::seats::mask;
@@ -226,7 +227,8 @@ pub fn noise_step(subject: Subject, rng: &mut Rng) -> Result<u32, String> {
             (SUBMIT, layout::SUBMIT),
             (NOTICE, layout::NOTICE),
             (FULL, layout::full(k)),
-            (EVIDENCE, layout::evidence(0)),
+            (EVIDENCE, layout::evidence(1)),
+            (OLD_EVIDENCE, layout::old_evidence(1)),
         ]);
         let mut message = noise::bytes(length, rng);
         if !rng.one_in(16) {
@@ -275,11 +277,12 @@ pub fn any_record(rng: &mut Rng) -> Record {
 /// Impossible records are refused by 4, and possible ones never are.
 pub fn battery(subject: Subject) {
     let mut rng = Rng::new(seed(), "records");
-    let mut cases = Vec::new();
+    let (mut cases, mut alone) = (Vec::new(), Vec::new());
     let values = layouts();
     let sizes: Vec<u32> = if long() { (1..=32).collect() } else { vec![1, 2, 3, 4, 5, 6, 7, 10, 31, 32] };
     for n in sizes {
         let fleet = Fleet { n, round: *rng.pick(&rounds()) };
+        alone.extend((0..4).map(|_| guilty_alone(fleet, &values, &mut rng)));
         for (cause, record) in impossible(fleet, &mut rng) {
             assert_eq!(causes(&record), [cause], "n = {n}: {record:?}");
             let call = any_call(fleet, &record, &values, &mut rng);
@@ -302,8 +305,41 @@ pub fn battery(subject: Subject) {
             cases.push(("a possible record".to_string(), false, case(fleet, record, values, call, &mut rng)));
         }
     }
-    run("records", &cases, |(what, impossible, case), rng| {
-        let compared = both(subject, case, rng).and_then(|after| equal("refused by 4", after.number == 4, *impossible));
-        compared.map_err(|difference| format!("{what}, {:?}: {difference}", case.record))
+    let tallies = run("records", &cases, |(what, impossible, case), rng| {
+        let mut told = || {
+            let after = both(subject, case, rng)?;
+            equal("refused by 4", after.number == 4, *impossible)?;
+            let mut tally = Tally::new();
+            if let Some(found) = after.found.filter(|_| case.record.guilty != 0) {
+                count(&mut tally, if found == 0 { "no seat added to the guilty" } else { "seats added to the guilty" });
+            }
+            Ok(tally)
+        };
+        told().map_err(|difference: String| format!("{what}, {:?}: {difference}", case.record))
     });
+    let conflicts = ["no seat added to the guilty", "seats added to the guilty"];
+    covered("records", tallies, conflicts.map(String::from));
+    run("guilty seats alone", &alone, |case, rng| {
+        let after = both(subject, case, rng)?;
+        equal("the seats newly found", after.found, Some(0))?;
+        let messages = air::messages(case.record.n, &after.written);
+        let commands: Vec<u8> = messages.iter().map(|message| message[0]).collect();
+        equal("the commands written", commands, vec![FULL])
+    });
+}
+
+/// A unit that has confirmed and heard no value but its own, and a certificate of another value that it shares guilty seats alone
+/// with. It counts as a notice, so that FULL is written, and EVIDENCE isn't.
+fn guilty_alone(fleet: Fleet, values: &[Value], rng: &mut Rng) -> Case {
+    let [value, other] = some_layouts(rng);
+    let seat = rng.below(fleet.n as usize) as u32;
+    let quorum = seats_with(fleet, seat, rng);
+    let full = fleet.full(seat, &other, &some_seats(fleet.n, fleet.k(), rng), 0);
+    let mut record = confirmed(fleet, seat, value, &quorum);
+    let more = if rng.one_in(2) { mask(&[*rng.pick(&quorum)]) } else { 0 };
+    record.guilty = mask(&quorum) & mask(&full.seats()) | more;
+    if rng.one_in(2) {
+        record.notices = Notices::default();
+    }
+    case(fleet, record, values, Call::Step { message: full.write() }, rng)
 }

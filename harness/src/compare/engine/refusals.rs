@@ -3,7 +3,7 @@
 use super::records::{opened, seats_with, submitted};
 use super::{both, Call, Case, Subject};
 use crate::compare::arguments::key_spoilers;
-use crate::compare::messages;
+use crate::compare::messages::{self, PACKS};
 use crate::compare::refusals::{lengths, on_part, spoiled, spoiler, Spoiler};
 use crate::compare::{equal, long, noise, resized, run, sized, LOWER_TREE};
 use crate::fleet::{layouts, rounds, some_seats, Fleet};
@@ -110,15 +110,27 @@ type Part = fn(&mut Case) -> &mut Vec<u8>;
 /// The kinds of call, each right, with the changes that make that kind alone wrong.
 fn kinds(fleet: Fleet, rng: &mut Rng) -> Vec<(Base, Vec<Spoiler<Case>>)> {
     let right = Right::new(fleet, rng);
-    let in_submit = || on_part(messages::submit(fleet, &right.submit), message_of);
+    let in_step = |mut wrong: Vec<Spoiler<Vec<u8>>>| {
+        wrong.extend(evidence_instead(fleet));
+        on_part(wrong, message_of)
+    };
     let spoilers = [
         own_spoilers(fleet, right.seat, right.value),
-        in_submit(),
-        in_submit(),
-        on_part(messages::notice(fleet, &right.notice), message_of),
-        on_part(messages::full(fleet, &right.full), message_of),
+        in_step(messages::submit(fleet, &right.submit)),
+        in_step(messages::submit(fleet, &right.submit)),
+        in_step(messages::notice(fleet, &right.notice)),
+        in_step(messages::full(fleet, &right.full)),
     ];
     right.calls(fleet, rng).into_iter().zip(spoilers).collect()
+}
+
+/// Right evidence instead of the message: "to a step it is a wrong command".
+fn evidence_instead(fleet: Fleet) -> [Spoiler<Vec<u8>>; 2] {
+    let (lower, higher) = (layouts()[0], layouts()[1]);
+    PACKS.map(|pack| {
+        let evidence = (pack.write)(&fleet.evidence((&lower, 0), (&higher, 0), &fleet.seats()));
+        spoiler(9, format!("{} instead", pack.name), move |message: &mut Vec<u8>, _| *message = evidence.clone())
+    })
 }
 
 fn message_of(case: &mut Case) -> &mut Vec<u8> {
