@@ -61,10 +61,9 @@ pub fn lengths_around(subject: &dyn EvidenceCheck, n: u32, rng: &mut Rng) -> Res
 }
 
 /// A call with random bytes.
-pub fn noise(subject: &dyn EvidenceCheck, rng: &mut Rng) -> Result<u32, String> {
+pub fn noise(subject: &dyn EvidenceCheck, pack: Pack, rng: &mut Rng) -> Result<u32, String> {
     let arguments = Arguments::noise(rng);
     let count = 1 + rng.below(2) as u32;
-    let pack = *rng.pick(&PACKS);
     let mut evidence = noise::bytes(pack.length(count), rng);
     if rng.below(4) > 0 {
         noise::head(&mut evidence, pack.command, arguments.round, rng);
