@@ -6,9 +6,10 @@ use std::thread;
 
 use crate::air;
 use crate::compare::equal;
-use crate::fleet::{self, layouts, rounds, some_seats, Fleet};
+use crate::fleet::{self, rounds, some_layouts, some_seats, Fleet};
 use crate::hex;
 use crate::reference::lms::PUBLIC_KEY;
+use crate::reference::messages::Value;
 use crate::rng::Rng;
 use crate::terms::{change, each_line, each_script, expect, number, Terms, Words};
 
@@ -109,9 +110,9 @@ pub fn random_input(rng: &mut Rng) -> Vec<u8> {
     let fleet = Fleet { n: 1 + rng.below(7) as u32, round: *rng.pick(&rounds()) };
     let seat = rng.below(fleet.n as usize) as u32;
     let mut input = random_opening(fleet, seat, rng);
-    let values = [*rng.pick(&layouts()), *rng.pick(&layouts())];
+    let values: [Value; 3] = some_layouts(rng);
     for _ in 0..rng.below(16) {
-        let value = if rng.one_in(3) { &values[1] } else { &values[0] };
+        let value = &values[*rng.pick(&[0, 0, 0, 0, 1, 2])];
         let other = rng.below(fleet.n as usize) as u32;
         let message = match rng.below(4) {
             0 => fleet.notice(other, value).write(),

@@ -299,9 +299,11 @@ impl<'a> Boat<'a> {
         fs::write(&inputs, bytes).expect("the inputs' file");
         let mut command = self.program.command();
         command.arg(&self.memory.0).arg(&inputs).stdout(File::create(&air).expect("a file"));
-        let start = self.run(command, cut)?;
-        self.listen(&fs::read(air).expect("what was sent"), start.killed)?;
-        Ok(start)
+        let start = self.run(command, cut);
+        let killed = start.as_ref().is_ok_and(|start| start.killed);
+        self.listen(&fs::read(air).expect("what was sent"), killed)?;
+        self.distinct()?;
+        start
     }
 
     /// Lets the example go on from point to point, or kills it.
@@ -368,8 +370,8 @@ impl<'a> Boat<'a> {
         Ok(())
     }
 
-    /// All that has left the boat, once its round is over.
-    fn judged(&self, words: &str) -> Result<(), String> {
+    /// The different messages that have left the boat: of one layout, and no two of a kind but EVIDENCEs.
+    fn distinct(&self) -> Result<Vec<&Vec<u8>>, String> {
         let signed = self.sent.iter().chain(&self.broken).filter(|bytes| bytes[0] == SUBMIT && bytes.len() >= SIGNED);
         let layouts: BTreeSet<&[u8]> = signed.map(|bytes| &bytes[VALUE_AT..SIGNED]).collect();
         if layouts.len() > 1 {
@@ -385,6 +387,22 @@ impl<'a> Boat<'a> {
             }
             distinct.push(message);
         }
+        Ok(distinct)
+    }
+
+    /// Two different messages of a kind are EVIDENCEs that name no seat both.
+    fn go_together(&self, one: &[u8], other: &[u8]) -> Result<(), String> {
+        let named = |message: &[u8]| Evidence::read(message, self.script.n).map(|evidence| mask(&evidence.seats()));
+        match named(one).zip(named(other)).map(|(one, other)| list(one & other)) {
+            None => Err(format!("said twice: two different messages {}", air::name(one))),
+            Some(both) if !both.is_empty() => Err(format!("named twice: {both:?}, in two EVIDENCEs")),
+            Some(_) => Ok(()),
+        }
+    }
+
+    /// All that has left the boat, once its round is over.
+    fn judged(&self, words: &str) -> Result<(), String> {
+        let distinct = self.distinct()?;
         if let Some(part) = self.broken.iter().find(|&part| !distinct.iter().any(|whole| whole.starts_with(part))) {
             return Err(format!("lost: the message whose first {} bytes left the boat", part.len()));
         }
@@ -393,7 +411,7 @@ impl<'a> Boat<'a> {
             let unit = &mut Unit::open(self.script.fleet(), OTHER);
             unit.step(full).map_err(|number| format!("refused: FULL, {number}"))?;
         }
-        for (evidence, &named) in self.packs().into_iter().zip(self.script.packs) {
+        for (evidence, &named) in packs(&distinct).zip(self.script.packs) {
             let Fleet { n, round } = self.script.fleet();
             let verdict = Library.check_evidence(n, round, &self.script.fleet().key_table(), evidence);
             if (verdict.number, verdict.mask) != (0, named) {
@@ -405,27 +423,6 @@ impl<'a> Boat<'a> {
         }
         let own = of(SUBMIT).ok_or("lost: the SUBMIT")?;
         self.compared(&distinct, own, words)
-    }
-
-    /// Two different messages of one kind: EVIDENCEs that name no seat both.
-    fn go_together(&self, one: &[u8], other: &[u8]) -> Result<(), String> {
-        let named = |message: &[u8]| Evidence::read(message, self.script.n).map(|evidence| mask(&evidence.seats()));
-        match named(one).zip(named(other)).map(|(one, other)| list(one & other)) {
-            None => Err(format!("said twice: two different messages {}", air::name(one))),
-            Some(both) if !both.is_empty() => Err(format!("named twice: {both:?}, in two EVIDENCEs")),
-            Some(_) => Ok(()),
-        }
-    }
-
-    /// The different EVIDENCEs sent so far.
-    fn packs(&self) -> Vec<&[u8]> {
-        let mut packs: Vec<&[u8]> = Vec::new();
-        for message in self.sent.iter().filter(|message| message[0] == EVIDENCE) {
-            if !packs.contains(&message.as_slice()) {
-                packs.push(message);
-            }
-        }
-        packs
     }
 
     /// The messages and the file are those of the reference in the same round without a cut.
@@ -471,6 +468,10 @@ impl<'a> Boat<'a> {
         }
         Ok(())
     }
+}
+
+fn packs<'a>(messages: &'a [&Vec<u8>]) -> impl Iterator<Item = &'a [u8]> {
+    messages.iter().filter(|message| message[0] == EVIDENCE).map(|message| message.as_slice())
 }
 
 /// A unit of the reference, and the messages that it has written.
@@ -554,17 +555,17 @@ fn played(program: &Program, case: &Case, mut rng: Rng) -> Result<Kills, String>
             _ if number < case.cuts.len() => return Err(format!("no kill: {cut:?} is after the end")),
             _ => continue,
         }
-        kills.packs.push(boat.packs().len());
+        kills.packs.push(packs(&boat.distinct()?).count());
     }
     let last = boat.start(None)?;
     boat.judged(&last.words)?;
     Ok(kills)
 }
 
-/// Points of a start that runs through, and of the next one.
+/// Points of a start that runs through, and of the next one; none where a bad host stops.
 fn points(program: &Program, script: &Script) -> [Vec<String>; 2] {
     let mut boat = Boat::new(program, script, Rng::new(seed(), "points"));
-    [1, 2].map(|_| boat.start(None).expect("a start").points)
+    [1, 2].map(|_| boat.start(None).map_or(Vec::new(), |start| start.points))
 }
 
 /// A kill at each point of the first start, and at each of the second one where the first was killed at its last point. Then one

@@ -1,7 +1,7 @@
 //! The rounds of data/rounds, whose answers were worked out from the documents by hand.
 
 use harness::confirmer::Reference;
-use harness::reference::layout::SUBMIT;
+use harness::reference::layout::{evidence, SUBMIT};
 use harness::script::{self, Calls};
 
 const REFERENCE: Calls<'static> =
@@ -23,13 +23,17 @@ fn on_the_library() {
 #[test]
 fn a_wrong_answer_is_told() {
     let opening = "fleet 4 round 5\nlayout A 11\n0 opens\n= 0\n";
-    let cases: [(&str, u32); 10] = [
+    let conflict = "layout B 22\n0 hears FULL 1 A of 1-3\n= 0 0\n0 hears FULL 1 B of 1-3\n";
+    let cases: [(&str, u32); 13] = [
         (&format!("0 submits A\n= 0 {} SUBMIT 0 A", SUBMIT - 1), 6),
         (&format!("0 submits A\n= 0 {SUBMIT} SUBMIT 0 A'"), 6),
         ("0 submits A\n= 8 0", 6),
         ("0 hears NOTICE 1 A\n= 0 0\n0 has nothing", 7),
         ("0 submits A\n0 submits A", 6),
         ("check EVIDENCE A A of 1\n= 14", 6),
+        ("check OLD EVIDENCE A A of 1\n= 14", 6),
+        (&format!("{conflict}= 0 {} OLD EVIDENCE A B of 1-3", evidence(3)), 9),
+        (&format!("{conflict}= 0 {} EVIDENCE A B of 1-2 B A of 3", evidence(3)), 9),
         ("lower NOTICE 1 A and NOTICE 1 A\n= first", 6),
         ("0 notes\n= 0 118", 6),
         ("0 notes\n= 0 118 bytes 20 04 00 0005 00*112 01", 6),

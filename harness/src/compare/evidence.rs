@@ -61,10 +61,9 @@ pub fn lengths_around(subject: &dyn EvidenceCheck, n: u32, rng: &mut Rng) -> Res
 }
 
 /// A call with random bytes.
-pub fn noise(subject: &dyn EvidenceCheck, rng: &mut Rng) -> Result<u32, String> {
+pub fn noise(subject: &dyn EvidenceCheck, pack: Pack, rng: &mut Rng) -> Result<u32, String> {
     let arguments = Arguments::noise(rng);
     let count = 1 + rng.below(2) as u32;
-    let pack = *rng.pick(&PACKS);
     let mut evidence = noise::bytes(pack.length(count), rng);
     if rng.below(4) > 0 {
         noise::head(&mut evidence, pack.command, arguments.round, rng);
@@ -83,7 +82,8 @@ pub fn battery(subject: &dyn EvidenceCheck) {
             cases.extend(right_ones(fleet, pack, &mut rng));
             cases.extend(in_other_fleets(fleet, pack, &mut rng));
             if long() || [1, 2, 3, 4, 7, 10, 31, 32].contains(&n) {
-                cases.extend(refusals(fleet, pack, &mut rng));
+                cases.extend(refusals(fleet, pack, 1, &mut rng));
+                cases.extend(refusals(fleet, pack, n.min(3), &mut rng));
             }
         }
         cases.extend(one_of_each(fleet, &mut rng));
@@ -157,8 +157,7 @@ fn in_other_fleets(fleet: Fleet, pack: Pack, rng: &mut Rng) -> Vec<Case> {
     cases
 }
 
-fn refusals(fleet: Fleet, pack: Pack, rng: &mut Rng) -> Vec<Case> {
-    let count = (1 + rng.below(3) as u32).min(fleet.n);
+fn refusals(fleet: Fleet, pack: Pack, count: u32, rng: &mut Rng) -> Vec<Case> {
     let right = any_evidence(fleet, pack, &some_seats(fleet.n, count, rng), rng);
     let base = accepted("", fleet, pack, &right);
     let mut cases = whole_entries(&base, pack);

@@ -1,6 +1,7 @@
 //! Random bytes as every operand: mostly refused for one cause, now and then for a later one.
 
 use super::engine::{self, Subject};
+use super::messages::{OLD_PACK, PACK};
 use super::{check_signature, count, covered, evidence, make_key, making, notes, run, sign, Tally};
 use crate::confirmer::{EvidenceCheck, Making};
 use crate::reference::layout::{self, FULL_COUNT_AT, FULL_ENTRIES_AT, SEAT_AT};
@@ -21,11 +22,12 @@ pub struct Subjects<'a> {
 const BATCH: usize = 1000;
 
 /// The numbers that each call must answer at some time.
-const COVERED: [(&str, &[u32]); 10] = [
+const COVERED: [(&str, &[u32]); 11] = [
     ("check_signature", &[5, 14]),
     ("make_key", &[7, 16]),
     ("sign", &[0, 3, 7, 16]),
     ("check_evidence", &[1, 3, 5, 9, 10, 11, 12, 14]),
+    ("check_evidence, old", &[1, 3, 5, 9, 10, 11, 12, 14]),
     ("make_evidence", &[1, 3, 5, 7, 9, 10, 11, 12, 14]),
     ("open", &[0, 1, 2, 3, 5]),
     ("submit", &[4, 5, 6, 7, 8, 9, 14]),
@@ -52,16 +54,17 @@ pub fn battery(subjects: Subjects) {
 /// A call's name and the number that it was answered.
 fn call(subjects: Subjects, rng: &mut Rng) -> Result<String, String> {
     let Subjects { signatures, evidence, engine, making } = subjects;
-    let (name, number) = match rng.below(14) {
+    let (name, number) = match rng.below(15) {
         0 => ("check_signature", check_signature::noise(signatures, rng)),
         1 => ("make_key", make_key::noise(signatures, rng)),
         2 => ("sign", sign::noise(signatures, rng)),
-        3 => ("check_evidence", evidence::noise(evidence, rng)),
-        4 => ("make_evidence", making::noise(making, rng)),
-        5 => ("open", engine::opening::noise(engine.engine, rng)),
-        6 | 7 => ("submit", engine::records::noise_submit(engine, rng)),
-        8 => ("write_note", notes::noise_write(engine.notes, rng)),
-        9 => ("read_note", notes::noise_read(engine.notes, rng)),
+        3 => ("check_evidence", evidence::noise(evidence, PACK, rng)),
+        4 => ("check_evidence, old", evidence::noise(evidence, OLD_PACK, rng)),
+        5 => ("make_evidence", making::noise(making, rng)),
+        6 => ("open", engine::opening::noise(engine.engine, rng)),
+        7 | 8 => ("submit", engine::records::noise_submit(engine, rng)),
+        9 => ("write_note", notes::noise_write(engine.notes, rng)),
+        10 => ("read_note", notes::noise_read(engine.notes, rng)),
         _ => ("step", engine::records::noise_step(engine, rng)),
     };
     let number = number.map_err(|difference| format!("{name}: {difference}"))?;

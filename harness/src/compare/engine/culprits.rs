@@ -105,9 +105,9 @@ fn in_every_order(fleet: Fleet, submits: bool, rng: &mut Rng) -> Vec<Plan> {
         let seats = if own == Some(place) { seats_with(fleet, seat, rng) } else { any };
         certificates.push(certificate(fleet, seat, &value, &seats, rng));
     }
-    let mut orders = orders(4);
-    while fleet.n > 7 && orders.len() > 8 {
-        orders.swap_remove(rng.below(orders.len()));
+    let mut chosen = orders(4);
+    while fleet.n > 7 && chosen.len() > 8 {
+        chosen.swap_remove(rng.below(chosen.len()));
     }
     let plan = |order: Vec<usize>| Plan {
         fleet,
@@ -116,7 +116,7 @@ fn in_every_order(fleet: Fleet, submits: bool, rng: &mut Rng) -> Vec<Plan> {
         own: order.iter().position(|&place| Some(place) == own),
         in_submit: fleet.k() == 1 || rng.one_in(2),
     };
-    orders.into_iter().map(plan).collect()
+    chosen.into_iter().map(plan).collect()
 }
 
 /// A first certificate, one that lacks t0 of its seats, and others that each lack one less, so that each adds one seat; and the
