@@ -1,7 +1,7 @@
 -- The tests for FULL and EVIDENCE, return by return.
 -- Assumes nothing.
-use mathlib.Core.Path.{_≡_, refl, sym, _∙_}
-use mathlib.Core.Bool.{Bool, true, false, not, _&&_, and-false, false≢true}
+use mathlib.Core.Path.{_≡_, sym, _∙_}
+use mathlib.Core.Bool.{Bool, true, false, not, _&&_, not-eq-not, and-false, false≢true}
 use mathlib.Core.List.{List}
 use mathlib.Core.Logic.{_≢_}
 use Prim.Native.Nat.{ℕ, _+_, _≤_, _<_, _^_}
@@ -71,11 +71,7 @@ module _ (bytes : List ℕ) (command : ℕ) (e : command ≡ byteAt bytes 0) whe
 module _ (n : ℕ) (bytes : List ℕ) where
   -- one of the tests fails
   pub evidence-not : (EvidenceFits n bytes → ⊥) → false ≡ fitsEvidence n bytes
-  evidence-not h = go (fitsEvidence n bytes) (λ f. h (evidence-fits n bytes f))
-    where
-      go : (b : Bool) → (b ≡ true → ⊥) → false ≡ b
-      go true h = absurd (h refl)
-      go false h = refl
+  evidence-not h = sym (not-eq-not {b = false} .0 (λ f. h (evidence-fits n bytes f)))
 
   pub command-not : (command : ℕ) → command ≡ byteAt bytes 0 → (not (eqb command 0x05) && not (eqb command 0x07)) ≡ true → false ≡ fitsEvidence n bytes
   command-not command e h = evidence-not (λ f. go (packIn bytes) (e ∙ f .code))
