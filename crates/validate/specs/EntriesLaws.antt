@@ -158,7 +158,7 @@ module _ (n : ℕ) (bytes : List ℕ) (h : EvidenceTaken n bytes) (entries : Ent
     unfolding firstOf
     checked-all l = rw (h .says, evidence-bad checks bytes (h .ends), passed-all (w .passed) (omega arith))
 
-  -- its lower value is the lower one: 15
+  -- its first value is lower than the second: 15
   module _ (w : Paired (pairOrder bytes) bytes entries count t) where
     module _ (l : t < count) (p : Pair) (e : p ≡ pairIn bytes t) (b : Bool) (v : b ≡ lowerFirst (pairRead bytes p)) where
       pub ordered-more : not b ≡ false → Paired (pairOrder bytes) bytes entries count (t + 1)

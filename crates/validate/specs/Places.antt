@@ -37,8 +37,8 @@ pairRead bytes p = record {
 }
 
 -- a seat's pair over two values, one after the other, with their signatures in the same order
-abbrev pub pairOf : ℕ → ℕ → ℕ → Pair
-pairOf seat values signatures = record {
+abbrev pub pairFrom : ℕ → ℕ → ℕ → Pair
+pairFrom seat values signatures = record {
   seat = seat;
   lower = record { value = values; signature = signatures };
   higher = record { value = values + valueLength; signature = signatures + signatureLength };
@@ -47,8 +47,8 @@ pairOf seat values signatures = record {
 -- the pair in an entry of EVIDENCE: "0x08, seat 1, lower value 32, higher value 32 and their signatures in that order" (document 02, item
 -- 3); in the old one, over the values of the message, "0x06, seat 1, the signature over the lower value, the signature over the higher"
 abbrev pub pairPlaces : PackForm → List ℕ → ℕ → Pair
-pairPlaces (ValuesOnce values) bytes at = pairOf (byteAt bytes (at + entrySeatAt)) lowerAt (at + entryHeldAt)
-pairPlaces ValuesEach bytes at = pairOf (byteAt bytes (at + entrySeatAt)) (at + entryHeldAt) (at + entryHeldAt + pairLowerAt)
+pairPlaces (ValuesOnce values) bytes at = pairFrom (byteAt bytes (at + entrySeatAt)) lowerAt (at + entryHeldAt)
+pairPlaces ValuesEach bytes at = pairFrom (byteAt bytes (at + entrySeatAt)) (at + entryHeldAt) (at + entryHeldAt + pairLowerAt)
 
 -- and the one at an index from 0
 abbrev pub pairIn : List ℕ → ℕ → Pair

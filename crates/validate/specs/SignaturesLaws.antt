@@ -23,7 +23,7 @@ use Rattle.protocol.specs.ConditionsLaws.{every-append, every-flat}
 use Rattle.layout.specs.declared.Entries.{Entries}
 use Rattle.wire.specs.Reading.{commandPlace, seatPlace, packEntries, Inside}
 use Rattle.validate.specs.Entries.{Ends}
-use Rattle.validate.specs.Places.{PairInside, pairChecks, pairRead, pairOf, pairPlaces, pairIn}
+use Rattle.validate.specs.Places.{PairInside, pairChecks, pairRead, pairFrom, pairPlaces, pairIn}
 use Rattle.validate.specs.declared.signatures.Pair.{Pair}
 
 -- two tests that agree below t
@@ -74,7 +74,7 @@ module _ (bytes : List ℕ) (at : ℕ) where
   places-inside (ValuesOnce values) n start room known = (known, (omega arith, omega arith), (omega arith, omega arith))
   places-inside ValuesEach n start room known = (known, (omega arith, omega arith), (omega arith, omega arith))
 
--- the least that an entry holds
+-- entries of either form hold this much
 least-held : (form : PackForm) → pairHigherAt ≤ pairHeld form
 unfolding signatureLength
 least-held (ValuesOnce values) = omega arith
@@ -104,10 +104,10 @@ each-pair test bytes ends =
 -- the pair as the code finds it, by the command of the message
 module _ (bytes : List ℕ) (entries : Entries) (e : entries ≡ packEntries bytes) (i seat held : ℕ) (s : seat ≡ byteAt bytes (seatPlace entries i))
     (h : held ≡ commandPlace entries i + entryHeldAt) (command : ℕ) (c : command ≡ byteAt bytes 0) (at : ℕ) (p : Pair) where
-  pub pair-once : command ≡ 0x05 → at ≡ lowerAt → p ≡ pairOf seat at held → p ≡ pairIn bytes i
+  pub pair-once : command ≡ 0x05 → at ≡ lowerAt → p ≡ pairFrom seat at held → p ≡ pairIn bytes i
   pair-once d v q = q ∙ rw (s, h, v, e, pack-old bytes (sym c ∙ d))
 
-  pub pair-each : (command ≡ 0x05 → ⊥) → at ≡ pairLowerAt → p ≡ pairOf seat held (held + at) → p ≡ pairIn bytes i
+  pub pair-each : (command ≡ 0x05 → ⊥) → at ≡ pairLowerAt → p ≡ pairFrom seat held (held + at) → p ≡ pairIn bytes i
   pair-each d v q = q ∙ rw (s, h, v, e, pack-new bytes (λ z. d (c ∙ z)))
 
 -- ---- the signatures of a message
@@ -148,7 +148,7 @@ module _ (checks : Checks) (bytes : List ℕ) where
 
 -- ---- the order of the values of EVIDENCE
 
--- the lower value of the pair at an index is the lower one
+-- the first value of the pair at an index is lower than the second
 abbrev pub pairOrder : List ℕ → ℕ → Bool
 pairOrder bytes i = lowerFirst (pairRead bytes (pairIn bytes i))
 

@@ -8,7 +8,7 @@ ghost use Rattle.validate.specs.Entries.{FullTaken, EvidenceTaken};
 use crate::signatures::Pair;
 use crate::signatures::pair_at;
 
-// Whether the lower value of a pair is the lower one.
+// Whether the first value of a pair is lower than the second.
 fn lower_first(m: &[u8], pair: Pair) -> bool
     requires { ⌜ PlaceInside (pair .lower) (now m) × PlaceInside (pair .higher) (now m) ⌝ }
     ensures { λ r. ⌜ r ≡ lowerFirst (pairRead (now (m .entry)) pair) ⌝ }

@@ -13,7 +13,7 @@ ghost use Rattle.protocol.specs.Signatures.{signedBytes, checks, signatureNumbe
 ghost use Rattle.wire.specs.Reading.{kindOf, packEntries};
 ghost use Rattle.validate.specs.Given.{Given};
 ghost use Rattle.validate.specs.Entries.{SubmitTaken, FullTaken, Ends, EvidenceTaken, Fits, foundChecks, goesOn};
-ghost use Rattle.validate.specs.Places.{PlaceInside, PairInside, placeChecks, pairChecks, pairOf, pairIn};
+ghost use Rattle.validate.specs.Places.{PlaceInside, PairInside, placeChecks, pairChecks, pairFrom, pairIn};
 use crate::keys::seat_key;
 use crate::message::OLD_EVIDENCE;
 use layout::Entries;
@@ -167,9 +167,9 @@ fn pair_verdict(k: &[u32; 64], n: u32, round: u32, keys: &[u8], m: &[u8], pair: 
 }
 
 // A seat's pair over two values, one after the other, with their signatures in the same order.
-fn pair_of(seat: u32, values: usize, signatures: usize) -> Pair
+fn pair_from(seat: u32, values: usize, signatures: usize) -> Pair
     requires { ⌜ (values + valueLength < 2 ^ 64) × (signatures + signatureLength < 2 ^ 64) ⌝ }
-    ensures { λ p. ⌜ p ≡ pairOf seat values signatures ⌝ }
+    ensures { λ p. ⌜ p ≡ pairFrom seat values signatures ⌝ }
 {
     let lower = Place {
         value: values,
@@ -194,9 +194,9 @@ pub(crate) fn pair_at(m: &[u8], entries: Entries, i: usize) -> Pair
     let seat = seat_of_entry(m, entries, i);
     let held = layout::entry_held_at(entries, i);
     if number_at(m, 0) == OLD_EVIDENCE {
-        return pair_of(seat, layout::lower_at(), held);
+        return pair_from(seat, layout::lower_at(), held);
     }
-    pair_of(seat, held, held + layout::pair_lower_at())
+    pair_from(seat, held, held + layout::pair_lower_at())
 }
 
 // Verdict on the signatures of EVIDENCE: its pairs one after another.
