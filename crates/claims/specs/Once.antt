@@ -12,11 +12,11 @@ use native.Mathlib.Omega.{arith}
 use native.Mathlib.Decide.{ℕ-discrete}
 use lib.ListN.{length, length-append, length-map}
 use Rattle.quorum.specs.Quorum.{t0, k, In, has, size}
-use Rattle.quorum.specs.QuorumLaws.{size-empty, size-within}
+use Rattle.quorum.specs.QuorumLaws.{size-within}
 use Rattle.refusal.specs.Refusal.{unrefused}
-use Rattle.protocol.specs.Layout.{signatureLength, submitLength, noticeLength, fullEntryAt, fullLength, evidenceEntryLength, evidenceEntryAt, evidenceLength, outLength, noteLength}
+use Rattle.protocol.specs.Layout.{signatureLength, submitLength, noticeLength, fullEntryAt, fullLength, evidenceStart, evidenceEntryLength, evidenceEntryAt, evidenceLength, outLength, noteLength}
 use Rattle.protocol.specs.Entries.{formSeats}
-use Rattle.protocol.specs.Message.{Pair, ValuesEach, Message, Submit, Notice, Full, Evidence, Garbled, evidenceForm, render, renderAll, read, entrySeats, WellFormed}
+use Rattle.protocol.specs.Message.{Pair, PackForm, ValuesEach, Message, Submit, Notice, Full, Evidence, Garbled, evidenceForm, render, renderAll, read, entrySeats, WellFormed}
 use Rattle.protocol.specs.MessageLaws.{length-submit, length-notice, length-full, length-evidence, evidence-place}
 use Rattle.protocol.specs.Record.{impossible}
 use Rattle.protocol.specs.Refusals.{Checks, isFull, isEvidence}
@@ -29,16 +29,16 @@ use Rattle.round.specs.Round.{Setting, IsHonest, Each, Relation, Call, BySubmit
 use Rattle.round.specs.Demand1.{Kind, SUBMIT, NOTICE, FULL, EVIDENCE, isOf, isSubmit, isNotice, worth, count, most, AtMost, Apart, SendsOne, Carries, SendsSubmitted, SendsOneLayout}
 use Rattle.round.specs.Culprits.{packNames}
 use Rattle.reading.specs.ListsLaws.{worth-le-one, worth-true, true-of-worth, count-pos}
-use Rattle.claims.specs.Sound.{Any, Mark, SUBMITTED, CONFIRMED, SENT, NAMED, sets, flagOf, packSize, packSizes, Said, Good}
+use Rattle.claims.specs.Sound.{Any, Mark, SUBMITTED, CONFIRMED, SENT, NAMED, sets, flagOf, packSize, packSizes, Pairs, Said, Good}
 use Rattle.claims.specs.CertificatesLaws.{set-size, entries-laid}
-use Rattle.claims.specs.PacksLaws.{one-or-two, pack-names, Names, packs-at-most}
-use Rattle.claims.specs.Parts.{guilty-held, confirmed-submitted}
+use Rattle.claims.specs.PacksLaws.{one-or-two, pack-names, NamesSome, packs-at-most}
+use Rattle.claims.specs.Parts.{guilty-held, guilty-few, confirmed-submitted}
 use Rattle.claims.specs.UnrefusedLaws.{possible}
 use Rattle.claims.specs.Whole.{step-submits-none}
 use Rattle.reading.specs.Messages.{refusalOf, cameTo, messages, allMessages}
 use Rattle.reading.specs.MessagesLaws.{outcome-is, unrefused-unit, all-member, member-all}
 use Rattle.claims.specs.Journey.{Worthy, Passed, any-worthy}
-use Rattle.claims.specs.Opened.{start-n, start-innocent, start-sound, start-settled}
+use Rattle.claims.specs.Opened.{start-n, start-sound, start-settled}
 use Rattle.claims.specs.Power.{sends-written}
 use Rattle.claims.specs.Units.{endOf, trip, stop, result-grows, written-are, written-member, member-written, marked-at-end, begun-at-end, flag-written, writes-good, end-n, all-are, by-messages}
 use Rattle.claims.specs.Safe.{pack-cases, submits-end}
@@ -58,19 +58,10 @@ kinds-all n (Full ρ sender value es ∷ ms) w = omega (arith, kinds-all n ms (�
 kinds-all n (Evidence ρ form ps ∷ ms) w = omega (arith, kinds-all n ms (λ m d. w m (List·Memᴰ·tail d)))
 kinds-all n (Garbled ∷ ms) w = absurd (w Garbled (List·Memᴰ·head refl))
 
-evidence-room : (a b : ℕ) → a ≤ b → evidenceEntryAt a ≤ evidenceEntryAt b
-unfolding evidenceEntryAt evidenceEntryLength signatureLength
-evidence-room a b h = omega arith
-
 once-le : (c l : ℕ) → c ≤ 1 → c * l ≤ l
 once-le zero l h = omega arith
 once-le (suc zero) l h = omega arith
 once-le (suc (suc c)) l h = absurd (omega arith)
-
--- one of each kind fills out
-out-filled : (n : ℕ) → submitLength + noticeLength + fullEntryAt (k n) + evidenceEntryAt (k n) ≡ outLength n
-unfolding outLength fullLength evidenceLength
-out-filled n = refl
 
 -- messages that are all EVIDENCE, one at most: none, or a single one
 evidence-alone : (ms : List Message) → length ms ≡ count (isOf EVIDENCE) ms → count (isOf EVIDENCE) ms ≤ 1 → (ms ≡ []) ⊎ ((m : Message) × (isEvidence m ≡ true) × (ms ≡ m ∷ []))
@@ -79,11 +70,21 @@ evidence-alone [] e l = inl refl
 evidence-alone (m ∷ []) e l = inr (m, true-of-worth (isEvidence m) (omega arith), refl)
 evidence-alone (m ∷ m′ ∷ ms) e l = absurd (omega arith)
 
+-- each seat of a pack stands there once
+pairs-size : (checks : Checks) (W : Relation) (n ρ : ℕ) (ps : List Pair) → Pairs checks W n ps → packSize (Evidence ρ ValuesEach ps) ≡ length ps
+unfolding packSize isEvidence entrySeats formSeats evidenceForm
+pairs-size checks W n ρ ps z = set-size (map (λ (p : Pair). p .seat) ps) (z .rise) ∙ length-map ps (λ (p : Pair). p .seat)
+
 -- bytes of messages, kind by kind
 module _ (checks : Checks) (W : Relation) (r : Record) where
+  pack-bytes : (ρ : ℕ) (form : PackForm) (ps : List Pair) → Good checks W r (Evidence ρ form ps) → length (render (Evidence ρ form ps)) ≡ evidenceStart + packSize (Evidence ρ form ps) * evidenceEntryLength
+  unfolding evidenceLength evidenceEntryAt evidenceEntryLength signatureLength
+  pack-bytes ρ form ps g = rw (g .1) (omega (arith, length-evidence ρ ValuesEach ps tt (g .2 .laid), evidence-place (length ps), pairs-size checks W (r .n) ρ ps (g .2)))
+
   bytes-by-kind : (ms : List Message) → Each (Good checks W r) ms
-      → length (renderAll ms) ≤ count (isOf SUBMIT) ms * submitLength + count (isOf NOTICE) ms * noticeLength + count (isOf FULL) ms * fullEntryAt (k (r .n)) + count (isOf EVIDENCE) ms * evidenceEntryAt (k (r .n))
-  unfolding renderAll count worth isSubmit isNotice isFull isEvidence evidenceLength
+      → length (renderAll ms)
+      ≡ count (isOf SUBMIT) ms * submitLength + count (isOf NOTICE) ms * noticeLength + count (isOf FULL) ms * fullEntryAt (k (r .n)) + count (isOf EVIDENCE) ms * evidenceStart + packSizes ms * evidenceEntryLength
+  unfolding renderAll count worth isSubmit isNotice isFull isEvidence packSizes packSize
   bytes-by-kind [] g = omega arith
   bytes-by-kind (Submit ρ seat value signature ∷ ms) g =
       let h = g (Submit ρ seat value signature) (List·Memᴰ·head refl) in
@@ -101,11 +102,21 @@ module _ (checks : Checks) (W : Relation) (r : Record) where
   bytes-by-kind (Evidence ρ form ps ∷ ms) g =
       let m = Evidence ρ form ps in
       let h = g m (List·Memᴰ·head refl) in
-      let l : length (render m) ≡ evidenceEntryAt (length ps) =
-      ap (λ f. length (render (Evidence ρ f ps))) (h .1) ∙ length-evidence ρ ValuesEach ps tt (h .2 .laid) ∙ evidence-place (length ps) in
-      let f = evidence-room (length ps) (k (r .n)) (h .2 .few) in
-      omega (arith, length-append (render m) (renderAll ms), bytes-by-kind ms (λ x d. g x (List·Memᴰ·tail d)))
+      omega (arith, length-append (render m) (renderAll ms), pack-bytes ρ form ps h, bytes-by-kind ms (λ x d. g x (List·Memᴰ·tail d)))
   bytes-by-kind (Garbled ∷ ms) g = absurd (g Garbled (List·Memᴰ·head refl))
+
+  -- one of each kind and further packs, which name k seats at most in all
+  bytes-few : (ms : List Message) (more : ℕ) → Each (Good checks W r) ms → count isSubmit ms ≤ 1 → count isNotice ms ≤ 1 → count isFull ms ≤ 1 → count isEvidence ms ≤ more + 1 → packSizes ms ≤ k (r .n)
+      → length (renderAll ms) ≤ outLength (r .n) + evidenceStart * more
+  unfolding outLength fullLength evidenceLength evidenceEntryAt evidenceEntryLength signatureLength
+  bytes-few ms more g submits notices fulls packs seats =
+      omega (
+        arith,
+        bytes-by-kind ms g,
+        once-le (count isSubmit ms) submitLength submits,
+        once-le (count isNotice ms) noticeLength notices,
+        once-le (count isFull ms) (fullEntryAt (k (r .n))) fulls,
+      )
 
 -- ---- an honest unit's list
 
@@ -125,19 +136,19 @@ module _ (S : Setting) (u : Boat) (honest : IsHonest S u) where
   abbrev end : Record
   end = endOf S u honest
 
-  -- each pack that the list writes names a seat or more
-  packs-name : Each Names (allMessages S ts)
-  unfolding packSize isEvidence entrySeats formSeats evidenceForm
-  packs-name m d is =
-      let good = writes-good S u honest Any any m (member-written S u honest Any any m d) in
-      pack-cases checks Any end (λ x. 1 ≤ packSize x) m is good (λ ps z. omega (arith, set-size (map (λ (p : Pair). p .seat) ps) (z .rise), length-map ps (λ (p : Pair). p .seat), z .some))
+  all-good : Each (Good checks Any end) (allMessages S ts)
+  all-good m d = writes-good S u honest Any any m (member-written S u honest Any any m d)
 
-  -- all packs together name the guilty seats, which stand in the first certificate
-  guilty-few : size (end .guilty) ≤ k n
-  guilty-few =
-      let sound = trip S u honest Any any .sound in
-      let few : size (end .first .seats) ≤ k (end .n) = ⊎-elim (λ e. omega (arith, ap size e, size-empty)) (λ e. omega arith) (sound .first .enough) in
-      omega (arith, size-within (end .first .seats) (end .guilty) (guilty-held checks Any end (nowOf S u .store) sound), ap k (end-n S u honest Any any))
+  -- each pack that the list writes names a seat or more
+  packs-name : Each NamesSome (allMessages S ts)
+  packs-name m d is =
+      pack-cases checks Any end (λ x. 1 ≤ packSize x) m is (all-good m d) (λ ps z. omega (arith, pairs-size checks Any (end .n) (end .round) ps z, z .some))
+
+  -- all packs together name the guilty seats
+  named-at-end : packSizes (allMessages S ts) ≤ k (end .n)
+  named-at-end =
+      let now = trip S u honest Any any in
+      omega (arith, now .counts .named, guilty-few checks Any end (nowOf S u .store) (now .sound))
 
   packs-at-end : count isEvidence (allMessages S ts) ≤ t0 n + 1
   packs-at-end = go (ℕ-discrete (count isEvidence (allMessages S ts)) 0)
@@ -146,7 +157,7 @@ module _ (S : Setting) (u : Boat) (honest : IsHonest S u) where
       go (yes e) = omega arith
       go (no d) =
           let l = packs-at-most n (allMessages S ts) (begun-at-end S u honest Any any .0) packs-name d in
-          omega (arith, trip S u honest Any any .counts .named, ap size (start-innocent S u honest), size-empty, guilty-few)
+          omega (arith, named-at-end, ap k (end-n S u honest Any any))
 
   at-most-at-end : (κ : Kind) → count (isOf κ) (allMessages S ts) ≤ most n κ
   unfolding most
@@ -165,6 +176,14 @@ module _ (S : Setting) (u : Boat) (honest : IsHonest S u) where
   at-most-in-all ms a =
       let most = at-most ms a in
       omega (arith, kinds-all n ms (a .0), most SUBMIT, most NOTICE, most FULL, most EVIDENCE)
+
+  -- and in bytes, what fits the stated out, and a head for each further pack
+  pub written-in-all : length (writtenOver S ts) ≤ outLength n + evidenceStart * t0 n
+  unfolding most
+  written-in-all =
+      rw (all-are S u honest .1)
+      (subst (λ i. length (renderAll (allMessages S ts)) ≤ outLength i + evidenceStart * t0 n) (end-n S u honest Any any)
+      (bytes-few checks Any end (allMessages S ts) (t0 n) all-good (at-most-at-end SUBMIT) (at-most-at-end NOTICE) (at-most-at-end FULL) packs-at-end named-at-end))
 
   -- no seat stands in two packs
   named-once : (seat : ℕ) → count (packNames seat) (allMessages S ts) ≤ 1
@@ -282,19 +301,10 @@ module _ (S : Setting) (u : Boat) (honest : IsHonest S u) where
     pub written-fits : length (writtenIn S t) ≤ outLength n
     written-fits =
         let ms = messages S t in
-        let size = resultOf S t .unit .n in
-        let exact : size ≡ n = result-grows S u honest Any any t d .n ∙ start-n S u honest in
-        rw (written-are S u honest Any any t d .1)
-        (subst (λ i. length (renderAll ms) ≤ outLength i) exact
-        (omega (
-          arith,
-          bytes-by-kind checks Any (resultOf S t .unit) ms (here .good),
-          out-filled size,
-          once-le (count (isOf SUBMIT) ms) submitLength (marked-once SUBMITTED),
-          once-le (count (isOf NOTICE) ms) noticeLength (marked-once CONFIRMED),
-          once-le (count (isOf FULL) ms) (fullEntryAt (k size)) (marked-once SENT),
-          once-le (count (isOf EVIDENCE) ms) (evidenceEntryAt (k size)) (here .packs),
-        )))
+        let r = resultOf S t .unit in
+        let few = guilty-few checks Any r (resultOf S t .store) (here .sound) in
+        let fits = bytes-few checks Any r ms 0 (here .good) (marked-once SUBMITTED) (marked-once CONFIRMED) (marked-once SENT) (here .packs) (omega (arith, here .counts .named)) in
+        rw (written-are S u honest Any any t d .1) (subst (λ i. length (renderAll ms) ≤ outLength i) (result-grows S u honest Any any t d .n ∙ start-n S u honest) (omega arith))
 
     none-of : (μ : Mark) → flagOf μ (t .unit) ≡ true → count (sets μ) (messages S t) ≡ 0
     none-of μ e = omega (arith, here .counts .marked μ, worth-true (flagOf μ (t .unit)) e, worth-le-one (flagOf μ (resultOf S t .unit)))

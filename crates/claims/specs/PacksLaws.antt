@@ -66,9 +66,9 @@ module _ (r r′ : Record) where
       record { marked = marked; named = rw is (omega (arith, ap size d)); begun = λ e. record { large = (λ t. absurd (true≢false (sym t ∙ is)), λ t. tt); innocent = λ z. d ∙ e } }
     where
       marked : (μ : Mark) → count (sets μ) (m ∷ []) + worth (flagOf μ r) ≡ worth (flagOf μ r′)
-      marked SUBMITTED = omega (arith, a)
-      marked CONFIRMED = omega (arith, b)
-      marked SENT = omega (arith, c)
+      marked SUBMITTED = omega arith
+      marked CONFIRMED = omega arith
+      marked SENT = omega arith
       marked (NAMED seat) = rw is (omega (arith, ap (λ g. worth (has seat g)) d))
 
 worth-has : (s m : ℕ) → worth (has s m) ≡ bit s m
@@ -97,7 +97,7 @@ counts-pack r r′ ρ form ps new names apart large a b c d = record {
 
 -- ---- packs of a list
 
--- two members of a list that pass a test are one and the same, or count twice
+-- two members of a list are one and the same, or both count in every test that they pass
 pub one-or-two {ℓ} : {A : Type ℓ} (xs : List A) (x y : A) → List·Memᴰ x xs → List·Memᴰ y xs
     → (x ≡ y) ⊎ ((test : A → Bool) → test x ≡ true → test y ≡ true → 2 ≤ count test xs)
 unfolding count
@@ -154,10 +154,10 @@ first-large n [] m later l is none = l .0 is
 first-large n (x ∷ before) m later l is none = first-large n before m later (l .1 (none x (List·Memᴰ·head refl))) is (λ y d. none y (List·Memᴰ·tail d))
 
 -- each pack names a seat or more
-abbrev pub Names : Message → Type 0
-Names m = isEvidence m ≡ true → 1 ≤ packSize m
+abbrev pub NamesSome : Message → Type 0
+NamesSome m = isEvidence m ≡ true → 1 ≤ packSize m
 
-packs-few : (ms : List Message) → Each Names ms → count isEvidence ms ≤ packSizes ms
+packs-few : (ms : List Message) → Each NamesSome ms → count isEvidence ms ≤ packSizes ms
 unfolding count worth packSizes
 packs-few [] each = omega arith
 packs-few (m ∷ ms) each =
@@ -165,9 +165,9 @@ packs-few (m ∷ ms) each =
     by-test (isEvidence m) (λ e. rw e (omega (arith, each m (List·Memᴰ·head refl) e))) (λ e. rw e (omega arith))
 
 -- so that there are few after the first, which names all but t0 of k
-pub packs-at-most : (n : ℕ) (ms : List Message) → LargeFirst n ms → Each Names ms → count isEvidence ms ≢ 0 → count isEvidence ms + k n ≤ packSizes ms + t0 n + 1
+pub packs-at-most : (n : ℕ) (ms : List Message) → LargeFirst n ms → Each NamesSome ms → count isEvidence ms ≢ 0 → count isEvidence ms + k n ≤ packSizes ms + t0 n + 1
 unfolding count worth packSizes LargeFirst
 packs-at-most n [] l each some = absurd (some refl)
 packs-at-most n (m ∷ ms) l each some =
-    let rest : Each Names ms = λ x d. each x (List·Memᴰ·tail d) in
+    let rest : Each NamesSome ms = λ x d. each x (List·Memᴰ·tail d) in
     by-test (isEvidence m) (λ e. rw e (omega (arith, l .0 e, packs-few ms rest))) (λ e. rw e (omega (arith, packs-at-most n ms (l .1 e) rest (λ z. some (rw e (omega arith))))))

@@ -15,7 +15,7 @@ use borrow.Author.Tests.{eqb-true, eqb-false, ne-eqb, not-true, not-false}
 use Rattle.octets.specs.Strings.{same}
 use Rattle.octets.specs.StringsLaws.{same-refl, same-true, same-false}
 use Rattle.quorum.specs.Quorum.{t0, k, bit, In, has, size, union, shared, less, with, seats}
-use Rattle.quorum.specs.QuorumLaws.{bit-lt-two, bit-cases, bit-empty, bit-with-other, bit-with-same, has-false, bit-union, bit-shared, bit-less, in-union, in-shared, in-less, same-seats, union-lt, shared-lt, less-lt, with-lt, size-empty, size-with-new, bit-outside, mem-seats, t0-below-third, k-of-n-share-most}
+use Rattle.quorum.specs.QuorumLaws.{bit-lt-two, bit-cases, bit-empty, bit-with-other, bit-with-same, has-false, bit-union, bit-shared, bit-less, in-union, in-shared, in-less, same-seats, union-lt, shared-lt, less-lt, with-lt, size-empty, size-within, size-with-new, bit-outside, mem-seats, t0-below-third, k-of-n-share-most}
 use Rattle.refusal.specs.RefusalLaws.{both-true}
 use Rattle.protocol.specs.Layout.{valueLength, signatureLength, banks, storeLength, collectedBank, firstBank, keptBank, keptValueBank}
 use Rattle.protocol.specs.Entries.{formSeats}
@@ -356,6 +356,12 @@ module _ (checks : Checks) (W : Relation) where
   -- a guilty seat stands in the first certificate
   pub guilty-held : (r : Record) (store : List ℕ) → Sound checks W r store → (seat : ℕ) → In seat (r .guilty) → In seat (r .first .seats)
   guilty-held r store z seat i = in-shared seat (r .guilty) (r .first .seats) .0 (rw (z .first .guiltyWithin) i) .1
+
+  -- and so there are k at most
+  pub guilty-few : (r : Record) (store : List ℕ) → Sound checks W r store → size (r .guilty) ≤ k (r .n)
+  guilty-few r store z =
+      let few : size (r .first .seats) ≤ k (r .n) = ⊎-elim (λ e. omega (arith, ap size e, size-empty)) (λ e. omega arith) (z .first .enough) in
+      omega (arith, size-within (r .first .seats) (r .guilty) (guilty-held r store z))
 
   first-certifies : (r : Record) (store : List ℕ) → Sound checks W r store → r .first .seats ≢ 0 → Certifies checks W (r .n) (firstCertificate r store)
   unfolding firstCertificate

@@ -79,12 +79,13 @@ unfoldable pub LargeFirst : ℕ → List Message → Type 0
 LargeFirst n [] = Unit {0}
 LargeFirst n (m ∷ ms) = (isEvidence m ≡ true → k n ≤ packSize m + t0 n) × (isEvidence m ≡ false → LargeFirst n ms)
 
--- messages written since a time when no seat was guilty: while there is no pack among them, none is
+-- messages written since a time when no seat was guilty: the first pack is as large as that, and while there is none no seat is guilty
 pub record Begun (r : Record) (ms : List Message) : Type 0 where
   pub large : LargeFirst (r .n) ms
   pub innocent : count isEvidence ms ≡ 0 → r .guilty ≡ 0
 
--- a message is written exactly where its mark becomes set, and packs name as many seats as become guilty
+-- from a record by messages to a record: a message is written exactly where its mark becomes set, and the packs name as many seats as
+-- become guilty
 pub record Counts (r : Record) (ms : List Message) (r′ : Record) : Type 0 where
   pub marked : (μ : Mark) → count (sets μ) ms + worth (flagOf μ r) ≡ worth (flagOf μ r′)
   pub named : packSizes ms + size (r .guilty) ≡ size (r′ .guilty)
@@ -212,7 +213,7 @@ module _ (checks : Checks) (W : Relation) where
 
   -- ---- from one state of a call to a later one
 
-  -- with as many packs written in between, or fewer
+  -- with the messages written in between, and at most so many packs among them
   pub record Leads (most : ℕ) (s s′ : State) : Type 0 where
     pub sound : Sound (s′ .unit) (s′ .store)
     pub stored : length (s′ .store) ≡ length (s .store)
