@@ -1,6 +1,6 @@
 -- More culprits as more certificates come in (document 02, item 3): a fleet of 7, in which t0 is 2 and a certificate has k = 5 seats. The boats of
--- seats 0 to 4 sign both the layout 7 and the layout 9. Seats 5 and 6 are honest, and sign the layout 9. Computed with the toy signature check
--- (`trials/specs/Toy: toy`); that what is computed is what the claims speak of is deduced.
+-- seats 0 to 4 sign the layouts 7, 8 and 9. Seats 5 and 6 are honest, and sign the layout 9. Computed with the toy signature check
+-- (`trials/specs/Toy: toy`). At the end the claims, as they are proved, for these two runs.
 -- Assumes nothing.
 use Prim.Native.Nat.{ℕ}
 use mathlib.Core.Path.{_≡_, refl}
@@ -44,11 +44,12 @@ writtenBy u = map (messages seven) (listOf seven u)
 
 -- ---- three certificates heard, and a fourth
 
--- It hears of the layout 7, with seats 0 to 4; of the layout 9, with seats 0, 1, 2, 5 and 6; of the layout 9 from another boat, with seats 2 to 6; and
--- of the layout 8, with seats 0 to 4 again.
+-- It submits the layout 9. It hears of the layout 7, with seats 0 to 4; of the layout 9, with seats 0, 1, 2, 5 and 6; of the layout 9 from
+-- another boat, with seats 2 to 6; and of the layout 8, with seats 0 to 4 again.
 abbrev heard : List Call
 heard =
-    hears (certificate 7 0 (0 ∷ 1 ∷ 2 ∷ 3 ∷ 4 ∷ []))
+    BySubmit (layout 9) (sign 6 9) room
+    ∷ hears (certificate 7 0 (0 ∷ 1 ∷ 2 ∷ 3 ∷ 4 ∷ []))
     ∷ hears (certificate 9 0 (0 ∷ 1 ∷ 2 ∷ 5 ∷ 6 ∷ []))
     ∷ hears (certificate 9 5 (2 ∷ 3 ∷ 4 ∷ 5 ∷ 6 ∷ []))
     ∷ hears (certificate 8 1 (0 ∷ 1 ∷ 2 ∷ 3 ∷ 4 ∷ []))
@@ -63,7 +64,7 @@ firstPack = Evidence 5 ValuesEach (pairBy 7 9 0 ∷ pairBy 7 9 1 ∷ pairBy 7 9 
 abbrev secondPack : Message
 secondPack = Evidence 5 ValuesEach (pairBy 7 9 3 ∷ pairBy 7 9 4 ∷ [])
 
-pub third-heard : writtenBy (boat heard) ≡ [] ∷ (firstPack ∷ []) ∷ (secondPack ∷ []) ∷ [] ∷ []
+pub third-heard : writtenBy (boat heard) ≡ (submitBy 6 9 ∷ []) ∷ [] ∷ (firstPack ∷ []) ∷ (secondPack ∷ []) ∷ [] ∷ []
 unfolding unfoldedTrials
 third-heard = refl
 
@@ -83,12 +84,12 @@ second-is-accepted = refl
 
 -- ---- the own certificate comes third
 
--- It hears the first two, submits the layout 9, and hears the SUBMITs of seats 2 to 5.
+-- It submits the layout 9, and hears the first two certificates and the SUBMITs of seats 2 to 5.
 abbrev submits : List Call
 submits =
-    hears (certificate 7 0 (0 ∷ 1 ∷ 2 ∷ 3 ∷ 4 ∷ []))
+    BySubmit (layout 9) (sign 6 9) room
+    ∷ hears (certificate 7 0 (0 ∷ 1 ∷ 2 ∷ 3 ∷ 4 ∷ []))
     ∷ hears (certificate 9 0 (0 ∷ 1 ∷ 2 ∷ 5 ∷ 6 ∷ []))
-    ∷ BySubmit (layout 9) (sign 6 9) room
     ∷ hears (submitBy 2 9)
     ∷ hears (submitBy 3 9)
     ∷ hears (submitBy 4 9)
@@ -97,7 +98,7 @@ submits =
 
 -- With the fifth signature the unit confirms. Its own certificate, with seats 2 to 6, names the two further boats.
 pub own-third : writtenBy (boat submits)
-    ≡ [] ∷ (firstPack ∷ []) ∷ (submitBy 6 9 ∷ []) ∷ [] ∷ [] ∷ [] ∷ (Notice 5 6 (layout 9) ∷ certificate 9 6 (2 ∷ 3 ∷ 4 ∷ 5 ∷ 6 ∷ []) ∷ secondPack ∷ []) ∷ []
+    ≡ (submitBy 6 9 ∷ []) ∷ [] ∷ (firstPack ∷ []) ∷ [] ∷ [] ∷ [] ∷ (Notice 5 6 (layout 9) ∷ certificate 9 6 (2 ∷ 3 ∷ 4 ∷ 5 ∷ 6 ∷ []) ∷ secondPack ∷ []) ∷ []
 unfolding unfoldedTrials
 own-third = refl
 

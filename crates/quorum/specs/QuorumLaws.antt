@@ -202,9 +202,6 @@ same-seats =
     (λ b h. sym (zero-of-none-in b (λ s. sym (h s) ∙ bit-empty s)))
     (λ a half b h. omega (arith, h 0, half (b / 2) (λ s. h (suc s))))
 
-pub shared-comm : (a b : ℕ) → shared a b ≡ shared b a
-shared-comm a b = same-seats (shared a b) (shared b a) (λ s. omega (arith, bit-shared s a b, bit-shared s b a))
-
 pub outside-false : (n m : ℕ) → (outside n m ≡ false) ↔ (m < 2 ^ n)
 unfolding outside
 outside-false n m = (leb-false (2 ^ n) m, lt-leb (2 ^ n) m)

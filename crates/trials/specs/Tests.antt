@@ -187,7 +187,7 @@ pack-first (m ∷ ms) e =
     (isEvidence m) m (firstPack ms) (λ q h. ([], ms, refl, each-nil _))
     (λ q h. let rest = pack-first ms h in (m ∷ rest .0, rest .1, ap (_∷_ m) (rest .2), each-cons _ m (rest .0) q (rest .3))) e
 
--- whether a message is of no other form than 0x07, where it is EVIDENCE
+-- whether a message isn't EVIDENCE of the old form
 unfoldable pub newForm : Message → Bool
 newForm (Submit ρ seat value signature) = true
 newForm (Notice ρ seat value) = true
@@ -205,7 +205,7 @@ newForm-not (Evidence ρ (ValuesOnce values) ps) e = (ρ, ValuesOnce values, ps,
 newForm-not (Evidence ρ ValuesEach ps) e = absurd (true≢false e)
 newForm-not Garbled e = absurd (true≢false e)
 
--- whether two messages name no seat both
+-- whether two messages have no seat in common
 unfoldable pub apart : Message → Message → Bool
 apart m x = every (λ seat. not (found (eqb seat) (entrySeats x))) (entrySeats m)
 

@@ -60,10 +60,11 @@ module _ (S : Setting) (u : Boat) where
         true≢false (sym (rw (each SUBMIT, each NOTICE, each FULL, each EVIDENCE)) ∙ c);
   }
 
-  -- whether a message sent is another one again, or both are packs that name no seat both, where they are of one kind
+  -- whether two messages are of one kind
   abbrev pub ofOneKind : Message → Message → Bool
   ofOneKind m x = found (λ κ. isOf κ m && isOf κ x) (SUBMIT ∷ NOTICE ∷ FULL ∷ EVIDENCE ∷ [])
 
+  -- whether one is the other again, or they are packs with no seat in common
   abbrev pub again : Message → Message → Bool
   again m x = same (render m) (render x) || (isEvidence m && apart m x)
 

@@ -283,7 +283,7 @@ slow = boatAt 0 (hears (submitBy 1 7) ∷ hears (submitBy 2 7) ∷ hears (submit
 unfoldable pub slowBoat : Trial (IsHonest four slow → (c : Called) → List·Memᴰ c (listOf four slow) → impossible (resultOf four c .unit) ≡ false)
 slowBoat = possibleEach four slow
 
--- ---- more culprits (document 02, item 3): seats 0, 1 and 2 sign twice
+-- ---- more culprits (document 02, item 3): seats 0, 1 and 2 sign twice. No premise on signatures is used.
 
 -- Seat 3 hears a certificate of the layout 7 by seats 0, 1 and 2, twice one of the layout 9 by seats 0, 1 and 3, and one of the layout 8 by the
 -- seats of the first.
