@@ -1,5 +1,5 @@
-# make demo   a fleet plays three rounds: sound, with a slow boat, with double signers; DEMO="--help" lists the options, as in
-#             make demo DEMO="--double-signers 2 --lost-link 0-3"
+# make demo   a fleet plays four rounds: sound, with a slow boat, with double signers, with a third certificate that names more of
+#             them; DEMO="--help" lists the options, as in make demo DEMO="--double-signers 2 --lost-link 0-3"
 # make test   the gate: every crate proved, every program run, the static libraries against the harness
 # make soak   the long version of the harness's tests: load, faults, every call, and plain C
 # make bench  speed as ratios to plain C and to OpenSSL's libcrypto, in one run

@@ -66,6 +66,38 @@ fn all_is_as_promised_after_a_lost_boat() {
     }
 }
 
+/// Boat 0 lacks a signature when the FULLs go round: so it holds boat 2's certificate, and its own is the third.
+#[test]
+fn a_third_certificate_that_is_the_own_one() {
+    let Told { text, faults } = run(LIBRARY, "--lost-link 0-5");
+    assert!(faults.is_empty(), "{faults:?}");
+    for told in [
+        "
+    boat           0  1  2  3  4  5  6  7  8  9 10 11 12
+    C of boat 2    .  .  C  C  C  C  C  .  .  C  C  C  C   9 boats
+    B of boat 1    .  B  .  B  B  .  .  B  B  B  B  B  B   9 boats
+    EVIDENCE 1              ^  ^              ^  ^  ^  ^   6 boats
+    A, its own     A  .  .  .  .  A  A  A  A  A  A  A  A   9 boats
+    EVIDENCE 2                    ^  ^                     2 more
+
+The certificate for B shows that boats 3, 4 and 9 to 12 signed B and C. The one
+for A shows 2 more: boats 5 and 6 signed A and C.
+",
+        "
+  boat 0  hears SUBMIT of boat 5 for A: CONFIRMED, sends NOTICE, FULL and EVIDENCE
+",
+        "
+  EVIDENCE 2 of boat 0, 5,944 bytes   accepted: boats 5 and 6
+",
+        "
+  FULL for B    DOUBLE SIGNERS 3, 4 and 9 to 12
+  confirms A    DOUBLE SIGNERS 3 to 6 and 9 to 12
+",
+    ] {
+        assert!(text.contains(told), "{told}{text}");
+    }
+}
+
 /// A check of evidence with another verdict.
 struct Verdicts(fn(Verdict) -> Verdict);
 

@@ -284,6 +284,7 @@ impl<'a> Boat<'a> {
         own.submitted.then_some(own.value)
     }
 
+    /// What leaves the boat is heard and judged also where the program stops.
     fn start(&mut self, cut: Option<Cut>) -> Result<Start, String> {
         self.starts += 1;
         let wants = wanted(self.starts);
@@ -370,7 +371,7 @@ impl<'a> Boat<'a> {
         Ok(())
     }
 
-    /// The different messages that have left the boat: of one layout, and no two of a kind but EVIDENCEs.
+    /// The different messages that have left the boat: one of each kind, but for EVIDENCEs that name different seats.
     fn distinct(&self) -> Result<Vec<&Vec<u8>>, String> {
         let signed = self.sent.iter().chain(&self.broken).filter(|bytes| bytes[0] == SUBMIT && bytes.len() >= SIGNED);
         let layouts: BTreeSet<&[u8]> = signed.map(|bytes| &bytes[VALUE_AT..SIGNED]).collect();
@@ -390,7 +391,7 @@ impl<'a> Boat<'a> {
         Ok(distinct)
     }
 
-    /// Two different messages of a kind are EVIDENCEs that name no seat both.
+    /// Two different messages of a kind.
     fn go_together(&self, one: &[u8], other: &[u8]) -> Result<(), String> {
         let named = |message: &[u8]| Evidence::read(message, self.script.n).map(|evidence| mask(&evidence.seats()));
         match named(one).zip(named(other)).map(|(one, other)| list(one & other)) {

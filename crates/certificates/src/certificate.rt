@@ -39,7 +39,8 @@ fn hold(r: Record, store: &mut [u8], value: [u8; 32], source: Source, m: &[u8]) 
     with_first(r, first)
 }
 
-// The seats newly found: those that a certificate shares with the first one held, less those guilty already.
+// The seats newly found: those that a certificate shares with the first one held, less those guilty already. Of the certificate its
+// seats alone matter.
 fn found(r: Record, source: Source) -> Mask
     ensures { λ mask. ⌜ mask ≡ found (heard (r .n) source [] [] []) r ⌝ }
 {
@@ -47,7 +48,7 @@ fn found(r: Record, source: Source) -> Mask
     quorum::less(shared, r.guilty)
 }
 
-// Whether a certificate has another value than the first one held, and seats newly found.
+// Whether a certificate has another value than the first one held, and seats newly found. Its signatures don't matter.
 fn blames(r: Record, value: [u8; 32], source: Source) -> bool
     ensures { λ b. ⌜ b ≡ blames (heard (r .n) source value [] []) r ⌝ }
 {

@@ -11,8 +11,7 @@ use Prim.Native.Nat.{ℕ, zero, suc, _+_, _*_, _≤_, _<_}
 use native.Mathlib.Omega.{arith}
 use native.Mathlib.Decide.{ℕ-discrete}
 use lib.ListN.{length, length-append, length-map}
-use Rattle.quorum.specs.Quorum.{t0, k, In, has, size}
-use Rattle.quorum.specs.QuorumLaws.{size-within}
+use Rattle.quorum.specs.Quorum.{t0, k, has, size}
 use Rattle.refusal.specs.Refusal.{unrefused}
 use Rattle.protocol.specs.Layout.{signatureLength, submitLength, noticeLength, fullEntryAt, fullLength, evidenceStart, evidenceEntryLength, evidenceEntryAt, evidenceLength, outLength, noteLength}
 use Rattle.protocol.specs.Entries.{formSeats}
@@ -23,18 +22,18 @@ use Rattle.protocol.specs.Refusals.{Checks, isFull, isEvidence}
 use Rattle.protocol.specs.NoteClaim.{note-written}
 use Rattle.protocol.specs.Step.{State, stepped}
 use Rattle.protocol.specs.Calls.{opening, Result, resultBy, start, writeNote}
-use Rattle.protocol.specs.declared.First.{First}
 use Rattle.protocol.specs.declared.Record.{Record}
-use Rattle.round.specs.Round.{Setting, IsHonest, Each, Relation, Call, BySubmit, ByStep, ByThinEntry, Boat, Called, resultOf, writtenIn, writtenOver, Are, nowOf, listOf, Sent, Writes, Submits}
+use Rattle.round.specs.Round.{Setting, IsHonest, Each, Relation, Call, BySubmit, ByStep, ByThinEntry, Boat, Called, resultOf, writtenIn, StandsIn, writtenOver, Are, nowOf, listOf, Sent, Writes, Submits}
 use Rattle.round.specs.Demand1.{Kind, SUBMIT, NOTICE, FULL, EVIDENCE, isOf, isSubmit, isNotice, worth, count, most, AtMost, Apart, SendsOne, Carries, SendsSubmitted, SendsOneLayout}
 use Rattle.round.specs.Culprits.{packNames}
 use Rattle.reading.specs.ListsLaws.{worth-le-one, worth-true, true-of-worth, count-pos}
 use Rattle.claims.specs.Sound.{Any, Mark, SUBMITTED, CONFIRMED, SENT, NAMED, sets, flagOf, packSize, packSizes, Pairs, Said, Good}
 use Rattle.claims.specs.CertificatesLaws.{set-size, entries-laid}
-use Rattle.claims.specs.PacksLaws.{one-or-two, pack-names, NamesSome, packs-at-most}
-use Rattle.claims.specs.Parts.{guilty-held, guilty-few, confirmed-submitted}
+use Rattle.claims.specs.PacksLaws.{one-or-two, pack-names, NamesSome, size-member, packs-at-most}
+use Rattle.claims.specs.Parts.{guilty-few, confirmed-submitted}
 use Rattle.claims.specs.UnrefusedLaws.{possible}
 use Rattle.claims.specs.Whole.{step-submits-none}
+use Rattle.reading.specs.ReadingLaws.{are-unique}
 use Rattle.reading.specs.Messages.{refusalOf, cameTo, messages, allMessages}
 use Rattle.reading.specs.MessagesLaws.{outcome-is, unrefused-unit, all-member, member-all}
 use Rattle.claims.specs.Journey.{Worthy, Passed, any-worthy}
@@ -309,12 +308,13 @@ module _ (S : Setting) (u : Boat) (honest : IsHonest S u) where
     none-of : (μ : Mark) → flagOf μ (t .unit) ≡ true → count (sets μ) (messages S t) ≡ 0
     none-of μ e = omega (arith, here .counts .marked μ, worth-true (flagOf μ (t .unit)) e, worth-le-one (flagOf μ (resultOf S t .unit)))
 
-    -- a pack makes seats guilty
-    pack-adds : (m : Message) → isEvidence m ≡ true → messages S t ≡ m ∷ [] → size (t .unit .guilty) < size (resultOf S t .unit .guilty)
-    unfolding packSizes
-    pack-adds m is e =
-        let some = packs-name m (all-member S ts t m d (rw e (List·Memᴰ·head refl))) is in
-        omega (arith, here .counts .named, ap packSizes e)
+    -- "EVIDENCE is written for those newly found, if any" (document 02, item 3): a call that writes a pack makes more seats guilty, and so one
+    -- that adds none writes no pack
+    pub pack-adds : (m : Message) → isEvidence m ≡ true → StandsIn n m (writtenIn S t) → size (t .unit .guilty) < size (resultOf S t .unit .guilty)
+    pack-adds m is s =
+        let member = subst (List·Memᴰ m) (are-unique n (writtenIn S t) (s .0) (messages S t) (s .1) (written-are S u honest Any any t d)) (s .2) in
+        let some = packs-name m (all-member S ts t m d member) is in
+        omega (arith, here .counts .named, size-member (messages S t) m member)
 
     -- once FULL is sent, a call writes nothing, or one EVIDENCE, and then more seats are guilty than before
     pub quiet-once-sent : t .unit .sent ≡ true
@@ -329,18 +329,9 @@ module _ (S : Setting) (u : Boat) (honest : IsHonest S u) where
         let alone = evidence-alone ms (omega (arith, kinds-all n ms (are .0), none-of SUBMITTED submitted, none-of CONFIRMED confirmed, none-of SENT sent)) (here .packs) in
         ⊎-elim
         (λ e. inl (are .1 ∙ ap renderAll e))
-        (λ h. inr (h .0, h .1, pack-adds (h .0) (h .1) (h .2), are .1 ∙ ap renderAll (h .2) ∙ append-nil (render (h .0))))
+        (λ h. inr (h .0, h .1, pack-adds (h .0) (h .1) (ms, are, rw (h .2) (List·Memᴰ·head refl)), are .1 ∙ ap renderAll (h .2) ∙ append-nil (render (h .0))))
         alone
 
-    -- once FULL is sent and every seat of the first certificate is guilty, nothing is written
-    pub nothing-more : t .unit .sent ≡ true → ((seat : ℕ) → In seat (t .unit .first .seats) → In seat (t .unit .guilty)) → writtenIn S t ≡ []
-    nothing-more sent all =
-        ⊎-elim (λ e. e)
-        (λ h. absurd (
-        let at = stop S u honest Any any t d in
-        let r′ = resultOf S t .unit in
-        let stays = here .grows .first (at .settled .holds (at .sound .flags .confirmed sent) .0) in
-        let within = size-within (r′ .first .seats) (r′ .guilty) (guilty-held checks Any r′ (resultOf S t .store) (here .sound)) in
-        omega (arith, h .2, within, ap (λ (f : First). size (f .seats)) stays, size-within (t .unit .guilty) (t .unit .first .seats) all)
-        ))
-        (quiet-once-sent sent)
+    -- once FULL is sent, a call that makes no further seat guilty writes nothing
+    pub nothing-more : t .unit .sent ≡ true → resultOf S t .unit .guilty ≡ t .unit .guilty → writtenIn S t ≡ []
+    nothing-more sent same = ⊎-elim (λ e. e) (λ h. absurd (omega (arith, h .2, ap size same))) (quiet-once-sent sent)

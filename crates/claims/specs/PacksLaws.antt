@@ -157,6 +157,11 @@ first-large n (x ∷ before) m later l is none = first-large n before m later (l
 abbrev pub NamesSome : Message → Type 0
 NamesSome m = isEvidence m ≡ true → 1 ≤ packSize m
 
+pub size-member : (ms : List Message) (m : Message) → List·Memᴰ m ms → packSize m ≤ packSizes ms
+unfolding packSizes
+size-member [] m d = absurd (List·Memᴰ·not-nil d)
+size-member (x ∷ ms) m d = ⊎-elim (λ e. omega (arith, ap packSize e)) (λ t. omega (arith, size-member ms m t)) (List·Memᴰ·cases-cons d)
+
 packs-few : (ms : List Message) → Each NamesSome ms → count isEvidence ms ≤ packSizes ms
 unfolding count worth packSizes
 packs-few [] each = omega arith
@@ -164,7 +169,7 @@ packs-few (m ∷ ms) each =
     let rest = packs-few ms (λ x d. each x (List·Memᴰ·tail d)) in
     by-test (isEvidence m) (λ e. rw e (omega (arith, each m (List·Memᴰ·head refl) e))) (λ e. rw e (omega arith))
 
--- so that there are few after the first, which names all but t0 of k
+-- so that there are few after the first, which names k − t0 seats or more
 pub packs-at-most : (n : ℕ) (ms : List Message) → LargeFirst n ms → Each NamesSome ms → count isEvidence ms ≢ 0 → count isEvidence ms + k n ≤ packSizes ms + t0 n + 1
 unfolding count worth packSizes LargeFirst
 packs-at-most n [] l each some = absurd (some refl)

@@ -475,7 +475,7 @@ module _ (checks : Checks) (W : Relation) where
         let r = s .unit in
         less-lt (r .n) (shared (r .first .seats) (c .seats)) (r .guilty) (shared-lt (r .n) (r .first .seats) (c .seats) (z .first .below) (y .below)) (z .first .guiltyBelow)
 
-    -- while no seat is guilty, all that are shared are new, and these are all but t0 of k or more
+    -- while no seat is guilty, all that are shared are new, and these are k − t0 or more
     found-large : s .unit .first .seats ≢ 0 → s .unit .guilty ≡ 0 → k (s .unit .n) ≤ size (found c (s .unit)) + t0 (s .unit .n)
     unfolding found
     found-large held innocent =

@@ -74,7 +74,7 @@ unfoldable pub packSizes : List Message → ℕ
 packSizes [] = 0
 packSizes (m ∷ ms) = packSize m + packSizes ms
 
--- the first pack among messages names all but t0 of k seats, or more
+-- the first pack among messages names k − t0 seats or more
 unfoldable pub LargeFirst : ℕ → List Message → Type 0
 LargeFirst n [] = Unit {0}
 LargeFirst n (m ∷ ms) = (isEvidence m ≡ true → k n ≤ packSize m + t0 n) × (isEvidence m ≡ false → LargeFirst n ms)

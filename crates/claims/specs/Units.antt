@@ -122,7 +122,7 @@ module _ (S : Setting) (u : Boat) (honest : IsHonest S u) where
     pub marked-at-end : (μ : Mark) → count (sets μ) (allMessages S ts) ≡ worth (flagOf μ endOf)
     marked-at-end μ = omega (arith, trip .counts .marked μ, start-unset S u honest μ)
 
-    -- the first pack of the list names all but t0 of k seats, and without a pack no seat is guilty
+    -- the first pack of the list names k − t0 seats or more, and without a pack no seat is guilty
     pub begun-at-end : LargeFirst n (allMessages S ts) × (count isEvidence (allMessages S ts) ≡ 0 → endOf .guilty ≡ 0)
     begun-at-end =
         let b = trip .counts .begun (start-innocent S u honest) in

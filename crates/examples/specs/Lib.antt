@@ -12,6 +12,7 @@ pub mod Runs
 pub mod Guard
 pub mod SlowBoat
 pub mod PowerCuts
+pub mod ThirdCertificate
 pub mod Notes
 pub mod Split
 pub mod SplitProof

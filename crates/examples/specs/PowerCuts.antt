@@ -8,15 +8,14 @@ use mathlib.Core.List.{List, [], _∷_, map, List·Memᴰ, List·Memᴰ·head, L
 use native.Mathlib.Omega.{arith}
 use lib.ListN.{replicate}
 use Rattle.protocol.specs.Layout.{signatureLength, storeLength}
-use Rattle.protocol.specs.Message.{Entry, Pair, Message, Submit, Notice, Full, Evidence, Garbled, render, byteAt}
+use Rattle.protocol.specs.Message.{Entry, Pair, ValuesEach, Message, Notice, Full, Evidence, render, byteAt}
 use Rattle.protocol.specs.Calls.{opening, evidenceCheck}
 use Rattle.round.specs.Round.{Called, Makes, ComesBack, Boat, IsHonest, resultOf, listOf}
-use Rattle.round.specs.Demand1.{SUBMIT}
 use Rattle.claims.specs.Sound.{Any}
 use Rattle.claims.specs.Journey.{any-worthy}
 use Rattle.claims.specs.Units.{writes-good}
-use Rattle.claims.specs.Once.{sends-one}
-use Rattle.trials.specs.Toy.{toy, layout, sign, keys, submitBy, fullBy}
+use Rattle.claims.specs.Once.{one-layout-sent}
+use Rattle.trials.specs.Toy.{toy, layout, sign, keys, submitBy, fullBy, pairBy}
 use Rattle.trials.specs.Tests.{sentIn, sentIn-says, isHonest-says, all, formed, member-writes}
 use Rattle.trials.specs.Trials.{unfoldedTrials, four, pair, hears, does, confirming, keeps, keptBy, savedAt, interrupted, newest, older}
 
@@ -51,11 +50,8 @@ unfolding unfoldedTrials
 older-sends = refl
 
 -- With certificates of both layouts, made of what it sent and of the signatures of seats 2 and 3, the unit of seat 1 writes this pack.
-abbrev pairBy : ℕ → Pair
-pairBy seat = record { seat = seat; lowerValue = layout 7; higherValue = layout 9; lower = sign seat 7; higher = sign seat 9 }
-
 abbrev pack : Message
-pack = Evidence 5 (record { lower = layout 7; higher = layout 9 }) (pairBy 0 ∷ pairBy 2 ∷ pairBy 3 ∷ [])
+pack = Evidence 5 ValuesEach (pairBy 7 9 0 ∷ pairBy 7 9 2 ∷ pairBy 7 9 3 ∷ [])
 
 pub older-is-blamed : all four (older true) ≡ pack ∷ []
 unfolding unfoldedTrials
@@ -66,23 +62,14 @@ pub pack-is-accepted : evidenceCheck toy 4 5 (keys 4) (render pack) ≡ record {
 unfolding unfoldedTrials
 pack-is-accepted = refl
 
--- first byte of a SUBMIT's layout
-submitted : Message → ℕ
-submitted (Submit ρ seat value signature) = byteAt value 0
-submitted (Notice ρ seat value) = 0
-submitted (Full ρ sender value es) = 0
-submitted (Evidence ρ values ps) = 0
-submitted Garbled = 0
-
--- two different SUBMITs sent: not an honest unit
+-- two layouts sent: not an honest unit
 pub older-is-not-honest : IsHonest four (older false) → ⊥
-unfolding unfoldedTrials submitted
+unfolding unfoldedTrials
 older-is-not-honest h =
-    let events = older false .events in
-    let sent = sentIn-says events in
-    let same = sends-one four (older false) h SUBMIT (submitBy 0 7) (submitBy 0 9) refl refl
+    let sent = sentIn-says (older false .events) in
+    let same = one-layout-sent four (older false) h (submitBy 0 7) (submitBy 0 9) (layout 7) (layout 9) refl refl
     (sent (submitBy 0 7) (List·Memᴰ·head refl)) (sent (submitBy 0 9) (List·Memᴰ·tail (List·Memᴰ·head refl))) in
-    let seven-nine : _≡_ {A = ℕ} 7 9 = ap submitted same in
+    let seven-nine : _≡_ {A = ℕ} 7 9 = ap (λ (l : List ℕ). byteAt l 0) same in
     absurd (omega arith)
 
 -- from its newest note it sends the same SUBMIT again, and nobody is blamed
@@ -114,7 +101,7 @@ abbrev spoiltPair : ℕ → Pair
 spoiltPair seat = record { seat = seat; lowerValue = layout 7; higherValue = layout 9; lower = spoilt; higher = sign seat 9 }
 
 abbrev spoiltEvidence : Message
-spoiltEvidence = Evidence 5 (record { lower = layout 7; higher = layout 9 }) (spoiltPair 2 ∷ spoiltPair 3 ∷ [])
+spoiltEvidence = Evidence 5 ValuesEach (spoiltPair 2 ∷ spoiltPair 3 ∷ [])
 
 restored-writes : all four restored ≡ submitBy 0 7 ∷ Notice 5 0 (layout 7) ∷ spoiltFull ∷ spoiltEvidence ∷ []
 unfolding unfoldedTrials

@@ -4,16 +4,16 @@ use Prim.Native.Nat.{ℕ, _-_, _*_}
 use mathlib.Core.Bool.{Bool, true, false, not, _&&_}
 use mathlib.Core.List.{List, [], _∷_, _++_}
 use lib.Dec.{T, eqb}
-use lib.ListN.{length, replicate}
+use lib.ListN.{length, drop, replicate}
 use Rattle.quorum.specs.Quorum.{seats}
 use Rattle.octets.specs.Strings.{same}
 use Rattle.protocol.specs.Layout.{signatureLength, storeLength, outLength, evidenceOutLength}
-use Rattle.protocol.specs.Message.{Entry, Pair, PairValues, Message, Submit, Notice, Full, Evidence, render, renderAll}
+use Rattle.protocol.specs.Message.{Entry, Pair, PackForm, ValuesOnce, ValuesEach, Message, Submit, Notice, Full, Evidence, render, renderAll}
 use Rattle.protocol.specs.declared.Record.{Record}
 use Rattle.protocol.specs.Record.{withOwn, withConfirmed, withNotices, withFirst, withSent, withGuilty, withKept, fresh, zeros, impossible}
 use Rattle.protocol.specs.Step.{submitted}
 use Rattle.protocol.specs.Calls.{opening, Result, submit, step, making, made, evidenceCheck, lowerCertificate}
-use Rattle.trials.specs.Toy.{unfolded, toy, layout, sign, keys, submitBy, entryBy, fullBy}
+use Rattle.trials.specs.Toy.{unfolded, toy, layout, sign, keys, submitBy, entryBy, fullBy, pairBy}
 
 -- ---- calls of the runs
 
@@ -191,16 +191,15 @@ keptOnce-run = tt
 
 -- ---- two certificates of four seats: NOTICE, FULL and EVIDENCE in one call
 
-abbrev pairBy : ℕ → ℕ → ℕ → Pair
-pairBy low high seat = record { seat = seat; lowerValue = layout low; higherValue = layout high; lower = sign seat low; higher = sign seat high }
-
-abbrev values : ℕ → ℕ → PairValues
-values low high = record { lower = layout low; higher = layout high }
+-- the old form of EVIDENCE, with the values of all its pairs
+abbrev once : ℕ → ℕ → PackForm
+once low high = ValuesOnce (record { lower = layout low; higher = layout high })
 
 abbrev evidenceBoth : Message
-evidenceBoth = Evidence 5 (values 7 9) (pairBy 7 9 1 ∷ pairBy 7 9 2 ∷ [])
+evidenceBoth = Evidence 5 ValuesEach (pairBy 7 9 1 ∷ pairBy 7 9 2 ∷ [])
 
--- the unit holds a certificate of the layout 9 and confirms the layout 7; a third certificate is answered by nothing
+-- the unit holds a certificate of the layout 9 and confirms the layout 7; a third certificate adds seat 3, and given again it is answered by
+-- nothing
 conflict : Bool
 unfolding unfolded
 conflict =
@@ -208,6 +207,7 @@ conflict =
     let b = hears (submits a 7) (submitBy 1 7) in
     let c = hears b (submitBy 2 7) in
     let d = hears c (fullBy 8 1 2 3) in
+    let e = hears d (fullBy 8 1 2 3) in
     writes a []
     && eqb (a .unit .first .seats) 14
     && writes b []
@@ -215,8 +215,10 @@ conflict =
     && eqb (c .unit .guilty) 6
     && c .unit .sent
     && same (c .store) (storeWith 4 (sign 0 7 ++ sign 1 7 ++ sign 2 7 ++ replicate signatureLength 1 ++ replicate signatureLength 1 ++ sign 1 9 ++ sign 2 9 ++ sign 3 9))
-    && writes d []
-    && eqb (d .unit .guilty) 6
+    && writes d (Evidence 5 ValuesEach (pairBy 8 9 3 ∷ []) ∷ [])
+    && eqb (d .unit .guilty) 14
+    && writes e []
+    && eqb (e .unit .guilty) 14
 
 conflict-run : T conflict
 unfolding conflict
@@ -247,7 +249,7 @@ heardConflicts =
     let silent = hears (hears (opened 4) (fullBy 7 0 1 2)) (fullBy 9 1 2 3) in
     writes higher (fullBy 7 0 1 2 ∷ evidenceBoth ∷ [])
     && eqb (higher .unit .guilty) 6
-    && writes lower (fullBy 7 0 1 2 ∷ Evidence 5 (values 3 7) (pairBy 3 7 1 ∷ pairBy 3 7 2 ∷ []) ∷ [])
+    && writes lower (fullBy 7 0 1 2 ∷ Evidence 5 ValuesEach (pairBy 3 7 1 ∷ pairBy 3 7 2 ∷ []) ∷ [])
     && writes held []
     && same (held .store) (a .store)
     && eqb (held .unit .first .seats) 7
@@ -259,7 +261,8 @@ heardConflicts-run : T heardConflicts
 unfolding heardConflicts
 heardConflicts-run = tt
 
--- the same EVIDENCE from two certificates in hand, in either order; the seats that the check answers; the lower certificate
+-- the same EVIDENCE from two certificates in hand, in either order; the seats that the check answers, for the old form too, and for pairs of
+-- different layouts; the lower certificate
 evidenceCalls : Bool
 unfolding unfolded
 evidenceCalls =
@@ -267,13 +270,14 @@ evidenceCalls =
     let nine = render (fullBy 9 1 2 3) in
     let made1 = making toy 4 5 (keys 4) seven nine (room (evidenceOutLength 4)) in
     let made2 = making toy 4 5 (keys 4) nine seven (room (evidenceOutLength 4)) in
-    let check = evidenceCheck toy 4 5 (keys 4) (render evidenceBoth) in
+    let accepts : Message → ℕ → Bool = λ m mask. let check = evidenceCheck toy 4 5 (keys 4) (render m) in eqb (check .number) 0 && eqb (check .mask) mask in
     eqb (made1 .refusal) 0
     && same (made1 .written) (render evidenceBoth)
     && eqb (made2 .refusal) 0
     && same (made2 .written) (render evidenceBoth)
-    && eqb (check .number) 0
-    && eqb (check .mask) 6
+    && accepts evidenceBoth 6
+    && accepts (Evidence 5 (once 7 9) (pairBy 7 9 1 ∷ pairBy 7 9 2 ∷ [])) 6
+    && accepts (Evidence 5 ValuesEach (pairBy 7 9 0 ∷ pairBy 3 8 3 ∷ [])) 9
     && same (lowerCertificate toy 4 5 (keys 4) seven nine) seven
     && same (lowerCertificate toy 4 5 (keys 4) nine seven) seven
     && same (lowerCertificate toy 4 5 (keys 4) nine nine) []
@@ -391,8 +395,8 @@ submitsRefused =
     let out = room (outLength 4) in
     refuses (submit toy (keys 4) zeros store (layout 7) (sign 0 7) out) 4
     && refuses (submit toy (keys 3) fresh4 (room 17551) (layout 7) (sign 0 7) out) 5
-    && refuses (submit toy (keys 4) fresh4 (room 17551) (layout 7) (sign 0 7) (room 14708)) 6
-    && refuses (submit toy (keys 4) fresh4 store (layout 7) (sign 0 7) (room 14708)) 7
+    && refuses (submit toy (keys 4) fresh4 (room 17551) (layout 7) (sign 0 7) (room 14836)) 6
+    && refuses (submit toy (keys 4) fresh4 store (layout 7) (sign 0 7) (room 14836)) 7
     && refuses (submit toy (keys 4) (submits (opened 4) 7 .unit) store [] [] out) 8
     && refuses (submit toy (keys 4) fresh4 store (replicate 31 7) (sign 0 7) out) 9
     && refuses (submit toy (keys 4) fresh4 store (layout 7) (0 ∷ sign 0 7) out) 9
@@ -428,27 +432,55 @@ stepsRefused-run : T stepsRefused
 unfolding stepsRefused
 stepsRefused-run = tt
 
+-- 9 to 15 for a pack of either form. 14 comes before 15: the signatures over the layouts 7 and 9 stand in the other order.
+abbrev packsRefused : (ℕ → ℕ → PackForm) → Bool
+packsRefused form =
+    let check : Message → ℕ = λ m. evidenceCheck toy 4 5 (keys 4) (render m) .number in
+    let crossed : Pair = record { seat = 1; lowerValue = layout 9; higherValue = layout 7; lower = sign 1 7; higher = sign 1 9 } in
+    eqb (check (Evidence 5 (form 7 9) [])) 9
+    && eqb (check (Evidence 6 (form 7 9) (pairBy 7 9 1 ∷ []))) 10
+    && eqb (check (Evidence 5 (form 7 9) (pairBy 7 9 4 ∷ []))) 11
+    && eqb (check (Evidence 5 (form 7 9) (pairBy 7 9 1 ∷ pairBy 7 9 1 ∷ []))) 12
+    && eqb (check (Evidence 5 (form 9 7) (crossed ∷ []))) 14
+    && eqb (check (Evidence 5 (form 9 7) (pairBy 9 7 1 ∷ []))) 15
+    && eqb (check (Evidence 5 (form 7 7) (pairBy 7 7 1 ∷ []))) 15
+
+oldRefused : Bool
+unfolding unfolded
+oldRefused = packsRefused once
+
+oldRefused-run : T oldRefused
+unfolding oldRefused
+oldRefused-run = tt
+
+-- in the new form each entry has values of its own: 15 for any entry, after 14 for any
+newRefused : Bool
+unfolding unfolded
+newRefused =
+    let check : List ℕ → ℕ = λ bytes. evidenceCheck toy 4 5 (keys 4) bytes .number in
+    let unsigned : Pair = record { seat = 2; lowerValue = layout 7; higherValue = layout 9; lower = sign 2 7; higher = sign 3 9 } in
+    packsRefused (λ low high. ValuesEach)
+    && eqb (check (render (Evidence 5 ValuesEach (pairBy 7 9 1 ∷ pairBy 9 9 2 ∷ [])))) 15
+    && eqb (check (render (Evidence 5 ValuesEach (pairBy 9 9 1 ∷ unsigned ∷ [])))) 14
+    && eqb (check (0x05 ∷ drop 1 (render evidenceBoth))) 9
+    && eqb (check (0x06 ∷ drop 1 (render evidenceBoth))) 9
+    && eqb (check (0x07 ∷ drop 1 (render (Evidence 5 (once 7 9) (pairBy 7 9 1 ∷ []))))) 9
+
+newRefused-run : T newRefused
+unfolding newRefused
+newRefused-run = tt
+
 evidenceRefused : Bool
 unfolding unfolded
 evidenceRefused =
-    let check : Message → ℕ = λ m. evidenceCheck toy 4 5 (keys 4) (render m) .number in
     let seven = render (fullBy 7 0 1 2) in
-    let nine = render (fullBy 9 1 2 3) in
     let bad = render (Full 5 1 (layout 9) (entryBy 9 1 ∷ entryBy 9 2 ∷ entryBy 7 3 ∷ [])) in
-    let twice : Pair → Message = λ p. Evidence 5 (values 7 9) (p ∷ p ∷ []) in
     let made : List ℕ → List ℕ → ℕ = λ a b. making toy 4 5 (keys 4) a b (room (evidenceOutLength 4)) .refusal in
     eqb (evidenceCheck toy 33 1024 [] [] .number) 1
     && eqb (evidenceCheck toy 4 1024 [] [] .number) 3
     && eqb (evidenceCheck toy 4 5 (keys 3) [] .number) 5
     && eqb (evidenceCheck toy 4 5 (keys 4) [] .number) 9
-    && eqb (check (Evidence 5 (values 7 9) [])) 9
-    && eqb (check (fullBy 7 0 1 2)) 9
-    && eqb (check (Evidence 6 (values 7 9) (pairBy 7 9 1 ∷ []))) 10
-    && eqb (check (Evidence 5 (values 7 9) (pairBy 7 9 4 ∷ []))) 11
-    && eqb (check (twice (pairBy 7 9 1))) 12
-    && eqb (check (Evidence 5 (values 9 7) (pairBy 7 9 1 ∷ []))) 14
-    && eqb (check (Evidence 5 (values 9 7) (pairBy 9 7 1 ∷ []))) 15
-    && eqb (check (Evidence 5 (values 7 7) (pairBy 7 7 1 ∷ []))) 15
+    && eqb (evidenceCheck toy 4 5 (keys 4) seven .number) 9
     && eqb (making toy 4 5 (keys 4) [] [] (room (evidenceOutLength 4 - 1)) .refusal) 7
     && eqb (made bad []) 14
     && eqb (made seven []) 9

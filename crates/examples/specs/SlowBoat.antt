@@ -22,7 +22,7 @@ use Rattle.reading.specs.UnbrokenLaws.{unbroken-list, unbroken-honest}
 use Rattle.claims.specs.Parts.{in-below}
 use Rattle.claims.specs.Gain.{GivesGood, FirstIs, SubmitsAfter, confirms-in-that-call}
 use Rattle.trials.specs.Toy.{layout, sign, submitBy}
-use Rattle.trials.specs.Tests.{signedIn, given-signed, all}
+use Rattle.trials.specs.Tests.{messageIn, given-message, all}
 use Rattle.trials.specs.Trials.{unfoldedTrials, four, room, says, hears, boatAt}
 
 -- ---- a step given a seat's SUBMIT of the layout 7
@@ -49,10 +49,10 @@ gives seat r store inside storeRoom = record {
 
 -- it gives no other layout
 gives-seven : (seat : ℕ) (r : Record) (store : List ℕ) (s : ℕ) (other : List ℕ) → GivesGood four (heard seat r store) s other → other ≡ layout 7
-unfolding signed signedIn
+unfolding signed messageIn
 gives-seven seat r store s other g =
     let same : signed (submitBy seat 7) ≡ signed (Submit 5 s other (g .signature)) =
-    sym (ap signed (read-render 4 (submitBy seat 7) (formed seat))) ∙ given-signed 4 (hears (submitBy seat 7)) (g .bytes) (g .out) (g .isStep) ∙ ap signed (g .reads) in
+    sym (ap signed (read-render 4 (submitBy seat 7) (formed seat))) ∙ ap signed (given-message 4 (hears (submitBy seat 7)) (g .bytes) (g .out) (g .isStep) ∙ g .reads) in
     ap (λ (x : Signed). x .value) (List·Memᴰ·eq-of-singleton (subst (List·Memᴰ (record { seat = s; value = other; signature = g .signature })) (sym same) (List·Memᴰ·head refl)))
 
 -- ---- the boat
@@ -129,7 +129,7 @@ oneFewer =
     -- a signature that doesn't check
     ∷ hears (Submit 5 2 (layout 7) (sign 2 9))
     -- an out that is a byte short
-    ∷ ByStep (render (submitBy 2 7)) (replicate 14708 0)
+    ∷ ByStep (render (submitBy 2 7)) (replicate 14836 0)
     -- a good SUBMIT of the seat, but its second
     ∷ hears (submitBy 2 9)
     ∷ hears (submitBy 2 7)

@@ -12,11 +12,11 @@ use borrow.Author.Tests.{not-false}
 use Rattle.octets.specs.Strings.{same}
 use Rattle.octets.specs.StringsLaws.{same-refl}
 use Rattle.quorum.specs.Quorum.{k, bit, In, has, size, shared, with, seats}
-use Rattle.quorum.specs.QuorumLaws.{bit-cases, has-true, bit-with-same, bit-with-other, bit-shared, same-seats, shared-comm, size-shared-le, size-with-new, mem-seats}
+use Rattle.quorum.specs.QuorumLaws.{bit-cases, has-true, bit-with-same, bit-with-other, same-seats, size-within, size-with-new, mem-seats}
 use Rattle.refusal.specs.Refusal.{firstOf, unrefused}
 use Rattle.protocol.specs.Layout.{storeLength, outLength, evidenceOutLength}
 use Rattle.protocol.specs.Entries.{formSeats}
-use Rattle.protocol.specs.Message.{Entry, Message, Submit, Notice, Full, Evidence, Garbled, Signed, render, renderAll, read, roundOf, entrySeats, seatsOf, signed, WellFormed, fullForm}
+use Rattle.protocol.specs.Message.{Entry, ValuesEach, Message, Submit, Notice, Full, Evidence, Garbled, Signed, render, renderAll, read, roundOf, entrySeats, seatsOf, signed, WellFormed, fullForm}
 use Rattle.protocol.specs.MessageLaws.{read-render}
 use Rattle.protocol.specs.CertificateLaws.{in-set, set-seats}
 use Rattle.protocol.specs.Certificate.{setOf, ownCertificate, certificateOf, certificateIn, entryOf, entriesOf, fullOf, conflictOf}
@@ -25,11 +25,11 @@ use Rattle.protocol.specs.Step.{State, write, collect, isWanted, collectIfWante
 use Rattle.protocol.specs.Calls.{Result, resultBy, start, submit, step, makingBy, making}
 use Rattle.protocol.specs.declared.Record.{Record}
 use Rattle.round.specs.Round.{Setting, Call, ByStep, ByThinEntry, IsStep, Makes, Boat, Moment, Called, Each, Relation, EachSigned, outcome, begins, after as next-moment, afterAll, listFrom, listOf, IsHonest, Family, Writes, Submits, Confirms, StepGiven, Reached, MadeFrom, Delivered, MakesEvidence, makingOf}
-use Rattle.round.specs.Demand1.{SUBMIT, NOTICE, isNotice, isOf}
+use Rattle.round.specs.Demand1.{isNotice}
 use Rattle.round.specs.Demand3.{NoneForged, ReachedOthers}
 use Rattle.reading.specs.ListsLaws.{cond-elim, and-false-either, worth-le-one, worth-true, true-of-worth, count-nil, each-nil, each-cons, each-one, each-append, each-map, rising-first}
-use Rattle.claims.specs.Sound.{Any, Settled, Attested, Certifies, Entries, Sound, Said}
-use Rattle.claims.specs.CertificatesLaws.{set-size, seats-rising, entries-laid, entry-seats, entries-of, evidence-elim}
+use Rattle.claims.specs.Sound.{Any, SUBMITTED, CONFIRMED, Settled, Attested, Certifies, Entries, Sound, Said}
+use Rattle.claims.specs.CertificatesLaws.{set-size, seats-rising, entries-laid, entry-seats, entries-of, conflict-elim}
 use Rattle.claims.specs.Parts.{in-below}
 use Rattle.claims.specs.Whole.{reply-stays, hearing-stays, Done, submitted-done, submitted-value}
 use Rattle.reading.specs.ReadingLaws.{read-sized}
@@ -48,13 +48,6 @@ use Rattle.examples.specs.Split.{Fleet, Plan, certificate, submitBy, not
 
 -- ---- sets and rising lists of seats
 
-sub-size : (a b : ℕ) → ((s : ℕ) → In s a → In s b) → size a ≤ size b
-sub-size a b h = subst (λ m. size m ≤ size b) (shared-comm b a ∙ same-seats (shared a b) a (λ s. go s (bit-cases s a))) (size-shared-le b a)
-  where
-    go : (s : ℕ) → (bit s a ≡ 0) ⊎ In s a → bit s (shared a b) ≡ bit s a
-    go s (inl z) = omega (arith, bit-shared s a b)
-    go s (inr i) = omega (arith, bit-shared s a b, h s i)
-
 -- a set within another of its size is that other
 sub-same : (a b : ℕ) → ((s : ℕ) → In s a → In s b) → size a ≡ size b → a ≡ b
 sub-same a b h e = same-seats a b (λ s. go s (bit-cases s a) (bit-cases s b))
@@ -65,7 +58,7 @@ sub-same a b h e = same-seats a b (λ s. go s (bit-cases s a) (bit-cases s b))
 
     go : (s : ℕ) → (bit s a ≡ 0) ⊎ In s a → (bit s b ≡ 0) ⊎ In s b → bit s a ≡ bit s b
     go s (inl z) (inl y) = omega arith
-    go s (inl z) (inr j) = absurd (omega (arith, size-with-new s a z, sub-size (with s a) b (λ t i. more s j t i (ℕ-discrete t s))))
+    go s (inl z) (inr j) = absurd (omega (arith, size-with-new s a z, size-within b (with s a) (λ t i. more s j t i (ℕ-discrete t s))))
     go s (inr i) y = omega (arith, h s i)
 
 -- rising lists of the same seats are the same
@@ -90,7 +83,7 @@ unfolding isNotice
 notice-cases Q (Submit ρ seat value signature) e f = absurd (false≢true e)
 notice-cases Q (Notice ρ seat value) e f = f ρ seat value
 notice-cases Q (Full ρ sender value es) e f = absurd (false≢true e)
-notice-cases Q (Evidence ρ values ps) e f = absurd (false≢true e)
+notice-cases Q (Evidence ρ form ps) e f = absurd (false≢true e)
 notice-cases Q Garbled e f = absurd (false≢true e)
 
 -- own value and collected seats stay at confirming
@@ -329,8 +322,8 @@ module _ (S : Setting) {I : Type 0} (P : Plan I) (z : Splits S P) where
 
       confirmed-next : r .confirmed ≡ true → t .unit .confirmed ≡ true
       confirmed-next e =
-          let c = done .leads .counts NOTICE in
-          true-of-worth (t .unit .confirmed) (omega (arith, count-nil (isOf NOTICE), worth-true (r .confirmed) e, worth-le-one (t .unit .confirmed)))
+          let c = done .leads .counts .marked CONFIRMED in
+          true-of-worth (t .unit .confirmed) (omega (arith, count-nil isNotice, worth-true (r .confirmed) e, worth-le-one (t .unit .confirmed)))
 
     -- room in the store for every call of a unit's list
     abbrev Room : Called → Type 0
@@ -431,7 +424,7 @@ module _ (S : Setting) {I : Type 0} (P : Plan I) (z : Splits S P) where
     unsaid = go (start-record .own .submitted) refl
       where
         go : (b : Bool) → start-record .own .submitted ≡ b → start-record .own .submitted ≡ false
-        go true e = absurd (omega (arith, start-unset S u (honest i) SUBMIT, worth-true (start-record .own .submitted) e))
+        go true e = absurd (omega (arith, start-unset S u (honest i) SUBMITTED, worth-true (start-record .own .submitted) e))
         go false e = e
 
     own-attested : Attested checks W (start-record .seat) (layout side) (signature side (role i .seat))
@@ -572,7 +565,7 @@ module _ (S : Setting) {I : Type 0} (P : Plan I) (z : Splits S P) where
   confirmed : (b : Bool) → Confirms S (boat S P (leader b)) (layout b)
   confirmed b =
       let i = leader b in
-      let f = flag-written S (boat S P i) (honest i) W (worthy i) NOTICE (leader-confirmed b) in
+      let f = flag-written S (boat S P i) (honest i) W (worthy i) CONFIRMED (leader-confirmed b) in
       notice-cases (λ m. Writes S (boat S P i) m → Confirms S (boat S P i) (layout b)) (f .0) (f .1)
       (λ ρ seat value w. (ρ, seat, subst (λ v. Writes S (boat S P i) (Notice ρ seat v)) (notice-is i ρ seat value w .2 ∙ ap layout (z .fits .leads b)) w))
       (f .2)
@@ -683,16 +676,16 @@ module _ (S : Setting) {I : Type 0} (P : Plan I) (z : Splits S P) where
       let ca = certifies-in checks Any n round (read n (h .a)) (t .firstFull) (t .first) (read-sized n (h .a)) (λ s d. tt) in
       let cb = certifies-in checks Any n round (read n (h .b)) (t .secondFull) (t .second) (read-sized n (h .b)) (λ s d. tt) in
       let bytes : makingOf S h ≡ render (evidenceFrom S h) = making-bytes S h ∙ rw zero in
-      evidence-elim checks Any n (certificateIn (read n (h .a))) (certificateIn (read n (h .b))) (z .fits .some) ca cb (λ m. makingOf S h ≡ render m → MakesEvidence S (boat S P i) (makingOf S h)) round (t .conflict)
-      (λ values ps y is.
-      let m = Evidence round values ps in
+      conflict-elim checks Any n (certificateIn (read n (h .a))) (certificateIn (read n (h .b))) ca cb (λ m. makingOf S h ≡ render m → MakesEvidence S (boat S P i) (makingOf S h)) round (t .conflict) (z .fits .some)
+      (λ ps y names enough is.
+      let m = Evidence round ValuesEach ps in
       record {
         hand = h;
         has = List·Memᴰ·head refl;
         message = m;
         kind = refl;
         bytes = is;
-        stands = (m ∷ [], (each-one (WellFormed n) m (pairs-formed checks Any n round values ps (z .early) y), is ∙ sym (append-nil (render m))), List·Memᴰ·head refl);
+        stands = (m ∷ [], (each-one (WellFormed n) m (pairs-formed checks Any n round ps (z .early) y), is ∙ sym (append-nil (render m))), List·Memᴰ·head refl);
       })
       bytes
 

@@ -3,9 +3,10 @@
 -- Assumes nothing.
 use mathlib.Core.Path.{_≡_, refl}
 use mathlib.Core.Bool.{true, false}
-use Rattle.claims.specs.Once.{at-most-one, sends-one, none-impossible}
+use Rattle.claims.specs.Once.{written-messages, at-most, sends-one, none-impossible}
+use Rattle.claims.specs.Culprits.{shared-are-guilty, guilty-once, writes-new-form}
 use Rattle.trials.specs.Trial.{claimOf, answer}
-use Rattle.trials.specs.Trials.{unfoldedTrials, four, pair, answering, sharing, slow, interrupted, dividedBoats, forewarnedBoats, witnessedBoats, shortStoredBoats, shortOutedBoats, unheardBoats, unsignedBoats, twiceBoats, holdingBoats, keptOtherBoats, keptUnsignedBoats, unsignedEvidence, equalEvidence, answeringBoat, sharingBoat, slowBoat, interruptedBoat, interruptedSending, newestBoats, olderBoats, sameStoredBoats, otherStoredBoats, unnotedBoats, hastyBoat, blankBoat}
+use Rattle.trials.specs.Trials.{unfoldedTrials, four, pair, answering, sharing, slow, interrupted, dividedBoats, forewarnedBoats, witnessedBoats, shortStoredBoats, shortOutedBoats, unheardBoats, unsignedBoats, twiceBoats, holdingBoats, keptOtherBoats, keptUnsignedBoats, unsignedEvidence, equalEvidence, equalOldEvidence, answeringBoat, sharingBoat, slowBoat, third, ownThird, unsigned as unsignedBoat, thirdGuilty, ownThirdGuilty, refusedGuilty, thirdOnce, thirdNewForm, thirdAtMost, thirdReadable, thirdPays, interruptedBoat, interruptedSending, newestBoats, olderBoats, sameStoredBoats, otherStoredBoats, unnotedBoats, hastyBoat, blankBoat}
 
 divided : answer dividedBoats ≡ (true, true)
 unfolding unfoldedTrials dividedBoats
@@ -59,6 +60,10 @@ equal-evidence : answer equalEvidence ≡ (true, true)
 unfolding unfoldedTrials equalEvidence
 equal-evidence = refl
 
+equal-old-evidence : answer equalOldEvidence ≡ (true, true)
+unfolding unfoldedTrials equalOldEvidence
+equal-old-evidence = refl
+
 once : answer answeringBoat ≡ (true, true)
 unfolding unfoldedTrials answeringBoat
 once = refl
@@ -70,6 +75,38 @@ possible = refl
 possible-slow : answer slowBoat ≡ (true, true)
 unfolding unfoldedTrials slowBoat
 possible-slow = refl
+
+third-guilty : answer thirdGuilty ≡ (true, true)
+unfolding unfoldedTrials thirdGuilty
+third-guilty = refl
+
+own-third-guilty : answer ownThirdGuilty ≡ (true, true)
+unfolding unfoldedTrials ownThirdGuilty
+own-third-guilty = refl
+
+refused-guilty : answer refusedGuilty ≡ (true, true)
+unfolding unfoldedTrials refusedGuilty
+refused-guilty = refl
+
+third-once : answer thirdOnce ≡ (true, true)
+unfolding unfoldedTrials thirdOnce
+third-once = refl
+
+third-new-form : answer thirdNewForm ≡ (true, true)
+unfolding unfoldedTrials thirdNewForm
+third-new-form = refl
+
+third-at-most : answer thirdAtMost ≡ (true, true)
+unfolding unfoldedTrials thirdAtMost
+third-at-most = refl
+
+third-readable : answer thirdReadable ≡ (true, true)
+unfolding unfoldedTrials thirdReadable
+third-readable = refl
+
+third-pays : answer thirdPays ≡ (true, true)
+unfolding unfoldedTrials thirdPays
+third-pays = refl
 
 interrupted-once : answer interruptedBoat ≡ (true, true)
 unfolding unfoldedTrials interruptedBoat
@@ -107,9 +144,9 @@ blank : answer blankBoat ≡ (false, false)
 unfolding unfoldedTrials blankBoat
 blank = refl
 
--- demand 1's claims, for the boats of their trials
+-- the claims of demand 1 and of item 3 on one boat, for the boats of their trials
 once-claimed : claimOf answeringBoat
-once-claimed = at-most-one four answering
+once-claimed = at-most four answering
 
 possible-claimed : claimOf sharingBoat
 possible-claimed = none-impossible four sharing
@@ -118,7 +155,28 @@ slow-claimed : claimOf slowBoat
 slow-claimed = none-impossible four slow
 
 interrupted-claimed : claimOf interruptedBoat
-interrupted-claimed = at-most-one pair interrupted
+interrupted-claimed = at-most pair interrupted
 
 sends-claimed : claimOf interruptedSending
 sends-claimed = sends-one pair interrupted
+
+third-guilty-claimed : claimOf thirdGuilty
+third-guilty-claimed = shared-are-guilty four third
+
+own-third-claimed : claimOf ownThirdGuilty
+own-third-claimed = shared-are-guilty four ownThird
+
+refused-guilty-claimed : claimOf refusedGuilty
+refused-guilty-claimed = shared-are-guilty four (unsignedBoat true)
+
+third-once-claimed : claimOf thirdOnce
+third-once-claimed = guilty-once four third
+
+third-new-form-claimed : claimOf thirdNewForm
+third-new-form-claimed = writes-new-form four third
+
+third-at-most-claimed : claimOf thirdAtMost
+third-at-most-claimed = at-most four third
+
+third-readable-claimed : claimOf thirdReadable
+third-readable-claimed = written-messages four third

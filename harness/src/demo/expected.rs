@@ -38,8 +38,7 @@ pub fn faults(played: &Played) -> Vec<String> {
         expect(names_new(played, pack), refused(pack));
     }
     for seat in played.honest() {
-        let named = played.packs(seat).fold(0, |named, pack| named | pack.verdict.mask);
-        let [names, shows] = [named, shown(played, seat)].map(boats_of);
+        let [names, shows] = [played.named(seat), shown(played, seat)].map(boats_of);
         expect(names == shows, format!("boat {seat} names {names}, and its certificates show {shows}"));
     }
     if is_split(&played.late.records) {

@@ -174,6 +174,11 @@ impl Played {
         list(self.sides.iter().fold(0, |double, side| double | mask(&side.double)))
     }
 
+    /// The boats that signed each layout.
+    pub fn signers(&self) -> Vec<u32> {
+        self.sides.iter().map(Side::signers).collect()
+    }
+
     /// The first certificate that a boat held.
     pub fn first_held(&self, seat: u32) -> Option<Certificate> {
         let held = |event: &&Event| event.answer.as_ref().is_some_and(|answer| answer.after.first.seats != 0);
@@ -183,6 +188,11 @@ impl Played {
     /// A boat's EVIDENCEs, one after another.
     pub fn packs(&self, seat: u32) -> impl Iterator<Item = &Pack> {
         self.evidence.iter().filter(move |pack| pack.sent.from == seat)
+    }
+
+    /// The boats that they name, by the check.
+    pub fn named(&self, seat: u32) -> u32 {
+        self.packs(seat).fold(0, |named, pack| named | pack.verdict.mask)
     }
 }
 

@@ -202,7 +202,7 @@ impl<'a> Screens<'a> {
         }
         self.prose(&story);
         self.line("");
-        self.layouts_signed(&played.sides.iter().map(Side::signers).collect::<Vec<_>>());
+        self.layouts_signed(&played.signers());
     }
 
     /// The picture of who signs which layout; of two layouts those in both.
@@ -502,15 +502,14 @@ impl<'a> Screens<'a> {
     fn blame(&mut self, played: &Played) {
         let honest = played.honest();
         let held = honest.iter().filter(|&&seat| holds(played, seat)).count();
-        let all = |seat: u32| played.packs(seat).fold(0, |named, pack| named | pack.verdict.mask);
         let first = |seat: u32| played.packs(seat).next().map_or(0, |pack| pack.verdict.mask);
         let fewest = |of: &dyn Fn(u32) -> u32| honest.iter().map(|&seat| size(of(seat))).min().unwrap_or_default();
-        let named = honest.iter().fold(0, |named, &seat| named | all(seat));
+        let named = honest.iter().fold(0, |named, &seat| named | played.named(seat));
         let blamed = match named & mask(&honest) {
             0 => "No honest boat is named.".to_string(),
             blamed => format!("HONEST BOATS ARE NAMED: {}.", boats_of(blamed)),
         };
-        let (at_first, in_the_end) = (fewest(&first), fewest(&all));
+        let (at_first, in_the_end) = (fewest(&first), fewest(&|seat| played.named(seat)));
         let more = match in_the_end > at_first {
             true => format!(" at first, and {in_the_end} in the end; together they name "),
             false => ": ".to_string(),

@@ -48,7 +48,7 @@ impl Screens<'_> {
         );
         self.prose(&story);
         self.line("");
-        self.layouts_signed(&played.sides.iter().map(|side| side.signers()).collect::<Vec<_>>());
+        self.layouts_signed(&played.signers());
     }
 
     /// The picture of a boat's first certificate, and of each one that showed somebody new, with those whom the EVIDENCE names.
@@ -65,13 +65,15 @@ impl Screens<'_> {
         let (mut rows, mut told) = (vec![row(&first)], Vec::new());
         for (number, pack) in (1..).zip(played.packs(seat)) {
             let named = pack.verdict.mask;
-            let [held, other] = [&first, &pack.certificate].map(|certificate| self.name(&certificate.value));
+            let other = self.name(&pack.certificate.value);
+            let mut both = [self.name(&first.value), other];
+            both.sort();
             let (how_many, shows) = match number {
                 1 => (count(size(named), "boat"), format!("The certificate for {other} shows that")),
                 _ => (format!("{} more", size(named)), format!("The one for {other} shows {} more:", size(named))),
             };
             rows.extend([row(&pack.certificate), pointed_at(format!("EVIDENCE {number}"), named, how_many)]);
-            told.push(format!("{shows} {} signed {held} and {other}.", boats_of(named)));
+            told.push(format!("{shows} {} signed {} and {}.", boats_of(named), both[0], both[1]));
         }
         self.line(format!("\nBoat {seat}, certificate by certificate:\n"));
         self.text += &picture(self.n, &rows);
