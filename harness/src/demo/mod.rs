@@ -97,3 +97,23 @@ fn three_sides(n: u32, layouts: [Layout; 3]) -> Vec<Side> {
     };
     [0, 1, 2].map(side).into()
 }
+
+#[cfg(test)]
+mod tests {
+    use super::*;
+    use crate::reference::quorum::k;
+    use crate::reference::seats::{mask, size};
+
+    #[test]
+    fn three_certificates() {
+        for n in 13..=32 {
+            let sides = three_sides(n, ['A', 'B', 'C'].map(|name| Layout { name, value: [0; 32] }));
+            let honest = sides.iter().fold(0, |honest, side| honest | mask(&side.honest));
+            for turn in 0..3 {
+                let [first, second, third] = [0, 1, 2].map(|place| sides[(turn + place) % 3].signers());
+                assert_eq!([size(first), size(first & honest)], [k(n), 1]);
+                assert_eq!([size(first & third & !second), size(first & second & !third)], [t0(n) - 2; 2]);
+            }
+        }
+    }
+}

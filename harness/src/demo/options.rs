@@ -132,6 +132,7 @@ fn link(word: &str) -> Result<(u32, u32), String> {
 #[cfg(test)]
 mod tests {
     use super::*;
+    use crate::reference::quorum::t0;
 
     fn parse(line: &str) -> Result<Options, String> {
         Options::parse(&line.split_whitespace().map(str::to_string).collect::<Vec<_>>())
@@ -148,6 +149,8 @@ mod tests {
         assert_eq!(parse("--double-signers 5 --boats 8"), Ok(plain(8, 5, 1)));
         assert_eq!(parse("--double-signers 0"), Ok(plain(7, 0, 1)));
         assert!((2..=32).all(|n| parse(&format!("--boats {n}")).is_ok()));
+        assert_eq!(["", "--boats 12", "--boats 32"].map(|line| parse(line).unwrap().larger()), [13, 13, 32]);
+        assert_eq!([12, 13].map(t0), [3, 4]);
         let radio = parse("--lost-link 0-3 --forged 6 --early 0 --lost-link 5-4").unwrap();
         assert_eq!(
             radio,
