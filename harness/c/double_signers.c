@@ -36,7 +36,7 @@ struct display {
     uint8_t store[ZOLBINE_STORE_LEN(N)];
     uint8_t out[ZOLBINE_OUT_LEN(N)];
     struct kept kept;
-    uint8_t evidence[ZOLBINE_EVIDENCE_LEN(N)]; /* written by this boat: one in this round, as there are two layouts */
+    uint8_t evidence[ZOLBINE_EVIDENCE_LEN(N)]; /* written by this boat: one in this round, which names both */
     size_t evidence_len;
 };
 

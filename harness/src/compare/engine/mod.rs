@@ -58,6 +58,7 @@ pub struct After {
 }
 
 /// The seats that a certificate shares with the first held.
+#[derive(Debug)]
 pub struct Conflict {
     pub shared: u32,
     /// Those of them newly found guilty.
