@@ -281,9 +281,9 @@ struct zolbine_opened zolbine_open(uint32_t n, uint32_t seat, uint32_t round,
  * round's first call takes a store of any bytes. Out has ZOLBINE_OUT_LEN(n) bytes or more. Everything written to out is to be
  * sent, in its order, each message by itself: zolbine_message_length tells where one ends. SUBMIT, NOTICE and FULL are written once
  * in a round at most. EVIDENCE may be written in several calls of a round, t0 + 1 at most: each certificate, heard or the own one,
- * that shows more double signers brings one. It names those seats alone; the first in a round names t0 + 1 or more. Refusals:
- * ZOLBINE_RECORD, ZOLBINE_KEYS, ZOLBINE_STORE, ZOLBINE_OUT, ZOLBINE_SAID, ZOLBINE_GARBLED (a length), ZOLBINE_SIGNATURE (the own
- * one).
+ * that shows more double signers brings one. It names those seats alone; the first in a round names t0 + 1 or more. Calls that are
+ * lost in a power cut don't count. Refusals: ZOLBINE_RECORD, ZOLBINE_KEYS, ZOLBINE_STORE, ZOLBINE_OUT, ZOLBINE_SAID,
+ * ZOLBINE_GARBLED (a length), ZOLBINE_SIGNATURE (the own one).
  */
 struct zolbine_stepped zolbine_submit(struct zolbine_record record,
                                       const uint8_t *keys, size_t keys_len,

@@ -36,7 +36,7 @@ struct display {
     uint8_t store[ZOLBINE_STORE_LEN(N)];
     uint8_t out[ZOLBINE_OUT_LEN(N)];
     struct kept kept;
-    uint8_t evidence[ZOLBINE_EVIDENCE_LEN(N)]; /* written by this boat */
+    uint8_t evidence[ZOLBINE_EVIDENCE_LEN(N)]; /* written by this boat: one in this round, which names both */
     size_t evidence_len;
 };
 
@@ -129,6 +129,8 @@ static void send_all(uint32_t seat, uint32_t written)
         memcpy(air[on_air].bytes, bytes, len);
         on_air++;
         if (bytes[0] == ZOLBINE_EVIDENCE) {
+            if (display->evidence_len != 0)
+                stop("EVIDENCE a second time", seat);
             memcpy(display->evidence, bytes, len);
             display->evidence_len = len;
         }

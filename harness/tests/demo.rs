@@ -84,7 +84,8 @@ The certificate for B shows that boats 3, 4 and 9 to 12 signed B and C. The one
 for A shows 2 more: boats 5 and 6 signed A and C.
 ",
         "
-  boat 0  hears SUBMIT of boat 5 for A: CONFIRMED, sends NOTICE, FULL and EVIDENCE
+  boat 0  hears SUBMIT of boat 5 for A: CONFIRMED, sends NOTICE, FULL and
+          EVIDENCE
 ",
         "
   EVIDENCE 2 of boat 0, 5,944 bytes   accepted: boats 5 and 6

@@ -371,7 +371,7 @@ impl<'a> Boat<'a> {
         Ok(())
     }
 
-    /// The different messages that have left the boat: one of each kind, but for EVIDENCEs that name different seats.
+    /// The different messages that have left the boat: one of each kind, but for EVIDENCEs that have no seat in common.
     fn distinct(&self) -> Result<Vec<&Vec<u8>>, String> {
         let signed = self.sent.iter().chain(&self.broken).filter(|bytes| bytes[0] == SUBMIT && bytes.len() >= SIGNED);
         let layouts: BTreeSet<&[u8]> = signed.map(|bytes| &bytes[VALUE_AT..SIGNED]).collect();

@@ -56,7 +56,7 @@ pub const OLD_PACK: Pack = Pack {
 pub const PACKS: [Pack; 2] = [PACK, OLD_PACK];
 
 impl Pack {
-    /// Each entry has values of its own; in the old command all have the same.
+    /// Whether each entry has values of its own. In the old command all have the same.
     pub fn has_values_each(&self) -> bool {
         self.command == EVIDENCE
     }

@@ -60,11 +60,16 @@ impl<'a> Screens<'a> {
         }
     }
 
-    /// Rows of two columns.
+    /// Rows of two columns. One that is too wide goes on in the next line.
     fn rows(&mut self, rows: &[(String, String)]) {
         let width = rows.iter().map(|(left, _)| left.len()).max().unwrap_or_default();
+        let room = WIDTH - width - 4;
         for (left, right) in rows {
-            self.line(format!("  {left:width$}  {right}").trim_end());
+            let right = if right.len() <= room { vec![right.clone()] } else { lines(right, room) };
+            for (number, part) in right.iter().enumerate() {
+                let left = if number == 0 { left.as_str() } else { "" };
+                self.line(format!("  {left:width$}  {part}").trim_end());
+            }
         }
     }
 

@@ -125,7 +125,10 @@ mod tests {
         assert_eq!(NOTE, 118);
         for n in 1..=32 {
             let (count, k) = (n as usize, k(n) as usize);
-            assert_eq!((full(n), old_evidence(n)), (37 + 1454 * count, 68 + 2906 * count));
+            assert_eq!(
+                (full(n), evidence(n), old_evidence(n)),
+                (37 + 1454 * count, 4 + 2970 * count, 68 + 2906 * count)
+            );
             assert_eq!((store(n), out(n), evidence_out(n)), (4388 * count, 1565 + 4424 * k, 4 + 2970 * k));
         }
     }

@@ -1,6 +1,9 @@
 //! More culprits as more certificates come in (document 02, item 3): lists of one unit that gets certificates of several layouts, its
-//! own among them, in every order. The subject keeps step with the reference, and the reference with the item's sentences. What
-//! these tell apart is counted, and all of it must be reached.
+//! own among them, in every order up to n = 7 and in a part of the orders above. The subject keeps step with the reference, and the
+//! reference with the item's sentences. What these tell apart is counted, and all of it must be reached.
+//!
+//! Two certificates that conflict with the first share a seat of it in each list: each has n - 2 * t0 or more of its n - t0 seats,
+//! and n is above 3 * t0. Only a record that no list reaches has guilty seats apart from the shared ones (records.rs).
 
 use super::records::{opened, seats_with};
 use super::{both, Call, Case, Subject};
@@ -60,6 +63,9 @@ const ALL: [&str; 42] = [
     "in the end: t0 + 1 packs",
     "in the end: all of the first's seats are guilty",
 ];
+
+/// A group of ALL, and which of its situations are reached.
+type Reached = (&'static str, Vec<(&'static str, bool)>);
 
 /// The certificates that a unit gets, in this order.
 struct Plan {
@@ -257,7 +263,7 @@ impl<'a> Unit<'a> {
 
     /// "each certificate that conflicts with the first one held adds the seats that it shares, and EVIDENCE is written for those
     /// newly found, if any"
-    fn blame(&mut self, full: &Full, written: &[Vec<u8>]) -> Result<(&'static str, Vec<(&'static str, bool)>), String> {
+    fn blame(&mut self, full: &Full, written: &[Vec<u8>]) -> Result<Reached, String> {
         let pack = written.iter().find(|message| message[0] == EVIDENCE);
         let Some(first) = self.before.first().copied().filter(|first| first.value != full.value) else {
             equal("EVIDENCE without a conflict", pack.is_some(), false)?;

@@ -3,7 +3,7 @@
 //! lose power.
 
 use super::records::any_impossible;
-use super::{blank, both, Call, Case, Subject};
+use super::{blank, both, Call, Case, Conflict, Subject};
 use crate::air;
 use crate::compare::{count, covered, equal, long, notes, run, Tally};
 use crate::fleet::{fewest_to_split, layouts, rounds, some_seats, Fleet, HANDS};
@@ -124,8 +124,8 @@ struct Boat {
     layout: Value,
     record: Record,
     store: Vec<u8>,
-    /// The newest note, and the store kept with it.
-    kept: Option<(Vec<u8>, Vec<u8>)>,
+    /// The newest note, the store kept with it, and the conflicts until then.
+    kept: Option<(Vec<u8>, Vec<u8>, usize)>,
     /// Written since that note, and sent with the next.
     unsent: Vec<Vec<u8>>,
     said: Vec<Vec<u8>>,
@@ -393,7 +393,7 @@ impl<'a> Sea<'a> {
             equal("the store after a refusal", after.store == case.store, true)?;
             return equal("bytes written with a refusal", after.written.len(), 0);
         }
-        if let Some(found) = after.found {
+        if let Some(Conflict { found, .. }) = after.conflict {
             self.boats[boat].conflicts += 1;
             let adds = if found == 0 { ", no seat added" } else { "" };
             count(&mut self.tally, format!("conflict {}{adds}", self.boats[boat].conflicts.min(4)));
@@ -413,9 +413,9 @@ impl<'a> Sea<'a> {
 
     /// "The host keeps the note and the store, both of them or neither, before it sends anything."
     fn send(&mut self, boat: usize, rng: &mut Rng) -> Result<(), String> {
-        let Boat { record, store, kept, unsent, .. } = &mut self.boats[boat];
+        let Boat { record, store, kept, unsent, conflicts, .. } = &mut self.boats[boat];
         let note = notes::noted(self.subject.notes, record, rng)?.ok_or("the record has no note")?;
-        *kept = Some((note, store.clone()));
+        *kept = Some((note, store.clone(), *conflicts));
         for message in std::mem::take(unsent) {
             self.said(boat, message)?;
         }
@@ -425,8 +425,9 @@ impl<'a> Sea<'a> {
 
     /// The boat is brought back from its newest note and the store kept with it, or opened again where it has none.
     fn lose_power(&mut self, boat: usize, rng: &mut Rng) -> Result<(), String> {
-        let Boat { record, store, kept, unsent, .. } = &mut self.boats[boat];
-        let back = if let Some((note, store)) = kept {
+        let Boat { record, store, kept, unsent, conflicts, .. } = &mut self.boats[boat];
+        *conflicts = kept.as_ref().map_or(0, |(_, _, conflicts)| *conflicts);
+        let back = if let Some((note, store, _)) = kept {
             let Opened { number, record } = notes::read(self.subject.notes, note, rng)?;
             equal("the newest note", number, 0)?;
             (record, store.clone())

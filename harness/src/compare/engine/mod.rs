@@ -51,10 +51,18 @@ pub struct After {
     pub record: Record,
     pub store: Vec<u8>,
     pub written: Vec<u8>,
-    /// The seats newly found guilty, where the call brought a certificate that conflicts with the first held.
-    pub found: Option<u32>,
+    /// Where the call brought a certificate that conflicts with the first held.
+    pub conflict: Option<Conflict>,
     /// The reference's signature checks.
     pub checks: usize,
+}
+
+/// The seats that a certificate shares with the first held.
+#[derive(Debug)]
+pub struct Conflict {
+    pub shared: u32,
+    /// Those of them newly found guilty.
+    pub found: u32,
 }
 
 /// A unit of the subject with no note in the round: opened, with a store of any bytes.
@@ -115,26 +123,29 @@ pub fn both(subject: Subject, case: &Case, rng: &mut Rng) -> Result<After, Strin
     untouched(&[("keys", &keys, &case.keys), ("store", &lent_store, &store), ("out", &lent_out, &out)])?;
     notes::noted(subject.notes, &expected.record, rng)?;
     out.truncate(expected.written as usize);
-    let found = if expected.number == 0 { newly_found(case, &expected.record, &out)? } else { None };
-    Ok(After { number: expected.number, record: expected.record, store, written: out, found, checks })
+    let conflict = if expected.number == 0 { blamed(case, &expected.record, &out)? } else { None };
+    Ok(After { number: expected.number, record: expected.record, store, written: out, conflict, checks })
 }
 
 /// Holds a call that isn't refused to document 02's item 3: "each certificate that conflicts with the first one held adds the
 /// seats that it shares, and EVIDENCE is written for those newly found, if any". A call brings one certificate at most.
-fn newly_found(case: &Case, record: &Record, written: &[u8]) -> Result<Option<u32>, String> {
+fn blamed(case: &Case, record: &Record, written: &[u8]) -> Result<Option<Conflict>, String> {
     let (n, before) = (record.n, &case.record);
     let certificate = match &case.call {
         _ if record.confirmed && !before.confirmed => Some((record.own.value, record.own.collected)),
         Call::Step { message } => Full::read(message, quorum::k(n)).map(|full| (full.value, mask(&full.seats()))),
         Call::Submit { .. } => None,
     };
-    let conflict = certificate.filter(|(value, _)| before.first.seats != 0 && before.first.value != *value);
-    let shared = conflict.map(|(_, seats)| before.first.seats & seats);
-    equal("the guilty seats", record.guilty, before.guilty | shared.unwrap_or(0))?;
-    let found = shared.map(|shared| shared & !before.guilty);
+    let other = certificate.filter(|(value, _)| before.first.seats != 0 && before.first.value != *value);
+    let conflict = other.map(|(_, seats)| {
+        let shared = before.first.seats & seats;
+        Conflict { shared, found: shared & !before.guilty }
+    });
+    let found = conflict.as_ref().map_or(0, |conflict| conflict.found);
+    equal("the guilty seats", record.guilty, before.guilty | found)?;
     let packs = air::messages(n, written).into_iter().filter(|message| message[0] == EVIDENCE);
     let named: Vec<u32> = packs.map(|pack| mask(&Evidence::read(&pack, n).expect("a whole one").seats())).collect();
-    let expected: Vec<u32> = found.into_iter().filter(|&found| found != 0).collect();
+    let expected = if found == 0 { Vec::new() } else { vec![found] };
     equal("the seats in EVIDENCE", named, expected)?;
-    Ok(found)
+    Ok(conflict)
 }

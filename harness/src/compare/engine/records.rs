@@ -1,6 +1,6 @@
 //! Records: states of a unit, possible ones that no list of calls reaches, and impossible ones, each cause alone.
 
-use super::{both, Call, Case, Subject};
+use super::{both, Call, Case, Conflict, Subject};
 use crate::air;
 use crate::compare::{count, covered, equal, long, noise, run, sized, Tally};
 use crate::fleet::{layouts, rounds, some_layouts, some_seats, Fleet};
@@ -283,6 +283,11 @@ pub fn battery(subject: Subject) {
     for n in sizes {
         let fleet = Fleet { n, round: *rng.pick(&rounds()) };
         alone.extend((0..4).map(|_| guilty_alone(fleet, &values, &mut rng)));
+        for _ in 0..4 {
+            let case = guilty_apart(fleet, &values, &mut rng);
+            assert_eq!(causes(&case.record), [""; 0], "n = {n}: {:?}", case.record);
+            cases.push(("guilty seats apart".to_string(), false, case));
+        }
         for (cause, record) in impossible(fleet, &mut rng) {
             assert_eq!(causes(&record), [cause], "n = {n}: {record:?}");
             let call = any_call(fleet, &record, &values, &mut rng);
@@ -310,18 +315,27 @@ pub fn battery(subject: Subject) {
             let after = both(subject, case, rng)?;
             equal("refused by 4", after.number == 4, *impossible)?;
             let mut tally = Tally::new();
-            if let Some(found) = after.found.filter(|_| case.record.guilty != 0) {
-                count(&mut tally, if found == 0 { "no seat added to the guilty" } else { "seats added to the guilty" });
+            if let Some(Conflict { shared, found }) = after.conflict.filter(|_| case.record.guilty != 0) {
+                let what = match found {
+                    0 => "no seat added",
+                    _ if found == shared => "seats added, none of those shared guilty before",
+                    _ => "seats added, some of those shared guilty before",
+                };
+                count(&mut tally, what);
             }
             Ok(tally)
         };
         told().map_err(|difference: String| format!("{what}, {:?}: {difference}", case.record))
     });
-    let conflicts = ["no seat added to the guilty", "seats added to the guilty"];
+    let conflicts = [
+        "no seat added",
+        "seats added, none of those shared guilty before",
+        "seats added, some of those shared guilty before",
+    ];
     covered("records", tallies, conflicts.map(String::from));
     run("guilty seats alone", &alone, |case, rng| {
         let after = both(subject, case, rng)?;
-        equal("the seats newly found", after.found, Some(0))?;
+        equal("the seats newly found", after.conflict.map(|conflict| conflict.found), Some(0))?;
         let messages = air::messages(case.record.n, &after.written);
         let commands: Vec<u8> = messages.iter().map(|message| message[0]).collect();
         equal("the commands written", commands, vec![FULL])
@@ -342,4 +356,12 @@ fn guilty_alone(fleet: Fleet, values: &[Value], rng: &mut Rng) -> Case {
         record.notices = Notices::default();
     }
     case(fleet, record, values, Call::Step { message: full.write() }, rng)
+}
+
+/// The same with the other seats of the first certificate guilty instead, which the two don't share. No list comes to such a
+/// record (culprits.rs). Where every seat is shared, none is guilty.
+fn guilty_apart(fleet: Fleet, values: &[Value], rng: &mut Rng) -> Case {
+    let mut apart = guilty_alone(fleet, values, rng);
+    apart.record.guilty ^= apart.record.first.seats;
+    apart
 }
