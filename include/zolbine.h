@@ -166,7 +166,7 @@ struct zolbine_verdict {
  * (56 * n bytes, seat s's key at byte 56 * s, types 6 and 4). Accepted evidence names double signers: each seat in the mask signed
  * two layouts in the round. Refusals: ZOLBINE_SIZE, ZOLBINE_ROUND, ZOLBINE_KEYS, ZOLBINE_GARBLED, ZOLBINE_OTHER_ROUND,
  * ZOLBINE_STRANGER, ZOLBINE_DISORDER, ZOLBINE_SIGNATURE (of any entry), ZOLBINE_NO_CONFLICT (of any entry). Signatures are checked
- * only after everything cheaper has passed.
+ * only where none of the refusals before ZOLBINE_SIGNATURE applies; the values are compared after them.
  */
 struct zolbine_verdict zolbine_check_evidence(uint32_t n, uint32_t round,
                                               const uint8_t *keys, size_t keys_len,
