@@ -37,7 +37,7 @@ module _ (S : Setting) (u : Boat) (honest : IsHonest S u) where
 
   -- ---- the seats that are guilty
 
-  -- a certificate that a step took is held, or was compared with the one held
+  -- after a certificate that a step took, one is held; it has the same value, or the seats that the two share are guilty
   pub heard-held : (bytes : List ℕ) (g : StepGiven S u bytes) → resultOf S (g .call) .refusal ≡ 0 → (ρ sender : ℕ) (layout : List ℕ) (es : List Entry) → read n bytes ≡ Full ρ sender layout es
       → Held layout (certificateOf layout es .seats) end
   heard-held bytes g q ρ sender layout es reads =

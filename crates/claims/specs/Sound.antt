@@ -30,7 +30,7 @@ use Rattle.round.specs.Culprits.{packNames}
 abbrev pub Heard : List ℕ → Record → Type 0
 Heard value r = (r .notices .heard ≢ 0) × (r .notices .heard ≡ 1 → r .notices .value ≡ value)
 
--- a certificate, by its value and its seats, has been held, or compared with the one held: the seats that the two share are guilty
+-- A certificate was heard, by its value and its seats. One is held; it has the same value, or the seats that the two share are guilty.
 abbrev pub Held : List ℕ → ℕ → Record → Type 0
 Held value seats r =
     (r .first .seats ≢ 0) × ((r .first .value ≡ value) ⊎ ((s : ℕ) → In s (r .first .seats) → In s seats → In s (r .guilty)))

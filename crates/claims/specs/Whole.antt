@@ -106,7 +106,7 @@ submitOwn-confirmed : (value signature : List ℕ) (s : State) → submitOwn val
 unfolding submitOwn write collect setOwnValue
 submitOwn-confirmed value signature s = refl
 
--- the certificate of a unit that has confirmed is held, or was compared with the one held
+-- where a unit has confirmed, a certificate is held; it has the own value, or the seats that it shares with the own one are guilty
 abbrev OwnHeld : Record → Type 0
 OwnHeld r = r .confirmed ≡ true → Held (r .own .value) (r .own .collected) r
 
