@@ -1,70 +1,19 @@
--- The tables of `Constants` meet FIPS 180-4's rule.
+-- The rule.
 use mathlib.Core.Path.{_≡_, refl}
-use mathlib.Core.Bool.{Bool, true, false, cond, _&&_}
-use Prim.Native.Nat.{ℕ, zero, suc, _+_, _*_, _^_, _<_}
-use lib.Dec.{T, leb, ltb, leb→le, ltb→lt}
-use lib.ListN.{length, getD}
-use Rattle.octets.specs.TableLaws.{every, every-at}
+use mathlib.Core.List.{List, [], _∷_}
+use Prim.Native.Nat.{ℕ}
+use lib.ListN.{length}
 use Rattle.fips180.specs.Constants.{constants, initial}
-use Rattle.fips180.specs.Rule.{divided, prime, primesBelow, primes, FirstBits}
+use Rattle.fips180.specs.Rule.{divided, prime, primesBelow, primes, wholeUpTo, orNext, root, fraction}
 
--- ---- the test of an entry
-
--- the e-th root of p, rounded down, if it is at most n
-root : ℕ → ℕ → ℕ → ℕ
-root e p zero = 0
-root e p (suc n) = cond (leb (suc n ^ e) p) (suc n) (root e p n)
-
-test : ℕ → ℕ → ℕ → Bool
-unfolding primes primesBelow prime divided root
-test e t x =
-    let p = getD primes t 0 in
-    let a = root e p 7 in
-    leb ((a * 2 ^ 32 + x) ^ e) (p * (2 ^ 32) ^ e) && ltb (p * (2 ^ 32) ^ e) ((a * 2 ^ 32 + x + 1) ^ e) && ltb x (2 ^ 32)
-
-constants-pass : T (every (test 3) 0 constants)
-unfolding test constants
-constants-pass = tt
-
-initial-pass : T (every (test 2) 0 initial)
-unfolding test initial
-initial-pass = tt
-
--- ---- from the test to the rule
-
-both-left : (a b : Bool) → T (a && b) → T a
-both-left true b t = tt
-both-left false b t = t
-
-both-right : (a b : Bool) → T (a && b) → T b
-both-right true b t = t
-both-right false b t = absurd t
-
-test-says : (e t x : ℕ) → T (test e t x) → FirstBits e (getD primes t 0) x
-unfolding test
-test-says e t x h =
-    let p = getD primes t 0 in
-    let y = root e p 7 * 2 ^ 32 + x in
-    let first = leb (y ^ e) (p * (2 ^ 32) ^ e) in
-    let second = ltb (p * (2 ^ 32) ^ e) ((y + 1) ^ e) in
-    let third = ltb x (2 ^ 32) in
-    let low = both-left (first && second) third h in
-    record {
-      whole = root e p 7;
-      below = leb→le (y ^ e) (p * (2 ^ 32) ^ e) (both-left first second low);
-      above = ltb→lt (p * (2 ^ 32) ^ e) ((y + 1) ^ e) (both-right first second low);
-      bits = ltb→lt x (2 ^ 32) (both-right (first && second) third h);
-    }
-
--- ---- the tables by the rule
-
--- "the first sixty-four prime numbers", by computation, a constant for each, and eight words of the initial hash value
-pub sixty-four : (length primes ≡ 64) × (length constants ≡ 64) × (length initial ≡ 8)
-unfolding primes primesBelow prime divided constants initial
-sixty-four = (refl, refl, refl)
-
-pub constants-rule : (t : ℕ) → t < length constants → FirstBits 3 (getD primes t 0) (getD constants t 0)
-constants-rule t h = test-says 3 t (getD constants t 0) (every-at (test 3) constants constants-pass t h)
-
-pub initial-rule : (t : ℕ) → t < length initial → FirstBits 2 (getD primes t 0) (getD initial t 0)
-initial-rule t h = test-says 2 t (getD initial t 0) (every-at (test 2) initial initial-pass t h)
+pub the-standards : constants ≡
+    0x428a2f98 ∷ 0x71374491 ∷ 0xb5c0fbcf ∷ 0xe9b5dba5 ∷ 0x3956c25b ∷ 0x59f111f1 ∷ 0x923f82a4 ∷ 0xab1c5ed5 ∷
+    0xd807aa98 ∷ 0x12835b01 ∷ 0x243185be ∷ 0x550c7dc3 ∷ 0x72be5d74 ∷ 0x80deb1fe ∷ 0x9bdc06a7 ∷ 0xc19bf174 ∷
+    0xe49b69c1 ∷ 0xefbe4786 ∷ 0x0fc19dc6 ∷ 0x240ca1cc ∷ 0x2de92c6f ∷ 0x4a7484aa ∷ 0x5cb0a9dc ∷ 0x76f988da ∷
+    0x983e5152 ∷ 0xa831c66d ∷ 0xb00327c8 ∷ 0xbf597fc7 ∷ 0xc6e00bf3 ∷ 0xd5a79147 ∷ 0x06ca6351 ∷ 0x14292967 ∷
+    0x27b70a85 ∷ 0x2e1b2138 ∷ 0x4d2c6dfc ∷ 0x53380d13 ∷ 0x650a7354 ∷ 0x766a0abb ∷ 0x81c2c92e ∷ 0x92722c85 ∷
+    0xa2bfe8a1 ∷ 0xa81a664b ∷ 0xc24b8b70 ∷ 0xc76c51a3 ∷ 0xd192e819 ∷ 0xd6990624 ∷ 0xf40e3585 ∷ 0x106aa070 ∷
+    0x19a4c116 ∷ 0x1e376c08 ∷ 0x2748774c ∷ 0x34b0bcb5 ∷ 0x391c0cb3 ∷ 0x4ed8aa4a ∷ 0x5b9cca4f ∷ 0x682e6ff3 ∷
+    0x748f82ee ∷ 0x78a5636f ∷ 0x84c87814 ∷ 0x8cc70208 ∷ 0x90befffa ∷ 0xa4506ceb ∷ 0xbef9a3f7 ∷ 0xc67178f2 ∷ []
+unfolding divided prime primesBelow primes wholeUpTo orNext root fraction constants
+the-standards = refl

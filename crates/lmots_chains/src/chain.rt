@@ -7,7 +7,7 @@ ghost use Rattle.fips180.specs.Fips.{pad};
 ghost use Rattle.rfc8554.specs.Ots.{chainInput};
 ghost use Rattle.rfc8554.specs.Ots as Ots;
 ghost use Rattle.lmots_chains.specs.Pieces as Pieces;
-use sha256::constants::initial_value;
+use sha256_constants::initial_value;
 use sha256_block::compress;
 
 // The last three bytes of a word and the first of the next.

@@ -5,7 +5,7 @@ ghost use lib.ListN.{length, getD};
 ghost use Rattle.fips180.specs.Constants.{constants};
 ghost use Rattle.lmots_chains.specs.Sixteen.{Slid, Placed, Numbered, Ready, Stepped, Walked, AllWalked};
 use crate::chain::across;
-use sha256::constants::initial_value;
+use sha256_constants::initial_value;
 
 // Words 6 to 12 of the blocks: the values, moved by one byte.
 fn put_values(v: &[u32; 128], w: &mut [u32; 1024])

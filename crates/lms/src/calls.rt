@@ -140,7 +140,7 @@ pub fn check_signature(key: &[u8], message: &[u8], signature: &[u8]) -> u32
     if is_too_long(message) {
         return refusal::GARBLED;
     }
-    let k = sha256::constants::round_constants();
+    let k = sha256_constants::round_constants();
     let v = verify::verified(&k, key, message, signature);
     v.number
 }

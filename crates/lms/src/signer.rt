@@ -101,7 +101,7 @@ pub(crate) fn write_signature(
     requires { ⌜ (leaf < 1024) × (length (now seed) ≡ 32) × (length (now id) ≡ 16) × (length (now randomizer) ≡ 32) × (length (now tree) ≡ treeLength) × (signatureLength ≤ length (now out)) ⌝ }
     ensures { λ _. ⌜ now (out .exit) ≡ patch 0 (lmsSignature 6 4 (now (id .entry)) leaf (now (seed .entry)) (now (randomizer .entry)) (now (message .entry)) (now (tree .entry))) (now (out .entry)) ⌝ }
 {
-    let k = sha256::constants::round_constants();
+    let k = sha256_constants::round_constants();
     let id_words = lmots_digits::words::four(id, 0);
     let seed_words = lmots_digits::words::eight(seed, 0);
     write_head(leaf, randomizer, out);

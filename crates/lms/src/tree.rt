@@ -83,7 +83,7 @@ pub(crate) fn make(seed: &[u8], id: &[u8], tree: &mut [u8], out: &mut [u8])
     requires { ⌜ (length (now seed) ≡ 32) × (length (now id) ≡ 16) × (length (now tree) ≡ treeLength) × (56 ≤ length (now out)) ⌝ }
     ensures { λ _. ⌜ (now (tree .exit) ≡ treeFilled (now (id .entry)) (now (seed .entry)) (now (tree .entry))) × (now (out .exit) ≡ patch 0 (publicKey 6 4 (now (id .entry)) (now (seed .entry))) (now (out .entry))) ⌝ }
 {
-    let k = sha256::constants::round_constants();
+    let k = sha256_constants::round_constants();
     let id_words = lmots_digits::words::four(id, 0);
     let seed_words = lmots_digits::words::eight(seed, 0);
     fill(&k, id_words, seed_words, tree);

@@ -47,7 +47,7 @@ pub extern "C" fn probe_sha256(message: &[u8], out: &mut [u8]) -> u32
     if out.len() < 32 {
         return refusal::OUT;
     }
-    let k = sha256::constants::round_constants();
+    let k = sha256_constants::round_constants();
     let d = sha256::hash::sha256(&k, message);
     octets::copy(out, 0, &d);
     0
@@ -98,7 +98,7 @@ pub extern "C" fn probe_compress_many(count: u32, state: &[u8], block: &[u8], ou
     if block.len() != 64 {
         return refusal::GARBLED;
     }
-    let k = sha256::constants::round_constants();
+    let k = sha256_constants::round_constants();
     let h = eight_words(state);
     let m = sha256::hash::block_words(block, 0);
     let s = compress_times(&k, h, m, count);
@@ -125,7 +125,7 @@ pub extern "C" fn probe_signed(q: u32, id: &[u8], seed: &[u8], digits: &[u8], ou
     if digits.len() != 34 {
         return refusal::GARBLED;
     }
-    let k = sha256::constants::round_constants();
+    let k = sha256_constants::round_constants();
     let i = lmots_digits::words::four(id, 0);
     let s = lmots_digits::words::eight(seed, 0);
     lmots::key::write_signed(&k, i, q, s, digits, out, 0);

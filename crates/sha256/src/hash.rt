@@ -8,7 +8,7 @@ ghost use Rattle.fips180.specs.Constants.{constants};
 ghost use Rattle.fips180.specs.Fips.{padding, absorbed};
 ghost use Rattle.fips180.specs.Fips as Fips;
 ghost use Rattle.fips180.specs.Pieces.{ended, oneBlock};
-use crate::constants::initial_value;
+use sha256_constants::initial_value;
 use sha256_block::compress;
 
 // The sixteen words of the block at index `at`.

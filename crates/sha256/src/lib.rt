@@ -1,4 +1,3 @@
-// SHA-256, FIPS 180-4: the constants, and digests of whole messages. The round constants are lent as `k: &[u32; 64]`; a caller
-// takes them once from `constants::round_constants`.
-pub mod constants;
+// SHA-256, FIPS 180-4: digests of whole messages. The round constants are lent as `k: &[u32; 64]`; a caller takes them once from
+// `sha256_constants::round_constants`.
 pub mod hash;

@@ -67,7 +67,7 @@ fn main() {
         STDOUT_FILENO,
         b"# SHA-256 by OpenSSL (python3's hashlib); byte i of the message of n bytes is (31 i + n) mod 256\n",
     );
-    let k = sha256::constants::round_constants();
+    let k = sha256_constants::round_constants();
     let mut space = io::large_buffer();
     let mut n = 0;
     while n < 260 {

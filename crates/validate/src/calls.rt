@@ -117,7 +117,7 @@ pub fn own_refusal(r: Record, keys: &[u8], value: &[u8], signature: &[u8]) -> Ve
             number: refusal::GARBLED,
         };
     }
-    let k = sha256::constants::round_constants();
+    let k = sha256_constants::round_constants();
     seat_verdict(&k, r.n, r.round, keys, r.seat, value, signature)
 }
 

@@ -133,6 +133,6 @@ pub(crate) fn message_refusal(
     if form != 0 {
         return Verdict { number: form };
     }
-    let k = sha256::constants::round_constants();
+    let k = sha256_constants::round_constants();
     message_verdict(&k, n, round, keys, kind, m)
 }
