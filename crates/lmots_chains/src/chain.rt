@@ -7,8 +7,8 @@ ghost use Rattle.fips180.specs.Fips.{pad};
 ghost use Rattle.rfc8554.specs.Ots.{chainInput};
 ghost use Rattle.rfc8554.specs.Ots as Ots;
 ghost use Rattle.lmots_chains.specs.Pieces as Pieces;
-use sha256_constants::initial_value;
 use sha256_block::compress;
+use sha256_constants::initial_value;
 
 // The last three bytes of a word and the first of the next.
 pub(crate) fn across(a: u32, b: u32) -> u32

@@ -8,8 +8,8 @@ ghost use Rattle.fips180.specs.Constants.{constants};
 ghost use Rattle.fips180.specs.Fips.{padding, absorbed};
 ghost use Rattle.fips180.specs.Fips as Fips;
 ghost use Rattle.fips180.specs.Pieces.{ended, oneBlock};
-use sha256_constants::initial_value;
 use sha256_block::compress;
+use sha256_constants::initial_value;
 
 // The sixteen words of the block at index `at`.
 pub fn block_words(m: &[u8], at: usize) -> [u32; 16]
