@@ -1,0 +1,2 @@
+-- Laws that the code of the round constants rests on.
+pub mod RootLaws
