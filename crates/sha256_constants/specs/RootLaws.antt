@@ -62,6 +62,40 @@ fits-test a rest s d h = rw (cube (a * s + d), cube a, cube s) (same-test _ _ _ 
     back : (a * s + d) * (a * s + d) * (a * s + d) ≤ (a * a * a + rest) * (s * s * s) → 3 * a * a * d + (3 * a * d * d + c + (s - 1)) / s ≤ rest * s
     back p = outer .1 (rw (← add-assoc) (inner .1 (omega arith)))
 
+-- how large the products and the quotients in `fits` are
+pub sizes : {a rest s d : ℕ} → (a < 2 ^ 19) × (rest < 2 ^ 40) × (1 ≤ s) × (s ≤ 2 ^ 16) × (d ≤ 2 ^ 16)
+    → (d * d ≤ 2 ^ 32)
+    × (d * d * d ≤ 2 ^ 48)
+    × ((d * d * d + (s - 1)) / s ≤ 2 ^ 49)
+    × (3 * a * d ≤ 2 ^ 37)
+    × (3 * a * d * d ≤ 2 ^ 53)
+    × ((3 * a * d * d + (d * d * d + (s - 1)) / s + (s - 1)) / s ≤ 2 ^ 54)
+    × (3 * a * a ≤ 2 ^ 40)
+    × (3 * a * a * d ≤ 2 ^ 56)
+    × (rest * s ≤ 2 ^ 56)
+sizes {a} {rest} {s} {d} h = (dd, ddd, c, ad, add, omega (arith, add, c, div-le-self (3 * a * d * d + (d * d * d + (s - 1)) / s + (s - 1)) s), aa, mul-le-mul aa (h .4), mul-le-mul (le-of-lt (h .1)) (h .3))
+  where
+    dd : d * d ≤ 2 ^ 32
+    dd = mul-le-mul (h .4) (h .4)
+
+    ddd : d * d * d ≤ 2 ^ 48
+    ddd = mul-le-mul dd (h .4)
+
+    c : (d * d * d + (s - 1)) / s ≤ 2 ^ 49
+    c = omega (arith, ddd, div-le-self (d * d * d + (s - 1)) s)
+
+    a3 : 3 * a ≤ 2 ^ 21
+    a3 = omega arith
+
+    ad : 3 * a * d ≤ 2 ^ 37
+    ad = mul-le-mul a3 (h .4)
+
+    add : 3 * a * d * d ≤ 2 ^ 53
+    add = mul-le-mul ad (h .4)
+
+    aa : 3 * a * a ≤ 2 ^ 40
+    aa = mul-le-mul a3 (le-of-lt (h .0))
+
 -- ---- a root with more digits
 
 -- a d that (3 a² + 3 a + 1) d ≤ rest s allows is not too high
