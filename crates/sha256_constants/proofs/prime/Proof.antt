@@ -28,7 +28,7 @@ returns : tie.Need-returns Inv-loop μ-loop
 returns c =
     let at-loop = c .before .before in
     let args = at-loop .before .args in
-    trial-ends (args .n) (at-loop .loop .d) (omega arith) (omega arith) (omega arith) (at-loop .loop .inv .2) (c .if1)
+    trial-ends (args .n) (at-loop .loop .d) (omega arith) (omega arith) (omega arith) (at-loop .loop .inv .2) (c .if1 .taken)
 
 -- src/lib.rt:20:9
 add-d : tie.Need-add-d Inv-loop μ-loop
@@ -43,7 +43,7 @@ loop-again : tie.Need-loop-again Inv-loop μ-loop
 loop-again c =
     let at-loop = c .before .before in
     let args = at-loop .before .args in
-    (omega arith, omega arith, trial-goes-on (args .n) (at-loop .loop .d) (omega arith) (at-loop .loop .inv .2) (c .if1))
+    (omega arith, omega arith, trial-goes-on (args .n) (at-loop .loop .d) (omega arith) (at-loop .loop .inv .2) (c .if1 .left))
 
 -- src/lib.rt:11:1
 returns-2 : tie.Need-returns-2 Inv-loop μ-loop
