@@ -8,12 +8,13 @@ use native.Mathlib.Numerals.{add-one}
 use native.Mathlib.Omega.{arith}
 use lib.Dec.{T, eqb}
 use borrow.Author.Tests.{ne-eqb}
+use lib.Pow.{shl-exact}
 use lib.ListN.{length, getD, take, set, replicate, length-append, length-replicate}
 use lib.Seq.{take-length, take-suc-set}
 use Rattle.octets.specs.TableLaws.{every, every-at}
 use Rattle.fips180.specs.Constants.{constants}
-use Rattle.fips180.specs.Rule.{divided, prime, primesBelow, primes, fraction}
-use Rattle.fips180.specs.RuleLaws.{sixty-four}
+use Rattle.fips180.specs.Rule.{divided, prime, primesBelow, primes, IsRoot, root, fraction}
+use Rattle.fips180.specs.RuleLaws.{root-unique, root-is, sixty-four}
 
 -- ---- trial division
 
@@ -124,3 +125,12 @@ filled-done n count k f e l =
     let full : count ≡ length k = f .counted ∙ ap (λ (m : ℕ). length (primesBelow m)) e ∙ sixty-four .0 ∙ sym l in
     sym (take-length k) ∙ subst (λ (c : ℕ). take c k ≡ map (fraction 3) (primesBelow n)) full (f .constantsOf)
     ∙ ap (λ (m : ℕ). map (fraction 3) (primesBelow m)) e
+
+-- ---- the fraction, from the root with 32 bits after the point
+
+pub fraction-of : (p d : ℕ) → p < 2 ^ 9 → IsRoot 3 (p * 2 ^ 48 % 2 ^ 64 * 65536 ^ 3) d → d % 2 ^ 32 ≡ fraction 3 p
+unfolding fraction
+fraction-of p d h r =
+    let all : p * 2 ^ 48 % 2 ^ 64 * 65536 ^ 3 ≡ p * (2 ^ 32) ^ 3 = ap (λ (m : ℕ). m * 65536 ^ 3) (shl-exact 9 48 64 h (omega arith)) ∙ omega arith in
+    ap (λ (x : ℕ). x % 2 ^ 32)
+    (root-unique 3 (p * (2 ^ 32) ^ 3) d (root 3 p 32) (subst (λ (m : ℕ). IsRoot 3 m d) all r) (root-is 3 p 32 (omega arith)))
