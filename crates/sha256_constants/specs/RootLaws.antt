@@ -104,29 +104,48 @@ not-too-high a rest s d h k =
     rw (cube (a * s + d), cube a, cube s)
     (omega (arith, mul-le-mul-right (s * s) h, mul-le-mul-left (3 * a * d * s) k, mul-le-mul-left d (mul-le-mul k k)))
 
-module _ (m a : ℕ) (root : IsRoot 3 m a) where
-  pub cube-le : a * a * a ≤ m
+module _ {m a : ℕ} (root : IsRoot 3 m a) where
+  cube-le : a * a * a ≤ m
   cube-le = rw (cube a) at (root .below)
 
   whole : a ^ 3 + (m - a * a * a) ≡ m
   whole = rw (cube a) (omega (arith, cube-le))
 
-  pub rest-lt : m - a * a * a < 3 * a * a + 3 * a + 1
+  rest-lt : m - a * a * a < 3 * a * a + 3 * a + 1
   rest-lt = omega (arith, rw (cube (a + 1)) at (root .above))
 
-  pub digit-lt : (s d : ℕ) → 1 ≤ s → (a * s + d) ^ 3 ≤ m * s ^ 3 → d < s
-  digit-lt s d h p =
+  -- how large the numbers in `longer` are
+  pub longer-sizes : {s : ℕ} → m < 2 ^ 57 → s ≤ 2 ^ 16
+      → (a < 2 ^ 19) × (a * a ≤ 2 ^ 38) × (a * a * a ≤ m) × (m - a * a * a < 2 ^ 40) × ((m - a * a * a) * s ≤ 2 ^ 56) × (a * s ≤ 2 ^ 35)
+  longer-sizes {s} hm hs = (low, aa, cube-le, rest, mul-le-mul (le-of-lt rest) hs, mul-le-mul (le-of-lt low) hs)
+    where
+      low : a < 2 ^ 19
+      low = base-lt 3 (lt-of-le-of-lt (root .below) hm)
+
+      aa : a * a ≤ 2 ^ 38
+      aa = mul-le-mul (le-of-lt low) (le-of-lt low)
+
+      rest : m - a * a * a < 2 ^ 40
+      rest = omega (arith, aa, low, rest-lt)
+
+  -- the digit is one
+  pub digit-lt : {s d : ℕ} → 1 ≤ s → (a * s + d) ^ 3 ≤ m * s ^ 3 → d < s
+  digit-lt {s} {d} h p =
       omega (arith, base-lt 3 {x = a * s + d} {y = (a + 1) * s} (lt-of-le-of-lt p (rw cube-mul (mul-lt-mul-of-pos-right (root .above) (one-le-pow 3 s h)))))
 
+  -- the first d
   pub first-below : (s : ℕ) → (a * s + (m - a * a * a) * s / (3 * a * a + 3 * a + 1)) ^ 3 ≤ m * s ^ 3
   first-below s =
       rw whole at
       (not-too-high a (m - a * a * a) s ((m - a * a * a) * s / (3 * a * a + 3 * a + 1)) (div-mul-le-self _ _)
       (div-le-of-le-mul _ (mul-le-mul-right s (le-of-lt rest-lt))))
 
-  -- d + 1 fits, or not
-  pub next-below : (s d : ℕ) → leb ((a * s + (d + 1)) ^ 3) ((a ^ 3 + (m - a * a * a)) * s ^ 3) ≡ true → (a * s + (d + 1)) ^ 3 ≤ m * s ^ 3
-  next-below s d e = leb-true _ _ (rw whole at e)
+  -- the next d fits
+  pub next-below : (s d : ℕ) {t : Bool} → t ≡ leb ((a * s + (d + 1)) ^ 3) ((a ^ 3 + (m - a * a * a)) * s ^ 3) → t ≡ true
+      → (a * s + (d + 1)) ^ 3 ≤ m * s ^ 3
+  next-below s d e f = leb-true _ _ (rw whole at (sym e ∙ f))
 
-  pub last-root : (s d : ℕ) → (a * s + d) ^ 3 ≤ m * s ^ 3 → leb ((a * s + (d + 1)) ^ 3) ((a ^ 3 + (m - a * a * a)) * s ^ 3) ≡ false → IsRoot 3 (m * s ^ 3) (a * s + d)
-  last-root s d p e = record { below = p; above = rw add-assoc (leb-false _ _ (rw whole at e)) }
+  -- it doesn't
+  pub last-root : (s d : ℕ) {t : Bool} → (a * s + d) ^ 3 ≤ m * s ^ 3
+      → t ≡ leb ((a * s + (d + 1)) ^ 3) ((a ^ 3 + (m - a * a * a)) * s ^ 3) → t ≡ false → IsRoot 3 (m * s ^ 3) (a * s + d)
+  last-root s d p e f = record { below = p; above = rw add-assoc (leb-false _ _ (rw whole at (sym e ∙ f))) }
