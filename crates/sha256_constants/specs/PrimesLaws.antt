@@ -96,12 +96,13 @@ unfolding primesBelow
 next-prime n p = rw (add-one n, p) refl
 
 -- there are no more than 64
-pub room : (n : ℕ) → n < 312 → prime n ≡ true → length (primesBelow n) < 64
+pub filled-room : (n count : ℕ) (k : List ℕ) → Filled n count k → n < 312 → prime n ≡ true → count < 64
 unfolding primes
-room n h p =
+filled-room n count k f h p =
     let last : n + 1 + (311 - n) ≡ 312 = omega arith in
-    let most : length (primesBelow (n + 1)) ≤ 64 = subst (λ (m : ℕ). length (primesBelow (n + 1)) ≤ m) (sixty-four .0) (subst (λ (m : ℕ). length (primesBelow (n + 1)) ≤ length (primesBelow m)) last (more (n + 1) (311 - n))) in
-    let count : length (primesBelow (n + 1)) ≡ length (primesBelow n) + 1 = ap length (next-prime n p) ∙ length-append (primesBelow n) (n ∷ []) in
+    let most : length (primesBelow (n + 1)) ≤ 64 = subst (λ (m : ℕ). length (primesBelow (n + 1)) ≤ m) (ap (λ (m : ℕ). length (primesBelow m)) last ∙ sixty-four .0) (more (n + 1) (311 - n)) in
+    let one : length (primesBelow (n + 1)) ≡ length (primesBelow n) + 1 = ap length (next-prime n p) ∙ length-append (primesBelow n) (n ∷ []) in
+    let counted : count ≡ length (primesBelow n) = f .counted in
     omega arith
 
 pub filled-more : (n count x : ℕ) (k : List ℕ) → Filled n count k → count < length k → prime n ≡ true → x ≡ fraction 3 n

@@ -1,60 +1,73 @@
+-- `sha256_constants::round_constants` meets its contract.
+use mathlib.Core.Path.{_≡_, sym, _∙_}
+use mathlib.Core.Bool.{true}
+use mathlib.Core.Logic.{⊎-elim}
+use Prim.Native.Nat.{_-_, _*_, _^_, _≤_, _<_}
+use native.Mathlib.Omega.{arith}
+use borrow.Author.Needs.{needs}
+use lib.ListN.{length}
+use Rattle.sha256_constants.specs.PrimesLaws.{Filled, filled-none, filled-more, filled-same, filled-room, filled-done}
 use Rattle.sha256_constants.proofs.round_constants.Statement.{statement}
 use Rattle.sha256_constants.proofs.round_constants.Tie as tie
-use Rattle.sha256_constants.proofs.round_constants.Reads as reads
-use Rattle.sha256_constants.proofs.round_constants.Lts as lts
-use Rattle.sha256_constants.proofs.climbed.Reads as climbed-reads
-use Rattle.sha256_constants.proofs.fraction.Reads as fraction-reads
-use Rattle.sha256_constants.proofs.prime.Reads as prime-reads
 
 abbrev Inv-loop : tie.InvT-loop
-Inv-loop k₀ count₀ a₀ n₀ k count a n = ?
+Inv-loop k₀ count₀ a₀ n₀ k count a n = (2 ≤ n) × (n ≤ 312) × (length k ≡ 64) × Filled n count k × (a ^ 3 ≤ n * 2 ^ 12)
 
 abbrev μ-loop : tie.MeasureT-loop
-μ-loop k₀ count₀ a₀ n₀ k count a n = ?
+μ-loop k₀ count₀ a₀ n₀ k count a n = 312 - n
 
--- src/lib.rt:81:5
+abbrev looped : tie.After-prime Inv-loop μ-loop → tie.At-loop Inv-loop μ-loop
+looped c = c .before .before
+
+-- a place for one more
+has-room : (c : tie.After-prime Inv-loop μ-loop) → c .prime .result ≡ true → looped c .loop .count < 64
+has-room c t = filled-room (looped c .loop .n) (looped c .loop .count) (looped c .loop .k) (looped c .loop .inv .3) (omega arith) (sym (c .prime .ensures) ∙ t)
+
 loop-holds : tie.Need-loop-holds Inv-loop μ-loop
-loop-holds c = ?
+loop-holds c = (omega arith, omega arith, search needs, filled-none _, omega arith)
 
--- src/lib.rt:82:12
 prime-requires : tie.Need-prime-requires Inv-loop μ-loop
-prime-requires c κs = ?
+prime-requires c κs = search needs
 
--- src/lib.rt:83:13
 climbed-requires : tie.Need-climbed-requires Inv-loop μ-loop
-climbed-requires c κs = ?
+climbed-requires c κs = search needs
 
--- src/lib.rt:84:24
 fraction-requires : tie.Need-fraction-requires Inv-loop μ-loop
-fraction-requires c κs = ?
+fraction-requires c κs = search needs
 
--- src/lib.rt:84:13
 mul-k : tie.Need-mul-k Inv-loop μ-loop
-mul-k c = ?
+mul-k c = omega (arith, has-room (c .before .before .before) (c .before .before .if1 .taken))
 
--- src/lib.rt:84:13
 array-write-k : tie.Need-array-write-k Inv-loop μ-loop
-array-write-k c = ?
+array-write-k c = omega (arith, has-room (c .before .before .before) (c .before .before .if1 .taken))
 
--- src/lib.rt:85:13
 add-count : tie.Need-add-count Inv-loop μ-loop
-add-count c = ?
+add-count c = omega (arith, has-room (c .before .before .before) (c .before .before .if1 .taken))
 
--- src/lib.rt:87:9
 add-n : tie.Need-add-n Inv-loop μ-loop
-add-n c = ?
+add-n c = search needs
 
--- src/lib.rt:81:5
 loop-less : tie.Need-loop-less Inv-loop μ-loop
-loop-less c = ?
+loop-less c = search needs
 
--- src/lib.rt:81:5
 loop-again : tie.Need-loop-again Inv-loop μ-loop
-loop-again c = ?
+loop-again c =
+    let tested = c .before in
+    let loop = looped tested .loop in
+    ⊎-elim
+    (λ w.
+    let room : loop .count < length (loop .k) = omega (arith, has-room tested (w .0 .taken)) in
+    rw (w .3, w .4, w .5)
+    (omega arith, omega arith, search needs, filled-more (loop .n) (loop .count) (w .2 .result) (loop .k) (loop .inv .3) room (sym (tested .prime .ensures) ∙ w .0 .taken) (w .2 .ensures), omega (arith, w .1 .ensures .below)))
+    (λ w.
+    rw (w .1, w .2, w .3)
+    (omega arith, omega arith, loop .inv .2, filled-same (loop .n) (loop .count) (loop .k) (loop .inv .3) (sym (tested .prime .ensures) ∙ w .0 .left), omega arith))
+    (c .if1 .came)
 
--- src/lib.rt:74:1
 returns : tie.Need-returns Inv-loop μ-loop
-returns c = ?
+returns c =
+    let loop = c .before .loop in
+    filled-done (loop .n) (loop .count) (loop .k) (loop .inv .3) (omega arith) (loop .inv .2)
 
 pub round-constants-spec : {M : Type 1} → statement M
 round-constants-spec =
