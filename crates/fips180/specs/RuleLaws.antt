@@ -44,11 +44,11 @@ root-unique e m x y p q = le-antisymm (root-le e m x y (p .below) (q .above)) (r
 
 whole-is : (e p n : ℕ) → 1 ≤ e → p < (n + 1) ^ e → IsRoot e p (wholeUpTo e p n)
 unfolding wholeUpTo
-whole-is (suc e) p zero h k = record { below = subst (λ (x : ℕ). x ≤ p) (sym (pow-suc 0 e ∙ mul-zero (0 ^ e))) zero-le; above = k; }
+whole-is (suc e) p zero h k = record { below = subst (λ (x : ℕ). x ≤ p) (sym (pow-suc 0 e ∙ mul-zero (0 ^ e))) zero-le; above = k }
 whole-is e p (suc n) h k = decided (leb (suc n ^ e) p) refl (whole-is e p n h)
   where
     decided : (b : Bool) → leb (suc n ^ e) p ≡ b → (p < (n + 1) ^ e → IsRoot e p (wholeUpTo e p n)) → IsRoot e p (cond b (suc n) (wholeUpTo e p n))
-    decided true q below = record { below = leb-true (suc n ^ e) p q; above = k; }
+    decided true q below = record { below = leb-true (suc n ^ e) p q; above = k }
     decided false q below = below (subst (λ (x : ℕ). p < x ^ e) (sym (add-one n)) (leb-false (suc n ^ e) p q))
 
 -- one bit more
@@ -58,13 +58,15 @@ next-is e m n x q r = decided (leb ((2 * x + 1) ^ e) n) refl
   where
     least : (2 * x) ^ e ≤ n
     least = rw (q, mul-pow 2 x e) (mul-le-mul-left (2 ^ e) (r .below))
+
     most : n < (2 * x + 1 + 1) ^ e
     most =
         let double : 2 * x + 1 + 1 ≡ 2 * (x + 1) = omega arith in
         rw (q, double, mul-pow 2 (x + 1) e) (mul-lt-mul-of-pos-left (r .above) (one-le-pow e 2 (zero-lt-suc 1)))
+
     decided : (b : Bool) → leb ((2 * x + 1) ^ e) n ≡ b → IsRoot e n (cond b (2 * x + 1) (2 * x))
-    decided true p = record { below = leb-true ((2 * x + 1) ^ e) n p; above = most; }
-    decided false p = record { below = least; above = leb-false ((2 * x + 1) ^ e) n p; }
+    decided true p = record { below = leb-true ((2 * x + 1) ^ e) n p; above = most }
+    decided false p = record { below = least; above = leb-false ((2 * x + 1) ^ e) n p }
 
 power-above : (e p : ℕ) → 1 ≤ e → p < (p + 1) ^ e
 power-above e p h =

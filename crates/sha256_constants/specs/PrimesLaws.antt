@@ -77,7 +77,7 @@ pub record Filled (n count : ℕ) (k : List ℕ) : Type 0 where
 
 pub filled-none : (k : List ℕ) → Filled 2 0 k
 unfolding primesBelow prime divided
-filled-none k = record { counted = refl; constantsOf = refl; }
+filled-none k = record { counted = refl; constantsOf = refl }
 
 one-more : (n : ℕ) → length (primesBelow n) ≤ length (primesBelow (suc n))
 unfolding primesBelow

@@ -39,7 +39,7 @@ same-test a b c d h = go (leb c d) refl
 pub ceiling : (s a y c : ℕ) → 1 ≤ s → (a + (y + (s - 1)) / s ≤ c) ↔ (a * s + y ≤ c * s)
 ceiling s a y c h = (
   λ p. omega (arith, mul-le-mul-right s p, lt-div-mul-add {a = y + (s - 1)} h),
-  λ p. by-contra _ _ (λ q. omega (arith, mul-le-mul-right s q, div-mul-le-self (y + (s - 1)) s))
+  λ p. by-contra _ _ (λ q. omega (arith, mul-le-mul-right s q, div-mul-le-self (y + (s - 1)) s)),
 )
 
 -- what `fits` tests
