@@ -2,7 +2,7 @@
 use Prim.Native.Nat.{_+_, _-_, _^_, _≤_}
 use native.Mathlib.Nat.{mul-le-mul}
 use native.Mathlib.Omega.{arith}
-use Rattle.sha256_constants.specs.RootLaws.{cube, small}
+use Rattle.sha256_constants.specs.RootLaws.{cube, root-lt}
 use Rattle.sha256_constants.proofs.climbed.Statement.{statement}
 use Rattle.sha256_constants.proofs.climbed.Tie as tie
 
@@ -13,7 +13,7 @@ abbrev μ-loop : tie.MeasureT-loop
 μ-loop x m r₀ r = 2 ^ 19 - r
 
 next-le : (c : tie.At-loop Inv-loop μ-loop) → c .loop .r + 1 ≤ 2 ^ 19
-next-le c = omega (arith, small (c .loop .inv) (c .before .pre .1))
+next-le c = omega (arith, root-lt (c .loop .inv) (c .before .pre .1))
 
 mul-loop : tie.Need-mul-loop Inv-loop μ-loop
 mul-loop c = omega (arith, mul-le-mul (next-le c) (next-le c))
