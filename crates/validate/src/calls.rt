@@ -1,6 +1,7 @@
 // Refusals of the calls. The tests stand in the order of the table, and a test relies on those before it.
 ghost use mathlib.Core.Path.{_≡_};
 ghost use Rattle.refusal.specs.Refusal.{firstOf};
+ghost use Rattle.fips180.specs.Constants.{constants};
 ghost use Rattle.protocol.specs.Signatures.{checks};
 ghost use Rattle.protocol.specs.Message.{read};
 ghost use Rattle.protocol.specs.Refusals.{wrongLengths, isForStep, outsideConditions, openingConditions, recordConditions, messageConditions, certificateConditions, twoConditions};
@@ -129,7 +130,8 @@ pub fn step_refusal(r: Record, keys: &[u8], kind: Kind, m: &[u8]) -> Verdict
         ⌜ v .number ≡ firstOf (messageConditions (checks (now (keys .entry)) (r .round)) (r .n) (r .round) (isForStep said) said) ⌝ }
 {
     let taken = is_within(kind, message::SUBMIT, message::FULL);
-    message_refusal(r.n, r.round, keys, taken, kind, m)
+    let k = sha256_constants::round_constants();
+    message_refusal(&k, r.n, r.round, keys, taken, kind, m)
 }
 
 // Refusal of an EVIDENCE: 9 to 15.
@@ -139,7 +141,8 @@ pub fn evidence_refusal(n: u32, round: u32, keys: &[u8], kind: Kind, m: &[u8]) -
 {
     // No message has the command between the two.
     let taken = is_within(kind, message::OLD_EVIDENCE, message::EVIDENCE);
-    let v = message_refusal(n, round, keys, taken, kind, m);
+    let k = sha256_constants::round_constants();
+    let v = message_refusal(&k, n, round, keys, taken, kind, m);
     if v.number != 0 {
         return v;
     }
@@ -152,13 +155,13 @@ pub fn evidence_refusal(n: u32, round: u32, keys: &[u8], kind: Kind, m: &[u8]) -
 }
 
 // Refusal of one certificate: 9 to 14.
-fn certificate_refusal(n: u32, round: u32, keys: &[u8], m: &[u8]) -> Verdict
-    requires { ⌜ Given n round (now keys) ⌝ }
+fn certificate_refusal(k: &[u32; 64], n: u32, round: u32, keys: &[u8], m: &[u8]) -> Verdict
+    requires { ⌜ (now k ≡ constants) × Given n round (now keys) ⌝ }
     ensures { λ v. ⌜ v .number ≡ firstOf (certificateConditions (checks (now (keys .entry)) round) n round (read n (now (m .entry)))) ⌝ }
 {
     let kind = wire::read::classify(n, m);
     let taken = is_within(kind, message::FULL, message::FULL);
-    message_refusal(n, round, keys, taken, kind, m)
+    message_refusal(k, n, round, keys, taken, kind, m)
 }
 
 // Refusal of two certificates: the first's 9 to 14, the second's, and 15.
@@ -166,11 +169,12 @@ pub fn two_refusal(n: u32, round: u32, keys: &[u8], first: &[u8], second: &[u8])
     requires { ⌜ Given n round (now keys) ⌝ }
     ensures { λ v. ⌜ v .number ≡ firstOf (twoConditions (checks (now (keys .entry)) round) n round (read n (now (first .entry))) (read n (now (second .entry)))) ⌝ }
 {
-    let a = certificate_refusal(n, round, keys, first);
+    let k = sha256_constants::round_constants();
+    let a = certificate_refusal(&k, n, round, keys, first);
     if a.number != 0 {
         return a;
     }
-    let b = certificate_refusal(n, round, keys, second);
+    let b = certificate_refusal(&k, n, round, keys, second);
     if b.number != 0 {
         return b;
     }

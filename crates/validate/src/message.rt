@@ -5,6 +5,7 @@ ghost use Prim.Native.Nat.{ℕ, _≤_};
 ghost use lib.Dec.{ltb};
 ghost use Rattle.quorum.specs.Quorum.{mostSeats};
 ghost use Rattle.refusal.specs.Refusal.{firstOf};
+ghost use Rattle.fips180.specs.Constants.{constants};
 ghost use Rattle.protocol.specs.Signatures.{checks};
 ghost use Rattle.protocol.specs.Message.{read};
 ghost use Rattle.protocol.specs.Refusals.{every, otherRound, stranger, disorder, messageConditions};
@@ -119,6 +120,7 @@ fn form_refusal(n: u32, round: u32, taken: bool, kind: Kind, m: &[u8]) -> u32
 // Refusal of a message, for every call: 9 to 14. `taken`: whether the call takes its command. Signatures, which cost most, are
 // checked last.
 pub(crate) fn message_refusal(
+    k: &[u32; 64],
     n: u32,
     round: u32,
     keys: &[u8],
@@ -126,13 +128,12 @@ pub(crate) fn message_refusal(
     kind: Kind,
     m: &[u8],
 ) -> Verdict
-    requires { ⌜ Given n round (now keys) × (kind ≡ kindOf (read n (now m))) ⌝ }
+    requires { ⌜ (now k ≡ constants) × Given n round (now keys) × (kind ≡ kindOf (read n (now m))) ⌝ }
     ensures { λ v. ⌜ v .number ≡ firstOf (messageConditions (checks (now (keys .entry)) round) n round taken (read n (now (m .entry)))) ⌝ }
 {
     let form = form_refusal(n, round, taken, kind, m);
     if form != 0 {
         return Verdict { number: form };
     }
-    let k = sha256_constants::round_constants();
-    message_verdict(&k, n, round, keys, kind, m)
+    message_verdict(k, n, round, keys, kind, m)
 }

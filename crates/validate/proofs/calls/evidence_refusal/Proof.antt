@@ -14,13 +14,13 @@ use Rattle.validate.proofs.calls.evidence_refusal.Statement.{statement}
 use Rattle.validate.proofs.calls.evidence_refusal.Tie as tie
 
 abbrev started : tie.After-message-refusal → tie.Start
-started c = c .before .before .before .before
+started c = c .before .before .before .before .before .before
 
 -- its 9 to 14
 told : (c : tie.After-message-refusal)
     → let a = started c .args in let m = read (a .n) (now (a .m)) in
     c .message-refusal .result .number ≡ firstOf (messageConditions (checks (now (a .keys)) (a .round)) (a .n) (a .round) (isEvidence m) m)
-told c = rw (evidence-takes _ _ (started c .pre .1) _ (c .before .is-within .ensures)) at (c .message-refusal .ensures)
+told c = rw (evidence-takes _ _ (started c .pre .1) _ (c .before .before .before .is-within .ensures)) at (c .message-refusal .ensures)
 
 -- no number from 9 to 14
 abbrev tested : tie.Else1 → tie.After-message-refusal
@@ -31,6 +31,7 @@ unfolding packConditions
 evidence-refusal-spec =
     tie.close
     (tie.spec
+    (λ c κs. search needs)
     (λ c κs. search needs)
     (λ c κs. search needs)
     (λ c. search (rows, told (c .before .before)))

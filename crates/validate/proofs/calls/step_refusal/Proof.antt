@@ -11,4 +11,5 @@ step-refusal-spec =
     (tie.spec
     (λ c κs. search needs)
     (λ c κs. search needs)
+    (λ c κs. search needs)
     (λ c. search (step-told, step-takes)))

@@ -16,7 +16,7 @@ of-second c = c .before .before
 equal-values-requires : tie.Need-equal-values-requires
 equal-values-requires c κs =
     let two = of-second c in
-    let one = two .before in (
+    let one = two .before .before in (
       certificate-right _ _ _ _ _ (of-first one .certificate-refusal .ensures) (one .if1 .left),
       certificate-right _ _ _ _ _ (two .certificate-refusal2 .ensures) (c .if2 .left),
     )
@@ -26,6 +26,7 @@ unfolding twoConditions
 two-refusal-spec =
     tie.close
     (tie.spec
+    (λ c κs. search needs)
     (λ c κs. search needs)
     (λ c. search rows)
     (λ c κs. search needs)

@@ -6,8 +6,7 @@ use Rattle.validate.proofs.message.message_refusal.Tie as tie
 
 message-verdict-requires : tie.Need-message-verdict-requires
 message-verdict-requires c κs =
-    let right = c .before .before in
-    let formed = form-passed _ _ _ _ _ (right .before .form-refusal .ensures) (right .if1 .left) in
+    let formed = form-passed _ _ _ _ _ (c .before .form-refusal .ensures) (c .if1 .left) in
     search needs
 
 pub message-refusal-spec : {M : Type 1} → statement M
@@ -16,6 +15,5 @@ message-refusal-spec =
     (tie.spec
     (λ c κs. search needs)
     (λ c. search form-refused)
-    (λ c κs. search needs)
     message-verdict-requires
     (λ c. search form-signed))
