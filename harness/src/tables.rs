@@ -1,0 +1,156 @@
+//! A search for SHA-256's round constants: in an archive, in each form that a table of them can take, and in source. And for memory
+//! in which an archive could keep them from call to call.
+//!
+//! Chance is reckoned for an archive of 85,000 bytes, with a word at each of them.
+
+use std::collections::{BTreeSet, HashMap};
+
+use crate::archive::Section;
+use crate::reference::sha256::K;
+
+#[derive(Clone, Copy, Debug, PartialEq, Eq, PartialOrd, Ord)]
+pub enum Form {
+    /// A constant itself, in data, in a lane or as an immediate in code. One is enough: a compiler that knows a prime can work out
+    /// its constant. By chance there is one in 400 archives.
+    Word,
+    /// Constants that are changed by one mask, in any order and at any distance.
+    Masked,
+    /// The high or the low halves one after the other, masked or not.
+    Halves,
+    /// Memory that outlasts a call.
+    Kept,
+}
+
+#[derive(Debug)]
+pub struct Find {
+    pub form: Form,
+    pub section: String,
+    pub what: String,
+}
+
+pub fn finds(sections: &[Section]) -> Vec<Find> {
+    let mut finds = Vec::new();
+    for section in sections {
+        let find = |form, what| Find { form, section: section.name.clone(), what };
+        finds.extend(words(&section.bytes).map(|what| find(Form::Word, what)));
+        finds.extend(halves(&section.bytes).map(|what| find(Form::Halves, what)));
+        if section.writable && section.length > 0 {
+            finds.push(find(Form::Kept, format!("{} bytes to write to", section.length)));
+        }
+    }
+    finds.extend(masked(sections));
+    finds
+}
+
+/// The constants that a text spells, in hexadecimal or decimal digits.
+pub fn spelled(text: &str) -> Vec<u32> {
+    let text = text.replace('_', "").to_lowercase();
+    K.into_iter().filter(|word| text.contains(&format!("{word:x}")) || text.contains(&word.to_string())).collect()
+}
+
+#[derive(Clone, Copy, Debug)]
+enum Order {
+    LittleEndian,
+    BigEndian,
+}
+
+const ORDERS: [Order; 2] = [Order::LittleEndian, Order::BigEndian];
+
+impl Order {
+    fn number(self, bytes: &[u8]) -> u32 {
+        let longer = |number, &byte: &u8| number << 8 | u32::from(byte);
+        match self {
+            Order::LittleEndian => bytes.iter().rev().fold(0, longer),
+            Order::BigEndian => bytes.iter().fold(0, longer),
+        }
+    }
+
+    /// The numbers of `width` bytes that stand at each byte.
+    fn numbers(self, bytes: &[u8], width: usize) -> impl Iterator<Item = u32> + '_ {
+        bytes.windows(width).map(move |number| self.number(number))
+    }
+}
+
+fn words(bytes: &[u8]) -> Option<String> {
+    let constant = |order: Order| order.numbers(bytes, 4).enumerate().filter(|(_, word)| K.contains(word));
+    let mut found: Vec<(usize, u32)> = ORDERS.into_iter().flat_map(constant).collect();
+    found.sort();
+    let (at, word) = found.first()?;
+    Some(format!("{} constants, the first of them {word:#010x} at {at:#x}", found.len()))
+}
+
+/// So many constants with one mask are a find. Words and constants give 5.4 million masks; that 8 of them are the same by chance
+/// happens in one of 10^18 archives.
+const AGREEING: usize = 8;
+
+/// The mask by which a constant becomes a word: one of xor, one that is added, and one that the constant is taken from.
+const MASKS: [(&str, fn(u32, u32) -> u32); 3] = [
+    ("xor", |word, constant| word ^ constant),
+    ("plus", |word, constant| word.wrapping_sub(constant)),
+    ("taken from", |word, constant| word.wrapping_add(constant)),
+];
+
+fn masked(sections: &[Section]) -> Vec<Find> {
+    let mut finds = Vec::new();
+    for order in ORDERS {
+        let words: BTreeSet<u32> = sections.iter().flat_map(|section| order.numbers(&section.bytes, 4)).collect();
+        for (name, mask) in MASKS {
+            let mut masks: Vec<(u32, u32)> =
+                words.iter().flat_map(|&word| K.map(|constant| (mask(word, constant), word))).collect();
+            masks.sort_unstable();
+            for agreeing in masks.chunk_by(|one, next| one.0 == next.0).filter(|agreeing| agreeing.len() >= AGREEING) {
+                let (number, word) = agreeing[0];
+                let holds = |section: &&Section| order.numbers(&section.bytes, 4).any(|other| other == word);
+                let section = sections.iter().find(holds).expect("a section has the word");
+                let what = format!("{} constants {name} {number:#010x}, {order:?}", agreeing.len());
+                finds.push(Find { form: Form::Masked, section: section.name.clone(), what });
+            }
+        }
+    }
+    finds
+}
+
+/// So many halves are a find, each at most REACH bytes after the one before: 16 lanes of 4 bytes, or code between. In 20,000 places
+/// two neighbours stand so by chance, and each further half does in one of 256: in all, in one of 10^13 archives.
+const RUN: usize = 10;
+const REACH: usize = 256;
+
+/// The halves of the constants in order: high and low, themselves and taken from zero, rising and falling.
+fn orders_of_halves() -> Vec<[u16; 64]> {
+    let rising = [K.map(|word| (word >> 16) as u16), K.map(|word| word as u16)];
+    let rising = rising.into_iter().flat_map(|halves| [halves, halves.map(u16::wrapping_neg)]);
+    let falling = |mut halves: [u16; 64]| {
+        halves.reverse();
+        halves
+    };
+    rising.flat_map(|halves| [halves, falling(halves)]).collect()
+}
+
+/// Neighbours are known by their difference, which is that of the constants whatever the mask is.
+fn halves(bytes: &[u8]) -> Option<String> {
+    let differences: [fn(u16, u16) -> u16; 2] = [|one, other| one ^ other, u16::wrapping_sub];
+    let mut longest = (0, 0);
+    for (order, difference) in ORDERS.into_iter().flat_map(|order| differences.map(|difference| (order, difference))) {
+        let mut steps = vec![Vec::new(); 1 << 16];
+        for (kind, halves) in orders_of_halves().iter().enumerate() {
+            for (place, pair) in halves.windows(2).enumerate() {
+                steps[usize::from(difference(pair[1], pair[0]))].push((kind, place));
+            }
+        }
+        let halves: Vec<u16> = order.numbers(bytes, 2).map(|half| half as u16).collect();
+        // The longest run to a half of the section that stands for a half of the constants.
+        let mut runs: HashMap<(usize, usize, usize), usize> = HashMap::new();
+        for (at, &half) in halves.iter().enumerate() {
+            for (next, &other) in halves.iter().enumerate().skip(at + 1).take(REACH) {
+                for &(kind, place) in &steps[usize::from(difference(other, half))] {
+                    let length = runs.get(&(at, kind, place)).unwrap_or(&1) + 1;
+                    let known = runs.entry((next, kind, place + 1)).or_default();
+                    *known = length.max(*known);
+                    longest = longest.max((length, next));
+                }
+            }
+        }
+    }
+    let (length, end) = longest;
+    (length >= RUN).then(|| format!("{length} halves in order, the last at {end:#x}"))
+}
