@@ -83,8 +83,10 @@ fn words(bytes: &[u8]) -> Option<String> {
 /// happens in one of 10^18 archives.
 const AGREEING: usize = 8;
 
-/// The mask by which a constant becomes a word: one of xor, one that is added, and one that the constant is taken from.
-const MASKS: [(&str, fn(u32, u32) -> u32); 3] = [
+/// The mask by which a constant becomes a word.
+type Mask = fn(word: u32, constant: u32) -> u32;
+
+const MASKS: [(&str, Mask); 3] = [
     ("xor", |word, constant| word ^ constant),
     ("plus", |word, constant| word.wrapping_sub(constant)),
     ("taken from", |word, constant| word.wrapping_add(constant)),

@@ -46,10 +46,7 @@ fn cases() -> Vec<Case> {
     const MASK: u32 = 0x5bd1_e995;
     let spread =
         |lanes: usize, numbers: &[u32]| numbers.iter().flat_map(|&number| vec![number; lanes]).collect::<Vec<_>>();
-    let falling = |mut numbers: [u32; 64]| {
-        numbers.reverse();
-        numbers
-    };
+    let falling = |numbers: [u32; 64]| std::array::from_fn::<u32, 64, _>(|i| numbers[63 - i]);
     let mixed = |numbers: [u32; 64]| std::array::from_fn::<u32, 64, _>(|i| numbers[i * 5 % 64]);
     let [xor, plus, taken] =
         [K.map(|word| word ^ MASK), K.map(|word| word.wrapping_add(MASK)), K.map(|word| MASK.wrapping_sub(word))];
