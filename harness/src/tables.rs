@@ -10,8 +10,8 @@ use crate::reference::sha256::K;
 
 #[derive(Clone, Copy, Debug, PartialEq, Eq, PartialOrd, Ord)]
 pub enum Form {
-    /// A constant itself, in data, in a lane or as an immediate in code. One is enough: a compiler that knows a prime can work out
-    /// its constant. By chance there is one in 400 archives.
+    /// A constant itself: in data, in lanes or as an immediate in code. One is a find, since a compiler that knows a prime can work
+    /// out its constant; one of 400 archives has one by chance.
     Word,
     /// Constants that are changed by one mask, in any order and at any distance.
     Masked,
@@ -29,16 +29,16 @@ pub struct Find {
 }
 
 pub fn finds(sections: &[Section]) -> Vec<Find> {
-    let mut finds = Vec::new();
+    let mut finds = masked(sections);
+    let pairs = DIFFERENCES.map(pairs);
     for section in sections {
         let find = |form, what| Find { form, section: section.name.clone(), what };
         finds.extend(words(&section.bytes).map(|what| find(Form::Word, what)));
-        finds.extend(halves(&section.bytes).map(|what| find(Form::Halves, what)));
+        finds.extend(halves(&section.bytes, &pairs).map(|what| find(Form::Halves, what)));
         if section.writable && section.length > 0 {
             finds.push(find(Form::Kept, format!("{} bytes to write to", section.length)));
         }
     }
-    finds.extend(masked(sections));
     finds
 }
 
@@ -79,8 +79,8 @@ fn words(bytes: &[u8]) -> Option<String> {
     Some(format!("{} constants, the first of them {word:#010x} at {at:#x}", found.len()))
 }
 
-/// So many constants with one mask are a find. Words and constants give 5.4 million masks; that 8 of them are the same by chance
-/// happens in one of 10^18 archives.
+/// So many constants with one mask are a find. The words and the constants give 5.4 million masks of each kind, and eight of them
+/// are the same by chance in one of 10^17 archives.
 const AGREEING: usize = 8;
 
 /// The mask by which a constant becomes a word.
@@ -112,8 +112,9 @@ fn masked(sections: &[Section]) -> Vec<Find> {
     finds
 }
 
-/// So many halves are a find, each at most REACH bytes after the one before: 16 lanes of 4 bytes, or code between. In 20,000 places
-/// two neighbours stand so by chance, and each further half does in one of 256: in all, in one of 10^13 archives.
+/// So many halves are a find, each at most REACH bytes after the one before it: 16 lanes or some code may stand between. Two
+/// neighbours stand so by chance in 20,000 places for each of 32 kinds, and each further half in one of 256 of them: all ten in one of
+/// 10^13 archives.
 const RUN: usize = 10;
 const REACH: usize = 256;
 
@@ -129,30 +130,44 @@ fn orders_of_halves() -> Vec<[u16; 64]> {
 }
 
 /// Neighbours are known by their difference, which is that of the constants whatever the mask is.
-fn halves(bytes: &[u8]) -> Option<String> {
-    let differences: [fn(u16, u16) -> u16; 2] = [|one, other| one ^ other, u16::wrapping_sub];
-    let mut longest = (0, 0);
-    for (order, difference) in ORDERS.into_iter().flat_map(|order| differences.map(|difference| (order, difference))) {
-        let mut steps = vec![Vec::new(); 1 << 16];
-        for (kind, halves) in orders_of_halves().iter().enumerate() {
-            for (place, pair) in halves.windows(2).enumerate() {
-                steps[usize::from(difference(pair[1], pair[0]))].push((kind, place));
-            }
+type Difference = fn(u16, u16) -> u16;
+
+const DIFFERENCES: [Difference; 2] = [|one, other| one ^ other, u16::wrapping_sub];
+
+/// Pairs of neighbours by their difference: number of an order of halves, and place in it.
+type Pairs = Vec<Vec<(usize, usize)>>;
+
+fn pairs(difference: Difference) -> Pairs {
+    let mut pairs = vec![Vec::new(); 1 << 16];
+    for (number, halves) in orders_of_halves().iter().enumerate() {
+        for (place, pair) in halves.windows(2).enumerate() {
+            pairs[usize::from(difference(pair[1], pair[0]))].push((number, place));
         }
-        let halves: Vec<u16> = order.numbers(bytes, 2).map(|half| half as u16).collect();
-        // The longest run to a half of the section that stands for a half of the constants.
-        let mut runs: HashMap<(usize, usize, usize), usize> = HashMap::new();
-        for (at, &half) in halves.iter().enumerate() {
-            for (next, &other) in halves.iter().enumerate().skip(at + 1).take(REACH) {
-                for &(kind, place) in &steps[usize::from(difference(other, half))] {
-                    let length = runs.get(&(at, kind, place)).unwrap_or(&1) + 1;
-                    let known = runs.entry((next, kind, place + 1)).or_default();
-                    *known = length.max(*known);
-                    longest = longest.max((length, next));
-                }
+    }
+    pairs
+}
+
+/// Length and end of the longest run of halves that have these differences.
+fn longest_run(halves: &[u16], difference: Difference, pairs: &Pairs) -> (usize, usize) {
+    let mut longest = (0, 0);
+    // The longest run to a half at a byte, by what it is a half of.
+    let mut runs: HashMap<(usize, usize, usize), usize> = HashMap::new();
+    for (at, &half) in halves.iter().enumerate() {
+        for (next, &other) in halves.iter().enumerate().skip(at + 1).take(REACH) {
+            for &(number, place) in &pairs[usize::from(difference(other, half))] {
+                let length = runs.get(&(at, number, place)).unwrap_or(&1) + 1;
+                let known = runs.entry((next, number, place + 1)).or_default();
+                *known = length.max(*known);
+                longest = longest.max((length, next));
             }
         }
     }
-    let (length, end) = longest;
+    longest
+}
+
+fn halves(bytes: &[u8], pairs: &[Pairs; 2]) -> Option<String> {
+    let in_order = ORDERS.map(|order| order.numbers(bytes, 2).map(|half| half as u16).collect::<Vec<_>>());
+    let run = |halves: &Vec<u16>| [0, 1].map(|i| longest_run(halves, DIFFERENCES[i], &pairs[i]));
+    let (length, end) = in_order.iter().flat_map(run).max()?;
     (length >= RUN).then(|| format!("{length} halves in order, the last at {end:#x}"))
 }

@@ -53,7 +53,7 @@ fn cases() -> Vec<Case> {
     let [high, low] = [K.map(|word| word >> 16), K.map(|word| word & 0xffff)];
     let low_plus = low.map(|half| (half + MASK) & 0xffff);
     let mut rng = Rng::new(1, "other numbers");
-    let others: Vec<u32> = (0..25_000).map(|_| rng.u32()).collect();
+    let others: Vec<u32> = (0..5_000).map(|_| rng.u32()).collect();
     const ALL: &[Form] = &[Word, Masked, Halves];
     const CHANGED: &[Form] = &[Masked, Halves];
     vec![
@@ -149,7 +149,7 @@ fn source_spells_them_in_one_law_alone() {
 #[test]
 fn spellings() {
     for text in
-        ["[0x428a2f98, 1]", "0x428A_2F98", "X'428A2F98'", "1116352408u32", "1_116_352_408", "(0x428a2f9871374491)"]
+        ["[0x428a2f98, 1]", "0x428A_2F98", "0X428A2F98", "1116352408u32", "1_116_352_408", "(0x428a2f9871374491)"]
     {
         assert_eq!(spelled(text)[0], K[0], "{text}");
     }
