@@ -22,7 +22,7 @@ const PARTS: [Part; 4] = [
         files: &["engine", "evidence", "impossible", "layout", "messages", "note", "quorum", "seats", "refusals"],
         whole: "pub use harness::reference::{calls, lms, record, verdicts};",
     },
-    Part { subject: "Hashes", calls: "hashes_of", files: &["sha256"], whole: "" },
+    Part { subject: "Sha256", calls: "sha256_of", files: &["sha256"], whole: "" },
     Part {
         subject: "Calls",
         calls: "calls_of",

@@ -1,6 +1,7 @@
 //! Tests and measurements of the library from outside: a second implementation, outside vectors, plain C.
 
 pub mod air;
+pub mod archive;
 #[cfg(feature = "zolbine")]
 pub mod c_program;
 pub mod compare;
@@ -24,6 +25,7 @@ pub mod rng;
 pub mod script;
 pub mod stack;
 pub mod subject;
+pub mod tables;
 pub mod terms;
 pub mod vectors;
 pub mod yard;

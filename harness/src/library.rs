@@ -129,11 +129,12 @@ mod calls {
 mod probes {
     use super::Library;
     use crate::confirmer::LowerCopy;
-    use crate::subject::{c_functions, c_hashes};
+    use crate::subject::{c_functions, c_hashes, Constants};
 
     c_hashes!(Library: probe_sha256, probe_compress_many);
 
     c_functions! {
+        fn probe_round_constants(out: &mut [u8]) -> u32;
         fn probe_signed(q: u32, identifier: &[u8], seed: &[u8], digits: &[u8], out: &mut [u8]) -> u32;
         fn probe_lower_certificate(
             n: u32,
@@ -162,6 +163,12 @@ mod probes {
         /// The values of a signature of width 8 for the digits.
         pub fn signed(&self, q: u32, identifier: &[u8], seed: &[u8], digits: &[u8], out: &mut [u8]) -> u32 {
             probe_signed(q, identifier, seed, digits, out)
+        }
+    }
+
+    impl Constants for Library {
+        fn round_constants(&self, out: &mut [u8]) -> u32 {
+            probe_round_constants(out)
         }
     }
 

@@ -1,6 +1,5 @@
 //! Subjects of tests and measurements: C functions behind safe faces.
 
-use crate::reference::lms::N;
 use crate::reference::record::Written;
 
 /// The library's calls.
@@ -29,6 +28,17 @@ pub trait Hashes: Sync {
     /// The block taken in `count` times in a row.
     fn compress_many(&self, count: u32, state: &[u8], block: &[u8], out: &mut [u8]) -> u32;
 }
+
+/// The round constants of SHA-256 that a subject works out.
+pub trait Constants: Sync {
+    /// Their bytes, big-endian: 0, or 7 when `out` is shorter than 256 bytes.
+    fn round_constants(&self, out: &mut [u8]) -> u32;
+}
+
+/// All of SHA-256.
+pub trait Sha256: Hashes + Constants {}
+
+impl<T: Hashes + Constants> Sha256 for T {}
 
 /// Gives a type the calls of a module like [`crate::reference`].
 #[macro_export]
@@ -65,29 +75,36 @@ macro_rules! calls_of {
     };
 }
 
-/// The same for [`Hashes`].
+/// The same for [`Sha256`].
 #[macro_export]
-macro_rules! hashes_of {
+macro_rules! sha256_of {
     ($subject:ident: $($module:tt)+) => {
         impl $crate::subject::Hashes for $subject {
             fn sha256(&self, message: &[u8], out: &mut [u8]) -> u32 {
-                $crate::subject::digest_to(out, || $($module)+::sha256::digest(message))
+                $crate::subject::written_to(out, 32, || $($module)+::sha256::digest(message))
             }
 
             fn compress_many(&self, count: u32, state: &[u8], block: &[u8], out: &mut [u8]) -> u32 {
                 use $($module)+::sha256::{bytes_of, compress, state_of};
-                let many = || bytes_of((0..count).fold(state_of(state), |words, _| compress(words, block)));
-                $crate::subject::digest_to(out, many)
+                let many = || bytes_of(&(0..count).fold(state_of(state), |words, _| compress(words, block)));
+                $crate::subject::written_to(out, 32, many)
+            }
+        }
+
+        impl $crate::subject::Constants for $subject {
+            fn round_constants(&self, out: &mut [u8]) -> u32 {
+                use $($module)+::sha256::{bytes_of, K};
+                $crate::subject::written_to(out, 256, || bytes_of(&K))
             }
         }
     };
 }
 
 /// The answer of a layer below the calls.
-pub fn digest_to(out: &mut [u8], digest: impl FnOnce() -> Vec<u8>) -> u32 {
-    match out.get_mut(..N) {
+pub fn written_to(out: &mut [u8], length: usize, bytes: impl FnOnce() -> Vec<u8>) -> u32 {
+    match out.get_mut(..length) {
         Some(part) => {
-            part.copy_from_slice(&digest());
+            part.copy_from_slice(&bytes());
             0
         }
         None => 7,

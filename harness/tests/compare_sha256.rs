@@ -16,6 +16,11 @@ fn compressions() {
 }
 
 #[test]
+fn round_constants() {
+    hashes::round_constants(&Library);
+}
+
+#[test]
 fn thresholds() {
     for n in 1..=32 {
         assert_eq!((Library.t0(n), Library.k(n)), (quorum::t0(n), quorum::k(n)), "n = {n}");

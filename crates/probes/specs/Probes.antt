@@ -1,5 +1,5 @@
--- The layers below the library's calls, for measurement and comparison: thresholds, digests, compressions, chains, and a copy of the
--- certificate handed back.
+-- The layers below the library's calls, for measurement and comparison: thresholds, round constants, digests, compressions, chains,
+-- and a copy of the certificate handed back.
 use Prim.Native.Nat.{ℕ, zero, suc}
 use mathlib.Core.Bool.{not, cond, _&&_, _||_}
 use mathlib.Core.List.{List, [], _∷_}
@@ -9,12 +9,20 @@ use Rattle.octets.specs.Octets.{words, bytes}
 use Rattle.quorum.specs.Quorum.{mostSeats}
 use Rattle.refusal.specs.Refusal.{firstOf, unrefused}
 use Rattle.octets.specs.Strings.{joined}
+use Rattle.fips180.specs.Constants.{constants}
 use Rattle.fips180.specs.Fips.{compress, sha256}
 use Rattle.rfc8554.specs.Ots.{signed}
 
 -- a threshold of n, and 0 where no fleet has n seats
 unfoldable pub ofFleet : (ℕ → ℕ) → ℕ → ℕ
 ofFleet f n = cond (leb 1 n && leb n mostSeats) (f n) 0
+
+-- an out buffer of less than 64 words' length is refused as 7
+unfoldable pub constantsRefusal : List ℕ → ℕ
+constantsRefusal out = firstOf ((7, ltb (length out) 256) ∷ [])
+
+unfoldable pub constantsWritten : List ℕ → List ℕ
+constantsWritten out = unrefused (constantsRefusal out) (bytes constants) []
 
 -- an out buffer of less than a digest's length is refused as 7
 unfoldable pub digestRefusal : List ℕ → ℕ

@@ -9,9 +9,10 @@ use Rattle.octets.specs.StringsLaws.{patch-nothing, part-all}
 use Rattle.octets.specs.Strings.{joined}
 use Rattle.quorum.specs.Quorum.{mostSeats}
 use Rattle.refusal.specs.Refusal.{firstOf, unrefused}
+use Rattle.fips180.specs.Constants.{constants}
 use Rattle.fips180.specs.Fips.{sha256}
 use Rattle.rfc8554.specs.Ots.{signed}
-use Rattle.probes.specs.Probes.{ofFleet, digestRefusal, digestWritten, compressRefusal, repeated, compressWritten, signedRefusal, signedWritten, copyRefusal, copyWritten}
+use Rattle.probes.specs.Probes.{ofFleet, constantsRefusal, constantsWritten, digestRefusal, digestWritten, compressRefusal, repeated, compressWritten, signedRefusal, signedWritten, copyRefusal, copyWritten}
 
 -- ---- thresholds
 
@@ -38,6 +39,17 @@ refused number answered ws out e = (e, rw (← e) (sym (patch-nothing out)))
 done : (answered : ℕ) (ws out last : List ℕ) → 0 ≡ answered → last ≡ patch 0 ws out → (0 ≡ answered) × (last ≡ patch 0 (unrefused answered ws []) out)
 unfolding unrefused
 done answered ws out last e p = (e, rw (← e) p)
+
+-- ---- round constants
+
+pub constants-short : (out : List ℕ) → length out < 256 → (7 ≡ constantsRefusal out) × (out ≡ patch 0 (constantsWritten out) out)
+unfolding constantsRefusal constantsWritten firstOf
+constants-short out h = refused 6 _ _ out (rw (lt-ltb (length out) 256 h))
+
+pub constants-fit : (out k last : List ℕ) → 256 ≤ length out → k ≡ constants → last ≡ patch 0 (bytes k) out
+    → (0 ≡ constantsRefusal out) × (last ≡ patch 0 (constantsWritten out) out)
+unfolding constantsRefusal constantsWritten firstOf
+constants-fit out k last h e p = done _ _ out last (rw (le-ltb (length out) 256 h)) (rw (← e) p)
 
 -- ---- digests
 

@@ -8,7 +8,7 @@ ghost use Rattle.quorum.specs.Quorum as Quorum;
 ghost use Rattle.fips180.specs.Constants.{constants};
 ghost use Rattle.protocol.specs.Signatures.{checks};
 ghost use Rattle.protocol.specs.Calls.{lowerCertificate};
-ghost use Rattle.probes.specs.Probes.{ofFleet, digestRefusal, digestWritten, compressRefusal, compressWritten, repeated, signedRefusal, signedWritten, copyRefusal, copyWritten};
+ghost use Rattle.probes.specs.Probes.{ofFleet, constantsRefusal, constantsWritten, digestRefusal, digestWritten, compressRefusal, compressWritten, repeated, signedRefusal, signedWritten, copyRefusal, copyWritten};
 
 // t0 of a fleet of n seats; 0 where no fleet has n.
 #[no_mangle]
@@ -36,6 +36,24 @@ pub extern "C" fn probe_k(n: u32) -> u32
         return 0;
     }
     quorum::k(n)
+}
+
+// The bytes of the round constants.
+#[no_mangle]
+pub extern "C" fn probe_round_constants(out: &mut [u8]) -> u32
+    ensures { λ r. ⌜ r ≡ constantsRefusal (now (out .entry)) ⌝ }
+    ensures { λ _. ⌜ now (out .exit) ≡ patch 0 (constantsWritten (now (out .entry))) (now (out .entry)) ⌝ }
+{
+    if out.len() < 256 {
+        return refusal::OUT;
+    }
+    let k = sha256_constants::round_constants();
+    let mut i = 0;
+    while i < 64 {
+        octets::put_word(out, 4 * i, k[i]);
+        i += 1;
+    }
+    0
 }
 
 // The digest of a message.

@@ -2,7 +2,7 @@
 //! batteries catch them.
 
 use harness::confirmer::Confirmer;
-use harness::subject::{Calls, Hashes};
+use harness::subject::{Calls, Sha256};
 
 pub struct Mutant {
     pub fault: &'static str,
@@ -17,7 +17,7 @@ pub struct Mutant {
 pub enum Subject {
     Confirmer(&'static dyn Confirmer),
     Calls(&'static dyn Calls),
-    Hashes(&'static dyn Hashes),
+    Sha256(&'static dyn Sha256),
 }
 
 /// The reference's LM-OTS for the mutants above it: each leaf's key is made once for all of them.

@@ -13,13 +13,13 @@ const OF_THE_CONFIRMER: [&str; 12] = [
     "rounds",
 ];
 const OF_SIGNATURES: [&str; 3] = ["check", "make_key", "sign"];
-const OF_HASHES: [&str; 2] = ["compressions", "digests"];
+const OF_SHA256: [&str; 3] = ["compressions", "digests", "round_constants"];
 
 fn batteries(subject: Subject) -> &'static [&'static str] {
     match subject {
         Subject::Confirmer(_) => &OF_THE_CONFIRMER,
         Subject::Calls(_) => &OF_SIGNATURES,
-        Subject::Hashes(_) => &OF_HASHES,
+        Subject::Sha256(_) => &OF_SHA256,
     }
 }
 
@@ -55,9 +55,10 @@ fn run(battery: &str, subject: Subject) {
             "sign" => sign::battery(calls),
             _ => unreachable!(),
         },
-        Subject::Hashes(subject) => match battery {
+        Subject::Sha256(subject) => match battery {
             "compressions" => hashes::compressions(subject),
             "digests" => hashes::digests(subject),
+            "round_constants" => hashes::round_constants(subject),
             _ => unreachable!(),
         },
     }
@@ -69,7 +70,7 @@ fn faults_are_caught() {
     for battery in OF_THE_CONFIRMER {
         run(battery, Subject::Confirmer(&Reference));
     }
-    for battery in OF_SIGNATURES.iter().chain(&OF_HASHES) {
+    for battery in OF_SIGNATURES.iter().chain(&OF_SHA256) {
         assert!(mutants::ALL.iter().any(|mutant| mutant.harmless && mutant.battery == *battery), "{battery}");
     }
     for Mutant { fault, battery, subject, .. } in mutants::ALL {

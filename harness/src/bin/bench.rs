@@ -1,5 +1,5 @@
-//! The proved code beside plain C, and under the feature `libcrypto` beside OpenSSL's block function; and a submit with 31 seats
-//! kept beside one with none. The verdict is the ratio; nanoseconds are printed for information.
+//! The proved code beside plain C, and under the feature `libcrypto` beside OpenSSL's block function; the round constants beside the
+//! check that works them out; and a submit with 31 seats kept beside one with none. The verdict is the ratio; nanoseconds are printed for information.
 //! `bench WORD` runs only the contests whose names contain the word.
 
 use harness::contest::Contest;
@@ -21,13 +21,34 @@ fn main() {
     call_contests().iter().for_each(|contest| hold(&word, contest, library::calls(), &Plain));
     #[cfg(all(feature = "libcrypto", feature = "probes"))]
     beside_libcrypto(&word);
+    #[cfg(all(feature = "zolbine", feature = "probes"))]
+    constants_beside_check(&word);
     #[cfg(feature = "zolbine")]
     kept_beside_none(&word);
 }
 
 fn head(one: &str, other: &str) {
     let [pair, time, other_time] = [format!("{one} : {other}"), format!("{one}, ns"), format!("{other}, ns")];
-    println!("{pair:<32} {:>7} {:>14} {time:>15} {other_time:>15}", "ratio", "quartiles");
+    println!("{pair:<32} {:>7} {:>16} {time:>15} {other_time:>15}", "ratio", "quartiles");
+}
+
+/// The round constants, which a check works out once.
+#[cfg(all(feature = "zolbine", feature = "probes"))]
+fn constants_beside_check(word: &str) {
+    use harness::library::Library;
+    use harness::subject::Constants;
+
+    // So that the constants take longer than the clock.
+    const TURNS: usize = 20;
+    head("constants", "check");
+    for check in check_contests() {
+        let operations = TURNS * check.operations;
+        let constants = || (0..operations).for_each(|_| assert_eq!(Library.round_constants(&mut [0; 256]), 0));
+        let checks = || (0..TURNS).for_each(|_| (check.work)(&Library));
+        let name = check.name.replace("check", "constants");
+        let both = contest::<dyn Fn() + '_>(name, operations, 31, |side| side());
+        hold(word, &both, Some(&constants), &checks);
+    }
 }
 
 /// The submit of boat 0 in a fleet of 32, with the SUBMITs of all other seats kept and with none.
@@ -102,11 +123,13 @@ fn hold<S: ?Sized>(word: &str, contest: &Contest<S>, proved: Option<&S>, plain: 
     let [ratio, quartiles, nanoseconds] = match times.proved {
         Some(proved) => {
             let [lower, median, upper] = proved.ratio;
-            [format!("{median:.2}"), format!("{lower:.2} to {upper:.2}"), format!("{:.1}", proved.time)]
+            let digits = if median < 0.1 { 4 } else { 2 };
+            let quartiles = format!("{lower:.digits$} to {upper:.digits$}");
+            [format!("{median:.digits$}"), quartiles, format!("{:.1}", proved.time)]
         }
         None => ["-", "-", "not linked"].map(str::to_string),
     };
-    println!("{:<32} {ratio:>7} {quartiles:>14} {nanoseconds:>15} {:>15.1}", contest.name, times.plain);
+    println!("{:<32} {ratio:>7} {quartiles:>16} {nanoseconds:>15} {:>15.1}", contest.name, times.plain);
 }
 
 fn contest<S: ?Sized>(
@@ -135,8 +158,7 @@ fn hash_contests() -> Vec<Contest<dyn Hashes>> {
     contests
 }
 
-fn call_contests() -> Vec<Contest<dyn Calls>> {
-    let mut rng = Rng::new(seed(), "bench calls");
+fn check_contests() -> Vec<Contest<dyn Calls>> {
     let mut contests = Vec::new();
     for types in Types::all() {
         let of_types = |record: &vectors::Record| record.made.as_ref().is_some_and(|made| made.types == types);
@@ -148,6 +170,12 @@ fn call_contests() -> Vec<Contest<dyn Calls>> {
             }
         }));
     }
+    contests
+}
+
+fn call_contests() -> Vec<Contest<dyn Calls>> {
+    let mut rng = Rng::new(seed(), "bench calls");
+    let mut contests = check_contests();
     let (seed, identifier, randomizer, tree) = (rng.bytes(N), rng.bytes(IDENTIFIER), rng.bytes(N), rng.bytes(TREE));
     let messages: Vec<Vec<u8>> = (0..8).map(|_| rng.bytes(SIGNED)).collect();
     let (key_seed, key_identifier) = (seed.clone(), identifier.clone());

@@ -1,37 +1,37 @@
-//! SHA-256 and its compression.
+//! SHA-256, its compression and its round constants.
 
 use super::{equal, run};
 use crate::digests;
 use crate::guarded::Guarded;
 use crate::reference::sha256;
 use crate::rng::{seed, Rng};
-use crate::subject::Hashes;
+use crate::subject::{Constants, Hashes};
 
 const DIGEST: usize = 32;
 const BLOCK: usize = 64;
 
-/// Lengths of `out`: too short, just right, and with bytes to spare.
-fn out_lengths(rng: &mut Rng) -> [usize; 4] {
-    [rng.below(DIGEST), DIGEST - 1, DIGEST, DIGEST + 1 + rng.below(64)]
+/// Lengths of `out` for so many bytes: too short, just right, and with bytes to spare.
+fn out_lengths(needed: usize, rng: &mut Rng) -> [usize; 4] {
+    [rng.below(needed), needed - 1, needed, needed + 1 + rng.below(64)]
 }
 
-/// Calls with `out` of each length: 32 bytes are written and no others, or the answer is 7 and nothing changes.
+/// Calls with `out` of each length: the expected bytes are written and no others, or the answer is 7 and nothing changes.
 fn written(
     expected: &[u8],
     lent: &[(&str, &Guarded, &[u8])],
     rng: &mut Rng,
     call: impl Fn(&mut [u8]) -> u32,
 ) -> Result<(), String> {
-    for length in out_lengths(rng) {
+    for length in out_lengths(expected.len(), rng) {
         let before = rng.bytes(length);
         let mut out = Guarded::new(&before, rng);
         let answer = call(out.lent_mut());
-        if length < DIGEST {
+        if length < expected.len() {
             equal("the answer", answer, 7)?;
             out.expect("out", &before)?;
         } else {
             equal("the answer", answer, 0)?;
-            out.expect("out", &[expected, &before[DIGEST..]].concat())?;
+            out.expect("out", &[expected, &before[expected.len()..]].concat())?;
         }
     }
     lent.iter().try_for_each(|(name, buffer, contents)| buffer.expect(name, contents))
@@ -72,9 +72,14 @@ pub fn compressions(subject: &dyn Hashes) {
         for _ in 0..*count {
             words = sha256::compress(words, block_bytes);
         }
-        let expected = sha256::bytes_of(words);
+        let expected = sha256::bytes_of(&words);
         let lent = [("state", &state, state_bytes.as_slice()), ("block", &block, block_bytes.as_slice())];
         let many = |out: &mut [u8]| subject.compress_many(*count, state.lent(), block.lent(), out);
         written(&expected, &lent, rng, many).map_err(|difference| format!("{count} times: {difference}"))
     });
+}
+
+pub fn round_constants(subject: &dyn Constants) {
+    let expected = sha256::bytes_of(&sha256::K);
+    run("round constants", &[()], |(), rng| written(&expected, &[], rng, |out| subject.round_constants(out)));
 }

@@ -115,8 +115,8 @@ pub fn state_of(bytes: &[u8]) -> [u32; 8] {
     std::array::from_fn(|i| word(&bytes[4 * i..4 * i + 4]))
 }
 
-pub fn bytes_of(state: [u32; 8]) -> Vec<u8> {
-    state.iter().flat_map(|word| word.to_be_bytes()).collect()
+pub fn bytes_of(words: &[u32]) -> Vec<u8> {
+    words.iter().flat_map(|word| word.to_be_bytes()).collect()
 }
 
 pub fn digest(message: &[u8]) -> Vec<u8> {
@@ -124,5 +124,5 @@ pub fn digest(message: &[u8]) -> Vec<u8> {
     for block in padded(message).chunks(64) {
         state = compress(state, block);
     }
-    bytes_of(state)
+    bytes_of(&state)
 }
