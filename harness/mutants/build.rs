@@ -4,12 +4,14 @@ use std::collections::BTreeMap;
 use std::path::PathBuf;
 use std::{env, fs};
 
-/// A part of the reference that is copied whole around a fault in one of its files.
+/// A part of the reference that is copied around a fault in one of its files.
 struct Part {
     /// Tests of its mutants: a variant of `Subject`, and the macro that gives the copies' calls to a type.
     subject: &'static str,
     calls: &'static str,
     files: &'static [&'static str],
+    /// Copies only what the fault reaches: its file, and those that name a copied one. The rest is the reference's.
+    reached: bool,
     /// Modules that the copies use unchanged.
     whole: &'static str,
 }
@@ -20,13 +22,15 @@ const PARTS: [Part; 4] = [
         subject: "Confirmer",
         calls: "confirmer_of",
         files: &["engine", "evidence", "impossible", "layout", "messages", "note", "quorum", "seats", "refusals"],
+        reached: true,
         whole: "pub use harness::reference::{calls, lms, record, verdicts};",
     },
-    Part { subject: "Sha256", calls: "sha256_of", files: &["sha256"], whole: "" },
+    Part { subject: "Sha256", calls: "sha256_of", files: &["sha256"], reached: false, whole: "" },
     Part {
         subject: "Calls",
         calls: "calls_of",
         files: &["calls", "lms"],
+        reached: false,
         whole: "pub use crate::once::lmots; pub use harness::reference::{layout, record, refusals};
             pub mod verdicts { pub use super::lms::verify; }",
     },
@@ -34,6 +38,7 @@ const PARTS: [Part; 4] = [
         subject: "Calls",
         calls: "calls_of",
         files: &["calls", "lms", "lmots"],
+        reached: false,
         whole: "pub use harness::reference::{layout, record, refusals, sha256};
             pub mod verdicts { pub use super::lms::verify; }",
     },
@@ -105,12 +110,32 @@ fn fault(block: &str) -> Option<Fault> {
     (!fault.what.is_empty()).then_some(fault)
 }
 
-/// All files of the part with one of them changed, and their calls given to a type.
+/// The files of a part that are copied for a fault in one of them.
+fn copied<'a>(file: &'a str, part: &Part, sources: &BTreeMap<&str, String>) -> Vec<&'a str> {
+    if !part.reached {
+        return part.files.to_vec();
+    }
+    let mut found = vec![file];
+    loop {
+        let names = |name: &str| found.iter().any(|module| sources[name].contains(&format!("super::{module}")));
+        match part.files.iter().find(|name| !found.contains(name) && names(name)) {
+            Some(name) => found.push(name),
+            None => return found,
+        }
+    }
+}
+
+/// The part's files with one of them changed, and their calls given to a type.
 fn mutant(number: usize, fault: &Fault, part: &Part, sources: &BTreeMap<&str, String>) -> String {
     let Fault { what, file, right, wrong, .. } = fault;
     let (right, wrong) = (right.join("\n"), wrong.join("\n"));
+    let copied = copied(file, part, sources);
     let mut modules = String::new();
     for name in part.files {
+        if !copied.contains(name) {
+            modules.push_str(&format!("pub use harness::reference::{name};\n"));
+            continue;
+        }
         let mut text = sources[name].clone();
         if name == file {
             assert_eq!(text.matches(&right).count(), 1, "{what}: {file}.rs doesn't have once:\n{right}");

@@ -21,7 +21,7 @@ use Rattle.protocol.specs.Step.{State}
 use Rattle.protocol.specs.Calls.{outAfter, resultBy, start, answer}
 use Rattle.protocol.specs.declared.Record.{Record}
 use Rattle.protocol.specs.declared.Stepped.{Stepped}
-use Rattle.validate.specs.Given.{Given}
+use Rattle.signatures.specs.Given.{Given}
 use Rattle.validate.specs.GivenLaws.{record-ready, record-given, record-nonzero}
 use Rattle.phase.specs.Phases.{Did}
 use Rattle.phase.specs.declared.Phase.{Phase}

@@ -19,9 +19,9 @@ use Rattle.protocol.specs.declared.Written.{Written}
 use Rattle.store.specs.Sources.{Readable, certificateFrom}
 use Rattle.store.specs.SourcesLaws.{inFull, full-value, full-readable, full-certificate, full-size}
 use Rattle.wire_write.specs.Writing.{Wrote}
-use Rattle.validate.specs.Given.{givenConditions}
+use Rattle.validate.specs.Calls.{givenConditions}
 use Rattle.validate.specs.GivenLaws.{given-nonzero}
-use Rattle.validate.specs.Messages.{Formed}
+use Rattle.forms.specs.Messages.{Formed}
 use Rattle.evidence.specs.PassedLaws.{Call, check, outside, Clear, after-outside, two}
 use Rattle.evidence.specs.Making.{lowerNumber, lowerFirst}
 

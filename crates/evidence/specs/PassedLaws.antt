@@ -9,10 +9,10 @@ use Rattle.refusal.specs.RefusalLaws.{refused-later}
 use Rattle.protocol.specs.Message.{Message, read}
 use Rattle.protocol.specs.Refusals.{Checks, Condition, outsideConditions, twoConditions}
 use Rattle.protocol.specs.Signatures.{checks}
-use Rattle.validate.specs.Given.{Given}
+use Rattle.signatures.specs.Given.{Given}
 use Rattle.validate.specs.GivenLaws.{outside-given, outside-nonzero}
-use Rattle.validate.specs.Entries.{FullTaken}
-use Rattle.validate.specs.EntriesLaws.{certificate-taken}
+use Rattle.signatures.specs.Entries.{FullTaken}
+use Rattle.signatures.specs.EntriesLaws.{certificate-taken}
 use Rattle.validate.specs.Calls.{Conflict}
 use Rattle.validate.specs.CallsLaws.{two-passed}
 

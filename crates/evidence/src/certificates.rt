@@ -8,7 +8,7 @@ ghost use Rattle.protocol.specs.Layout.{evidenceOutLength};
 ghost use Rattle.protocol.specs.Message.{read, render};
 ghost use Rattle.protocol.specs.Certificate.{certificateIn, conflictOf};
 ghost use Rattle.wire_write.specs.Writing.{Wrote};
-ghost use Rattle.validate.specs.Entries.{FullTaken};
+ghost use Rattle.signatures.specs.Entries.{FullTaken};
 ghost use Rattle.validate.specs.Calls.{Conflict};
 use store::sources::Place;
 use store::sources::Source;

@@ -18,12 +18,12 @@ use Rattle.protocol.specs.Refusals.{Checks, Condition, every, said, wrongLength
 use Rattle.protocol.specs.Signatures.{signatureNumber}
 use Rattle.protocol.specs.SignaturesLaws.{signature-row}
 use Rattle.protocol.specs.declared.Record.{Record}
-use Rattle.validate.specs.Messages.{Formed}
-use Rattle.validate.specs.MessagesLaws.{message-nonzero, message-formed}
-use Rattle.validate.specs.Places.{pairRead}
-use Rattle.validate.specs.declared.signatures.Pair.{Pair}
-use Rattle.validate.specs.Entries.{FullTaken, EvidenceTaken}
-use Rattle.validate.specs.EntriesLaws.{certificate-taken, pack-taken}
+use Rattle.forms.specs.Messages.{Formed}
+use Rattle.forms.specs.MessagesLaws.{message-nonzero, message-formed}
+use Rattle.signatures.specs.Places.{pairRead}
+use Rattle.signatures.specs.declared.verdicts.Pair.{Pair}
+use Rattle.signatures.specs.Entries.{FullTaken, EvidenceTaken}
+use Rattle.signatures.specs.EntriesLaws.{certificate-taken, pack-taken}
 use Rattle.validate.specs.Calls.{ownConditions, packConditions, Conflict}
 
 -- ---- the own submission

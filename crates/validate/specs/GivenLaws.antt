@@ -13,7 +13,8 @@ use Rattle.protocol.specs.Record.{impossible, Ready}
 use Rattle.protocol.specs.RecordLaws.{right-size, right-round, possible}
 use Rattle.protocol.specs.Refusals.{OUT, wrongKeys, shortStore, shortOut, outsideConditions, recordConditions}
 use Rattle.protocol.specs.declared.Record.{Record}
-use Rattle.validate.specs.Given.{Given, givenConditions}
+use Rattle.signatures.specs.Given.{Given}
+use Rattle.validate.specs.Calls.{givenConditions}
 
 -- ---- outside a record
 

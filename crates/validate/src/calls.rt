@@ -7,23 +7,22 @@ ghost use Rattle.protocol.specs.Message.{read};
 ghost use Rattle.protocol.specs.Refusals.{wrongLengths, isForStep, outsideConditions, openingConditions, recordConditions, messageConditions, certificateConditions, twoConditions};
 ghost use Rattle.wire.specs.Reading.{kindOf};
 ghost use Rattle.protocol.specs.Record.{InRange};
-ghost use Rattle.validate.specs.Given.{Given, givenConditions};
-ghost use Rattle.validate.specs.Calls.{ownConditions, packConditions};
+ghost use Rattle.signatures.specs.Given.{Given};
+ghost use Rattle.validate.specs.Calls.{ownConditions, packConditions, givenConditions};
 use crate::conflict::equal_values;
 use crate::conflict::not_lower_first;
-use crate::keys::wrong_keys;
-use crate::message;
-use crate::message::is_within;
 use crate::message::message_refusal;
-use crate::signatures::seat_verdict;
 use arguments::buffers::short_out;
 use arguments::buffers::short_store;
 use arguments::range::wrong_round;
 use arguments::range::wrong_seat;
 use arguments::range::wrong_size;
 use arguments::record::is_impossible;
+use forms::is_within;
 use protocol::Record;
 use protocol::Verdict;
+use signatures::keys::wrong_keys;
+use signatures::verdicts::seat_verdict;
 use wire::read::Kind;
 
 // Refusal of n, round and key table, in a call without a record: 1, 3, 5.
@@ -129,7 +128,7 @@ pub fn step_refusal(r: Record, keys: &[u8], kind: Kind, m: &[u8]) -> Verdict
         let said = read (r .n) (now (m .entry)) in
         ⌜ v .number ≡ firstOf (messageConditions (checks (now (keys .entry)) (r .round)) (r .n) (r .round) (isForStep said) said) ⌝ }
 {
-    let taken = is_within(kind, message::SUBMIT, message::FULL);
+    let taken = is_within(kind, forms::SUBMIT, forms::FULL);
     let k = sha256_constants::round_constants();
     message_refusal(&k, r.n, r.round, keys, taken, kind, m)
 }
@@ -140,7 +139,7 @@ pub fn evidence_refusal(n: u32, round: u32, keys: &[u8], kind: Kind, m: &[u8]) -
     ensures { λ v. ⌜ v .number ≡ firstOf (packConditions (checks (now (keys .entry)) round) n round (read n (now (m .entry)))) ⌝ }
 {
     // No message has the command between the two.
-    let taken = is_within(kind, message::OLD_EVIDENCE, message::EVIDENCE);
+    let taken = is_within(kind, forms::OLD_EVIDENCE, forms::EVIDENCE);
     let k = sha256_constants::round_constants();
     let v = message_refusal(&k, n, round, keys, taken, kind, m);
     if v.number != 0 {
@@ -160,7 +159,7 @@ fn certificate_refusal(k: &[u32; 64], n: u32, round: u32, keys: &[u8], m: &[u8])
     ensures { λ v. ⌜ v .number ≡ firstOf (certificateConditions (checks (now (keys .entry)) round) n round (read n (now (m .entry)))) ⌝ }
 {
     let kind = wire::read::classify(n, m);
-    let taken = is_within(kind, message::FULL, message::FULL);
+    let taken = is_within(kind, forms::FULL, forms::FULL);
     message_refusal(k, n, round, keys, taken, kind, m)
 }
 

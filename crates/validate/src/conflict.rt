@@ -3,10 +3,10 @@ ghost use mathlib.Core.Path.{_≡_};
 ghost use Rattle.protocol.specs.Message.{read};
 ghost use Rattle.protocol.specs.Certificate.{certificateIn};
 ghost use Rattle.protocol.specs.Refusals.{lowerFirst, notLowerFirst, equalValues};
-ghost use Rattle.validate.specs.Places.{PlaceInside, pairRead};
-ghost use Rattle.validate.specs.Entries.{FullTaken, EvidenceTaken};
-use crate::signatures::Pair;
-use crate::signatures::pair_at;
+ghost use Rattle.signatures.specs.Places.{PlaceInside, pairRead};
+ghost use Rattle.signatures.specs.Entries.{FullTaken, EvidenceTaken};
+use signatures::verdicts::Pair;
+use signatures::verdicts::pair_at;
 
 // Whether the first value of a pair is lower than the second.
 fn lower_first(m: &[u8], pair: Pair) -> bool

@@ -80,11 +80,11 @@ pub fn signed_bytes(round: u32, seat: u32, value: &Value) -> Vec<u8> {
     [&[0x01], two_bytes(round).as_slice(), &[one_byte(seat)], value].concat()
 }
 
-pub(super) fn two_bytes(number: u32) -> [u8; 2] {
+pub fn two_bytes(number: u32) -> [u8; 2] {
     u16::try_from(number).expect("a number of two bytes").to_be_bytes()
 }
 
-pub(super) fn one_byte(number: u32) -> u8 {
+pub fn one_byte(number: u32) -> u8 {
     u8::try_from(number).expect("a number of one byte")
 }
 
@@ -269,7 +269,7 @@ fn whole<M>(message: &[u8], first: impl FnOnce(&mut Rest) -> Option<M>) -> Optio
 }
 
 /// The bytes left to read.
-pub(super) struct Rest<'a>(pub(super) &'a [u8]);
+pub struct Rest<'a>(pub &'a [u8]);
 
 impl Rest<'_> {
     fn take(&mut self, length: usize) -> Option<&[u8]> {
@@ -278,15 +278,15 @@ impl Rest<'_> {
         Some(taken)
     }
 
-    pub(super) fn command(&mut self, command: u8) -> Option<()> {
+    pub fn command(&mut self, command: u8) -> Option<()> {
         (self.take(1)? == [command]).then_some(())
     }
 
-    pub(super) fn number(&mut self, width: usize) -> Option<u32> {
+    pub fn number(&mut self, width: usize) -> Option<u32> {
         Some(self.take(width)?.iter().fold(0, |number, &byte| 256 * number + u32::from(byte)))
     }
 
-    pub(super) fn value(&mut self) -> Option<Value> {
+    pub fn value(&mut self) -> Option<Value> {
         Some(self.take(VALUE)?.try_into().expect("a value's bytes"))
     }
 

@@ -3,7 +3,7 @@ use Prim.Native.Nat.{_≤_}
 use lib.ListN.{length}
 use denote.Ref.{now}
 use Rattle.protocol.specs.Layout.{evidenceOutLength}
-use Rattle.validate.specs.Given.{Given}
+use Rattle.signatures.specs.Given.{Given}
 use Rattle.validate.specs.GivenLaws.{making-given}
 use Rattle.evidence.specs.PassedLaws.{Call, conflicting}
 use Rattle.evidence.specs.MakingLaws.{given-refused, making-refused, making-done}

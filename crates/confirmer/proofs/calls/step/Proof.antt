@@ -8,7 +8,7 @@ use Rattle.protocol.specs.Calls.{step}
 use Rattle.protocol.specs.Step.{stepped}
 use Rattle.wire.specs.Reading.{kindOf}
 use Rattle.wire.specs.KindLaws.{kind-told}
-use Rattle.validate.specs.MessagesLaws.{message-formed}
+use Rattle.forms.specs.MessagesLaws.{message-formed}
 use Rattle.confirmer.specs.ReturnsLaws.{Call, Passed, Lent, Acted, given, sized, part-within, part-length, part-ready, end-small, refused-by-record, refused-by-rest, leaves}
 use borrow.Author.Needs.{needs}
 use Rattle.confirmer.proofs.calls.step.Statement.{statement}

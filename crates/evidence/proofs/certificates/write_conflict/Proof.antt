@@ -3,7 +3,7 @@ use Prim.Native.Nat.{ℕ, _≤_}
 use native.Mathlib.Omega.{arith}
 use Rattle.quorum.specs.Quorum.{k, In, size, shared}
 use Rattle.protocol.specs.Layout.{signatureLength, evidenceEntryLength, evidenceEntryAt, evidenceLength, evidenceOutLength}
-use Rattle.validate.specs.MessagesLaws.{full-kind}
+use Rattle.forms.specs.MessagesLaws.{full-kind}
 use Rattle.evidence.specs.PassedLaws.{both-taken}
 use Rattle.wire_write.specs.WritingLaws.{shared-seats, shared-room}
 use Rattle.evidence.specs.MakingLaws.{readable, sized, certificate-is, wrote-evidence}

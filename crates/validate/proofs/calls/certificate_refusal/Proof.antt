@@ -1,7 +1,7 @@
 -- `validate::calls::certificate_refusal` meets its contract.
 use borrow.Author.Needs.{needs}
 use Rattle.wire.specs.KindLaws.{kind-told}
-use Rattle.validate.specs.MessagesLaws.{certificate-takes}
+use Rattle.forms.specs.MessagesLaws.{certificate-takes}
 use Rattle.validate.specs.CallsLaws.{certificate-told}
 use Rattle.validate.proofs.calls.certificate_refusal.Statement.{statement}
 use Rattle.validate.proofs.calls.certificate_refusal.Tie as tie

@@ -7,7 +7,7 @@ use Rattle.refusal.specs.RefusalLaws.{rows}
 use Rattle.protocol.specs.Message.{read}
 use Rattle.protocol.specs.Refusals.{isEvidence, messageConditions}
 use Rattle.protocol.specs.Signatures.{checks}
-use Rattle.validate.specs.MessagesLaws.{evidence-takes, message-nonzero}
+use Rattle.forms.specs.MessagesLaws.{evidence-takes, message-nonzero}
 use Rattle.validate.specs.Calls.{packConditions}
 use Rattle.validate.specs.CallsLaws.{evidence-right}
 use Rattle.validate.proofs.calls.evidence_refusal.Statement.{statement}

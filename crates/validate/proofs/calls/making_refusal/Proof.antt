@@ -5,7 +5,7 @@ use borrow.Author.Needs.{needs}
 use Rattle.refusal.specs.RefusalLaws.{rows}
 use Rattle.protocol.specs.Layout.{evidenceOutLength}
 use Rattle.protocol.specs.Refusals.{shortOut}
-use Rattle.validate.specs.Given.{givenConditions}
+use Rattle.validate.specs.Calls.{givenConditions}
 use Rattle.validate.specs.GivenLaws.{outside-given, outside-nonzero}
 use Rattle.validate.proofs.calls.making_refusal.Statement.{statement}
 use Rattle.validate.proofs.calls.making_refusal.Tie as tie

@@ -1,6 +1,6 @@
 -- `validate::calls::step_refusal` meets its contract.
 use borrow.Author.Needs.{needs}
-use Rattle.validate.specs.MessagesLaws.{step-takes}
+use Rattle.forms.specs.MessagesLaws.{step-takes}
 use Rattle.validate.specs.CallsLaws.{step-told}
 use Rattle.validate.proofs.calls.step_refusal.Statement.{statement}
 use Rattle.validate.proofs.calls.step_refusal.Tie as tie

@@ -1,7 +1,7 @@
 -- `validate::conflict::certificate_value` meets its contract.
 use native.Mathlib.Omega.{arith}
 use borrow.Author.Needs.{needs}
-use Rattle.validate.specs.EntriesLaws.{value-inside}
+use Rattle.signatures.specs.EntriesLaws.{value-inside}
 use Rattle.validate.specs.CallsLaws.{certificate-says}
 use Rattle.validate.proofs.conflict.certificate_value.Statement.{statement}
 use Rattle.validate.proofs.conflict.certificate_value.Tie as tie

@@ -2,8 +2,8 @@
 use Prim.Native.Nat.{_-_}
 use native.Mathlib.Omega.{arith}
 use borrow.Author.Needs.{needs}
-use Rattle.validate.specs.SignaturesLaws.{pairOrder}
-use Rattle.validate.specs.EntriesLaws.{Paired, paired-none, paired-inside, ordered-more, ordered-not, ordered-all}
+use Rattle.signatures.specs.SignaturesLaws.{pairOrder}
+use Rattle.signatures.specs.EntriesLaws.{Paired, paired-none, paired-inside, ordered-more, ordered-not, ordered-all}
 use Rattle.validate.proofs.conflict.not_lower_first.Statement.{statement}
 use Rattle.validate.proofs.conflict.not_lower_first.Tie as tie
 

@@ -1,6 +1,6 @@
 -- `validate::message::message_refusal` meets its contract.
 use borrow.Author.Needs.{needs}
-use Rattle.validate.specs.MessagesLaws.{form-passed, form-refused, form-signed}
+use Rattle.forms.specs.MessagesLaws.{form-passed, form-refused, form-signed}
 use Rattle.validate.proofs.message.message_refusal.Statement.{statement}
 use Rattle.validate.proofs.message.message_refusal.Tie as tie
 

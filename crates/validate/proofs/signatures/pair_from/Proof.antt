@@ -1,7 +1,0 @@
--- `validate::signatures::pair_from` meets its contract.
-use borrow.Author.Needs.{needs}
-use Rattle.validate.proofs.signatures.pair_from.Statement.{statement}
-use Rattle.validate.proofs.signatures.pair_from.Tie as tie
-
-pub pair-from-spec : {M : Type 1} → statement M
-pair-from-spec = tie.close (tie.spec (λ c κs. search needs) (λ c. search needs) (λ c κs. search needs) (λ c. search needs) (λ c. cc))
