@@ -1,40 +1,124 @@
 -- The runs of the trials under the definitions as they stand: where the premises hold, so does the conclusion. In the runs for edited
--- premises the premises don't hold.
+-- premises the premises don't hold. Runs of the same boats are answered by one equation, so that these are computed once.
 -- Assumes nothing.
-use mathlib.Core.Path.{_≡_, refl}
-use mathlib.Core.Bool.{true, false}
+use mathlib.Core.Path.{_≡_, refl, ap}
+use mathlib.Core.Bool.{Bool, true, false}
 use Rattle.claims.specs.Once.{written-messages, at-most, sends-one, none-impossible}
 use Rattle.claims.specs.Culprits.{shared-are-guilty, guilty-once, writes-new-form}
 use Rattle.trials.specs.Trial.{claimOf, answer}
 use Rattle.trials.specs.Trials.{unfoldedTrials, four, pair, answering, sharing, slow, interrupted, dividedBoats, forewarnedBoats, witnessedBoats, shortStoredBoats, shortOutedBoats, unheardBoats, unsignedBoats, twiceBoats, holdingBoats, keptOtherBoats, keptUnsignedBoats, unsignedEvidence, equalEvidence, equalOldEvidence, answeringBoat, sharingBoat, slowBoat, third, ownThird, unsigned as unsignedBoat, thirdGuilty, ownThirdGuilty, refusedGuilty, thirdOnce, thirdNewForm, thirdAtMost, thirdReadable, thirdPays, interruptedBoat, interruptedSending, newestBoats, olderBoats, sameStoredBoats, otherStoredBoats, unnotedBoats, hastyBoat, blankBoat}
 
+abbrev Answer : Type 0
+Answer = Bool × Bool
+
+-- ---- boats that confirm the layouts 7 and 9
+
+divided-answers : _≡_ {A = Answer × Answer × Answer × Answer × Answer × Answer × Answer × Answer}
+    (answer dividedBoats, answer forewarnedBoats, answer witnessedBoats, answer shortStoredBoats, answer shortOutedBoats, answer sameStoredBoats, answer otherStoredBoats, answer unnotedBoats)
+    ((true, true), (true, true), (true, true), (false, false), (false, false), (true, true), (false, false), (false, false))
+unfolding unfoldedTrials dividedBoats forewarnedBoats witnessedBoats shortStoredBoats shortOutedBoats sameStoredBoats otherStoredBoats unnotedBoats
+divided-answers = refl
+
 divided : answer dividedBoats ≡ (true, true)
-unfolding unfoldedTrials dividedBoats
-divided = refl
+divided = ap (λ r. r .0) divided-answers
 
 forewarned : answer forewarnedBoats ≡ (true, true)
-unfolding unfoldedTrials forewarnedBoats
-forewarned = refl
+forewarned = ap (λ r. r .1) divided-answers
 
 witnessed : answer witnessedBoats ≡ (true, true)
-unfolding unfoldedTrials witnessedBoats
-witnessed = refl
+witnessed = ap (λ r. r .2) divided-answers
 
 short-stored : answer shortStoredBoats ≡ (false, false)
-unfolding unfoldedTrials shortStoredBoats
-short-stored = refl
+short-stored = ap (λ r. r .3) divided-answers
 
 short-outed : answer shortOutedBoats ≡ (false, false)
-unfolding unfoldedTrials shortOutedBoats
-short-outed = refl
+short-outed = ap (λ r. r .4) divided-answers
+
+same-stored : answer sameStoredBoats ≡ (true, true)
+same-stored = ap (λ r. r .5) divided-answers
+
+other-stored : answer otherStoredBoats ≡ (false, false)
+other-stored = ap (λ r. r .6) divided-answers
+
+unnoted : answer unnotedBoats ≡ (false, false)
+unnoted = ap (λ r. r .7) divided-answers
+
+-- ---- a boat that hears a signature which doesn't check
+
+unsigned-answers : _≡_ {A = Answer × Answer}
+    (answer unsignedBoats, answer refusedGuilty)
+    ((true, true), (true, true))
+unfolding unfoldedTrials unsignedBoats refusedGuilty
+unsigned-answers = refl
+
+unsigned : answer unsignedBoats ≡ (true, true)
+unsigned = ap (λ r. r .0) unsigned-answers
+
+refused-guilty : answer refusedGuilty ≡ (true, true)
+refused-guilty = ap (λ r. r .1) unsigned-answers
+
+-- ---- a boat that hears two SUBMITs of a seat
+
+evidence-answers : _≡_ {A = Answer × Answer × Answer}
+    (answer unsignedEvidence, answer equalEvidence, answer equalOldEvidence)
+    ((true, true), (true, true), (true, true))
+unfolding unfoldedTrials unsignedEvidence equalEvidence equalOldEvidence
+evidence-answers = refl
+
+unsigned-evidence : answer unsignedEvidence ≡ (true, true)
+unsigned-evidence = ap (λ r. r .0) evidence-answers
+
+equal-evidence : answer equalEvidence ≡ (true, true)
+equal-evidence = ap (λ r. r .1) evidence-answers
+
+equal-old-evidence : answer equalOldEvidence ≡ (true, true)
+equal-old-evidence = ap (λ r. r .2) evidence-answers
+
+-- ---- a boat that hears certificates of three layouts
+
+third-answers : _≡_ {A = Answer × Answer × Answer × Answer × Answer × Answer}
+    (answer thirdGuilty, answer thirdOnce, answer thirdNewForm, answer thirdAtMost, answer thirdReadable, answer thirdPays)
+    ((true, true), (true, true), (true, true), (true, true), (true, true), (true, true))
+unfolding unfoldedTrials thirdGuilty thirdOnce thirdNewForm thirdAtMost thirdReadable thirdPays
+third-answers = refl
+
+third-guilty : answer thirdGuilty ≡ (true, true)
+third-guilty = ap (λ r. r .0) third-answers
+
+third-once : answer thirdOnce ≡ (true, true)
+third-once = ap (λ r. r .1) third-answers
+
+third-new-form : answer thirdNewForm ≡ (true, true)
+third-new-form = ap (λ r. r .2) third-answers
+
+third-at-most : answer thirdAtMost ≡ (true, true)
+third-at-most = ap (λ r. r .3) third-answers
+
+third-readable : answer thirdReadable ≡ (true, true)
+third-readable = ap (λ r. r .4) third-answers
+
+third-pays : answer thirdPays ≡ (true, true)
+third-pays = ap (λ r. r .5) third-answers
+
+-- ---- a boat that loses power
+
+interrupted-answers : _≡_ {A = Answer × Answer}
+    (answer interruptedBoat, answer interruptedSending)
+    ((true, true), (true, true))
+unfolding unfoldedTrials interruptedBoat interruptedSending
+interrupted-answers = refl
+
+interrupted-once : answer interruptedBoat ≡ (true, true)
+interrupted-once = ap (λ r. r .0) interrupted-answers
+
+interrupted-sends-one : answer interruptedSending ≡ (true, true)
+interrupted-sends-one = ap (λ r. r .1) interrupted-answers
+
+-- ---- the other runs
 
 unheard : answer unheardBoats ≡ (false, false)
 unfolding unfoldedTrials unheardBoats
 unheard = refl
-
-unsigned : answer unsignedBoats ≡ (true, true)
-unfolding unfoldedTrials unsignedBoats
-unsigned = refl
 
 twice : answer twiceBoats ≡ (true, true)
 unfolding unfoldedTrials twiceBoats
@@ -52,18 +136,6 @@ kept-unsigned : answer keptUnsignedBoats ≡ (true, true)
 unfolding unfoldedTrials keptUnsignedBoats
 kept-unsigned = refl
 
-unsigned-evidence : answer unsignedEvidence ≡ (true, true)
-unfolding unfoldedTrials unsignedEvidence
-unsigned-evidence = refl
-
-equal-evidence : answer equalEvidence ≡ (true, true)
-unfolding unfoldedTrials equalEvidence
-equal-evidence = refl
-
-equal-old-evidence : answer equalOldEvidence ≡ (true, true)
-unfolding unfoldedTrials equalOldEvidence
-equal-old-evidence = refl
-
 once : answer answeringBoat ≡ (true, true)
 unfolding unfoldedTrials answeringBoat
 once = refl
@@ -76,45 +148,9 @@ possible-slow : answer slowBoat ≡ (true, true)
 unfolding unfoldedTrials slowBoat
 possible-slow = refl
 
-third-guilty : answer thirdGuilty ≡ (true, true)
-unfolding unfoldedTrials thirdGuilty
-third-guilty = refl
-
 own-third-guilty : answer ownThirdGuilty ≡ (true, true)
 unfolding unfoldedTrials ownThirdGuilty
 own-third-guilty = refl
-
-refused-guilty : answer refusedGuilty ≡ (true, true)
-unfolding unfoldedTrials refusedGuilty
-refused-guilty = refl
-
-third-once : answer thirdOnce ≡ (true, true)
-unfolding unfoldedTrials thirdOnce
-third-once = refl
-
-third-new-form : answer thirdNewForm ≡ (true, true)
-unfolding unfoldedTrials thirdNewForm
-third-new-form = refl
-
-third-at-most : answer thirdAtMost ≡ (true, true)
-unfolding unfoldedTrials thirdAtMost
-third-at-most = refl
-
-third-readable : answer thirdReadable ≡ (true, true)
-unfolding unfoldedTrials thirdReadable
-third-readable = refl
-
-third-pays : answer thirdPays ≡ (true, true)
-unfolding unfoldedTrials thirdPays
-third-pays = refl
-
-interrupted-once : answer interruptedBoat ≡ (true, true)
-unfolding unfoldedTrials interruptedBoat
-interrupted-once = refl
-
-interrupted-sends-one : answer interruptedSending ≡ (true, true)
-unfolding unfoldedTrials interruptedSending
-interrupted-sends-one = refl
 
 newest : answer newestBoats ≡ (true, true)
 unfolding unfoldedTrials newestBoats
@@ -124,18 +160,6 @@ older : answer olderBoats ≡ (false, false)
 unfolding unfoldedTrials olderBoats
 older = refl
 
-same-stored : answer sameStoredBoats ≡ (true, true)
-unfolding unfoldedTrials sameStoredBoats
-same-stored = refl
-
-other-stored : answer otherStoredBoats ≡ (false, false)
-unfolding unfoldedTrials otherStoredBoats
-other-stored = refl
-
-unnoted : answer unnotedBoats ≡ (false, false)
-unfolding unfoldedTrials unnotedBoats
-unnoted = refl
-
 hasty : answer hastyBoat ≡ (false, false)
 unfolding unfoldedTrials hastyBoat
 hasty = refl
@@ -143,6 +167,8 @@ hasty = refl
 blank : answer blankBoat ≡ (false, false)
 unfolding unfoldedTrials blankBoat
 blank = refl
+
+-- ---- the claims
 
 -- the claims of demand 1 and of item 3 on one boat, for the boats of their trials
 once-claimed : claimOf answeringBoat
