@@ -3,8 +3,8 @@
 use mathlib.Core.Path.{_≡_, refl, sym, subst, _∙_, ap, ap₂}
 use mathlib.Core.Bool.{Bool, true, false, cond}
 use mathlib.Core.List.{List, [], _∷_, map}
-use Prim.Native.Nat.{ℕ, zero, suc, _+_, _*_, _/_, _%_, _^_, _≤_, _<_, zero-le}
-use native.Mathlib.Nat.{pow-zero, pow-suc, pow-succ', pow-le-pow-left, pow-le-pow-right, one-le-pow, le-antisymm, le-trans, not-le-of-lt, zero-lt-suc, mul-zero, mul-one, one-mul, mul-left-comm, mul-mul-mul-comm, mul-le-mul-left, mul-lt-mul-of-pos-left, mod-lt, div-add-mod'}
+use Prim.Native.Nat.{ℕ, zero, suc, _+_, _*_, _/_, _^_, _≤_, _<_, zero-le}
+use native.Mathlib.Nat.{pow-zero, pow-suc, pow-succ', pow-le-pow-left, pow-le-pow-right, one-le-pow, le-antisymm, lt-of-le-of-lt, lt-of-not-le, not-le-of-lt, zero-lt-suc, mul-zero, mul-one, one-mul, mul-left-comm, mul-mul-mul-comm, mul-le-mul-left, mul-lt-mul-of-pos-left, mod-lt, div-add-mod'}
 use native.Mathlib.Numerals.{add-one}
 use native.Mathlib.Omega.{arith}
 use lib.Dec.{leb}
@@ -20,23 +20,21 @@ one-pow : (e : ℕ) → 1 ^ e ≡ 1
 one-pow zero = pow-zero 1
 one-pow (suc e) = pow-suc 1 e ∙ mul-one (1 ^ e) ∙ one-pow e
 
-mul-pow : (x y e : ℕ) → (x * y) ^ e ≡ x ^ e * y ^ e
+pub mul-pow : (x y e : ℕ) → (x * y) ^ e ≡ x ^ e * y ^ e
 mul-pow x y zero = pow-zero (x * y) ∙ sym (ap₂ (λ (a b : ℕ). a * b) (pow-zero x) (pow-zero y))
 mul-pow x y (suc e) =
     pow-suc (x * y) e ∙ ap (λ (z : ℕ). z * (x * y)) (mul-pow x y e) ∙ mul-mul-mul-comm (x ^ e) (y ^ e) x y
     ∙ sym (ap₂ (λ (a b : ℕ). a * b) (pow-suc x e) (pow-suc y e))
 
+-- the number with the smaller power is the smaller one
+pub base-lt : (e : ℕ) {x y : ℕ} → x ^ e < y ^ e → x < y
+base-lt e h = lt-of-not-le (λ p. not-le-of-lt h (pow-le-pow-left p e))
+
 -- ---- roots
 
 -- what isn't above the one root isn't above the other
 root-le : (e m x y : ℕ) → x ^ e ≤ m → m < (y + 1) ^ e → x ≤ y
-root-le e m x y h k = decided (leb x y) refl
-  where
-    decided : (b : Bool) → leb x y ≡ b → x ≤ y
-    decided true p = leb-true x y p
-    decided false p =
-        let above : y < x = leb-false x y p in
-        absurd (not-le-of-lt k (le-trans (pow-le-pow-left (omega arith) e) h))
+root-le e m x y h k = omega (arith, base-lt e {x = x} {y = y + 1} (lt-of-le-of-lt h k))
 
 -- a number has one root
 pub root-unique : (e m x y : ℕ) → IsRoot e m x → IsRoot e m y → x ≡ y
@@ -95,6 +93,12 @@ fraction-is e p h = record {
   rounded = subst (IsRoot e (p * (2 ^ 32) ^ e)) (sym (div-add-mod' (root e p 32) (2 ^ 32))) (root-is e p 32 h);
   bits = mod-lt (root e p 32) (omega arith);
 }
+
+-- and nothing else is
+pub first-bits-unique : (e p x y : ℕ) → FirstBits e p x → FirstBits e p y → x ≡ y
+first-bits-unique e p x y f g =
+    let same : f .whole * 2 ^ 32 + x ≡ g .whole * 2 ^ 32 + y = root-unique e (p * (2 ^ 32) ^ e) _ _ (f .rounded) (g .rounded) in
+    omega (arith, same, f .bits, g .bits)
 
 -- "the first sixty-four prime numbers", by computation, a constant for each, and eight words of the initial hash value
 pub sixty-four : (length primes ≡ 64) × (length constants ≡ 64) × (length initial ≡ 8)

@@ -1,10 +1,9 @@
 -- Bytes as lists of numbers.
 --
 -- `Octets` has the definitions on buffers, numbers and words, `Strings` those on whole byte strings. `OctetsLaws` and
--- `StringsLaws` have their laws, `WriteLaws` those of writes, `TableLaws` the law of a rule for all entries of a table.
+-- `StringsLaws` have their laws, `WriteLaws` those of writes.
 pub mod Octets
 pub mod OctetsLaws
 pub mod Strings
 pub mod StringsLaws
 pub mod WriteLaws
-pub mod TableLaws

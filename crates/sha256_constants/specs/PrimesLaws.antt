@@ -1,20 +1,19 @@
 -- Laws of the primes, and of the list of constants as a loop fills it.
-use mathlib.Core.Path.{_≡_, refl, sym, subst, _∙_, ap, ap₂}
-use mathlib.Core.Bool.{Bool, true, false, not, cond}
+use mathlib.Core.Path.{_≡_, refl, sym, subst, _∙_, ap}
+use mathlib.Core.Bool.{Bool, true, false, cond, _&&_, Bool·beq}
+use mathlib.Core.Logic.{⊎-elim}
 use mathlib.Core.List.{List, [], _∷_, _++_, map, map-append}
-use Prim.Native.Nat.{ℕ, zero, suc, _+_, _-_, _*_, _/_, _%_, _^_, _≤_, _<_}
-use native.Mathlib.Nat.{le-refl, le-trans, add-zero, add-suc}
+use Prim.Native.Nat.{ℕ, zero, suc, _+_, _-_, _%_, _≤_, _<_}
+use native.Mathlib.Nat.{le-refl, le-trans, le-of-suc-le-suc, not-suc-le-zero, eq-or-lt-of-le, add-zero, add-suc}
 use native.Mathlib.Numerals.{add-one}
 use native.Mathlib.Omega.{arith}
 use lib.Dec.{T, eqb}
 use borrow.Author.Tests.{ne-eqb}
-use lib.Pow.{shl-exact}
-use lib.ListN.{length, getD, take, set, replicate, length-append, length-replicate}
+use lib.ListN.{length, take, set, length-append}
 use lib.Seq.{take-length, take-suc-set}
-use Rattle.octets.specs.TableLaws.{every, every-at}
 use Rattle.fips180.specs.Constants.{constants}
-use Rattle.fips180.specs.Rule.{divided, prime, primesBelow, primes, IsRoot, root, fraction}
-use Rattle.fips180.specs.RuleLaws.{root-unique, root-is, sixty-four}
+use Rattle.fips180.specs.Rule.{divided, prime, primesBelow, primes, fraction}
+use Rattle.fips180.specs.RuleLaws.{sixty-four}
 
 -- ---- trial division
 
@@ -23,50 +22,49 @@ unfoldable pub tried : ℕ → ℕ → ℕ → Bool
 tried n zero d = true
 tried n (suc k) d = cond (eqb (n % d) 0) (eqb n d) (tried n k (d + 1))
 
-abbrev alike : Bool → Bool → Bool
-alike a b = cond a b (not b)
+-- whether this tells the primes of the numbers from 2 to n + 1
+tells : ℕ → Bool
+tells zero = true
+tells (suc n) = Bool·beq (tried (n + 2) 16 2) (prime (n + 2)) && tells n
 
-alike-same : (a b : Bool) → T (alike a b) → a ≡ b
-alike-same true true h = refl
-alike-same true false h = absurd h
-alike-same false true h = absurd h
-alike-same false false h = refl
+beq-and : (a b c : Bool) → T (Bool·beq a b && c) → (a ≡ b) × T c
+beq-and true true c t = (refl, t)
+beq-and true false c t = absurd t
+beq-and false true c t = absurd t
+beq-and false false c t = (refl, t)
+
+tells-at : (n : ℕ) → T (tells n) → (i : ℕ) → i < n → tried (i + 2) 16 2 ≡ prime (i + 2)
+unfolding tells
+tells-at zero t i h = absurd (not-suc-le-zero h)
+tells-at (suc n) t i h =
+    let here = beq-and (tried (n + 2) 16 2) (prime (n + 2)) (tells n) t in
+    ⊎-elim (λ (q : i ≡ n). rw q (here .0)) (λ (l : i < n). tells-at n (here .1) i l) (eq-or-lt-of-le (le-of-suc-le-suc h))
 
 -- below 312 it is enough to try the numbers from 2 to 17, by computation
-abbrev all : List ℕ
-all = replicate 310 0
-
-abbrev test : ℕ → ℕ → Bool
-test i x = alike (tried (i + 2) 16 2) (prime (i + 2))
-
-enough : T (every test 0 all)
-unfolding tried prime divided
-enough = tt
-
-tried-is-prime : (n : ℕ) → 2 ≤ n → n < 312 → tried n 16 2 ≡ prime n
+pub tried-is-prime : (n : ℕ) → 2 ≤ n → n < 312 → tried n 16 2 ≡ prime n
+unfolding tells tried prime divided
 tried-is-prime n h k =
     let back : n - 2 + 2 ≡ n = omega arith in
-    let here : n - 2 < 310 = omega arith in
-    subst (λ (m : ℕ). tried m 16 2 ≡ prime m) back (alike-same _ _ (every-at test all enough (n - 2) (subst (λ (m : ℕ). n - 2 < m) (sym (length-replicate {A = ℕ} 310 0)) here)))
+    subst (λ (m : ℕ). tried m 16 2 ≡ prime m) back (tells-at 310 tt (n - 2) (omega arith))
 
 -- a pass of the loop: d divides n
-pub trial-ends : (n d : ℕ) → 2 ≤ n → n < 312 → d < 18 → tried n (18 - d) d ≡ tried n 16 2 → n % d ≡ 0 → eqb n d ≡ prime n
+pub trial-ends : (n d : ℕ) {b : Bool} → d < 18 → tried n (18 - d) d ≡ b → n % d ≡ 0 → eqb n d ≡ b
 unfolding tried
-trial-ends n d h k l e q =
+trial-ends n d l e q =
     let left : 18 - d ≡ suc (17 - d) = omega arith in
-    sym (subst (λ (c : ℕ). tried n c d ≡ eqb n d) (sym left) (rw q refl)) ∙ e ∙ tried-is-prime n h k
+    sym (subst (λ (c : ℕ). tried n c d ≡ eqb n d) (sym left) (rw q refl)) ∙ e
 
 -- d doesn't
-pub trial-goes-on : (n d : ℕ) → d < 18 → tried n (18 - d) d ≡ tried n 16 2 → (n % d ≡ 0 → ⊥) → tried n (18 - (d + 1)) (d + 1) ≡ tried n 16 2
+pub trial-goes-on : (n d : ℕ) {b : Bool} → d < 18 → tried n (18 - d) d ≡ b → (n % d ≡ 0 → ⊥) → tried n (18 - (d + 1)) (d + 1) ≡ b
 unfolding tried
 trial-goes-on n d l e q =
     let left : 18 - d ≡ suc (18 - (d + 1)) = omega arith in
     sym (subst (λ (c : ℕ). tried n c d ≡ tried n (18 - (d + 1)) (d + 1)) (sym left) (rw (ne-eqb (n % d) 0 q) refl)) ∙ e
 
 -- none does
-pub trial-done : (n d : ℕ) → 2 ≤ n → n < 312 → d ≡ 18 → tried n (18 - d) d ≡ tried n 16 2 → true ≡ prime n
+pub trial-done : (n d : ℕ) {b : Bool} → d ≡ 18 → tried n (18 - d) d ≡ b → true ≡ b
 unfolding tried
-trial-done n d h k l e = subst (λ (c : ℕ). tried n (18 - c) c ≡ tried n 16 2) l e ∙ tried-is-prime n h k
+trial-done n d {b} l e = subst (λ (c : ℕ). tried n (18 - c) c ≡ b) l e
 
 -- ---- the constants, as a loop fills them
 
@@ -126,12 +124,3 @@ filled-done n count k f e l =
     let full : count ≡ length k = f .counted ∙ ap (λ (m : ℕ). length (primesBelow m)) e ∙ sixty-four .0 ∙ sym l in
     sym (take-length k) ∙ subst (λ (c : ℕ). take c k ≡ map (fraction 3) (primesBelow n)) full (f .constantsOf)
     ∙ ap (λ (m : ℕ). map (fraction 3) (primesBelow m)) e
-
--- ---- the fraction, from the root with 32 bits after the point
-
-pub fraction-of : (p d : ℕ) → p < 2 ^ 9 → IsRoot 3 (p * 2 ^ 48 % 2 ^ 64 * 65536 ^ 3) d → d % 2 ^ 32 ≡ fraction 3 p
-unfolding fraction
-fraction-of p d h r =
-    let all : p * 2 ^ 48 % 2 ^ 64 * 65536 ^ 3 ≡ p * (2 ^ 32) ^ 3 = ap (λ (m : ℕ). m * 65536 ^ 3) (shl-exact 9 48 64 h (omega arith)) ∙ omega arith in
-    ap (λ (x : ℕ). x % 2 ^ 32)
-    (root-unique 3 (p * (2 ^ 32) ^ 3) d (root 3 p 32) (subst (λ (m : ℕ). IsRoot 3 m d) all r) (root-is 3 p 32 (omega arith)))

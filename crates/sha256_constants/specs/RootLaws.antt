@@ -1,25 +1,20 @@
 -- Cube roots, rounded down, as the code finds them.
-use mathlib.Core.Path.{_≡_, refl, sym, _∙_}
+use mathlib.Core.Path.{_≡_, refl, sym, subst, _∙_, ap}
 use mathlib.Core.Bool.{Bool, true, false}
 use mathlib.Core.Logic.{_↔_}
-use Prim.Native.Nat.{ℕ, _+_, _*_, _/_, _-_, _^_, _≤_, _<_}
-use native.Mathlib.Nat.{add-assoc, one-mul, pow-zero, pow-suc, pow-le-pow-left, one-le-pow, le-of-lt, lt-of-le-of-lt, lt-of-not-le, not-le-of-lt, mul-le-mul, mul-le-mul-left, mul-le-mul-right, mul-lt-mul-of-pos-right, div-le-self, div-le-of-le-mul, div-mul-le-self, lt-div-mul-add}
+use Prim.Native.Nat.{ℕ, _+_, _*_, _/_, _-_, _%_, _^_, _≤_, _<_}
+use native.Mathlib.Nat.{add-assoc, one-mul, pow-zero, pow-suc, one-le-pow, le-of-lt, lt-of-le-of-lt, lt-of-not-le, not-le-of-lt, mul-le-mul, mul-le-mul-left, mul-le-mul-right, mul-lt-mul-of-pos-right, div-le-self, div-le-of-le-mul, div-mul-le-self, lt-div-mul-add}
 use native.Mathlib.Omega.{arith, by-contra}
 use borrow.Author.Tests.{le-leb, lt-leb, leb-true, leb-false}
 use lib.Dec.{leb}
-use Rattle.fips180.specs.Rule.{IsRoot}
+use lib.Pow.{shl-exact}
+use Rattle.fips180.specs.Rule.{IsRoot, root, fraction}
+use Rattle.fips180.specs.RuleLaws.{mul-pow, base-lt, root-unique, root-is}
 
 -- ---- cubes
 
 pub cube : (x : ℕ) → x ^ 3 ≡ x * x * x
 cube x = rw (pow-suc x 2, pow-suc x 1, pow-suc x 0, pow-zero x, one-mul x)
-
-cube-mul : (x y : ℕ) → (x * y) ^ 3 ≡ x ^ 3 * y ^ 3
-cube-mul x y = rw (cube (x * y), cube x, cube y) (omega arith)
-
--- the number with the smaller power is the smaller one
-base-lt : (e : ℕ) {x y : ℕ} → x ^ e < y ^ e → x < y
-base-lt e h = lt-of-not-le (λ p. not-le-of-lt h (pow-le-pow-left p e))
 
 -- the cube root of a number below 2 to the 57 is below 2 to the 19
 pub root-lt : {x m : ℕ} → x ^ 3 ≤ m → m < 2 ^ 57 → x < 2 ^ 19
@@ -92,7 +87,7 @@ module _ {m a : ℕ} (root : IsRoot 3 m a) where
   -- a d that fits is below s
   pub digit-lt : {s d : ℕ} → 1 ≤ s → (a * s + d) ^ 3 ≤ m * s ^ 3 → d < s
   digit-lt {s} {d} h p =
-      omega (arith, base-lt 3 {x = a * s + d} {y = (a + 1) * s} (lt-of-le-of-lt p (rw cube-mul (mul-lt-mul-of-pos-right (root .above) (one-le-pow 3 s h)))))
+      omega (arith, base-lt 3 {x = a * s + d} {y = (a + 1) * s} (lt-of-le-of-lt p (rw (mul-pow (a + 1) s 3) (mul-lt-mul-of-pos-right (root .above) (one-le-pow 3 s h)))))
 
   -- t says whether d + 1 fits
   module _ (s d : ℕ) {t : Bool} (e : t ≡ leb ((a * s + (d + 1)) ^ 3) ((a ^ 3 + (m - a * a * a)) * s ^ 3)) where
@@ -110,3 +105,12 @@ longer-sizes {m} {a} h =
     let aa : a * a ≤ 2 ^ 38 = mul-le-mul (le-of-lt low) (le-of-lt low) in
     let rest : m - a * a * a < 2 ^ 40 = omega (arith, rest-lt (h .0)) in
     (low, aa, cube-le (h .0), rest, mul-le-mul (le-of-lt rest) (h .3), mul-le-mul (le-of-lt low) (h .3))
+
+-- ---- the fraction, from the root with 32 bits after the point
+
+pub fraction-of : (p d : ℕ) → p < 2 ^ 9 → IsRoot 3 (p * 2 ^ 48 % 2 ^ 64 * 65536 ^ 3) d → d % 2 ^ 32 ≡ fraction 3 p
+unfolding fraction
+fraction-of p d h r =
+    let whole-number : p * 2 ^ 48 % 2 ^ 64 * 65536 ^ 3 ≡ p * (2 ^ 32) ^ 3 = ap (λ (m : ℕ). m * 65536 ^ 3) (shl-exact 9 48 64 h (omega arith)) ∙ omega arith in
+    ap (λ (x : ℕ). x % 2 ^ 32)
+    (root-unique 3 (p * (2 ^ 32) ^ 3) d (root 3 p 32) (subst (λ (m : ℕ). IsRoot 3 m d) whole-number r) (root-is 3 p 32 (omega arith)))

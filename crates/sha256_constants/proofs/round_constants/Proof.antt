@@ -21,34 +21,10 @@ looped c = c .before .before
 
 -- a place for one more
 has-room : (c : tie.After-prime Inv-loop μ-loop) → c .prime .result ≡ true → looped c .loop .count < 64
-has-room c t = filled-room (looped c .loop .n) (looped c .loop .count) (looped c .loop .k) (looped c .loop .inv .3) (omega arith) (sym (c .prime .ensures) ∙ t)
+has-room c t = filled-room _ _ _ (looped c .loop .inv .3) (omega arith) (sym (c .prime .ensures) ∙ t)
 
 loop-holds : tie.Need-loop-holds Inv-loop μ-loop
 loop-holds c = (omega arith, omega arith, search needs, filled-none _, omega arith)
-
-prime-requires : tie.Need-prime-requires Inv-loop μ-loop
-prime-requires c κs = search needs
-
-climbed-requires : tie.Need-climbed-requires Inv-loop μ-loop
-climbed-requires c κs = search needs
-
-fraction-requires : tie.Need-fraction-requires Inv-loop μ-loop
-fraction-requires c κs = search needs
-
-mul-k : tie.Need-mul-k Inv-loop μ-loop
-mul-k c = omega (arith, has-room (c .before .before .before) (c .before .before .if1 .taken))
-
-array-write-k : tie.Need-array-write-k Inv-loop μ-loop
-array-write-k c = omega (arith, has-room (c .before .before .before) (c .before .before .if1 .taken))
-
-add-count : tie.Need-add-count Inv-loop μ-loop
-add-count c = omega (arith, has-room (c .before .before .before) (c .before .before .if1 .taken))
-
-add-n : tie.Need-add-n Inv-loop μ-loop
-add-n c = search needs
-
-loop-less : tie.Need-loop-less Inv-loop μ-loop
-loop-less c = search needs
 
 loop-again : tie.Need-loop-again Inv-loop μ-loop
 loop-again c =
@@ -58,16 +34,11 @@ loop-again c =
     (λ w.
     let room : loop .count < length (loop .k) = omega (arith, has-room tested (w .0 .taken)) in
     rw (w .3, w .4, w .5)
-    (omega arith, omega arith, search needs, filled-more (loop .n) (loop .count) (w .2 .result) (loop .k) (loop .inv .3) room (sym (tested .prime .ensures) ∙ w .0 .taken) (w .2 .ensures), omega (arith, w .1 .ensures .below)))
+    (omega arith, omega arith, search needs, filled-more _ _ _ _ (loop .inv .3) room (sym (tested .prime .ensures) ∙ w .0 .taken) (w .2 .ensures), omega (arith, w .1 .ensures .below)))
     (λ w.
     rw (w .1, w .2, w .3)
-    (omega arith, omega arith, loop .inv .2, filled-same (loop .n) (loop .count) (loop .k) (loop .inv .3) (sym (tested .prime .ensures) ∙ w .0 .left), omega arith))
+    (omega arith, omega arith, loop .inv .2, filled-same _ _ _ (loop .inv .3) (sym (tested .prime .ensures) ∙ w .0 .left), omega arith))
     (c .if1 .came)
-
-returns : tie.Need-returns Inv-loop μ-loop
-returns c =
-    let loop = c .before .loop in
-    filled-done (loop .n) (loop .count) (loop .k) (loop .inv .3) (omega arith) (loop .inv .2)
 
 pub round-constants-spec : {M : Type 1} → statement M
 round-constants-spec =
@@ -76,13 +47,13 @@ round-constants-spec =
     Inv-loop
     μ-loop
     loop-holds
-    prime-requires
-    climbed-requires
-    fraction-requires
-    mul-k
-    array-write-k
-    add-count
-    add-n
-    loop-less
+    (λ c κs. search needs)
+    (λ c κs. search needs)
+    (λ c κs. search needs)
+    (λ c. omega (arith, has-room (c .before .before .before) (c .before .before .if1 .taken)))
+    (λ c. omega (arith, has-room (c .before .before .before) (c .before .before .if1 .taken)))
+    (λ c. omega (arith, has-room (c .before .before .before) (c .before .before .if1 .taken)))
+    (λ c. search needs)
+    (λ c. search needs)
     loop-again
-    returns)
+    (λ c. filled-done _ _ _ (c .before .loop .inv .3) (omega arith) (c .before .loop .inv .2)))
