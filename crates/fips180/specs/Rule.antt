@@ -30,23 +30,23 @@ primes = primesBelow 312
 
 -- ---- roots
 
--- x is the e-th root of m, rounded down
-pub record IsRoot (e m x : ℕ) : Type 0 where
+-- x is the integer e-th root of m: the root, rounded down
+pub record IsIntegerRoot (e m x : ℕ) : Type 0 where
   pub below : x ^ e ≤ m
   pub above : m < (x + 1) ^ e
 
--- the largest number up to n whose e-th power is at most p
-unfoldable pub wholeUpTo : ℕ → ℕ → ℕ → ℕ
-wholeUpTo e p zero = 0
-wholeUpTo e p (suc n) = cond (leb (suc n ^ e) p) (suc n) (wholeUpTo e p n)
+-- the largest number up to n whose e-th power is at most p, for e from 1 on
+unfoldable pub largestUpTo : ℕ → ℕ → ℕ → ℕ
+largestUpTo e p zero = 0
+largestUpTo e p (suc n) = cond (leb (suc n ^ e) p) (suc n) (largestUpTo e p n)
 
 -- x + 1 if its e-th power is at most m, x otherwise
 unfoldable pub orNext : ℕ → ℕ → ℕ → ℕ
 orNext e m x = cond (leb ((x + 1) ^ e) m) (x + 1) x
 
--- the e-th root of p cut off after b bits behind the point, times 2 to the b; found bit by bit
+-- the e-th root of p, cut off b bits after the point, times 2 to the b; found bit by bit
 unfoldable pub root : ℕ → ℕ → ℕ → ℕ
-root e p zero = wholeUpTo e p p
+root e p zero = largestUpTo e p p
 root e p (suc b) = orNext e (p * (2 ^ suc b) ^ e) (2 * root e p b)
 
 -- the first 32 bits of the fractional part of the e-th root of p
@@ -54,8 +54,8 @@ unfoldable pub fraction : ℕ → ℕ → ℕ
 fraction e p = root e p 32 % 2 ^ 32
 
 -- x is the first 32 bits of the fractional part of the e-th root of p, said without a way to find it: with `whole` before the
--- point, both are that root times 2 to the 32, rounded down
+-- point, whole * 2 ^ 32 + x is that root times 2 to the 32, rounded down
 pub record FirstBits (e p x : ℕ) : Type 0 where
   pub whole : ℕ
-  pub rounded : IsRoot e (p * (2 ^ 32) ^ e) (whole * 2 ^ 32 + x)
+  pub rounded : IsIntegerRoot e (p * (2 ^ 32) ^ e) (whole * 2 ^ 32 + x)
   pub bits : x < 2 ^ 32

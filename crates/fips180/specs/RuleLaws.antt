@@ -12,7 +12,7 @@ use lib.ListN.{length, getD, take, List·getD-map}
 use lib.Seq.{getD-take}
 use borrow.Author.Tests.{leb-true, leb-false}
 use Rattle.fips180.specs.Constants.{constants, initial}
-use Rattle.fips180.specs.Rule.{divided, prime, primesBelow, primes, IsRoot, wholeUpTo, orNext, root, fraction, FirstBits}
+use Rattle.fips180.specs.Rule.{divided, prime, primesBelow, primes, IsIntegerRoot, largestUpTo, orNext, root, fraction, FirstBits}
 
 -- ---- powers
 
@@ -37,20 +37,20 @@ root-le : (e m x y : ℕ) → x ^ e ≤ m → m < (y + 1) ^ e → x ≤ y
 root-le e m x y h k = omega (arith, base-lt e {x = x} {y = y + 1} (lt-of-le-of-lt h k))
 
 -- a number has one root
-pub root-unique : (e m x y : ℕ) → IsRoot e m x → IsRoot e m y → x ≡ y
+pub root-unique : (e m x y : ℕ) → IsIntegerRoot e m x → IsIntegerRoot e m y → x ≡ y
 root-unique e m x y p q = le-antisymm (root-le e m x y (p .below) (q .above)) (root-le e m y x (q .below) (p .above))
 
-whole-is : (e p n : ℕ) → 1 ≤ e → p < (n + 1) ^ e → IsRoot e p (wholeUpTo e p n)
-unfolding wholeUpTo
+whole-is : (e p n : ℕ) → 1 ≤ e → p < (n + 1) ^ e → IsIntegerRoot e p (largestUpTo e p n)
+unfolding largestUpTo
 whole-is (suc e) p zero h k = record { below = subst (λ (x : ℕ). x ≤ p) (sym (pow-suc 0 e ∙ mul-zero (0 ^ e))) zero-le; above = k }
 whole-is e p (suc n) h k = decided (leb (suc n ^ e) p) refl (whole-is e p n h)
   where
-    decided : (b : Bool) → leb (suc n ^ e) p ≡ b → (p < (n + 1) ^ e → IsRoot e p (wholeUpTo e p n)) → IsRoot e p (cond b (suc n) (wholeUpTo e p n))
+    decided : (b : Bool) → leb (suc n ^ e) p ≡ b → (p < (n + 1) ^ e → IsIntegerRoot e p (largestUpTo e p n)) → IsIntegerRoot e p (cond b (suc n) (largestUpTo e p n))
     decided true q below = record { below = leb-true (suc n ^ e) p q; above = k }
     decided false q below = below (subst (λ (x : ℕ). p < x ^ e) (sym (add-one n)) (leb-false (suc n ^ e) p q))
 
 -- one bit more
-next-is : (e m n x : ℕ) → n ≡ 2 ^ e * m → IsRoot e m x → IsRoot e n (orNext e n (2 * x))
+next-is : (e m n x : ℕ) → n ≡ 2 ^ e * m → IsIntegerRoot e m x → IsIntegerRoot e n (orNext e n (2 * x))
 unfolding orNext
 next-is e m n x q r = decided (leb ((2 * x + 1) ^ e) n) refl
   where
@@ -62,7 +62,7 @@ next-is e m n x q r = decided (leb ((2 * x + 1) ^ e) n) refl
         let double : 2 * x + 1 + 1 ≡ 2 * (x + 1) = omega arith in
         rw (q, double, mul-pow 2 (x + 1) e) (mul-lt-mul-of-pos-left (r .above) (one-le-pow e 2 (zero-lt-suc 1)))
 
-    decided : (b : Bool) → leb ((2 * x + 1) ^ e) n ≡ b → IsRoot e n (cond b (2 * x + 1) (2 * x))
+    decided : (b : Bool) → leb ((2 * x + 1) ^ e) n ≡ b → IsIntegerRoot e n (cond b (2 * x + 1) (2 * x))
     decided true p = record { below = leb-true ((2 * x + 1) ^ e) n p; above = most }
     decided false p = record { below = least; above = leb-false ((2 * x + 1) ^ e) n p }
 
@@ -73,10 +73,10 @@ power-above e p h =
     omega arith
 
 -- `root` is the root, for any exponent and any count of bits
-pub root-is : (e p b : ℕ) → 1 ≤ e → IsRoot e (p * (2 ^ b) ^ e) (root e p b)
+pub root-is : (e p b : ℕ) → 1 ≤ e → IsIntegerRoot e (p * (2 ^ b) ^ e) (root e p b)
 unfolding root
 root-is e p zero h =
-    subst (λ (m : ℕ). IsRoot e m (wholeUpTo e p p)) (sym (ap (λ (x : ℕ). p * x) (one-pow e) ∙ mul-one p))
+    subst (λ (m : ℕ). IsIntegerRoot e m (largestUpTo e p p)) (sym (ap (λ (x : ℕ). p * x) (one-pow e) ∙ mul-one p))
     (whole-is e p p h (power-above e p h))
 root-is e p (suc b) h =
     next-is e (p * (2 ^ b) ^ e) (p * (2 ^ suc b) ^ e) (root e p b)
@@ -90,7 +90,7 @@ pub fraction-is : (e p : ℕ) → 1 ≤ e → FirstBits e p (fraction e p)
 unfolding fraction
 fraction-is e p h = record {
   whole = root e p 32 / 2 ^ 32;
-  rounded = subst (IsRoot e (p * (2 ^ 32) ^ e)) (sym (div-add-mod' (root e p 32) (2 ^ 32))) (root-is e p 32 h);
+  rounded = subst (IsIntegerRoot e (p * (2 ^ 32) ^ e)) (sym (div-add-mod' (root e p 32) (2 ^ 32))) (root-is e p 32 h);
   bits = mod-lt (root e p 32) (omega arith);
 }
 
@@ -106,7 +106,7 @@ unfolding primes primesBelow prime divided constants initial
 sixty-four = (refl, refl, refl)
 
 constant-of : (t : ℕ) → getD constants t 0 ≡ fraction 3 (getD primes t 0)
-unfolding constants fraction root orNext wholeUpTo
+unfolding constants fraction root orNext largestUpTo
 constant-of t = List·getD-map (fraction 3) primes t 0
 
 pub constants-rule : (t : ℕ) → t < length constants → FirstBits 3 (getD primes t 0) (getD constants t 0)
@@ -114,11 +114,11 @@ constants-rule t h = subst (FirstBits 3 (getD primes t 0)) (sym (constant-of t))
 
 -- the initial hash value by the rule, by computation
 initial-fractions : initial ≡ map (fraction 2) (take 8 primes)
-unfolding divided prime primesBelow primes wholeUpTo orNext root fraction initial
+unfolding divided prime primesBelow primes largestUpTo orNext root fraction initial
 initial-fractions = refl
 
 initial-of : (t : ℕ) → t < 8 → getD initial t 0 ≡ fraction 2 (getD primes t 0)
-unfolding fraction root orNext wholeUpTo
+unfolding fraction root orNext largestUpTo
 initial-of t h =
     ap (λ (l : List ℕ). getD l t 0) initial-fractions ∙ List·getD-map (fraction 2) (take 8 primes) t 0
     ∙ ap (fraction 2) (getD-take 8 primes t 0 h)
@@ -129,7 +129,7 @@ initial-rule t h =
     (fraction-is 2 (getD primes t 0) (omega arith))
 
 -- the standard's own list of the round constants, by computation
-pub the-standards : constants ≡
+pub constants-are-the-standards : constants ≡
     0x428a2f98 ∷ 0x71374491 ∷ 0xb5c0fbcf ∷ 0xe9b5dba5 ∷ 0x3956c25b ∷ 0x59f111f1 ∷ 0x923f82a4 ∷ 0xab1c5ed5 ∷
     0xd807aa98 ∷ 0x12835b01 ∷ 0x243185be ∷ 0x550c7dc3 ∷ 0x72be5d74 ∷ 0x80deb1fe ∷ 0x9bdc06a7 ∷ 0xc19bf174 ∷
     0xe49b69c1 ∷ 0xefbe4786 ∷ 0x0fc19dc6 ∷ 0x240ca1cc ∷ 0x2de92c6f ∷ 0x4a7484aa ∷ 0x5cb0a9dc ∷ 0x76f988da ∷
@@ -138,5 +138,5 @@ pub the-standards : constants ≡
     0xa2bfe8a1 ∷ 0xa81a664b ∷ 0xc24b8b70 ∷ 0xc76c51a3 ∷ 0xd192e819 ∷ 0xd6990624 ∷ 0xf40e3585 ∷ 0x106aa070 ∷
     0x19a4c116 ∷ 0x1e376c08 ∷ 0x2748774c ∷ 0x34b0bcb5 ∷ 0x391c0cb3 ∷ 0x4ed8aa4a ∷ 0x5b9cca4f ∷ 0x682e6ff3 ∷
     0x748f82ee ∷ 0x78a5636f ∷ 0x84c87814 ∷ 0x8cc70208 ∷ 0x90befffa ∷ 0xa4506ceb ∷ 0xbef9a3f7 ∷ 0xc67178f2 ∷ []
-unfolding divided prime primesBelow primes wholeUpTo orNext root fraction constants
-the-standards = refl
+unfolding divided prime primesBelow primes largestUpTo orNext root fraction constants
+constants-are-the-standards = refl

@@ -77,17 +77,17 @@ pub filled-none : (k : List ℕ) → Filled 2 0 k
 unfolding primesBelow prime divided
 filled-none k = record { counted = refl; constantsOf = refl }
 
-one-more : (n : ℕ) → length (primesBelow n) ≤ length (primesBelow (suc n))
+count-rises : (n : ℕ) → length (primesBelow n) ≤ length (primesBelow (suc n))
 unfolding primesBelow
-one-more n = decided (prime n)
+count-rises n = decided (prime n)
   where
     decided : (b : Bool) → length (primesBelow n) ≤ length (cond b (primesBelow n ++ (n ∷ [])) (primesBelow n))
     decided true = rw (length-append (primesBelow n) (n ∷ [])) (omega arith)
     decided false = le-refl _
 
-more : (n d : ℕ) → length (primesBelow n) ≤ length (primesBelow (n + d))
-more n zero = rw (add-zero n) (le-refl _)
-more n (suc d) = rw (add-suc n d) (le-trans (more n d) (one-more (n + d)))
+count-rises-by : (n d : ℕ) → length (primesBelow n) ≤ length (primesBelow (n + d))
+count-rises-by n zero = rw (add-zero n) (le-refl _)
+count-rises-by n (suc d) = rw (add-suc n d) (le-trans (count-rises-by n d) (count-rises (n + d)))
 
 next-prime : (n : ℕ) → prime n ≡ true → primesBelow (n + 1) ≡ primesBelow n ++ (n ∷ [])
 unfolding primesBelow
@@ -98,7 +98,7 @@ pub filled-room : (n count : ℕ) (k : List ℕ) → Filled n count k → n < 31
 unfolding primes
 filled-room n count k f h p =
     let last : n + 1 + (311 - n) ≡ 312 = omega arith in
-    let most : length (primesBelow (n + 1)) ≤ 64 = subst (λ (m : ℕ). length (primesBelow (n + 1)) ≤ m) (ap (λ (m : ℕ). length (primesBelow m)) last ∙ sixty-four .0) (more (n + 1) (311 - n)) in
+    let most : length (primesBelow (n + 1)) ≤ 64 = subst (λ (m : ℕ). length (primesBelow (n + 1)) ≤ m) (ap (λ (m : ℕ). length (primesBelow m)) last ∙ sixty-four .0) (count-rises-by (n + 1) (311 - n)) in
     let one : length (primesBelow (n + 1)) ≡ length (primesBelow n) + 1 = ap length (next-prime n p) ∙ length-append (primesBelow n) (n ∷ []) in
     let counted : count ≡ length (primesBelow n) = f .counted in
     omega arith

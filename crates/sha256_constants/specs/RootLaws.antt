@@ -8,7 +8,7 @@ use native.Mathlib.Omega.{arith, by-contra}
 use borrow.Author.Tests.{le-leb, lt-leb, leb-true, leb-false}
 use lib.Dec.{leb}
 use lib.Pow.{shl-exact}
-use Rattle.fips180.specs.Rule.{IsRoot, root, fraction}
+use Rattle.fips180.specs.Rule.{IsIntegerRoot, root, fraction}
 use Rattle.fips180.specs.RuleLaws.{mul-pow, base-lt, root-unique, root-is}
 
 -- ---- cubes
@@ -55,7 +55,7 @@ pub fits-sizes : {a rest s d : ℕ} → (a < 2 ^ 19) × (rest < 2 ^ 40) × (1 �
 fits-sizes {a} {rest} {s} {d} h =
     let dd : d * d ≤ 2 ^ 32 = mul-le-mul (h .4) (h .4) in
     let ddd : d * d * d ≤ 2 ^ 48 = mul-le-mul dd (h .4) in
-    let cube : (d * d * d + (s - 1)) / s ≤ 2 ^ 49 = omega (arith, div-le-self (d * d * d + (s - 1)) s) in
+    let cubed : (d * d * d + (s - 1)) / s ≤ 2 ^ 49 = omega (arith, div-le-self (d * d * d + (s - 1)) s) in
     let a3 : 3 * a ≤ 2 ^ 21 = omega arith in
     let ad : 3 * a * d ≤ 2 ^ 37 = mul-le-mul a3 (h .4) in
     let add : 3 * a * d * d ≤ 2 ^ 53 = mul-le-mul ad (h .4) in
@@ -70,7 +70,7 @@ first-fits a rest s d h k =
     rw (cube (a * s + d), cube a, cube s)
     (omega (arith, mul-le-mul-right (s * s) h, mul-le-mul-left (3 * a * d * s) k, mul-le-mul-left d (mul-le-mul k k)))
 
-module _ {m a : ℕ} (root : IsRoot 3 m a) where
+module _ {m a : ℕ} (root : IsIntegerRoot 3 m a) where
   cube-le : a * a * a ≤ m
   cube-le = rw (cube a) at (root .below)
 
@@ -94,11 +94,11 @@ module _ {m a : ℕ} (root : IsRoot 3 m a) where
     pub next-below : t ≡ true → (a * s + (d + 1)) ^ 3 ≤ m * s ^ 3
     next-below f = leb-true _ _ (rw whole at (sym e ∙ f))
 
-    pub last-root : t ≡ false → (a * s + d) ^ 3 ≤ m * s ^ 3 → IsRoot 3 (m * s ^ 3) (a * s + d)
+    pub last-root : t ≡ false → (a * s + d) ^ 3 ≤ m * s ^ 3 → IsIntegerRoot 3 (m * s ^ 3) (a * s + d)
     last-root f p = record { below = p; above = rw add-assoc (leb-false _ _ (rw whole at (sym e ∙ f))) }
 
 -- how large the numbers are
-pub longer-sizes : {m a s : ℕ} → IsRoot 3 m a × (m < 2 ^ 57) × (1 ≤ s) × (s ≤ 2 ^ 16)
+pub longer-sizes : {m a s : ℕ} → IsIntegerRoot 3 m a × (m < 2 ^ 57) × (1 ≤ s) × (s ≤ 2 ^ 16)
     → (a < 2 ^ 19) × (a * a ≤ 2 ^ 38) × (a * a * a ≤ m) × (m - a * a * a < 2 ^ 40) × ((m - a * a * a) * s ≤ 2 ^ 56) × (a * s ≤ 2 ^ 35)
 longer-sizes {m} {a} h =
     let low : a < 2 ^ 19 = root-lt (h .0 .below) (h .1) in
@@ -108,9 +108,9 @@ longer-sizes {m} {a} h =
 
 -- ---- the fraction, from the root with 32 bits after the point
 
-pub fraction-of : (p d : ℕ) → p < 2 ^ 9 → IsRoot 3 (p * 2 ^ 48 % 2 ^ 64 * 65536 ^ 3) d → d % 2 ^ 32 ≡ fraction 3 p
+pub fraction-of : (p x : ℕ) → p < 2 ^ 9 → IsIntegerRoot 3 (p * 2 ^ 48 % 2 ^ 64 * 65536 ^ 3) x → x % 2 ^ 32 ≡ fraction 3 p
 unfolding fraction
-fraction-of p d h r =
+fraction-of p x h r =
     let whole-number : p * 2 ^ 48 % 2 ^ 64 * 65536 ^ 3 ≡ p * (2 ^ 32) ^ 3 = ap (λ (m : ℕ). m * 65536 ^ 3) (shl-exact 9 48 64 h (omega arith)) ∙ omega arith in
-    ap (λ (x : ℕ). x % 2 ^ 32)
-    (root-unique 3 (p * (2 ^ 32) ^ 3) d (root 3 p 32) (subst (λ (m : ℕ). IsRoot 3 m d) whole-number r) (root-is 3 p 32 (omega arith)))
+    ap (λ (r : ℕ). r % 2 ^ 32)
+    (root-unique 3 (p * (2 ^ 32) ^ 3) x (root 3 p 32) (subst (λ (m : ℕ). IsIntegerRoot 3 m x) whole-number r) (root-is 3 p 32 (omega arith)))

@@ -11,10 +11,10 @@ use Rattle.sha256_constants.proofs.round_constants.Statement.{statement
 use Rattle.sha256_constants.proofs.round_constants.Tie as tie
 
 abbrev Inv-loop : tie.InvT-loop
-Inv-loop k₀ count₀ a₀ n₀ k count a n = (2 ≤ n) × (n ≤ 312) × (length k ≡ 64) × Filled n count k × (a ^ 3 ≤ n * 2 ^ 12)
+Inv-loop k₀ count₀ root4₀ n₀ k count root4 n = (2 ≤ n) × (n ≤ 312) × (length k ≡ 64) × Filled n count k × (root4 ^ 3 ≤ n * 2 ^ 12)
 
 abbrev μ-loop : tie.MeasureT-loop
-μ-loop k₀ count₀ a₀ n₀ k count a n = 312 - n
+μ-loop k₀ count₀ root4₀ n₀ k count root4 n = 312 - n
 
 abbrev looped : tie.After-prime Inv-loop μ-loop → tie.At-loop Inv-loop μ-loop
 looped c = c .before .before
