@@ -5,8 +5,8 @@
 set -euo pipefail
 cd "$(dirname "$0")/.."
 
-echo "zolbine: the gate. First every crate is proved and its edits are tried, and beside that the mutations; then come the" \
-    "archives and the harness. On two cores: $(scripts/times.sh test)" >&2
+echo "zolbine: the gate. First every crate is proved and its must-fail edits are tried; beside that run the edits of definitions" \
+    "(mutations/). Then come the archives and the harness. On two cores: $(scripts/times.sh test)" >&2
 scripts/statements.sh
 
 log=$(mktemp)
@@ -18,15 +18,19 @@ trap 'rm -f "$log" "$tried"; [ -z "$mutations" ] || kill -- "-$mutations" 2>/dev
 rm -rf target
 set -m # a group of its own, which ends with the gate
 (
-    until [ -s target/stamp/trials ]; do sleep 1; done
+    until [ -s target/stamp/trials ]; do kill -0 $$ || exit 1; sleep 1; done
     exec nice -n 19 scripts/mutations.sh
 ) >"$tried" 2>&1 &
 mutations=$!
 set +m
 
-# four jobs on two cores: rt waits for each whole batch, and a prover takes 2 GB at most
+# four jobs on two cores, since rt waits for each whole batch; with two mutations six provers, of 2 GB at most each
 RT_JOBS=4 rt ci | tee "$log"
 verdict=$(tail -n 1 "$log")
+[ -s target/stamp/trials ] || {
+    echo "zolbine: crate trials is not among those proved, so that no mutation was tried" >&2
+    exit 1
+}
 mkdir -p target/log
 cp "$log" target/log/gate-rt-ci.log
 

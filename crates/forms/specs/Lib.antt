@@ -1,5 +1,6 @@
--- The form of a message: `Messages` has its rows, 9 to 12, and `Operands` the seat that sends it. `XLaws` has the laws of `X`.
+-- The form of a message: `Messages` has its rows, 9 to 12, and `Senders` the seat that sends it. `MessagesLaws` has the laws of the rows, and
+-- how a message's 9 to 14 begin with them; `TestsLaws` has the tests of 10, 11 and 12.
 pub mod Messages
 pub mod MessagesLaws
-pub mod Operands
-pub mod OperandsLaws
+pub mod Senders
+pub mod TestsLaws

@@ -65,7 +65,7 @@ full-kind (Full round sender value entries) e = refl
 full-kind (Evidence round form entries) e = absurd (false≢true e)
 full-kind Garbled e = absurd (false≢true e)
 
--- ---- the form of a message: 9 to 12
+-- ---- the form of a message, 9 to 12, and 9 to 14, which begin with it
 
 pub message-nonzero : (checks : Checks) (n round : ℕ) (taken : Bool) (m : Message) → nonzero (numbers (messageConditions checks n round taken m)) ≡ true
 unfolding messageConditions nonzero numbers

@@ -10,7 +10,7 @@ ghost use Rattle.protocol.specs.Refusals.{every, otherRound, stranger, disorder
 ghost use Rattle.wire.specs.Reading.{kindOf};
 ghost use Rattle.wire.specs.Answers.{commandOf};
 ghost use Rattle.forms.specs.Messages.{within, formConditions};
-ghost use Rattle.forms.specs.Operands.{sendersOf};
+ghost use Rattle.forms.specs.Senders.{sendersOf};
 use wire::entries::seats_below;
 use wire::entries::seats_rise;
 use wire::read::Kind;

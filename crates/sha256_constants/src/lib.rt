@@ -6,8 +6,8 @@ ghost use Rattle.fips180.specs.Constants.{constants, initial};
 ghost use Rattle.fips180.specs.Rule.{IsIntegerRoot};
 ghost use Rattle.fips180.specs.Rule as Rule;
 
-// Whether n is a prime. The first number from 2 on that divides a prime is the prime itself; a number below 312 that is no prime has a
-// smaller divisor, and one up to 17.
+// Whether n is a prime. No number from 2 on divides a prime but itself; a number below 312 that is no prime has a smaller divisor from 2
+// to 17.
 fn prime(n: u64) -> bool
     requires { ⌜ (2 ≤ n) × (n < 312) ⌝ }
     ensures { λ r. ⌜ r ≡ Rule.prime n ⌝ }

@@ -3,7 +3,7 @@ use borrow.Author.Needs.{needs}
 use denote.Ref.{now}
 use Rattle.protocol.specs.Message.{read}
 use Rattle.wire.specs.Reading.{seatsIn}
-use Rattle.forms.specs.OperandsLaws.{disorder-told}
+use Rattle.forms.specs.TestsLaws.{disorder-told}
 use Rattle.forms.proofs.is_disordered.Statement.{statement}
 use Rattle.forms.proofs.is_disordered.Tie as tie
 

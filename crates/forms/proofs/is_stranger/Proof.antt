@@ -3,7 +3,7 @@ use borrow.Author.Needs.{needs}
 use denote.Ref.{now}
 use Rattle.protocol.specs.Message.{read}
 use Rattle.wire.specs.Reading.{seatsIn}
-use Rattle.forms.specs.OperandsLaws.{stranger-sender, stranger-entries}
+use Rattle.forms.specs.TestsLaws.{stranger-sender, stranger-entries}
 use Rattle.forms.proofs.is_stranger.Statement.{statement}
 use Rattle.forms.proofs.is_stranger.Tie as tie
 

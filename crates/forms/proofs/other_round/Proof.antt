@@ -8,7 +8,7 @@ use denote.Ref.{now}
 use Rattle.wire.specs.KindLaws.{tag}
 use Rattle.wire.specs.MessageLaws.{long-enough}
 use Rattle.wire.proofs.Tags.{tags}
-use Rattle.forms.specs.OperandsLaws.{round-told, round-garbled}
+use Rattle.forms.specs.TestsLaws.{round-told, round-garbled}
 use Rattle.forms.proofs.other_round.Statement.{statement}
 use Rattle.forms.proofs.other_round.Tie as tie
 

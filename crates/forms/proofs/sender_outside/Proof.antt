@@ -8,7 +8,7 @@ use Rattle.protocol.specs.Message.{byteAt}
 use Rattle.wire.specs.KindLaws.{tag}
 use Rattle.wire.specs.MessageLaws.{long-enough}
 use Rattle.wire.proofs.Tags.{tags}
-use Rattle.forms.specs.OperandsLaws.{sender-told, sender-none}
+use Rattle.forms.specs.TestsLaws.{sender-told, sender-none}
 use Rattle.forms.proofs.sender_outside.Statement.{statement}
 use Rattle.forms.proofs.sender_outside.Tie as tie
 

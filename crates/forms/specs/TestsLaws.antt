@@ -17,7 +17,7 @@ use Rattle.wire.specs.Reading.{kindOf}
 use Rattle.wire.specs.KindLaws.{read-as, tag}
 use Rattle.wire.specs.declared.read.Kind.{Kind}
 use Rattle.wire.specs.declared.read.Kind.the-variants as kind
-use Rattle.forms.specs.Operands.{sendersOf}
+use Rattle.forms.specs.Senders.{sendersOf}
 
 -- ---- 10: the round
 
