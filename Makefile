@@ -2,7 +2,7 @@
 #             them; DEMO="--help" lists the options, as in make demo DEMO="--double-signers 2 --lost-link 0-3"
 # make test   the gate: every crate proved, every program run, the static libraries against the harness
 # make soak   the long version of the harness's tests: load, faults, every call, and plain C
-# make bench  speed as ratios to plain C and to OpenSSL's libcrypto, in one run
+# make bench  speed as ratios to plain C and to OpenSSL's libcrypto, in one run; the part of a check that the round constants take
 # make install PREFIX=/usr/local
 #             header, archive and zolbine.pc for pkg-config; DESTDIR puts them under another root
 

@@ -44,7 +44,7 @@ fn sections_of(object: &[u8]) -> Vec<Section> {
         assert_eq!(flags & COMPRESSED, 0, "bytes that can't be searched");
         Section {
             name: String::from_utf8_lossy(name).into_owned(),
-            writable: flags & (LOADED | WRITTEN) == LOADED | WRITTEN,
+            writable: flags & (LOADED | WRITTEN) == LOADED | WRITTEN && !name.starts_with(FIXED),
             length,
             bytes: if kind == ROOM_ALONE { Vec::new() } else { part(header).to_vec() },
         }
@@ -57,6 +57,9 @@ const WRITTEN: usize = 1;
 const LOADED: usize = 2;
 const COMPRESSED: usize = 0x800;
 const ROOM_ALONE: usize = 8;
+
+/// Addresses that are filled in before the program begins. From then on it can't write there.
+const FIXED: &[u8] = b".data.rel.ro";
 
 /// The little-endian number of a field.
 fn number(bytes: &[u8], at: usize, length: usize) -> usize {

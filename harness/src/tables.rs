@@ -1,22 +1,27 @@
-//! A search for SHA-256's round constants: in an archive, in each form that a table of them can take, and in source. And for memory
-//! in which an archive could keep them from call to call.
+//! A search for SHA-256's round constants: in an archive, in each form that a table of them can take, and in source. And for a list of
+//! their primes, and for memory in which an archive could keep them from call to call.
 //!
-//! Chance is reckoned for an archive of 85,000 bytes, with a word at each of them.
+//! Chance is reckoned for an archive of 85,000 random bytes.
 
-use std::collections::{BTreeSet, HashMap};
+use std::collections::{BTreeMap, BTreeSet, HashMap};
 
 use crate::archive::Section;
 use crate::reference::sha256::K;
 
-#[derive(Clone, Copy, Debug, PartialEq, Eq, PartialOrd, Ord)]
+#[derive(Clone, Copy, Debug, PartialEq, Eq)]
 pub enum Form {
-    /// A constant itself: in data, in lanes or as an immediate in code. One is a find, since a compiler that knows a prime can work
-    /// out its constant; one of 400 archives has one by chance.
+    /// A constant itself: in data, in lanes or as an immediate in code.
     Word,
-    /// Constants that are changed by one mask, in any order and at any distance.
+    /// The difference of a constant and the one before it.
+    Step,
+    /// Constants that are changed by one mask.
     Masked,
-    /// The high or the low halves one after the other, masked or not.
+    /// The high or the low halves of constants, masked or not.
     Halves,
+    /// One byte of each constant, in order.
+    Quarters,
+    /// The primes in order, or the steps from each to the next.
+    Primes,
     /// Memory that outlasts a call.
     Kept,
 }
@@ -30,14 +35,18 @@ pub struct Find {
 
 pub fn finds(sections: &[Section]) -> Vec<Find> {
     let mut finds = masked(sections);
-    let pairs = DIFFERENCES.map(pairs);
-    for section in sections {
-        let find = |form, what| Find { form, section: section.name.clone(), what };
-        finds.extend(words(&section.bytes).map(|what| find(Form::Word, what)));
-        finds.extend(halves(&section.bytes, &pairs).map(|what| find(Form::Halves, what)));
-        if section.writable && section.length > 0 {
-            finds.push(find(Form::Kept, format!("{} bytes to write to", section.length)));
-        }
+    let known = known_rows();
+    for Section { name, writable, length, bytes } in sections {
+        let kept = (*writable && *length > 0).then(|| format!("{length} bytes to write to"));
+        let found = [
+            listed(bytes, Form::Word, &K),
+            listed(bytes, Form::Step, &steps()),
+            halves(bytes),
+            row(bytes, &known),
+            kept.map(|what| (Form::Kept, what)),
+        ];
+        let find = |(form, what)| Find { form, section: name.clone(), what };
+        finds.extend(found.into_iter().flatten().map(find));
     }
     finds
 }
@@ -57,8 +66,8 @@ enum Order {
 const ORDERS: [Order; 2] = [Order::LittleEndian, Order::BigEndian];
 
 impl Order {
-    fn number(self, bytes: &[u8]) -> u32 {
-        let longer = |number, &byte: &u8| number << 8 | u32::from(byte);
+    fn number(self, bytes: &[u8]) -> u64 {
+        let longer = |number, &byte: &u8| number << 8 | u64::from(byte);
         match self {
             Order::LittleEndian => bytes.iter().rev().fold(0, longer),
             Order::BigEndian => bytes.iter().fold(0, longer),
@@ -66,22 +75,38 @@ impl Order {
     }
 
     /// The numbers of `width` bytes that stand at each byte.
-    fn numbers(self, bytes: &[u8], width: usize) -> impl Iterator<Item = u32> + '_ {
+    fn numbers(self, bytes: &[u8], width: usize) -> impl Iterator<Item = u64> + '_ {
         bytes.windows(width).map(move |number| self.number(number))
+    }
+
+    /// The words that begin at each byte, or `shift` bits beside it.
+    fn words(self, bytes: &[u8], shift: usize) -> impl Iterator<Item = u32> + '_ {
+        self.numbers(bytes, (32 + shift).div_ceil(8)).map(move |number| (number >> shift) as u32)
     }
 }
 
-fn words(bytes: &[u8]) -> Option<String> {
-    let constant = |order: Order| order.numbers(bytes, 4).enumerate().filter(|(_, word)| K.contains(word));
-    let mut found: Vec<(usize, u32)> = ORDERS.into_iter().flat_map(constant).collect();
-    found.sort();
-    let (at, word) = found.first()?;
-    Some(format!("{} constants, the first of them {word:#010x} at {at:#x}", found.len()))
+/// So many constants that agree are a find, whatever their order and their distance. The words and the constants give 5.4 million
+/// masks of each kind, and eight of them are the same by chance in one of 10^17 archives. Eight words of one list are rarer still.
+const AGREEING: usize = 8;
+
+/// Words of a list, all at a byte or all as many bits beside it, as in packed bits or in roots with other fractions. One constant at a
+/// byte is a find, since a compiler that knows a prime can work out its constant; one of 400 archives has one by chance.
+fn listed(bytes: &[u8], form: Form, list: &[u32]) -> Option<(Form, String)> {
+    let mut places = ORDERS.into_iter().flat_map(|order| (0..8).map(move |shift| (order, shift)));
+    places.find_map(|(order, shift)| {
+        let words = order.words(bytes, shift).zip(0..);
+        let found: BTreeMap<u32, usize> = words.filter(|(word, _)| list.contains(word)).collect();
+        let enough = if form == Form::Word && shift == 0 { 1 } else { AGREEING };
+        let (word, at) = found.first_key_value()?;
+        let what = format!("{} words, {word:#010x} at {at:#x} among them, {shift} bits off, {order:?}", found.len());
+        (found.len() >= enough).then_some((form, what))
+    })
 }
 
-/// So many constants with one mask are a find. The words and the constants give 5.4 million masks of each kind, and eight of them
-/// are the same by chance in one of 10^17 archives.
-const AGREEING: usize = 8;
+fn steps() -> Vec<u32> {
+    let step = |pair: &[u32]| [pair[0] ^ pair[1], pair[1].wrapping_sub(pair[0]), pair[0].wrapping_sub(pair[1])];
+    K.windows(2).flat_map(step).collect()
+}
 
 /// The mask by which a constant becomes a word.
 type Mask = fn(word: u32, constant: u32) -> u32;
@@ -95,14 +120,14 @@ const MASKS: [(&str, Mask); 3] = [
 fn masked(sections: &[Section]) -> Vec<Find> {
     let mut finds = Vec::new();
     for order in ORDERS {
-        let words: BTreeSet<u32> = sections.iter().flat_map(|section| order.numbers(&section.bytes, 4)).collect();
+        let words: BTreeSet<u32> = sections.iter().flat_map(|section| order.words(&section.bytes, 0)).collect();
         for (name, mask) in MASKS {
             let mut masks: Vec<(u32, u32)> =
                 words.iter().flat_map(|&word| K.map(|constant| (mask(word, constant), word))).collect();
             masks.sort_unstable();
             for agreeing in masks.chunk_by(|one, next| one.0 == next.0).filter(|agreeing| agreeing.len() >= AGREEING) {
                 let (number, word) = agreeing[0];
-                let holds = |section: &&Section| order.numbers(&section.bytes, 4).any(|other| other == word);
+                let holds = |section: &&Section| order.words(&section.bytes, 0).any(|other| other == word);
                 let section = sections.iter().find(holds).expect("a section has the word");
                 let what = format!("{} constants {name} {number:#010x}, {order:?}", agreeing.len());
                 finds.push(Find { form: Form::Masked, section: section.name.clone(), what });
@@ -112,62 +137,64 @@ fn masked(sections: &[Section]) -> Vec<Find> {
     finds
 }
 
-/// So many halves are a find, each at most REACH bytes after the one before it: 16 lanes or some code may stand between. Two
-/// neighbours stand so by chance in 20,000 places for each of 32 kinds, and each further half in one of 256 of them: all ten in one of
-/// 10^13 archives.
-const RUN: usize = 10;
-const REACH: usize = 256;
+/// So many halves that agree on a mask are a find where they stand within NEAR bytes, the length of all 64 in 16 lanes. Under a given
+/// mask each half stands there by chance one time in 16, and 32 do under some mask in one of 10^13 archives.
+const MANY: u8 = 32;
+const NEAR: usize = 4096;
 
-/// The halves of the constants in order: high and low, themselves and taken from zero, rising and falling.
-fn orders_of_halves() -> Vec<[u16; 64]> {
-    let rising = [K.map(|word| (word >> 16) as u16), K.map(|word| word as u16)];
-    let rising = rising.into_iter().flat_map(|halves| [halves, halves.map(u16::wrapping_neg)]);
-    let falling = |mut halves: [u16; 64]| {
-        halves.reverse();
-        halves
-    };
-    rising.flat_map(|halves| [halves, falling(halves)]).collect()
-}
-
-/// Neighbours are known by their difference, which is that of the constants whatever the mask is.
-type Difference = fn(u16, u16) -> u16;
-
-const DIFFERENCES: [Difference; 2] = [|one, other| one ^ other, u16::wrapping_sub];
-
-/// Pairs of neighbours by their difference: number of an order of halves, and place in it.
-type Pairs = Vec<Vec<(usize, usize)>>;
-
-fn pairs(difference: Difference) -> Pairs {
-    let mut pairs = vec![Vec::new(); 1 << 16];
-    for (number, halves) in orders_of_halves().iter().enumerate() {
-        for (place, pair) in halves.windows(2).enumerate() {
-            pairs[usize::from(difference(pair[1], pair[0]))].push((number, place));
-        }
-    }
-    pairs
-}
-
-/// Length and end of the longest run of halves that have these differences.
-fn longest_run(halves: &[u16], difference: Difference, pairs: &Pairs) -> (usize, usize) {
-    let mut longest = (0, 0);
-    // The longest run to a half at a byte, by what it is a half of.
-    let mut runs: HashMap<(usize, usize, usize), usize> = HashMap::new();
-    for (at, &half) in halves.iter().enumerate() {
-        for (next, &other) in halves.iter().enumerate().skip(at + 1).take(REACH) {
-            for &(number, place) in &pairs[usize::from(difference(other, half))] {
-                let length = runs.get(&(at, number, place)).unwrap_or(&1) + 1;
-                let known = runs.entry((next, number, place + 1)).or_default();
-                *known = length.max(*known);
-                longest = longest.max((length, next));
+fn halves(bytes: &[u8]) -> Option<(Form, String)> {
+    for at in (0..bytes.len()).step_by(NEAR / 2) {
+        let near = &bytes[at..bytes.len().min(at + NEAR)];
+        for order in ORDERS {
+            for (name, mask) in MASKS {
+                for (which, shift) in [("high", 16), ("low", 0)] {
+                    let (count, number) = most_agreeing(near, order, mask, K.map(|word| word >> shift));
+                    if count >= MANY {
+                        let what = format!("{count} {which} halves {name} {number:#06x} from {at:#x} on, {order:?}");
+                        return Some((Form::Halves, what));
+                    }
+                }
             }
         }
     }
-    longest
+    None
 }
 
-fn halves(bytes: &[u8], pairs: &[Pairs; 2]) -> Option<String> {
-    let in_order = ORDERS.map(|order| order.numbers(bytes, 2).map(|half| half as u16).collect::<Vec<_>>());
-    let run = |halves: &Vec<u16>| [0, 1].map(|i| longest_run(halves, DIFFERENCES[i], &pairs[i]));
-    let (length, end) = in_order.iter().flat_map(run).max()?;
-    (length >= RUN).then(|| format!("{length} halves in order, the last at {end:#x}"))
+/// How many halves agree on the mask that most of them agree on, and that mask.
+fn most_agreeing(near: &[u8], order: Order, mask: Mask, halves: [u32; 64]) -> (u8, usize) {
+    let there: BTreeSet<u64> = order.numbers(near, 2).collect();
+    let mut agreeing = vec![0; 1 << 16];
+    for half in there {
+        halves.iter().for_each(|&constant| agreeing[usize::from(mask(half as u32, constant) as u16)] += 1);
+    }
+    agreeing.into_iter().zip(0..).max().expect("masks")
+}
+
+/// So many bytes in a row are a find, each as far after the one before it, up to APART bytes: 16 lanes or some code may stand between.
+/// They stand so by chance in one of 10^14 archives.
+const ROW: usize = 10;
+const APART: usize = 64;
+
+pub fn primes() -> Vec<u32> {
+    (2..312).filter(|number| (2..*number).all(|divisor| number % divisor != 0)).collect()
+}
+
+fn known_rows() -> HashMap<[u8; ROW], Form> {
+    let primes = primes();
+    let steps = primes.windows(2).map(|pair| (pair[1] - pair[0]) as u8).collect();
+    let mut lists = vec![(Form::Primes, primes.iter().map(|&prime| prime as u8).collect()), (Form::Primes, steps)];
+    lists.extend([0, 8, 16, 24].map(|shift| (Form::Quarters, K.map(|word| (word >> shift) as u8).to_vec())));
+    let mut rows = HashMap::new();
+    for (form, list) in lists {
+        rows.extend(list.windows(ROW).map(|row| (row.try_into().expect("a row"), form)));
+    }
+    rows
+}
+
+fn row(bytes: &[u8], known: &HashMap<[u8; ROW], Form>) -> Option<(Form, String)> {
+    (1..=APART).find_map(|apart| {
+        let row = |at: usize| std::array::from_fn(|i| bytes[at + i * apart]);
+        let mut places = 0..bytes.len().saturating_sub((ROW - 1) * apart);
+        places.find_map(|at| Some((*known.get(&row(at))?, format!("{ROW} in a row from {at:#x} on, {apart} apart"))))
+    })
 }

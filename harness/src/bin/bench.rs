@@ -1,6 +1,6 @@
 //! The proved code beside plain C, and under the feature `libcrypto` beside OpenSSL's block function; the round constants beside the
-//! check that works them out; and a submit with 31 seats kept beside one with none. The verdict is the ratio; nanoseconds are printed for information.
-//! `bench WORD` runs only the contests whose names contain the word.
+//! check that works them out; and a submit with 31 seats kept beside one with none. The verdict is the ratio; nanoseconds are printed
+//! for information. `bench WORD` runs only the contests whose names contain the word.
 
 use harness::contest::Contest;
 use harness::library;
@@ -17,7 +17,11 @@ fn main() {
     let word = std::env::args().nth(1).unwrap_or_default();
     println!("plain C: {}", env!("PLAIN_C"));
     head("proved", "plain");
-    hash_contests().iter().for_each(|contest| hold(&word, contest, library::hashes(), &Plain));
+    let hashes = hash_contests();
+    hashes.iter().for_each(|contest| hold(&word, contest, library::hashes(), &Plain));
+    if hashes.iter().any(|contest| contest.name.ends_with('*') && contest.name.contains(&word)) {
+        println!("* proved: with the round constants worked out in each call; plain C has them as a table");
+    }
     call_contests().iter().for_each(|contest| hold(&word, contest, library::calls(), &Plain));
     #[cfg(all(feature = "libcrypto", feature = "probes"))]
     beside_libcrypto(&word);
@@ -38,14 +42,14 @@ fn constants_beside_check(word: &str) {
     use harness::library::Library;
     use harness::subject::Constants;
 
-    // So that the constants take longer than the clock.
+    // So that a run is long beside the clock's step.
     const TURNS: usize = 20;
     head("constants", "check");
     for check in check_contests() {
         let operations = TURNS * check.operations;
         let constants = || (0..operations).for_each(|_| assert_eq!(Library.round_constants(&mut [0; 256]), 0));
         let checks = || (0..TURNS).for_each(|_| (check.work)(&Library));
-        let name = check.name.replace("check", "constants");
+        let name = format!("{}: constants", check.name);
         let both = contest::<dyn Fn() + '_>(name, operations, 31, |side| side());
         hold(word, &both, Some(&constants), &checks);
     }
@@ -149,7 +153,7 @@ fn hash_contests() -> Vec<Contest<dyn Hashes>> {
     })];
     for (length, calls) in [(55, 2000), (1024, 200), (65_535, 4)] {
         let message = rng.bytes(length);
-        contests.push(contest::<dyn Hashes>(format!("sha256 of {length} bytes"), calls, 301, move |subject| {
+        contests.push(contest::<dyn Hashes>(format!("sha256 of {length} bytes *"), calls, 301, move |subject| {
             for _ in 0..calls {
                 assert_eq!(subject.sha256(&message, &mut [0; 32]), 0);
             }
