@@ -1,5 +1,5 @@
-//! SHA-256's round constants stand nowhere, in the archive or in source. Neither does a list of their primes stand in the archive,
-//! and nothing in it outlasts a call.
+//! SHA-256's round constants stand nowhere in the archive, and in crates/ in one law alone. Neither does a list of their primes stand
+//! in the archive, and nothing in it outlasts a call.
 #![cfg(feature = "zolbine")]
 
 use std::fmt::LowerHex;
