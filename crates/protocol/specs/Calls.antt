@@ -10,9 +10,10 @@ use Rattle.refusal.specs.Refusal.{firstOf, unrefused}
 use Rattle.protocol.specs.Values.{isLower}
 use Rattle.protocol.specs.Message.{Message, read, render, renderAll, entrySeats}
 use Rattle.protocol.specs.Certificate.{certificateIn, setOf, conflictOf}
+use Rattle.protocol.specs.Joining.{joinedOf}
 use Rattle.protocol.specs.Record.{fresh, zeros}
 use Rattle.protocol.specs.Note.{renderNote, noteRecord}
-use Rattle.protocol.specs.Refusals.{Checks, openingConditions, submitConditions, stepConditions, evidenceConditions, makingConditions, lowerConditions, writeNoteConditions, readNoteConditions}
+use Rattle.protocol.specs.Refusals.{Checks, openingConditions, submitConditions, stepConditions, evidenceConditions, makingConditions, lowerConditions, joiningConditions, writeNoteConditions, readNoteConditions}
 use Rattle.protocol.specs.Step.{State, submitted, stepped}
 use Rattle.protocol.specs.declared.Record.{Record}
 use Rattle.protocol.specs.declared.Opened.{Opened}
@@ -73,7 +74,7 @@ answer result = record { number = result .refusal; written = length (result .wri
 
 -- ---- evidence from two certificates
 
--- its result, and that of writing a note: the refusal number or 0, and the bytes written
+-- its result, and that of joining two packs and of writing a note: the refusal number or 0, and the bytes written
 pub record Making : Type 0 where
   pub refusal : ℕ
   pub written : List ℕ
@@ -101,6 +102,13 @@ checkedBy refusal m = record { number = refusal; mask = unrefused refusal (setOf
 -- the evidence check: n, round, key table, evidence
 unfoldable pub evidenceCheck : Checks → ℕ → ℕ → List ℕ → List ℕ → Checked
 evidenceCheck checks n round keys bytes = checkedBy (firstOf (evidenceConditions checks n round keys (read n bytes))) (read n bytes)
+
+-- ---- two packs joined (document 02, item 5)
+
+-- "Two accepted 0x07 packs of one round and one key table become one": n, round, key table, the packs, out
+unfoldable pub joining : Checks → ℕ → ℕ → List ℕ → List ℕ → List ℕ → List ℕ → Making
+joining checks n round keys a b out =
+    makingBy (firstOf (joiningConditions checks n round keys (read n a) (read n b) out)) (joinedOf n round (read n a) (read n b))
 
 -- ---- the lower certificate
 

@@ -1,11 +1,13 @@
 -- Sets and lists of seats, a seat's signature among entries, and slots filled one after another.
 -- Assumes nothing.
-use mathlib.Core.Path.{_≡_, refl, ap}
-use mathlib.Core.List.{List, [], _∷_, _++_, List·Memᴰ, List·Memᴰ·head, List·Memᴰ·tail, List·Memᴰ·not-nil, List·Memᴰ·cases-cons}
+use mathlib.Core.Path.{_≡_, refl, ap, _∙_}
+use mathlib.Core.Bool.{cond}
+use mathlib.Core.List.{List, [], _∷_, _++_, map, List·Memᴰ, List·Memᴰ·head, List·Memᴰ·tail, List·Memᴰ·not-nil, List·Memᴰ·cases-cons}
 use mathlib.Core.Logic.{_⊎_, inl, inr, ⊎-elim, _↔_}
 use Prim.Native.Nat.{ℕ, suc, _^_, _<_}
 use native.Mathlib.Omega.{arith}
 use native.Mathlib.Decide.{decLt, ℕ-discrete}
+use lib.Dec.{eqb}
 use lib.ListN.{length, getD}
 use borrow.Author.Tests.{eq-eqb, ne-eqb}
 use Rattle.quorum.specs.Quorum.{In, bit, with, union, one, seats}
@@ -56,20 +58,26 @@ set-seats n m l = same-seats (setOf (seats n m)) m (λ s. go s (bit-cases s m) (
     go s (inr i) (inl y) = absurd (omega (arith, in-set s (seats n m) .1 (mem-seats n s m .1 (below s i (decLt s n), i))))
     go s (inr i) (inr j) = omega arith
 
--- the signature of a seat is that of the entry which has the seat
+-- What is looked up for a seat is that of the entry which has the seat. `look` goes from entry to entry until it finds the seat.
+module _ {A B : Type 0} (seat : A → ℕ) (content : A → B) (look : List A → ℕ → B) (next : (x : A) (xs : List A) (s : ℕ) → look (x ∷ xs) s ≡ cond (eqb (seat x) s) (content x) (look xs s)) where
+  pub found-after : (xs : List A) (before : List ℕ) (s : ℕ) (rest : List ℕ) (d : A) → map seat xs ≡ before ++ s ∷ rest
+      → ((i : ℕ) → i < length before → getD before i 0 < s) → look xs s ≡ content (getD xs (length before) d)
+  found-after [] [] s rest d e h = absurd (omega (arith, ap length e))
+  found-after [] (b ∷ before) s rest d e h = absurd (omega (arith, ap length e))
+  found-after (x ∷ xs) [] s rest d e h =
+      let here : seat x ≡ s = cc in
+      next x xs s ∙ rw (eq-eqb (seat x) s here)
+  found-after (x ∷ xs) (b ∷ before) s rest d e h =
+      let here : seat x ≡ b = cc in
+      let after : map seat xs ≡ before ++ s ∷ rest = cc in
+      next x xs s
+      ∙ rw (ne-eqb (seat x) s (λ q. omega (arith, h 0 (omega arith))))
+      (found-after xs before s rest d after (λ i l. h (suc i) (omega arith)))
+
 pub signature-after : (es : List Entry) (before : List ℕ) (s : ℕ) (rest : List ℕ) (d : Entry) → formSeats fullForm es ≡ before ++ s ∷ rest
     → ((i : ℕ) → i < length before → getD before i 0 < s) → signatureOf es s ≡ getD es (length before) d .signature
 unfolding signatureOf formSeats fullForm
-signature-after [] [] s rest d e h = absurd (omega (arith, ap length e))
-signature-after [] (b ∷ before) s rest d e h = absurd (omega (arith, ap length e))
-signature-after (x ∷ es) [] s rest d e h =
-    let here : x .seat ≡ s = cc in
-    rw (eq-eqb (x .seat) s here)
-signature-after (x ∷ es) (b ∷ before) s rest d e h =
-    let here : x .seat ≡ b = cc in
-    let after : formSeats fullForm es ≡ before ++ s ∷ rest = cc in
-    rw (ne-eqb (x .seat) s (λ q. omega (arith, h 0 (omega arith))))
-    (signature-after es before s rest d after (λ i l. h (suc i) (omega arith)))
+signature-after = found-after (λ (e : Entry). e .seat) (λ (e : Entry). e .signature) signatureOf (λ e es s. refl)
 
 pub fill-snoc : (n bank : ℕ) (f : ℕ → List ℕ) (xs : List ℕ) (s : ℕ) (store : List ℕ) → fillEach n bank f (xs ++ s ∷ []) store ≡ fill n bank s (f s) (fillEach n bank f xs store)
 unfolding fillEach

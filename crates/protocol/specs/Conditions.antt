@@ -13,7 +13,7 @@ use Rattle.rfc8554.specs.Verify.{lmsTypeOf, otsTypeOf}
 use Rattle.protocol.specs.Layout.{valueLength, signatureLength, keyLength, keyAt, treeLength, messageLimit, storeLength}
 use Rattle.protocol.specs.Values.{isLower}
 use Rattle.protocol.specs.Entries.{eachBelow}
-use Rattle.protocol.specs.Message.{Pair, Message, Submit, Notice, Full, Evidence, Garbled, Signed, roundOf, entrySeats, seatsOf, signed}
+use Rattle.protocol.specs.Message.{Pair, ValuesOnce, ValuesEach, Message, Submit, Notice, Full, Evidence, Garbled, Signed, roundOf, entrySeats, seatsOf, signed}
 use Rattle.protocol.specs.Certificate.{certificateIn}
 use Rattle.protocol.specs.declared.Record.{Record}
 
@@ -80,6 +80,15 @@ isEvidence (Notice round seat value) = false
 isEvidence (Full round sender value entries) = false
 isEvidence (Evidence round form entries) = true
 isEvidence Garbled = false
+
+-- "Two accepted 0x07 packs .. become one", "and a 0x05 pack is 9 here" (document 02, item 5)
+unfoldable pub isNewEvidence : Message → Bool
+isNewEvidence (Submit round seat value signature) = false
+isNewEvidence (Notice round seat value) = false
+isNewEvidence (Full round sender value entries) = false
+isNewEvidence (Evidence round (ValuesOnce values) entries) = false
+isNewEvidence (Evidence round ValuesEach entries) = true
+isNewEvidence Garbled = false
 
 unfoldable pub wrongLengths : List ℕ → List ℕ → Bool
 wrongLengths value signature = lengthIsnt valueLength value || lengthIsnt signatureLength signature

@@ -3,7 +3,7 @@ use mathlib.Core.Path.{_≡_, refl}
 use Prim.Native.Nat.{ℕ, _+_, _*_}
 use native.Mathlib.Omega.{arith}
 use Rattle.quorum.specs.Quorum.{k}
-use Rattle.protocol.specs.Layout.{signatureLength, submitLength, noticeLength, fullEntryLength, fullEntryAt, fullLength, evidenceEntryLength, evidenceEntryAt, evidenceLength, oldEvidenceEntryLength, oldEvidenceEntryAt, oldEvidenceLength, banks, lengthOfBanks, storeLength, outLength, evidenceOutLength, noteLength}
+use Rattle.protocol.specs.Layout.{signatureLength, submitLength, noticeLength, fullEntryLength, fullEntryAt, fullLength, evidenceEntryLength, evidenceEntryAt, evidenceLength, oldEvidenceEntryLength, oldEvidenceEntryAt, oldEvidenceLength, banks, lengthOfBanks, storeLength, outLength, evidenceOutLength, joinedOutLength, noteLength}
 
 -- SUBMIT: "In all 1,488."
 pub submit-figure : submitLength ≡ 1488
@@ -44,6 +44,11 @@ out-figure n = omega arith
 pub evidence-out-figure : (n : ℕ) → evidenceOutLength n ≡ 4 + 2970 * k n
 unfolding evidenceOutLength
 evidence-out-figure n = evidence-figure (k n)
+
+-- "The out buffer has 4 + 2,970 × n bytes or more." (document 02, item 5)
+pub joined-out-figure : (n : ℕ) → joinedOutLength n ≡ 4 + 2970 * n
+unfolding joinedOutLength
+joined-out-figure n = evidence-figure n
 
 -- the note: "That is 118 bytes" (document 02, item 2)
 pub note-figure : noteLength ≡ 118

@@ -207,6 +207,10 @@ outLength n = submitLength + noticeLength + fullLength n + evidenceLength (k n)
 unfoldable pub evidenceOutLength : ℕ → ℕ
 evidenceOutLength n = evidenceLength (k n)
 
+-- two packs joined: room for every seat (document 02, item 5)
+unfoldable pub joinedOutLength : ℕ → ℕ
+joinedOutLength n = evidenceLength n
+
 -- ---- the note (document 02, item 2): "0x20, n 1, seat 1, round 2, flags 1 (..), own value 32, the masks collected, kept, first
 -- certificate and guilty at 4 each, then first value heard 32 and first certificate's value 32"
 

@@ -1,5 +1,5 @@
 -- The order of the table's numbers. Every call answers the first number in it whose condition holds; "over two certificates, the
--- first one's 9 to 14 come before the second's". The numbers of document 01 rise in this order, and so, as it says, "The lowest number
+-- first one's 9 to 14 come before the second's", and over two packs the first one's 9 to 15 (document 02, item 5). The numbers of document 01 rise in this order, and so, as it says, "The lowest number
 -- whose condition holds is returned"; 17, which only reading a note answers, "comes before 4" (document 02, item 2).
 -- Assumes nothing.
 use Prim.Native.Nat.{ℕ}
@@ -12,9 +12,9 @@ use Rattle.refusal.specs.Order.{isIn, distinct, follows, held, firstIn}
 use Rattle.refusal.specs.OrderLaws.{firstOf-in-order}
 use Rattle.refusal.specs.Lowest.{riseFrom, rise, Lowest}
 use Rattle.refusal.specs.LowestLaws.{firstOf-lowest, rise-in}
-use Rattle.protocol.specs.Layout.{outLength, evidenceOutLength}
+use Rattle.protocol.specs.Layout.{outLength, evidenceOutLength, joinedOutLength}
 use Rattle.protocol.specs.Message.{read}
-use Rattle.protocol.specs.Refusals.{Condition, Checks, every, SIZE, SEAT, ROUND, NOTE, RECORD, KEYS, STORE, OUT, SAID, GARBLED, OTHER-ROUND, STRANGER, DISORDER, SIGNATURE, NO-CONFLICT-IN, NO-CONFLICT-BETWEEN, KEY-MATERIAL, outsideConditions, recordConditions, messageConditions, certificateConditions, twoConditions, openingConditions, submitConditions, stepConditions, evidenceConditions, makingConditions, lowerConditions, checkConditions, makeKeyConditions, signConditions, writeNoteConditions, readNoteConditions}
+use Rattle.protocol.specs.Refusals.{Condition, Checks, every, SIZE, SEAT, ROUND, NOTE, RECORD, KEYS, STORE, OUT, SAID, GARBLED, OTHER-ROUND, STRANGER, DISORDER, SIGNATURE, NO-CONFLICT-IN, NO-CONFLICT-BETWEEN, KEY-MATERIAL, outsideConditions, recordConditions, messageConditions, certificateConditions, twoConditions, packConditions, joinedConditions, openingConditions, submitConditions, stepConditions, evidenceConditions, makingConditions, lowerConditions, joiningConditions, checkConditions, makeKeyConditions, signConditions, writeNoteConditions, readNoteConditions}
 use Rattle.protocol.specs.Signatures.{checkSignature, makeKeyRefusal, makeKey, signRefusal, sign}
 use Rattle.protocol.specs.Calls as calls
 use Rattle.protocol.specs.declared.Record.{Record}
@@ -108,7 +108,17 @@ module _
     abbrev pub of-both : List Condition
     of-both = NO-CONFLICT-BETWEEN (read n first) (read n second) ∷ []
 
-    -- the lists of all calls but reading a note, those over two certificates in parts
+    -- over two packs: the rows of the other arguments, and one pack's 9 to 15
+    abbrev pub joining-given : List Condition
+    joining-given = outsideConditions n round keys ++ OUT (joinedOutLength n) out ∷ []
+
+    abbrev pub of-first-pack : List Condition
+    of-first-pack = joinedConditions checks n round (read n first)
+
+    abbrev pub of-second-pack : List Condition
+    of-second-pack = joinedConditions checks n round (read n second)
+
+    -- the lists of all calls but reading a note, those over two certificates or packs in parts
     abbrev pub lists : List (List Condition)
     lists =
         openingConditions n seat round keys
@@ -123,15 +133,19 @@ module _
         ∷ lower-given
         ∷ of-first
         ∷ of-second
+        ∷ joining-given
+        ∷ of-first-pack
+        ∷ of-second-pack
         ∷ []
 
     -- by computation: a list's numbers don't depend on its conditions
     pub lists-follow : (every (follows order) (map numbers lists) ≡ true) × (every (follows ofDocument01) (map numbers lists) ≡ true)
-    unfolding every follows order ofDocument01 numbers openingConditions submitConditions stepConditions evidenceConditions checkConditions makeKeyConditions signConditions writeNoteConditions outsideConditions recordConditions messageConditions certificateConditions
+    unfolding every follows order ofDocument01 numbers openingConditions submitConditions stepConditions evidenceConditions checkConditions makeKeyConditions signConditions writeNoteConditions outsideConditions recordConditions messageConditions certificateConditions packConditions joinedConditions
     lists-follow = (refl, refl)
 
     -- each call answers the number with this property; over two certificates, that of the other arguments comes first, then that of
-    -- the first certificate, that of the second, and 15
+    -- the first certificate, that of the second, and 15; over two packs, that of the other arguments, that of the first pack, and that of
+    -- the second
     pub record Answers (Is : ℕ → List Condition → Type 0) : Type 0 where
       pub opening : Is (calls.opening n seat round keys .number) (openingConditions n seat round keys)
       pub submit : Is (calls.submit checks keys r store value signature out .refusal) (submitConditions checks keys r store value signature out)
@@ -144,6 +158,8 @@ module _
       pub making : calls.making checks n round keys first second out .refusal ≡ (firstOf making-given before firstOf of-first before firstOf of-second before firstOf of-both)
       pub lower : firstOf (lowerConditions checks n round keys (read n first) (read n second)) ≡ (firstOf lower-given before firstOf of-first before firstOf of-second before firstOf of-both)
       pub parts : Is (firstOf making-given) making-given × Is (firstOf lower-given) lower-given × Is (firstOf of-first) of-first × Is (firstOf of-second) of-second
+      pub joining : calls.joining checks n round keys first second out .refusal ≡ (firstOf joining-given before firstOf of-first-pack before firstOf of-second-pack)
+      pub joining-parts : Is (firstOf joining-given) joining-given × Is (firstOf of-first-pack) of-first-pack × Is (firstOf of-second-pack) of-second-pack
 
     two-before : (given : List Condition) → nonzero (numbers given) ≡ true
         → firstOf (given ++ twoConditions checks n round (read n first) (read n second)) ≡ (firstOf given before firstOf of-first before firstOf of-second before firstOf of-both)
@@ -152,12 +168,19 @@ module _
         firstOf-before given _ e
         ∙ ap (λ later. firstOf given before later) (firstOf-before of-first (of-second ++ of-both) refl ∙ ap (λ later. firstOf of-first before later) (firstOf-before of-second of-both refl))
 
+    packs-before : firstOf (joiningConditions checks n round keys (read n first) (read n second) out) ≡ (firstOf joining-given before firstOf of-first-pack before firstOf of-second-pack)
+    unfolding joiningConditions joinedConditions packConditions messageConditions outsideConditions nonzero numbers
+    packs-before =
+        firstOf-before joining-given (of-first-pack ++ of-second-pack) refl
+        ∙ ap (λ later. firstOf joining-given before later) (firstOf-before of-first-pack of-second-pack refl)
+
     answers-each : (Is : ℕ → List Condition → Type 0) (numbered : List ℕ)
         → ((conditions : List Condition) → Follows numbered conditions → Is (firstOf conditions) conditions) → every (follows numbered) (map numbers lists) ≡ true → Answers Is
-    unfolding calls.opening calls.openedBy calls.submit calls.step calls.resultBy calls.evidenceCheck calls.checkedBy calls.making calls.makingBy calls.writeNote calls.notingBy checkSignature makeKey makeKeyRefusal sign signRefusal makingConditions lowerConditions outsideConditions nonzero numbers
+    unfolding calls.opening calls.openedBy calls.submit calls.step calls.resultBy calls.evidenceCheck calls.checkedBy calls.making calls.makingBy calls.joining calls.writeNote calls.notingBy checkSignature makeKey makeKeyRefusal sign signRefusal makingConditions lowerConditions outsideConditions nonzero numbers
     answers-each Is numbered find follow =
         let found = each Is numbered find lists follow in
         let two = found .1 .1 .1 .1 .1 .1 .1 .1 in
+        let packs = two .1 .1 .1 .1 in
         record {
           opening = found .0;
           submit = found .1 .0;
@@ -170,6 +193,8 @@ module _
           making = two-before making-given refl;
           lower = two-before lower-given refl;
           parts = (two .0, two .1 .0, two .1 .1 .0, two .1 .1 .1 .0);
+          joining = packs-before;
+          joining-parts = (packs .0, packs .1 .0, packs .1 .1 .0);
         }
 
     -- the first in the order

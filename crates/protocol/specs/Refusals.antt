@@ -1,13 +1,13 @@
--- "What is turned back" (document 01; document 02, items 2 and 3): the table's numbers, words and conditions in its order, and for each call
+-- "What is turned back" (document 01; document 02, items 2, 3 and 5): the table's numbers, words and conditions in its order, and for each call
 -- the list of its rows, of which the first that holds is answered. The conditions in full are in `Conditions`, `Record` and `Note`;
 -- those of `Conditions` are exported from here too.
 -- Assumes nothing.
-unfoldable pub use Rattle.protocol.specs.Conditions.{Checks, every, keyAllowed, keysAllowed, wrongKeys, lengthIsnt, wrongKey, shortStore, shortOut, said, isForStep, isFull, isEvidence, wrongLengths, tooLong, otherRound, stranger, rising, disorder, badSignature, lowerFirst, notLowerFirst, equalValues, wrongMakerMaterial, wrongSignerMaterial}
+unfoldable pub use Rattle.protocol.specs.Conditions.{Checks, every, keyAllowed, keysAllowed, wrongKeys, lengthIsnt, wrongKey, shortStore, shortOut, said, isForStep, isFull, isEvidence, isNewEvidence, wrongLengths, tooLong, otherRound, stranger, rising, disorder, badSignature, lowerFirst, notLowerFirst, equalValues, wrongMakerMaterial, wrongSignerMaterial}
 use Prim.Native.Nat.{ℕ}
 use mathlib.Core.Bool.{Bool, not}
 use mathlib.Core.List.{List, [], _∷_, _++_}
 use Rattle.rfc8554.specs.Verify.{valid}
-use Rattle.protocol.specs.Layout.{keyLength, signatureLength, outLength, evidenceOutLength, noteLength}
+use Rattle.protocol.specs.Layout.{keyLength, signatureLength, outLength, evidenceOutLength, joinedOutLength, noteLength}
 use Rattle.protocol.specs.Message.{Message, Submit}
 use Rattle.protocol.specs.Record.{wrongSize, wrongSeat, wrongRound, impossible}
 use Rattle.protocol.specs.Note.{noteRecord, wrongNote}
@@ -131,6 +131,14 @@ unfoldable pub twoConditions : Checks → ℕ → ℕ → Message → Message �
 twoConditions checks n round a b =
     certificateConditions checks n round a ++ certificateConditions checks n round b ++ NO-CONFLICT-BETWEEN a b ∷ []
 
+-- a pack's 9 to 15, for any call: whether the call takes it
+unfoldable pub packConditions : Checks → ℕ → ℕ → Bool → Message → List Condition
+packConditions checks n round taken m = messageConditions checks n round taken m ++ NO-CONFLICT-IN m ∷ []
+
+-- one pack's, where two are joined: "a 0x05 pack is 9 here" (document 02, item 5)
+unfoldable pub joinedConditions : Checks → ℕ → ℕ → Message → List Condition
+joinedConditions checks n round m = packConditions checks n round (isNewEvidence m) m
+
 -- ---- the calls
 
 -- opening: 1, 2, 3, 5
@@ -150,8 +158,7 @@ stepConditions checks keys r store m out =
 
 -- the evidence check: 1, 3, 5, 9, 10, 11, 12, 14, 15
 unfoldable pub evidenceConditions : Checks → ℕ → ℕ → List ℕ → Message → List Condition
-evidenceConditions checks n round keys m =
-    outsideConditions n round keys ++ messageConditions checks n round (isEvidence m) m ++ NO-CONFLICT-IN m ∷ []
+evidenceConditions checks n round keys m = outsideConditions n round keys ++ packConditions checks n round (isEvidence m) m
 
 -- evidence from two certificates: 1, 3, 5, 7, then those of the two
 unfoldable pub makingConditions : Checks → ℕ → ℕ → List ℕ → Message → Message → List ℕ → List Condition
@@ -161,6 +168,11 @@ makingConditions checks n round keys a b out =
 -- the lower certificate, which has no out buffer: 1, 3, 5, then those of the two
 unfoldable pub lowerConditions : Checks → ℕ → ℕ → List ℕ → Message → Message → List Condition
 lowerConditions checks n round keys a b = outsideConditions n round keys ++ twoConditions checks n round a b
+
+-- two packs joined: 1, 3, 5, 7, then 9 to 15, "the first pack's before the second's" (document 02, item 5)
+unfoldable pub joiningConditions : Checks → ℕ → ℕ → List ℕ → Message → Message → List ℕ → List Condition
+joiningConditions checks n round keys a b out =
+    outsideConditions n round keys ++ OUT (joinedOutLength n) out ∷ [] ++ joinedConditions checks n round a ++ joinedConditions checks n round b
 
 -- the stand-alone check: 5, 9, 14
 unfoldable pub checkConditions : List ℕ → List ℕ → List ℕ → List Condition

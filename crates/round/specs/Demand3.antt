@@ -7,8 +7,8 @@ use mathlib.Core.List.{List, List·Memᴰ}
 use mathlib.Core.Logic.{_≢_, _↔_}
 use Rattle.quorum.specs.Quorum.{t0, In, size}
 use Rattle.protocol.specs.Message.{read}
-use Rattle.protocol.specs.Calls.{making, evidenceCheck}
-use Rattle.round.specs.Round.{Setting, InHand, Boat, Relation, EachSigned, resultOf, Submits, Confirms, HaveReached, WritesEvidence, WritesFirst, MakesEvidence, StepGiven, Delivered, Accepted, AcceptedFrom, Names}
+use Rattle.protocol.specs.Calls.{evidenceCheck}
+use Rattle.round.specs.Round.{Setting, InHand, Boat, Relation, EachSigned, resultOf, Submits, Confirms, HaveReached, WritesEvidence, WritesFirst, handled, MakesEvidence, StepGiven, Delivered, Accepted, AcceptedFrom, Names}
 
 -- "In one round and under one key table"
 module _ (S : Setting) where
@@ -22,7 +22,8 @@ module _ (S : Setting) where
         (i : I) (layout signature : List ℕ) → R (boat i .seat) layout signature → (Submits S (boat i) layout → ⊥)
         → checks (boat i .seat) layout signature ≡ false
 
-    -- "then no honest seat stands in any evidence written, or accepted from delivered signatures."
+    -- "then no honest seat stands in any evidence written, or accepted from delivered signatures.": written by a call in a list, made or
+    -- joined from what is in hand, or accepted
     pub record NoneBlamed (R : Relation) : Type 0 where
       pub written : (i j : I) (evidence : List ℕ) → WritesEvidence S (boat j) evidence → Names S evidence (boat i .seat) → ⊥
       pub made : (i j : I) (evidence : List ℕ) → MakesEvidence S (boat j) evidence → Names S evidence (boat i .seat) → ⊥
@@ -49,11 +50,11 @@ module _ (S : Setting) where
     pub names : NamesEnough evidence
 
   module _ {I : Type 0} (boat : I → Boat) where
-    -- beyond the demand: a relation that holds of every signature in the messages that a step in a list, or a making of evidence,
-    -- is given and doesn't refuse. The bytes given to a refused call don't matter.
+    -- beyond the demand: a relation that holds of every signature in the messages that a step in a list, or a making or a joining of
+    -- evidence, is given and doesn't refuse. The bytes given to a refused call don't matter.
     pub record Takes (R : Relation) : Type 0 where
       pub steps : (i : I) (bytes : List ℕ) (g : StepGiven S (boat i) bytes) → resultOf S (g .call) .refusal ≡ 0 → EachSigned R (read n bytes)
-      pub makings : (i : I) (h : InHand) → List·Memᴰ h (boat i .inHand) → making checks n round keys (h .a) (h .b) (h .out) .refusal ≡ 0
+      pub makings : (i : I) (h : InHand) → List·Memᴰ h (boat i .inHand) → handled S h .refusal ≡ 0
           → EachSigned R (read n (h .a)) × EachSigned R (read n (h .b))
 
     pub record Demand3 : Type 1 where

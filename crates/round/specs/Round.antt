@@ -1,4 +1,4 @@
--- "A round as a whole" (document 01), sentence by sentence, for units that may lose power (document 02, item 2).
+-- "A round as a whole" (document 01), sentence by sentence, for units that may lose power (document 02, item 2) and join packs (item 5).
 -- Assumes nothing.
 use Prim.Native.Nat.{ℕ, _≤_}
 use mathlib.Core.Path.{_≡_}
@@ -10,7 +10,7 @@ use Rattle.protocol.specs.Layout.{storeLength, outLength}
 pub use Rattle.protocol.specs.Entries.{Each}
 use Rattle.protocol.specs.Message.{Message, Notice, Full, Signed, Entry, render, renderAll, read, signed, entrySeats, WellFormed}
 use Rattle.protocol.specs.Refusals.{Checks, isEvidence}
-use Rattle.protocol.specs.Calls.{Result, outAfter, opening, submit, step, answer, making, made, evidenceCheck, writeNote, readNote}
+use Rattle.protocol.specs.Calls.{Result, outAfter, opening, submit, step, answer, Making, making, made, joining, evidenceCheck, writeNote, readNote}
 use Rattle.protocol.specs.declared.Record.{Record}
 
 -- ---- calls
@@ -96,9 +96,14 @@ pub data Event : Type 0 where
   -- power is lost, and the unit is opened again, with a store holding any bytes
   OpensAgain : (store : List ℕ) → Event
 
--- "Making evidence from what is in hand, and the evidence check, touch no record and stand outside the lists": two certificates, and
--- any out buffer. A power cut takes none of them away. The claims are for any list of them.
+-- what is done with two things in hand: evidence is made from two certificates, or two packs are joined (document 02, item 5)
+pub data Work : Type 0 where
+  Make Join : Work
+
+-- "Making evidence from what is in hand, and the evidence check, touch no record and stand outside the lists": what is done, the two
+-- certificates or packs, and any out buffer. A power cut takes none of them away. The claims are for any list of them.
 pub record InHand : Type 0 where
+  pub work : Work
   pub a : List ℕ
   pub b : List ℕ
   pub out : List ℕ
@@ -273,11 +278,17 @@ module _ (S : Setting) where
     pub are : Are n (writtenOver S (listOf S u)) (before ++ written .message ∷ later)
     pub none : Each (λ (m : Message). isEvidence m ≡ false) before
 
-  -- "or made or joined by an honest unit, with this n, round and key table, from what it has in hand."
+  -- "or made or joined by an honest unit, with this n, round and key table, from what it has in hand.": the result of either call
+  abbrev pub worked : Work → List ℕ → List ℕ → List ℕ → Making
+  worked Make a b out = making checks n round keys a b out
+  worked Join a b out = joining checks n round keys a b out
+
+  abbrev pub handled : InHand → Making
+  handled h = worked (h .work) (h .a) (h .b) (h .out)
+
+  -- the bytes that it writes
   abbrev pub makingOf : InHand → List ℕ
-  makingOf h =
-      let result = making checks n round keys (h .a) (h .b) (h .out) in
-      counted (made result .written) (result .written) (h .out)
+  makingOf h = counted (made (handled h) .written) (handled h .written) (h .out)
 
   pub record MakesEvidence (u : Boat) (evidence : List ℕ) : Type 0 where
     pub hand : InHand

@@ -1,5 +1,4 @@
 -- Sources of a certificate's signatures, and the laws of slots and of certificates held.
 pub mod Sources
-pub mod SeatLaws
 pub mod StoreLaws
 pub mod SourcesLaws

@@ -22,7 +22,7 @@ use Rattle.layout.specs.Places.{bankOf}
 use Rattle.layout.specs.declared.Bank.{Bank}
 use Rattle.store.specs.Sources.{bytesOf, Sound, entryPlace, Stands, Readable, signatureAt, signatureFrom, certificateFrom}
 use Rattle.store.specs.StoreLaws.{length-signature, bank-listed, slot-inside, slot-read}
-use Rattle.store.specs.SeatLaws.{seats-set, set-lt, seats-split, count-below}
+use Rattle.protocol.specs.SeatLaws.{seats-set, set-lt, seats-split, count-below}
 use Rattle.store.specs.declared.sources.Place.{Place}
 use Rattle.store.specs.declared.sources.Place.the-variants as place
 use Rattle.store.specs.declared.sources.Source.{Source}

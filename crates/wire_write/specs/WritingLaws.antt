@@ -21,7 +21,7 @@ use Rattle.protocol.specs.Entries.{Form, renderEntry, renderEntries}
 use Rattle.protocol.specs.EntriesLaws.{entries-append, length-entry}
 use Rattle.protocol.specs.Message.{render}
 use Rattle.protocol.specs.Certificate.{Certificate, orderedEvidence, evidenceOf}
-use Rattle.store.specs.SeatLaws.{seats-split}
+use Rattle.protocol.specs.SeatLaws.{seats-split}
 use Rattle.wire_write.specs.Writing.{Wrote, head}
 
 -- ---- one write after another
