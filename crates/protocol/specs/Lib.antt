@@ -34,4 +34,5 @@ pub mod Signatures
 pub mod SignaturesLaws
 pub mod SignatureClaim
 pub mod Calls
+pub mod CallsLaws
 pub mod NoteClaim
