@@ -22,6 +22,7 @@ pub mod KeptLaws
 pub mod Whole
 pub mod UnrefusedLaws
 pub mod NotRefused
+pub mod JoinedLaws
 pub mod Journey
 pub mod Opened
 pub mod PowerLaws
