@@ -25,7 +25,7 @@ use Rattle.round.specs.Round.{Each, Relation, EachSigned}
 use Rattle.reading.specs.ListsLaws.{each-map}
 use Rattle.reading.specs.Reading.{Sized}
 use Rattle.reading.specs.ReadingLaws.{read-sized}
-use Rattle.claims.specs.Sound.{Attested, Pairs}
+use Rattle.claims.specs.Sound.{Pairs}
 use Rattle.claims.specs.CertificatesLaws.{set-size, set-below, seats-rising}
 use Rattle.claims.specs.UnrefusedLaws.{Taken, signed-pairs}
 use Rattle.claims.specs.NotRefused.{PackFit}

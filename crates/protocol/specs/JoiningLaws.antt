@@ -2,20 +2,21 @@
 -- Assumes nothing.
 use mathlib.Core.Path.{_≡_, refl, sym, ap, ap₂, _∙_}
 use mathlib.Core.Bool.{true}
-use mathlib.Core.List.{List, [], _∷_, map, map-map, map-id, List·Memᴰ, List·Memᴰ·head, List·Memᴰ·tail, List·Memᴰ·not-nil, List·Memᴰ·cases-cons, Memᴰ·map, Memᴰ·of-map}
+use mathlib.Core.List.{List, [], _∷_, map, map-map, map-id, List·Memᴰ, List·Memᴰ·head, List·Memᴰ·tail, List·Memᴰ·not-nil, List·Memᴰ·cases-cons, Memᴰ·of-map}
 use mathlib.Core.Logic.{_⊎_, inl, inr, ⊎-elim, _≢_}
 use Prim.Native.Nat.{ℕ, _^_, _<_}
 use native.Mathlib.Omega.{arith}
 use native.Mathlib.Decide.{ℕ-discrete}
 use lib.Dec.{ltb}
 use borrow.Author.Tests.{eq-eqb, ne-eqb}
-use Rattle.quorum.specs.Quorum.{bit, In, has, union, seats}
+use Rattle.quorum.specs.Quorum.{bit, In, union, seats}
 use Rattle.quorum.specs.QuorumLaws.{bit-cases, bit-union, has-true, has-false, in-union, same-seats, union-lt, mem-seats}
 use Rattle.protocol.specs.Entries.{Each, formSeats}
+use Rattle.protocol.specs.EntriesLaws.{map-same}
 use Rattle.protocol.specs.Message.{Pair, ValuesEach, Message, Evidence, evidenceForm, entrySeats}
 use Rattle.protocol.specs.Certificate.{setOf}
 use Rattle.protocol.specs.CertificateLaws.{in-set, set-seats}
-use Rattle.protocol.specs.Joining.{pairsIn, pairAmong, packSet, joinedPair, joinedPairs}
+use Rattle.protocol.specs.Joining.{pairsIn, pairAmong, joinedPair, joinedPairs}
 use Rattle.protocol.specs.Refusals.{every, rising}
 use Rattle.protocol.specs.SeatLaws.{Sorted, sorted-rising, seats-set}
 
@@ -51,10 +52,6 @@ among-made f h [] s m = absurd (List·Memᴰ·not-nil m)
 among-made f h (x ∷ l) s m =
     among-cases (f x) (map f l) s (λ q. q ≡ f s) (λ e. ap f (sym (h x) ∙ e))
     (λ d. among-made f h l s (⊎-elim (λ (e : s ≡ x). absurd (d (h x ∙ sym e))) (λ t. t) (List·Memᴰ·cases-cons m)))
-
-pub map-same : {A : Type 0} (f g : ℕ → A) (l : List ℕ) → Each (λ (s : ℕ). f s ≡ g s) l → map f l ≡ map g l
-map-same f g [] h = refl
-map-same f g (x ∷ l) h = ap₂ _∷_ (h x (List·Memᴰ·head refl)) (map-same f g l (λ s d. h s (List·Memᴰ·tail d)))
 
 -- entries whose seats rise are the pairs of their seats
 among-own : (ps : List Pair) → Sorted (seatsAmong ps) → map (pairAmong ps) (seatsAmong ps) ≡ ps
