@@ -19,7 +19,7 @@ use Rattle.protocol.specs.Layout.{signatureLength, banks, collectedBank, firstB
 use Rattle.protocol.specs.Message.{Message, Submit, Notice, Full, Evidence, Garbled, read, seatsOf}
 use Rattle.protocol.specs.Certificate.{certificateIn, keptValue, keptSignature, conflictOf}
 use Rattle.protocol.specs.Record.{withKept, outOfRange, wrongHeard, namesStranger, wrongCollected, wrongFirst, lacksFirst, wrongGuilty, wrongSent, wrongKept, wrongUnset, impossible}
-use Rattle.protocol.specs.Refusals.{Condition, Checks, KEYS, OUT, SAID, GARBLED, GARBLED-OWN, OTHER-ROUND, STRANGER, DISORDER, SIGNATURE, NO-CONFLICT-IN, NO-CONFLICT-BETWEEN, isForStep, isFull, isEvidence, shortStore, outsideConditions, recordConditions, messageConditions, certificateConditions, twoConditions, submitConditions, stepConditions, evidenceConditions, makingConditions, lowerConditions}
+use Rattle.protocol.specs.Refusals.{Condition, Checks, KEYS, OUT, SAID, GARBLED, GARBLED-OWN, OTHER-ROUND, STRANGER, DISORDER, SIGNATURE, NO-CONFLICT-IN, NO-CONFLICT-BETWEEN, isForStep, isFull, isEvidence, shortStore, outsideConditions, recordConditions, messageConditions, certificateConditions, twoConditions, packConditions, submitConditions, stepConditions, evidenceConditions, makingConditions, lowerConditions}
 use Rattle.protocol.specs.Step.{State, withUnit, write, collect, setOwnValue, submitOwn, isWanted, collectIfWanted, isOpenTo, collectKeptSeat, collectKeptBelow, emptyKept, collectKept, hear, reply, hearCertificate, confirmIfComplete, submitted, stepped}
 use Rattle.protocol.specs.Calls.{Result, resultBy, start, submit, step, Making, makingBy, making, checkedBy, evidenceCheck, lowerOf, lowerCertificate}
 use Rattle.protocol.specs.declared.Record.{Record}
@@ -228,7 +228,7 @@ step-as-before checks keys r store bytes out none timely room =
 
 -- the calls without a record answer as before, whatever they are given
 pub evidence-check-as-before : (checks : Checks) (n round : ℕ) (keys bytes : List ℕ) → evidenceCheck checks n round keys bytes ≡ evidenceCheckBefore checks n round keys bytes
-unfolding evidenceCheck evidenceCheckBefore evidenceConditions outsideConditions messageConditions messageConditionsBefore firstOf
+unfolding evidenceCheck evidenceCheckBefore evidenceConditions packConditions outsideConditions messageConditions messageConditionsBefore firstOf
 evidence-check-as-before checks n round keys bytes = refl
 
 pub making-as-before : (checks : Checks) (n round : ℕ) (keys a b out : List ℕ) → making checks n round keys a b out ≡ makingBefore checks n round keys a b out

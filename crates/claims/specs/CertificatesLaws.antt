@@ -12,7 +12,7 @@ use lib.ListN.{length, length-map}
 use lib.Pow.{pow-pos}
 use borrow.Author.Tests.{eqb-true, eqb-false}
 use Rattle.quorum.specs.Quorum.{t0, In, size, shared, seats}
-use Rattle.quorum.specs.QuorumLaws.{bit-cases, in-shared, shared-lt, with-lt, size-empty, size-within, size-with-new, length-seats, mem-seats, seats-rise, k-of-n-share}
+use Rattle.quorum.specs.QuorumLaws.{bit-cases, in-shared, shared-lt, with-lt, size-empty, size-le, size-with-new, length-seats, mem-seats, seats-rise, k-of-n-share}
 use Rattle.protocol.specs.Values.{isLower}
 use Rattle.protocol.specs.Message.{Entry, Pair, ValuesEach, Message, Evidence, fullForm, evidenceForm}
 use Rattle.protocol.specs.Certificate.{Certificate, setOf, signatureOf, certificateOf, entryOf, entriesOf, pairOf, pairsOf, orderedEvidence, evidenceOf, conflictOf}
@@ -117,7 +117,7 @@ module _ (checks : Checks) (W : Relation) where
         laid = each-map _ pair (seats n mask) (λ s m. pair-laid (pair s) (y .sized) (z .sized) (low s m .sized) (high s m .sized));
         ordered = each-map (λ (p : Pair). lowerFirst p ≡ true) pair (seats n mask) (λ s m. l);
         some = omega (arith, size-some n mask below some);
-        few = omega (arith, size-within (c .seats) mask (λ s i. both s i .0), y .enough);
+        few = omega (arith, size-le n mask below);
         rise = ap rising (pair-seats n mask c d) ∙ seats-rising n mask;
         below = each-map (λ (p : Pair). p .seat < n) pair (seats n mask) (seats-below n mask);
         lows = each-map (λ (p : Pair). Attested checks W (p .seat) (p .lowerValue) (p .lower)) pair (seats n mask) low;

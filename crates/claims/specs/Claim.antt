@@ -2,11 +2,11 @@
 --
 -- Statements and definitions to read in order to believe it, without any proof:
 -- 1. `demand-3`, in this file, and `Demand3` in `round/specs/Demand3`: the demand, sentence by sentence.
--- 2. `round/specs/Round`: the words of the demand, beside document 01's "A round as a whole" and, for units that lose power, document 02's
---    item 2: the events of a round, what an honest unit's host does, and the calls that count.
--- 3. `protocol/specs/Calls`: the results of an opening, a submit, a step, a making of evidence, the evidence check, and the writing and the
---    reading of a note; with the files of `protocol/specs` under it (`Step`, `Refusals`, `Conditions`, `Record`, `Note`, `Certificate`,
---    `Message`, `Entries`, `Layout`, `Values`), and `quorum/specs/Quorum`: t0, k, sets of seats and their sizes.
+-- 2. `round/specs/Round`: the words of the demand, beside document 01's "A round as a whole" and, for units that lose power and that join
+--    packs, document 02's items 2 and 5: the events of a round, what an honest unit's host does, and the calls that count.
+-- 3. `protocol/specs/Calls`: the results of an opening, a submit, a step, a making of evidence, a joining of packs, the evidence check, and
+--    the writing and the reading of a note; with the files of `protocol/specs` under it (`Step`, `Refusals`, `Conditions`, `Record`, `Note`,
+--    `Certificate`, `Joining`, `Message`, `Entries`, `Layout`, `Values`), and `quorum/specs/Quorum`: t0, k, sets of seats and their sizes.
 -- 4. `protocol/specs/Signatures: checks`: the signature check, by `rfc8554/specs`' `Verify`, `Tree` and `Ots`, and `fips180/specs/Fips`.
 -- 5. `as-promised` and `results-promised`, in this file: the rounds of the claim are those by the contracts of the code.
 -- 6. `none-blamed-by-sent`, in this file: the same for the messages that are sent.

@@ -5,22 +5,22 @@ use mathlib.Core.Path.{_≡_, _∙_}
 use mathlib.Core.List.{List}
 use Prim.Native.Nat.{ℕ, _+_, _≤_}
 use Rattle.quorum.specs.Quorum.{t0, size, shared}
-use Rattle.refusal.specs.Refusal.{firstOf, unrefused}
+use Rattle.refusal.specs.Refusal.{unrefused}
 use Rattle.protocol.specs.Entries.{formSeats}
-use Rattle.protocol.specs.Message.{Pair, ValuesEach, Message, Evidence, evidenceForm, render, read, entrySeats}
+use Rattle.protocol.specs.Message.{Pair, ValuesEach, Evidence, evidenceForm, render, read, entrySeats}
 use Rattle.protocol.specs.MessageLaws.{read-render}
 use Rattle.protocol.specs.Certificate.{setOf, certificateIn}
 use Rattle.protocol.specs.ConditionsLaws.{each-every}
 use Rattle.protocol.specs.Refusals.{isEvidence, lowerFirst, notLowerFirst}
-use Rattle.protocol.specs.Calls.{makingBy, making, checkedBy, evidenceCheck}
-use Rattle.round.specs.Round.{Setting, InHand, makingOf, Accepted}
-use Rattle.claims.specs.Sound.{Any, Certifies, Pairs}
+use Rattle.protocol.specs.Calls.{making, checkedBy, evidenceCheck}
+use Rattle.round.specs.Round.{Setting, Make, InHand, makingOf, Accepted}
+use Rattle.claims.specs.Sound.{Any, Pairs}
 use Rattle.claims.specs.CertificatesLaws.{conflict-elim}
 use Rattle.reading.specs.ReadingLaws.{read-sized}
 use Rattle.claims.specs.UnrefusedLaws.{evidence-taken}
-use Rattle.claims.specs.NotRefused.{Outside, evidence-not-refused, MakingFit, making-fit}
+use Rattle.claims.specs.NotRefused.{Outside, evidence-not-refused, making-not-refused}
 use Rattle.claims.specs.Units.{pairs-formed}
-use Rattle.claims.specs.Safe.{conditions, evidenceFrom, making-bytes, certifies-in}
+use Rattle.claims.specs.Safe.{evidenceFrom, making-bytes, certifies-in}
 
 module _ (S : Setting) (outside : Outside (S .n) (S .round) (S .keys)) where
   open Setting S using (n, round, keys, checks)
@@ -47,35 +47,22 @@ module _ (S : Setting) where
     pub names : evidenceCheck checks n round keys evidence .mask ≡ shared (certificateIn (read n a) .seats) (certificateIn (read n b) .seats)
     pub enough : t0 n + 1 ≤ size (evidenceCheck checks n round keys evidence .mask)
 
-module _ (S : Setting) (h : InHand) (unrefused-making : making (S .checks) (S .n) (S .round) (S .keys) (h .a) (h .b) (h .out) .refusal ≡ 0) where
+module _ (S : Setting) (a b out : List ℕ) (unrefused-making : making (S .checks) (S .n) (S .round) (S .keys) a b out .refusal ≡ 0) where
   open Setting S using (n, round, keys, checks)
 
-  zero : firstOf (conditions S h) ≡ 0
-  unfolding making makingBy
-  zero = unrefused-making
-
-  abbrev a : Message
-  a = read n (h .a)
-
-  abbrev b : Message
-  b = read n (h .b)
-
-  taken : MakingFit checks n round keys (h .a) (h .b) (h .out)
-  taken = making-fit checks n round keys (h .a) (h .b) (h .out) zero
-
-  first : Certifies checks Any n (certificateIn a)
-  first = certifies-in checks Any n round a (taken .firstFull) (taken .first) (read-sized n (h .a)) (λ s m. tt)
-
-  second : Certifies checks Any n (certificateIn b)
-  second = certifies-in checks Any n round b (taken .secondFull) (taken .second) (read-sized n (h .b)) (λ s m. tt)
+  abbrev hand : InHand
+  hand = record { work = Make; a = a; b = b; out = out }
 
   -- the claim, about the bytes that the call's answer counts
-  pub made-accepted : Accuses S (h .a) (h .b) (makingOf S h)
+  pub made-accepted : Accuses S a b (makingOf S hand)
   unfolding unrefused entrySeats formSeats evidenceForm
   made-accepted =
-      let bytes : makingOf S h ≡ render (evidenceFrom S h) = making-bytes S h ∙ rw zero in
+      let taken = making-not-refused checks n round keys a b out .0 unrefused-making in
+      let first = certifies-in checks Any n round (read n a) (taken .firstFull) (taken .first) (read-sized n a) (λ s m. tt) in
+      let second = certifies-in checks Any n round (read n b) (taken .secondFull) (taken .second) (read-sized n b) (λ s m. tt) in
+      let bytes : makingOf S hand ≡ render (evidenceFrom S Make a b) = making-bytes S hand ∙ rw unrefused-making in
       rw bytes
-      (conflict-elim checks Any n (certificateIn a) (certificateIn b) first second (λ m. Accuses S (h .a) (h .b) (render m)) round (taken .conflict) (taken .outside .some)
+      (conflict-elim checks Any n (certificateIn (read n a)) (certificateIn (read n b)) first second (λ m. Accuses S a b (render m)) round (taken .conflict) (taken .outside .some)
       (λ ps z names enough.
       let p = accepted-mask S (taken .outside) ps z in
       record { accepted = p .0; names = p .1 ∙ names; enough = rw (p .1, names) enough }))

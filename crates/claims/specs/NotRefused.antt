@@ -5,7 +5,7 @@
 -- Assumes nothing.
 use Prim.Native.Nat.{ℕ, _+_, _*_, _≤_, _<_}
 use mathlib.Core.Path.{_≡_, refl, sym, ap, subst, _∙_}
-use mathlib.Core.Bool.{true, false, not, _&&_, _||_, true≢false}
+use mathlib.Core.Bool.{Bool, true, false, not, _&&_, _||_, true≢false}
 use mathlib.Core.List.{List, [], _∷_, _++_, List·Memᴰ·head, List·Memᴰ·not-nil}
 use mathlib.Core.Logic.{_≢_, _↔_}
 use native.Mathlib.Omega.{arith}
@@ -21,7 +21,7 @@ use Rattle.refusal.specs.RefusalLaws.{both-true, both-false, firstOf-zero}
 use Rattle.rfc8554.specs.Ots.{knownOts}
 use Rattle.rfc8554.specs.Tree.{knownLms}
 use Rattle.rfc8554.specs.Verify.{lmsTypeOf, otsTypeOf, valid}
-use Rattle.protocol.specs.Layout.{valueLength, signatureLength, treeLength, messageLimit, keyLength, keyAt, storeLength, outLength, evidenceOutLength, noteLength}
+use Rattle.protocol.specs.Layout.{valueLength, signatureLength, treeLength, messageLimit, keyLength, keyAt, storeLength, outLength, evidenceOutLength, joinedOutLength, noteLength}
 use Rattle.protocol.specs.Message.{Message, Submit, Notice, Full, Evidence, Garbled, render, read, signed, seatsOf, entrySeats, roundOf, WellFormed}
 use Rattle.protocol.specs.MessageLaws.{read-render}
 use Rattle.protocol.specs.Certificate.{certificateIn}
@@ -29,10 +29,10 @@ use Rattle.protocol.specs.Record.{lastRound, wrongSeat, impossible, fresh, InRa
 use Rattle.protocol.specs.Note.{noteRecord, NoteFits}
 use Rattle.protocol.specs.NoteLaws.{note-right}
 use Rattle.protocol.specs.NoteClaim.{note-written, taken-fits, taken-possible}
-use Rattle.protocol.specs.Refusals.{Condition, OUT, NO-CONFLICT-IN, NO-CONFLICT-BETWEEN, Checks, every, lengthIsnt, wrongKey, certificateConditions, checkConditions, makeKeyConditions, signConditions, wrongKeys, shortStore, shortOut, said, isForStep, isFull, isEvidence, wrongLengths, rising, badSignature, notLowerFirst, equalValues, messageConditions, outsideConditions, recordConditions, openingConditions, submitConditions, stepConditions, evidenceConditions, twoConditions, makingConditions, writeNoteConditions, readNoteConditions}
+use Rattle.protocol.specs.Refusals.{Condition, OUT, NO-CONFLICT-IN, NO-CONFLICT-BETWEEN, Checks, every, lengthIsnt, wrongKey, certificateConditions, checkConditions, makeKeyConditions, signConditions, wrongKeys, shortStore, shortOut, said, isForStep, isFull, isEvidence, isNewEvidence, wrongLengths, rising, badSignature, notLowerFirst, equalValues, messageConditions, outsideConditions, recordConditions, openingConditions, submitConditions, stepConditions, evidenceConditions, twoConditions, makingConditions, packConditions, joinedConditions, joiningConditions, writeNoteConditions, readNoteConditions}
 use Rattle.protocol.specs.ConditionsLaws.{table-right}
 use Rattle.protocol.specs.Signatures.{checkSignature, makeKeyRefusal, makeKey, signRefusal, sign}
-use Rattle.protocol.specs.Calls.{openedBy, opening, resultBy, submit, step, makingBy, making, checkedBy, evidenceCheck, notingBy, writeNote, readNote}
+use Rattle.protocol.specs.Calls.{openedBy, opening, resultBy, submit, step, makingBy, making, joining, checkedBy, evidenceCheck, notingBy, writeNote, readNote}
 use Rattle.protocol.specs.declared.Record.{Record}
 use Rattle.round.specs.Round.{Relation, EachSigned}
 use Rattle.reading.specs.ListsLaws.{each-one}
@@ -208,9 +208,9 @@ message-not-refused checks keys r store out m lent formed forStep taken =
       message = subst (Taken checks (r .n) (r .round)) reads taken;
     })
 
--- ---- the evidence check, and evidence from two certificates
+-- ---- the evidence check, evidence from two certificates, and two packs joined
 
--- arguments of both calls beside messages
+-- arguments of these calls beside messages
 pub record Outside (n round : ℕ) (keys : List ℕ) : Type 0 where
   -- 1: n is 1 to 32
   pub some : 1 ≤ n
@@ -243,23 +243,35 @@ of-outside : (n round : ℕ) (keys : List ℕ) (rest : List Condition) → Outsi
 unfolding outsideConditions firstOf
 of-outside n round keys rest t = rw (size-right n (t .some) (t .most), round-right round (t .inTime), keys-right keys n .1 (t .table))
 
+-- a pack's rows, in any call's list: whether the call takes it
+module _ (checks : Checks) (n round : ℕ) (takes : Bool) (m : Message) (rest : List Condition) where
+  pack-of : firstOf (packConditions checks n round takes m ++ rest) ≡ 0 → (takes ≡ true) × Taken checks n round m × (notLowerFirst m ≡ false) × (firstOf rest ≡ 0)
+  unfolding packConditions messageConditions
+  pack-of e =
+      let t = message-taken checks n round takes m (NO-CONFLICT-IN m ∷ rest) e in
+      let u = firstOf-zero 14 _ _ (t .1) in
+      (t .0 .0, t .0 .1, u .0, u .1)
+
+  of-pack : takes ≡ true → Taken checks n round m → notLowerFirst m ≡ false → firstOf (packConditions checks n round takes m ++ rest) ≡ firstOf rest
+  unfolding packConditions messageConditions firstOf
+  of-pack f t l = message-passes checks n round takes m (NO-CONFLICT-IN m ∷ rest) f t ∙ rw l
+
 module _ (checks : Checks) (n round : ℕ) (keys bytes : List ℕ) where
   abbrev given : Message
   given = read n bytes
 
   evidence-fit : firstOf (evidenceConditions checks n round keys given) ≡ 0 → EvidenceFit checks n round keys bytes
-  unfolding evidenceConditions outsideConditions messageConditions
+  unfolding evidenceConditions outsideConditions packConditions messageConditions
   evidence-fit e =
       let outside = outside-of n round keys _ e in
-      let t = message-taken checks n round (isEvidence given) given (NO-CONFLICT-IN given ∷ []) (outside .1) in
-      record { outside = outside .0; isOne = t .0 .0; message = t .0 .1; conflict = firstOf-zero 14 _ _ (t .1) .0 }
+      let t = pack-of checks n round (isEvidence given) given [] (outside .1) in
+      record { outside = outside .0; isOne = t .0; message = t .1; conflict = t .2 }
 
   fit-evidence : EvidenceFit checks n round keys bytes → firstOf (evidenceConditions checks n round keys given) ≡ 0
-  unfolding evidenceConditions outsideConditions messageConditions firstOf
+  unfolding evidenceConditions outsideConditions packConditions messageConditions firstOf
   fit-evidence t =
-      of-outside n round keys (messageConditions checks n round (isEvidence given) given ++ NO-CONFLICT-IN given ∷ []) (t .outside)
-      ∙ message-passes checks n round (isEvidence given) given (NO-CONFLICT-IN given ∷ []) (t .isOne) (t .message)
-      ∙ rw (t .conflict)
+      of-outside n round keys (packConditions checks n round (isEvidence given) given) (t .outside)
+      ∙ of-pack checks n round (isEvidence given) given [] (t .isOne) (t .message) (t .conflict)
 
   pub evidence-not-refused : (evidenceCheck checks n round keys bytes .number ≡ 0) ↔ EvidenceFit checks n round keys bytes
   unfolding evidenceCheck checkedBy
@@ -283,7 +295,7 @@ module _ (checks : Checks) (n round : ℕ) (keys a b out : List ℕ) where
   abbrev conflict : List Condition
   conflict = NO-CONFLICT-BETWEEN (read n a) (read n b) ∷ []
 
-  pub making-fit : firstOf (makingConditions checks n round keys (read n a) (read n b) out) ≡ 0 → MakingFit checks n round keys a b out
+  making-fit : firstOf (makingConditions checks n round keys (read n a) (read n b) out) ≡ 0 → MakingFit checks n round keys a b out
   unfolding makingConditions twoConditions certificateConditions messageConditions outsideConditions shortOut equalValues
   making-fit e =
       let outside = outside-of n round keys _ e in
@@ -312,6 +324,51 @@ module _ (checks : Checks) (n round : ℕ) (keys a b out : List ℕ) where
   pub making-not-refused : (making checks n round keys a b out .refusal ≡ 0) ↔ MakingFit checks n round keys a b out
   unfolding making makingBy
   making-not-refused = (making-fit, fit-making)
+
+-- a pack that is joined
+pub record PackFit (checks : Checks) (n round : ℕ) (bytes : List ℕ) : Type 0 where
+  -- 9: the bytes are an EVIDENCE of the form 0x07
+  pub isNew : isNewEvidence (read n bytes) ≡ true
+  -- 10, 11, 12, 14
+  pub message : Taken checks n round (read n bytes)
+  -- 15: in each entry the lower value comes first
+  pub conflict : notLowerFirst (read n bytes) ≡ false
+
+pub record JoiningFit (checks : Checks) (n round : ℕ) (keys a b out : List ℕ) : Type 0 where
+  -- 1, 3, 5
+  pub outside : Outside n round keys
+  -- 7: "The out buffer has 4 + 2,970 × n bytes or more." (document 02, item 5)
+  pub outRoom : joinedOutLength n ≤ length out
+  -- 9 to 15
+  pub first : PackFit checks n round a
+  pub second : PackFit checks n round b
+
+module _ (checks : Checks) (n round : ℕ) (keys a b out : List ℕ) where
+  joining-fit : firstOf (joiningConditions checks n round keys (read n a) (read n b) out) ≡ 0 → JoiningFit checks n round keys a b out
+  unfolding joiningConditions joinedConditions packConditions messageConditions outsideConditions shortOut
+  joining-fit e =
+      let outside = outside-of n round keys _ e in
+      let s = firstOf-zero 6 _ _ (outside .1) in
+      let t = pack-of checks n round (isNewEvidence (read n a)) (read n a) (joinedConditions checks n round (read n b)) (s .1) in
+      let u = pack-of checks n round (isNewEvidence (read n b)) (read n b) [] (t .3) in
+      record {
+        outside = outside .0;
+        outRoom = ltb-false (length out) (joinedOutLength n) (s .0);
+        first = record { isNew = t .0; message = t .1; conflict = t .2 };
+        second = record { isNew = u .0; message = u .1; conflict = u .2 };
+      }
+
+  fit-joining : JoiningFit checks n round keys a b out → firstOf (joiningConditions checks n round keys (read n a) (read n b) out) ≡ 0
+  unfolding joiningConditions joinedConditions packConditions messageConditions outsideConditions shortOut firstOf
+  fit-joining t =
+      of-outside n round keys (OUT (joinedOutLength n) out ∷ joinedConditions checks n round (read n a) ++ joinedConditions checks n round (read n b)) (t .outside)
+      ∙ rw (le-ltb (length out) (joinedOutLength n) (t .outRoom))
+      (of-pack checks n round (isNewEvidence (read n a)) (read n a) (joinedConditions checks n round (read n b)) (t .first .isNew) (t .first .message) (t .first .conflict)
+      ∙ of-pack checks n round (isNewEvidence (read n b)) (read n b) [] (t .second .isNew) (t .second .message) (t .second .conflict))
+
+  pub joining-not-refused : (joining checks n round keys a b out .refusal ≡ 0) ↔ JoiningFit checks n round keys a b out
+  unfolding joining makingBy
+  joining-not-refused = (joining-fit, fit-joining)
 
 -- ---- keys and signatures
 

@@ -17,7 +17,7 @@ use Rattle.protocol.specs.EntriesLaws.{length-read}
 use Rattle.protocol.specs.Message.{Pair, PairValues, ValuesOnce, ValuesEach, Message, Submit, Notice, Full, Evidence, Garbled, evidenceForm, formOf, countOf, byteAt, readRound, readValues, fitsSubmit, fitsNotice, fitsFull, fitsEvidence, readSubmit, readNotice, readFull, readEvidence, read}
 use Rattle.protocol.specs.MessageLaws.{old-evidence-place, laid-values, evidence-fits, read-cases, pack-old}
 use Rattle.protocol.specs.ConditionsLaws.{each-every}
-use Rattle.protocol.specs.Refusals.{Condition, Checks, every, isEvidence, lowerFirst, notLowerFirst, outsideConditions, messageConditions, evidenceConditions}
+use Rattle.protocol.specs.Refusals.{Condition, Checks, every, isEvidence, lowerFirst, notLowerFirst, outsideConditions, messageConditions, packConditions, evidenceConditions}
 use Rattle.protocol.specs.Calls.{checkedBy, evidenceCheck}
 use Rattle.protocol.specs.declared.Checked.{Checked}
 use Rattle.round.specs.Round.{Each}
@@ -128,6 +128,6 @@ module _ (n : ℕ) (bytes : List ℕ) (old : byteAt bytes 0 ≡ 0x05) where
 -- ---- the claim
 
 pub old-as-before : (checks : Checks) (n round : ℕ) (keys bytes : List ℕ) → byteAt bytes 0 ≡ 0x05 → evidenceCheck checks n round keys bytes ≡ evidenceCheckBefore checks n round keys bytes
-unfolding evidenceCheck evidenceCheckBefore evidenceConditions evidenceConditionsBefore
+unfolding evidenceCheck evidenceCheckBefore evidenceConditions packConditions evidenceConditionsBefore outsideConditions
 old-as-before checks n round keys bytes old =
     rw (conflict-as-before n bytes old, read-as-before n bytes old)

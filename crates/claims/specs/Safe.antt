@@ -2,23 +2,24 @@
 -- seat over that layout, then no honest seat stands in any evidence written, or accepted from delivered signatures."
 -- Assumes nothing.
 use mathlib.Core.Path.{_≡_, refl, sym, ap, subst, _∙_}
-use mathlib.Core.Bool.{Bool, true, false, true≢false, false≢true}
+use mathlib.Core.Bool.{true, false, true≢false, false≢true}
 use mathlib.Core.List.{List, [], _∷_, map, append-nil, List·Memᴰ, List·Memᴰ·not-nil, List·Memᴰ·eq-of-singleton, Memᴰ·of-map}
 use mathlib.Core.Logic.{_⊎_, inl, inr, _≢_}
 use Prim.Native.Nat.{ℕ, zero, suc}
 use native.Mathlib.Omega.{arith}
 use borrow.Author.Tests.{le-ltb, eq-eqb, not-false}
-use Rattle.refusal.specs.Refusal.{firstOf, unrefused}
+use Rattle.refusal.specs.Refusal.{unrefused}
 use Rattle.protocol.specs.Values.{isLower}
 use Rattle.protocol.specs.Entries.{formSeats}
 use Rattle.protocol.specs.Message.{Pair, PackForm, ValuesEach, Message, Submit, Notice, Full, Evidence, Garbled, evidenceForm, render, renderAll, read, signed, entrySeats, WellFormed}
 use Rattle.protocol.specs.MessageLaws.{read-render}
 use Rattle.protocol.specs.Certificate.{certificateIn, conflictOf}
+use Rattle.protocol.specs.Joining.{joinedPairs, joinedOf}
 use Rattle.protocol.specs.ConditionsLaws.{every-each}
-use Rattle.protocol.specs.Refusals.{Checks, isFull, isEvidence, lowerFirst, notLowerFirst, makingConditions}
-use Rattle.protocol.specs.Calls.{makingBy, making, made, checkedBy, evidenceCheck}
+use Rattle.protocol.specs.Refusals.{Checks, isFull, isEvidence, lowerFirst, notLowerFirst}
+use Rattle.protocol.specs.Calls.{makingBy, making, made, joining, checkedBy, evidenceCheck}
 use Rattle.protocol.specs.declared.Record.{Record}
-use Rattle.round.specs.Round.{Setting, IsHonest, Each, Relation, EachSigned, Call, BySubmit, ByStep, ByThinEntry, InHand, Boat, IsStep, Called, resultOf, StandsIn, listOf, Submits, WritesEvidence, makingOf, MakesEvidence, Names, AcceptedFrom, Delivered}
+use Rattle.round.specs.Round.{Setting, IsHonest, Each, Relation, EachSigned, Call, BySubmit, ByStep, ByThinEntry, Work, Make, Join, InHand, Boat, IsStep, Called, resultOf, StandsIn, listOf, Submits, WritesEvidence, worked, handled, makingOf, MakesEvidence, Names, AcceptedFrom, Delivered}
 use Rattle.round.specs.Demand3.{Takes, NoneForged, NoneBlamed}
 use Rattle.reading.specs.ListsLaws.{each-nil, each-one}
 use Rattle.claims.specs.Sound.{Any, Certifies, Pairs, Good}
@@ -26,7 +27,8 @@ use Rattle.claims.specs.CertificatesLaws.{certifies-of, conflict-elim}
 use Rattle.reading.specs.Reading.{Sized}
 use Rattle.reading.specs.ReadingLaws.{read-sized, are-unique}
 use Rattle.claims.specs.UnrefusedLaws.{Taken, signed-pairs, entries-taken}
-use Rattle.claims.specs.NotRefused.{evidence-not-refused, making-fit}
+use Rattle.claims.specs.NotRefused.{Outside, evidence-not-refused, making-not-refused, joining-not-refused}
+use Rattle.claims.specs.JoinedLaws.{pack-elim, joined-pairs}
 use Rattle.reading.specs.Messages.{refusalOf, cameTo}
 use Rattle.reading.specs.MessagesLaws.{counted-written, unrefused-result}
 use Rattle.claims.specs.Journey.{WorthyGiven, Worthy, At, submit-value, any-worthy}
@@ -69,17 +71,37 @@ certifies-in checks R n round Garbled e t l w = absurd (false≢true e)
 module _ (S : Setting) where
   open Setting S using (n, round, keys, checks)
 
-  -- ---- bytes that a making of evidence writes
+  -- ---- bytes that a making or a joining of evidence writes
 
-  abbrev pub conditions : InHand → List (ℕ × Bool)
-  conditions h = makingConditions checks n round keys (read n (h .a)) (read n (h .b)) (h .out)
+  -- the message that it writes
+  abbrev pub evidenceFrom : Work → List ℕ → List ℕ → Message
+  evidenceFrom Make a b = conflictOf n round (certificateIn (read n a)) (certificateIn (read n b))
+  evidenceFrom Join a b = joinedOf n round (read n a) (read n b)
 
-  abbrev pub evidenceFrom : InHand → Message
-  evidenceFrom h = conflictOf n round (certificateIn (read n (h .a))) (certificateIn (read n (h .b)))
+  worked-writes : (w : Work) (a b out : List ℕ) → worked S w a b out .written ≡ unrefused (worked S w a b out .refusal) (render (evidenceFrom w a b)) []
+  unfolding making joining makingBy
+  worked-writes Make a b out = refl
+  worked-writes Join a b out = refl
 
-  pub making-bytes : (h : InHand) → makingOf S h ≡ unrefused (firstOf (conditions h)) (render (evidenceFrom h)) []
-  unfolding making makingBy made
-  making-bytes h = counted-written (making checks n round keys (h .a) (h .b) (h .out) .written) (h .out)
+  pub making-bytes : (h : InHand) → makingOf S h ≡ unrefused (handled S h .refusal) (render (evidenceFrom (h .work) (h .a) (h .b))) []
+  unfolding made
+  making-bytes h = counted-written (handled S h .written) (h .out) ∙ worked-writes (h .work) (h .a) (h .b) (h .out)
+
+  -- where nothing is refused it is a pack, whose signatures the call was given
+  pub evidence-made : (R : Relation) (w : Work) (a b out : List ℕ) → worked S w a b out .refusal ≡ 0 → EachSigned R (read n a) → EachSigned R (read n b)
+      → (P : Message → Type 0) → (Outside n round keys → (ps : List Pair) → Pairs checks R n ps → P (Evidence round ValuesEach ps)) → P (evidenceFrom w a b)
+  unfolding joinedOf
+  evidence-made R Make a b out e r s P f =
+      let t = making-not-refused checks n round keys a b out .0 e in
+      let first = certifies-in checks R n round (read n a) (t .firstFull) (t .first) (read-sized n a) r in
+      let second = certifies-in checks R n round (read n b) (t .secondFull) (t .second) (read-sized n b) s in
+      conflict-elim checks R n (certificateIn (read n a)) (certificateIn (read n b)) first second P round (t .conflict) (t .outside .some) (λ ps z names enough. f (t .outside) ps z)
+  evidence-made R Join a b out e r s P f =
+      let t = joining-not-refused checks n round keys a b out .0 e in
+      pack-elim checks R n round a (t .first) r (λ x. P (joinedOf n round x (read n b)))
+      (λ ps y.
+      pack-elim checks R n round b (t .second) s (λ x. P (joinedOf n round (Evidence round ValuesEach ps) x))
+      (λ qs z. f (t .outside) (joinedPairs n (Evidence round ValuesEach ps) (Evidence round ValuesEach qs)) (joined-pairs checks R n round round ps qs y z)))
 
   -- ---- the one layout of an honest unit
 
@@ -177,39 +199,30 @@ module _ (S : Setting) where
         (λ ps z e. unnamed i j ps (z .ordered) (backed-both j (Backed j) (end .n) ps (λ s v h b. b) z) e)
         (named-in m evidence (boat i .seat) (stands .1 .0 m (stands .2)) (w .bytes) d)
 
-    making-refused : (h : InHand) (q : ℕ) → firstOf (conditions h) ≡ suc q → makingOf S h ≡ renderAll []
+    making-refused : (h : InHand) (q : ℕ) → handled S h .refusal ≡ suc q → makingOf S h ≡ renderAll []
     unfolding unrefused renderAll
     making-refused h q e = making-bytes h ∙ rw e
 
-    making-number : (h : InHand) → firstOf (conditions h) ≡ 0 → making checks n round keys (h .a) (h .b) (h .out) .refusal ≡ 0
-    unfolding making makingBy
-    making-number h e = e
-
-    making-unnamed : (i j : I) (h : InHand) (m : Message) → List·Memᴰ h (boat j .inHand) → firstOf (conditions h) ≡ 0 → StandsIn n m (makingOf S h) → List·Memᴰ (boat i .seat) (entrySeats m) → ⊥
+    making-unnamed : (i j : I) (h : InHand) (m : Message) → List·Memᴰ h (boat j .inHand) → handled S h .refusal ≡ 0 → StandsIn n m (makingOf S h) → List·Memᴰ (boat i .seat) (entrySeats m) → ⊥
     unfolding unrefused renderAll entrySeats formSeats evidenceForm
     making-unnamed i j h m d e stands named =
-        let a = read n (h .a) in
-        let b = read n (h .b) in
-        let t = making-fit checks n round keys (h .a) (h .b) (h .out) e in
-        let r = takes .makings j h d (making-number h e) in
-        let ca = certifies-in checks R n round a (t .firstFull) (t .first) (read-sized n (h .a)) (r .0) in
-        let cb = certifies-in checks R n round b (t .secondFull) (t .second) (read-sized n (h .b)) (r .1) in
-        let bytes : makingOf S h ≡ render (evidenceFrom h) = making-bytes h ∙ rw e in
-        conflict-elim checks R n (certificateIn a) (certificateIn b) ca cb (λ x. makingOf S h ≡ render x → ⊥) round (t .conflict) (t .outside .some)
-        (λ ps z names enough is.
+        let r = takes .makings j h d e in
+        let bytes : makingOf S h ≡ render (evidenceFrom (h .work) (h .a) (h .b)) = making-bytes h ∙ rw e in
+        evidence-made R (h .work) (h .a) (h .b) (h .out) e (r .0) (r .1) (λ x. makingOf S h ≡ render x → ⊥)
+        (λ outside ps z is.
         let x = Evidence round ValuesEach ps in
-        let only = are-unique n (makingOf S h) (stands .0) (x ∷ []) (stands .1) (each-one (WellFormed n) x (pairs-formed checks R n round ps (t .outside .inTime) z), is ∙ sym (append-nil (render x))) in
+        let only = are-unique n (makingOf S h) (stands .0) (x ∷ []) (stands .1) (each-one (WellFormed n) x (pairs-formed checks R n round ps (outside .inTime) z), is ∙ sym (append-nil (render x))) in
         let same : m ≡ x = List·Memᴰ·eq-of-singleton (subst (λ ms. List·Memᴰ m ms) only (stands .2)) in
         unnamed i j ps (z .ordered) (backed-both j R n ps (λ s v g w. inl w) z) (subst (λ y. List·Memᴰ (boat i .seat) (entrySeats y)) same named))
         bytes
 
     made-safe : (i j : I) (evidence : List ℕ) → MakesEvidence S (boat j) evidence → Names S evidence (boat i .seat) → ⊥
-    made-safe i j evidence w d = go (firstOf (conditions h)) refl
+    made-safe i j evidence w d = go (handled S h .refusal) refl
       where
         h : InHand
         h = w .hand
 
-        go : (q : ℕ) → firstOf (conditions h) ≡ q → ⊥
+        go : (q : ℕ) → handled S h .refusal ≡ q → ⊥
         go zero e = making-unnamed i j h (w .message) (w .has) e (w .stands) (named-in (w .message) evidence (boat i .seat) (w .stands .1 .0 (w .message) (w .stands .2)) (w .bytes) d)
         go (suc q) e =
             List·Memᴰ·not-nil (subst (λ ms. List·Memᴰ (w .message) ms) (are-unique n (makingOf S h) (w .stands .0) [] (w .stands .1) (each-nil (WellFormed n), making-refused h q e)) (w .stands .2))

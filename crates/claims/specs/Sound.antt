@@ -151,12 +151,12 @@ module _ (checks : Checks) (W : Relation) where
     pub below : Each (λ (e : Entry). e .seat < n) es
     pub attested : Each (λ (e : Entry). Attested (e .seat) value (e .signature)) es
 
-  -- the entries of an EVIDENCE that a unit writes
+  -- the entries of an EVIDENCE that a unit writes, or that a joining takes
   pub record Pairs (n : ℕ) (ps : List Pair) : Type 0 where
     pub laid : Laid (evidenceForm ValuesEach) ps
     pub ordered : Each (λ (p : Pair). lowerFirst p ≡ true) ps
     pub some : 1 ≤ length ps
-    pub few : length ps ≤ k n
+    pub few : length ps ≤ n
     pub rise : rising (map (λ (p : Pair). p .seat) ps) ≡ true
     pub below : Each (λ (p : Pair). p .seat < n) ps
     pub lows : Each (λ (p : Pair). Attested (p .seat) (p .lowerValue) (p .lower)) ps

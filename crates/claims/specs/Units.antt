@@ -5,7 +5,6 @@ use mathlib.Core.Bool.{true}
 use mathlib.Core.List.{List, [], List·Memᴰ}
 use Prim.Native.Nat.{ℕ, _≤_}
 use native.Mathlib.Omega.{arith}
-use Rattle.quorum.specs.Quorum.{k}
 use Rattle.protocol.specs.Message.{Pair, ValuesEach, Message, Submit, Notice, Full, Evidence, Garbled, read, WellFormed}
 use Rattle.protocol.specs.Record.{lastRound, InRange}
 use Rattle.protocol.specs.Refusals.{Checks, isEvidence}
@@ -28,18 +27,8 @@ use Rattle.claims.specs.Power.{list-is-unbroken}
 
 -- ---- form of the messages that a unit writes
 
-k-le : (n : ℕ) → k n ≤ n
-unfolding k
-k-le n = omega arith
-
 pub pairs-formed : (checks : Checks) (W : Relation) (n round : ℕ) (ps : List Pair) → round ≤ lastRound → Pairs checks W n ps → WellFormed n (Evidence round ValuesEach ps)
-pairs-formed checks W n round ps early z = (
-  omega arith,
-  tt,
-  z .some,
-  (let f = z .few in let h = k-le n in omega arith),
-  z .laid,
-)
+pairs-formed checks W n round ps early z = (omega arith, tt, z .some, z .few, z .laid)
 
 good-formed : (checks : Checks) (W : Relation) (r : Record) (m : Message) → InRange (r .n) (r .seat) (r .round) → Good checks W r m → WellFormed (r .n) m
 good-formed checks W r (Submit ρ seat value signature) range g = (rw (g .0 .ofRound) (let e = range .dated in omega arith), g .0 .sized, g .1 .sized)

@@ -18,6 +18,7 @@ use Rattle.quorum.specs.Quorum.{bit, In, has, one, union, shared, less, with, s
 use Rattle.quorum.specs.QuorumLaws.{bit-empty, bit-union, bit-shared, bit-less, bit-with-same, bit-with-other, has-true, has-false, in-shared, in-less, mem-seats, same-seats}
 use Rattle.refusal.specs.RefusalLaws.{both-true, both-false}
 use Rattle.protocol.specs.Values.{isLower}
+use Rattle.protocol.specs.EntriesLaws.{map-same}
 use Rattle.protocol.specs.Message.{Entry, Signed, ValuesEach, Full, Evidence}
 use Rattle.protocol.specs.Certificate.{setOf, signatureOf, entriesOf, fullOf, pairOf, pairsOf, orderedEvidence, evidenceOf}
 use Rattle.protocol.specs.CertificateLaws.{in-set, set-snoc}
@@ -186,10 +187,6 @@ signature-is (x ∷ es) h e d =
     (List·Memᴰ·cases-cons d)
 
 -- ---- messages: only the signatures of the certificate's seats matter
-
-map-same : {A : Type 0} (f g : ℕ → A) (xs : List ℕ) → Each (λ (s : ℕ). f s ≡ g s) xs → map f xs ≡ map g xs
-map-same f g [] h = refl
-map-same f g (x ∷ xs) h = ap₂ _∷_ (h x (List·Memᴰ·head refl)) (map-same f g xs (λ s d. h s (List·Memᴰ·tail d)))
 
 module _ (n round : ℕ) where
   pub full-same : (seat : ℕ) (v : List ℕ) (m : ℕ) (f g : ℕ → List ℕ) → ((s : ℕ) → In s m → f s ≡ g s)
