@@ -1,7 +1,7 @@
 -- The entries of a pack that a joining takes, and of the pack that two become.
 -- Assumes nothing.
 use mathlib.Core.Path.{_≡_, refl, sym, ap, _∙_}
-use mathlib.Core.Bool.{true, false, false≢true}
+use mathlib.Core.Bool.{true, false}
 use mathlib.Core.List.{List, Memᴰ·map}
 use mathlib.Core.Logic.{inl}
 use Prim.Native.Nat.{ℕ, _^_, _≤_, _<_}
@@ -14,11 +14,11 @@ use Rattle.quorum.specs.QuorumLaws.{in-union, union-lt, size-le, size-within, l
 use Rattle.protocol.specs.Layout.{signatureLength, pairLowerAt, pairHigherAt}
 use Rattle.protocol.specs.Entries.{Laid, formSeats}
 use Rattle.protocol.specs.EntriesLaws.{length-read}
-use Rattle.protocol.specs.Message.{Pair, ValuesOnce, ValuesEach, Message, Submit, Notice, Full, Evidence, Garbled, evidenceForm, pairBytes, formOf, countOf, readEvidence, read, roundOf, signed, seatsOf, entrySeats}
+use Rattle.protocol.specs.Message.{Pair, ValuesEach, Message, Evidence, evidenceForm, pairBytes, formOf, countOf, readEvidence, read, roundOf, signed, seatsOf, entrySeats}
 use Rattle.protocol.specs.MessageLaws.{evidence-fits, read-is-evidence}
 use Rattle.protocol.specs.Certificate.{setOf}
 use Rattle.protocol.specs.Joining.{pairsIn, joinedPairs}
-use Rattle.protocol.specs.JoiningLaws.{seatsAmong, either, joined-seats, joined-each}
+use Rattle.protocol.specs.JoiningLaws.{new-cases, new-evidence, seatsAmong, either, joined-seats, joined-each}
 use Rattle.protocol.specs.ConditionsLaws.{every-each}
 use Rattle.protocol.specs.Refusals.{Checks, isEvidence, isNewEvidence, rising, lowerFirst, notLowerFirst}
 use Rattle.round.specs.Round.{Each, Relation, EachSigned}
@@ -31,20 +31,6 @@ use Rattle.claims.specs.UnrefusedLaws.{Taken, signed-pairs}
 use Rattle.claims.specs.NotRefused.{PackFit}
 
 -- ---- a pack that a joining takes
-
--- the only case of a message that is an EVIDENCE of the form 0x07
-pub new-cases : (P : Message → Type 0) (m : Message) → isNewEvidence m ≡ true → ((ρ : ℕ) (ps : List Pair) → P (Evidence ρ ValuesEach ps)) → P m
-unfolding isNewEvidence
-new-cases P (Submit ρ seat value signature) e f = absurd (false≢true e)
-new-cases P (Notice ρ seat value) e f = absurd (false≢true e)
-new-cases P (Full ρ sender value es) e f = absurd (false≢true e)
-new-cases P (Evidence ρ (ValuesOnce values) ps) e f = absurd (false≢true e)
-new-cases P (Evidence ρ ValuesEach ps) e f = f ρ ps
-new-cases P Garbled e f = absurd (false≢true e)
-
-pub new-evidence : (m : Message) → isNewEvidence m ≡ true → isEvidence m ≡ true
-unfolding isEvidence
-new-evidence m e = new-cases (λ x. isEvidence x ≡ true) m e (λ ρ ps. refl)
 
 -- the count of an EVIDENCE that was read: "1 to n"
 read-count : (n : ℕ) (bytes : List ℕ) → isEvidence (read n bytes) ≡ true → (1 ≤ length (pairsIn (read n bytes))) × (length (pairsIn (read n bytes)) ≤ n)

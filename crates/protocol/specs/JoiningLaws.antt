@@ -1,7 +1,7 @@
--- Laws of two packs joined: the pair of a seat among entries, and the seats and entries of one pack from two.
+-- Laws of two packs joined: an EVIDENCE of the form 0x07, the pair of a seat among entries, and the seats and entries of one pack from two.
 -- Assumes nothing.
 use mathlib.Core.Path.{_≡_, refl, sym, ap, ap₂, _∙_}
-use mathlib.Core.Bool.{true}
+use mathlib.Core.Bool.{true, false≢true}
 use mathlib.Core.List.{List, [], _∷_, map, map-map, map-id, List·Memᴰ, List·Memᴰ·head, List·Memᴰ·tail, List·Memᴰ·not-nil, List·Memᴰ·cases-cons, Memᴰ·of-map}
 use mathlib.Core.Logic.{_⊎_, inl, inr, ⊎-elim, _≢_}
 use Prim.Native.Nat.{ℕ, _^_, _<_}
@@ -11,14 +11,44 @@ use lib.Dec.{ltb}
 use borrow.Author.Tests.{eq-eqb, ne-eqb}
 use Rattle.quorum.specs.Quorum.{bit, In, union, seats}
 use Rattle.quorum.specs.QuorumLaws.{bit-cases, bit-union, has-true, has-false, in-union, same-seats, union-lt, mem-seats}
-use Rattle.protocol.specs.Entries.{Each, formSeats}
+use Rattle.protocol.specs.Entries.{Each, readEntries, formSeats}
 use Rattle.protocol.specs.EntriesLaws.{map-same}
-use Rattle.protocol.specs.Message.{Pair, ValuesEach, Message, Evidence, evidenceForm, entrySeats}
+use Rattle.protocol.specs.Message.{Pair, PackForm, ValuesOnce, ValuesEach, Message, Submit, Notice, Full, Evidence, Garbled, evidenceForm, packIn, formOf, countOf, readRound, readEvidence, fitsEvidence, read, entrySeats}
+use Rattle.protocol.specs.MessageLaws.{read-is-evidence}
 use Rattle.protocol.specs.Certificate.{setOf}
 use Rattle.protocol.specs.CertificateLaws.{in-set, set-seats}
 use Rattle.protocol.specs.Joining.{pairsIn, pairAmong, joinedPair, joinedPairs}
-use Rattle.protocol.specs.Refusals.{every, rising}
+use Rattle.protocol.specs.Refusals.{every, isEvidence, isNewEvidence, rising}
 use Rattle.protocol.specs.SeatLaws.{Sorted, sorted-rising, seats-set}
+
+-- ---- an EVIDENCE of the form 0x07
+
+-- the only case of a message that is an EVIDENCE of the form 0x07
+pub new-cases : (P : Message → Type 0) (m : Message) → isNewEvidence m ≡ true → ((ρ : ℕ) (ps : List Pair) → P (Evidence ρ ValuesEach ps)) → P m
+unfolding isNewEvidence
+new-cases P (Submit ρ seat value signature) e f = absurd (false≢true e)
+new-cases P (Notice ρ seat value) e f = absurd (false≢true e)
+new-cases P (Full ρ sender value es) e f = absurd (false≢true e)
+new-cases P (Evidence ρ (ValuesOnce values) ps) e f = absurd (false≢true e)
+new-cases P (Evidence ρ ValuesEach ps) e f = f ρ ps
+new-cases P Garbled e f = absurd (false≢true e)
+
+pub new-evidence : (m : Message) → isNewEvidence m ≡ true → isEvidence m ≡ true
+unfolding isEvidence
+new-evidence m e = new-cases (λ x. isEvidence x ≡ true) m e (λ ρ ps. refl)
+
+new-form : (ρ : ℕ) (form : PackForm) (ps : List Pair) → isNewEvidence (Evidence ρ form ps) ≡ true → form ≡ ValuesEach
+unfolding isNewEvidence
+new-form ρ (ValuesOnce values) ps e = absurd (false≢true e)
+new-form ρ ValuesEach ps e = refl
+
+-- the bytes of one
+pub new-read : (n : ℕ) (bytes : List ℕ) → isNewEvidence (read n bytes) ≡ true
+    → (read n bytes ≡ readEvidence bytes) × (fitsEvidence n bytes ≡ true) × (packIn bytes ≡ ValuesEach)
+unfolding readEvidence
+new-read n bytes e =
+    let r = read-is-evidence n bytes (new-evidence (read n bytes) e) in
+    (r .0, r .1, new-form (readRound bytes) (packIn bytes) (readEntries (formOf bytes) (countOf bytes) bytes) (rw (r .0) at e))
 
 -- ---- the pair of a seat among entries
 
