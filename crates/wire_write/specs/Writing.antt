@@ -18,6 +18,10 @@ pub record Wrote (at : ℕ) (bytes before after : List ℕ) (end : ℕ) : Type 0
 abbrev pub head : ℕ → ℕ → ℕ → List ℕ → List ℕ
 head command round seat value = command ∷ be 2 round ++ seat ∷ [] ++ value
 
+-- the start of EVIDENCE: "0x07: round 2, count 1" (document 02, item 3)
+abbrev pub packHead : ℕ → ℕ → List ℕ
+packHead round count = 0x07 ∷ be 2 round ++ count ∷ []
+
 -- entries, as they are written
 abbrev pub entry : ℕ → List ℕ → Entry
 entry seat signature = record { seat = seat; signature = signature }

@@ -5,12 +5,12 @@ ghost use Prim.Native.Nat.{_+_, _*_, _^_, _<_, _≤_};
 ghost use lib.ListN.{length};
 ghost use Rattle.octets.specs.Octets.{be};
 ghost use Rattle.quorum.specs.Quorum.{mostSeats, seats, size};
-ghost use Rattle.protocol.specs.Layout.{valueLength, signatureLength, operandsAt, submitLength, noticeLength, entryHeldAt, fullEntryLength, fullEntryAt, evidenceEntryLength, evidenceLength};
+ghost use Rattle.protocol.specs.Layout.{valueLength, signatureLength, operandsAt, submitLength, noticeLength, entryHeldAt, fullEntryLength, fullEntryAt, evidenceStart, evidenceEntryLength, evidenceLength};
 ghost use Rattle.protocol.specs.Entries.{renderEntry, renderEntries};
 ghost use Rattle.protocol.specs.Message.{Submit, Notice, ValuesEach, fullForm, evidenceForm, render};
 ghost use Rattle.protocol.specs.Certificate.{entriesOf, fullOf, pairsOf, orderedEvidence, evidenceOf};
 ghost use Rattle.store.specs.Sources.{Readable, certificateFrom};
-ghost use Rattle.wire_write.specs.Writing.{Wrote, Within, head, entry, pair};
+ghost use Rattle.wire_write.specs.Writing.{Wrote, Within, head, packHead, entry, pair};
 use quorum::Mask;
 use store::sources::Source;
 use store::sources::signature_of;
@@ -26,7 +26,7 @@ fn put_byte(out: &mut [u8], at: usize, b: u8) -> usize
 }
 
 // All of src.
-fn put(out: &mut [u8], at: usize, src: &[u8]) -> usize
+pub fn put(out: &mut [u8], at: usize, src: &[u8]) -> usize
     requires { ⌜ at + length (now src) ≤ length (now out) ⌝ }
     ensures { λ r. ⌜ Wrote at (now (src .entry)) (now (out .entry)) (now (out .exit)) r ⌝ }
 {
@@ -154,6 +154,15 @@ pub fn write_full(
     write_entries(out, b, n, source, m)
 }
 
+// The start of EVIDENCE: code, round and count.
+pub fn write_pack_head(out: &mut [u8], at: usize, round: u32, count: u32) -> usize
+    requires { ⌜ (count < 256) × (at + evidenceStart ≤ length (now out)) ⌝ }
+    ensures { λ r. ⌜ Wrote at (packHead round count) (now (out .entry)) (now (out .exit)) r × (r ≡ at + evidenceStart) ⌝ }
+{
+    let a = put_command(out, at, 7, round);
+    put_byte(out, a, count as u8)
+}
+
 // The entries of EVIDENCE for the seats of a set, rising. Both certificates have these seats.
 fn write_pairs(
     out: &mut [u8],
@@ -201,9 +210,8 @@ fn write_ordered(
     ensures { λ r. ⌜ Wrote at (render (orderedEvidence n round mask (certificateFrom n low (now (lower .entry)) (now (lows .entry))) (certificateFrom n high (now (higher .entry)) (now (highs .entry))))) (now (out .entry)) (now (out .exit)) r × (r ≡ at + evidenceLength (size mask)) ⌝ }
 {
     let count = quorum::size(mask);
-    let a = put_command(out, at, 7, round);
-    let b = put_byte(out, a, count as u8);
-    write_pairs(out, b, n, mask, lower, low, lows, higher, high, highs)
+    let a = write_pack_head(out, at, round, count);
+    write_pairs(out, a, n, mask, lower, low, lows, higher, high, highs)
 }
 
 // EVIDENCE from two certificates for a set of seats that both have, in either order: values va and vb, signatures from ma and mb.
