@@ -108,6 +108,25 @@ pub extern "C" fn zolbine_make_evidence(
     evidence::make_evidence(n, round, keys, first, second, out)
 }
 
+// "Two accepted 0x07 packs of one round and one key table become one" (document 02, item 5).
+#[no_mangle]
+pub extern "C" fn zolbine_join_evidence(
+    n: u32,
+    round: u32,
+    keys: &[u8],
+    first: &[u8],
+    second: &[u8],
+    out: &mut [u8],
+) -> Written
+    ensures { λ r.
+        let result = calls.joining (checks (now (keys .entry)) round) n round (now (keys .entry))
+        (now (first .entry)) (now (second .entry)) (now (out .entry)) in
+        ⌜ (r ≡ calls.made result)
+        × (now (out .exit) ≡ calls.outAfter (result .written) (now (out .entry))) ⌝ }
+{
+    joining::join_evidence(n, round, keys, first, second, out)
+}
+
 // "Opening takes n, seat, round and key table and gives the record with nothing else set; a refused opening gives a record of
 // zeros."
 #[no_mangle]
