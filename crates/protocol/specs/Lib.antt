@@ -26,7 +26,6 @@ pub mod NoteLaws
 pub mod Conditions
 pub mod ConditionsLaws
 pub mod SeatLaws
-pub mod JoiningLaws
 pub mod Refusals
 pub mod Order
 pub mod Step
