@@ -271,18 +271,25 @@ joins a b = record { work = Join; a = a; b = b; out = replicate (joinedOutLength
 abbrev pub packOf : List Pair → List ℕ
 packOf ps = render (Evidence 5 ValuesEach ps)
 
--- seat 1 submits the layout 7; seat 2 joins a pack about seat 0, which signs twice, with one about seat 1, from its one signature given twice:
--- over two layouts, or over one
-abbrev pub joiner : ℕ → ℕ → Bool → Boat
-joiner b c =
+-- seat 1 submits the layout 7; seat 2 joins a pack about seat 0, which signs twice, with another
+abbrev pub joiner : List Pair → Bool → Boat
+joiner ps =
     ofTwo (boatAt 1 (says 1 7 ∷ []))
-    (record { seat = 2; store = replicate (storeLength 4) 1; events = []; inHand = joins (packOf (pairBy 7 9 0 ∷ [])) (packOf (twiceGiven b c ∷ [])) ∷ [] })
+    (record { seat = 2; store = replicate (storeLength 4) 1; events = []; inHand = joins (packOf (pairBy 7 9 0 ∷ [])) (packOf ps) ∷ [] })
 
+-- one about seats 0 and 3, which sign twice
+unfoldable pub joinsBoth : Bool → Boat
+joinsBoth = joiner (pairBy 7 8 0 ∷ pairBy 7 8 3 ∷ [])
+
+-- one about seat 1, from its one signature given twice: over two layouts, or over one
 unfoldable pub joinsUnsigned : Bool → Boat
-joinsUnsigned = joiner 7 9
+joinsUnsigned = joiner (twiceGiven 7 9 ∷ [])
 
 unfoldable pub joinsEqual : Bool → Boat
-joinsEqual = joiner 7 7
+joinsEqual = joiner (twiceGiven 7 7 ∷ [])
+
+unfoldable pub joinsBothBoats : Trial (Family four joinsBoth → Demand3 four joinsBoth)
+joinsBothBoats = safety four two joinsBoth []
 
 unfoldable pub joinsUnsignedBoats : Trial (Family four joinsUnsigned → Demand3 four joinsUnsigned)
 joinsUnsignedBoats = safety four two joinsUnsigned []
@@ -469,5 +476,5 @@ unnotedBoats = accountability four two unnoted false true (layout 7) (layout 9)
 
 -- a name that unfolds every definition of a run
 unfoldable pub unfoldedTrials : Bool
-unfolding unfolded outcome begins after afterAll isSubmit isNotice worth count most frameLength writtenOver refusalOf cameTo allMessages found entrySized samePair pairSized valuesSized wellFormed isNoticeOf isEvidenceOn firstPack newForm apart isMessage readable isStepOf isSubmitOf messageIn sameSigned sentIn sameSaved isNewest noneSaved wrote allowed allowedAll isHonest all formed submits reached confirms mustReach haveReached namesEnough blames firstPays accuses madeOn sharedGuilty heardGuilty givenGuilty ownGuilty atMost sendsOne readableAll possibleEach sharedAreGuilty guiltyOnce writesNewForm firstPackPays computed accountability safety ownNumber _before_ joinsTwo refusesAsAlone those sentBy certified certifiedEach two three keptBy savedAt seven nine divided forewarned witnessed shortStored shortOuted unheard unsigned submitting twice holding keptOther keptUnsigned heardTwice joinsUnsigned joinsEqual answering sharing slow third ownThird interrupted hasty blank newest older sameStored otherStored unnoted
+unfolding unfolded outcome begins after afterAll isSubmit isNotice worth count most frameLength writtenOver refusalOf cameTo allMessages found entrySized samePair pairSized valuesSized wellFormed isNoticeOf isEvidenceOn firstPack newForm apart isMessage readable isStepOf isSubmitOf messageIn sameSigned sentIn sameSaved isNewest noneSaved wrote allowed allowedAll isHonest all formed submits reached confirms mustReach haveReached namesEnough blames firstPays accuses madeOn sharedGuilty heardGuilty givenGuilty ownGuilty atMost sendsOne readableAll possibleEach sharedAreGuilty guiltyOnce writesNewForm firstPackPays computed accountability safety ownNumber _before_ joinsTwo refusesAsAlone those sentBy certified certifiedEach two three keptBy savedAt seven nine divided forewarned witnessed shortStored shortOuted unheard unsigned submitting twice holding keptOther keptUnsigned heardTwice joinsBoth joinsUnsigned joinsEqual answering sharing slow third ownThird interrupted hasty blank newest older sameStored otherStored unnoted
 unfoldedTrials = true
