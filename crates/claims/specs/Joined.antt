@@ -101,8 +101,8 @@ module _ (S : Setting) where
     abbrev B : ℕ
     B = packSet (read n b)
 
-    -- its message, from the entries of the two
-    record Opened : Type 0 where
+    -- the entries of the two, and the message joined from them
+    record TwoPacks : Type 0 where
       ps : List Pair
       qs : List Pair
       first : read n a ≡ Evidence round ValuesEach ps
@@ -112,9 +112,9 @@ module _ (S : Setting) where
       reads : read n result ≡ Evidence round ValuesEach (joinedPairs n (Evidence round ValuesEach ps) (Evidence round ValuesEach qs))
       accepted : Accepted S result
 
-    opened : Opened
+    packs : TwoPacks
     unfolding joinedOf
-    opened =
+    packs =
         let f = entries-in a (fit .first) in
         let g = entries-in b (fit .second) in
         let entries = joinedPairs n (Evidence round ValuesEach (f .0)) (Evidence round ValuesEach (g .0)) in
@@ -134,13 +134,13 @@ module _ (S : Setting) where
     joined-in-order : entrySeats (read n result) ≡ seats n (union A B)
     unfolding entrySeats formSeats evidenceForm
     joined-in-order =
-        let o = opened in
+        let o = packs in
         rw (o .reads, o .first, o .second) (joined-seats n round round (o .ps) (o .qs))
 
     joined-names-set : packSet (read n result) ≡ union A B
     unfolding entrySeats formSeats evidenceForm
     joined-names-set =
-        let o = opened in
+        let o = packs in
         rw (o .reads, o .first, o .second)
         (joined-set n round round (o .ps) (o .qs) (set-of-first checks Any n round round (o .ps) (o .qs) (o .ofFirst) (o .ofSecond)) (set-of-second checks Any n round round (o .ps) (o .qs) (o .ofFirst) (o .ofSecond)))
 
@@ -150,7 +150,7 @@ module _ (S : Setting) where
     pair-of-first : (seat : ℕ) → Names S a seat → pairIn S result seat ≡ pairIn S a seat
     unfolding pairsIn entrySeats formSeats evidenceForm
     pair-of-first seat m =
-        let o = opened in
+        let o = packs in
         let i : In seat A = in-set seat (entrySeats (read n a)) .1 m in
         let l = names-below seat (in-union seat A B .1 (inl i)) in
         rw (o .reads, o .first) (joined-first n round round (o .ps) (o .qs) seat l (subst (λ x. In seat (packSet x)) (o .first) i))
@@ -158,7 +158,7 @@ module _ (S : Setting) where
     pair-of-second : (seat : ℕ) → (Names S a seat → ⊥) → Names S b seat → pairIn S result seat ≡ pairIn S b seat
     unfolding pairsIn entrySeats formSeats evidenceForm
     pair-of-second seat none m =
-        let o = opened in
+        let o = packs in
         let i : In seat B = in-set seat (entrySeats (read n b)) .1 m in
         let l = names-below seat (in-union seat A B .1 (inr i)) in
         let out-of-first : bit seat A ≡ 0 = ⊎-elim (λ z. z) (λ j. absurd (none (in-set seat (entrySeats (read n a)) .0 j))) (bit-cases seat A) in
@@ -168,7 +168,7 @@ module _ (S : Setting) where
     is-joined : IsJoined S a b result
     unfolding isNewEvidence
     is-joined =
-        let o = opened in
+        let o = packs in
         let first = fits-pack a (fit .outside) (fit .first) in
         let second = fits-pack b (fit .outside) (fit .second) in
         record {

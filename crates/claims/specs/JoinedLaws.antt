@@ -78,6 +78,10 @@ among-own (p ∷ ps) h =
 
 -- ---- one pack from two
 
+-- the set of the seats of either
+abbrev either : List Pair → List Pair → ℕ
+either ps qs = union (setOf (seatsAmong ps)) (setOf (seatsAmong qs))
+
 module _ (n ρ σ : ℕ) (ps qs : List Pair) where
   abbrev first : Message
   first = Evidence ρ ValuesEach ps
@@ -85,9 +89,8 @@ module _ (n ρ σ : ℕ) (ps qs : List Pair) where
   abbrev second : Message
   second = Evidence σ ValuesEach qs
 
-  -- the seats of either
-  abbrev pub either : ℕ
-  either = union (setOf (seatsAmong ps)) (setOf (seatsAmong qs))
+  abbrev named : ℕ
+  named = either ps qs
 
   pair-of-first : (s : ℕ) → In s (setOf (seatsAmong ps)) → joinedPair first second s ≡ pairAmong ps s
   unfolding joinedPair pairsIn entrySeats formSeats evidenceForm
@@ -102,24 +105,24 @@ module _ (n ρ σ : ℕ) (ps qs : List Pair) where
       ⊎-elim (λ z. ap (λ (p : Pair). p .seat) (pair-of-second s z) ∙ pair-seat qs s) (λ i. ap (λ (p : Pair). p .seat) (pair-of-first s i) ∙ pair-seat ps s)
       (bit-cases s (setOf (seatsAmong ps)))
 
-  -- "the seats of either, rising"
-  pub joined-seats : seatsAmong (joinedPairs n first second) ≡ seats n either
+  -- "the seats of named, rising"
+  pub joined-seats : seatsAmong (joinedPairs n first second) ≡ seats n named
   unfolding joinedPairs entrySeats formSeats evidenceForm
   joined-seats =
-      map-map (λ (p : Pair). p .seat) (joinedPair first second) (seats n either)
-      ∙ map-same (λ s. joinedPair first second s .seat) (λ s. s) (seats n either) (λ s d. joined-seat s)
-      ∙ map-id (seats n either)
+      map-map (λ (p : Pair). p .seat) (joinedPair first second) (seats n named)
+      ∙ map-same (λ s. joinedPair first second s .seat) (λ s. s) (seats n named) (λ s d. joined-seat s)
+      ∙ map-id (seats n named)
 
-  pub joined-set : setOf (seatsAmong ps) < 2 ^ n → setOf (seatsAmong qs) < 2 ^ n → setOf (seatsAmong (joinedPairs n first second)) ≡ either
-  joined-set a b = ap setOf joined-seats ∙ set-seats n either (union-lt n (setOf (seatsAmong ps)) (setOf (seatsAmong qs)) a b)
+  pub joined-set : setOf (seatsAmong ps) < 2 ^ n → setOf (seatsAmong qs) < 2 ^ n → setOf (seatsAmong (joinedPairs n first second)) ≡ named
+  joined-set a b = ap setOf joined-seats ∙ set-seats n named (union-lt n (setOf (seatsAmong ps)) (setOf (seatsAmong qs)) a b)
 
-  -- a fact about every entry of either is one about every entry of what is joined
+  -- a fact about every entry of named is one about every entry of what is joined
   pub joined-each : (P : Pair → Type 0) → Each P ps → Each P qs → Each P (joinedPairs n first second)
   unfolding joinedPairs entrySeats formSeats evidenceForm
   joined-each P f g p d =
-      let m = Memᴰ·of-map (joinedPair first second) (seats n either) d in
+      let m = Memᴰ·of-map (joinedPair first second) (seats n named) d in
       let s = m .0 in
-      let where-in = in-union s (setOf (seatsAmong ps)) (setOf (seatsAmong qs)) .0 (mem-seats n s either .0 (m .1) .1) in
+      let where-in = in-union s (setOf (seatsAmong ps)) (setOf (seatsAmong qs)) .0 (mem-seats n s named .0 (m .1) .1) in
       rw (← m .2)
       (⊎-elim
       (λ (z : bit s (setOf (seatsAmong ps)) ≡ 0). rw (pair-of-second s z)
@@ -129,9 +132,9 @@ module _ (n ρ σ : ℕ) (ps qs : List Pair) where
 
   -- "a seat found in both has the pair of the pack named first"
   module _ (s : ℕ) (l : s < n) where
-    among-joined : In s either → pairAmong (joinedPairs n first second) s ≡ joinedPair first second s
+    among-joined : In s named → pairAmong (joinedPairs n first second) s ≡ joinedPair first second s
     unfolding joinedPairs entrySeats formSeats evidenceForm
-    among-joined i = among-made (joinedPair first second) joined-seat (seats n either) s (mem-seats n s either .1 (l, i))
+    among-joined i = among-made (joinedPair first second) joined-seat (seats n named) s (mem-seats n s named .1 (l, i))
 
     pub joined-first : In s (setOf (seatsAmong ps)) → pairAmong (joinedPairs n first second) s ≡ pairAmong ps s
     joined-first i = among-joined (in-union s (setOf (seatsAmong ps)) (setOf (seatsAmong qs)) .1 (inl i)) ∙ pair-of-first s i
@@ -227,9 +230,6 @@ module _ (checks : Checks) (W : Relation) (n ρ σ : ℕ) (ps qs : List Pair) (y
   abbrev pub entries : List Pair
   entries = joinedPairs n (Evidence ρ ValuesEach ps) (Evidence σ ValuesEach qs)
 
-  abbrev named : ℕ
-  named = either n ρ σ ps qs
-
   pub set-of-first : setOf (seatsAmong ps) < 2 ^ n
   set-of-first = set-below n (seatsAmong ps) (each-map (λ s. s < n) (λ (p : Pair). p .seat) ps (y .below))
 
@@ -240,14 +240,14 @@ module _ (checks : Checks) (W : Relation) (n ρ σ : ℕ) (ps qs : List Pair) (y
   joined-pairs =
       let each : (P : Pair → Type 0) → Each P ps → Each P qs → Each P entries = joined-each n ρ σ ps qs in
       let below = union-lt n (setOf (seatsAmong ps)) (setOf (seatsAmong qs)) set-of-first set-of-second in
-      let many : length entries ≡ size named = sym (length-map entries (λ (p : Pair). p .seat)) ∙ ap length (joined-seats n ρ σ ps qs) ∙ length-seats n named below in
+      let many : length entries ≡ size (either ps qs) = sym (length-map entries (λ (p : Pair). p .seat)) ∙ ap length (joined-seats n ρ σ ps qs) ∙ length-seats n (either ps qs) below in
       let first : size (setOf (seatsAmong ps)) ≡ length ps = set-size (seatsAmong ps) (y .rise) ∙ length-map ps (λ (p : Pair). p .seat) in
       record {
         laid = each _ (y .laid) (z .laid);
         ordered = each _ (y .ordered) (z .ordered);
-        some = omega (arith, y .some, size-within named (setOf (seatsAmong ps)) (λ s i. in-union s (setOf (seatsAmong ps)) (setOf (seatsAmong qs)) .1 (inl i)));
-        few = omega (arith, size-le n named below);
-        rise = ap rising (joined-seats n ρ σ ps qs) ∙ seats-rising n named;
+        some = omega (arith, y .some, size-within (either ps qs) (setOf (seatsAmong ps)) (λ s i. in-union s (setOf (seatsAmong ps)) (setOf (seatsAmong qs)) .1 (inl i)));
+        few = omega (arith, size-le n (either ps qs) below);
+        rise = ap rising (joined-seats n ρ σ ps qs) ∙ seats-rising n (either ps qs);
         below = each _ (y .below) (z .below);
         lows = each _ (y .lows) (z .lows);
         highs = each _ (y .highs) (z .highs);

@@ -401,7 +401,7 @@ module _ (S : Setting) {I : Type 0} (crew : Crew I) (boat : I → Boat) where
 
 -- ---- packs joined (document 02, item 5)
 
-module _ (S : Setting) (a b out : List ℕ) where
+module _ (S : Setting) (a b : List ℕ) where
   open Setting S using (n, round, keys, checks)
 
   -- whether bytes name a seat
@@ -416,15 +416,15 @@ module _ (S : Setting) (a b out : List ℕ) where
   pub first-pair : (evidence : List ℕ) (seat : ℕ) → IsJoined S a b evidence → firstPair evidence seat ≡ true
   first-pair evidence seat j =
       cond-elim (λ x. x ≡ true) (names a seat) _ _ (λ q. samePair-says _ _ (j .first seat (found-seat seat (entrySeats (read n a)) q)))
-      (λ q. by-second (names b seat) refl (λ d. found-no-seat seat (entrySeats (read n a)) q d))
+      (λ q. by-second (names b seat) refl (found-no-seat seat (entrySeats (read n a)) q))
     where
       by-second : (named : Bool) → names b seat ≡ named → (Names S a seat → ⊥) → (not named || samePair (pairIn S evidence seat) (pairIn S b seat)) ≡ true
       by-second true e none = samePair-says _ _ (j .second seat none (found-seat seat (entrySeats (read n b)) e))
       by-second false e none = refl
 
   -- whether what is joined is accepted, names the union, and has for each of these seats the first pack's pair
-  unfoldable pub joinsTwo : List ℕ → Trial (JoinsTwo S)
-  joinsTwo tried =
+  unfoldable pub joinsTwo : List ℕ → List ℕ → Trial (JoinsTwo S)
+  joinsTwo out tried =
       let evidence : List ℕ = joined S a b out in
       record {
         premises = eqb (numberOf S a b out) 0;
@@ -435,7 +435,7 @@ module _ (S : Setting) (a b out : List ℕ) where
       }
 
   -- whether the number is the one of the other arguments, else the first pack's own, else the second's
-  unfoldable pub refusesAsAlone : Trial (RefusesAsAlone S)
-  refusesAsAlone =
+  unfoldable pub refusesAsAlone : List ℕ → Trial (RefusesAsAlone S)
+  refusesAsAlone out =
       let given = firstOf (outsideConditions n round keys) before firstOf (OUT (joinedOutLength n) out ∷ []) before ownNumber S a before ownNumber S b in
       record { premises = true; conclusion = eqb (numberOf S a b out) given; refutes = λ p c claim. true≢false (sym (eq-eqb (numberOf S a b out) given (claim a b out)) ∙ c) }
