@@ -31,7 +31,7 @@ use Rattle.reading.specs.ListsLaws.{each-nil, each-cons, each-map}
 use Rattle.claims.specs.Sound.{Any, Pairs}
 use Rattle.claims.specs.CertificatesLaws.{seats-rising}
 use Rattle.claims.specs.NotRefused.{Outside, evidence-not-refused, PackFit, JoiningFit, joining-not-refused}
-use Rattle.claims.specs.JoinedLaws.{seatsAmong, joined-seats, joined-set, joined-first, joined-second, joined-self, new-evidence, pack-elim, joined-pairs, set-of-first, set-of-second}
+use Rattle.claims.specs.JoinedLaws.{seatsAmong, joined-seats, joined-set, joined-first, joined-second, joined-self, new-evidence, pack-elim, pairs-set, joined-pairs}
 use Rattle.claims.specs.Units.{pairs-formed}
 use Rattle.claims.specs.Safe.{making-bytes}
 use Rattle.claims.specs.Made.{accepted-mask}
@@ -142,7 +142,7 @@ module _ (S : Setting) where
     joined-names-set =
         let o = packs in
         rw (o .reads, o .first, o .second)
-        (joined-set n round round (o .ps) (o .qs) (set-of-first checks Any n round round (o .ps) (o .qs) (o .ofFirst) (o .ofSecond)) (set-of-second checks Any n round round (o .ps) (o .qs) (o .ofFirst) (o .ofSecond)))
+        (joined-set n round round (o .ps) (o .qs) (pairs-set checks Any n (o .ps) (o .ofFirst)) (pairs-set checks Any n (o .qs) (o .ofSecond)))
 
     names-below : (seat : ℕ) → In seat (union A B) → seat < n
     names-below seat i = mem-seats n seat (union A B) .0 (subst (List·Memᴰ seat) joined-in-order (in-set seat (entrySeats (read n result)) .0 (subst (In seat) (sym joined-names-set) i))) .0

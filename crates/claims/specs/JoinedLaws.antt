@@ -105,7 +105,7 @@ module _ (n ρ σ : ℕ) (ps qs : List Pair) where
       ⊎-elim (λ z. ap (λ (p : Pair). p .seat) (pair-of-second s z) ∙ pair-seat qs s) (λ i. ap (λ (p : Pair). p .seat) (pair-of-first s i) ∙ pair-seat ps s)
       (bit-cases s (setOf (seatsAmong ps)))
 
-  -- "the seats of named, rising"
+  -- "the seats of either, rising"
   pub joined-seats : seatsAmong (joinedPairs n first second) ≡ seats n named
   unfolding joinedPairs entrySeats formSeats evidenceForm
   joined-seats =
@@ -116,7 +116,7 @@ module _ (n ρ σ : ℕ) (ps qs : List Pair) where
   pub joined-set : setOf (seatsAmong ps) < 2 ^ n → setOf (seatsAmong qs) < 2 ^ n → setOf (seatsAmong (joinedPairs n first second)) ≡ named
   joined-set a b = ap setOf joined-seats ∙ set-seats n named (union-lt n (setOf (seatsAmong ps)) (setOf (seatsAmong qs)) a b)
 
-  -- a fact about every entry of named is one about every entry of what is joined
+  -- a fact about every entry of either is one about every entry of what is joined
   pub joined-each : (P : Pair → Type 0) → Each P ps → Each P qs → Each P (joinedPairs n first second)
   unfolding joinedPairs entrySeats formSeats evidenceForm
   joined-each P f g p d =
@@ -226,28 +226,26 @@ module _ (checks : Checks) (W : Relation) (n round : ℕ) where
 
 -- ---- the pack that two become
 
+pub pairs-set : (checks : Checks) (W : Relation) (n : ℕ) (ps : List Pair) → Pairs checks W n ps → setOf (seatsAmong ps) < 2 ^ n
+pairs-set checks W n ps z = set-below n (seatsAmong ps) (each-map (λ s. s < n) (λ (p : Pair). p .seat) ps (z .below))
+
 module _ (checks : Checks) (W : Relation) (n ρ σ : ℕ) (ps qs : List Pair) (y : Pairs checks W n ps) (z : Pairs checks W n qs) where
-  abbrev pub entries : List Pair
+  abbrev entries : List Pair
   entries = joinedPairs n (Evidence ρ ValuesEach ps) (Evidence σ ValuesEach qs)
-
-  pub set-of-first : setOf (seatsAmong ps) < 2 ^ n
-  set-of-first = set-below n (seatsAmong ps) (each-map (λ s. s < n) (λ (p : Pair). p .seat) ps (y .below))
-
-  pub set-of-second : setOf (seatsAmong qs) < 2 ^ n
-  set-of-second = set-below n (seatsAmong qs) (each-map (λ s. s < n) (λ (p : Pair). p .seat) qs (z .below))
 
   pub joined-pairs : Pairs checks W n entries
   joined-pairs =
       let each : (P : Pair → Type 0) → Each P ps → Each P qs → Each P entries = joined-each n ρ σ ps qs in
-      let below = union-lt n (setOf (seatsAmong ps)) (setOf (seatsAmong qs)) set-of-first set-of-second in
-      let many : length entries ≡ size (either ps qs) = sym (length-map entries (λ (p : Pair). p .seat)) ∙ ap length (joined-seats n ρ σ ps qs) ∙ length-seats n (either ps qs) below in
+      let named = either ps qs in
+      let below = union-lt n (setOf (seatsAmong ps)) (setOf (seatsAmong qs)) (pairs-set checks W n ps y) (pairs-set checks W n qs z) in
+      let many : length entries ≡ size named = sym (length-map entries (λ (p : Pair). p .seat)) ∙ ap length (joined-seats n ρ σ ps qs) ∙ length-seats n named below in
       let first : size (setOf (seatsAmong ps)) ≡ length ps = set-size (seatsAmong ps) (y .rise) ∙ length-map ps (λ (p : Pair). p .seat) in
       record {
         laid = each _ (y .laid) (z .laid);
         ordered = each _ (y .ordered) (z .ordered);
-        some = omega (arith, y .some, size-within (either ps qs) (setOf (seatsAmong ps)) (λ s i. in-union s (setOf (seatsAmong ps)) (setOf (seatsAmong qs)) .1 (inl i)));
-        few = omega (arith, size-le n (either ps qs) below);
-        rise = ap rising (joined-seats n ρ σ ps qs) ∙ seats-rising n (either ps qs);
+        some = omega (arith, y .some, size-within named (setOf (seatsAmong ps)) (λ s i. in-union s (setOf (seatsAmong ps)) (setOf (seatsAmong qs)) .1 (inl i)));
+        few = omega (arith, size-le n named below);
+        rise = ap rising (joined-seats n ρ σ ps qs) ∙ seats-rising n named;
         below = each _ (y .below) (z .below);
         lows = each _ (y .lows) (z .lows);
         highs = each _ (y .highs) (z .highs);
