@@ -1,5 +1,5 @@
--- Runs for trials of edited definitions: four seats, or two, one to three boats with short lists of calls and of power cuts, and a toy
--- signature check. A run may give a boat the messages that another writes by the definitions, edited or not.
+-- Runs for trials of edited definitions: four seats, or two, one to three boats with short lists of calls and of power cuts, or two packs to
+-- join, and a toy signature check. A run may give a boat the messages that another writes by the definitions, edited or not.
 -- Assumes nothing.
 use Prim.Native.Nat.{ℕ, zero, suc}
 use mathlib.Core.Path.{_≡_, refl}
