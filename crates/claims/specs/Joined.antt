@@ -22,6 +22,7 @@ use Rattle.protocol.specs.MessageLaws.{read-cases, pack-old, pack-new, read-ren
 use Rattle.protocol.specs.RoundTripLaws.{render-read}
 use Rattle.protocol.specs.CertificateLaws.{in-set}
 use Rattle.protocol.specs.Joining.{pairsIn, packSet, joinedPairs, joinedOf}
+use Rattle.protocol.specs.JoiningLaws.{new-evidence}
 use Rattle.protocol.specs.ConditionsLaws.{each-every}
 use Rattle.protocol.specs.Refusals.{OUT, isEvidence, isNewEvidence, rising, outsideConditions, messageConditions, packConditions, joinedConditions, evidenceConditions, joiningConditions}
 use Rattle.protocol.specs.Calls.{makingBy, joining, checkedBy, evidenceCheck}
@@ -31,7 +32,7 @@ use Rattle.reading.specs.ListsLaws.{each-nil, each-cons, each-map}
 use Rattle.claims.specs.Sound.{Any, Pairs}
 use Rattle.claims.specs.CertificatesLaws.{seats-rising}
 use Rattle.claims.specs.NotRefused.{Outside, evidence-not-refused, PackFit, JoiningFit, joining-not-refused}
-use Rattle.claims.specs.JoinedLaws.{seatsAmong, joined-seats, joined-set, joined-first, joined-second, joined-self, new-evidence, pack-elim, pairs-set, joined-pairs}
+use Rattle.claims.specs.JoinedLaws.{seatsAmong, joined-seats, joined-set, joined-first, joined-second, joined-self, pack-elim, pairs-set, joined-pairs}
 use Rattle.claims.specs.Units.{pairs-formed}
 use Rattle.claims.specs.Safe.{making-bytes}
 use Rattle.claims.specs.Made.{accepted-mask}

@@ -2,7 +2,7 @@
 -- Assumes nothing.
 use Prim.Native.Nat.{ℕ, _^_, _<_, _≤_}
 use mathlib.Core.Path.{_≡_, refl, sym, ap, ap₂, _∙_}
-use mathlib.Core.Bool.{true, false, false≢true}
+use mathlib.Core.Bool.{true, false}
 use mathlib.Core.List.{List, [], _∷_, map, map-map, map-id, List·Memᴰ, List·Memᴰ·head, List·Memᴰ·tail, List·Memᴰ·not-nil, List·Memᴰ·cases-cons, Memᴰ·of-map, Memᴰ·map}
 use mathlib.Core.Logic.{_⊎_, inl, inr, ⊎-elim, _≢_}
 use native.Mathlib.Omega.{arith}
@@ -16,12 +16,13 @@ use Rattle.quorum.specs.QuorumLaws.{bit-cases, bit-union, has-true, has-false, 
 use Rattle.protocol.specs.Layout.{signatureLength, pairLowerAt, pairHigherAt}
 use Rattle.protocol.specs.Entries.{Laid, formSeats}
 use Rattle.protocol.specs.EntriesLaws.{map-same, length-read}
-use Rattle.protocol.specs.Message.{Pair, ValuesOnce, ValuesEach, Message, Submit, Notice, Full, Evidence, Garbled, pairBytes, evidenceForm, formOf, countOf, readEvidence, read, roundOf, entrySeats, seatsOf, signed}
+use Rattle.protocol.specs.Message.{Pair, ValuesEach, Message, Evidence, pairBytes, evidenceForm, formOf, countOf, readEvidence, read, roundOf, entrySeats, seatsOf, signed}
 use Rattle.protocol.specs.MessageLaws.{evidence-fits, read-is-evidence}
 use Rattle.protocol.specs.Certificate.{setOf}
 use Rattle.protocol.specs.CertificateLaws.{in-set, set-seats}
 use Rattle.protocol.specs.Joining.{pairsIn, pairAmong, joinedPair, joinedPairs}
-use Rattle.protocol.specs.Refusals.{Checks, every, isEvidence, isNewEvidence, rising, lowerFirst, notLowerFirst}
+use Rattle.protocol.specs.JoiningLaws.{new-cases, new-evidence}
+use Rattle.protocol.specs.Refusals.{Checks, every, isEvidence, rising, lowerFirst, notLowerFirst}
 use Rattle.protocol.specs.ConditionsLaws.{every-each}
 use Rattle.protocol.specs.SeatLaws.{seats-set}
 use Rattle.round.specs.Round.{Each, Relation, EachSigned}
@@ -160,20 +161,6 @@ joined-self n ρ ps r e =
     ∙ among-own ps r
 
 -- ---- a pack that a joining takes
-
--- the only case of a message that is an EVIDENCE of the form 0x07
-pub new-cases : (P : Message → Type 0) (m : Message) → isNewEvidence m ≡ true → ((ρ : ℕ) (ps : List Pair) → P (Evidence ρ ValuesEach ps)) → P m
-unfolding isNewEvidence
-new-cases P (Submit ρ seat value signature) e f = absurd (false≢true e)
-new-cases P (Notice ρ seat value) e f = absurd (false≢true e)
-new-cases P (Full ρ sender value es) e f = absurd (false≢true e)
-new-cases P (Evidence ρ (ValuesOnce values) ps) e f = absurd (false≢true e)
-new-cases P (Evidence ρ ValuesEach ps) e f = f ρ ps
-new-cases P Garbled e f = absurd (false≢true e)
-
-pub new-evidence : (m : Message) → isNewEvidence m ≡ true → isEvidence m ≡ true
-unfolding isEvidence
-new-evidence m e = new-cases (λ x. isEvidence x ≡ true) m e (λ ρ ps. refl)
 
 -- the count of an EVIDENCE that was read: "1 to n"
 read-count : (n : ℕ) (bytes : List ℕ) → isEvidence (read n bytes) ≡ true → (1 ≤ length (pairsIn (read n bytes))) × (length (pairsIn (read n bytes)) ≤ n)

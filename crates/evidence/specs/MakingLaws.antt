@@ -1,21 +1,21 @@
 -- Evidence and the lower certificate from two certificates, over plain values.
 -- Assumes nothing.
-use mathlib.Core.Path.{_≡_, refl, sym, ap, _∙_}
+use mathlib.Core.Path.{_≡_, sym, _∙_}
 use mathlib.Core.Bool.{Bool, true, false}
-use mathlib.Core.List.{List, [], _++_}
+use mathlib.Core.List.{List, []}
 use Prim.Native.Nat.{ℕ}
 use native.Mathlib.Omega.{arith}
 use lib.ListN.{length}
-use Rattle.octets.specs.StringsLaws.{patch-nothing}
 use Rattle.quorum.specs.Quorum.{k, size, shared}
-use Rattle.refusal.specs.Refusal.{firstOf, unrefused}
-use Rattle.refusal.specs.RefusalLaws.{refused-old, refused-first, refused-later}
+use Rattle.refusal.specs.Refusal.{firstOf, unrefused, numbers, nonzero}
+use Rattle.refusal.specs.RefusalLaws.{refused-old, refused-first}
+use Rattle.protocol.specs.Layout.{evidenceOutLength}
 use Rattle.protocol.specs.Values.{isLower}
 use Rattle.protocol.specs.Message.{Message, render, read, entrySeats}
 use Rattle.protocol.specs.Certificate.{Certificate, setOf, certificateIn, evidenceOf, conflictOf}
-use Rattle.protocol.specs.Refusals.{Condition, isFull, outsideConditions, makingConditions, lowerConditions}
-use Rattle.protocol.specs.Calls.{outAfter, makingBy, making, made, lowerOf, lowerCertificate}
-use Rattle.protocol.specs.declared.Written.{Written}
+use Rattle.protocol.specs.Refusals.{Condition, isFull, makingConditions, lowerConditions}
+use Rattle.protocol.specs.Calls.{making, lowerOf, lowerCertificate}
+use Rattle.protocol.specs.CallsLaws.{Gives, given-refused, later-refused, written}
 use Rattle.store.specs.Sources.{Readable, certificateFrom}
 use Rattle.store.specs.SourcesLaws.{inFull, full-value, full-readable, full-certificate, full-size}
 use Rattle.wire_write.specs.Writing.{Wrote}
@@ -45,48 +45,34 @@ pub wrote-evidence : (n round mask : ℕ) {ca cb a b : Certificate} {out after :
 unfolding conflictOf
 wrote-evidence n round mask is e f w = rw (← e, ← f, ← is) w
 
-abbrev answered : ℕ → ℕ → Written
-answered number written = record { number = number; written = written }
-
 module _ (c : Call) (a b out : List ℕ) where
   -- the rows of n, round, key table and out
   abbrev given : List Condition
-  given = givenConditions (c .n) (c .round) (c .keys) out
+  given = givenConditions (c .n) (c .round) (c .keys) (evidenceOutLength (c .n)) out
 
   abbrev conflict : Message
   conflict = conflictOf (c .n) (c .round) (certificateIn (read (c .n) a)) (certificateIn (read (c .n) b))
 
   -- answer of the call, and `out` after it
   abbrev Makes : ℕ → ℕ → List ℕ → Type 0
-  Makes number written after =
-      let result = making (check c) (c .n) (c .round) (c .keys) a b out in
-      (answered number written ≡ made result) × (after ≡ outAfter (result .written) out)
+  Makes = Gives (making (check c) (c .n) (c .round) (c .keys) a b out) out
 
-  in-order : makingConditions (check c) (c .n) (c .round) (c .keys) (read (c .n) a) (read (c .n) b) out ≡ given ++ two c a b
-  unfolding makingConditions outsideConditions givenConditions
-  in-order = refl
-
-  -- a refusal writes nothing
-  by-number : {number : ℕ} → number ≡ firstOf (given ++ two c a b) → (number ≡ 0 → ⊥) → Makes number 0 out
-  unfolding making made makingBy outAfter
-  by-number e h = rw (in-order, ← e, refused-old) (refl, sym (patch-nothing out))
+  some : nonzero (numbers given) ≡ true
+  some = given-nonzero (c .n) (c .round) (c .keys) (evidenceOutLength (c .n)) out
 
   module _ {first : ℕ} (told : first ≡ firstOf given) where
-    pub given-refused : (first ≡ 0 → ⊥) → Makes first 0 out
-    given-refused h = by-number (refused-first given (two c a b) first told h) h
+    pub making-given-refused : (first ≡ 0 → ⊥) → Makes first 0 out
+    unfolding making makingConditions givenConditions
+    making-given-refused h = given-refused given (two c a b) some conflict out told h
 
     module _ (none : first ≡ 0) {number : ℕ} (e : number ≡ firstOf (two c a b)) where
-      later : number ≡ firstOf (given ++ two c a b)
-      later = e ∙ refused-later given (two c a b) first told (given-nonzero (c .n) (c .round) (c .keys) out) none
-
       pub making-refused : (number ≡ 0 → ⊥) → Makes number 0 out
-      making-refused h = by-number later h
+      unfolding making makingConditions givenConditions
+      making-refused h = later-refused given (two c a b) some conflict out told none e h
 
       pub making-done : number ≡ 0 → {after : List ℕ} {end : ℕ} → Wrote 0 (render conflict) out after end → Makes 0 end after
-      unfolding making made makingBy unrefused outAfter
-      making-done z {after} {end} w =
-          let ends : end ≡ length (render conflict) = omega (arith, w .ends) in
-          rw (in-order, sym later ∙ z) (ap (answered 0) ends, w .wrote)
+      unfolding making makingConditions givenConditions
+      making-done z w = written given (two c a b) some conflict out told none e z (omega (arith, w .ends)) (w .wrote)
 
 -- ---- the lower certificate
 

@@ -7,11 +7,9 @@ use Rattle.refusal.specs.Refusal.{firstOf, unrefused}
 use Rattle.refusal.specs.RefusalLaws.{refused-old, refused-first}
 use Rattle.protocol.specs.Message.{Message, read, entrySeats}
 use Rattle.protocol.specs.Certificate.{setOf}
-use Rattle.protocol.specs.Refusals.{Condition}
+use Rattle.protocol.specs.Refusals.{Condition, isEvidence, packConditions, evidenceConditions}
 use Rattle.protocol.specs.Calls.{checkedBy, evidenceCheck}
 use Rattle.protocol.specs.declared.Checked.{Checked}
-use Rattle.validate.specs.Calls.{packConditions}
-use Rattle.validate.specs.CallsLaws.{evidence-parts}
 use Rattle.evidence.specs.PassedLaws.{Call, check, outside, Clear, after-outside}
 
 abbrev answered : ℕ → ℕ → Checked
@@ -22,7 +20,7 @@ module _ (c : Call) (bytes : List ℕ) where
   m = read (c .n) bytes
 
   abbrev pack : List Condition
-  pack = packConditions (check c) (c .n) (c .round) m
+  pack = packConditions (check c) (c .n) (c .round) (isEvidence m) m
 
   -- answer of the call
   abbrev Answers : ℕ → ℕ → Type 0
@@ -30,8 +28,8 @@ module _ (c : Call) (bytes : List ℕ) where
 
   -- a refusal names no seat
   refused : {number : ℕ} → number ≡ firstOf (outside c ++ pack) → (number ≡ 0 → ⊥) → Answers number 0
-  unfolding evidenceCheck checkedBy
-  refused e h = rw (evidence-parts (check c) (c .n) (c .round) m (c .keys), ← e, refused-old)
+  unfolding evidenceCheck checkedBy evidenceConditions
+  refused e h = rw (← e, refused-old)
 
   -- refusal of n, round and key table
   pub outside-refused : {number : ℕ} → number ≡ firstOf (outside c) → (number ≡ 0 → ⊥) → Answers number 0
@@ -46,5 +44,5 @@ module _ {c : Call} (clear : Clear c) (bytes : List ℕ) {number : ℕ} (e : num
   pack-refused h = refused c bytes later h
 
   pub accepted : number ≡ 0 → {mask : ℕ} → mask ≡ setOf (entrySeats (m c bytes)) → Answers c bytes 0 mask
-  unfolding evidenceCheck checkedBy unrefused
-  accepted z set = rw (evidence-parts (check c) (c .n) (c .round) (m c bytes) (c .keys), sym later ∙ z, set)
+  unfolding evidenceCheck checkedBy evidenceConditions unrefused
+  accepted z set = rw (sym later ∙ z, set)

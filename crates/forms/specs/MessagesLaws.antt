@@ -8,7 +8,7 @@ use borrow.Author.Tests.{not-false}
 use Rattle.refusal.specs.Refusal.{firstOf, numbers, nonzero}
 use Rattle.refusal.specs.RefusalLaws.{firstOf-zero, refused-first, refused-later, passed-first}
 use Rattle.protocol.specs.Message.{ValuesOnce, ValuesEach, Message, Submit, Notice, Full, Evidence, Garbled}
-use Rattle.protocol.specs.Refusals.{Checks, isForStep, isFull, isEvidence, SIGNATURE, messageConditions}
+use Rattle.protocol.specs.Refusals.{Checks, isForStep, isFull, isEvidence, isNewEvidence, SIGNATURE, messageConditions}
 use Rattle.wire.specs.Reading.{kindOf}
 use Rattle.wire.specs.Answers.{commandOf}
 use Rattle.wire.specs.declared.read.Kind.{Kind}
@@ -47,6 +47,16 @@ for-evidence (Evidence round (ValuesOnce values) entries) = refl
 for-evidence (Evidence round ValuesEach entries) = refl
 for-evidence Garbled = refl
 
+-- "a 0x05 pack is 9 here" (document 02, item 5)
+for-joining : (m : Message) → within 0x07 0x07 (kindOf m) ≡ isNewEvidence m
+unfolding within commandOf kindOf isNewEvidence
+for-joining (Submit round seat value signature) = refl
+for-joining (Notice round seat value) = refl
+for-joining (Full round sender value entries) = refl
+for-joining (Evidence round (ValuesOnce values) entries) = refl
+for-joining (Evidence round ValuesEach entries) = refl
+for-joining Garbled = refl
+
 module _ (m : Message) (t : Kind) (e : t ≡ kindOf m) (b : Bool) where
   pub step-takes : b ≡ within 0x01 0x03 t → b ≡ isForStep m
   step-takes f = f ∙ ap (within 0x01 0x03) e ∙ for-step m
@@ -56,6 +66,9 @@ module _ (m : Message) (t : Kind) (e : t ≡ kindOf m) (b : Bool) where
 
   pub evidence-takes : b ≡ within 0x05 0x07 t → b ≡ isEvidence m
   evidence-takes f = f ∙ ap (within 0x05 0x07) e ∙ for-evidence m
+
+  pub joining-takes : b ≡ within 0x07 0x07 t → b ≡ isNewEvidence m
+  joining-takes f = f ∙ ap (within 0x07 0x07) e ∙ for-joining m
 
 pub full-kind : (m : Message) → isFull m ≡ true → kind.Full ≡ kindOf m
 unfolding kindOf isFull

@@ -307,6 +307,13 @@ pub fn evidence_out_length(n: u32) -> usize
     EVIDENCE_START + EVIDENCE_ENTRY * (quorum::k(n) as usize)
 }
 
+// `out` for two packs joined: an entry for every seat.
+pub fn joined_out_length(n: u32) -> usize
+    ensures { λ r. ⌜ r ≡ Layout.joinedOutLength n ⌝ }
+{
+    EVIDENCE_START + EVIDENCE_ENTRY * (n as usize)
+}
+
 // `out` for a submit or a step: SUBMIT, NOTICE, FULL and EVIDENCE.
 pub fn out_length(n: u32) -> usize
     requires { ⌜ (1 ≤ n) × (n ≤ mostSeats) ⌝ }

@@ -1,4 +1,4 @@
--- Sets and lists of seats, a seat's signature among entries, and slots filled one after another.
+-- Sets and lists of seats, what is looked up for a seat among entries, and slots filled one after another.
 -- Assumes nothing.
 use mathlib.Core.Path.{_≡_, refl, ap, _∙_}
 use mathlib.Core.Bool.{cond}
@@ -12,9 +12,7 @@ use lib.ListN.{length, getD}
 use borrow.Author.Tests.{eq-eqb, ne-eqb}
 use Rattle.quorum.specs.Quorum.{In, bit, with, union, one, seats}
 use Rattle.quorum.specs.QuorumLaws.{bit-cases, bit-empty, bit-one-same, bit-one-other, bit-outside, bit-union, in-union, same-seats, mem-seats}
-use Rattle.protocol.specs.Entries.{formSeats}
-use Rattle.protocol.specs.Message.{Entry, fullForm}
-use Rattle.protocol.specs.Certificate.{fill, fillEach, setOf, signatureOf}
+use Rattle.protocol.specs.Certificate.{fill, fillEach, setOf}
 
 with-with : (s t m : ℕ) → with s (with t m) ≡ with t (with s m)
 unfolding with
@@ -73,11 +71,6 @@ module _ {A B : Type 0} (seat : A → ℕ) (content : A → B) (look : List A �
       next x xs s
       ∙ rw (ne-eqb (seat x) s (λ q. omega (arith, h 0 (omega arith))))
       (found-after xs before s rest d after (λ i l. h (suc i) (omega arith)))
-
-pub signature-after : (es : List Entry) (before : List ℕ) (s : ℕ) (rest : List ℕ) (d : Entry) → formSeats fullForm es ≡ before ++ s ∷ rest
-    → ((i : ℕ) → i < length before → getD before i 0 < s) → signatureOf es s ≡ getD es (length before) d .signature
-unfolding signatureOf formSeats fullForm
-signature-after = found-after (λ (e : Entry). e .seat) (λ (e : Entry). e .signature) signatureOf (λ e es s. refl)
 
 pub fill-snoc : (n bank : ℕ) (f : ℕ → List ℕ) (xs : List ℕ) (s : ℕ) (store : List ℕ) → fillEach n bank f (xs ++ s ∷ []) store ≡ fill n bank s (f s) (fillEach n bank f xs store)
 unfolding fillEach

@@ -163,7 +163,7 @@ module _ {A : Type 0} (form : Form A) where
   Faithful = (seat : ℕ) (bytes : List ℕ) → (form .seat (form .make seat bytes) ≡ seat) × (form .bytes (form .make seat bytes) ≡ bytes)
 
   module _ (faithful : Faithful) (bytes : List ℕ) where
-    entry-back : (at : ℕ) → at + entryLength (form .held) ≤ length bytes → byteAt bytes at ≡ form .command
+    pub entry-back : (at : ℕ) → at + entryLength (form .held) ≤ length bytes → byteAt bytes at ≡ form .command
         → renderEntry form (readEntry form at bytes) ≡ part at (entryLength (form .held)) bytes
     unfolding renderEntry readEntry part
     entry-back at h e =

@@ -26,6 +26,7 @@ pub mod NoteLaws
 pub mod Conditions
 pub mod ConditionsLaws
 pub mod SeatLaws
+pub mod JoiningLaws
 pub mod Refusals
 pub mod Order
 pub mod Step
@@ -34,4 +35,5 @@ pub mod Signatures
 pub mod SignaturesLaws
 pub mod SignatureClaim
 pub mod Calls
+pub mod CallsLaws
 pub mod NoteClaim

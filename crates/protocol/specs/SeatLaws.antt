@@ -1,22 +1,23 @@
--- A rising list of seats and its set: each gives the other, and the place of a seat in the list.
+-- A rising list of seats and its set: each gives the other, and the place of a seat in the list; and so of entries whose seats rise.
 -- Assumes nothing.
 use mathlib.Core.Path.{_≡_, refl, sym, ap, _∙_}
-use mathlib.Core.Bool.{true, and-eq-true-iff}
+use mathlib.Core.Bool.{true, cond, and-eq-true-iff}
 use mathlib.Core.Logic.{_⊎_, inl, inr, ⊎-elim}
 use mathlib.Core.List.{List, [], _∷_, _++_, append-assoc, List·Memᴰ, List·Memᴰ·head, List·Memᴰ·tail, List·Memᴰ·not-nil, List·Memᴰ·cases-cons, List·Memᴰ·append-cases, List·Memᴰ·eq-of-singleton}
 use Prim.Native.Nat.{ℕ, zero, suc, _^_, _≤_, _<_}
 use native.Mathlib.Nat.{eq-or-lt-of-le, le-of-suc-le-suc}
 use native.Mathlib.Numerals.{add-one}
 use native.Mathlib.Omega.{arith}
-use lib.Dec.{ltb}
-use lib.ListN.{length}
+use lib.Dec.{ltb, eqb}
+use lib.ListN.{length, getD, length-append, length-map}
 use borrow.Author.Tests.{ltb-true}
 use Rattle.quorum.specs.Quorum.{bit, In, size, shared, all, seats}
-use Rattle.quorum.specs.QuorumLaws.{bit-cases, bit-shared, bit-lt-two, bit-all-below, seats-in, seats-out, length-seats, all-lt, bit-outside, lt-of-none-outside, mem-seats}
+use Rattle.quorum.specs.QuorumLaws.{bit-cases, bit-shared, bit-lt-two, bit-all-below, seats-in, seats-out, length-seats, all-lt, bit-outside, lt-of-none-outside, mem-seats, seat-at}
+use Rattle.protocol.specs.Entries.{Form, formSeats}
 use Rattle.protocol.specs.Certificate.{setOf}
 use Rattle.protocol.specs.Refusals.{every, rising}
 use Rattle.protocol.specs.ConditionsLaws.{every-each}
-use Rattle.protocol.specs.CertificateLaws.{in-set}
+use Rattle.protocol.specs.CertificateLaws.{in-set, found-after}
 
 -- ---- rising lists
 
@@ -111,3 +112,32 @@ count-below s m =
     lt-of-none-outside s (shared m (all s)) (λ t h. omega (arith, bit-shared t m (all s), bit-outside t s (all s) (all-lt s) h)) in
     ap length (seats-agree s m (shared m (all s)) (λ t h. omega (arith, bit-shared t m (all s), bit-all-below t s h, bit-lt-two t m)))
     ∙ length-seats s (shared m (all s)) below
+
+-- ---- entries whose seats rise and are below n, with `mask` the set of their seats
+
+module _ {A : Type 0} (form : Form A) (n : ℕ) (es : List A) (ordered : rising (formSeats form es) ≡ true) (known : every (λ (s : ℕ). ltb s n) (formSeats form es) ≡ true) (mask : ℕ) (set : mask ≡ setOf (formSeats form es)) where
+  pub entries-lt : mask < 2 ^ n
+  entries-lt = rw set (set-lt n (formSeats form es) known)
+
+  pub entries-seats : seats n mask ≡ formSeats form es
+  entries-seats = rw set (seats-set n (formSeats form es) ordered known)
+
+  pub entries-many : length (seats n mask) ≡ length es
+  unfolding formSeats
+  entries-many = ap length entries-seats ∙ length-map es (form .seat)
+
+  -- the entry of a seat comes after those of the seats below it
+  module _ (s : ℕ) (l : s < n) (i : In s mask) where
+    pub entry-index : size (shared mask (all s)) < length es
+    entry-index =
+        let f = seats-split n s mask l i in
+        omega (arith, entries-many, count-below s mask, ap length (f .1), length-append (seats s mask) (s ∷ f .0))
+
+    pub entry-found : {B : Type 0} (content : A → B) (look : List A → ℕ → B)
+        → ((x : A) (xs : List A) (t : ℕ) → look (x ∷ xs) t ≡ cond (eqb (form .seat x) t) (content x) (look xs t))
+        → (d : A) → look es s ≡ content (getD es (size (shared mask (all s))) d)
+    unfolding formSeats
+    entry-found content look next d =
+        let f = seats-split n s mask l i in
+        rw (← count-below s mask)
+        (found-after (form .seat) content look next es (seats s mask) s (f .0) d (sym entries-seats ∙ f .1) (λ j b. seat-at s mask j b .0))

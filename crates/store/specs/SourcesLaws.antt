@@ -2,27 +2,26 @@
 -- Assumes nothing.
 use mathlib.Core.Path.{_≡_, refl, sym, ap, _∙_}
 use mathlib.Core.Bool.{true, false, and-eq-true-iff}
-use mathlib.Core.List.{List, [], _∷_}
+use mathlib.Core.List.{List, []}
 use Prim.Native.Nat.{ℕ, _+_, _^_, _≤_, _<_}
 use native.Mathlib.Omega.{arith}
 use lib.Dec.{ltb}
-use lib.ListN.{length, length-append, length-map}
+use lib.ListN.{length}
 use borrow.Author.Tests.{not-false}
 use Rattle.quorum.specs.Quorum.{k, In, size, shared, all, seats}
-use Rattle.quorum.specs.QuorumLaws.{seat-at, length-seats}
+use Rattle.quorum.specs.QuorumLaws.{length-seats}
 use Rattle.protocol.specs.Layout.{signatureLength, valueAt, seatAt, fullEntryLength, fullEntryAt, fullLength, banks, storeLength, slotAt}
 use Rattle.protocol.specs.EntriesLaws.{length-read, entry-at}
 use Rattle.protocol.specs.Entries.{placeOf, readEntry, readEntries, formSeats}
 use Rattle.protocol.specs.Message.{Entry, byteAt, read, fullForm, readValue, readSignature, readFull, fitsFull, entrySeats, seatsOf}
 use Rattle.protocol.specs.MessageLaws.{full-fits, read-is-full}
-use Rattle.protocol.specs.CertificateLaws.{signature-after}
+use Rattle.protocol.specs.SeatLaws.{entries-lt, entries-many, entry-index, entry-found}
 use Rattle.protocol.specs.Certificate.{slot, setOf, signatureOf, certificateOf, certificateIn}
 use Rattle.protocol.specs.Refusals.{every, rising, isFull, stranger, disorder}
 use Rattle.layout.specs.Places.{bankOf}
 use Rattle.layout.specs.declared.Bank.{Bank}
 use Rattle.store.specs.Sources.{bytesOf, Sound, entryPlace, Stands, Readable, signatureAt, signatureFrom, certificateFrom}
 use Rattle.store.specs.StoreLaws.{length-signature, bank-listed, slot-inside, slot-read}
-use Rattle.protocol.specs.SeatLaws.{seats-set, set-lt, seats-split, count-below}
 use Rattle.store.specs.declared.sources.Place.{Place}
 use Rattle.store.specs.declared.sources.Place.the-variants as place
 use Rattle.store.specs.declared.sources.Source.{Source}
@@ -55,33 +54,26 @@ module _ (n : ℕ) (bytes : List ℕ) (mask : ℕ) (h : Sound n bytes mask) wher
   sound-ordered = not-false _ (rw (is-full .1) at (h .ordered))
 
   sound-lt : mask < 2 ^ n
-  sound-lt = rw sound-set (set-lt n (formSeats fullForm (entriesIn n bytes)) sound-known)
-
-  sound-seats : seats n mask ≡ formSeats fullForm (entriesIn n bytes)
-  sound-seats = rw sound-set (seats-set n (formSeats fullForm (entriesIn n bytes)) sound-ordered sound-known)
+  sound-lt = entries-lt fullForm n (entriesIn n bytes) sound-ordered sound-known mask sound-set
 
   sound-many : length (seats n mask) ≡ k n
-  unfolding formSeats
-  sound-many = ap length sound-seats ∙ length-map (entriesIn n bytes) (fullForm .seat) ∙ length-read fullForm (k n) bytes
+  sound-many = entries-many fullForm n (entriesIn n bytes) sound-ordered sound-known mask sound-set ∙ length-read fullForm (k n) bytes
 
   module _ (s : ℕ) (l : s < n) (i : In s mask) where
-    entry-index : size (shared mask (all s)) < k n
-    entry-index =
-        let f = seats-split n s mask l i in
-        omega (arith, sound-many, count-below s mask, ap length (f .1), length-append (seats s mask) (s ∷ f .0))
+    index : size (shared mask (all s)) < k n
+    index = omega (arith, entry-index fullForm n (entriesIn n bytes) sound-ordered sound-known mask sound-set s l i, length-read fullForm (k n) bytes)
 
     entry-inside : entryPlace mask s + signatureLength ≤ length bytes
     unfolding entryPlace fullLength fullEntryAt fullEntryLength signatureLength
-    entry-inside = omega (arith, entry-index, full-fits n bytes (is-full .0) .size)
+    entry-inside = omega (arith, index, full-fits n bytes (is-full .0) .size)
 
     entry-signature : readSignature (entryPlace mask s) bytes ≡ certificateIn (read n bytes) .signature s
-    unfolding entryPlace fullEntryAt fullEntryLength placeOf readEntry fullForm readSignature
+    unfolding entryPlace fullEntryAt fullEntryLength placeOf readEntry fullForm readSignature signatureOf
     entry-signature =
-        let f = seats-split n s mask l i in
         let d : Entry = record { seat = 0; signature = [] } in
-        let found = signature-after (entriesIn n bytes) (seats s mask) s (f .0) d (sym sound-seats ∙ f .1) (λ j b. seat-at s mask j b .0) in
-        let read = entry-at fullForm (k n) (size (shared mask (all s))) bytes d entry-index in
-        rw (sound-signature, found, count-below s mask, read)
+        let found = entry-found fullForm n (entriesIn n bytes) sound-ordered sound-known mask sound-set s l i (λ (e : Entry). e .signature) signatureOf (λ e es t. refl) d in
+        let read = entry-at fullForm (k n) (size (shared mask (all s))) bytes d index in
+        rw (sound-signature, found, read)
 
 -- ---- a source's signature, as code reads it at place p
 

@@ -14,7 +14,7 @@ use Rattle.protocol.specs.Layout.{valueLength, signatureLength, valueAt}
 use Rattle.protocol.specs.Values.{isLower}
 use Rattle.protocol.specs.Message.{Message, Submit, readValue, read, readFull, signed}
 use Rattle.protocol.specs.Certificate.{certificateOf, certificateIn}
-use Rattle.protocol.specs.Refusals.{Checks, Condition, every, said, wrongLengths, isForStep, isFull, isEvidence, badSignature, lowerFirst, equalValues, SIGNATURE, NO-CONFLICT-IN, NO-CONFLICT-BETWEEN, outsideConditions, messageConditions, certificateConditions, twoConditions, evidenceConditions}
+use Rattle.protocol.specs.Refusals.{Checks, Condition, every, said, wrongLengths, isForStep, isFull, isEvidence, badSignature, lowerFirst, equalValues, SIGNATURE, NO-CONFLICT-IN, NO-CONFLICT-BETWEEN, messageConditions, packConditions, certificateConditions, twoConditions}
 use Rattle.protocol.specs.Signatures.{signatureNumber}
 use Rattle.protocol.specs.SignaturesLaws.{signature-row}
 use Rattle.protocol.specs.declared.Record.{Record}
@@ -24,7 +24,7 @@ use Rattle.signatures.specs.Places.{pairRead}
 use Rattle.signatures.specs.declared.verdicts.Pair.{Pair}
 use Rattle.signatures.specs.Entries.{FullTaken, EvidenceTaken}
 use Rattle.signatures.specs.EntriesLaws.{certificate-taken, pack-taken}
-use Rattle.validate.specs.Calls.{ownConditions, packConditions, Conflict}
+use Rattle.validate.specs.Calls.{ownConditions, Conflict}
 
 -- ---- the own submission
 
@@ -59,25 +59,25 @@ step-told checks r m taken t number e = rw (← t) e
 
 -- ---- EVIDENCE
 
-module _ (checks : Checks) (n round : ℕ) (m : Message) where
-  -- the evidence check has the rows of its other arguments and these
-  pub evidence-parts : (keys : List ℕ) → evidenceConditions checks n round keys m ≡ outsideConditions n round keys ++ packConditions checks n round m
-  unfolding evidenceConditions outsideConditions packConditions
-  evidence-parts keys = refl
-
-  -- EVIDENCE that isn't refused
-  pub pack-formed : (number : ℕ) → number ≡ firstOf (packConditions checks n round m) → number ≡ 0 → Formed n round (isEvidence m) m
+module _ (checks : Checks) (n round : ℕ) (taken : Bool) (m : Message) where
+  -- a pack that isn't refused
+  pub pack-formed : (number : ℕ) → number ≡ firstOf (packConditions checks n round taken m) → number ≡ 0 → Formed n round taken m
   unfolding packConditions
   pack-formed number e z =
-      let first = passed-first (messageConditions checks n round (isEvidence m) m) (NO-CONFLICT-IN m ∷ []) (sym e ∙ z) in
-      message-formed n round (isEvidence m) m 0 checks (sym first) refl
+      let first = passed-first (messageConditions checks n round taken m) (NO-CONFLICT-IN m ∷ []) (sym e ∙ z) in
+      message-formed n round taken m 0 checks (sym first) refl
 
 -- the same of bytes, by their 9 to 14 alone
-pub evidence-right : (checks : Checks) (n round : ℕ) (bytes : List ℕ) (number : ℕ)
-    → number ≡ firstOf (messageConditions checks n round (isEvidence (read n bytes)) (read n bytes)) → number ≡ 0 → EvidenceTaken n bytes
-evidence-right checks n round bytes number e z =
-    let m = read n bytes in
-    pack-taken n round bytes (message-formed n round (isEvidence m) m number checks e z)
+pub evidence-right : (checks : Checks) (n round : ℕ) (bytes : List ℕ) (taken : Bool) → (taken ≡ true → isEvidence (read n bytes) ≡ true)
+    → (number : ℕ) → number ≡ firstOf (messageConditions checks n round taken (read n bytes)) → number ≡ 0 → EvidenceTaken n bytes
+evidence-right checks n round bytes taken of number e z =
+    let f = message-formed n round taken (read n bytes) number checks e z in
+    pack-taken n round bytes (record { is = of (f .is); same = f .same; known = f .known; ordered = f .ordered })
+
+-- a pack's rows, by a test of its command
+pub pack-told : (checks : Checks) (n round : ℕ) (m : Message) (taken is : Bool) → taken ≡ is
+    → (number : ℕ) → number ≡ firstOf (packConditions checks n round taken m) → number ≡ firstOf (packConditions checks n round is m)
+pack-told checks n round m taken is t number e = rw (← t) e
 
 -- ---- values
 

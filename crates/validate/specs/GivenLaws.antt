@@ -8,7 +8,7 @@ use lib.ListN.{length}
 use borrow.Author.Tests.{ltb-false}
 use Rattle.refusal.specs.Refusal.{firstOf, numbers, nonzero}
 use Rattle.refusal.specs.RefusalLaws.{firstOf-zero, refused-later, passed-first}
-use Rattle.protocol.specs.Layout.{storeLength, outLength, evidenceOutLength}
+use Rattle.protocol.specs.Layout.{storeLength, outLength}
 use Rattle.protocol.specs.Record.{impossible, Ready}
 use Rattle.protocol.specs.RecordLaws.{right-size, right-round, possible}
 use Rattle.protocol.specs.Refusals.{OUT, wrongKeys, shortStore, shortOut, outsideConditions, recordConditions}
@@ -31,21 +31,21 @@ module _ (n round : ℕ) (keys : List ℕ) where
   unfolding outsideConditions nonzero numbers
   outside-nonzero = refl
 
--- ---- with an out, where evidence is made
+-- ---- with an out, where evidence is made or packs are joined
 
-module _ (n round : ℕ) (keys out : List ℕ) where
-  pub given-nonzero : nonzero (numbers (givenConditions n round keys out)) ≡ true
+module _ (n round : ℕ) (keys : List ℕ) (stated : ℕ) (out : List ℕ) where
+  pub given-nonzero : nonzero (numbers (givenConditions n round keys stated out)) ≡ true
   unfolding givenConditions outsideConditions nonzero numbers
   given-nonzero = refl
 
-  pub making-given : (number : ℕ) → number ≡ firstOf (givenConditions n round keys out) → number ≡ 0 → Given n round keys × (evidenceOutLength n ≤ length out)
+  pub given-right : (number : ℕ) → number ≡ firstOf (givenConditions n round keys stated out) → number ≡ 0 → Given n round keys × (stated ≤ length out)
   unfolding givenConditions shortOut
-  making-given number e z =
+  given-right number e z =
       let all = sym e ∙ z in
-      let room = OUT (evidenceOutLength n) out ∷ [] in
+      let room = OUT stated out ∷ [] in
       let first = passed-first (outsideConditions n round keys) room all in
       let last = refused-later (outsideConditions n round keys) room 0 (sym first) (outside-nonzero n round keys) refl ∙ all in
-      (outside-given n round keys 0 (sym first) refl, ltb-false (length out) (evidenceOutLength n) (firstOf-zero 6 _ [] last .0))
+      (outside-given n round keys 0 (sym first) refl, ltb-false (length out) stated (firstOf-zero 6 _ [] last .0))
 
 -- ---- with a record
 

@@ -1,14 +1,16 @@
 // Refusals of the calls. The tests stand in the order of the table, and a test relies on those before it.
 ghost use mathlib.Core.Path.{_≡_};
+ghost use mathlib.Core.Bool.{true};
 ghost use Rattle.refusal.specs.Refusal.{firstOf};
 ghost use Rattle.fips180.specs.Constants.{constants};
 ghost use Rattle.protocol.specs.Signatures.{checks};
+ghost use Rattle.protocol.specs.Layout.{evidenceOutLength};
 ghost use Rattle.protocol.specs.Message.{read};
-ghost use Rattle.protocol.specs.Refusals.{wrongLengths, isForStep, outsideConditions, openingConditions, recordConditions, messageConditions, certificateConditions, twoConditions};
+ghost use Rattle.protocol.specs.Refusals.{wrongLengths, isForStep, isEvidence, outsideConditions, openingConditions, recordConditions, messageConditions, packConditions, certificateConditions, twoConditions};
 ghost use Rattle.wire.specs.Reading.{kindOf};
 ghost use Rattle.protocol.specs.Record.{InRange};
 ghost use Rattle.signatures.specs.Given.{Given};
-ghost use Rattle.validate.specs.Calls.{ownConditions, packConditions, givenConditions};
+ghost use Rattle.validate.specs.Calls.{ownConditions, givenConditions};
 use crate::conflict::equal_values;
 use crate::conflict::not_lower_first;
 use crate::message::message_refusal;
@@ -43,7 +45,7 @@ pub fn outside_refusal(n: u32, round: u32, keys: &[u8]) -> u32
 
 // Refusal of n, round, key table and out, where evidence is made from two certificates: 1, 3, 5, 7.
 pub fn making_refusal(n: u32, round: u32, keys: &[u8], out: &[u8]) -> u32
-    ensures { λ r. ⌜ r ≡ firstOf (givenConditions n round (now (keys .entry)) (now (out .entry))) ⌝ }
+    ensures { λ r. ⌜ r ≡ firstOf (givenConditions n round (now (keys .entry)) (evidenceOutLength n) (now (out .entry))) ⌝ }
 {
     let outside = outside_refusal(n, round, keys);
     if outside != 0 {
@@ -133,15 +135,20 @@ pub fn step_refusal(r: Record, keys: &[u8], kind: Kind, m: &[u8]) -> Verdict
     message_refusal(&k, r.n, r.round, keys, taken, kind, m)
 }
 
-// Refusal of an EVIDENCE: 9 to 15.
-pub fn evidence_refusal(n: u32, round: u32, keys: &[u8], kind: Kind, m: &[u8]) -> Verdict
-    requires { ⌜ Given n round (now keys) × (kind ≡ kindOf (read n (now m))) ⌝ }
-    ensures { λ v. ⌜ v .number ≡ firstOf (packConditions (checks (now (keys .entry)) round) n round (read n (now (m .entry)))) ⌝ }
+// Refusal of a pack, for every call: 9 to 15. `taken`: whether the call takes its command, which is one of EVIDENCE's then.
+pub fn pack_refusal(
+    k: &[u32; 64],
+    n: u32,
+    round: u32,
+    keys: &[u8],
+    taken: bool,
+    kind: Kind,
+    m: &[u8],
+) -> Verdict
+    requires { ⌜ (now k ≡ constants) × Given n round (now keys) × (kind ≡ kindOf (read n (now m))) × (taken ≡ true → isEvidence (read n (now m)) ≡ true) ⌝ }
+    ensures { λ v. ⌜ v .number ≡ firstOf (packConditions (checks (now (keys .entry)) round) n round taken (read n (now (m .entry)))) ⌝ }
 {
-    // No message has the command between the two.
-    let taken = is_within(kind, forms::OLD_EVIDENCE, forms::EVIDENCE);
-    let k = sha256_constants::round_constants();
-    let v = message_refusal(&k, n, round, keys, taken, kind, m);
+    let v = message_refusal(k, n, round, keys, taken, kind, m);
     if v.number != 0 {
         return v;
     }
@@ -151,6 +158,19 @@ pub fn evidence_refusal(n: u32, round: u32, keys: &[u8], kind: Kind, m: &[u8]) -
         };
     }
     v
+}
+
+// Refusal of an EVIDENCE in the evidence check: 9 to 15.
+pub fn evidence_refusal(n: u32, round: u32, keys: &[u8], kind: Kind, m: &[u8]) -> Verdict
+    requires { ⌜ Given n round (now keys) × (kind ≡ kindOf (read n (now m))) ⌝ }
+    ensures { λ v.
+        let said = read n (now (m .entry)) in
+        ⌜ v .number ≡ firstOf (packConditions (checks (now (keys .entry)) round) n round (isEvidence said) said) ⌝ }
+{
+    // No message has the command between the two.
+    let taken = is_within(kind, forms::OLD_EVIDENCE, forms::EVIDENCE);
+    let k = sha256_constants::round_constants();
+    pack_refusal(&k, n, round, keys, taken, kind, m)
 }
 
 // Refusal of one certificate: 9 to 14.

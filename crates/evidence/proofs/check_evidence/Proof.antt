@@ -48,7 +48,7 @@ entry-set-requires : tie.Need-entry-set-requires
 entry-set-requires c κs =
     let v = verdict (c .before) in
     let n = sized (clear (passed v)) in
-    (n .0, n .1, kind-is (v .before), pack-formed _ _ _ _ _ (v .evidence-refusal .ensures) (c .if2 .left) .known)
+    (n .0, n .1, kind-is (v .before), pack-formed _ _ _ _ _ _ (v .evidence-refusal .ensures) (c .if2 .left) .known)
 
 returns-3 : tie.Need-returns-3
 returns-3 c = let v = verdict (c .before .before) in accepted (clear (passed v)) _ (v .evidence-refusal .ensures) (c .before .if2 .left) (c .entry-set .ensures)

@@ -4,9 +4,9 @@ use lib.ListN.{length}
 use denote.Ref.{now}
 use Rattle.protocol.specs.Layout.{evidenceOutLength}
 use Rattle.signatures.specs.Given.{Given}
-use Rattle.validate.specs.GivenLaws.{making-given}
+use Rattle.validate.specs.GivenLaws.{given-right}
 use Rattle.evidence.specs.PassedLaws.{Call, conflicting}
-use Rattle.evidence.specs.MakingLaws.{given-refused, making-refused, making-done}
+use Rattle.evidence.specs.MakingLaws.{making-given-refused, making-refused, making-done}
 use borrow.Author.Needs.{needs}
 use Rattle.evidence.proofs.make_evidence.Statement.{statement}
 use Rattle.evidence.proofs.make_evidence.Tie as tie
@@ -20,14 +20,14 @@ call c = let args = started c .args in record { n = args .n; round = args .round
 
 -- n, round, key table and out are right
 right : (c : tie.Else1) → let args = started (c .before) .args in Given (args .n) (args .round) (now (args .keys)) × (evidenceOutLength (args .n) ≤ length (now (args .out)))
-right c = making-given _ _ _ _ _ (c .before .making-refusal .ensures) (c .if1 .left)
+right c = given-right _ _ _ _ _ _ (c .before .making-refusal .ensures) (c .if1 .left)
 
 -- the verdict on the two certificates
 abbrev verdict : tie.After-struct-known → tie.After-two-refusal
 verdict c = c .before
 
 returns : tie.Need-returns
-returns c = let given = c .before in given-refused (call given) _ _ _ (given .making-refusal .ensures) (c .if1 .taken)
+returns c = let given = c .before in making-given-refused (call given) _ _ _ (given .making-refusal .ensures) (c .if1 .taken)
 
 two-refusal-requires : tie.Need-two-refusal-requires
 two-refusal-requires c κs = right c .0
