@@ -22,7 +22,7 @@ use Rattle.protocol.specs.MessageLaws.{read-cases, pack-old, pack-new, read-ren
 use Rattle.protocol.specs.RoundTripLaws.{render-read}
 use Rattle.protocol.specs.CertificateLaws.{in-set}
 use Rattle.protocol.specs.Joining.{pairsIn, packSet, joinedPairs, joinedOf}
-use Rattle.protocol.specs.JoiningLaws.{new-evidence, seatsAmong, joined-seats, joined-set, joined-first, joined-second, joined-self}
+use Rattle.protocol.specs.JoiningLaws.{new-evidence}
 use Rattle.protocol.specs.ConditionsLaws.{each-every}
 use Rattle.protocol.specs.Refusals.{OUT, isEvidence, isNewEvidence, rising, outsideConditions, messageConditions, packConditions, joinedConditions, evidenceConditions, joiningConditions}
 use Rattle.protocol.specs.Calls.{makingBy, joining, checkedBy, evidenceCheck}
@@ -32,7 +32,7 @@ use Rattle.reading.specs.ListsLaws.{each-nil, each-cons, each-map}
 use Rattle.claims.specs.Sound.{Any, Pairs}
 use Rattle.claims.specs.CertificatesLaws.{seats-rising}
 use Rattle.claims.specs.NotRefused.{Outside, evidence-not-refused, PackFit, JoiningFit, joining-not-refused}
-use Rattle.claims.specs.JoinedLaws.{pack-elim, joined-pairs, set-of-first, set-of-second}
+use Rattle.claims.specs.JoinedLaws.{seatsAmong, joined-seats, joined-set, joined-first, joined-second, joined-self, pack-elim, pairs-set, joined-pairs}
 use Rattle.claims.specs.Units.{pairs-formed}
 use Rattle.claims.specs.Safe.{making-bytes}
 use Rattle.claims.specs.Made.{accepted-mask}
@@ -102,8 +102,8 @@ module _ (S : Setting) where
     abbrev B : ℕ
     B = packSet (read n b)
 
-    -- its message, from the entries of the two
-    record Opened : Type 0 where
+    -- the entries of the two, and the message joined from them
+    record TwoPacks : Type 0 where
       ps : List Pair
       qs : List Pair
       first : read n a ≡ Evidence round ValuesEach ps
@@ -113,9 +113,9 @@ module _ (S : Setting) where
       reads : read n result ≡ Evidence round ValuesEach (joinedPairs n (Evidence round ValuesEach ps) (Evidence round ValuesEach qs))
       accepted : Accepted S result
 
-    opened : Opened
+    packs : TwoPacks
     unfolding joinedOf
-    opened =
+    packs =
         let f = entries-in a (fit .first) in
         let g = entries-in b (fit .second) in
         let entries = joinedPairs n (Evidence round ValuesEach (f .0)) (Evidence round ValuesEach (g .0)) in
@@ -135,15 +135,15 @@ module _ (S : Setting) where
     joined-in-order : entrySeats (read n result) ≡ seats n (union A B)
     unfolding entrySeats formSeats evidenceForm
     joined-in-order =
-        let o = opened in
+        let o = packs in
         rw (o .reads, o .first, o .second) (joined-seats n round round (o .ps) (o .qs))
 
     joined-names-set : packSet (read n result) ≡ union A B
     unfolding entrySeats formSeats evidenceForm
     joined-names-set =
-        let o = opened in
+        let o = packs in
         rw (o .reads, o .first, o .second)
-        (joined-set n round round (o .ps) (o .qs) (set-of-first checks Any n round round (o .ps) (o .qs) (o .ofFirst) (o .ofSecond)) (set-of-second checks Any n round round (o .ps) (o .qs) (o .ofFirst) (o .ofSecond)))
+        (joined-set n round round (o .ps) (o .qs) (pairs-set checks Any n (o .ps) (o .ofFirst)) (pairs-set checks Any n (o .qs) (o .ofSecond)))
 
     names-below : (seat : ℕ) → In seat (union A B) → seat < n
     names-below seat i = mem-seats n seat (union A B) .0 (subst (List·Memᴰ seat) joined-in-order (in-set seat (entrySeats (read n result)) .0 (subst (In seat) (sym joined-names-set) i))) .0
@@ -151,7 +151,7 @@ module _ (S : Setting) where
     pair-of-first : (seat : ℕ) → Names S a seat → pairIn S result seat ≡ pairIn S a seat
     unfolding pairsIn entrySeats formSeats evidenceForm
     pair-of-first seat m =
-        let o = opened in
+        let o = packs in
         let i : In seat A = in-set seat (entrySeats (read n a)) .1 m in
         let l = names-below seat (in-union seat A B .1 (inl i)) in
         rw (o .reads, o .first) (joined-first n round round (o .ps) (o .qs) seat l (subst (λ x. In seat (packSet x)) (o .first) i))
@@ -159,7 +159,7 @@ module _ (S : Setting) where
     pair-of-second : (seat : ℕ) → (Names S a seat → ⊥) → Names S b seat → pairIn S result seat ≡ pairIn S b seat
     unfolding pairsIn entrySeats formSeats evidenceForm
     pair-of-second seat none m =
-        let o = opened in
+        let o = packs in
         let i : In seat B = in-set seat (entrySeats (read n b)) .1 m in
         let l = names-below seat (in-union seat A B .1 (inr i)) in
         let out-of-first : bit seat A ≡ 0 = ⊎-elim (λ z. z) (λ j. absurd (none (in-set seat (entrySeats (read n a)) .0 j))) (bit-cases seat A) in
@@ -169,7 +169,7 @@ module _ (S : Setting) where
     is-joined : IsJoined S a b result
     unfolding isNewEvidence
     is-joined =
-        let o = opened in
+        let o = packs in
         let first = fits-pack a (fit .outside) (fit .first) in
         let second = fits-pack b (fit .outside) (fit .second) in
         record {

@@ -14,7 +14,7 @@ use Rattle.protocol.specs.Certificate.{Certificate, fullOf}
 use Rattle.protocol.specs.Record.{lastRound}
 use Rattle.protocol.specs.Refusals.{isFull}
 use Rattle.protocol.specs.Calls.{evidenceCheck}
-use Rattle.round.specs.Round.{Setting, Call, BySubmit, ByStep, ByThinEntry, InHand, Boat, Each, Family, Confirms, Delivered, MakesEvidence, makingOf, unbroken}
+use Rattle.round.specs.Round.{Setting, Call, BySubmit, ByStep, ByThinEntry, Make, InHand, Boat, Each, Family, Confirms, Delivered, MakesEvidence, makingOf, unbroken}
 use Rattle.round.specs.Demand3.{NoneForged, NoneBlamed, ReachedOthers, Blames}
 use Rattle.claims.specs.NotRefused.{Table}
 use Rattle.claims.specs.Made.{Accuses}
@@ -90,7 +90,7 @@ module _ (S : Setting) {I : Type 0} (P : Plan I) where
 
   -- both certificates, in hand at each unit
   abbrev pub inHand : InHand
-  inHand = record { a = render (fullBy false); b = render (fullBy true); out = out }
+  inHand = record { work = Make; a = render (fullBy false); b = render (fullBy true); out = out }
 
   abbrev pub calls : I → List Call
   calls i = ownSubmit i ∷ map given (heard i)

@@ -19,20 +19,19 @@ use Rattle.protocol.specs.Entries.{formSeats}
 use Rattle.protocol.specs.Message.{Entry, ValuesEach, Message, Submit, Notice, Full, Evidence, Garbled, Signed, render, renderAll, read, roundOf, entrySeats, seatsOf, signed, WellFormed, fullForm}
 use Rattle.protocol.specs.MessageLaws.{read-render}
 use Rattle.protocol.specs.CertificateLaws.{in-set, set-seats}
-use Rattle.protocol.specs.Certificate.{setOf, ownCertificate, certificateOf, certificateIn, entryOf, entriesOf, fullOf, conflictOf}
+use Rattle.protocol.specs.Certificate.{setOf, ownCertificate, certificateOf, certificateIn, entryOf, entriesOf, fullOf}
 use Rattle.protocol.specs.Refusals.{isForStep, isFull, isEvidence, rising, stepConditions}
 use Rattle.protocol.specs.Step.{State, write, collect, isWanted, collectIfWanted, hearSubmit, reply, isComplete, confirm, hearOwn, confirmIfComplete, submitted, stepped}
-use Rattle.protocol.specs.Calls.{Result, resultBy, start, submit, step, makingBy, making}
+use Rattle.protocol.specs.Calls.{Result, resultBy, start, submit, step, making}
 use Rattle.protocol.specs.declared.Record.{Record}
-use Rattle.round.specs.Round.{Setting, Call, ByStep, ByThinEntry, IsStep, Makes, Boat, Moment, Called, Each, Relation, EachSigned, outcome, begins, after as next-moment, afterAll, listFrom, listOf, IsHonest, Family, Writes, Submits, Confirms, StepGiven, Reached, MadeFrom, Delivered, MakesEvidence, makingOf}
+use Rattle.round.specs.Round.{Setting, Call, ByStep, ByThinEntry, IsStep, Makes, Make, Boat, Moment, Called, Each, Relation, EachSigned, outcome, begins, after as next-moment, afterAll, listFrom, listOf, IsHonest, Family, Writes, Submits, Confirms, StepGiven, Reached, MadeFrom, Delivered, MakesEvidence, makingOf}
 use Rattle.round.specs.Demand1.{isNotice}
 use Rattle.round.specs.Demand3.{NoneForged, ReachedOthers}
 use Rattle.reading.specs.ListsLaws.{cond-elim, and-false-either, worth-le-one, worth-true, true-of-worth, count-nil, each-nil, each-cons, each-one, each-append, each-map, rising-first}
 use Rattle.claims.specs.Sound.{Any, SUBMITTED, CONFIRMED, Settled, Attested, Certifies, Entries, Sound, Said}
-use Rattle.claims.specs.CertificatesLaws.{set-size, seats-rising, entries-laid, entry-seats, entries-of, conflict-elim}
+use Rattle.claims.specs.CertificatesLaws.{set-size, seats-rising, entries-laid, entry-seats, entries-of}
 use Rattle.claims.specs.Parts.{in-below}
 use Rattle.claims.specs.Whole.{reply-stays, hearing-stays, Done, submitted-done, submitted-value}
-use Rattle.reading.specs.ReadingLaws.{read-sized}
 use Rattle.reading.specs.Messages.{refusalOf, cameTo}
 use Rattle.reading.specs.MessagesLaws.{outcome-is, step-is}
 use Rattle.reading.specs.UnbrokenLaws.{unbroken-list, unbroken-honest}
@@ -40,8 +39,8 @@ use Rattle.claims.specs.UnrefusedLaws.{possible, Taken, signed-entries, full-ta
 use Rattle.claims.specs.Journey.{lastOf, WorthyGiven, Worthy, any-worthy, step-done}
 use Rattle.claims.specs.Opened.{startOf, start-n, start-seat, start-round, start-unset, start-sound, start-settled}
 use Rattle.claims.specs.Units.{endOf, stop, end-n, end-seat, end-round, flag-written, writes-good, pairs-formed}
-use Rattle.claims.specs.NotRefused.{opening-not-refused, submit-not-refused, message-not-refused, making-not-refused, making-fit}
-use Rattle.claims.specs.Safe.{conditions, evidenceFrom, making-bytes, certifies-in, submits-end}
+use Rattle.claims.specs.NotRefused.{opening-not-refused, submit-not-refused, message-not-refused, making-not-refused}
+use Rattle.claims.specs.Safe.{evidenceFrom, making-bytes, evidence-made, submits-end}
 use Rattle.claims.specs.Made.{Accuses, made-accepted}
 use Rattle.claims.specs.Claim.{demand-3-any}
 use Rattle.examples.specs.Split.{Fleet, Plan, certificate, submitBy, noticeOf, fullBy, leaders, heard, given, ownSubmit, calls, inHand, boat, Splits, Split}
@@ -660,7 +659,7 @@ module _ (S : Setting) {I : Type 0} (P : Plan I) (z : Splits S P) where
       })
 
   accuses : Accuses S (inHand S P .a) (inHand S P .b) (makingOf S (inHand S P))
-  accuses = made-accepted S (inHand S P) making-passes
+  accuses = made-accepted S (inHand S P .a) (inHand S P .b) out making-passes
 
   full-signers : (b : Bool) → certificateIn (read n (render (fullBy S P b))) .seats ≡ signers b
   unfolding fullOf certificateIn certificateOf formSeats fullForm
@@ -668,16 +667,12 @@ module _ (S : Setting) {I : Type 0} (P : Plan I) (z : Splits S P) where
 
   -- the bytes made are one EVIDENCE
   made : (i : I) → MakesEvidence S (boat S P i) (makingOf S (inHand S P))
-  unfolding making makingBy unrefused renderAll isEvidence conflictOf
+  unfolding unrefused renderAll isEvidence
   made i =
       let h = inHand S P in
-      let zero : firstOf (conditions S h) ≡ 0 = making-passes in
-      let t = making-fit checks n round keys (h .a) (h .b) out zero in
-      let ca = certifies-in checks Any n round (read n (h .a)) (t .firstFull) (t .first) (read-sized n (h .a)) (λ s d. tt) in
-      let cb = certifies-in checks Any n round (read n (h .b)) (t .secondFull) (t .second) (read-sized n (h .b)) (λ s d. tt) in
-      let bytes : makingOf S h ≡ render (evidenceFrom S h) = making-bytes S h ∙ rw zero in
-      conflict-elim checks Any n (certificateIn (read n (h .a))) (certificateIn (read n (h .b))) ca cb (λ m. makingOf S h ≡ render m → MakesEvidence S (boat S P i) (makingOf S h)) round (t .conflict) (z .fits .some)
-      (λ ps y names enough is.
+      let bytes : makingOf S h ≡ render (evidenceFrom S Make (h .a) (h .b)) = making-bytes S h ∙ rw making-passes in
+      evidence-made S Any Make (h .a) (h .b) out making-passes (λ s d. tt) (λ s d. tt) (λ m. makingOf S h ≡ render m → MakesEvidence S (boat S P i) (makingOf S h))
+      (λ outside ps y is.
       let m = Evidence round ValuesEach ps in
       record {
         hand = h;

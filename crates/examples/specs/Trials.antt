@@ -5,8 +5,9 @@ use mathlib.Core.Path.{_≡_, refl, ap}
 use mathlib.Core.Bool.{Bool, true, false}
 use Rattle.claims.specs.Once.{written-messages, at-most, sends-one, none-impossible}
 use Rattle.claims.specs.Culprits.{shared-are-guilty, guilty-once, writes-new-form}
+use Rattle.claims.specs.Joined.{joined-accepted, refused-alone}
 use Rattle.trials.specs.Trial.{claimOf, answer}
-use Rattle.trials.specs.Trials.{unfoldedTrials, four, pair, answering, sharing, slow, interrupted, dividedBoats, forewarnedBoats, witnessedBoats, shortStoredBoats, shortOutedBoats, unheardBoats, unsignedBoats, twiceBoats, holdingBoats, keptOtherBoats, keptUnsignedBoats, unsignedEvidence, equalEvidence, equalOldEvidence, answeringBoat, sharingBoat, slowBoat, third, ownThird, unsigned as unsignedBoat, thirdGuilty, ownThirdGuilty, refusedGuilty, thirdOnce, thirdNewForm, thirdAtMost, thirdReadable, thirdPays, interruptedBoat, interruptedSending, newestBoats, olderBoats, sameStoredBoats, otherStoredBoats, unnotedBoats, hastyBoat, blankBoat}
+use Rattle.trials.specs.Trials.{unfoldedTrials, four, pair, answering, sharing, slow, interrupted, dividedBoats, forewarnedBoats, witnessedBoats, shortStoredBoats, shortOutedBoats, unheardBoats, unsignedBoats, twiceBoats, holdingBoats, keptOtherBoats, keptUnsignedBoats, unsignedEvidence, equalEvidence, equalOldEvidence, joinsBothBoats, joinsUnsignedBoats, joinsEqualBoats, overlapping, withOld, answeringBoat, sharingBoat, slowBoat, third, ownThird, unsigned as unsignedBoat, thirdGuilty, ownThirdGuilty, refusedGuilty, thirdOnce, thirdNewForm, thirdAtMost, thirdReadable, thirdPays, interruptedBoat, interruptedSending, newestBoats, olderBoats, sameStoredBoats, otherStoredBoats, unnotedBoats, hastyBoat, blankBoat}
 
 abbrev Answer : Type 0
 Answer = Bool × Bool
@@ -73,6 +74,28 @@ equal-evidence = ap (λ r. r .1) evidence-answers
 
 equal-old-evidence : answer equalOldEvidence ≡ (true, true)
 equal-old-evidence = ap (λ r. r .2) evidence-answers
+
+-- ---- packs joined
+
+joins-both : answer joinsBothBoats ≡ (true, true)
+unfolding unfoldedTrials joinsBothBoats
+joins-both = refl
+
+joins-unsigned : answer joinsUnsignedBoats ≡ (true, true)
+unfolding unfoldedTrials joinsUnsignedBoats
+joins-unsigned = refl
+
+joins-equal : answer joinsEqualBoats ≡ (true, true)
+unfolding unfoldedTrials joinsEqualBoats
+joins-equal = refl
+
+joins-overlapping : answer overlapping ≡ (true, true)
+unfolding unfoldedTrials overlapping
+joins-overlapping = refl
+
+joins-with-old : answer withOld ≡ (true, true)
+unfolding unfoldedTrials withOld
+joins-with-old = refl
 
 -- ---- a boat that hears certificates of three layouts
 
@@ -170,7 +193,7 @@ blank = refl
 
 -- ---- the claims
 
--- the claims of demand 1 and of item 3 on one boat, for the boats of their trials
+-- the claims of demand 1 and of item 3 on one boat, for the boats of their trials; then those of item 5
 once-claimed : claimOf answeringBoat
 once-claimed = at-most four answering
 
@@ -206,3 +229,9 @@ third-at-most-claimed = at-most four third
 
 third-readable-claimed : claimOf thirdReadable
 third-readable-claimed = written-messages four third
+
+overlapping-claimed : claimOf overlapping
+overlapping-claimed = joined-accepted four
+
+with-old-claimed : claimOf withOld
+with-old-claimed = refused-alone four

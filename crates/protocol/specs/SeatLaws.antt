@@ -26,7 +26,7 @@ abbrev pub Sorted : List ℕ → Type 0
 Sorted [] = Unit {0}
 Sorted (x ∷ l) = ((y : ℕ) → List·Memᴰ y l → x < y) × Sorted l
 
-pub sorted-rising : (l : List ℕ) → rising l ≡ true → Sorted l
+sorted-rising : (l : List ℕ) → rising l ≡ true → Sorted l
 unfolding rising
 sorted-rising [] e = tt
 sorted-rising (x ∷ []) e = (λ y d. absurd (List·Memᴰ·not-nil d), tt)

@@ -4,7 +4,7 @@
 use Prim.Native.Nat.{ℕ, zero, suc, _+_, _≤_}
 use mathlib.Core.Path.{_≡_, refl, sym, ap, subst, _∙_}
 use mathlib.Core.Bool.{Bool, true, false, cond, not, _&&_, _||_, or-true, true≢false, false≢true}
-use mathlib.Core.List.{List, [], _∷_, _++_, List·Memᴰ, List·Memᴰ·head, List·Memᴰ·tail, List·Memᴰ·not-nil, List·Memᴰ·cases-cons, Memᴰ·append-right}
+use mathlib.Core.List.{List, [], _∷_, _++_, append-nil, List·Memᴰ, List·Memᴰ·head, List·Memᴰ·tail, List·Memᴰ·not-nil, List·Memᴰ·cases-cons, Memᴰ·append-right}
 use mathlib.Core.Logic.{_⊎_, inl, inr, ⊎-elim, _≢_}
 use lib.Dec.{eqb, leb, ltb}
 use lib.ListN.{length, take, drop}
@@ -21,7 +21,7 @@ use Rattle.protocol.specs.Entries.{Laid}
 use Rattle.protocol.specs.MessageLaws.{read-render}
 use Rattle.protocol.specs.Refusals.{every, isForStep, isFull, isEvidence}
 use Rattle.protocol.specs.Calls.{opening, evidenceCheck, writeNote}
-use Rattle.round.specs.Round.{Each, Are, StandsIn, Setting, Call, BySubmit, ByStep, ByThinEntry, IsStep, Called, outOf, resultOf, writtenIn, Saved, Event, Makes, Keeps, Sends, ComesBack, OpensAgain, Boat, Moment, begins, after, listOf, Allowed, AllowedAll, IsHonest, Writes, Submits, Confirms, Reached, HaveReached, WritesEvidence, WritesFirst, writtenOver, Names}
+use Rattle.round.specs.Round.{Each, Are, StandsIn, Setting, Call, BySubmit, ByStep, ByThinEntry, IsStep, Called, outOf, resultOf, writtenIn, Saved, Event, Makes, Keeps, Sends, ComesBack, OpensAgain, InHand, Boat, Moment, begins, after, listOf, Allowed, AllowedAll, IsHonest, Writes, Submits, Confirms, Reached, HaveReached, WritesEvidence, WritesFirst, writtenOver, makingOf, MakesEvidence, Names}
 use Rattle.round.specs.Demand1.{isNotice, Apart}
 use Rattle.protocol.specs.declared.Record.{Record}
 use Rattle.round.specs.Demand3.{NamesEnough, Blames}
@@ -63,6 +63,9 @@ found-seat seat seats e =
     let g = found-one (eqb seat) seats e in
     subst (λ s. List·Memᴰ s seats) (sym (eqb-true seat (g .0) (g .2))) (g .1)
 
+pub found-no-seat : (seat : ℕ) (seats : List ℕ) → found (eqb seat) seats ≡ false → List·Memᴰ seat seats → ⊥
+found-no-seat seat seats e d = true≢false (sym (eq-eqb seat seat refl) ∙ found-none (eqb seat) seats e seat d)
+
 -- ---- messages
 
 -- whether an entry's signature has its length
@@ -84,6 +87,11 @@ same-pair p q e =
     let parts : _≡_ {A = Pair} (record { seat = p .seat; lowerValue = p .lowerValue; higherValue = p .higherValue; lower = p .lower; higher = p .higher }) q =
     rw (eqb-true (p .seat) (q .seat) (a .0), same-true (p .lowerValue) (q .lowerValue) (b .0), same-true (p .higherValue) (q .higherValue) (c .0), same-true (p .lower) (q .lower) (d .0), same-true (p .higher) (q .higher) (d .1)) in
     parts
+
+pub samePair-says : (p q : Pair) → p ≡ q → samePair p q ≡ true
+unfolding samePair
+samePair-says p q e =
+    rw (e, eq-eqb (q .seat) (q .seat) refl, same-refl (q .lowerValue), same-refl (q .higherValue), same-refl (q .lower), same-refl (q .higher))
 
 -- whether a pair has as many bytes as its form says, and is the one made of its seat and its bytes
 unfoldable pub pairSized : PackForm → Pair → Bool
@@ -486,6 +494,30 @@ module _ (S : Setting) where
 
   unfoldable pub accuses : List Message → ℕ → Bool
   accuses ms seat = found (isEvidenceOn seat) ms
+
+  -- whether bytes are an EVIDENCE that names a seat
+  unfoldable pub madeOn : ℕ → List ℕ → Bool
+  madeOn seat bytes = let m = read n bytes in wellFormed n m && (same bytes (render m) && isEvidenceOn seat m)
+
+  -- bytes that a unit makes or joins from what it has in hand
+  pub madeOn-says : (u : Boat) (h : InHand) (seat : ℕ) → List·Memᴰ h (u .inHand) → madeOn seat (makingOf S h) ≡ true → MakesEvidence S u (makingOf S h) × Names S (makingOf S h) seat
+  unfolding madeOn isEvidenceOn renderAll
+  madeOn-says u h seat d e =
+      let m = read n (makingOf S h) in
+      let a = both-true (wellFormed n m) (same (makingOf S h) (render m) && (isEvidence m && found (eqb seat) (entrySeats m))) e in
+      let b = both-true (same (makingOf S h) (render m)) (isEvidence m && found (eqb seat) (entrySeats m)) (a .1) in
+      let c = both-true (isEvidence m) (found (eqb seat) (entrySeats m)) (b .1) in
+      let bytes = same-true (makingOf S h) (render m) (b .0) in (
+        record {
+          hand = h;
+          has = d;
+          message = m;
+          kind = c .0;
+          bytes = bytes;
+          stands = (m ∷ [], (each-cons (WellFormed n) m [] (wellFormed-says n m (a .0)) (each-nil (WellFormed n)), bytes ∙ sym (append-nil (render m))), List·Memᴰ·head refl);
+        },
+        found-seat seat (entrySeats m) (c .1),
+      )
 
   -- ---- more culprits (document 02, item 3)
 

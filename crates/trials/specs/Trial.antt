@@ -3,28 +3,31 @@
 -- Assumes nothing.
 use Prim.Native.Nat.{ℕ}
 use mathlib.Core.Path.{_≡_, refl, sym, ap, subst, fun-ext, _∙_}
-use mathlib.Core.Bool.{Bool, true, false, not, _&&_, _||_, true≢false}
+use mathlib.Core.Bool.{Bool, true, false, cond, not, _&&_, _||_, true≢false}
 use mathlib.Core.List.{List, [], _∷_, List·Memᴰ}
 use mathlib.Core.Logic.{inl, ⊎-elim, _≢_}
 use lib.Dec.{eqb, leb}
 use lib.ListN.{length}
 use borrow.Author.Tests.{eqb-true, eqb-false, eq-eqb, le-leb, not-true, not-false}
 use Rattle.octets.specs.Strings.{same}
-use Rattle.quorum.specs.Quorum.{has}
+use Rattle.quorum.specs.Quorum.{has, union}
 use Rattle.octets.specs.StringsLaws.{same-refl}
+use Rattle.refusal.specs.Refusal.{firstOf, _before_}
 use Rattle.refusal.specs.RefusalLaws.{both-true, both-false}
+use Rattle.protocol.specs.Layout.{joinedOutLength}
 use Rattle.protocol.specs.Message.{Message, Evidence, Signed, render, read, signed, entrySeats}
 use Rattle.protocol.specs.Record.{impossible}
-use Rattle.protocol.specs.Refusals.{every, isEvidence}
+use Rattle.protocol.specs.Refusals.{OUT, every, isEvidence, outsideConditions}
 use Rattle.protocol.specs.Calls.{evidenceCheck}
-use Rattle.round.specs.Round.{Setting, InHand, Are, writtenOver, Boat, Called, IsHonest, Family, resultOf, listOf, StepGiven, MadeFrom, Delivered, AcceptedFrom, Names}
+use Rattle.round.specs.Round.{Setting, InHand, Are, writtenOver, Boat, Called, IsHonest, Family, resultOf, listOf, Submits, StepGiven, makingOf, MadeFrom, Delivered, AcceptedFrom, Names}
 use Rattle.round.specs.Demand1.{Kind, SUBMIT, NOTICE, FULL, EVIDENCE, isOf, count, worth, most, AtMost, SendsOne}
 use Rattle.round.specs.Culprits.{unitOf, SharedAreGuilty, packNames, GuiltyOnce, WritesNewForm}
 use Rattle.round.specs.Demand3.{NoneForged, NoneBlamed, ReachedOthers, Demand3}
-use Rattle.protocol.specs.ConditionsLaws.{every-each}
-use Rattle.reading.specs.ListsLaws.{and-false-either, or-true-either}
+use Rattle.round.specs.Joins.{maskOf, pairIn, ownNumber, numberOf, joined, IsJoined, JoinsTwo, RefusesAsAlone}
+use Rattle.protocol.specs.ConditionsLaws.{every-each, each-every}
+use Rattle.reading.specs.ListsLaws.{cond-elim, and-false-either, or-true-either}
 use Rattle.reading.specs.Messages.{allMessages}
-use Rattle.trials.specs.Tests.{found, found-one, every-false, found-seat, messageIn, given-message, signed-given, newForm, newForm-not, apart, apart-not, readable, readable-says, sameSigned, same-signed, sentIn, sentIn-says, isHonest, isHonest-says, all, formed, submits, submits-says, confirms, confirms-says, haveReached, haveReached-says, blames, blames-not, firstPays, firstPays-not, accuses, accuses-says, all-are, member-writes, givenGuilty, givenGuilty-not, ownGuilty, ownGuilty-not}
+use Rattle.trials.specs.Tests.{found, found-one, every-false, found-seat, found-no-seat, samePair, samePair-says, messageIn, given-message, signed-given, newForm, newForm-not, apart, apart-not, readable, readable-says, sameSigned, same-signed, sentIn, sentIn-says, isHonest, isHonest-says, all, formed, submits, submits-says, confirms, confirms-says, haveReached, haveReached-says, blames, blames-not, firstPays, firstPays-not, accuses, accuses-says, madeOn, madeOn-says, all-are, member-writes, givenGuilty, givenGuilty-not, ownGuilty, ownGuilty-not}
 
 pub record Trial {ℓ} (claim : Type ℓ) : Type ℓ where
   pub premises : Bool
@@ -283,34 +286,55 @@ module _ (S : Setting) {I : Type 0} (crew : Crew I) (boat : I → Boat) where
   abbrev pub genuine : Done I → I → Signed → Bool
   genuine d i s = not (eqb (s .seat) (boat i .seat)) || (submits S (d .calls i) (s .value) || not (checks (s .seat) (s .value) (s .signature)))
 
+  genuine-says : (i : I) (layout signature : List ℕ) → genuine done i (record { seat = boat i .seat; value = layout; signature = signature }) ≡ true → (Submits S (boat i) layout → ⊥) → checks (boat i .seat) layout signature ≡ false
+  genuine-says i layout signature e never =
+      let own = eqb (boat i .seat) (boat i .seat) in
+      let said = submits S (listOf S (boat i)) layout in
+      let bad = not (checks (boat i .seat) layout signature) in
+      ⊎-elim (λ q. absurd (true≢false (sym (eq-eqb (boat i .seat) (boat i .seat) refl) ∙ not-true own q)))
+      (λ q. ⊎-elim (λ p. absurd (never (submits-says S (boat i) layout p))) (λ p. not-true (checks (boat i .seat) layout signature) p) (or-true-either said bad q))
+      (or-true-either (not own) (said || bad) e)
+
+  -- whether no signature of a message is forged, of those that a boat's steps are given, and of those that it has in hand
+  abbrev pub genuineIn : Done I → I → Message → Bool
+  genuineIn d i m = every (genuine d i) (signed m)
+
+  abbrev pub genuineGiven : Done I → I → Called → Bool
+  genuineGiven d i c = genuineIn d i (messageIn n (c .given))
+
+  abbrev pub genuineInHand : Done I → I → InHand → Bool
+  genuineInHand d i h = genuineIn d i (read n (h .a)) && genuineIn d i (read n (h .b))
+
   abbrev pub noneForged : Done I → Bool
-  noneForged d = each (λ i. each (λ j. every (λ (c : Called). every (genuine d i) (signed (messageIn n (c .given)))) (d .calls j)))
+  noneForged d = each (λ i. each (λ j. every (genuineGiven d i) (d .calls j) && every (genuineInHand d i) (boat j .inHand)))
 
-  -- whether no boat has certificates in hand
-  abbrev pub noneInHand : Bool
-  noneInHand = each (λ i. every (λ (h : InHand). false) (boat i .inHand))
-
-  pub noneForged-says : noneForged done ≡ true → noneInHand ≡ true → NoneForged S boat (Delivered S boat)
-  noneForged-says e empty i layout signature d never = ⊎-elim stepped made (d .given)
+  pub noneForged-says : noneForged done ≡ true → NoneForged S boat (Delivered S boat)
+  noneForged-says e i layout signature d never = ⊎-elim stepped made (d .given)
     where
       s : Signed
       s = record { seat = boat i .seat; value = layout; signature = signature }
 
+      tests : I → I → Bool
+      tests l j = every (genuineGiven done l) (listOf S (boat j)) && every (genuineInHand done l) (boat j .inHand)
+
+      both : (every (genuineGiven done i) (listOf S (boat (d .to))) ≡ true) × (every (genuineInHand done i) (boat (d .to) .inHand) ≡ true)
+      both = both-true _ _ (each-says (tests i) (each-says (λ l. each (tests l)) e i) (d .to))
+
+      in-message : (m : Message) → genuineIn done i m ≡ true → List·Memᴰ s (signed m) → checks (boat i .seat) layout signature ≡ false
+      in-message m g z = genuine-says i layout signature (every-each (genuine done i) (signed m) g s z) never
+
       stepped : StepGiven S (boat (d .to)) (d .bytes) → checks (boat i .seat) layout signature ≡ false
       stepped g =
-          let c = g .call in
-          let all : I → Called → Bool = λ l x. every (genuine done l) (signed (messageIn n (x .given))) in
-          let mine = each-says (λ j. every (all i) (listOf S (boat j))) (each-says (λ l. each (λ j. every (all l) (listOf S (boat j)))) e i) (d .to) in
-          let here = every-each (all i) (listOf S (boat (d .to))) mine c (g .inList) in
-          let m : List·Memᴰ s (signed (messageIn n (c .given))) = subst (λ l. List·Memᴰ s l) (sym (ap signed (given-message n (c .given) (d .bytes) (g .out) (g .isStep)))) (d .stands) in
-          let test = every-each (genuine done i) (signed (messageIn n (c .given))) here s m in
-          let said = submits S (listOf S (boat i)) layout in
-          ⊎-elim (λ q. absurd (true≢false (sym (eq-eqb (boat i .seat) (boat i .seat) refl) ∙ not-true (eqb (boat i .seat) (boat i .seat)) q)))
-          (λ q. ⊎-elim (λ p. absurd (never (submits-says S (boat i) layout p))) (λ p. not-true (checks (boat i .seat) layout signature) p) (or-true-either said (not (checks (boat i .seat) layout signature)) q))
-          (or-true-either (not (eqb (boat i .seat) (boat i .seat))) (said || not (checks (boat i .seat) layout signature)) test)
+          let m = messageIn n (g .call .given) in
+          in-message m (every-each (genuineGiven done i) (listOf S (boat (d .to))) (both .0) (g .call) (g .inList))
+          (subst (λ x. List·Memᴰ s (signed x)) (sym (given-message n (g .call .given) (d .bytes) (g .out) (g .isStep))) (d .stands))
 
       made : MadeFrom S (boat (d .to)) (d .bytes) → checks (boat i .seat) layout signature ≡ false
-      made h = absurd (true≢false (sym (every-each (λ (x : InHand). false) (boat (d .to) .inHand) (each-says (λ l. every (λ (x : InHand). false) (boat l .inHand)) empty (d .to)) (h .hand) (h .has))))
+      made h =
+          let hand = both-true (genuineIn done i (read n (h .hand .a))) (genuineIn done i (read n (h .hand .b))) (every-each (genuineInHand done i) (boat (d .to) .inHand) (both .1) (h .hand) (h .has)) in
+          let here : (bytes : List ℕ) → d .bytes ≡ bytes → genuineIn done i (read n bytes) ≡ true → checks (boat i .seat) layout signature ≡ false =
+          λ bytes q g. in-message (read n bytes) g (subst (λ x. List·Memᴰ s (signed (read n x))) q (d .stands)) in
+          ⊎-elim (λ q. here (h .hand .a) q (hand .0)) (λ q. here (h .hand .b) q (hand .1)) (h .either)
 
   -- whether a signature is in the message of a step in a list
   abbrev pub delivered : Done I → Signed → Bool
@@ -338,18 +362,23 @@ module _ (S : Setting) {I : Type 0} (crew : Crew I) (boat : I → Boat) where
       let b = both-true (every (delivered done) (signed m)) (found (eqb (boat i .seat)) (entrySeats m)) (a .1) in
       ((eqb-true number 0 (a .0), λ s d. delivered-says s (every-each (delivered done) (signed m) (b .0) s d)), found-seat (boat i .seat) (entrySeats m) (b .1))
 
-  -- whether no boat's seat is in evidence that a boat writes, or in one of these that is accepted from delivered signatures, where no
-  -- signature is forged
+  -- whether a boat's seat is in evidence that a boat writes, or makes or joins from what it has in hand, or in one of these that is accepted
+  -- from delivered signatures
+  abbrev pub accused : Done I → I → Bool
+  accused d i = someone (λ j. accuses S (d .messages j) (boat i .seat))
+
+  abbrev pub accusedInHand : I → Bool
+  accusedInHand i = someone (λ j. found (λ (h : InHand). madeOn S (boat i .seat) (makingOf S h)) (boat j .inHand))
+
+  -- whether no boat's seat is, where no signature is forged
   unfoldable pub safety : List (List ℕ) → Trial (Family S boat → Demand3 S boat)
   safety tried =
-      trialBy (λ d. family d && (noneForged d && noneInHand)) (λ d. each (λ i. not (someone (λ j. accuses S (d .messages j) (boat i .seat)) || found (framed d i) tried)))
+      trialBy (λ d. family d && noneForged d) (λ d. each (λ i. not (accused d i || (accusedInHand i || found (framed d i) tried))))
       (λ p c claim.
-      let accused : I → Bool = λ i. someone (λ j. accuses S (all S (boat j)) (boat i .seat)) in
-      let a = both-true (family done) (noneForged done && noneInHand) p in
-      let b = both-true (noneForged done) noneInHand (a .1) in
+      let a = both-true (family done) (noneForged done) p in
       let known = family-says (a .0) in
-      let none : NoneBlamed S boat (Delivered S boat) = claim (known .0) .safety (noneForged-says (b .0) (b .1)) in
-      let l = every-false (λ i. not (accused i || found (framed done i) tried)) (crew .everyone) c in
+      let none : NoneBlamed S boat (Delivered S boat) = claim (known .0) .safety (noneForged-says (a .1)) in
+      let l = every-false (λ i. not (accused done i || (accusedInHand i || found (framed done i) tried))) (crew .everyone) c in
       let i = l .0 in
       ⊎-elim
       (λ q.
@@ -357,7 +386,56 @@ module _ (S : Setting) {I : Type 0} (crew : Crew I) (boat : I → Boat) where
       let w = accuses-says S (boat (j .0)) (known .1 (j .0)) (boat i .seat) (j .2) in
       none .written i (j .0) (w .0) (w .1) (w .2))
       (λ q.
-      let e = found-one (framed done i) tried q in
+      ⊎-elim
+      (λ r.
+      let j = found-one (λ j. found (λ (h : InHand). madeOn S (boat i .seat) (makingOf S h)) (boat j .inHand)) (crew .everyone) r in
+      let h = found-one (λ (h : InHand). madeOn S (boat i .seat) (makingOf S h)) (boat (j .0) .inHand) (j .2) in
+      let w = madeOn-says S (boat (j .0)) (h .0) (boat i .seat) (h .1) (h .2) in
+      none .made i (j .0) (makingOf S (h .0)) (w .0) (w .1))
+      (λ r.
+      let e = found-one (framed done i) tried r in
       let w = framed-says i (e .0) (e .2) in
       none .accepted i (e .0) (w .0) (w .1))
-      (or-true-either (accused i) (found (framed done i) tried) (not-false (accused i || found (framed done i) tried) (l .2))))
+      (or-true-either (accusedInHand i) (found (framed done i) tried) q))
+      (or-true-either (accused done i) (accusedInHand i || found (framed done i) tried) (not-false _ (l .2))))
+
+-- ---- packs joined (document 02, item 5)
+
+module _ (S : Setting) (a b : List ℕ) where
+  open Setting S using (n, round, keys, checks)
+
+  -- whether bytes name a seat
+  abbrev pub names : List ℕ → ℕ → Bool
+  names evidence seat = found (eqb seat) (entrySeats (read n evidence))
+
+  -- whether a seat has the pair of the first of the two packs that names it
+  abbrev pub firstPair : List ℕ → ℕ → Bool
+  firstPair evidence seat =
+      cond (names a seat) (samePair (pairIn S evidence seat) (pairIn S a seat)) (not (names b seat) || samePair (pairIn S evidence seat) (pairIn S b seat))
+
+  pub first-pair : (evidence : List ℕ) (seat : ℕ) → IsJoined S a b evidence → firstPair evidence seat ≡ true
+  first-pair evidence seat j =
+      cond-elim (λ x. x ≡ true) (names a seat) _ _ (λ q. samePair-says _ _ (j .first seat (found-seat seat (entrySeats (read n a)) q)))
+      (λ q. by-second (names b seat) refl (found-no-seat seat (entrySeats (read n a)) q))
+    where
+      by-second : (named : Bool) → names b seat ≡ named → (Names S a seat → ⊥) → (not named || samePair (pairIn S evidence seat) (pairIn S b seat)) ≡ true
+      by-second true e none = samePair-says _ _ (j .second seat none (found-seat seat (entrySeats (read n b)) e))
+      by-second false e none = refl
+
+  -- whether what is joined is accepted, names the union, and has for each of these seats the first pack's pair
+  unfoldable pub joinsTwo : List ℕ → List ℕ → Trial (JoinsTwo S)
+  joinsTwo out tried =
+      let evidence : List ℕ = joined S a b out in
+      record {
+        premises = eqb (numberOf S a b out) 0;
+        conclusion = eqb (evidenceCheck checks n round keys evidence .number) 0 && (eqb (maskOf S evidence) (union (maskOf S a) (maskOf S b)) && every (firstPair evidence) tried);
+        refutes = λ p c claim.
+            let j = claim .becomes a b out (eqb-true (numberOf S a b out) 0 p) in
+            true≢false (sym (rw (eq-eqb _ 0 (j .pack .accepted), eq-eqb _ _ (j .mask), each-every (firstPair (joined S a b out)) tried (λ seat d. first-pair (joined S a b out) seat j))) ∙ c);
+      }
+
+  -- whether the number is the one of the other arguments, else the first pack's own, else the second's
+  unfoldable pub refusesAsAlone : List ℕ → Trial (RefusesAsAlone S)
+  refusesAsAlone out =
+      let given = firstOf (outsideConditions n round keys) before firstOf (OUT (joinedOutLength n) out ∷ []) before ownNumber S a before ownNumber S b in
+      record { premises = true; conclusion = eqb (numberOf S a b out) given; refutes = λ p c claim. true≢false (sym (eq-eqb (numberOf S a b out) given (claim a b out)) ∙ c) }

@@ -1,24 +1,26 @@
--- Runs for trials of edited definitions: four seats, or two, one to three boats with short lists of calls and of power cuts, and a toy
--- signature check. A run may give a boat the messages that another writes by the definitions, edited or not.
+-- Runs for trials of edited definitions: four seats, or two, one to three boats with short lists of calls and of power cuts, or two packs to
+-- join, and a toy signature check. A run may give a boat the messages that another writes by the definitions, edited or not.
 -- Assumes nothing.
 use Prim.Native.Nat.{ℕ, zero, suc}
 use mathlib.Core.Path.{_≡_, refl}
 use mathlib.Core.Bool.{Bool, true, false, cond}
 use mathlib.Core.List.{List, [], _∷_, _++_, map, List·Memᴰ, List·Memᴰ·head, List·Memᴰ·tail}
 use lib.ListN.{replicate}
-use Rattle.protocol.specs.Layout.{noteLength, storeLength, outLength}
+use Rattle.protocol.specs.Layout.{noteLength, storeLength, outLength, joinedOutLength}
 use Rattle.protocol.specs.Message.{Pair, ValuesOnce, ValuesEach, Message, Submit, Notice, Full, Evidence, Garbled, render, byteAt}
-use Rattle.round.specs.Round.{Setting, Call, BySubmit, ByStep, Called, Saved, Event, Makes, Keeps, Sends, ComesBack, OpensAgain, Boat, begins, after, afterAll, writtenOver, Are, IsHonest, Family, outcome, resultOf, listOf}
+use Rattle.round.specs.Round.{Setting, Call, BySubmit, ByStep, Called, Saved, Event, Makes, Keeps, Sends, ComesBack, OpensAgain, Join, InHand, Boat, begins, after, afterAll, writtenOver, Are, IsHonest, Family, outcome, resultOf, listOf}
 use Rattle.round.specs.Demand1.{isSubmit, isNotice, worth, count, most, AtMost, SendsOne}
 use Rattle.round.specs.Culprits.{SharedAreGuilty, GuiltyOnce, WritesNewForm}
 use Rattle.round.specs.Demand3.{Demand3}
+use Rattle.round.specs.Joins.{ownNumber, JoinsTwo, RefusesAsAlone}
+use Rattle.refusal.specs.Refusal.{_before_}
 use Rattle.protocol.specs.Record.{impossible}
 use Rattle.protocol.specs.Refusals.{isFull}
 use Rattle.reading.specs.Reading.{frameLength}
 use Rattle.reading.specs.Messages.{refusalOf, cameTo, allMessages}
 use Rattle.trials.specs.Toy.{unfolded, toy, layout, sign, keys, submitBy, entryBy, fullBy, pairBy}
-use Rattle.trials.specs.Tests.{found, entrySized, samePair, pairSized, valuesSized, wellFormed, isNoticeOf, isEvidenceOn, firstPack, newForm, apart, isMessage, readable, isStepOf, isSubmitOf, messageIn, sameSigned, sentIn, sameSaved, isNewest, noneSaved, wrote, allowed, allowedAll, isHonest, all, formed, submits, reached, confirms, mustReach, haveReached, namesEnough, blames, firstPays, accuses, sharedGuilty, heardGuilty, givenGuilty, ownGuilty}
-use Rattle.trials.specs.Trial.{Trial, atMost, sendsOne, readableAll, possibleEach, sharedAreGuilty, guiltyOnce, writesNewForm, firstPackPays, Crew, computed, accountability, safety}
+use Rattle.trials.specs.Tests.{found, entrySized, samePair, pairSized, valuesSized, wellFormed, isNoticeOf, isEvidenceOn, firstPack, newForm, apart, isMessage, readable, isStepOf, isSubmitOf, messageIn, sameSigned, sentIn, sameSaved, isNewest, noneSaved, wrote, allowed, allowedAll, isHonest, all, formed, submits, reached, confirms, mustReach, haveReached, namesEnough, blames, firstPays, accuses, madeOn, sharedGuilty, heardGuilty, givenGuilty, ownGuilty}
+use Rattle.trials.specs.Trial.{Trial, atMost, sendsOne, readableAll, possibleEach, sharedAreGuilty, guiltyOnce, writesNewForm, firstPackPays, Crew, computed, accountability, safety, joinsTwo, refusesAsAlone}
 
 -- ---- setting and calls of the runs
 
@@ -260,6 +262,57 @@ equalEvidence = safety four two heardTwice (framing 7 7 ∷ [])
 unfoldable pub equalOldEvidence : Trial (Family four heardTwice → Demand3 four heardTwice)
 equalOldEvidence = safety four two heardTwice (oldFraming 7 7 ∷ [])
 
+-- ---- packs joined (document 02, item 5)
+
+-- what a boat has in hand, and joins
+abbrev pub joins : List ℕ → List ℕ → InHand
+joins a b = record { work = Join; a = a; b = b; out = replicate (joinedOutLength 4) 0 }
+
+abbrev pub packOf : List Pair → List ℕ
+packOf ps = render (Evidence 5 ValuesEach ps)
+
+-- seat 1 submits the layout 7; seat 2 joins a pack about seat 0, which signs twice, with another
+abbrev pub joiner : List Pair → Bool → Boat
+joiner ps =
+    ofTwo (boatAt 1 (says 1 7 ∷ []))
+    (record { seat = 2; store = replicate (storeLength 4) 1; events = []; inHand = joins (packOf (pairBy 7 9 0 ∷ [])) (packOf ps) ∷ [] })
+
+-- one about seats 0 and 3, which sign twice
+unfoldable pub joinsBoth : Bool → Boat
+joinsBoth = joiner (pairBy 7 8 0 ∷ pairBy 7 8 3 ∷ [])
+
+-- one about seat 1, from its one signature given twice: over two layouts, or over one
+unfoldable pub joinsUnsigned : Bool → Boat
+joinsUnsigned = joiner (twiceGiven 7 9 ∷ [])
+
+unfoldable pub joinsEqual : Bool → Boat
+joinsEqual = joiner (twiceGiven 7 7 ∷ [])
+
+unfoldable pub joinsBothBoats : Trial (Family four joinsBoth → Demand3 four joinsBoth)
+joinsBothBoats = safety four two joinsBoth []
+
+unfoldable pub joinsUnsignedBoats : Trial (Family four joinsUnsigned → Demand3 four joinsUnsigned)
+joinsUnsignedBoats = safety four two joinsUnsigned []
+
+unfoldable pub joinsEqualBoats : Trial (Family four joinsEqual → Demand3 four joinsEqual)
+joinsEqualBoats = safety four two joinsEqual []
+
+-- two packs with seat 1 in both, each with another pair; and a second one of the old form
+abbrev pub firstOfTwo : List ℕ
+firstOfTwo = packOf (pairBy 7 9 0 ∷ pairBy 7 9 1 ∷ [])
+
+abbrev pub secondOfTwo : List ℕ
+secondOfTwo = packOf (pairBy 7 8 1 ∷ pairBy 7 8 3 ∷ [])
+
+abbrev pub secondOld : List ℕ
+secondOld = render (Evidence 5 (ValuesOnce (record { lower = layout 7; higher = layout 8 })) (pairBy 7 8 1 ∷ []))
+
+unfoldable pub overlapping : Trial (JoinsTwo four)
+overlapping = joinsTwo four firstOfTwo secondOfTwo (replicate (joinedOutLength 4) 0) (0 ∷ 1 ∷ 2 ∷ 3 ∷ [])
+
+unfoldable pub withOld : Trial (RefusesAsAlone four)
+withOld = refusesAsAlone four firstOfTwo secondOld (replicate (joinedOutLength 4) 0)
+
 -- ---- demand 1: one boat
 
 -- a boat hears another layout's NOTICE before its submit, and again after it has confirmed
@@ -423,5 +476,5 @@ unnotedBoats = accountability four two unnoted false true (layout 7) (layout 9)
 
 -- a name that unfolds every definition of a run
 unfoldable pub unfoldedTrials : Bool
-unfolding unfolded outcome begins after afterAll isSubmit isNotice worth count most frameLength writtenOver refusalOf cameTo allMessages found entrySized samePair pairSized valuesSized wellFormed isNoticeOf isEvidenceOn firstPack newForm apart isMessage readable isStepOf isSubmitOf messageIn sameSigned sentIn sameSaved isNewest noneSaved wrote allowed allowedAll isHonest all formed submits reached confirms mustReach haveReached namesEnough blames firstPays accuses sharedGuilty heardGuilty givenGuilty ownGuilty atMost sendsOne readableAll possibleEach sharedAreGuilty guiltyOnce writesNewForm firstPackPays computed accountability safety those sentBy certified certifiedEach two three keptBy savedAt seven nine divided forewarned witnessed shortStored shortOuted unheard unsigned submitting twice holding keptOther keptUnsigned heardTwice answering sharing slow third ownThird interrupted hasty blank newest older sameStored otherStored unnoted
+unfolding unfolded outcome begins after afterAll isSubmit isNotice worth count most frameLength writtenOver refusalOf cameTo allMessages found entrySized samePair pairSized valuesSized wellFormed isNoticeOf isEvidenceOn firstPack newForm apart isMessage readable isStepOf isSubmitOf messageIn sameSigned sentIn sameSaved isNewest noneSaved wrote allowed allowedAll isHonest all formed submits reached confirms mustReach haveReached namesEnough blames firstPays accuses madeOn sharedGuilty heardGuilty givenGuilty ownGuilty atMost sendsOne readableAll possibleEach sharedAreGuilty guiltyOnce writesNewForm firstPackPays computed accountability safety ownNumber _before_ joinsTwo refusesAsAlone those sentBy certified certifiedEach two three keptBy savedAt seven nine divided forewarned witnessed shortStored shortOuted unheard unsigned submitting twice holding keptOther keptUnsigned heardTwice joinsBoth joinsUnsigned joinsEqual answering sharing slow third ownThird interrupted hasty blank newest older sameStored otherStored unnoted
 unfoldedTrials = true
