@@ -9,16 +9,21 @@
 --    `Certificate`, `Joining`, `Message`, `Entries`, `Layout`, `Values`), and `quorum/specs/Quorum`: t0, k, sets of seats and their sizes.
 -- 4. `protocol/specs/Signatures: checks`: the signature check, by `rfc8554/specs`' `Verify`, `Tree` and `Ots`, and `fips180/specs/Fips`.
 -- 5. `as-promised` and `results-promised`, in this file: the rounds of the claim are those by the contracts of the code.
--- 6. `none-blamed-by-sent`, in this file: the same for the messages that are sent.
+-- 6. `none-blamed-by-sent`, in this file: the same for the messages that are sent; `none-blamed-by-joined`: and for what the harbour office
+--    joins from the packs of many boats (`round/specs/Joins`).
 -- Assumes nothing.
 use mathlib.Core.Path.{_≡_, refl, sym, ap, ap₂, _∙_}
 use mathlib.Core.Bool.{true}
 use mathlib.Core.List.{List, [], _∷_}
-use Prim.Native.Nat.{ℕ}
+use mathlib.Core.Logic.{_⊎_, ⊎-elim}
+use Prim.Native.Nat.{ℕ, _≤_}
+use lib.ListN.{length}
+use Rattle.protocol.specs.Layout.{joinedOutLength}
 use Rattle.protocol.specs.Message.{Message, render}
 use Rattle.protocol.specs.Signatures.{checks}
 use Rattle.protocol.specs.Refusals.{isEvidence}
-use Rattle.round.specs.Round.{Setting, Each, resultOf, Event, Boat, Moment, begins, after, afterAll, nowOf, listOf, AllowedAll, IsHonest, Family, Sent, Delivered, Names}
+use Rattle.round.specs.Round.{Setting, Each, resultOf, Event, Boat, Moment, begins, after, afterAll, nowOf, listOf, AllowedAll, IsHonest, Family, Sent, WritesEvidence, Delivered, AcceptedFrom, Names}
+use Rattle.round.specs.Joins.{Handed, IsPack, joinedMany, packsOf}
 use Rattle.round.specs.Demand3.{NoneForged, Demand3}
 use Rattle.claims.specs.Journey.{any-worthy}
 use Rattle.claims.specs.Opened.{start-n, start-round}
@@ -28,6 +33,7 @@ use Rattle.claims.specs.Units.{stop}
 use Rattle.claims.specs.Sound.{Any}
 use Rattle.claims.specs.Safe.{safe, safe-delivered}
 use Rattle.claims.specs.Blamed.{first-pack-names, blamed}
+use Rattle.claims.specs.Joined.{join-many}
 
 -- ---- the claim
 
@@ -49,6 +55,17 @@ pub none-blamed-by-sent : (S : Setting) {I : Type 0} (boat : I → Boat) → Fam
     → (i j : I) (m : Message) → isEvidence m ≡ true → Sent (boat j) m → Names S (render m) (boat i .seat) → ⊥
 none-blamed-by-sent S boat family none i j m is sent =
     demand-3-any S boat family .safety none .written i j (render m) (record { message = m; kind = is; bytes = refl; writes = sends-written S (boat j) (family .honest j) m sent })
+
+-- "The harbour office comes next, joining evidence from several boats, and it will have nothing else to go by.": no honest seat stands in
+-- what is joined from packs that honest units wrote, or that are accepted from delivered signatures
+pub none-blamed-by-joined : (S : Setting) {I : Type 0} (boat : I → Boat) → Family S boat → NoneForged S boat (Delivered S boat)
+    → (first : List ℕ) (more : List Handed) → Each (IsPack S) (packsOf S first more) → Each (λ (h : Handed). joinedOutLength (S .n) ≤ length (h .out)) more
+    → Each (λ evidence. ((j : I) × WritesEvidence S (boat j) evidence) ⊎ AcceptedFrom S (Delivered S boat) evidence) (packsOf S first more)
+    → (i : I) → Names S (joinedMany S first more) (boat i .seat) → ⊥
+none-blamed-by-joined S boat family none first more packs room known i named =
+    let safe = demand-3-any S boat family .safety none in
+    let in-one = join-many S first more packs room .names (boat i .seat) .0 named in
+    ⊎-elim (λ w. safe .written i (w .0) (in-one .0) (w .1) (in-one .2)) (λ a. safe .accepted i (in-one .0) a (in-one .2)) (known (in-one .0) (in-one .1))
 
 -- "In one round and under one key table", and "A signature checks for a seat over a layout when RFC 8554 accepts it under that
 -- seat's key for the 36 bytes of the round, that seat and that layout, and its leaf is the round."
