@@ -141,8 +141,17 @@ module _ (n a b : ℕ) (first second : List ℕ) (p : Pack n first a) (q : Pack 
   unfolding joinedPair
   joined-out s z = rw (← p .sets, has-false s a .1 z)
 
-  -- a turn of the loop over seats
-  module _ {at s end : ℕ} {before out : List ℕ} (g : Going form of-joined n (union a b) at before s end out) (l : s < n) (room : at + evidenceEntryLength * length (seats n (union a b)) ≤ length before) where
+  -- a turn of the loop over seats, where `rest` is the seats that the second alone has
+  module _ {rest : ℕ} (alone : rest ≡ less b a) {at s end : ℕ} {before out : List ℕ} (g : Going form of-joined n (union a b) at before s end out) (l : s < n) (room : at + evidenceEntryLength * length (seats n (union a b)) ≤ length before) where
+    in-rest : In s rest → In s b × (bit s a ≡ 0)
+    in-rest i = in-less s b a .0 (rw alone at i)
+
+    pub rest-in-second : In s rest → In s b
+    rest-in-second i = in-rest i .0
+
+    bit-rest : bit s rest ≡ bit s b - bit s a
+    bit-rest = rw alone (bit-less s b a)
+
     pub room-first : In s a → end + evidenceEntryLength ≤ length out
     unfolding evidenceForm evidenceEntryLength
     room-first i = going-room g l (in-union s a b .1 (inl i)) room
@@ -155,24 +164,23 @@ module _ (n a b : ℕ) (first second : List ℕ) (p : Pack n first a) (q : Pack 
           let w : Wrote end [] out mid between = rw (has-false s a .1 z) at u in
           (omega (arith, w .ends), w .wrote ∙ sym (patch-none end out))
 
-      pub room-second : In s (less b a) → between + evidenceEntryLength ≤ length mid
+      pub room-second : In s rest → between + evidenceEntryLength ≤ length mid
       unfolding evidenceForm evidenceEntryLength
       room-second i =
-          let alone = in-less s b a .0 i in
-          let none = unwritten-first (alone .1) in
-          rw (none .0, none .1) (going-room g l (in-union s a b .1 (inr (alone .0))) room)
+          let none = unwritten-first (in-rest i .1) in
+          rw (none .0, none .1) (going-room g l (in-union s a b .1 (inr (in-rest i .0))) room)
 
-      module _ {e : ℕ} {after : List ℕ} (v : Wrote between (wantedEntry (has s (less b a)) (of-second s)) mid after e) where
-        unwritten-second : bit s (less b a) ≡ 0 → (e ≡ between) × (after ≡ mid)
+      module _ {e : ℕ} {after : List ℕ} (v : Wrote between (wantedEntry (has s rest) (of-second s)) mid after e) where
+        unwritten-second : bit s rest ≡ 0 → (e ≡ between) × (after ≡ mid)
         unfolding wantedEntry
         unwritten-second z =
-            let w : Wrote between [] mid after e = rw (has-false s (less b a) .1 z) at v in
+            let w : Wrote between [] mid after e = rw (has-false s rest .1 z) at v in
             (omega (arith, w .ends), w .wrote ∙ sym (patch-none between mid))
 
         by-first : In s a → Going form of-joined n (union a b) at before (s + 1) e after
         unfolding wantedEntry evidenceForm evidenceEntryLength
         by-first i =
-            let nothing = unwritten-second (omega (arith, bit-less s b a, bit-lt-two s b)) in
+            let nothing = unwritten-second (omega (arith, bit-rest, bit-lt-two s b)) in
             let w : Wrote end (renderEntry form (of-first s)) out after e = rw (nothing .0, nothing .1) (rw (has-true s a .1 i) at u) in
             going-on g l (in-union s a b .1 (inl i)) room (of-first s) (sym (joined-in s i)) (entry-holds (of-first s) (entry-length n first a p s l i)) w
 
@@ -180,13 +188,13 @@ module _ (n a b : ℕ) (first second : List ℕ) (p : Pack n first a) (q : Pack 
         unfolding wantedEntry evidenceForm evidenceEntryLength
         by-second z j =
             let none = unwritten-first z in
-            let w : Wrote end (renderEntry form (of-second s)) out after e = rw (has-true s (less b a) .1 (in-less s b a .1 (j, z)), none .0, none .1) at v in
+            let w : Wrote end (renderEntry form (of-second s)) out after e = rw (has-true s rest .1 (omega (arith, bit-rest)), none .0, none .1) at v in
             going-on g l (in-union s a b .1 (inr j)) room (of-second s) (sym (joined-out s z)) (entry-holds (of-second s) (entry-length n second b q s l j)) w
 
         by-neither : bit s a ≡ 0 → bit s b ≡ 0 → Going form of-joined n (union a b) at before (s + 1) e after
         by-neither z y =
             let none = unwritten-first z in
-            let nothing = unwritten-second (omega (arith, bit-less s b a)) in
+            let nothing = unwritten-second (omega (arith, bit-rest)) in
             rw (nothing .0, nothing .1, none .0, none .1) (going-skip g l (omega (arith, bit-union s a b)))
 
         pub seat-done : Going form of-joined n (union a b) at before (s + 1) e after

@@ -40,13 +40,7 @@ fn joined_refusal(k: &[u32; 64], n: u32, round: u32, keys: &[u8], m: &[u8]) -> V
 }
 
 // Refusal of two packs: the first's 9 to 15, then the second's.
-pub(crate) fn packs_refusal(
-    n: u32,
-    round: u32,
-    keys: &[u8],
-    first: &[u8],
-    second: &[u8],
-) -> Verdict
+pub(crate) fn packs_refusal(n: u32, round: u32, keys: &[u8], first: &[u8], second: &[u8]) -> Verdict
     requires { ⌜ Given n round (now keys) ⌝ }
     ensures { λ v.
         let check = checks (now (keys .entry)) round in

@@ -1,16 +1,13 @@
 -- `joining::entries::write_entries` meets its contract.
-use mathlib.Core.Path.{_≡_, _∙_}
 use Prim.Native.Nat.{_-_}
 use native.Mathlib.Omega.{arith}
 use borrow.Author.Needs.{needs}
-use denote.Ref.{now}
-use Rattle.quorum.specs.Quorum.{In, union, less}
-use Rattle.quorum.specs.QuorumLaws.{in-less}
+use Rattle.quorum.specs.Quorum.{union}
 use Rattle.protocol.specs.Layout.{evidenceEntryLength}
 use Rattle.protocol.specs.Message.{evidenceForm, read}
 use Rattle.protocol.specs.Joining.{joinedPair}
 use Rattle.wire_write.specs.WritingLaws.{Going, going-none, going-done}
-use Rattle.joining.specs.PacksLaws.{form, room-first, room-second, seat-done}
+use Rattle.joining.specs.PacksLaws.{form, rest-in-second, room-first, room-second, seat-done}
 use Rattle.joining.proofs.entries.write_entries.Statement.{statement}
 use Rattle.joining.proofs.entries.write_entries.Tie as tie
 
@@ -34,7 +31,7 @@ write-wanted-requires : tie.Need-write-wanted-requires Inv-loop μ-loop
 write-wanted-requires c κs =
     let loop = c .before .before in
     let pre = started loop .pre in
-    (pre .0, omega arith, pre .1, λ i. i, room-first _ _ _ _ _ (pre .1) (pre .2) (loop .loop .inv) (omega arith) (pre .3))
+    (pre .0, omega arith, pre .1, λ i. i, room-first _ _ _ _ _ (pre .1) (pre .2) (reduced loop .less .ensures) (loop .loop .inv) (omega arith) (pre .3))
 
 write-wanted-requires-2 : tie.Need-write-wanted-requires-2 Inv-loop μ-loop
 write-wanted-requires-2 c κs =
@@ -45,8 +42,8 @@ write-wanted-requires-2 c κs =
       pre .0,
       omega arith,
       pre .2,
-      λ i. in-less _ _ _ .0 (rw alone at i) .0,
-      λ i. room-second _ _ _ _ _ (pre .1) (pre .2) (loop .loop .inv) (omega arith) (pre .3) (wrote .write-wanted .ensures) (rw alone at i),
+      rest-in-second _ _ _ _ _ (pre .1) (pre .2) alone (loop .loop .inv) (omega arith) (pre .3),
+      room-second _ _ _ _ _ (pre .1) (pre .2) alone (loop .loop .inv) (omega arith) (pre .3) (wrote .write-wanted .ensures),
     )
 
 loop-again : tie.Need-loop-again Inv-loop μ-loop
@@ -55,7 +52,7 @@ loop-again c =
     let wrote = second .before .before .before .before in
     let loop = looped wrote in
     let pre = started loop .pre in
-    seat-done _ _ _ _ _ (pre .1) (pre .2) (loop .loop .inv) (omega arith) (pre .3) (wrote .write-wanted .ensures) (rw (reduced loop .less .ensures) at (second .write-wanted2 .ensures))
+    seat-done _ _ _ _ _ (pre .1) (pre .2) (reduced loop .less .ensures) (loop .loop .inv) (omega arith) (pre .3) (wrote .write-wanted .ensures) (second .write-wanted2 .ensures)
 
 same-length : tie.Need-same-length Inv-loop μ-loop
 same-length c = omega arith
