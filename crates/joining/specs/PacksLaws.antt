@@ -122,6 +122,13 @@ entry-holds : (x : Pair) → length (renderEntry form x) ≡ evidenceEntryLength
 unfolding renderEntry evidenceForm evidenceEntryLength
 entry-holds x e = omega arith
 
+-- nothing is written of an entry that isn't wanted
+unwritten : (s set : ℕ) (x : Pair) {at end : ℕ} {before after : List ℕ} → Wrote at (wantedEntry (has s set) x) before after end → bit s set ≡ 0 → (end ≡ at) × (after ≡ before)
+unfolding wantedEntry
+unwritten s set x {at} {end} {before} {after} u z =
+    let w : Wrote at [] before after end = rw (has-false s set .1 z) at u in
+    (omega (arith, w .ends), w .wrote ∙ sym (patch-none at before))
+
 module _ (n a b : ℕ) (first second : List ℕ) (p : Pack n first a) (q : Pack n second b) where
   -- a seat's pair in either pack, and in the one that they become
   abbrev of-first : ℕ → Pair
@@ -157,44 +164,31 @@ module _ (n a b : ℕ) (first second : List ℕ) (p : Pack n first a) (q : Pack 
     room-first i = going-room g l (in-union s a b .1 (inl i)) room
 
     module _ {between : ℕ} {mid : List ℕ} (u : Wrote end (wantedEntry (has s a) (of-first s)) out mid between) where
-      -- nothing is written of a pack whose entry isn't wanted
-      unwritten-first : bit s a ≡ 0 → (between ≡ end) × (mid ≡ out)
-      unfolding wantedEntry
-      unwritten-first z =
-          let w : Wrote end [] out mid between = rw (has-false s a .1 z) at u in
-          (omega (arith, w .ends), w .wrote ∙ sym (patch-none end out))
-
       pub room-second : In s rest → between + evidenceEntryLength ≤ length mid
       unfolding evidenceForm evidenceEntryLength
       room-second i =
-          let none = unwritten-first (in-rest i .1) in
+          let none = unwritten s a (of-first s) u (in-rest i .1) in
           rw (none .0, none .1) (going-room g l (in-union s a b .1 (inr (in-rest i .0))) room)
 
       module _ {e : ℕ} {after : List ℕ} (v : Wrote between (wantedEntry (has s rest) (of-second s)) mid after e) where
-        unwritten-second : bit s rest ≡ 0 → (e ≡ between) × (after ≡ mid)
-        unfolding wantedEntry
-        unwritten-second z =
-            let w : Wrote between [] mid after e = rw (has-false s rest .1 z) at v in
-            (omega (arith, w .ends), w .wrote ∙ sym (patch-none between mid))
-
         by-first : In s a → Going form of-joined n (union a b) at before (s + 1) e after
         unfolding wantedEntry evidenceForm evidenceEntryLength
         by-first i =
-            let nothing = unwritten-second (omega (arith, bit-rest, bit-lt-two s b)) in
+            let nothing = unwritten s rest (of-second s) v (omega (arith, bit-rest, bit-lt-two s b)) in
             let w : Wrote end (renderEntry form (of-first s)) out after e = rw (nothing .0, nothing .1) (rw (has-true s a .1 i) at u) in
             going-on g l (in-union s a b .1 (inl i)) room (of-first s) (sym (joined-in s i)) (entry-holds (of-first s) (entry-length n first a p s l i)) w
 
         by-second : bit s a ≡ 0 → In s b → Going form of-joined n (union a b) at before (s + 1) e after
         unfolding wantedEntry evidenceForm evidenceEntryLength
         by-second z j =
-            let none = unwritten-first z in
+            let none = unwritten s a (of-first s) u z in
             let w : Wrote end (renderEntry form (of-second s)) out after e = rw (has-true s rest .1 (omega (arith, bit-rest)), none .0, none .1) at v in
             going-on g l (in-union s a b .1 (inr j)) room (of-second s) (sym (joined-out s z)) (entry-holds (of-second s) (entry-length n second b q s l j)) w
 
         by-neither : bit s a ≡ 0 → bit s b ≡ 0 → Going form of-joined n (union a b) at before (s + 1) e after
         by-neither z y =
-            let none = unwritten-first z in
-            let nothing = unwritten-second (omega (arith, bit-rest)) in
+            let none = unwritten s a (of-first s) u z in
+            let nothing = unwritten s rest (of-second s) v (omega (arith, bit-rest)) in
             rw (nothing .0, nothing .1, none .0, none .1) (going-skip g l (omega (arith, bit-union s a b)))
 
         pub seat-done : Going form of-joined n (union a b) at before (s + 1) e after
