@@ -2,7 +2,7 @@
 
 use super::calls::MAX_LEAF;
 use super::lms::PUBLIC_KEY;
-use super::messages::{signed_bytes, Full, Signed, Told};
+use super::messages::{signed_bytes, Evidence, Full, Signed, Told, OLD_EVIDENCE};
 use super::quorum;
 use super::verdicts;
 
@@ -77,4 +77,19 @@ pub fn certificate(n: u32, round: u32, keys: &[u8], bytes: &[u8]) -> Passed<Full
     let full = Full::read(bytes, quorum::k(n));
     pass(message(n, round, keys, &full.as_ref().map(Full::told)))?;
     Ok(full.expect("a garbled one is refused"))
+}
+
+/// 9 to 15 of an EVIDENCE of either command.
+pub fn pack(n: u32, round: u32, keys: &[u8], evidence: &[u8]) -> Passed<Evidence> {
+    let read = Evidence::read(evidence, n);
+    let told = read.as_ref().map(Evidence::told);
+    let no_conflict = row(15, || read.iter().flat_map(|read| &read.entries).any(|entry| entry.lower >= entry.higher));
+    pass(message(n, round, keys, &told).into_iter().chain([no_conflict]))?;
+    Ok(read.expect("a garbled one is refused"))
+}
+
+/// The same of one that is to be joined: "a 0x05 pack is 9 here".
+pub fn joined_pack(n: u32, round: u32, keys: &[u8], evidence: &[u8]) -> Passed<Evidence> {
+    pass([row(9, || evidence.first() == Some(&OLD_EVIDENCE))])?;
+    pack(n, round, keys, evidence)
 }
