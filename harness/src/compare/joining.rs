@@ -5,15 +5,15 @@ use std::collections::BTreeMap;
 
 use super::arguments::Arguments;
 use super::evidence::{any_evidence, both as both_verdicts, noise_pack};
-use super::messages::{OLD_PACK, PACK};
-use super::refusals::{lengths, on_part, spoiled, spoiler, Spoiler};
+use super::messages::{two_faced, OLD_PACK, PACK};
+use super::refusals::{on_part, spoiled, spoiler, Spoiler};
 use super::{equal, long, messages, noise, run, sized, two};
 use crate::air;
 use crate::confirmer::{EvidenceCheck, Joining};
 use crate::fleet::{rounds, some_of, some_seats, Fleet, HANDS};
 use crate::reference::evidence::{check_evidence, join_evidence};
-use crate::reference::layout::{self, joined_out};
-use crate::reference::messages::{Evidence, EvidenceEntry};
+use crate::reference::layout::{self, joined_out, ENTRY_SEAT_AT, ROUND_AT};
+use crate::reference::messages::{Evidence, EvidenceEntry, Value};
 use crate::reference::record::{Verdict, Written};
 use crate::rng::{seed, Rng};
 
@@ -29,14 +29,15 @@ struct Case {
     what: String,
     arguments: Arguments,
     packs: [Vec<u8>; 2],
-    out: Vec<u8>,
+    /// The length of `out`.
+    out: usize,
     /// The pack written, or the refusal's number.
     joined: Result<Vec<u8>, u32>,
 }
 
 fn compare(subject: Subject, case: &Case, rng: &mut Rng) -> Result<(), String> {
     let mut told = || {
-        let (answer, out) = both(subject.joining, &case.arguments, &case.packs, &case.out, rng)?;
+        let (answer, out) = both(subject.joining, &case.arguments, &case.packs, &rng.bytes(case.out), rng)?;
         match &case.joined {
             Err(number) => equal("the reference's answer", answer, Written { number: *number, written: 0 }),
             Ok(joined) => {
@@ -99,15 +100,15 @@ pub fn noise(subject: &dyn Joining, rng: &mut Rng) -> Result<u32, String> {
 pub fn battery(subject: Subject) {
     let mut rng = Rng::new(seed(), "joining");
     let (mut cases, mut several) = (Vec::new(), Vec::new());
-    for n in 1..=32 {
+    for n in (1..=32).filter(|n| long() || *n <= 8 || [13, 16, 31, 32].contains(n)) {
         let fleet = Fleet { n, round: *rng.pick(&rounds()) };
         cases.extend(right_ones(fleet, &mut rng));
         cases.extend(in_other_fleets(fleet, &mut rng));
-        several.extend((0..sized(4)).map(|_| some_packs(fleet, &mut rng)));
-        if long() || [1, 2, 3, 4, 7, 32].contains(&n) {
-            cases.extend(sizes(fleet, &mut rng));
-            cases.extend(refusals(fleet, &mut rng));
-        }
+        cases.extend(sizes(fleet, &mut rng));
+        several.extend((0..sized(6)).map(|_| some_packs(fleet, &mut rng)));
+    }
+    for n in [1, 3, 7, 32].into_iter().chain([2, 4, 10, 31].into_iter().filter(|_| long())) {
+        cases.extend(refusals(Fleet { n, round: *rng.pick(&rounds()) }, &mut rng));
     }
     run("join_evidence", &cases, |case, rng| compare(subject, case, rng));
     run("join_evidence, one after another", &several, |packs, rng| compare_several(subject, packs, rng));
@@ -132,7 +133,7 @@ fn right(what: impl Into<String>, fleet: Fleet, packs: &[Evidence; 2], rng: &mut
         what,
         arguments: Arguments::of(fleet),
         packs: [packs[0].write(), packs[1].write()],
-        out: rng.bytes(joined_out(fleet.n) + spare),
+        out: joined_out(fleet.n) + spare,
         joined: Ok(joined(packs)),
     }
 }
@@ -155,6 +156,9 @@ fn right_ones(fleet: Fleet, rng: &mut Rng) -> Vec<Case> {
     let resigned =
         Evidence { entries: pack.entries.iter().map(|entry| resigned(fleet, entry)).collect(), ..pack.clone() };
     both_orders("the same values, signed again", [pack.clone(), resigned], rng);
+    let (low, high) = two_faced(fleet.n - 1);
+    let two_faced = fleet.evidence((&low, 0), (&high, 0), &[fleet.n - 1]);
+    both_orders("a pack with two faces", [pack.clone(), two_faced], rng);
     // Joined with itself a pack stays as it is.
     let same = Case { joined: Ok(pack.write()), ..right("the same pack twice", fleet, &[pack.clone(), pack], rng) };
     cases.push(same);
@@ -225,14 +229,14 @@ fn in_other_fleets(fleet: Fleet, rng: &mut Rng) -> Vec<Case> {
 }
 
 fn refusals(fleet: Fleet, rng: &mut Rng) -> Vec<Case> {
-    let count = fleet.n.min(3);
-    let packs = [0, 1].map(|_| any_evidence(fleet, PACK, &some_seats(fleet.n, count, rng), rng));
+    let packs = [3, 2].map(|count| any_evidence(fleet, PACK, &some_seats(fleet.n, count.min(fleet.n), rng), rng));
     let base = right("", fleet, &packs, rng);
     let mut spoilers = on_part(Arguments::spoilers(fleet), |case: &mut Case| &mut case.arguments);
     let written = base.joined.as_ref().expect("right packs").len();
-    let mut short = vec![0, 1, joined_out(0), joined_out(fleet.n - 1), joined_out(fleet.n) - 1];
-    short.extend([written, layout::evidence_out(fleet.n)].into_iter().filter(|&length| length < joined_out(fleet.n)));
-    spoilers.extend(lengths(7, "out", &short, |case: &mut Case| &mut case.out));
+    let mut lengths = vec![0, 1, joined_out(0), joined_out(fleet.n - 1), joined_out(fleet.n) - 1];
+    lengths.extend([written, layout::evidence_out(fleet.n)].into_iter().filter(|&length| length < joined_out(fleet.n)));
+    let short = |length| spoiler(7, format!("out of {length} bytes"), move |case: &mut Case, _| case.out = length);
+    spoilers.extend(lengths.into_iter().map(short));
     let wrong = |pack: &Evidence| {
         let mut wrong = messages::evidence(fleet, PACK, pack);
         wrong.extend(other_messages(fleet, pack));
@@ -241,18 +245,32 @@ fn refusals(fleet: Fleet, rng: &mut Rng) -> Vec<Case> {
     spoilers.extend(on_part(wrong(&packs[0]), |case: &mut Case| &mut case.packs[0]));
     let in_second = on_part(wrong(&packs[1]), |case: &mut Case| &mut case.packs[1]);
     spoilers.extend(in_second.into_iter().map(|second| second.after(1)));
-    let spoiled = spoiled(&spoilers, sized(600), rng, |_| base.clone());
+    let spoiled = spoiled(&spoilers, sized(400), rng, |_| base.clone());
     spoiled.into_iter().map(|wrong| refused(&wrong.what, wrong.number(), wrong.case)).collect()
 }
 
-/// Right messages that are no packs of this form: "a 0x05 pack is 9 here".
+/// Other messages, right ones and old packs that the check would refuse with another number: "a 0x05 pack is 9 here".
 fn other_messages(fleet: Fleet, pack: &Evidence) -> Vec<Spoiler<Vec<u8>>> {
     let EvidenceEntry { seat, lower, higher, .. } = &pack.entries[0];
-    let old = |seats: &[u32]| (OLD_PACK.write)(&fleet.evidence((lower, 0), (higher, 0), seats));
+    let (low, high) = two_faced(*seat);
+    let old = |lower: &Value, higher: &Value, seats: &[u32]| {
+        (OLD_PACK.write)(&fleet.evidence((lower, 0), (higher, 0), seats))
+    };
+    let whole = old(lower, higher, &pack.seats());
+    let with = |at: usize, change: u8| {
+        let mut bytes = whole.clone();
+        bytes[at] ^= change;
+        bytes
+    };
     let others = [
-        ("an old pack", old(&pack.seats())),
-        ("an old pack of one entry", old(&[*seat])),
-        ("an old pack of all seats", old(&fleet.seats())),
+        ("an old pack", whole.clone()),
+        ("an old pack of one entry", old(lower, higher, &[*seat])),
+        ("an old pack of all seats", old(lower, higher, &fleet.seats())),
+        ("an old pack with two faces", old(&low, &high, &[*seat])),
+        ("an old pack of another round", with(ROUND_AT + 1, 1)),
+        ("an old pack with a stranger", with(OLD_PACK.entries_at + ENTRY_SEAT_AT, 0x80)),
+        ("an old pack with a damaged signature", with(whole.len() - 1, 1)),
+        ("an old pack of equal values", old(lower, lower, &pack.seats())),
         ("a FULL", fleet.full(*seat, lower, &fleet.seats()[..fleet.k() as usize], 0).write()),
         ("a SUBMIT", fleet.submit(*seat, lower, 0).write()),
         ("a NOTICE", fleet.notice(*seat, lower).write()),
