@@ -6,7 +6,6 @@ mod expected;
 pub mod options;
 mod round;
 mod screens;
-mod words;
 
 use std::ops::Range;
 use std::sync::atomic::{AtomicU32, Ordering};

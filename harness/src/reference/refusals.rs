@@ -10,6 +10,29 @@ use super::verdicts;
 /// longer occurs." 17 "comes before 4".
 pub const ORDER: &[u32] = &[1, 2, 3, 17, 4, 5, 6, 7, 8, 9, 10, 11, 12, 14, 15, 16];
 
+/// The table's words.
+pub fn word(number: u32) -> &'static str {
+    match number {
+        1 => "size",
+        2 => "seat",
+        3 => "round",
+        4 => "record",
+        5 => "keys",
+        6 => "store",
+        7 => "out",
+        8 => "said",
+        9 => "garbled",
+        10 => "other round",
+        11 => "stranger",
+        12 => "disorder",
+        14 => "signature",
+        15 => "no conflict",
+        16 => "key material",
+        17 => "note",
+        other => panic!("no number of the table: {other}"),
+    }
+}
+
 /// The place of a number in the order.
 pub fn place(number: u32) -> usize {
     ORDER.iter().position(|&other| other == number).expect("a number of the table")
