@@ -1,5 +1,6 @@
 # make demo   a fleet plays four rounds: sound, with a slow boat, with double signers, with a third certificate that names more of
-#             them; DEMO="--help" lists the options, as in make demo DEMO="--double-signers 2 --lost-link 0-3"
+#             them; then the harbour office makes one pack of the evidence; DEMO="--help" lists the options, as in
+#             make demo DEMO="--double-signers 2 --lost-link 0-3"
 # make join   the harbour office's tool: one pack of evidence from those that boats handed in, with who is named and by whom;
 #             JOIN="--help" tells how, as in make join JOIN="--keys fleet.keys --round 3 --out one.pack a.pack b.pack"
 # make test   the gate: every crate proved, every program run, the static libraries against the harness

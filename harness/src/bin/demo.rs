@@ -16,12 +16,12 @@ fn main() {
         eprintln!("demo: {error}\n\n{USAGE}");
         exit(2);
     });
-    let linked = (library::calls(), library::engine(), library::evidence_check());
-    let (Some(signatures), Some(engine), Some(evidence)) = linked else {
+    let linked = (library::calls(), library::engine(), library::evidence_check(), library::joining());
+    let (Some(signatures), Some(engine), Some(evidence), Some(joining)) = linked else {
         eprintln!("demo: it runs on the proved code, which `make demo` links");
         exit(1);
     };
-    let calls = Calls { signatures, engine, evidence };
+    let calls = Calls { signatures, engine, evidence, joining };
     let told = told_by(calls, &boats(calls, options.larger(), options.seed), &options);
     print!("{}", told.text);
     for fault in &told.faults {

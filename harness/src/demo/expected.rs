@@ -41,6 +41,9 @@ pub fn faults(played: &Played) -> Vec<String> {
         let [names, shows] = [played.named(seat), shown(played, seat)].map(boats_of);
         expect(names == shows, format!("boat {seat} names {names}, and its certificates show {shows}"));
     }
+    if let Err(fault) = &played.joined {
+        expect(false, format!("at the harbour office, {fault}"));
+    }
     if is_split(&played.late.records) {
         for seat in played.honest() {
             expect(holds(played, seat), format!("boat {seat} holds no evidence that the check accepts"));

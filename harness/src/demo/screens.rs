@@ -1,6 +1,7 @@
 //! The demonstration's screens: the text of each, from the rounds as they were played.
 
 mod mates;
+mod office;
 mod three;
 
 use super::boat::Answer;
@@ -38,6 +39,7 @@ impl<'a> Screens<'a> {
         larger.three(three);
         screens.text += &larger.text;
         screens.mates(sound, apart, three);
+        screens.office([apart, three]);
         screens.text
     }
 

@@ -1,4 +1,4 @@
-//! The last screen: the mate's display at each stage.
+//! The mate's display at each stage.
 
 use super::super::round::Played;
 use super::{signed, Screens};
