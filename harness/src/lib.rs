@@ -4,6 +4,7 @@ pub mod air;
 pub mod archive;
 #[cfg(feature = "zolbine")]
 pub mod c_program;
+pub mod command_line;
 pub mod compare;
 pub mod confirmer;
 pub mod contest;

@@ -2,20 +2,13 @@
 
 use std::process::exit;
 
+use harness::command_line::options;
 use harness::demo::options::{Options, USAGE};
 use harness::demo::{boats, told_by, Calls};
 use harness::library;
 
 fn main() {
-    let words: Vec<String> = std::env::args().skip(1).collect();
-    if words.iter().any(|word| word == "--help" || word == "-h") {
-        print!("{USAGE}");
-        return;
-    }
-    let options = Options::parse(&words).unwrap_or_else(|error| {
-        eprintln!("demo: {error}\n\n{USAGE}");
-        exit(2);
-    });
+    let options = options("demo", USAGE, Options::parse);
     let linked = (library::calls(), library::engine(), library::evidence_check(), library::joining());
     let (Some(signatures), Some(engine), Some(evidence), Some(joining)) = linked else {
         eprintln!("demo: it runs on the proved code, which `make demo` links");

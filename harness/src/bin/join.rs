@@ -4,6 +4,7 @@ use std::fs;
 use std::path::Path;
 use std::process::exit;
 
+use harness::command_line::options;
 use harness::library;
 use harness::office::options::{Options, USAGE};
 use harness::office::{Calls, Office};
@@ -11,15 +12,7 @@ use harness::reference::lms::PUBLIC_KEY;
 use harness::reference::refusals::is_size;
 
 fn main() {
-    let words: Vec<String> = std::env::args().skip(1).collect();
-    if words.iter().any(|word| word == "--help" || word == "-h") {
-        print!("{USAGE}");
-        return;
-    }
-    let options = Options::parse(&words).unwrap_or_else(|error| {
-        eprintln!("join: {error}\n\n{USAGE}");
-        exit(2);
-    });
+    let options = options("join", USAGE, Options::parse);
     let (Some(evidence), Some(joining)) = (library::evidence_check(), library::joining()) else {
         eprintln!("join: it runs on the proved code, which `make join` links");
         exit(2);
