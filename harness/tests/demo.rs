@@ -127,8 +127,10 @@ fn evidence_counts_by_the_checks_verdict_alone() {
     }
 }
 
+type Join = fn(u32, u32, &[u8], &[u8], &[u8], &mut [u8]) -> Written;
+
 /// Packs joined in another way.
-struct Joins(fn(u32, u32, &[u8], &[u8], &[u8], &mut [u8]) -> Written);
+struct Joins(Join);
 
 impl Joining for Joins {
     fn join_evidence(&self, n: u32, round: u32, keys: &[u8], first: &[u8], second: &[u8], out: &mut [u8]) -> Written {

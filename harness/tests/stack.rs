@@ -257,10 +257,13 @@ fn round(depths: &Depths, fleet: Fleet) {
     }
 }
 
+/// n, round, keys, two messages and `out`; answers the number.
+type Call = fn(u32, u32, &[u8], &[u8], &[u8], &mut [u8]) -> u32;
+
 /// A call over two messages in hand.
 struct OverTwo {
     name: &'static str,
-    call: fn(u32, u32, &[u8], &[u8], &[u8], &mut [u8]) -> u32,
+    call: Call,
     out: fn(u32) -> usize,
     messages: [Vec<u8>; 2],
     /// The place of the entries, and the length of one.
