@@ -18,7 +18,7 @@ extern "C" {
 /* The interface's version: a change of a call, a struct or a length raises it. zolbine_version answers that of the archive: a
  * program that was compiled with this header runs with an archive of the same version alone.
  */
-#define ZOLBINE_VERSION 4
+#define ZOLBINE_VERSION 5
 
 uint32_t zolbine_version(void);
 
@@ -109,6 +109,7 @@ enum {
 #define ZOLBINE_OLD_EVIDENCE_LEN(count) \
     (ZOLBINE_OLD_EVIDENCE_HEAD_LEN + ZOLBINE_OLD_EVIDENCE_ENTRY_LEN * ZOLBINE_AS_SIZE(count))
 #define ZOLBINE_EVIDENCE_OUT_LEN(n) ZOLBINE_EVIDENCE_LEN(ZOLBINE_K(n)) /* out of zolbine_make_evidence */
+#define ZOLBINE_JOINED_OUT_LEN(n) ZOLBINE_EVIDENCE_LEN(n) /* out of zolbine_join_evidence: room for every seat */
 /* out of zolbine_submit and of the steps: room for one message of each kind */
 #define ZOLBINE_OUT_LEN(n) (ZOLBINE_SUBMIT_LEN + ZOLBINE_NOTICE_LEN + ZOLBINE_FULL_LEN(n) + ZOLBINE_EVIDENCE_OUT_LEN(n))
 
@@ -178,6 +179,19 @@ struct zolbine_verdict zolbine_check_evidence(uint32_t n, uint32_t round,
  * ZOLBINE_OTHER_ROUND, ZOLBINE_STRANGER, ZOLBINE_DISORDER, ZOLBINE_SIGNATURE, and of both ZOLBINE_NO_CONFLICT (equal values).
  */
 struct zolbine_written zolbine_make_evidence(uint32_t n, uint32_t round,
+                                             const uint8_t *keys, size_t keys_len,
+                                             const uint8_t *first, size_t first_len,
+                                             const uint8_t *second, size_t second_len,
+                                             uint8_t *out, size_t out_len);
+
+/* One pack from two EVIDENCE commands of a round that the check accepts, for whoever collects the boats' evidence: writes the
+ * EVIDENCE command that names the seats of either, rising, to out, of ZOLBINE_JOINED_OUT_LEN(n) bytes or more, whatever the two
+ * name. A seat that both name has its pair of the first. zolbine_check_evidence accepts what it writes, and its mask is the two
+ * masks together. The two may be the same bytes. EVIDENCE in the old form is garbled here. Refusals: ZOLBINE_SIZE, ZOLBINE_ROUND,
+ * ZOLBINE_KEYS, ZOLBINE_OUT, then of the first and then of the second ZOLBINE_GARBLED, ZOLBINE_OTHER_ROUND, ZOLBINE_STRANGER,
+ * ZOLBINE_DISORDER, ZOLBINE_SIGNATURE, ZOLBINE_NO_CONFLICT: every refusal of the first comes before any of the second.
+ */
+struct zolbine_written zolbine_join_evidence(uint32_t n, uint32_t round,
                                              const uint8_t *keys, size_t keys_len,
                                              const uint8_t *first, size_t first_len,
                                              const uint8_t *second, size_t second_len,

@@ -1,7 +1,7 @@
 /* A round in which two double signers split a fleet of four: two honest boats confirm different layouts, and each then holds
- * evidence that names both. Each honest boat loses power once on the way. It is written from include/zolbine.h, docs/HOST.md and
- * docs/PROTOCOL.md alone, as a display's firmware would be, in C11 that is C++ too. It prints what happens, and ends with 1 if
- * something goes wrong.
+ * evidence that names both. Each honest boat loses power once on the way. At the end the harbour office makes one pack of the two. It is
+ * written from include/zolbine.h, docs/HOST.md and docs/PROTOCOL.md alone, as a display's firmware would be, in C11 that is C++ too.
+ * It prints what happens, and ends with 1 if something goes wrong.
  */
 #include "zolbine.h"
 
@@ -241,6 +241,23 @@ static void deliver(void)
                 hear(seat, air[heard].bytes, air[heard].len);
 }
 
+/* The harbour office makes one pack of the two boats'. Both name the same seats, so that every pair is the first boat's. */
+static void join_at_the_office(void)
+{
+    static uint8_t pack[ZOLBINE_JOINED_OUT_LEN(N)];
+    const struct display *first = &displays[0], *second = &displays[1];
+    struct zolbine_written joined = zolbine_join_evidence(N, ROUND, keys, sizeof keys, first->evidence, first->evidence_len,
+                                                          second->evidence, second->evidence_len, pack, sizeof pack);
+    struct zolbine_verdict verdict = zolbine_check_evidence(N, ROUND, keys, sizeof keys, pack, joined.written);
+
+    printf("the office joins both packs: %u, %u bytes", (unsigned)joined.number, (unsigned)joined.written);
+    printf(", evidence against 0x%08x\n", (unsigned)verdict.mask);
+    if (joined.number != 0 || joined.written != first->evidence_len || memcmp(pack, first->evidence, joined.written) != 0)
+        stop("another pack than the first boat's", joined.number);
+    if (verdict.number != 0 || verdict.mask != DOUBLE_SIGNERS)
+        stop("a joined pack that isn't accepted", verdict.number);
+}
+
 int main(void)
 {
     static const uint8_t north[ZOLBINE_VALUE_LEN] = { 'n', 'o', 'r', 't', 'h' };
@@ -285,5 +302,6 @@ int main(void)
         printf("boat %u: %.5s confirmed, evidence against 0x%08x\n", (unsigned)seat, (const char *)display->record.own.value,
                (unsigned)verdict.mask);
     }
+    join_at_the_office();
     return 0;
 }

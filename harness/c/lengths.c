@@ -84,6 +84,11 @@ static uint32_t made_evidence(uint32_t n, size_t len, size_t out_len)
     return zolbine_make_evidence(n, ROUND, keys, ZOLBINE_KEYS_LEN(n), message, len, message, len, out, out_len).number;
 }
 
+static uint32_t joined(uint32_t n, size_t len, size_t out_len)
+{
+    return zolbine_join_evidence(n, ROUND, keys, ZOLBINE_KEYS_LEN(n), message, len, message, len, out, out_len).number;
+}
+
 /* The message in the buffer has this length for the helper, and for a step or the evidence check. */
 static void message_is(const char *what, struct zolbine_record record, size_t len)
 {
@@ -151,7 +156,7 @@ static void notes(struct zolbine_record record)
 static void by_n(uint32_t n)
 {
     size_t keys_len = ZOLBINE_KEYS_LEN(n), store_len = ZOLBINE_STORE_LEN(n), out_len = ZOLBINE_OUT_LEN(n);
-    size_t full_len = ZOLBINE_FULL_LEN(n), making_len = ZOLBINE_EVIDENCE_OUT_LEN(n);
+    size_t full_len = ZOLBINE_FULL_LEN(n), making_len = ZOLBINE_EVIDENCE_OUT_LEN(n), joined_len = ZOLBINE_JOINED_OUT_LEN(n);
     struct zolbine_record record = zolbine_open(n, 0, ROUND, keys, keys_len).record;
     uint32_t count;
 
@@ -185,10 +190,14 @@ static void by_n(uint32_t n)
     for (count = 1; count <= n; count++) {
         evidence(count);
         message_is("EVIDENCE", record, ZOLBINE_EVIDENCE_LEN(count));
+        is("out, joined", n, joined(n, ZOLBINE_EVIDENCE_LEN(count), joined_len - 1), ZOLBINE_OUT);
+        is("out, joined", n, joined(n, ZOLBINE_EVIDENCE_LEN(count), joined_len), ZOLBINE_OTHER_ROUND);
+        is("EVIDENCE, joined", n, joined(n, ZOLBINE_EVIDENCE_LEN(count) - 1, joined_len), ZOLBINE_GARBLED);
         message[ZOLBINE_EVIDENCE_HEAD_LEN + ZOLBINE_EVIDENCE_ENTRY_LEN * (count - 1)] ^= 1;
         is("an entry command", n, zolbine_message_length(n, message, sizeof message), 0);
         old_evidence(count);
         message_is("old EVIDENCE", record, ZOLBINE_OLD_EVIDENCE_LEN(count));
+        is("old EVIDENCE, joined", n, joined(n, ZOLBINE_OLD_EVIDENCE_LEN(count), joined_len), ZOLBINE_GARBLED);
         message[ZOLBINE_OLD_EVIDENCE_HEAD_LEN + ZOLBINE_OLD_EVIDENCE_ENTRY_LEN * (count - 1)] ^= 1;
         is("an old entry command", n, zolbine_message_length(n, message, sizeof message), 0);
     }
@@ -219,6 +228,7 @@ static void by_byte(uint8_t n)
     is("EVIDENCE", n, ZOLBINE_EVIDENCE_LEN(n) == ZOLBINE_EVIDENCE_LEN(wide), true);
     is("old EVIDENCE", n, ZOLBINE_OLD_EVIDENCE_LEN(n) == ZOLBINE_OLD_EVIDENCE_LEN(wide), true);
     is("out, evidence", n, ZOLBINE_EVIDENCE_OUT_LEN(n) == ZOLBINE_EVIDENCE_OUT_LEN(wide), true);
+    is("out, joined", n, ZOLBINE_JOINED_OUT_LEN(n) == ZOLBINE_JOINED_OUT_LEN(wide), true);
     is("out", n, ZOLBINE_OUT_LEN(n) == ZOLBINE_OUT_LEN(wide), true);
     is("out", n, ZOLBINE_OUT_LEN(n) == CONSTANT, n == N);
 }

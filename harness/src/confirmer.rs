@@ -44,6 +44,11 @@ pub trait Making: Sync {
     fn make_evidence(&self, n: u32, round: u32, keys: &[u8], first: &[u8], second: &[u8], out: &mut [u8]) -> Written;
 }
 
+/// One pack of evidence from two.
+pub trait Joining: Sync {
+    fn join_evidence(&self, n: u32, round: u32, keys: &[u8], first: &[u8], second: &[u8], out: &mut [u8]) -> Written;
+}
+
 /// The lower of two certificates in hand.
 pub trait Lower: Sync {
     fn lower_certificate<'a>(&self, n: u32, round: u32, keys: &[u8], first: &'a [u8], second: &'a [u8]) -> &'a [u8];
@@ -69,9 +74,12 @@ impl<T: Lower> LowerCopy for T {
 }
 
 /// All of the calls.
-pub trait Confirmer: Framing + EvidenceCheck + Engine + LentStep + Notes + Making + Lower + LowerCopy {}
+pub trait Confirmer:
+    Framing + EvidenceCheck + Engine + LentStep + Notes + Making + Joining + Lower + LowerCopy
+{
+}
 
-impl<T: Framing + EvidenceCheck + Engine + LentStep + Notes + Making + Lower + LowerCopy> Confirmer for T {}
+impl<T: Framing + EvidenceCheck + Engine + LentStep + Notes + Making + Joining + Lower + LowerCopy> Confirmer for T {}
 
 /// Gives a type the calls of a module like [`crate::reference`].
 #[macro_export]
@@ -156,6 +164,20 @@ macro_rules! confirmer_of {
                 out: &mut [u8],
             ) -> $crate::reference::record::Written {
                 $($module)+::evidence::make_evidence(n, round, keys, first, second, out)
+            }
+        }
+
+        impl $crate::confirmer::Joining for $subject {
+            fn join_evidence(
+                &self,
+                n: u32,
+                round: u32,
+                keys: &[u8],
+                first: &[u8],
+                second: &[u8],
+                out: &mut [u8],
+            ) -> $crate::reference::record::Written {
+                $($module)+::evidence::join_evidence(n, round, keys, first, second, out)
             }
         }
 

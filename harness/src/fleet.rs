@@ -135,7 +135,11 @@ pub fn sign(seat: u32, leaf: u32, message: &[u8], hand: u32) -> Vec<u8> {
 
 /// This many of n seats, rising.
 pub fn some_seats(n: u32, count: u32, rng: &mut Rng) -> Vec<u32> {
-    let mut seats: Vec<u32> = (0..n).collect();
+    some_of((0..n).collect(), count, rng)
+}
+
+/// This many of the seats, in their order.
+pub fn some_of(mut seats: Vec<u32>, count: u32, rng: &mut Rng) -> Vec<u32> {
     while seats.len() > count as usize {
         seats.remove(rng.below(seats.len()));
     }

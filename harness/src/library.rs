@@ -5,7 +5,7 @@ pub struct Library;
 #[cfg(feature = "zolbine")]
 mod calls {
     use super::Library;
-    use crate::confirmer::{Engine, EvidenceCheck, Framing, LentStep, Making, Notes};
+    use crate::confirmer::{Engine, EvidenceCheck, Framing, Joining, LentStep, Making, Notes};
     use crate::reference::record::{Opened, Record, Stepped, Verdict, Written};
     use crate::subject::{c_calls, c_functions};
 
@@ -34,6 +34,14 @@ mod calls {
         fn zolbine_write_note(record: Record, out: &mut [u8]) -> Written;
         fn zolbine_read_note(note: &[u8]) -> Opened;
         fn zolbine_make_evidence(
+            n: u32,
+            round: u32,
+            keys: &[u8],
+            first: &[u8],
+            second: &[u8],
+            out: &mut [u8]
+        ) -> Written;
+        fn zolbine_join_evidence(
             n: u32,
             round: u32,
             keys: &[u8],
@@ -123,6 +131,20 @@ mod calls {
             zolbine_make_evidence(n, round, keys, first, second, out)
         }
     }
+
+    impl Joining for Library {
+        fn join_evidence(
+            &self,
+            n: u32,
+            round: u32,
+            keys: &[u8],
+            first: &[u8],
+            second: &[u8],
+            out: &mut [u8],
+        ) -> Written {
+            zolbine_join_evidence(n, round, keys, first, second, out)
+        }
+    }
 }
 
 #[cfg(feature = "probes")]
@@ -196,4 +218,5 @@ linked! {
     hashes: crate::subject::Hashes, "probes";
     evidence_check: crate::confirmer::EvidenceCheck, "zolbine";
     engine: crate::confirmer::Engine, "zolbine";
+    joining: crate::confirmer::Joining, "zolbine";
 }

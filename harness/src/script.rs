@@ -3,10 +3,10 @@
 use std::collections::BTreeMap;
 
 use crate::compare::equal;
-use crate::confirmer::{Engine, EvidenceCheck, LowerCopy, Making, Notes};
+use crate::confirmer::{Engine, EvidenceCheck, Joining, LowerCopy, Making, Notes};
 use crate::fleet::Fleet;
 use crate::reference::layout;
-use crate::reference::record::{First, Notices, Opened, Own, Record, Stepped, Verdict};
+use crate::reference::record::{First, Notices, Opened, Own, Record, Stepped, Verdict, Written};
 use crate::reference::seats::mask;
 use crate::terms::{bytes, change, each_line, each_script, expect, length, number, seats, Terms, Words};
 
@@ -16,6 +16,7 @@ pub struct Calls<'a> {
     pub engine: &'a dyn Engine,
     pub evidence: &'a dyn EvidenceCheck,
     pub making: &'a dyn Making,
+    pub joining: &'a dyn Joining,
     pub lower: &'a dyn LowerCopy,
     pub notes: &'a dyn Notes,
 }
@@ -92,6 +93,7 @@ impl Script<'_> {
                 self.answer = Some(Answer::Named(verdict));
             }
             "make" => self.make(words)?,
+            "join" => self.join(words)?,
             "lower" => self.lower(words)?,
             seat => {
                 let seat = seat.parse().map_err(|_| format!("`{seat}` is no command and no seat"))?;
@@ -212,18 +214,38 @@ impl Script<'_> {
     }
 
     fn make(&mut self, words: &mut Words) -> Result<(), String> {
-        let (first, second, lent) = self.two_certificates(words)?;
+        let making = self.calls.making;
+        self.written(words, layout::evidence_out, |n, round, keys, first, second, out| {
+            making.make_evidence(n, round, keys, first, second, out)
+        })
+    }
+
+    fn join(&mut self, words: &mut Words) -> Result<(), String> {
+        let joining = self.calls.joining;
+        self.written(words, layout::joined_out, |n, round, keys, first, second, out| {
+            joining.join_evidence(n, round, keys, first, second, out)
+        })
+    }
+
+    /// A call over two messages in hand, with an out of the stated length or of another.
+    fn written(
+        &mut self,
+        words: &mut Words,
+        stated: fn(u32) -> usize,
+        call: impl FnOnce(u32, u32, &[u8], &[u8], &[u8], &mut [u8]) -> Written,
+    ) -> Result<(), String> {
+        let (first, second, lent) = self.two_messages(words)?;
         let Fleet { n, round } = self.terms.fleet;
-        let mut out = vec![BLANK; lent.out.unwrap_or(layout::evidence_out(n))];
-        let answer =
-            self.calls.making.make_evidence(n, round, &self.terms.fleet.key_table(), &first, &second, &mut out);
-        out.truncate(answer.written as usize);
-        self.answer = Some(Answer::Written(answer.number, out));
+        let mut out = vec![BLANK; lent.out.unwrap_or(stated(n))];
+        let answer = call(n, round, &self.terms.fleet.key_table(), &first, &second, &mut out);
+        let written = out.drain(..answer.written as usize).collect();
+        equal("bytes of out beyond those written", out.iter().all(|&byte| byte == BLANK), true)?;
+        self.answer = Some(Answer::Written(answer.number, written));
         Ok(())
     }
 
     fn lower(&mut self, words: &mut Words) -> Result<(), String> {
-        let (first, second, _) = self.two_certificates(words)?;
+        let (first, second, _) = self.two_messages(words)?;
         let Fleet { n, round } = self.terms.fleet;
         let mut out = vec![BLANK; first.len().max(second.len()) + 1];
         let keys = self.terms.fleet.key_table();
@@ -235,7 +257,7 @@ impl Script<'_> {
         Ok(())
     }
 
-    fn two_certificates(&self, words: &mut Words) -> Result<(Vec<u8>, Vec<u8>, Lent), String> {
+    fn two_messages(&self, words: &mut Words) -> Result<(Vec<u8>, Vec<u8>, Lent), String> {
         let mut first = self.terms.message(words)?;
         self.changes(words, &mut first)?;
         expect(words, "and")?;

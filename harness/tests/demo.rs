@@ -4,14 +4,14 @@
 
 use std::sync::OnceLock;
 
-use harness::confirmer::{Engine, EvidenceCheck};
+use harness::confirmer::{Engine, EvidenceCheck, Joining};
 use harness::demo::options::Options;
 use harness::demo::{boats, told_by, Boat, Calls, Told};
 use harness::library::Library;
 use harness::parallel;
-use harness::reference::record::{Opened, Record, Stepped, Verdict};
+use harness::reference::record::{Opened, Record, Stepped, Verdict, Written};
 
-const LIBRARY: Calls = Calls { signatures: &Library, engine: &Library, evidence: &Library };
+const LIBRARY: Calls = Calls { signatures: &Library, engine: &Library, evidence: &Library, joining: &Library };
 
 /// As many boats as round 4 has; a smaller fleet has the first of them.
 fn fleet() -> &'static [Boat] {
@@ -113,16 +113,52 @@ fn evidence_counts_by_the_checks_verdict_alone() {
     let refused = Verdicts(|_| Verdict { number: 14, mask: 0 });
     let honest_named = Verdicts(|verdict| Verdict { mask: verdict.mask | 1, ..verdict });
     let too_few = Verdicts(|verdict| Verdict { mask: verdict.mask & (verdict.mask - 1), ..verdict });
-    for (check, told) in [
-        (refused, "0 of 4 honest boats hold evidence"),
-        (honest_named, "HONEST BOATS ARE NAMED: boat 0."),
-        (too_few, "0 of 4 honest boats hold evidence"),
+    for (check, told, joined) in [
+        (refused, "0 of 4 honest boats hold evidence", 0),
+        (honest_named, "HONEST BOATS ARE NAMED: boat 0.", 2),
+        (too_few, "0 of 4 honest boats hold evidence", 2),
     ] {
         let Told { text, faults } = run(Calls { evidence: &check, ..LIBRARY }, "");
         assert!(text.contains(told), "{text}");
         // Four honest boats in round 3 with an EVIDENCE each, three in round 4 with two: each EVIDENCE isn't accepted as it should be,
-        // and each boat names others than it can show, and too few at first.
-        assert_eq!(faults.len(), 4 + 3 * 2 + 2 * (4 + 3), "{faults:?}");
+        // and each boat names others than it can show, and too few at first. In each of the two rounds the one pack holds others
+        // than the check names, but for packs that are all refused.
+        assert_eq!(faults.len(), 4 + 3 * 2 + 2 * (4 + 3) + joined, "{faults:?}");
+    }
+}
+
+type Join = fn(u32, u32, &[u8], &[u8], &[u8], &mut [u8]) -> Written;
+
+/// Packs joined in another way.
+struct Joins(Join);
+
+impl Joining for Joins {
+    fn join_evidence(&self, n: u32, round: u32, keys: &[u8], first: &[u8], second: &[u8], out: &mut [u8]) -> Written {
+        self.0(n, round, keys, first, second, out)
+    }
+}
+
+/// In round 3 all packs are the same. In round 4 the packs of boat 0 and boat 1 have different pairs of boat 9.
+#[test]
+fn an_office_that_joins_otherwise_is_told() {
+    let refuses = Joins(|_, _, _, _, _, _| Written { number: 9, written: 0 });
+    let drops_the_second =
+        Joins(|n, round, keys, first, _, out| Library.join_evidence(n, round, keys, first, first, out));
+    let second_first =
+        Joins(|n, round, keys, first, second, out| Library.join_evidence(n, round, keys, second, first, out));
+    let refused = "the pack of boat 1 was accepted, and isn't joined (9)";
+    let dropped = "the packs name boats 3 to 12, and of the one pack the check says number 0, mask 0x1f80";
+    let turned = "boat 9 hasn't the pair of the first pack that names it";
+    for (joining, faults) in [
+        (refuses, vec![(3, refused), (4, "the pack of boat 0 was accepted, and isn't joined (9)")]),
+        (drops_the_second, vec![(4, dropped)]),
+        (second_first, vec![(4, turned)]),
+    ] {
+        let told = run(Calls { joining: &joining, ..LIBRARY }, "");
+        let expected: Vec<String> =
+            faults.iter().map(|(round, fault)| format!("round {round}: at the harbour office, {fault}")).collect();
+        assert_eq!(told.faults, expected);
+        assert_eq!(told.text.matches("NOT AS PROMISED").count(), faults.len(), "{}", told.text);
     }
 }
 

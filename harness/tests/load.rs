@@ -11,6 +11,7 @@ const SUBJECTS: Subjects<'static> = Subjects {
     evidence: &Library,
     engine: Subject { engine: &Library, lent: &Library, notes: &Library },
     making: &Library,
+    joining: &Library,
 };
 
 #[test]

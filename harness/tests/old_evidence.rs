@@ -1,8 +1,10 @@
-//! Evidence made before document 02's item 3, by the command 0x05: each answer of the check is the one given then.
+//! Evidence made before document 02's item 3, by the command 0x05: each answer of the check is the one given then, and none is joined.
 
 use std::collections::BTreeSet;
 
-use harness::confirmer::{EvidenceCheck, Reference};
+use harness::confirmer::{EvidenceCheck, Joining, Reference};
+use harness::reference::layout::joined_out;
+use harness::reference::record::Written;
 use harness::vectors::{old_evidence, Pack};
 
 fn answered_as_then(subject: &dyn EvidenceCheck) {
@@ -11,15 +13,26 @@ fn answered_as_then(subject: &dyn EvidenceCheck) {
     }
 }
 
+/// "a 0x05 pack is 9 here", whatever the check says of it.
+fn not_joined(subject: &dyn Joining) {
+    for Pack { what, n, round, keys, evidence, .. } in old_evidence() {
+        let mut out = vec![0; joined_out(n)];
+        let answer = subject.join_evidence(n, round, &keys, &evidence, &evidence, &mut out);
+        assert_eq!(answer, Written { number: 9, written: 0 }, "{what}");
+    }
+}
+
 #[test]
 fn by_the_reference() {
     answered_as_then(&Reference);
+    not_joined(&Reference);
 }
 
 #[cfg(feature = "zolbine")]
 #[test]
 fn by_the_library() {
     answered_as_then(&harness::library::Library);
+    not_joined(&harness::library::Library);
 }
 
 /// The file has packs that were taken in fleets of several sizes, and others for each refusal that looks into a pack.

@@ -202,6 +202,7 @@ fn refusals() {
             let name = row[1].replace(' ', "_").to_uppercase();
             assert_eq!(row[2].starts_with("retired"), *number == 13, "{name}");
             assert!(enumerators.contains(&format!("ZOLBINE_{name} = {number}").as_str()), "{name} isn't {number}");
+            assert!(*number == 13 || row[1] == refusals::word(*number), "{name}");
         }
         let occurring: Vec<u32> = numbers.into_iter().filter(|&number| number != 13).collect();
         assert_eq!(occurring, refusals::ORDER);

@@ -4,8 +4,14 @@ use harness::confirmer::Reference;
 use harness::reference::layout::{evidence, SUBMIT};
 use harness::script::{self, Calls};
 
-const REFERENCE: Calls<'static> =
-    Calls { engine: &Reference, evidence: &Reference, making: &Reference, lower: &Reference, notes: &Reference };
+const REFERENCE: Calls<'static> = Calls {
+    engine: &Reference,
+    evidence: &Reference,
+    making: &Reference,
+    joining: &Reference,
+    lower: &Reference,
+    notes: &Reference,
+};
 
 #[test]
 fn on_the_reference() {
@@ -17,14 +23,21 @@ fn on_the_reference() {
 #[test]
 fn on_the_library() {
     use harness::library::Library;
-    script::all(Calls { engine: &Library, evidence: &Library, making: &Library, lower: &Library, notes: &Library });
+    script::all(Calls {
+        engine: &Library,
+        evidence: &Library,
+        making: &Library,
+        joining: &Library,
+        lower: &Library,
+        notes: &Library,
+    });
 }
 
 #[test]
 fn a_wrong_answer_is_told() {
     let opening = "fleet 4 round 5\nlayout A 11\n0 opens\n= 0\n";
     let conflict = "layout B 22\n0 hears FULL 1 A of 1-3\n= 0 0\n0 hears FULL 1 B of 1-3\n";
-    let cases: [(&str, u32); 13] = [
+    let cases: [(&str, u32); 15] = [
         (&format!("0 submits A\n= 0 {} SUBMIT 0 A", SUBMIT - 1), 6),
         (&format!("0 submits A\n= 0 {SUBMIT} SUBMIT 0 A'"), 6),
         ("0 submits A\n= 8 0", 6),
@@ -35,6 +48,8 @@ fn a_wrong_answer_is_told() {
         (&format!("{conflict}= 0 {} OLD EVIDENCE A B of 1-3", evidence(3)), 9),
         (&format!("{conflict}= 0 {} EVIDENCE A B of 1-2 B A of 3", evidence(3)), 9),
         ("lower NOTICE 1 A and NOTICE 1 A\n= first", 6),
+        ("layout B 22\njoin EVIDENCE A B of 1 and EVIDENCE A B' of 1\n= 0 2974 EVIDENCE A B' of 1", 7),
+        ("layout B 22\njoin EVIDENCE B A of 1 and NOTICE 1 A\n= 9 0", 7),
         ("0 notes\n= 0 118", 6),
         ("0 notes\n= 0 118 bytes 20 04 00 0005 00*112 01", 6),
         ("0 comes back\n= 0", 5),

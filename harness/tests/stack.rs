@@ -6,12 +6,13 @@ use std::collections::BTreeMap;
 
 use harness::compare::messages::PACKS;
 use harness::compare::progress;
-use harness::confirmer::{Engine, EvidenceCheck, Framing, LentStep, Making, Notes};
+use harness::confirmer::{Engine, EvidenceCheck, Framing, Joining, LentStep, Making, Notes};
 use harness::fleet::{layouts, Fleet};
 use harness::library::Library;
 use harness::reference::calls::{MAX_LEAF, MAX_MESSAGE, TREE};
 use harness::reference::layout::{
-    self, ENTRY_SEAT_AT, FULL_ENTRIES_AT, FULL_ENTRY, NOTE_N_AT, ROUND_AT, SEAT_AT, SIGNATURE, SIGNED,
+    self, ENTRY_SEAT_AT, EVIDENCE_ENTRIES_AT, EVIDENCE_ENTRY, FULL_ENTRIES_AT, FULL_ENTRY, NOTE_N_AT, ROUND_AT,
+    SEAT_AT, SIGNATURE, SIGNED,
 };
 use harness::reference::lms::{IDENTIFIER, N, PUBLIC_KEY};
 use harness::reference::messages::{Evidence, Value};
@@ -24,8 +25,8 @@ const STATED: usize = 40;
 const UNSIGNED: usize = 4;
 
 /// The answers that a call gives before it comes to a signature, and the stack stated for them. Each is measured; any other answer
-/// may take the stack stated for a call. Of two certificates the second is looked at after the first one's signatures.
-const BEFORE_SIGNATURES: [(&str, &[u32], usize); 17] = [
+/// may take the stack stated for a call. Of two certificates or packs the second is looked at after the first one's signatures.
+const BEFORE_SIGNATURES: [(&str, &[u32], usize); 18] = [
     ("version", &[0], UNSIGNED),
     ("message_length", &[0], UNSIGNED),
     ("check_signature", &[5, 9], UNSIGNED),
@@ -33,6 +34,7 @@ const BEFORE_SIGNATURES: [(&str, &[u32], usize); 17] = [
     ("sign", &[3, 7, 9, 16], STATED),
     ("check_evidence", &[1, 3, 5, 9, 10, 11, 12], UNSIGNED),
     ("make_evidence", &[1, 3, 5, 7, 9, 10, 11, 12], UNSIGNED),
+    ("join_evidence", &[1, 3, 5, 7, 9, 10, 11, 12], UNSIGNED),
     ("open", &[0, 1, 2, 3, 5], UNSIGNED),
     ("submit", &[4, 5, 6, 7, 8, 9], UNSIGNED),
     ("step, SUBMIT", &[4, 5, 6, 7, 9, 10, 11], UNSIGNED),
@@ -77,6 +79,7 @@ fn the_stated_stack_is_enough() {
         round(&depths, fleet);
         slow(&depths, fleet);
         culprits(&depths, fleet);
+        over_two(&depths, fleet);
         refused_arguments(&depths, fleet);
         refused_steps(&depths, fleet);
     }
@@ -226,8 +229,8 @@ impl Unit {
     }
 }
 
-/// A unit that hears another certificate before it confirms, so that its last call writes all that a call can write; then
-/// evidence checked and made.
+/// A unit that hears another certificate before it confirms, so that its last call writes all that a call can write; then its
+/// evidence checked.
 fn round(depths: &Depths, fleet: Fleet) {
     let Fleet { n, round } = fleet;
     let [value, other] = two_layouts();
@@ -252,17 +255,65 @@ fn round(depths: &Depths, fleet: Fleet) {
         });
         assert_eq!((number, named.count_ones()), (0, fleet.k()));
     }
-    let [one, another] = [value, other].map(|value| fleet.full(0, &value, &quorum, 0).write());
-    let mut make = |number: u32, first: &[u8], second: &[u8]| {
-        let out = &mut unit.out[..layout::evidence_out(n)];
-        // The second one's refusals come after the first one's signatures.
-        let call = if number > 8 { "make_evidence, after signatures" } else { "make_evidence" };
-        depths.refused(call, number, || Library.make_evidence(n, round, &unit.keys, first, second, out).number);
+}
+
+/// n, round, keys, two messages and `out`; answers the number.
+type Call = fn(u32, u32, &[u8], &[u8], &[u8], &mut [u8]) -> u32;
+
+/// A call over two messages in hand.
+struct OverTwo {
+    name: &'static str,
+    call: Call,
+    out: fn(u32) -> usize,
+    messages: [Vec<u8>; 2],
+    /// The place of the entries, and the length of one.
+    entries: (usize, usize),
+    /// The answer to the same message twice.
+    same: u32,
+}
+
+/// The calls over two messages: right in both orders, the same message twice, and each operand wrong.
+fn over_two(depths: &Depths, fleet: Fleet) {
+    let Fleet { n, round } = fleet;
+    let keys = fleet.key_table();
+    let [value, other] = two_layouts();
+    let pack = |seats: &[u32]| fleet.evidence((&value, 0), (&other, 0), seats).write();
+    let making = OverTwo {
+        name: "make_evidence",
+        call: |n, round, keys, first, second, out| Library.make_evidence(n, round, keys, first, second, out).number,
+        out: layout::evidence_out,
+        messages: [value, other].map(|value| fleet.full(0, &value, &quorum(fleet), 0).write()),
+        entries: (FULL_ENTRIES_AT, FULL_ENTRY),
+        same: 15,
     };
-    make(0, &one, &another);
-    make(0, &another, &one);
-    make(15, &one, &one);
-    make(9, &one, &another[1..]);
+    let joining = OverTwo {
+        name: "join_evidence",
+        call: |n, round, keys, first, second, out| Library.join_evidence(n, round, keys, first, second, out).number,
+        out: layout::joined_out,
+        messages: [pack(&quorum(fleet)), pack(&fleet.seats())],
+        entries: (EVIDENCE_ENTRIES_AT, EVIDENCE_ENTRY),
+        same: 0,
+    };
+    for OverTwo { name, call, out, messages: [one, another], entries, same } in [making, joining] {
+        let mut out = vec![0; out(n)];
+        for (number, n, round, keys) in wrong_arguments(fleet, &keys) {
+            depths.refused(name, number, || call(n, round, keys, &one, &another, &mut out));
+        }
+        depths.refused(name, 7, || call(n, round, &keys, &one, &another, &mut out[1..]));
+        for (number, wrong) in wrong_messages(fleet, &one, entries.0, entries.1) {
+            depths.refused(name, number, || call(n, round, &keys, &wrong, &another, &mut out));
+        }
+        // The second one's refusals come after the first one's signatures.
+        let after = format!("{name}, after signatures");
+        let mut call = |number: u32, first: &[u8], second: &[u8]| {
+            depths.refused(&after, number, || call(n, round, &keys, first, second, &mut out));
+        };
+        call(0, &one, &another);
+        call(0, &another, &one);
+        call(same, &one, &one);
+        call(9, &one, &another[1..]);
+        call(14, &with(&one, one.len() - 1, !one[one.len() - 1]), &another);
+    }
 }
 
 /// A unit that has kept k - 1 SUBMITs and holds another certificate when it submits, so that this call writes all that a call can
@@ -293,42 +344,30 @@ fn culprits(depths: &Depths, fleet: Fleet) {
     }
 }
 
-/// Refusals of the calls that stand outside a record, before they come to a signature.
+/// Refusals of opening and of the evidence check, before they come to a signature.
 fn refused_arguments(depths: &Depths, fleet: Fleet) {
     let Fleet { n, round } = fleet;
     let keys = fleet.key_table();
     let [value, other] = two_layouts();
-    let wrong_arguments: [(u32, u32, u32, &[u8]); 3] =
-        [(1, 33, round, &keys), (3, n, MAX_LEAF + 1, &keys), (5, n, round, &keys[1..])];
-    for (number, n, round, keys) in wrong_arguments {
+    for (number, n, round, keys) in wrong_arguments(fleet, &keys) {
         depths.refused("open", number, || Library.open(n, 0, round, keys).number);
     }
     depths.refused("open", 2, || Library.open(n, n, round, &keys).number);
 
     for pack in PACKS {
         let evidence = (pack.write)(&fleet.evidence((&value, 0), (&other, 0), &quorum(fleet)));
-        for (number, n, round, keys) in wrong_arguments {
+        for (number, n, round, keys) in wrong_arguments(fleet, &keys) {
             depths.refused("check_evidence", number, || Library.check_evidence(n, round, keys, &evidence).number);
         }
         for (number, wrong) in wrong_messages(fleet, &evidence, pack.entries_at, pack.entry) {
             depths.refused("check_evidence", number, || Library.check_evidence(n, round, &keys, &wrong).number);
         }
     }
+}
 
-    let [one, another] = [value, other].map(|value| fleet.full(0, &value, &quorum(fleet), 0).write());
-    let mut out = vec![0; layout::evidence_out(n)];
-    for (number, n, round, keys) in wrong_arguments {
-        depths.refused("make_evidence", number, || {
-            Library.make_evidence(n, round, keys, &one, &another, &mut out).number
-        });
-    }
-    let short = &mut out[1..];
-    depths.refused("make_evidence", 7, || Library.make_evidence(n, round, &keys, &one, &another, short).number);
-    for (number, wrong) in wrong_messages(fleet, &one, FULL_ENTRIES_AT, FULL_ENTRY) {
-        depths.refused("make_evidence", number, || {
-            Library.make_evidence(n, round, &keys, &wrong, &another, &mut out).number
-        });
-    }
+/// n, round or key table wrong, with the refusal.
+fn wrong_arguments(Fleet { n, round }: Fleet, keys: &[u8]) -> [(u32, u32, u32, &[u8]); 3] {
+    [(1, 33, round, keys), (3, n, MAX_LEAF + 1, keys), (5, n, round, &keys[1..])]
 }
 
 /// A message with entries, cut short, of another round, with a stranger and, where it has two entries, with a seat twice.

@@ -3,14 +3,14 @@
 use std::panic::{catch_unwind, set_hook, take_hook, AssertUnwindSafe};
 
 use harness::compare::engine::{self, culprits, kept, lists, opening, power, records, refusals};
-use harness::compare::{check_signature, evidence, framing, hashes, make_key, making, notes, progress, sign};
+use harness::compare::{check_signature, evidence, framing, hashes, joining, make_key, making, notes, progress, sign};
 use harness::confirmer::Reference;
 use harness::script;
 use mutants::{Mutant, Subject};
 
-const OF_THE_CONFIRMER: [&str; 12] = [
-    "culprits", "evidence", "framing", "kept", "lists", "making", "notes", "opening", "power", "records", "refusals",
-    "rounds",
+const OF_THE_CONFIRMER: [&str; 13] = [
+    "culprits", "evidence", "framing", "joining", "kept", "lists", "making", "notes", "opening", "power", "records",
+    "refusals", "rounds",
 ];
 const OF_SIGNATURES: [&str; 3] = ["check", "make_key", "sign"];
 const OF_SHA256: [&str; 3] = ["compressions", "digests", "round_constants"];
@@ -31,6 +31,7 @@ fn run(battery: &str, subject: Subject) {
                 "culprits" => culprits::battery(engine),
                 "evidence" => evidence::battery(confirmer),
                 "framing" => framing::battery(confirmer),
+                "joining" => joining::battery(joining::Subject { joining: confirmer, evidence: confirmer }),
                 "kept" => kept::battery(engine),
                 "lists" => lists::battery(engine),
                 "making" => making::battery(making::Subject { making: confirmer, lower: Some(confirmer) }),
@@ -43,6 +44,7 @@ fn run(battery: &str, subject: Subject) {
                     engine: confirmer,
                     evidence: confirmer,
                     making: confirmer,
+                    joining: confirmer,
                     lower: confirmer,
                     notes: confirmer,
                 }),

@@ -1,6 +1,6 @@
 //! The proved code beside plain C, and under the feature `libcrypto` beside OpenSSL's block function; the round constants beside the
-//! check that works them out; and a submit with 31 seats kept beside one with none. The verdict is the ratio; nanoseconds are printed
-//! for information. `bench WORD` runs only the contests whose names contain the word.
+//! check that works them out; a submit with 31 seats kept beside one with none; and two packs joined beside the checks of the two. The
+//! verdict is the ratio; nanoseconds are printed for information. `bench WORD` runs only the contests whose names contain the word.
 
 use harness::contest::Contest;
 use harness::library;
@@ -29,6 +29,8 @@ fn main() {
     constants_beside_check(&word);
     #[cfg(feature = "zolbine")]
     kept_beside_none(&word);
+    #[cfg(feature = "zolbine")]
+    joined_beside_checks(&word);
 }
 
 fn head(one: &str, other: &str) {
@@ -88,6 +90,35 @@ fn kept_beside_none(word: &str) {
         assert_eq!((stepped.number, stepped.record.confirmed), (0, unit.record.kept != 0));
     });
     hold(word, &submits, Some(&all), &none);
+}
+
+/// Two packs of 11 seats each, as many as a first pack of 32 boats has at least: joined, and each checked.
+#[cfg(feature = "zolbine")]
+fn joined_beside_checks(word: &str) {
+    use harness::confirmer::{EvidenceCheck, Joining};
+    use harness::fleet::{layouts, Fleet};
+    use harness::library::Library;
+    use harness::reference::layout;
+
+    const FLEET: Fleet = Fleet { n: 32, round: 5 };
+    let (keys, values) = (FLEET.key_table(), layouts());
+    let pack = |seats: std::ops::Range<u32>| {
+        FLEET.evidence((&values[0], 0), (&values[4], 0), &seats.collect::<Vec<_>>()).write()
+    };
+    let packs = [pack(0..11), pack(11..22)];
+    let joins = || {
+        let mut out = vec![0; layout::joined_out(FLEET.n)];
+        let answer = Library.join_evidence(FLEET.n, FLEET.round, &keys, &packs[0], &packs[1], &mut out);
+        assert_eq!(answer, Written { number: 0, written: layout::evidence(22) as u32 });
+    };
+    let checks = || {
+        for pack in &packs {
+            assert_eq!(Library.check_evidence(FLEET.n, FLEET.round, &keys, pack).mask.count_ones(), 11);
+        }
+    };
+    head("joined", "checks");
+    let both = contest::<dyn Fn() + '_>("two packs", 1, 101, |side| side());
+    hold(word, &both, Some(&joins), &checks);
 }
 
 /// Hashes of one block: in the proved code one by one and in lanes, in libcrypto by its block function.

@@ -2,26 +2,19 @@
 
 use std::process::exit;
 
+use harness::command_line::options;
 use harness::demo::options::{Options, USAGE};
 use harness::demo::{boats, told_by, Calls};
 use harness::library;
 
 fn main() {
-    let words: Vec<String> = std::env::args().skip(1).collect();
-    if words.iter().any(|word| word == "--help" || word == "-h") {
-        print!("{USAGE}");
-        return;
-    }
-    let options = Options::parse(&words).unwrap_or_else(|error| {
-        eprintln!("demo: {error}\n\n{USAGE}");
-        exit(2);
-    });
-    let linked = (library::calls(), library::engine(), library::evidence_check());
-    let (Some(signatures), Some(engine), Some(evidence)) = linked else {
+    let options = options("demo", USAGE, Options::parse);
+    let linked = (library::calls(), library::engine(), library::evidence_check(), library::joining());
+    let (Some(signatures), Some(engine), Some(evidence), Some(joining)) = linked else {
         eprintln!("demo: it runs on the proved code, which `make demo` links");
         exit(1);
     };
-    let calls = Calls { signatures, engine, evidence };
+    let calls = Calls { signatures, engine, evidence, joining };
     let told = told_by(calls, &boats(calls, options.larger(), options.seed), &options);
     print!("{}", told.text);
     for fault in &told.faults {

@@ -29,7 +29,12 @@ fn compare(subject: &dyn EvidenceCheck, case: &Case, rng: &mut Rng) -> Result<()
 }
 
 /// The verdict of the reference and the subject, or their difference.
-fn both(subject: &dyn EvidenceCheck, arguments: &Arguments, evidence: &[u8], rng: &mut Rng) -> Result<Verdict, String> {
+pub fn both(
+    subject: &dyn EvidenceCheck,
+    arguments: &Arguments,
+    evidence: &[u8],
+    rng: &mut Rng,
+) -> Result<Verdict, String> {
     let Arguments { n, round, keys } = arguments;
     let lent_keys = Guarded::new(keys, rng);
     let lent_evidence = Guarded::new(evidence, rng);
@@ -60,16 +65,22 @@ pub fn lengths_around(subject: &dyn EvidenceCheck, n: u32, rng: &mut Rng) -> Res
     Ok(calls)
 }
 
-/// A call with random bytes.
-pub fn noise(subject: &dyn EvidenceCheck, pack: Pack, rng: &mut Rng) -> Result<u32, String> {
-    let arguments = Arguments::noise(rng);
+/// Random bytes as evidence, mostly with a head and entries.
+pub fn noise_pack(pack: Pack, round: u32, rng: &mut Rng) -> Vec<u8> {
     let count = 1 + rng.below(2) as u32;
     let mut evidence = noise::bytes(pack.length(count), rng);
     if rng.below(4) > 0 {
-        noise::head(&mut evidence, pack.command, arguments.round, rng);
+        noise::head(&mut evidence, pack.command, round, rng);
         noise::set(&mut evidence, pack.count_at, &[count as u8]);
         noise::entries(&mut evidence, pack.entries_at, pack.entry, pack.entry_command, rng);
     }
+    evidence
+}
+
+/// A call with random bytes.
+pub fn noise(subject: &dyn EvidenceCheck, pack: Pack, rng: &mut Rng) -> Result<u32, String> {
+    let arguments = Arguments::noise(rng);
+    let evidence = noise_pack(pack, arguments.round, rng);
     Ok(both(subject, &arguments, &evidence, rng)?.number)
 }
 
@@ -112,7 +123,7 @@ fn two_layouts(rng: &mut Rng) -> (Value, Value) {
 }
 
 /// Right evidence on the seats, each with values of its own where the command has room for them.
-fn any_evidence(fleet: Fleet, pack: Pack, seats: &[u32], rng: &mut Rng) -> Evidence {
+pub fn any_evidence(fleet: Fleet, pack: Pack, seats: &[u32], rng: &mut Rng) -> Evidence {
     let hands = [0; 2].map(|_| rng.below(HANDS as usize) as u32);
     let once = two_layouts(rng);
     let pair = |&seat: &u32| {

@@ -2,7 +2,7 @@
 
 use super::arguments::{untouched, Arguments};
 use super::refusals::{lengths, on_part, spoiled, spoiler, Spoiler};
-use super::{equal, long, messages, noise, resized, run};
+use super::{equal, long, messages, noise, run, two};
 use crate::confirmer::{Lower, LowerCopy, Making};
 use crate::fleet::{rounds, some_layouts, some_seats, Fleet};
 use crate::guarded::Guarded;
@@ -57,22 +57,14 @@ fn compare(subject: Subject, case: &Case, rng: &mut Rng) -> Result<(), String> {
 fn both(
     subject: &dyn Making,
     arguments: &Arguments,
-    [first, second]: &[Vec<u8>; 2],
+    certificates: &[Vec<u8>; 2],
     out: &[u8],
     rng: &mut Rng,
 ) -> Result<(Written, Vec<u8>), String> {
-    let Arguments { n, round, keys } = arguments;
-    let mut expected_out = out.to_vec();
-    let reference = make_evidence(*n, *round, keys, first, second, &mut expected_out);
-    let lent_keys = Guarded::new(keys, rng);
-    let lent = [Guarded::new(first, rng), Guarded::new(second, rng)];
-    let mut lent_out = Guarded::new(out, rng);
-    let (one, other) = (lent[0].lent(), lent[1].lent());
-    let answer = subject.make_evidence(*n, *round, lent_keys.lent(), one, other, lent_out.lent_mut());
-    equal("the answer", answer, reference)?;
-    lent_out.expect("out", &expected_out)?;
-    untouched(&[("keys", &lent_keys, keys), ("first", &lent[0], first), ("second", &lent[1], second)])?;
-    Ok((reference, expected_out))
+    let subject = |n: u32, round: u32, keys: &[u8], first: &[u8], second: &[u8], out: &mut [u8]| {
+        subject.make_evidence(n, round, keys, first, second, out)
+    };
+    two::both([&subject, &make_evidence], arguments, certificates, out, rng)
 }
 
 /// The lower one is the whole of a lent buffer, or nothing.
@@ -114,26 +106,11 @@ fn compare_copy(subject: &dyn LowerCopy, case: &Case, rng: &mut Rng) -> Result<(
 /// Every buffer of every length around its own.
 pub fn lengths_around(subject: &dyn Making, n: u32, rng: &mut Rng) -> Result<usize, String> {
     let fleet = Fleet { n, round: *rng.pick(&rounds()) };
-    let Case { arguments, certificates, out, .. } = right(fleet, &pair(fleet, rng), rng);
-    let mut calls = 0;
-    for length in noise::around(arguments.keys.len()) {
-        let keys = resized(&arguments.keys, length, rng);
-        both(subject, &Arguments { keys, ..arguments.clone() }, &certificates, &out, rng)?;
-        calls += 1;
-    }
-    for which in [0, 1] {
-        for length in noise::around(certificates[which].len()) {
-            let mut certificates = certificates.clone();
-            certificates[which] = resized(&certificates[which], length, rng);
-            both(subject, &arguments, &certificates, &out, rng)?;
-            calls += 1;
-        }
-    }
-    for length in noise::around(evidence_out(n)) {
-        both(subject, &arguments, &certificates, &rng.bytes(length), rng)?;
-        calls += 1;
-    }
-    Ok(calls)
+    let Case { arguments, certificates, .. } = right(fleet, &pair(fleet, rng), rng);
+    let out = rng.bytes(evidence_out(n));
+    two::lengths_around(&arguments, &certificates, &out, rng, |arguments, certificates, out, rng| {
+        both(subject, arguments, certificates, out, rng)
+    })
 }
 
 /// A call with random bytes.

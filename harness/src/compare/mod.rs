@@ -6,6 +6,7 @@ pub mod engine;
 pub mod evidence;
 pub mod framing;
 pub mod hashes;
+pub mod joining;
 pub mod make_key;
 pub mod making;
 pub mod messages;
@@ -13,6 +14,7 @@ pub mod noise;
 pub mod notes;
 mod refusals;
 pub mod sign;
+mod two;
 
 use std::collections::BTreeMap;
 use std::io::Write;
@@ -50,6 +52,7 @@ pub fn lengths(subjects: noise::Subjects) {
         let mut calls = engine::refusals::lengths_around(subjects.engine, n, rng)?;
         calls += evidence::lengths_around(subjects.evidence, n, rng)?;
         calls += making::lengths_around(subjects.making, n, rng)?;
+        calls += joining::lengths_around(subjects.joining, n, rng)?;
         Ok(calls)
     });
 }

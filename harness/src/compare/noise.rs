@@ -2,8 +2,8 @@
 
 use super::engine::{self, Subject};
 use super::messages::{OLD_PACK, PACK};
-use super::{check_signature, count, covered, evidence, make_key, making, notes, run, sign, Tally};
-use crate::confirmer::{EvidenceCheck, Making};
+use super::{check_signature, count, covered, evidence, joining, make_key, making, notes, run, sign, Tally};
+use crate::confirmer::{EvidenceCheck, Joining, Making};
 use crate::reference::layout::{self, FULL_COUNT_AT, FULL_ENTRIES_AT, SEAT_AT};
 use crate::reference::lms::PUBLIC_KEY;
 use crate::reference::messages::FULL_ENTRY;
@@ -17,18 +17,20 @@ pub struct Subjects<'a> {
     pub evidence: &'a dyn EvidenceCheck,
     pub engine: Subject<'a>,
     pub making: &'a dyn Making,
+    pub joining: &'a dyn Joining,
 }
 
 const BATCH: usize = 1000;
 
 /// The numbers that each call must answer at some time.
-const COVERED: [(&str, &[u32]); 11] = [
+const COVERED: [(&str, &[u32]); 12] = [
     ("check_signature", &[5, 14]),
     ("make_key", &[7, 16]),
     ("sign", &[0, 3, 7, 16]),
     ("check_evidence", &[1, 3, 5, 9, 10, 11, 12, 14]),
     ("check_evidence, old", &[1, 3, 5, 9, 10, 11, 12, 14]),
     ("make_evidence", &[1, 3, 5, 7, 9, 10, 11, 12, 14]),
+    ("join_evidence", &[1, 3, 5, 7, 9, 10, 11, 12, 14]),
     ("open", &[0, 1, 2, 3, 5]),
     ("submit", &[4, 5, 6, 7, 8, 9, 14]),
     ("step", &[0, 4, 5, 6, 7, 9, 10, 11, 12, 14]),
@@ -53,8 +55,8 @@ pub fn battery(subjects: Subjects) {
 
 /// A call's name and the number that it was answered.
 fn call(subjects: Subjects, rng: &mut Rng) -> Result<String, String> {
-    let Subjects { signatures, evidence, engine, making } = subjects;
-    let (name, number) = match rng.below(15) {
+    let Subjects { signatures, evidence, engine, making, joining } = subjects;
+    let (name, number) = match rng.below(16) {
         0 => ("check_signature", check_signature::noise(signatures, rng)),
         1 => ("make_key", make_key::noise(signatures, rng)),
         2 => ("sign", sign::noise(signatures, rng)),
@@ -65,6 +67,7 @@ fn call(subjects: Subjects, rng: &mut Rng) -> Result<String, String> {
         7 | 8 => ("submit", engine::records::noise_submit(engine, rng)),
         9 => ("write_note", notes::noise_write(engine.notes, rng)),
         10 => ("read_note", notes::noise_read(engine.notes, rng)),
+        11 => ("join_evidence", joining::noise(joining, rng)),
         _ => ("step", engine::records::noise_step(engine, rng)),
     };
     let number = number.map_err(|difference| format!("{name}: {difference}"))?;

@@ -1,13 +1,13 @@
 //! Promises to a fleet for a round in which every message arrives in the end, compared with the round as it was played.
 
 use super::round::{Certificate, Event, Given, Pack, Played};
-use super::words::boats_of;
 use crate::air;
 use crate::fleet::fewest_to_split;
 use crate::reference::layout::{SIGNED, VALUE_AT};
 use crate::reference::quorum::k;
 use crate::reference::record::{Record, Verdict};
 use crate::reference::seats::{mask, size};
+use crate::words::boats_of;
 
 /// The promises that the round broke.
 pub fn faults(played: &Played) -> Vec<String> {
@@ -40,6 +40,9 @@ pub fn faults(played: &Played) -> Vec<String> {
     for seat in played.honest() {
         let [names, shows] = [played.named(seat), shown(played, seat)].map(boats_of);
         expect(names == shows, format!("boat {seat} names {names}, and its certificates show {shows}"));
+    }
+    if let Err(fault) = &played.joined {
+        expect(false, format!("at the harbour office, {fault}"));
     }
     if is_split(&played.late.records) {
         for seat in played.honest() {

@@ -1,18 +1,17 @@
 //! The demonstration: a fleet in the terminal, sound, with a slow boat, with double signers, and with more of them than two
-//! certificates show. Its text follows from the calls' answers, and an answer that breaks a promise to the fleet is reported.
+//! certificates show; and the harbour office, which makes one pack of the boats' evidence. Its text follows from the calls' answers, and an answer that breaks a promise to the fleet is reported.
 
 mod boat;
 mod expected;
 pub mod options;
 mod round;
 mod screens;
-mod words;
 
 use std::ops::Range;
 use std::sync::atomic::{AtomicU32, Ordering};
 
 use crate::compare::progress;
-use crate::confirmer::{Engine, EvidenceCheck};
+use crate::confirmer::{Engine, EvidenceCheck, Joining};
 use crate::parallel;
 use crate::reference::quorum::t0;
 use crate::rng::Rng;
@@ -28,6 +27,7 @@ pub struct Calls<'a> {
     pub signatures: &'a dyn subject::Calls,
     pub engine: &'a dyn Engine,
     pub evidence: &'a dyn EvidenceCheck,
+    pub joining: &'a dyn Joining,
 }
 
 /// The text shown, and the promises broken, none where all is well.

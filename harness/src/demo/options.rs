@@ -28,6 +28,9 @@ pub const USAGE: &str = "\
 demo [--boats N] [--slow SEAT] [--double-signers N] [--lost-link SEAT-SEAT]..
      [--forged SEAT] [--early SEAT] [--seed NUMBER]
 
+Four rounds of a fleet, what its mates see, and the one pack that the harbour
+office makes of the boats' evidence.
+
   --boats N            boats in the fleet, 2 to 32; without it 7; in round 4 the
                        fleet has 13 at least
   --slow SEAT          the boat whose skipper settles late in round 2; without it

@@ -6,6 +6,7 @@ use super::boat::{Answer, Boat, Unit};
 use super::options::Options;
 use super::Calls;
 use crate::air;
+use crate::office::{self, Handed, Joined, Office};
 use crate::parallel;
 use crate::reference::messages::{Full, Submit, Value, EVIDENCE, FULL, NOTICE};
 use crate::reference::quorum::k;
@@ -101,7 +102,10 @@ pub struct Played {
     pub fulls: Stage,
     /// The lost messages, sent again, and the answers to them.
     pub late: Stage,
+    /// The EVIDENCE of the round, boat by boat.
     pub evidence: Vec<Pack>,
+    /// The one pack that the harbour office makes of it, none where there is nothing to join; or what is wrong with that pack.
+    pub joined: Result<Option<Joined>, String>,
     /// Every message of the round, heard a second time.
     pub again: Stage,
 }
@@ -208,9 +212,12 @@ impl Fleet<'_> {
         let fulls = air.broadcast(of_command(notices.sent(), FULL));
         let late = air.late(fulls.sent());
         let stages = [&submits, &notices, &fulls, &late];
-        let evidence = stages.iter().flat_map(|stage| &stage.events).flat_map(|event| self.packs(event)).collect();
+        let mut evidence: Vec<Pack> =
+            stages.iter().flat_map(|stage| &stage.events).flat_map(|event| self.packs(event)).collect();
+        evidence.sort_by_key(|pack| pack.sent.from);
+        let joined = self.joined(number, &evidence);
         let again = air.again(stages);
-        Played { n: self.n(), number, sides, slow, submits, notices, fulls, late, evidence, again }
+        Played { n: self.n(), number, sides, slow, submits, notices, fulls, late, evidence, joined, again }
     }
 
     /// Each EVIDENCE that a unit wrote in a call, and the check's verdict on it.
@@ -222,6 +229,18 @@ impl Fleet<'_> {
             Pack { sent, certificate, before, after, verdict }
         };
         of_command(event.sent(), EVIDENCE).into_iter().map(pack).collect()
+    }
+
+    /// The packs of a round at the harbour office.
+    fn joined(&self, round: u32, evidence: &[Pack]) -> Result<Option<Joined>, String> {
+        let Calls { evidence: check, joining, .. } = self.calls;
+        let office = Office { calls: office::Calls { evidence: check, joining }, n: self.n(), round, keys: &self.keys };
+        let hand_in = |Pack { sent, verdict, .. }: &Pack| Handed {
+            name: format!("the pack of boat {}", sent.from),
+            bytes: sent.bytes.clone(),
+            verdict: *verdict,
+        };
+        office.join(&evidence.iter().map(hand_in).collect::<Vec<_>>())
     }
 }
 

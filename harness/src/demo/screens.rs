@@ -1,19 +1,20 @@
 //! The demonstration's screens: the text of each, from the rounds as they were played.
 
 mod mates;
+mod office;
 mod three;
 
 use super::boat::Answer;
 use super::expected::{holds, is_split};
 use super::options::Options;
 use super::round::{Event, Given, Layout, Pack, Played, Sent, Side, Stage};
-use super::words::{and, boats, boats_of, capital, count, picture, pointed_at, signers, thousands};
 use crate::air;
 use crate::fleet::fewest_to_split;
 use crate::reference::layout::{SIGNED, VALUE_AT};
 use crate::reference::quorum::k;
 use crate::reference::record::Record;
 use crate::reference::seats::{list, mask, size};
+use crate::words::{and, boats, boats_of, capital, count, lines, picture, pointed_at, rows, signers, thousands, WIDTH};
 
 /// The text so far, about a fleet of n boats.
 pub struct Screens<'a> {
@@ -27,9 +28,6 @@ pub struct Screens<'a> {
     text: String,
 }
 
-/// Columns of a line of prose.
-const WIDTH: usize = 79;
-
 impl<'a> Screens<'a> {
     pub fn of(options: &'a Options, layouts: [Layout; 3], [sound, slow, apart, three]: [&Played; 4]) -> String {
         let about = |n| Screens { options, layouts, n, k: k(n), shared: fewest_to_split(n), text: String::new() };
@@ -41,6 +39,7 @@ impl<'a> Screens<'a> {
         larger.three(three);
         screens.text += &larger.text;
         screens.mates(sound, apart, three);
+        screens.office([apart, three]);
         screens.text
     }
 
@@ -60,17 +59,8 @@ impl<'a> Screens<'a> {
         }
     }
 
-    /// Rows of two columns. One that is too wide goes on in the next line.
-    fn rows(&mut self, rows: &[(String, String)]) {
-        let width = rows.iter().map(|(left, _)| left.len()).max().unwrap_or_default();
-        let room = WIDTH - width - 4;
-        for (left, right) in rows {
-            let right = if right.len() <= room { vec![right.clone()] } else { lines(right, room) };
-            for (number, part) in right.iter().enumerate() {
-                let left = if number == 0 { left.as_str() } else { "" };
-                self.line(format!("  {left:width$}  {part}").trim_end());
-            }
-        }
+    fn rows(&mut self, of: &[(String, String)]) {
+        self.text += &rows(of);
     }
 
     fn name(&self, value: &[u8]) -> char {
@@ -556,18 +546,6 @@ impl<'a> Screens<'a> {
         let silence = if answers == 0 { " Silence." } else { "" };
         self.line(format!("All messages of the round are heard a second time: {}.{silence}", count(answers, "answer")));
     }
-}
-
-/// Words in lines of at most a width.
-fn lines(words: &str, width: usize) -> Vec<String> {
-    let mut lines: Vec<String> = Vec::new();
-    for word in words.split_whitespace() {
-        match lines.last_mut() {
-            Some(line) if line.len() + 1 + word.len() <= width => *line += &format!(" {word}"),
-            _ => lines.push(word.to_string()),
-        }
-    }
-    lines
 }
 
 fn value(sent: &Sent) -> Vec<u8> {

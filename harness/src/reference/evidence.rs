@@ -1,20 +1,15 @@
-//! The evidence check, evidence from two certificates in hand, and the lower of two certificates.
+//! The evidence check, evidence from two certificates in hand, the lower of two certificates, and one pack from two.
 
 use super::layout;
 use super::messages::{Evidence, EvidenceEntry, Full, FullEntry};
 use super::record::{Verdict, Written};
-use super::refusals::{arguments, certificate, message, pass, row, Passed};
+use super::refusals::{arguments, certificate, joined_pack, pack, pass, row, Passed};
 use super::seats::mask;
 
 pub fn check_evidence(n: u32, round: u32, keys: &[u8], evidence: &[u8]) -> Verdict {
     let named = || {
-        let read = Evidence::read(evidence, n);
-        let told = read.as_ref().map(Evidence::told);
-        let no_conflict =
-            row(15, || read.iter().flat_map(|read| &read.entries).any(|entry| entry.lower >= entry.higher));
-        let rows = arguments(n, round, keys).into_iter().chain(message(n, round, keys, &told)).chain([no_conflict]);
-        pass(rows)?;
-        Ok(mask(&told.expect("a garbled one is refused").entries))
+        pass(arguments(n, round, keys))?;
+        Ok(mask(&pack(n, round, keys, evidence)?.seats()))
     };
     match named() {
         Ok(mask) => Verdict { number: 0, mask },
@@ -29,7 +24,24 @@ pub fn make_evidence(n: u32, round: u32, keys: &[u8], first: &[u8], second: &[u8
         let (first, second) = conflicting(n, round, keys, first, second)?;
         Ok(of_conflict(&first, &second).write())
     };
-    match made() {
+    written(made(), out)
+}
+
+/// Refusals 9 to 15 of the first one, then of the second.
+pub fn join_evidence(n: u32, round: u32, keys: &[u8], first: &[u8], second: &[u8], out: &mut [u8]) -> Written {
+    let joined = || {
+        let short = row(7, || out.len() < layout::joined_out(n));
+        pass(arguments(n, round, keys).into_iter().chain([short]))?;
+        let first = joined_pack(n, round, keys, first)?;
+        let second = joined_pack(n, round, keys, second)?;
+        Ok(of_either(&first, &second).write())
+    };
+    written(joined(), out)
+}
+
+/// Refuses, or copies the bytes to the start of `out`.
+fn written(bytes: Passed<Vec<u8>>, out: &mut [u8]) -> Written {
+    match bytes {
         Ok(bytes) => {
             out[..bytes.len()].copy_from_slice(&bytes);
             Written { number: 0, written: bytes.len() as u32 }
@@ -73,4 +85,16 @@ pub fn of_conflict(one: &Full, other: &Full) -> Evidence {
         })
     };
     Evidence { round: lower.round, entries: lower.entries.iter().filter_map(shared).collect() }
+}
+
+/// "the seats of either, rising, and a seat found in both has the pair of the pack named first"
+fn of_either(first: &Evidence, second: &Evidence) -> Evidence {
+    let (mut ours, mut theirs) = (first.entries.iter().peekable(), second.entries.iter().peekable());
+    let mut entries = Vec::new();
+    while let Some(seat) = [ours.peek(), theirs.peek()].into_iter().flatten().map(|entry| entry.seat).min() {
+        let own = ours.next_if(|entry| entry.seat == seat);
+        let other = theirs.next_if(|entry| entry.seat == seat);
+        entries.extend(own.or(other).cloned());
+    }
+    Evidence { round: first.round, entries }
 }

@@ -86,6 +86,11 @@ pub fn evidence_out(n: u32) -> usize {
     evidence(k(n))
 }
 
+/// `out` for two packs joined: every seat.
+pub fn joined_out(n: u32) -> usize {
+    evidence(n)
+}
+
 /// The store: n slots for collected signatures, n for the first certificate's, n for kept ones, then n values of the kept ones,
 /// each by seat.
 pub fn store(n: u32) -> usize {
@@ -118,7 +123,7 @@ fn slot(number: u32) -> Range<usize> {
 mod tests {
     use super::*;
 
-    /// The figures that documents 01 and 02 (items 1 to 3) state.
+    /// The figures that documents 01 and 02 (items 1 to 3 and 5) state.
     #[test]
     fn figures_of_the_documents() {
         assert_eq!((SIGNATURE, SIGNED, SUBMIT, NOTICE), (1452, 36, 1488, 36));
@@ -129,7 +134,8 @@ mod tests {
                 (full(n), evidence(n), old_evidence(n)),
                 (37 + 1454 * count, 4 + 2970 * count, 68 + 2906 * count)
             );
-            assert_eq!((store(n), out(n), evidence_out(n)), (4388 * count, 1565 + 4424 * k, 4 + 2970 * k));
+            assert_eq!((store(n), out(n)), (4388 * count, 1565 + 4424 * k));
+            assert_eq!((evidence_out(n), joined_out(n)), (4 + 2970 * k, 4 + 2970 * count));
         }
     }
 

@@ -2,13 +2,36 @@
 
 use super::calls::MAX_LEAF;
 use super::lms::PUBLIC_KEY;
-use super::messages::{signed_bytes, Full, Signed, Told};
+use super::messages::{signed_bytes, Evidence, Full, Signed, Told, OLD_EVIDENCE};
 use super::quorum;
 use super::verdicts;
 
 /// The table's numbers in the order in which they count: "The lowest number whose condition holds is returned". "Number 13 no
 /// longer occurs." 17 "comes before 4".
 pub const ORDER: &[u32] = &[1, 2, 3, 17, 4, 5, 6, 7, 8, 9, 10, 11, 12, 14, 15, 16];
+
+/// The table's words.
+pub fn word(number: u32) -> &'static str {
+    match number {
+        1 => "size",
+        2 => "seat",
+        3 => "round",
+        4 => "record",
+        5 => "keys",
+        6 => "store",
+        7 => "out",
+        8 => "said",
+        9 => "garbled",
+        10 => "other round",
+        11 => "stranger",
+        12 => "disorder",
+        14 => "signature",
+        15 => "no conflict",
+        16 => "key material",
+        17 => "note",
+        other => panic!("no number of the table: {other}"),
+    }
+}
 
 /// The place of a number in the order.
 pub fn place(number: u32) -> usize {
@@ -77,4 +100,19 @@ pub fn certificate(n: u32, round: u32, keys: &[u8], bytes: &[u8]) -> Passed<Full
     let full = Full::read(bytes, quorum::k(n));
     pass(message(n, round, keys, &full.as_ref().map(Full::told)))?;
     Ok(full.expect("a garbled one is refused"))
+}
+
+/// 9 to 15 of an EVIDENCE of either command.
+pub fn pack(n: u32, round: u32, keys: &[u8], evidence: &[u8]) -> Passed<Evidence> {
+    let read = Evidence::read(evidence, n);
+    let told = read.as_ref().map(Evidence::told);
+    let no_conflict = row(15, || read.iter().flat_map(|read| &read.entries).any(|entry| entry.lower >= entry.higher));
+    pass(message(n, round, keys, &told).into_iter().chain([no_conflict]))?;
+    Ok(read.expect("a garbled one is refused"))
+}
+
+/// The same of one that is to be joined: "a 0x05 pack is 9 here".
+pub fn joined_pack(n: u32, round: u32, keys: &[u8], evidence: &[u8]) -> Passed<Evidence> {
+    pass([row(9, || evidence.first() == Some(&OLD_EVIDENCE))])?;
+    pack(n, round, keys, evidence)
 }

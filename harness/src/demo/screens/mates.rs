@@ -1,10 +1,10 @@
-//! The last screen: the mate's display at each stage.
+//! The mate's display at each stage.
 
 use super::super::round::Played;
-use super::super::words::seats;
-use super::{lines, signed, Screens};
+use super::{signed, Screens};
 use crate::reference::record::Record;
 use crate::reference::seats::{list, size};
+use crate::words::{lines, seats};
 
 impl Screens<'_> {
     /// The displays at each stage.

@@ -1,9 +1,9 @@
 //! Round 4: three layouts, and a certificate that shows more double signers than the one before it.
 
 use super::super::round::{Certificate, Played};
-use super::super::words::{and, boats, boats_of, capital, count, picture, pointed_at, signers};
 use super::Screens;
 use crate::reference::seats::size;
+use crate::words::{and, boats, boats_of, capital, count, picture, pointed_at, signers};
 
 impl Screens<'_> {
     pub fn three(&mut self, played: &Played) {

@@ -1,4 +1,4 @@
-//! Seats, counts and pictures as a person writes them.
+//! Seats, counts, lines and pictures as a person writes them.
 
 use crate::reference::seats::{contains, list, size};
 
@@ -55,6 +55,40 @@ pub fn and(words: &[impl AsRef<str>]) -> String {
         Some((last, rest)) if !rest.is_empty() => format!("{} and {last}", rest.join(", ")),
         _ => words.concat(),
     }
+}
+
+/// Columns of a line of prose.
+pub const WIDTH: usize = 79;
+
+/// Words in lines of at most a width.
+pub fn lines(words: &str, width: usize) -> Vec<String> {
+    let mut lines: Vec<String> = Vec::new();
+    for word in words.split_whitespace() {
+        match lines.last_mut() {
+            Some(line) if line.len() + 1 + word.len() <= width => *line += &format!(" {word}"),
+            _ => lines.push(word.to_string()),
+        }
+    }
+    lines
+}
+
+/// Columns of a second column at least, whatever stands in the first.
+const NARROWEST: usize = 40;
+
+/// Rows of two columns. One that is too wide goes on in the next line.
+pub fn rows(rows: &[(String, String)]) -> String {
+    let width = rows.iter().map(|(left, _)| left.len()).max().unwrap_or_default();
+    let room = WIDTH.saturating_sub(width + 4).max(NARROWEST);
+    let mut text = String::new();
+    for (left, right) in rows {
+        let right = if right.len() <= room { vec![right.clone()] } else { lines(right, room) };
+        for (number, part) in right.iter().enumerate() {
+            let left = if number == 0 { left.as_str() } else { "" };
+            text += format!("  {left:width$}  {part}").trim_end();
+            text.push('\n');
+        }
+    }
+    text
 }
 
 /// A row of a picture: a letter for each boat of a set, and words at its end.
@@ -117,6 +151,15 @@ mod tests {
         assert_eq!(capital("boat 3"), "Boat 3");
         assert_eq!([count(1, "boat"), count(0, "boat")], ["1 boat", "0 boats"]);
         assert_eq!([and(&["A"]), and(&["A", "B", "C"])], ["A", "A, B and C"]);
+    }
+
+    #[test]
+    fn rows_go_on_in_the_next_line() {
+        let told = |left: &str, right: &str| rows(&[(left.to_string(), right.to_string())]);
+        assert_eq!(told("a", "b c"), "  a  b c\n");
+        let [word, long] = ["x".repeat(36), "y".repeat(100)];
+        assert_eq!(told("a", &format!("{word} {word} {word}")), format!("  a  {word} {word}\n     {word}\n"));
+        assert_eq!(told(&long, &format!("{word} {word}")), format!("  {long}  {word}\n{:104}{word}\n", ""));
     }
 
     #[test]
