@@ -171,7 +171,8 @@ fn packs_refused() {
     assert_eq!((said.matches("REFUSED").count(), desk.has("one.pack")), (refused.len(), None));
 }
 
-/// Accepted by the check, and not joined: its line goes on below. One that the check refuses has the check's number.
+/// Accepted by the check, and not joined: its line goes on below. It is 9 where the check refuses it too, and the check's number stands
+/// beside it.
 #[test]
 fn a_pack_of_the_old_form() {
     let desk = Desk::new("old");
@@ -188,8 +189,15 @@ fn a_pack_of_the_old_form() {
     assert_eq!(desk.has("one.pack"), Some(new.write()));
 
     desk.put("old.pack", &pack(&B, &A, &[1]).write_old());
+    let told = "
+  old.pack  REFUSED (9, garbled): it is of the old form, 0x05, and the check
+            refuses it too (15, no conflict)
+";
     let said = desk.says("--keys keys --round 5 old.pack", 1);
-    assert!(said.contains("\n  old.pack  REFUSED (15, no conflict): "), "{said}");
+    assert!(said.contains(told), "{said}");
+    desk.put("old.pack", &old.write_old()[..100]);
+    let said = desk.says("--keys keys --round 5 old.pack", 1);
+    assert!(said.contains("REFUSED (9, garbled): it is no pack, or not a whole one\n"), "{said}");
 }
 
 #[test]

@@ -47,7 +47,7 @@ fn joined(calls: Calls, options: &Options) -> Result<bool, String> {
     for pack in packs {
         handed.push(office.handed(pack.display().to_string(), read(pack)?));
     }
-    if handed.iter().any(|pack| pack.number() == 5) {
+    if handed.iter().any(|pack| pack.verdict.number == 5) {
         return Err(format!("{}: a key in it isn't of types 6 and 4", keys.display()));
     }
     let joined = office.join(&handed).map_err(|fault| format!("NOT AS PROMISED: {fault}"))?;

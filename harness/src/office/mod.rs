@@ -52,9 +52,10 @@ impl Handed {
 
     /// The number for which the pack isn't joined, 0 where it is taken. "a 0x05 pack is 9 here"
     pub fn number(&self) -> u32 {
-        match self.verdict.number {
-            0 if self.is_old() => 9,
-            number => number,
+        if self.is_old() {
+            9
+        } else {
+            self.verdict.number
         }
     }
 
@@ -62,10 +63,14 @@ impl Handed {
     fn told(&self) -> String {
         let number = self.number();
         let named = boats_of(self.verdict.mask);
+        let alone = self.verdict.number;
         let why = match number {
             0 => return format!("taken: it names {named}"),
-            9 if self.verdict.number == 0 => {
+            9 if self.is_old() && alone == 0 => {
                 format!("it is of the old form, 0x05. It can be checked, and names {named}, but it can't be joined")
+            }
+            9 if self.is_old() && alone != 9 => {
+                format!("it is of the old form, 0x05, and the check refuses it too ({alone}, {})", word(alone))
             }
             9 => "it is no pack, or not a whole one".to_string(),
             10 => {
