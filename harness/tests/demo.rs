@@ -6,7 +6,7 @@ use std::sync::OnceLock;
 
 use harness::confirmer::{Engine, EvidenceCheck, Joining};
 use harness::demo::options::Options;
-use harness::demo::{boats, told_by, Boat, Calls, Told};
+use harness::demo::{boats, told_by, Boat, Calls, HandedIn, Told};
 use harness::library::Library;
 use harness::parallel;
 use harness::reference::record::{Opened, Record, Stepped, Verdict, Written};
@@ -36,11 +36,28 @@ fn six_sets_of_screens() {
         ("--slow 2 --lost-link 2-0 --lost-link 2-1 --lost-link 2-5", include_str!("../data/demo/slow_and_lost.txt")),
         ("--boats 10 --double-signers 5", include_str!("../data/demo/ten.txt")),
     ] {
-        let Told { text, faults } = run(LIBRARY, flags);
+        let Told { text, faults, .. } = run(LIBRARY, flags);
         assert_eq!(text, held, "{flags}");
         assert!(faults.is_empty(), "{flags}: {faults:?}");
         assert!(text.lines().all(|line| line.len() < 80), "{flags}: a line is wider than a screen");
     }
+}
+
+/// By the screens: in round 3 boats 0 to 3 write a pack each, in round 4 boats 0 to 2 write two each.
+#[test]
+fn files_for_the_office() {
+    let rounds = run(LIBRARY, "").handed_in;
+    let names: Vec<&str> = rounds.iter().flat_map(|round| &round.packs).map(|(name, _)| name.as_str()).collect();
+    let third = (0..4).map(|seat| format!("round-3-boat-{seat}-1.pack"));
+    let fourth = (0..3).flat_map(|seat| (1..3).map(move |place| format!("round-4-boat-{seat}-{place}.pack")));
+    assert_eq!(names, third.chain(fourth).collect::<Vec<_>>());
+    for (HandedIn { round, keys, packs }, (n, named)) in rounds.iter().zip([(7, 0b111_0000), (13, 0x1ff8)]) {
+        assert_eq!((keys.0.as_str(), keys.1.len()), (format!("round-{round}.keys").as_str(), 56 * n as usize));
+        let verdicts = packs.iter().map(|(_, pack)| Library.check_evidence(n, *round, &keys.1, pack));
+        let union = verdicts.fold(0, |union, Verdict { number, mask }| if number == 0 { union | mask } else { panic!() });
+        assert_eq!(union, named, "round {round}");
+    }
+    assert!(run(LIBRARY, "--double-signers 2").handed_in.iter().all(|handed| handed.round == 4), "nothing in round 3");
 }
 
 #[test]
@@ -69,7 +86,7 @@ fn all_is_as_promised_after_a_lost_boat() {
 /// Boat 0 lacks a signature when the FULLs go round: so it holds boat 2's certificate, and its own is the third.
 #[test]
 fn a_third_certificate_that_is_the_own_one() {
-    let Told { text, faults } = run(LIBRARY, "--lost-link 0-5");
+    let Told { text, faults, .. } = run(LIBRARY, "--lost-link 0-5");
     assert!(faults.is_empty(), "{faults:?}");
     for told in [
         "
@@ -118,7 +135,7 @@ fn evidence_counts_by_the_checks_verdict_alone() {
         (honest_named, "HONEST BOATS ARE NAMED: boat 0.", 2),
         (too_few, "0 of 4 honest boats hold evidence", 2),
     ] {
-        let Told { text, faults } = run(Calls { evidence: &check, ..LIBRARY }, "");
+        let Told { text, faults, .. } = run(Calls { evidence: &check, ..LIBRARY }, "");
         assert!(text.contains(told), "{text}");
         // Four honest boats in round 3 with an EVIDENCE each, three in round 4 with two: each EVIDENCE isn't accepted as it should be,
         // and each boat names others than it can show, and too few at first. In each of the two rounds the one pack holds others

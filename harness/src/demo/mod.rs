@@ -1,5 +1,6 @@
 //! The demonstration: a fleet in the terminal, sound, with a slow boat, with double signers, and with more of them than two
-//! certificates show; and the harbour office, which makes one pack of the boats' evidence. Its text follows from the calls' answers, and an answer that breaks a promise to the fleet is reported.
+//! certificates show; and the harbour office, which makes one pack of the boats' evidence. Its text follows from the calls' answers, and
+//! an answer that breaks a promise to the fleet is reported.
 
 mod boat;
 mod expected;
@@ -18,7 +19,7 @@ use crate::rng::Rng;
 use crate::subject;
 pub use boat::Boat;
 use options::Options;
-use round::{Fleet, Layout, Side};
+use round::{Fleet, Layout, Pack, Played, Side};
 use screens::Screens;
 
 /// The calls that the demonstration is run with.
@@ -30,10 +31,18 @@ pub struct Calls<'a> {
     pub joining: &'a dyn Joining,
 }
 
-/// The text shown, and the promises broken, none where all is well.
+/// The text shown; the promises broken, none where all is well; and the rounds with evidence, as the harbour office gets them.
 pub struct Told {
     pub text: String,
     pub faults: Vec<String>,
+    pub handed_in: Vec<HandedIn>,
+}
+
+/// A round's key table and the packs that the boats handed in, each with the name of its file.
+pub struct HandedIn {
+    pub round: u32,
+    pub keys: (String, Vec<u8>),
+    pub packs: Vec<(String, Vec<u8>)>,
 }
 
 /// Boats with their keys; progress goes to standard error.
@@ -64,7 +73,25 @@ pub fn told_by(calls: Calls, boats: &[Boat], options: &Options) -> Told {
     let apart = usual.play(3, two_sides(options, layouts), None);
     let three = larger.play(4, three_sides(options.larger(), layouts), None);
     let played = [&sound, &slow, &apart, &three];
-    Told { text: Screens::of(options, layouts, played), faults: played.map(expected::faults).concat() }
+    Told {
+        text: Screens::of(options, layouts, played),
+        faults: played.map(expected::faults).concat(),
+        handed_in: [(&apart, &usual), (&three, &larger)].into_iter().filter_map(handed_in).collect(),
+    }
+}
+
+/// What the office gets of a round; nothing where there is no evidence.
+fn handed_in((played, fleet): (&Played, &Fleet)) -> Option<HandedIn> {
+    let round = played.number;
+    let named = |seat: u32| {
+        let name = move |(place, pack): (u32, &Pack)| {
+            (format!("round-{round}-boat-{seat}-{place}.pack"), pack.sent.bytes.clone())
+        };
+        (1..).zip(played.packs(seat)).map(name).collect::<Vec<_>>()
+    };
+    let packs: Vec<(String, Vec<u8>)> = played.honest().into_iter().flat_map(named).collect();
+    let keys = (format!("round-{round}.keys"), fleet.keys.clone());
+    (!packs.is_empty()).then_some(HandedIn { round, keys, packs })
 }
 
 /// All boats sign one layout.

@@ -1,5 +1,7 @@
 //! The demonstration's numbers, from flags or by default, and the errors for numbers that make no sense.
 
+use std::path::PathBuf;
+
 use crate::fleet::fewest_to_split;
 
 #[derive(Clone, Debug, PartialEq, Eq)]
@@ -18,6 +20,8 @@ pub struct Options {
     pub slow: u32,
     /// Source of keys, layouts and randomizers.
     pub seed: u64,
+    /// The folder for key tables and packs.
+    pub packs: Option<PathBuf>,
 }
 
 /// The fewest boats in round 4. Each of its three layouts is signed by all boats but t0. These are the honest boats of the other two
@@ -26,7 +30,7 @@ const FEWEST_IN_ROUND_4: u32 = 13;
 
 pub const USAGE: &str = "\
 demo [--boats N] [--slow SEAT] [--double-signers N] [--lost-link SEAT-SEAT]..
-     [--forged SEAT] [--early SEAT] [--seed NUMBER]
+     [--forged SEAT] [--early SEAT] [--seed NUMBER] [--packs FOLDER]
 
 Four rounds of a fleet, what its mates see, and the one pack that the harbour
 office makes of the boats' evidence.
@@ -45,6 +49,8 @@ office makes of the boats' evidence.
   --early SEAT         this boat sends its SUBMIT before the others have signed
   --seed NUMBER        keys and layouts follow from it, so that a run can be
                        repeated; without it 1
+  --packs FOLDER       writes the packs that the boats hand in, and the key
+                       tables, to files there, for make join
   --help               this page
 
 From make, in quotes:  make demo DEMO=\"--double-signers 2 --lost-link 0-3\"
@@ -57,18 +63,20 @@ Try first:
   --boats 10 --double-signers 5      a larger fleet
 ";
 
-const FLAGS: [&str; 7] = ["--boats", "--slow", "--double-signers", "--lost-link", "--forged", "--early", "--seed"];
+const FLAGS: [&str; 8] =
+    ["--boats", "--slow", "--double-signers", "--lost-link", "--forged", "--early", "--seed", "--packs"];
 
 impl Options {
     pub fn parse(words: &[String]) -> Result<Options, String> {
-        let (mut n, mut double_signers, mut seed) = (7, None, 1);
+        let (mut n, mut double_signers, mut seed, mut packs) = (7, None, 1, None);
         let (mut lost_links, mut forged, mut early, mut slow) = (Vec::new(), None, None, None);
         for pair in words.chunks(2) {
             let flag = pair[0].as_str();
             if !FLAGS.contains(&flag) {
                 return Err(format!("{flag}: no such flag"));
             }
-            let word = pair.get(1).ok_or_else(|| format!("{flag} needs a number"))?;
+            let what = if flag == "--packs" { "folder" } else { "number" };
+            let word = pair.get(1).ok_or_else(|| format!("{flag} needs a {what}"))?;
             let number = || word.parse::<u32>().map_err(|_| format!("{flag} {word}: not a number that fits"));
             match flag {
                 "--boats" => n = number()?,
@@ -77,6 +85,7 @@ impl Options {
                 "--forged" => forged = Some(number()?),
                 "--early" => early = Some(number()?),
                 "--slow" => slow = Some(number()?),
+                "--packs" => packs = Some(PathBuf::from(word)),
                 _ => seed = word.parse().map_err(|_| format!("{flag} {word}: not a number that fits"))?,
             }
         }
@@ -85,7 +94,7 @@ impl Options {
         }
         let double_signers = double_signers.unwrap_or(fewest_to_split(n).min(n - 2));
         let slow = slow.unwrap_or(if early == Some(n - 1) { n - 2 } else { n - 1 });
-        Options { n, double_signers, lost_links, forged, early, slow, seed }.tested()
+        Options { n, double_signers, lost_links, forged, early, slow, seed, packs }.tested()
     }
 
     fn tested(self) -> Result<Options, String> {
@@ -142,7 +151,7 @@ mod tests {
     }
 
     fn plain(n: u32, double_signers: u32, seed: u64) -> Options {
-        Options { n, double_signers, lost_links: vec![], forged: None, early: None, slow: n - 1, seed }
+        Options { n, double_signers, lost_links: vec![], forged: None, early: None, slow: n - 1, seed, packs: None }
     }
 
     #[test]
@@ -160,6 +169,7 @@ mod tests {
             Options { lost_links: vec![(0, 3), (5, 4)], forged: Some(6), early: Some(0), ..plain(7, 3, 1) }
         );
         assert_eq!(parse("--slow 2 --early 0"), Ok(Options { early: Some(0), slow: 2, ..plain(7, 3, 1) }));
+        assert_eq!(parse("--packs there"), Ok(Options { packs: Some("there".into()), ..plain(7, 3, 1) }));
         assert_eq!(parse("--early 6"), Ok(Options { early: Some(6), slow: 5, ..plain(7, 3, 1) }));
         assert_eq!([(3, 0), (4, 5), (0, 4)].map(|(one, other)| radio.linked(one, other)), [false, false, true]);
     }
@@ -172,6 +182,7 @@ mod tests {
             ("--boats 4294967300", "--boats 4294967300: not a number that fits"),
             ("--boats seven", "--boats seven: not a number that fits"),
             ("--boats", "--boats needs a number"),
+            ("--packs", "--packs needs a folder"),
             ("--seed -1", "--seed -1: not a number that fits"),
             ("--double-signers 6", "--double-signers 6: of 7 boats two at least must be honest, so 5 at most"),
             (
