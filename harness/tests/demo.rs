@@ -54,7 +54,8 @@ fn files_for_the_office() {
     for (HandedIn { round, keys, packs }, (n, named)) in rounds.iter().zip([(7, 0b111_0000), (13, 0x1ff8)]) {
         assert_eq!((keys.0.as_str(), keys.1.len()), (format!("round-{round}.keys").as_str(), 56 * n as usize));
         let verdicts = packs.iter().map(|(_, pack)| Library.check_evidence(n, *round, &keys.1, pack));
-        let union = verdicts.fold(0, |union, Verdict { number, mask }| if number == 0 { union | mask } else { panic!() });
+        let union =
+            verdicts.fold(0, |union, Verdict { number, mask }| if number == 0 { union | mask } else { panic!() });
         assert_eq!(union, named, "round {round}");
     }
     assert!(run(LIBRARY, "--double-signers 2").handed_in.iter().all(|handed| handed.round == 4), "nothing in round 3");
