@@ -121,6 +121,10 @@ fn every_pack_taken() {
     fs::remove_file(desk.0.join("one.pack")).unwrap();
     let nothing = "Nothing is written; --out FILE keeps the pack.\n";
     assert_eq!(desk.says("--keys keys --round 5 a.pack b.pack c.pack", 0), format!("{TAKEN}{nothing}"));
+    // Folders are told where two files have one name.
+    assert_eq!(desk.says("--keys keys --round 5 ./a.pack ./b.pack ./c.pack", 0), format!("{TAKEN}{nothing}"));
+    let one_name = desk.says("--keys keys --round 5 ./a.pack a.pack", 0);
+    assert!(one_name.contains("  boat 1  named by ./a.pack and a.pack; the pair of ./a.pack stands\n"), "{one_name}");
     assert_eq!(fs::read_dir(&desk.0).unwrap().count(), 4 + 3, "four files given, three written");
 }
 

@@ -1,7 +1,8 @@
 //! The harbour office's tool over the proved code: one pack of evidence from those that boats handed in.
 
+use std::collections::BTreeSet;
 use std::fs;
-use std::path::Path;
+use std::path::{Path, PathBuf};
 use std::process::exit;
 
 use harness::command_line::options;
@@ -44,8 +45,8 @@ fn joined(calls: Calls, options: &Options) -> Result<bool, String> {
     }
     let office = Office { calls, n, round: *round, keys: &table };
     let mut handed = Vec::new();
-    for pack in packs {
-        handed.push(office.handed(pack.display().to_string(), read(pack)?));
+    for (pack, name) in packs.iter().zip(names(packs)) {
+        handed.push(office.handed(name, read(pack)?));
     }
     if handed.iter().any(|pack| pack.verdict.number == 5) {
         return Err(format!("{}: a key in it isn't of types 6 and 4", keys.display()));
@@ -65,6 +66,15 @@ fn joined(calls: Calls, options: &Options) -> Result<bool, String> {
 
 fn read(path: &Path) -> Result<Vec<u8>, String> {
     fs::read(path).map_err(|error| format!("{}: {error}", path.display()))
+}
+
+/// The files' names; with their folders where two have the same.
+fn names(packs: &[PathBuf]) -> Vec<String> {
+    let name = |pack: &PathBuf| pack.file_name().map(|name| name.to_string_lossy().into_owned());
+    match packs.iter().map(name).collect::<Option<BTreeSet<String>>>() {
+        Some(names) if names.len() == packs.len() => packs.iter().filter_map(name).collect(),
+        _ => packs.iter().map(|pack| pack.display().to_string()).collect(),
+    }
 }
 
 /// Whether two paths lead to one file that is there.
