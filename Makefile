@@ -30,7 +30,7 @@ demo: zolbine
 	@$(HARNESS) run --release --offline --features zolbine --bin demo -- $(DEMO)
 
 # from this folder, so that it finds the files that are named
-join: zolbine
+join: $(ARCHIVE)
 	@$(CARGO) run --manifest-path harness/Cargo.toml --release --offline --features zolbine --bin join -- $(JOIN)
 
 soak: zolbine
