@@ -36,7 +36,7 @@ join: $(ARCHIVE)
 soak: zolbine
 	@cd harness && ZOLBINE_LONG=1 $(CARGO) test --release --offline --features zolbine \
 		--test load --test compare_engine --test compare_notes --test compare_evidence --test compare_framing \
-		--test compare_joining --test compare_lms --test compare_making --test plain_c
+		--test compare_joining --test compare_dispatcher --test compare_lms --test compare_making --test plain_c
 
 bench: archives libcrypto
 	@$(HARNESS) run --release --offline --features zolbine,probes,libcrypto --bin bench

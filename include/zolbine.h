@@ -18,7 +18,7 @@ extern "C" {
 /* The interface's version: a change of a call, a struct or a length raises it. zolbine_version answers that of the archive: a
  * program that was compiled with this header runs with an archive of the same version alone.
  */
-#define ZOLBINE_VERSION 5
+#define ZOLBINE_VERSION 6
 
 uint32_t zolbine_version(void);
 
@@ -28,7 +28,7 @@ enum {
     ZOLBINE_SEAT = 2,          /* own seat at or above n (opening) */
     ZOLBINE_ROUND = 3,         /* a round or leaf above 1,023 */
     ZOLBINE_NOTE = 17,         /* no note: not 118 bytes, another command than 0x20, both heard flags or an unknown flag set */
-    ZOLBINE_RECORD = 4,        /* impossible record */
+    ZOLBINE_RECORD = 4,        /* impossible record, or impossible dispatcher */
     ZOLBINE_KEYS = 5,          /* key table not 56 x n bytes, or a type not allowed */
     ZOLBINE_STORE = 6,         /* store too short */
     ZOLBINE_OUT = 7,           /* out shorter than the length stated for the call */
@@ -40,7 +40,9 @@ enum {
     ZOLBINE_EARLY = 13,        /* retired: no call answers it any more, and the number isn't used again */
     ZOLBINE_SIGNATURE = 14,    /* a signature doesn't check, or its leaf isn't the round */
     ZOLBINE_NO_CONFLICT = 15,  /* evidence with an entry whose values are equal or not lower first; certificates of equal values */
-    ZOLBINE_KEY_MATERIAL = 16  /* seed, identifier, randomizer or tree of another length */
+    ZOLBINE_KEY_MATERIAL = 16, /* seed, identifier, randomizer or tree of another length */
+    ZOLBINE_LANE = 18,         /* the round is not among the dispatcher's eight; two of the eight are equal (opening one) */
+    ZOLBINE_FULL_LANE = 19     /* 16 tickets wait in that lane */
 };
 
 /* Commands: the first byte of a message. docs/PROTOCOL.md has the bytes after it. */
@@ -69,6 +71,8 @@ enum {
     ZOLBINE_MESSAGE_MAX = 65535, /* the longest that zolbine_check_signature and zolbine_sign take; an EVIDENCE may be longer */
     ZOLBINE_LAST_LEAF = 1023,
     ZOLBINE_MOST_SEATS = 32,
+    ZOLBINE_LANES = 8,        /* rounds that a dispatcher follows */
+    ZOLBINE_LANE_PLACES = 16, /* tickets that may wait in each */
     ZOLBINE_VALUE_LEN = 32,
     ZOLBINE_ROUND_AT = 1, /* in every command: after its one byte */
     ZOLBINE_SEAT_AT = 1 + 2, /* in the signed bytes, SUBMIT, NOTICE and FULL: after command and round */
@@ -246,6 +250,36 @@ struct zolbine_stepped {
     struct zolbine_record record; /* the record after the call; with a refusal as it was given */
 };
 
+/* A dispatcher: eight rounds followed together, a lane for each, and whose turn it is. It goes in and comes back by value. Lane l
+ * is that of rounds[l]; `rounds` and `counts` are the host's to read, and nothing in it is the host's to write: a dispatcher that no
+ * call gave may be refused (ZOLBINE_RECORD). It has 388 bytes, without padding, and is aligned to 4.
+ */
+struct zolbine_eight {
+    uint32_t round[ZOLBINE_LANES]; /* eight different rounds, 0 to 1,023, in any order */
+};
+
+struct zolbine_dispatcher {
+    uint32_t rounds[ZOLBINE_LANES]; /* the round of each lane */
+    uint32_t counts[ZOLBINE_LANES]; /* the tickets waiting in each lane, 0 to 16 */
+    uint32_t heads[ZOLBINE_LANES];  /* the place of each lane's oldest ticket, modulo 16 */
+    uint32_t served;                /* how many lanes have ever been served */
+    uint32_t order[ZOLBINE_LANES];  /* those lanes, served longest ago first; entries beyond `served` mean nothing */
+    uint16_t tickets[ZOLBINE_LANES * ZOLBINE_LANE_PLACES]; /* lane l's 16 places from 16 * l on, used round and round */
+};
+
+struct zolbine_dispatched {
+    uint32_t number;                      /* the refusal's number, or 0 */
+    struct zolbine_dispatcher dispatcher; /* after the call; with a refusal as it was given, of an opening zeros */
+};
+
+struct zolbine_turn {
+    uint32_t number;                      /* the refusal's number, or 0 */
+    bool given;                           /* whether a ticket is given out: false with a refusal, and where none waits */
+    uint32_t round;                       /* the round of its lane; 0 where none is given */
+    uint32_t ticket;                      /* the ticket, as it was added; 0 where none is given */
+    struct zolbine_dispatcher dispatcher; /* after the turn; as it was given where no ticket is */
+};
+
 /* The archive's structs are laid out so. A compiler that lays them out otherwise stops here. */
 #ifdef __cplusplus
 #define ZOLBINE_ASSERT(what) static_assert(what, #what)
@@ -279,6 +313,18 @@ ZOLBINE_ASSERT(sizeof(struct zolbine_record) == 140 && ZOLBINE_ALIGNED(struct zo
 ZOLBINE_ASSERT(sizeof(struct zolbine_written) == 8 && sizeof(struct zolbine_verdict) == 8);
 ZOLBINE_ASSERT(offsetof(struct zolbine_opened, record) == 4 && sizeof(struct zolbine_opened) == 144);
 ZOLBINE_ASSERT(offsetof(struct zolbine_stepped, record) == 8 && sizeof(struct zolbine_stepped) == 148);
+ZOLBINE_ASSERT(sizeof(struct zolbine_eight) == 32);
+ZOLBINE_ASSERT(offsetof(struct zolbine_dispatcher, rounds) == 0);
+ZOLBINE_ASSERT(offsetof(struct zolbine_dispatcher, counts) == 32);
+ZOLBINE_ASSERT(offsetof(struct zolbine_dispatcher, heads) == 64);
+ZOLBINE_ASSERT(offsetof(struct zolbine_dispatcher, served) == 96);
+ZOLBINE_ASSERT(offsetof(struct zolbine_dispatcher, order) == 100);
+ZOLBINE_ASSERT(offsetof(struct zolbine_dispatcher, tickets) == 132);
+ZOLBINE_ASSERT(sizeof(struct zolbine_dispatcher) == 388 && ZOLBINE_ALIGNED(struct zolbine_dispatcher) == 4);
+ZOLBINE_ASSERT(offsetof(struct zolbine_dispatched, dispatcher) == 4 && sizeof(struct zolbine_dispatched) == 392);
+ZOLBINE_ASSERT(offsetof(struct zolbine_turn, given) == 4 && offsetof(struct zolbine_turn, round) == 8);
+ZOLBINE_ASSERT(offsetof(struct zolbine_turn, ticket) == 12 && offsetof(struct zolbine_turn, dispatcher) == 16);
+ZOLBINE_ASSERT(sizeof(struct zolbine_turn) == 404);
 #undef ZOLBINE_ALIGNED
 #undef ZOLBINE_ASSERT
 
@@ -339,6 +385,29 @@ struct zolbine_written zolbine_write_note(struct zolbine_record record, uint8_t 
  * ZOLBINE_RECORD (the note of an impossible record).
  */
 struct zolbine_opened zolbine_read_note(const uint8_t *note, size_t note_len);
+
+/* The dispatcher, for a unit that follows eight rounds together and must not let a noisy one keep the others waiting. The host
+ * keeps the messages that it hears, adds a ticket, a 16-bit number of its own, for each to the lane of its round, and at each turn
+ * gives the message of the ticket that it gets to zolbine_step with that round's record. Each call takes the dispatcher that the
+ * call before gave back. Then a lane with a ticket waits through at most seven turns of other lanes, and the tickets of a lane come
+ * out in the order in which they went in, none lost, none twice.
+ *
+ * Opening: a dispatcher of eight rounds in which no ticket waits and no lane has been served. Refusals: ZOLBINE_ROUND, ZOLBINE_LANE
+ * (two rounds are equal).
+ */
+struct zolbine_dispatched zolbine_open_dispatcher(struct zolbine_eight rounds);
+
+/* A ticket added to the lane of its round. One that is refused because the lane is full is the host's to keep and to add again, or
+ * to drop: a turn of that lane makes room. Refusals: ZOLBINE_ROUND, ZOLBINE_RECORD (an impossible dispatcher), ZOLBINE_LANE (not one
+ * of the eight), ZOLBINE_FULL_LANE.
+ */
+struct zolbine_dispatched zolbine_add_ticket(struct zolbine_dispatcher dispatcher, uint32_t round, uint16_t ticket);
+
+/* A turn: gives out the oldest ticket of the waiting lane that was served longest ago. A lane never served counts as served longest
+ * ago, and among those the lowest round goes first. The ticket's place is free again. Where no ticket waits none is given and
+ * nothing changes. Refusal: ZOLBINE_RECORD (an impossible dispatcher).
+ */
+struct zolbine_turn zolbine_take_turn(struct zolbine_dispatcher dispatcher);
 
 #ifdef __cplusplus
 }

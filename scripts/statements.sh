@@ -12,6 +12,8 @@ claims='claims/specs/Claim claims/specs/Once claims/specs/Made claims/specs/NotR
 claims="$claims protocol/specs/Order protocol/specs/Figures protocol/specs/SignatureClaim protocol/specs/NoteClaim zolbine/specs/Refused"
 claims="$claims examples/specs/SplitProof examples/specs/Fleets claims/specs/Before claims/specs/Gain claims/specs/Power"
 claims="$claims claims/specs/Culprits claims/specs/OldPacks claims/specs/Joined paper/specs/First"
+claims="$claims dispatch_claims/specs/Answers dispatch_claims/specs/Tickets dispatch_claims/specs/Waits dispatch_claims/specs/LongestAgo"
+claims="$claims dispatch_claims/specs/SevenReached"
 
 {
     find crates/*/specs crates/*/src crates/*/must-fail mutations scripts harness/data harness/tests -print | sed 's/^/path /'

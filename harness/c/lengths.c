@@ -1,6 +1,6 @@
 /* The lengths of include/zolbine.h against those that the calls ask for, for every n: a byte less is refused, and a byte more
- * where a length is exact. Its places against those where the calls read. Prints the number of comparisons, and ends with 1 at
- * the first that fails. C11 that is C++ too.
+ * where a length is exact. Its places against those where the calls read, and the lanes of a dispatcher. Prints the number of
+ * comparisons, and ends with 1 at the first that fails. C11 that is C++ too.
  */
 #include "zolbine.h"
 
@@ -281,6 +281,49 @@ static void of_signatures(void)
     }
 }
 
+/* Eight lanes, each with the places that the header says, in rounds up to the last. */
+static void of_dispatchers(void)
+{
+    struct zolbine_eight rounds;
+    struct zolbine_dispatched answer;
+    struct zolbine_turn turn;
+    uint32_t lane, place;
+
+    for (lane = 0; lane < ZOLBINE_LANES; lane++)
+        rounds.round[lane] = ZOLBINE_LAST_LEAF - lane;
+    answer = zolbine_open_dispatcher(rounds);
+    is("opening of a dispatcher", 0, answer.number, 0);
+    for (lane = 0; lane < ZOLBINE_LANES; lane++)
+        for (place = 0; place <= ZOLBINE_LANE_PLACES; place++) {
+            bool room = place < ZOLBINE_LANE_PLACES;
+
+            answer = zolbine_add_ticket(answer.dispatcher, rounds.round[lane], (uint16_t)(100 * lane + place));
+            is("a ticket", 0, answer.number, room ? 0 : ZOLBINE_FULL_LANE);
+            is("a lane's round", 0, answer.dispatcher.rounds[lane], rounds.round[lane]);
+            is("tickets counted", 0, answer.dispatcher.counts[lane], room ? place + 1 : place);
+        }
+    is("another round", 0, zolbine_add_ticket(answer.dispatcher, 0, 1).number, ZOLBINE_LANE);
+    is("a round above the last", 0, zolbine_add_ticket(answer.dispatcher, ZOLBINE_LAST_LEAF + 1, 1).number, ZOLBINE_ROUND);
+    turn.dispatcher = answer.dispatcher;
+    for (place = 0; place < ZOLBINE_LANE_PLACES; place++)
+        for (lane = ZOLBINE_LANES; lane-- > 0;) { /* the last has the lowest round */
+            turn = zolbine_take_turn(turn.dispatcher);
+            is("a turn", 0, turn.number, 0);
+            is("a ticket given", 0, turn.given, true);
+            is("its round", 0, turn.round, rounds.round[lane]);
+            is("a ticket given", 0, turn.ticket, 100 * lane + place);
+        }
+    turn = zolbine_take_turn(turn.dispatcher);
+    is("a turn with no ticket", 0, turn.number, 0);
+    is("a turn with no ticket", 0, turn.given, false);
+    turn.dispatcher.counts[0] = ZOLBINE_LANE_PLACES + 1;
+    is("a count above the places", 0, zolbine_take_turn(turn.dispatcher).number, ZOLBINE_RECORD);
+    rounds.round[1] = rounds.round[0];
+    is("equal rounds", 0, zolbine_open_dispatcher(rounds).number, ZOLBINE_LANE);
+    rounds.round[1] = ZOLBINE_LAST_LEAF + 1;
+    is("a round above the last", 0, zolbine_open_dispatcher(rounds).number, ZOLBINE_ROUND);
+}
+
 int main(void)
 {
     uint32_t n;
@@ -295,6 +338,7 @@ int main(void)
         by_byte((uint8_t)n);
     }
     of_signatures();
+    of_dispatchers();
     printf("%lu\n", compared);
     return 0;
 }

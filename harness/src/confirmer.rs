@@ -1,6 +1,6 @@
 //! The confirmer's calls behind safe faces, and the reference behind them.
 
-use crate::reference::record::{Opened, Record, Stepped, Verdict, Written};
+use crate::reference::record::{Dispatched, Dispatcher, Eight, Opened, Record, Stepped, Turn, Verdict, Written};
 
 /// The length of the first message in a buffer.
 pub trait Framing: Sync {
@@ -49,6 +49,15 @@ pub trait Joining: Sync {
     fn join_evidence(&self, n: u32, round: u32, keys: &[u8], first: &[u8], second: &[u8], out: &mut [u8]) -> Written;
 }
 
+/// Eight rounds followed together.
+pub trait Dispatching: Sync {
+    fn open_dispatcher(&self, rounds: Eight) -> Dispatched;
+
+    fn add_ticket(&self, dispatcher: Dispatcher, round: u32, ticket: u16) -> Dispatched;
+
+    fn take_turn(&self, dispatcher: Dispatcher) -> Turn;
+}
+
 /// The lower of two certificates in hand.
 pub trait Lower: Sync {
     fn lower_certificate<'a>(&self, n: u32, round: u32, keys: &[u8], first: &'a [u8], second: &'a [u8]) -> &'a [u8];
@@ -75,11 +84,14 @@ impl<T: Lower> LowerCopy for T {
 
 /// All of the calls.
 pub trait Confirmer:
-    Framing + EvidenceCheck + Engine + LentStep + Notes + Making + Joining + Lower + LowerCopy
+    Framing + EvidenceCheck + Engine + LentStep + Notes + Making + Joining + Dispatching + Lower + LowerCopy
 {
 }
 
-impl<T: Framing + EvidenceCheck + Engine + LentStep + Notes + Making + Joining + Lower + LowerCopy> Confirmer for T {}
+impl<T: Framing + EvidenceCheck + Engine + LentStep + Notes + Making + Joining + Dispatching + Lower + LowerCopy>
+    Confirmer for T
+{
+}
 
 /// Gives a type the calls of a module like [`crate::reference`].
 #[macro_export]
@@ -178,6 +190,28 @@ macro_rules! confirmer_of {
                 out: &mut [u8],
             ) -> $crate::reference::record::Written {
                 $($module)+::evidence::join_evidence(n, round, keys, first, second, out)
+            }
+        }
+
+        impl $crate::confirmer::Dispatching for $subject {
+            fn open_dispatcher(&self, rounds: $crate::reference::record::Eight) -> $crate::reference::record::Dispatched {
+                $($module)+::dispatcher::open_dispatcher(rounds)
+            }
+
+            fn add_ticket(
+                &self,
+                dispatcher: $crate::reference::record::Dispatcher,
+                round: u32,
+                ticket: u16,
+            ) -> $crate::reference::record::Dispatched {
+                $($module)+::dispatcher::add_ticket(dispatcher, round, ticket)
+            }
+
+            fn take_turn(
+                &self,
+                dispatcher: $crate::reference::record::Dispatcher,
+            ) -> $crate::reference::record::Turn {
+                $($module)+::dispatcher::take_turn(dispatcher)
             }
         }
 

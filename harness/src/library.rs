@@ -5,8 +5,8 @@ pub struct Library;
 #[cfg(feature = "zolbine")]
 mod calls {
     use super::Library;
-    use crate::confirmer::{Engine, EvidenceCheck, Framing, Joining, LentStep, Making, Notes};
-    use crate::reference::record::{Opened, Record, Stepped, Verdict, Written};
+    use crate::confirmer::{Dispatching, Engine, EvidenceCheck, Framing, Joining, LentStep, Making, Notes};
+    use crate::reference::record::{Dispatched, Dispatcher, Eight, Opened, Record, Stepped, Turn, Verdict, Written};
     use crate::subject::{c_calls, c_functions};
 
     c_calls!(Library: zolbine_check_signature, zolbine_make_key, zolbine_sign);
@@ -49,6 +49,9 @@ mod calls {
             second: &[u8],
             out: &mut [u8]
         ) -> Written;
+        fn zolbine_open_dispatcher(rounds: Eight) -> Dispatched;
+        fn zolbine_add_ticket(dispatcher: Dispatcher, round: u32, ticket: u16) -> Dispatched;
+        fn zolbine_take_turn(dispatcher: Dispatcher) -> Turn;
     }
 
     extern "C" {
@@ -143,6 +146,20 @@ mod calls {
             out: &mut [u8],
         ) -> Written {
             zolbine_join_evidence(n, round, keys, first, second, out)
+        }
+    }
+
+    impl Dispatching for Library {
+        fn open_dispatcher(&self, rounds: Eight) -> Dispatched {
+            zolbine_open_dispatcher(rounds)
+        }
+
+        fn add_ticket(&self, dispatcher: Dispatcher, round: u32, ticket: u16) -> Dispatched {
+            zolbine_add_ticket(dispatcher, round, ticket)
+        }
+
+        fn take_turn(&self, dispatcher: Dispatcher) -> Turn {
+            zolbine_take_turn(dispatcher)
         }
     }
 }

@@ -3,10 +3,12 @@
 use std::collections::BTreeMap;
 
 use crate::compare::equal;
-use crate::confirmer::{Engine, EvidenceCheck, Joining, LowerCopy, Making, Notes};
+use crate::confirmer::{Dispatching, Engine, EvidenceCheck, Joining, LowerCopy, Making, Notes};
 use crate::fleet::Fleet;
 use crate::reference::layout;
-use crate::reference::record::{First, Notices, Opened, Own, Record, Stepped, Verdict, Written};
+use crate::reference::record::{
+    Dispatched, Dispatcher, Eight, First, Notices, Opened, Own, Record, Stepped, Verdict, Written, LANES,
+};
 use crate::reference::seats::mask;
 use crate::terms::{bytes, change, each_line, each_script, expect, length, number, seats, Terms, Words};
 
@@ -19,6 +21,7 @@ pub struct Calls<'a> {
     pub joining: &'a dyn Joining,
     pub lower: &'a dyn LowerCopy,
     pub notes: &'a dyn Notes,
+    pub dispatching: &'a dyn Dispatching,
 }
 
 /// Content of `out` and of a store before anything is written there.
@@ -31,7 +34,8 @@ pub fn all(calls: Calls) {
 
 /// Runs a script; the error names the line at which an answer isn't the expected one.
 pub fn run(text: &str, calls: Calls) -> Result<(), String> {
-    let mut script = Script { calls, terms: Terms::default(), units: BTreeMap::new(), answer: None };
+    let (units, dispatcher) = (BTreeMap::new(), Dispatcher::default());
+    let mut script = Script { calls, terms: Terms::default(), units, dispatcher, answer: None };
     each_line(text, |words| script.line(words))?;
     match script.answer {
         None => Ok(()),
@@ -50,6 +54,7 @@ struct Script<'a> {
     calls: Calls<'a>,
     terms: Terms,
     units: BTreeMap<u32, Unit>,
+    dispatcher: Dispatcher,
     /// The answer of the last call, until it is compared.
     answer: Option<Answer>,
 }
@@ -59,6 +64,8 @@ enum Answer {
     Written(u32, Vec<u8>),
     Named(Verdict),
     Lower(&'static str),
+    /// The number; whether a ticket is given, its round and the ticket.
+    Turn(u32, (bool, u32, u32)),
 }
 
 /// Lengths of the lent buffers where they aren't the stated ones.
@@ -95,6 +102,13 @@ impl Script<'_> {
             "make" => self.make(words)?,
             "join" => self.join(words)?,
             "lower" => self.lower(words)?,
+            "follow" => self.follow(words)?,
+            "ticket" => self.ticket(words)?,
+            "turn" => self.turn()?,
+            "lanes" => {
+                expect(words, "have")?;
+                equal("the tickets counted", self.dispatcher.counts, eight(words)?)?;
+            }
             seat => {
                 let seat = seat.parse().map_err(|_| format!("`{seat}` is no command and no seat"))?;
                 match words.next().unwrap_or_default() {
@@ -257,6 +271,39 @@ impl Script<'_> {
         Ok(())
     }
 
+    /// Opens the dispatcher of eight rounds.
+    fn follow(&mut self, words: &mut Words) -> Result<(), String> {
+        let Dispatched { number, dispatcher } = self.calls.dispatching.open_dispatcher(Eight { round: eight(words)? });
+        match number {
+            0 => self.dispatcher = dispatcher,
+            _ => equal("the dispatcher of a refused opening", dispatcher, Dispatcher::default())?,
+        }
+        self.answer = Some(Answer::Opened(number));
+        Ok(())
+    }
+
+    /// `100 in 7`.
+    fn ticket(&mut self, words: &mut Words) -> Result<(), String> {
+        let ticket = u16::try_from(number(words)?).map_err(|_| "a ticket has 16 bits")?;
+        expect(words, "in")?;
+        let answer = self.calls.dispatching.add_ticket(self.dispatcher, number(words)?, ticket);
+        self.answer = Some(Answer::Opened(answer.number));
+        self.dispatched(answer.number != 0, answer.dispatcher)
+    }
+
+    fn turn(&mut self) -> Result<(), String> {
+        let turn = self.calls.dispatching.take_turn(self.dispatcher);
+        self.answer = Some(Answer::Turn(turn.number, (turn.given, turn.round, turn.ticket)));
+        self.dispatched(!turn.given, turn.dispatcher)
+    }
+
+    /// The dispatcher that a call gave back: as it was where the call is refused or gives nothing.
+    fn dispatched(&mut self, same: bool, dispatcher: Dispatcher) -> Result<(), String> {
+        equal("a dispatcher as it was", dispatcher == self.dispatcher, same)?;
+        self.dispatcher = dispatcher;
+        Ok(())
+    }
+
     fn two_messages(&self, words: &mut Words) -> Result<(Vec<u8>, Vec<u8>, Lent), String> {
         let mut first = self.terms.message(words)?;
         self.changes(words, &mut first)?;
@@ -299,6 +346,17 @@ impl Script<'_> {
                 equal("the verdict", verdict, Verdict { number: expected, mask: named })
             }
             Answer::Lower(is) => equal("the lower one", is, words.next().unwrap_or_default()),
+            Answer::Turn(is, given) => {
+                equal("the number", is, number(words)?)?;
+                let mut expected = (false, 0, 0);
+                if words.next_if_eq(&"none").is_none() {
+                    expect(words, "ticket")?;
+                    let ticket = number(words)?;
+                    expect(words, "of")?;
+                    expected = (true, number(words)?, ticket);
+                }
+                equal("given, round and ticket", given, expected)
+            }
         }
     }
 
@@ -333,6 +391,11 @@ impl Script<'_> {
         }
         equal("the record", self.units.get(&seat).ok_or("the unit isn't open")?.record, record)
     }
+}
+
+fn eight(words: &mut Words) -> Result<[u32; LANES], String> {
+    let numbers: Vec<u32> = (0..LANES).map(|_| number(words)).collect::<Result<_, _>>()?;
+    Ok(numbers.try_into().expect("eight"))
 }
 
 impl Lent {

@@ -12,6 +12,7 @@ const SUBJECTS: Subjects<'static> = Subjects {
     engine: Subject { engine: &Library, lent: &Library, notes: &Library },
     making: &Library,
     joining: &Library,
+    dispatching: &Library,
 };
 
 #[test]

@@ -6,7 +6,7 @@ use harness::reference::layout;
 use harness::reference::messages::{EVIDENCE, EVIDENCE_ENTRY, OLD_EVIDENCE, OLD_EVIDENCE_ENTRY};
 use harness::reference::note::{CONFIRMED, ONE_HEARD, SENT, SUBMITTED, TWO_HEARD};
 use harness::reference::quorum::{k, t0};
-use harness::reference::record::{Opened, Record, Stepped};
+use harness::reference::record::{Dispatched, Dispatcher, Opened, Record, Stepped, Turn};
 
 const HEADER: &str = include_str!("../../include/zolbine.h");
 const HOST: &str = include_str!("../../docs/HOST.md");
@@ -90,6 +90,13 @@ fn kept_in_a_round() {
     assert_eq!(row("| in all, without number and checksum |"), [all[0] + written[0], all[1] + written[1]]);
 }
 
+/// PROTOCOL has a row for each field: its name, its place and its length.
+fn stand(fields: &[(&str, usize, usize)]) {
+    for (name, at, length) in fields {
+        assert!(PROTOCOL.contains(&format!("| {at} | {length} | `{name}` |")), "{name} isn't {length} bytes at {at}");
+    }
+}
+
 /// The record's fields and length, as in PROTOCOL; those of the answers, as in HOST.
 #[test]
 fn record() {
@@ -106,14 +113,32 @@ fn record() {
         ("guilty", offset_of!(Record, guilty), 4),
         ("kept", offset_of!(Record, kept), 4),
     ];
-    for (name, at, length) in fields {
-        assert!(PROTOCOL.contains(&format!("| {at} | {length} | `{name}` |")), "{name} isn't {length} bytes at {at}");
-    }
+    stand(&fields);
     let lengths = [size_of::<Record>(), size_of::<Opened>(), size_of::<Stepped>()];
     assert_eq!(lengths, [140, 144, 148]);
     assert!(PROTOCOL.contains("It has 140 bytes and is aligned to 4"));
     assert!(HEADER.contains("It has 140 bytes and is aligned to 4"));
     assert!(HOST.contains("`struct zolbine_opened` has 144 and `struct zolbine_stepped` 148"));
+}
+
+/// The dispatcher's fields and length, as in PROTOCOL; those of the answers, as in HOST.
+#[test]
+fn dispatcher() {
+    let fields = [
+        ("rounds", offset_of!(Dispatcher, rounds), 32),
+        ("counts", offset_of!(Dispatcher, counts), 32),
+        ("heads", offset_of!(Dispatcher, heads), 32),
+        ("served", offset_of!(Dispatcher, served), 4),
+        ("order", offset_of!(Dispatcher, order), 32),
+        ("tickets", offset_of!(Dispatcher, tickets), 256),
+    ];
+    stand(&fields);
+    let lengths = [size_of::<Dispatcher>(), size_of::<Dispatched>(), size_of::<Turn>()];
+    assert_eq!(lengths, [388, 392, 404]);
+    for page in [HEADER, PROTOCOL] {
+        assert!(page.contains("It has 388 bytes, without padding, and is aligned to 4"));
+    }
+    assert!(HOST.contains("`struct zolbine_dispatched` has 392 and `struct zolbine_turn` 404"));
 }
 
 /// The note's places and flags.
@@ -199,7 +224,9 @@ fn refusals() {
         let rows: Vec<Vec<&str>> = rows.map_while(cells).map(Iterator::collect).collect();
         let numbers: Vec<u32> = rows.iter().map(|row| row[0].parse().expect("a number")).collect();
         for (number, row) in numbers.iter().zip(&rows) {
-            let name = row[1].replace(' ', "_").to_uppercase();
+            // The header's FULL is the command.
+            let word = if *number == 19 { "full lane" } else { row[1] };
+            let name = word.replace(' ', "_").to_uppercase();
             assert_eq!(row[2].starts_with("retired"), *number == 13, "{name}");
             assert!(enumerators.contains(&format!("ZOLBINE_{name} = {number}").as_str()), "{name} isn't {number}");
             assert!(*number == 13 || row[1] == refusals::word(*number), "{name}");

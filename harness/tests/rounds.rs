@@ -11,6 +11,7 @@ const REFERENCE: Calls<'static> = Calls {
     joining: &Reference,
     lower: &Reference,
     notes: &Reference,
+    dispatching: &Reference,
 };
 
 #[test]
@@ -30,6 +31,7 @@ fn on_the_library() {
         joining: &Library,
         lower: &Library,
         notes: &Library,
+        dispatching: &Library,
     });
 }
 
@@ -37,7 +39,8 @@ fn on_the_library() {
 fn a_wrong_answer_is_told() {
     let opening = "fleet 4 round 5\nlayout A 11\n0 opens\n= 0\n";
     let conflict = "layout B 22\n0 hears FULL 1 A of 1-3\n= 0 0\n0 hears FULL 1 B of 1-3\n";
-    let cases: [(&str, u32); 15] = [
+    let followed = "follow 3 2 4 5 6 7 8 1\n= 0\nticket 8 in 3\n= 0\n";
+    let cases: [(&str, u32); 19] = [
         (&format!("0 submits A\n= 0 {} SUBMIT 0 A", SUBMIT - 1), 6),
         (&format!("0 submits A\n= 0 {SUBMIT} SUBMIT 0 A'"), 6),
         ("0 submits A\n= 8 0", 6),
@@ -53,6 +56,10 @@ fn a_wrong_answer_is_told() {
         ("0 notes\n= 0 118", 6),
         ("0 notes\n= 0 118 bytes 20 04 00 0005 00*112 01", 6),
         ("0 comes back\n= 0", 5),
+        (&format!("{followed}turn\n= 0 ticket 8 of 2"), 10),
+        (&format!("{followed}turn\n= 0 none"), 10),
+        (&format!("{followed}ticket 8 in 9\n= 19"), 10),
+        (&format!("{followed}lanes have 0 1 0 0 0 0 0 0"), 9),
     ];
     for (rest, line) in cases {
         let told = script::run(&format!("{opening}{rest}"), REFERENCE).unwrap_err();

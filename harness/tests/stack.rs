@@ -6,7 +6,7 @@ use std::collections::BTreeMap;
 
 use harness::compare::messages::PACKS;
 use harness::compare::progress;
-use harness::confirmer::{Engine, EvidenceCheck, Framing, Joining, LentStep, Making, Notes};
+use harness::confirmer::{Dispatching, Engine, EvidenceCheck, Framing, Joining, LentStep, Making, Notes};
 use harness::fleet::{layouts, Fleet};
 use harness::library::Library;
 use harness::reference::calls::{MAX_LEAF, MAX_MESSAGE, TREE};
@@ -16,7 +16,7 @@ use harness::reference::layout::{
 };
 use harness::reference::lms::{IDENTIFIER, N, PUBLIC_KEY};
 use harness::reference::messages::{Evidence, Value};
-use harness::reference::record::Record;
+use harness::reference::record::{Dispatcher, Eight, Record, LANES, PLACES};
 use harness::stack::used;
 use harness::subject::Calls;
 
@@ -26,7 +26,7 @@ const UNSIGNED: usize = 4;
 
 /// The answers that a call gives before it comes to a signature, and the stack stated for them. Each is measured; any other answer
 /// may take the stack stated for a call. Of two certificates or packs the second is looked at after the first one's signatures.
-const BEFORE_SIGNATURES: [(&str, &[u32], usize); 18] = [
+const BEFORE_SIGNATURES: [(&str, &[u32], usize); 21] = [
     ("version", &[0], UNSIGNED),
     ("message_length", &[0], UNSIGNED),
     ("check_signature", &[5, 9], UNSIGNED),
@@ -45,6 +45,9 @@ const BEFORE_SIGNATURES: [(&str, &[u32], usize); 18] = [
     ("step_lent, FULL", &[4, 5, 6, 7, 9, 10, 11, 12], UNSIGNED),
     ("write_note", &[0, 4, 7], UNSIGNED),
     ("read_note", &[0, 4, 17], UNSIGNED),
+    ("open_dispatcher", &[0, 3, 18], UNSIGNED),
+    ("add_ticket", &[0, 3, 4, 18, 19], UNSIGNED),
+    ("take_turn", &[0, 4], UNSIGNED),
 ];
 
 /// The greatest depth of each call, by the number that it answered.
@@ -73,6 +76,7 @@ fn the_stated_stack_is_enough() {
     let depths = Depths::default();
     depths.of("version", || (0, Library.version()));
     signatures(&depths);
+    dispatchers(&depths);
     for n in [1, 4, 32] {
         let fleet = Fleet { n, round: 5 };
         message_lengths(&depths, fleet);
@@ -129,6 +133,50 @@ fn signatures(depths: &Depths) {
     depths.refused("sign", 7, || Library.sign(5, &seed, &identifier, &randomizer, &tree, &[], short).number);
     depths.refused("sign", 9, || Library.sign(5, &seed, &identifier, &randomizer, &tree, &long, out).number);
     depths.refused("sign", 16, || Library.sign(5, &seed, &identifier, &randomizer, &tree[1..], &[], out).number);
+}
+
+/// A dispatcher of eight lanes, filled and emptied, and the refusals.
+fn dispatchers(depths: &Depths) {
+    let right = [7, 3, 1023, 0, 9, 5, 8, 2];
+    let open = |round: [u32; LANES]| {
+        depths.of("open_dispatcher", || {
+            let answer = Library.open_dispatcher(Eight { round });
+            (answer.number, answer.dispatcher)
+        })
+    };
+    let add = |dispatcher: Dispatcher, round: u32| {
+        depths.of("add_ticket", || {
+            let answer = Library.add_ticket(dispatcher, round, 1);
+            (answer.number, answer.dispatcher)
+        })
+    };
+    let turn = |dispatcher: Dispatcher| {
+        depths.of("take_turn", || {
+            let answer = Library.take_turn(dispatcher);
+            (answer.number, (answer.given, answer.dispatcher))
+        })
+    };
+    assert_eq!(open([7, 3, 1023, 0, 9, 5, 8, 1024]).0, 3);
+    assert_eq!(open([7, 3, 1023, 0, 9, 5, 8, 8]).0, 18);
+    let (number, mut dispatcher) = open(right);
+    assert_eq!(number, 0);
+    for round in [right; PLACES].concat() {
+        let (number, after) = add(dispatcher, round);
+        assert_eq!(number, 0);
+        dispatcher = after;
+    }
+    let impossible = Dispatcher { served: 9, ..dispatcher };
+    for (number, dispatcher, round) in
+        [(3, dispatcher, 1024), (4, impossible, 7), (18, dispatcher, 1), (19, dispatcher, 2)]
+    {
+        assert_eq!(add(dispatcher, round).0, number);
+    }
+    assert_eq!(turn(impossible).0, 4);
+    for given in (0..=LANES * PLACES).map(|taken| taken < LANES * PLACES) {
+        let (number, (is_given, after)) = turn(dispatcher);
+        assert_eq!((number, is_given), (0, given));
+        dispatcher = after;
+    }
 }
 
 /// Two layouts of a round.

@@ -6,8 +6,12 @@ use mathlib.Core.Bool.{Bool, true, false}
 use Rattle.claims.specs.Once.{written-messages, at-most, sends-one, none-impossible}
 use Rattle.claims.specs.Culprits.{shared-are-guilty, guilty-once, writes-new-form}
 use Rattle.claims.specs.Joined.{joined-accepted, refused-alone}
+use Rattle.dispatch_claims.specs.CallsLaws.{stays-possible}
+use Rattle.dispatch_claims.specs.Tickets.{in-order}
+use Rattle.dispatch_claims.specs.Waits.{waits-at-most-seven}
+use Rattle.dispatch_claims.specs.LongestAgo.{serves-longest-ago}
 use Rattle.trials.specs.Trial.{claimOf, answer}
-use Rattle.trials.specs.Trials.{unfoldedTrials, four, pair, answering, sharing, slow, interrupted, dividedBoats, forewarnedBoats, witnessedBoats, shortStoredBoats, shortOutedBoats, unheardBoats, unsignedBoats, twiceBoats, holdingBoats, keptOtherBoats, keptUnsignedBoats, unsignedEvidence, equalEvidence, equalOldEvidence, joinsBothBoats, joinsUnsignedBoats, joinsEqualBoats, overlapping, withOld, answeringBoat, sharingBoat, slowBoat, third, ownThird, unsigned as unsignedBoat, thirdGuilty, ownThirdGuilty, refusedGuilty, thirdOnce, thirdNewForm, thirdAtMost, thirdReadable, thirdPays, interruptedBoat, interruptedSending, newestBoats, olderBoats, sameStoredBoats, otherStoredBoats, unnotedBoats, hastyBoat, blankBoat}
+use Rattle.trials.specs.Trials.{unfoldedTrials, four, pair, answering, sharing, slow, interrupted, dividedBoats, forewarnedBoats, witnessedBoats, shortStoredBoats, shortOutedBoats, unheardBoats, unsignedBoats, twiceBoats, holdingBoats, keptOtherBoats, keptUnsignedBoats, unsignedEvidence, equalEvidence, equalOldEvidence, joinsBothBoats, joinsUnsignedBoats, joinsEqualBoats, overlapping, withOld, answeringBoat, sharingBoat, slowBoat, third, ownThird, unsigned as unsignedBoat, thirdGuilty, ownThirdGuilty, refusedGuilty, thirdOnce, thirdNewForm, thirdAtMost, thirdReadable, thirdPays, interruptedBoat, interruptedSending, newestBoats, olderBoats, sameStoredBoats, otherStoredBoats, unnotedBoats, hastyBoat, blankBoat, refilled, servedTwice, newcomers, waitAgain, sevenTurns, eightTurns}
 
 abbrev Answer : Type 0
 Answer = Bool × Bool
@@ -191,9 +195,35 @@ blank : answer blankBoat ≡ (false, false)
 unfolding unfoldedTrials blankBoat
 blank = refl
 
+-- ---- the dispatcher
+
+dispatcher-refilled : answer refilled ≡ (true, true)
+unfolding unfoldedTrials refilled
+dispatcher-refilled = refl
+
+served-twice : answer servedTwice ≡ (true, true)
+unfolding unfoldedTrials servedTwice
+served-twice = refl
+
+newcomers-first : answer newcomers ≡ (true, true)
+unfolding unfoldedTrials newcomers
+newcomers-first = refl
+
+wait-again : answer waitAgain ≡ (true, true)
+unfolding unfoldedTrials waitAgain
+wait-again = refl
+
+seven-turns : answer sevenTurns ≡ (true, true)
+unfolding unfoldedTrials sevenTurns
+seven-turns = refl
+
+eight-turns : answer eightTurns ≡ (true, true)
+unfolding unfoldedTrials eightTurns
+eight-turns = refl
+
 -- ---- the claims
 
--- the claims of demand 1 and of item 3 on one boat, for the boats of their trials; then those of item 5
+-- the claims of demand 1 and of item 3 on one boat, for the boats of their trials; then those of items 5 and 6
 once-claimed : claimOf answeringBoat
 once-claimed = at-most four answering
 
@@ -235,3 +265,15 @@ overlapping-claimed = joined-accepted four
 
 with-old-claimed : claimOf withOld
 with-old-claimed = refused-alone four
+
+refilled-claimed : claimOf refilled
+refilled-claimed = in-order
+
+served-twice-claimed : claimOf servedTwice
+served-twice-claimed = stays-possible
+
+newcomers-claimed : claimOf newcomers
+newcomers-claimed = serves-longest-ago
+
+turns-claimed : claimOf eightTurns
+turns-claimed = waits-at-most-seven

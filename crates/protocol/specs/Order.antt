@@ -1,6 +1,7 @@
 -- The order of the table's numbers. Every call answers the first number in it whose condition holds; "over two certificates, the
 -- first one's 9 to 14 come before the second's", and over two packs the first one's 9 to 15 (document 02, item 5). The numbers of document 01 rise in this order, and so, as it says, "The lowest number
--- whose condition holds is returned"; 17, which only reading a note answers, "comes before 4" (document 02, item 2).
+-- whose condition holds is returned"; 17, which only reading a note answers, "comes before 4" (document 02, item 2);
+-- 18 and 19, which only the dispatcher's calls answer, "come after 4, in that order" (document 02, item 6; `dispatch_claims/specs/Answers`).
 -- Assumes nothing.
 use Prim.Native.Nat.{ℕ}
 use mathlib.Core.Path.{_≡_, refl, ap, _∙_}
@@ -22,7 +23,7 @@ use Rattle.protocol.specs.declared.Record.{Record}
 -- ---- the order
 
 unfoldable pub order : List ℕ
-order = 1 ∷ 2 ∷ 3 ∷ 17 ∷ 4 ∷ 5 ∷ 6 ∷ 7 ∷ 8 ∷ 9 ∷ 10 ∷ 11 ∷ 12 ∷ 14 ∷ 15 ∷ 16 ∷ []
+order = 1 ∷ 2 ∷ 3 ∷ 17 ∷ 4 ∷ 5 ∷ 6 ∷ 7 ∷ 8 ∷ 9 ∷ 10 ∷ 11 ∷ 12 ∷ 14 ∷ 15 ∷ 16 ∷ 18 ∷ 19 ∷ []
 
 -- "Number 13 no longer occurs" (document 02, item 1)
 pub no-thirteen : isIn 13 order ≡ false
@@ -32,6 +33,10 @@ no-thirteen = refl
 order-distinct : distinct order ≡ true
 unfolding order distinct isIn
 order-distinct = refl
+
+-- 18, lane, and 19, full: the rows are the dispatcher's (`dispatch/specs/Calls`)
+abbrev pub ofDispatcher : List ℕ
+ofDispatcher = 18 ∷ 19 ∷ []
 
 -- document 01's numbers keep their order, in which they rise
 unfoldable pub ofDocument01 : List ℕ
@@ -53,7 +58,7 @@ FirstInOrder n conditions = n ≡ firstIn order (held conditions)
 abbrev Follows : List ℕ → List Condition → Type 0
 Follows numbered conditions = follows numbered (numbers conditions) ≡ true
 
-finds-first : (conditions : List Condition) → Follows order conditions → FirstInOrder (firstOf conditions) conditions
+pub finds-first : (conditions : List Condition) → Follows order conditions → FirstInOrder (firstOf conditions) conditions
 finds-first conditions f = firstOf-in-order order conditions order-distinct f
 
 finds-lowest : (conditions : List Condition) → Follows ofDocument01 conditions → Lowest (firstOf conditions) conditions
@@ -87,8 +92,8 @@ module _
         ∷ OTHER-ROUND round m ∷ STRANGER n m ∷ DISORDER m ∷ SIGNATURE checks m ∷ NO-CONFLICT-IN m ∷ KEY-MATERIAL seed I tree
         ∷ []
 
-    -- their numbers are the order
-    pub table-ordered : numbers table ≡ order
+    -- their numbers are the order, with those of the dispatcher
+    pub table-ordered : numbers table ++ ofDispatcher ≡ order
     unfolding numbers order
     table-ordered = refl
 

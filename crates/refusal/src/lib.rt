@@ -1,4 +1,4 @@
-// The numbers of document 01's table, "What is turned back", and of document 02, item 2.
+// The numbers of document 01's table, "What is turned back", and of document 02, items 2 and 6.
 
 pub const SIZE: u32 = 1;
 
@@ -35,3 +35,8 @@ pub const KEY_MATERIAL: u32 = 16;
 
 // Of reading a note; it comes before 4.
 pub const NOTE: u32 = 17;
+
+// Of the dispatcher; both come after 4.
+pub const LANE: u32 = 18;
+
+pub const FULL: u32 = 19;

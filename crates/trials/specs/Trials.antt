@@ -1,5 +1,6 @@
 -- Runs for trials of edited definitions: four seats, or two, one to three boats with short lists of calls and of power cuts, or two packs to
--- join, and a toy signature check. A run may give a boat the messages that another writes by the definitions, edited or not.
+-- join, and a toy signature check; or a dispatcher's calls. A run may give a boat the messages that another writes by the definitions, edited
+-- or not.
 -- Assumes nothing.
 use Prim.Native.Nat.{ℕ, zero, suc}
 use mathlib.Core.Path.{_≡_, refl}
@@ -18,9 +19,12 @@ use Rattle.protocol.specs.Record.{impossible}
 use Rattle.protocol.specs.Refusals.{isFull}
 use Rattle.reading.specs.Reading.{frameLength}
 use Rattle.reading.specs.Messages.{refusalOf, cameTo, allMessages}
+use Rattle.dispatch.specs.Lists.{Call as DispatcherCall, adds, turn, StaysPossible, InOrder, WaitsAtMostSeven, ServesLongestAgo}
+use Rattle.dispatch.specs.declared.Eight.{Eight}
 use Rattle.trials.specs.Toy.{unfolded, toy, layout, sign, keys, submitBy, entryBy, fullBy, pairBy}
 use Rattle.trials.specs.Tests.{found, entrySized, samePair, pairSized, valuesSized, wellFormed, isNoticeOf, isEvidenceOn, firstPack, newForm, apart, isMessage, readable, isStepOf, isSubmitOf, messageIn, sameSigned, sentIn, sameSaved, isNewest, noneSaved, wrote, allowed, allowedAll, isHonest, all, formed, submits, reached, confirms, mustReach, haveReached, namesEnough, blames, firstPays, accuses, madeOn, sharedGuilty, heardGuilty, givenGuilty, ownGuilty}
 use Rattle.trials.specs.Trial.{Trial, atMost, sendsOne, readableAll, possibleEach, sharedAreGuilty, guiltyOnce, writesNewForm, firstPackPays, Crew, computed, accountability, safety, joinsTwo, refusesAsAlone}
+use Rattle.trials.specs.Dispatching.{unfoldedDispatching, staysPossible, inOrder, waitsAtMost, servesLongestAgo}
 
 -- ---- setting and calls of the runs
 
@@ -474,7 +478,43 @@ otherStoredBoats = accountability four two otherStored false true (layout 7) (la
 unfoldable pub unnotedBoats : Trial (Family four unnoted → Demand3 four unnoted)
 unnotedBoats = accountability four two unnoted false true (layout 7) (layout 9)
 
+-- ---- the dispatcher (document 02, item 6)
+
+abbrev pub eight : Eight
+eight = record { round = 12 ∷ 3 ∷ 700 ∷ 1023 ∷ 0 ∷ 41 ∷ 5 ∷ 99 ∷ [] }
+
+-- in the last lane 16 tickets and one more, a turn, and a ticket for the place given out
+unfoldable pub refilled : Trial InOrder
+refilled = inOrder eight (map (adds 99) (1 ∷ 2 ∷ 3 ∷ 4 ∷ 5 ∷ 6 ∷ 7 ∷ 8 ∷ 9 ∷ 10 ∷ 11 ∷ 12 ∷ 13 ∷ 14 ∷ 15 ∷ 16 ∷ 17 ∷ []) ++ turn ∷ adds 99 18 ∷ []) 7
+
+-- a turn with no ticket waiting; then a lane is served twice, and waits with two that never were
+abbrev pub withNewcomers : List DispatcherCall
+withNewcomers = turn ∷ adds 3 1 ∷ adds 3 2 ∷ adds 3 3 ∷ turn ∷ turn ∷ adds 12 4 ∷ adds 700 5 ∷ []
+
+unfoldable pub servedTwice : Trial StaysPossible
+servedTwice = staysPossible eight withNewcomers
+
+abbrev pub everyLane : List ℕ
+everyLane = 0 ∷ 1 ∷ 2 ∷ 3 ∷ 4 ∷ 5 ∷ 6 ∷ 7 ∷ []
+
+unfoldable pub newcomers : Trial ServesLongestAgo
+newcomers = servesLongestAgo eight withNewcomers everyLane
+
+-- two lanes are served, and wait again
+unfoldable pub waitAgain : Trial ServesLongestAgo
+waitAgain = servesLongestAgo eight (adds 3 1 ∷ adds 12 2 ∷ turn ∷ turn ∷ adds 3 3 ∷ adds 12 4 ∷ []) everyLane
+
+-- every lane waits, that of the lowest round with two tickets; the one of the highest waits through some turns
+abbrev pub highestWaits : ℕ → Trial WaitsAtMostSeven
+highestWaits n = waitsAtMost eight (map (λ round. adds round round) (0 ∷ eight .round)) 3 (replicate n turn)
+
+unfoldable pub sevenTurns : Trial WaitsAtMostSeven
+sevenTurns = highestWaits 7
+
+unfoldable pub eightTurns : Trial WaitsAtMostSeven
+eightTurns = highestWaits 8
+
 -- a name that unfolds every definition of a run
 unfoldable pub unfoldedTrials : Bool
-unfolding unfolded outcome begins after afterAll isSubmit isNotice worth count most frameLength writtenOver refusalOf cameTo allMessages found entrySized samePair pairSized valuesSized wellFormed isNoticeOf isEvidenceOn firstPack newForm apart isMessage readable isStepOf isSubmitOf messageIn sameSigned sentIn sameSaved isNewest noneSaved wrote allowed allowedAll isHonest all formed submits reached confirms mustReach haveReached namesEnough blames firstPays accuses madeOn sharedGuilty heardGuilty givenGuilty ownGuilty atMost sendsOne readableAll possibleEach sharedAreGuilty guiltyOnce writesNewForm firstPackPays computed accountability safety ownNumber _before_ joinsTwo refusesAsAlone those sentBy certified certifiedEach two three keptBy savedAt seven nine divided forewarned witnessed shortStored shortOuted unheard unsigned submitting twice holding keptOther keptUnsigned heardTwice joinsBoth joinsUnsigned joinsEqual answering sharing slow third ownThird interrupted hasty blank newest older sameStored otherStored unnoted
+unfolding unfolded unfoldedDispatching outcome begins after afterAll isSubmit isNotice worth count most frameLength writtenOver refusalOf cameTo allMessages found entrySized samePair pairSized valuesSized wellFormed isNoticeOf isEvidenceOn firstPack newForm apart isMessage readable isStepOf isSubmitOf messageIn sameSigned sentIn sameSaved isNewest noneSaved wrote allowed allowedAll isHonest all formed submits reached confirms mustReach haveReached namesEnough blames firstPays accuses madeOn sharedGuilty heardGuilty givenGuilty ownGuilty atMost sendsOne readableAll possibleEach sharedAreGuilty guiltyOnce writesNewForm firstPackPays computed accountability safety ownNumber _before_ joinsTwo refusesAsAlone those sentBy certified certifiedEach two three keptBy savedAt seven nine divided forewarned witnessed shortStored shortOuted unheard unsigned submitting twice holding keptOther keptUnsigned heardTwice joinsBoth joinsUnsigned joinsEqual answering sharing slow third ownThird interrupted hasty blank newest older sameStored otherStored unnoted
 unfoldedTrials = true

@@ -5,7 +5,12 @@ ghost use Rattle.octets.specs.Octets.{patch};
 ghost use Rattle.protocol.specs.Calls as calls;
 ghost use Rattle.protocol.specs.Signatures.{checkSignature, makeKey, sign, checks};
 ghost use Rattle.framing.specs.Framing.{messageLength};
+ghost use Rattle.dispatch.specs.Calls.{openDispatcher, addTicket, takeTurn};
 ghost use Rattle.zolbine.specs.Version.{version};
+use dispatch::Dispatched;
+use dispatch::Dispatcher;
+use dispatch::Eight;
+use dispatch::Turn;
 use protocol::Checked;
 use protocol::Opened;
 use protocol::Record;
@@ -17,7 +22,7 @@ use protocol::Written;
 pub extern "C" fn zolbine_version() -> u32
     ensures { λ r. ⌜ r ≡ version ⌝ }
 {
-    5
+    6
 }
 
 // The length of the first message in a buffer; 0 where no message of a fleet of n seats stands there whole.
@@ -219,4 +224,28 @@ pub extern "C" fn zolbine_read_note(note: &[u8]) -> Opened
     ensures { λ r. ⌜ r ≡ calls.readNote (now (note .entry)) ⌝ }
 {
     notes::read_note(note)
+}
+
+// "A dispatcher takes eight different rounds at opening" (document 02, item 6).
+#[no_mangle]
+pub extern "C" fn zolbine_open_dispatcher(rounds: Eight) -> Dispatched
+    ensures { λ r. ⌜ r ≡ openDispatcher rounds ⌝ }
+{
+    dispatcher::calls::open_dispatcher(rounds)
+}
+
+// "and, in each lane, up to 16 message tickets (16-bit numbers of the host's)" (document 02, item 6).
+#[no_mangle]
+pub extern "C" fn zolbine_add_ticket(dispatcher: Dispatcher, round: u32, ticket: u16) -> Dispatched
+    ensures { λ r. ⌜ r ≡ addTicket dispatcher round ticket ⌝ }
+{
+    dispatcher::calls::add_ticket(dispatcher, round, ticket)
+}
+
+// "Each turn it gives out the oldest ticket of the waiting lane served longest ago" (document 02, item 6).
+#[no_mangle]
+pub extern "C" fn zolbine_take_turn(dispatcher: Dispatcher) -> Turn
+    ensures { λ r. ⌜ r ≡ takeTurn dispatcher ⌝ }
+{
+    dispatcher::calls::take_turn(dispatcher)
 }

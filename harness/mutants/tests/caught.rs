@@ -3,14 +3,28 @@
 use std::panic::{catch_unwind, set_hook, take_hook, AssertUnwindSafe};
 
 use harness::compare::engine::{self, culprits, kept, lists, opening, power, records, refusals};
-use harness::compare::{check_signature, evidence, framing, hashes, joining, make_key, making, notes, progress, sign};
+use harness::compare::{
+    check_signature, dispatcher, evidence, framing, hashes, joining, make_key, making, notes, progress, sign,
+};
 use harness::confirmer::Reference;
 use harness::script;
 use mutants::{Mutant, Subject};
 
-const OF_THE_CONFIRMER: [&str; 13] = [
-    "culprits", "evidence", "framing", "joining", "kept", "lists", "making", "notes", "opening", "power", "records",
-    "refusals", "rounds",
+const OF_THE_CONFIRMER: [&str; 14] = [
+    "culprits",
+    "dispatcher",
+    "evidence",
+    "framing",
+    "joining",
+    "kept",
+    "lists",
+    "making",
+    "notes",
+    "opening",
+    "power",
+    "records",
+    "refusals",
+    "rounds",
 ];
 const OF_SIGNATURES: [&str; 3] = ["check", "make_key", "sign"];
 const OF_SHA256: [&str; 3] = ["compressions", "digests", "round_constants"];
@@ -29,6 +43,7 @@ fn run(battery: &str, subject: Subject) {
             let engine = engine::Subject { engine: confirmer, lent: confirmer, notes: confirmer };
             match battery {
                 "culprits" => culprits::battery(engine),
+                "dispatcher" => dispatcher::battery(confirmer),
                 "evidence" => evidence::battery(confirmer),
                 "framing" => framing::battery(confirmer),
                 "joining" => joining::battery(joining::Subject { joining: confirmer, evidence: confirmer }),
@@ -47,6 +62,7 @@ fn run(battery: &str, subject: Subject) {
                     joining: confirmer,
                     lower: confirmer,
                     notes: confirmer,
+                    dispatching: confirmer,
                 }),
                 _ => unreachable!(),
             }

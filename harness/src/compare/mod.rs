@@ -2,6 +2,7 @@
 
 mod arguments;
 pub mod check_signature;
+pub mod dispatcher;
 pub mod engine;
 pub mod evidence;
 pub mod framing;

@@ -2,8 +2,10 @@
 
 use super::engine::{self, Subject};
 use super::messages::{OLD_PACK, PACK};
-use super::{check_signature, count, covered, evidence, joining, make_key, making, notes, run, sign, Tally};
-use crate::confirmer::{EvidenceCheck, Joining, Making};
+use super::{
+    check_signature, count, covered, dispatcher, evidence, joining, make_key, making, notes, run, sign, Tally,
+};
+use crate::confirmer::{Dispatching, EvidenceCheck, Joining, Making};
 use crate::reference::layout::{self, FULL_COUNT_AT, FULL_ENTRIES_AT, SEAT_AT};
 use crate::reference::lms::PUBLIC_KEY;
 use crate::reference::messages::FULL_ENTRY;
@@ -18,12 +20,13 @@ pub struct Subjects<'a> {
     pub engine: Subject<'a>,
     pub making: &'a dyn Making,
     pub joining: &'a dyn Joining,
+    pub dispatching: &'a dyn Dispatching,
 }
 
 const BATCH: usize = 1000;
 
 /// The numbers that each call must answer at some time.
-const COVERED: [(&str, &[u32]); 12] = [
+const COVERED: [(&str, &[u32]); 15] = [
     ("check_signature", &[5, 14]),
     ("make_key", &[7, 16]),
     ("sign", &[0, 3, 7, 16]),
@@ -36,6 +39,9 @@ const COVERED: [(&str, &[u32]); 12] = [
     ("step", &[0, 4, 5, 6, 7, 9, 10, 11, 12, 14]),
     ("write_note", &[0, 4, 7]),
     ("read_note", &[0, 4, 17]),
+    ("open_dispatcher", &[0, 3, 18]),
+    ("add_ticket", &[0, 3, 4, 18, 19]),
+    ("take_turn", &[0, 4]),
 ];
 
 /// A million calls in the long battery.
@@ -55,8 +61,8 @@ pub fn battery(subjects: Subjects) {
 
 /// A call's name and the number that it was answered.
 fn call(subjects: Subjects, rng: &mut Rng) -> Result<String, String> {
-    let Subjects { signatures, evidence, engine, making, joining } = subjects;
-    let (name, number) = match rng.below(16) {
+    let Subjects { signatures, evidence, engine, making, joining, dispatching } = subjects;
+    let (name, number) = match rng.below(19) {
         0 => ("check_signature", check_signature::noise(signatures, rng)),
         1 => ("make_key", make_key::noise(signatures, rng)),
         2 => ("sign", sign::noise(signatures, rng)),
@@ -68,6 +74,9 @@ fn call(subjects: Subjects, rng: &mut Rng) -> Result<String, String> {
         9 => ("write_note", notes::noise_write(engine.notes, rng)),
         10 => ("read_note", notes::noise_read(engine.notes, rng)),
         11 => ("join_evidence", joining::noise(joining, rng)),
+        12 => ("open_dispatcher", dispatcher::noise_open(dispatching, rng)),
+        13 => ("add_ticket", dispatcher::noise_add(dispatching, rng)),
+        14 => ("take_turn", dispatcher::noise_turn(dispatching, rng)),
         _ => ("step", engine::records::noise_step(engine, rng)),
     };
     let number = number.map_err(|difference| format!("{name}: {difference}"))?;

@@ -1,7 +1,8 @@
-//! A second implementation of the standards, document 01 and document 02's items 1 to 3 and 5 in the plainest style: slow, and short
+//! A second implementation of the standards, document 01 and document 02's items 1 to 3, 5 and 6 in the plainest style: slow, and short
 //! enough to read. It is no independent reading of them: README.md says what it shows, and what the outside vectors show.
 
 pub mod calls;
+pub mod dispatcher;
 pub mod engine;
 pub mod evidence;
 pub mod impossible;

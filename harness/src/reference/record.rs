@@ -1,4 +1,4 @@
-//! A unit's record and the answers of the calls, laid out as C lays them out.
+//! A unit's record, the dispatcher and the answers of the calls, laid out as C lays them out.
 
 use super::messages::Value;
 
@@ -74,6 +74,47 @@ pub struct Verdict {
     pub mask: u32,
 }
 
+/// The lanes of a dispatcher, and the places of each.
+pub const LANES: usize = 8;
+pub const PLACES: usize = 16;
+
+#[derive(Clone, Copy, Debug, PartialEq, Eq)]
+#[repr(C)]
+pub struct Eight {
+    pub round: [u32; LANES],
+}
+
+/// Lane l's tickets stand in its places from `heads[l]` modulo 16 on, round and round, oldest first. The first `served` entries of
+/// `order` are the lanes that were served, longest ago first.
+#[derive(Clone, Copy, Debug, Default, PartialEq, Eq)]
+#[repr(C)]
+pub struct Dispatcher {
+    pub rounds: [u32; LANES],
+    pub counts: [u32; LANES],
+    pub heads: [u32; LANES],
+    pub served: u32,
+    pub order: [u32; LANES],
+    pub tickets: [[u16; PLACES]; LANES],
+}
+
+#[derive(Clone, Copy, Debug, PartialEq, Eq)]
+#[repr(C)]
+pub struct Dispatched {
+    pub number: u32,
+    pub dispatcher: Dispatcher,
+}
+
+/// Round and ticket are 0 where none is given.
+#[derive(Clone, Copy, Debug, PartialEq, Eq)]
+#[repr(C)]
+pub struct Turn {
+    pub number: u32,
+    pub given: bool,
+    pub round: u32,
+    pub ticket: u32,
+    pub dispatcher: Dispatcher,
+}
+
 #[cfg(test)]
 mod tests {
     use super::*;
@@ -89,5 +130,10 @@ mod tests {
         assert_eq!((offset_of!(Record, sent), offset_of!(Record, guilty), offset_of!(Record, kept)), (128, 132, 136));
         assert_eq!((size_of::<Opened>(), size_of::<Stepped>()), (144, 148));
         assert_eq!((size_of::<Written>(), size_of::<Verdict>()), (8, 8));
+        assert_eq!((size_of::<Eight>(), size_of::<Dispatcher>()), (32, 388));
+        assert_eq!((offset_of!(Dispatcher, counts), offset_of!(Dispatcher, heads)), (32, 64));
+        assert_eq!((offset_of!(Dispatcher, served), offset_of!(Dispatcher, order)), (96, 100));
+        assert_eq!((offset_of!(Dispatcher, tickets), size_of::<Dispatched>()), (132, 392));
+        assert_eq!((offset_of!(Turn, round), offset_of!(Turn, dispatcher), size_of::<Turn>()), (8, 16, 404));
     }
 }

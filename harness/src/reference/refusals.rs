@@ -7,8 +7,8 @@ use super::quorum;
 use super::verdicts;
 
 /// The table's numbers in the order in which they count: "The lowest number whose condition holds is returned". "Number 13 no
-/// longer occurs." 17 "comes before 4".
-pub const ORDER: &[u32] = &[1, 2, 3, 17, 4, 5, 6, 7, 8, 9, 10, 11, 12, 14, 15, 16];
+/// longer occurs." 17 "comes before 4"; 18 and 19 "come after 4, in that order".
+pub const ORDER: &[u32] = &[1, 2, 3, 17, 4, 5, 6, 7, 8, 9, 10, 11, 12, 14, 15, 16, 18, 19];
 
 /// The table's words.
 pub fn word(number: u32) -> &'static str {
@@ -29,6 +29,8 @@ pub fn word(number: u32) -> &'static str {
         15 => "no conflict",
         16 => "key material",
         17 => "note",
+        18 => "lane",
+        19 => "full",
         other => panic!("no number of the table: {other}"),
     }
 }

@@ -1,0 +1,56 @@
+-- `dispatcher::lists::is_in` meets its contract.
+use mathlib.Core.Path.{_≡_, refl, sym, _∙_}
+use Prim.Native.Nat.{_-_, _≤_}
+use native.Mathlib.Omega.{arith}
+use borrow.Author.Needs.{needs}
+use lib.ListN.{length}
+use lib.Seq.{slice}
+use Rattle.refusal.specs.Order.{isIn}
+use Rattle.dispatcher.specs.LoopLaws.{in-here, in-later, in-none}
+use Rattle.dispatcher.proofs.lists.is_in.Statement.{statement}
+use Rattle.dispatcher.proofs.lists.is_in.Tie as tie
+
+abbrev Inv-loop : tie.InvT-loop
+Inv-loop from n x list i₀ i = (i ≤ n) × (isIn x (slice from n list) ≡ isIn x (slice i n list))
+
+abbrev μ-loop : tie.MeasureT-loop
+μ-loop from n x list i₀ i = n - i
+
+-- the eight numbers, of which the loop is at one
+sized : (c : tie.At-loop Inv-loop μ-loop) → length (c .before .args .t1) ≡ 8
+sized c = search needs
+
+loop-holds : tie.Need-loop-holds Inv-loop μ-loop
+loop-holds c = (omega arith, refl)
+
+returns : tie.Need-returns Inv-loop μ-loop
+returns c =
+    let at-loop = c .before .before in
+    let args = at-loop .before .args in
+    in-here (args .t1) (at-loop .loop .i) (args .n) (omega arith) (omega (arith, sized at-loop)) (args .x) (c .if1 .taken) ∙ sym (at-loop .loop .inv .1)
+
+loop-again : tie.Need-loop-again Inv-loop μ-loop
+loop-again c =
+    let at-loop = c .before .before in
+    let args = at-loop .before .args in
+    (omega arith, at-loop .loop .inv .1 ∙ in-later (args .t1) (at-loop .loop .i) (args .n) (omega arith) (omega (arith, sized at-loop)) (args .x) (c .if1 .left))
+
+returns-2 : tie.Need-returns-2 Inv-loop μ-loop
+returns-2 c =
+    let args = c .before .before .args in
+    in-none (args .t1) (c .before .loop .i) (args .n) (args .x) (omega arith) ∙ sym (c .before .loop .inv .1)
+
+pub is-in-spec : {M : Type 1} → statement M
+is-in-spec =
+    tie.close
+    (tie.spec
+    Inv-loop
+    μ-loop
+    loop-holds
+    (λ c. omega arith)
+    (λ c. omega arith)
+    returns
+    (λ c. omega arith)
+    (λ c. omega arith)
+    loop-again
+    returns-2)
