@@ -185,7 +185,7 @@ module _ (s : State) (none : s.unit.kept ≡ 0) where
   unfolding collect_kept_seat is_open_to
   seat_as_before seat =
       let new : has seat s.unit.kept ≡ false = (has_false seat s.unit.kept).1 (ap (bit seat) none ∙ bit-empty seat) in
-      ap (λ (b : Bool). cond (b && ltb (size s.unit.own_val.collected) (k s.unit.n)) (collect_if_wanted seat (kept_value s.unit.n s.store seat) (kept_signature s.unit.n s.store seat) s) s) new
+      ap (λ (b : Bool). cond (b && ltb (size s.unit.own.collected) (k s.unit.n)) (collect_if_wanted seat (kept_value s.unit.n s.store seat) (kept_signature s.unit.n s.store seat) s) s) new
 
   below_as_before : (t : ℕ) → collect_kept_below t s ≡ s
   unfolding collect_kept_below
@@ -203,7 +203,7 @@ submitted_as_before value signature s none = ap confirm_if_complete (kept_as_bef
 
 stepped_as_before : (m : Message) (s : State) → early s.unit m ≡ false → stepped m s ≡ stepped_before m s
 unfolding early stepped stepped_before hear_submit_before collect_if_wanted
-stepped_as_before (Submit round seat value signature) s e = stepped-late round seat value signature s (not-false s.unit.own_val.submitted e)
+stepped_as_before (Submit round seat value signature) s e = stepped-late round seat value signature s (not-false s.unit.own.submitted e)
 stepped_as_before (Notice round seat value) s e = refl
 stepped_as_before (Full round sender value entries) s e = refl
 stepped_as_before (Evidence round form entries) s e = refl

@@ -26,7 +26,7 @@ use Rattle.claims.specs.Sound.{Room, Attested, Sound}
 use Rattle.claims.specs.Parts.{in_below, room-leads, collect-leads, submit_own-leads, confirmed-submitted}
 use Rattle.claims.specs.Whole.{hearing_stays}
 
-module _ (checks : Checks) (W : Relation) (value signature : List ℕ) (s : State) (z : Sound checks W s.unit s.store) (room : Room s) (unsaid : s.unit.own_val.submitted ≡ false) (sized : length value ≡ value_length) (g : Attested checks W s.unit.seat value signature)
+module _ (checks : Checks) (W : Relation) (value signature : List ℕ) (s : State) (z : Sound checks W s.unit s.store) (room : Room s) (unsaid : s.unit.own.submitted ≡ false) (sized : length value ≡ value_length) (g : Attested checks W s.unit.seat value signature)
     (others : ℕ) (within : (t : ℕ) → In t others → In t s.unit.kept) (apart : bit s.unit.seat others ≡ 0) (agree : (t : ℕ) → In t others → kept_value s.unit.n s.store t ≡ value) (enough : k s.unit.n ≤ size others + 1) where
   abbrev n : ℕ
   n = s.unit.n
@@ -37,12 +37,12 @@ module _ (checks : Checks) (W : Relation) (value signature : List ℕ) (s : Stat
   -- at seat t, k are collected or all of the seats passed
   record At (t : ℕ) (e : State) : Type 0 where
     aside : Aside s e
-    said : (e.unit.own_val.submitted ≡ true) × (e.unit.own_val.value ≡ value)
+    said : (e.unit.own.submitted ≡ true) × (e.unit.own.value ≡ value)
     unconfirmed : e.unit.confirmed ≡ false
     sound : Sound checks W e.unit e.store
     roomy : Room e
-    own : In s.unit.seat e.unit.own_val.collected
-    got : Got t e.unit.own_val.collected
+    own : In s.unit.seat e.unit.own.collected
+    got : Got t e.unit.own.collected
 
   at_own : At 0 (submit_own value signature s)
   unfolding submit_own write collect set_own_value
@@ -54,7 +54,7 @@ module _ (checks : Checks) (W : Relation) (value signature : List ℕ) (s : Stat
         unconfirmed = go s.unit.confirmed refl;
         sound = a.sound;
         roomy = room-leads checks W 0 s (submit_own value signature s) a room;
-        own = bit_with_same s.unit.seat s.unit.own_val.collected;
+        own = bit_with_same s.unit.seat s.unit.own.collected;
         got = inr (λ i l q. absurd (omega arith));
       }
     where
@@ -83,7 +83,7 @@ module _ (checks : Checks) (W : Relation) (value signature : List ℕ) (s : Stat
       (λ o. passed (λ i. inl (⊎_elim (λ q. absurd (true≢false (sym (is-kept i) ∙ q))) (λ q. let many = ltb-false (size c) (k r.n) q in let sized-n = ap k h.aside.n in omega arith) (and_false-either (has t r.kept) (ltb (size c) (k r.n)) o))))
     where
       -- nothing changes: the seat isn't one of them, k are collected, or it is collected already
-      passed : (In t others → (size e.unit.own_val.collected ≡ k n) ⊎ In t e.unit.own_val.collected) → At (suc t) e
+      passed : (In t others → (size e.unit.own.collected ≡ k n) ⊎ In t e.unit.own.collected) → At (suc t) e
       passed f = record {
         aside = h.aside;
         said = h.said;
@@ -94,15 +94,15 @@ module _ (checks : Checks) (W : Relation) (value signature : List ℕ) (s : Stat
         got = ⊎_elim inl (λ before. by before (bit_cases t others)) h.got;
       }
         where
-          by : ((i : ℕ) → i < t → In i others → In i e.unit.own_val.collected) → (bit t others ≡ 0) ⊎ In t others → Got (suc t) e.unit.own_val.collected
+          by : ((i : ℕ) → i < t → In i others → In i e.unit.own.collected) → (bit t others ≡ 0) ⊎ In t others → Got (suc t) e.unit.own.collected
           by before (inl none) = inr (λ i l q. on i l q (ℕ_discrete i t))
             where
-              on : (i : ℕ) → i < suc t → In i others → Dec (i ≡ t) → In i e.unit.own_val.collected
+              on : (i : ℕ) → i < suc t → In i others → Dec (i ≡ t) → In i e.unit.own.collected
               on i l q (yes p) = absurd (let here : bit t others ≡ 1 = subst (λ (j : ℕ). In j others) p q in omega arith)
               on i l q (no p) = before i (omega arith) q
           by before (inr x) = ⊎_elim inl (λ here. inr (λ i l q. on here i l q (ℕ_discrete i t))) (f x)
             where
-              on : In t e.unit.own_val.collected → (i : ℕ) → i < suc t → In i others → Dec (i ≡ t) → In i e.unit.own_val.collected
+              on : In t e.unit.own.collected → (i : ℕ) → i < suc t → In i others → Dec (i ≡ t) → In i e.unit.own.collected
               on here i l q (yes p) = rw p here
               on here i l q (no p) = before i (omega arith) q
 
@@ -126,34 +126,34 @@ module _ (checks : Checks) (W : Relation) (value signature : List ℕ) (s : Stat
             got = ⊎_elim (λ full. absurd (omega arith)) (λ before. inr (λ i j q. on before i j q (ℕ_discrete i t))) h.got;
           }
         where
-          held : (i : ℕ) → In i e.unit.own_val.collected → Dec (i ≡ t) → In i (with t e.unit.own_val.collected)
-          held i q (yes p) = rw p (bit_with_same t e.unit.own_val.collected)
-          held i q (no p) = bit_with_other i t e.unit.own_val.collected p ∙ q
+          held : (i : ℕ) → In i e.unit.own.collected → Dec (i ≡ t) → In i (with t e.unit.own.collected)
+          held i q (yes p) = rw p (bit_with_same t e.unit.own.collected)
+          held i q (no p) = bit_with_other i t e.unit.own.collected p ∙ q
 
-          on : ((i : ℕ) → i < t → In i others → In i e.unit.own_val.collected) → (i : ℕ) → i < suc t → In i others → Dec (i ≡ t) → In i (with t e.unit.own_val.collected)
-          on before i j q (yes p) = rw p (bit_with_same t e.unit.own_val.collected)
-          on before i j q (no p) = bit_with_other i t e.unit.own_val.collected p ∙ before i (omega arith) q
+          on : ((i : ℕ) → i < t → In i others → In i e.unit.own.collected) → (i : ℕ) → i < suc t → In i others → Dec (i ≡ t) → In i (with t e.unit.own.collected)
+          on before i j q (yes p) = rw p (bit_with_same t e.unit.own.collected)
+          on before i j q (no p) = bit_with_other i t e.unit.own.collected p ∙ before i (omega arith) q
 
   at_below : (t : ℕ) → t ≤ n → At t (collect_kept_below t (submit_own value signature s))
   unfolding collect_kept_below
   at_below zero l = at_own
   at_below (suc t) l = at_next t (omega arith) (collect_kept_below t (submit_own value signature s)) (at_below t (omega arith))
 
-  all_there : (e : State) → At n e → size e.unit.own_val.collected ≡ k n
+  all_there : (e : State) → At n e → size e.unit.own.collected ≡ k n
   all_there e h = ⊎_elim (λ q. q) (λ f. go f) h.got
     where
-      inside : ((i : ℕ) → i < n → In i others → In i e.unit.own_val.collected) → (t : ℕ) → In t (with s.unit.seat others) → Dec (t ≡ s.unit.seat) → In t e.unit.own_val.collected
+      inside : ((i : ℕ) → i < n → In i others → In i e.unit.own.collected) → (t : ℕ) → In t (with s.unit.seat others) → Dec (t ≡ s.unit.seat) → In t e.unit.own.collected
       inside f t i (yes q) = rw q h.own
       inside f t i (no d) =
           let one : In t others = sym (bit_with_other t s.unit.seat others d) ∙ i in
           f t (in_below n t s.unit.kept z.kept.below (within t one)) one
 
-      go : ((i : ℕ) → i < n → In i others → In i e.unit.own_val.collected) → size e.unit.own_val.collected ≡ k n
+      go : ((i : ℕ) → i < n → In i others → In i e.unit.own.collected) → size e.unit.own.collected ≡ k n
       go f =
           let more = size_with_new s.unit.seat others apart in
           let few = h.sound.own.collection.few in
-          let few-n : size e.unit.own_val.collected ≤ k n = subst (λ (i : ℕ). size e.unit.own_val.collected ≤ k i) h.aside.n few in
-          let larger = size-within e.unit.own_val.collected (with s.unit.seat others) (λ t i. inside f t i (ℕ_discrete t s.unit.seat)) in
+          let few-n : size e.unit.own.collected ≤ k n = subst (λ (i : ℕ). size e.unit.own.collected ≤ k i) h.aside.n few in
+          let larger = size-within e.unit.own.collected (with s.unit.seat others) (λ t i. inside f t i (ℕ_discrete t s.unit.seat)) in
           omega arith
 
   pub confirms_at_once : (submitted value signature s).unit.confirmed ≡ true
@@ -162,5 +162,5 @@ module _ (checks : Checks) (W : Relation) (value signature : List ℕ) (s : Stat
       let e = collect_kept_below n (submit_own value signature s) in
       let h = at_below n (omega arith) in
       let u = empty_kept e in
-      let complete : is_complete u.unit ≡ true = rw h.unconfirmed (eq-eqb (size e.unit.own_val.collected) (k e.unit.n) (all_there e h ∙ ap k (sym h.aside.n))) in
+      let complete : is_complete u.unit ≡ true = rw h.unconfirmed (eq-eqb (size e.unit.own.collected) (k e.unit.n) (all_there e h ∙ ap k (sym h.aside.n))) in
       ap (λ (b : Bool). (cond b (hear_own (confirm u)) (reply u)).unit.confirmed) complete ∙ (hearing_stays (own_certificate (confirm u).unit (confirm u).store) (confirm u)).confirmed

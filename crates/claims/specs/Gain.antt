@@ -138,14 +138,14 @@ module _ (S : Setting) where
 
   -- where a call's record is without a submission, so are those before it
   unsaid_before : (r : Record) (store : List ℕ) (before : List Called) (t : Called) (after : List Called) → Chain r store (before ++ t ∷ after)
-      → Each (λ x. x.unit.own_val.submitted ≡ true → (result_of S x).unit.own_val.submitted ≡ true) before → t.unit.own_val.submitted ≡ false → Each (λ x. (result_of S x).unit.own_val.submitted ≡ false) before
+      → Each (λ x. x.unit.own.submitted ≡ true → (result_of S x).unit.own.submitted ≡ true) before → t.unit.own.submitted ≡ false → Each (λ x. (result_of S x).unit.own.submitted ≡ false) before
   unfolding Chain
-  unsaid_before r store [] t after c keeps unsaid = each_nil (λ x. (result_of S x).unit.own_val.submitted ≡ false)
+  unsaid_before r store [] t after c keeps unsaid = each_nil (λ x. (result_of S x).unit.own.submitted ≡ false)
   unsaid_before r store (x ∷ xs) t after c keeps unsaid =
-      each_cons (λ y. (result_of S y).unit.own_val.submitted ≡ false) x xs (go (result_of S x).unit.own_val.submitted refl)
+      each_cons (λ y. (result_of S y).unit.own.submitted ≡ false) x xs (go (result_of S x).unit.own.submitted refl)
       (unsaid_before (result_of S x).unit (result_of S x).store xs t after c.2 (λ y d. keeps y (Memᴰ.tail d)) unsaid)
     where
-      go : (b : Bool) → (result_of S x).unit.own_val.submitted ≡ b → b ≡ false
+      go : (b : Bool) → (result_of S x).unit.own.submitted ≡ b → b ≡ false
       go true e = absurd (true≢false (sym (carry (λ r _. r.own.submitted ≡ true) (result_of S x).unit (result_of S x).store xs t after c.2 (λ y d. keeps y (Memᴰ.tail d)) e) ∙ unsaid))
       go false e = refl
 
@@ -206,7 +206,7 @@ module _ (S : Setting) where
 
     -- a call in the list before the own submit
     abbrev Ready : Called → Type 0
-    Ready x = Memᴰ x list × (SubmitsNow S x → ⊥) × (x.unit.own_val.submitted ≡ false)
+    Ready x = Memᴰ x list × (SubmitsNow S x → ⊥) × (x.unit.own.submitted ≡ false)
 
     module _ (seat : ℕ) (layout : List ℕ) where
       -- what is kept of the seat, if anything, is over the layout
@@ -262,22 +262,22 @@ module _ (S : Setting) where
       fit = submits-fit S t s
 
       -- a submit that isn't refused sets the own value
-      submits-sets : (x : Called) → Memᴰ x list → (q : SubmitsNow S x) → ((result_of S x).unit.own_val.submitted ≡ true) × ((result_of S x).unit.own_val.value ≡ q.layout)
+      submits-sets : (x : Called) → Memᴰ x list → (q : SubmitsNow S x) → ((result_of S x).unit.own.submitted ≡ true) × ((result_of S x).unit.own.value ≡ q.layout)
       submits-sets x d q =
           let f = submits-fit S x q in
           let v = submitted-value checks Any q.layout q.signature (start x.unit x.store) (at x d).sound f.lent.store_room f.first f.sized_value (record { checked = f.checked; sized = f.sized_signature; worthy = tt }) in
           (ap (λ (r : Record). r.own.submitted) (submits-result S x q) ∙ v.0, ap (λ (r : Record). r.own.value) (submits-result S x q) ∙ v.1)
 
-      earlier_unsaid : Each (λ x. (result_of S x).unit.own_val.submitted ≡ false) before
+      earlier_unsaid : Each (λ x. (result_of S x).unit.own.submitted ≡ false) before
       earlier_unsaid =
           unsaid_before (start_of S u honest) without_cuts.store before t after chain (λ x d e. ((at x (earlier_in_list x d)).after.grows.said e).0) fit.first
 
       ready : Each Ready before
       ready x d =
           let m = earlier_in_list x d in
-          (m, (λ q. true≢false (sym (submits-sets x m q).0 ∙ earlier_unsaid x d)), go x.unit.own_val.submitted refl)
+          (m, (λ q. true≢false (sym (submits-sets x m q).0 ∙ earlier_unsaid x d)), go x.unit.own.submitted refl)
         where
-          go : (b : Bool) → x.unit.own_val.submitted ≡ b → b ≡ false
+          go : (b : Bool) → x.unit.own.submitted ≡ b → b ≡ false
           go true e = absurd (true≢false (sym ((at x (earlier_in_list x d)).after.grows.said e).0 ∙ earlier_unsaid x d))
           go false e = refl
 

@@ -66,7 +66,7 @@ module _ (S : Setting) (W : Relation) where
 
   -- the own value after a submit that isn't refused
   pub submit-value : (value signature out : List ℕ) (r : Record) (store : List ℕ) → Sound checks W r store → refusal_of S (BySubmit value signature out) r store ≡ 0 → W r.seat value signature
-      → ((came_to (BySubmit value signature out) r store).unit.own_val.submitted ≡ true) × ((came_to (BySubmit value signature out) r store).unit.own_val.value ≡ value)
+      → ((came_to (BySubmit value signature out) r store).unit.own.submitted ≡ true) × ((came_to (BySubmit value signature out) r store).unit.own.value ≡ value)
   unfolding refusal_of came_to
   submit-value value signature out r store z q w =
       let t = submit-fit checks keys r store value signature out q in

@@ -41,10 +41,10 @@ use Rattle.claims.specs.Units.{end_of, by_unbroken, stop}
 -- ---- before the own submit
 
 -- nothing is complete, and no FULL is owed
-confirm_if_complete-quiet : (s : State) → s.unit.confirmed ≡ false → size s.unit.own_val.collected ≢ k s.unit.n → confirm_if_complete s ≡ s
+confirm_if_complete-quiet : (s : State) → s.unit.confirmed ≡ false → size s.unit.own.collected ≢ k s.unit.n → confirm_if_complete s ≡ s
 unfolding confirm_if_complete is_complete reply owes_full
 confirm_if_complete-quiet s unconfirmed few =
-    ap (λ (b : Bool). cond (not s.unit.confirmed && b) (hear_own (confirm s)) (reply s)) (ne_eqb (size s.unit.own_val.collected) (k s.unit.n) few)
+    ap (λ (b : Bool). cond (not s.unit.confirmed && b) (hear_own (confirm s)) (reply s)) (ne_eqb (size s.unit.own.collected) (k s.unit.n) few)
     ∙ ap (λ (b : Bool). cond b (hear_own (confirm s)) (reply s)) (and-false (not s.unit.confirmed))
     ∙ ap (λ (b : Bool). cond (b && not s.unit.sent && other_heard s.unit) (send_full s) s) unconfirmed
 
@@ -106,7 +106,7 @@ module _ (S : Setting) where
 
   -- the call keeps the SUBMIT of one more seat, and every other seat's share is the same
   pub record Keeps (t : Called) (x : Result) (seat : ℕ) : Type 0 where
-    pub early : t.unit.own_val.submitted ≡ false
+    pub early : t.unit.own.submitted ≡ false
     pub new : bit seat t.unit.kept ≡ 0
     pub inside : seat < t.unit.n
     pub kept : x.unit.kept ≡ with seat t.unit.kept
@@ -244,7 +244,7 @@ module _ (S : Setting) where
 
     -- "A SUBMIT heard before the own submit is now checked, and the first good one from each seat is kept with its value", and nothing
     -- else happens: of the record only the seats kept change, of the store only the seat's two slots, and nothing is written
-    pub early-alone : (seat : ℕ) (value signature : List ℕ) → Hears t seat value signature → t.unit.own_val.submitted ≡ false
+    pub early-alone : (seat : ℕ) (value signature : List ℕ) → Hears t seat value signature → t.unit.own.submitted ≡ false
         → result_of S t ≡ result_by 0 (keep_if_first seat value signature (start t.unit t.store)) t.unit t.store
     early-alone seat value signature h unsaid =
         let is = step_is S t.given h.bytes h.out t.unit t.store h.is_step in
@@ -254,7 +254,7 @@ module _ (S : Setting) where
         (is.1 ∙ ap (λ (m : Message). stepped m first) h.reads ∙ stepped-early r.round seat value signature first unsaid ∙ keeping-quiet t.unit t.store seat value signature fit.lent.possible unsaid)
 
     -- and so the seat is kept
-    pub early-kept : (seat : ℕ) (value signature : List ℕ) → Hears t seat value signature → t.unit.own_val.submitted ≡ false → In seat (result_of S t).unit.kept
+    pub early-kept : (seat : ℕ) (value signature : List ℕ) → Hears t seat value signature → t.unit.own.submitted ≡ false → In seat (result_of S t).unit.kept
     unfolding keep_if_first keep result_by unrefused
     early-kept seat value signature h unsaid =
         ap (λ (x : Result). bit seat x.unit.kept) (early-alone seat value signature h unsaid)
@@ -373,7 +373,7 @@ module _ (S : Setting) where
           (λ y e s value signature h. (y, e, h)) t d seat i)
 
       -- "then the kept seats are empty": none is kept once the unit has submitted
-      pub none_kept-once-submitted : t.unit.own_val.submitted ≡ true → t.unit.kept ≡ 0
+      pub none_kept-once-submitted : t.unit.own.submitted ≡ true → t.unit.kept ≡ 0
       none_kept-once-submitted = at.settled.emptied
 
   -- at every call of an honest unit, each kept signature checks for its seat over the kept value, and is delivered for it

@@ -95,7 +95,7 @@ module _ (checks : Checks) (W : Relation) where
         })
         refl
 
-    seat-leads : (seat : ℕ) → Room s → s.unit.own_val.submitted ≡ true → seat < s.unit.n → Leads checks W 0 s (collect_kept_seat seat s)
+    seat-leads : (seat : ℕ) → Room s → s.unit.own.submitted ≡ true → seat < s.unit.n → Leads checks W 0 s (collect_kept_seat seat s)
     unfolding collect_kept_seat collect_if_wanted is_open_to
     seat-leads seat room said inside =
         let r = s.unit in
@@ -110,7 +110,7 @@ module _ (checks : Checks) (W : Relation) where
         (λ w. leads-refl checks W s z 0))
         (λ e. leads-refl checks W s z 0)
 
-  module _ (s : State) (z : Sound checks W s.unit s.store) (room : Room s) (said : s.unit.own_val.submitted ≡ true) where
+  module _ (s : State) (z : Sound checks W s.unit s.store) (room : Room s) (said : s.unit.own.submitted ≡ true) where
     below-leads : (t : ℕ) → t ≤ s.unit.n → Leads checks W 0 s (collect_kept_below t s)
     unfolding collect_kept_below
     below-leads zero l = leads-refl checks W s z 0

@@ -236,16 +236,16 @@ entry-short (e ∷ es) seat l =
 
 -- a SUBMIT heard after the own one, and one heard before it
 module _ (ρ seat : ℕ) (value signature : List ℕ) (s : State) where
-  pub stepped-late : s.unit.own_val.submitted ≡ true → stepped (Submit ρ seat value signature) s ≡ confirm_if_complete (collect_if_wanted seat value signature s)
+  pub stepped-late : s.unit.own.submitted ≡ true → stepped (Submit ρ seat value signature) s ≡ confirm_if_complete (collect_if_wanted seat value signature s)
   unfolding stepped hear_submit
   stepped-late said = ap (λ (b : Bool). confirm_if_complete (cond b (collect_if_wanted seat value signature s) (keep_if_first seat value signature s))) said
 
-  pub stepped-early : s.unit.own_val.submitted ≡ false → stepped (Submit ρ seat value signature) s ≡ confirm_if_complete (keep_if_first seat value signature s)
+  pub stepped-early : s.unit.own.submitted ≡ false → stepped (Submit ρ seat value signature) s ≡ confirm_if_complete (keep_if_first seat value signature s)
   unfolding stepped hear_submit
   stepped-early unsaid = ap (λ (b : Bool). confirm_if_complete (cond b (collect_if_wanted seat value signature s) (keep_if_first seat value signature s))) unsaid
 
 module _ (s : State) (room : Room s) where
-  pub late_aside : (ρ seat : ℕ) (value signature : List ℕ) → s.unit.own_val.submitted ≡ true → seat < s.unit.n → Short signature → Aside s (stepped (Submit ρ seat value signature) s)
+  pub late_aside : (ρ seat : ℕ) (value signature : List ℕ) → s.unit.own.submitted ≡ true → seat < s.unit.n → Short signature → Aside s (stepped (Submit ρ seat value signature) s)
   late_aside ρ seat value signature said l g =
       let u = collect_if_wanted seat value signature s in
       let a = collect_if_wanted-aside seat value signature s l g room in

@@ -233,7 +233,7 @@ module _ (S : Setting) (u : Boat) (honest : IsHonest S u) where
         go zero f = refl
         go (suc q) f = absurd (Memᴰ.not-nil f)
 
-    writer_sets : (result_of S t).unit.own_val.submitted ≢ t.unit.own_val.submitted
+    writer_sets : (result_of S t).unit.own.submitted ≢ t.unit.own.submitted
     writer_sets same =
         let c = (stop S u honest Any any t d).after.counts.marked SUBMITTED in
         absurd (omega (arith, c, ap worth same, count_pos is_submit (messages S t) m e is))

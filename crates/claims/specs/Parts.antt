@@ -136,7 +136,7 @@ module _ (checks : Checks) (W : Relation) where
 
   -- a part that writes nothing and sets no mark
   pub leads-quiet : (p : ℕ) (s s' : State) → Sound checks W s'.unit s'.store → length s'.store ≡ length s.store → Grows s.unit s'.unit → s'.written ≡ s.written
-      → s'.unit.own_val.submitted ≡ s.unit.own_val.submitted → s'.unit.confirmed ≡ s.unit.confirmed → s'.unit.sent ≡ s.unit.sent → s'.unit.guilty ≡ s.unit.guilty → Leads checks W p s s'
+      → s'.unit.own.submitted ≡ s.unit.own.submitted → s'.unit.confirmed ≡ s.unit.confirmed → s'.unit.sent ≡ s.unit.sent → s'.unit.guilty ≡ s.unit.guilty → Leads checks W p s s'
   leads-quiet p s s' sound stored grows e a b c d = record {
     sound = sound;
     stored = stored;
@@ -224,7 +224,7 @@ module _ (checks : Checks) (W : Relation) where
 
   module _ (seat : ℕ) (value signature : List ℕ) (s : State) (z : Sound checks W s.unit s.store) (room : Room s) where
     -- "the value is the own one and the seat is new, its signature is collected"
-    pub collect-leads : is_wanted seat value s.unit ≡ true → s.unit.own_val.submitted ≡ true → (size s.unit.own_val.collected ≡ k s.unit.n → s.unit.confirmed ≡ true)
+    pub collect-leads : is_wanted seat value s.unit ≡ true → s.unit.own.submitted ≡ true → (size s.unit.own.collected ≡ k s.unit.n → s.unit.confirmed ≡ true)
         → seat < s.unit.n → Attested checks W seat value signature → Leads checks W 0 s (collect seat signature s)
     unfolding collect is_wanted
     collect-leads wanted submitted complete inside g =
@@ -254,14 +254,14 @@ module _ (checks : Checks) (W : Relation) where
         (record { n = refl; seat = refl; round = refl; said = λ e. (e, refl); heard = λ v h. h; first = λ h. refl; guilty = λ t i. i })
         refl refl refl refl refl
       where
-        go : Dec (s.unit.seat ≡ seat) → In s.unit.seat (with seat s.unit.own_val.collected)
-        go (yes e) = rw e (bit_with_same seat s.unit.own_val.collected)
-        go (no d) = bit_with_other s.unit.seat seat s.unit.own_val.collected d ∙ z.own.said submitted
+        go : Dec (s.unit.seat ≡ seat) → In s.unit.seat (with seat s.unit.own.collected)
+        go (yes e) = rw e (bit_with_same seat s.unit.own.collected)
+        go (no d) = bit_with_other s.unit.seat seat s.unit.own.collected d ∙ z.own.said submitted
 
   -- ---- submit
 
   module _ (value signature : List ℕ) (s : State) (z : Sound checks W s.unit s.store) (room : Room s) where
-    pub submit_own-leads : s.unit.own_val.submitted ≡ false → length value ≡ value_length → Attested checks W s.unit.seat value signature → Leads checks W 0 s (submit_own value signature s)
+    pub submit_own-leads : s.unit.own.submitted ≡ false → length value ≡ value_length → Attested checks W s.unit.seat value signature → Leads checks W 0 s (submit_own value signature s)
     unfolding submit_own write collect set_own_value is_submit is_notice is_full is_evidence worth
     submit_own-leads unsaid sized g =
         let r = s.unit in

@@ -72,21 +72,21 @@ hearing_stays c s =
     (hold_or_blame-quiet c (reply heard)).stays
 
 -- a step never submits
-hears-stays : (seat : ℕ) (value signature : List ℕ) (s : State) → (hear_submit seat value signature s).unit.own_val.submitted ≡ s.unit.own_val.submitted
+hears-stays : (seat : ℕ) (value signature : List ℕ) (s : State) → (hear_submit seat value signature s).unit.own.submitted ≡ s.unit.own.submitted
 unfolding hear_submit collect_if_wanted keep_if_first collect keep
 hears-stays seat value signature s =
-    let P : State → Type 0 = λ x. x.unit.own_val.submitted ≡ s.unit.own_val.submitted in
-    cond_elim P s.unit.own_val.submitted (collect_if_wanted seat value signature s) (keep_if_first seat value signature s)
+    let P : State → Type 0 = λ x. x.unit.own.submitted ≡ s.unit.own.submitted in
+    cond_elim P s.unit.own.submitted (collect_if_wanted seat value signature s) (keep_if_first seat value signature s)
     (λ e. cond_elim P (is_wanted seat value s.unit) (collect seat signature s) s (λ f. refl) (λ f. refl))
     (λ e. cond_elim P (has seat s.unit.kept) s (keep seat value signature s) (λ f. refl) (λ f. refl))
 
-completing_stays : (s : State) → (confirm_if_complete s).unit.own_val ≡ s.unit.own_val
+completing_stays : (s : State) → (confirm_if_complete s).unit.own ≡ s.unit.own
 unfolding confirm_if_complete hear_own confirm write
 completing_stays s =
-    cond_elim (λ (x : State). x.unit.own_val ≡ s.unit.own_val) (is_complete s.unit) (hear_own (confirm s)) (reply s)
+    cond_elim (λ (x : State). x.unit.own ≡ s.unit.own) (is_complete s.unit) (hear_own (confirm s)) (reply s)
     (λ e. (hearing_stays (own_certificate (confirm s).unit (confirm s).store) (confirm s)).own) (λ e. (reply-stays s).own)
 
-pub step-submits_none : (m : Message) (s : State) → (stepped m s).unit.own_val.submitted ≡ s.unit.own_val.submitted
+pub step-submits_none : (m : Message) (s : State) → (stepped m s).unit.own.submitted ≡ s.unit.own.submitted
 unfolding stepped
 step-submits_none (Submit ρ seat value signature) s =
     ap (λ o. o.submitted) (completing_stays (hear_submit seat value signature s)) ∙ hears-stays seat value signature s
@@ -129,7 +129,7 @@ collect_none : (seat : ℕ) (signature : List ℕ) (s : State) → NoneKept s.un
 unfolding collect
 collect_none seat signature s none = none
 
-keep_none : (seat : ℕ) (value signature : List ℕ) (s : State) → s.unit.own_val.submitted ≡ false → NoneKept (keep seat value signature s).unit
+keep_none : (seat : ℕ) (value signature : List ℕ) (s : State) → s.unit.own.submitted ≡ false → NoneKept (keep seat value signature s).unit
 unfolding keep
 keep_none seat value signature s unsaid e = absurd (true≢false (sym e ∙ unsaid))
 
@@ -196,12 +196,12 @@ module _ (checks : Checks) (W : Relation) where
         (record { of_round = refl; of_seat = refl; of_value = refl; submitted = collected-submitted checks W r s.store z (omega arith); sized = z.own.collection.sized })
         (counts-other r (confirm s).unit (Notice r.round r.seat r.own.value) refl refl (omega arith) (rw (not-true r.confirmed both.0)) (omega arith))
 
-    complete-size : is_complete s.unit ≡ true → size s.unit.own_val.collected ≡ k s.unit.n
+    complete-size : is_complete s.unit ≡ true → size s.unit.own.collected ≡ k s.unit.n
     unfolding is_complete
     complete-size e =
-        eqb-true (size s.unit.own_val.collected) (k s.unit.n) (both_true (not s.unit.confirmed) (eqb (size s.unit.own_val.collected) (k s.unit.n)) e).1
+        eqb-true (size s.unit.own.collected) (k s.unit.n) (both_true (not s.unit.confirmed) (eqb (size s.unit.own.collected) (k s.unit.n)) e).1
 
-    confirm-size : is_complete s.unit ≡ true → size (confirm s).unit.own_val.collected ≡ k (confirm s).unit.n
+    confirm-size : is_complete s.unit ≡ true → size (confirm s).unit.own.collected ≡ k (confirm s).unit.n
     unfolding confirm write
     confirm-size e = complete-size e
 
@@ -255,7 +255,7 @@ module _ (checks : Checks) (W : Relation) where
 
   -- ---- submit and step
 
-  module _ (value signature : List ℕ) (s : State) (z : Sound checks W s.unit s.store) (room : Room s) (unsaid : s.unit.own_val.submitted ≡ false) (sized : length value ≡ value_length) (g : Attested checks W s.unit.seat value signature) where
+  module _ (value signature : List ℕ) (s : State) (z : Sound checks W s.unit s.store) (room : Room s) (unsaid : s.unit.own.submitted ≡ false) (sized : length value ≡ value_length) (g : Attested checks W s.unit.seat value signature) where
     abbrev own : State
     own = submit_own value signature s
 
@@ -265,7 +265,7 @@ module _ (checks : Checks) (W : Relation) where
     own_room : Room own
     own_room = room-leads checks W 0 s own own-leads room
 
-    own-said : own.unit.own_val.submitted ≡ true
+    own-said : own.unit.own.submitted ≡ true
     unfolding submit_own write collect set_own_value
     own-said = refl
 
@@ -281,7 +281,7 @@ module _ (checks : Checks) (W : Relation) where
     submitted-done = record { leads = leads_trans checks W 0 1 s own (submitted value signature s) own-leads own-done.leads; settled = own-done.settled }
 
     -- "the value kept"
-    pub submitted-value : ((submitted value signature s).unit.own_val.submitted ≡ true) × ((submitted value signature s).unit.own_val.value ≡ value)
+    pub submitted-value : ((submitted value signature s).unit.own.submitted ≡ true) × ((submitted value signature s).unit.own.value ≡ value)
     unfolding submit_own write collect set_own_value
     submitted-value = own-done.leads.grows.said refl
 
@@ -295,7 +295,7 @@ module _ (checks : Checks) (W : Relation) where
 
   module _ (s : State) (z : Sound checks W s.unit s.store) (room : Room s) (e : Settled s.unit) where
     -- a SUBMIT heard after the own submit
-    wanted-done : (seat : ℕ) (value signature : List ℕ) → s.unit.own_val.submitted ≡ true → seat < s.unit.n → Attested checks W seat value signature → Done s (confirm_if_complete (collect_if_wanted seat value signature s))
+    wanted-done : (seat : ℕ) (value signature : List ℕ) → s.unit.own.submitted ≡ true → seat < s.unit.n → Attested checks W seat value signature → Done s (confirm_if_complete (collect_if_wanted seat value signature s))
     unfolding collect_if_wanted
     wanted-done seat value signature submitted inside g =
         cond_elim (λ x. Done s (confirm_if_complete x)) (is_wanted seat value s.unit) (collect seat signature s) s
@@ -303,7 +303,7 @@ module _ (checks : Checks) (W : Relation) where
         (λ w. confirm_if_complete-done s z room e.holds e.emptied)
 
     -- and one heard before it
-    early-done : (seat : ℕ) (value signature : List ℕ) → s.unit.own_val.submitted ≡ false → seat < s.unit.n → length value ≡ value_length → Attested checks W seat value signature
+    early-done : (seat : ℕ) (value signature : List ℕ) → s.unit.own.submitted ≡ false → seat < s.unit.n → length value ≡ value_length → Attested checks W seat value signature
         → Done s (confirm_if_complete (keep_if_first seat value signature s))
     unfolding keep_if_first
     early-done seat value signature unsaid inside sized g =
@@ -314,7 +314,7 @@ module _ (checks : Checks) (W : Relation) where
     hear_submit-done : (seat : ℕ) (value signature : List ℕ) → seat < s.unit.n → length value ≡ value_length → Attested checks W seat value signature → Done s (confirm_if_complete (hear_submit seat value signature s))
     unfolding hear_submit
     hear_submit-done seat value signature inside sized g =
-        cond_elim (λ x. Done s (confirm_if_complete x)) s.unit.own_val.submitted (collect_if_wanted seat value signature s) (keep_if_first seat value signature s)
+        cond_elim (λ x. Done s (confirm_if_complete x)) s.unit.own.submitted (collect_if_wanted seat value signature s) (keep_if_first seat value signature s)
         (λ q. wanted-done seat value signature q inside g) (λ q. early-done seat value signature q inside sized g)
 
     pub stepped-done : (m : Message) → Brings s.unit m → Done s (stepped m s)

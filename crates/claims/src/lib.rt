@@ -1,1 +1,2 @@
 // The claims over whole lists of calls; they are in specs/, and there is no code here.
+#![tactic(auto)]

@@ -42,7 +42,7 @@ module _ (r : Record) (store : List ℕ) (seat : ℕ) (value signature : List �
 pub hear_submit-quiet : (seat : ℕ) (value signature : List ℕ) (s : State) → (hear_submit seat value signature s).written ≡ s.written
 unfolding hear_submit keep_if_first keep
 hear_submit-quiet seat value signature s =
-    cond-written s.written s.unit.own_val.submitted (collect_if_wanted seat value signature s) (keep_if_first seat value signature s) (collect_if_wanted-quiet seat value signature s)
+    cond-written s.written s.unit.own.submitted (collect_if_wanted seat value signature s) (keep_if_first seat value signature s) (collect_if_wanted-quiet seat value signature s)
     (cond-written s.written (has seat s.unit.kept) s (keep seat value signature s) refl refl)
 
 kept-set-fits : (r u : Record) (kept : ℕ) → u ≡ with_kept r kept → (store store' : List ℕ) → Fits r store → length store' ≡ length store → Fits u store' × (u.n ≡ r.n)

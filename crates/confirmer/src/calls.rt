@@ -44,12 +44,11 @@ pub fn submit(
     signature: &[u8],
     out: &mut [u8],
 ) -> Stepped
-    ensures* { λ a.
-        let result = calls.submit (checks keys.now r.round) keys.now r
+    ensures { let outcome = calls.submit (checks keys.now r.round) keys.now r
         store.old value.now signature.now out.old in
-        ⌜ (a ≡ calls.answer result)
-        × (store.new ≡ result.store)
-        × (out.new ≡ calls.out_after result.written out.old) ⌝ }
+        (result ≡ calls.answer outcome)
+        × (store.new ≡ outcome.store)
+        × (out.new ≡ calls.out_after outcome.written out.old) }
 {
     let given = record_refusal(r, keys, store, out);
     if given != 0 {
@@ -66,12 +65,11 @@ pub fn submit(
 
 // A step: a SUBMIT, NOTICE or FULL heard.
 pub fn step(r: Record, keys: &[u8], store: &mut [u8], message: &[u8], out: &mut [u8]) -> Stepped
-    ensures* { λ a.
-        let result = calls.step (checks keys.now r.round) keys.now r
+    ensures { let outcome = calls.step (checks keys.now r.round) keys.now r
         store.old message.now out.old in
-        ⌜ (a ≡ calls.answer result)
-        × (store.new ≡ result.store)
-        × (out.new ≡ calls.out_after result.written out.old) ⌝ }
+        (result ≡ calls.answer outcome)
+        × (store.new ≡ outcome.store)
+        × (out.new ≡ calls.out_after outcome.written out.old) }
 {
     let given = record_refusal(r, keys, store, out);
     if given != 0 {

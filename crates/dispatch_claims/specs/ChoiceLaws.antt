@@ -2,7 +2,7 @@
 -- Assumes nothing.
 use Prim.Native.Nat.{ℕ, zero, suc, ◌≤◌, ◌<◌}
 use Rattle.std.specs.Prelude.{◌≡◌, refl, false, not, ◌&&◌, leb, ltb, eqb}
-use Rattle.std.proofs.Common.{sym, ◌∙◌, arith}
+use Rattle.std.proofs.Common.{sym, ◌∙◌, subst, arith}
 use Rattle.std.proofs.Math.Bool.{true, or-true, true≢false}
 use mathlib.Core.List.{List, [], ◌∷◌}
 use borrow.Author.Tests.{eqb-true, eqb-false, eq-eqb, ne_eqb, ltb-true, ltb-false, lt-leb, leb-false, not-true}
@@ -92,8 +92,11 @@ module _ (d : Dispatcher) where
       (λ e.
       let behind : is_in l order ≡ true = rw (ne_eqb m l (λ same. true≢false (sym w ∙ rw (← same) e))) at h in
       let rest = longest_ago-longest l order two.1 behind w in
-      rw (e, rest.0, since_behind l m order behind, since_behind (longest_ago d order) m order rest.0)
-      (or-true (eqb m (longest_ago d order)), rest.1))
+      let same : longest_ago d (m ∷ order) ≡ longest_ago d order = rw e in
+      subst (λ (x : ℕ). (is_in x (m ∷ order) ≡ true) × (since l (m ∷ order) ≤ since x (m ∷ order))) (sym same) (
+        rw rest.0 (or-true (eqb m (longest_ago d order))),
+        rw (since_behind l m order behind, since_behind (longest_ago d order) m order rest.0) rest.1,
+      ))
 
 -- ---- the lane whose turn it is
 

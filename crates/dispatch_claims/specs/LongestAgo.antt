@@ -43,7 +43,7 @@ module _ (d : Dispatcher) (p : Possible d) (gs : List ℕ) (t : Told d gs) where
       let m = next_lane d in
       let others = without m (serving d) in
       rw (serving-turn d p n, since_served l m (serving d), since_served k m (serving d))
-      (rw (turn_served d p n, round_of-turn d p n l, round_of-turn d p n k, same_lane d p m l n h, same_lane d p m k n i)
+      (rw (round_of-turn d p n l, round_of-turn d p n k, turn_served d p n, same_lane d p m l n h, same_lane d p m k n i)
       (same_order (eqb m l) (eqb m k) (since l others) (since k others) (ago (round_of d l) gs) (ago (round_of d k) gs)
       (λ e f. since_without l k m (serving d) (λ same. eqb-false m l e (sym same)) (λ same. eqb-false m k f (sym same)) ∙ t l k h i)))
 

@@ -1,1 +1,2 @@
 // The promises of the dispatcher over lists of calls; they are in specs/, and there is no code here.
+#![tactic(auto)]

@@ -68,7 +68,7 @@ pub(crate) fn index_of(list: [u32; LANES], x: u32) -> usize
 }
 
 // An order of serving: the first `count` lanes.
-#[derive(Drop)]
+#[derive(Clone, Copy)]
 pub struct Serving {
     pub count: u32,
     pub lanes: [u32; LANES],

@@ -1,4 +1,6 @@
 // The evidence check, evidence from two certificates, and the lower certificate of two.
+#![tactic(auto)]
+
 ghost use Rattle.std.specs.Prelude.{◌≡◌, []};
 ghost use Rattle.protocol.specs.Signatures.{checks};
 ghost use Rattle.protocol.specs.Calls.{out_after, making, made, evidence_check, lower_certificate};
@@ -42,11 +44,10 @@ pub fn make_evidence(
     second: &[u8],
     out: &mut [u8],
 ) -> Written
-    ensures* { λ r.
-        let result = making (checks keys.now round) n round keys.now
+    ensures { let outcome = making (checks keys.now round) n round keys.now
         first.now second.now out.old in
-        ⌜ (r ≡ made result)
-        × (out.new ≡ out_after result.written out.old) ⌝ }
+        (result ≡ made outcome)
+        × (out.new ≡ out_after outcome.written out.old) }
 {
     let given = making_refusal(n, round, keys, out);
     if given != 0 {

@@ -2,14 +2,15 @@
 -- and of 7 the sets of seats and their sizes are computed; all else is deduced, for any seeds, identifiers, randomizers, rounds and
 -- layouts.
 -- Assumes nothing.
-use Rattle.std.specs.Prelude.{ℕ, ◌≤◌, ◌≡◌, refl, Bool, true, false, List, [], ◌≢◌, length, replicate}
+use Rattle.std.specs.Prelude.{ℕ, ◌≤◌, ◌<◌, ◌^◌, not, ◌≡◌, refl, Bool, true, false, List, [], ◌≢◌, length, replicate}
 use Rattle.std.proofs.Common.{sym, ap, ◌∙◌, arith}
 use Rattle.std.specs.Int.Count.{ones}
 use Rattle.std.proofs.lemmas.List.{length-replicate}
-use Rattle.quorum.specs.Quorum.{t0, k, bit, In, shared, seats}
+use Rattle.quorum.specs.Quorum.{t0, k, bit, size, In, shared, seats}
 use Rattle.protocol.specs.Layout.{signature_length, value_length, store_length, out_length}
 use Rattle.protocol.specs.Message.{byte_at}
 use Rattle.protocol.specs.Record.{last_round}
+use Rattle.round.specs.Round.{Each}
 use Rattle.reading.specs.ListsLaws.{each_nil}
 use Rattle.claims.specs.CertificatesLaws.{seats_in-set}
 use Rattle.claims.specs.Parts.{in_below}
@@ -41,19 +42,47 @@ unfolding ones t0 k bit
 fits_4 = record {
   some = omega arith;
   most = omega arith;
-  below = λ side. elim side [ false ↦ omega arith | true ↦ omega arith ];
-  enough = λ side. elim side [ false ↦ refl | true ↦ refl ];
+  below = below;
+  enough = enough;
   apart = λ i j d e. d (sym (at i) ∙ ap at_two e ∙ at j);
-  signs = λ i. elim i [ false ↦ refl | true ↦ refl ];
-  once = λ i. elim i [ false ↦ refl | true ↦ refl ];
-  hears_signers = λ i. elim i [ false ↦ seats_in-set 4 0b1101 | true ↦ seats_in-set 4 0b1110 ];
-  leads = λ side. elim side [ false ↦ refl | true ↦ refl ];
-  hears_all = λ side. elim side [ false ↦ refl | true ↦ refl ];
+  signs = signs;
+  once = once;
+  hears_signers = hears_signers;
+  leads = leads;
+  hears_all = hears_all;
 }
   where
     at : (i : Bool) → at_two (role_of4 i).seat ≡ i
     at false = refl
     at true = refl
+
+    below : (side : Bool) → fleet_of4.signers side < 2 ^ 4
+    below false = omega arith
+    below true = omega arith
+
+    enough : (side : Bool) → size (fleet_of4.signers side) ≡ k 4
+    enough false = refl
+    enough true = refl
+
+    signs : (i : Bool) → In (fleet_of4.role i).seat (fleet_of4.signers (fleet_of4.role i).side)
+    signs false = refl
+    signs true = refl
+
+    once : (i : Bool) → bit (fleet_of4.role i).seat (fleet_of4.signers (not (fleet_of4.role i).side)) ≡ 0
+    once false = refl
+    once true = refl
+
+    hears_signers : (i : Bool) → Each (λ s. In s (fleet_of4.signers (fleet_of4.role i).side)) (fleet_of4.role i).hears
+    hears_signers false = seats_in-set 4 0b1101
+    hears_signers true = seats_in-set 4 0b1110
+
+    leads : (side : Bool) → (fleet_of4.role (fleet_of4.leader side)).side ≡ side
+    leads false = refl
+    leads true = refl
+
+    hears_all : (side : Bool) → (fleet_of4.role (fleet_of4.leader side)).hears ≡ seats 4 (fleet_of4.signers side)
+    hears_all false = refl
+    hears_all true = refl
 
 -- the double signers, whom the evidence names
 pub twice_of_4 : shared (signers_of4 false) (signers_of4 true) ≡ 0b1100
@@ -84,20 +113,51 @@ unfolding ones t0 k bit
 fits_7 = record {
   some = omega arith;
   most = omega arith;
-  below = λ side. elim side [ false ↦ omega arith | true ↦ omega arith ];
-  enough = λ side. elim side [ false ↦ refl | true ↦ refl ];
+  below = below;
+  enough = enough;
   apart = λ i j d e. d (sym (at i) ∙ ap at_three e ∙ at j);
-  signs = λ i. elim i [ Zeroth ↦ refl | First ↦ refl | Second ↦ refl ];
-  once = λ i. elim i [ Zeroth ↦ refl | First ↦ refl | Second ↦ refl ];
-  hears_signers = λ i. elim i [ Zeroth ↦ seats_in-set 7 0b1110101 | First ↦ seats_in-set 7 0b1111010 | Second ↦ each_nil (λ s. In s 0b1110101) ];
-  leads = λ side. elim side [ false ↦ refl | true ↦ refl ];
-  hears_all = λ side. elim side [ false ↦ refl | true ↦ refl ];
+  signs = signs;
+  once = once;
+  hears_signers = hears_signers;
+  leads = leads;
+  hears_all = hears_all;
 }
   where
     at : (i : Three) → at_three (role_of7 i).seat ≡ i
     at Zeroth = refl
     at First = refl
     at Second = refl
+
+    below : (side : Bool) → fleet_of7.signers side < 2 ^ 7
+    below false = omega arith
+    below true = omega arith
+
+    enough : (side : Bool) → size (fleet_of7.signers side) ≡ k 7
+    enough false = refl
+    enough true = refl
+
+    signs : (i : Three) → In (fleet_of7.role i).seat (fleet_of7.signers (fleet_of7.role i).side)
+    signs Zeroth = refl
+    signs First = refl
+    signs Second = refl
+
+    once : (i : Three) → bit (fleet_of7.role i).seat (fleet_of7.signers (not (fleet_of7.role i).side)) ≡ 0
+    once Zeroth = refl
+    once First = refl
+    once Second = refl
+
+    hears_signers : (i : Three) → Each (λ s. In s (fleet_of7.signers (fleet_of7.role i).side)) (fleet_of7.role i).hears
+    hears_signers Zeroth = seats_in-set 7 0b1110101
+    hears_signers First = seats_in-set 7 0b1111010
+    hears_signers Second = each_nil (λ s. In s 0b1110101)
+
+    leads : (side : Bool) → (fleet_of7.role (fleet_of7.leader side)).side ≡ side
+    leads false = refl
+    leads true = refl
+
+    hears_all : (side : Bool) → (fleet_of7.role (fleet_of7.leader side)).hears ≡ seats 7 (fleet_of7.signers side)
+    hears_all false = refl
+    hears_all true = refl
 
 pub twice_of_7 : shared (signers_of7 false) (signers_of7 true) ≡ 0b1110000
 unfolding shared
@@ -160,8 +220,12 @@ abbrev pub seven_or_nine : Bool → List ℕ
 seven_or_nine false = replicate 32 7
 seven_or_nine true = replicate 32 9
 
+seven_or_nine-sized : (side : Bool) → length (seven_or_nine side) ≡ value_length
+seven_or_nine-sized false = length-repeated 32 7
+seven_or_nine-sized true = length-repeated 32 9
+
 pub run_of_7 : Split (setting 7 5 (made_keys plain 7)) (plan_with 5 seven_or_nine plain (zeros (store_length 7)) (zeros (out_length 7)) fleet_of7)
 run_of_7 =
-    fleet_of_7 5 seven_or_nine plain (zeros (store_length 7)) (zeros (out_length 7)) (omega arith) (λ side. elim side [ false ↦ length-repeated 32 7 | true ↦ length-repeated 32 9 ])
+    fleet_of_7 5 seven_or_nine plain (zeros (store_length 7)) (zeros (out_length 7)) (omega arith) seven_or_nine-sized
     (λ e. let h = ap (λ (l : List ℕ). byte_at l 0) e in omega arith)
     plain-stated (room (store_length 7) (store_length 7) (omega arith)) (room (out_length 7) (out_length 7) (omega arith))

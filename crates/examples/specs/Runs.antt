@@ -50,7 +50,7 @@ alone =
     let r = submits (opened 1) 7 in
     writes r (submit_by 0 7 ∷ Notice 5 0 (layout 7) ∷ [])
     && r.unit.confirmed
-    && eqb r.unit.own_val.collected 1
+    && eqb r.unit.own.collected 1
     && eqb r.unit.first.seats 1
     && eqb r.unit.notices.heard 1
     && not r.unit.sent
@@ -74,12 +74,12 @@ three_confirm =
     && writes b []
     && writes c []
     && writes d []
-    && eqb d.unit.own_val.collected 5
+    && eqb d.unit.own.collected 5
     && writes e (Notice 5 0 (layout 7) ∷ [])
     && writes f []
     && f.unit.confirmed
     && not f.unit.sent
-    && eqb f.unit.own_val.collected 13
+    && eqb f.unit.own.collected 13
     && eqb f.unit.first.seats 13
     && same f.store (store_with 4 (sign 0 7 ++ replicate signature_length 1 ++ sign 2 7 ++ sign 3 7 ++ sign 0 7 ++ replicate signature_length 1 ++ sign 2 7 ++ sign 3 7))
 
@@ -124,11 +124,11 @@ kept_confirm =
     && eqb a.unit.kept 8
     && writes b []
     && eqb b.unit.kept 10
-    && not b.unit.own_val.submitted
+    && not b.unit.own.submitted
     && same b.store (unwritten 8 ++ kept)
     && writes c (submit_by 0 7 ∷ Notice 5 0 (layout 7) ∷ [])
     && c.unit.confirmed
-    && eqb c.unit.own_val.collected 11
+    && eqb c.unit.own.collected 11
     && eqb c.unit.first.seats 11
     && eqb c.unit.kept 0
     && same c.store (collected ++ collected ++ kept)
@@ -146,10 +146,10 @@ kept_passed_over =
     let c = hears b (submit_by 1 7) in
     eqb a.unit.kept 7
     && writes b (submit_by 0 7 ∷ [])
-    && eqb b.unit.own_val.collected 5
+    && eqb b.unit.own.collected 5
     && eqb b.unit.kept 0
     && writes c (Notice 5 0 (layout 7) ∷ [])
-    && eqb c.unit.own_val.collected 7
+    && eqb c.unit.own.collected 7
 
 kept_passed_over_run : T kept_passed_over
 unfolding kept_passed_over
@@ -163,7 +163,7 @@ kept_lowest =
     let b = submits a 7 in
     eqb a.unit.kept 14
     && writes b (submit_by 0 7 ∷ Notice 5 0 (layout 7) ∷ [])
-    && eqb b.unit.own_val.collected 7
+    && eqb b.unit.own.collected 7
     && eqb b.unit.kept 0
 
 kept_lowest_run : T kept_lowest

@@ -88,21 +88,21 @@ notice_cases Q (Evidence ρ form ps) e f = absurd (false≢true e)
 notice_cases Q Garbled e f = absurd (false≢true e)
 
 -- own value and collected seats stay at confirming
-confirm-own : (s : State) → (confirm_if_complete s).unit.own_val ≡ s.unit.own_val
+confirm-own : (s : State) → (confirm_if_complete s).unit.own ≡ s.unit.own
 unfolding confirm_if_complete hear_own confirm write
 confirm-own s =
-    cond_elim (λ x. x.unit.own_val ≡ s.unit.own_val) (is_complete s.unit) (hear_own (confirm s)) (reply s) (λ e. (hearing_stays (own_certificate (confirm s).unit (confirm s).store) (confirm s)).own) (λ e. (reply-stays s).own)
+    cond_elim (λ x. x.unit.own ≡ s.unit.own) (is_complete s.unit) (hear_own (confirm s)) (reply s) (λ e. (hearing_stays (own_certificate (confirm s).unit (confirm s).store) (confirm s)).own) (λ e. (reply-stays s).own)
 
 -- the seats collected once a SUBMIT is heard, after the own submit
-module _ (ρ seat : ℕ) (value signature : List ℕ) (s : State) (said : s.unit.own_val.submitted ≡ true) where
+module _ (ρ seat : ℕ) (value signature : List ℕ) (s : State) (said : s.unit.own.submitted ≡ true) where
   abbrev after : State
   after = stepped (Submit ρ seat value signature) s
 
-  collected-wanted : is_wanted seat value s.unit ≡ true → after.unit.own_val.collected ≡ with seat s.unit.own_val.collected
+  collected-wanted : is_wanted seat value s.unit ≡ true → after.unit.own.collected ≡ with seat s.unit.own.collected
   unfolding stepped hear_submit collect_if_wanted collect
   collected-wanted w = ap (λ o. o.collected) (confirm-own (hear_submit seat value signature s)) ∙ rw (w, said)
 
-  collected-unwanted : is_wanted seat value s.unit ≡ false → after.unit.own_val.collected ≡ s.unit.own_val.collected
+  collected-unwanted : is_wanted seat value s.unit ≡ false → after.unit.own.collected ≡ s.unit.own.collected
   unfolding stepped hear_submit collect_if_wanted
   collected-unwanted w = ap (λ o. o.collected) (confirm-own (hear_submit seat value signature s)) ∙ rw (w, said)
 

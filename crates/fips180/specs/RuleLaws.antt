@@ -1,6 +1,6 @@
--- Laws of FIPS 180-4's rule: the roots of `Rule` are roots, the constants and the initial hash value meet the rule, and the constants
--- are the standard's numbers.
-use Rattle.std.specs.Prelude.{◌≡◌, refl, Bool, true, false, cond, List, [], ◌∷◌, map, ℕ, zero, suc, ◌+◌, ◌*◌, ◌/◌, ◌^◌, ◌≤◌, ◌<◌, leb, length, get_or, take}
+-- Laws of FIPS 180-4's rule: the roots of `Rule` are roots, and the initial hash value meets the rule. `proofs/ConstantsLaws` has the
+-- laws of the round constants.
+use Rattle.std.specs.Prelude.{◌≡◌, refl, Bool, true, false, cond, List, map, ℕ, zero, suc, ◌+◌, ◌*◌, ◌/◌, ◌^◌, ◌≤◌, ◌<◌, leb, length, get_or, take}
 use Rattle.std.proofs.Common.{sym, subst, ◌∙◌, ap, ap₂, zero-le, pow-suc, le_antisymm, lt_of_le_of_lt, lt_of_not-le, not-le_of_lt, zero-lt-suc, mul-zero, mul-one, one-mul, mul_left_comm, mul-le-mul_left, mod-lt, div-add-mod', add-one, arith, get_or-take, leb-true, leb-false}
 use Rattle.std.proofs.Math.Nat.{pow-zero, pow-succ', pow-le-pow_left, pow-le-pow_right, one-le-pow, mul-mul-mul_comm, mul-lt-mul_of_pos_left}
 use Rattle.std.proofs.Math.ListN.{get_or-map}
@@ -41,6 +41,7 @@ whole_is e p (suc n) h k = decided (leb (suc n ^ e) p) refl (whole_is e p n h)
     decided : (b : Bool) → leb (suc n ^ e) p ≡ b → (p < (n + 1) ^ e → IsIntegerRoot e p (largest_up_to e p n)) → IsIntegerRoot e p (cond b (suc n) (largest_up_to e p n))
     decided true q below = record { below = leb-true (suc n ^ e) p q; above = k }
     decided false q below = below (subst (λ (x : ℕ). p < x ^ e) (sym (add-one n)) (leb-false (suc n ^ e) p q))
+whole_is zero p zero h k = elim h [ ]
 
 -- one bit more
 next_is : (e m n x : ℕ) → n ≡ 2 ^ e * m → IsIntegerRoot e m x → IsIntegerRoot e n (or_next e n (2 * x))
@@ -98,13 +99,6 @@ pub sixty_four : (length primes ≡ 64) × (length constants ≡ 64) × (length 
 unfolding primes primes_below prime divided constants initial
 sixty_four = (refl, refl, refl)
 
-constant_of : (t : ℕ) → get_or constants t 0 ≡ fraction 3 (get_or primes t 0)
-unfolding constants fraction root or_next largest_up_to
-constant_of t = get_or-map (fraction 3) primes t 0
-
-pub constants_rule : (t : ℕ) → t < length constants → FirstBits 3 (get_or primes t 0) (get_or constants t 0)
-constants_rule t h = subst (FirstBits 3 (get_or primes t 0)) (sym (constant_of t)) (fraction_is 3 (get_or primes t 0) (omega arith))
-
 -- the initial hash value by the rule, by computation
 initial_fractions : initial ≡ map (fraction 2) (take 8 primes)
 unfolding divided prime primes_below primes largest_up_to or_next root fraction initial
@@ -120,16 +114,3 @@ pub initial_rule : (t : ℕ) → t < length initial → FirstBits 2 (get_or prim
 initial_rule t h =
     subst (FirstBits 2 (get_or primes t 0)) (sym (initial_of t (subst (λ (n : ℕ). t < n) sixty_four.2 h)))
     (fraction_is 2 (get_or primes t 0) (omega arith))
-
--- the standard's own list of the round constants, by computation
-pub constants_are_the_standards : constants ≡
-    0x428a2f98 ∷ 0x71374491 ∷ 0xb5c0fbcf ∷ 0xe9b5dba5 ∷ 0x3956c25b ∷ 0x59f111f1 ∷ 0x923f82a4 ∷ 0xab1c5ed5 ∷
-    0xd807aa98 ∷ 0x12835b01 ∷ 0x243185be ∷ 0x550c7dc3 ∷ 0x72be5d74 ∷ 0x80deb1fe ∷ 0x9bdc06a7 ∷ 0xc19bf174 ∷
-    0xe49b69c1 ∷ 0xefbe4786 ∷ 0x0fc19dc6 ∷ 0x240ca1cc ∷ 0x2de92c6f ∷ 0x4a7484aa ∷ 0x5cb0a9dc ∷ 0x76f988da ∷
-    0x983e5152 ∷ 0xa831c66d ∷ 0xb00327c8 ∷ 0xbf597fc7 ∷ 0xc6e00bf3 ∷ 0xd5a79147 ∷ 0x06ca6351 ∷ 0x14292967 ∷
-    0x27b70a85 ∷ 0x2e1b2138 ∷ 0x4d2c6dfc ∷ 0x53380d13 ∷ 0x650a7354 ∷ 0x766a0abb ∷ 0x81c2c92e ∷ 0x92722c85 ∷
-    0xa2bfe8a1 ∷ 0xa81a664b ∷ 0xc24b8b70 ∷ 0xc76c51a3 ∷ 0xd192e819 ∷ 0xd6990624 ∷ 0xf40e3585 ∷ 0x106aa070 ∷
-    0x19a4c116 ∷ 0x1e376c08 ∷ 0x2748774c ∷ 0x34b0bcb5 ∷ 0x391c0cb3 ∷ 0x4ed8aa4a ∷ 0x5b9cca4f ∷ 0x682e6ff3 ∷
-    0x748f82ee ∷ 0x78a5636f ∷ 0x84c87814 ∷ 0x8cc70208 ∷ 0x90befffa ∷ 0xa4506ceb ∷ 0xbef9a3f7 ∷ 0xc67178f2 ∷ []
-unfolding divided prime primes_below primes largest_up_to or_next root fraction constants
-constants_are_the_standards = refl

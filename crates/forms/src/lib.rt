@@ -1,4 +1,6 @@
 // The form of a message (document 01, "What is turned back"): its command, round, seats and their order, 9 to 12.
+#![tactic(auto)]
+
 ghost use Rattle.std.specs.Prelude.{◌≡◌, not, ℕ, ◌≤◌, ltb};
 ghost use Rattle.quorum.specs.Quorum.{most_seats};
 ghost use Rattle.refusal.specs.Refusal.{first_of};

@@ -1,4 +1,6 @@
 // The length of the first message in a buffer.
+#![tactic(auto)]
+
 ghost use Rattle.std.specs.Prelude.{◌≡◌, ◌≤◌, ◌<◌, ◌^◌};
 ghost use Rattle.quorum.specs.Quorum.{most_seats};
 ghost use Rattle.reading.specs.Reading.{frame_length};

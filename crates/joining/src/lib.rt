@@ -1,4 +1,6 @@
 // Two packs of evidence joined to one, for the harbour office (document 02, item 5).
+#![tactic(auto)]
+
 ghost use Rattle.std.specs.Prelude.{◌≡◌};
 ghost use Rattle.protocol.specs.Signatures.{checks};
 ghost use Rattle.protocol.specs.Calls.{out_after, made, joining};
@@ -19,11 +21,10 @@ pub fn join_evidence(
     second: &[u8],
     out: &mut [u8],
 ) -> Written
-    ensures* { λ r.
-        let result = joining (checks keys.now round) n round keys.now
+    ensures { let outcome = joining (checks keys.now round) n round keys.now
         first.now second.now out.old in
-        ⌜ (r ≡ made result)
-        × (out.new ≡ out_after result.written out.old) ⌝ }
+        (result ≡ made outcome)
+        × (out.new ≡ out_after outcome.written out.old) }
 {
     let given = joining_refusal(n, round, keys, out);
     if given != 0 {

@@ -1,4 +1,6 @@
 // Lengths and places in bytes, each equal to that of protocol's `Layout`.
+#![tactic(auto)]
+
 ghost use Rattle.std.specs.Prelude.{◌≡◌, ◌+◌, ◌*◌, ◌<◌, ◌≤◌, ◌^◌};
 ghost use Rattle.quorum.specs.Quorum.{most_seats};
 ghost use Rattle.protocol.specs.Layout as Layout;
@@ -169,7 +171,7 @@ pub fn old_evidence_count_at() -> usize
 // ---- lists of entries
 
 // The entries of a message: the place of the first, the length of each, and their number.
-#[derive(Drop)]
+#[derive(Clone, Copy)]
 pub struct Entries {
     pub start: usize,
     pub length: usize,
@@ -265,7 +267,7 @@ pub fn full_length(n: u32) -> usize
 // ---- store and out
 
 // The banks of the store that hold signatures: those collected, those of the first certificate, and those kept.
-#[derive(Drop)]
+#[derive(Clone, Copy)]
 pub enum Bank {
     Collected,
     First,

@@ -1,5 +1,7 @@
 // All chains of a leaf, in batches of sixteen. The values of up to 67 chains stand one after the other in z. The contracts leave free
 // which chains go together and how far: each one comes to its own end.
+#![tactic(auto)]
+
 ghost use Rattle.std.specs.Prelude.{◌≡◌, ◌⊎◌, ℕ, ◌+◌, ◌-◌, ◌*◌, ◌<◌, ◌≤◌, length, take, get_or};
 ghost use Rattle.octets.specs.Octets.{part, bytes};
 ghost use Rattle.octets.specs.Strings.{joined};

@@ -50,12 +50,11 @@ fn make_key_refusal(seed: &[u8], identifier: &[u8], tree: &[u8], out: &[u8]) -> 
 
 // Makes a key of types 6 and 4: fills the tree, and writes the public key.
 pub fn make_key(seed: &[u8], identifier: &[u8], tree: &mut [u8], out: &mut [u8]) -> Written
-    ensures* { λ r.
-        let result = make_key seed.now identifier.now tree.old out.old in
-        ⌜ (r.number ≡ result.refusal)
-        × (r.written ≡ length result.written)
-        × (tree.new ≡ result.tree)
-        × (out.new ≡ patch 0 result.written out.old) ⌝ }
+    ensures { let outcome = make_key seed.now identifier.now tree.old out.old in
+        (result.number ≡ outcome.refusal)
+        × (result.written ≡ length outcome.written)
+        × (tree.new ≡ outcome.tree)
+        × (out.new ≡ patch 0 outcome.written out.old) }
 {
     let n = make_key_refusal(seed, identifier, tree, out);
     if n != 0 {
@@ -108,12 +107,11 @@ pub fn sign(
     message: &[u8],
     out: &mut [u8],
 ) -> Written
-    ensures* { λ r.
-        let result = signatures.sign leaf message.now
+    ensures { let outcome = signatures.sign leaf message.now
         seed.now identifier.now randomizer.now tree.now out.old in
-        ⌜ (r.number ≡ result.refusal)
-        × (r.written ≡ length result.written)
-        × (out.new ≡ patch 0 result.written out.old) ⌝ }
+        (result.number ≡ outcome.refusal)
+        × (result.written ≡ length outcome.written)
+        × (out.new ≡ patch 0 outcome.written out.old) }
 {
     let n = sign_refusal(leaf, seed, identifier, randomizer, tree, message, out);
     if n != 0 {

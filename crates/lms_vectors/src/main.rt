@@ -1,37 +1,49 @@
 // The signature vectors: the RFC's test cases level by level, and Bouncy Castle's, sound and damaged; then the key maker and the
 // signer with the seeds of keys of types 6 and 4. Standard input has the records that scripts/make_vectors.py writes from the
 // files of vectors/, and the file `stdout` the answers in those files.
+#![tactic(auto)]
+
 use layout::SIGNATURE;
-use libc::{STDIN_FILENO, STDOUT_FILENO};
+use std::io;
+use std::io::{ErrorKind, Read};
 
 // An operand read: its length, or the end of the input.
-#[derive(Drop)]
+#[derive(Clone, Copy)]
 enum Field {
     Of(usize),
     End,
 }
 
-// An operand's length, in two bytes.
-fn length() -> Field {
-    let mut two = [0u8; 2];
-    if io::read_full(STDIN_FILENO, &mut two) < 2 {
-        return Field::End;
+// Fills the buffer, and answers whether the input had that many bytes.
+fn fill(input: &mut impl Read, buf: &mut [u8]) -> io::Result<bool> {
+    match input.read_exact(buf) {
+        Ok(()) => Ok(true),
+        Err(e) if e.kind() == ErrorKind::UnexpectedEof => Ok(false),
+        Err(e) => Err(e),
     }
-    Field::Of((octets::wide(two[0]) * 256 + octets::wide(two[1])) as usize)
+}
+
+// An operand's length, in two bytes.
+fn length(input: &mut impl Read) -> io::Result<Field> {
+    let mut two = [0u8; 2];
+    if !fill(input, &mut two)? {
+        return Ok(Field::End);
+    }
+    Ok(Field::Of((octets::wide(two[0]) * 256 + octets::wide(two[1])) as usize))
 }
 
 // Reads an operand, after its length, to the start of `space`.
-fn operand(space: &mut [u8]) -> Field {
-    let Field::Of(n) = length() else {
-        return Field::End;
+fn operand(input: &mut impl Read, space: &mut [u8]) -> io::Result<Field> {
+    let Field::Of(n) = length(input)? else {
+        return Ok(Field::End);
     };
     if space.len() < n {
-        return Field::End;
+        return Ok(Field::End);
     }
-    if io::read_full(STDIN_FILENO, &mut space[..n]) < n {
-        return Field::End;
+    if !fill(input, &mut space[..n])? {
+        return Ok(Field::End);
     }
-    Field::Of(n)
+    Ok(Field::Of(n))
 }
 
 // The first n bytes, or all where there are fewer.
@@ -42,32 +54,26 @@ fn first(s: &[u8], n: usize) -> &[u8] {
     &s[..n]
 }
 
-fn print(text: &[u8]) {
-    io::write_all(STDOUT_FILENO, text);
-}
-
-fn print_bytes(bytes: &[u8]) {
-    let mut i = 0;
-    while i < bytes.len() {
-        io::print_hex(STDOUT_FILENO, bytes[i] as u64, 2);
-        i += 1;
+fn print_bytes(rt: &impl Print, bytes: &[u8]) -> io::Result<()> {
+    for byte in bytes {
+        print!(rt; "{byte:02x}")?;
     }
-    print(b"\n");
+    rt.println("")
 }
 
 // A record to check: key, message, signature. Answers whether the record was whole.
-fn check() -> bool {
+fn check(rt: &impl Print, input: &mut impl Read) -> io::Result<bool> {
     let mut key = [0u8; 256];
     let mut message = [0u8; 1024];
     let mut signature = [0u8; 4096];
-    let Field::Of(k) = operand(&mut key) else {
-        return false;
+    let Field::Of(k) = operand(input, &mut key)? else {
+        return Ok(false);
     };
-    let Field::Of(m) = operand(&mut message) else {
-        return false;
+    let Field::Of(m) = operand(input, &mut message)? else {
+        return Ok(false);
     };
-    let Field::Of(s) = operand(&mut signature) else {
-        return false;
+    let Field::Of(s) = operand(input, &mut signature)? else {
+        return Ok(false);
     };
     let number = lms::calls::check_signature(
         first(&key, k),
@@ -75,26 +81,32 @@ fn check() -> bool {
         first(&signature, s),
     );
     if number == 0 {
-        print(b" accept\n");
+        rt.println(" accept")?;
     } else {
-        print(b" reject\n");
+        rt.println(" reject")?;
     }
-    true
+    Ok(true)
 }
 
 // A record to sign, under the seed and identifier given: leaf, randomizer, message.
-fn sign(seed: &[u8], identifier: &[u8], tree: &[u8]) -> bool {
+fn sign(
+    rt: &impl Print,
+    input: &mut impl Read,
+    seed: &[u8],
+    identifier: &[u8],
+    tree: &[u8],
+) -> io::Result<bool> {
     let mut leaf = [0u8; 4];
     let mut randomizer = [0u8; 32];
     let mut message = [0u8; 1024];
-    let Field::Of(l) = operand(&mut leaf) else {
-        return false;
+    let Field::Of(l) = operand(input, &mut leaf)? else {
+        return Ok(false);
     };
-    let Field::Of(r) = operand(&mut randomizer) else {
-        return false;
+    let Field::Of(r) = operand(input, &mut randomizer)? else {
+        return Ok(false);
     };
-    let Field::Of(m) = operand(&mut message) else {
-        return false;
+    let Field::Of(m) = operand(input, &mut message)? else {
+        return Ok(false);
     };
     let mut out = [0u8; SIGNATURE];
     let q = octets::word_at(&leaf, 0);
@@ -107,80 +119,85 @@ fn sign(seed: &[u8], identifier: &[u8], tree: &[u8]) -> bool {
         first(&message, m),
         &mut out,
     );
-    print(b" ");
-    print_bytes(&out);
-    0 < l
+    rt.print(" ")?;
+    print_bytes(rt, &out)?;
+    Ok(0 < l)
 }
 
 // `count` records to sign.
-fn sign_all(seed: &[u8], identifier: &[u8], tree: &[u8], count: u8) -> bool {
-    let mut left = count;
-    while 0 < left {
-        if !named() {
-            return false;
+fn sign_all(
+    rt: &impl Print,
+    input: &mut impl Read,
+    seed: &[u8],
+    identifier: &[u8],
+    tree: &[u8],
+    count: u8,
+) -> io::Result<bool> {
+    for _ in 0..count {
+        if !named(rt, input)? {
+            return Ok(false);
         }
-        if !sign(seed, identifier, tree) {
-            return false;
+        if !sign(rt, input, seed, identifier, tree)? {
+            return Ok(false);
         }
-        left -= 1;
     }
-    true
+    Ok(true)
 }
 
 // A key to make, and then records to sign with it, as many as a byte says.
-fn make_and_sign() -> bool {
+fn make_and_sign(rt: &impl Print, input: &mut impl Read) -> io::Result<bool> {
     let mut seed = [0u8; 32];
     let mut identifier = [0u8; 16];
-    let Field::Of(s) = operand(&mut seed) else {
-        return false;
+    let Field::Of(s) = operand(input, &mut seed)? else {
+        return Ok(false);
     };
-    let Field::Of(i) = operand(&mut identifier) else {
-        return false;
+    let Field::Of(i) = operand(input, &mut identifier)? else {
+        return Ok(false);
     };
-    let mut tree = io::large_buffer();
+    let mut tree = [0u8; 65536];
     let mut key = [0u8; 56];
     let secret = first(&seed, s);
     let name = first(&identifier, i);
     lms::calls::make_key(secret, name, &mut tree, &mut key);
-    print(b" ");
-    print_bytes(&key);
+    rt.print(" ")?;
+    print_bytes(rt, &key)?;
     let mut count = [0u8; 1];
-    if io::read_full(STDIN_FILENO, &mut count) < 1 {
-        return false;
+    if !fill(input, &mut count)? {
+        return Ok(false);
     }
-    sign_all(secret, name, &tree, count[0])
+    sign_all(rt, input, secret, name, &tree, count[0])
 }
 
 // Prints the name at the start of a record.
-fn named() -> bool {
+fn named(rt: &impl Print, input: &mut impl Read) -> io::Result<bool> {
     let mut name = [0u8; 256];
-    let Field::Of(n) = operand(&mut name) else {
-        return false;
+    let Field::Of(n) = operand(input, &mut name)? else {
+        return Ok(false);
     };
-    print(first(&name, n));
-    true
+    rt.write_all(first(&name, n))?;
+    Ok(true)
 }
 
-fn record() -> bool {
+fn record(rt: &impl Print, input: &mut impl Read) -> io::Result<bool> {
     let mut kind = [0u8; 1];
-    if io::read_full(STDIN_FILENO, &mut kind) < 1 {
-        return false;
+    if !fill(input, &mut kind)? {
+        return Ok(false);
     }
-    if !named() {
-        return false;
+    if !named(rt, input)? {
+        return Ok(false);
     }
     if kind[0] == b'C' {
-        return check();
+        return check(rt, input);
     }
-    make_and_sign()
+    make_and_sign(rt, input)
 }
 
-fn main() {
-    let mut left: u32 = 1000;
-    while 0 < left {
-        if !record() {
-            return;
+fn main(rt: HostRuntime) -> io::Result<()> {
+    let mut input = rt.reader();
+    for _ in 0..1000 {
+        if !record(&rt, &mut input)? {
+            return Ok(());
         }
-        left -= 1;
     }
+    Ok(())
 }

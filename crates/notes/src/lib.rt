@@ -1,4 +1,6 @@
 // The note of a unit's record, written and read back (document 02, item 2).
+#![tactic(auto)]
+
 ghost use Rattle.std.specs.Prelude.{◌≡◌, [], ◌∷◌};
 ghost use Rattle.refusal.specs.Refusal.{first_of};
 ghost use Rattle.protocol.specs.Refusals.{RECORD, write_note_conditions};
@@ -29,10 +31,9 @@ fn write_refusal(r: Record, out: &[u8]) -> u32
 
 // "The record shall be written out as a note": the refusal number and 0, or 0 and the number of bytes written to `out`.
 pub fn write_note(r: Record, out: &mut [u8]) -> Written
-    ensures* { λ answer.
-        let result = calls.write_note r out.old in
-        ⌜ (answer ≡ calls.made result)
-        × (out.new ≡ calls.out_after result.written out.old) ⌝ }
+    ensures { let outcome = calls.write_note r out.old in
+        (result ≡ calls.made outcome)
+        × (out.new ≡ calls.out_after outcome.written out.old) }
 {
     let number = write_refusal(r, out);
     if number != 0 {

@@ -1,4 +1,6 @@
 // Bytes in lent buffers: big-endian words, copies and comparison.
+#![tactic(auto)]
+
 ghost use Rattle.std.specs.Prelude.{◌≡◌, ◌+◌, ◌<◌, ◌≤◌, length};
 ghost use Rattle.octets.specs.Octets.{be, patch, word_at};
 ghost use Rattle.octets.specs.Strings as Strings;

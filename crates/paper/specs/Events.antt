@@ -79,7 +79,7 @@ pub record FitSubmit (S : Setting) (seat : ℕ) (c : Called) (value signature : 
   -- 7
   pub out_room : out_length S.n ≤ length out
   -- 8
-  pub first : c.unit.own_val.submitted ≡ false
+  pub first : c.unit.own.submitted ≡ false
   -- 9
   pub sized_value : length value ≡ value_length
   pub sized_signature : length signature ≡ signature_length

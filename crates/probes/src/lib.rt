@@ -1,5 +1,7 @@
 // The layers below the library's calls, and a copy of the lower certificate, exported for measurement and comparison. No part of what
 // ships.
+#![tactic(auto)]
+
 ghost use Rattle.std.specs.Prelude.{◌≡◌, ◌≤◌, length};
 ghost use Rattle.octets.specs.Octets.{patch, words};
 ghost use Rattle.quorum.specs.Quorum as Quorum;

@@ -202,9 +202,10 @@ module _
           joining-parts = (packs.0, packs.1.0, packs.1.1.0);
         }
 
-    -- the first in the order
+    -- the first in the order, since each list follows it, by computation as in `lists_follow`
     pub answers : Answers FirstInOrder
-    answers = answers_each FirstInOrder order finds_first lists_follow.0
+    unfolding every follows order numbers opening_conditions submit_conditions step_conditions evidence_conditions check_conditions make_key_conditions sign_conditions write_note_conditions outside_conditions record_conditions message_conditions certificate_conditions pack_conditions joined_conditions
+    answers = answers_each FirstInOrder order finds_first refl
 
     -- and reading a note, the only call that has 17
     pub answers-note : FirstInOrder (calls.read_note note).number (read_note_conditions note)
@@ -213,4 +214,5 @@ module _
 
     -- "The lowest number whose condition holds is returned": of document 01's numbers
     pub answers-lowest : Answers Lowest
-    answers-lowest = answers_each Lowest of_document01 finds_lowest lists_follow.1
+    unfolding every follows of_document01 numbers opening_conditions submit_conditions step_conditions evidence_conditions check_conditions make_key_conditions sign_conditions write_note_conditions outside_conditions record_conditions message_conditions certificate_conditions pack_conditions joined_conditions
+    answers-lowest = answers_each Lowest of_document01 finds_lowest refl

@@ -30,9 +30,9 @@ write m s = record { unit = s.unit; store = s.store; written = s.written ++ m �
 unfoldable pub collect : ℕ → List ℕ → State → State
 collect seat signature s = record {
   unit = with_own s.unit (record {
-    submitted = s.unit.own_val.submitted;
-    value = s.unit.own_val.value;
-    collected = with seat s.unit.own_val.collected;
+    submitted = s.unit.own.submitted;
+    value = s.unit.own.value;
+    collected = with seat s.unit.own.collected;
   });
   store = fill s.unit.n collected_bank seat signature s.store;
   written = s.written;
@@ -40,7 +40,7 @@ collect seat signature s = record {
 
 -- "the value kept"
 unfoldable pub set_own_value : List ℕ → State → State
-set_own_value value s = with_unit s (with_own s.unit (record { submitted = true; value = value; collected = s.unit.own_val.collected }))
+set_own_value value s = with_unit s (with_own s.unit (record { submitted = true; value = value; collected = s.unit.own.collected }))
 
 -- "Submit: the own signature is checked like any other, the value kept, the signature collected, SUBMIT written."
 unfoldable pub submit_own : List ℕ → List ℕ → State → State
@@ -73,7 +73,7 @@ keep_if_first seat value signature s = cond (has seat s.unit.kept) s (keep seat 
 -- after it is collected if it is wanted.
 unfoldable pub hear_submit : ℕ → List ℕ → List ℕ → State → State
 hear_submit seat value signature s =
-    cond s.unit.own_val.submitted (collect_if_wanted seat value signature s) (keep_if_first seat value signature s)
+    cond s.unit.own.submitted (collect_if_wanted seat value signature s) (keep_if_first seat value signature s)
 
 -- "until k is reached": the seat is kept, and fewer than k are collected
 unfoldable pub is_open_to : ℕ → Record → Bool
@@ -174,7 +174,7 @@ is_complete r = not r.confirmed && eqb (size r.own.collected) (k r.n)
 
 -- "the unit confirms, writes NOTICE"
 unfoldable pub confirm : State → State
-confirm s = write (Notice s.unit.round s.unit.seat s.unit.own_val.value) (with_unit s (with_confirmed s.unit))
+confirm s = write (Notice s.unit.round s.unit.seat s.unit.own.value) (with_unit s (with_confirmed s.unit))
 
 -- "and treats its own certificate like one heard"
 unfoldable pub hear_own : State → State

@@ -373,25 +373,32 @@ pub t0-below-third : (n : ℕ) → 1 ≤ n → (3 * t0 n < n) × (n ≤ 3 * t0 n
 unfolding t0
 t0-below-third n h = omega arith
 
+-- what two sets have each and what they share: at most n seats in all
+two_sets : (n a b : ℕ) → a < 2 ^ n → b < 2 ^ n → size a + size b ≤ n + size (shared a b)
+two_sets n a b la lb = omega (arith, size-union-shared a b, size_le n (union a b) (union_lt n a b la lb))
+
 -- any two sets of k or more of the n seats share at least t0 + 1, whatever the width of the masks that hold them
 quorums_share : (n a b : ℕ) → 1 ≤ n → a < 2 ^ n → b < 2 ^ n → k n ≤ size a → k n ≤ size b → t0 n + 1 ≤ size (shared a b)
 unfolding k
-quorums_share n a b h la lb qa qb = omega (arith, t0-below-third n h, size-union-shared a b, size_le n (union a b) (union_lt n a b la lb))
+quorums_share n a b h la lb qa qb = omega (arith, t0-below-third n h, two_sets n a b la lb)
 
 -- the same for two sets of just k seats
 pub k_of_n_share : (n a b : ℕ) → 1 ≤ n → a < 2 ^ n → b < 2 ^ n → size a ≡ k n → size b ≡ k n → t0 n + 1 ≤ size (shared a b)
-k_of_n_share n a b h la lb ea eb = quorums_share n a b h la lb (omega arith) (omega arith)
+unfolding k
+k_of_n_share n a b h la lb ea eb = omega (arith, t0-below-third n h, two_sets n a b la lb)
 
 -- the same in masks of any width w from n on, with no seat at or above n; and in masks of 32 bits
 pub k_of_n_share_in : (w n a b : ℕ) → 1 ≤ n → n ≤ w → a < 2 ^ w → b < 2 ^ w → outside n a ≡ false → outside n b ≡ false
     → size a ≡ k n → size b ≡ k n → t0 n + 1 ≤ size (shared a b)
-k_of_n_share_in w n a b h _ _ _ oa ob = k_of_n_share n a b h ((outside-false n a).0 oa) ((outside-false n b).0 ob)
+unfolding k
+k_of_n_share_in w n a b h _ _ _ oa ob ea eb = omega (arith, t0-below-third n h, two_sets n a b ((outside-false n a).0 oa) ((outside-false n b).0 ob))
 
 pub k_of_n_share_32 : (n a b : ℕ) → 1 ≤ n → n ≤ 32 → a < 2 ^ 32 → b < 2 ^ 32 → outside n a ≡ false → outside n b ≡ false
     → size a ≡ k n → size b ≡ k n → t0 n + 1 ≤ size (shared a b)
-k_of_n_share_32 = k_of_n_share_in 32
+unfolding k
+k_of_n_share_32 n a b h _ _ _ oa ob ea eb = omega (arith, t0-below-third n h, two_sets n a b ((outside-false n a).0 oa) ((outside-false n b).0 ob))
 
 -- of k seats, k − t0 or more stand in any other k
 pub k_of_n_share_most : (n a b : ℕ) → 1 ≤ n → a < 2 ^ n → b < 2 ^ n → size a ≡ k n → size b ≡ k n → k n ≤ size (shared a b) + t0 n
 unfolding k
-k_of_n_share_most n a b h la lb ea eb = omega (arith, t0-below-third n h, size-union-shared a b, size_le n (union a b) (union_lt n a b la lb))
+k_of_n_share_most n a b h la lb ea eb = omega (arith, t0-below-third n h, two_sets n a b la lb)

@@ -1,4 +1,6 @@
 // Seats and thresholds: t0 and k of n, and sets of seats as masks.
+#![tactic(auto)]
+
 ghost use Rattle.std.specs.Prelude.{◌≡◌, ◌≤◌, ◌<◌};
 ghost use Rattle.quorum.specs.Quorum.{most_seats, t0, k, has, size, one, union, with, all, shared, less, outside};
 

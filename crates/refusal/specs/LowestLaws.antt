@@ -18,6 +18,7 @@ above m (c ∷ xs) e n (inl h) = omega (arith, (rises m c.0 (numbers xs) e).0, h
 above m (c ∷ xs) e n (inr h) =
     let p = rises m c.0 (numbers xs) e in
     omega (arith, p.0, above c.0 xs p.1 n h)
+above m [] e n x'' = elim x'' [ ]
 
 first_holds : (m n : ℕ) (xs : List (ℕ × Bool)) → rise_from m (numbers ((n, true) ∷ xs)) ≡ true → Lowest n ((n, true) ∷ xs)
 unfolding numbers Holds

@@ -1,4 +1,5 @@
 // The numbers of document 01's table, "What is turned back", and of document 02, items 2 and 6.
+#![tactic(auto)]
 
 pub const SIZE: u32 = 1;
 

@@ -1,4 +1,6 @@
 // The compression of one block (FIPS 180-4, section 6.2.2).
+#![tactic(auto)]
+
 ghost use Rattle.std.specs.Prelude.{◌≡◌, List, ℕ, ◌+◌, ◌<◌, ◌≤◌, length, take};
 ghost use Rattle.fips180.specs.Constants.{constants};
 ghost use Rattle.fips180.specs.Fips as Fips;

@@ -1,4 +1,6 @@
 // The constants of FIPS 180-4: the round constants, worked out from the standard's rule, and the initial hash value.
+#![tactic(auto)]
+
 ghost use Rattle.std.specs.Prelude.{◌≡◌, ◌+◌, ◌*◌, ◌^◌, ◌≤◌, ◌<◌, leb};
 ghost use Rattle.fips180.specs.Constants.{constants, initial};
 ghost use Rattle.fips180.specs.Rule.{IsIntegerRoot};

@@ -5,6 +5,8 @@
 // Blocks of a lane that agree in words 0 to 4, 14 and 15, and in the hash value before them, have a common start: the first five
 // rounds, round 5 without its word, and the share of these words in the schedule. `begin` makes it once, and `compress` goes on
 // from it.
+#![tactic(auto)]
+
 ghost use Rattle.std.specs.Prelude.{◌≡◌, ℕ, ◌+◌, ◌-◌, ◌*◌, ◌<◌, ◌≤◌, List, length, get_or};
 ghost use Rattle.std.specs.Int.Bits.{bit_and, bit_xor};
 ghost use Rattle.fips180.specs.Constants.{constants};

@@ -1,4 +1,6 @@
 // SHA-256 on 32-bit words: the functions of FIPS 180-4, section 4.1.2, and the two sums of a round.
+#![tactic(auto)]
+
 ghost use Rattle.std.specs.Prelude.{◌≡◌, ◌<◌};
 ghost use Rattle.fips180.specs.Fips as Fips;
 

@@ -54,7 +54,7 @@ pub fn seat_verdict(
 }
 
 // A signature in a message: its place, and the place of the value that it signs.
-#[derive(Drop)]
+#[derive(Clone, Copy)]
 pub struct Place {
     pub value: usize,
     pub signature: usize,
@@ -143,7 +143,7 @@ fn full_verdict(k: &[u32; 64], n: u32, round: u32, keys: &[u8], m: &[u8]) -> Ver
 // ---- EVIDENCE
 
 // A pair of signatures in a message: the seat of both, and their places.
-#[derive(Drop)]
+#[derive(Clone, Copy)]
 pub struct Pair {
     pub seat: u32,
     pub lower: Place,

@@ -8,14 +8,14 @@ use crate::slots::signature_at;
 use layout::Bank;
 use quorum::Mask;
 
-#[derive(Drop)]
+#[derive(Clone, Copy)]
 pub enum Place {
     Entries,
     Slots(Bank),
 }
 
 // A certificate's seats, and the place of their signatures.
-#[derive(Drop)]
+#[derive(Clone, Copy)]
 pub struct Source {
     pub place: Place,
     pub seats: Mask,

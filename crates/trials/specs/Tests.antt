@@ -596,7 +596,7 @@ module _ (S : Setting) where
     pub own_guilty_not : own_guilty unit ≡ false → ⊥
     unfolding own_guilty
     own_guilty_not e =
-        let own = unit.own_val in
+        let own = unit.own in
         let both = both_false (not unit.confirmed) (shared_guilty unit own.value (seats n own.collected)) e in
         shared-guilty unit own.value (seats n own.collected) both.1
         (λ seat differ stands held.

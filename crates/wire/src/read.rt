@@ -14,7 +14,7 @@ use octets::wide;
 use quorum::Mask;
 
 // The kinds of messages: EVIDENCE is of two, the old 0x05 and 0x07; `Garbled` is for bytes that are none.
-#[derive(Drop)]
+#[derive(Clone, Copy)]
 pub enum Kind {
     Submit,
     Notice,

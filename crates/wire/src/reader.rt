@@ -6,14 +6,14 @@ ghost use Rattle.wire.specs.Answers.{Found};
 use crate::entries::seat_of_entry;
 use crate::read::number_at;
 
-#[derive(Drop)]
+#[derive(Clone, Copy)]
 pub struct Reader<'a> {
     pub full: &'a [u8],
     pub next: usize,
 }
 
 // The next entry of a reader, by its seat and the place of its signature, or the end.
-#[derive(Drop)]
+#[derive(Clone, Copy)]
 pub enum Next {
     Entry { seat: u32, signature: usize },
     End,

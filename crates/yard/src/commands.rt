@@ -12,7 +12,7 @@ use octets::wide;
 use protocol::{Opened, Record, Stepped};
 
 // Answer of a command: whether the program ends with it, the record after it, and the line to print.
-#[derive(Drop)]
+#[derive(Clone, Copy)]
 pub struct Answer {
     pub ends: bool,
     pub unit: Record,

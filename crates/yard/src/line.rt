@@ -4,7 +4,7 @@ ghost use Rattle.octets.specs.Octets.{patch};
 ghost use Rattle.yard.specs.Line.{decimal, line, in_space, Fits};
 
 // A line: the first `length` bytes of `text`.
-#[derive(Drop)]
+#[derive(Clone, Copy)]
 pub struct Line {
     pub text: [u8; 22],
     pub length: usize,

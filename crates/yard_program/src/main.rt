@@ -1,4 +1,9 @@
 // The yard's program, given document 01's example.
-fn main() {
-    yard_io::run();
+#![tactic(auto)]
+
+use std::io;
+
+fn main(rt: HostRuntime) -> io::Result<()> {
+    yard_io::run(&rt)?;
+    Ok(())
 }

@@ -1,4 +1,6 @@
 // The C interface: the functions that libzolbine.a exports, declared in include/zolbine.h. Each is thin over the crates below.
+#![tactic(auto)]
+
 ghost use Rattle.std.specs.Prelude.{◌≡◌, length};
 ghost use Rattle.octets.specs.Octets.{patch};
 ghost use Rattle.protocol.specs.Calls as calls;
@@ -42,12 +44,11 @@ pub extern "C" fn zolbine_make_key(
     tree: &mut [u8],
     out: &mut [u8],
 ) -> Written
-    ensures* { λ r.
-        let result = make_key seed.now identifier.now tree.old out.old in
-        ⌜ (r.number ≡ result.refusal)
-        × (r.written ≡ length result.written)
-        × (tree.new ≡ result.tree)
-        × (out.new ≡ patch 0 result.written out.old) ⌝ }
+    ensures { let outcome = make_key seed.now identifier.now tree.old out.old in
+        (result.number ≡ outcome.refusal)
+        × (result.written ≡ length outcome.written)
+        × (tree.new ≡ outcome.tree)
+        × (out.new ≡ patch 0 outcome.written out.old) }
 {
     lms::calls::make_key(seed, identifier, tree, out)
 }
@@ -63,12 +64,11 @@ pub extern "C" fn zolbine_sign(
     message: &[u8],
     out: &mut [u8],
 ) -> Written
-    ensures* { λ r.
-        let result = sign leaf message.now
+    ensures { let outcome = sign leaf message.now
         seed.now identifier.now randomizer.now tree.now out.old in
-        ⌜ (r.number ≡ result.refusal)
-        × (r.written ≡ length result.written)
-        × (out.new ≡ patch 0 result.written out.old) ⌝ }
+        (result.number ≡ outcome.refusal)
+        × (result.written ≡ length outcome.written)
+        × (out.new ≡ patch 0 outcome.written out.old) }
 {
     lms::calls::sign(leaf, seed, identifier, randomizer, tree, message, out)
 }
@@ -97,11 +97,10 @@ pub extern "C" fn zolbine_make_evidence(
     second: &[u8],
     out: &mut [u8],
 ) -> Written
-    ensures* { λ r.
-        let result = calls.making (checks keys.now round) n round keys.now
+    ensures { let outcome = calls.making (checks keys.now round) n round keys.now
         first.now second.now out.old in
-        ⌜ (r ≡ calls.made result)
-        × (out.new ≡ calls.out_after result.written out.old) ⌝ }
+        (result ≡ calls.made outcome)
+        × (out.new ≡ calls.out_after outcome.written out.old) }
 {
     evidence::make_evidence(n, round, keys, first, second, out)
 }
@@ -116,11 +115,10 @@ pub extern "C" fn zolbine_join_evidence(
     second: &[u8],
     out: &mut [u8],
 ) -> Written
-    ensures* { λ r.
-        let result = calls.joining (checks keys.now round) n round keys.now
+    ensures { let outcome = calls.joining (checks keys.now round) n round keys.now
         first.now second.now out.old in
-        ⌜ (r ≡ calls.made result)
-        × (out.new ≡ calls.out_after result.written out.old) ⌝ }
+        (result ≡ calls.made outcome)
+        × (out.new ≡ calls.out_after outcome.written out.old) }
 {
     joining::join_evidence(n, round, keys, first, second, out)
 }
@@ -145,12 +143,11 @@ pub extern "C" fn zolbine_submit(
     signature: &[u8],
     out: &mut [u8],
 ) -> Stepped
-    ensures* { λ r.
-        let result = calls.submit (checks keys.now unit.round) keys.now unit
+    ensures { let outcome = calls.submit (checks keys.now unit.round) keys.now unit
         store.old value.now signature.now out.old in
-        ⌜ (r ≡ calls.answer result)
-        × (store.new ≡ result.store)
-        × (out.new ≡ calls.out_after result.written out.old) ⌝ }
+        (result ≡ calls.answer outcome)
+        × (store.new ≡ outcome.store)
+        × (out.new ≡ calls.out_after outcome.written out.old) }
 {
     confirmer::calls::submit(unit, keys, store, value, signature, out)
 }
@@ -164,12 +161,11 @@ pub extern "C" fn zolbine_step(
     message: &[u8],
     out: &mut [u8],
 ) -> Stepped
-    ensures* { λ r.
-        let result = calls.step (checks keys.now unit.round) keys.now unit
+    ensures { let outcome = calls.step (checks keys.now unit.round) keys.now unit
         store.old message.now out.old in
-        ⌜ (r ≡ calls.answer result)
-        × (store.new ≡ result.store)
-        × (out.new ≡ calls.out_after result.written out.old) ⌝ }
+        (result ≡ calls.answer outcome)
+        × (store.new ≡ outcome.store)
+        × (out.new ≡ calls.out_after outcome.written out.old) }
 {
     confirmer::calls::step(unit, keys, store, message, out)
 }
@@ -183,14 +179,13 @@ pub extern "C" fn zolbine_step_lent(
     message: &[u8],
     out: &mut [u8],
 ) -> Written
-    ensures* { λ r.
-        let result = calls.step (checks keys.now unit.old.round) keys.now
+    ensures { let outcome = calls.step (checks keys.now unit.old.round) keys.now
         unit.old store.old message.now out.old in
-        ⌜ (r.number ≡ result.refusal)
-        × (r.written ≡ length result.written)
-        × (unit.new ≡ result.unit)
-        × (store.new ≡ result.store)
-        × (out.new ≡ calls.out_after result.written out.old) ⌝ }
+        (result.number ≡ outcome.refusal)
+        × (result.written ≡ length outcome.written)
+        × (unit.new ≡ outcome.unit)
+        × (store.new ≡ outcome.store)
+        × (out.new ≡ calls.out_after outcome.written out.old) }
 {
     let a = confirmer::calls::step(*unit, keys, store, message, out);
     *unit = a.unit;
@@ -203,10 +198,9 @@ pub extern "C" fn zolbine_step_lent(
 // "The record shall be written out as a note" (document 02, item 2).
 #[unsafe(no_mangle)]
 pub extern "C" fn zolbine_write_note(unit: Record, out: &mut [u8]) -> Written
-    ensures* { λ r.
-        let result = calls.write_note unit out.old in
-        ⌜ (r ≡ calls.made result)
-        × (out.new ≡ calls.out_after result.written out.old) ⌝ }
+    ensures { let outcome = calls.write_note unit out.old in
+        (result ≡ calls.made outcome)
+        × (out.new ≡ calls.out_after outcome.written out.old) }
 {
     notes::write_note(unit, out)
 }

@@ -6,50 +6,50 @@ use Rattle.evidence.proofs.lower_certificate.Statement.{statement}
 use Rattle.evidence.proofs.lower_certificate.Tie as tie
 
 -- arguments of the call
-abbrev call : tie.After-outside-refusal → Call
-call c = let args = c.before.before.before.before.args in record { n = args.n; round = args.round; keys = args.keys.now }
+abbrev call : tie.After-outside_refusal-outside → Call
+call c = let args = c.args in record { n = args.n; round = args.round; keys = args.keys.now }
 
 -- n, round and key table pass
-clear : (c : tie.Else1) → Clear (call c.before)
-clear c = record { number = _; told = c.before.outside-refusal.ensures; none = c.if1.false }
+clear : (c : tie.Else-outside-ne0) → Clear (call c.before)
+clear c = record { number = _; told = c.outside_refusal-outside.ensures; none = c.if-outside-ne0.false }
 
 -- the verdict on the two certificates
-abbrev verdict : tie.After-struct-known → tie.After-two-refusal
+abbrev verdict : tie.After-struct_known-1 → tie.After-two_refusal-two
 verdict c = c.before
 
-abbrev weighed : tie.After-first-is-lower → tie.After-two-refusal
+abbrev weighed : tie.After-first_is_lower → tie.After-two_refusal-two
 weighed c = verdict c.before.before
 
-returns : tie.Need-returns
+returns : tie.Need-returns-then-outside-ne0
 returns c =
     let o = c.before.before in
-    lower-outside (call o) _ _ c.nothing.ensures o.outside-refusal.ensures c.before.if1.true
+    lower-outside (call o) _ _ c.nothing.ensures o.outside_refusal-outside.ensures c.if-outside-ne0.true
 
-two-refusal-requires : tie.Need-two-refusal-requires
+two-refusal-requires : tie.Need-two_refusal-two-requires
 two-refusal-requires c κs = given (clear c)
 
-returns-2 : tie.Need-returns-2
+returns-2 : tie.Need-returns-then-two-ne0
 returns-2 c =
     let v = verdict c.before.before in
-    lower-refused (clear v.before) _ _ v.two-refusal.ensures c.nothing2.ensures c.before.if2.true
+    lower-refused (clear v.before) _ _ v.two_refusal-two.ensures c.nothing-then-two-ne0.ensures c.if-two-ne0.true
 
-first-is-lower-requires : tie.Need-first-is-lower-requires
-first-is-lower-requires c κs = let v = verdict c.before in both-taken _ _ (conflicting _ _ _ _ _ v.two-refusal.ensures c.if2.false)
+first-is-lower-requires : tie.Need-first_is_lower-requires
+first-is-lower-requires c κs = let v = verdict c.before in both-taken _ _ (conflicting _ _ _ _ _ v.two_refusal-two.ensures c.if-two-ne0.false)
 
-returns-3 : tie.Need-returns-3
+returns-3 : tie.Need-returns-then-first_is_lower
 returns-3 c =
     let compared = c.before in
     let v = weighed compared in
-    first_lower (clear v.before) _ _ v.two-refusal.ensures compared.before.if2.false compared.first-is-lower.ensures _ _ c.if3.true
+    first_lower (clear v.before) _ _ v.two_refusal-two.ensures compared.if-two-ne0.false compared.first_is_lower.ensures _ _ c.if-first_is_lower.true
 
-returns-4 : tie.Need-returns-4
+returns-4 : tie.Need-returns
 returns-4 c =
     let compared = c.before in
     let v = weighed compared in
-    second-lower (clear v.before) _ _ v.two-refusal.ensures compared.before.if2.false compared.first-is-lower.ensures _ _ c.if3.false
+    second-lower (clear v.before) _ _ v.two_refusal-two.ensures compared.if-two-ne0.false compared.first_is_lower.ensures _ _ c.if-first_is_lower.false
 
-pub lower-certificate-spec : {M : Type 1} → statement M
-lower-certificate-spec =
+pub lower_certificate_spec : {M : Type 1} → statement M
+lower_certificate_spec =
     tie.close
     (tie.spec
     (λ c κs. search rules)

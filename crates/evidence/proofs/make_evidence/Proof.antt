@@ -11,50 +11,47 @@ use Rattle.evidence.proofs.make_evidence.Statement.{statement}
 use Rattle.evidence.proofs.make_evidence.Tie as tie
 
 -- arguments of the call
-abbrev started : tie.After-making-refusal → tie.Start
-started c = c.before.before.before.before.before.before
+abbrev started : tie.After-making_refusal-given → tie.Start
+started c = c.before.before.before.before.before
 
-abbrev call : tie.After-making-refusal → Call
-call c = let args = (started c).args in record { n = args.n; round = args.round; keys = args.keys.now }
+abbrev call : tie.After-making_refusal-given → Call
+call c = let args = c.args in record { n = args.n; round = args.round; keys = args.keys.now }
 
 -- n, round, key table and out are right
-right : (c : tie.Else1) → let args = (started c.before).args in Given args.n args.round args.keys.now × (evidence_out_length args.n ≤ length args.out.now)
-right c = given_right _ _ _ _ _ _ c.before.making-refusal.ensures c.if1.false
+right : (c : tie.Else-given-ne0) → let args = c.args in Given args.n args.round args.keys.now × (evidence_out_length args.n ≤ length args.out.now)
+right c = given_right _ _ _ _ _ _ c.making_refusal-given.ensures c.if-given-ne0.false
 
 -- the verdict on the two certificates
-abbrev verdict : tie.After-struct-known → tie.After-two-refusal
+abbrev verdict : tie.After-struct_known-1 → tie.After-two_refusal-two
 verdict c = c.before
 
-returns : tie.Need-returns
-returns c = let given = c.before in making-given-refused (call given) _ _ _ given.making-refusal.ensures c.if1.true
+returns : tie.Need-returns-then-given-ne0
+returns c = let given = c.before in making-given-refused (call given) _ _ _ given.making_refusal-given.ensures c.if-given-ne0.true
 
-two-refusal-requires : tie.Need-two-refusal-requires
+two-refusal-requires : tie.Need-two_refusal-two-requires
 two-refusal-requires c κs = (right c).0
 
-returns-2 : tie.Need-returns-2
+returns-2 : tie.Need-returns-then-two-ne0
 returns-2 c =
     let v = verdict c.before in
     let passed = v.before in
-    making-refused (call passed.before) _ _ _ passed.before.making-refusal.ensures passed.if1.left v.two-refusal.ensures c.if2.true
+    making-refused (call passed.before) _ _ _ passed.making_refusal-given.ensures passed.if-given-ne0.false v.two_refusal-two.ensures c.if-two-ne0.true
 
-write-conflict-requires : tie.Need-write-conflict-requires
+write-conflict-requires : tie.Need-write_conflict-written-requires
 write-conflict-requires c κs =
-    let none = c.before in
-    let v = verdict none.before in
+    let v = verdict c.before.before in
     let given = right v.before in
-    (given.0.some, given.0.most, conflicting _ _ _ _ _ v.two-refusal.ensures none.if2.false, given.1)
+    (given.0.some, given.0.most, conflicting _ _ _ _ _ v.two_refusal-two.ensures c.if-two-ne0.false, given.1)
 
-returns-3 : tie.Need-returns-3
+returns-3 : tie.Need-returns
 returns-3 c =
-    let wrote = c.before.before in
-    let none = wrote.before.before in
-    let v = verdict none.before in
+    let v = verdict c.before.before.before.before.before in
     let passed = v.before in
-    making-done (call passed.before) _ _ _ passed.before.making-refusal.ensures passed.if1.left v.two-refusal.ensures none.if2.false
-    wrote.write-conflict.ensures
+    making-done (call passed.before) _ _ _ passed.making_refusal-given.ensures passed.if-given-ne0.false v.two_refusal-two.ensures c.if-two-ne0.false
+    c.write_conflict-written.ensures
 
-pub make-evidence-spec : {M : Type 1} → statement M
-make-evidence-spec =
+pub make_evidence_spec : {M : Type 1} → statement M
+make_evidence_spec =
     tie.close
     (tie.spec
     (λ c κs. search rules)

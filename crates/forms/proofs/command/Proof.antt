@@ -4,12 +4,12 @@ use Rattle.wire.specs.Answers.{command_of}
 use Rattle.forms.proofs.command.Statement.{statement}
 use Rattle.forms.proofs.command.Tie as tie
 
-enum_told : tie.Need-enum-told
+enum_told : tie.Need-enum_told-1
 enum_told c = search rules
 
-pub command-spec : {M : Type 1} → statement M
+pub command_spec : {M : Type 1} → statement M
 unfolding command_of
-command-spec =
+command_spec =
     tie.close
     (tie.spec
     enum_told
@@ -18,9 +18,9 @@ command-spec =
     (λ c. search rules)
     (λ c. search rules)
     (λ c. search rules)
-    (λ c. rw c.enum_told.given.1)
-    (λ c. rw c.enum-told2.given.1)
-    (λ c. rw c.enum-told3.given.1)
-    (λ c. rw c.enum-told4.given.1)
-    (λ c. rw c.enum-told5.given.1)
-    (λ c. rw c.enum-told6.given.1))
+    (λ c. rw c.in-Submit.is)
+    (λ c. rw c.in-Notice.is)
+    (λ c. rw c.in-Full.is)
+    (λ c. rw c.in-OldEvidence.is)
+    (λ c. rw c.in-Evidence.is)
+    (λ c. rw c.in-Garbled.is))

@@ -5,9 +5,9 @@ use Rattle.forms.specs.Messages.{form_conditions}
 use Rattle.forms.proofs.form_refusal.Statement.{statement}
 use Rattle.forms.proofs.form_refusal.Tie as tie
 
-pub form-refusal-spec : {M : Type 1} → statement M
+pub form_refusal_spec : {M : Type 1} → statement M
 unfolding form_conditions
-form-refusal-spec =
+form_refusal_spec =
     tie.close
     (tie.spec
     (λ c. search rows)

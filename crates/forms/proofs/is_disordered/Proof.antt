@@ -8,9 +8,8 @@ use Rattle.forms.proofs.is_disordered.Tie as tie
 
 returns : tie.Need-returns
 returns c =
-    let found = c.before in
-    let args = found.before.before.args in
-    disorder-told (read args.n args.m.now) c.seats-rise.result (seats_in found.entries_of_lem.result args.m.now) found.entries_of_lem.ensures.0 c.seats-rise.ensures
+    let args = c.args in
+    disorder-told (read args.n args.m.now) c.seats_rise.result (seats_in c.entries_of-found.result args.m.now) c.entries_of-found.ensures.0 c.seats_rise.ensures
 
-pub is-disordered-spec : {M : Type 1} → statement M
-is-disordered-spec = tie.close (tie.spec (λ c κs. search rules) (λ c κs. search rules) returns)
+pub is_disordered_spec : {M : Type 1} → statement M
+is_disordered_spec = tie.close (tie.spec (λ c κs. search rules) (λ c κs. search rules) returns)

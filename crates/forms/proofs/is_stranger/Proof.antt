@@ -6,24 +6,21 @@ use Rattle.forms.specs.TestsLaws.{stranger-sender, stranger-entries}
 use Rattle.forms.proofs.is_stranger.Statement.{statement}
 use Rattle.forms.proofs.is_stranger.Tie as tie
 
-abbrev start : tie.After-sender-outside → tie.Start
+abbrev start : tie.After-sender_outside → tie.Start
 start c = c.before.before
 
-returns : tie.Need-returns
+returns : tie.Need-returns-then-sender_outside
 returns c =
-    let sender = c.before in
-    let args = (start sender).args in
-    stranger-sender args.n (read args.n args.m.now) sender.sender-outside.result sender.sender-outside.ensures c.if1.true
+    let args = c.args in
+    stranger-sender args.n (read args.n args.m.now) c.sender_outside.result c.sender_outside.ensures c.if-sender_outside.true
 
-returns-2 : tie.Need-returns-2
+returns-2 : tie.Need-returns
 returns-2 c =
-    let found = c.before in
-    let sender = found.before.before in
-    let args = (start sender).args in
-    stranger-entries args.n (read args.n args.m.now) sender.sender-outside.result sender.sender-outside.ensures found.before.if1.false
-    c.seats-below.result (seats_in found.entries_of_lem.result args.m.now) found.entries_of_lem.ensures.0 c.seats-below.ensures
+    let args = c.args in
+    stranger-entries args.n (read args.n args.m.now) c.sender_outside.result c.sender_outside.ensures c.if-sender_outside.false
+    c.seats_below.result (seats_in c.entries_of-found.result args.m.now) c.entries_of-found.ensures.0 c.seats_below.ensures
 
-pub is-stranger-spec : {M : Type 1} → statement M
-is-stranger-spec =
+pub is_stranger_spec : {M : Type 1} → statement M
+is_stranger_spec =
     tie.close
     (tie.spec (λ c κs. search rules) returns (λ c κs. search rules) (λ c κs. search rules) returns-2)

@@ -6,7 +6,7 @@ use Rattle.forms.proofs.is_within.Tie as tie
 
 returns : tie.Need-returns
 unfolding within
-returns c = rw c.command.ensures
+returns c = rw c.command-c.ensures
 
-pub is-within-spec : {M : Type 1} → statement M
-is-within-spec = tie.close (tie.spec (λ c κs. search rules) returns)
+pub is_within_spec : {M : Type 1} → statement M
+is_within_spec = tie.close (tie.spec (λ c κs. search rules) returns)

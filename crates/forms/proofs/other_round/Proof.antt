@@ -14,27 +14,26 @@ use Rattle.forms.proofs.other_round.Tie as tie
 not-fifth : (t : ℕ) → (t ≡ 0) ⊎ ((t ≡ 1) ⊎ ((t ≡ 2) ⊎ ((t ≡ 3) ⊎ (t ≡ 4)))) → t ≡ 5 → ⊥
 not-fifth t some e = ⊎_elim (λ a. omega arith) (⊎_elim (λ a. omega arith) (⊎_elim (λ a. omega arith) (⊎_elim (λ a. omega arith) (λ a. omega arith)))) some
 
-abbrev start : tie.At-match-keys2 → tie.Start
+abbrev start : tie.In_default → tie.Start
 start c = c.before.before
 
-not-garbled : (c : tie.At-match-keys2) → tag (start c).args.kind ≡ 5 → ⊥
-not-garbled c = let k = (start c).args.kind in not-fifth (tag k) (rw (tags k) at c.match.keys2)
+not-garbled : (c : tie.In_default) → tag c.args.kind ≡ 5 → ⊥
+not-garbled c = let k = c.args.kind in not-fifth (tag k) (rw (tags k) at c.in_default.in_default-own.keys2)
 
-enum_told : tie.Need-enum-told
+enum_told : tie.Need-enum_told-1
 enum_told c = search rules
 
-returns : tie.Need-returns
+returns : tie.Need-returns-in-Garbled
 returns c =
-    let s = c.before.before.before in
-    round_garbled s.args.kind s.args.n s.args.m.now s.requires c.enum_told.given.1 s.args.round
+    round_garbled c.args.kind c.args.n c.args.m.now c.requires c.in-Garbled.is c.args.round
 
-round-of-requires : tie.Need-round-of-requires
-round-of-requires c κs = let s = start c in omega (arith, long-enough s.args.kind s.args.n s.args.m.now s.pre (not-garbled c))
+round-of-requires : tie.Need-round_of-requires
+round-of-requires c κs = let s = start c in omega (arith, long-enough s.args.kind s.args.n s.args.m.now s.requires (not-garbled c))
 
-returns-2 : tie.Need-returns-2
+returns-2 : tie.Need-returns
 returns-2 c =
     let s = start c.before in
-    round-told s.args.kind s.args.n s.args.m.now s.pre (not-garbled c.before) c.round-of.result s.args.round c.round-of.ensures
+    round-told s.args.kind s.args.n s.args.m.now s.requires (not-garbled c.before) c.round_of.result s.args.round c.round_of.ensures
 
-pub other-round-spec : {M : Type 1} → statement M
-other-round-spec = tie.close (tie.spec enum_told returns round-of-requires returns-2)
+pub other_round_spec : {M : Type 1} → statement M
+other_round_spec = tie.close (tie.spec enum_told returns round-of-requires returns-2)

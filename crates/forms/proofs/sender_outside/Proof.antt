@@ -11,29 +11,28 @@ use Rattle.forms.specs.TestsLaws.{sender-told, sender_none}
 use Rattle.forms.proofs.sender_outside.Statement.{statement}
 use Rattle.forms.proofs.sender_outside.Tie as tie
 
-abbrev start : tie.After-seat-at → tie.Start
+abbrev start : tie.After-seat_at → tie.Start
 start c = c.before.before.before
 
 -- SUBMIT, NOTICE or FULL
-one-seat : (c : tie.After-seat-at) → let t = tag (start c).args.kind in (t ≡ 0) ⊎ ((t ≡ 1) ⊎ (t ≡ 2))
-one-seat c = rw (tags (start c).args.kind) at c.before.match.keys1
+one-seat : (c : tie.After-seat_at) → let t = tag c.args.kind in (t ≡ 0) ⊎ ((t ≡ 1) ⊎ (t ≡ 2))
+one-seat c = rw (tags c.args.kind) at c.in-Submit.in-Submit-own.keys1
 
-number-at-requires : tie.Need-number-at-requires
+number-at-requires : tie.Need-number_at-requires
 number-at-requires c κs =
     let s = start c in
-    omega (arith, long-enough s.args.kind s.args.n s.args.m.now s.pre (λ e. ⊎_elim (λ a. omega arith) (⊎_elim (λ a. omega arith) (λ a. omega arith)) (one-seat c)))
+    omega (arith, long-enough s.args.kind s.args.n s.args.m.now s.requires (λ e. ⊎_elim (λ a. omega arith) (⊎_elim (λ a. omega arith) (λ a. omega arith)) (one-seat c)))
 
-returns : tie.Need-returns
+returns : tie.Need-returns-in-Submit
 returns c =
     let s = start c.before in
-    let seat = c.number_at.ensures.0 ∙ ap (λ at. byte_at s.args.m.now at) c.before.seat_at_lem.ensures in
-    sender-told s.args.kind s.args.n s.args.m.now s.pre (one-seat c.before) c.number_at.result seat
+    let seat = c.number_at.ensures.0 ∙ ap (λ at. byte_at s.args.m.now at) c.seat_at.ensures in
+    sender-told s.args.kind s.args.n s.args.m.now s.requires (one-seat c.before) c.number_at.result seat
 
-returns-2 : tie.Need-returns-2
+returns-2 : tie.Need-returns-in-OldEvidence
 returns-2 c =
-    let s = c.before.before in
-    let k = s.args.kind in
-    sender_none k s.args.n s.args.m.now s.requires (rw (tags k) at c.match.keys2)
+    let k = c.args.kind in
+    sender_none k c.args.n c.args.m.now c.requires (rw (tags k) at c.in-OldEvidence.in-OldEvidence-own.keys2)
 
-pub sender-outside-spec : {M : Type 1} → statement M
-sender-outside-spec = tie.close (tie.spec (λ c κs. search rules) number-at-requires returns returns-2)
+pub sender_outside_spec : {M : Type 1} → statement M
+sender_outside_spec = tie.close (tie.spec (λ c κs. search rules) number-at-requires returns returns-2)

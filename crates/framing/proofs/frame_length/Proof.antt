@@ -1,35 +1,23 @@
 -- `framing::frame_length` meets its contract.
+use native.Mathlib.Omega.{arith}
 use borrow.Author.Rules.{rules}
 use Rattle.framing.specs.FramingLaws.{frame-submit, frame-notice, frame-full, frame-evidence}
 use Rattle.framing.proofs.frame_length.Statement.{statement}
 use Rattle.framing.proofs.frame_length.Tie as tie
 
-returns : tie.Need-returns
-returns c = let first = c.before in frame-submit _ _ _ first.before.byte-or-zero.ensures.0 _ first.if1.true c.submit-length.ensures
+returns : tie.Need-returns-then-command-eq1
+returns c = frame-submit _ _ _ c.byte_or_zero-command.ensures.0 _ c.if-command-eq1.true c.submit_length.ensures
 
-returns-2 : tie.Need-returns-2
+returns-2 : tie.Need-returns-then-command-eq2
 returns-2 c =
-    let second = c.before in
-    let first = second.before in
-    frame-notice _ _ _ first.before.byte-or-zero.ensures.0 _ first.if1.false second.if2.true c.notice-length.ensures
+    frame-notice _ _ _ c.byte_or_zero-command.ensures.0 _ c.if-command-eq1.false c.if-command-eq2.true c.notice_length.ensures
 
-returns-3 : tie.Need-returns-3
+returns-3 : tie.Need-returns
 returns-3 c =
-    let third = c.before in
-    let second = third.before in
-    let first = second.before in
-    frame-full _ _ _ first.before.byte-or-zero.ensures.0 _ first.if1.false second.if2.false first.before.before.before.requires.1 third.if3.true c.full-length.ensures
+    frame-evidence _ _ _ c.byte_or_zero-command.ensures.0 _ c.if-command-eq1.false c.if-command-eq2.false (omega arith) _ c.evidence_entries-found.ensures.0 c.evidence_entries-found.ensures.1 c.entry_at.ensures
 
-returns-4 : tie.Need-returns-4
-returns-4 c =
-    let found = c.before in
-    let third = found.before in
-    let second = third.before in
-    let first = second.before in
-    frame-evidence _ _ _ first.before.byte-or-zero.ensures.0 _ first.if1.false second.if2.false third.if3.false _ found.evidence-entries.ensures.0 found.evidence-entries.ensures.1 c.entry_at_lem.ensures
-
-pub frame-length-spec : {M : Type 1} → statement M
-frame-length-spec =
+pub frame_length_spec : {M : Type 1} → statement M
+frame_length_spec =
     tie.close
     (tie.spec
     (λ c κs. search rules)
@@ -38,7 +26,7 @@ frame-length-spec =
     (λ c κs. search rules)
     returns-2
     (λ c κs. search rules)
-    returns-3
+    (λ c. frame-full _ _ _ c.byte_or_zero-command.ensures.0 _ c.if-command-eq1.false c.if-command-eq2.false c.requires.1 (omega arith) c.full_length.ensures)
     (λ c κs. search rules)
     (λ c κs. search rules)
-    returns-4)
+    returns-3)

@@ -10,46 +10,39 @@ use borrow.Author.Rules.{rules}
 use Rattle.joining.proofs.join_evidence.Statement.{statement}
 use Rattle.joining.proofs.join_evidence.Tie as tie
 
-abbrev started : tie.After-joining-refusal → tie.Start
-started c = c.before.before.before.before.before.before
+abbrev started : tie.After-joining_refusal-given → tie.Start
+started c = c.before.before.before.before.before
 
 -- n, round, key table and out are right
-right : (c : tie.Else1) → let args = (started c.before).args in Given args.n args.round args.keys.now × (joined_out_length args.n ≤ length args.out.now)
-right c = given_right _ _ _ _ _ _ c.before.joining-refusal.ensures c.if1.false
+right : (c : tie.Else-given-ne0) → let args = c.args in Given args.n args.round args.keys.now × (joined_out_length args.n ≤ length args.out.now)
+right c = given_right _ _ _ _ _ _ c.joining_refusal-given.ensures c.if-given-ne0.false
 
 -- the verdict on the two packs
-abbrev verdict : tie.After-struct-known → tie.After-packs-refusal
+abbrev verdict : tie.After-struct_known-1 → tie.After-packs_refusal-packs
 verdict c = c.before
 
-returns : tie.Need-returns
-returns c = joining-given-refused _ _ _ _ _ _ c.before.joining-refusal.ensures c.if1.true
+returns : tie.Need-returns-then-given-ne0
+returns c = joining-given-refused _ _ _ _ _ _ c.joining_refusal-given.ensures c.if-given-ne0.true
 
-packs-refusal-requires : tie.Need-packs-refusal-requires
+packs-refusal-requires : tie.Need-packs_refusal-packs-requires
 packs-refusal-requires c κs = (right c).0
 
-returns-2 : tie.Need-returns-2
+returns-2 : tie.Need-returns-then-packs-ne0
 returns-2 c =
-    let v = verdict c.before in
-    let passed = v.before in
-    joining-refused _ _ _ _ _ _ passed.before.joining-refusal.ensures passed.if1.left v.packs-refusal.ensures c.if2.true
+    joining-refused _ _ _ _ _ _ c.joining_refusal-given.ensures c.if-given-ne0.false c.packs_refusal-packs.ensures c.if-packs-ne0.true
 
-write-joined-requires : tie.Need-write-joined-requires
+write-joined-requires : tie.Need-write_joined-written-requires
 write-joined-requires c κs =
-    let none = c.before in
-    let v = verdict none.before in
+    let v = verdict c.before.before in
     let given = right v.before in
-    (given.0.some, given.0.most, packs-passed _ _ _ _ _ v.packs-refusal.ensures none.if2.false, given.1)
+    (given.0.some, given.0.most, packs-passed _ _ _ _ _ v.packs_refusal-packs.ensures c.if-packs-ne0.false, given.1)
 
-returns-3 : tie.Need-returns-3
+returns-3 : tie.Need-returns
 returns-3 c =
-    let wrote = c.before.before in
-    let none = wrote.before.before in
-    let v = verdict none.before in
-    let passed = v.before in
-    joining-done _ _ _ _ _ _ passed.before.joining-refusal.ensures passed.if1.left v.packs-refusal.ensures none.if2.false wrote.write-joined.ensures
+    joining-done _ _ _ _ _ _ c.joining_refusal-given.ensures c.if-given-ne0.false c.packs_refusal-packs.ensures c.if-packs-ne0.false c.write_joined-written.ensures
 
-pub join-evidence-spec : {M : Type 1} → statement M
-join-evidence-spec =
+pub join_evidence_spec : {M : Type 1} → statement M
+join_evidence_spec =
     tie.close
     (tie.spec
     (λ c κs. search rules)

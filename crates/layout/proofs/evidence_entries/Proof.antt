@@ -8,5 +8,5 @@ returns : tie.Need-returns
 unfolding evidence_entry_length signature_length
 returns c = refl
 
-pub evidence-entries-spec : {M : Type 1} → statement M
-evidence-entries-spec = tie.close (tie.spec returns)
+pub evidence_entries_spec : {M : Type 1} → statement M
+evidence_entries_spec = tie.close (tie.spec returns)

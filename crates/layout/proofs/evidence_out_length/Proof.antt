@@ -6,7 +6,7 @@ use Rattle.layout.proofs.evidence_out_length.Statement.{statement}
 use Rattle.layout.proofs.evidence_out_length.Tie as tie
 
 returns : tie.Need-returns
-returns c = omega (arith, evidence-out_figure c.before.args.n)
+returns c = omega (arith, evidence-out_figure c.args.n)
 
-pub evidence-out-length-spec : {M : Type 1} → statement M
-evidence-out-length-spec = tie.close (tie.spec (λ c κs. search rules) (λ c. search rules) (λ c. search rules) (λ c. search rules) returns)
+pub evidence_out_length_spec : {M : Type 1} → statement M
+evidence_out_length_spec = tie.close (tie.spec (λ c κs. search rules) (λ c. search rules) (λ c. search rules) (λ c. search rules) returns)

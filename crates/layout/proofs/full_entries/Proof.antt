@@ -8,5 +8,5 @@ returns : tie.Need-returns
 unfolding full_entry_length signature_length
 returns c = refl
 
-pub full-entries-spec : {M : Type 1} → statement M
-full-entries-spec = tie.close (tie.spec returns)
+pub full_entries_spec : {M : Type 1} → statement M
+full_entries_spec = tie.close (tie.spec returns)

@@ -8,5 +8,5 @@ use Rattle.layout.proofs.joined_out_length.Tie as tie
 returns : tie.Need-returns
 returns c = omega (arith, joined-out_figure c.args.n)
 
-pub joined-out-length-spec : {M : Type 1} → statement M
-joined-out-length-spec = tie.close (tie.spec (λ c. search rules) (λ c. search rules) returns)
+pub joined_out_length_spec : {M : Type 1} → statement M
+joined_out_length_spec = tie.close (tie.spec (λ c. search rules) (λ c. search rules) returns)

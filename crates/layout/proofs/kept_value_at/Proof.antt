@@ -12,5 +12,5 @@ returns c =
     let fits = slot-fits c.args.n kept_value_bank c.args.seat kept-value_bank.0 c.requires.1 in
     (omega arith, omega arith)
 
-pub kept-value-at-spec : {M : Type 1} → statement M
-kept-value-at-spec = tie.close (tie.spec (λ c. search rules) (λ c. search rules) (λ c. search rules) returns)
+pub kept_value_at_spec : {M : Type 1} → statement M
+kept_value_at_spec = tie.close (tie.spec (λ c. search rules) (λ c. search rules) (λ c. search rules) returns)

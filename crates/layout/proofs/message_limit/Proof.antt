@@ -8,5 +8,5 @@ returns : tie.Need-returns
 unfolding message_limit
 returns c = refl
 
-pub message-limit-spec : {M : Type 1} → statement M
-message-limit-spec = tie.close (tie.spec returns)
+pub message_limit_spec : {M : Type 1} → statement M
+message_limit_spec = tie.close (tie.spec returns)

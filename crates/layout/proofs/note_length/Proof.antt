@@ -8,5 +8,5 @@ returns : tie.Need-returns
 unfolding note_length
 returns c = refl
 
-pub note-length-spec : {M : Type 1} → statement M
-note-length-spec = tie.close (tie.spec returns)
+pub note_length_spec : {M : Type 1} → statement M
+note_length_spec = tie.close (tie.spec returns)

@@ -8,5 +8,5 @@ returns : tie.Need-returns
 unfolding notice_length
 returns c = refl
 
-pub notice-length-spec : {M : Type 1} → statement M
-notice-length-spec = tie.close (tie.spec returns)
+pub notice_length_spec : {M : Type 1} → statement M
+notice_length_spec = tie.close (tie.spec returns)

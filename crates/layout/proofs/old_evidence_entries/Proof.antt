@@ -8,5 +8,5 @@ returns : tie.Need-returns
 unfolding old_evidence_entry_length signature_length
 returns c = refl
 
-pub old-evidence-entries-spec : {M : Type 1} → statement M
-old-evidence-entries-spec = tie.close (tie.spec returns)
+pub old_evidence_entries_spec : {M : Type 1} → statement M
+old_evidence_entries_spec = tie.close (tie.spec returns)

@@ -8,5 +8,5 @@ returns : tie.Need-returns
 unfolding signature_length
 returns c = refl
 
-pub signature-length-spec : {M : Type 1} → statement M
-signature-length-spec = tie.close (tie.spec returns)
+pub signature_length_spec : {M : Type 1} → statement M
+signature_length_spec = tie.close (tie.spec returns)

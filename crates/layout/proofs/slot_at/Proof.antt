@@ -7,32 +7,29 @@ use borrow.Author.Rules.{rules}
 use Rattle.layout.proofs.slot_at.Statement.{statement}
 use Rattle.layout.proofs.slot_at.Tie as tie
 
-enum_told : tie.Need-enum-told
+enum_told : tie.Need-enum_told-1
 enum_told c = search rules
 
-returns : tie.Need-returns
+returns : tie.Need-returns-in-Collected
 unfolding slot_at length_of_banks banks_before banks slot_length slot_length_in signature_length bank_of
 returns c =
-    let s = c.before.before in
-    let fits = slot-fits s.args.n collected_bank s.args.seat collected_bank_lem.0 s.requires.1 in
-    rw c.enum_told.given.1 (omega arith, omega arith)
+    let fits = slot-fits c.args.n collected_bank c.args.seat collected_bank_lem.0 c.requires.1 in
+    rw c.in-Collected.is (omega arith, omega arith)
 
-returns-2 : tie.Need-returns-2
+returns-2 : tie.Need-returns-in-First
 unfolding slot_at length_of_banks banks_before banks slot_length slot_length_in signature_length bank_of
 returns-2 c =
-    let s = c.before.before in
-    let fits = slot-fits s.args.n first_bank s.args.seat first_bank_lem.0 s.requires.1 in
-    rw c.enum-told2.given.1 (omega arith, omega arith)
+    let fits = slot-fits c.args.n first_bank c.args.seat first_bank_lem.0 c.requires.1 in
+    rw c.in-First.is (omega arith, omega arith)
 
-returns-3 : tie.Need-returns-3
+returns-3 : tie.Need-returns-in-Kept
 unfolding slot_at length_of_banks banks_before banks slot_length slot_length_in signature_length bank_of
 returns-3 c =
-    let s = c.before.before in
-    let fits = slot-fits s.args.n kept_bank s.args.seat kept_bank_lem.0 s.requires.1 in
-    rw c.enum-told3.given.1 (omega arith, omega arith)
+    let fits = slot-fits c.args.n kept_bank c.args.seat kept_bank_lem.0 c.requires.1 in
+    rw c.in-Kept.is (omega arith, omega arith)
 
-pub slot-at-spec : {M : Type 1} → statement M
-slot-at-spec =
+pub slot_at_spec : {M : Type 1} → statement M
+slot_at_spec =
     tie.close
     (tie.spec
     (λ c. search rules)

@@ -9,5 +9,5 @@ returns : tie.Need-returns
 unfolding store_length length_of_banks banks signature_length
 returns c = omega arith
 
-pub store-length-spec : {M : Type 1} → statement M
-store-length-spec = tie.close (tie.spec (λ c. search rules) returns)
+pub store_length_spec : {M : Type 1} → statement M
+store_length_spec = tie.close (tie.spec (λ c. search rules) returns)

@@ -8,5 +8,5 @@ returns : tie.Need-returns
 unfolding submit_length signature_length
 returns c = refl
 
-pub submit-length-spec : {M : Type 1} → statement M
-submit-length-spec = tie.close (tie.spec returns)
+pub submit_length_spec : {M : Type 1} → statement M
+submit_length_spec = tie.close (tie.spec returns)

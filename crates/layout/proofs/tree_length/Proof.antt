@@ -8,5 +8,5 @@ returns : tie.Need-returns
 unfolding tree_length
 returns c = refl
 
-pub tree-length-spec : {M : Type 1} → statement M
-tree-length-spec = tie.close (tie.spec returns)
+pub tree_length_spec : {M : Type 1} → statement M
+tree_length_spec = tie.close (tie.spec returns)

@@ -10,82 +10,81 @@ use Rattle.lmots_batches.specs.BatchesLaws.{moved_none, moved-ordered, moved_the
 use Rattle.lmots_batches.proofs.advance.Statement.{statement}
 use Rattle.lmots_batches.proofs.advance.Tie as tie
 
-abbrev invariant-loop : tie.invariant-loop
+abbrev invariant-loop : tie.invariant-loop-batches
 invariant-loop k id q ends n z₀ p₀ batches₀ z p batches = (batches ≤ 17085) × (length z ≡ 2144) × Ordered p ends × Moved (bytes id) q ends p₀ z₀ p z
 
-abbrev decreases-loop : tie.decreases-loop
+abbrev decreases-loop : tie.decreases-loop-batches
 decreases-loop k id q ends n z₀ p₀ batches₀ z p batches = 17085 - batches
 
-abbrev started : tie.At-loop invariant-loop decreases-loop → tie.Start invariant-loop decreases-loop
+abbrev started : tie.At-loop-batches invariant-loop decreases-loop → tie.Start invariant-loop decreases-loop
 started c = c.before.before
 
 -- back to the loop, from the choice of the chains and from the run of the batch
-abbrev chosen : tie.After-choose invariant-loop decreases-loop → tie.At-loop invariant-loop decreases-loop
+abbrev chosen : tie.After-choose-picks invariant-loop decreases-loop → tie.At-loop-batches invariant-loop decreases-loop
 chosen c = c.before.before.before
 
-abbrev running : tie.After-batch-arg invariant-loop decreases-loop → tie.After-choose invariant-loop decreases-loop
+abbrev running : tie.After-batch-arg-1 invariant-loop decreases-loop → tie.After-choose-picks invariant-loop decreases-loop
 running c = c.before.before
 
-loop-holds : tie.Need-loop-init invariant-loop decreases-loop
+loop-holds : tie.Need-loop-batches-init invariant-loop decreases-loop
 loop-holds c =
-    let start = c.before in
-    (omega arith, start.requires.1, start.requires.2, moved_none (bytes start.args.id) start.args.q start.args.ends _ start.args.z.now start.requires.2)
+    (omega arith, c.requires.1, c.requires.2, moved_none (bytes c.args.id) c.args.q c.args.ends _ c.args.z.now c.requires.2)
 
-lefts-requires : tie.Need-lefts-requires invariant-loop decreases-loop
+lefts-requires : tie.Need-lefts-rest-requires invariant-loop decreases-loop
 lefts-requires c κs = search rules
 
-choose-requires : tie.Need-choose-requires invariant-loop decreases-loop
-choose-requires c κs = let pre = (started c.before.before).pre in (pre.3, pre.4)
+choose-requires : tie.Need-choose-picks-requires invariant-loop decreases-loop
+choose-requires c κs = let pre = c.requires in (pre.3, pre.4)
 
-array-read-if1 : tie.Need-array-read-if1 invariant-loop decreases-loop
+array-read-if1 : tie.Need-bounds-picks-3 invariant-loop decreases-loop
 array-read-if1 c = search rules
 
-array-read-if1-2 : tie.Need-array-read-if1-2 invariant-loop decreases-loop
+array-read-if1-2 : tie.Need-bounds-picks-0 invariant-loop decreases-loop
 array-read-if1-2 c = search rules
 
-same_length : tie.Need-same-length invariant-loop decreases-loop
+same_length : tie.Need-shape_of-z-then-picks invariant-loop decreases-loop
 same_length c = omega arith
 
-returns : tie.Need-returns invariant-loop decreases-loop
-returns c = let inv = (chosen c.before).loop.inv in (inv.1, inv.3)
+returns : tie.Need-returns-then-picks invariant-loop decreases-loop
+returns c = let inv = c.loop-batches.invariant in (inv.1, inv.3)
 
-batch-requires : tie.Need-batch-requires invariant-loop decreases-loop
+batch-requires : tie.Need-batch-next-requires invariant-loop decreases-loop
 batch-requires c κs =
     let at-loop = chosen (running c) in
-    let inv = at-loop.loop.inv in
-    let pre = (started at-loop).pre in
-    let picks = (running c).choose.ensures in
+    let inv = at-loop.loop-batches.invariant in
+    let pre = at-loop.requires in
+    let picks = c.choose-picks.ensures in
     (pre.0, inv.1, inv.2, λ l h. omega (arith, picks l h, pre.4))
 
-add-batches : tie.Need-overflow-add-batches invariant-loop decreases-loop
+add-batches : tie.Need-overflow_add-batches invariant-loop decreases-loop
 add-batches c = omega arith
 
-loop-less : tie.Need-loop-smaller invariant-loop decreases-loop
+loop-less : tie.Need-loop-batches-smaller invariant-loop decreases-loop
 loop-less c = omega arith
 
-loop-again : tie.Need-loop-preserved invariant-loop decreases-loop
+loop-again : tie.Need-loop-batches-preserved invariant-loop decreases-loop
 loop-again c =
     let at-loop = chosen (running c.before.before.before) in
-    let loop = at-loop.loop in
-    let args = (started at-loop).args in
-    let moved = c.before.before.batch in
+    let loop = at-loop.loop-batches in
+    let args = at-loop.args in
+    let moved = c.batch-next in
     let I = bytes args.id in
     let next = moved.result in
-    let z = moved.new.1.1.1.1.1.1.0 in (
+    let z = moved.new.z in (
       omega arith,
       moved.ensures.0,
-      moved-ordered I args.q args.ends loop.p loop.z next z loop.inv.2 moved.ensures.1,
-      moved_then I args.q args.ends _ args.z.now loop.p loop.z next z loop.inv.3 moved.ensures.1,
+      moved-ordered I args.q args.ends loop.p loop.z next z loop.invariant.2 moved.ensures.1,
+      moved_then I args.q args.ends _ args.z.now loop.p loop.z next z loop.invariant.3 moved.ensures.1,
     )
 
-same-length-2 : tie.Need-same-length-2 invariant-loop decreases-loop
+same-length-2 : tie.Need-shape_of-z invariant-loop decreases-loop
 same-length-2 c = omega arith
 
-returns-2 : tie.Need-returns-2 invariant-loop decreases-loop
-returns-2 c = let inv = c.before.loop.invariant in (inv.1, inv.3)
+returns-2 : tie.Need-returns invariant-loop decreases-loop
+returns-2 c = let inv = c.loop-batches.invariant in (inv.1, inv.3)
 
-pub advance-spec : {M : Type 1} → statement M
-advance-spec =
+pub advance_spec : {M : Type 1} → statement M
+advance_spec =
     tie.close
     (tie.spec
     invariant-loop

@@ -7,26 +7,24 @@ use Rattle.lmots_batches.proofs.run.Tie as tie
 
 finish-requires : tie.Need-finish-requires
 finish-requires c κs =
-    let advanced = c.before.before.before.advance in
-    let start = c.before.before.before.before.before.before in
-    let args = start.args in
+    let advanced = c.advance-p in
+    let args = c.args in
     let next = advanced.result in
-    let z = advanced.new.1.1.1.1.1.1.0 in (
-      start.requires.0,
+    let z = advanced.new.z in (
+      c.requires.0,
       advanced.ensures.0,
-      moved-ordered (bytes args.id) args.q args.ends args.places args.z.now next z start.requires.2 advanced.ensures.1,
-      start.requires.4,
+      moved-ordered (bytes args.id) args.q args.ends args.places args.z.now next z c.requires.2 advanced.ensures.1,
+      c.requires.4,
     )
 
 returns : tie.Need-returns
 returns c =
-    let done = c.before.before.finish in
-    let advanced = c.before.before.before.before.before.before.advance in
-    let start = c.before.before.before.before.before.before.before.before.before in
-    let args = start.args in (
+    let done = c.finish in
+    let advanced = c.advance-p in
+    let args = c.args in (
       done.ensures.0,
-      run_by (bytes args.id) args.q args.places args.ends args.z.now advanced.result advanced.new.1.1.1.1.1.1.0
-          done.new.1.1.1.1.1.1.0 args.n start.requires.4 advanced.ensures.1 done.ensures.1,
+      run_by (bytes args.id) args.q args.places args.ends args.z.now advanced.result advanced.new.z
+          done.new.z args.n c.requires.4 advanced.ensures.1 done.ensures.1,
     )
 
 pub run_spec : {M : Type 1} → statement M

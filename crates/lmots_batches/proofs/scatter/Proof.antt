@@ -1,6 +1,6 @@
 -- `lmots_batches::scatter` meets its contract.
 use mathlib.Core.Path.{◌≡◌, refl, subst}
-use Prim.Native.Nat.{ℕ, ◌-◌, ◌<◌, ◌≤◌}
+use Prim.Native.Nat.{ℕ, ◌+◌, ◌-◌, ◌<◌, ◌≤◌}
 use native.Mathlib.Omega.{arith}
 use borrow.Author.Rules.{rules}
 use lib.ListN.{length, get_or, length-set}
@@ -9,100 +9,82 @@ use Rattle.lmots_batches.specs.BatchesLaws.{scattered_none, scattered_next, leng
 use Rattle.lmots_batches.proofs.scatter.Statement.{statement}
 use Rattle.lmots_batches.proofs.scatter.Tie as tie
 
-abbrev invariant-loop : tie.invariant-loop
+abbrev invariant-loop : tie.invariant-loop-l
 invariant-loop v count z₀ picks places next₀ l₀ z next l = (l ≤ 16) × (length z ≡ 2144) × (length next ≡ 67) × ((i : ℕ) → i < 67 → Scattered l picks places count v z₀ next z i)
 
-abbrev decreases-loop : tie.decreases-loop
+abbrev decreases-loop : tie.decreases-loop-l
 decreases-loop v count z₀ picks places next₀ l₀ z next l = 16 - l
 
-abbrev started : tie.In-loop invariant-loop decreases-loop → tie.Start invariant-loop decreases-loop
-started c = c.before.before.before
-
--- the chain of column l
-some : (c : tie.In-loop invariant-loop decreases-loop) → get_or (started c).args.t2 c.before.loop.l 0 < 67
-some c = (started c).requires.2 c.before.loop.l (omega arith)
-
--- back to the loop, from the writing of the value and from that of the place
-abbrev written : tie.After-put-eight-arg invariant-loop decreases-loop → tie.In-loop invariant-loop decreases-loop
-written c = c.before.before
-
-abbrev placed : tie.After-slice-known2 invariant-loop decreases-loop → tie.In-loop invariant-loop decreases-loop
-placed c = written c.before.before.before
-
-loop-holds : tie.Need-loop-init invariant-loop decreases-loop
+loop-holds : tie.Need-loop-l-init invariant-loop decreases-loop
 loop-holds c =
-    let args = c.before.args in
-    (omega arith, c.before.requires.1, search rules, λ i h. scattered_none args.t2 args.t3 args.count args.v.now args.z.now i)
+    let args = c.args in
+    (omega arith, c.requires.1, search rules, λ i h. scattered_none args.picks args.places args.count args.v.now args.z.now i)
 
-mul-i : tie.Need-overflow-mul-i invariant-loop decreases-loop
+mul-i : tie.Need-offset_bounds-picks-l invariant-loop decreases-loop
 mul-i c = omega arith
 
-array-read-i : tie.Need-array-read-i invariant-loop decreases-loop
+array-read-i : tie.Need-bounds-picks-l invariant-loop decreases-loop
 array-read-i c = omega arith
 
-column-requires : tie.Need-column-requires invariant-loop decreases-loop
-column-requires c κs = (omega arith, (started c).requires.0)
+column-requires : tie.Need-column-y-requires invariant-loop decreases-loop
+column-requires c κs = (omega arith, c.requires.0)
 
-mul-put-eight : tie.Need-overflow-mul-put-eight invariant-loop decreases-loop
-mul-put-eight c = let h = some (written c) in omega arith
+put-eight-requires : tie.Need-put_eight-requires invariant-loop decreases-loop
+put-eight-requires c κs = let h : get_or c.args.picks c.loop-l.l 0 < 67 = c.requires.2 c.loop-l.l (omega arith) in omega arith
 
-put-eight-requires : tie.Need-put-eight-requires invariant-loop decreases-loop
-put-eight-requires c κs = let h = some (written c) in omega arith
+mul_next : tie.Need-offset_bounds-places-i invariant-loop decreases-loop
+mul_next c = let h : get_or c.args.picks c.loop-l.l 0 < 67 = c.requires.2 c.loop-l.l (omega arith) in omega arith
 
-mul_next : tie.Need-overflow-mul-next invariant-loop decreases-loop
-mul_next c = let h = some (placed c) in omega arith
+array-read-next : tie.Need-bounds-places-i invariant-loop decreases-loop
+array-read-next c = let h : get_or c.args.picks c.loop-l.l 0 < 67 = c.requires.2 c.loop-l.l (omega arith) in omega arith
 
-array-read-next : tie.Need-array-read-next invariant-loop decreases-loop
-array-read-next c = let h = some (placed c) in omega arith
+add-next : tie.Need-overflow_add-next invariant-loop decreases-loop
+add-next c = let sum : get_or c.args.places (get_or c.args.picks c.loop-l.l 0) 0 + c.args.count ≤ 255 = c.requires.3 c.loop-l.l (omega arith) in omega arith
 
-add-next : tie.Need-overflow-add-next invariant-loop decreases-loop
-add-next c = let sum = (started (placed c)).pre.3 (placed c).before.loop.l (omega arith) in omega arith
+mul-next-2 : tie.Need-offset_bounds-next-i invariant-loop decreases-loop
+mul-next-2 c = let h : get_or c.args.picks c.loop-l.l 0 < 67 = c.requires.2 c.loop-l.l (omega arith) in omega arith
 
-mul-next-2 : tie.Need-overflow-mul-next-2 invariant-loop decreases-loop
-mul-next-2 c = let h = some (placed c) in omega arith
+array-write-next : tie.Need-bounds-next-i invariant-loop decreases-loop
+array-write-next c = let h : get_or c.args.picks c.loop-l.l 0 < 67 = c.requires.2 c.loop-l.l (omega arith) in omega arith
 
-array-write-next : tie.Need-array-write-next invariant-loop decreases-loop
-array-write-next c = let h = some (placed c) in omega arith
-
-add-l : tie.Need-overflow-add-l invariant-loop decreases-loop
+add-l : tie.Need-overflow_add-l invariant-loop decreases-loop
 add-l c = omega arith
 
-loop-less : tie.Need-loop-smaller invariant-loop decreases-loop
+loop-less : tie.Need-loop-l-smaller invariant-loop decreases-loop
 loop-less c = omega arith
 
-loop-again : tie.Need-loop-preserved invariant-loop decreases-loop
+loop-again : tie.Need-loop-l-preserved invariant-loop decreases-loop
 loop-again c =
-    let loop = (placed c).before.loop in
-    let start = started (placed c) in
-    let args = start.args in
+    let loop = c.loop-l in
+    let args = c.args in
     let l = loop.l in
     let v = args.v.now in
-    let picks = args.t2 in
+    let picks = args.picks in
     let p = get_or picks l 0 in
-    let y = c.before.before.before.before.column in
-    let put = c.before.before.put-eight in
-    let chosen : p < 67 = some (placed c) in (
+    let y = c.column-y in
+    let put = c.put_eight in
+    let chosen : p < 67 = c.requires.2 c.loop-l.l (omega arith) in (
       omega arith,
-      length-written p loop.z y.result put.new.0 chosen loop.inv.1 (search rules) put.ensures,
-      simp length-set loop.inv.2,
-      scattered_next l picks args.t3 args.count v args.z.now loop.next loop.z y.result put.new.0 p refl chosen loop.inv.2 loop.inv.1
-          y.ensures put.ensures loop.inv.3,
+      length-written p loop.z y.result put.new.out chosen loop.invariant.1 (search rules) put.ensures,
+      simp length-set loop.invariant.2,
+      scattered_next l picks args.places args.count v args.z.now loop.next loop.z y.result put.new.out p refl chosen loop.invariant.2 loop.invariant.1
+          y.ensures put.ensures loop.invariant.3,
     )
 
-same_length : tie.Need-same-length invariant-loop decreases-loop
+same_length : tie.Need-shape_of-z invariant-loop decreases-loop
 same_length c = omega arith
 
 returns : tie.Need-returns invariant-loop decreases-loop
 returns c =
-    let loop = c.before.loop in
-    let args = c.before.before.before.args in
+    let loop = c.loop-l in
+    let args = c.args in
     let all : loop.l ≡ 16 = omega arith in (
       loop.invariant.1,
-      λ i h. subst (λ (n : ℕ). Scattered n args.t2 args.t3 args.count args.v.now args.z.now loop.next loop.z i) all (loop.invariant.3 i h),
+      λ i h. subst (λ (n : ℕ). Scattered n args.picks args.places args.count args.v.now args.z.now loop.next loop.z i) all (loop.invariant.3 i h),
     )
 
-pub scatter-spec : {M : Type 1} → statement M
-scatter-spec =
+pub scatter_spec : {M : Type 1} → statement M
+scatter_spec =
     tie.close
     (tie.spec
     invariant-loop
@@ -111,7 +93,7 @@ scatter-spec =
     mul-i
     array-read-i
     column-requires
-    mul-put-eight
+    (λ c. let h : get_or c.args.picks c.loop-l.l 0 < 67 = c.requires.2 c.loop-l.l (omega arith) in omega arith)
     put-eight-requires
     mul_next
     array-read-next

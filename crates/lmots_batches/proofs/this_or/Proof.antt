@@ -4,11 +4,11 @@ use mathlib.Core.Logic.{inl, inr}
 use Rattle.lmots_batches.proofs.this_or.Statement.{statement}
 use Rattle.lmots_batches.proofs.this_or.Tie as tie
 
-returns : tie.Need-returns
+returns : tie.Need-returns-then-steps-gt0
 returns c = inl refl
 
-returns-2 : tie.Need-returns-2
+returns-2 : tie.Need-returns-else-steps-gt0
 returns-2 c = inr refl
 
-pub this-or-spec : {M : Type 1} → statement M
-this-or-spec = tie.close (tie.spec returns returns-2)
+pub this_or_spec : {M : Type 1} → statement M
+this_or_spec = tie.close (tie.spec returns returns-2)

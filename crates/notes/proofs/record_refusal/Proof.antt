@@ -4,5 +4,5 @@ use Rattle.refusal.specs.RefusalLaws.{rows}
 use Rattle.notes.proofs.record_refusal.Statement.{statement}
 use Rattle.notes.proofs.record_refusal.Tie as tie
 
-pub record-refusal-spec : {M : Type 1} → statement M
-record-refusal-spec = tie.close (tie.spec (λ c κs. search rules) (λ c. search rows) (λ c. search rows))
+pub record_refusal_spec : {M : Type 1} → statement M
+record_refusal_spec = tie.close (tie.spec (λ c κs. search rules) (λ c. search rows) (λ c. search rows))

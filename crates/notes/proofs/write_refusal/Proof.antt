@@ -8,12 +8,12 @@ use Rattle.notes.proofs.write_refusal.Statement.{statement}
 use Rattle.notes.proofs.write_refusal.Tie as tie
 
 -- out is compared with the length stated
-short-is : (c : tie.After-short-out) → c.short-out.result ≡ short_out note_length c.before.before.before.before.before.args.out.now
-short-is c = rw (← c.before.note-length.ensures) c.short-out.ensures
+short-is : (c : tie.After-short_out) → c.short_out.result ≡ short_out note_length c.args.out.now
+short-is c = rw (← c.note_length.ensures) c.short_out.ensures
 
-pub write-refusal-spec : {M : Type 1} → statement M
+pub write_refusal_spec : {M : Type 1} → statement M
 unfolding write_note_conditions
-write-refusal-spec =
+write_refusal_spec =
     tie.close
     (tie.spec
     (λ c κs. search rules)

@@ -7,7 +7,7 @@ use Rattle.probes.proofs.probe_compress_many.Statement.{statement}
 use Rattle.probes.proofs.probe_compress_many.Tie as tie
 
 -- arguments of the probe
-module _ (c : tie.After-slice-known) where
+module _ (c : tie.After-slice_known-1) where
   abbrev start : tie.Start
   start = c.before.before.before
 
@@ -24,40 +24,34 @@ module _ (c : tie.After-slice-known) where
   out = start.args.out.now
 
 -- after the tests of out and of the state
-abbrev given : tie.Else2 → tie.After-slice-known
+abbrev given : tie.Else-state-ne32 → tie.After-slice_known-1
 given c = c.before.before
 
-returns : tie.Need-returns
-returns c = let s = c.before in compress-short (count s) (state s) (block s) (out s) c.if1.true
+returns : tie.Need-returns-then-out-lt32
+returns c = let s = c.before in compress-short (count s) (state s) (block s) (out s) c.if-out-lt32.true
 
-returns-2 : tie.Need-returns-2
+returns-2 : tie.Need-returns-then-state-ne32
 returns-2 c =
-    let fits = c.before in
-    let s = fits.before in
-    state_garbled (count s) (state s) (block s) (out s) fits.if1.false c.if2.true
+    let s = c.before.before in
+    state_garbled (count s) (state s) (block s) (out s) c.if-out-lt32.false c.if-state-ne32.true
 
-returns-3 : tie.Need-returns-3
+returns-3 : tie.Need-returns-then-block-ne64
 returns-3 c =
     let right = c.before in
     let s = given right in
-    block_garbled (count s) (state s) (block s) (out s) right.before.if1.false right.if2.false c.if3.true
+    block_garbled (count s) (state s) (block s) (out s) right.if-out-lt32.false right.if-state-ne32.false c.if-block-ne64.true
 
-returns-4 : tie.Need-returns-4
+returns-4 : tie.Need-returns
 returns-4 c =
-    let copied = c.before.before in
-    let digested = copied.before.before.before in
-    let repeated = digested.before in
-    let words = repeated.before.before in
-    let first = words.before in
-    let tested = first.before.before in
+    let tested = c.before.before.before.before.before.before.before.before.before.before.before in
     let right = tested.before in
     let s = given right in
-    compress-fits (count s) (state s) (block s) (out s) first.eight-words.result words.Block-words.result
-    repeated.compress-times.result digested.digest.result copied.copy.new.0 right.before.if1.false right.if2.false tested.if3.false
-    first.eight-words.ensures words.Block-words.ensures repeated.compress-times.ensures digested.digest.ensures copied.copy.ensures
+    compress-fits (count s) (state s) (block s) (out s) c.eight_words-h.result c.block_words-m.result
+    c.compress_times-s.result c.digest-d.result c.copy.new.out right.if-out-lt32.false right.if-state-ne32.false tested.if-block-ne64.false
+    c.eight_words-h.ensures c.block_words-m.ensures c.compress_times-s.ensures c.digest-d.ensures c.copy.ensures
 
-pub probe-compress-many-spec : {M : Type 1} → statement M
-probe-compress-many-spec =
+pub probe_compress_many_spec : {M : Type 1} → statement M
+probe_compress_many_spec =
     tie.close
     (tie.spec
     returns

@@ -8,7 +8,7 @@ use borrow.Author.Rules.{rules}
 use Rattle.probes.proofs.probe_lower_certificate.Statement.{statement}
 use Rattle.probes.proofs.probe_lower_certificate.Tie as tie
 
-module _ (c : tie.After-lower-certificate) where
+module _ (c : tie.After-lower_certificate-lower) where
   abbrev start : tie.Start
   start = c.before.before.before.before.before
 
@@ -22,18 +22,16 @@ module _ (c : tie.After-lower-certificate) where
       let keys = args.keys.now in
       lower_certificate (checks keys args.round) args.n args.round keys args.first.now args.second.now
 
-returns : tie.Need-returns
+returns : tie.Need-returns-then-out-lower
 returns c =
     let lower = c.before in
-    copy_short (handed lower) (out lower) lower.lower-certificate.result.now lower.lower-certificate.ensures.0 c.if1.true
+    copy_short (handed lower) (out lower) lower.lower_certificate-lower.result.now lower.lower_certificate-lower.ensures.0 c.if-out-lower.true
 
-returns-2 : tie.Need-returns-2
+returns-2 : tie.Need-returns
 returns-2 c =
-    let copied = c.before.before in
-    let fits = copied.before.before in
-    let lower = fits.before in
-    copy_fits (handed lower) (out lower) lower.lower-certificate.result.now copied.copy.new.0 lower.lower-certificate.ensures.0 fits.if1.false copied.copy.ensures
+    let lower = c.before.before.before.before.before in
+    copy_fits (handed lower) (out lower) lower.lower_certificate-lower.result.now c.copy.new.out lower.lower_certificate-lower.ensures.0 c.if-out-lower.false c.copy.ensures
 
-pub probe-lower-certificate-spec : {M : Type 1} → statement M
-probe-lower-certificate-spec =
+pub probe_lower_certificate_spec : {M : Type 1} → statement M
+probe_lower_certificate_spec =
     tie.close (tie.spec (λ c κs. search rules) returns (λ c κs. search rules) (λ c. search rules) returns-2)

@@ -13,38 +13,33 @@ use Rattle.probes.specs.ProbesLaws.{constants-short, constants-fit}
 use Rattle.probes.proofs.probe_round_constants.Statement.{statement}
 use Rattle.probes.proofs.probe_round_constants.Tie as tie
 
-abbrev invariant-loop : tie.invariant-loop
+abbrev invariant-loop : tie.invariant-loop-i
 invariant-loop out₀ k i₀ out i = (i ≤ 64) × (length out ≡ length out₀) × (length k ≡ 64) × (out ≡ patch 0 (bytes (take i k)) out₀)
 
-abbrev decreases-loop : tie.decreases-loop
+abbrev decreases-loop : tie.decreases-loop-i
 decreases-loop out₀ k i₀ out i = 64 - i
 
-returns : tie.Need-returns invariant-loop decreases-loop
-returns c = constants-short c.before.before.args.out.now c.if1.true
+returns : tie.Need-returns-then-out-lt256 invariant-loop decreases-loop
+returns c = constants-short c.args.out.now c.if-out-lt256.true
 
-loop-holds : tie.Need-loop-init invariant-loop decreases-loop
+loop-holds : tie.Need-loop-i-init invariant-loop decreases-loop
 unfolding bytes
-loop-holds c = (omega arith, refl, search rules, patch_none 0 c.before.before.before.args.out.now)
+loop-holds c = (omega arith, refl, search rules, patch_none 0 c.args.out.now)
 
-loop-again : tie.Need-loop-preserved invariant-loop decreases-loop
+loop-again : tie.Need-loop-i-preserved invariant-loop decreases-loop
 loop-again c =
-    let wrote = c.before.before in
-    let at-loop = wrote.before.before.before in
-    let made = at-loop.before in
-    let args = made.before.before.before.args in
-    (omega arith, search rules, search rules, words-written 0 at-loop.loop.i made.round-constants.result args.out.now at-loop.loop.out wrote.put_word.new.0 at-loop.loop.invariant.3 (omega arith) (omega arith) (rw zero-add wrote.put_word.ensures))
+    let args = c.args in
+    (omega arith, search rules, search rules, words-written 0 c.loop-i.i c.round_constants-k.result args.out.now c.loop-i.out c.put_word.new.out c.loop-i.invariant.3 (omega arith) (omega arith) (rw zero-add c.put_word.ensures))
 
-returns-2 : tie.Need-returns-2 invariant-loop decreases-loop
+returns-2 : tie.Need-returns invariant-loop decreases-loop
 returns-2 c =
-    let at-loop = c.before in
-    let made = at-loop.before in
-    let out = made.before.before.before.args.out.now in
-    let k = made.round-constants.result in
-    let all : take at-loop.loop.i k ≡ k = take_all at-loop.loop.i k (omega arith) in
-    constants-fit out k at-loop.loop.out made.before.if1.false made.round-constants.ensures (at-loop.loop.invariant.3 ∙ ap (λ (l : List ℕ). patch 0 (bytes l) out) all)
+    let out = c.args.out.now in
+    let k = c.round_constants-k.result in
+    let all : take c.loop-i.i k ≡ k = take_all c.loop-i.i k (omega arith) in
+    constants-fit out k c.loop-i.out c.if-out-lt256.false c.round_constants-k.ensures (c.loop-i.invariant.3 ∙ ap (λ (l : List ℕ). patch 0 (bytes l) out) all)
 
-pub probe-round-constants-spec : {M : Type 1} → statement M
-probe-round-constants-spec =
+pub probe_round_constants_spec : {M : Type 1} → statement M
+probe_round_constants_spec =
     tie.close
     (tie.spec
     invariant-loop

@@ -4,24 +4,21 @@ use borrow.Author.Rules.{rules}
 use Rattle.probes.proofs.probe_sha256.Statement.{statement}
 use Rattle.probes.proofs.probe_sha256.Tie as tie
 
-abbrev start : tie.After-slice-known → tie.Start
+abbrev start : tie.After-slice_known-1 → tie.Start
 start c = c.before.before
 
-returns : tie.Need-returns
+returns : tie.Need-returns-then-out-lt32
 returns c =
-    let args = (start c.before).args in
-    digest_short args.message.now args.out.now c.if1.true
+    let args = c.args in
+    digest_short args.message.now args.out.now c.if-out-lt32.true
 
-returns-2 : tie.Need-returns-2
+returns-2 : tie.Need-returns
 returns-2 c =
-    let copied = c.before.before in
-    let hashed = copied.before.before.before in
-    let fits = hashed.before.before.before in
-    let args = (start fits.before).args in
-    digest_fits args.message.now args.out.now hashed.sha256.result copied.copy.new.0 fits.if1.false hashed.sha256.ensures copied.copy.ensures
+    let args = c.args in
+    digest_fits args.message.now args.out.now c.sha256-d.result c.copy.new.out c.if-out-lt32.false c.sha256-d.ensures c.copy.ensures
 
-pub probe-sha256-spec : {M : Type 1} → statement M
-probe-sha256-spec =
+pub probe_sha256_spec : {M : Type 1} → statement M
+probe_sha256_spec =
     tie.close
     (tie.spec
     returns

@@ -7,7 +7,7 @@ use Rattle.probes.proofs.probe_signed.Statement.{statement}
 use Rattle.probes.proofs.probe_signed.Tie as tie
 
 -- arguments of the probe
-module _ (c : tie.After-slice-known) where
+module _ (c : tie.After-slice_known-1) where
   abbrev start : tie.Start
   start = c.before.before.before.before
 
@@ -27,45 +27,39 @@ module _ (c : tie.After-slice-known) where
   out = start.args.out.now
 
 -- after the tests of out and of the identifier
-abbrev given : tie.Else2 → tie.After-slice-known
+abbrev given : tie.Else-id-ne16 → tie.After-slice_known-1
 given c = c.before.before
 
-returns : tie.Need-returns
-returns c = let s = c.before in signed-short (q s) (id s) (seed s) (digits s) (out s) c.if1.true
+returns : tie.Need-returns-then-out-lt1088
+returns c = let s = c.before in signed-short (q s) (id s) (seed s) (digits s) (out s) c.if-out-lt1088.true
 
-returns-2 : tie.Need-returns-2
+returns-2 : tie.Need-returns-then-id-ne16
 returns-2 c =
-    let fits = c.before in
-    let s = fits.before in
-    id_garbled (q s) (id s) (seed s) (digits s) (out s) fits.if1.false c.if2.true
+    let s = c.before.before in
+    id_garbled (q s) (id s) (seed s) (digits s) (out s) c.if-out-lt1088.false c.if-id-ne16.true
 
-returns-3 : tie.Need-returns-3
+returns-3 : tie.Need-returns-then-seed-ne32
 returns-3 c =
     let named = c.before in
     let s = given named in
-    seed_garbled (q s) (id s) (seed s) (digits s) (out s) named.before.if1.false named.if2.false c.if3.true
+    seed_garbled (q s) (id s) (seed s) (digits s) (out s) named.if-out-lt1088.false named.if-id-ne16.false c.if-seed-ne32.true
 
-returns-4 : tie.Need-returns-4
+returns-4 : tie.Need-returns-then-digits-ne34
 returns-4 c =
-    let seeded = c.before in
-    let named = seeded.before in
+    let named = c.before.before in
     let s = given named in
-    digits_garbled (q s) (id s) (seed s) (digits s) (out s) named.before.if1.false named.if2.false seeded.if3.false c.if4.true
+    digits_garbled (q s) (id s) (seed s) (digits s) (out s) named.if-out-lt1088.false named.if-id-ne16.false c.if-seed-ne32.false c.if-digits-ne34.true
 
-returns-5 : tie.Need-returns-5
+returns-5 : tie.Need-returns
 returns-5 c =
-    let wrote = c.before.before in
-    let eight = wrote.before.before.before in
-    let four = eight.before in
-    let tested = four.before.before in
-    let seeded = tested.before in
+    let seeded = c.before.before.before.before.before.before.before.before.before in
     let named = seeded.before in
     let s = given named in
-    signed-fits (q s) (id s) (seed s) (digits s) (out s) four.four.result eight.eight.result wrote.write-signed.new.1.1.1.1.1.0 named.before.if1.false named.if2.false
-    seeded.if3.false tested.if4.false four.four.ensures eight.eight.ensures wrote.write-signed.ensures
+    signed-fits (q s) (id s) (seed s) (digits s) (out s) c.four-i.result c.eight-s.result c.write_signed.new.out named.if-out-lt1088.false named.if-id-ne16.false
+    seeded.if-seed-ne32.false c.if-digits-ne34.false c.four-i.ensures c.eight-s.ensures c.write_signed.ensures
 
-pub probe-signed-spec : {M : Type 1} → statement M
-probe-signed-spec =
+pub probe_signed_spec : {M : Type 1} → statement M
+probe_signed_spec =
     tie.close
     (tie.spec
     returns

@@ -3,13 +3,13 @@ use Rattle.protocol.specs.Signatures.{signature_number}
 use Rattle.protocol.proofs.signature_verdict.Statement.{statement}
 use Rattle.protocol.proofs.signature_verdict.Tie as tie
 
-returns : tie.Need-returns
+returns : tie.Need-returns-then-accepted
 unfolding signature_number
-returns c = rw c.if1.true
+returns c = rw c.if-accepted.true
 
-returns-2 : tie.Need-returns-2
+returns-2 : tie.Need-returns
 unfolding signature_number
-returns-2 c = rw c.if1.false
+returns-2 c = rw c.if-accepted.false
 
-pub signature-verdict-spec : {M : Type 1} → statement M
-signature-verdict-spec = tie.close (tie.spec returns returns-2)
+pub signature_verdict_spec : {M : Type 1} → statement M
+signature_verdict_spec = tie.close (tie.spec returns returns-2)

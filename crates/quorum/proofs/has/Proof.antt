@@ -14,5 +14,5 @@ returns : tie.Need-returns
 unfolding has
 returns c = ap (λ (x : ℕ). eqb x 1) (and_mask _ 1 ∙ shift_is_bit c.args.s c.args.m)
 
-pub has-spec : {M : Type 1} → statement M
-has-spec = tie.close (tie.spec (λ c. search rules) returns)
+pub has_spec : {M : Type 1} → statement M
+has_spec = tie.close (tie.spec (λ c. search rules) returns)

@@ -9,5 +9,5 @@ returns : tie.Need-returns
 unfolding less
 returns c = cc
 
-pub less-spec : {M : Type 1} → statement M
-less-spec = tie.close (tie.spec (λ c κs. search rules) returns)
+pub less_spec : {M : Type 1} → statement M
+less_spec = tie.close (tie.spec (λ c κs. search rules) returns)

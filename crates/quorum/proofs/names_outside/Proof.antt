@@ -10,5 +10,5 @@ returns : tie.Need-returns
 unfolding outside all
 returns c = rw (← suc_ones c.before.args.n, c.all.ensures)
 
-pub names-outside-spec : {M : Type 1} → statement M
-names-outside-spec = tie.close (tie.spec (λ c κs. search rules) returns)
+pub names_outside_spec : {M : Type 1} → statement M
+names_outside_spec = tie.close (tie.spec (λ c κs. search rules) returns)

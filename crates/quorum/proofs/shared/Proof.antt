@@ -9,5 +9,5 @@ returns : tie.Need-returns
 unfolding shared
 returns c = refl
 
-pub shared-spec : {M : Type 1} → statement M
-shared-spec = tie.close (tie.spec returns)
+pub shared_spec : {M : Type 1} → statement M
+shared_spec = tie.close (tie.spec returns)

@@ -7,5 +7,5 @@ use Rattle.quorum.proofs.shared_count.Tie as tie
 returns : tie.Need-returns
 returns c = cc
 
-pub shared-count-spec : {M : Type 1} → statement M
-shared-count-spec = tie.close (tie.spec (λ c κs. search rules) (λ c κs. search rules) returns)
+pub shared_count_spec : {M : Type 1} → statement M
+shared_count_spec = tie.close (tie.spec (λ c κs. search rules) (λ c κs. search rules) returns)

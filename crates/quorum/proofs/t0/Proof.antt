@@ -10,5 +10,5 @@ returns : tie.Need-returns
 unfolding t0
 returns c = omega arith
 
-pub t0-spec : {M : Type 1} → statement M
-t0-spec = tie.close (tie.spec (λ c. search rules) (λ c. search rules) returns)
+pub t0_spec : {M : Type 1} → statement M
+t0_spec = tie.close (tie.spec (λ c. search rules) (λ c. search rules) returns)

@@ -9,5 +9,5 @@ returns : tie.Need-returns
 unfolding with union
 returns c = cc
 
-pub with-spec : {M : Type 1} → statement M
-with-spec = tie.close (tie.spec (λ c κs. search rules) returns)
+pub with_spec : {M : Type 1} → statement M
+with_spec = tie.close (tie.spec (λ c κs. search rules) returns)

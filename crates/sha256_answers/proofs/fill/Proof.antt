@@ -6,37 +6,37 @@ use lib.ListN.{length, length-set}
 use Rattle.sha256_answers.proofs.fill.Statement.{statement}
 use Rattle.sha256_answers.proofs.fill.Tie as tie
 
-abbrev invariant-loop : tie.invariant-loop
+abbrev invariant-loop : tie.invariant-loop-i
 invariant-loop m₀ n i₀ m i = length m ≡ length m₀
 
-abbrev decreases-loop : tie.decreases-loop
+abbrev decreases-loop : tie.decreases-loop-i
 decreases-loop m₀ n i₀ m i = length m - i
 
-loop-holds : tie.Need-loop-init invariant-loop decreases-loop
+loop-holds : tie.Need-loop-i-init invariant-loop decreases-loop
 loop-holds c = refl
 
-mul-m : tie.Need-overflow-mul-m invariant-loop decreases-loop
+mul-m : tie.Need-overflow_mul-m invariant-loop decreases-loop
 mul-m c = omega arith
 
-add-m : tie.Need-overflow-add-m invariant-loop decreases-loop
+add-m : tie.Need-overflow_add-m invariant-loop decreases-loop
 add-m c = omega arith
 
-cast-m : tie.Need-overflow-cast-m invariant-loop decreases-loop
+cast-m : tie.Need-overflow_cast-m invariant-loop decreases-loop
 cast-m c = omega arith
 
-slice-write-m : tie.Need-slice-write-m invariant-loop decreases-loop
+slice-write-m : tie.Need-bounds-m-i invariant-loop decreases-loop
 slice-write-m c = omega arith
 
-add-i : tie.Need-overflow-add-i invariant-loop decreases-loop
+add-i : tie.Need-overflow_add-i invariant-loop decreases-loop
 add-i c = omega arith
 
-loop-less : tie.Need-loop-smaller invariant-loop decreases-loop
+loop-less : tie.Need-loop-i-smaller invariant-loop decreases-loop
 loop-less c = simp length-set (omega arith)
 
-loop-again : tie.Need-loop-preserved invariant-loop decreases-loop
+loop-again : tie.Need-loop-i-preserved invariant-loop decreases-loop
 loop-again c = simp length-set (omega arith)
 
-same_length : tie.Need-same-length invariant-loop decreases-loop
+same_length : tie.Need-shape_of-m invariant-loop decreases-loop
 same_length c = omega arith
 
 returns : tie.Need-returns invariant-loop decreases-loop

@@ -8,5 +8,5 @@ returns : tie.Need-returns
 unfolding compress
 returns c = cc
 
-pub compress-spec : {M : Type 1} → statement M
-compress-spec = tie.close (tie.spec (λ c κs. search rules) (λ c κs. search rules) (λ c κs. search rules) returns)
+pub compress_spec : {M : Type 1} → statement M
+compress_spec = tie.close (tie.spec (λ c κs. search rules) (λ c κs. search rules) (λ c κs. search rules) returns)

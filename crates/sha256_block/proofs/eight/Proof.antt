@@ -20,17 +20,17 @@ returns c h e =
     let w = start.args.w.now in
     let t = start.args.t in
     let next = rounds_next w h k in
-    let e1 = next start.args.s first.round.result t (t + 1) (omega arith) start.requires.0 e first.round.ensures in
-    let e2 = next first.round.result second.round2.result (t + 1) (t + 2) (omega arith) start.requires.0 e1 second.round2.ensures in
-    let e3 = next second.round2.result third.round3.result (t + 2) (t + 3) (omega arith) start.requires.0 e2 third.round3.ensures in
-    let e4 = next third.round3.result fourth.round4.result (t + 3) (t + 4) (omega arith) start.requires.0 e3 fourth.round4.ensures in
-    let e5 = next fourth.round4.result fifth.round5.result (t + 4) (t + 5) (omega arith) start.requires.0 e4 fifth.round5.ensures in
-    let e6 = next fifth.round5.result sixth.round6.result (t + 5) (t + 6) (omega arith) start.requires.0 e5 sixth.round6.ensures in
-    let e7 = next sixth.round6.result seventh.round7.result (t + 6) (t + 7) (omega arith) start.requires.0 e6 seventh.round7.ensures in
-    next seventh.round7.result c.round8.result (t + 7) (t + 8) (omega arith) start.requires.0 e7 c.round8.ensures
+    let e1 = next start.args.s first.round-a.result t (t + 1) (omega arith) start.requires.0 e first.round-a.ensures in
+    let e2 = next first.round-a.result second.round-b.result (t + 1) (t + 2) (omega arith) start.requires.0 e1 second.round-b.ensures in
+    let e3 = next second.round-b.result third.round-c.result (t + 2) (t + 3) (omega arith) start.requires.0 e2 third.round-c.ensures in
+    let e4 = next third.round-c.result fourth.round-d.result (t + 3) (t + 4) (omega arith) start.requires.0 e3 fourth.round-d.ensures in
+    let e5 = next fourth.round-d.result fifth.round-e.result (t + 4) (t + 5) (omega arith) start.requires.0 e4 fifth.round-e.ensures in
+    let e6 = next fifth.round-e.result sixth.round-f.result (t + 5) (t + 6) (omega arith) start.requires.0 e5 sixth.round-f.ensures in
+    let e7 = next sixth.round-f.result seventh.round-g.result (t + 6) (t + 7) (omega arith) start.requires.0 e6 seventh.round-g.ensures in
+    next seventh.round-g.result c.round.result (t + 7) (t + 8) (omega arith) start.requires.0 e7 c.round.ensures
 
-pub eight-spec : {M : Type 1} → statement M
-eight-spec =
+pub eight_spec : {M : Type 1} → statement M
+eight_spec =
     tie.close
     (tie.spec
     (λ c. search rules)

@@ -6,10 +6,10 @@ use Rattle.sha256_block.proofs.round.Tie as tie
 
 returns : tie.Need-returns
 unfolding round
-returns c = rw (c.before.add.ensures, c.add2.ensures, c.before.before.before.temp1.ensures, c.before.before.temp2.ensures)
+returns c = rw (c.add.ensures, c.add-2.ensures, c.temp1-t1.ensures, c.temp2-t2.ensures)
 
-pub round-spec : {M : Type 1} → statement M
-round-spec =
+pub round_spec : {M : Type 1} → statement M
+round_spec =
     tie.close
     (tie.spec
     (λ c. search rules)

@@ -8,38 +8,38 @@ use Rattle.fips180.specs.Fips.{rounds}
 use Rattle.sha256_block.proofs.rounds.Statement.{statement}
 use Rattle.sha256_block.proofs.rounds.Tie as tie
 
-abbrev invariant-loop : tie.invariant-loop
+abbrev invariant-loop : tie.invariant-loop-t
 invariant-loop k w s₀ t₀ s t = (t ≤ 64) × (t % 8 ≡ 0) × (length s ≡ 8) × (s ≡ rounds w s₀ t)
 
-abbrev decreases-loop : tie.decreases-loop
+abbrev decreases-loop : tie.decreases-loop-t
 decreases-loop k w s₀ t₀ s t = 64 - t
 
-loop-holds : tie.Need-loop-init invariant-loop decreases-loop
+loop-holds : tie.Need-loop-t-init invariant-loop decreases-loop
 unfolding rounds
 loop-holds c = (omega arith, omega arith, search rules, refl)
 
-eight-requires : tie.Need-eight-requires invariant-loop decreases-loop
-eight-requires c κs = (c.before.before.requires.0, c.before.before.requires.1, omega arith)
+eight-requires : tie.Need-eight-n-requires invariant-loop decreases-loop
+eight-requires c κs = (c.requires.0, c.requires.1, omega arith)
 
-add-t : tie.Need-overflow-add-t invariant-loop decreases-loop
+add-t : tie.Need-overflow_add-t invariant-loop decreases-loop
 add-t c = omega arith
 
-loop-less : tie.Need-loop-smaller invariant-loop decreases-loop
+loop-less : tie.Need-loop-t-smaller invariant-loop decreases-loop
 loop-less c = omega arith
 
-loop-again : tie.Need-loop-preserved invariant-loop decreases-loop
+loop-again : tie.Need-loop-t-preserved invariant-loop decreases-loop
 loop-again c =
     let at-loop = c.before.before in
-    (omega arith, omega arith, search rules, c.eight.ensures at-loop.before.args.h at-loop.loop.invariant.3)
+    (omega arith, omega arith, search rules, c.eight-n.ensures at-loop.args.h at-loop.loop-t.invariant.3)
 
 returns : tie.Need-returns invariant-loop decreases-loop
 returns c =
     let at-loop = c.before in
-    let args = at-loop.before.args in
-    let all : at-loop.loop.t ≡ 64 = omega arith in
-    subst (λ (t : ℕ). at-loop.loop.s ≡ rounds args.w.now args.h t) all at-loop.loop.invariant.3
+    let args = at-loop.args in
+    let all : at-loop.loop-t.t ≡ 64 = omega arith in
+    subst (λ (t : ℕ). at-loop.loop-t.s ≡ rounds args.w.now args.h t) all at-loop.loop-t.invariant.3
 
-pub rounds-spec : {M : Type 1} → statement M
-rounds-spec =
+pub rounds_spec : {M : Type 1} → statement M
+rounds_spec =
     tie.close
     (tie.spec invariant-loop decreases-loop loop-holds eight-requires add-t loop-less loop-again returns)

@@ -7,10 +7,10 @@ use Rattle.sha256_block.proofs.sums.Tie as tie
 returns : tie.Need-returns
 unfolding sums
 returns c =
-    rw (c.before.before.before.before.before.before.before.add.ensures, c.before.before.before.before.before.before.add2.ensures, c.before.before.before.before.before.add3.ensures, c.before.before.before.before.add4.ensures, c.before.before.before.add5.ensures, c.before.before.add6.ensures, c.before.add7.ensures, c.add8.ensures)
+    rw (c.add.ensures, c.add-2.ensures, c.add-3.ensures, c.add-4.ensures, c.add-5.ensures, c.add-6.ensures, c.add-7.ensures, c.add-8.ensures)
 
-pub sums-spec : {M : Type 1} → statement M
-sums-spec =
+pub sums_spec : {M : Type 1} → statement M
+sums_spec =
     tie.close
     (tie.spec
     (λ c. search rules)

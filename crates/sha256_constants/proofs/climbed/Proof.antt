@@ -6,29 +6,29 @@ use Rattle.sha256_constants.specs.RootLaws.{cube, root_lt}
 use Rattle.sha256_constants.proofs.climbed.Statement.{statement}
 use Rattle.sha256_constants.proofs.climbed.Tie as tie
 
-abbrev invariant-loop : tie.invariant-loop
+abbrev invariant-loop : tie.invariant-loop-r
 invariant-loop x m r₀ r = r ^ 3 ≤ m
 
-abbrev decreases-loop : tie.decreases-loop
+abbrev decreases-loop : tie.decreases-loop-r
 decreases-loop x m r₀ r = 2 ^ 19 - r
 
-next_le : (c : tie.At-loop invariant-loop decreases-loop) → c.loop.r + 1 ≤ 2 ^ 19
-next_le c = omega (arith, root_lt c.loop.invariant c.before.requires.1)
+next_le : (c : tie.At-loop-r invariant-loop decreases-loop) → c.loop-r.r + 1 ≤ 2 ^ 19
+next_le c = omega (arith, root_lt c.loop-r.invariant c.before.requires.1)
 
-mul-loop : tie.Need-overflow-mul-loop invariant-loop decreases-loop
+mul-loop : tie.Need-overflow_mul-r invariant-loop decreases-loop
 mul-loop c = omega (arith, mul-le-mul (next_le c) (next_le c))
 
-mul-loop-2 : tie.Need-overflow-mul-loop-2 invariant-loop decreases-loop
+mul-loop-2 : tie.Need-overflow_mul-r-in-loop-r invariant-loop decreases-loop
 mul-loop-2 c = omega (arith, mul-le-mul (mul-le-mul (next_le c) (next_le c)) (next_le c))
 
-loop-again : tie.Need-loop-preserved invariant-loop decreases-loop
-loop-again c = omega (arith, cube (c.before.loop.r + 1))
+loop-again : tie.Need-loop-r-preserved invariant-loop decreases-loop
+loop-again c = omega (arith, cube (c.before.loop-r.r + 1))
 
 returns : tie.Need-returns invariant-loop decreases-loop
-returns c = omega (arith, cube (c.before.loop.r + 1))
+returns c = omega (arith, cube (c.before.loop-r.r + 1))
 
-pub climbed-spec : {M : Type 1} → statement M
-climbed-spec =
+pub climbed_spec : {M : Type 1} → statement M
+climbed_spec =
     tie.close
     (tie.spec
     invariant-loop

@@ -5,8 +5,8 @@ use Rattle.sha256_constants.specs.RootLaws.{fits-test, fits_sizes}
 use Rattle.sha256_constants.proofs.fits.Statement.{statement}
 use Rattle.sha256_constants.proofs.fits.Tie as tie
 
-pub fits-spec : {M : Type 1} → statement M
-fits-spec =
+pub fits_spec : {M : Type 1} → statement M
+fits_spec =
     tie.close
     (tie.spec
     (λ c. omega (arith, fits_sizes c.requires))

@@ -8,5 +8,5 @@ returns : tie.Need-returns
 unfolding initial
 returns c = refl
 
-pub initial-value-spec : {M : Type 1} → statement M
-initial-value-spec = tie.close (tie.spec returns)
+pub initial_value_spec : {M : Type 1} → statement M
+initial_value_spec = tie.close (tie.spec returns)

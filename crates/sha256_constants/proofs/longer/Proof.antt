@@ -5,23 +5,23 @@ use Rattle.sha256_constants.specs.RootLaws.{first_below, digit_lt, next_below, l
 use Rattle.sha256_constants.proofs.longer.Statement.{statement}
 use Rattle.sha256_constants.proofs.longer.Tie as tie
 
-abbrev invariant-loop : tie.invariant-loop
+abbrev invariant-loop : tie.invariant-loop-d
 invariant-loop m a s rest d₀ d = (a * s + d) ^ 3 ≤ m * s ^ 3
 
-abbrev decreases-loop : tie.decreases-loop
+abbrev decreases-loop : tie.decreases-loop-d
 decreases-loop m a s rest d₀ d = s - d
 
-d-lt : (c : tie.At-loop invariant-loop decreases-loop) → c.loop.d < c.before.args.s
-d-lt c = digit_lt c.before.requires.0 c.before.requires.2 c.loop.invariant
+d-lt : (c : tie.At-loop-d invariant-loop decreases-loop) → c.loop-d.d < c.before.args.s
+d-lt c = digit_lt c.before.requires.0 c.before.requires.2 c.loop-d.invariant
 
-loop-again : tie.Need-loop-preserved invariant-loop decreases-loop
-loop-again c = next_below c.before.before.before.requires.0 _ _ c.before.fits2.ensures c.if1.true
+loop-again : tie.Need-loop-d-preserved invariant-loop decreases-loop
+loop-again c = next_below c.before.before.before.requires.0 _ _ c.before.fits.ensures c.loop-d-test.true
 
 returns : tie.Need-returns invariant-loop decreases-loop
-returns c = last_root c.before.before.before.requires.0 _ _ c.before.fits2.ensures c.if1.false c.before.before.loop.invariant
+returns c = last_root c.before.before.before.requires.0 _ _ c.before.fits.ensures c.loop-d-test.false c.before.before.loop-d.invariant
 
-pub longer-spec : {M : Type 1} → statement M
-longer-spec =
+pub longer_spec : {M : Type 1} → statement M
+longer_spec =
     tie.close
     (tie.spec
     invariant-loop

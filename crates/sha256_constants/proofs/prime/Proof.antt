@@ -8,25 +8,25 @@ use Rattle.sha256_constants.specs.PrimesLaws.{tried, tried_is_prime, trial_ends,
 use Rattle.sha256_constants.proofs.prime.Statement.{statement}
 use Rattle.sha256_constants.proofs.prime.Tie as tie
 
-abbrev invariant-loop : tie.invariant-loop
+abbrev invariant-loop : tie.invariant-loop-d
 invariant-loop n d₀ d = (2 ≤ d) × (d ≤ 18) × (tried n (18 - d) d ≡ prime n)
 
-abbrev decreases-loop : tie.decreases-loop
+abbrev decreases-loop : tie.decreases-loop-d
 decreases-loop n d₀ d = 18 - d
 
-loop-again : tie.Need-loop-preserved invariant-loop decreases-loop
-loop-again c = (omega arith, omega arith, trial_goes-on _ _ (omega arith) c.before.before.loop.invariant.2 c.if1.false)
+loop-again : tie.Need-loop-d-preserved invariant-loop decreases-loop
+loop-again c = (omega arith, omega arith, trial_goes-on _ _ (omega arith) c.before.before.loop-d.invariant.2 c.if-n-d-eq0.false)
 
-pub prime-spec : {M : Type 1} → statement M
-prime-spec =
+pub prime_spec : {M : Type 1} → statement M
+prime_spec =
     tie.close
     (tie.spec
     invariant-loop
     decreases-loop
     (λ c. (omega arith, omega arith, tried_is_prime _ c.requires.0 c.requires.1))
     (λ c. search rules)
-    (λ c. trial_ends _ _ (omega arith) c.before.before.loop.invariant.2 c.if1.true)
+    (λ c. trial_ends _ _ (omega arith) c.before.before.loop-d.invariant.2 c.if-n-d-eq0.true)
     (λ c. search rules)
     (λ c. search rules)
     loop-again
-    (λ c. trial_done _ _ (omega arith) c.before.loop.invariant.2))
+    (λ c. trial_done _ _ (omega arith) c.before.loop-d.invariant.2))

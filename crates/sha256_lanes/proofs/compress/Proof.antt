@@ -6,14 +6,14 @@ use Rattle.sha256_lanes.proofs.compress.Tie as tie
 
 returns : tie.Need-returns
 returns c =
-    let rounded = c.before.before.before.rounds in
-    let resumed = c.before.before.before.before.before.before.resume in
-    let scheduled = c.before.before.before.before.before.before.before.before.before.schedule in
-    let args = c.before.before.before.before.before.before.before.before.before.before.before.args in
-    let w = scheduled.new.0 in
-    let u = resumed.new.1.1.0 in
-    let r = rounded.new.1.1.0 in
-    let v = c.sums.new.1.0 in (
+    let rounded = c.rounds in
+    let resumed = c.resume in
+    let scheduled = c.schedule in
+    let args = c.args in
+    let w = scheduled.new.w in
+    let u = resumed.new.s in
+    let r = rounded.new.s in
+    let v = c.sums.new.v in (
       (scheduled.ensures.0.0, rounded.ensures.0.0, c.sums.ensures.0),
       (
         scheduled.ensures.0.1,
@@ -22,6 +22,6 @@ returns c =
       ),
     )
 
-pub compress-spec : {M : Type 1} → statement M
-compress-spec =
+pub compress_spec : {M : Type 1} → statement M
+compress_spec =
     tie.close (tie.spec (λ c κs. search rules) (λ c κs. search rules) (λ c κs. search rules) (λ c κs. search rules) returns)

@@ -8,74 +8,66 @@ use Rattle.sha256_lanes.specs.RowsLaws.{Part, part_none, part-unchanged, part_ne
 use Rattle.sha256_lanes.proofs.round.Statement.{statement}
 use Rattle.sha256_lanes.proofs.round.Tie as tie
 
-abbrev invariant-loop : tie.invariant-loop
+abbrev invariant-loop : tie.invariant-loop-l
 invariant-loop k w s₀ t l₀ s l = (l ≤ 16) × (length s ≡ 3264) × Unchanged (1024 - 16 * t) s₀ s × Part k t l w s₀ s
 
-abbrev decreases-loop : tie.decreases-loop
+abbrev decreases-loop : tie.decreases-loop-l
 decreases-loop k w s₀ t l₀ s l = 16 - l
 
-loop-holds : tie.Need-loop-init invariant-loop decreases-loop
+loop-holds : tie.Need-loop-l-init invariant-loop decreases-loop
 loop-holds c =
     let args = c.args in
     (omega arith, c.requires.3, unchanged_all (1024 - 16 * args.t) args.s.now, part_none args.k args.t args.w.now args.s.now args.s.now)
 
-mul-x : tie.Need-overflow-mul-x invariant-loop decreases-loop
+mul-x : tie.Need-overflow_mul-x invariant-loop decreases-loop
 mul-x c = omega arith
 
-add-x : tie.Need-overflow-add-x invariant-loop decreases-loop
+add-x : tie.Need-overflow_add-x invariant-loop decreases-loop
 add-x c = omega arith
 
-mul-x-2 : tie.Need-overflow-mul-x-2 invariant-loop decreases-loop
-mul-x-2 c = omega arith
-
-element-copy-out-x : tie.Need-element-copy-out-x invariant-loop decreases-loop
-element-copy-out-x c = omega arith
-
-mul-round-at : tie.Need-overflow-mul-round-at invariant-loop decreases-loop
+mul-round-at : tie.Need-overflow_mul-t invariant-loop decreases-loop
 mul-round-at c = omega arith
 
-sub-round-at : tie.Need-overflow-sub-round-at invariant-loop decreases-loop
+sub-round-at : tie.Need-overflow_sub-t invariant-loop decreases-loop
 sub-round-at c = omega arith
 
-add-round-at : tie.Need-overflow-add-round-at invariant-loop decreases-loop
+add-round-at : tie.Need-overflow_add-t invariant-loop decreases-loop
 add-round-at c = omega arith
 
-round-at-requires : tie.Need-round-at-requires invariant-loop decreases-loop
+round-at-requires : tie.Need-round_at-requires invariant-loop decreases-loop
 round-at-requires c κs = omega arith
 
-add-l : tie.Need-overflow-add-l invariant-loop decreases-loop
+add-l : tie.Need-overflow_add-l invariant-loop decreases-loop
 add-l c = omega arith
 
-loop-less : tie.Need-loop-smaller invariant-loop decreases-loop
+loop-less : tie.Need-loop-l-smaller invariant-loop decreases-loop
 loop-less c = omega arith
 
-loop-again : tie.Need-loop-preserved invariant-loop decreases-loop
+loop-again : tie.Need-loop-l-preserved invariant-loop decreases-loop
 loop-again c =
-    let at-loop = c.before.before.before.before in
-    let args = at-loop.before.args in
+    let args = c.args in
     let t = args.t in
-    let l = at-loop.loop.l in
+    let l = c.loop-l.l in
     let w = args.w.now in
     let s = args.s.now in
-    let r = at-loop.loop.s in
+    let r = c.loop-l.s in
     let n = 1008 - 16 * t + l in
     let x = get_or w (16 * t + l) 0 in
-    let z = c.round-at.new.1.1.0 in
-    let d : z ≡ round_at args.k x n r = c.round-at.ensures in (
+    let z = c.round_at.new.s in
+    let d : z ≡ round_at args.k x n r = c.round_at.ensures in (
       omega arith,
       rw d (length-round_at args.k x n r (omega arith) (omega arith)),
-      part-unchanged args.k t l n x w s r z (omega arith) (omega arith) refl refl (omega arith) at-loop.loop.invariant.2 d,
-      part_next args.k t l n x w s r z (omega arith) (omega arith) refl refl (omega arith) at-loop.loop.invariant.2 d at-loop.loop.invariant.3,
+      part-unchanged args.k t l n x w s r z (omega arith) (omega arith) refl refl (omega arith) c.loop-l.invariant.2 d,
+      part_next args.k t l n x w s r z (omega arith) (omega arith) refl refl (omega arith) c.loop-l.invariant.2 d c.loop-l.invariant.3,
     )
 
 returns : tie.Need-returns invariant-loop decreases-loop
 returns c =
-    let at-loop = c.before in
-    let args = at-loop.before.args in
-    ((at-loop.loop.invariant.1, at-loop.loop.invariant.2), part-done args.k args.t at-loop.loop.l args.w.now args.s.now at-loop.loop.s (omega arith) (omega arith) at-loop.before.requires.1 at-loop.loop.invariant.3)
+    let args = c.args in
+    ((c.loop-l.invariant.1, c.loop-l.invariant.2), part-done args.k args.t c.loop-l.l args.w.now args.s.now c.loop-l.s (omega arith) (omega arith) c.requires.1 c.loop-l.invariant.3)
 
-pub round-spec : {M : Type 1} → statement M
-round-spec =
+pub round_spec : {M : Type 1} → statement M
+round_spec =
     tie.close
     (tie.spec
     invariant-loop
@@ -83,8 +75,8 @@ round-spec =
     loop-holds
     mul-x
     add-x
-    mul-x-2
-    element-copy-out-x
+    (λ c. omega arith)
+    (λ c. omega arith)
     mul-round-at
     sub-round-at
     add-round-at

@@ -8,8 +8,8 @@ returns : tie.Need-returns
 unfolding round_at
 returns c = cc
 
-pub round-at-spec : {M : Type 1} → statement M
-round-at-spec =
+pub round_at_spec : {M : Type 1} → statement M
+round_at_spec =
     tie.close
     (tie.spec
     (λ c κs. search rules)

@@ -8,8 +8,8 @@ returns : tie.Need-returns
 unfolding scheduled_at
 returns c = cc
 
-pub scheduled-spec : {M : Type 1} → statement M
-scheduled-spec =
+pub scheduled_spec : {M : Type 1} → statement M
+scheduled_spec =
     tie.close
     (tie.spec
     (λ c. search rules)

@@ -7,12 +7,12 @@ use Rattle.sha256_lanes.proofs.scheduled_first.Tie as tie
 
 returns : tie.Need-returns
 returns c f =
-    let args = c.before.before.before.args in
+    let args = c.args in
     let law = shared_first args.w.now args.x.now args.n f (omega arith) (omega arith) in
     cc
 
-pub scheduled-first-spec : {M : Type 1} → statement M
-scheduled-first-spec =
+pub scheduled_first_spec : {M : Type 1} → statement M
+scheduled_first_spec =
     tie.close
     (tie.spec
     (λ c. search rules)

@@ -7,12 +7,12 @@ use Rattle.sha256_lanes.proofs.scheduled_next.Tie as tie
 
 returns : tie.Need-returns
 returns c f =
-    let args = c.before.before.before.before.before.before.args in
+    let args = c.args in
     let law = shared_next args.w.now args.x.now args.n f (omega arith) (omega arith) in
     cc
 
-pub scheduled-next-spec : {M : Type 1} → statement M
-scheduled-next-spec =
+pub scheduled_next_spec : {M : Type 1} → statement M
+scheduled_next_spec =
     tie.close
     (tie.spec
     (λ c. search rules)

@@ -8,8 +8,8 @@ returns : tie.Need-returns
 unfolding share_at
 returns c = cc
 
-pub share-at-spec : {M : Type 1} → statement M
-share-at-spec =
+pub share_at_spec : {M : Type 1} → statement M
+share_at_spec =
     tie.close
     (tie.spec
     (λ c. search rules)

@@ -8,82 +8,80 @@ use Rattle.sha256_lanes.specs.RowsLaws.{two_none, two_next, first_share, next_sh
 use Rattle.sha256_lanes.proofs.shares.Statement.{statement}
 use Rattle.sha256_lanes.proofs.shares.Tie as tie
 
-abbrev invariant-loop : tie.invariant-loop
+abbrev invariant-loop : tie.invariant-loop-n
 invariant-loop w x₀ n₀ x n = (n ≤ 32) × (length x ≡ 96) × Two 0 32 32 (first_share w) (next_share w) n x₀ x
 
-abbrev decreases-loop : tie.decreases-loop
+abbrev decreases-loop : tie.decreases-loop-n
 decreases-loop w x₀ n₀ x n = 32 - n
 
-loop-holds : tie.Need-loop-init invariant-loop decreases-loop
+loop-holds : tie.Need-loop-n-init invariant-loop decreases-loop
 loop-holds c = (omega arith, c.requires.1, two_none 0 32 32 _ _ c.args.x.now)
 
-add-small-sigma1 : tie.Need-overflow-add-small-sigma1 invariant-loop decreases-loop
+add-small-sigma1 : tie.Need-overflow_add-n invariant-loop decreases-loop
 add-small-sigma1 c = omega arith
 
-mul-small-sigma1 : tie.Need-overflow-mul-small-sigma1 invariant-loop decreases-loop
+mul-small-sigma1 : tie.Need-offset_bounds-w-n invariant-loop decreases-loop
 mul-small-sigma1 c = omega arith
 
-element-copy-out-small-sigma1 : tie.Need-element-copy-out-small-sigma1 invariant-loop decreases-loop
+element-copy-out-small-sigma1 : tie.Need-bounds-w-n invariant-loop decreases-loop
 element-copy-out-small-sigma1 c = omega arith
 
-small-sigma1-requires : tie.Need-small-sigma1-requires invariant-loop decreases-loop
+small-sigma1-requires : tie.Need-small_sigma1-requires invariant-loop decreases-loop
 small-sigma1-requires c κs = omega arith
 
-share-at-requires : tie.Need-share-at-requires invariant-loop decreases-loop
+share-at-requires : tie.Need-share_at-requires invariant-loop decreases-loop
 share-at-requires c κs = omega arith
 
 add-requires : tie.Need-add-requires invariant-loop decreases-loop
 add-requires c κs = omega arith
 
-mul-x : tie.Need-overflow-mul-x invariant-loop decreases-loop
+mul-x : tie.Need-offset_bounds-x-n invariant-loop decreases-loop
 mul-x c = omega arith
 
-element-write-x : tie.Need-element-write-x invariant-loop decreases-loop
+element-write-x : tie.Need-bounds-x-n invariant-loop decreases-loop
 element-write-x c = omega arith
 
-add-share-at : tie.Need-overflow-add-share-at invariant-loop decreases-loop
+add-share-at : tie.Need-overflow_add-n-in-loop-n invariant-loop decreases-loop
 add-share-at c = omega arith
 
-share-at-requires-2 : tie.Need-share-at-requires-2 invariant-loop decreases-loop
+share-at-requires-2 : tie.Need-share_at-requires-in-loop-n invariant-loop decreases-loop
 share-at-requires-2 c κs = omega arith
 
-add-x : tie.Need-overflow-add-x invariant-loop decreases-loop
+add-x : tie.Need-overflow_add-x invariant-loop decreases-loop
 add-x c = omega arith
 
-mul-x-2 : tie.Need-overflow-mul-x-2 invariant-loop decreases-loop
+mul-x-2 : tie.Need-offset_bounds-x-n-in-loop-n invariant-loop decreases-loop
 mul-x-2 c = omega arith
 
-element-write-x-2 : tie.Need-element-write-x-2 invariant-loop decreases-loop
+element-write-x-2 : tie.Need-bounds-x-n-in-loop-n invariant-loop decreases-loop
 element-write-x-2 c = omega arith
 
-add-n : tie.Need-overflow-add-n invariant-loop decreases-loop
+add-n : tie.Need-overflow_add-n-in-loop-n-2 invariant-loop decreases-loop
 add-n c = omega arith
 
-loop-less : tie.Need-loop-smaller invariant-loop decreases-loop
+loop-less : tie.Need-loop-n-smaller invariant-loop decreases-loop
 loop-less c = omega arith
 
-loop-again : tie.Need-loop-preserved invariant-loop decreases-loop
+loop-again : tie.Need-loop-n-preserved invariant-loop decreases-loop
 unfolding first_share next_share
 loop-again c =
-    let at-loop = c.before.before.before.before.before.before in
-    let args = at-loop.before.args in
-    let loop = at-loop.loop in
-    let made : c.before.add.result ≡ first_share args.w.now loop.n = cc in (
+    let args = c.args in
+    let loop = c.loop-n in
+    let made : c.add.result ≡ first_share args.w.now loop.n = cc in (
       omega arith,
       simp length-set (omega arith),
       two_next 0 32 32 _ _ loop.n args.x.now loop.x _ _ _ _ (omega arith) (omega arith) (omega arith) (omega arith) (omega arith) made
-          c.share-at2.ensures loop.invariant.2,
+          c.share_at-in-loop-n.ensures loop.invariant.2,
     )
 
 returns : tie.Need-returns invariant-loop decreases-loop
 returns c =
-    let at-loop = c.before in
-    let args = at-loop.before.args in
-    let loop = at-loop.loop in
+    let args = c.args in
+    let loop = c.loop-n in
     (loop.invariant.1, shares-done loop.n args.w.now args.x.now loop.x (omega arith) loop.invariant.2)
 
-pub shares-spec : {M : Type 1} → statement M
-shares-spec =
+pub shares_spec : {M : Type 1} → statement M
+shares_spec =
     tie.close
     (tie.spec
     invariant-loop

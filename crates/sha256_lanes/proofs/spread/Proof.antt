@@ -8,45 +8,43 @@ use Rattle.sha256_lanes.specs.RowsLaws.{Spread, spread_none, spread_next, spread
 use Rattle.sha256_lanes.proofs.spread.Statement.{statement}
 use Rattle.sha256_lanes.proofs.spread.Tie as tie
 
-abbrev invariant-loop : tie.invariant-loop
+abbrev invariant-loop : tie.invariant-loop-n
 invariant-loop w₀ m n₀ w n = (n ≤ 256) × (length w ≡ 1024) × (length m ≡ 16) × Spread n m w
 
-abbrev decreases-loop : tie.decreases-loop
+abbrev decreases-loop : tie.decreases-loop-n
 decreases-loop w₀ m n₀ w n = 256 - n
 
-loop-holds : tie.Need-loop-init invariant-loop decreases-loop
+loop-holds : tie.Need-loop-n-init invariant-loop decreases-loop
 loop-holds c = (omega arith, search rules, search rules, spread_none _ _)
 
-mul-w : tie.Need-overflow-mul-w invariant-loop decreases-loop
+mul-w : tie.Need-offset_bounds-m-n invariant-loop decreases-loop
 mul-w c = omega arith
 
-array-read-w : tie.Need-array-read-w invariant-loop decreases-loop
+array-read-w : tie.Need-bounds-m-n invariant-loop decreases-loop
 array-read-w c = omega arith
 
-mul-w-2 : tie.Need-overflow-mul-w-2 invariant-loop decreases-loop
+mul-w-2 : tie.Need-offset_bounds-w-n invariant-loop decreases-loop
 mul-w-2 c = omega arith
 
-element-write-w : tie.Need-element-write-w invariant-loop decreases-loop
+element-write-w : tie.Need-bounds-w-n invariant-loop decreases-loop
 element-write-w c = omega arith
 
-add-n : tie.Need-overflow-add-n invariant-loop decreases-loop
+add-n : tie.Need-overflow_add-n invariant-loop decreases-loop
 add-n c = omega arith
 
-loop-less : tie.Need-loop-smaller invariant-loop decreases-loop
+loop-less : tie.Need-loop-n-smaller invariant-loop decreases-loop
 loop-less c = omega arith
 
-loop-again : tie.Need-loop-preserved invariant-loop decreases-loop
+loop-again : tie.Need-loop-n-preserved invariant-loop decreases-loop
 loop-again c =
-    let at-loop = c.before in
-    (omega arith, simp length-set (omega arith), search rules, spread_next at-loop.loop.n _ at-loop.loop.w (omega arith) at-loop.loop.invariant.3)
+    (omega arith, simp length-set (omega arith), search rules, spread_next c.loop-n.n _ c.loop-n.w (omega arith) c.loop-n.invariant.3)
 
 returns : tie.Need-returns invariant-loop decreases-loop
 returns c =
-    let at-loop = c.before in
-    (at-loop.loop.invariant.1, spread_done at-loop.loop.n _ at-loop.loop.w (omega arith) at-loop.loop.invariant.2 at-loop.loop.invariant.3)
+    (c.loop-n.invariant.1, spread_done c.loop-n.n _ c.loop-n.w (omega arith) c.loop-n.invariant.2 c.loop-n.invariant.3)
 
-pub spread-spec : {M : Type 1} → statement M
-spread-spec =
+pub spread_spec : {M : Type 1} → statement M
+spread_spec =
     tie.close
     (tie.spec
     invariant-loop

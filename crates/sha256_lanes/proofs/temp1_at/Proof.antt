@@ -8,8 +8,8 @@ returns : tie.Need-returns
 unfolding temp1_at
 returns c = cc
 
-pub temp1-at-spec : {M : Type 1} → statement M
-temp1-at-spec =
+pub temp1_at_spec : {M : Type 1} → statement M
+temp1_at_spec =
     tie.close
     (tie.spec
     (λ c. search rules)

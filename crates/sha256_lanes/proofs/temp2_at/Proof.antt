@@ -8,8 +8,8 @@ returns : tie.Need-returns
 unfolding temp2_at
 returns c = cc
 
-pub temp2-at-spec : {M : Type 1} → statement M
-temp2-at-spec =
+pub temp2_at_spec : {M : Type 1} → statement M
+temp2_at_spec =
     tie.close
     (tie.spec
     (λ c. search rules)

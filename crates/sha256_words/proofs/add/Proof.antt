@@ -6,7 +6,7 @@ use Rattle.sha256_words.proofs.add.Tie as tie
 
 returns : tie.Need-returns
 unfolding add
-returns c = c.wrapping-add-u32.ensures
+returns c = c.wrapping_add_u32.ensures
 
 pub add_spec : {M : Type 1} → statement M
 add_spec = tie.close (tie.spec (λ c κs. search rules) returns)

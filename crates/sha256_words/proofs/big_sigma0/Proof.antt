@@ -8,5 +8,5 @@ returns : tie.Need-returns
 unfolding big_sigma0
 returns c = cc
 
-pub big-sigma0-spec : {M : Type 1} → statement M
-big-sigma0-spec = tie.close (tie.spec (λ c κs. search rules) (λ c κs. search rules) (λ c κs. search rules) returns)
+pub big_sigma0_spec : {M : Type 1} → statement M
+big_sigma0_spec = tie.close (tie.spec (λ c κs. search rules) (λ c κs. search rules) (λ c κs. search rules) returns)

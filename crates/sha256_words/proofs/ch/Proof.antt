@@ -7,5 +7,5 @@ use Rattle.sha256_words.proofs.ch.Tie as tie
 returns : tie.Need-returns
 returns c = ch-word c.args.x c.args.y c.args.z (search rules) (search rules) (search rules)
 
-pub ch-spec : {M : Type 1} → statement M
-ch-spec = tie.close (tie.spec returns)
+pub ch_spec : {M : Type 1} → statement M
+ch_spec = tie.close (tie.spec returns)

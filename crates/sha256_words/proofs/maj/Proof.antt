@@ -7,5 +7,5 @@ use Rattle.sha256_words.proofs.maj.Tie as tie
 returns : tie.Need-returns
 returns c = maj-word c.args.x c.args.y c.args.z (search rules) (search rules) (search rules)
 
-pub maj-spec : {M : Type 1} → statement M
-maj-spec = tie.close (tie.spec returns)
+pub maj_spec : {M : Type 1} → statement M
+maj_spec = tie.close (tie.spec returns)

@@ -8,5 +8,5 @@ returns : tie.Need-returns
 unfolding rotr
 returns c = refl
 
-pub rotr-spec : {M : Type 1} → statement M
-rotr-spec = tie.close (tie.spec (λ c. search rules) (λ c. search rules) (λ c. search rules) returns)
+pub rotr_spec : {M : Type 1} → statement M
+rotr_spec = tie.close (tie.spec (λ c. search rules) (λ c. search rules) (λ c. search rules) returns)

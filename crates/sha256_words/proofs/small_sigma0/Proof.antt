@@ -8,5 +8,5 @@ returns : tie.Need-returns
 unfolding small_sigma0 shr
 returns c = cc
 
-pub small-sigma0-spec : {M : Type 1} → statement M
-small-sigma0-spec = tie.close (tie.spec (λ c κs. search rules) (λ c κs. search rules) returns)
+pub small_sigma0_spec : {M : Type 1} → statement M
+small_sigma0_spec = tie.close (tie.spec (λ c κs. search rules) (λ c κs. search rules) returns)

@@ -8,5 +8,5 @@ returns : tie.Need-returns
 unfolding small_sigma1 shr
 returns c = cc
 
-pub small-sigma1-spec : {M : Type 1} → statement M
-small-sigma1-spec = tie.close (tie.spec (λ c κs. search rules) (λ c κs. search rules) returns)
+pub small_sigma1_spec : {M : Type 1} → statement M
+small_sigma1_spec = tie.close (tie.spec (λ c κs. search rules) (λ c κs. search rules) returns)

@@ -8,8 +8,8 @@ returns : tie.Need-returns
 unfolding temp1
 returns c = cc
 
-pub temp1-spec : {M : Type 1} → statement M
-temp1-spec =
+pub temp1_spec : {M : Type 1} → statement M
+temp1_spec =
     tie.close
     (tie.spec
     (λ c κs. search rules)

@@ -8,5 +8,5 @@ returns : tie.Need-returns
 unfolding temp2
 returns c = cc
 
-pub temp2-spec : {M : Type 1} → statement M
-temp2-spec = tie.close (tie.spec (λ c κs. search rules) (λ c κs. search rules) (λ c κs. search rules) returns)
+pub temp2_spec : {M : Type 1} → statement M
+temp2_spec = tie.close (tie.spec (λ c κs. search rules) (λ c κs. search rules) (λ c κs. search rules) returns)

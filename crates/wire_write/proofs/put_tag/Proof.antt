@@ -7,11 +7,8 @@ use Rattle.wire_write.proofs.put_tag.Tie as tie
 
 returns : tie.Need-returns
 returns c =
-    let second = c.before.before in
-    let first = second.before.before.before.before in
-    let start = first.before.before.before in
-    wrote_then first.put_byte.ensures second.put-byte2.ensures (omega (arith, start.requires))
+    wrote_then c.put_byte-a.ensures c.put_byte.ensures (omega (arith, c.requires))
 
-pub put-tag-spec : {M : Type 1} → statement M
-put-tag-spec =
+pub put_tag_spec : {M : Type 1} → statement M
+put_tag_spec =
     tie.close (tie.spec (λ c κs. search rules) (λ c. search rules) (λ c κs. search rules) (λ c. search rules) returns)

@@ -2,7 +2,6 @@
 use mathlib.Core.Path.{◌≡◌, sym, ap, ◌∙◌}
 use mathlib.Core.Bool.{true, false}
 use mathlib.Core.List.{[]}
-use mathlib.Core.Logic.{⊎_elim}
 use Prim.Native.Nat.{◌-◌}
 use native.Mathlib.Omega.{arith}
 use Rattle.quorum.specs.Quorum.{In, bit}
@@ -13,77 +12,75 @@ use Rattle.protocol.specs.Certificate.{entry_of, entries_of}
 use Rattle.store.specs.Sources.{certificate_from}
 use Rattle.wire_write.specs.Writing.{entry}
 use Rattle.wire_write.specs.WritingLaws.{Going, going_none, going_skip, going_room, going_on, going_done}
+use Rattle.wire_write.proofs.write_entries.Lts.{then-has, else-has}
 use Rattle.wire_write.proofs.write_entries.Statement.{statement}
 use Rattle.wire_write.proofs.write_entries.Tie as tie
 
-abbrev invariant-loop : tie.invariant-loop
+abbrev invariant-loop : tie.invariant-loop-s
 invariant-loop out₀ at n source m mask end₀ s₀ out end s = Going full_form (entry_of (certificate_from n source [] m)) n source.seats at out₀ s end out
 
-abbrev decreases-loop : tie.decreases-loop
+abbrev decreases-loop : tie.decreases-loop-s
 decreases-loop out₀ at n source m mask end₀ s₀ out end s = n - s
 
-abbrev started : tie.At-loop invariant-loop decreases-loop → tie.Start invariant-loop decreases-loop
-started c = c.before.before.before
-
-abbrev looped : tie.After-has invariant-loop decreases-loop → tie.At-loop invariant-loop decreases-loop
+abbrev looped : tie.After-has invariant-loop decreases-loop → tie.At-loop-s invariant-loop decreases-loop
 looped c = c.before.before
 
 -- meaning of the test for a seat
-test_in : (c : tie.After-has invariant-loop decreases-loop) → c.has.result ≡ true → In (looped c).loop.s (started (looped c)).args.source.seats
+test_in : (c : tie.After-has invariant-loop decreases-loop) → c.has.result ≡ true → In c.loop-s.s c.args.source.seats
 test_in c t = (has_true _ _).0 (sym c.has.ensures ∙ t)
 
-test-out : (c : tie.After-has invariant-loop decreases-loop) → c.has.result ≡ false → bit (looped c).loop.s (started (looped c)).args.source.seats ≡ 0
+test-out : (c : tie.After-has invariant-loop decreases-loop) → c.has.result ≡ false → bit c.loop-s.s c.args.source.seats ≡ 0
 test-out c t = (has_false _ _).0 (sym c.has.ensures ∙ t)
 
-loop-holds : tie.Need-loop-init invariant-loop decreases-loop
+loop-holds : tie.Need-loop-s-init invariant-loop decreases-loop
 loop-holds c = going_none (omega arith)
 
 has-requires : tie.Need-has-requires invariant-loop decreases-loop
 has-requires c κs = omega arith
 
-signature-of-requires : tie.Need-signature-of-requires invariant-loop decreases-loop
+signature-of-requires : tie.Need-signature_of-requires invariant-loop decreases-loop
 signature-of-requires c κs =
-    let taken = c.before in
-    let pre = (started (looped taken.before)).pre in
-    (pre.0, omega arith, test_in taken.before taken.if1.true, pre.1)
+    let pre = c.requires in
+    (pre.0, omega arith, test_in c.before.before c.if-has.true, pre.1)
 
-write-entry-requires : tie.Need-write-entry-requires invariant-loop decreases-loop
+write-entry-requires : tie.Need-write_entry-end-requires invariant-loop decreases-loop
 unfolding full_form full_entry_length
 write-entry-requires c κs =
-    let taken = c.before.before in
-    let at-loop = looped taken.before in
-    let pre = (started at-loop).pre in
-    (omega (arith, pre.0), c.signature-of.ensures.1, going_room at-loop.loop.inv (omega arith) (test_in taken.before taken.if1.true) pre.2)
+    let at-loop = looped c.before.before.before in
+    let pre = at-loop.requires in
+    (omega (arith, pre.0), c.signature_of.ensures.1, going_room at-loop.loop-s.invariant (omega arith) (test_in c.before.before.before c.if-has.true) pre.2)
 
-add-s : tie.Need-overflow-add-s invariant-loop decreases-loop
+add-s : tie.Need-overflow_add-s invariant-loop decreases-loop
 add-s c = omega arith
 
-loop-less : tie.Need-loop-smaller invariant-loop decreases-loop
+loop-less : tie.Need-loop-s-smaller invariant-loop decreases-loop
 loop-less c = omega arith
 
-loop-again : tie.Need-loop-preserved invariant-loop decreases-loop
+loop-again : tie.Need-loop-s-preserved invariant-loop decreases-loop
 unfolding full_form full_entry_length
 loop-again c =
     let tested = c.before in
     let at-loop = looped tested in
-    let loop = at-loop.loop in
-    ⊎_elim
-    (λ w.
-    let written = entry loop.s in
-    rw (w.6, w.7)
-    (going_on loop.inv (omega arith) (test_in tested w.0.taken) (started at-loop).pre.2 (written w.2.result.now) (ap written w.2.ensures.0) w.2.ensures.1 w.3.ensures))
-    (λ w. rw (w.1, w.2) (going_skip loop.inv (omega arith) (test-out tested w.0.left)))
-    c.if1.branch
+    let loop = at-loop.loop-s in
+    elim c.if-has.branch [
+      | then-has w ↦
+          let written = entry loop.s in
+          let found = w.signature_of in
+          rw (w.out-is, w.end-is)
+          (going_on loop.invariant (omega arith) (test_in tested w.if-has.true) at-loop.requires.2 (written found.result.now) (ap written found.ensures.0) found.ensures.1 w.write_entry-end.ensures)
+      | else-has w ↦
+          rw (w.out-is, w.end-is) (going_skip loop.invariant (omega arith) (test-out tested w.if-has.false))
+    ]
 
-same_length : tie.Need-same-length invariant-loop decreases-loop
+same_length : tie.Need-shape_of-out invariant-loop decreases-loop
 same_length c = omega arith
 
 returns : tie.Need-returns invariant-loop decreases-loop
 unfolding full_form full_entry_length entries_of
-returns c = going_done c.before.loop.invariant (omega arith)
+returns c = going_done c.loop-s.invariant (omega arith)
 
-pub write-entries-spec : {M : Type 1} → statement M
-write-entries-spec =
+pub write_entries_spec : {M : Type 1} → statement M
+write_entries_spec =
     tie.close
     (tie.spec
     invariant-loop

@@ -8,7 +8,7 @@ use Rattle.wire_write.specs.WritingLaws.{wrote_then}
 use Rattle.wire_write.proofs.write_entry.Statement.{statement}
 use Rattle.wire_write.proofs.write_entry.Tie as tie
 
-put-tag-requires : tie.Need-put-tag-requires
+put-tag-requires : tie.Need-put_tag-a-requires
 unfolding signature_length full_entry_length
 put-tag-requires c κs = omega arith
 
@@ -19,10 +19,7 @@ put-requires c κs = omega arith
 returns : tie.Need-returns
 unfolding render_entry full_form
 returns c =
-    let second = c.before.before in
-    let first = second.before.before.before.before in
-    let start = first.before.before.before.before in
-    wrote_then first.put-tag.ensures second.put.ensures (omega (arith, start.requires))
+    wrote_then c.put_tag-a.ensures c.put.ensures (omega (arith, c.requires))
 
-pub write-entry-spec : {M : Type 1} → statement M
-write-entry-spec = tie.close (tie.spec put-tag-requires put-requires (λ c. search rules) returns)
+pub write_entry_spec : {M : Type 1} → statement M
+write_entry_spec = tie.close (tie.spec put-tag-requires put-requires (λ c. search rules) returns)

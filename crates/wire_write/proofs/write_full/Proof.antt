@@ -14,62 +14,37 @@ use Rattle.wire_write.specs.WritingLaws.{wrote_then, list_written}
 use Rattle.wire_write.proofs.write_full.Statement.{statement}
 use Rattle.wire_write.proofs.write_full.Tie as tie
 
-abbrev sized : tie.After-write-head → tie.After-size
-sized c = c.before.before
-
-abbrev started : tie.After-write-head → tie.Start
-started c = (sized c).before.before.before.before
-
--- the head is written, then the count
-abbrev counting : tie.After-put-byte-arg → tie.After-write-head
-counting c = c.before.before.before
-
-abbrev headed : tie.After-put-byte → tie.After-write-head
-headed c = counting c.before
-
-write-head-requires : tie.Need-write-head-requires
+write-head-requires : tie.Need-write_head-a-requires
 unfolding notice_length full_entry_at
 write-head-requires c κs = omega arith
 
-cast-put-byte : tie.Need-overflow-cast-put-byte
-cast-put-byte c =
-    let first = counting c in
-    let start = started first in
-    omega (arith, start.pre.0, (sized first).size.ensures, size_le start.args.n start.args.source.seats start.pre.3.inside)
+cast-put-byte : tie.Need-overflow_cast-count
+cast-put-byte c = omega (arith, size_le c.args.n c.args.source.seats c.requires.3.inside)
 
-put-byte-requires : tie.Need-put-byte-requires
+put-byte-requires : tie.Need-put_byte-b-requires
 unfolding notice_length full_entry_at
-put-byte-requires c κs = omega (arith, (started (counting c)).requires.4)
+put-byte-requires c κs = omega arith
 
-write-entries-requires : tie.Need-write-entries-requires
+write-entries-requires : tie.Need-write_entries-requires
 unfolding notice_length full_entry_at
-write-entries-requires c κs =
-    let second = c.before.before.before in
-    let first = headed second in
-    let start = started first in
-    let args = start.args in
-    let counted = length-seats args.n args.source.seats start.pre.3.inside in
-    (start.pre.0, start.pre.3, rw counted (omega (arith, start.pre.4, first.write-head.ensures.1, first.write-head.kept, second.put_byte.ensures.ends)))
+write-entries-requires c κs = (c.requires.0, c.requires.3, rw (length-seats c.args.n c.args.source.seats c.requires.3.inside) (omega arith))
 
 returns : tie.Need-returns
 unfolding notice_length full_entry_at render full_of entries_of
 returns c =
-    let third = c.before.before in
-    let second = third.before.before.before.before in
-    let first = headed second in
-    let start = started first in
-    let args = start.args in
+    let args = c.args in
     let n = args.n in
     let value = args.value.now in
-    let room : args.at ≤ length args.out.now = omega (arith, start.pre.4) in
-    let counted = length-seats n args.source.seats start.pre.3.inside in (
+    let room : args.at ≤ length args.out.now = omega arith in
+    let inside = c.requires.3.inside in
+    let counted = length-seats n args.source.seats inside in (
       list_written full_form (entry_of (certificate_from n args.source value args.m.now)) n args.source.seats (head 0x03 args.round args.sender value)
-          (wrote_then first.write-head.ensures.0 second.put_byte.ensures room) third.write_entries.ensures.0 room start.pre.3.inside (sized first).size.ensures,
-      third.write_entries.ensures.1 ∙ rw counted (omega (arith, first.write-head.ensures.1, second.put_byte.ensures.ends)),
+          (wrote_then c.write_head-a.ensures.0 c.put_byte-b.ensures room) c.write_entries.ensures.0 room inside c.size-count.ensures,
+      c.write_entries.ensures.1 ∙ rw counted (omega arith),
     )
 
-pub write-full-spec : {M : Type 1} → statement M
-write-full-spec =
+pub write_full_spec : {M : Type 1} → statement M
+write_full_spec =
     tie.close
     (tie.spec
     (λ c κs. search rules)

@@ -6,7 +6,7 @@ use Rattle.wire_write.proofs.write_notice.Tie as tie
 
 returns : tie.Need-returns
 unfolding render
-returns c = c.before.before.write-head.ensures
+returns c = c.write_head.ensures
 
-pub write-notice-spec : {M : Type 1} → statement M
-write-notice-spec = tie.close (tie.spec (λ c κs. search rules) (λ c. search rules) returns)
+pub write_notice_spec : {M : Type 1} → statement M
+write_notice_spec = tie.close (tie.spec (λ c κs. search rules) (λ c. search rules) returns)

@@ -16,51 +16,50 @@ use Rattle.wire_write.specs.WritingLaws.{list_written}
 use Rattle.wire_write.proofs.write_ordered.Statement.{statement}
 use Rattle.wire_write.proofs.write_ordered.Tie as tie
 
-abbrev started : tie.After-size → tie.Start
+abbrev started : tie.After-size-count → tie.Start
 started c = c.before.before.before.before.before.before
 
-abbrev counted : tie.After-write-pack-head → tie.After-size
+abbrev counted : tie.After-write_pack_head-a → tie.After-size-count
 counted c = c.before.before
 
 -- the seats to write are as many as were counted
-many : (c : tie.After-size) → length (seats (started c).args.n (started c).args.mask) ≡ size (started c).args.mask
-many c = length-seats (started c).args.n (started c).args.mask (started c).requires.5
+many : (c : tie.After-size-count) → length (seats c.args.n c.args.mask) ≡ size c.args.mask
+many c = length-seats c.args.n c.args.mask c.requires.5
 
-write-pack-head-requires : tie.Need-write-pack-head-requires
+write-pack-head-requires : tie.Need-write_pack_head-a-requires
 unfolding evidence_length evidence_entry_at
 write-pack-head-requires c κs =
     let sized = c.before in
     let start = started sized in
-    (omega (arith, start.pre.0, sized.size.ensures, size_le start.args.n start.args.mask start.pre.5), omega (arith, start.pre.8))
+    (omega (arith, start.requires.0, sized.size-count.ensures, size_le start.args.n start.args.mask start.requires.5), omega (arith, start.requires.8))
 
-write-pairs-requires : tie.Need-write-pairs-requires
+write-pairs-requires : tie.Need-write_pairs-requires
 unfolding evidence_length evidence_entry_at
 write-pairs-requires c κs =
     let first = c.before.before.before in
     let sized = counted first in
-    let pre = (started sized).pre in
-    let head = first.write-pack-head in
+    let pre = sized.requires in
+    let head = first.write_pack_head-a in
     (pre.0, pre.1, pre.6, pre.2, pre.3, pre.7, pre.4, rw (many sized) (omega (arith, pre.8, head.ensures.1, head.auto)))
 
 returns : tie.Need-returns
 unfolding evidence_length evidence_entry_at render ordered_evidence pairs_of be
 returns c =
-    let second = c.before.before in
-    let first = second.before.before.before.before in
+    let first = c.before.before.before.before.before.before in
     let sized = counted first in
     let start = started sized in
     let args = start.args in
-    let pre = start.pre in
+    let pre = start.requires in
     let n = args.n in
     let low = certificate_from n args.low args.lower.now args.lows.now in
     let high = certificate_from n args.high args.higher.now args.highs.now in
     let room : args.at ≤ length args.out.now = omega (arith, pre.8) in (
-      list_written (evidence_form ValuesEach) (pair_of low high) n args.mask (0x07 ∷ be 2 args.round) first.write-pack-head.ensures.0 second.write-pairs.ensures.0 room pre.5 sized.size.ensures,
-      omega (arith, rw (many sized) at second.write-pairs.ensures.1, first.write-pack-head.ensures.1),
+      list_written (evidence_form ValuesEach) (pair_of low high) n args.mask (0x07 ∷ be 2 args.round) first.write_pack_head-a.ensures.0 c.write_pairs.ensures.0 room pre.5 sized.size-count.ensures,
+      omega (arith, rw (many sized) at c.write_pairs.ensures.1, first.write_pack_head-a.ensures.1),
     )
 
-pub write-ordered-spec : {M : Type 1} → statement M
-write-ordered-spec =
+pub write_ordered_spec : {M : Type 1} → statement M
+write_ordered_spec =
     tie.close
     (tie.spec
     (λ c κs. search rules)

@@ -11,23 +11,20 @@ use Rattle.wire_write.specs.WritingLaws.{wrote_then}
 use Rattle.wire_write.proofs.write_submit.Statement.{statement}
 use Rattle.wire_write.proofs.write_submit.Tie as tie
 
-write-head-requires : tie.Need-write-head-requires
+write-head-requires : tie.Need-write_head-a-requires
 unfolding notice_length submit_length
 write-head-requires c κs = omega arith
 
 put-requires : tie.Need-put-requires
 unfolding notice_length submit_length signature_length
-put-requires c κs = omega (arith, c.before.before.before.before.before.before.before.before.requires)
+put-requires c κs = omega (arith, c.requires)
 
 returns : tie.Need-returns
 unfolding render
 returns c =
-    let second = c.before.before in
-    let first = second.before.before.before.before in
-    let start = first.before.before.before.before.before in
-    let args = start.args in
-    let wrote = wrote_then {us = head 0x01 args.round args.seat args.value.now} first.write-head.ensures.0 second.put.ensures (omega (arith, start.requires)) in
-    (wrote, wrote.ends ∙ ap (λ (l : ℕ). args.at + l) (length-submit args.round args.seat args.value.now args.signature.now start.requires.1 start.requires.2))
+    let args = c.args in
+    let wrote = wrote_then {us = head 0x01 args.round args.seat args.value.now} c.write_head-a.ensures.0 c.put.ensures (omega (arith, c.requires)) in
+    (wrote, wrote.ends ∙ ap (λ (l : ℕ). args.at + l) (length-submit args.round args.seat args.value.now args.signature.now c.requires.1 c.requires.2))
 
-pub write-submit-spec : {M : Type 1} → statement M
-write-submit-spec = tie.close (tie.spec write-head-requires put-requires (λ c. search rules) returns)
+pub write_submit_spec : {M : Type 1} → statement M
+write_submit_spec = tie.close (tie.spec write-head-requires put-requires (λ c. search rules) returns)

@@ -8,5 +8,5 @@ returns : tie.Need-returns
 unfolding short_out
 returns c = refl
 
-pub short-out-spec : {M : Type 1} → statement M
-short-out-spec = tie.close (tie.spec returns)
+pub short_out_spec : {M : Type 1} → statement M
+short_out_spec = tie.close (tie.spec returns)

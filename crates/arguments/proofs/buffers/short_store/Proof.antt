@@ -8,5 +8,5 @@ returns : tie.Need-returns
 unfolding short_store
 returns c = rw c.store_length.ensures
 
-pub short-store-spec : {M : Type 1} → statement M
-short-store-spec = tie.close (tie.spec (λ c κs. search rules) returns)
+pub short_store_spec : {M : Type 1} → statement M
+short_store_spec = tie.close (tie.spec (λ c κs. search rules) returns)

@@ -6,7 +6,7 @@ use Rattle.arguments.proofs.range.wrong_round.Tie as tie
 
 returns : tie.Need-returns
 unfolding wrong_round
-returns c = rw c.last-round.ensures
+returns c = rw c.last_round.ensures
 
-pub wrong-round-spec : {M : Type 1} → statement M
-wrong-round-spec = tie.close (tie.spec (λ c κs. search rules) returns)
+pub wrong_round_spec : {M : Type 1} → statement M
+wrong_round_spec = tie.close (tie.spec (λ c κs. search rules) returns)

@@ -8,5 +8,5 @@ returns : tie.Need-returns
 unfolding wrong_seat
 returns c = refl
 
-pub wrong-seat-spec : {M : Type 1} → statement M
-wrong-seat-spec = tie.close (tie.spec returns)
+pub wrong_seat_spec : {M : Type 1} → statement M
+wrong_seat_spec = tie.close (tie.spec returns)

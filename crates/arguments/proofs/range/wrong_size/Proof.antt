@@ -8,5 +8,5 @@ returns : tie.Need-returns
 unfolding wrong_size
 returns c = refl
 
-pub wrong-size-spec : {M : Type 1} → statement M
-wrong-size-spec = tie.close (tie.spec returns)
+pub wrong_size_spec : {M : Type 1} → statement M
+wrong_size_spec = tie.close (tie.spec returns)

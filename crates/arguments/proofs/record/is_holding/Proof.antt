@@ -8,5 +8,5 @@ returns : tie.Need-returns
 unfolding holds
 returns c = refl
 
-pub is-holding-spec : {M : Type 1} → statement M
-is-holding-spec = tie.close (tie.spec returns)
+pub is_holding_spec : {M : Type 1} → statement M
+is_holding_spec = tie.close (tie.spec returns)

@@ -8,23 +8,23 @@ use Rattle.arguments.proofs.record.is_impossible.Statement.{statement}
 use Rattle.arguments.proofs.record.is_impossible.Tie as tie
 
 -- n, seat and round are in range
-ranged : (c : tie.Else1) → out_of_range c.before.before.args.r ≡ false
-ranged c = sym c.before.out_of_range.ensures ∙ c.if1.false
+ranged : (c : tie.Else-out_of_range) → out_of_range c.args.r ≡ false
+ranged c = sym c.out_of_range.ensures ∙ c.if-out_of_range.false
 
 -- and that is known where collected and first seats are tested
-abbrev known : tie.After-names-stranger → tie.Else1
+abbrev known : tie.After-names_stranger-stranger → tie.Else-out_of_range
 known c = c.before.before
 
-returns : tie.Need-returns
+returns : tie.Need-returns-then-out_of_range
 unfolding impossible
-returns c = rw (sym c.before.out_of_range.ensures ∙ c.if1.true)
+returns c = rw (sym c.out_of_range.ensures ∙ c.if-out_of_range.true)
 
-returns-2 : tie.Need-returns-2
+returns-2 : tie.Need-returns
 unfolding impossible wrong_heard
 returns-2 c = rw (ranged (known c.before.before.before.before.before.before.before)) (cc)
 
-pub is-impossible-spec : {M : Type 1} → statement M
-is-impossible-spec =
+pub is_impossible_spec : {M : Type 1} → statement M
+is_impossible_spec =
     tie.close
     (tie.spec
     (λ c κs. search rules)

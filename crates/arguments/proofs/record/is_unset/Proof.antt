@@ -8,6 +8,6 @@ returns : tie.Need-returns
 unfolding unset
 returns c = c.same.ensures
 
-pub is-unset-spec : {M : Type 1} → statement M
-is-unset-spec =
+pub is_unset_spec : {M : Type 1} → statement M
+is_unset_spec =
     tie.close (tie.spec (λ c. search rules) (λ c. search rules) (λ c κs. search rules) returns)

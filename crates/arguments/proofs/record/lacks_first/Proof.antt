@@ -8,5 +8,5 @@ returns : tie.Need-returns
 unfolding lacks_first
 returns c = cc
 
-pub lacks-first-spec : {M : Type 1} → statement M
-lacks-first-spec = tie.close (tie.spec (λ c κs. search rules) returns)
+pub lacks_first_spec : {M : Type 1} → statement M
+lacks_first_spec = tie.close (tie.spec (λ c κs. search rules) returns)

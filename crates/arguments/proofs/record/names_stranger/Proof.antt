@@ -8,7 +8,7 @@ returns : tie.Need-returns
 unfolding names_stranger
 returns c = cc
 
-pub names-stranger-spec : {M : Type 1} → statement M
-names-stranger-spec =
+pub names_stranger_spec : {M : Type 1} → statement M
+names_stranger_spec =
     tie.close
     (tie.spec (λ c κs. search rules) (λ c κs. search rules) (λ c κs. search rules) (λ c κs. search rules) returns)

@@ -7,13 +7,13 @@ use Rattle.protocol.specs.Calls.{opened_by}
 use Rattle.arguments.proofs.record.opened_by.Statement.{statement}
 use Rattle.arguments.proofs.record.opened_by.Tie as tie
 
-returns : tie.Need-returns
+returns : tie.Need-returns-then-number-eq0
 unfolding opened_by unrefused
-returns c = rw c.if1.true
+returns c = rw c.if-number-eq0.true
 
-returns-2 : tie.Need-returns-2
+returns-2 : tie.Need-returns
 unfolding opened_by zeros
-returns-2 c = rw (refused-old _ _ _ c.before.if1.false, c.fresh.ensures)
+returns-2 c = rw (refused-old _ _ _ c.if-number-eq0.false, c.fresh-zeros.ensures)
 
-pub opened-by-spec : {M : Type 1} → statement M
-opened-by-spec = tie.close (tie.spec returns (λ c κs. search rules) returns-2)
+pub opened_by_spec : {M : Type 1} → statement M
+opened_by_spec = tie.close (tie.spec returns (λ c κs. search rules) returns-2)

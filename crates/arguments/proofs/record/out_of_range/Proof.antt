@@ -8,6 +8,6 @@ returns : tie.Need-returns
 unfolding out_of_range
 returns c = cc
 
-pub out-of-range-spec : {M : Type 1} → statement M
-out-of-range-spec =
+pub out_of_range_spec : {M : Type 1} → statement M
+out_of_range_spec =
     tie.close (tie.spec (λ c κs. search rules) (λ c κs. search rules) (λ c κs. search rules) returns)

@@ -8,5 +8,5 @@ returns : tie.Need-returns
 unfolding wrong_collected
 returns c = cc
 
-pub wrong-collected-spec : {M : Type 1} → statement M
-wrong-collected-spec = tie.close (tie.spec (λ c κs. search rules) (λ c κs. search rules) (λ c κs. search rules) returns)
+pub wrong_collected_spec : {M : Type 1} → statement M
+wrong_collected_spec = tie.close (tie.spec (λ c κs. search rules) (λ c κs. search rules) (λ c κs. search rules) returns)

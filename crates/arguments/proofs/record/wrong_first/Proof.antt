@@ -8,5 +8,5 @@ returns : tie.Need-returns
 unfolding wrong_first
 returns c = cc
 
-pub wrong-first-spec : {M : Type 1} → statement M
-wrong-first-spec = tie.close (tie.spec (λ c κs. search rules) (λ c κs. search rules) returns)
+pub wrong_first_spec : {M : Type 1} → statement M
+wrong_first_spec = tie.close (tie.spec (λ c κs. search rules) (λ c κs. search rules) returns)

@@ -8,5 +8,5 @@ returns : tie.Need-returns
 unfolding wrong_guilty
 returns c = cc
 
-pub wrong-guilty-spec : {M : Type 1} → statement M
-wrong-guilty-spec = tie.close (tie.spec (λ c κs. search rules) returns)
+pub wrong_guilty_spec : {M : Type 1} → statement M
+wrong_guilty_spec = tie.close (tie.spec (λ c κs. search rules) returns)

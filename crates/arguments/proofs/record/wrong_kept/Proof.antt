@@ -8,5 +8,5 @@ returns : tie.Need-returns
 unfolding wrong_kept
 returns c = refl
 
-pub wrong-kept-spec : {M : Type 1} → statement M
-wrong-kept-spec = tie.close (tie.spec returns)
+pub wrong_kept_spec : {M : Type 1} → statement M
+wrong_kept_spec = tie.close (tie.spec returns)

@@ -8,5 +8,5 @@ returns : tie.Need-returns
 unfolding wrong_sent
 returns c = refl
 
-pub wrong-sent-spec : {M : Type 1} → statement M
-wrong-sent-spec = tie.close (tie.spec returns)
+pub wrong_sent_spec : {M : Type 1} → statement M
+wrong_sent_spec = tie.close (tie.spec returns)

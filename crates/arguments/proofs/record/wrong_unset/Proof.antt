@@ -8,8 +8,8 @@ returns : tie.Need-returns
 unfolding wrong_unset none_heard
 returns c = cc
 
-pub wrong-unset-spec : {M : Type 1} → statement M
-wrong-unset-spec =
+pub wrong_unset_spec : {M : Type 1} → statement M
+wrong_unset_spec =
     tie.close
     (tie.spec
     (λ c κs. search rules)

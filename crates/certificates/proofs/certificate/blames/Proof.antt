@@ -8,7 +8,7 @@ returns : tie.Need-returns
 unfolding blames found
 returns c = cc
 
-pub blames-spec : {M : Type 1} → statement M
-blames-spec =
+pub blames_spec : {M : Type 1} → statement M
+blames_spec =
     tie.close
     (tie.spec (λ c. search rules) (λ c. search rules) (λ c κs. search rules) (λ c κs. search rules) returns)

@@ -8,5 +8,5 @@ returns : tie.Need-returns
 unfolding found
 returns c = cc
 
-pub found-spec : {M : Type 1} → statement M
-found-spec = tie.close (tie.spec (λ c κs. search rules) (λ c κs. search rules) returns)
+pub found_spec : {M : Type 1} → statement M
+found_spec = tie.close (tie.spec (λ c κs. search rules) (λ c κs. search rules) returns)

@@ -14,53 +14,53 @@ use Rattle.certificates.proofs.certificate.hear_certificate.Tie as tie
 abbrev notices : tie.Start → Notices
 notices s = notices_with s.args.value s.args.r
 
-abbrev started : tie.After-hear → tie.Start
+abbrev started : tie.After-hear-heard → tie.Start
 started c = c.before.before.before.before
 
-abbrev heard : tie.After-reply-arg2 → tie.After-hear
-heard c = c.before.before
+abbrev heard : tie.After-reply-arg-1 → tie.After-hear-heard
+heard c = c.before
 
-abbrev answered : tie.After-hold-or-blame-arg2 → tie.After-reply
+abbrev answered : tie.After-hold_or_blame-arg-2-1 → tie.After-reply-p
 answered c = c.before.before.before.before.before
 
-abbrev done : tie.After-slice-known5 → tie.After-hold-or-blame
+abbrev done : tie.After-slice_known-5-1 → tie.After-hold_or_blame
 done c = c.before.before.before.before
 
-reply-requires : tie.Need-reply-requires
+reply-requires : tie.Need-reply-p-requires
 reply-requires c κs =
-    let hear = (heard c).hear in
+    let hear = c.hear-heard in
     let start = started (heard c) in
     let args = start.args in (
-      heard-fits args.r args.store.now (notices start) hear.result hear.ensures start.pre.0,
-      heard-room args.r args.store.now (notices start) hear.result hear.ensures args.at (evidence_length (k args.r.n)) (length args.out.now) start.pre.2,
+      heard-fits args.r args.store.now (notices start) hear.result hear.ensures start.requires.0,
+      heard-room args.r args.store.now (notices start) hear.result hear.ensures args.at (evidence_length (k args.r.n)) (length args.out.now) start.requires.2,
     )
 
-hold-or-blame-requires : tie.Need-hold-or-blame-requires
+hold-or-blame-requires : tie.Need-hold_or_blame-requires
 hold-or-blame-requires c κs =
-    let reply = (answered c).reply in
-    let hear = (heard (answered c).before).hear in
+    let reply = c.reply-p in
+    let hear = (heard (answered c).before).hear-heard in
     let start = started (heard (answered c).before) in
     let args = start.args in
-    let fits = replied_fits args.r args.store.now (notices start) hear.result hear.ensures reply.result.unit args.store.now reply.ensures.0.changed start.pre.0 in
+    let fits = replied_fits args.r args.store.now (notices start) hear.result hear.ensures reply.result.unit args.store.now reply.ensures.0.changed start.requires.0 in
     let room =
     replied_room args.r args.store.now (notices start) hear.result hear.ensures reply.result.unit args.store.now reply.ensures.0.changed
-    args.at reply.result.at (length args.out.now) reply.ensures.1 start.pre.2 in
+    args.at reply.result.at (length args.out.now) reply.ensures.1 start.requires.2 in
     let same-n = replied_n args.r args.store.now (notices start) hear.result hear.ensures reply.result.unit args.store.now reply.ensures.0.changed in
-    (fits, rw same-n start.pre.1, omega (arith, room, reply.kept.1.1.0))
+    (fits, rw same-n start.requires.1, omega (arith, room, reply.auto.out))
 
 returns : tie.Need-returns
 returns c =
-    let held = (done c).hold-or-blame in
+    let held = c.hold_or_blame in
     let replied = answered (done c).before in
-    let reply = replied.reply in
-    let hear = (heard replied.before).hear in
+    let reply = replied.reply-p in
+    let hear = replied.before.hear-heard in
     let start = started (heard replied.before) in
     let args = start.args in
-    certificate-heard args.r args.store.now args.out.now args.at (omega (arith, start.pre)) hear.result reply.result.unit reply.last.1.1.0 reply.result.at
-    held.result.unit held.last.1.0 held.last.1.1.0 held.result.at args.source args.value args.m.now hear.ensures reply.ensures.0 held.ensures
+    certificate-heard args.r args.store.now args.out.now args.at (omega (arith, start.requires)) hear.result reply.result.unit reply.new.out reply.result.at
+    held.result.unit held.new.store held.new.out held.result.at args.source args.value args.m.now hear.ensures reply.ensures.0 held.ensures
 
-pub hear-certificate-spec : {M : Type 1} → statement M
-hear-certificate-spec =
+pub hear_certificate_spec : {M : Type 1} → statement M
+hear_certificate_spec =
     tie.close
     (tie.spec
     (λ c κs. search rules)

@@ -6,7 +6,7 @@ use Rattle.certificates.proofs.certificate.hold.Tie as tie
 
 returns : tie.Need-returns
 unfolding hold
-returns c = record { recorded = c.with_first.ensures; stored = c.before.before.before.hold.ensures }
+returns c = record { recorded = c.with_first.ensures; stored = c.hold.ensures }
 
-pub hold-spec : {M : Type 1} → statement M
-hold-spec = tie.close (tie.spec (λ c κs. search rules) (λ c κs. search rules) (λ c. search rules) returns)
+pub hold_spec : {M : Type 1} → statement M
+hold_spec = tie.close (tie.spec (λ c κs. search rules) (λ c κs. search rules) (λ c. search rules) returns)

@@ -5,34 +5,33 @@ use borrow.Author.Rules.{rules}
 use Rattle.certificates.proofs.hear.notices_with.Statement.{statement}
 use Rattle.certificates.proofs.hear.notices_with.Tie as tie
 
-abbrev first-asked : tie.After-same → tie.Else1
+abbrev first-asked : tie.After-same-same → tie.Else-heard-eq0
 first-asked c = c.before.before.before
 
-abbrev started : tie.Else1 → tie.Start
+abbrev started : tie.Else-heard-eq0 → tie.Start
 started c = c.before.before
 
-returns : tie.Need-returns
+returns : tie.Need-returns-then-heard-eq0
 returns c =
-    let args = c.before.before.args in
-    none_before args.t2 args.r c.if1.true
+    let args = c.args in
+    none_before args.value args.r c.if-heard-eq0.true
 
-returns-2 : tie.Need-returns-2
+returns-2 : tie.Need-returns-then-other
 returns-2 c =
     let compared = c.before in
     let first = first-asked compared in
     let start = started first in
-    other_before start.args.t2 start.args.r first.if1.left compared.same.result _ compared.same.ensures refl c.if2.true
+    other_before start.args.value start.args.r first.if-heard-eq0.false compared.same-same.result _ compared.same-same.ensures refl c.if-other.true
 
-returns-3 : tie.Need-returns-3
+returns-3 : tie.Need-returns
 returns-3 c =
-    let second = c.before in
-    let compared = second.before in
+    let compared = c.before.before in
     let first = first-asked compared in
     let start = started first in
-    nothing-new start.args.t2 start.args.r first.if1.left compared.same.result _ compared.same.ensures refl second.if2.false
+    nothing-new start.args.value start.args.r first.if-heard-eq0.false compared.same-same.result _ compared.same-same.ensures refl c.if-other.false
 
-pub notices-with-spec : {M : Type 1} → statement M
-notices-with-spec =
+pub notices_with_spec : {M : Type 1} → statement M
+notices_with_spec =
     tie.close
     (tie.spec
     returns

@@ -4,19 +4,18 @@ use borrow.Author.Rules.{rules}
 use Rattle.certificates.proofs.reply.other_heard.Statement.{statement}
 use Rattle.certificates.proofs.reply.other_heard.Tie as tie
 
-returns : tie.Need-returns
-returns c = none_other c.before.args.r c.if1.true
+returns : tie.Need-returns-then-heard-eq0
+returns c = none_other c.args.r c.if-heard-eq0.true
 
-returns-2 : tie.Need-returns-2
+returns-2 : tie.Need-returns-then-heard-eq1
 returns-2 c =
-    let second = c.before.before.before.before.before in
-    one-other second.before.before.args.r second.before.if1.false c.same.result second.if2.true c.same.ensures
+    one-other c.args.r c.if-heard-eq0.false c.same.result c.if-heard-eq1.true c.same.ensures
 
-returns-3 : tie.Need-returns-3
-returns-3 c = two-other c.before.before.args.r c.before.if1.false c.if2.false
+returns-3 : tie.Need-returns
+returns-3 c = two-other c.args.r c.if-heard-eq0.false c.if-heard-eq1.false
 
-pub other-heard-spec : {M : Type 1} → statement M
-other-heard-spec =
+pub other_heard_spec : {M : Type 1} → statement M
+other_heard_spec =
     tie.close
     (tie.spec
     returns

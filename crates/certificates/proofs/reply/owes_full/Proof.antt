@@ -8,5 +8,5 @@ returns : tie.Need-returns
 unfolding owes_full
 returns c = cc
 
-pub owes-full-spec : {M : Type 1} → statement M
-owes-full-spec = tie.close (tie.spec (λ c κs. search rules) returns)
+pub owes_full_spec : {M : Type 1} → statement M
+owes_full_spec = tie.close (tie.spec (λ c κs. search rules) returns)

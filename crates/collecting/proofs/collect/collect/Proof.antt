@@ -9,9 +9,8 @@ use Rattle.collecting.proofs.collect.collect.Tie as tie
 returns : tie.Need-returns
 unfolding collect bank_of
 returns c =
-    let filled = c.before.before.before in
-    record { recorded = c.with_own_lem.ensures ∙ rw filled.before.before.with.ensures; stored = filled.fill.ensures }
+    record { recorded = c.with_own.ensures ∙ rw c.with-collected.ensures; stored = c.fill.ensures }
 
-pub collect-spec : {M : Type 1} → statement M
-collect-spec =
+pub collect_spec : {M : Type 1} → statement M
+collect_spec =
     tie.close (tie.spec (λ c κs. search rules) (λ c κs. search rules) (λ c κs. search rules) (λ c. search rules) returns)

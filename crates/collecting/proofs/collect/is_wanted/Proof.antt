@@ -8,8 +8,8 @@ returns : tie.Need-returns
 unfolding is_wanted
 returns c = cc
 
-pub is-wanted-spec : {M : Type 1} → statement M
-is-wanted-spec =
+pub is_wanted_spec : {M : Type 1} → statement M
+is_wanted_spec =
     tie.close
     (tie.spec
     (λ c. search rules)

@@ -6,7 +6,7 @@ use Rattle.collecting.proofs.collect.set_own_value.Tie as tie
 
 returns : tie.Need-returns
 unfolding set_own_value
-returns c = c.with_own_lem.ensures
+returns c = c.with_own.ensures
 
-pub set-own-value-spec : {M : Type 1} → statement M
-set-own-value-spec = tie.close (tie.spec (λ c κs. search rules) returns)
+pub set_own_value_spec : {M : Type 1} → statement M
+set_own_value_spec = tie.close (tie.spec (λ c κs. search rules) returns)

@@ -7,53 +7,50 @@ use borrow.Author.Rules.{rules}
 use Rattle.collecting.proofs.kept.collect_kept.Statement.{statement}
 use Rattle.collecting.proofs.kept.collect_kept.Tie as tie
 
-abbrev invariant-loop : tie.invariant-loop
+abbrev invariant-loop : tie.invariant-loop-seat
 invariant-loop store₀ n u₀ seat₀ store u seat = Gathering u₀ store₀ seat u store
 
-abbrev decreases-loop : tie.decreases-loop
+abbrev decreases-loop : tie.decreases-loop-seat
 decreases-loop store₀ n u₀ seat₀ store u seat = n - seat
 
-abbrev started : tie.At-loop invariant-loop decreases-loop → tie.Start invariant-loop decreases-loop
+abbrev started : tie.At-loop-seat invariant-loop decreases-loop → tie.Start invariant-loop decreases-loop
 started c = c.before.before
 
-loop-holds : tie.Need-loop-init invariant-loop decreases-loop
+loop-holds : tie.Need-loop-seat-init invariant-loop decreases-loop
 loop-holds c =
-    let start = c.before in
-    gathering_none start.args.r start.args.store.now start.requires
+    gathering_none c.args.r c.args.store.now c.requires
 
-collect-kept-seat-requires : tie.Need-collect-kept-seat-requires invariant-loop decreases-loop
+collect-kept-seat-requires : tie.Need-collect_kept_seat-u-requires invariant-loop decreases-loop
 collect-kept-seat-requires c κs =
-    let loop = c.before.before.loop in
+    let loop = c.loop-seat in
     (loop.invariant.fits, omega (arith, loop.invariant.same))
 
-add-seat : tie.Need-overflow-add-seat invariant-loop decreases-loop
+add-seat : tie.Need-overflow_add-seat invariant-loop decreases-loop
 add-seat c = omega arith
 
-loop-less : tie.Need-loop-smaller invariant-loop decreases-loop
+loop-less : tie.Need-loop-seat-smaller invariant-loop decreases-loop
 loop-less c = omega arith
 
-loop-again : tie.Need-loop-preserved invariant-loop decreases-loop
+loop-again : tie.Need-loop-seat-preserved invariant-loop decreases-loop
 loop-again c =
-    let done = c.before.before.collect-kept-seat in
-    let at-loop = c.before.before.before.before.before in
-    let args = (started at-loop).args in
-    let loop = at-loop.loop in
+    let done = c.collect_kept_seat-u in
+    let args = c.args in
+    let loop = c.loop-seat in
     let below : loop.seat < args.r.n = omega arith in
     gathering_seat args.r args.store.now loop.seat loop.u loop.store loop.invariant below _ _ (omega arith) done.ensures
 
-same_length : tie.Need-same-length invariant-loop decreases-loop
+same_length : tie.Need-shape_of-store invariant-loop decreases-loop
 same_length c = omega arith
 
 returns : tie.Need-returns invariant-loop decreases-loop
 returns c =
-    let at-loop = c.before.before in
-    let args = (started at-loop).args in
-    let loop = at-loop.loop in
+    let args = c.args in
+    let loop = c.loop-seat in
     let all : loop.seat ≡ args.r.n = omega arith in
-    gathering_all args.r args.store.now loop.seat loop.u loop.store loop.invariant all _ c.with-kept.ensures
+    gathering_all args.r args.store.now loop.seat loop.u loop.store loop.invariant all _ c.with_kept.ensures
 
-pub collect-kept-spec : {M : Type 1} → statement M
-collect-kept-spec =
+pub collect_kept_spec : {M : Type 1} → statement M
+collect_kept_spec =
     tie.close
     (tie.spec
     invariant-loop

@@ -8,49 +8,48 @@ use borrow.Author.Rules.{rules}
 use Rattle.collecting.proofs.kept.collect_kept_seat.Statement.{statement}
 use Rattle.collecting.proofs.kept.collect_kept_seat.Tie as tie
 
-abbrev started : tie.After-is-open-to → tie.Start
+abbrev started : tie.After-is_open_to → tie.Start
 started c = c.before.before
 
-abbrev placed : tie.After-value-at → tie.After-kept-value-at
-placed c = c.before.before
+abbrev placed : tie.After-value_at-value → tie.After-kept_value_at-at
+placed c = c.before
 
-abbrev chosen : tie.After-value-at → tie.Else1
+abbrev chosen : tie.After-value_at-value → tie.Else-not-is_open_to
 chosen c = (placed c).before
 
-abbrev valued : tie.After-slot-copy → tie.After-value-at
-valued c = c.before.before
+abbrev valued : tie.After-slot_copy-signature → tie.After-value_at-value
+valued c = c.before
 
-abbrev copied : tie.After-signature → tie.After-slot-copy
+abbrev copied : tie.After-signature-1 → tie.After-slot_copy-signature
 copied c = c.before.before
 
-returns : tie.Need-returns
+returns : tie.Need-returns-then-not-is_open_to
 returns c =
-    let args = (started c.before).args in
-    collect_kept_seat-closed args.r args.store.now args.seat (sym c.before.is-open-to.ensures ∙ not-true _ c.if1.true)
+    let args = c.args in
+    collect_kept_seat-closed args.r args.store.now args.seat (sym c.is_open_to.ensures ∙ c.if-not-is_open_to.true)
 
-slice-aggregate-collect-if-wanted : tie.Need-slice-aggregate-collect-if-wanted
+slice-aggregate-collect-if-wanted : tie.Need-slice_bounds-collect_if_wanted-end
 slice-aggregate-collect-if-wanted c = search rules
 
-collect-if-wanted-requires : tie.Need-collect-if-wanted-requires
+collect-if-wanted-requires : tie.Need-collect_if_wanted-requires
 unfolding signature_length
 collect-if-wanted-requires c κs =
     let start = started (chosen (valued (copied c))).before in
-    (start.pre.0, start.pre.1, sym (slice-aggregate-collect-if-wanted c))
+    (start.requires.0, start.requires.1, sym (slice-aggregate-collect-if-wanted c))
 
-returns-2 : tie.Need-returns-2
+returns-2 : tie.Need-returns
 unfolding bank_of
 returns-2 c =
-    let done = c.before.before in
-    let slot = copied done.before in
+    let slot = copied c.before.before.before in
     let value = valued slot in
     let opening = chosen value in
-    let args = (started opening.before).args in
+    let args = opening.before.args in
     let store = args.store.now in
-    collect_kept_seat_open args.r store args.seat _ _ _ _ (sym opening.before.is-open-to.ensures ∙ not-false _ opening.if1.left)
-    (kept-value-read args.r store args.seat _ _ (placed value).kept-value-at.ensures.0 value.value-at.ensures) slot.slot-copy.ensures done.collect-if-wanted.ensures
+    collect_kept_seat_open args.r store args.seat _ _ _ _ (sym opening.is_open_to.ensures ∙ opening.if-not-is_open_to.false)
+    (kept-value-read args.r store args.seat _ _ value.kept_value_at-at.ensures.0 value.value_at-value.ensures) slot.slot_copy-signature.ensures c.collect_if_wanted.ensures
 
-pub collect-kept-seat-spec : {M : Type 1} → statement M
-collect-kept-seat-spec =
+pub collect_kept_seat_spec : {M : Type 1} → statement M
+collect_kept_seat_spec =
     tie.close
     (tie.spec
     (λ c κs. search rules)

@@ -5,35 +5,31 @@ use borrow.Author.Rules.{rules}
 use Rattle.collecting.proofs.kept.hear_submit.Statement.{statement}
 use Rattle.collecting.proofs.kept.hear_submit.Tie as tie
 
-abbrev started : tie.After-shared-slice-known → tie.Start
+abbrev started : tie.After-shared_slice_known-1 → tie.Start
 started c = c.before.before
 
-abbrev early : tie.After-has → tie.Else1
+abbrev early : tie.After-has → tie.Else-r
 early c = c.before
 
-returns : tie.Need-returns
+returns : tie.Need-returns-then-r
 returns c =
-    let done = c.before.before in
-    let chosen = done.before.before in
-    let args = (started chosen.before).args in
-    hear_submit-submitted args.r args.store.now args.seat args.value args.signature.now _ _ chosen.if1.true done.collect-if-wanted.ensures
+    let args = c.args in
+    hear_submit-submitted args.r args.store.now args.seat args.value args.signature.now _ _ c.if-r.true c.collect_if_wanted.ensures
 
-returns-2 : tie.Need-returns-2
+returns-2 : tie.Need-returns-then-has
 returns-2 c =
     let first = early c.before in
-    let args = (started first.before).args in
-    hear_submit-kept args.r args.store.now args.seat args.value args.signature.now first.if1.left (sym c.before.has.ensures ∙ c.if2.true)
+    let args = first.before.args in
+    hear_submit-kept args.r args.store.now args.seat args.value args.signature.now first.if-r.false (sym c.has.ensures ∙ c.if-has.true)
 
-returns-3 : tie.Need-returns-3
+returns-3 : tie.Need-returns
 returns-3 c =
-    let done = c.before.before in
-    let chosen = done.before.before in
-    let first = early chosen.before in
-    let args = (started first.before).args in
-    hear_submit_first args.r args.store.now args.seat args.value args.signature.now _ _ first.if1.left (sym chosen.before.has.ensures ∙ chosen.if2.false) done.keep.ensures
+    let first = early c.before.before.before.before.before in
+    let args = first.before.args in
+    hear_submit_first args.r args.store.now args.seat args.value args.signature.now _ _ first.if-r.false (sym c.has.ensures ∙ c.if-has.false) c.keep.ensures
 
-pub hear-submit-spec : {M : Type 1} → statement M
-hear-submit-spec =
+pub hear_submit_spec : {M : Type 1} → statement M
+hear_submit_spec =
     tie.close
     (tie.spec
     (λ c κs. search rules)

@@ -6,7 +6,7 @@ use Rattle.collecting.proofs.kept.is_open_to.Tie as tie
 
 returns : tie.Need-returns
 unfolding is_open_to
-returns c = rw (c.before.before.has.ensures, c.before.size.ensures, c.k.ensures)
+returns c = rw (c.has-has.ensures, c.size-size.ensures, c.k-k.ensures)
 
-pub is-open-to-spec : {M : Type 1} → statement M
-is-open-to-spec = tie.close (tie.spec (λ c κs. search rules) (λ c κs. search rules) (λ c κs. search rules) returns)
+pub is_open_to_spec : {M : Type 1} → statement M
+is_open_to_spec = tie.close (tie.spec (λ c κs. search rules) (λ c κs. search rules) (λ c κs. search rules) returns)

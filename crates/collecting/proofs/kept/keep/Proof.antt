@@ -5,13 +5,13 @@ use borrow.Author.Rules.{rules}
 use Rattle.collecting.proofs.kept.keep.Statement.{statement}
 use Rattle.collecting.proofs.kept.keep.Tie as tie
 
-abbrev started : tie.After-with → tie.Start
+abbrev started : tie.After-with-kept → tie.Start
 started c = c.before.before.before
 
-abbrev filled : tie.After-kept-value-at → tie.After-fill
+abbrev filled : tie.After-kept_value_at-at → tie.After-fill
 filled c = c.before.before.before
 
-abbrev placed : tie.After-copy → tie.After-kept-value-at
+abbrev placed : tie.After-copy → tie.After-kept_value_at-at
 placed c = c.before.before.before
 
 returns : tie.Need-returns
@@ -21,8 +21,8 @@ returns c =
     let place = placed copied in
     let fill = filled place in
     let with = fill.before.before in
-    let args = (started with).args in
-    keep-parts args.r args.store.now args.seat _ args.signature.now _ _ _ _ _ with.with.ensures place.kept-value-at.ensures.0 fill.fill.ensures c.with-kept.ensures copied.copy.ensures
+    let args = with.args in
+    keep-parts args.r args.store.now args.seat _ args.signature.now _ _ _ _ _ with.with-kept.ensures place.kept_value_at-at.ensures.0 fill.fill.ensures c.with_kept.ensures copied.copy.ensures
 
 pub keep_spec : {M : Type 1} → statement M
 keep_spec =

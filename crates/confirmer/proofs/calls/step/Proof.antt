@@ -14,15 +14,15 @@ use Rattle.confirmer.proofs.calls.step.Statement.{statement}
 use Rattle.confirmer.proofs.calls.step.Tie as tie
 
 -- arguments of the call, its conditions after the record's, and its phases
-abbrev started : tie.After-record-refusal → tie.Start
-started c = c.before.before.before.before.before.before.before
+abbrev started : tie.After-record_refusal-given → tie.Start
+started c = c.before.before.before.before.before
 
-abbrev message : tie.After-record-refusal → Message
-message c = let args = (started c).args in read args.r.n args.message.now
+abbrev message : tie.After-record_refusal-given → Message
+message c = let args = c.args in read args.r.n args.message.now
 
-abbrev call : tie.After-record-refusal → Call
+abbrev call : tie.After-record_refusal-given → Call
 call c =
-    let args = (started c).args in
+    let args = c.args in
     let r = args.r in
     record {
       keys = args.keys.now;
@@ -36,63 +36,63 @@ call c =
 -- ---- points of the call
 
 -- the record's conditions refuse nothing
-passed : (c : tie.Else1) → Passed (call c.before)
-passed c = record { number = _; told = c.before.record-refusal.ensures; none = c.if1.false }
+passed : (c : tie.Else-given-ne0) → Passed (call c.before)
+passed c = record { number = _; told = c.record_refusal-given.ensures; none = c.if-given-ne0.false }
 
 -- the message's kind is known
-known : (c : tie.After-classify) → c.classify.result ≡ kind_of (message c.before.before)
-known c = kind-told _ _ c.classify.ensures
+known : (c : tie.After-classify-kind) → c.classify-kind.result ≡ kind_of (message c.before.before)
+known c = kind-told _ _ c.classify-kind.ensures
 
 -- the message's conditions refuse nothing
-abbrev heard : tie.Else2 → tie.After-step-refusal
+abbrev heard : tie.Else-heard-ne0 → tie.After-step_refusal-heard
 heard c = c.before.before
 
-abbrev opened : tie.After-step-refusal → tie.Else1
+abbrev opened : tie.After-step_refusal-heard → tie.Else-given-ne0
 opened c = c.before.before
 
-abbrev called : tie.Else2 → Call
+abbrev called : tie.Else-heard-ne0 → Call
 called c = call (opened (heard c)).before
 
 -- a part of out is lent
-lent : (c : tie.After-out-length) → Lent (called c.before) c.out-length.result
-lent c = record { passed = passed (opened (heard c.before)); number = _; told = (heard c.before).step-refusal.ensures; none = c.before.if2.false; stated = c.out-length.ensures }
+lent : (c : tie.After-out_length-room) → Lent (called c.before) c.out_length-room.result
+lent c = record { passed = passed (opened (heard c.before)); number = _; told = c.step_refusal-heard.ensures; none = c.if-heard-ne0.false; stated = c.out_length-room.ensures }
 
-abbrev room : tie.After-step-phase-arg2 → tie.After-out-length
+abbrev room : tie.After-step_phase-arg-2-1 → tie.After-out_length-room
 room c = c.before.before
 
 -- the phases are done
-acted : (c : tie.After-step-phase) → let p = c.step-phase in Acted (called (room c.before).before) (room c.before).out-length.result p.result p.new.1.0 p.new.1.1.0
-acted c = record { lent = lent (room c.before); did = c.step-phase.ensures; long = c.step-phase.auto.1.1.0 }
+acted : (c : tie.After-step_phase-p) → let p = c.step_phase-p in Acted (called (room c.before).before) c.out_length-room.result p.result p.new.store p.new.out
+acted c = record { lent = lent (room c.before); did = c.step_phase-p.ensures; long = c.step_phase-p.auto.out }
 
-abbrev phase : tie.After-slice-known4 → tie.After-step-phase
+abbrev phase : tie.After-slice_known-4-1 → tie.After-step_phase-p
 phase c = c.before.before.before.before
 
 -- ---- needs
 
-returns : tie.Need-returns
+returns : tie.Need-returns-then-given-ne0
 unfolding step step_conditions
-returns c = let first = c.before.before in refused_by_record (call first) c.before.if1.true c.refused.ensures first.record-refusal.ensures
+returns c = let first = c.before.before in refused_by_record (call first) c.if-given-ne0.true c.refused.ensures first.record_refusal-given.ensures
 
-classify-requires : tie.Need-classify-requires
+classify-requires : tie.Need-classify-kind-requires
 classify-requires c κs = sized (passed c)
 
-step-refusal-requires : tie.Need-step-refusal-requires
+step-refusal-requires : tie.Need-step_refusal-heard-requires
 step-refusal-requires c κs = (given (passed c.before), known c)
 
-returns-2 : tie.Need-returns-2
+returns-2 : tie.Need-returns-then-heard-ne0
 unfolding step step_conditions
-returns-2 c = let second = c.before.before.before in refused_by_rest (passed (opened second)) c.before.if2.true c.refused2.ensures second.step-refusal.ensures
+returns-2 c = let second = c.before.before.before in refused_by_rest (passed (opened second)) c.if-heard-ne0.true c.refused-then-heard-ne0.ensures second.step_refusal-heard.ensures
 
-out-length-requires : tie.Need-out-length-requires
+out-length-requires : tie.Need-out_length-room-requires
 out-length-requires c κs = sized (passed (opened (heard c)))
 
-slice-relend-prefix-step-phase : tie.Need-slice-relend-prefix-step-phase
+slice-relend-prefix-step-phase : tie.Need-slice_bounds-step_phase-end
 slice-relend-prefix-step-phase c = part-within (lent c.before)
 
-slice-aggregate-step-phase : tie.Need-slice-aggregate-step-phase
+slice-aggregate-step-phase : tie.Need-slice_bounds-step_phase-end-2
 slice-aggregate-step-phase c = part_length (lent (room c))
 
-step-phase-requires : tie.Need-step-phase-requires
+step-phase-requires : tie.Need-step_phase-p-requires
 step-phase-requires c κs =
     let l = lent (room c) in
     let formed = message-formed _ _ _ _ _ _ l.told l.none in
@@ -101,7 +101,7 @@ step-phase-requires c κs =
 done-requires : tie.Need-done-requires
 done-requires c κs = end-small (acted (phase c))
 
-returns-3 : tie.Need-returns-3
+returns-3 : tie.Need-returns
 unfolding step step_conditions
 returns-3 c = leaves (acted (phase c.before)) c.done.ensures
 

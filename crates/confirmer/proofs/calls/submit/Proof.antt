@@ -11,9 +11,9 @@ use Rattle.confirmer.proofs.calls.submit.Statement.{statement}
 use Rattle.confirmer.proofs.calls.submit.Tie as tie
 
 -- arguments of the call, its conditions after the record's, and its phases
-abbrev call : tie.After-record-refusal → Call
+abbrev call : tie.After-record_refusal-given → Call
 call c =
-    let args = c.before.before.before.before.before.before.before.before.args in
+    let args = c.args in
     record {
       keys = args.keys.now;
       unit = args.r;
@@ -26,53 +26,53 @@ call c =
 -- ---- points of the call
 
 -- the record's conditions refuse nothing
-passed : (c : tie.Else1) → Passed (call c.before)
-passed c = record { number = _; told = c.before.record-refusal.ensures; none = c.if1.false }
+passed : (c : tie.Else-given-ne0) → Passed (call c.before)
+passed c = record { number = _; told = c.record_refusal-given.ensures; none = c.if-given-ne0.false }
 
 -- nor do those of the own submission
-abbrev own : tie.Else2 → tie.After-own-refusal
+abbrev own : tie.Else-own-ne0 → tie.After-own_refusal-own
 own c = c.before.before
 
-abbrev called : tie.Else2 → Call
+abbrev called : tie.Else-own-ne0 → Call
 called c = call (own c).before.before
 
 -- a part of out is lent
-lent : (c : tie.After-out-length) → Lent (called c.before) c.out-length.result
-lent c = record { passed = passed (own c.before).before; number = _; told = (own c.before).own-refusal.ensures; none = c.before.if2.false; stated = c.out-length.ensures }
+lent : (c : tie.After-out_length-room) → Lent (called c.before) c.out_length-room.result
+lent c = record { passed = passed (own c.before).before; number = _; told = c.own_refusal-own.ensures; none = c.if-own-ne0.false; stated = c.out_length-room.ensures }
 
-abbrev room : tie.After-submit-phase-arg2 → tie.After-out-length
+abbrev room : tie.After-submit_phase-arg-2-1 → tie.After-out_length-room
 room c = c.before.before
 
 -- the phases are done
-acted : (c : tie.After-submit-phase) → let p = c.submit-phase in Acted (called (room c.before).before) (room c.before).out-length.result p.result p.new.1.0 p.new.1.1.0
-acted c = record { lent = lent (room c.before); did = c.submit-phase.ensures; long = c.submit-phase.auto.1.1.0 }
+acted : (c : tie.After-submit_phase-p) → let p = c.submit_phase-p in Acted (called (room c.before).before) c.out_length-room.result p.result p.new.store p.new.out
+acted c = record { lent = lent (room c.before); did = c.submit_phase-p.ensures; long = c.submit_phase-p.auto.out }
 
-abbrev phase : tie.After-slice-known4 → tie.After-submit-phase
+abbrev phase : tie.After-slice_known-4-1 → tie.After-submit_phase-p
 phase c = c.before.before.before.before
 
 -- ---- needs
 
-returns : tie.Need-returns
+returns : tie.Need-returns-then-given-ne0
 unfolding submit submit_conditions own_conditions
-returns c = let first = c.before.before in refused_by_record (call first) c.before.if1.true c.refused.ensures first.record-refusal.ensures
+returns c = let first = c.before.before in refused_by_record (call first) c.if-given-ne0.true c.refused.ensures first.record_refusal-given.ensures
 
-own-refusal-requires : tie.Need-own-refusal-requires
+own-refusal-requires : tie.Need-own_refusal-own-requires
 own-refusal-requires c κs = ((ready (passed c)).possible.range, given (passed c))
 
-returns-2 : tie.Need-returns-2
+returns-2 : tie.Need-returns-then-own-ne0
 unfolding submit submit_conditions own_conditions
-returns-2 c = let second = c.before.before.before in refused_by_rest (passed second.before) c.before.if2.true c.refused2.ensures second.own-refusal.ensures
+returns-2 c = let second = c.before.before.before in refused_by_rest (passed second.before) c.if-own-ne0.true c.refused-then-own-ne0.ensures second.own_refusal-own.ensures
 
-out-length-requires : tie.Need-out-length-requires
+out-length-requires : tie.Need-out_length-room-requires
 out-length-requires c κs = sized (passed (own c).before)
 
-slice-relend-prefix-submit-phase : tie.Need-slice-relend-prefix-submit-phase
+slice-relend-prefix-submit-phase : tie.Need-slice_bounds-submit_phase-end
 slice-relend-prefix-submit-phase c = part-within (lent c.before)
 
-slice-aggregate-submit-phase : tie.Need-slice-aggregate-submit-phase
+slice-aggregate-submit-phase : tie.Need-slice_bounds-submit_phase-end-2
 slice-aggregate-submit-phase c = part_length (lent (room c))
 
-submit-phase-requires : tie.Need-submit-phase-requires
+submit-phase-requires : tie.Need-submit_phase-p-requires
 submit-phase-requires c κs =
     let l = lent (room c) in
     let right = own-passed _ _ _ _ _ l.told l.none in
@@ -81,12 +81,12 @@ submit-phase-requires c κs =
 done-requires : tie.Need-done-requires
 done-requires c κs = end-small (acted (phase c))
 
-returns-3 : tie.Need-returns-3
+returns-3 : tie.Need-returns
 unfolding submit submit_conditions own_conditions
 returns-3 c = leaves (acted (phase c.before)) c.done.ensures
 
-pub submit-spec : {M : Type 1} → statement M
-submit-spec =
+pub submit_spec : {M : Type 1} → statement M
+submit_spec =
     tie.close
     (tie.spec
     (λ c κs. search rules)

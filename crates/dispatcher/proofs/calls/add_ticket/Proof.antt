@@ -13,23 +13,21 @@ use Rattle.dispatcher.proofs.calls.add_ticket.Tie as tie
 sized : (c : tie.Start) → Sized c.args.d
 sized c = record { rounds = search rules; counts = search rules; heads = search rules; order = search rules; tickets = search rules }
 
-returns : tie.Need-returns
+returns : tie.Need-returns-then-number-ne0
 unfolding add_ticket dispatched_by
-returns c = rw (← c.before.adding-refusal.ensures, refused-old _ _ _ c.if1.true)
+returns c = rw (← c.adding_refusal-number.ensures, refused-old _ _ _ c.if-number-ne0.true)
 
 added-requires : tie.Need-added-requires
 unfolding lane_of
 added-requires c κs =
-    let refusal = c.before.before.before in
-    let start = refusal.before in
-    let lane = accepted start.args.d start.args.round (sized start) start.args.ticket _ refusal.adding-refusal.ensures c.before.before.if1.false in
-    rw c.index_of.ensures (lane.found, lane.room)
+    let start = c.before.before.before.before in
+    let lane = accepted start.args.d start.args.round (sized start) start.args.ticket _ c.adding_refusal-number.ensures c.if-number-ne0.false in
+    rw c.index_of-lane.ensures (lane.found, lane.room)
 
-returns-2 : tie.Need-returns-2
+returns-2 : tie.Need-returns
 unfolding add_ticket dispatched_by unrefused lane_of
 returns-2 c =
-    let refusal = c.before.before.before.before in
-    rw (c.added.ensures, c.before.index_of.ensures, ← refusal.adding-refusal.ensures, c.before.before.before.if1.false)
+    rw (c.added.ensures, c.index_of-lane.ensures, ← c.adding_refusal-number.ensures, c.if-number-ne0.false)
 
-pub add-ticket-spec : {M : Type 1} → statement M
-add-ticket-spec = tie.close (tie.spec (λ c κs. search rules) returns (λ c κs. search rules) added-requires returns-2)
+pub add_ticket_spec : {M : Type 1} → statement M
+add_ticket_spec = tie.close (tie.spec (λ c κs. search rules) returns (λ c κs. search rules) added-requires returns-2)

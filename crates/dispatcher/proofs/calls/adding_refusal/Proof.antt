@@ -1,5 +1,6 @@
 -- `dispatcher::calls::adding_refusal` meets its contract.
 use mathlib.Core.Path.{sym, ◌∙◌}
+use native.Mathlib.Omega.{arith}
 use borrow.Author.Rules.{rules}
 use Rattle.refusal.specs.RefusalLaws.{rows}
 use Rattle.dispatch.specs.Dispatcher.{lane_of, Sized}
@@ -9,42 +10,38 @@ use Rattle.dispatcher.proofs.calls.adding_refusal.Statement.{statement}
 use Rattle.dispatcher.proofs.calls.adding_refusal.Tie as tie
 
 -- its arrays have their lengths
-sized : (c : tie.Start) → Sized c.args.t1
+sized : (c : tie.Start) → Sized c.args.d
 sized c = record { rounds = search rules; counts = search rules; heads = search rules; order = search rules; tickets = search rules }
 
-returns : tie.Need-returns
+returns : tie.Need-returns-then-wrong_round
 unfolding adding_conditions
 returns c = search rows
 
-returns-2 : tie.Need-returns-2
+returns-2 : tie.Need-returns-then-is_impossible
 unfolding adding_conditions
 returns-2 c = search rows
 
 -- what is known where the round was looked for
-looked : (c : tie.After-index-of)
-    → Looked c.before.before.before.before.before.before.args.t1 c.before.before.before.before.before.before.args.round c.index_of.result
+looked : (c : tie.After-index_of-lane)
+    → Looked c.args.d c.args.round c.index_of-lane.result
 unfolding lane_of
 looked c =
-    let tested = c.before.before in
-    let dated = tested.before.before in
+    let dated = c.before.before.before.before in
     record {
       sized = sized dated.before.before;
-      dated = sym dated.before.wrong-round.ensures ∙ dated.if1.false;
-      possible = sym tested.before.is-impossible.ensures ∙ tested.if2.false;
-      at = c.index_of.ensures;
+      dated = sym dated.wrong_round.ensures ∙ dated.if-wrong_round.false;
+      possible = sym c.is_impossible.ensures ∙ c.if-is_impossible.false;
+      at = c.index_of-lane.ensures;
     }
 
-returns-3 : tie.Need-returns-3
-returns-3 c = add-unknown _ _ _ (looked c.before) c.if3.true
+returns-3 : tie.Need-returns-then-lane-ge-LANES
+returns-3 c = add-unknown _ _ _ (looked c.before) c.if-lane-ge-LANES.true
 
-returns-4 : tie.Need-returns-4
-returns-4 c = add-full _ _ _ (looked c.before.before.before) c.before.before.if3.false c.if4.true
+returns-4 : tie.Need-returns
+returns-4 c = add-taken _ _ _ (looked c.before.before.before) c.if-lane-ge-LANES.false (omega arith)
 
-returns-5 : tie.Need-returns-5
-returns-5 c = add-taken _ _ _ (looked c.before.before.before) c.before.before.if3.false c.if4.false
-
-pub adding-refusal-spec : {M : Type 1} → statement M
-adding-refusal-spec =
+pub adding_refusal_spec : {M : Type 1} → statement M
+adding_refusal_spec =
     tie.close
     (tie.spec
     (λ c κs. search rules)
@@ -55,5 +52,5 @@ adding-refusal-spec =
     returns-3
     (λ c. search rules)
     (λ c. search rules)
-    returns-4
-    returns-5)
+    (λ c. add-full _ _ _ (looked c.before.before.before) c.if-lane-ge-LANES.false (omega arith))
+    returns-4)

@@ -8,5 +8,5 @@ returns : tie.Need-returns
 unfolding gives_none
 returns c = refl
 
-pub gives-none-spec : {M : Type 1} → statement M
-gives-none-spec = tie.close (tie.spec returns)
+pub gives_none_spec : {M : Type 1} → statement M
+gives_none_spec = tie.close (tie.spec returns)

@@ -7,20 +7,20 @@ use Rattle.dispatcher.specs.TurnsLaws.{waits_some}
 use Rattle.dispatcher.proofs.calls.gives_oldest.Statement.{statement}
 use Rattle.dispatcher.proofs.calls.gives_oldest.Tie as tie
 
-sub-left : tie.Need-overflow-sub-left
+sub-left : tie.Need-overflow_sub-left
 unfolding count
-sub-left c = waits_some _ _ c.before.requires.1
+sub-left c = waits_some _ _ c.requires.1
 
-less-oldest-requires : tie.Need-less-oldest-requires
+less-oldest-requires : tie.Need-less_oldest-requires
 unfolding count
-less-oldest-requires c κs = let pre = c.before.before.before.requires in (pre.0, refl, pre.2)
+less-oldest-requires c κs = let pre = c.requires in (pre.0, refl, pre.2)
 
 returns : tie.Need-returns
 unfolding gives_oldest round_of
-returns c = rw (c.before.ticket-at.ensures, c.less-oldest.ensures)
+returns c = rw (c.ticket_at.ensures, c.less_oldest.ensures)
 
-pub gives-oldest-spec : {M : Type 1} → statement M
-gives-oldest-spec =
+pub gives_oldest_spec : {M : Type 1} → statement M
+gives_oldest_spec =
     tie.close
     (tie.spec
     (λ c. search rules)

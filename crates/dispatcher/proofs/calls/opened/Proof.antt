@@ -8,5 +8,5 @@ returns : tie.Need-returns
 unfolding opened
 returns c = refl
 
-pub opened-spec : {M : Type 1} → statement M
-opened-spec = tie.close (tie.spec returns)
+pub opened_spec : {M : Type 1} → statement M
+opened_spec = tie.close (tie.spec returns)

@@ -5,7 +5,7 @@ use Rattle.dispatch.specs.Calls.{opening_conditions}
 use Rattle.dispatcher.proofs.calls.opening_refusal.Statement.{statement}
 use Rattle.dispatcher.proofs.calls.opening_refusal.Tie as tie
 
-pub opening-refusal-spec : {M : Type 1} → statement M
+pub opening_refusal_spec : {M : Type 1} → statement M
 unfolding opening_conditions
-opening-refusal-spec =
+opening_refusal_spec =
     tie.close (tie.spec (λ c κs. search rules) (λ c. search rows) (λ c κs. search rules) (λ c. search rows) (λ c. search rows))

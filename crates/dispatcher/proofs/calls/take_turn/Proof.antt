@@ -11,32 +11,32 @@ use Rattle.dispatcher.proofs.calls.take_turn.Statement.{statement}
 use Rattle.dispatcher.proofs.calls.take_turn.Tie as tie
 
 -- the dispatcher isn't impossible
-possible : (c : tie.Else1) → impossible c.before.before.args.d ≡ false
-possible c = sym c.before.is-impossible.ensures ∙ c.if1.false
+possible : (c : tie.Else-is_impossible) → impossible c.args.d ≡ false
+possible c = sym c.is_impossible.ensures ∙ c.if-is_impossible.false
 
-returns : tie.Need-returns
+returns : tie.Need-returns-then-is_impossible
 unfolding take_turn turn_by turn_conditions first_of unrefused
-returns c = rw (c.Gives-none.ensures, sym c.before.before.is-impossible.ensures ∙ c.before.if1.true)
+returns c = rw (c.gives_none.ensures, sym c.is_impossible.ensures ∙ c.if-is_impossible.true)
 
-gives-oldest-requires : tie.Need-gives-oldest-requires
+gives-oldest-requires : tie.Need-gives_oldest-requires
 gives-oldest-requires c κs =
-    let next = c.before.next-lane.ensures in
-    (c.if2.true, rw next (next_waits _ (rw next at c.if2.true)), possible c.before.before)
+    let next = c.next_lane-lane.ensures in
+    (c.if-lane-lt-LANES.true, rw next (next_waits _ (rw next at c.if-lane-lt-LANES.true)), possible c.before.before)
 
-returns-2 : tie.Need-returns-2
+returns-2 : tie.Need-returns-then-lane-lt-LANES
 unfolding take_turn turn_by turn_conditions turn_of first_of unrefused
 returns-2 c =
-    let next = c.before.before.next-lane.ensures in
-    rw (c.gives-oldest.ensures, possible c.before.before.before, ← next, lt-ltb _ 8 c.before.if2.true)
+    let next = c.next_lane-lane.ensures in
+    rw (c.gives_oldest.ensures, possible c.before.before.before, ← next, lt-ltb _ 8 c.if-lane-lt-LANES.true)
 
-returns-3 : tie.Need-returns-3
+returns-3 : tie.Need-returns
 unfolding take_turn turn_by turn_conditions turn_of first_of unrefused
 returns-3 c =
-    let next = c.before.before.next-lane.ensures in
-    rw (c.gives-none2.ensures, possible c.before.before.before, ← next, le-ltb _ 8 c.before.if2.false)
+    let next = c.next_lane-lane.ensures in
+    rw (c.gives_none-2.ensures, possible c.before.before.before, ← next, le-ltb _ 8 c.if-lane-lt-LANES.false)
 
-pub take-turn-spec : {M : Type 1} → statement M
-take-turn-spec =
+pub take_turn_spec : {M : Type 1} → statement M
+take_turn_spec =
     tie.close
     (tie.spec
     (λ c κs. search rules)

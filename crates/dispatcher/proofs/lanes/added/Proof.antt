@@ -6,20 +6,20 @@ use Rattle.dispatch.specs.Turns.{added}
 use Rattle.dispatcher.proofs.lanes.added.Statement.{statement}
 use Rattle.dispatcher.proofs.lanes.added.Tie as tie
 
-place-requires : tie.Need-place-requires
+place-requires : tie.Need-place-at-requires
 unfolding count
-place-requires c κs = (c.before.before.requires.0, c.before.before.requires.1)
+place-requires c κs = (c.requires.0, c.requires.1)
 
-add-next : tie.Need-overflow-add-next
+add-next : tie.Need-overflow_add-next
 unfolding count
-add-next c = omega (arith, c.before.before.before.requires.1)
+add-next c = omega (arith, c.requires.1)
 
 returns : tie.Need-returns
 unfolding added place head count
-returns c = rw c.place.ensures.0
+returns c = rw c.place-at.ensures.0
 
-pub added-spec : {M : Type 1} → statement M
-added-spec =
+pub added_spec : {M : Type 1} → statement M
+added_spec =
     tie.close
     (tie.spec
     (λ c. search rules)

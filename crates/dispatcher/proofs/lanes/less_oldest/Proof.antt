@@ -8,22 +8,21 @@ use Rattle.dispatch_claims.specs.CallsLaws.{holds}
 use Rattle.dispatcher.proofs.lanes.less_oldest.Statement.{statement}
 use Rattle.dispatcher.proofs.lanes.less_oldest.Tie as tie
 
-serve-last-requires : tie.Need-serve-last-requires
+serve-last-requires : tie.Need-serve_last-serving-requires
 unfolding serving
 serve-last-requires c κs =
-    let start = c.before in
-    let d = start.args.t1 in
-    let held = holds d start.requires.2 in
-    (held.few, omega (arith, room_to_serve last_lane start.args.lane (serving d) (omega (arith, start.requires.0)) held.once held.within))
+    let d = c.args.d in
+    let held = holds d c.requires.2 in
+    (held.few, omega (arith, room_to_serve last_lane c.args.lane (serving d) (omega (arith, c.requires.0)) held.once held.within))
 
 returns : tie.Need-returns
 unfolding less_oldest head serving
 returns c =
-    let served = c.before.before.serve-last.ensures in
-    rw (served.0, served.1, c.before.before.before.before.requires.1)
+    let served = c.serve_last-serving.ensures in
+    simp (served.0, served.1, c.requires.1)
 
-pub less-oldest-spec : {M : Type 1} → statement M
-less-oldest-spec =
+pub less_oldest_spec : {M : Type 1} → statement M
+less_oldest_spec =
     tie.close
     (tie.spec
     (λ c. search rules)

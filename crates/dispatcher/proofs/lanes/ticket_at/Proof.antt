@@ -6,10 +6,10 @@ use Rattle.dispatcher.proofs.lanes.ticket_at.Tie as tie
 
 returns : tie.Need-returns
 unfolding ticket_at place head
-returns c = rw c.before.place.ensures.0
+returns c = rw c.place-at.ensures.0
 
-pub ticket-at-spec : {M : Type 1} → statement M
-ticket-at-spec =
+pub ticket_at_spec : {M : Type 1} → statement M
+ticket_at_spec =
     tie.close
     (tie.spec
     (λ c. search rules)

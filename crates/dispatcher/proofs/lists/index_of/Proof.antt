@@ -9,38 +9,38 @@ use Rattle.dispatcher.specs.LoopLaws.{index-here, index-later, index_none}
 use Rattle.dispatcher.proofs.lists.index_of.Statement.{statement}
 use Rattle.dispatcher.proofs.lists.index_of.Tie as tie
 
-abbrev invariant-loop : tie.invariant-loop
+abbrev invariant-loop : tie.invariant-loop-i
 invariant-loop x list i₀ i = (i ≤ 8) × (index_of x list ≡ i + index_of x (drop i list))
 
-abbrev decreases-loop : tie.decreases-loop
+abbrev decreases-loop : tie.decreases-loop-i
 decreases-loop x list i₀ i = 8 - i
 
 -- the eight numbers, of which the loop is at one
-sized : (c : tie.At-loop invariant-loop decreases-loop) → length c.before.args.t1 ≡ 8
+sized : (c : tie.At-loop-i invariant-loop decreases-loop) → length c.args.list ≡ 8
 sized c = search rules
 
-loop-holds : tie.Need-loop-init invariant-loop decreases-loop
+loop-holds : tie.Need-loop-i-init invariant-loop decreases-loop
 loop-holds c = (omega arith, omega arith)
 
-returns : tie.Need-returns invariant-loop decreases-loop
+returns : tie.Need-returns-then-list-i invariant-loop decreases-loop
 returns c =
     let at-loop = c.before.before in
-    let args = at-loop.before.args in
-    omega (arith, at-loop.loop.invariant.1, index-here args.t1 at-loop.loop.i args.x (omega (arith, sized at-loop)) c.if1.true)
+    let args = at-loop.args in
+    omega (arith, at-loop.loop-i.invariant.1, index-here args.list at-loop.loop-i.i args.x (omega (arith, sized at-loop)) c.if-list-i.true)
 
-loop-again : tie.Need-loop-preserved invariant-loop decreases-loop
+loop-again : tie.Need-loop-i-preserved invariant-loop decreases-loop
 loop-again c =
     let at-loop = c.before.before in
-    let args = at-loop.before.args in
-    (omega arith, at-loop.loop.invariant.1 ∙ index-later args.t1 at-loop.loop.i args.x (omega (arith, sized at-loop)) c.if1.false)
+    let args = at-loop.args in
+    (omega arith, at-loop.loop-i.invariant.1 ∙ index-later args.list at-loop.loop-i.i args.x (omega (arith, sized at-loop)) c.if-list-i.false)
 
-returns-2 : tie.Need-returns-2 invariant-loop decreases-loop
+returns-2 : tie.Need-returns invariant-loop decreases-loop
 returns-2 c =
-    let args = c.before.before.args in
-    omega (arith, c.before.loop.invariant.1, index_none args.t1 c.before.loop.i args.x (omega (arith, sized c.before)))
+    let args = c.args in
+    omega (arith, c.loop-i.invariant.1, index_none args.list c.loop-i.i args.x (omega (arith, sized c.before)))
 
-pub index-of-spec : {M : Type 1} → statement M
-index-of-spec =
+pub index_of_spec : {M : Type 1} → statement M
+index_of_spec =
     tie.close
     (tie.spec
     invariant-loop

@@ -10,38 +10,38 @@ use Rattle.dispatcher.specs.LoopLaws.{above-here, above-later, above_none}
 use Rattle.dispatcher.proofs.lists.some_above.Statement.{statement}
 use Rattle.dispatcher.proofs.lists.some_above.Tie as tie
 
-abbrev invariant-loop : tie.invariant-loop
+abbrev invariant-loop : tie.invariant-loop-i
 invariant-loop n most list i₀ i = (i ≤ n) × (some_above most (take n list) ≡ some_above most (slice i n list))
 
-abbrev decreases-loop : tie.decreases-loop
+abbrev decreases-loop : tie.decreases-loop-i
 decreases-loop n most list i₀ i = n - i
 
 -- the eight numbers, of which the loop is at one
-sized : (c : tie.At-loop invariant-loop decreases-loop) → length c.before.args.t1 ≡ 8
+sized : (c : tie.At-loop-i invariant-loop decreases-loop) → length c.args.list ≡ 8
 sized c = search rules
 
-loop-holds : tie.Need-loop-init invariant-loop decreases-loop
+loop-holds : tie.Need-loop-i-init invariant-loop decreases-loop
 loop-holds c = (omega arith, refl)
 
-returns : tie.Need-returns invariant-loop decreases-loop
+returns : tie.Need-returns-then-most-list invariant-loop decreases-loop
 returns c =
     let at-loop = c.before.before in
-    let args = at-loop.before.args in
-    above-here args.t1 at-loop.loop.i args.n (omega arith) (omega (arith, sized at-loop)) args.most c.if1.true ∙ sym at-loop.loop.invariant.1
+    let args = at-loop.args in
+    above-here args.list at-loop.loop-i.i args.n (omega arith) (omega (arith, sized at-loop)) args.most c.if-most-list.true ∙ sym at-loop.loop-i.invariant.1
 
-loop-again : tie.Need-loop-preserved invariant-loop decreases-loop
+loop-again : tie.Need-loop-i-preserved invariant-loop decreases-loop
 loop-again c =
     let at-loop = c.before.before in
-    let args = at-loop.before.args in
-    (omega arith, at-loop.loop.invariant.1 ∙ above-later args.t1 at-loop.loop.i args.n (omega arith) (omega (arith, sized at-loop)) args.most c.if1.false)
+    let args = at-loop.args in
+    (omega arith, at-loop.loop-i.invariant.1 ∙ above-later args.list at-loop.loop-i.i args.n (omega arith) (omega (arith, sized at-loop)) args.most c.if-most-list.false)
 
-returns-2 : tie.Need-returns-2 invariant-loop decreases-loop
+returns-2 : tie.Need-returns invariant-loop decreases-loop
 returns-2 c =
-    let args = c.before.before.args in
-    above_none args.t1 c.before.loop.i args.n args.most (omega arith) ∙ sym c.before.loop.invariant.1
+    let args = c.args in
+    above_none args.list c.loop-i.i args.n args.most (omega arith) ∙ sym c.loop-i.invariant.1
 
-pub some-above-spec : {M : Type 1} → statement M
-some-above-spec =
+pub some_above_spec : {M : Type 1} → statement M
+some_above_spec =
     tie.close
     (tie.spec
     invariant-loop

@@ -8,5 +8,5 @@ returns : tie.Need-returns
 unfolding impossible
 returns c = cc
 
-pub is-impossible-spec : {M : Type 1} → statement M
-is-impossible-spec = tie.close (tie.spec (λ c κs. search rules) (λ c κs. search rules) (λ c κs. search rules) returns)
+pub is_impossible_spec : {M : Type 1} → statement M
+is_impossible_spec = tie.close (tie.spec (λ c κs. search rules) (λ c κs. search rules) (λ c κs. search rules) returns)

@@ -5,7 +5,7 @@ use Rattle.dispatcher.proofs.possible.some_equal.Statement.{statement}
 use Rattle.dispatcher.proofs.possible.some_equal.Tie as tie
 
 returns : tie.Need-returns
-returns c = cc (whole c.before.args.rounds (search rules))
+returns c = cc (whole c.args.rounds (search rules))
 
-pub some-equal-spec : {M : Type 1} → statement M
-some-equal-spec = tie.close (tie.spec (λ c κs. search rules) returns)
+pub some_equal_spec : {M : Type 1} → statement M
+some_equal_spec = tie.close (tie.spec (λ c κs. search rules) returns)

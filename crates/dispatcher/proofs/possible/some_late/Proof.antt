@@ -5,7 +5,7 @@ use Rattle.dispatcher.proofs.possible.some_late.Statement.{statement}
 use Rattle.dispatcher.proofs.possible.some_late.Tie as tie
 
 returns : tie.Need-returns
-returns c = cc (whole c.before.before.args.rounds (search rules))
+returns c = cc (whole c.args.rounds (search rules))
 
-pub some-late-spec : {M : Type 1} → statement M
-some-late-spec = tie.close (tie.spec (λ c κs. search rules) (λ c κs. search rules) returns)
+pub some_late_spec : {M : Type 1} → statement M
+some_late_spec = tie.close (tie.spec (λ c κs. search rules) (λ c κs. search rules) returns)

@@ -7,7 +7,7 @@ use Rattle.dispatcher.proofs.possible.wrong_counts.Tie as tie
 
 returns : tie.Need-returns
 unfolding wrong_counts
-returns c = cc (whole c.before.before.args.d.counts (search rules))
+returns c = cc (whole c.args.d.counts (search rules))
 
-pub wrong-counts-spec : {M : Type 1} → statement M
-wrong-counts-spec = tie.close (tie.spec (λ c κs. search rules) returns)
+pub wrong_counts_spec : {M : Type 1} → statement M
+wrong_counts_spec = tie.close (tie.spec (λ c κs. search rules) returns)

@@ -5,13 +5,13 @@ use Rattle.dispatch.specs.Dispatcher.{wrong_order, serving}
 use Rattle.dispatcher.proofs.possible.wrong_order.Statement.{statement}
 use Rattle.dispatcher.proofs.possible.wrong_order.Tie as tie
 
-returns : tie.Need-returns
+returns : tie.Need-returns-then-served-gt-LANES
 unfolding wrong_order
-returns c = rw (lt-ltb 8 _ c.if1.true)
+returns c = rw (lt-ltb 8 _ c.if-served-gt-LANES.true)
 
-returns-2 : tie.Need-returns-2
+returns-2 : tie.Need-returns
 unfolding wrong_order serving
-returns-2 c = rw (le-ltb 8 _ c.before.before.if1.false) (cc)
+returns-2 c = rw (le-ltb 8 _ c.if-served-gt-LANES.false) (cc)
 
-pub wrong-order-spec : {M : Type 1} → statement M
-wrong-order-spec = tie.close (tie.spec (λ c. search rules) returns (λ c κs. search rules) (λ c κs. search rules) returns-2)
+pub wrong_order_spec : {M : Type 1} → statement M
+wrong_order_spec = tie.close (tie.spec (λ c. search rules) returns (λ c κs. search rules) (λ c κs. search rules) returns-2)

@@ -8,5 +8,5 @@ returns : tie.Need-returns
 unfolding wrong_rounds
 returns c = cc
 
-pub wrong-rounds-spec : {M : Type 1} → statement M
-wrong-rounds-spec = tie.close (tie.spec (λ c κs. search rules) (λ c κs. search rules) returns)
+pub wrong_rounds_spec : {M : Type 1} → statement M
+wrong_rounds_spec = tie.close (tie.spec (λ c κs. search rules) (λ c κs. search rules) returns)

@@ -1,47 +1,48 @@
 -- `dispatcher::turns::first_new` meets its contract.
 use mathlib.Core.Path.{◌≡◌, refl, sym, ◌∙◌, subst}
-use mathlib.Core.Logic.{⊎_elim}
 use Prim.Native.Nat.{ℕ, ◌-◌, ◌≤◌}
 use native.Mathlib.Omega.{arith}
 use Rattle.dispatch.specs.Turns.{first_new}
 use Rattle.dispatcher.specs.TurnsLaws.{new-here, new_not}
 use Rattle.dispatcher.proofs.turns.first_new.Statement.{statement}
 use Rattle.dispatcher.proofs.turns.first_new.Tie as tie
+use Rattle.dispatcher.proofs.turns.first_new.Lts.{then-is_first_new, else-is_first_new}
 
-abbrev invariant-loop : tie.invariant-loop
+abbrev invariant-loop : tie.invariant-loop-lane
 invariant-loop d found₀ lane₀ found lane = (lane ≤ 8) × (found ≤ 8) × (found ≡ first_new d lane)
 
-abbrev decreases-loop : tie.decreases-loop
+abbrev decreases-loop : tie.decreases-loop-lane
 decreases-loop d found₀ lane₀ found lane = 8 - lane
 
-loop-holds : tie.Need-loop-init invariant-loop decreases-loop
+loop-holds : tie.Need-loop-lane-init invariant-loop decreases-loop
 unfolding first_new
 loop-holds c = (omega arith, omega arith, refl)
 
-loop-again : tie.Need-loop-preserved invariant-loop decreases-loop
+loop-again : tie.Need-loop-lane-preserved invariant-loop decreases-loop
 loop-again c =
-    let at-loop = c.before.before.before in
-    let d = at-loop.before.args.d in
-    let loop = at-loop.loop in
-    let tested = sym c.before.is-first-new.ensures in
-    ⊎_elim
-    (λ w. (omega arith, omega arith, w.1 ∙ new-here d loop.lane loop.found loop.invariant.2 (tested ∙ w.0.taken)))
-    (λ w. (omega arith, omega arith, w.1 ∙ new_not d loop.lane loop.found loop.invariant.2 (tested ∙ w.0.left)))
-    c.if1.branch
+    let d = c.args.d in
+    let loop = c.loop-lane in
+    let tested = sym c.is_first_new.ensures in
+    elim c.if-is_first_new.branch [
+      | then-is_first_new w ↦
+          rw w.found-is (omega arith, omega arith, new-here d loop.lane loop.found loop.invariant.2 (tested ∙ w.if-is_first_new.true))
+      | else-is_first_new w ↦
+          rw w.found-is (omega arith, omega arith, new_not d loop.lane loop.found loop.invariant.2 (tested ∙ w.if-is_first_new.false))
+    ]
 
 returns : tie.Need-returns invariant-loop decreases-loop
 returns c =
-    let all : c.before.loop.lane ≡ 8 = omega arith in
-    rw all at c.before.loop.invariant.2
+    let all : c.loop-lane.lane ≡ 8 = omega arith in
+    rw all at c.loop-lane.invariant.2
 
-pub first-new-spec : {M : Type 1} → statement M
-first-new-spec =
+pub first_new_spec : {M : Type 1} → statement M
+first_new_spec =
     tie.close
     (tie.spec
     invariant-loop
     decreases-loop
     loop-holds
-    (λ c κs. (omega arith, c.before.before.requires))
+    (λ c κs. (omega arith, c.requires))
     (λ c. omega arith)
     (λ c. omega arith)
     loop-again

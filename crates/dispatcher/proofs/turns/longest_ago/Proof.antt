@@ -12,48 +12,45 @@ use Rattle.dispatcher.specs.TurnsLaws.{none_waits, some_waits, served_lane, ago-
 use Rattle.dispatcher.proofs.turns.longest_ago.Statement.{statement}
 use Rattle.dispatcher.proofs.turns.longest_ago.Tie as tie
 
-abbrev invariant-loop : tie.invariant-loop
+abbrev invariant-loop : tie.invariant-loop-i
 invariant-loop d served i₀ i = (i ≤ d.served) × (longest_ago d (serving d) ≡ longest_ago d (slice i d.served d.order))
 
-abbrev decreases-loop : tie.decreases-loop
+abbrev decreases-loop : tie.decreases-loop-i
 decreases-loop d served i₀ i = d.served - i
 
 -- what is known in a turn of the loop
-module _ (c : tie.In-loop invariant-loop decreases-loop) where
-  few : c.before.before.args.t1.served ≤ lanes
-  few = (holds c.before.before.args.t1 c.before.before.requires).few
+module _ (c : tie.In-loop-i invariant-loop decreases-loop) where
+  few : c.args.d.served ≤ lanes
+  few = (holds c.args.d c.requires).few
 
-  within : c.before.before.args.t1.served ≤ length c.before.before.args.t1.order
-  within = let eight : length c.before.before.args.t1.order ≡ 8 = search rules in omega (arith, few)
+  within : c.args.d.served ≤ length c.args.d.order
+  within = let eight : length c.args.d.order ≡ 8 = search rules in omega (arith, few)
 
-  lane : get_or c.before.before.args.t1.order c.before.loop.i 0 < lanes
-  lane = served_lane c.before.before.args.t1 c.before.before.requires c.before.loop.i (omega arith)
+  lane : get_or c.args.d.order c.loop-i.i 0 < lanes
+  lane = served_lane c.args.d c.requires c.loop-i.i (omega arith)
 
-loop-holds : tie.Need-loop-init invariant-loop decreases-loop
+  -- a ticket waits in the lane here
+  here : (get_or c.args.d.counts (get_or c.args.d.order c.loop-i.i 0) 0 ≡ 0 → ⊥) → get_or c.args.d.order c.loop-i.i 0 ≡ longest_ago c.args.d (serving c.args.d)
+  here w = ago-here c.args.d c.loop-i.i (omega arith) within (some_waits c.args.d _ w) ∙ sym c.loop-i.invariant.1
+
+loop-holds : tie.Need-loop-i-init invariant-loop decreases-loop
 unfolding serving
 loop-holds c = (omega arith, refl)
 
-returns : tie.Need-returns invariant-loop decreases-loop
-returns c =
-    let turn = c.before.before.before in
-    let d = turn.before.before.args.t1 in
-    let loop = turn.before.loop in
-    ago-here d loop.i (omega arith) (within turn) (some_waits d _ c.if1.true) ∙ sym loop.invariant.1
-
-loop-again : tie.Need-loop-preserved invariant-loop decreases-loop
+loop-again : tie.Need-loop-i-preserved invariant-loop decreases-loop
 loop-again c =
     let turn = c.before.before.before in
-    let d = turn.before.before.args.t1 in
-    let loop = turn.before.loop in
-    (omega arith, loop.invariant.1 ∙ ago-later d loop.i (omega arith) (within turn) (none_waits d _ c.if1.false))
+    let d = turn.args.d in
+    let loop = turn.loop-i in
+    (omega arith, loop.invariant.1 ∙ ago-later d loop.i (omega arith) (within turn) (none_waits d _ (omega arith)))
 
-returns-2 : tie.Need-returns-2 invariant-loop decreases-loop
+returns-2 : tie.Need-returns invariant-loop decreases-loop
 returns-2 c =
-    let d = c.before.before.args.t1 in
-    ago_none d c.before.loop.i (omega arith) ∙ sym c.before.loop.invariant.1
+    let d = c.args.d in
+    ago_none d c.loop-i.i (omega arith) ∙ sym c.loop-i.invariant.1
 
-pub longest-ago-spec : {M : Type 1} → statement M
-longest-ago-spec =
+pub longest_ago_spec : {M : Type 1} → statement M
+longest_ago_spec =
     tie.close
     (tie.spec
     invariant-loop
@@ -65,7 +62,7 @@ longest-ago-spec =
     (λ c. omega (arith, lane c.before))
     (λ c. omega (arith, lane c.before))
     (λ c. lane c.before)
-    returns
+    (λ c. here c.before.before.before (omega arith))
     (λ c. omega arith)
     (λ c. omega arith)
     loop-again

@@ -7,7 +7,7 @@ use Rattle.dispatcher.proofs.turns.never_served.Tie as tie
 
 returns : tie.Need-returns
 unfolding never_served serving
-returns c = rw c.is-in.ensures
+returns c = rw c.is_in.ensures
 
-pub never-served-spec : {M : Type 1} → statement M
-never-served-spec = tie.close (tie.spec (λ c. search rules) (λ c. search rules) (λ c κs. search rules) returns)
+pub never_served_spec : {M : Type 1} → statement M
+never_served_spec = tie.close (tie.spec (λ c. search rules) (λ c. search rules) (λ c κs. search rules) returns)

@@ -7,8 +7,8 @@ use Rattle.dispatcher.proofs.turns.next_lane.Tie as tie
 
 returns : tie.Need-returns
 unfolding next_lane
-returns c = cc
+returns c = rw (c.or_else.ensures, c.first_new-never.ensures, c.longest_ago-longest.ensures)
 
-pub next-lane-spec : {M : Type 1} → statement M
-next-lane-spec =
+pub next_lane_spec : {M : Type 1} → statement M
+next_lane_spec =
     tie.close (tie.spec (λ c κs. (holds c.args.d c.requires).few) (λ c κs. search rules) (λ c κs. search rules) returns)

@@ -4,13 +4,13 @@ use Rattle.dispatch.specs.Turns.{or_else}
 use Rattle.dispatcher.proofs.turns.or_else.Statement.{statement}
 use Rattle.dispatcher.proofs.turns.or_else.Tie as tie
 
-returns : tie.Need-returns
+returns : tie.Need-returns-then-lane-lt-LANES
 unfolding or_else
-returns c = rw (lt-ltb _ 8 c.if1.true)
+returns c = rw (lt-ltb _ 8 c.if-lane-lt-LANES.true)
 
-returns-2 : tie.Need-returns-2
+returns-2 : tie.Need-returns-else-lane-lt-LANES
 unfolding or_else
-returns-2 c = rw (le-ltb _ 8 c.if1.false)
+returns-2 c = rw (le-ltb _ 8 c.if-lane-lt-LANES.false)
 
-pub or-else-spec : {M : Type 1} → statement M
-or-else-spec = tie.close (tie.spec returns returns-2)
+pub or_else_spec : {M : Type 1} → statement M
+or_else_spec = tie.close (tie.spec returns returns-2)

@@ -7,11 +7,10 @@ use Rattle.evidence.proofs.certificates.first_is_lower.Tie as tie
 
 returns : tie.Need-returns
 returns c =
-    let second = c.before.before.before in
-    c.lower.ensures ∙ lower-told _ _ _ second.before.certificate-value.ensures second.certificate-value2.ensures
+    c.lower.ensures ∙ lower-told _ _ _ c.certificate_value-a.ensures c.certificate_value-b.ensures
 
-pub first-is-lower-spec : {M : Type 1} → statement M
-first-is-lower-spec =
+pub first_is_lower_spec : {M : Type 1} → statement M
+first_is_lower_spec =
     tie.close
     (tie.spec
     (λ c κs. search rules)

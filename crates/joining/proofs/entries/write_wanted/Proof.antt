@@ -15,37 +15,35 @@ abbrev started : tie.After-has → tie.Start
 started c = c.before.before.before
 
 -- the seat is wanted
-wanted : (c : tie.Else1) → has (started c.before).args.seat (started c.before).args.wanted ≡ true
-wanted c = sym c.before.has.ensures ∙ not-false _ c.if1.false
+wanted : (c : tie.Else-not-has) → has c.args.seat c.args.wanted ≡ true
+wanted c = sym c.has.ensures ∙ c.if-not-has.false
 
-is-in : (c : tie.Else1) → In (started c.before).args.seat (started c.before).args.wanted
+is-in : (c : tie.Else-not-has) → In c.args.seat c.args.wanted
 is-in c = (has_true _ _).0 (wanted c)
 
-returns : tie.Need-returns
+returns : tie.Need-returns-then-not-has
 unfolding wanted_entry
 returns c =
-    let none : has (started c.before).args.seat (started c.before).args.wanted ≡ false = sym c.before.has.ensures ∙ not-true _ c.if1.true in
+    let none : has c.args.seat c.args.wanted ≡ false = sym c.has.ensures ∙ c.if-not-has.true in
     rw none (record { ends = omega arith; wrote = patch_none _ _ })
 
-entry-of-requires : tie.Need-entry-of-requires
+entry-of-requires : tie.Need-entry_of-requires
 entry-of-requires c κs =
-    let pre = (started c.before.before).requires in
+    let pre = c.requires in
     (pre.0, pre.1, pre.3 (is-in c.before), pre.2)
 
 put-requires : tie.Need-put-requires
 put-requires c κs =
     let else = c.before.before in
-    omega (arith, c.entry_of.ensures.1, (started else.before).requires.4 (is-in else))
+    omega (arith, c.entry_of.ensures.1, else.before.requires.4 (is-in else))
 
-returns-2 : tie.Need-returns-2
+returns-2 : tie.Need-returns
 unfolding wanted_entry
 returns-2 c =
-    let put = c.before.before in
-    let entry = put.before in
-    rw (wanted entry.before.before, ← entry.entry_of.ensures.0) put.put.ensures
+    rw (wanted c.before.before.before.before.before, ← c.entry_of.ensures.0) c.put.ensures
 
-pub write-wanted-spec : {M : Type 1} → statement M
-write-wanted-spec =
+pub write_wanted_spec : {M : Type 1} → statement M
+write_wanted_spec =
     tie.close
     (tie.spec
     (λ c κs. search rules)

@@ -9,16 +9,15 @@ use Rattle.validate.specs.CallsLaws.{pack-told}
 use Rattle.joining.proofs.refusals.joined_refusal.Statement.{statement}
 use Rattle.joining.proofs.refusals.joined_refusal.Tie as tie
 
-pack-refusal-requires : tie.Need-pack-refusal-requires
+pack-refusal-requires : tie.Need-pack_refusal-requires
 pack-refusal-requires c κs =
-    let kind = c.before in
-    let pre = kind.before.before.before.requires in
-    let told = kind-told _ _ kind.classify.ensures in
-    (pre.0, pre.1, told, λ t. new-evidence _ (sym (joining-takes _ _ told _ c.is_Within.ensures) ∙ t))
+    let pre = c.requires in
+    let told = kind-told _ _ c.classify-kind.ensures in
+    (pre.0, pre.1, told, λ t. new-evidence _ (sym (joining-takes _ _ told _ c.is_within-taken.ensures) ∙ t))
 
-pub joined-refusal-spec : {M : Type 1} → statement M
+pub joined_refusal_spec : {M : Type 1} → statement M
 unfolding joined_conditions
-joined-refusal-spec =
+joined_refusal_spec =
     tie.close
     (tie.spec
     (λ c κs. search rules)

@@ -10,13 +10,13 @@ use Rattle.joining.proofs.refusals.joining_refusal.Statement.{statement}
 use Rattle.joining.proofs.refusals.joining_refusal.Tie as tie
 
 -- out is compared with the length stated
-short-is : (c : tie.After-short-out)
-    → let a = c.before.before.before.before.before.before.args in c.short-out.result ≡ short_out (joined_out_length a.n) a.out.now
-short-is c = rw (← c.before.joined-out-length.ensures) c.short-out.ensures
+short-is : (c : tie.After-short_out)
+    → let a = c.args in c.short_out.result ≡ short_out (joined_out_length a.n) a.out.now
+short-is c = rw (← c.joined_out_length.ensures) c.short_out.ensures
 
-pub joining-refusal-spec : {M : Type 1} → statement M
+pub joining_refusal_spec : {M : Type 1} → statement M
 unfolding given_conditions
-joining-refusal-spec =
+joining_refusal_spec =
     tie.close
     (tie.spec
     (λ c κs. search rules)

@@ -5,8 +5,8 @@ use Rattle.joining.specs.PacksLaws.{joined-nonzero}
 use Rattle.joining.proofs.refusals.packs_refusal.Statement.{statement}
 use Rattle.joining.proofs.refusals.packs_refusal.Tie as tie
 
-pub packs-refusal-spec : {M : Type 1} → statement M
-packs-refusal-spec =
+pub packs_refusal_spec : {M : Type 1} → statement M
+packs_refusal_spec =
     tie.close
     (tie.spec
     (λ c κs. search rules)

@@ -8,42 +8,41 @@ use Rattle.lmots.specs.KeyLaws.{chains_le, key_completed}
 use Rattle.lmots.proofs.key.candidate.Statement.{statement}
 use Rattle.lmots.proofs.key.candidate.Tie as tie
 
-abbrev started : tie.After-key-buffer → tie.Start
+abbrev started : tie.After-key_buffer-all → tie.Start
 started c = c.before.before.before.before.before
 
 -- back to the buffer, from the writing of the ends
-abbrev buffered : tie.After-all → tie.After-key-buffer
+abbrev buffered : tie.After-all-1 → tie.After-key_buffer-all
 buffered c = c.before.before
 
-part-message-digits-end : tie.Need-slice-bounds-message-digits-end
+part-message-digits-end : tie.Need-slice_bounds-message_digits-end
 unfolding ots_length
 part-message-digits-end c = omega arith
 
-write-completed-requires : tie.Need-write-completed-requires
+write-completed-requires : tie.Need-write_completed-requires
 write-completed-requires c κs =
     let start = started (buffered c) in
-    let room = chains_le start.args.w start.pre.1 in
-    (start.pre.0, start.pre.1, search rules, start.pre.2, omega arith)
+    let room = chains_le start.args.w start.requires.1 in
+    (start.requires.0, start.requires.1, search rules, start.requires.2, omega arith)
 
-slice-aggregate-sha256 : tie.Need-slice-aggregate-sha256
+slice-aggregate-sha256 : tie.Need-slice_bounds-sha256-end
 slice-aggregate-sha256 c = simp length-take (omega arith)
 
 returns : tie.Need-returns
 unfolding part
 returns c =
-    let written = c.before.before.before.before in
-    let made = buffered written.before in
+    let made = buffered c.before.before.before.before.before in
     let start = started made in
     let args = start.args in
-    let digits = made.before.message-digits in
-    let buffer = made.key-buffer in
-    let ends = written.write-completed in
-    let count = c.before.before.count in
-    key_completed (bytes args.id) args.message.now args.sig.now digits.result buffer.result ends.new.1.1.1.1.1.1.0 c.sha256.result
-    args.q args.w count.result start.pre.2 digits.ensures (omega arith) buffer.ensures count.ensures.0 ends.ensures c.sha256.ensures
+    let digits = made.message_digits-digits in
+    let buffer = made.key_buffer-all in
+    let ends = c.write_completed in
+    let count = c.count in
+    key_completed (bytes args.id) args.message.now args.sig.now digits.result buffer.result ends.new.out c.sha256.result
+    args.q args.w count.result start.requires.2 digits.ensures (omega arith) buffer.ensures count.ensures.0 ends.ensures c.sha256.ensures
 
-pub candidate-spec : {M : Type 1} → statement M
-candidate-spec =
+pub candidate_spec : {M : Type 1} → statement M
+candidate_spec =
     tie.close
     (tie.spec
     (λ c. search rules)

@@ -8,11 +8,11 @@ use Rattle.lmots.proofs.key.key_buffer.Tie as tie
 
 returns : tie.Need-returns
 returns c =
-    let front = c.before.before.before.before.front in
-    let copied = c.before.copy in
-    front-taken 22 front.result (replicate 2166 0) copied.new.0 (search rules) copied.ensures ∙ front.ensures
+    let front = c.front-start in
+    let copied = c.copy in
+    front-taken 22 front.result (replicate 2166 0) copied.new.out (search rules) copied.ensures ∙ front.ensures
 
-pub key-buffer-spec : {M : Type 1} → statement M
-key-buffer-spec =
+pub key_buffer_spec : {M : Type 1} → statement M
+key_buffer_spec =
     tie.close
     (tie.spec (λ c κs. search rules) (λ c. search rules) (λ c. search rules) (λ c κs. search rules) returns)

@@ -11,25 +11,25 @@ use borrow.Author.Rules.{rules}
 use Rattle.lmots.proofs.key.signed.Statement.{statement}
 use Rattle.lmots.proofs.key.signed.Tie as tie
 
-digit-places-requires : tie.Need-digit-places-requires
+digit-places-requires : tie.Need-digit_places-ends-requires
 unfolding chains
-digit-places-requires c κs = (inr refl, c.before.requires.1, omega arith)
+digit-places-requires c κs = (inr refl, c.requires.1, omega arith)
 
 run-requires : tie.Need-run-requires
 run-requires c κs =
-    let digits = c.before.before.before.before.digit-places in
-    (c.before.before.before.before.before.before.requires.0, c.before.before.write-starts.ensures.0, ordered-signed digits.result digits.ensures.1, omega arith, omega arith)
+    let digits = c.digit_places-ends in
+    (c.requires.0, c.write_starts.ensures.0, ordered-signed digits.result digits.ensures.1, omega arith, omega arith)
 
 returns : tie.Need-returns
 returns c =
-    let digits = c.before.before.before.before.before.before.digit-places in
-    let starts = c.before.before.before.before.write-starts in
-    let args = c.before.before.before.before.before.before.before.before.args in
-    signed_by (bytes args.id) (bytes args.seed) args.digits.now digits.result (replicate 2144 0) _ c.before.run.new.1.1.1.1.1.1.0 args.q (length-replicate {A = ℕ} 2144 0)
-    digits.ensures.0 starts.ensures.1 c.before.run.ensures.1
+    let digits = c.digit_places-ends in
+    let starts = c.write_starts in
+    let args = c.args in
+    signed_by (bytes args.id) (bytes args.seed) args.digits.now digits.result (replicate 2144 0) _ c.run.new.z args.q (length-replicate {A = ℕ} 2144 0)
+    digits.ensures.0 starts.ensures.1 c.run.ensures.1
 
-pub signed-spec : {M : Type 1} → statement M
-signed-spec =
+pub signed_spec : {M : Type 1} → statement M
+signed_spec =
     tie.close
     (tie.spec
     digit-places-requires

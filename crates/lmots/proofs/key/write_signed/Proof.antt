@@ -5,17 +5,17 @@ use borrow.Author.Rules.{rules}
 use Rattle.lmots.proofs.key.write_signed.Statement.{statement}
 use Rattle.lmots.proofs.key.write_signed.Tie as tie
 
-slice-aggregate-copy : tie.Need-slice-aggregate-copy
+slice-aggregate-copy : tie.Need-slice_bounds-copy-end
 slice-aggregate-copy c = simp length-take (omega arith)
 
 copy-requires : tie.Need-copy-requires
 copy-requires c κs = simp length-take (omega arith)
 
 returns : tie.Need-returns
-returns c = rw c.before.before.before.before.before.signed.ensures at c.before.before.copy.ensures
+returns c = rw c.signed-z.ensures at c.copy.ensures
 
-pub write-signed-spec : {M : Type 1} → statement M
-write-signed-spec =
+pub write_signed_spec : {M : Type 1} → statement M
+write_signed_spec =
     tie.close
     (tie.spec
     (λ c κs. search rules)

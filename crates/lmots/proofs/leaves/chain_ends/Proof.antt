@@ -12,27 +12,24 @@ small x l h k = rw (get_or-replicate 16 l x 0 k) h
 
 steps-requires : tie.Need-steps-requires
 steps-requires c κs =
-    let start = c.before.before.before.before in
-    let pre = start.requires in
-    (pre.0, c.before.before.put_all_lem.ensures.0, search rules, omega arith, λ l h. small (start.args.i * 65536 + 65280) l (omega (arith, pre.1)) h)
+    let pre = c.requires in
+    (pre.0, c.put_all.ensures.0, search rules, omega arith, λ l h. small (c.args.i * 65536 + 65280) l (omega (arith, pre.1)) h)
 
 steps-requires-2 : tie.Need-steps-requires-2
 steps-requires-2 c κs =
-    let start = c.before.before.before.before.before.before.before in
-    let pre = start.requires in
-    (pre.0, c.before.before.steps.ensures.0, search rules, omega arith, λ l h. small (start.args.i * 65536) l (omega (arith, pre.1)) h)
+    let pre = c.requires in
+    (pre.0, c.steps.ensures.0, search rules, omega arith, λ l h. small (c.args.i * 65536) l (omega (arith, pre.1)) h)
 
 returns : tie.Need-returns
 returns c =
-    let start = c.before.before.before.before.before.before.before.before in
-    let args = start.args in
-    let all = c.before.before.before.before.before.before.put_all_lem in
-    let first = c.before.before.before.steps in
-    let rest = c.steps2 in
-    (rest.ensures.0, ended_by args.id args.leaves args.seed args.i _ _ _ start.requires.1 all.ensures.1 first.ensures.1 rest.ensures.1)
+    let args = c.args in
+    let all = c.put_all in
+    let first = c.steps in
+    let rest = c.steps-2 in
+    (rest.ensures.0, ended_by args.id args.leaves args.seed args.i _ _ _ c.requires.1 all.ensures.1 first.ensures.1 rest.ensures.1)
 
-pub chain-ends-spec : {M : Type 1} → statement M
-chain-ends-spec =
+pub chain_ends_spec : {M : Type 1} → statement M
+chain_ends_spec =
     tie.close
     (tie.spec
     (λ c κs. search rules)

@@ -9,7 +9,7 @@ returns : tie.Need-returns
 unfolding part
 returns c = rw add-sub_cancel_left at c.sha256.ensures
 
-pub hashed-spec : {M : Type 1} → statement M
-hashed-spec =
+pub hashed_spec : {M : Type 1} → statement M
+hashed_spec =
     tie.close
     (tie.spec (λ c. search rules) (λ c. search rules) (λ c. search rules) (λ c. search rules) (λ c. search rules) (λ c κs. search rules) returns)

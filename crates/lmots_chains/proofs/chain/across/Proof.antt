@@ -9,5 +9,5 @@ returns : tie.Need-returns
 unfolding across
 returns c = refl
 
-pub across-spec : {M : Type 1} → statement M
-across-spec = tie.close (tie.spec (λ c. search rules) (λ c. search rules) returns)
+pub across_spec : {M : Type 1} → statement M
+across_spec = tie.close (tie.spec (λ c. search rules) (λ c. search rules) returns)

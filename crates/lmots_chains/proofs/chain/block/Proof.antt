@@ -6,19 +6,13 @@ use Rattle.lmots_chains.proofs.chain.block.Tie as tie
 
 returns : tie.Need-returns
 returns c =
-    let sixth = c.before in
-    let fifth = sixth.before in
-    let fourth = fifth.before in
-    let third = fourth.before in
-    let second = third.before in
-    let first = second.before in
-    let start = first.before in
-    block-padded start.args.t1 start.args.t5 start.args.q start.args.i start.args.j
-    first.across.result second.across2.result third.across3.result fourth.across4.result
-    fifth.across5.result sixth.across6.result c.across7.result
-    (search rules) start.well_formed_lem.1.1.1.1.0.1.0.1 start.requires.0 start.requires.1
-    first.across.ensures second.across2.ensures third.across3.ensures fourth.across4.ensures
-    fifth.across5.ensures sixth.across6.ensures c.across7.ensures
+    let start = c.before.before.before.before.before.before.before in
+    block-padded start.args.id start.args.tmp start.args.q start.args.i start.args.j
+    c.across.result c.across-2.result c.across-3.result c.across-4.result
+    c.across-5.result c.across-6.result c.across-7.result
+    (search rules) start.well_formed.1.1.1.1.0.1.0.1 start.requires.0 start.requires.1
+    c.across.ensures c.across-2.ensures c.across-3.ensures c.across-4.ensures
+    c.across-5.ensures c.across-6.ensures c.across-7.ensures
 
 pub block_spec : {M : Type 1} → statement M
 block_spec =

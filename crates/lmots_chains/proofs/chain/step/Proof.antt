@@ -11,11 +11,10 @@ use Rattle.lmots_chains.proofs.chain.step.Tie as tie
 
 returns : tie.Need-returns
 returns c =
-    let start = c.before.before.before in
-    let m = c.before.before.block.result in
-    compress-one-block m c.before.initial-value.result c.compress.result
-    (chain_input (bytes start.args.id) start.args.q start.args.i start.args.j (bytes start.args.tmp))
-    (search rules) (λ i. let f : Fits w32 (get_or m i 0) = search rules in f.fits) c.before.initial-value.ensures c.before.before.block.ensures c.compress.ensures
+    let m = c.block-m.result in
+    compress-one-block m c.initial_value-h.result c.compress.result
+    (chain_input (bytes c.args.id) c.args.q c.args.i c.args.j (bytes c.args.tmp))
+    (search rules) (λ i. let f : Fits w32 (get_or m i 0) = search rules in f.fits) c.initial_value-h.ensures c.block-m.ensures c.compress.ensures
 
 pub step_spec : {M : Type 1} → statement M
 step_spec = tie.close (tie.spec (λ c κs. search rules) (λ c κs. search rules) (λ c κs. search rules) returns)

@@ -15,25 +15,25 @@ abbrev started : tie.After-spread → tie.Start
 started c = c.before.before.before
 
 -- back to the blocks, from the call of `begin`
-abbrev numbering : tie.After-begin-arg3 → tie.After-put-numbers
-numbering c = c.before.before.before
+abbrev numbering : tie.After-begin-arg-2-1 → tie.After-put_numbers
+numbering c = c.before.before
 
 begin-requires : tie.Need-begin-requires
 unfolding unnumbered
 begin-requires c κs =
-    let numbered = (numbering c).put-numbers in
+    let numbered = c.put_numbers in
     let spread = (numbering c).before.before in
     let filled = spread.spread in
     let start = started spread in
     let args = start.args in
-    let pre = start.pre in
-    (pre.0, numbered.ensures.long, pre.2, pre.3, no_place args.t2 args.leaves _ _ _ refl filled.ensures.1 numbered.ensures)
+    let pre = start.requires in
+    (pre.0, numbered.ensures.long, pre.2, pre.3, no_place args.id args.leaves _ _ _ refl filled.ensures.1 numbered.ensures)
 
 -- lengths by the types of the arguments
-long-id : (c : tie.Start) → length c.args.t2 ≡ 4
+long-id : (c : tie.Start) → length c.args.id ≡ 4
 long-id c = search rules
 
-id-word : (c : tie.Start) (i : ℕ) → Fits w32 (get_or c.args.t2 i 0)
+id-word : (c : tie.Start) (i : ℕ) → Fits w32 (get_or c.args.id i 0)
 id-word c i = search rules
 
 leaf-word : (c : tie.Start) (l : ℕ) → Fits w32 (get_or c.args.leaves l 0)
@@ -43,17 +43,17 @@ returns : tie.Need-returns
 unfolding unnumbered
 returns c =
     let begun = c.begin in
-    let numbered = (numbering c.before).put-numbers in
+    let numbered = c.put_numbers in
     let spread = (numbering c.before).before.before in
     let filled = spread.spread in
-    let value = spread.before.before.initial-value in
+    let value = spread.initial_value-h in
     let start = started spread in
     let args = start.args in
-    let id = args.t2 in
+    let id = args.id in
     let leaves = args.leaves in
-    let w = numbered.last.1.0 in
-    let x = begun.new.1.1.1.0 in
-    let s = begun.new.1.1.1.1.0 in (
+    let w = numbered.new.w in
+    let x = begun.new.x in
+    let s = begun.new.s in (
       numbered.ensures.long,
       begun.ensures.0,
       begun.ensures.1,
@@ -61,8 +61,8 @@ returns c =
           (subst (λ (h : List ℕ). Common h w x s) value.ensures begun.ensures.2),
     )
 
-pub prepare-spec : {M : Type 1} → statement M
-prepare-spec =
+pub prepare_spec : {M : Type 1} → statement M
+prepare_spec =
     tie.close
     (tie.spec
     (λ c κs. search rules)

@@ -7,9 +7,9 @@ use Rattle.lmots_chains.proofs.sixteen.step.Tie as tie
 returns : tie.Need-returns
 returns c =
     let e = c.compress.ensures in
-    let slid = c.before.before.before.before.put-values.ensures in
-    let placed = c.before.before.before.before.before.before.before.put-places.ensures in
-    let args = c.before.before.before.before.before.before.before.before.before.before.args in (
+    let slid = c.put_values.ensures in
+    let placed = c.put_places.ensures in
+    let args = c.args in (
       e.0,
       stepped_by args.places.now args.t args.w.now args.x.now args.s.now args.v.now _ _ _ _ _ placed slid e.1.0 e.1.1,
     )

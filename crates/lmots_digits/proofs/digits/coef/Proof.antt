@@ -8,51 +8,50 @@ use Rattle.lmots_digits.proofs.digits.coef.Statement.{statement}
 use Rattle.lmots_digits.proofs.digits.coef.Tie as tie
 
 -- width 8, and width 4
-abbrev wide-start : tie.Then1 → tie.Start
+abbrev wide-start : tie.Then-w-eq8 → tie.Start
 wide-start c = c.before.before
 
-abbrev narrow_start : tie.Else1 → tie.Start
+abbrev narrow_start : tie.Else-w-eq8 → tie.Start
 narrow_start c = c.before.before
 
-four : (c : tie.Else1) → (narrow_start c).args.w ≡ 4
-four c = width_four _ (narrow_start c).requires.0 c.if1.false
+four : (c : tie.Else-w-eq8) → c.args.w ≡ 4
+four c = width_four _ c.requires.0 c.if-w-eq8.false
 
 -- width 4: back from the reading of the byte
-abbrev halves : tie.After-wide2 → tie.Else1
+abbrev halves : tie.After-wide-b → tie.Else-w-eq8
 halves c = c.before.before
 
-shared-slice-read-wide : tie.Need-shared-slice-read-wide
+shared-slice-read-wide : tie.Need-bounds-s-i
 shared-slice-read-wide c =
     let start = wide-start c.before in
-    place-eight start.args.w start.args.i (length start.args.s.now) c.before.if1.true start.pre.1
+    place-eight start.args.w start.args.i (length start.args.s.now) c.if-w-eq8.true start.requires.1
 
-returns : tie.Need-returns
+returns : tie.Need-returns-then-w-eq8
 returns c =
-    let eight = c.before.before in
-    let args = (wide-start eight).args in
-    digit-eight args.w args.i c.wide.result args.s.now eight.if1.true c.wide.ensures.0 c.wide.ensures.1
+    let args = c.args in
+    digit-eight args.w args.i c.wide.result args.s.now c.if-w-eq8.true c.wide.ensures.0 c.wide.ensures.1
 
-shared-slice-read-wide-2 : tie.Need-shared-slice-read-wide-2
+shared-slice-read-wide-2 : tie.Need-bounds-s-i-2
 shared-slice-read-wide-2 c =
     let start = narrow_start c.before in
-    place-four start.args.w start.args.i (length start.args.s.now) (four c.before) start.pre.1
+    place-four start.args.w start.args.i (length start.args.s.now) (four c.before) start.requires.1
 
-returns-2 : tie.Need-returns-2
+returns-2 : tie.Need-returns-then-i-eq0
 returns-2 c =
-    let byte = c.before.wide2 in
+    let byte = c.wide-b in
     let half = halves c.before in
-    let args = (narrow_start half).args in
-    digit-high args.w args.i byte.result args.s.now (four half) byte.ensures.0 byte.ensures.1 c.if2.true
+    let args = half.args in
+    digit-high args.w args.i byte.result args.s.now (four half) byte.ensures.0 byte.ensures.1 c.if-i-eq0.true
 
-returns-3 : tie.Need-returns-3
+returns-3 : tie.Need-returns-else-i-eq0
 returns-3 c =
-    let byte = c.before.wide2 in
+    let byte = c.wide-b in
     let half = halves c.before in
-    let args = (narrow_start half).args in
-    digit_low args.w args.i byte.result args.s.now (four half) byte.ensures.0 (omega (arith, c.if2.false))
+    let args = half.args in
+    digit_low args.w args.i byte.result args.s.now (four half) byte.ensures.0 (omega (arith, c.if-i-eq0.false))
 
-pub coef-spec : {M : Type 1} → statement M
-coef-spec =
+pub coef_spec : {M : Type 1} → statement M
+coef_spec =
     tie.close
     (tie.spec
     shared-slice-read-wide

@@ -8,18 +8,12 @@ use Rattle.lmots_digits.proofs.digits.front.Tie as tie
 
 returns : tie.Need-returns
 returns c =
-    let fifth = c.before in
-    let fourth = fifth.before.before.before in
-    let third = fourth.before.before.before in
-    let second = third.before.before.before in
-    let first = second.before.before.before in
-    let start = first.before.before in
-    front-written start.args.t1 (replicate 22 0) first.put_word.new.0 second.put-word2.new.0 third.put-word3.new.0
-    fourth.put-word4.new.0 fifth.put-word5.new.0 start.args.q start.args.d (search rules) refl
-    first.put_word.ensures second.put-word2.ensures third.put-word3.ensures fourth.put-word4.ensures fifth.put-word5.ensures
+    front-written c.args.id (replicate 22 0) c.put_word.new.out c.put_word-2.new.out c.put_word-3.new.out
+    c.put_word-4.new.out c.put_word-5.new.out c.args.q c.args.d (search rules) refl
+    c.put_word.ensures c.put_word-2.ensures c.put_word-3.ensures c.put_word-4.ensures c.put_word-5.ensures
 
-pub front-spec : {M : Type 1} → statement M
-front-spec =
+pub front_spec : {M : Type 1} → statement M
+front_spec =
     tie.close
     (tie.spec
     (λ c. search rules)

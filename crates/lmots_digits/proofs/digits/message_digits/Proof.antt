@@ -7,13 +7,12 @@ use Rattle.lmots_digits.proofs.digits.message_digits.Tie as tie
 
 returns : tie.Need-returns
 returns c =
-    let start = c.before.before.before.before.before.before in
-    let front = c.before.before.before.prefix in
-    digested_by (bytes start.args.id) start.args.c.now start.args.message.now front.result c.before.sha256-two.result
-    c.with-checksum.result start.args.q start.args.w front.ensures c.before.sha256-two.ensures c.with-checksum.ensures
+    let front = c.prefix-start in
+    digested_by (bytes c.args.id) c.args.c.now c.args.message.now front.result c.sha256_two-digest.result
+    c.with_checksum.result c.args.q c.args.w front.ensures c.sha256_two-digest.ensures c.with_checksum.ensures
 
-pub message-digits-spec : {M : Type 1} → statement M
-message-digits-spec =
+pub message_digits_spec : {M : Type 1} → statement M
+message_digits_spec =
     tie.close
     (tie.spec
     (λ c κs. search rules)

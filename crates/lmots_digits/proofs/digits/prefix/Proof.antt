@@ -11,18 +11,17 @@ use Rattle.lmots_digits.proofs.digits.prefix.Tie as tie
 
 returns : tie.Need-returns
 returns c =
-    let start = c.before.before.before.before.before.before.before.before.before in
-    let begun = c.before.before.before.before.before.before.before.front in
+    let begun = c.front-start in
     let front = begun.result in
-    let first = c.before.before.before.before.copy in
-    let second = c.before.copy2 in
-    let s = start.args.c.now in
+    let first = c.copy in
+    let second = c.copy-2 in
+    let s = c.args.c.now in
     let n : length front ≡ 22 = search rules in
-    pieces 22 front s (replicate 54 0) first.new.0 second.new.0 first.ensures (omega arith) (omega arith) second.ensures
+    pieces 22 front s (replicate 54 0) first.new.out second.new.out first.ensures (omega arith) (omega arith) second.ensures
     ∙ ap (λ (l : List ℕ). l ++ s) begun.ensures
 
-pub prefix-spec : {M : Type 1} → statement M
-prefix-spec =
+pub prefix_spec : {M : Type 1} → statement M
+prefix_spec =
     tie.close
     (tie.spec
     (λ c κs. search rules)

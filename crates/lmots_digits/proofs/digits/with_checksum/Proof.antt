@@ -8,13 +8,12 @@ use Rattle.lmots_digits.proofs.digits.with_checksum.Tie as tie
 
 returns : tie.Need-returns
 returns c =
-    let start = c.before.before.before.before.before.before in
-    let sum = c.before.before.before.before.checksum in
-    checksum-written start.args.w sum.result start.args.t2 (replicate 34 0) c.before.copy.new.0
-    (search rules) refl c.before.copy.ensures sum.ensures
+    let sum = c.checksum-sum in
+    checksum-written c.args.w sum.result c.args.digest (replicate 34 0) c.copy.new.out
+    (search rules) refl c.copy.ensures sum.ensures
 
-pub with-checksum-spec : {M : Type 1} → statement M
-with-checksum-spec =
+pub with_checksum_spec : {M : Type 1} → statement M
+with_checksum_spec =
     tie.close
     (tie.spec
     (λ c. search rules)

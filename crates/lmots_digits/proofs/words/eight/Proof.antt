@@ -6,12 +6,11 @@ use Rattle.lmots_digits.proofs.words.eight.Tie as tie
 
 returns : tie.Need-returns
 returns c =
-    let start = c.before.before.before in
-    eight-words start.args.at start.args.s.now c.before.four.result c.four2.result (search rules) (search rules)
-    c.before.four.ensures c.four2.ensures
+    eight-words c.args.at c.args.s.now c.four-a.result c.four-b.result (search rules) (search rules)
+    c.four-a.ensures c.four-b.ensures
 
-pub eight-spec : {M : Type 1} → statement M
-eight-spec =
+pub eight_spec : {M : Type 1} → statement M
+eight_spec =
     tie.close
     (tie.spec
     (λ c κs. search rules)

@@ -7,17 +7,13 @@ use Rattle.lmots_digits.proofs.words.four.Tie as tie
 
 returns : tie.Need-returns
 returns c =
-    let third = c.before in
-    let second = third.before in
-    let first = second.before in
-    let start = first.before.before in
-    let s = start.args.s.now in
-    four-words s (λ i. omega (arith, first.before.shared-slice-known.given i)) start.args.at
-    first.word_at.result second.word-at2.result third.word-at3.result c.word-at4.result start.requires
-    first.word_at.ensures second.word-at2.ensures third.word-at3.ensures c.word-at4.ensures
+    let s = c.args.s.now in
+    four-words s (λ i. omega (arith, c.shared_slice_known-1.given i)) c.args.at
+    c.word_at.result c.word_at-2.result c.word_at-3.result c.word_at-4.result c.requires
+    c.word_at.ensures c.word_at-2.ensures c.word_at-3.ensures c.word_at-4.ensures
 
-pub four-spec : {M : Type 1} → statement M
-four-spec =
+pub four_spec : {M : Type 1} → statement M
+four_spec =
     tie.close
     (tie.spec
     (λ c κs. search rules)

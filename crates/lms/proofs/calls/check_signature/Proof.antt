@@ -11,17 +11,17 @@ use Rattle.lms.proofs.calls.check_signature.Statement.{statement}
 use Rattle.lms.proofs.calls.check_signature.Tie as tie
 
 -- the key isn't refused
-right_key : (c : tie.Else1) → wrong_key c.before.before.before.before.before.args.key.now ≡ false
-right_key c = sym c.before.key_refused.ensures ∙ c.if1.false
+right_key : (c : tie.Else-key_refused) → wrong_key c.args.key.now ≡ false
+right_key c = sym c.key_refused.ensures ∙ c.if-key_refused.false
 
-verified-requires : tie.Need-verified-requires
+verified-requires : tie.Need-verified-v-requires
 verified-requires c κs =
     let known = right_key c.before.before.before.before in
-    (c.before.round-constants.ensures, key_fits _ known, known)
+    (c.round_constants-k.ensures, key_fits _ known, known)
 
-pub check-signature-spec : {M : Type 1} → statement M
+pub check_signature_spec : {M : Type 1} → statement M
 unfolding check_signature check_conditions
-check-signature-spec =
+check_signature_spec =
     tie.close
     (tie.spec
     (λ c κs. search rules)

@@ -36,52 +36,52 @@ module _ (start : tie.Start) where
   abbrev leaf : ℕ
   leaf = start.args.leaf
 
-abbrev started : tie.After-sign-refusal → tie.Start
-started c = c.before.before.before.before.before.before.before.before
+abbrev started : tie.After-sign_refusal-n → tie.Start
+started c = c.before.before.before.before.before.before.before
 
 -- no refusal: leaf and lengths are right
-room : (c : tie.Else1)
+room : (c : tie.Else-n-ne0)
     → let s = started c.before in (leaf s ≤ last_round) × (signature_length ≤ length (out s)) × (length (message s) ≤ message_limit)
     × (length (seed s) ≡ 32) × (length (id s) ≡ 16) × (length (randomizer s) ≡ 32) × (length (tree s) ≡ tree_length)
 room c =
     let s = started c.before in
-    signer-room (leaf s) (message s) (seed s) (id s) (randomizer s) (tree s) (out s) c.before.sign-refusal.result c.before.sign-refusal.ensures
-    c.if1.false
+    signer-room (leaf s) (message s) (seed s) (id s) (randomizer s) (tree s) (out s) c.sign_refusal-n.result c.sign_refusal-n.ensures
+    c.if-n-ne0.false
 
-abbrev wrote : tie.After-signature-length → tie.After-write-signature
+abbrev wrote : tie.After-signature_length → tie.After-write_signature
 wrote c = c.before.before.before
 
-abbrev passed : tie.After-signature-length → tie.Else1
+abbrev passed : tie.After-signature_length → tie.Else-n-ne0
 passed c = (wrote c).before.before
 
-returns : tie.Need-returns
+returns : tie.Need-returns-then-n-ne0
 returns c =
     let tested = c.before in
     let s = started tested in
     rw
-    (signer-refused (leaf s) (message s) (seed s) (id s) (randomizer s) (tree s) (out s) tested.sign-refusal.result tested.sign-refusal.ensures c.if1.true)
+    (signer-refused (leaf s) (message s) (seed s) (id s) (randomizer s) (tree s) (out s) tested.sign_refusal-n.result tested.sign_refusal-n.ensures c.if-n-ne0.true)
     (refl, refl, sym (patch-nothing (out s)))
 
-write-signature-requires : tie.Need-write-signature-requires
+write-signature-requires : tie.Need-write_signature-requires
 write-signature-requires c κs =
     let r = room c.before in
     (omega arith, r.3, r.4, r.5, r.6, r.1)
 
-cast-t16 : tie.Need-overflow-cast-t16
+cast-t16 : tie.Need-overflow_cast-result
 unfolding signature_length
 cast-t16 c = omega arith
 
-returns-2 : tie.Need-returns-2
+returns-2 : tie.Need-returns
 unfolding tree_length message_limit
 returns-2 c =
     let s = started (passed c).before in
     let r = room (passed c) in
     rw
     (sign-unrefused (seed s) (id s) (tree s) (out s) r.3 r.4 r.6 (leaf s) (message s) (randomizer s) r.0 r.2 r.5 r.1)
-    (refl, c.signature-length.ensures ∙ sym (length-lms_signature_six_four (id s) (leaf s) (seed s) (randomizer s) (message s) (tree s) r.0 r.5 r.6), (wrote c).write-signature.ensures)
+    (refl, c.signature_length.ensures ∙ sym (length-lms_signature_six_four (id s) (leaf s) (seed s) (randomizer s) (message s) (tree s) r.0 r.5 r.6), c.write_signature.ensures)
 
-pub sign-spec : {M : Type 1} → statement M
-sign-spec =
+pub sign_spec : {M : Type 1} → statement M
+sign_spec =
     tie.close
     (tie.spec
     (λ c κs. search rules)

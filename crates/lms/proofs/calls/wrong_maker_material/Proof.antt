@@ -4,7 +4,7 @@ use Rattle.lms.proofs.calls.wrong_maker_material.Statement.{statement}
 use Rattle.lms.proofs.calls.wrong_maker_material.Tie as tie
 
 returns : tie.Need-returns
-returns c = rw c.tree-length.ensures
+returns c = rw c.tree_length-length.ensures
 
-pub wrong-maker-material-spec : {M : Type 1} → statement M
-wrong-maker-material-spec = tie.close (tie.spec (λ c κs. search rules) returns)
+pub wrong_maker_material_spec : {M : Type 1} → statement M
+wrong_maker_material_spec = tie.close (tie.spec (λ c κs. search rules) returns)

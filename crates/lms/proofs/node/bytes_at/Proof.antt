@@ -6,8 +6,8 @@ use Rattle.lms.proofs.node.bytes_at.Tie as tie
 
 returns : tie.Need-returns
 returns c =
-    let args = c.before.args in
+    let args = c.args in
     part-lent args.at args.n args.s.now
 
-pub bytes-at-spec : {M : Type 1} → statement M
-bytes-at-spec = tie.close (tie.spec (λ c. search rules) (λ c. search rules) (λ c. search rules) (λ c. search rules) returns)
+pub bytes_at_spec : {M : Type 1} → statement M
+bytes_at_spec = tie.close (tie.spec (λ c. search rules) (λ c. search rules) (λ c. search rules) (λ c. search rules) returns)

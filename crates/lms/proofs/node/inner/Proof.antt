@@ -10,6 +10,6 @@ returns : tie.Need-returns
 unfolding over_children front
 returns c = search sha256_prefix
 
-pub inner-spec : {M : Type 1} → statement M
-inner-spec =
+pub inner_spec : {M : Type 1} → statement M
+inner_spec =
     tie.close (tie.spec (λ c κs. search rules) (λ c. search rules) (λ c κs. search rules) returns)

@@ -10,6 +10,6 @@ returns : tie.Need-returns
 unfolding leaf_input front
 returns c = search sha256_prefix
 
-pub leaf-spec : {M : Type 1} → statement M
-leaf-spec =
+pub leaf_spec : {M : Type 1} → statement M
+leaf_spec =
     tie.close (tie.spec (λ c κs. search rules) (λ c. search rules) (λ c κs. search rules) returns)

@@ -7,11 +7,8 @@ use Rattle.lms.proofs.node.pair.Tie as tie
 
 returns : tie.Need-returns
 returns c =
-    let after-copy2 = c.before in
-    let after-copy = after-copy2.before.before.before in
-    let start = after-copy.before.before.before.before in
-    let args = start.args in
-    pieces 32 args.left.now args.right.now _ _ after-copy2.copy2.new.0 after-copy.copy.ensures (omega arith) (omega arith) after-copy2.copy2.ensures
+    let args = c.args in
+    pieces 32 args.left.now args.right.now _ _ c.copy-2.new.out c.copy.ensures (omega arith) (omega arith) c.copy-2.ensures
 
 pub pair_spec : {M : Type 1} → statement M
 pair_spec =

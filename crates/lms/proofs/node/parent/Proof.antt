@@ -4,5 +4,5 @@ use Rattle.lms.specs.NodeLaws.{over-two}
 use Rattle.lms.proofs.node.parent.Statement.{statement}
 use Rattle.lms.proofs.node.parent.Tie as tie
 
-pub parent-spec : {M : Type 1} → statement M
-parent-spec = tie.close (tie.spec (λ c κs. search rules) (λ c. search rules) (λ c κs. search rules) (λ c. search over-two))
+pub parent_spec : {M : Type 1} → statement M
+parent_spec = tie.close (tie.spec (λ c κs. search rules) (λ c. search rules) (λ c κs. search rules) (λ c. search over-two))

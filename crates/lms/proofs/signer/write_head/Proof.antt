@@ -10,14 +10,10 @@ use Rattle.lms.proofs.signer.write_head.Tie as tie
 returns : tie.Need-returns
 unfolding be
 returns c =
-    let after-copy = c.before.before in
-    let after-put-word2 = after-copy.before.before.before.before in
-    let first = after-put-word2.before.before.before.before in
-    let start = first.before.before.before.before in
-    let args = start.args in
-    three-writes 0 (be 4 args.leaf) (be 4 4) args.randomizer.now args.out.now first.put_word.new.0 after-put-word2.put-word2.new.0 after-copy.copy.new.0 4 8 (omega arith)
-    first.put_word.ensures after-put-word2.put-word2.ensures after-copy.copy.ensures refl refl
+    let args = c.args in
+    three-writes 0 (be 4 args.leaf) (be 4 4) args.randomizer.now args.out.now c.put_word.new.out c.put_word-2.new.out c.copy.new.out 4 8 (omega arith)
+    c.put_word.ensures c.put_word-2.ensures c.copy.ensures refl refl
 
-pub write-head-spec : {M : Type 1} → statement M
-write-head-spec =
+pub write_head_spec : {M : Type 1} → statement M
+write_head_spec =
     tie.close (tie.spec (λ c κs. search rules) (λ c κs. search rules) (λ c κs. search rules) (λ c. search rules) returns)

@@ -6,34 +6,28 @@ use Rattle.lms.specs.SignerLaws.{whole-string, signature-written}
 use Rattle.lms.proofs.signer.write_signature.Statement.{statement}
 use Rattle.lms.proofs.signer.write_signature.Tie as tie
 
-write-head-requires : tie.Need-write-head-requires
+write-head-requires : tie.Need-write_head-requires
 unfolding signature_length
 write-head-requires c κs = search rules
 
-write-values-requires : tie.Need-write-values-requires
+write-values-requires : tie.Need-write_values-requires
 unfolding signature_length
 write-values-requires c κs = search rules
 
 returns : tie.Need-returns
 returns c =
-    let after-write-tail = c.before.before in
-    let after-write-values = after-write-tail.before.before.before.before in
-    let headed = after-write-values.before.before.before.before.before in
-    let after-eight = headed.before.before in
-    let four = after-eight.before in
-    let start = four.before.before.before.before.before.before.before.before in
-    let args = start.args in
+    let args = c.args in
     let id = args.id.now in
     let seed = args.seed.now in
-    signature-written id (bytes four.four.result) seed (bytes after-eight.eight.result) args.randomizer.now
-    args.message.now args.tree.now args.out.now headed.write-head.new.1.1.0
-    after-write-values.write-values.new.1.1.1.1.1.1.0 after-write-tail.write-tail.new.1.1.0
-    args.leaf start.requires.3 (whole-string id (bytes four.four.result) 16 start.requires.2 four.four.ensures)
-    (whole-string seed (bytes after-eight.eight.result) 32 start.requires.1 after-eight.eight.ensures)
-    headed.write-head.ensures after-write-values.write-values.ensures after-write-tail.write-tail.ensures
+    signature-written id (bytes c.four-id_words.result) seed (bytes c.eight-seed_words.result) args.randomizer.now
+    args.message.now args.tree.now args.out.now c.write_head.new.out
+    c.write_values.new.out c.write_tail.new.out
+    args.leaf c.requires.3 (whole-string id (bytes c.four-id_words.result) 16 c.requires.2 c.four-id_words.ensures)
+    (whole-string seed (bytes c.eight-seed_words.result) 32 c.requires.1 c.eight-seed_words.ensures)
+    c.write_head.ensures c.write_values.ensures c.write_tail.ensures
 
-pub write-signature-spec : {M : Type 1} → statement M
-write-signature-spec =
+pub write_signature_spec : {M : Type 1} → statement M
+write_signature_spec =
     tie.close
     (tie.spec
     (λ c κs. search rules)

@@ -6,13 +6,12 @@ use Rattle.lms.specs.SignerLaws.{values_for}
 use Rattle.lms.proofs.signer.write_values.Statement.{statement}
 use Rattle.lms.proofs.signer.write_values.Tie as tie
 
-message-digits-requires : tie.Need-message-digits-requires
+message-digits-requires : tie.Need-message_digits-digits-requires
 message-digits-requires c κs =
-    let start = c.before.before.before in
-    (start.requires.0, inr refl, start.requires.1)
+    (c.requires.0, inr refl, c.requires.1)
 
-pub write-values-spec : {M : Type 1} → statement M
-write-values-spec =
+pub write_values_spec : {M : Type 1} → statement M
+write_values_spec =
     tie.close
     (tie.spec
     message-digits-requires

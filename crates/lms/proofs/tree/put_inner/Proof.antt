@@ -6,7 +6,7 @@ use Rattle.lms.specs.TreeLaws.{inner_put_lem}
 use Rattle.lms.proofs.tree.put_inner.Statement.{statement}
 use Rattle.lms.proofs.tree.put_inner.Tie as tie
 
-bytes-at-requires : tie.Need-bytes-at-requires
+bytes-at-requires : tie.Need-bytes_at-requires
 unfolding tree_length
 bytes-at-requires c κs = omega arith
 
@@ -14,8 +14,8 @@ copy-requires : tie.Need-copy-requires
 unfolding tree_length
 copy-requires c κs = omega arith
 
-pub put-inner-spec : {M : Type 1} → statement M
-put-inner-spec =
+pub put_inner_spec : {M : Type 1} → statement M
+put_inner_spec =
     tie.close
     (tie.spec
     (λ c. search rules)

@@ -10,8 +10,8 @@ copy-requires : tie.Need-copy-requires
 unfolding tree_length
 copy-requires c κs = omega arith
 
-pub put-leaf-spec : {M : Type 1} → statement M
-put-leaf-spec =
+pub put_leaf_spec : {M : Type 1} → statement M
+put_leaf_spec =
     tie.close
     (tie.spec
     (λ c. search rules)

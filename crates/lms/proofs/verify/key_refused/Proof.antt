@@ -9,40 +9,37 @@ use borrow.Author.Rules.{rules}
 use Rattle.lms.proofs.verify.key_refused.Statement.{statement}
 use Rattle.lms.proofs.verify.key_refused.Tie as tie
 
-abbrev key : tie.After-key-length → List ℕ
-key c = c.before.before.args.key.now
+abbrev key : tie.After-key_length → List ℕ
+key c = c.args.key.now
 
 -- the key has its length
-long : (c : tie.Else1) → length (key c.before) ≡ key_length
-long c = c.if1.false ∙ c.before.key_length_lem.ensures
+long : (c : tie.Else-key-key_length) → length (key c.before) ≡ key_length
+long c = c.if-key-key_length.false ∙ c.key_length.ensures
 
-abbrev long-key : tie.After-word-at2 → tie.Else1
+abbrev long-key : tie.After-word_at-ots → tie.Else-key-key_length
 long-key c = c.before.before
 
-returns : tie.Need-returns
+returns : tie.Need-returns-then-key-key_length
 returns c =
-    key_length_lem (key c.before) (λ e. c.if1.true (e ∙ sym c.before.key_length_lem.ensures))
+    key_length_lem (key c.before) (λ e. c.if-key-key_length.true (e ∙ sym c.key_length.ensures))
 
-returns-2 : tie.Need-returns-2
+returns-2 : tie.Need-returns-then-known_lms
 returns-2 c =
-    let then2 = c.before in
-    let after-known-lms = then2.before in
-    let words = after-known-lms.before in
+    let words = c.before.before.before in
     let after-word-at = words.before in
-    key_types (key (long-key words).before) (long (long-key words)) after-word-at.word_at.result after-word-at.word_at.ensures
-    words.word-at2.result words.word-at2.ensures after-known-lms.known-lms.result c.known-ots.result
-    after-known-lms.known-lms.ensures then2.if2.true c.known-ots.ensures
+    key_types (key (long-key words).before) (long (long-key words)) after-word-at.word_at-lms.result after-word-at.word_at-lms.ensures
+    words.word_at-ots.result words.word_at-ots.ensures c.known_lms.result c.known_ots.result
+    c.known_lms.ensures c.if-known_lms.true c.known_ots.ensures
 
-returns-3 : tie.Need-returns-3
+returns-3 : tie.Need-returns
 returns-3 c =
-    let after-known-lms = c.before in
-    let words = after-known-lms.before in
+    let words = c.before.before in
     let after-word-at = words.before in
-    key_lms (key (long-key words).before) (long (long-key words)) after-word-at.word_at.result after-word-at.word_at.ensures
-    after-known-lms.known-lms.result after-known-lms.known-lms.ensures c.if2.false
+    key_lms (key (long-key words).before) (long (long-key words)) after-word-at.word_at-lms.result after-word-at.word_at-lms.ensures
+    c.known_lms.result c.known_lms.ensures c.if-known_lms.false
 
-pub key-refused-spec : {M : Type 1} → statement M
-key-refused-spec =
+pub key_refused_spec : {M : Type 1} → statement M
+key_refused_spec =
     tie.close
     (tie.spec
     (λ c κs. search rules)

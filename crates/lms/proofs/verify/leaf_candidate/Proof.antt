@@ -7,15 +7,13 @@ use Rattle.lms.specs.NodeLaws.{leaf_from}
 use Rattle.lms.proofs.verify.leaf_candidate.Statement.{statement}
 use Rattle.lms.proofs.verify.leaf_candidate.Tie as tie
 
-candidate-requires : tie.Need-candidate-requires
+candidate-requires : tie.Need-candidate-key-requires
 candidate-requires c κs =
-    let after-ots-length = c.before in
-    let start = after-ots-length.before.before.before in
-    let n = after-ots-length.ots-length in
-    (start.requires.0, start.requires.1, rw c.bytes-at.ensures (length_part 4 n.result start.args.signature.now (omega arith) ∙ n.ensures.0))
+    let n = c.ots_length in
+    (c.requires.0, c.requires.1, rw c.bytes_at-sig.ensures (length_part 4 n.result c.args.signature.now (omega arith) ∙ n.ensures.0))
 
-pub leaf-candidate-spec : {M : Type 1} → statement M
-leaf-candidate-spec =
+pub leaf_candidate_spec : {M : Type 1} → statement M
+leaf_candidate_spec =
     tie.close
     (tie.spec
     (λ c κs. search rules)

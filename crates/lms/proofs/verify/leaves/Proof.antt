@@ -5,13 +5,13 @@ use Rattle.rfc8554.specs.Tree.{height}
 use Rattle.lms.proofs.verify.leaves.Statement.{statement}
 use Rattle.lms.proofs.verify.leaves.Tie as tie
 
-returns : tie.Need-returns
+returns : tie.Need-returns-then-lms-eq5
 unfolding height
-returns c = (rw (eq-eqb _ _ c.if1.true), search rules)
+returns c = (rw (eq-eqb _ _ c.if-lms-eq5.true), search rules)
 
-returns-2 : tie.Need-returns-2
+returns-2 : tie.Need-returns-else-lms-eq5
 unfolding height
-returns-2 c = (rw (ne_eqb _ _ c.if1.false), search rules)
+returns-2 c = (rw (ne_eqb _ _ c.if-lms-eq5.false), search rules)
 
-pub leaves-spec : {M : Type 1} → statement M
-leaves-spec = tie.close (tie.spec returns returns-2)
+pub leaves_spec : {M : Type 1} → statement M
+leaves_spec = tie.close (tie.spec returns returns-2)

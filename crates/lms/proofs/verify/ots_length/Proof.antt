@@ -5,13 +5,13 @@ use Rattle.rfc8554.specs.Ots.{chains, ots_length}
 use Rattle.lms.proofs.verify.ots_length.Statement.{statement}
 use Rattle.lms.proofs.verify.ots_length.Tie as tie
 
-returns : tie.Need-returns
+returns : tie.Need-returns-then-w-eq4
 unfolding chains ots_length
-returns c = (rw (eq-eqb _ _ c.if1.true), search rules)
+returns c = (rw (eq-eqb _ _ c.if-w-eq4.true), search rules)
 
-returns-2 : tie.Need-returns-2
+returns-2 : tie.Need-returns-else-w-eq4
 unfolding chains ots_length
-returns-2 c = (rw (ne_eqb _ _ c.if1.false), search rules)
+returns-2 c = (rw (ne_eqb _ _ c.if-w-eq4.false), search rules)
 
-pub ots-length-spec : {M : Type 1} → statement M
-ots-length-spec = tie.close (tie.spec returns returns-2)
+pub ots_length_spec : {M : Type 1} → statement M
+ots_length_spec = tie.close (tie.spec returns returns-2)

@@ -4,8 +4,8 @@ use Rattle.lms.specs.VerifyLaws.{signature-length, signature_ots, signature_lms,
 use Rattle.lms.proofs.verify.signature_refused.Statement.{statement}
 use Rattle.lms.proofs.verify.signature_refused.Tie as tie
 
-pub signature-refused-spec : {M : Type 1} → statement M
-signature-refused-spec =
+pub signature_refused_spec : {M : Type 1} → statement M
+signature_refused_spec =
     tie.close
     (tie.spec
     (λ c κs. search rules)

@@ -5,15 +5,13 @@ use borrow.Author.Rules.{rules}
 use Rattle.lms.proofs.verify.verified.Statement.{statement}
 use Rattle.lms.proofs.verify.verified.Tie as tie
 
-root-candidate-requires : tie.Need-root-candidate-requires
+root-candidate-requires : tie.Need-root_candidate-root-requires
 root-candidate-requires c κs =
-    let taken = c.before in
-    let tested = taken.before in
-    let fits = signature-fits _ _ _ (sym tested.signature-refused.ensures ∙ taken.if1.false) in
-    (tested.before.before.before.before.before.before.requires.0, fits.0, fits.1)
+    let fits = signature-fits _ _ _ (sym c.signature_refused.ensures ∙ c.if-signature_refused.false) in
+    (c.requires.0, fits.0, fits.1)
 
-pub verified-spec : {M : Type 1} → statement M
-verified-spec =
+pub verified_spec : {M : Type 1} → statement M
+verified_spec =
     tie.close
     (tie.spec
     (λ c κs. search rules)

@@ -6,13 +6,13 @@ use Rattle.rfc8554.specs.Ots.{width}
 use Rattle.lms.proofs.verify.width.Statement.{statement}
 use Rattle.lms.proofs.verify.width.Tie as tie
 
-returns : tie.Need-returns
+returns : tie.Need-returns-then-ots-eq3
 unfolding width
-returns c = (rw (eq-eqb _ _ c.if1.true), inl refl)
+returns c = (rw (eq-eqb _ _ c.if-ots-eq3.true), inl refl)
 
-returns-2 : tie.Need-returns-2
+returns-2 : tie.Need-returns-else-ots-eq3
 unfolding width
-returns-2 c = (rw (ne_eqb _ _ c.if1.false), inr refl)
+returns-2 c = (rw (ne_eqb _ _ c.if-ots-eq3.false), inr refl)
 
 pub width_spec : {M : Type 1} → statement M
 width_spec = tie.close (tie.spec returns returns-2)

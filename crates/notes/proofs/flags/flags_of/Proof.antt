@@ -10,8 +10,8 @@ returns : tie.Need-returns
 unfolding flags_of one_heard two_heard
 returns c = (cc, omega arith)
 
-pub flags-of-spec : {M : Type 1} → statement M
-flags-of-spec =
+pub flags_of_spec : {M : Type 1} → statement M
+flags_of_spec =
     tie.close
     (tie.spec
     (λ c κs. search rules)

@@ -6,7 +6,7 @@ use Rattle.notes.proofs.flags.wrong_flags.Tie as tie
 
 returns : tie.Need-returns
 unfolding both_heard unknown_flag
-returns c = rw (c.before.is_set.ensures, c.is-set2.ensures)
+returns c = rw (c.is_set-one.ensures, c.is_set-two.ensures)
 
-pub wrong-flags-spec : {M : Type 1} → statement M
-wrong-flags-spec = tie.close (tie.spec (λ c κs. search rules) (λ c κs. search rules) returns)
+pub wrong_flags_spec : {M : Type 1} → statement M
+wrong_flags_spec = tie.close (tie.spec (λ c κs. search rules) (λ c κs. search rules) returns)

@@ -5,12 +5,12 @@ use Rattle.protocol.specs.Layout.{note_length}
 use Rattle.notes.proofs.read.note_notices.Statement.{statement}
 use Rattle.notes.proofs.read.note_notices.Tie as tie
 
-value-at-requires : tie.Need-value-at-requires
+value-at-requires : tie.Need-value_at-value-requires
 unfolding note_length
 value-at-requires c κs = omega arith
 
 returns : tie.Need-returns
-returns c = rw (c.before.heard-by.ensures, c.value-at.ensures)
+returns c = rw (c.heard_by-heard.ensures, c.value_at-value.ensures)
 
-pub note-notices-spec : {M : Type 1} → statement M
-note-notices-spec = tie.close (tie.spec (λ c κs. search rules) value-at-requires returns)
+pub note_notices_spec : {M : Type 1} → statement M
+note_notices_spec = tie.close (tie.spec (λ c κs. search rules) value-at-requires returns)

@@ -6,43 +6,37 @@ use Rattle.protocol.specs.Note.{note_flags, note_record}
 use Rattle.notes.proofs.read.note_record.Statement.{statement}
 use Rattle.notes.proofs.read.note_record.Tie as tie
 
-shared-slice-read-wide : tie.Need-shared-slice-read-wide
+shared-slice-read-wide : tie.Need-bounds-note-1
 unfolding note_length
 shared-slice-read-wide c = omega arith
 
-shared-slice-read-wide-2 : tie.Need-shared-slice-read-wide-2
+shared-slice-read-wide-2 : tie.Need-bounds-note-2
 unfolding note_length
 shared-slice-read-wide-2 c = omega arith
 
-shared-slice-read-wide-3 : tie.Need-shared-slice-read-wide-3
+shared-slice-read-wide-3 : tie.Need-bounds-note-5
 unfolding note_length
 shared-slice-read-wide-3 c = omega arith
 
-word-at-requires : tie.Need-word-at-requires
+word-at-requires : tie.Need-word_at-guilty-requires
 unfolding note_length
 word-at-requires c κs = omega arith
 
-word-at-requires-2 : tie.Need-word-at-requires-2
+word-at-requires-2 : tie.Need-word_at-kept-requires
 unfolding note_length
 word-at-requires-2 c κs = omega arith
 
 returns : tie.Need-returns
 unfolding note_record note_flags
 returns c =
-    let guilty = c.before in
-    let sent = guilty.before in
-    let first = sent.before in
-    let notices = first.before in
-    let confirmed = notices.before in
-    let own = confirmed.before in
-    let round = own.before in
+    let round = c.before.before.before.before.before.before.before in
     let flags = round.before in
     let seat = flags.before.before in
     let size = seat.before.before in
-    rw (size.wide.ensures.0, seat.wide2.ensures.0, round.note-round.ensures, own.note-own.ensures, confirmed.is_set.ensures, notices.note-notices.ensures, first.note-first.ensures, sent.is-set2.ensures, guilty.word_at.ensures, c.word-at2.ensures, flags.wide3.ensures.0)
+    rw (size.wide-n.ensures.0, seat.wide-seat.ensures.0, round.note_round-round.ensures, c.note_own-own.ensures, c.is_set-confirmed.ensures, c.note_notices-notices.ensures, c.note_first-first.ensures, c.is_set-sent.ensures, c.word_at-guilty.ensures, c.word_at-kept.ensures, flags.wide-flags.ensures.0)
 
-pub note-record-spec : {M : Type 1} → statement M
-note-record-spec =
+pub note_record_spec : {M : Type 1} → statement M
+note_record_spec =
     tie.close
     (tie.spec
     shared-slice-read-wide

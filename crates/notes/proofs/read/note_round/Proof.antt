@@ -6,20 +6,20 @@ use Rattle.protocol.specs.Note.{note_round}
 use Rattle.notes.proofs.read.note_round.Statement.{statement}
 use Rattle.notes.proofs.read.note_round.Tie as tie
 
-shared-slice-read-wide : tie.Need-shared-slice-read-wide
+shared-slice-read-wide : tie.Need-bounds-note-3
 unfolding note_length
 shared-slice-read-wide c = omega arith
 
-shared-slice-read-wide-2 : tie.Need-shared-slice-read-wide-2
+shared-slice-read-wide-2 : tie.Need-bounds-note
 unfolding note_length
 shared-slice-read-wide-2 c = omega arith
 
 returns : tie.Need-returns
 unfolding note_round
-returns c = rw (c.before.before.wide.ensures.0, c.wide2.ensures.0)
+returns c = rw (c.wide.ensures.0, c.wide-2.ensures.0)
 
-pub note-round-spec : {M : Type 1} → statement M
-note-round-spec =
+pub note_round_spec : {M : Type 1} → statement M
+note_round_spec =
     tie.close
     (tie.spec
     shared-slice-read-wide

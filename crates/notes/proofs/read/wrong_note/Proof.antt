@@ -11,31 +11,29 @@ use Rattle.notes.proofs.read.wrong_note.Statement.{statement}
 use Rattle.notes.proofs.read.wrong_note.Tie as tie
 
 -- the length is right
-long : (c : tie.Else1) → length c.before.before.before.args.note.now ≡ note_length
-long c = omega (arith, c.before.note-length.ensures, c.if1.false)
+long : (c : tie.Else-note-note_length) → length c.args.note.now ≡ note_length
+long c = omega (arith, c.note_length.ensures, c.if-note-note_length.false)
 
-returns : tie.Need-returns
+returns : tie.Need-returns-then-note-note_length
 unfolding wrong_note
 returns c =
-    let told = c.before in
-    rw (ne_eqb (length told.before.before.args.note.now) note_length (λ e. omega (arith, e, told.note-length.ensures, c.if1.true)))
+    rw (ne_eqb (length c.args.note.now) note_length (λ e. omega (arith, e, c.note_length.ensures, c.if-note-note_length.true)))
 
-shared-slice-read-wide : tie.Need-shared-slice-read-wide
+shared-slice-read-wide : tie.Need-bounds-note-5
 unfolding note_length
 shared-slice-read-wide c = omega (arith, long c.before)
 
-shared-slice-read-result : tie.Need-shared-slice-read-result
+shared-slice-read-result : tie.Need-bounds-note-0
 unfolding note_length
 shared-slice-read-result c = omega (arith, long c.before.before.before)
 
-returns-2 : tie.Need-returns-2
+returns-2 : tie.Need-returns
 unfolding note_flags
 returns-2 c =
-    let read = c.before.before in
-    others_tested _ (long read.before.before) (rw (← read.wide.ensures.0) c.wrong-flags.ensures)
+    others_tested _ (long c.before.before.before.before) (rw (← c.wide-flags.ensures.0) c.wrong_flags.ensures)
 
-pub wrong-note-spec : {M : Type 1} → statement M
-wrong-note-spec =
+pub wrong_note_spec : {M : Type 1} → statement M
+wrong_note_spec =
     tie.close
     (tie.spec
     (λ c κs. search rules)

@@ -9,47 +9,45 @@ use Rattle.fips180.specs.FipsLaws.{hashed_next}
 use Rattle.sha256.proofs.hash.absorb.Statement.{statement}
 use Rattle.sha256.proofs.hash.absorb.Tie as tie
 
-abbrev invariant-loop : tie.invariant-loop
+abbrev invariant-loop : tie.invariant-loop-t
 invariant-loop k m count s₀ t₀ s t = (t ≤ count) × (count ≡ length m / 64) × (length s ≡ 8) × (s ≡ hashed s₀ m t)
 
-abbrev decreases-loop : tie.decreases-loop
+abbrev decreases-loop : tie.decreases-loop-t
 decreases-loop k m count s₀ t₀ s t = count - t
 
-loop-holds : tie.Need-loop-init invariant-loop decreases-loop
+loop-holds : tie.Need-loop-t-init invariant-loop decreases-loop
 unfolding hashed
 loop-holds c = (omega arith, refl, search rules, refl)
 
-mul-block-words : tie.Need-overflow-mul-block-words invariant-loop decreases-loop
+mul-block-words : tie.Need-overflow_mul-t invariant-loop decreases-loop
 mul-block-words c = omega arith
 
-block-words-requires : tie.Need-block-words-requires invariant-loop decreases-loop
+block-words-requires : tie.Need-block_words-w-requires invariant-loop decreases-loop
 block-words-requires c κs = omega arith
 
-compress-requires : tie.Need-compress-requires invariant-loop decreases-loop
-compress-requires c κs = c.before.before.before.before.requires
+compress-requires : tie.Need-compress-n-requires invariant-loop decreases-loop
+compress-requires c κs = c.requires
 
-add-t : tie.Need-overflow-add-t invariant-loop decreases-loop
+add-t : tie.Need-overflow_add-t invariant-loop decreases-loop
 add-t c = omega arith
 
-loop-less : tie.Need-loop-smaller invariant-loop decreases-loop
+loop-less : tie.Need-loop-t-smaller invariant-loop decreases-loop
 loop-less c = omega arith
 
-loop-again : tie.Need-loop-preserved invariant-loop decreases-loop
+loop-again : tie.Need-loop-t-preserved invariant-loop decreases-loop
 loop-again c =
-    let at-loop = c.before.before.before in
-    let args = at-loop.before.before.args in
-    (omega arith, refl, search rules, hashed_next args.h args.m.now at-loop.loop.s c.before.Block-words.result c.compress.result at-loop.loop.t at-loop.loop.invariant.3 c.before.Block-words.ensures c.compress.ensures)
+    let args = c.args in
+    (omega arith, refl, search rules, hashed_next args.h args.m.now c.loop-t.s c.block_words-w.result c.compress-n.result c.loop-t.t c.loop-t.invariant.3 c.block_words-w.ensures c.compress-n.ensures)
 
 returns : tie.Need-returns invariant-loop decreases-loop
 unfolding absorbed
 returns c =
-    let at-loop = c.before in
-    let args = at-loop.before.before.args in
-    let all : at-loop.loop.t ≡ length args.m.now / 64 = omega arith in
-    at-loop.loop.invariant.3 ∙ ap (hashed args.h args.m.now) all
+    let args = c.args in
+    let all : c.loop-t.t ≡ length args.m.now / 64 = omega arith in
+    c.loop-t.invariant.3 ∙ ap (hashed args.h args.m.now) all
 
-pub absorb-spec : {M : Type 1} → statement M
-absorb-spec =
+pub absorb_spec : {M : Type 1} → statement M
+absorb_spec =
     tie.close
     (tie.spec
     invariant-loop

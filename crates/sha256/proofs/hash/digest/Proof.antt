@@ -9,53 +9,51 @@ use Rattle.octets.specs.OctetsLaws.{bytes_next, bytes-done}
 use Rattle.sha256.proofs.hash.digest.Statement.{statement}
 use Rattle.sha256.proofs.hash.digest.Tie as tie
 
-abbrev invariant-loop : tie.invariant-loop
+abbrev invariant-loop : tie.invariant-loop-i
 invariant-loop h out₀ i₀ out i = (i ≤ 8) × (length out ≡ 32) × (length h ≡ 8) × (take (4 * i) out ≡ bytes (take i h))
 
-abbrev decreases-loop : tie.decreases-loop
+abbrev decreases-loop : tie.decreases-loop-i
 decreases-loop h out₀ i₀ out i = 8 - i
 
-loop-holds : tie.Need-loop-init invariant-loop decreases-loop
+loop-holds : tie.Need-loop-i-init invariant-loop decreases-loop
 unfolding bytes
 loop-holds c = (omega arith, refl, search rules, refl)
 
-slice-aggregate-put-word : tie.Need-slice-aggregate-put-word invariant-loop decreases-loop
+slice-aggregate-put-word : tie.Need-slice_bounds-put_word-end invariant-loop decreases-loop
 slice-aggregate-put-word c = search rules
 
-mul-put-word : tie.Need-overflow-mul-put-word invariant-loop decreases-loop
+mul-put-word : tie.Need-overflow_mul-i invariant-loop decreases-loop
 mul-put-word c = omega arith
 
-mul-put-word-2 : tie.Need-overflow-mul-put-word-2 invariant-loop decreases-loop
+mul-put-word-2 : tie.Need-offset_bounds-h-i invariant-loop decreases-loop
 mul-put-word-2 c = omega arith
 
-array-read-put-word : tie.Need-array-read-put-word invariant-loop decreases-loop
+array-read-put-word : tie.Need-bounds-h-i invariant-loop decreases-loop
 array-read-put-word c = omega arith
 
-put-word-requires : tie.Need-put-word-requires invariant-loop decreases-loop
+put-word-requires : tie.Need-put_word-requires invariant-loop decreases-loop
 put-word-requires c κs = omega arith
 
-add-i : tie.Need-overflow-add-i invariant-loop decreases-loop
+add-i : tie.Need-overflow_add-i invariant-loop decreases-loop
 add-i c = omega arith
 
-loop-less : tie.Need-loop-smaller invariant-loop decreases-loop
+loop-less : tie.Need-loop-i-smaller invariant-loop decreases-loop
 loop-less c = omega arith
 
-loop-again : tie.Need-loop-preserved invariant-loop decreases-loop
+loop-again : tie.Need-loop-i-preserved invariant-loop decreases-loop
 loop-again c =
-    let at-loop = c.before.before.before.before in
-    let h = at-loop.before.args.t1 in
-    let out = at-loop.loop.out in
-    let i = at-loop.loop.i in
-    let wrote : c.before.put_word.new.0 ≡ patch (4 * i) (be 4 (get_or h i 0)) out = c.before.put_word.ensures in
-    (omega arith, search rules, search rules, rw wrote (bytes_next out h i at-loop.loop.invariant.3 (omega arith) (omega arith)))
+    let h = c.args.h in
+    let out = c.loop-i.out in
+    let i = c.loop-i.i in
+    let wrote : c.put_word.new.out ≡ patch (4 * i) (be 4 (get_or h i 0)) out = c.put_word.ensures in
+    (omega arith, search rules, search rules, rw wrote (bytes_next out h i c.loop-i.invariant.3 (omega arith) (omega arith)))
 
 returns : tie.Need-returns invariant-loop decreases-loop
 returns c =
-    let at-loop = c.before in
-    bytes-done at-loop.loop.out at-loop.before.args.t1 at-loop.loop.i (omega arith) (omega arith) at-loop.loop.invariant.3
+    bytes-done c.loop-i.out c.args.h c.loop-i.i (omega arith) (omega arith) c.loop-i.invariant.3
 
-pub digest-spec : {M : Type 1} → statement M
-digest-spec =
+pub digest_spec : {M : Type 1} → statement M
+digest_spec =
     tie.close
     (tie.spec
     invariant-loop

@@ -5,7 +5,7 @@ use lib.ListN.{length-take}
 use Rattle.sha256.proofs.hash.finish.Statement.{statement}
 use Rattle.sha256.proofs.hash.finish.Tie as tie
 
-slice-aggregate-absorb : tie.Need-slice-aggregate-absorb
+slice-aggregate-absorb : tie.Need-slice_bounds-absorb-end
 slice-aggregate-absorb c = simp length-take (omega arith)
 
 returns : tie.Need-returns

@@ -8,24 +8,22 @@ use Rattle.fips180.specs.FipsLaws.{long-ends}
 use Rattle.sha256.proofs.hash.finish_long.Statement.{statement}
 use Rattle.sha256.proofs.hash.finish_long.Tie as tie
 
-slice-aggregate-joint : tie.Need-slice-aggregate-joint
+slice-aggregate-joint : tie.Need-slice_bounds-joint-end
 slice-aggregate-joint c = simp length-take (omega arith)
 
-joint-requires : tie.Need-joint-requires
+joint-requires : tie.Need-joint-block-requires
 joint-requires c κs = simp length-take (omega arith)
 
 returns : tie.Need-returns
 returns c =
-    let absorbing = c.before.before.before.before in
-    let start = absorbing.before.before.before.before.before.before in
-    let tail = start.args.tail.now in
-    let m = start.args.m.now in
-    long-ends start.args.h tail m (padding start.args.total) absorbing.before.before.joint.result absorbing.absorb.result
-    c.before.before.absorb2.result c.finish.result (64 - length tail) absorbing.before.before.joint.ensures (search rules) (omega arith) (omega arith)
-    absorbing.absorb.ensures c.before.before.absorb2.ensures c.finish.ensures
+    let tail = c.args.tail.now in
+    let m = c.args.m.now in
+    long-ends c.args.h tail m (padding c.args.total) c.joint-block.result c.absorb-s.result
+    c.absorb-t.result c.finish.result (64 - length tail) c.joint-block.ensures (search rules) (omega arith) (omega arith)
+    c.absorb-s.ensures c.absorb-t.ensures c.finish.ensures
 
-pub finish-long-spec : {M : Type 1} → statement M
-finish-long-spec =
+pub finish_long_spec : {M : Type 1} → statement M
+finish_long_spec =
     tie.close
     (tie.spec
     (λ c. search rules)

@@ -6,22 +6,20 @@ use lib.ListN.{length-take}
 use Rattle.sha256.proofs.hash.finish_short.Statement.{statement}
 use Rattle.sha256.proofs.hash.finish_short.Tie as tie
 
-slice-aggregate-finish : tie.Need-slice-aggregate-finish
+slice-aggregate-finish : tie.Need-slice_bounds-finish-end
 slice-aggregate-finish c = simp length-take (omega arith)
 
 finish-requires : tie.Need-finish-requires
 finish-requires c κs =
-    let start = c.before.before.before.before in
-    (start.requires.0, simp length-take (omega arith))
+    (c.requires.0, simp length-take (omega arith))
 
 returns : tie.Need-returns
 returns c =
-    let start = c.before.before.before.before.before in
-    let joined = c.before.before.joint.ensures in
+    let joined = c.joint-block.ensures in
     (rw (joined, append_assoc) at c.finish.ensures)
 
-pub finish-short-spec : {M : Type 1} → statement M
-finish-short-spec =
+pub finish_short_spec : {M : Type 1} → statement M
+finish_short_spec =
     tie.close
     (tie.spec
     (λ c κs. search rules)

@@ -9,13 +9,12 @@ use Rattle.sha256.proofs.hash.joint.Tie as tie
 
 returns : tie.Need-returns
 returns c =
-    let start = c.before.before.before.before.before.before.before.before in
-    let a = start.args.a.now in
-    let b = start.args.b.now in
-    let wrote : c.before.copy2.new.0 ≡ patch (length a) b (patch 0 a (replicate 64 0)) = cc in
-    rw wrote (joined-pieces a b (replicate 64 0) start.requires)
+    let a = c.args.a.now in
+    let b = c.args.b.now in
+    let wrote : c.copy-2.new.out ≡ patch (length a) b (patch 0 a (replicate 64 0)) = cc in
+    rw wrote (joined-pieces a b (replicate 64 0) c.requires)
 
-pub joint-spec : {M : Type 1} → statement M
-joint-spec =
+pub joint_spec : {M : Type 1} → statement M
+joint_spec =
     tie.close
     (tie.spec (λ c. search rules) (λ c κs. search rules) (λ c. search rules) (λ c κs. search rules) returns)

@@ -10,11 +10,10 @@ use Rattle.sha256.proofs.hash.one_block.Tie as tie
 returns : tie.Need-returns
 unfolding one_block part
 returns c =
-    let start = c.before.before.before.before.before in
-    cc (take_all 64 start.args.block.now (omega arith))
+    cc (take_all 64 c.args.block.now (omega arith))
 
-pub one-block-spec : {M : Type 1} → statement M
-one-block-spec =
+pub one_block_spec : {M : Type 1} → statement M
+one_block_spec =
     tie.close
     (tie.spec
     (λ c κs. search rules)

@@ -1,17 +1,20 @@
 -- `sha256::hash::padded_end` meets its contract.
+use Rattle.std.specs.Prelude.{◌≡◌, ℕ, ◌<◌, ◌≤◌}
+use Rattle.std.proofs.Common.{arith}
 use borrow.Author.Rules.{rules}
 use borrow.Author.Tests.{lt-ltb, le-ltb}
 use Rattle.fips180.specs.Pieces.{ended}
 use Rattle.sha256.proofs.hash.padded_end.Statement.{statement}
 use Rattle.sha256.proofs.hash.padded_end.Tie as tie
 
-returns : tie.Need-returns
+in_one : (n : ℕ) → n < 56 → 64 ≡ ended n
 unfolding ended
-returns c = (rw (lt-ltb _ _ c.if1.true), search rules, search rules)
+in_one n h = rw (lt-ltb _ _ h)
 
-returns-2 : tie.Need-returns-2
+in_two : (n : ℕ) → 56 ≤ n → 128 ≡ ended n
 unfolding ended
-returns-2 c = (rw (le-ltb _ _ c.if1.false), search rules, search rules)
+in_two n h = rw (le-ltb _ _ h)
 
-pub padded-end-spec : {M : Type 1} → statement M
-padded-end-spec = tie.close (tie.spec returns returns-2)
+pub padded_end_spec : {M : Type 1} → statement M
+padded_end_spec =
+    tie.close (tie.spec (λ c. (in_one c.args.n (omega arith), search rules, search rules)) (λ c. (in_two c.args.n (omega arith), search rules, search rules)))

@@ -8,17 +8,16 @@ use Rattle.fips180.specs.FipsLaws.{padded_tail}
 use Rattle.sha256.proofs.hash.padded_tail.Statement.{statement}
 use Rattle.sha256.proofs.hash.padded_tail.Tie as tie
 
-put-word-requires : tie.Need-put-word-requires
+put-word-requires : tie.Need-put_word-requires
 put-word-requires c κs = simp length-set (omega arith)
 
 returns : tie.Need-returns
 returns c =
-    let start = c.before.before.before.before.before.before.before.before.before.before.before in
-    let tail = start.args.tail.now in
-    padded_tail tail c.before.put-word2.new.0 128 start.args.total (ended (length tail)) refl start.requires refl (cc)
+    let tail = c.args.tail.now in
+    padded_tail tail c.put_word-2.new.out 128 c.args.total (ended (length tail)) refl c.requires refl (cc)
 
-pub padded-tail-spec : {M : Type 1} → statement M
-padded-tail-spec =
+pub padded_tail_spec : {M : Type 1} → statement M
+padded_tail_spec =
     tie.close
     (tie.spec
     (λ c κs. search rules)

@@ -10,14 +10,12 @@ use Rattle.sha256.proofs.hash.sha256.Tie as tie
 returns : tie.Need-returns
 unfolding leftover
 returns c =
-    let absorbing = c.before.before in
-    let start = absorbing.before.before.before in
-    let m = start.args.m.now in
-    sha256-ends m absorbing.absorb.result absorbing.before.initial-value.result c.finish.result
-    absorbing.before.initial-value.ensures absorbing.absorb.ensures (rw (take_rest (length m / 64 * 64) m) at c.finish.ensures)
+    let m = c.args.m.now in
+    sha256-ends m c.absorb-s.result c.initial_value-h.result c.finish.result
+    c.initial_value-h.ensures c.absorb-s.ensures (rw (take_rest (length m / 64 * 64) m) at c.finish.ensures)
 
-pub sha256-spec : {M : Type 1} → statement M
-sha256-spec =
+pub sha256_spec : {M : Type 1} → statement M
+sha256_spec =
     tie.close
     (tie.spec
     (λ c κs. search rules)

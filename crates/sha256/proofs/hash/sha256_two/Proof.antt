@@ -7,29 +7,29 @@ use Rattle.fips180.specs.FipsLaws.{leftover, sha256-ends-two}
 use Rattle.sha256.proofs.hash.sha256_two.Statement.{statement}
 use Rattle.sha256.proofs.hash.sha256_two.Tie as tie
 
-abbrev started : tie.After-absorb → tie.Start
+abbrev started : tie.After-absorb-s → tie.Start
 started c = c.before.before.before.before
 
-returns : tie.Need-returns
+returns : tie.Need-returns-then-a-at-lt64
 unfolding leftover
 returns c =
     let absorbing = c.before.before.before in
     let start = started absorbing in
     let a = start.args.a.now in
-    sha256-ends-two a start.args.b.now absorbing.absorb.result absorbing.before.initial-value.result c.finish-short.result
-    absorbing.before.initial-value.ensures absorbing.absorb.ensures (rw (take_rest (length a / 64 * 64) a) at c.finish-short.ensures)
+    sha256-ends-two a start.args.b.now absorbing.absorb-s.result absorbing.initial_value-h.result c.finish_short.result
+    absorbing.initial_value-h.ensures absorbing.absorb-s.ensures (rw (take_rest (length a / 64 * 64) a) at c.finish_short.ensures)
 
-returns-2 : tie.Need-returns-2
+returns-2 : tie.Need-returns-else-a-at-lt64
 unfolding leftover
 returns-2 c =
     let absorbing = c.before.before.before in
     let start = started absorbing in
     let a = start.args.a.now in
-    sha256-ends-two a start.args.b.now absorbing.absorb.result absorbing.before.initial-value.result c.finish-long.result
-    absorbing.before.initial-value.ensures absorbing.absorb.ensures (rw (take_rest (length a / 64 * 64) a) at c.finish-long.ensures)
+    sha256-ends-two a start.args.b.now absorbing.absorb-s.result absorbing.initial_value-h.result c.finish_long.result
+    absorbing.initial_value-h.ensures absorbing.absorb-s.ensures (rw (take_rest (length a / 64 * 64) a) at c.finish_long.ensures)
 
-pub sha256-two-spec : {M : Type 1} → statement M
-sha256-two-spec =
+pub sha256_two_spec : {M : Type 1} → statement M
+sha256_two_spec =
     tie.close
     (tie.spec
     (λ c κs. search rules)

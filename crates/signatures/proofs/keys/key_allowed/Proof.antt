@@ -8,6 +8,6 @@ returns : tie.Need-returns
 unfolding key_allowed
 returns c = cc
 
-pub key-allowed-spec : {M : Type 1} → statement M
-key-allowed-spec =
+pub key_allowed_spec : {M : Type 1} → statement M
+key_allowed_spec =
     tie.close (tie.spec (λ c κs. search rules) (λ c κs. search rules) (λ c. search rules) (λ c κs. search rules) returns)

@@ -12,12 +12,12 @@ use Rattle.signatures.proofs.keys.seat_key.Tie as tie
 returns : tie.Need-returns
 unfolding seat_key part
 returns c =
-    let at = c.before.before.key-at in
-    let long : at.result + c.before.key_length_lem.result - at.result ≡ key_length = omega arith in
+    let at = c.key_at-start in
+    let long : at.result + c.key_length.result - at.result ≡ key_length = omega arith in
     rw (long, at.ensures)
 
-pub seat-key-spec : {M : Type 1} → statement M
-seat-key-spec =
+pub seat_key_spec : {M : Type 1} → statement M
+seat_key_spec =
     tie.close
     (tie.spec
     (λ c κs. search rules)

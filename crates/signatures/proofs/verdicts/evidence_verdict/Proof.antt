@@ -8,14 +8,14 @@ use Rattle.signatures.specs.EntriesLaws.{Paired, paired_none, paired_inside, che
 use Rattle.signatures.proofs.verdicts.evidence_verdict.Statement.{statement}
 use Rattle.signatures.proofs.verdicts.evidence_verdict.Tie as tie
 
-abbrev invariant-loop : tie.invariant-loop
+abbrev invariant-loop : tie.invariant-loop-t
 invariant-loop k n round keys m entries count t₀ t = Paired (pair_check (checks keys round) m) m entries count t
 
-abbrev decreases-loop : tie.decreases-loop
+abbrev decreases-loop : tie.decreases-loop-t
 decreases-loop k n round keys m entries count t₀ t = count - t
 
-pub evidence-verdict-spec : {M : Type 1} → statement M
-evidence-verdict-spec =
+pub evidence_verdict_spec : {M : Type 1} → statement M
+evidence_verdict_spec =
     tie.close
     (tie.spec
     invariant-loop

@@ -5,18 +5,16 @@ use Rattle.signatures.specs.EntriesLaws.{fits-entry, checks-entry, checks-end}
 use Rattle.signatures.proofs.verdicts.found_verdict.Statement.{statement}
 use Rattle.signatures.proofs.verdicts.found_verdict.Tie as tie
 
-place-verdict-requires : tie.Need-place-verdict-requires
+place-verdict-requires : tie.Need-place_verdict-requires
 place-verdict-requires c κs =
-    let entry = c.before.before in
-    let s = entry.before.before.before.before in
-    let fits = fits-entry _ _ _ _ _ entry.found.given.1 s.requires.3 in
-    (s.requires.0, s.requires.1, fits.0, (omega arith, fits.1))
+    let fits = fits-entry _ _ _ _ _ c.in-Entry.is c.requires.3 in
+    (c.requires.0, c.requires.1, fits.0, (omega arith, fits.1))
 
-enum_told : tie.Need-enum-told
+enum_told : tie.Need-enum_told-1
 enum_told c = search rules
 
-pub found-verdict-spec : {M : Type 1} → statement M
-found-verdict-spec =
+pub found_verdict_spec : {M : Type 1} → statement M
+found_verdict_spec =
     tie.close
     (tie.spec
     (λ c. search rules)

@@ -4,11 +4,11 @@ use Rattle.signatures.specs.EntriesLaws.{submit-taken, full-taken, old-evidence-
 use Rattle.signatures.proofs.verdicts.message_verdict.Statement.{statement}
 use Rattle.signatures.proofs.verdicts.message_verdict.Tie as tie
 
-enum_told : tie.Need-enum-told
+enum_told : tie.Need-enum_told-1
 enum_told c = search rules
 
-pub message-verdict-spec : {M : Type 1} → statement M
-message-verdict-spec =
+pub message_verdict_spec : {M : Type 1} → statement M
+message_verdict_spec =
     tie.close
     (tie.spec
     enum_told

@@ -15,11 +15,11 @@ room : (s : tie.Start)
     Inside a.entries a.m.now × (a.i < a.entries.count) × (command_place a.entries a.i + entry_held_at + pair_higher_at ≤ length a.m.now)
 room s = entry-room _ s.requires.1 _ s.requires.2 _ s.requires.0
 
-abbrev started : tie.After-number-at → tie.Start
+abbrev started : tie.After-number_at → tie.Start
 started c = c.before.before.before.before
 
-pub pair-at-spec : {M : Type 1} → statement M
-pair-at-spec =
+pub pair_at_spec : {M : Type 1} → statement M
+pair_at_spec =
     tie.close
     (tie.spec
     (λ c κs. let r = room c.before in (r.0, r.1))

@@ -10,20 +10,19 @@ use Rattle.protocol.specs.Message.{read_signature}
 use Rattle.signatures.proofs.verdicts.place_verdict.Statement.{statement}
 use Rattle.signatures.proofs.verdicts.place_verdict.Tie as tie
 
-seat-verdict-requires : tie.Need-seat-verdict-requires
+seat-verdict-requires : tie.Need-seat_verdict-requires
 unfolding read_signature
 seat-verdict-requires c κs =
-    let s = c.before.before.before.before.before in
-    let m = s.args.m.now in
-    let at = s.args.place.signature in
+    let m = c.args.m.now in
+    let at = c.args.place.signature in
     let room : at + signature_length ≤ length m = omega arith in
-    (s.requires.0, s.requires.1, s.requires.2, search rules, ap length c.before.signature_at.ensures ∙ length_part at signature_length m room)
+    (c.requires.0, c.requires.1, c.requires.2, search rules, ap length c.signature_at-signature.ensures ∙ length_part at signature_length m room)
 
 returns : tie.Need-returns
 returns c = cc
 
-pub place-verdict-spec : {M : Type 1} → statement M
-place-verdict-spec =
+pub place_verdict_spec : {M : Type 1} → statement M
+place_verdict_spec =
     tie.close
     (tie.spec
     (λ c κs. search rules)

@@ -8,20 +8,18 @@ use Rattle.signatures.specs.SeatsLaws.{leaf_differs, leaf_agrees}
 use Rattle.signatures.proofs.verdicts.seat_verdict.Statement.{statement}
 use Rattle.signatures.proofs.verdicts.seat_verdict.Tie as tie
 
-word-at-requires : tie.Need-word-at-requires
+word-at-requires : tie.Need-word_at-requires
 unfolding signature_length
 word-at-requires c κs = omega arith
 
 verified-requires : tie.Need-verified-requires
 verified-requires c κs =
-    let key = c.before.before in
-    let s = key.before.before.before.before.before.before in
-    let right = key_right _ _ _ s.requires.1.table s.requires.2 in
-    let e = key.seat_key_lem.ensures in
-    (s.requires.0, rw e (key_fits _ right), rw e right)
+    let right = key_right _ _ _ c.requires.1.table c.requires.2 in
+    let e = c.seat_key-key.ensures in
+    (c.requires.0, rw e (key_fits _ right), rw e right)
 
-pub seat-verdict-spec : {M : Type 1} → statement M
-seat-verdict-spec =
+pub seat_verdict_spec : {M : Type 1} → statement M
+seat_verdict_spec =
     tie.close
     (tie.spec
     word-at-requires

@@ -7,13 +7,10 @@ use Rattle.signatures.proofs.verdicts.signed_bytes.Tie as tie
 
 returns : tie.Need-returns
 returns c =
-    let copied = c.before in
-    let put = copied.before.before.before in
-    let s = put.before.before.before in
-    seat-signed s.args.value.now _ _ copied.copy.new.0 s.args.round s.args.seat s.requires.0 s.requires.1 put.put_word.ensures copied.copy.ensures (omega arith)
+    seat-signed c.args.value.now _ _ c.copy.new.out c.args.round c.args.seat c.requires.0 c.requires.1 c.put_word.ensures c.copy.ensures (omega arith)
 
-pub signed-bytes-spec : {M : Type 1} → statement M
-signed-bytes-spec =
+pub signed_bytes_spec : {M : Type 1} → statement M
+signed_bytes_spec =
     tie.close
     (tie.spec
     (λ c. search rules)

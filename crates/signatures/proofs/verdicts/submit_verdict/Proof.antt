@@ -8,20 +8,18 @@ use Rattle.signatures.specs.EntriesLaws.{submit-row}
 use Rattle.signatures.proofs.verdicts.submit_verdict.Statement.{statement}
 use Rattle.signatures.proofs.verdicts.submit_verdict.Tie as tie
 
-number-at-requires : tie.Need-number-at-requires
+number-at-requires : tie.Need-number_at-seat-requires
 unfolding submit_length signature_length
 number-at-requires c κs = omega arith
 
-place-verdict-requires : tie.Need-place-verdict-requires
+place-verdict-requires : tie.Need-place_verdict-requires
 unfolding submit_length signature_length
 place-verdict-requires c κs =
-    let read = c.before.before in
-    let s = read.before.before.before.before in
-    let seat : read.number_at.result ≡ byte_at s.args.m.now seat_at = read.number_at.ensures.0 ∙ rw read.before.seat_at_lem.ensures in
-    (s.requires.0, s.requires.1, rw seat s.requires.2.known, (omega arith, omega arith))
+    let seat : c.number_at-seat.result ≡ byte_at c.args.m.now seat_at = c.number_at-seat.ensures.0 ∙ rw c.seat_at.ensures in
+    (c.requires.0, c.requires.1, rw seat c.requires.2.known, (omega arith, omega arith))
 
-pub submit-verdict-spec : {M : Type 1} → statement M
-submit-verdict-spec =
+pub submit_verdict_spec : {M : Type 1} → statement M
+submit_verdict_spec =
     tie.close
     (tie.spec
     (λ c κs. search rules)

@@ -11,16 +11,15 @@ use Rattle.steps.proofs.confirm.confirm.Tie as tie
 returns : tie.Need-returns
 unfolding confirm write
 returns c =
-    let written = c.before.before in
-    let args = written.before.before.before.before.before.args in
+    let args = c.args in
     let r = args.r in
-    let wrote = written.write-notice in (
+    let wrote = c.write_notice-end in (
       λ store.
-          did_writing_one confirm r store (Notice r.round r.seat r.own.value) args.out.now args.at (with_confirmed r) store wrote.new.0 wrote.result refl
+          did_writing_one confirm r store (Notice r.round r.seat r.own.value) args.out.now args.at (with_confirmed r) store wrote.new.out wrote.result refl
           (record { recorded = refl; stored = refl }) wrote.ensures.0,
       wrote.ensures.1,
     )
 
-pub confirm-spec : {M : Type 1} → statement M
-confirm-spec =
+pub confirm_spec : {M : Type 1} → statement M
+confirm_spec =
     tie.close (tie.spec (λ c. search rules) (λ c κs. search rules) (λ c. search rules) returns)

@@ -13,51 +13,46 @@ use borrow.Author.Rules.{rules}
 use Rattle.steps.proofs.phases.step_full.Statement.{statement}
 use Rattle.steps.proofs.phases.step_full.Tie as tie
 
-abbrev started : tie.After-value-at → tie.Start
+abbrev started : tie.After-value_at → tie.Start
 started c = c.before.before.before.before
 
-abbrev read : tie.After-hear-certificate-arg2 → tie.After-entry-set
+abbrev read : tie.After-hear_certificate-arg-2-1 → tie.After-entry_set-seats
 read c = c.before.before
 
-abbrev placed : tie.After-entry-set → tie.After-value-at
+abbrev placed : tie.After-entry_set-seats → tie.After-value_at
 placed c = c.before.before
 
-abbrev done : tie.After-slice-known4 → tie.After-hear-certificate
+abbrev done : tie.After-slice_known-4-1 → tie.After-hear_certificate
 done c = c.before.before.before.before
 
-value-at-requires-2 : tie.Need-value-at-requires-2
+value-at-requires-2 : tie.Need-value_at-value-requires
 value-at-requires-2 c κs =
-    let start = started c in
-    omega (arith, c.value-at.ensures, long-enough kind.Full start.args.r.n start.args.message.now start.pre.1 (λ e. omega arith))
+    omega (arith, c.value_at.ensures, long-enough kind.Full c.args.r.n c.args.message.now c.requires.1 (λ e. omega arith))
 
-hear-certificate-requires : tie.Need-hear-certificate-requires
+hear-certificate-requires : tie.Need-hear_certificate-requires
 unfolding bytes_of
 hear-certificate-requires c κs =
-    let set = (read c).entry_set_lem in
-    let start = started (placed (read c)) in
-    let args = start.args in
+    let set = c.entry_set-seats in
+    let args = c.args in
     let n = args.r.n in
     let m = args.message.now in (
-      ready-fits args.r args.store.now args.out.now start.pre.0,
-      full-readable n m (full-said n m start.pre.1) start.pre.2 start.pre.3 set.result set.ensures,
-      omega (arith, all_fits n (length args.out.now) start.pre.0.room),
+      ready-fits args.r args.store.now args.out.now c.requires.0,
+      full-readable n m (full-said n m c.requires.1) c.requires.2 c.requires.3 set.result set.ensures,
+      omega (arith, all_fits n (length args.out.now) c.requires.0.room),
     )
 
 returns : tie.Need-returns
 unfolding bytes_of
 returns c =
-    let heard = (done c).hear-certificate in
-    let point = read (done c).before in
-    let set = point.entry_set_lem in
-    let value = point.before.value-at2 in
-    let place = placed point in
-    let start = started place in
-    let args = start.args in
-    full-heard args.r args.store.now args.out.now args.message.now args.r heard.result.unit heard.last.1.0 heard.last.1.1.0 heard.result.at
-    set.result value.result start.pre.1 start.pre.2 start.pre.3 set.ensures (value.ensures ∙ ap (λ (at : ℕ). read_value at args.message.now) place.value-at.ensures) heard.ensures
+    let heard = c.hear_certificate in
+    let set = c.entry_set-seats in
+    let value = c.value_at-value in
+    let args = c.args in
+    full-heard args.r args.store.now args.out.now args.message.now args.r heard.result.unit heard.new.store heard.new.out heard.result.at
+    set.result value.result c.requires.1 c.requires.2 c.requires.3 set.ensures (value.ensures ∙ ap (λ (at : ℕ). read_value at args.message.now) c.value_at.ensures) heard.ensures
 
-pub step-full-spec : {M : Type 1} → statement M
-step-full-spec =
+pub step_full_spec : {M : Type 1} → statement M
+step_full_spec =
     tie.close
     (tie.spec
     (λ c κs. search rules)

@@ -6,12 +6,9 @@ use Rattle.layout.specs.Places.{bank_of}
 use Rattle.store.proofs.held.hold_seat.Statement.{statement}
 use Rattle.store.proofs.held.hold_seat.Tie as tie
 
-abbrev started : tie.After-bytes-of → tie.Start
-started c = c.before.before.before.before
-
-signature-of-requires : tie.Need-signature-of-requires
+signature-of-requires : tie.Need-signature_of-requires
 signature-of-requires c κs =
-    let pre = (started c).requires in
+    let pre = c.requires in
     (pre.0, pre.1, pre.2, rw c.bytes_of.ensures pre.4)
 
 fill-requires : tie.Need-fill-requires
@@ -21,13 +18,10 @@ fill-requires c κs = search rules
 returns : tie.Need-returns
 unfolding bank_of
 returns c =
-    let filled = c.before.before in
-    let copied = filled.before.before.before in
-    let found = copied.before in
-    filled.fill.ensures ∙ rw (copied.signature-copy.ensures, found.signature-of.ensures.0, found.before.bytes_of.ensures)
+    c.fill.ensures ∙ rw (c.signature_copy-signature.ensures, c.signature_of.ensures.0, c.bytes_of.ensures)
 
-pub hold-seat-spec : {M : Type 1} → statement M
-hold-seat-spec =
+pub hold_seat_spec : {M : Type 1} → statement M
+hold_seat_spec =
     tie.close
     (tie.spec
     (λ c κs. search rules)

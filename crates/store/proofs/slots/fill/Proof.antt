@@ -10,28 +10,23 @@ use Rattle.store.specs.StoreLaws.{patch-part, slot-signature}
 use Rattle.store.proofs.slots.fill.Statement.{statement}
 use Rattle.store.proofs.slots.fill.Tie as tie
 
-abbrev started : tie.After-slot-at → tie.Start
-started c = c.before.before.before
-
-part-copy-end : tie.Need-slice-bounds-copy-end
+part-copy-end : tie.Need-slice_bounds-copy-end
 unfolding signature_length
-part-copy-end c = omega (arith, slot-signature (started c).args.bank)
+part-copy-end c = omega (arith, slot-signature c.args.bank)
 
 copy-requires : tie.Need-copy-requires
 unfolding signature_length
-copy-requires c κs = omega (arith, slot-signature (started c.before).args.bank)
+copy-requires c κs = omega (arith, slot-signature c.args.bank)
 
 returns : tie.Need-returns
 unfolding fill part signature_length
 returns c =
-    let copied = c.before.before in
-    let slot = copied.before.before in
-    let args = (started slot).args in
+    let args = c.args in
     let store = args.store.now in
     let signature = args.signature.now in
-    let at = slot.slot_at in
+    let at = c.slot_at-at in
     let width = slot-signature args.bank in
-    patch-part at.result (at.result + signature_length - at.result) signature store copied.copy.new.0 (omega arith) (omega arith) copied.copy.ensures
+    patch-part at.result (at.result + signature_length - at.result) signature store c.copy.new.out (omega arith) (omega arith) c.copy.ensures
     ∙ ap (λ (a : ℕ). patch a signature store) at.ensures.0
 
 pub fill_spec : {M : Type 1} → statement M

@@ -9,17 +9,17 @@ use Rattle.protocol.specs.Message.{read_signature}
 use Rattle.store.proofs.slots.signature_at.Statement.{statement}
 use Rattle.store.proofs.slots.signature_at.Tie as tie
 
-part-result-end : tie.Need-slice-bounds-result-end
+part-result-end : tie.Need-slice_bounds-result-end
 unfolding signature_length
 part-result-end c = omega arith
 
 returns : tie.Need-returns
 unfolding read_signature part signature_length
 returns c =
-    let at = c.before.args.at in
+    let at = c.args.at in
     let n : at + signature_length - at ≡ signature_length = omega arith in
     rw n
 
-pub signature-at-spec : {M : Type 1} → statement M
-signature-at-spec =
+pub signature_at_spec : {M : Type 1} → statement M
+signature_at_spec =
     tie.close (tie.spec (λ c. search rules) (λ c. search rules) (λ c. search rules) part-result-end returns)

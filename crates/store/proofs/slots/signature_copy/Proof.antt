@@ -9,13 +9,12 @@ use Rattle.store.proofs.slots.signature_copy.Tie as tie
 
 copy-requires : tie.Need-copy-requires
 unfolding signature_length
-copy-requires c κs = omega (arith, c.before.before.requires)
+copy-requires c κs = omega (arith, c.requires)
 
 returns : tie.Need-returns
 unfolding signature_length
 returns c =
-    let start = c.before.before.before.before in
-    c.before.copy2.ensures ∙ patch_all start.args.signature.now _ (omega (arith, start.requires))
+    c.copy.ensures ∙ patch_all c.args.signature.now _ (omega (arith, c.requires))
 
-pub signature-copy-spec : {M : Type 1} → statement M
-signature-copy-spec = tie.close (tie.spec (λ c. search rules) copy-requires returns)
+pub signature_copy_spec : {M : Type 1} → statement M
+signature_copy_spec = tie.close (tie.spec (λ c. search rules) copy-requires returns)

@@ -9,27 +9,27 @@ use Rattle.store.specs.StoreLaws.{slot-inside, slot_read}
 use Rattle.store.proofs.slots.slot_copy.Statement.{statement}
 use Rattle.store.proofs.slots.slot_copy.Tie as tie
 
-abbrev started : tie.After-slot-at → tie.Start
+abbrev started : tie.After-slot_at → tie.Start
 started c = c.before.before
 
-read : (c : tie.After-signature-at) → let args = (started c.before).args in (c.signature_at.result.now ≡ slot args.n (bank_of args.bank) args.store.now args.seat) × (length c.signature_at.result.now ≡ signature_length)
+read : (c : tie.After-signature_at) → let args = c.args in (c.signature_at.result.now ≡ slot args.n (bank_of args.bank) args.store.now args.seat) × (length c.signature_at.result.now ≡ signature_length)
 read c =
     let start = started c.before in
     let args = start.args in
-    slot_read args.n args.bank args.seat start.pre.1 args.store.now start.pre.2 c.before.slot_at.result c.before.slot_at.ensures.0 c.signature_at.result.now c.signature_at.ensures
+    slot_read args.n args.bank args.seat start.requires.1 args.store.now start.requires.2 c.slot_at.result c.slot_at.ensures.0 c.signature_at.result.now c.signature_at.ensures
 
-signature-at-requires : tie.Need-signature-at-requires
+signature-at-requires : tie.Need-signature_at-requires
 signature-at-requires c κs =
     let start = started c in
     let args = start.args in
-    slot-inside args.n args.bank args.seat start.pre.1 args.store.now start.pre.2 c.slot_at.result c.slot_at.ensures.0
+    slot-inside args.n args.bank args.seat start.requires.1 args.store.now start.requires.2 c.slot_at.result c.slot_at.ensures.0
 
-signature-copy-requires : tie.Need-signature-copy-requires
+signature-copy-requires : tie.Need-signature_copy-requires
 signature-copy-requires c κs = (read c).1
 
 returns : tie.Need-returns
-returns c = c.signature-copy.ensures ∙ (read c.before).0
+returns c = c.signature_copy.ensures ∙ (read c.before).0
 
-pub slot-copy-spec : {M : Type 1} → statement M
-slot-copy-spec =
+pub slot_copy_spec : {M : Type 1} → statement M
+slot_copy_spec =
     tie.close (tie.spec (λ c κs. search rules) signature-at-requires signature-copy-requires returns)

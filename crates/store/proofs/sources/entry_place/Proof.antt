@@ -9,26 +9,26 @@ use Rattle.store.specs.Sources.{entry_place}
 use Rattle.store.proofs.sources.entry_place.Statement.{statement}
 use Rattle.store.proofs.sources.entry_place.Tie as tie
 
-abbrev listed : tie.After-shared-count → tie.After-full-entries
+abbrev listed : tie.After-shared_count-below → tie.After-full_entries-entries
 listed c = c.before.before
 
-abbrev started : tie.After-shared-count → tie.Start
+abbrev started : tie.After-shared_count-below → tie.Start
 started c = (listed c).before.before
 
 -- the seats below are counted
-counted : (c : tie.After-shared-count) → c.shared-count.result ≡ size (shared (started c).args.seats (all (started c).args.seat))
-counted c = c.shared-count.ensures ∙ ap (λ (x : ℕ). size (shared (started c).args.seats x)) c.before.all.ensures
+counted : (c : tie.After-shared_count-below) → c.shared_count-below.result ≡ size (shared (started c).args.seats (all (started c).args.seat))
+counted c = c.shared_count-below.ensures ∙ ap (λ (x : ℕ). size (shared (started c).args.seats x)) c.all.ensures
 
-entry-held-at-requires : tie.Need-entry-held-at-requires
+entry-held-at-requires : tie.Need-entry_held_at-requires
 unfolding full_entry_length signature_length
-entry-held-at-requires c κs = rw (listed c).full-entries.ensures (omega arith)
+entry-held-at-requires c κs = rw c.full_entries-entries.ensures (omega arith)
 
 returns : tie.Need-returns
 unfolding entry_place full_entry_at full_entry_length
-returns c = rw (c.entry-held-at.ensures, (listed c.before).full-entries.ensures, counted c.before)
+returns c = rw (c.entry_held_at.ensures, c.full_entries-entries.ensures, counted c.before)
 
-pub entry-place-spec : {M : Type 1} → statement M
-entry-place-spec =
+pub entry_place_spec : {M : Type 1} → statement M
+entry_place_spec =
     tie.close
     (tie.spec
     (λ c κs. search rules)

@@ -6,8 +6,8 @@ use Rattle.validate.specs.CallsLaws.{certificate-told}
 use Rattle.validate.proofs.calls.certificate_refusal.Statement.{statement}
 use Rattle.validate.proofs.calls.certificate_refusal.Tie as tie
 
-pub certificate-refusal-spec : {M : Type 1} → statement M
-certificate-refusal-spec =
+pub certificate_refusal_spec : {M : Type 1} → statement M
+certificate_refusal_spec =
     tie.close
     (tie.spec
     (λ c κs. search rules)

@@ -6,17 +6,16 @@ use Rattle.validate.specs.CallsLaws.{pack-told}
 use Rattle.validate.proofs.calls.evidence_refusal.Statement.{statement}
 use Rattle.validate.proofs.calls.evidence_refusal.Tie as tie
 
-abbrev started : tie.After-is-within → tie.Start
+abbrev started : tie.After-is_within-taken → tie.Start
 started c = c.before.before.before
 
-pack-refusal-requires : tie.Need-pack-refusal-requires
+pack-refusal-requires : tie.Need-pack_refusal-requires
 pack-refusal-requires c κs =
-    let tested = c.before.before in
-    let pre = (started tested).requires in
-    (search rules, pre.0, pre.1, λ t. sym (evidence-takes _ _ pre.1 _ tested.is_Within.ensures) ∙ t)
+    let pre = c.requires in
+    (search rules, pre.0, pre.1, λ t. sym (evidence-takes _ _ pre.1 _ c.is_within-taken.ensures) ∙ t)
 
-pub evidence-refusal-spec : {M : Type 1} → statement M
-evidence-refusal-spec =
+pub evidence_refusal_spec : {M : Type 1} → statement M
+evidence_refusal_spec =
     tie.close
     (tie.spec
     (λ c κs. search rules)

@@ -9,23 +9,23 @@ use Rattle.validate.specs.GivenLaws.{outside-given, outside-nonzero}
 use Rattle.validate.proofs.calls.making_refusal.Statement.{statement}
 use Rattle.validate.proofs.calls.making_refusal.Tie as tie
 
-abbrev started : tie.After-outside-refusal → tie.Start
+abbrev started : tie.After-outside_refusal-outside → tie.Start
 started c = c.before.before.before
 
-abbrev passed : tie.After-short-out → tie.Else1
+abbrev passed : tie.After-short_out → tie.Else-outside-ne0
 passed c = c.before.before
 
 -- out is compared with the length stated
-short-is : (c : tie.After-short-out)
-    → let a = (started (passed c).before).args in c.short-out.result ≡ short_out (evidence_out_length a.n) a.out.now
-short-is c = rw (← c.before.evidence-out-length.ensures) c.short-out.ensures
+short-is : (c : tie.After-short_out)
+    → let a = (started (passed c).before).args in c.short_out.result ≡ short_out (evidence_out_length a.n) a.out.now
+short-is c = rw (← c.evidence_out_length.ensures) c.short_out.ensures
 
-evidence-out-length-requires : tie.Need-evidence-out-length-requires
-evidence-out-length-requires c κs = let given = outside-given _ _ _ _ c.before.outside-refusal.ensures c.if1.false in search rules
+evidence-out-length-requires : tie.Need-evidence_out_length-requires
+evidence-out-length-requires c κs = let given = outside-given _ _ _ _ c.outside_refusal-outside.ensures c.if-outside-ne0.false in search rules
 
-pub making-refusal-spec : {M : Type 1} → statement M
+pub making_refusal_spec : {M : Type 1} → statement M
 unfolding given_conditions
-making-refusal-spec =
+making_refusal_spec =
     tie.close
     (tie.spec
     (λ c κs. search rules)

@@ -5,9 +5,9 @@ use Rattle.refusal.specs.RefusalLaws.{rows}
 use Rattle.validate.proofs.calls.opening_refusal.Statement.{statement}
 use Rattle.validate.proofs.calls.opening_refusal.Tie as tie
 
-pub opening-refusal-spec : {M : Type 1} → statement M
+pub opening_refusal_spec : {M : Type 1} → statement M
 unfolding opening_conditions
-opening-refusal-spec =
+opening_refusal_spec =
     tie.close
     (tie.spec
     (λ c κs. search rules)

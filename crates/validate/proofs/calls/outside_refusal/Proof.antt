@@ -5,9 +5,9 @@ use Rattle.refusal.specs.RefusalLaws.{rows}
 use Rattle.validate.proofs.calls.outside_refusal.Statement.{statement}
 use Rattle.validate.proofs.calls.outside_refusal.Tie as tie
 
-pub outside-refusal-spec : {M : Type 1} → statement M
+pub outside_refusal_spec : {M : Type 1} → statement M
 unfolding outside_conditions
-outside-refusal-spec =
+outside_refusal_spec =
     tie.close
     (tie.spec
     (λ c κs. search rules)

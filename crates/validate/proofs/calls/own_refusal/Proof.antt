@@ -11,17 +11,17 @@ use Rattle.validate.proofs.calls.own_refusal.Statement.{statement}
 use Rattle.validate.proofs.calls.own_refusal.Tie as tie
 
 -- value and signature have their lengths
-long : (c : tie.Else2)
-    → let a = c.before.before.before.before.before.before.args in
+long : (c : tie.Else-wrong_lengths)
+    → let a = c.args in
     (length a.value.now ≡ value_length) × (length a.signature.now ≡ signature_length)
-long c = right_lengths _ _ (sym c.before.wrong-lengths.ensures ∙ c.if2.false)
+long c = right_lengths _ _ (sym c.wrong_lengths.ensures ∙ c.if-wrong_lengths.false)
 
-seat-verdict-requires : tie.Need-seat-verdict-requires
+seat-verdict-requires : tie.Need-seat_verdict-requires
 seat-verdict-requires c κs = let l = long c.before.before in search rules
 
-pub own-refusal-spec : {M : Type 1} → statement M
+pub own_refusal_spec : {M : Type 1} → statement M
 unfolding own_conditions said
-own-refusal-spec =
+own_refusal_spec =
     tie.close
     (tie.spec
     (λ c. search rows)

@@ -7,9 +7,9 @@ use Rattle.validate.specs.CallsLaws.{evidence_right}
 use Rattle.validate.proofs.calls.pack_refusal.Statement.{statement}
 use Rattle.validate.proofs.calls.pack_refusal.Tie as tie
 
-pub pack-refusal-spec : {M : Type 1} → statement M
+pub pack_refusal_spec : {M : Type 1} → statement M
 unfolding pack_conditions
-pack-refusal-spec =
+pack_refusal_spec =
     tie.close
     (tie.spec
     (λ c κs. search rules)

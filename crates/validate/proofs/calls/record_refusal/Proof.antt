@@ -9,33 +9,33 @@ use Rattle.protocol.specs.RecordLaws.{possible}
 use Rattle.validate.proofs.calls.record_refusal.Statement.{statement}
 use Rattle.validate.proofs.calls.record_refusal.Tie as tie
 
-abbrev started : tie.Else1 → tie.Start
+abbrev started : tie.Else-is_impossible → tie.Start
 started c = c.before.before.before.before.before
 
 -- n, seat and round of a possible record
-ranged : (c : tie.Else1) → let r = (started c).args.r in InRange r.n r.seat r.round
-ranged c = (possible _ (sym c.before.is-impossible.ensures ∙ c.if1.false)).range
+ranged : (c : tie.Else-is_impossible) → let r = c.args.r in InRange r.n r.seat r.round
+ranged c = (possible _ (sym c.is_impossible.ensures ∙ c.if-is_impossible.false)).range
 
-abbrev sound : tie.Else2 → tie.Else1
+abbrev sound : tie.Else-wrong_keys → tie.Else-is_impossible
 sound c = c.before.before
 
-abbrev keyed : tie.Else3 → tie.Else2
+abbrev keyed : tie.Else-short_store → tie.Else-wrong_keys
 keyed c = c.before.before
 
 -- out is compared with the length stated
-short-is : (c : tie.After-short-out)
-    → let a = (started (sound (keyed c.before.before))).args in c.short-out.result ≡ short_out (out_length a.r.n) a.out.now
-short-is c = c.short-out.ensures ∙ rw c.before.out-length.ensures
+short-is : (c : tie.After-short_out)
+    → let a = (started (sound (keyed c.before.before))).args in c.short_out.result ≡ short_out (out_length a.r.n) a.out.now
+short-is c = c.short_out.ensures ∙ rw c.out_length.ensures
 
-short-store-requires : tie.Need-short-store-requires
+short-store-requires : tie.Need-short_store-requires
 short-store-requires c κs = let range = ranged (sound c) in search rules
 
-out-length-requires : tie.Need-out-length-requires
+out-length-requires : tie.Need-out_length-requires
 out-length-requires c κs = let range = ranged (sound (keyed c)) in search rules
 
-pub record-refusal-spec : {M : Type 1} → statement M
+pub record_refusal_spec : {M : Type 1} → statement M
 unfolding record_conditions
-record-refusal-spec =
+record_refusal_spec =
     tie.close
     (tie.spec
     (λ c κs. search rules)

@@ -5,8 +5,8 @@ use Rattle.validate.specs.CallsLaws.{step-told}
 use Rattle.validate.proofs.calls.step_refusal.Statement.{statement}
 use Rattle.validate.proofs.calls.step_refusal.Tie as tie
 
-pub step-refusal-spec : {M : Type 1} → statement M
-step-refusal-spec =
+pub step_refusal_spec : {M : Type 1} → statement M
+step_refusal_spec =
     tie.close
     (tie.spec
     (λ c κs. search rules)

@@ -8,5 +8,5 @@ returns : tie.Need-returns
 unfolding wrong_lengths
 returns c = cc
 
-pub wrong-lengths-spec : {M : Type 1} → statement M
-wrong-lengths-spec = tie.close (tie.spec (λ c κs. search rules) (λ c κs. search rules) returns)
+pub wrong_lengths_spec : {M : Type 1} → statement M
+wrong_lengths_spec = tie.close (tie.spec (λ c κs. search rules) (λ c κs. search rules) returns)

@@ -4,8 +4,8 @@ use Rattle.validate.specs.CallsLaws.{values-told}
 use Rattle.validate.proofs.conflict.equal_values.Statement.{statement}
 use Rattle.validate.proofs.conflict.equal_values.Tie as tie
 
-pub equal-values-spec : {M : Type 1} → statement M
-equal-values-spec =
+pub equal_values_spec : {M : Type 1} → statement M
+equal_values_spec =
     tie.close
     (tie.spec
     (λ c κs. search rules)

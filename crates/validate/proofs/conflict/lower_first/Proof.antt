@@ -4,8 +4,8 @@ use Rattle.validate.specs.CallsLaws.{pair-order}
 use Rattle.validate.proofs.conflict.lower_first.Statement.{statement}
 use Rattle.validate.proofs.conflict.lower_first.Tie as tie
 
-pub lower-first-spec : {M : Type 1} → statement M
-lower-first-spec =
+pub lower_first_spec : {M : Type 1} → statement M
+lower_first_spec =
     tie.close
     (tie.spec
     (λ c κs. search rules)

@@ -7,21 +7,19 @@ use Rattle.signatures.specs.EntriesLaws.{Paired, paired_none, paired_inside, ord
 use Rattle.validate.proofs.conflict.not_lower_first.Statement.{statement}
 use Rattle.validate.proofs.conflict.not_lower_first.Tie as tie
 
-abbrev invariant-loop : tie.invariant-loop
+abbrev invariant-loop : tie.invariant-loop-t
 invariant-loop n m entries count t₀ t = Paired (pair_order m) m entries count t
 
-abbrev decreases-loop : tie.decreases-loop
+abbrev decreases-loop : tie.decreases-loop-t
 decreases-loop n m entries count t₀ t = count - t
 
-lower-first-requires : tie.Need-lower-first-requires invariant-loop decreases-loop
+lower-first-requires : tie.Need-lower_first-requires invariant-loop decreases-loop
 lower-first-requires c κs =
-    let at-loop = c.before.before in
-    let start = at-loop.before.before.before in
-    let inside = paired_inside _ _ start.requires _ _ _ _ at-loop.loop.invariant (search rules) _ c.pair-at.ensures in
+    let inside = paired_inside _ _ c.requires _ _ _ _ c.loop-t.invariant (search rules) _ c.pair_at-pair.ensures in
     (inside.1, inside.2)
 
-pub not-lower-first-spec : {M : Type 1} → statement M
-not-lower-first-spec =
+pub not_lower_first_spec : {M : Type 1} → statement M
+not_lower_first_spec =
     tie.close
     (tie.spec
     invariant-loop

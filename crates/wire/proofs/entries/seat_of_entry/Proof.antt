@@ -14,18 +14,18 @@ use Rattle.wire.proofs.entries.seat_of_entry.Tie as tie
 inside : (s : tie.Start) → seat_place s.args.entries s.args.i < length s.args.m.now
 inside s = entry-inside s.args.entries s.args.m.now s.args.i s.requires.0 s.requires.1
 
-abbrev start : tie.After-entry-seat-at → tie.Start
+abbrev start : tie.After-entry_seat_at-at → tie.Start
 start c = c.before.before
 
-entry-seat-at-requires : tie.Need-entry-seat-at-requires
+entry-seat-at-requires : tie.Need-entry_seat_at-at-requires
 entry-seat-at-requires c κs = let h = inside c.before in omega arith
 
-shared-slice-read-wide : tie.Need-shared-slice-read-wide
+shared-slice-read-wide : tie.Need-bounds-m-at
 shared-slice-read-wide c = let h = inside (start c.before) in omega arith
 
 returns : tie.Need-returns
-returns c = let at = c.before.before in (c.wide.ensures.0 ∙ ap (λ (i : ℕ). byte_at (start at).args.m.now i) at.entry-seat-at.ensures, c.wide.ensures.1)
+returns c = let at = c.before.before in (c.wide.ensures.0 ∙ ap (λ (i : ℕ). byte_at at.args.m.now i) at.entry_seat_at-at.ensures, c.wide.ensures.1)
 
-pub seat-of-entry-spec : {M : Type 1} → statement M
-seat-of-entry-spec =
+pub seat_of_entry_spec : {M : Type 1} → statement M
+seat_of_entry_spec =
     tie.close (tie.spec entry-seat-at-requires shared-slice-read-wide (λ c κs. search rules) returns)

@@ -7,47 +7,47 @@ use Rattle.wire.specs.WalkLaws.{Rises, rises_first, rises_next, rises_fails, ris
 use Rattle.wire.proofs.entries.seats_rise.Statement.{statement}
 use Rattle.wire.proofs.entries.seats_rise.Tie as tie
 
-abbrev invariant-loop : tie.invariant-loop
+abbrev invariant-loop : tie.invariant-loop-i
 invariant-loop m entries count i₀ i = Rises (seat_place entries) m entries.count i
 
-abbrev decreases-loop : tie.decreases-loop
+abbrev decreases-loop : tie.decreases-loop-i
 decreases-loop m entries count i₀ i = entries.count - i
 
-abbrev start : tie.At-loop invariant-loop decreases-loop → tie.Start invariant-loop decreases-loop
+abbrev start : tie.At-loop-i invariant-loop decreases-loop → tie.Start invariant-loop decreases-loop
 start c = c.before.before
 
-abbrev at-loop : tie.After-seat-of-entry2 invariant-loop decreases-loop → tie.At-loop invariant-loop decreases-loop
+abbrev at-loop : tie.After-seat_of_entry-in-loop-i invariant-loop decreases-loop → tie.At-loop-i invariant-loop decreases-loop
 at-loop c = c.before.before.before
 
-loop-holds : tie.Need-loop-init invariant-loop decreases-loop
+loop-holds : tie.Need-loop-i-init invariant-loop decreases-loop
 loop-holds c = rises_first
 
-seat-of-entry-requires : tie.Need-seat-of-entry-requires invariant-loop decreases-loop
-seat-of-entry-requires c κs = ((start c.before).pre, omega arith)
+seat-of-entry-requires : tie.Need-seat_of_entry-requires invariant-loop decreases-loop
+seat-of-entry-requires c κs = (c.requires, omega arith)
 
-sub-seat-of-entry : tie.Need-overflow-sub-seat-of-entry invariant-loop decreases-loop
+sub-seat-of-entry : tie.Need-overflow_sub-i invariant-loop decreases-loop
 sub-seat-of-entry c = omega arith
 
-seat-of-entry-requires-2 : tie.Need-seat-of-entry-requires-2 invariant-loop decreases-loop
-seat-of-entry-requires-2 c κs = ((start c.before.before).pre, omega arith)
+seat-of-entry-requires-2 : tie.Need-seat_of_entry-requires-in-loop-i invariant-loop decreases-loop
+seat-of-entry-requires-2 c κs = (c.requires, omega arith)
 
-returns : tie.Need-returns invariant-loop decreases-loop
-returns c = sym (rises_fails (at-loop c.before).loop.inv (omega arith) (omega arith))
+returns : tie.Need-returns-then-seat_of_entry invariant-loop decreases-loop
+returns c = sym (rises_fails c.loop-i.invariant (omega arith) (omega arith))
 
-add-i : tie.Need-overflow-add-i invariant-loop decreases-loop
+add-i : tie.Need-overflow_add-i invariant-loop decreases-loop
 add-i c = omega arith
 
-loop-less : tie.Need-loop-smaller invariant-loop decreases-loop
+loop-less : tie.Need-loop-i-smaller invariant-loop decreases-loop
 loop-less c = omega arith
 
-loop-again : tie.Need-loop-preserved invariant-loop decreases-loop
-loop-again c = rises_next (at-loop c.before).loop.inv (omega arith) (omega arith)
+loop-again : tie.Need-loop-i-preserved invariant-loop decreases-loop
+loop-again c = rises_next c.loop-i.invariant (omega arith) (omega arith)
 
-returns-2 : tie.Need-returns-2 invariant-loop decreases-loop
-returns-2 c = sym (rises_all c.before.loop.invariant (omega arith))
+returns-2 : tie.Need-returns invariant-loop decreases-loop
+returns-2 c = sym (rises_all c.loop-i.invariant (omega arith))
 
-pub seats-rise-spec : {M : Type 1} → statement M
-seats-rise-spec =
+pub seats_rise_spec : {M : Type 1} → statement M
+seats_rise_spec =
     tie.close
     (tie.spec
     invariant-loop

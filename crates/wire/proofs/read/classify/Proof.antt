@@ -4,8 +4,8 @@ use Rattle.wire.specs.KindLaws.{told-submit, told-notice, told-full, told_garble
 use Rattle.wire.proofs.read.classify.Statement.{statement}
 use Rattle.wire.proofs.read.classify.Tie as tie
 
-pub classify-spec : {M : Type 1} → statement M
-classify-spec =
+pub classify_spec : {M : Type 1} → statement M
+classify_spec =
     tie.close
     (tie.spec
     (λ c κs. search rules)

@@ -5,25 +5,21 @@ use Rattle.wire.proofs.Tags.{tags}
 use Rattle.wire.proofs.read.entries_of.Statement.{statement}
 use Rattle.wire.proofs.read.entries_of.Tie as tie
 
-returns : tie.Need-returns
+returns : tie.Need-returns-in-Full
 returns c =
-    let k = c.before.k in
-    let told = c.before.before in
-    let s = told.before.before.before in
-    rw c.full-entries.ensures (full-seats _ _ s.args.kind s.requires.2 told.enum_told.given.1 k.result k.ensures)
+    let k = c.k in
+    rw c.full_entries.ensures (full-seats _ _ c.args.kind c.requires.2 c.in-Full.is k.result k.ensures)
 
-returns-2 : tie.Need-returns-2
+returns-2 : tie.Need-returns-in-OldEvidence
 returns-2 c =
-    let s = c.before.before.before in
-    rw c.evidence-entries.ensures.0 (evidence-seats _ _ s.args.kind s.requires.2 (rw (tags s.args.kind) at c.before.match.keys2))
+    rw c.evidence_entries.ensures.0 (evidence-seats _ _ c.args.kind c.requires.2 (rw (tags c.args.kind) at c.in-OldEvidence.in-OldEvidence-own.keys2))
 
-returns-3 : tie.Need-returns-3
+returns-3 : tie.Need-returns-in-Submit
 returns-3 c =
-    let s = c.before.before.before in
-    rw c.full-entries2.ensures (no_seats _ _ s.args.kind s.requires.2 (rw (tags s.args.kind) at c.before.match.keys3))
+    rw c.full_entries-in-Submit.ensures (no_seats _ _ c.args.kind c.requires.2 (rw (tags c.args.kind) at c.in-Submit.in-Submit-own.keys3))
 
-pub entries-of-spec : {M : Type 1} → statement M
-entries-of-spec =
+pub entries_of_spec : {M : Type 1} → statement M
+entries_of_spec =
     tie.close
     (tie.spec
     (λ c. search rules)

@@ -9,14 +9,13 @@ use Rattle.wire.specs.MessageLaws.{known-entries}
 use Rattle.wire.proofs.read.entry_set.Statement.{statement}
 use Rattle.wire.proofs.read.entry_set.Tie as tie
 
-seat-set-requires : tie.Need-seat-set-requires
+seat-set-requires : tie.Need-seat_set-requires
 seat-set-requires c κs =
-    let start = c.before.before in
-    let args = start.args in
-    (c.entries_of_lem.ensures.1, known-entries args.n (read args.n args.m.now) (seats_in c.entries_of_lem.result args.m.now) most_seats start.requires.1 start.requires.3 c.entries_of_lem.ensures.0)
+    let args = c.args in
+    (c.entries_of-found.ensures.1, known-entries args.n (read args.n args.m.now) (seats_in c.entries_of-found.result args.m.now) most_seats c.requires.1 c.requires.3 c.entries_of-found.ensures.0)
 
 returns : tie.Need-returns
-returns c = c.seat-set.ensures ∙ ap set_of c.before.entries_of_lem.ensures.0
+returns c = c.seat_set.ensures ∙ ap set_of c.entries_of-found.ensures.0
 
-pub entry-set-spec : {M : Type 1} → statement M
-entry-set-spec = tie.close (tie.spec (λ c κs. search rules) seat-set-requires returns)
+pub entry_set_spec : {M : Type 1} → statement M
+entry_set_spec = tie.close (tie.spec (λ c κs. search rules) seat-set-requires returns)

@@ -1,4 +1,5 @@
 -- `wire::read::evidence_entries` meets its contract.
+use native.Mathlib.Omega.{arith}
 use borrow.Author.Rules.{rules}
 use Rattle.wire.specs.FormLaws.{entries-old, entries-new}
 use Rattle.wire.proofs.read.evidence_entries.Statement.{statement}
@@ -6,20 +7,11 @@ use Rattle.wire.proofs.read.evidence_entries.Tie as tie
 
 returns : tie.Need-returns
 returns c =
-    let count = c.before.byte-or-zero2.ensures in
-    let at = c.before.before in
-    let told = at.before in
-    entries-old _ _ told.before.byte-or-zero.ensures.0 _ _ count.0 count.1 _ told.if1.true at.old-evidence-count-at.ensures c.old-evidence-entries.ensures
+    let count = c.byte_or_zero-count-2.ensures in
+    entries-new _ _ c.byte_or_zero-command.ensures.0 _ _ count.0 count.1 _ (omega arith) c.evidence_count_at.ensures c.evidence_entries.ensures
 
-returns-2 : tie.Need-returns-2
-returns-2 c =
-    let count = c.before.byte-or-zero3.ensures in
-    let at = c.before.before in
-    let told = at.before in
-    entries-new _ _ told.before.byte-or-zero.ensures.0 _ _ count.0 count.1 _ told.if1.false at.evidence-count-at.ensures c.evidence-entries.ensures
-
-pub evidence-entries-spec : {M : Type 1} → statement M
-evidence-entries-spec =
+pub evidence_entries_spec : {M : Type 1} → statement M
+evidence_entries_spec =
     tie.close
     (tie.spec
     (λ c κs. search rules)
@@ -27,9 +19,9 @@ evidence-entries-spec =
     (λ c κs. search rules)
     (λ c. search rules)
     (λ c κs. search rules)
-    returns
+    (λ c. let count = c.byte_or_zero-count.ensures in entries-old _ _ c.byte_or_zero-command.ensures.0 _ _ count.0 count.1 _ (omega arith) c.old_evidence_count_at.ensures c.old_evidence_entries.ensures)
     (λ c κs. search rules)
     (λ c κs. search rules)
     (λ c. search rules)
     (λ c κs. search rules)
-    returns-2)
+    returns)

@@ -9,15 +9,13 @@ use Rattle.wire.proofs.read.round_of.Tie as tie
 returns : tie.Need-returns
 unfolding read_round
 returns c =
-    let first = c.before.before in
-    let place = first.before.before in
-    let bytes = place.before.before.args.m.now in
-    let high = first.wide.ensures.0 ∙ ap (λ (i : ℕ). byte_at bytes i) place.round-at.ensures in
-    let low = c.wide2.ensures.0 ∙ ap (λ (i : ℕ). byte_at bytes (i + 1)) place.round-at.ensures in
+    let bytes = c.args.m.now in
+    let high = c.wide-high.ensures.0 ∙ ap (λ (i : ℕ). byte_at bytes i) c.round_at-at.ensures in
+    let low = c.wide-low.ensures.0 ∙ ap (λ (i : ℕ). byte_at bytes (i + 1)) c.round_at-at.ensures in
     rw (high, low)
 
-pub round-of-spec : {M : Type 1} → statement M
-round-of-spec =
+pub round_of_spec : {M : Type 1} → statement M
+round_of_spec =
     tie.close
     (tie.spec
     (λ c κs. search rules)

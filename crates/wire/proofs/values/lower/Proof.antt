@@ -8,72 +8,70 @@ use Rattle.wire.specs.StringLaws.{lower_next, lower-found, lower_missed, lower-s
 use Rattle.wire.proofs.values.lower.Statement.{statement}
 use Rattle.wire.proofs.values.lower.Tie as tie
 
-abbrev invariant-loop : tie.invariant-loop
+abbrev invariant-loop : tie.invariant-loop-i
 invariant-loop a b i₀ i = (i ≤ length a) × (is_lower (drop i a) (drop i b) ≡ is_lower a b)
 
-abbrev decreases-loop : tie.decreases-loop
+abbrev decreases-loop : tie.decreases-loop-i
 decreases-loop a b i₀ i = length a - i
 
-abbrev start : tie.At-loop invariant-loop decreases-loop → tie.Start invariant-loop decreases-loop
+abbrev start : tie.At-loop-i invariant-loop decreases-loop → tie.Start invariant-loop decreases-loop
 start c = c.before
 
 -- the bytes of one index are compared, one way and then the other
-abbrev at-loop : tie.After-shared-slice-known2 invariant-loop decreases-loop → tie.At-loop invariant-loop decreases-loop
+abbrev at-loop : tie.After-shared_slice_known-in-loop-i-1 invariant-loop decreases-loop → tie.At-loop-i invariant-loop decreases-loop
 at-loop c = c.before.before.before.before
 
-abbrev again : tie.After-shared-slice-known4 invariant-loop decreases-loop → tie.At-loop invariant-loop decreases-loop
+abbrev again : tie.After-shared_slice_known-in-loop-i-3-1 invariant-loop decreases-loop → tie.At-loop-i invariant-loop decreases-loop
 again c = at-loop c.before.before.before
 
-loop-holds : tie.Need-loop-init invariant-loop decreases-loop
+loop-holds : tie.Need-loop-i-init invariant-loop decreases-loop
 loop-holds c = (omega arith, refl)
 
-returns : tie.Need-returns invariant-loop decreases-loop
+returns : tie.Need-returns-then-b-i invariant-loop decreases-loop
 returns c =
-    let l = c.before.before in
-    let args = (start l).args in
-    lower-short args.a.now args.b.now l.loop.i c.if1.true l.loop.invariant.1
+    let args = c.args in
+    lower-short args.a.now args.b.now c.loop-i.i c.if-b-i.true c.loop-i.invariant.1
 
-shared-slice-read-if2 : tie.Need-shared-slice-read-if2 invariant-loop decreases-loop
+shared-slice-read-if2 : tie.Need-bounds-a-i invariant-loop decreases-loop
 shared-slice-read-if2 c = omega arith
 
-shared-slice-read-if2-2 : tie.Need-shared-slice-read-if2-2 invariant-loop decreases-loop
+shared-slice-read-if2-2 : tie.Need-bounds-b-i invariant-loop decreases-loop
 shared-slice-read-if2-2 c = omega arith
 
-returns-2 : tie.Need-returns-2 invariant-loop decreases-loop
+returns-2 : tie.Need-returns-then-a-i invariant-loop decreases-loop
 returns-2 c =
     let l = at-loop c.before in
-    let args = (start l).args in
-    lower-found args.a.now args.b.now l.loop.i (omega arith) (omega arith) c.if2.true l.loop.inv.1
+    let args = l.args in
+    lower-found args.a.now args.b.now l.loop-i.i (omega arith) (omega arith) c.if-a-i.true l.loop-i.invariant.1
 
-shared-slice-read-if3 : tie.Need-shared-slice-read-if3 invariant-loop decreases-loop
+shared-slice-read-if3 : tie.Need-bounds-b-i-in-loop-i invariant-loop decreases-loop
 shared-slice-read-if3 c = omega arith
 
-shared-slice-read-if3-2 : tie.Need-shared-slice-read-if3-2 invariant-loop decreases-loop
+shared-slice-read-if3-2 : tie.Need-bounds-a-i-in-loop-i invariant-loop decreases-loop
 shared-slice-read-if3-2 c = omega arith
 
-returns-3 : tie.Need-returns-3 invariant-loop decreases-loop
+returns-3 : tie.Need-returns-then-b-i-2 invariant-loop decreases-loop
 returns-3 c =
     let l = again c.before in
-    let args = (start l).args in
-    lower_missed args.a.now args.b.now l.loop.i (omega arith) (omega arith) c.if3.true l.loop.inv.1
+    let args = l.args in
+    lower_missed args.a.now args.b.now l.loop-i.i (omega arith) (omega arith) c.if-b-i-2.true l.loop-i.invariant.1
 
-add-i : tie.Need-overflow-add-i invariant-loop decreases-loop
+add-i : tie.Need-overflow_add-i invariant-loop decreases-loop
 add-i c = omega arith
 
-loop-less : tie.Need-loop-smaller invariant-loop decreases-loop
+loop-less : tie.Need-loop-i-smaller invariant-loop decreases-loop
 loop-less c = omega arith
 
-loop-again : tie.Need-loop-preserved invariant-loop decreases-loop
+loop-again : tie.Need-loop-i-preserved invariant-loop decreases-loop
 loop-again c =
     let l = again c.before in
-    let args = (start l).args in
-    (omega arith, lower_next args.a.now args.b.now l.loop.i (omega arith) (omega arith) (omega arith) l.loop.inv.1)
+    let args = l.args in
+    (omega arith, lower_next args.a.now args.b.now l.loop-i.i (omega arith) (omega arith) (omega arith) l.loop-i.invariant.1)
 
-returns-4 : tie.Need-returns-4 invariant-loop decreases-loop
+returns-4 : tie.Need-returns invariant-loop decreases-loop
 returns-4 c =
-    let l = c.before in
-    let args = (start l).args in
-    lower-ends args.a.now args.b.now l.loop.i (omega arith) l.loop.invariant.1
+    let args = c.args in
+    lower-ends args.a.now args.b.now c.loop-i.i (omega arith) c.loop-i.invariant.1
 
 pub lower_spec : {M : Type 1} → statement M
 lower_spec =

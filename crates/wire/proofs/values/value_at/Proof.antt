@@ -12,13 +12,12 @@ use Rattle.wire.proofs.values.value_at.Tie as tie
 returns : tie.Need-returns
 unfolding read_value part
 returns c =
-    let start = c.before.before.before.before.before in
-    let at = start.args.at in
+    let at = c.args.at in
     let n : at + 32 - at ≡ 32 = omega arith in
-    part_copied at 32 start.args.m.now _ c.before.copy.new.0 start.requires refl (rw n at c.before.copy.ensures)
+    part_copied at 32 c.args.m.now _ c.copy.new.out c.requires refl (rw n at c.copy.ensures)
 
-pub value-at-spec : {M : Type 1} → statement M
-value-at-spec =
+pub value_at_spec : {M : Type 1} → statement M
+value_at_spec =
     tie.close
     (tie.spec
     (λ c. search rules)

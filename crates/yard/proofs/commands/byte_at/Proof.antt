@@ -4,10 +4,10 @@ use borrow.Author.Rules.{rules}
 use Rattle.yard.proofs.commands.byte_at.Statement.{statement}
 use Rattle.yard.proofs.commands.byte_at.Tie as tie
 
-returns-2 : tie.Need-returns-2
+returns-2 : tie.Need-returns
 returns-2 c =
-    let args = c.before.before.args in
+    let args = c.args in
     (past_end args.bytes.now args.i (search rules), search rules)
 
-pub byte-at-spec : {M : Type 1} → statement M
-byte-at-spec = tie.close (tie.spec (λ c. search rules) (λ c κs. search rules) (λ c. search rules) returns-2)
+pub byte_at_spec : {M : Type 1} → statement M
+byte_at_spec = tie.close (tie.spec (λ c. search rules) (λ c κs. search rules) (λ c. search rules) returns-2)

@@ -6,7 +6,7 @@ use Rattle.yard.proofs.commands.call_answer.Tie as tie
 
 returns : tie.Need-returns
 unfolding told_call
-returns c = let told = c.before.Line-of.ensures in (rw told.0, told.1)
+returns c = let told = c.line_of-line.ensures in (rw told.0, told.1)
 
-pub call-answer-spec : {M : Type 1} → statement M
-call-answer-spec = tie.close (tie.spec (λ c κs. search rules) returns)
+pub call_answer_spec : {M : Type 1} → statement M
+call_answer_spec = tie.close (tie.spec (λ c κs. search rules) returns)

@@ -6,20 +6,19 @@ use borrow.Author.Rules.{rules}
 use Rattle.yard.proofs.commands.is_misframed_opening.Statement.{statement}
 use Rattle.yard.proofs.commands.is_misframed_opening.Tie as tie
 
-abbrev bytes : tie.After-opening-length → List ℕ
-bytes sized = sized.before.before.args.bytes.now
+abbrev bytes : tie.After-opening_length → List ℕ
+bytes sized = sized.args.bytes.now
 
-returns : tie.Need-returns
+returns : tie.Need-returns-then-bytes-opening_length
 returns c =
     let sized = c.before in
-    opening-short (bytes sized) sized.opening-length.result sized.opening-length.ensures.0 c.if1.true
+    opening-short (bytes sized) sized.opening_length.result sized.opening_length.ensures.0 c.if-bytes-opening_length.true
 
-returns-2 : tie.Need-returns-2
+returns-2 : tie.Need-returns
 returns-2 c =
-    let whole = c.before in
-    let sized = whole.before in
-    opening-whole (bytes sized) sized.opening-length.result c.byte_at.result sized.opening-length.ensures.0 whole.if1.false c.byte_at.ensures.0
+    let sized = c.before.before in
+    opening-whole (bytes sized) sized.opening_length.result c.byte_at.result sized.opening_length.ensures.0 c.if-bytes-opening_length.false c.byte_at.ensures.0
 
-pub is-misframed-opening-spec : {M : Type 1} → statement M
-is-misframed-opening-spec =
+pub is_misframed_opening_spec : {M : Type 1} → statement M
+is_misframed_opening_spec =
     tie.close (tie.spec (λ c κs. search rules) returns (λ c κs. search rules) returns-2)

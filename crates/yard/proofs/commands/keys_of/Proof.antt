@@ -6,17 +6,14 @@ use borrow.Author.Rules.{rules}
 use Rattle.yard.proofs.commands.keys_of.Statement.{statement}
 use Rattle.yard.proofs.commands.keys_of.Tie as tie
 
-abbrev bytes : tie.Start → List ℕ
-bytes s = s.args.bytes.now
+returns : tie.Need-returns-then-bytes-lt-OPENING_HEAD
+returns c = keys_none c.args.bytes.now (search rules)
 
-returns : tie.Need-returns
-returns c = keys_none (bytes c.before.before) (search rules)
+returns-2 : tie.Need-returns
+returns-2 c = keys-rest c.args.bytes.now
 
-returns-2 : tie.Need-returns-2
-returns-2 c = keys-rest (bytes c.before.before)
-
-pub keys-of-spec : {M : Type 1} → statement M
-keys-of-spec =
+pub keys_of_spec : {M : Type 1} → statement M
+keys_of_spec =
     tie.close
     (tie.spec
     (λ c. search rules)

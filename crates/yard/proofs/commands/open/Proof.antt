@@ -9,37 +9,31 @@ use borrow.Author.Rules.{rules}
 use Rattle.yard.proofs.commands.open.Statement.{statement}
 use Rattle.yard.proofs.commands.open.Tie as tie
 
-abbrev bytes : tie.After-is-misframed-opening → List ℕ
-bytes framed = framed.before.before.args.bytes.now
+abbrev bytes : tie.After-is_misframed_opening → List ℕ
+bytes framed = framed.args.bytes.now
 
 -- a whole opening, and its number of seats
-whole : (c : tie.Else1) → misframed_opening (bytes c.before) ≡ false
-whole c = sym c.before.is-misframed-opening.ensures ∙ c.if1.false
+whole : (c : tie.Else-is_misframed_opening) → misframed_opening (bytes c.before) ≡ false
+whole c = sym c.is_misframed_opening.ensures ∙ c.if-is_misframed_opening.false
 
-abbrev started : tie.After-byte-at → List ℕ
+abbrev started : tie.After-byte_at-n → List ℕ
 started c = bytes c.before.before
 
-returns : tie.Need-returns
+returns : tie.Need-returns-then-is_misframed_opening
 returns c =
-    let misframed = c.before in
-    let framed = misframed.before in
-    open_misframed (bytes framed) c.refused-opening.result (sym framed.is-misframed-opening.ensures ∙ misframed.if1.true) c.refused-opening.ensures
+    let framed = c.before.before in
+    open_misframed (bytes framed) c.refused_opening.result (sym framed.is_misframed_opening.ensures ∙ c.if-is_misframed_opening.true) c.refused_opening.ensures
 
-returns-2 : tie.Need-returns-2
+returns-2 : tie.Need-returns-then-n-gt-MOST_SEATS
 returns-2 c =
-    let many = c.before in
-    let seats = many.before in
-    open_many (started seats) c.refused-opening2.result (whole seats.before) seats.byte_at.result seats.byte_at.ensures.0 many.if2.true c.refused-opening2.ensures
+    let seats = c.before.before in
+    open_many (started seats) c.refused_opening-then-n-gt-MOST_SEATS.result (whole seats.before) seats.byte_at-n.result seats.byte_at-n.ensures.0 c.if-n-gt-MOST_SEATS.true c.refused_opening-then-n-gt-MOST_SEATS.ensures
 
-returns-3 : tie.Need-returns-3
+returns-3 : tie.Need-returns
 returns-3 c =
-    let keyed = c.before in
-    let timed = keyed.before in
-    let seated = timed.before in
-    let few = seated.before in
-    let seats = few.before in
-    open_few (started seats) c.«open».result (whole seats.before) seats.byte_at.result seats.byte_at.ensures.0 few.if2.false
-    seated.byte-at2.result timed.two_at.result _ seated.byte-at2.ensures.0 timed.two_at.ensures.0 keyed.keys_of.ensures c.«open».ensures
+    let seats = c.before.before.before.before.before in
+    open_few (started seats) c.«open».result (whole seats.before) seats.byte_at-n.result seats.byte_at-n.ensures.0 c.if-n-gt-MOST_SEATS.false
+    c.byte_at-seat.result c.two_at-round.result _ c.byte_at-seat.ensures.0 c.two_at-round.ensures.0 c.keys_of.ensures c.«open».ensures
 
 pub open_spec : {M : Type 1} → statement M
 open_spec =

@@ -6,8 +6,7 @@ use Rattle.yard.proofs.commands.refused_opening.Tie as tie
 
 returns : tie.Need-returns
 returns c =
-    let opened = c.before in
-    opening_none _ opened.«open».result opened.before.before.args.number opened.«open».ensures
+    opening_none _ c.open-o.result c.args.number c.open-o.ensures
 
-pub refused-opening-spec : {M : Type 1} → statement M
-refused-opening-spec = tie.close (tie.spec (λ c. search rules) (λ c κs. search rules) returns)
+pub refused_opening_spec : {M : Type 1} → statement M
+refused_opening_spec = tie.close (tie.spec (λ c. search rules) (λ c κs. search rules) returns)

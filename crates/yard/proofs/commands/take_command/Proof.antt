@@ -13,7 +13,7 @@ use Rattle.yard.proofs.commands.take_command.Statement.{statement}
 use Rattle.yard.proofs.commands.take_command.Tie as tie
 
 -- arguments of the command
-module _ (c : tie.After-is-misframed-call) where
+module _ (c : tie.After-is_misframed_call) where
   abbrev start : tie.Start
   start = c.before.before.before.before.before
 
@@ -33,65 +33,60 @@ module _ (c : tie.After-is-misframed-call) where
   bytes = start.args.bytes.now
 
 -- a whole command, a message or a submit, and its first byte
-framed : (c : tie.Else1) → misframed_call (bytes c.before) ≡ false
-framed c = sym c.before.is-misframed-call.ensures ∙ c.if1.false
+framed : (c : tie.Else-is_misframed_call) → misframed_call (bytes c.before) ≡ false
+framed c = sym c.is_misframed_call.ensures ∙ c.if-is_misframed_call.false
 
-abbrev given : tie.After-byte-at → tie.After-is-misframed-call
+abbrev given : tie.After-byte_at → tie.After-is_misframed_call
 given c = c.before.before
 
-message : (c : tie.Then2) → message_at ≤ length (bytes (given c.before))
+message : (c : tie.Then-byte_at-eq17) → message_at ≤ length (bytes (given c.before))
 message c =
     let read = c.before in
-    message-whole (bytes (given read)) (framed read.before) read.byte_at.result read.byte_at.ensures.0 c.if2.true
+    message-whole (bytes (given read)) (framed read.before) read.byte_at.result read.byte_at.ensures.0 c.if-byte_at-eq17.true
 
-own : (c : tie.Else2) → own_signature_at ≤ length (bytes (given c.before))
+own : (c : tie.Else-byte_at-eq17) → own_signature_at ≤ length (bytes (given c.before))
 own c =
     let read = c.before in
-    submit-whole (bytes (given read)) (framed read.before) read.byte_at.result read.byte_at.ensures.0 c.if2.false
+    submit-whole (bytes (given read)) (framed read.before) read.byte_at.result read.byte_at.ensures.0 c.if-byte_at-eq17.false
 
-returns : tie.Need-returns
+returns : tie.Need-returns-then-is_misframed_call
 returns c =
-    let tested = c.before in
-    let g = tested.before in
-    called_misframed checks (keys g) (r g) (store g) (out g) (bytes g) (sym g.is-misframed-call.ensures ∙ tested.if1.true) c.line-for.result c.line-for.ensures
+    let g = c.before.before in
+    called_misframed checks (keys g) (r g) (store g) (out g) (bytes g) (sym g.is_misframed_call.ensures ∙ c.if-is_misframed_call.true) c.line_for-line.result c.line_for-line.ensures
 
-sub-step : tie.Need-overflow-sub-step
+sub-step : tie.Need-slice_bounds-step-count
 sub-step c = let h = message c.before in search rules
 
-part-step-start : tie.Need-slice-bounds-step-start
+part-step-start : tie.Need-slice_bounds-step-start
 part-step-start c = let h = sub-step c in search rules
 
-returns-2 : tie.Need-returns-2
+returns-2 : tie.Need-returns-then-byte_at-eq17
 returns-2 c =
-    let step = c.before.before.before.before.before in
-    let tested = step.before.before.before.before in
-    let read = tested.before in
+    let read = c.before.before.before.before.before.before.before.before.before.before in
     let g = given read in
     called-message checks (keys g) (r g) (store g) (out g) (bytes g) (framed read.before) read.byte_at.result read.byte_at.ensures.0
-    step.step.result c.call-answer.result c.call-answer.ensures step.step.new.1.1.0 step.step.new.1.1.1.1.0 tested.if2.true _ refl
-    step.step.ensures.0 step.step.ensures.1 step.step.ensures.2
+    c.step-answer.result c.call_answer.result c.call_answer.ensures c.step-answer.new.store c.step-answer.new.out c.if-byte_at-eq17.true _ refl
+    c.step-answer.ensures.0 c.step-answer.ensures.1 c.step-answer.ensures.2
 
-part-submit-end : tie.Need-slice-bounds-submit-end
+part-submit-end : tie.Need-slice_bounds-submit-end
 part-submit-end c = let h = own c.before in search rules
 
-sub-submit-2 : tie.Need-overflow-sub-submit-2
+sub-submit-2 : tie.Need-slice_bounds-submit-count-2
 sub-submit-2 c = part-submit-end c.before
 
-part-submit-start-2 : tie.Need-slice-bounds-submit-start-2
+part-submit-start-2 : tie.Need-slice_bounds-submit-start-2
 part-submit-start-2 c = let h = sub-submit-2 c in search rules
 
-returns-3 : tie.Need-returns-3
+returns-3 : tie.Need-returns
 returns-3 c =
-    let submit = c.before.before.before.before.before in
-    let tested = submit.before.before.before.before.before in
-    let read = tested.before in
+    let read = c.before.before.before.before.before.before.before.before.before.before.before in
     let g = given read in
     called-submit checks (keys g) (r g) (store g) (out g) (bytes g) (framed read.before) read.byte_at.result read.byte_at.ensures.0
-    submit.submit.result c.call-answer2.result c.call-answer2.ensures submit.submit.new.1.1.0 submit.submit.new.1.1.1.1.1.0 tested.if2.false _ _ refl refl
-    submit.submit.ensures.0 submit.submit.ensures.1 submit.submit.ensures.2
+    c.submit-answer.result c.call_answer-2.result c.call_answer-2.ensures c.submit-answer.new.store c.submit-answer.new.out c.if-byte_at-eq17.false _ _ refl refl
+    c.submit-answer.ensures.0 c.submit-answer.ensures.1 c.submit-answer.ensures.2
 
-pub take-command-spec : {M : Type 1} → statement M
-take-command-spec =
+pub take_command_spec : {M : Type 1} → statement M
+take_command_spec =
     tie.close
     (tie.spec
     (λ c κs. search rules)

@@ -10,5 +10,5 @@ returns : tie.Need-returns
 unfolding in_space patch
 returns c = (refl, search rules)
 
-pub no-line-spec : {M : Type 1} → statement M
-no-line-spec = tie.close (tie.spec returns)
+pub no_line_spec : {M : Type 1} → statement M
+no_line_spec = tie.close (tie.spec returns)

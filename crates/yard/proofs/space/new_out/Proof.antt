@@ -10,5 +10,5 @@ returns : tie.Need-returns
 unfolding yard_out out_length submit_length notice_length full_length full_entry_at full_entry_length evidence_length evidence_entry_at evidence_entry_length signature_length k t0
 returns c = refl
 
-pub new-out-spec : {M : Type 1} → statement M
-new-out-spec = tie.close (tie.spec returns)
+pub new_out_spec : {M : Type 1} → statement M
+new_out_spec = tie.close (tie.spec returns)

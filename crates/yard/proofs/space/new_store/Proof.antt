@@ -9,5 +9,5 @@ returns : tie.Need-returns
 unfolding yard_store store_length length_of_banks banks signature_length
 returns c = refl
 
-pub new-store-spec : {M : Type 1} → statement M
-new-store-spec = tie.close (tie.spec returns)
+pub new_store_spec : {M : Type 1} → statement M
+new_store_spec = tie.close (tie.spec returns)
