@@ -14,7 +14,7 @@ HARNESS = cd harness && $(CARGO)
 DEMO =
 JOIN = --help
 ARCHIVE = target/staticlib/libzolbine.a
-SOURCES = crates.txt $(shell find crates -name '*.rt' -o -name '*.antt')
+SOURCES = crates.txt $(shell find crates -name out -prune -o -name '*.rt' -print -o -name '*.antt' -print)
 PREFIX = /usr/local
 DESTDIR =
 

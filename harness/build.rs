@@ -53,7 +53,7 @@ fn archives(here: &Path) {
             continue;
         }
         let file = folder.join(format!("lib{name}.a"));
-        assert!(file.exists(), "{} is missing; `rt staticlib {name}` makes it", file.display());
+        assert!(file.exists(), "{} is missing; `make {name}` makes it", file.display());
         println!("cargo:rerun-if-changed={}", file.display());
         println!("cargo:rustc-env={}_ARCHIVE={}", name.to_uppercase(), file.display());
         println!("cargo:rustc-link-lib=static={name}");

@@ -6,9 +6,9 @@ cd "$(dirname "$0")/.."
 below=
 find_below() {
     local name
-    for name in $(sed -n "s/^$1: *//p" crates.txt); do
+    for name in $(sed -n "s/^$1\( [^:]*\)\{0,1\}: *//p" crates.txt); do
         case " $below " in *" $name "*) continue ;; esac
-        grep -q "^$name:" crates.txt || continue # the toolchain's own
+        grep -q "^$name[ :]" crates.txt || continue # the toolchain's own
         find_below "$name"
         below="$below $name"
         echo "$name"

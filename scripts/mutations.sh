@@ -1,12 +1,13 @@
 #!/usr/bin/env bash
 # mutations.sh [EDIT]: tries the edits of mutations/, or one alone, each on a copy of the repository. On the edit's run the checker must
-# prove that the claim it names is false; an edit of mutations/harmless/ must be found harmless. Needs the crates below `trials` proved
-# in target/. Logs: target/mutations/NAME.log.
+# prove that the claim it names is false; an edit of mutations/harmless/ must be found harmless. Checks `trials` and the crates below it
+# first, as they stand: an edit's check begins with what that one kept. Logs: target/mutations/NAME.log.
 set -euo pipefail
 cd "$(dirname "$0")/.."
 
 edit=${1:-}
 logs=target/mutations
+errors=' error: \|^error'
 label=mutations
 [ -z "$edit" ] || label="mutation $(basename "$edit" .edit)"
 work=
@@ -52,17 +53,7 @@ mutations/*.edit)
     ;;
 esac
 
-# the crates below one, by crates.txt
-below=
-find_below() {
-    local name
-    for name in $(sed -n "s/^$1: *//p" crates.txt); do
-        case " $below " in *" $name "*) continue ;; esac
-        find_below "$name"
-        below="$below $name"
-    done
-}
-find_below trials
+below=$(scripts/below.sh trials)
 if [ -z "$below" ]; then
     say "FAILED: crates.txt has no crates below trials"
     exit 1
@@ -71,20 +62,26 @@ fi
 mkdir -p "$logs"
 work=$(mktemp -d)
 
+# `trials` and the crates below it as they stand, once for all edits
+if [ -z "${ZOLBINE_TRIALS_CHECKED:-}" ]; then
+    status=0
+    (cd crates/trials && rt check) >"$logs/trials.log" 2>&1 || status=$?
+    if [ "$status" -ne 0 ] || grep -q "$errors" "$logs/trials.log"; then
+        say "FAILED: the crates that the trials need aren't proved as they stand ($logs/trials.log)"
+        grep "$errors" "$logs/trials.log" | head -n 5
+        exit 1
+    fi
+    export ZOLBINE_TRIALS_CHECKED=yes
+fi
+
 field() { sed -n "s/^$1: //p" "$2"; }
 
-# copies `trials` and the crates below it, with their proofs
+# copies `trials` and the crates below it, with what their checks kept
 copy() {
-    mkdir -p "$1/crates" && cp crates.txt "$1/" || return
-    local name kind part
-    for name in $below trials; do cp -R "crates/$name" "$1/crates/" || return; done
-    for name in $below; do
-        for kind in log stamp obj rlib; do
-            mkdir -p "$1/target/$kind" || return
-            for part in "target/$kind/$name" "target/$kind/$name".*; do
-                [ ! -e "$part" ] || cp -R "$part" "$1/target/$kind/" || return
-            done
-        done
+    mkdir -p "$1/crates" || return
+    local name
+    for name in $below trials; do
+        cp -R "crates/$name" "$1/crates/" && grep "^$name[ :]" crates.txt >>"$1/crates.txt" || return
     done
 }
 
@@ -112,18 +109,17 @@ apply() {
 assert() {
     cat >"$2/crates/trials/specs/Verdict.antt" <<ANTT
 -- Assumes nothing.
-use mathlib.Core.Path.{_≡_, refl}
-use mathlib.Core.Bool.{true, false}
-use Rattle·trials·specs.specs.Trial.{claimOf, answer, refuted}
-use Rattle·trials·specs.specs.Trials.{unfoldedTrials, $1}
+use Rattle.std.specs.Prelude.{◌≡◌, refl, true, false}
+use Rattle.trials.specs.Trial.{claim_of, answer, refuted}
+use Rattle.trials.specs.Trials.{unfolded_trials, $1}
 
 verdict : answer $1 ≡ (true, $3)
-unfolding unfoldedTrials $1
+unfolding unfolded_trials $1
 verdict = refl
 ANTT
     [ "$3" = true ] || cat >>"$2/crates/trials/specs/Verdict.antt" <<ANTT
 
-claim-fails : claimOf $1 → ⊥
+claim-fails : claim_of $1 → ⊥
 claim-fails = refuted $1 verdict
 ANTT
 }
@@ -143,10 +139,10 @@ proved() {
     fi
     assert "$(field run "$edit")" "$at" "$answer"
     echo "pub mod Verdict" >>"$at/crates/trials/specs/Lib.antt"
-    (cd "$at" && rt check trials) >"$log" 2>&1 || status=$?
+    (cd "$at/crates/trials" && rt check --jobs 1) >"$log" 2>&1 || status=$?
     rm -rf "$at"
-    [ "$status" -ne 0 ] || return 0
-    if grep ': error: ' "$log" | grep -qv '/Verdict.antt:' || ! grep -q '/Verdict.antt:[0-9:]* error: `verdict`' "$log"; then
+    if [ "$status" -eq 0 ] && ! grep -q "$errors" "$log" && tail -n 1 "$log" | grep -q '^logic=proved '; then return 0; fi
+    if grep "$errors" "$log" | grep -qv '/Verdict.antt:' || ! grep -q '/Verdict.antt:[0-9:]* error: `verdict`' "$log"; then
         say "FAILED: an error that is not the answer's, so that the edit shows nothing ($log)"
         tail -n 20 "$log"
         return 2
@@ -184,9 +180,11 @@ case $edit in
 mutations/harmless/*) harmless ;;
 mutations/*) refutes ;;
 *)
-    # two at a time
+    # as many at a time as there are processors, four at most; each takes up to 2 GB
+    at_once=$(nproc)
+    [ "$at_once" -le 4 ] || at_once=4
     status=0
-    printf '%s\n' mutations/*.edit mutations/harmless/*.edit | xargs -n 1 -P 2 scripts/mutations.sh || status=$?
+    printf '%s\n' mutations/*.edit mutations/harmless/*.edit | xargs -n 1 -P "$at_once" scripts/mutations.sh || status=$?
     if [ "$status" -ne 0 ]; then
         say "FAILED"
         exit 1

@@ -16,7 +16,7 @@ claims="$claims dispatch_claims/specs/Answers dispatch_claims/specs/Tickets disp
 claims="$claims dispatch_claims/specs/SevenReached"
 
 {
-    find crates/*/specs crates/*/src crates/*/must-fail mutations scripts harness/data harness/tests -print | sed 's/^/path /'
+    find crates/*/specs crates/*/src crates/*/proofs crates/*/must-fail mutations scripts harness/data harness/tests -print | sed 's/^/path /'
     # each declaration as FILE: NAME, each function as CRATE::MODULE::NAME, and what is owed of them
     LC_ALL=C awk -v claims="$claims" '
         BEGIN { count = split(claims, list); for (i = 1; i <= count; i++) of_claims[list[i]] }
@@ -25,7 +25,8 @@ claims="$claims dispatch_claims/specs/SevenReached"
             sub(/^crates\//, "", file)
             sub(/\.(antt|rt)$/, "", file)
             code = file ~ /\/src\//
-            spec = file ~ /\/specs\//
+            # a law stands in specs/ or, in a file of laws, right in proofs/
+            spec = file ~ /\/specs\// || file ~ /^[^\/]*\/proofs\/[^\/]*$/
             module = file
             sub(/\/src\/(lib|main)$/, "", module)
             sub(/\/src\//, "::", module)
@@ -41,12 +42,12 @@ claims="$claims dispatch_claims/specs/SevenReached"
             sub(/^.*use Rattle[^a-z]*/, "", line)
             crate = line
             sub(/[^a-z0-9_].*/, "", crate)
-            if (!(i = index(line, ".specs."))) next
-            line = substr(line, i + 7)
+            if (!match(line, /\.(specs|proofs)\./)) next
+            line = substr(line, RSTART + 1)
             from = line
             sub(/(\.\{| as ).*/, "", from)
             gsub(/\./, "/", from)
-            from = crate "/specs/" from
+            from = crate "/" from
             if (!sub(/^[^{]*\{/, "", line)) { alias[from]; next }
             sub(/\}.*/, "", line)
             count = split(line, item, /, */)
@@ -56,7 +57,21 @@ claims="$claims dispatch_claims/specs/SevenReached"
             }
             next
         }
-        code && /^#\[no_mangle\]/ { exported = 1; next }
+        # what an attribute of tactics takes: `crate::proofs::Runs::law`
+        code && /^ *#!?\[tactic\(/ {
+            line = $0
+            while (match(line, /[a-z0-9_]+::(specs|proofs)::[A-Za-z0-9_:]+/)) {
+                from = substr(line, RSTART, RLENGTH)
+                line = substr(line, RSTART + RLENGTH)
+                if (from ~ /^crate::/) { crate = file; sub(/\/.*/, "", crate); sub(/^crate/, crate, from) }
+                gsub(/::/, "/", from)
+                sub(/\/[^\/]*$/, ": &", from)
+                sub(/: \//, ": ", from)
+                cited[from]
+            }
+            next
+        }
+        code && /^#\[unsafe\(no_mangle\)\]/ { exported = 1; next }
         code && match($0, /(^|[ \t])(fn|struct|enum|const) [A-Za-z0-9_]+/) {
             name = substr($0, RSTART, RLENGTH)
             sub(/.* /, "", name)

@@ -3,7 +3,7 @@
 set -uo pipefail
 cd "$(dirname "$0")/.."
 
-kit="rattle-kit-5b"
+kit="rattle-kit-13f"
 rust=$(sed -n 's/^rust-version = "\(.*\)"/\1/p' harness/Cargo.toml)
 compiler=${CC:-gcc}
 missing=()

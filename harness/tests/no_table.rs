@@ -155,6 +155,8 @@ fn each_form_of_a_table_is_found() {
 
 fn files_below(folder: &Path) -> Vec<PathBuf> {
     let entries = fs::read_dir(folder).unwrap().map(|entry| entry.unwrap().path());
+    // What rt keeps is no source.
+    let entries = entries.filter(|path| path.file_name() != Some("out".as_ref()));
     entries.flat_map(|path| if path.is_dir() { files_below(&path) } else { vec![path] }).collect()
 }
 
@@ -163,7 +165,7 @@ fn files_below(folder: &Path) -> Vec<PathBuf> {
 fn source_spells_them_in_one_law_alone() {
     let mut spelling = files_below(&file("crates"));
     spelling.retain(|path| !spelled(&String::from_utf8_lossy(&fs::read(path).unwrap())).is_empty());
-    let law = file("crates/fips180/specs/RuleLaws.antt");
+    let law = file("crates/fips180/proofs/ConstantsLaws.antt");
     assert_eq!(spelling, [law.as_path()]);
     assert_eq!(spelled(&fs::read_to_string(law).unwrap()), K);
 }

@@ -33,7 +33,7 @@ fn a_wrong_script_is_told() {
     }
 }
 
-/// The linked program; `rt check yard_program` makes it.
+/// The linked program; `rt ci` makes it, and `rt run` in its folder.
 #[cfg(feature = "yard")]
 mod program {
     use std::process::Command;
@@ -42,7 +42,7 @@ mod program {
     use harness::yard::{hearing, opening, printed, random_input};
     use harness::{fleet, parallel, reference, yard};
 
-    const PROGRAM: &str = concat!(env!("CARGO_MANIFEST_DIR"), "/../target/bin/yard_program");
+    const PROGRAM: &str = concat!(env!("CARGO_MANIFEST_DIR"), "/../crates/yard_program/out/yard_program");
 
     #[test]
     fn on_the_scripts() {
