@@ -1,5 +1,8 @@
--- Refusals by number: `Refusal` has the rows of a call, `Order` the first number in a written order, `Lowest` the lowest number.
+-- Refusals by number: `Answers` has the numbers of the code's enum, `Refusal` the rows of a call, `Order` the first number in a written
+-- order, `Lowest` the lowest number.
 -- `XLaws` has the laws of `X`.
+pub mod Answers
+pub mod AnswersLaws
 pub mod Refusal
 pub mod RefusalLaws
 pub mod Order

@@ -1,43 +1,44 @@
-// The numbers of document 01's table, "What is turned back", and of document 02, items 2 and 6.
+// The refusals of document 01's table, "What is turned back", and of document 02, items 2 and 6.
 #![tactic(auto)]
 
-pub const SIZE: u32 = 1;
+ghost use Rattle.std.specs.Prelude.{◌≡◌};
 
-pub const SEAT: u32 = 2;
+// A refusal, by its number in the table. 13 is retired: "Number 13 no longer occurs" (document 02, item 1).
+#[derive(Clone, Copy, Debug, PartialEq, Eq)]
+pub enum Refusal {
+    Size = 1,
+    Seat = 2,
+    Round = 3,
+    Record = 4,
+    Keys = 5,
+    Store = 6,
+    Out = 7,
+    Said = 8,
+    Garbled = 9,
+    OtherRound = 10,
+    Stranger = 11,
+    Disorder = 12,
+    Signature = 14,
+    NoConflict = 15,
+    KeyMaterial = 16,
 
-pub const ROUND: u32 = 3;
+    // Of reading a note; it comes before 4.
+    Note = 17,
 
-pub const RECORD: u32 = 4;
+    // Of the dispatcher; both come after 4.
+    Lane = 18,
+    Full = 19,
+}
 
-pub const KEYS: u32 = 5;
+impl Refusal {
+    ghost use Rattle.refusal.specs.Answers.{number_of};
 
-pub const STORE: u32 = 6;
+    // The number of a refusal, as C gets it.
+    pub fn number(self) -> u32
+        ensures { result ≡ number_of self }
+    {
+        self as u32
+    }
+}
 
-pub const OUT: u32 = 7;
-
-pub const SAID: u32 = 8;
-
-pub const GARBLED: u32 = 9;
-
-pub const OTHER_ROUND: u32 = 10;
-
-pub const STRANGER: u32 = 11;
-
-pub const DISORDER: u32 = 12;
-
-// Retired: "Number 13 no longer occurs" (document 02, item 1).
-pub const EARLY: u32 = 13;
-
-pub const SIGNATURE: u32 = 14;
-
-pub const NO_CONFLICT: u32 = 15;
-
-pub const KEY_MATERIAL: u32 = 16;
-
-// Of reading a note; it comes before 4.
-pub const NOTE: u32 = 17;
-
-// Of the dispatcher; both come after 4.
-pub const LANE: u32 = 18;
-
-pub const FULL: u32 = 19;
+pub mod answers;
