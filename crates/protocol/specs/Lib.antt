@@ -6,6 +6,7 @@
 -- signature and the calls on keys and signatures, and `Calls` each other call as a whole. `XLaws` has the laws of `X`,
 -- `SeatLaws` those of rising lists of seats and their sets, `RoundTripLaws` the law that bytes read are written back the same, `SignatureClaim` the claim that signatures made by the signer are
 -- accepted, `NoteClaim` the claims on a note written and read back.
+pub mod Answers
 pub mod Layout
 pub mod LayoutLaws
 pub mod Figures

@@ -3,9 +3,13 @@
 #![tactic(auto)]
 
 ghost use Rattle.std.specs.Prelude.{◌≡◌};
+ghost use Rattle.refusal.specs.Answers.{number_in};
 ghost use Rattle.protocol.specs.Signatures.{signature_number};
 
 use quorum::Mask;
+use refusal::Refusal;
+
+mod answers;
 
 // The own submission: whether there is one, its value, and the seats whose signatures over it are collected.
 #[repr(C)]
@@ -83,20 +87,13 @@ pub struct Checked {
     pub mask: Mask,
 }
 
-// Verdict on a signature, or on several: the refusal number or 0.
-#[derive(Clone, Copy)]
-pub struct Verdict {
-    pub number: u32,
-}
-
-// The verdict on signatures that are accepted or not.
-pub fn signature_verdict(accepted: bool) -> Verdict
-    ensures { result.number ≡ signature_number accepted }
+// The answer on signatures that are accepted or not.
+pub fn signature_verdict(accepted: bool) -> Result<(), Refusal>
+    ensures { number_in result ≡ signature_number accepted }
 {
     if accepted {
-        return Verdict { number: 0 };
-    }
-    Verdict {
-        number: refusal::SIGNATURE,
+        Ok(())
+    } else {
+        Err(Refusal::Signature)
     }
 }
