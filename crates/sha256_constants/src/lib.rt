@@ -70,23 +70,29 @@ fn fraction(p: u64, root4: u64) -> u32
     (root32 % 4294967296) as u32
 }
 
-// The 64 round constants, section 4.2.2. From one prime to the next the root with 4 bits after the point climbs on.
-pub fn round_constants() -> [u32; 64]
-    ensures { result ≡ constants }
+// The 64 round constants, section 4.2.2.
+#[derive(Clone, Copy)]
+pub struct RoundConstants {
+    pub words: [u32; 64],
+
+    pub ghost standard: { words ≡ constants },
+}
+
+// The round constants, worked out. From one prime to the next the root with 4 bits after the point climbs on.
+pub fn round_constants() -> RoundConstants
+    ensures { result.words ≡ constants }
 {
-    let mut k = [0u32; 64];
+    let mut words = [0u32; 64];
     let mut count = 0;
     let mut root4 = 0;
-    let mut n = 2;
-    while n < 312 {
+    for n in 2..312 {
         if prime(n) {
             root4 = climbed(root4, n << 12);
-            k[count] = fraction(n, root4);
+            words[count] = fraction(n, root4);
             count += 1;
         }
-        n += 1;
     }
-    k
+    RoundConstants { words }
 }
 
 // The initial hash value, section 5.3.3.
