@@ -1,13 +1,15 @@
 // The calls of document 01 on keys and signatures.
 ghost use Rattle.std.specs.Prelude.{◌≡◌, length};
 ghost use Rattle.octets.specs.Octets.{patch};
+ghost use Rattle.refusal.specs.Answers.{number_in};
+ghost use Rattle.protocol.specs.Answers.{written_in};
 ghost use Rattle.protocol.specs.Refusals.{too_long, wrong_maker_material, wrong_signer_material};
 ghost use Rattle.protocol.specs.Signatures as signatures;
 ghost use Rattle.protocol.specs.Signatures.{make_key_refusal, make_key, sign_refusal, check_signature};
 
 use crate::tree::make;
 use crate::{signer, verify};
-use protocol::Written;
+use refusal::Refusal;
 
 // Whether the seed is not 32 bytes, the identifier not 16 or the tree not 65,536.
 fn wrong_maker_material(seed: &[u8], identifier: &[u8], tree: &[u8]) -> bool
@@ -36,38 +38,34 @@ fn is_too_long(message: &[u8]) -> bool
 }
 
 // Refusal of the key maker.
-fn make_key_refusal(seed: &[u8], identifier: &[u8], tree: &[u8], out: &[u8]) -> u32
-    ensures { result ≡ make_key_refusal seed.now identifier.now tree.now out.now }
+fn make_key_refusal(seed: &[u8], identifier: &[u8], tree: &[u8], out: &[u8]) -> Result<(), Refusal>
+    ensures { number_in result ≡ make_key_refusal seed.now identifier.now tree.now out.now }
 {
     if out.len() < layout::key_length() {
-        return refusal::OUT;
+        return Err(Refusal::Out);
     }
     if wrong_maker_material(seed, identifier, tree) {
-        return refusal::KEY_MATERIAL;
+        return Err(Refusal::KeyMaterial);
     }
-    0
+    Ok(())
 }
 
 // Makes a key of types 6 and 4: fills the tree, and writes the public key.
-pub fn make_key(seed: &[u8], identifier: &[u8], tree: &mut [u8], out: &mut [u8]) -> Written
+pub fn make_key(
+    seed: &[u8],
+    identifier: &[u8],
+    tree: &mut [u8],
+    out: &mut [u8],
+) -> Result<u32, Refusal>
     ensures { let outcome = make_key seed.now identifier.now tree.old out.old in
-        (result.number ≡ outcome.refusal)
-        × (result.written ≡ length outcome.written)
+        ((written_in result).number ≡ outcome.refusal)
+        × ((written_in result).written ≡ length outcome.written)
         × (tree.new ≡ outcome.tree)
         × (out.new ≡ patch 0 outcome.written out.old) }
 {
-    let n = make_key_refusal(seed, identifier, tree, out);
-    if n != 0 {
-        return Written {
-            number: n,
-            written: 0,
-        };
-    }
+    make_key_refusal(seed, identifier, tree, out)?;
     make(seed, identifier, tree, out);
-    Written {
-        number: 0,
-        written: layout::key_length() as u32,
-    }
+    Ok(layout::key_length() as u32)
 }
 
 // Refusal of the signer.
@@ -79,22 +77,22 @@ fn sign_refusal(
     tree: &[u8],
     message: &[u8],
     out: &[u8],
-) -> u32
-    ensures { result ≡ sign_refusal leaf message.now seed.now identifier.now randomizer.now tree.now out.now }
+) -> Result<(), Refusal>
+    ensures { number_in result ≡ sign_refusal leaf message.now seed.now identifier.now randomizer.now tree.now out.now }
 {
     if layout::last_round() < leaf {
-        return refusal::ROUND;
+        return Err(Refusal::Round);
     }
     if out.len() < layout::signature_length() {
-        return refusal::OUT;
+        return Err(Refusal::Out);
     }
     if is_too_long(message) {
-        return refusal::GARBLED;
+        return Err(Refusal::Garbled);
     }
     if wrong_signer_material(seed, identifier, randomizer, tree) {
-        return refusal::KEY_MATERIAL;
+        return Err(Refusal::KeyMaterial);
     }
-    0
+    Ok(())
 }
 
 // Signs a message with a leaf of a key of types 6 and 4.
@@ -106,38 +104,28 @@ pub fn sign(
     tree: &[u8],
     message: &[u8],
     out: &mut [u8],
-) -> Written
+) -> Result<u32, Refusal>
     ensures { let outcome = signatures.sign leaf message.now
         seed.now identifier.now randomizer.now tree.now out.old in
-        (result.number ≡ outcome.refusal)
-        × (result.written ≡ length outcome.written)
+        ((written_in result).number ≡ outcome.refusal)
+        × ((written_in result).written ≡ length outcome.written)
         × (out.new ≡ patch 0 outcome.written out.old) }
 {
-    let n = sign_refusal(leaf, seed, identifier, randomizer, tree, message, out);
-    if n != 0 {
-        return Written {
-            number: n,
-            written: 0,
-        };
-    }
+    sign_refusal(leaf, seed, identifier, randomizer, tree, message, out)?;
     signer::write_signature(leaf, seed, identifier, randomizer, tree, message, out);
-    Written {
-        number: 0,
-        written: layout::signature_length() as u32,
-    }
+    Ok(layout::signature_length() as u32)
 }
 
-// Check of a signature of a message: the refusal number, or 0.
-pub fn check_signature(key: &[u8], message: &[u8], signature: &[u8]) -> u32
-    ensures { result ≡ check_signature key.now message.now signature.now }
+// Check of a signature of a message.
+pub fn check_signature(key: &[u8], message: &[u8], signature: &[u8]) -> Result<(), Refusal>
+    ensures { number_in result ≡ check_signature key.now message.now signature.now }
 {
     if verify::key_refused(key) {
-        return refusal::KEYS;
+        return Err(Refusal::Keys);
     }
     if is_too_long(message) {
-        return refusal::GARBLED;
+        return Err(Refusal::Garbled);
     }
     let k = sha256_constants::round_constants();
-    let v = verify::verified(&k, key, message, signature);
-    v.number
+    verify::verified(&k, key, message, signature)
 }

@@ -103,6 +103,8 @@ pub(crate) fn write_signature(
     let id_words = lmots_digits::words::four(id, 0);
     let seed_words = lmots_digits::words::eight(seed, 0);
     write_head(leaf, randomizer, out);
-    write_values(&k, id_words, seed_words, leaf, randomizer, message, out);
+    write_values(
+        &k.words, id_words, seed_words, leaf, randomizer, message, out,
+    );
     write_tail(tree, leaf, out);
 }

@@ -85,6 +85,6 @@ pub(crate) fn make(seed: &[u8], id: &[u8], tree: &mut [u8], out: &mut [u8])
     let k = sha256_constants::round_constants();
     let id_words = lmots_digits::words::four(id, 0);
     let seed_words = lmots_digits::words::eight(seed, 0);
-    fill(&k, id_words, seed_words, tree);
+    fill(&k.words, id_words, seed_words, tree);
     write_key(id, node::bytes_at(tree, 32, 32), out);
 }

@@ -8,11 +8,13 @@ ghost use Rattle.rfc8554.specs.Ots.{known_ots, ots_length, candidate};
 ghost use Rattle.rfc8554.specs.Tree as Tree;
 ghost use Rattle.rfc8554.specs.Tree.{known_lms, leaf_input};
 ghost use Rattle.rfc8554.specs.Verify.{leaf_of, ots_part, level_up, climbed, root_candidate, signature_length, signature_invalid, valid};
+ghost use Rattle.refusal.specs.Answers.{number_in};
 ghost use Rattle.protocol.specs.Refusals.{wrong_key};
 ghost use Rattle.protocol.specs.Signatures.{signature_number};
 
 use crate::node;
-use protocol::Verdict;
+use refusal::Refusal;
+use sha256_constants::RoundConstants;
 
 // ---- parameters
 
@@ -176,20 +178,23 @@ fn root_candidate(
     climb(k, id, h, w, r, signature, start)
 }
 
-// Verdict on the signature of a message under a key of known types: whether RFC 8554 accepts it.
-pub fn verified(k: &[u32; 64], key: &[u8], message: &[u8], signature: &[u8]) -> Verdict
-    requires { (k.now ≡ constants) × (length key.now ≡ 56) × (wrong_key key.now ≡ false) }
-    ensures { result.number ≡ signature_number (valid key.now message.now signature.now) }
+// Whether RFC 8554 accepts the signature of a message under a key of known types.
+pub fn verified(
+    k: &RoundConstants,
+    key: &[u8],
+    message: &[u8],
+    signature: &[u8],
+) -> Result<(), Refusal>
+    requires { (length key.now ≡ 56) × (wrong_key key.now ≡ false) }
+    ensures { number_in result ≡ signature_number (valid key.now message.now signature.now) }
 {
     let lms = octets::word_at(key, 0);
     let ots = octets::word_at(key, 4);
     if signature_refused(lms, ots, signature) {
-        return Verdict {
-            number: refusal::SIGNATURE,
-        };
+        return Err(Refusal::Signature);
     }
     let id = lmots_digits::words::four(key, 8);
-    let root = root_candidate(k, id, lms, ots, message, signature);
+    let root = root_candidate(&k.words, id, lms, ots, message, signature);
     let accepted = octets::same(&root, node::bytes_at(key, 24, 32));
     protocol::signature_verdict(accepted)
 }
