@@ -1,7 +1,6 @@
 // The check of a signature (RFC 8554, section 5.4.2).
 ghost use Rattle.std.specs.Prelude.{◌≡◌, false, ◌⊎◌, ◌+◌, ◌*◌, ◌^◌, ◌≤◌, ◌<◌, length};
 ghost use Rattle.octets.specs.Octets.{bytes};
-ghost use Rattle.fips180.specs.Constants.{constants};
 ghost use Rattle.fips180.specs.Fips as Fips;
 ghost use Rattle.rfc8554.specs.Ots as Ots;
 ghost use Rattle.rfc8554.specs.Ots.{known_ots, ots_length, candidate};
@@ -101,8 +100,8 @@ fn signature_refused(lms: u32, ots: u32, signature: &[u8]) -> bool
 // ---- the climb
 
 // The parent of the node r, from its value tmp and the node beside it.
-fn level_up(k: &[u32; 64], id: [u32; 4], r: u32, beside: &[u8], tmp: &[u8]) -> [u8; 32]
-    requires { (k.now ≡ constants) × (length beside.now ≡ 32) × (length tmp.now ≡ 32) }
+fn level_up(k: &RoundConstants, id: [u32; 4], r: u32, beside: &[u8], tmp: &[u8]) -> [u8; 32]
+    requires { (length beside.now ≡ 32) × (length tmp.now ≡ 32) }
     ensures { result ≡ level_up (bytes id) r beside.now tmp.now }
 {
     if r % 2 == 1 {
@@ -113,7 +112,7 @@ fn level_up(k: &[u32; 64], id: [u32; 4], r: u32, beside: &[u8], tmp: &[u8]) -> [
 
 // The node h levels above the leaf r, from the leaf's value `start` and the path in the signature.
 fn climb(
-    k: &[u32; 64],
+    k: &RoundConstants,
     id: [u32; 4],
     h: usize,
     w: u32,
@@ -121,19 +120,16 @@ fn climb(
     signature: &[u8],
     start: [u8; 32],
 ) -> [u8; 32]
-    requires { (k.now ≡ constants) × (length signature.now ≡ signature_length h w) }
+    requires { length signature.now ≡ signature_length h w }
     ensures { result ≡ climbed (bytes id) w r signature.now start h }
 {
     let at = 8 + ots_length(w);
     let mut tmp = start;
     let mut x = r;
-    let mut i = 0;
-    while i < h {
+    for i in 0..h {
         let beside = node::bytes_at(signature, at + 32 * i, 32);
-        let n = level_up(k, id, x, beside, &tmp);
-        tmp = n;
+        tmp = level_up(k, id, x, beside, &tmp);
         x = x / 2;
-        i += 1;
     }
     tmp
 }
@@ -142,7 +138,7 @@ fn climb(
 
 // The leaf r, over the candidate key of the signature of leaf q.
 fn leaf_candidate(
-    k: &[u32; 64],
+    k: &RoundConstants,
     id: [u32; 4],
     w: u32,
     q: u32,
@@ -150,24 +146,24 @@ fn leaf_candidate(
     message: &[u8],
     signature: &[u8],
 ) -> [u8; 32]
-    requires { (k.now ≡ constants) × ((w ≡ 4) ⊎ (w ≡ 8)) × (4 + ots_length w ≤ length signature.now) }
+    requires { ((w ≡ 4) ⊎ (w ≡ 8)) × (4 + ots_length w ≤ length signature.now) }
     ensures { result ≡ Fips.sha256 (leaf_input (bytes id) r (candidate (bytes id) q w message.now (ots_part w signature.now))) }
 {
     let sig = node::bytes_at(signature, 4, ots_length(w));
-    let key = lmots::key::candidate(k, id, q, w, message, sig);
+    let key = lmots::key::candidate(&k.words, id, q, w, message, sig);
     node::leaf(k, id, r, &key)
 }
 
 // The candidate root of a signature, for a key of these types.
 fn root_candidate(
-    k: &[u32; 64],
+    k: &RoundConstants,
     id: [u32; 4],
     lms: u32,
     ots: u32,
     message: &[u8],
     signature: &[u8],
 ) -> [u8; 32]
-    requires { (k.now ≡ constants) × (length signature.now ≡ signature_length (Tree.height lms) (Ots.width ots)) × (leaf_of signature.now < 2 ^ Tree.height lms) }
+    requires { (length signature.now ≡ signature_length (Tree.height lms) (Ots.width ots)) × (leaf_of signature.now < 2 ^ Tree.height lms) }
     ensures { result ≡ root_candidate (Tree.height lms) (Ots.width ots) (bytes id) message.now signature.now }
 {
     let w = width(ots);
@@ -194,7 +190,7 @@ pub fn verified(
         return Err(Refusal::Signature);
     }
     let id = lmots_digits::words::four(key, 8);
-    let root = root_candidate(&k.words, id, lms, ots, message, signature);
+    let root = root_candidate(k, id, lms, ots, message, signature);
     let accepted = octets::same(&root, node::bytes_at(key, 24, 32));
     protocol::signature_verdict(accepted)
 }

@@ -8,7 +8,7 @@ returns-then-signature_refused c = search signature_rejected
 pub root_candidate-root-requires : goal.root_candidate-root-requires
 root_candidate-root-requires c =
     let fits = signature-fits _ _ _ (sym c.signature_refused.ensures ∙ c.if-signature_refused.false) in
-    (c.args.k.now.standard, fits.0, fits.1)
+    (fits.0, fits.1)
 
 pub returns : goal.returns
 returns c = search signature_compared
