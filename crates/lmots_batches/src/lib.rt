@@ -61,8 +61,8 @@ impl Chains {
         ensures { (result ≤ 64) × ((l : ℕ) → l < 16 → result ≤ get_or self.now.ends (get_or picks.now.chains l 0) 0 - get_or self.now.places (get_or picks.now.chains l 0) 0) }
     {
         let mut count: u32 = 64;
-        for l in 0..16 {
-            count = count.min(self.left(picks.chains[l]));
+        for &i in &picks.chains {
+            count = count.min(self.left(i));
         }
         count
     }
@@ -80,18 +80,12 @@ impl Chains {
     }
 }
 
-// The first of n chains with the most steps left. `max_by_key` takes the last of them.
+// A chain with the most steps left, of the first n.
 fn longest(rest: &[u32; 67], n: usize) -> usize
     requires { (0 < n) × (n ≤ 67) }
     ensures { result < n }
 {
-    let mut best = 0;
-    for i in 1..n {
-        if rest[best] < rest[i] {
-            best = i;
-        }
-    }
-    best
+    (0..n).max_by_key(|&i| rest[i]).unwrap_or(0)
 }
 
 // The sixteen of n chains with the most steps left. Where fewer than sixteen have steps left, the longest is taken again.
