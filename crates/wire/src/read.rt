@@ -36,10 +36,10 @@ pub fn number_at(m: &[u8], at: usize) -> u32
 pub fn byte_or_zero(m: &[u8], at: usize) -> u32
     ensures { (result ≡ byte_at m.now at) × (result < 256) }
 {
-    if m.len() <= at {
-        return 0;
+    match m.get(at) {
+        Some(&b) => u32::from(b),
+        None => 0,
     }
-    number_at(m, at)
 }
 
 // The round: the two bytes after the command.

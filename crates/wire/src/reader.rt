@@ -4,7 +4,6 @@ ghost use Rattle.std.specs.Prelude.{◌≡◌, ◌+◌, ◌<◌, ◌^◌};
 ghost use Rattle.wire.specs.Answers.{Found};
 
 use crate::entries::{Entry, seat_of_entry};
-use crate::read::number_at;
 
 #[derive(Clone, Copy)]
 pub struct Reader<'a> {
@@ -16,16 +15,9 @@ pub struct Reader<'a> {
 fn entry_at(full: &[u8], next: usize) -> Option<Entry>
     ensures { Found next full.now result }
 {
-    let count_at = layout::full_count_at();
-    if full.len() <= count_at {
-        return None;
-    }
-    let count = number_at(full, count_at) as usize;
+    let count = usize::from(*full.get(layout::full_count_at())?);
     let entries = layout::full_entries(count);
-    if full.len() < layout::entry_at(entries, count) {
-        return None;
-    }
-    if count <= next {
+    if full.len() < layout::entry_at(entries, count) || count <= next {
         return None;
     }
     Some(Entry {

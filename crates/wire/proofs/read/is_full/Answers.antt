@@ -1,8 +1,6 @@
-use Rattle.std.proofs.Common.{◌≡◌, sym, ap, ◌∙◌, arith}
-use Rattle.quorum.specs.Quorum.{k}
-use Rattle.protocol.specs.Layout.{signature_length, full_count_at, full_entry_length}
+use Rattle.std.proofs.Common.{ap, ◌∙◌, arith}
+use Rattle.protocol.specs.Layout.{signature_length, full_entry_length}
 use Rattle.protocol.specs.Figures.{full_figure}
-use Rattle.protocol.specs.Message.{byte_at}
 use Rattle.layout.specs.Places.{full}
 use Rattle.wire.specs.FormLaws.{full-start, full-begun, full-count, full-entries}
 use Rattle.wire.proofs.read.is_full.Goals as goal
