@@ -1,5 +1,6 @@
 -- Laws of byte strings: parts, patches and numbers read back, joined and compared strings.
-use Rattle.std.specs.Prelude.{◌≡◌, refl, Bool, true, false, List, [], ◌∷◌, ◌++◌, ℕ, zero, suc, ◌+◌, ◌*◌, ◌/◌, ◌%◌, ◌^◌, ◌≤◌, ◌<◌, eqb, length, take, drop, get_or}
+use lib.Pointwise.{pointwise}
+use Rattle.std.specs.Prelude.{◌≡◌, refl, Bool, true, false, ◌&&◌, List, [], ◌∷◌, ◌++◌, ℕ, zero, suc, ◌+◌, ◌*◌, ◌/◌, ◌%◌, ◌^◌, ◌≤◌, ◌<◌, eqb, length, take, drop, get_or}
 use Rattle.std.proofs.Common.{sym, ap, ap₂, ◌∙◌, ⊎_elim, append_assoc, append-nil, add_assoc, add-zero, add-suc, pow-suc, eq-or-lt_of_le, le_of_suc-le-suc, mul-le-mul_left, div-lt_iff_lt-mul, add-one, arith, lit<, length-append, length-take, length-drop, ext_get_or, drop_at, take-take, drop-drop, drop-cons, take_all, length-take-le, eqb-true, eq-eqb}
 use Rattle.std.proofs.Math.Bool.{and-eq-true_iff}
 use Rattle.std.proofs.lemmas.Bool.{false≢true}
@@ -186,6 +187,14 @@ joined-add f n zero = rw (add-zero, append-nil)
 joined-add f n (suc m) = rw (add-suc, joined-add f n m, append_assoc)
 
 -- ---- compared strings
+
+-- the answer of `==` at slices and arrays of bytes
+pub equal_same : (xs ys : List ℕ) → pointwise eqb xs ys ≡ same xs ys
+unfolding same
+equal_same [] [] = refl
+equal_same [] (y ∷ ys) = refl
+equal_same (x ∷ xs) [] = refl
+equal_same (x ∷ xs) (y ∷ ys) = ap (λ b. eqb x y && b) (equal_same xs ys)
 
 pub same_refl : (xs : List ℕ) → same xs xs ≡ true
 unfolding same
