@@ -21,6 +21,14 @@ pub struct Source {
     pub seats: Mask,
 }
 
+// A certificate to read: its value, its source, and the bytes with its signatures.
+#[derive(Clone, Copy)]
+pub struct Certificate<'a> {
+    pub value: [u8; 32],
+    pub source: Source,
+    pub bytes: &'a [u8],
+}
+
 // The bytes with the signatures: the message m, or the store.
 pub fn bytes_of<'a>(source: Source, store: &'a [u8], m: &'a [u8]) -> &'a [u8]
     ensures { result.now ≡ bytes_of source.place store.now m.now }
