@@ -1,18 +1,8 @@
--- The commands that calls take, and a message's 9 to 12.
+-- The form of a message: 9 to 12.
 -- Assumes nothing.
-use Rattle.std.specs.Prelude.{◌≡◌, Bool, true, false, ◌&&◌, List, [], ◌∷◌, ℕ, leb}
+use Rattle.std.specs.Prelude.{◌≡◌, Bool, true, false, List, [], ◌∷◌, ℕ}
 use Rattle.protocol.specs.Message.{Message}
 use Rattle.protocol.specs.Refusals.{Condition, other_round, stranger, disorder, GARBLED, OTHER_ROUND, STRANGER, DISORDER}
-use Rattle.wire.specs.Answers.{command_of}
-use Rattle.wire.specs.declared.read.Kind.{Kind}
-
--- ---- the commands that a call takes
-
--- those from `first` to `last`
-unfoldable pub within : ℕ → ℕ → Kind → Bool
-within first last t = leb first (command_of t) && leb (command_of t) last
-
--- ---- the form of a message: 9 to 12
 
 -- 9 to 12, without the signatures
 unfoldable pub form_conditions : ℕ → ℕ → Bool → Message → List Condition

@@ -1,8 +1,8 @@
--- The commands that calls take, and a message's 9 to 14, return by return.
+-- The kinds that calls take, and a message's 9 to 14, return by return.
 -- Assumes nothing.
-use Rattle.std.specs.Prelude.{◌≡◌, Bool, true, [], ◌∷◌, ℕ}
+use Rattle.std.specs.Prelude.{◌≡◌, Bool, true, false, [], ◌∷◌, ℕ}
 use Rattle.std.proofs.Math.Path.{refl, sym}
-use Rattle.std.proofs.Common.{ap, ◌∙◌}
+use Rattle.std.proofs.Common.{◌∙◌}
 use Rattle.std.proofs.lemmas.Bool.{false≢true}
 use borrow.Author.Tests.{not-false}
 use Rattle.refusal.specs.Refusal.{first_of, numbers, nonzero}
@@ -10,65 +10,83 @@ use Rattle.refusal.specs.RefusalLaws.{first_of-zero, refused_first, refused-late
 use Rattle.protocol.specs.Message.{ValuesOnce, ValuesEach, Message, Submit, Notice, Full, Evidence, Garbled}
 use Rattle.protocol.specs.Refusals.{Checks, is_for_step, is_full, is_evidence, is_new_evidence, SIGNATURE, message_conditions}
 use Rattle.wire.specs.Reading.{kind_of}
-use Rattle.wire.specs.Answers.{command_of}
 use Rattle.wire.specs.declared.read.Kind.{Kind}
 use Rattle.wire.specs.declared.read.Kind.TheVariants as kind
-use Rattle.forms.specs.Messages.{within, form_conditions, Formed}
+use Rattle.forms.specs.Messages.{form_conditions, Formed}
 
--- ---- the commands that a call takes
+-- ---- the kinds that a call takes
 
 -- "A step takes 0x01 to 0x03"
-for_step_lem : (m : Message) → within 0x01 0x03 (kind_of m) ≡ is_for_step m
-unfolding within command_of kind_of is_for_step
-for_step_lem (Submit round seat value signature) = refl
-for_step_lem (Notice round seat value) = refl
-for_step_lem (Full round sender value entries) = refl
-for_step_lem (Evidence round (ValuesOnce values) entries) = refl
-for_step_lem (Evidence round ValuesEach entries) = refl
-for_step_lem Garbled = refl
+abbrev pub for_step_kind : Kind → Bool
+for_step_kind kind.Submit = true
+for_step_kind kind.Notice = true
+for_step_kind kind.Full = true
+for_step_kind kind.OldEvidence = false
+for_step_kind kind.Evidence = false
+for_step_kind kind.Garbled = false
+
+pub kind-for_step : (m : Message) → for_step_kind (kind_of m) ≡ is_for_step m
+unfolding kind_of is_for_step
+kind-for_step (Submit round seat value signature) = refl
+kind-for_step (Notice round seat value) = refl
+kind-for_step (Full round sender value entries) = refl
+kind-for_step (Evidence round (ValuesOnce values) entries) = refl
+kind-for_step (Evidence round ValuesEach entries) = refl
+kind-for_step Garbled = refl
 
 -- a certificate is "0x03 FULL"
-for_certificate : (m : Message) → within 0x03 0x03 (kind_of m) ≡ is_full m
-unfolding within command_of kind_of is_full
-for_certificate (Submit round seat value signature) = refl
-for_certificate (Notice round seat value) = refl
-for_certificate (Full round sender value entries) = refl
-for_certificate (Evidence round (ValuesOnce values) entries) = refl
-for_certificate (Evidence round ValuesEach entries) = refl
-for_certificate Garbled = refl
+abbrev pub certificate_kind : Kind → Bool
+certificate_kind kind.Submit = false
+certificate_kind kind.Notice = false
+certificate_kind kind.Full = true
+certificate_kind kind.OldEvidence = false
+certificate_kind kind.Evidence = false
+certificate_kind kind.Garbled = false
+
+pub kind-certificate : (m : Message) → certificate_kind (kind_of m) ≡ is_full m
+unfolding kind_of is_full
+kind-certificate (Submit round seat value signature) = refl
+kind-certificate (Notice round seat value) = refl
+kind-certificate (Full round sender value entries) = refl
+kind-certificate (Evidence round (ValuesOnce values) entries) = refl
+kind-certificate (Evidence round ValuesEach entries) = refl
+kind-certificate Garbled = refl
 
 -- "EVIDENCE goes to its own check": 0x07, and "The old 0x05 is still accepted by the check." (document 02, item 3). 0x06 starts no message.
-for_evidence : (m : Message) → within 0x05 0x07 (kind_of m) ≡ is_evidence m
-unfolding within command_of kind_of is_evidence
-for_evidence (Submit round seat value signature) = refl
-for_evidence (Notice round seat value) = refl
-for_evidence (Full round sender value entries) = refl
-for_evidence (Evidence round (ValuesOnce values) entries) = refl
-for_evidence (Evidence round ValuesEach entries) = refl
-for_evidence Garbled = refl
+abbrev pub evidence_kind : Kind → Bool
+evidence_kind kind.Submit = false
+evidence_kind kind.Notice = false
+evidence_kind kind.Full = false
+evidence_kind kind.OldEvidence = true
+evidence_kind kind.Evidence = true
+evidence_kind kind.Garbled = false
+
+pub kind-evidence : (m : Message) → evidence_kind (kind_of m) ≡ is_evidence m
+unfolding kind_of is_evidence
+kind-evidence (Submit round seat value signature) = refl
+kind-evidence (Notice round seat value) = refl
+kind-evidence (Full round sender value entries) = refl
+kind-evidence (Evidence round (ValuesOnce values) entries) = refl
+kind-evidence (Evidence round ValuesEach entries) = refl
+kind-evidence Garbled = refl
 
 -- "a 0x05 pack is 9 here" (document 02, item 5)
-for_joining : (m : Message) → within 0x07 0x07 (kind_of m) ≡ is_new_evidence m
-unfolding within command_of kind_of is_new_evidence
-for_joining (Submit round seat value signature) = refl
-for_joining (Notice round seat value) = refl
-for_joining (Full round sender value entries) = refl
-for_joining (Evidence round (ValuesOnce values) entries) = refl
-for_joining (Evidence round ValuesEach entries) = refl
-for_joining Garbled = refl
+abbrev pub new_evidence_kind : Kind → Bool
+new_evidence_kind kind.Submit = false
+new_evidence_kind kind.Notice = false
+new_evidence_kind kind.Full = false
+new_evidence_kind kind.OldEvidence = false
+new_evidence_kind kind.Evidence = true
+new_evidence_kind kind.Garbled = false
 
-module _ (m : Message) (t : Kind) (e : t ≡ kind_of m) (b : Bool) where
-  pub step-takes : b ≡ within 0x01 0x03 t → b ≡ is_for_step m
-  step-takes f = f ∙ ap (within 0x01 0x03) e ∙ for_step_lem m
-
-  pub certificate-takes : b ≡ within 0x03 0x03 t → b ≡ is_full m
-  certificate-takes f = f ∙ ap (within 0x03 0x03) e ∙ for_certificate m
-
-  pub evidence-takes : b ≡ within 0x05 0x07 t → b ≡ is_evidence m
-  evidence-takes f = f ∙ ap (within 0x05 0x07) e ∙ for_evidence m
-
-  pub joining-takes : b ≡ within 0x07 0x07 t → b ≡ is_new_evidence m
-  joining-takes f = f ∙ ap (within 0x07 0x07) e ∙ for_joining m
+pub kind-new_evidence : (m : Message) → new_evidence_kind (kind_of m) ≡ is_new_evidence m
+unfolding kind_of is_new_evidence
+kind-new_evidence (Submit round seat value signature) = refl
+kind-new_evidence (Notice round seat value) = refl
+kind-new_evidence (Full round sender value entries) = refl
+kind-new_evidence (Evidence round (ValuesOnce values) entries) = refl
+kind-new_evidence (Evidence round ValuesEach entries) = refl
+kind-new_evidence Garbled = refl
 
 pub full-kind : (m : Message) → is_full m ≡ true → kind.Full ≡ kind_of m
 unfolding kind_of is_full

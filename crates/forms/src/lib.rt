@@ -4,45 +4,43 @@
 ghost use Rattle.std.specs.Prelude.{◌≡◌, not, ℕ, ◌≤◌, ltb};
 ghost use Rattle.quorum.specs.Quorum.{most_seats};
 ghost use Rattle.refusal.specs.Refusal.{first_of};
-ghost use Rattle.protocol.specs.Message.{read};
-ghost use Rattle.protocol.specs.Refusals.{every, other_round, stranger, disorder};
+ghost use Rattle.refusal.specs.Answers.{number_in};
+ghost use Rattle.protocol.specs.Message.{Message, read};
+ghost use Rattle.protocol.specs.Refusals.{every, is_for_step, is_full, is_evidence, is_new_evidence, other_round, stranger, disorder};
 ghost use Rattle.wire.specs.Reading.{kind_of};
-ghost use Rattle.wire.specs.Answers.{command_of};
-ghost use Rattle.forms.specs.Messages.{within, form_conditions};
+ghost use Rattle.forms.specs.Messages.{form_conditions};
 ghost use Rattle.forms.specs.Senders.{senders_of};
 
+use refusal::Refusal;
 use wire::entries::{seats_below, seats_rise};
 use wire::read::{Kind, entries_of, number_at, round_of};
 
-// The commands that calls take.
-pub const SUBMIT: u32 = 1;
-
-pub const FULL: u32 = 3;
-
-pub const OLD_EVIDENCE: u32 = 5;
-
-pub const EVIDENCE: u32 = 7;
-
-// The command of a message; 0 where it is garbled.
-fn command(kind: Kind) -> u32
-    ensures { result ≡ command_of kind }
+// Whether a step takes messages of a kind: SUBMIT, NOTICE and FULL.
+pub fn is_for_step(kind: Kind) -> bool
+    ensures { (said : Message) → kind ≡ kind_of said → result ≡ is_for_step said }
 {
-    match kind {
-        Kind::Submit => SUBMIT,
-        Kind::Notice => 2,
-        Kind::Full => FULL,
-        Kind::OldEvidence => OLD_EVIDENCE,
-        Kind::Evidence => EVIDENCE,
-        Kind::Garbled => 0,
-    }
+    matches!(kind, Kind::Submit | Kind::Notice | Kind::Full)
 }
 
-// Whether the command of a message is one of those from `first` to `last`.
-pub fn is_within(kind: Kind, first: u32, last: u32) -> bool
-    ensures { result ≡ within first last kind }
+// Whether a message of a kind is a certificate: FULL.
+pub fn is_certificate(kind: Kind) -> bool
+    ensures { (said : Message) → kind ≡ kind_of said → result ≡ is_full said }
 {
-    let c = command(kind);
-    (first <= c) & (c <= last)
+    matches!(kind, Kind::Full)
+}
+
+// Whether the evidence check takes messages of a kind: EVIDENCE, the old one too.
+pub fn is_evidence(kind: Kind) -> bool
+    ensures { (said : Message) → kind ≡ kind_of said → result ≡ is_evidence said }
+{
+    matches!(kind, Kind::OldEvidence | Kind::Evidence)
+}
+
+// Whether messages of a kind can be joined: EVIDENCE, and not the old one.
+pub fn is_new_evidence(kind: Kind) -> bool
+    ensures { (said : Message) → kind ≡ kind_of said → result ≡ is_new_evidence said }
+{
+    matches!(kind, Kind::Evidence)
 }
 
 // Whether the round of a message is not the caller's.
@@ -89,21 +87,21 @@ fn is_disordered(n: u32, kind: Kind, m: &[u8]) -> bool
 }
 
 // Refusal for the form of a message, before any signature is checked: 9 to 12.
-pub fn form_refusal(n: u32, round: u32, taken: bool, kind: Kind, m: &[u8]) -> u32
+pub fn form_refusal(n: u32, round: u32, taken: bool, kind: Kind, m: &[u8]) -> Result<(), Refusal>
     requires { (1 ≤ n) × (n ≤ most_seats) × (kind ≡ kind_of (read n m.now)) }
-    ensures { result ≡ first_of (form_conditions n round taken (read n m.now)) }
+    ensures { number_in result ≡ first_of (form_conditions n round taken (read n m.now)) }
 {
     if !taken {
-        return refusal::GARBLED;
+        return Err(Refusal::Garbled);
     }
     if other_round(n, kind, m, round) {
-        return refusal::OTHER_ROUND;
+        return Err(Refusal::OtherRound);
     }
     if is_stranger(n, kind, m) {
-        return refusal::STRANGER;
+        return Err(Refusal::Stranger);
     }
     if is_disordered(n, kind, m) {
-        return refusal::DISORDER;
+        return Err(Refusal::Disorder);
     }
-    0
+    Ok(())
 }
