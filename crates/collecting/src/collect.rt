@@ -57,7 +57,7 @@ pub fn submit_own(
 }
 
 // Whether a signature is wanted: not confirmed, the value is the own one and the seat is new.
-#[tactic(auto, using(octets::specs::StringsLaws::pointwise-same), unfolding(protocol::specs::Step::is_wanted))]
+#[tactic(auto, using(octets::specs::StringsLaws::equal_same), unfolding(protocol::specs::Step::is_wanted))]
 fn is_wanted(r: Record, seat: u32, value: [u8; 32]) -> bool
     requires { seat < most_seats }
     ensures { result ≡ is_wanted seat value r }

@@ -210,9 +210,9 @@ same_false xs ys h = go (same xs ys) refl
     go false e = refl
 
 -- slices compared by `==`
-pub pointwise-same : (xs ys : List ℕ) → pointwise nat_eq xs ys ≡ same xs ys
+pub equal_same : (xs ys : List ℕ) → pointwise nat_eq xs ys ≡ same xs ys
 unfolding same
-pointwise-same [] [] = refl
-pointwise-same [] (y ∷ ys) = refl
-pointwise-same (x ∷ xs) [] = refl
-pointwise-same (x ∷ xs) (y ∷ ys) = ap (λ (b : Bool). eqb x y && b) (pointwise-same xs ys)
+equal_same [] [] = refl
+equal_same [] (y ∷ ys) = refl
+equal_same (x ∷ xs) [] = refl
+equal_same (x ∷ xs) (y ∷ ys) = ap (λ (b : Bool). eqb x y && b) (equal_same xs ys)
