@@ -1,4 +1,5 @@
-// Writers: each writes one command, or a part of one, from an index of `out` on, and answers the index after it.
+// Writers: each writes one command, or a part of one, from an index of `out` on, and answers the index after it. They keep the buffer
+// whole, and its place beside it, since `Wrote` says of all of it what changed; and there is no heap for one that grows.
 #![tactic(auto)]
 
 ghost use Rattle.std.specs.Prelude.{◌≡◌, [], ◌∷◌, ◌+◌, ◌*◌, ◌^◌, ◌<◌, ◌≤◌, length};
@@ -38,10 +39,8 @@ fn put_command(out: &mut [u8], at: usize, command: u8, round: u32) -> usize
     requires { at + operands_at ≤ length out.old }
     ensures { Wrote at (command ∷ be 2 round) out.old out.new result }
 {
-    out[at] = command;
-    out[at + 1] = (round / 256 % 256) as u8;
-    out[at + 2] = (round % 256) as u8;
-    at + 3
+    let a = put_byte(out, at, command);
+    put(out, a, &round.to_be_bytes()[2..])
 }
 
 // The start of SUBMIT, NOTICE and FULL: code, round, seat and value.
