@@ -1,9 +1,9 @@
 -- Laws of whose turn it is, for the loops that find it.
 -- Assumes nothing.
-use Rattle.std.specs.Prelude.{Option, Some, None, unwrap_or, IfSome, ℕ, zero, suc, ◌+◌, ◌≤◌, ◌<◌, ◌≡◌, refl, Bool, true, false, not, ◌&&◌, List, [], ◌∷◌, ltb, eqb, length, drop, get_or}
+use Rattle.std.specs.Prelude.{Option, Some, None, unwrap_or, IfSome, ℕ, ◌+◌, ◌≤◌, ◌<◌, ◌≡◌, refl, true, false, ◌&&◌, List, eqb, length, drop, get_or}
 use Rattle.std.specs.Option.{option_or}
-use Rattle.std.proofs.Common.{sym, ap, ◌∙◌, arith, add-one, drop-cons, drop_of_length-le}
-use borrow.Author.Tests.{lt-ltb, eqb-false, eq-eqb, ne_eqb, not-true}
+use Rattle.std.proofs.Common.{arith, add-one, drop-cons, drop_of_length-le}
+use borrow.Author.Tests.{lt-ltb, eqb-false, not-true}
 use Rattle.dispatch.specs.Dispatcher.{lanes, last_lane, count, serving, impossible}
 use Rattle.dispatch.specs.Turns.{is_waiting, never_served, goes_first, first_of_two, first_new, longest_ago, or_else}
 use Rattle.dispatch.specs.declared.Dispatcher.{Dispatcher}
@@ -16,14 +16,6 @@ module _ (d : Dispatcher) (l : ℕ) where
   pub waits_some : is_waiting d l ≡ true → 1 ≤ count d l
   unfolding is_waiting
   waits_some e = let some = eqb-false (count d l) 0 (not-true (eqb (count d l) 0) e) in omega (arith, some)
-
-  pub none_waits : get_or d.counts l 0 ≡ 0 → is_waiting d l ≡ false
-  unfolding is_waiting count
-  none_waits e = rw (eq-eqb (get_or d.counts l 0) 0 e)
-
-  pub some_waits : (get_or d.counts l 0 ≡ 0 → ⊥) → is_waiting d l ≡ true
-  unfolding is_waiting count
-  some_waits h = rw (ne_eqb (get_or d.counts l 0) 0 h)
 
 -- ---- never served
 
