@@ -12,10 +12,9 @@ use Rattle.dispatch_claims.specs.CallsLaws.{holds}
 
 -- ---- waiting
 
-module _ (d : Dispatcher) (l : ℕ) where
-  pub waits_some : is_waiting d l ≡ true → 1 ≤ count d l
-  unfolding is_waiting
-  waits_some e = let some = eqb-false (count d l) 0 (not-true (eqb (count d l) 0) e) in omega (arith, some)
+pub waits_some : (d : Dispatcher) (l : ℕ) → is_waiting d l ≡ true → 1 ≤ count d l
+unfolding is_waiting
+waits_some d l e = let some = eqb-false (count d l) 0 (not-true (eqb (count d l) 0) e) in omega (arith, some)
 
 -- ---- never served
 
@@ -47,7 +46,7 @@ pub ago_none : (d : Dispatcher) (order : List ℕ) (i : ℕ) → length order �
 unfolding longest_ago
 ago_none d order i h = rw (drop_of_length-le order h)
 
--- ---- either choice
+-- ---- a lane never served, or else one served longest ago
 
 pub chosen : (never longest : Option ℕ) → IfSome never (λ l. l < lanes) → unwrap_or (option_or never longest) lanes ≡ or_else (unwrap_or never lanes) (unwrap_or longest lanes)
 unfolding or_else

@@ -6,9 +6,6 @@ use Rattle.dispatcher.proofs.turns.longest_ago.Goals as goal
 pub serving-lane-items-requires : goal.serving-lane-items-requires
 serving-lane-items-requires c = (holds c.args.d.now c.requires).few
 
-pub loop-lane-init : goal.loop-lane-init
-loop-lane-init c = rw c.serving-lane-items.ensures.lanes
-
 pub is_waiting-requires : goal.is_waiting-requires
 is_waiting-requires c = rw c.serving-lane-items.ensures.lanes (served_lane c.args.d.now c.requires c.loop-lane.lane-index)
 
