@@ -1,8 +1,8 @@
 -- What an iterator answers and one turn of each loop, over plain values.
 -- Assumes nothing.
-use Rattle.std.specs.Prelude.{ℕ, zero, suc, ◌+◌, ◌-◌, ◌≤◌, ◌<◌, ◌≡◌, refl, Bool, true, cond, not, ◌&&◌, ◌||◌, List, [], ◌∷◌, ◌++◌, ltb, eqb, length, take, drop, get_or, set}
+use Rattle.std.specs.Prelude.{ℕ, suc, ◌+◌, ◌-◌, ◌≤◌, ◌<◌, ◌≡◌, refl, true, List, [], ◌∷◌, ◌++◌, ltb, eqb, length, take, drop, get_or, set}
 use Rattle.std.specs.List.{list_any}
-use Rattle.std.proofs.Common.{sym, ap, ◌∙◌, append-nil, arith, drop_of_length-le, drop-cons, length-drop, take_all}
+use Rattle.std.proofs.Common.{ap, ◌∙◌, append-nil, arith, drop_of_length-le, drop-cons, length-drop, take_all}
 use Rattle.std.proofs.Math.Bool.{false}
 use Rattle.std.proofs.Math.Numerals.{add-one}
 use Rattle.std.proofs.Math.ListN.{length-append}
@@ -25,12 +25,13 @@ unfolding is_in
 any_in x [] = refl
 any_in x (y ∷ xs) = rw (any_in x xs)
 
--- no number twice, from i on; the numbers after i are a slice up to the list's end
+-- the numbers after i, which the code has as a slice up to the list's end
 pub any-later : (list : List ℕ) (i x : ℕ) → i < length list → list_any (λ y. eqb y x) (take (length list - (i + 1)) (drop (i + 1) list)) ≡ is_in x (drop (i + 1) list)
 any-later list i x h =
     any_in x (take (length list - (i + 1)) (drop (i + 1) list))
     ∙ ap (is_in x) (take_all (length list - (i + 1)) (drop (i + 1) list) (omega (arith, length-drop (i + 1) list)))
 
+-- a number that stands twice, from i on
 module _ (list : List ℕ) (i : ℕ) (h : i < length list) where
   pub twice-here : is_in (get_or list i 0) (drop (i + 1) list) ≡ true → distinct (drop i list) ≡ false
   unfolding distinct

@@ -1,9 +1,9 @@
 -- Laws of whose turn it is, for the loops that find it.
 -- Assumes nothing.
-use Rattle.std.specs.Prelude.{Option, Some, None, unwrap_or, IfSome, ℕ, zero, suc, ◌+◌, ◌≤◌, ◌<◌, ◌≡◌, refl, Bool, true, false, not, ◌&&◌, List, [], ◌∷◌, ltb, eqb, length, drop, get_or}
+use Rattle.std.specs.Prelude.{Option, Some, None, unwrap_or, IfSome, ℕ, ◌+◌, ◌≤◌, ◌<◌, ◌≡◌, refl, true, false, ◌&&◌, List, eqb, length, drop, get_or}
 use Rattle.std.specs.Option.{option_or}
-use Rattle.std.proofs.Common.{sym, ap, ◌∙◌, arith, add-one, drop-cons, drop_of_length-le}
-use borrow.Author.Tests.{lt-ltb, eqb-false, eq-eqb, ne_eqb, not-true}
+use Rattle.std.proofs.Common.{arith, add-one, drop-cons, drop_of_length-le}
+use borrow.Author.Tests.{lt-ltb, eqb-false, not-true}
 use Rattle.dispatch.specs.Dispatcher.{lanes, last_lane, count, serving, impossible}
 use Rattle.dispatch.specs.Turns.{is_waiting, never_served, goes_first, first_of_two, first_new, longest_ago, or_else}
 use Rattle.dispatch.specs.declared.Dispatcher.{Dispatcher}
@@ -12,18 +12,9 @@ use Rattle.dispatch_claims.specs.CallsLaws.{holds}
 
 -- ---- waiting
 
-module _ (d : Dispatcher) (l : ℕ) where
-  pub waits_some : is_waiting d l ≡ true → 1 ≤ count d l
-  unfolding is_waiting
-  waits_some e = let some = eqb-false (count d l) 0 (not-true (eqb (count d l) 0) e) in omega (arith, some)
-
-  pub none_waits : get_or d.counts l 0 ≡ 0 → is_waiting d l ≡ false
-  unfolding is_waiting count
-  none_waits e = rw (eq-eqb (get_or d.counts l 0) 0 e)
-
-  pub some_waits : (get_or d.counts l 0 ≡ 0 → ⊥) → is_waiting d l ≡ true
-  unfolding is_waiting count
-  some_waits h = rw (ne_eqb (get_or d.counts l 0) 0 h)
+pub waits_some : (d : Dispatcher) (l : ℕ) → is_waiting d l ≡ true → 1 ≤ count d l
+unfolding is_waiting
+waits_some d l e = let some = eqb-false (count d l) 0 (not-true (eqb (count d l) 0) e) in omega (arith, some)
 
 -- ---- never served
 
@@ -55,7 +46,7 @@ pub ago_none : (d : Dispatcher) (order : List ℕ) (i : ℕ) → length order �
 unfolding longest_ago
 ago_none d order i h = rw (drop_of_length-le order h)
 
--- ---- either choice
+-- ---- a lane never served, or else one served longest ago
 
 pub chosen : (never longest : Option ℕ) → IfSome never (λ l. l < lanes) → unwrap_or (option_or never longest) lanes ≡ or_else (unwrap_or never lanes) (unwrap_or longest lanes)
 unfolding or_else

@@ -36,6 +36,15 @@ pub(crate) fn index_of(list: &[u32], x: u32) -> Option<usize>
     list.iter().position(|y| *y == x)
 }
 
+// The lanes served so far, longest ago first.
+pub(crate) fn serving(d: &Dispatcher) -> &[u32]
+    requires { d.now.served ≤ lanes }
+    ensures lanes { result.now ≡ serving d.now }
+    ensures count { length result.now ≡ d.now.served }
+{
+    &d.order[..d.served as usize]
+}
+
 // The dispatcher once a lane is served: in its order of serving all others as they were, then that lane. Entries beyond keep what they
 // held.
 pub(crate) fn serve_last(d: Dispatcher, lane: usize) -> Dispatcher
@@ -46,7 +55,7 @@ pub(crate) fn serve_last(d: Dispatcher, lane: usize) -> Dispatcher
 {
     let mut order = d.order;
     let mut served = 0;
-    for other in &d.order[..d.served as usize] {
+    for other in serving(&d) {
         if *other as usize != lane {
             order[served] = *other;
             served += 1;

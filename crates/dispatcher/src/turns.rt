@@ -3,7 +3,7 @@ ghost use Rattle.std.specs.Prelude.{◌≡◌, false, ◌&&◌, ◌≤◌, ◌<�
 ghost use Rattle.dispatch.specs.Dispatcher.{lanes, serving, impossible};
 ghost use Rattle.dispatch.specs.Turns.{is_waiting, never_served, goes_first, first_new, longest_ago, next_lane};
 
-use crate::lists::LANES;
+use crate::lists::{LANES, serving};
 use dispatch::Dispatcher;
 
 // Whether a ticket waits in a lane.
@@ -20,7 +20,7 @@ fn never_served(d: &Dispatcher, lane: usize) -> bool
     requires few { d.now.served ≤ lanes }
     ensures { result ≡ never_served d.now lane }
 {
-    !d.order[..d.served as usize].contains(&(lane as u32))
+    !serving(d).contains(&(lane as u32))
 }
 
 // "among those the lowest round goes first": whether a lane goes before another, or before none.
@@ -67,7 +67,7 @@ fn longest_ago(d: &Dispatcher) -> Option<usize>
     ensures lane { unwrap_or result lanes ≡ longest_ago d.now (serving d.now) }
     ensures within { IfSome result (λ l. l < lanes) }
 {
-    for lane in &d.order[..d.served as usize] {
+    for lane in serving(d) {
         let lane = *lane as usize;
         if is_waiting(d, lane) {
             return Some(lane);

@@ -1,16 +1,11 @@
-use Rattle.std.proofs.Common.{◌≡◌, ◌∙◌, sym, length, arith, rules}
+use Rattle.std.proofs.Common.{◌∙◌, sym, arith, rules}
 use Rattle.refusal.specs.RefusalLaws.{rows}
-use Rattle.dispatch.specs.Dispatcher.{places, lane_of, count, Sized}
+use Rattle.dispatch.specs.Dispatcher.{places, lane_of, count}
 use Rattle.dispatch.specs.Calls.{adding_conditions}
-use Rattle.dispatch.specs.declared.Dispatcher.{Dispatcher}
 use Rattle.dispatch_claims.specs.ListLaws.{not_above}
 use Rattle.dispatch_claims.specs.CallsLaws.{holds}
-use Rattle.dispatcher.specs.ReturnsLaws.{looked, add-unknown, add-full, add-taken}
+use Rattle.dispatcher.specs.ReturnsLaws.{add-unknown, add-full, add-taken}
 use Rattle.dispatcher.proofs.calls.add.Goals as goal
-
--- the arrays of a dispatcher have their lengths
-sized : (d : Dispatcher) → length d.rounds ≡ 8 → length d.counts ≡ 8 → length d.heads ≡ 8 → length d.order ≡ 8 → length d.tickets ≡ 128 → Sized d
-sized d r c h o t = record { rounds = r; counts = c; heads = h; order = o; tickets = t }
 
 pub returns-then-wrong_round-clause-number : goal.returns-then-wrong_round-clause-number
 unfolding adding_conditions
@@ -22,13 +17,18 @@ returns-then-is_impossible-clause-number c = search rows
 
 pub returns-in_default-clause-number : goal.returns-in_default-clause-number
 returns-in_default-clause-number c =
-    let known = looked c.args.d c.args.round _ (sized c.args.d (search rules) (search rules) (search rules) (search rules) (search rules)) (sym c.wrong_round.ensures ∙ c.if-wrong_round.false) (sym c.is_impossible.ensures ∙ c.if-is_impossible.false) c.in_default.ensures.first in
-    add-unknown _ _ _ known (search rules)
+    add-unknown c.args.d c.args.round _ (search rules) (sym c.wrong_round.ensures ∙ c.if-wrong_round.false)
+    (sym c.is_impossible.ensures ∙ c.if-is_impossible.false)
+    c.in_default.ensures.first
+    (search rules)
 
 pub returns-then-d-lane-eq-PLACES-clause-number : goal.returns-then-d-lane-eq-PLACES-clause-number
 returns-then-d-lane-eq-PLACES-clause-number c =
-    let known = looked c.args.d c.args.round c.in-Some.lane (sized c.args.d (search rules) (search rules) (search rules) (search rules) (search rules)) (sym c.wrong_round.ensures ∙ c.if-wrong_round.false) (sym c.is_impossible.ensures ∙ c.if-is_impossible.false) c.in-Some.ensures.first in
-    add-full _ _ _ known (search rules) c.if-d-lane-eq-PLACES.true
+    add-full c.args.d c.args.round _ (search rules) (sym c.wrong_round.ensures ∙ c.if-wrong_round.false)
+    (sym c.is_impossible.ensures ∙ c.if-is_impossible.false)
+    c.in-Some.ensures.first
+    (search rules)
+    c.if-d-lane-eq-PLACES.true
 
 pub added-requires : goal.added-requires
 unfolding count
@@ -39,8 +39,11 @@ added-requires c =
 
 pub returns-clause-number : goal.returns-clause-number
 returns-clause-number c =
-    let known = looked c.args.d c.args.round c.in-Some.lane (sized c.args.d (search rules) (search rules) (search rules) (search rules) (search rules)) (sym c.wrong_round.ensures ∙ c.if-wrong_round.false) (sym c.is_impossible.ensures ∙ c.if-is_impossible.false) c.in-Some.ensures.first in
-    add-taken _ _ _ known (search rules) c.if-d-lane-eq-PLACES.false
+    add-taken c.args.d c.args.round _ (search rules) (sym c.wrong_round.ensures ∙ c.if-wrong_round.false)
+    (sym c.is_impossible.ensures ∙ c.if-is_impossible.false)
+    c.in-Some.ensures.first
+    (search rules)
+    c.if-d-lane-eq-PLACES.false
 
 pub returns-clause-new : goal.returns-clause-new
 unfolding lane_of

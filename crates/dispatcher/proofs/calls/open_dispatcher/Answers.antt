@@ -1,4 +1,3 @@
-use Rattle.std.proofs.Common.{◌∙◌}
 use Rattle.dispatch.specs.Dispatcher.{zeros}
 use Rattle.dispatch.specs.Calls.{open_dispatcher}
 use Rattle.dispatcher.specs.ReturnsLaws.{answered}

@@ -1,4 +1,3 @@
-use Rattle.std.proofs.Common.{rules}
 use Rattle.dispatch.specs.Dispatcher.{ticket_at, place, head}
 use Rattle.dispatcher.proofs.lanes.ticket_at.Goals as goal
 

@@ -10,6 +10,6 @@ returns-clause-first c =
     let x = c.args.x in
     let list = c.args.list.now in
     sym (index_from_first (index_of x) (λ y. y ≡ x) (λ y. y ≢ x) refl (index-here x) (index-later x) list _
-        (IsFirst-from_position _ _ _ (λ y. y ≡ x) (λ y. y ≢ x) c.position.ensures.ran (YieldsList-from_slice list cc)
-            (λ y q k. search (rules, tests))
-            (λ y q k. search (rules, tests))))
+    (IsFirst-from_position _ _ _ (λ y. y ≡ x) (λ y. y ≢ x) c.position.ensures.ran (YieldsList-from_slice list cc)
+    (λ y q k. search (rules, tests))
+    (λ y q k. search (rules, tests))))

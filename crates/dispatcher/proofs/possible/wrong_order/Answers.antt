@@ -1,4 +1,4 @@
-use Rattle.std.proofs.Common.{◌≡◌, ◌∙◌, ap, ℕ, ◌-◌, List, length, take, drop, inl, inr, arith, rules, lt-ltb, le-ltb}
+use Rattle.std.proofs.Common.{◌≡◌, ap, ℕ, ◌-◌, length, take, drop, inl, inr, arith, rules, lt-ltb, le-ltb}
 use Rattle.std.proofs.Math.Nat.{sub-zero}
 use Rattle.dispatch.specs.Dispatcher.{wrong_order, serving}
 use Rattle.dispatch.specs.declared.Dispatcher.{Dispatcher}

@@ -4,4 +4,4 @@ use Rattle.dispatch.specs.Turns.{longest_ago}
 use Rattle.dispatcher.proofs.turns.longest_ago.Given as goal
 
 abbrev pub invariant-loop-lane : goal.invariant-loop-lane
-invariant-loop-lane l = longest_ago l.fn.d (serving l.fn.d) ≡ longest_ago l.fn.d (drop l.lane-index (serving l.fn.d))
+invariant-loop-lane l = longest_ago l.fn.d (serving l.fn.d) ≡ longest_ago l.fn.d (drop l.lane-index l.lane-items)
