@@ -1,14 +1,13 @@
 -- The answers that are enums, in document 01's numbers and values ("Where an answer is an enum, a definition gives this paper's number and
 -- values for each case of the enum").
 -- Assumes nothing.
-use Rattle.std.specs.Prelude.{◌≡◌, cond, ◌&&◌, List, [], ◌∷◌, ℕ, ◌+◌, leb, ltb, length}
+use Rattle.std.specs.Prelude.{◌≡◌, Option, Some, None, cond, ◌&&◌, List, [], ◌∷◌, ℕ, ◌+◌, leb, ltb, length}
 use Rattle.protocol.specs.Layout.{entry_held_at, full_count_at, full_entry_at}
 use Rattle.protocol.specs.Entries.{read_entry}
 use Rattle.protocol.specs.Message.{Message, Entry, full_form, render, byte_at, read_signature}
 use Rattle.wire.specs.declared.read.Kind.{Kind}
 use Rattle.wire.specs.declared.read.Kind.TheVariants as kind
-use Rattle.wire.specs.declared.reader.Next.{Next}
-use Rattle.wire.specs.declared.reader.Next.TheVariants as next
+use Rattle.wire.specs.declared.entries.Entry as found
 
 -- ---- the kind of a message
 
@@ -29,9 +28,9 @@ command m = byte_at (render m) 0
 -- ---- the next entry of a reader
 
 -- "0x04, seat 1, signature 1,452": the entry found, with the signature at its place; none at the end
-unfoldable pub entry_of : Next → List ℕ → List Entry
-entry_of (next.Entry seat at) bytes = record { seat = seat; signature = read_signature at bytes } ∷ []
-entry_of next.End bytes = []
+unfoldable pub entry_of : Option found.Entry → List ℕ → List Entry
+entry_of (Some e) bytes = record { seat = e.seat; signature = read_signature e.signature bytes } ∷ []
+entry_of None bytes = []
 
 -- the entry of a FULL at an index from 0; none past the last, or where the bytes have fewer entries than they count
 unfoldable pub nth_entry : ℕ → List ℕ → List Entry
@@ -40,10 +39,10 @@ nth_entry i bytes =
     cond (leb (full_entry_at count) (length bytes) && ltb i count) (read_entry full_form (full_entry_at i) bytes ∷ []) []
 
 -- the signature of an entry found stands in the entry of that index, after its command and seat
-abbrev pub Stands : ℕ → Next → Type 0
-Stands i (next.Entry seat at) = at ≡ full_entry_at i + entry_held_at
-Stands i next.End = Unit {0}
+abbrev pub Stands : ℕ → Option found.Entry → Type 0
+Stands i (Some e) = e.signature ≡ full_entry_at i + entry_held_at
+Stands i None = Unit {0}
 
 -- the answer is the entry at an index, in content and place
-abbrev pub Found : ℕ → List ℕ → Next → Type 0
+abbrev pub Found : ℕ → List ℕ → Option found.Entry → Type 0
 Found i bytes s = (entry_of s bytes ≡ nth_entry i bytes) × Stands i s

@@ -3,7 +3,7 @@
 use Rattle.std.specs.Prelude.{◌≡◌, Bool, true, false, not, ◌&&◌, List, ◌≢◌, ℕ, ◌+◌, ◌≤◌, ◌<◌, ◌^◌, eqb, length}
 use Rattle.std.proofs.Math.Path.{sym}
 use Rattle.std.proofs.Common.{◌∙◌, arith}
-use Rattle.std.proofs.Math.Bool.{not-eq-not, and-false}
+use Rattle.std.proofs.Math.Bool.{not-eq-not, and-false, and-eq-true_iff}
 use Rattle.std.proofs.lemmas.Bool.{false≢true}
 use Rattle.std.proofs.Math.Decide.{ℕ_discrete}
 use borrow.Author.Tests.{le-leb, eq-eqb, ne_eqb, eqb-true, not-false}
@@ -19,13 +19,15 @@ use Rattle.wire.specs.Reading.{command_place, commands_are, pack_entries}
 -- ---- FULL
 
 module _ (n : ℕ) (bytes : List ℕ) where
-  pub full_size : (size : ℕ) → size ≡ full_length n → (length bytes ≡ size → ⊥) → false ≡ fits_full n bytes
-  unfolding fits_full
-  full_size size e h = sym (rw (ne_eqb (length bytes) (full_length n) (λ q. h (q ∙ sym e))))
+  module _ (size : ℕ) (e : size ≡ full_length n) (begun : Bool) (b : begun ≡ (eqb (length bytes) size && eqb (byte_at bytes 0) 0x03)) where
+    pub full-start : begun ≡ false → false ≡ fits_full n bytes
+    unfolding fits_full
+    full-start h = let fails = rw e at (sym b ∙ h) in sym (rw fails)
 
-  pub full-code : (byte_at bytes 0 ≡ 0x03 → ⊥) → false ≡ fits_full n bytes
-  unfolding fits_full
-  full-code h = sym (rw (ne_eqb (byte_at bytes 0) 0x03 h, and-false))
+    pub full-begun : begun ≡ true → (length bytes ≡ full_length n) × (byte_at bytes 0 ≡ 0x03)
+    full-begun h =
+        let both = (and-eq-true_iff (eqb (length bytes) size) (eqb (byte_at bytes 0) 0x03)).0 (sym b ∙ h) in
+        (eqb-true (length bytes) size both.0 ∙ e, eqb-true (byte_at bytes 0) 0x03 both.1)
 
   pub full-count : (byte_at bytes full_count_at ≡ k n → ⊥) → false ≡ fits_full n bytes
   unfolding fits_full

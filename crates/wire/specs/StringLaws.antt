@@ -1,62 +1,30 @@
--- Laws of comparisons in a loop, and of bytes copied.
+-- Values compared byte by byte, as the library compares slices.
 -- Assumes nothing.
-use Rattle.std.specs.Prelude.{◌≡◌, refl, true, false, List, [], ◌∷◌, ℕ, ◌+◌, ◌≤◌, ◌<◌, length, drop, get_or}
-use Rattle.std.proofs.Math.Path.{sym}
-use Rattle.std.proofs.Common.{◌∙◌, arith, drop_of_length-le}
-use Rattle.std.proofs.Math.Numerals.{add-one}
-use Rattle.std.proofs.Math.Seq.{drop-cons}
-use borrow.Author.Tests.{lt-ltb, le-ltb, eq-eqb, ne_eqb}
-use Rattle.octets.specs.Octets.{part, patch}
-use Rattle.octets.specs.OctetsLaws.{length_part}
-use Rattle.octets.specs.WriteLaws.{patch_all}
+use Rattle.std.specs.Prelude.{◌≡◌, refl, Bool, true, false, ◌&&◌, ◌||◌, cond, min, Option, Some, List, [], ◌∷◌, ℕ, zero, suc, ltb, eqb, length, take}
+use Rattle.std.specs.declared.cmp.Ordering.{Ordering}
+use Rattle.std.specs.declared.cmp.Ordering.TheVariants.{Less, Equal, Greater}
+use Rattle.std.specs.Ordering.{nat_cmp, is_lt, is_some_and, partial_ordering_then}
+use Rattle.std.specs.Cmp.Lexicographic.{slice_partial_cmp}
+use Rattle.std.proofs.Common.{arith}
 use Rattle.protocol.specs.Values.{is_lower}
 
--- ---- values compared byte by byte
+-- the order of two slices, as far as both go
+abbrev slices : List ℕ → List ℕ → Option Ordering
+slices = slice_partial_cmp (λ (x y : ℕ). Some (nat_cmp x y))
 
-module _ (xs ys : List ℕ) (i : ℕ) (hx : i < length xs) (hy : i < length ys) where
-  pub lower_next : get_or xs i 0 ≡ get_or ys i 0 → is_lower (drop i xs) (drop i ys) ≡ is_lower xs ys → is_lower (drop (i + 1) xs) (drop (i + 1) ys) ≡ is_lower xs ys
-  unfolding is_lower
-  lower_next e h =
-      rw add-one (sym (rw (
-        drop-cons xs i 0 hx,
-        drop-cons ys i 0 hy,
-        le-ltb (get_or xs i 0) (get_or ys i 0) (omega arith),
-        eq-eqb (get_or xs i 0) (get_or ys i 0) e,
-      ))
-      ∙ h)
+-- one byte, and the rest after it
+byte_then : (less same : Bool) (rest : Option Ordering) (lower : Bool) → is_some_and is_lt rest ≡ lower
+    → is_some_and is_lt (partial_ordering_then (Some (cond less Less (cond same Equal Greater))) rest) ≡ (less || (same && lower))
+byte_then true same rest lower h = refl
+byte_then false true rest lower h = h
+byte_then false false rest lower h = refl
 
-  pub lower-found : get_or xs i 0 < get_or ys i 0 → is_lower (drop i xs) (drop i ys) ≡ is_lower xs ys → true ≡ is_lower xs ys
-  unfolding is_lower
-  lower-found e h = sym (rw (drop-cons xs i 0 hx, drop-cons ys i 0 hy, lt-ltb (get_or xs i 0) (get_or ys i 0) e)) ∙ h
-
-  pub lower_missed : get_or ys i 0 < get_or xs i 0 → is_lower (drop i xs) (drop i ys) ≡ is_lower xs ys → false ≡ is_lower xs ys
-  unfolding is_lower
-  lower_missed e h =
-      sym (rw (
-        drop-cons xs i 0 hx,
-        drop-cons ys i 0 hy,
-        le-ltb (get_or xs i 0) (get_or ys i 0) (omega arith),
-        ne_eqb (get_or xs i 0) (get_or ys i 0) (λ q. omega arith),
-      ))
-      ∙ h
-
--- past the end of either string nothing more is compared
-pub lower-ends : (xs ys : List ℕ) (i : ℕ) → length xs ≤ i → is_lower (drop i xs) (drop i ys) ≡ is_lower xs ys → false ≡ is_lower xs ys
+pub lower_told : (n : ℕ) (xs ys : List ℕ) → n ≡ min (length xs) (length ys) → is_some_and is_lt (slices (take n xs) (take n ys)) ≡ is_lower xs ys
 unfolding is_lower
-lower-ends xs ys i hx h = sym (rw (drop_of_length-le xs {i = i} hx)) ∙ h
-
-nothing-below : (xs : List ℕ) → is_lower xs [] ≡ false
-unfolding is_lower
-nothing-below [] = refl
-nothing-below (x ∷ xs) = refl
-
-pub lower-short : (xs ys : List ℕ) (i : ℕ) → length ys ≤ i → is_lower (drop i xs) (drop i ys) ≡ is_lower xs ys → false ≡ is_lower xs ys
-lower-short xs ys i hy h = sym (rw (drop_of_length-le ys {i = i} hy) (nothing-below (drop i xs))) ∙ h
-
--- ---- copies
-
--- n bytes copied out of a message
-pub part_copied : (at n : ℕ) (bytes zeros copy : List ℕ) → at + n ≤ length bytes → length zeros ≡ n → copy ≡ patch 0 (part at n bytes) zeros → copy ≡ part at n bytes
-part_copied at n bytes zeros copy h z e =
-    let l = length_part at n bytes h in
-    e ∙ patch_all (part at n bytes) zeros (omega arith)
+lower_told zero [] ys e = refl
+lower_told zero (x ∷ xs) [] e = refl
+lower_told zero (x ∷ xs) (y ∷ ys) e = absurd (omega arith)
+lower_told (suc n) [] ys e = absurd (omega arith)
+lower_told (suc n) (x ∷ xs) [] e = absurd (omega arith)
+lower_told (suc n) (x ∷ xs) (y ∷ ys) e =
+    byte_then (ltb x y) (eqb x y) (slices (take n xs) (take n ys)) (is_lower xs ys) (lower_told n xs ys (omega arith))

@@ -1,8 +1,8 @@
 // Readers: the kind, operands and entries of a message from its bytes.
-ghost use Rattle.std.specs.Prelude.{◌≡◌, false, ◌<◌, ◌≤◌, ◌^◌, length};
+ghost use Rattle.std.specs.Prelude.{◌≡◌, false, ◌&&◌, ◌<◌, ◌≤◌, ◌^◌, eqb, length};
 ghost use Rattle.quorum.specs.Quorum.{most_seats};
 ghost use Rattle.protocol.specs.Layout.{operands_at};
-ghost use Rattle.protocol.specs.Message.{byte_at, read_round, fits_submit, fits_notice, fits_full, fits_evidence, read, entry_seats};
+ghost use Rattle.protocol.specs.Message.{byte_at, read_round, fits_full, fits_evidence, read, entry_seats};
 ghost use Rattle.protocol.specs.Certificate.{set_of};
 ghost use Rattle.protocol.specs.Refusals.{stranger};
 ghost use Rattle.wire.specs.Reading.{kind_of, command_place, seats_in, pack_entries, Inside};
@@ -10,11 +10,11 @@ ghost use Rattle.wire.specs.Answers.{command_of, command};
 
 use crate::entries;
 use layout::Entries;
-use octets::wide;
 use quorum::Mask;
 
-// The kinds of messages: EVIDENCE is of two, the old 0x05 and 0x07; `Garbled` is for bytes that are none.
-#[derive(Clone, Copy)]
+// The kinds of messages: EVIDENCE is of two, the old 0x05 and 0x07; `Garbled` is for bytes that are none. It stands here, and not as the
+// None of an Option, since document 01's messages have that case: the kind is that of `Message`, case by case.
+#[derive(Clone, Copy, Debug, PartialEq, Eq)]
 pub enum Kind {
     Submit,
     Notice,
@@ -29,17 +29,17 @@ pub fn number_at(m: &[u8], at: usize) -> u32
     requires { at < length m.now }
     ensures { (result ≡ byte_at m.now at) × (result < 256) }
 {
-    wide(m[at])
+    u32::from(m[at])
 }
 
 // The byte at an index, 0 past the end.
 pub fn byte_or_zero(m: &[u8], at: usize) -> u32
     ensures { (result ≡ byte_at m.now at) × (result < 256) }
 {
-    if m.len() <= at {
-        return 0;
+    match m.get(at) {
+        Some(&b) => u32::from(b),
+        None => 0,
     }
-    number_at(m, at)
 }
 
 // The round: the two bytes after the command.
@@ -48,29 +48,14 @@ pub fn round_of(m: &[u8]) -> u32
     ensures { result ≡ read_round m.now }
 {
     let at = layout::round_at();
-    let high = wide(m[at]);
-    let low = wide(m[at + 1]);
-    high * 256 + low
+    u32::from(u16::from_be_bytes([m[at], m[at + 1]]))
 }
 
-// Whether the bytes are those of a SUBMIT: its code and its length.
-fn is_submit(m: &[u8]) -> bool
-    ensures { result ≡ fits_submit m.now }
+// Whether the bytes have the code and the length of a command.
+fn fits(m: &[u8], code: u32, size: usize) -> bool
+    ensures { result ≡ (eqb (length m.now) size && eqb (byte_at m.now 0) code) }
 {
-    if m.len() != layout::submit_length() {
-        return false;
-    }
-    m[0] == 1
-}
-
-// Whether they are those of a NOTICE.
-fn is_notice(m: &[u8]) -> bool
-    ensures { result ≡ fits_notice m.now }
-{
-    if m.len() != layout::notice_length() {
-        return false;
-    }
-    m[0] == 2
+    m.len() == size && byte_or_zero(m, 0) == code
 }
 
 // Whether they are those of a FULL: its code, length, count and entry commands.
@@ -78,10 +63,7 @@ fn is_full(n: u32, m: &[u8]) -> bool
     requires { (1 ≤ n) × (n ≤ most_seats) }
     ensures { result ≡ fits_full n m.now }
 {
-    if m.len() != layout::full_length(n) {
-        return false;
-    }
-    if m[0] != 3 {
+    if !fits(m, 3, layout::full_length(n)) {
         return false;
     }
     let count = quorum::k(n);
@@ -131,10 +113,10 @@ pub fn classify(n: u32, m: &[u8]) -> Kind
     requires { (1 ≤ n) × (n ≤ most_seats) }
     ensures { command_of result ≡ command (read n m.now) }
 {
-    if is_submit(m) {
+    if fits(m, 1, layout::submit_length()) {
         return Kind::Submit;
     }
-    if is_notice(m) {
+    if fits(m, 2, layout::notice_length()) {
         return Kind::Notice;
     }
     if is_full(n, m) {

@@ -3,8 +3,7 @@
 ghost use Rattle.std.specs.Prelude.{◌≡◌, ◌+◌, ◌<◌, ◌^◌};
 ghost use Rattle.wire.specs.Answers.{Found};
 
-use crate::entries::seat_of_entry;
-use crate::read::number_at;
+use crate::entries::{Entry, seat_of_entry};
 
 #[derive(Clone, Copy)]
 pub struct Reader<'a> {
@@ -12,33 +11,19 @@ pub struct Reader<'a> {
     pub next: usize,
 }
 
-// The next entry of a reader, by its seat and the place of its signature, or the end.
-#[derive(Clone, Copy)]
-pub enum Next {
-    Entry { seat: u32, signature: usize },
-    End,
-}
-
-// The entry of a FULL at an index from 0, or the end where there is none.
-fn entry_at(full: &[u8], next: usize) -> Next
+// The entry of a FULL at an index from 0; none at the end.
+fn entry_at(full: &[u8], next: usize) -> Option<Entry>
     ensures { Found next full.now result }
 {
-    let count_at = layout::full_count_at();
-    if full.len() <= count_at {
-        return Next::End;
-    }
-    let count = number_at(full, count_at) as usize;
+    let count = usize::from(*full.get(layout::full_count_at())?);
     let entries = layout::full_entries(count);
-    if full.len() < layout::entry_at(entries, count) {
-        return Next::End;
+    if full.len() < layout::entry_at(entries, count) || count <= next {
+        return None;
     }
-    if count <= next {
-        return Next::End;
-    }
-    Next::Entry {
+    Some(Entry {
         seat: seat_of_entry(full, entries, next),
         signature: layout::entry_held_at(entries, next),
-    }
+    })
 }
 
 // A reader before the first entry.
@@ -48,8 +33,8 @@ pub fn open<'a>(full: &'a [u8]) -> Reader<'a>
     Reader { full, next: 0 }
 }
 
-// The next entry.
-pub fn entry<'a>(r: Reader<'a>) -> Next
+// The next entry; none at the end.
+pub fn entry<'a>(r: Reader<'a>) -> Option<Entry>
     ensures { Found r.entry.next r.entry.full.now result }
 {
     entry_at(r.full, r.next)

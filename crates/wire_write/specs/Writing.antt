@@ -4,7 +4,10 @@ use Rattle.std.specs.Prelude.{◌≡◌, List, [], ◌∷◌, ◌++◌, ℕ, ◌
 use Rattle.octets.specs.Octets.{patch, be}
 use Rattle.quorum.specs.Quorum.{In}
 use Rattle.protocol.specs.Message.{Entry, Pair}
+use Rattle.protocol.specs.Certificate as protocol
+use Rattle.store.specs.Sources.{certificate_from}
 use Rattle.store.specs.declared.sources.Source.{Source}
+use Rattle.store.specs.declared.sources.Certificate.{Certificate}
 
 -- a buffer after `bytes` were written from index `at`: every other byte keeps what it held, and `end` is the place after them
 pub record Wrote (at : ℕ) (bytes before after : List ℕ) (end : ℕ) : Type 0 where
@@ -29,3 +32,7 @@ pair seat lower_value higher_value lower higher = record { seat = seat; lower_va
 -- every seat of a set is the certificate's
 abbrev pub Within : ℕ → Source → Type 0
 Within mask source = (s : ℕ) → In s mask → In s source.seats
+
+-- the certificate that one to read stands for
+abbrev pub certificate_of : ℕ → Certificate → protocol.Certificate
+certificate_of n c = certificate_from n c.source c.value c.bytes.now

@@ -1,4 +1,5 @@
-// Writers: each writes one command, or a part of one, from an index of `out` on, and answers the index after it.
+// Writers: each writes one command, or a part of one, from an index of `out` on, and answers the index after it. They keep the buffer
+// whole, and its place beside it, since `Wrote` says of all of it what changed; and there is no heap for one that grows.
 #![tactic(auto)]
 
 ghost use Rattle.std.specs.Prelude.{◌≡◌, [], ◌∷◌, ◌+◌, ◌*◌, ◌^◌, ◌<◌, ◌≤◌, length};
@@ -8,11 +9,11 @@ ghost use Rattle.protocol.specs.Layout.{value_length, signature_length, operands
 ghost use Rattle.protocol.specs.Entries.{render_entry, render_entries};
 ghost use Rattle.protocol.specs.Message.{Submit, Notice, ValuesEach, full_form, evidence_form, render};
 ghost use Rattle.protocol.specs.Certificate.{entries_of, full_of, pairs_of, ordered_evidence, evidence_of};
-ghost use Rattle.store.specs.Sources.{Readable, certificate_from};
-ghost use Rattle.wire_write.specs.Writing.{Wrote, Within, head, pack_head, entry, pair};
+ghost use Rattle.store.specs.Sources.{Readable};
+ghost use Rattle.wire_write.specs.Writing.{Wrote, Within, head, pack_head, entry, pair, certificate_of};
 
 use quorum::Mask;
-use store::sources::{Source, signature_of};
+use store::sources::{Certificate, signature_of};
 use wire::values::lower;
 
 // One byte.
@@ -38,10 +39,8 @@ fn put_command(out: &mut [u8], at: usize, command: u8, round: u32) -> usize
     requires { at + operands_at ≤ length out.old }
     ensures { Wrote at (command ∷ be 2 round) out.old out.new result }
 {
-    out[at] = command;
-    out[at + 1] = (round / 256 % 256) as u8;
-    out[at + 2] = (round % 256) as u8;
-    at + 3
+    let a = put_byte(out, at, command);
+    put(out, a, &round.to_be_bytes()[2..])
 }
 
 // The start of SUBMIT, NOTICE and FULL: code, round, seat and value.
@@ -101,12 +100,12 @@ fn write_pair(
     out: &mut [u8],
     at: usize,
     seat: u32,
-    lower: &[u8],
-    higher: &[u8],
+    lower: &[u8; 32],
+    higher: &[u8; 32],
     low: &[u8],
     high: &[u8],
 ) -> usize
-    requires { (seat < 256) × (length lower.now ≡ value_length) × (length higher.now ≡ value_length) × (length low.now ≡ signature_length) × (length high.now ≡ signature_length) × (at + evidence_entry_length ≤ length out.old) }
+    requires { (seat < 256) × (length low.now ≡ signature_length) × (length high.now ≡ signature_length) × (at + evidence_entry_length ≤ length out.old) }
     ensures { Wrote at (render_entry (evidence_form ValuesEach) (pair seat lower.now higher.now low.now high.now)) out.old out.new result }
 {
     let a = put_tag(out, at, 8, seat);
@@ -117,18 +116,16 @@ fn write_pair(
 }
 
 // The entries of FULL for a certificate, rising.
-fn write_entries(out: &mut [u8], at: usize, n: u32, source: Source, m: &[u8]) -> usize
-    requires { (n ≤ most_seats) × Readable n source m.now × (at + full_entry_length * length (seats n source.seats) ≤ length out.old) }
-    ensures { Wrote at (render_entries full_form (entries_of n (certificate_from n source [] m.now))) out.old out.new result × (result ≡ at + full_entry_length * length (seats n source.seats)) }
+fn write_entries(out: &mut [u8], at: usize, n: u32, c: Certificate<'_>) -> usize
+    requires { (n ≤ most_seats) × Readable n c.source c.bytes.now × (at + full_entry_length * length (seats n c.source.seats) ≤ length out.old) }
+    ensures { Wrote at (render_entries full_form (entries_of n (certificate_of n c.entry))) out.old out.new result × (result ≡ at + full_entry_length * length (seats n c.entry.source.seats)) }
 {
-    let mask = source.seats;
+    let mask = c.source.seats;
     let mut end = at;
-    let mut s = 0;
-    while s < n {
+    for s in 0..n {
         if quorum::has(mask, s) {
-            end = write_entry(out, end, s, signature_of(source, n, s, m));
+            end = write_entry(out, end, s, signature_of(c.source, n, s, c.bytes));
         }
-        s += 1;
     }
     end
 }
@@ -140,17 +137,15 @@ pub fn write_full(
     n: u32,
     round: u32,
     sender: u32,
-    value: &[u8],
-    source: Source,
-    m: &[u8],
+    c: Certificate<'_>,
 ) -> usize
-    requires { (n ≤ most_seats) × (sender < 256) × (length value.now ≡ value_length) × Readable n source m.now × (at + full_entry_at (size source.seats) ≤ length out.old) }
-    ensures { Wrote at (render (full_of n round sender (certificate_from n source value.now m.now))) out.old out.new result × (result ≡ at + full_entry_at (size source.seats)) }
+    requires { (n ≤ most_seats) × (sender < 256) × Readable n c.source c.bytes.now × (at + full_entry_at (size c.source.seats) ≤ length out.old) }
+    ensures { Wrote at (render (full_of n round sender (certificate_of n c.entry))) out.old out.new result × (result ≡ at + full_entry_at (size c.entry.source.seats)) }
 {
-    let count = quorum::size(source.seats);
-    let a = write_head(out, at, 3, round, sender, value);
+    let count = quorum::size(c.source.seats);
+    let a = write_head(out, at, 3, round, sender, &c.value);
     let b = put_byte(out, a, count as u8);
-    write_entries(out, b, n, source, m)
+    write_entries(out, b, n, c)
 }
 
 // The start of EVIDENCE: code, round and count.
@@ -168,25 +163,19 @@ fn write_pairs(
     at: usize,
     n: u32,
     mask: Mask,
-    lower: &[u8],
-    low: Source,
-    lows: &[u8],
-    higher: &[u8],
-    high: Source,
-    highs: &[u8],
+    lower: Certificate<'_>,
+    higher: Certificate<'_>,
 ) -> usize
-    requires { (n ≤ most_seats) × (length lower.now ≡ value_length) × Within mask low × Readable n low lows.now × (length higher.now ≡ value_length) × Within mask high × Readable n high highs.now × (at + evidence_entry_length * length (seats n mask) ≤ length out.old) }
-    ensures { Wrote at (render_entries (evidence_form ValuesEach) (pairs_of n mask (certificate_from n low lower.now lows.now) (certificate_from n high higher.now highs.now))) out.old out.new result × (result ≡ at + evidence_entry_length * length (seats n mask)) }
+    requires { (n ≤ most_seats) × Within mask lower.source × Readable n lower.source lower.bytes.now × Within mask higher.source × Readable n higher.source higher.bytes.now × (at + evidence_entry_length * length (seats n mask) ≤ length out.old) }
+    ensures { Wrote at (render_entries (evidence_form ValuesEach) (pairs_of n mask (certificate_of n lower.entry) (certificate_of n higher.entry))) out.old out.new result × (result ≡ at + evidence_entry_length * length (seats n mask)) }
 {
     let mut end = at;
-    let mut s = 0;
-    while s < n {
+    for s in 0..n {
         if quorum::has(mask, s) {
-            let l = signature_of(low, n, s, lows);
-            let h = signature_of(high, n, s, highs);
-            end = write_pair(out, end, s, lower, higher, l, h);
+            let l = signature_of(lower.source, n, s, lower.bytes);
+            let h = signature_of(higher.source, n, s, higher.bytes);
+            end = write_pair(out, end, s, &lower.value, &higher.value, l, h);
         }
-        s += 1;
     }
     end
 }
@@ -198,40 +187,32 @@ fn write_ordered(
     n: u32,
     round: u32,
     mask: Mask,
-    lower: &[u8],
-    low: Source,
-    lows: &[u8],
-    higher: &[u8],
-    high: Source,
-    highs: &[u8],
+    lower: Certificate<'_>,
+    higher: Certificate<'_>,
 ) -> usize
-    requires { (n ≤ most_seats) × (length lower.now ≡ value_length) × Readable n low lows.now × (length higher.now ≡ value_length) × Readable n high highs.now × (mask < 2 ^ n) × Within mask low × Within mask high × (at + evidence_length (size mask) ≤ length out.old) }
-    ensures { Wrote at (render (ordered_evidence n round mask (certificate_from n low lower.now lows.now) (certificate_from n high higher.now highs.now))) out.old out.new result × (result ≡ at + evidence_length (size mask)) }
+    requires { (n ≤ most_seats) × Readable n lower.source lower.bytes.now × Readable n higher.source higher.bytes.now × (mask < 2 ^ n) × Within mask lower.source × Within mask higher.source × (at + evidence_length (size mask) ≤ length out.old) }
+    ensures { Wrote at (render (ordered_evidence n round mask (certificate_of n lower.entry) (certificate_of n higher.entry))) out.old out.new result × (result ≡ at + evidence_length (size mask)) }
 {
     let count = quorum::size(mask);
     let a = write_pack_head(out, at, round, count);
-    write_pairs(out, a, n, mask, lower, low, lows, higher, high, highs)
+    write_pairs(out, a, n, mask, lower, higher)
 }
 
-// EVIDENCE from two certificates for a set of seats that both have, in either order: values va and vb, signatures from ma and mb.
+// EVIDENCE from two certificates for a set of seats that both have, in either order.
 pub fn write_evidence(
     out: &mut [u8],
     at: usize,
     n: u32,
     round: u32,
     mask: Mask,
-    va: &[u8],
-    a: Source,
-    ma: &[u8],
-    vb: &[u8],
-    b: Source,
-    mb: &[u8],
+    a: Certificate<'_>,
+    b: Certificate<'_>,
 ) -> usize
-    requires { (n ≤ most_seats) × (length va.now ≡ value_length) × Readable n a ma.now × (length vb.now ≡ value_length) × Readable n b mb.now × (mask < 2 ^ n) × Within mask a × Within mask b × (at + evidence_length (size mask) ≤ length out.old) }
-    ensures { Wrote at (render (evidence_of n round mask (certificate_from n a va.now ma.now) (certificate_from n b vb.now mb.now))) out.old out.new result × (result ≡ at + evidence_length (size mask)) }
+    requires { (n ≤ most_seats) × Readable n a.source a.bytes.now × Readable n b.source b.bytes.now × (mask < 2 ^ n) × Within mask a.source × Within mask b.source × (at + evidence_length (size mask) ≤ length out.old) }
+    ensures { Wrote at (render (evidence_of n round mask (certificate_of n a.entry) (certificate_of n b.entry))) out.old out.new result × (result ≡ at + evidence_length (size mask)) }
 {
-    if lower(va, vb) {
-        return write_ordered(out, at, n, round, mask, va, a, ma, vb, b, mb);
+    if lower(&a.value, &b.value) {
+        return write_ordered(out, at, n, round, mask, a, b);
     }
-    write_ordered(out, at, n, round, mask, vb, b, mb, va, a, ma)
+    write_ordered(out, at, n, round, mask, b, a)
 }
