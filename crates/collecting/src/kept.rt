@@ -53,7 +53,7 @@ fn is_open_to(r: Record, seat: u32) -> bool
 }
 
 // A kept seat's signature is collected where it is wanted, while fewer than k are.
-#[tactic(auto, unfolding(protocol::specs::Layout::signature_length))]
+#[tactic(auto, unfolding(protocol::specs::Step::collect_kept_seat, protocol::specs::Layout::signature_length))]
 fn collect_kept_seat(r: Record, store: &mut [u8], seat: u32) -> Record
     requires { Fits r store.old × (seat < r.n) }
     ensures { Changed (collect_kept_seat seat) r store.old result store.new }

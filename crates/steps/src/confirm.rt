@@ -10,16 +10,15 @@ use certificates::reply::reply;
 use layout::Bank;
 use phase::Phase;
 use protocol::Record;
-use store::sources::{Place, Source};
+use store::sources::{Certificate, Place, Source};
 
 // Whether k seats are collected and the unit hasn't confirmed.
+#[tactic(auto, unfolding(protocol::specs::Step::is_complete))]
 fn is_complete(r: Record) -> bool
     requires { (1 ≤ r.n) × (r.n ≤ most_seats) }
     ensures { result ≡ is_complete r }
 {
-    let size = quorum::size(r.own.collected);
-    let k = quorum::k(r.n);
-    !r.confirmed & (size == k)
+    !r.confirmed && quorum::size(r.own.collected) == quorum::k(r.n)
 }
 
 // Confirms and writes NOTICE, with any store.
@@ -28,10 +27,12 @@ fn confirm(r: Record, out: &mut [u8], at: usize) -> Phase
     ensures { ((store : List ℕ) → Did confirm r store out.old at result.unit store out.new result.at) × (result.at ≡ at + notice_length) }
 {
     let value = r.own.value;
-    let end = wire_write::write_notice(out, at, r.round, r.seat, &value);
-    let mut unit = r;
-    unit.confirmed = true;
-    Phase { unit, at: end }
+    let at = wire_write::write_notice(out, at, r.round, r.seat, &value);
+    let unit = Record {
+        confirmed: true,
+        ..r
+    };
+    Phase { unit, at }
 }
 
 // k seats collected: the unit confirms, and treats its own certificate like one heard. Otherwise the reply alone.
@@ -41,15 +42,16 @@ pub(crate) fn confirm_if_complete(r: Record, store: &mut [u8], out: &mut [u8], a
 {
     if is_complete(r) {
         let p = confirm(r, out, at);
-        let unit = p.unit;
-        let next = p.at;
-        let value = unit.own.value;
-        let source = Source {
-            place: Place::Slots(Bank::Collected),
-            seats: unit.own.collected,
+        let value = p.unit.own.value;
+        let own = Certificate {
+            value,
+            source: Source {
+                place: Place::Slots(Bank::Collected),
+                seats: p.unit.own.collected,
+            },
+            bytes: &[],
         };
-        let message = [0u8; 0];
-        return hear_certificate(unit, store, out, next, value, source, &message);
+        return hear_certificate(p.unit, store, out, p.at, own);
     }
     reply(r, store, out, at)
 }

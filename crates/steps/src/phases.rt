@@ -17,7 +17,7 @@ use collecting::collect::submit_own;
 use collecting::kept::{collect_kept, hear_submit};
 use phase::Phase;
 use protocol::Record;
-use store::sources::{Place, Source};
+use store::sources::{Certificate, Place, Source};
 use wire::read::Kind;
 
 // A submit.
@@ -32,10 +32,8 @@ pub fn submit_phase(
     ensures { Did (submitted value.now signature.now) r store.old out.old 0 result.unit store.new out.new result.at }
 {
     let p = submit_own(r, store, out, value, signature);
-    let said = p.unit;
-    let at = p.at;
-    let unit = collect_kept(said, store);
-    confirm_if_complete(unit, store, out, at)
+    let unit = collect_kept(p.unit, store);
+    confirm_if_complete(unit, store, out, p.at)
 }
 
 // A SUBMIT heard.
@@ -65,13 +63,15 @@ fn step_full(r: Record, store: &mut [u8], out: &mut [u8], message: &[u8]) -> Pha
     requires { Ready r store.old out.old × (kind.Full ≡ kind_of (read r.n message.now)) × (stranger r.n (read r.n message.now) ≡ false) × (disorder (read r.n message.now) ≡ false) }
     ensures { Did (stepped (read r.n message.now)) r store.old out.old 0 result.unit store.new out.new result.at }
 {
-    let value = wire::values::value_at(message, layout::value_at());
-    let seats = wire::read::entry_set(r.n, Kind::Full, message);
-    let source = Source {
-        place: Place::Entries,
-        seats,
+    let full = Certificate {
+        value: wire::values::value_at(message, layout::value_at()),
+        source: Source {
+            place: Place::Entries,
+            seats: wire::read::entry_set(r.n, Kind::Full, message),
+        },
+        bytes: message,
     };
-    hear_certificate(r, store, out, 0, value, source, message)
+    hear_certificate(r, store, out, 0, full)
 }
 
 // A step, by the kind of its message.
