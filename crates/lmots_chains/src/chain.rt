@@ -49,7 +49,7 @@ fn step(k: &RoundConstants, id: [u32; 4], q: u32, i: u32, j: u32, tmp: [u32; 8])
 {
     let m = block(id, q, i, j, tmp);
     let h = initial_value();
-    compress(&k.words, h, m)
+    compress(k, h, m)
 }
 
 // The value of chain i after `count` steps from place `from`, where it was tmp.
