@@ -38,6 +38,7 @@ fn start(h: [u32; 8], s: &mut [u32; 3264])
 }
 
 // The share of the words at n and n + 16 in the word at n + 256.
+#[tactic(auto, unfolding(crate::specs::Rows::share_at))]
 fn share_at(w: &[u32; 1024], n: usize) -> u32
     requires { n < 1008 }
     ensures { result ≡ share_at w.now n }
@@ -72,6 +73,7 @@ fn scheduled_next(w: &[u32; 1024], x: &[u32; 96], n: usize) -> u32
 }
 
 // Any word from 16 on, at index n, from the rows before it.
+#[tactic(auto, unfolding(crate::specs::Rows::scheduled_at))]
 fn scheduled(w: &[u32; 1024], n: usize) -> u32
     requires { (256 ≤ n) × (n < 1024) }
     ensures { result ≡ scheduled_at w.now n }
@@ -109,6 +111,7 @@ fn majority(b: u32, ab: u32, bc: u32) -> u32
 }
 
 // T1 of one lane.
+#[tactic(auto, unfolding(crate::specs::Rows::temp1_at))]
 fn temp1_at(k: u32, x: u32, s: &[u32; 3264], n: usize) -> u32
     requires { n < 1024 }
     ensures { result ≡ temp1_at k x n s.now }
@@ -117,6 +120,7 @@ fn temp1_at(k: u32, x: u32, s: &[u32; 3264], n: usize) -> u32
 }
 
 // T2 of one lane.
+#[tactic(auto, unfolding(crate::specs::Rows::temp2_at))]
 fn temp2_at(s: &[u32; 3264], n: usize) -> u32
     requires { n < 1024 }
     ensures { result ≡ temp2_at n s.now }
@@ -127,6 +131,7 @@ fn temp2_at(s: &[u32; 3264], n: usize) -> u32
 }
 
 // One round of one lane, from the working variables at n + 16 to those at n.
+#[tactic(auto, unfolding(crate::specs::Rows::round_at))]
 fn round_at(k: u32, x: u32, s: &mut [u32; 3264], n: usize)
     requires { n < 1024 }
     ensures { s.new ≡ round_at k x n s.old }
