@@ -1,13 +1,12 @@
 -- Digits, the checksum, and the digits of a message.
-use Rattle.std.specs.Prelude.{◌≡◌, refl, List, ◌++◌, ℕ, ◌+◌, ◌-◌, ◌*◌, ◌/◌, ◌%◌, ◌^◌, ◌≤◌, ◌<◌, length, get_or, set}
-use Rattle.std.proofs.Common.{sym, ap, ◌∙◌, add-one, arith}
-use Rattle.octets.specs.Octets.{patch, be}
-use Rattle.octets.specs.OctetsLaws.{length-be, length-patch}
-use Rattle.octets.specs.WriteLaws.{pieces, stores_two}
+use Rattle.std.specs.Prelude.{◌≡◌, List, ◌++◌, ℕ, ◌+◌, ◌-◌, ◌*◌, ◌/◌, ◌%◌, ◌^◌, ◌≤◌, ◌<◌, length, take, drop, get_or}
+use Rattle.std.proofs.Common.{sym, ◌∙◌, add-one, arith}
+use Rattle.octets.specs.Octets.{be}
 use Rattle.fips180.specs.Fips.{sha256}
 use Rattle.rfc8554.specs.Ots.{coef, digits, chains, left_shift, d_mesg, sum, checksum, with_checksum, message_input, digested}
 use Rattle.rfc8554.specs.OtsLaws.{coef-eight, coef-four-high, coef-four-low}
 use Rattle.lmots_digits.specs.Pieces.{front}
+use Rattle.lmots_digits.specs.WriteLaws.{two-written}
 use Rattle.lmots_digits.specs.declared.width.Width.{Width}
 use Rattle.lmots_digits.specs.declared.width.Width.TheVariants as width
 use Rattle.lmots_digits.specs.Width.{bits_of}
@@ -47,14 +46,10 @@ unfolding checksum digits left_shift
 checksum-shifted width.Four s i n S e p h k = let few : s * 16 < 4294967296 = omega arith in rw (k, ← e, ← p) (omega arith)
 checksum-shifted width.Eight s i n S e p h k = let few : s < 4294967296 = omega arith in rw (k, ← e, ← p) (omega arith)
 
-pub checksum-written : (w x : ℕ) (Q zs a : List ℕ) → length Q ≡ 32 → length zs ≡ 34 → a ≡ patch 0 Q zs → x ≡ checksum w Q
-    → set (set a 32 (x / 256 % 256)) 33 (x % 256) ≡ with_checksum w Q
+pub checksum-written : (w x : ℕ) (Q q ds vs : List ℕ) → length q ≡ 32 → length ds ≡ 2 → q ≡ Q → vs ≡ be 2 x → x ≡ checksum w Q
+    → take 32 (q ++ ds) ++ (vs ++ drop 2 (drop 32 (q ++ ds))) ≡ with_checksum w Q
 unfolding with_checksum
-checksum-written w x Q zs a l k e p =
-    let n : length a ≡ 34 = ap length e ∙ length-patch 0 Q zs (omega arith) ∙ k in
-    stores_two 32 x a (omega arith)
-    ∙ pieces 32 Q (be 2 x) zs a _ e (omega arith) (rw length-be (omega arith)) refl
-    ∙ rw p
+checksum-written w x Q q ds vs l m e f p = two-written 32 2 q ds vs (be 2 x) l m f ∙ rw (e, p)
 
 -- a message's digits, by its hash
 pub digested_by : (I C message a Q r : List ℕ) (q w : ℕ) → a ≡ front I q d_mesg ++ C → Q ≡ sha256 (a ++ message) → r ≡ with_checksum w Q

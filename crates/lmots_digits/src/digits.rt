@@ -41,9 +41,8 @@ fn with_checksum(w: Width, digest: [u8; 32]) -> [u8; 34]
 {
     let sum = checksum(w, &digest);
     let mut out = [0u8; 34];
-    octets::copy(&mut out, 0, &digest);
-    out[32] = (sum / 256 % 256) as u8;
-    out[33] = (sum % 256) as u8;
+    out[..32].copy_from_slice(&digest);
+    out[32..].copy_from_slice(&sum.to_be_bytes()[2..]);
     out
 }
 
@@ -52,13 +51,9 @@ pub fn front(id: [u32; 4], q: u32, d: u32) -> [u8; 22]
     ensures { result ≡ Pieces.front (bytes id) q d }
 {
     let mut out = [0u8; 22];
-    octets::put_word(&mut out, 0, id[0]);
-    octets::put_word(&mut out, 4, id[1]);
-    octets::put_word(&mut out, 8, id[2]);
-    octets::put_word(&mut out, 12, id[3]);
+    octets::put_words(&mut out, 0, &id);
     octets::put_word(&mut out, 16, q);
-    out[20] = (d / 256 % 256) as u8;
-    out[21] = (d % 256) as u8;
+    out[20..].copy_from_slice(&d.to_be_bytes()[2..]);
     out
 }
 
@@ -69,8 +64,8 @@ fn prefix(id: [u32; 4], q: u32, c: &[u8]) -> [u8; 54]
 {
     let start = front(id, q, 0x8181);
     let mut out = [0u8; 54];
-    octets::copy(&mut out, 0, &start);
-    octets::copy(&mut out, 22, c);
+    out[..22].copy_from_slice(&start);
+    out[22..].copy_from_slice(c);
     out
 }
 
