@@ -1,8 +1,7 @@
-// Test of the key table: 5; and the keys in it.
+// Test of the key table: 5.
 ghost use Rattle.std.specs.Prelude.{◌≡◌, ◌+◌, ◌≤◌, length};
-ghost use Rattle.protocol.specs.Layout.{key_length, key_at};
+ghost use Rattle.protocol.specs.Layout.{key_at};
 ghost use Rattle.protocol.specs.Refusals.{key_allowed, wrong_keys};
-ghost use Rattle.protocol.specs.Signatures.{seat_key};
 
 // Whether the types of a seat's key are 6 and 4.
 fn key_allowed(seat: u32, keys: &[u8]) -> bool
@@ -10,7 +9,7 @@ fn key_allowed(seat: u32, keys: &[u8]) -> bool
     ensures { result ≡ key_allowed seat keys.now }
 {
     let at = layout::key_at(seat);
-    (octets::word_at(keys, at) == 6) & (octets::word_at(keys, at + 4) == 4)
+    octets::word_at(keys, at) == 6 && octets::word_at(keys, at + 4) == 4
 }
 
 // Whether the key table isn't 56 × n bytes, or a key's types aren't allowed.
@@ -20,22 +19,10 @@ pub fn wrong_keys(n: u32, keys: &[u8]) -> bool
     if keys.len() != layout::key_at(n) {
         return true;
     }
-    let mut seat = 0;
-    while seat < n {
+    for seat in 0..n {
         if !key_allowed(seat, keys) {
             return true;
         }
-        seat += 1;
     }
     false
-}
-
-// The key of a seat.
-pub(crate) fn seat_key(keys: &[u8], seat: u32) -> &[u8]
-    requires { key_at seat + key_length ≤ length keys.now }
-    ensures { result.now ≡ seat_key keys.now seat }
-{
-    let start = layout::key_at(seat);
-    let end = start + layout::key_length();
-    &keys[start..end]
 }

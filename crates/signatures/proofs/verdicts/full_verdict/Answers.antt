@@ -1,44 +1,50 @@
--- The laws of `EntriesLaws` about an entry found, at each point of the loop.
-use Rattle.std.proofs.Common.{◌≡◌, ◌<◌, ◌≤◌, ◌∙◌, sym, ap, arith}
-use Rattle.protocol.specs.Signatures.{checks}
+use Rattle.std.proofs.Common.{◌∙◌, arith}
+use Rattle.refusal.specs.AnswersLaws.{number-nonzero, number-handed_on}
 use Rattle.quorum.specs.Quorum.{k}
-use Rattle.signatures.specs.EntriesLaws.{value-inside, walk_starts, walk_fits, walk_on, walk_ends}
+use Rattle.protocol.specs.EntriesLaws.{passed_none, passed_next, passed_all}
+use Rattle.protocol.specs.Signatures.{checks}
+use Rattle.signatures.specs.EntriesLaws.{accepted, signature-bad, signatures-good, value-inside, entries-signed, found-entry, found-end, entry-fits, entry-verdict}
 use Rattle.signatures.proofs.verdicts.full_verdict.Goals as goal
 
-pub loop-v-init : goal.loop-v-init
-loop-v-init c =
-    let made = c.open-reader.ensures in
-    record {
-      over = rw made.0;
-      walked = rw made.1 (walk_starts _ _ _ c.requires.2 _ (rw (made.0, made.1) at c.entry-found.ensures));
-    }
+pub loop-entry-init : goal.loop-entry-init
+loop-entry-init c = let made = c.open-reader.ensures in record { over = rw made.0; passed = rw made.1 passed_none }
 
-pub found_verdict-v-requires : goal.found_verdict-v-requires
-found_verdict-v-requires c =
-    (c.requires.0, c.requires.1, value-inside _ _ c.requires.2, walk_fits _ _ _ c.requires.2 _ _ _ c.loop-v.invariant.walked)
+pub place_verdict-requires : goal.place_verdict-requires
+place_verdict-requires c =
+    let fits = entry-fits _ _ c.requires _ _ (rw c.loop-entry.invariant.over at c.in-Some.ensures) in
+    (fits.0, (omega (arith, value-inside _ _ c.requires), fits.1))
+
+pub returns-in_err-place_verdict : goal.returns-in_err-place_verdict
+returns-in_err-place_verdict c =
+    let e = c.in_err-place_verdict.field-0.0 in
+    let f = rw c.loop-entry.invariant.over at c.in-Some.ensures in
+    let bad = entry-verdict _ _ c.requires _ (checks c.args.fleet.keys.now c.args.fleet.round) _ f _ c.value_at.ensures _ c.in_err-place_verdict.ensures in
+    number-handed_on c.from_residual.result e c.from_residual.ensures.1
+    ∙ signature-bad _ _ _ _ (entries-signed _ _ c.requires _) _ (found-entry _ _ c.requires _ _ f).0 _ bad (number-nonzero e)
 
 pub advance-reader-requires : goal.advance-reader-requires
 unfolding k
 advance-reader-requires c =
-    let on = (walk_on _ _ _ c.requires.2 _ _ _ c.loop-v.invariant.walked (sym c.goes_on.ensures ∙ c.loop-v-test.true)).0 in
-    omega (arith, on, c.ranges.n.fits)
+    let f = rw c.loop-entry.invariant.over at c.in-Some.ensures in
+    omega (arith, (found-entry _ _ c.requires _ _ f).0, c.ranges.fleet)
 
-pub loop-v-smaller : goal.loop-v-smaller
-loop-v-smaller c =
-    let on = (walk_on _ _ _ c.requires.2 _ _ _ c.loop-v.invariant.walked (sym c.goes_on.ensures ∙ c.loop-v-test.true)).0 in
-    omega (arith, on, c.advance-reader.ensures.1)
+pub loop-entry-smaller : goal.loop-entry-smaller
+loop-entry-smaller c =
+    let f = rw c.loop-entry.invariant.over at c.in-Some.ensures in
+    omega (arith, (found-entry _ _ c.requires _ _ f).0, c.advance-reader.ensures.1)
 
-pub loop-v-preserved : goal.loop-v-preserved
-loop-v-preserved c =
+pub loop-entry-preserved : goal.loop-entry-preserved
+loop-entry-preserved c =
     let moved = c.advance-reader.ensures in
-    let held = c.loop-v.invariant in
+    let held = c.loop-entry.invariant in
+    let f = rw held.over at c.in-Some.ensures in
+    let good = entry-verdict _ _ c.requires _ (checks c.args.fleet.keys.now c.args.fleet.round) _ f _ c.value_at.ensures _ c.in_ok-place_verdict.ensures in
     record {
       over = rw moved.0 held.over;
-      walked =
-          rw moved.1
-          ((walk_on _ _ _ c.requires.2 _ _ _ held.walked (sym c.goes_on.ensures ∙ c.loop-v-test.true)).1 _ _ c.found_verdict-v.ensures
-          (rw (moved.0, held.over, moved.1) at c.entry-found-in-loop-v.ensures));
+      passed = rw moved.1 (passed_next held.passed (found-entry _ _ c.requires _ _ f).0 (accepted _ good));
     }
 
 pub returns : goal.returns
-returns c = walk_ends _ _ _ c.requires.2 _ _ _ c.loop-v.invariant.walked (sym c.goes_on.ensures ∙ c.loop-v-test.false)
+returns c =
+    let held = c.loop-entry.invariant in
+    signatures-good _ _ _ _ (entries-signed _ _ c.requires _) (passed_all held.passed (found-end _ _ c.requires _ (rw held.over at c.in_default.ensures)))
