@@ -72,7 +72,13 @@ fn blame(r: Record, store: &[u8], out: &mut [u8], at: usize, c: Certificate<'_>)
 }
 
 // Holds a certificate where none is held; otherwise blames, where its value is another and it adds seats.
-fn hold_or_blame(r: Record, store: &mut [u8], out: &mut [u8], at: usize, c: Certificate<'_>) -> Phase
+fn hold_or_blame(
+    r: Record,
+    store: &mut [u8],
+    out: &mut [u8],
+    at: usize,
+    c: Certificate<'_>,
+) -> Phase
     requires { Fits r store.old × Heard r.n c.source store.old c.bytes.now × (at + evidence_length (k r.n) ≤ length out.old) }
     ensures { Did (hold_or_blame (heard_of r.n c.entry store.old)) r store.old out.old at result.unit store.new out.new result.at }
 {
