@@ -274,10 +274,6 @@ all_next places t w₀ x s₀ v₀ w s v w' s' v' f g id leaves r =
     let now = f id leaves r in
     (still_by id leaves places t w x s v w' s' v' now.0 g, walked_next id leaves places t w x s v₀ v w' s' v' now.0 g now.1)
 
-pub all_done : (places : List ℕ) (t count : ℕ) (w₀ x s₀ v₀ w s v : List ℕ) → t ≡ count → AllWalked places t w₀ x s₀ v₀ w s v
-    → AllWalked places count w₀ x s₀ v₀ w s v
-all_done places t count w₀ x s₀ v₀ w s v e f = subst (λ (n : ℕ). AllWalked places n w₀ x s₀ v₀ w s v) e f
-
 pub walked_for : (id leaves places : List ℕ) (count : ℕ) (w₀ x s₀ v₀ w s v : List ℕ) → Ready id leaves w₀ x s₀ → AllWalked places count w₀ x s₀ v₀ w s v
     → Walked id leaves places count v₀ v
 unfolding AllWalked

@@ -370,10 +370,6 @@ module _ (s : List ℕ) (n y e a : ℕ) (hn : n < 1024) (ls : length s ≡ 3264)
   three-differ p = rw (new-y, low (n + 16) (inr (omega arith)) (omega arith), low (n + 32) (inr (omega arith)) (omega arith)) p
 
 module _ (k x n : ℕ) (s : List ℕ) (hn : n < 1024) (ls : length s ≡ 3264) where
-  pub length-round_at : length (round_at k x n s) ≡ 3264
-  unfolding round_at
-  length-round_at = simp length-set ls
-
   -- working variables after index n
   round-unchanged : (q : List ℕ) (m : ℕ) → n < m → m < 1040 → State q m s → State q m (round_at k x n s)
   unfolding round_at three two one
