@@ -22,7 +22,7 @@ returns c =
       same = λ i h. copied_below 80 16 y e le (omega arith) i (omega arith) ∙ copied_below 64 16 x a la (omega arith) i h;
       by_index = λ l h. (
         copied_below 80 16 y e le (omega arith) (64 + l) (omega arith) ∙ copied_at 64 16 x a la (omega arith) l h
-        ∙ part_word 928 _ a l c.copy_from_slice.ensures.after h,
+            ∙ part_word 928 _ a l c.copy_from_slice.ensures.after h,
         copied_at 80 16 y e le (omega arith) l h ∙ part_word 2016 _ e l c.copy_from_slice-2.ensures.after h,
       );
     }
