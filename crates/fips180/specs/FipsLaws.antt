@@ -1,8 +1,8 @@
 -- Laws of SHA-256.
 use Rattle.std.specs.Prelude.{◌≡◌, refl, List, [], ◌∷◌, ◌++◌, ℕ, zero, suc, ◌+◌, ◌-◌, ◌*◌, ◌/◌, ◌%◌, ◌≤◌, ◌<◌, Bool, true, false, cond, ◌⊎◌, ltb, replicate, length, get_or, take, drop, set}
-use Rattle.std.proofs.Common.{sym, ap, ap₂, subst, ◌∙◌, append_assoc, add-zero, add-suc, add-one, arith, inl, inr, ⊎_elim, ltb-true, ltb-false, drop_of_length-le, length-append, length-take, length-drop, take-append-drop, take_all, take-suc-set, get_or-take}
+use Rattle.std.proofs.Common.{sym, ap, ap₂, ◌∙◌, append_assoc, add-zero, add-suc, add-one, arith, inl, inr, ⊎_elim, ltb-true, ltb-false, drop_of_length-le, length-append, length-take, length-drop, take-append-drop, take_all, take-suc-set, get_or-take}
 use Rattle.std.proofs.lemmas.List.{length-replicate, take-append-le, drop-append-le}
-use Rattle.std.proofs.Math.Seq.{set-append_seam, take-append-add, drop-append-add, take-length}
+use Rattle.std.proofs.Math.Seq.{set-append_seam, take-append-add, drop-append-add}
 use Rattle.octets.specs.Octets.{part, patch, be, words, bytes}
 use Rattle.octets.specs.OctetsLaws.{take_rest, drop-replicate, take-replicate, patch-patch, take-patch, length-be, length-bytes}
 use Rattle.fips180.specs.Constants.{constants, initial}
@@ -22,17 +22,14 @@ scheduled-take w t h =
     simp (get_or-take)
 
 -- one pass of the loop
-pub schedule_next : (m w : List ℕ) (t x : ℕ) → take (16 + t) w ≡ schedule m t → 16 + t < length w → x ≡ scheduled w (16 + t)
-    → take (16 + (t + 1)) (set w (16 + t) x) ≡ schedule m (t + 1)
+pub schedule_next : (m w : List ℕ) (t x : ℕ) → 16 ≤ t → take t w ≡ schedule m (t - 16) → t < length w → x ≡ scheduled w t
+    → take (t + 1) (set w t x) ≡ schedule m (t + 1 - 16)
 unfolding schedule
-schedule_next m w t x e h p =
-    let s : scheduled w (16 + t) ≡ scheduled (schedule m t) (16 + t) = sym (scheduled-take w (16 + t) (omega arith)) ∙ ap (λ (l : List ℕ). scheduled l (16 + t)) e in
-    let n : 16 + (t + 1) ≡ suc (16 + t) = omega arith in
-    rw (n, add-one, p, take-suc-set w (16 + t)) (rw (e, s))
-
-pub schedule-done : (m w : List ℕ) (t : ℕ) → take (16 + t) w ≡ schedule m t → t ≡ 48 → length w ≡ 64 → w ≡ schedule m 48
-schedule-done m w t e h l =
-    sym (subst (λ (k : ℕ). take k w ≡ w) l (take-length w)) ∙ subst (λ (k : ℕ). take (16 + k) w ≡ schedule m k) h e
+schedule_next m w t x l e h p =
+    let s : scheduled w t ≡ scheduled (schedule m (t - 16)) t = sym (scheduled-take w t l) ∙ ap (λ (l : List ℕ). scheduled l t) e in
+    let n : t + 1 - 16 ≡ suc (t - 16) = omega arith in
+    let place : 16 + (t - 16) ≡ t = omega arith in
+    rw (n, place, add-one, p, take-suc-set w t) (rw (e, s))
 
 -- ---- the rounds, as a loop runs them
 

@@ -10,6 +10,7 @@ use sha256_block::compress;
 use sha256_constants::{RoundConstants, initial_value};
 
 // The last three bytes of a word and the first of the next.
+#[tactic(auto, unfolding(crate::specs::Pieces::across))]
 pub(crate) fn across(a: u32, b: u32) -> u32
     ensures { result ≡ Pieces.across a b }
 {
@@ -49,7 +50,7 @@ fn step(k: &RoundConstants, id: [u32; 4], q: u32, i: u32, j: u32, tmp: [u32; 8])
 {
     let m = block(id, q, i, j, tmp);
     let h = initial_value();
-    compress(&k.words, h, m)
+    compress(k, h, m)
 }
 
 // The value of chain i after `count` steps from place `from`, where it was tmp.
@@ -74,6 +75,7 @@ pub fn chain(
 }
 
 // The start of chain i, from the seed.
+#[tactic(auto, unfolding(rfc8554::specs::Ots::start))]
 pub fn start(k: &RoundConstants, id: [u32; 4], q: u32, i: u32, seed: [u32; 8]) -> [u32; 8]
     requires { i < 65536 }
     ensures { bytes result ≡ Ots.start (bytes id) q (bytes seed) i }

@@ -4,6 +4,7 @@ ghost use Rattle.lmots_chains.specs.Sixteen.{Slid, Placed, Numbered, Ready, Step
 
 use crate::chain::across;
 use sha256_constants::{RoundConstants, initial_value};
+use sha256_lanes::{Lanes, spread};
 
 // Words 6 to 12 of the blocks: the values, moved by one byte.
 fn put_values(v: &[u32; 128], w: &mut [u32; 1024])
@@ -34,62 +35,40 @@ fn put_numbers(leaves: [u32; 16], w: &mut [u32; 1024])
     }
 }
 
-// One step of every chain, t places after the place of its lane. Scratch: the words of w and s that `Ready` does not name.
-fn step(
-    k: &RoundConstants,
-    places: &[u32; 16],
-    t: u32,
-    w: &mut [u32; 1024],
-    x: &[u32; 96],
-    s: &mut [u32; 3264],
-    v: &mut [u32; 128],
-)
+// One step of every chain, t places after the place of its lane. Scratch: the words of the lanes that `Ready` does not name.
+fn step(k: &RoundConstants, places: &[u32; 16], t: u32, lanes: &mut Lanes, v: &mut [u32; 128])
     requires { (t < 256) × ((l : ℕ) → l < 16 → get_or places.now l 0 < 16777216) }
-    ensures { Stepped places.now t w.old x.now s.old v.old w.new s.new v.new }
+    ensures same { lanes.new.shares ≡ lanes.old.shares }
+    ensures stepped { Stepped places.now t lanes.old.schedule lanes.new.shares lanes.old.state v.old lanes.new.schedule lanes.new.state v.new }
 {
-    put_places(places, t, v, w);
-    put_values(v, w);
-    sha256_lanes::compress(k, w, x, s, v);
+    put_places(places, t, v, &mut lanes.schedule);
+    put_values(v, &mut lanes.schedule);
+    lanes.compress(k, v);
 }
 
 // The part of the blocks that is the same in every step: the words around place and value, with their common start. Scratch: the
-// words of w, x and s that `Ready` does not name.
-fn prepare(
-    k: &RoundConstants,
-    id: [u32; 4],
-    leaves: [u32; 16],
-    w: &mut [u32; 1024],
-    x: &mut [u32; 96],
-    s: &mut [u32; 3264],
-)
-    ensures { Ready id leaves w.new x.new s.new }
+// words of the lanes that `Ready` does not name.
+fn prepare(k: &RoundConstants, id: [u32; 4], leaves: [u32; 16], lanes: &mut Lanes)
+    ensures { Ready id leaves lanes.new.schedule lanes.new.shares lanes.new.state }
 {
     let h = initial_value();
-    sha256_lanes::spread(
+    spread(
         [
             id[0], id[1], id[2], id[3], 0, 0, 0, 0, 0, 0, 0, 0, 0, 0, 0, 440,
         ],
-        w,
+        &mut lanes.schedule,
     );
-    put_numbers(leaves, w);
-    sha256_lanes::begin(k, h, w, x, s);
+    put_numbers(leaves, &mut lanes.schedule);
+    lanes.begin(k, h);
 }
 
-// `count` steps of every chain, for leaves that w, x and s are ready for. Scratch as in `step`.
-fn walk(
-    k: &RoundConstants,
-    places: &[u32; 16],
-    count: u32,
-    w: &mut [u32; 1024],
-    x: &[u32; 96],
-    s: &mut [u32; 3264],
-    v: &mut [u32; 128],
-)
+// `count` steps of every chain, for leaves that the lanes are ready for. Scratch as in `step`.
+fn walk(k: &RoundConstants, places: &[u32; 16], count: u32, lanes: &mut Lanes, v: &mut [u32; 128])
     requires { (count ≤ 255) × ((l : ℕ) → l < 16 → get_or places.now l 0 < 16777216) }
-    ensures { AllWalked places.now count w.old x.now s.old v.old w.new s.new v.new }
+    ensures { AllWalked places.now count lanes.old.schedule lanes.old.shares lanes.old.state v.old lanes.new.schedule lanes.new.state v.new }
 {
     for t in 0..count {
-        step(k, places, t, w, x, s, v);
+        step(k, places, t, lanes, v);
     }
 }
 
@@ -105,9 +84,11 @@ pub fn steps(
     requires { (count ≤ 255) × ((l : ℕ) → l < 16 → get_or places.now l 0 < 16777216) }
     ensures { Walked id leaves places.now count v.old v.new }
 {
-    let mut w = [0u32; 1024];
-    let mut x = [0u32; 96];
-    let mut s = [0u32; 3264];
-    prepare(k, id, leaves, &mut w, &mut x, &mut s);
-    walk(k, places, count, &mut w, &x, &mut s, v);
+    let mut lanes = Lanes {
+        schedule: [0; 1024],
+        shares: [0; 96],
+        state: [0; 3264],
+    };
+    prepare(k, id, leaves, &mut lanes);
+    walk(k, places, count, &mut lanes, v);
 }

@@ -38,6 +38,7 @@ fn start(h: [u32; 8], s: &mut [u32; 3264])
 }
 
 // The share of the words at n and n + 16 in the word at n + 256.
+#[tactic(auto, unfolding(crate::specs::Rows::share_at))]
 fn share_at(w: &[u32; 1024], n: usize) -> u32
     requires { n < 1008 }
     ensures { result ≡ share_at w.now n }
@@ -72,6 +73,7 @@ fn scheduled_next(w: &[u32; 1024], x: &[u32; 96], n: usize) -> u32
 }
 
 // Any word from 16 on, at index n, from the rows before it.
+#[tactic(auto, unfolding(crate::specs::Rows::scheduled_at))]
 fn scheduled(w: &[u32; 1024], n: usize) -> u32
     requires { (256 ≤ n) × (n < 1024) }
     ensures { result ≡ scheduled_at w.now n }
@@ -109,6 +111,7 @@ fn majority(b: u32, ab: u32, bc: u32) -> u32
 }
 
 // T1 of one lane.
+#[tactic(auto, unfolding(crate::specs::Rows::temp1_at))]
 fn temp1_at(k: u32, x: u32, s: &[u32; 3264], n: usize) -> u32
     requires { n < 1024 }
     ensures { result ≡ temp1_at k x n s.now }
@@ -117,6 +120,7 @@ fn temp1_at(k: u32, x: u32, s: &[u32; 3264], n: usize) -> u32
 }
 
 // T2 of one lane.
+#[tactic(auto, unfolding(crate::specs::Rows::temp2_at))]
 fn temp2_at(s: &[u32; 3264], n: usize) -> u32
     requires { n < 1024 }
     ensures { result ≡ temp2_at n s.now }
@@ -127,6 +131,7 @@ fn temp2_at(s: &[u32; 3264], n: usize) -> u32
 }
 
 // One round of one lane, from the working variables at n + 16 to those at n.
+#[tactic(auto, unfolding(crate::specs::Rows::round_at))]
 fn round_at(k: u32, x: u32, s: &mut [u32; 3264], n: usize)
     requires { n < 1024 }
     ensures { s.new ≡ round_at k x n s.old }
@@ -195,39 +200,39 @@ fn resume(w: &[u32; 1024], x: &[u32; 96], s: &mut [u32; 3264])
     }
 }
 
-// The common start of blocks with words 0 to 4, 14 and 15 of w, after one hash value: `compress` goes on from it. Word 5 is zero in
-// w, so that round 5 is without it. Scratch: the words of s that `Common` does not name.
-pub fn begin(
-    k: &RoundConstants,
-    h: [u32; 8],
-    w: &[u32; 1024],
-    x: &mut [u32; 96],
-    s: &mut [u32; 3264],
-)
-    requires { (l : ℕ) → l < 16 → get_or w.now (80 + l) 0 ≡ 0 }
-    ensures { Common h w.now x.new s.new }
-{
-    shares(w, x);
-    start(h, s);
-    rounds(k, w, s, 0, 5);
-    rounds(k, w, s, 5, 6);
-    save(s, x);
+// Sixteen blocks: their schedules, the share of the common start in these, and the working variables before and after each round.
+#[derive(Drop)]
+pub struct Lanes {
+    pub schedule: [u32; 1024],
+    pub shares: [u32; 96],
+    pub state: [u32; 3264],
 }
 
-// The hash value of every lane after one more block, with the first sixteen rows of w as its words. Scratch: the rows of w from 16 on,
-// and the words of s that `Common` does not name.
-pub fn compress(
-    k: &RoundConstants,
-    w: &mut [u32; 1024],
-    x: &[u32; 96],
-    s: &mut [u32; 3264],
-    v: &mut [u32; 128],
-)
-    ensures same { Same 256 w.old w.new }
-    ensures compressed { Compressed w.old x.now s.old w.new s.new v.new }
-{
-    schedule(w, x);
-    resume(w, x, s);
-    rounds(k, w, s, 6, 64);
-    sums(s, v);
+impl Lanes {
+    // The common start of blocks with words 0 to 4, 14 and 15 of the schedules' first sixteen rows, after one hash value: `compress` goes
+    // on from it. Word 5 is zero there, so that round 5 is without it. Scratch: the words of the state that `Common` does not name.
+    pub fn begin(&mut self, k: &RoundConstants, h: [u32; 8])
+        requires { (l : ℕ) → l < 16 → get_or self.old.schedule (80 + l) 0 ≡ 0 }
+        ensures same { self.new.schedule ≡ self.old.schedule }
+        ensures common { Common h self.new.schedule self.new.shares self.new.state }
+    {
+        shares(&self.schedule, &mut self.shares);
+        start(h, &mut self.state);
+        rounds(k, &self.schedule, &mut self.state, 0, 5);
+        rounds(k, &self.schedule, &mut self.state, 5, 6);
+        save(&self.state, &mut self.shares);
+    }
+
+    // The hash value of every lane after one more block, with the schedules' first sixteen rows as its words. Scratch: the rows from 16
+    // on, and the words of the state that `Common` does not name.
+    pub fn compress(&mut self, k: &RoundConstants, v: &mut [u32; 128])
+        ensures same { Same 256 self.old.schedule self.new.schedule }
+        ensures shares_same { self.new.shares ≡ self.old.shares }
+        ensures compressed { Compressed self.old.schedule self.new.shares self.old.state self.new.schedule self.new.state v.new }
+    {
+        schedule(&mut self.schedule, &self.shares);
+        resume(&self.schedule, &self.shares, &mut self.state);
+        rounds(k, &self.schedule, &mut self.state, 6, 64);
+        sums(&self.state, v);
+    }
 }
