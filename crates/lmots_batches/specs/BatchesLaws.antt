@@ -1,17 +1,17 @@
 -- All chains of a leaf, sixteen at a time: whatever the order, each comes to its own end.
 use Rattle.std.specs.Prelude.{◌≡◌, refl, Bool, true, false, ◌⊎◌, List, ℕ, ◌+◌, ◌-◌, ◌*◌, ◌≤◌, ◌<◌, ltb, take, set, replicate}
-use Rattle.std.proofs.Common.{sym, ap, subst, ◌∙◌, inl, inr, zero-add, eq-or-lt_of_le, ltb-true, ltb-false, ext_get_or}
+use Rattle.std.proofs.Common.{sym, ap, ◌∙◌, inl, inr, zero-add, eq-or-lt_of_le, ltb-true, ltb-false, ext_get_or}
 use Rattle.std.proofs.Math.Logic.{⊎_elim}
 use native.Mathlib.Omega.{arith}
 use Rattle.std.proofs.Math.ListN.{length, get_or}
 use Rattle.std.proofs.lemmas.List.{get_or-replicate}
 use Rattle.octets.specs.Octets.{part, patch, bytes}
 use Rattle.octets.specs.Strings.{joined}
-use Rattle.octets.specs.OctetsLaws.{length_part, length-patch, take-patch, length-bytes}
+use Rattle.octets.specs.OctetsLaws.{length_part, take-patch, length-bytes}
 use Rattle.octets.specs.StringsLaws.{length-joined, joined_same}
 use Rattle.octets.specs.WriteLaws.{part-own, part_before, part_after, joined-written}
 use Rattle.sha256_lanes.specs.Rows.{column}
-use Rattle.sha256_lanes.specs.RowsLaws.{Apart, set_other, set_there, one_more, fill_next, length-column, get_d_column, column_same}
+use Rattle.sha256_lanes.specs.RowsLaws.{Apart, set_other, set_there, fill_next, length-column, get_d_column, column_same}
 use Rattle.rfc8554.specs.Ots.{chain}
 use Rattle.rfc8554.specs.OtsLaws.{chain-add, length-chain}
 use Rattle.lmots_chains.specs.Sixteen.{Walked}
