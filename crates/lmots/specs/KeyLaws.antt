@@ -1,5 +1,5 @@
 -- The chains of a key, of a signature and of a candidate, and the hash input of a key.
-use Rattle.std.specs.Prelude.{◌≡◌, List, ◌++◌, ℕ, suc, ◌+◌, ◌-◌, ◌*◌, ◌^◌, ◌≤◌, ◌<◌, length, take, drop, get_or, set, replicate}
+use Rattle.std.specs.Prelude.{◌≡◌, List, ◌++◌, ℕ, ◌+◌, ◌-◌, ◌*◌, ◌^◌, ◌≤◌, ◌<◌, length, take, drop, get_or, replicate}
 use Rattle.std.proofs.Common.{sym, ap, ◌∙◌, zero-add, arith, length-drop, drop-drop}
 use Rattle.std.proofs.Math.Nat.{sub-zero}
 use Rattle.std.proofs.lemmas.List.{get_or-replicate}
@@ -12,7 +12,7 @@ use Rattle.rfc8554.specs.Ots.{coef, chains, ots_length, candidate, d_pblc, chain
 use Rattle.rfc8554.specs.OtsLaws.{length-start}
 use Rattle.lmots_digits.specs.Pieces.{front}
 use Rattle.lmots_batches.specs.Batches.{Ordered, ended}
-use Rattle.lmots_batches.specs.BatchesLaws.{all_set, written_next}
+use Rattle.lmots_batches.specs.BatchesLaws.{written_next}
 
 -- a signature: 36 bytes, then its values
 pub length-values : (w : ℕ) → ots_length w ≡ 36 + 32 * chains w
@@ -20,13 +20,6 @@ unfolding ots_length
 length-values w = omega arith
 
 -- ---- chains of a key and of a signature
-
--- one more digit as a place
-pub digit-more : (w : ℕ) (xs : List ℕ) (i x : ℕ) → ((j : ℕ) → j < 67 → get_or xs j 0 ≤ 2 ^ w - 1) → length xs ≡ 67 → i < 67 → x ≤ 2 ^ w - 1
-    → (j : ℕ) → j < 67 → get_or (set xs i x) j 0 ≤ 2 ^ w - 1
-digit-more w xs i x f l h k j a =
-    let most = all_set xs i x (suc (2 ^ w - 1)) 67 (omega arith) (omega arith) (λ m b. omega (arith, f m b)) j a in
-    omega arith
 
 -- one more start
 pub starts_next : (I seed z₀ z x z' : List ℕ) (q i : ℕ) → z ≡ patch 0 (joined (start I q seed) i) z₀ → bytes x ≡ start I q seed i
