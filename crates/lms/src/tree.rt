@@ -25,7 +25,7 @@ fn put_sixteen(k: &RoundConstants, id: [u32; 4], seed: [u32; 8], q: u32, tree: &
     requires { (q + 16 ≤ 1024) × (length tree.old ≡ tree_length) }
     ensures { tree.new ≡ patch (32 * (1024 + q)) (nodes 10 8 (bytes id) (bytes seed) (1024 + q) 16) tree.old }
 {
-    let keys = lmots::leaves::ots_keys(&k.words, id, q, seed);
+    let keys = lmots::leaves::ots_keys(k, id, q, seed);
     for l in 0..16 {
         let n = l as u32;
         put_leaf(k, id, q + n, node::bytes_at(&keys, 32 * l, 32), tree);
