@@ -106,8 +106,8 @@ pub(crate) fn write_signature(
     ensures { out.new ≡ patch 0 (lms_signature 6 4 id.now leaf seed.now randomizer.now message.now tree.now) out.old }
 {
     let k = sha256_constants::round_constants();
-    let id_words = lmots_digits::words::four(id, 0);
-    let seed_words = lmots_digits::words::eight(seed, 0);
+    let id_words = lmots_digits::words::words_at(id, 0);
+    let seed_words = lmots_digits::words::words_at(seed, 0);
     write_head(leaf, randomizer, out);
     write_values(&k, id_words, seed_words, leaf, randomizer, message, out);
     write_tail(tree, leaf, out);

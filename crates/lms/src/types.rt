@@ -18,6 +18,7 @@ impl TreeType {
     ghost use Rattle.lms.specs.Types.{tree_type};
 
     // The type with a number, where it is known.
+    #[tactic(auto, unfolding(rfc8554::specs::Tree::known_lms))]
     pub(crate) fn of(number: u32) -> Option<TreeType>
         ensures known { is_some result ≡ Tree.known_lms number }
         ensures number { IfSome result (λ t. tree_type t ≡ number) }
@@ -59,6 +60,7 @@ impl TreeType {
 }
 
 // The width of a one-time signature's type, where it is known.
+#[tactic(auto, unfolding(rfc8554::specs::Ots::known_ots))]
 pub(crate) fn width_of(number: u32) -> Option<Width>
     ensures known { is_some result ≡ known_ots number }
     ensures width { IfSome result (λ w. ots_type w ≡ number) }

@@ -38,7 +38,9 @@ pub(crate) fn key_refused(key: &[u8]) -> bool
     if key.len() != layout::key_length() {
         return true;
     }
-    TreeType::of(octets::word_at(key, 0)).is_none() || width_of(octets::word_at(key, 4)).is_none()
+    let tree = TreeType::of(octets::word_at(key, 0));
+    let width = width_of(octets::word_at(key, 4));
+    tree.is_none() || width.is_none()
 }
 
 // Whether Algorithm 6a rejects the signature for its length, its types or its leaf.
@@ -152,7 +154,7 @@ pub fn verified(
     if signature_refused(tree, w, signature) {
         return Err(Refusal::Signature);
     }
-    let id = lmots_digits::words::four(key, 8);
+    let id = lmots_digits::words::words_at(key, 8);
     let root = root_candidate(k, id, tree, w, message, signature);
     let accepted = octets::same(&root, node::bytes_at(key, 24, 32));
     protocol::signature_verdict(accepted)
