@@ -16,7 +16,7 @@ use store::sources::{Certificate, Place, Source, bytes_of};
 
 // Holds a certificate, whose signatures stand in its bytes or in the store.
 #[tactic(auto, unfolding(protocol::specs::Step::hold))]
-fn hold<'a>(r: Record, store: &mut [u8], c: Certificate<'a>) -> Record
+fn hold(r: Record, store: &mut [u8], c: Certificate<'_>) -> Record
     requires { Fits r store.old × Heard r.n c.source store.old c.bytes.now }
     ensures { Changed (hold (heard_of r.n c.entry store.old)) r store.old result store.new }
 {
@@ -40,14 +40,14 @@ fn found(r: Record, source: Source) -> Mask
 
 // Whether a certificate has another value than the first one held, and seats newly found. Its signatures don't matter.
 #[tactic(auto, using(octets::specs::StringsLaws::equal_same), unfolding(protocol::specs::Step::blames, protocol::specs::Step::found))]
-fn blames<'a>(r: Record, c: Certificate<'a>) -> bool
+fn blames(r: Record, c: Certificate<'_>) -> bool
     ensures { result ≡ blames (heard r.n c.entry.source c.entry.value [] []) r }
 {
     c.value != r.first.value && found(r, c.source) != 0
 }
 
 // Makes the seats newly found guilty, and writes EVIDENCE for them.
-fn blame<'a>(r: Record, store: &'a [u8], out: &mut [u8], at: usize, c: Certificate<'a>) -> Phase
+fn blame(r: Record, store: &[u8], out: &mut [u8], at: usize, c: Certificate<'_>) -> Phase
     requires { Fits r store.now × Heard r.n c.source store.now c.bytes.now × (at + evidence_length (k r.n) ≤ length out.old) }
     ensures { Did (blame (heard_of r.n c.entry store.now)) r store.now out.old at result.unit store.now out.new result.at }
 {
@@ -72,12 +72,12 @@ fn blame<'a>(r: Record, store: &'a [u8], out: &mut [u8], at: usize, c: Certifica
 }
 
 // Holds a certificate where none is held; otherwise blames, where its value is another and it adds seats.
-fn hold_or_blame<'a>(
+fn hold_or_blame(
     r: Record,
     store: &mut [u8],
     out: &mut [u8],
     at: usize,
-    c: Certificate<'a>,
+    c: Certificate<'_>,
 ) -> Phase
     requires { Fits r store.old × Heard r.n c.source store.old c.bytes.now × (at + evidence_length (k r.n) ≤ length out.old) }
     ensures { Did (hold_or_blame (heard_of r.n c.entry store.old)) r store.old out.old at result.unit store.new out.new result.at }
@@ -94,12 +94,12 @@ fn hold_or_blame<'a>(
 
 // A certificate heard, with the message in its bytes, or nothing where its signatures stand in the store: a notice for its value,
 // then the reply, then the certificate held or the seats newly found blamed.
-pub fn hear_certificate<'a>(
+pub fn hear_certificate(
     r: Record,
     store: &mut [u8],
     out: &mut [u8],
     at: usize,
-    c: Certificate<'a>,
+    c: Certificate<'_>,
 ) -> Phase
     requires { Fits r store.old × Heard r.n c.source store.old c.bytes.now × (at + full_length r.n + evidence_length (k r.n) ≤ length out.old) }
     ensures { Did (hear_certificate (heard_of r.n c.entry store.old)) r store.old out.old at result.unit store.new out.new result.at }

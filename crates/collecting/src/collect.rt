@@ -6,6 +6,7 @@ ghost use Rattle.protocol.specs.Layout.{signature_length, submit_length, value_l
 ghost use Rattle.protocol.specs.Step.{is_wanted, set_own_value, collect, submit_own, collect_if_wanted};
 ghost use Rattle.phase.specs.Phases.{Did, Changed, Fits};
 
+use crate::Submit;
 use layout::Bank;
 use phase::Phase;
 use protocol::{Own, Record};
@@ -67,18 +68,12 @@ fn is_wanted(r: Record, seat: u32, value: [u8; 32]) -> bool
 
 // A signature is collected if it is wanted.
 #[tactic(auto, unfolding(protocol::specs::Step::collect_if_wanted))]
-pub(crate) fn collect_if_wanted(
-    r: Record,
-    store: &mut [u8],
-    seat: u32,
-    value: [u8; 32],
-    signature: &[u8],
-) -> Record
-    requires { Fits r store.old × (seat < r.n) × (length signature.now ≡ signature_length) }
-    ensures { Changed (collect_if_wanted seat value signature.now) r store.old result store.new }
+pub(crate) fn collect_if_wanted(r: Record, store: &mut [u8], s: Submit<'_>) -> Record
+    requires { Fits r store.old × (s.seat < r.n) }
+    ensures { Changed (collect_if_wanted s.entry.seat s.entry.value s.entry.signature.now) r store.old result store.new }
 {
-    if is_wanted(r, seat, value) {
-        return collect(r, store, seat, signature);
+    if is_wanted(r, s.seat, s.value) {
+        return collect(r, store, s.seat, s.signature);
     }
     r
 }

@@ -5,42 +5,37 @@ ghost use Rattle.protocol.specs.Layout.{signature_length};
 ghost use Rattle.protocol.specs.Step.{keep, hear_submit, is_open_to, collect_kept_seat, collect_kept};
 ghost use Rattle.phase.specs.Phases.{Changed, Fits};
 
+use crate::Submit;
 use crate::collect::collect_if_wanted;
 use layout::Bank;
 use protocol::Record;
 
 // A seat's SUBMIT is kept: its signature, then its value.
 #[tactic(auto, unfolding(protocol::specs::Step::keep, protocol::specs::Certificate::fill_kept, protocol::specs::Certificate::fill, layout::specs::Places::bank_of))]
-fn keep(r: Record, store: &mut [u8], seat: u32, value: [u8; 32], signature: &[u8]) -> Record
-    requires { Fits r store.old × (seat < r.n) × (length signature.now ≡ signature_length) }
-    ensures { Changed (keep seat value signature.now) r store.old result store.new }
+fn keep(r: Record, store: &mut [u8], s: Submit<'_>) -> Record
+    requires { Fits r store.old × (s.seat < r.n) }
+    ensures { Changed (keep s.entry.seat s.entry.value s.entry.signature.now) r store.old result store.new }
 {
-    store::slots::fill(store, r.n, Bank::Kept, seat, signature);
-    let at = layout::kept_value_at(r.n, seat);
-    octets::copy(store, at, &value);
-    let kept = quorum::with(r.kept, seat);
+    store::slots::fill(store, r.n, Bank::Kept, s.seat, s.signature);
+    let at = layout::kept_value_at(r.n, s.seat);
+    octets::copy(store, at, &s.value);
+    let kept = quorum::with(r.kept, s.seat);
     Record { kept, ..r }
 }
 
 // SUBMIT heard: after the own submit its signature is collected where it is wanted; before, the first of its seat is kept.
 #[tactic(auto, unfolding(protocol::specs::Step::hear_submit, protocol::specs::Step::keep_if_first))]
-pub fn hear_submit(
-    r: Record,
-    store: &mut [u8],
-    seat: u32,
-    value: [u8; 32],
-    signature: &[u8],
-) -> Record
-    requires { Fits r store.old × (seat < r.n) × (length signature.now ≡ signature_length) }
-    ensures { Changed (hear_submit seat value signature.now) r store.old result store.new }
+pub fn hear_submit(r: Record, store: &mut [u8], s: Submit<'_>) -> Record
+    requires { Fits r store.old × (s.seat < r.n) }
+    ensures { Changed (hear_submit s.entry.seat s.entry.value s.entry.signature.now) r store.old result store.new }
 {
     if r.own.submitted {
-        return collect_if_wanted(r, store, seat, value, signature);
+        return collect_if_wanted(r, store, s);
     }
-    if quorum::has(r.kept, seat) {
+    if quorum::has(r.kept, s.seat) {
         return r;
     }
-    keep(r, store, seat, value, signature)
+    keep(r, store, s)
 }
 
 // The seat is kept, and fewer than k are collected.
@@ -64,7 +59,12 @@ fn collect_kept_seat(r: Record, store: &mut [u8], seat: u32) -> Record
     let at = layout::kept_value_at(r.n, seat);
     let value = wire::values::value_at(store, at);
     let signature = store::slots::slot_copy(store, r.n, Bank::Kept, seat);
-    collect_if_wanted(r, store, seat, value, &signature)
+    let kept = Submit {
+        seat,
+        value,
+        signature: &signature,
+    };
+    collect_if_wanted(r, store, kept)
 }
 
 // All kept seats, rising; then none is kept.

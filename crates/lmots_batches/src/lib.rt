@@ -10,7 +10,8 @@ ghost use Rattle.lmots_batches.specs.Batches.{Ordered, Scattered, Moved, ended};
 
 use lmots_chains::chain::chain;
 use lmots_chains::sixteen::steps;
-use lmots_digits::words::{eight, put_eight};
+use lmots_digits::words::words_at;
+use octets::put_words;
 use sha256_constants::RoundConstants;
 
 // The bytes of 67 values.
@@ -89,12 +90,11 @@ fn longest(rest: &[u32; 67], n: usize) -> usize
 }
 
 // The sixteen of n chains with the most steps left. Where fewer than sixteen have steps left, the longest is taken again.
-fn choose(rests: [u32; 67], n: usize) -> Picks
+fn choose(mut rest: [u32; 67], n: usize) -> Picks
     requires { (0 < n) × (n ≤ 67) }
     ensures { (l : ℕ) → l < 16 → get_or result.chains l 0 < n }
 {
-    let first = longest(&rests, n);
-    let mut rest = rests;
+    let first = longest(&rest, n);
     let mut chains = [first; 16];
     for l in 0..16 {
         let i = longest(&rest, n);
@@ -133,7 +133,7 @@ fn gather(z: &[u8; VALUES], picks: &Picks, v: &mut [u32; 128])
     ensures { (l : ℕ) → l < 16 → bytes (column l 8 v.new) ≡ part (32 * get_or picks.now.chains l 0) 32 z.now }
 {
     for l in 0..16 {
-        let y = eight(z, 32 * picks.chains[l]);
+        let y = words_at(z, 32 * picks.chains[l]);
         put_column(v, l, y);
     }
 }
@@ -153,7 +153,7 @@ fn scatter(
     for l in 0..16 {
         let i = picks.chains[l];
         let y = column(v, l);
-        put_eight(z, 32 * i, y);
+        put_words(z, 32 * i, &y);
         next[i] = places[i] + count;
     }
     next
@@ -175,7 +175,7 @@ fn batch(
     let at = chains.row(picks);
     let mut v = [0u32; 128];
     gather(z, picks, &mut v);
-    steps(&k.words, id, [q; 16], &at, count, &mut v);
+    steps(k, id, [q; 16], &at, count, &mut v);
     let places = scatter(&v, picks, chains.places, count, z);
     Chains {
         n: chains.n,
@@ -205,9 +205,9 @@ fn finish(k: &RoundConstants, id: [u32; 4], q: u32, chains: &Chains, z: &mut [u8
     ensures { take (32 * chains.now.n) z.new ≡ joined (ended (bytes id) q chains.now.places chains.now.ends z.old) chains.now.n }
 {
     for i in 0..chains.n {
-        let y = eight(z, 32 * i);
+        let y = words_at(z, 32 * i);
         let x = chain(
-            &k.words,
+            k,
             id,
             q,
             i as u32,
@@ -215,7 +215,7 @@ fn finish(k: &RoundConstants, id: [u32; 4], q: u32, chains: &Chains, z: &mut [u8
             chains.left(i),
             y,
         );
-        put_eight(z, 32 * i, x);
+        put_words(z, 32 * i, &x);
     }
 }
 

@@ -30,9 +30,7 @@ fn put_places(places: &[u32; 16], t: u32, v: &[u32; 128], w: &mut [u32; 1024])
 fn put_numbers(leaves: [u32; 16], w: &mut [u32; 1024])
     ensures { Numbered 16 leaves w.old w.new }
 {
-    for l in 0..16 {
-        w[l + 64] = leaves[l];
-    }
+    w[64..80].copy_from_slice(&leaves);
 }
 
 // One step of every chain, t places after the place of its lane. Scratch: the words of the lanes that `Ready` does not name.

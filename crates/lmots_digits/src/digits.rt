@@ -82,6 +82,6 @@ pub fn message_digits(
     ensures { result ≡ Ots.digested (bytes id) q (bits_of w) c.now message.now }
 {
     let start = prefix(id, q, c);
-    let digest = sha256::hash::sha256_two(&k.words, &start, message);
+    let digest = sha256::hash::sha256_two(k, &start, message);
     with_checksum(w, digest)
 }

@@ -45,8 +45,8 @@ pub fn put_words(out: &mut [u8], at: usize, words: &[u32])
     requires { at + 4 * length words.now ≤ length out.old }
     ensures { out.new ≡ patch at (bytes words.now) out.old }
 {
-    for i in 0..words.len() {
-        put_word(out, at + 4 * i, words[i]);
+    for (i, &word) in words.iter().enumerate() {
+        put_word(out, at + 4 * i, word);
     }
 }
 

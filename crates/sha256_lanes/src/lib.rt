@@ -57,6 +57,7 @@ fn shares(w: &[u32; 1024], x: &mut [u32; 96])
 }
 
 // Word 16 or 17 of a schedule, at index n.
+#[tactic(auto, using(crate::specs::RowsLaws::shared_first))]
 fn scheduled_first(w: &[u32; 1024], x: &[u32; 96], n: usize) -> u32
     requires { (256 ≤ n) × (n < 288) }
     ensures { Shares w.now x.now → result ≡ scheduled_at w.now n }
@@ -65,6 +66,7 @@ fn scheduled_first(w: &[u32; 1024], x: &[u32; 96], n: usize) -> u32
 }
 
 // Word 18 or 19 of a schedule, at index n.
+#[tactic(auto, using(crate::specs::RowsLaws::shared_next))]
 fn scheduled_next(w: &[u32; 1024], x: &[u32; 96], n: usize) -> u32
     requires { (288 ≤ n) × (n < 320) }
     ensures { Shares w.now x.now → result ≡ scheduled_at w.now n }
@@ -183,10 +185,8 @@ fn save(s: &[u32; 3264], x: &mut [u32; 96])
     ensures same { Same 64 x.old x.new }
     ensures by_index { (l : ℕ) → l < 16 → (get_or x.new (64 + l) 0 ≡ get_or s.now (928 + l) 0) × (get_or x.new (80 + l) 0 ≡ get_or s.now (2016 + l) 0) }
 {
-    for n in 0..16 {
-        x[64 + n] = s[928 + n];
-        x[80 + n] = s[2016 + n];
-    }
+    x[64..80].copy_from_slice(&s[928..944]);
+    x[80..96].copy_from_slice(&s[2016..2032]);
 }
 
 // Round 5 of every lane: its word, added to the saved a and e. Scratch as in `round`.

@@ -13,6 +13,7 @@ use crate::confirm::confirm_if_complete;
 use certificates::certificate::hear_certificate;
 use certificates::hear::hear;
 use certificates::reply::reply;
+use collecting::Submit;
 use collecting::collect::submit_own;
 use collecting::kept::{collect_kept, hear_submit};
 use phase::Phase;
@@ -41,10 +42,12 @@ fn step_submit(r: Record, store: &mut [u8], out: &mut [u8], message: &[u8]) -> P
     requires { Ready r store.old out.old × (kind.Submit ≡ kind_of (read r.n message.now)) × (stranger r.n (read r.n message.now) ≡ false) }
     ensures { Did (stepped (read r.n message.now)) r store.old out.old 0 result.unit store.new out.new result.at }
 {
-    let value = wire::values::value_at(message, layout::value_at());
-    let signature = store::slots::signature_at(message, layout::submit_signature_at());
-    let seat = wire::read::number_at(message, layout::seat_at());
-    let unit = hear_submit(r, store, seat, value, signature);
+    let submit = Submit {
+        seat: wire::read::number_at(message, layout::seat_at()),
+        value: wire::values::value_at(message, layout::value_at()),
+        signature: store::slots::signature_at(message, layout::submit_signature_at()),
+    };
+    let unit = hear_submit(r, store, submit);
     confirm_if_complete(unit, store, out, 0)
 }
 

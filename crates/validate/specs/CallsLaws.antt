@@ -8,7 +8,7 @@ use mathlib.Core.List.{List, [], ◌∷◌, ◌++◌}
 use borrow.Author.Tests.{eqb-true, not-false}
 use Rattle.octets.specs.Strings.{same}
 use Rattle.refusal.specs.Refusal.{first_of, numbers, nonzero}
-use Rattle.refusal.specs.RefusalLaws.{both_false, first_of-zero, refused-later, passed_first, rows_passed}
+use Rattle.refusal.specs.RefusalLaws.{both_false, first_of-zero, refused_first, refused-later, passed_first}
 use Rattle.protocol.specs.Layout.{value_length, signature_length, value_at}
 use Rattle.protocol.specs.Values.{is_lower}
 use Rattle.protocol.specs.Message.{Message, Submit, read_value, read, read_full, signed}
@@ -66,11 +66,21 @@ module _ (checks : Checks) (n round : ℕ) (taken : Bool) (m : Message) where
       let first = passed_first (message_conditions checks n round taken m) (NO_CONFLICT_IN m ∷ []) (sym e ∙ z) in
       message-formed n round taken m 0 checks (sym first) refl
 
+  -- its rows: a refusal by 9 to 14, and 15 where they refuse nothing
+  pub pack_first : (number : ℕ) → number ≡ first_of (message_conditions checks n round taken m) → (number ≡ 0 → ⊥) → number ≡ first_of (pack_conditions checks n round taken m)
+  unfolding pack_conditions
+  pack_first number e h = refused_first (message_conditions checks n round taken m) (NO_CONFLICT_IN m ∷ []) number e h
+
+  pub pack-last : 0 ≡ first_of (message_conditions checks n round taken m) → (number : ℕ) → number ≡ first_of (NO_CONFLICT_IN m ∷ []) → number ≡ first_of (pack_conditions checks n round taken m)
+  unfolding pack_conditions
+  pack-last e number f =
+      f ∙ refused-later (message_conditions checks n round taken m) (NO_CONFLICT_IN m ∷ []) 0 e (message-nonzero checks n round taken m) refl
+
 -- the same of bytes, by their 9 to 14 alone
 pub evidence_right : (checks : Checks) (n round : ℕ) (bytes : List ℕ) (taken : Bool) → (taken ≡ true → is_evidence (read n bytes) ≡ true)
-    → (number : ℕ) → number ≡ first_of (message_conditions checks n round taken (read n bytes)) → number ≡ 0 → EvidenceTaken n bytes
-evidence_right checks n round bytes taken of number e z =
-    let f = message-formed n round taken (read n bytes) number checks e z in
+    → 0 ≡ first_of (message_conditions checks n round taken (read n bytes)) → EvidenceTaken n bytes
+evidence_right checks n round bytes taken of e =
+    let f = message-formed n round taken (read n bytes) 0 checks e refl in
     pack-taken n round bytes (record { is = of f.is; same = f.same; known = f.known; ordered = f.ordered })
 
 -- a pack's rows, by a test of its command
@@ -111,9 +121,8 @@ module _ (checks : Checks) (n round : ℕ) (m : Message) where
   certificate-nonzero = message-nonzero checks n round (is_full m) m
 
 -- one that isn't refused
-pub certificate_right : (checks : Checks) (n round : ℕ) (bytes : List ℕ) (number : ℕ)
-    → number ≡ first_of (certificate_conditions checks n round (read n bytes)) → number ≡ 0 → FullTaken n bytes
-certificate_right checks n round bytes number e z = certificate-taken n round bytes (certificate-formed checks n round (read n bytes) number e z)
+pub certificate_right : (checks : Checks) (n round : ℕ) (bytes : List ℕ) → 0 ≡ first_of (certificate_conditions checks n round (read n bytes)) → FullTaken n bytes
+certificate_right checks n round bytes e = certificate-taken n round bytes (certificate-formed checks n round (read n bytes) 0 e refl)
 
 module _ (checks : Checks) (n round : ℕ) (a b : Message) where
   abbrev of_first : List Condition
@@ -132,13 +141,21 @@ module _ (checks : Checks) (n round : ℕ) (a b : Message) where
   unfolding two_conditions certificate_conditions message_conditions
   in_order = refl
 
-  -- both pass: the answer is that of the last row
-  pub both-passed : (x : ℕ) → x ≡ first_of (certificate_conditions checks n round a) → x ≡ 0 → (y : ℕ) → y ≡ first_of (certificate_conditions checks n round b) → y ≡ 0
-      → (number : ℕ) → number ≡ first_of (NO_CONFLICT_BETWEEN a b ∷ []) → number ≡ first_of (two_conditions checks n round a b)
-  both-passed x e p y f q number g =
-      rows_passed of_first (of_second ++ last) x e (certificate-nonzero checks n round a) p number
-      (rows_passed of_second last y f (certificate-nonzero checks n round b) q number g)
-      ∙ in_order
+  -- the first is refused
+  pub two_first : (number : ℕ) → number ≡ first_of of_first → (number ≡ 0 → ⊥) → number ≡ two
+  two_first number e h = refused_first of_first (of_second ++ last) number e h ∙ in_order
+
+  module _ (e : 0 ≡ first_of of_first) where
+    after-first : first_of (of_second ++ last) ≡ two
+    after-first = refused-later of_first (of_second ++ last) 0 e (certificate-nonzero checks n round a) refl ∙ in_order
+
+    -- the first passes, and the second is refused
+    pub two-second : (number : ℕ) → number ≡ first_of of_second → (number ≡ 0 → ⊥) → number ≡ two
+    two-second number f h = refused_first of_second last number f h ∙ after-first
+
+    -- both pass: the answer is that of the last row
+    pub two-last : 0 ≡ first_of of_second → (number : ℕ) → number ≡ first_of last → number ≡ two
+    two-last f number g = g ∙ refused-later of_second last 0 f (certificate-nonzero checks n round b) refl ∙ after-first
 
   pub two-passed : first_of (two_conditions checks n round a b) ≡ 0 → Conflict n round a b
   unfolding first_of

@@ -6,7 +6,7 @@ use Rattle.std.proofs.Common.{◌∙◌}
 use mathlib.Core.List.{List, [], ◌∷◌}
 use borrow.Author.Tests.{ltb-false}
 use Rattle.refusal.specs.Refusal.{first_of, numbers, nonzero}
-use Rattle.refusal.specs.RefusalLaws.{first_of-zero, refused-later, passed_first}
+use Rattle.refusal.specs.RefusalLaws.{first_of-zero, refused_first, refused-later, passed_first}
 use Rattle.protocol.specs.Layout.{store_length, out_length}
 use Rattle.protocol.specs.Record.{impossible, Ready}
 use Rattle.protocol.specs.RecordLaws.{right_size, right_round, possible}
@@ -36,6 +36,15 @@ module _ (n round : ℕ) (keys : List ℕ) (stated : ℕ) (out : List ℕ) where
   pub given-nonzero : nonzero (numbers (given_conditions n round keys stated out)) ≡ true
   unfolding given_conditions outside_conditions nonzero numbers
   given-nonzero = refl
+
+  -- a refusal by n, round or key table; and by out, where they refuse nothing
+  pub given-first : (number : ℕ) → number ≡ first_of (outside_conditions n round keys) → (number ≡ 0 → ⊥) → number ≡ first_of (given_conditions n round keys stated out)
+  unfolding given_conditions
+  given-first number e h = refused_first (outside_conditions n round keys) (OUT stated out ∷ []) number e h
+
+  pub given-last : 0 ≡ first_of (outside_conditions n round keys) → (number : ℕ) → number ≡ first_of (OUT stated out ∷ []) → number ≡ first_of (given_conditions n round keys stated out)
+  unfolding given_conditions
+  given-last e number f = f ∙ refused-later (outside_conditions n round keys) (OUT stated out ∷ []) 0 e (outside-nonzero n round keys) refl
 
   pub given_right : (number : ℕ) → number ≡ first_of (given_conditions n round keys stated out) → number ≡ 0 → Given n round keys × (stated ≤ length out)
   unfolding given_conditions short_out

@@ -1,199 +1,179 @@
 // Refusals of the calls. The tests stand in the order of the table, and a test relies on those before it.
-ghost use Rattle.std.specs.Prelude.{◌≡◌, true};
+ghost use Rattle.std.specs.Prelude.{◌≡◌, true, [], ◌∷◌, ◌<◌, IfOk};
+ghost use Rattle.refusal.specs.Answers.{number_in};
 ghost use Rattle.refusal.specs.Refusal.{first_of};
-ghost use Rattle.fips180.specs.Constants.{constants};
 ghost use Rattle.protocol.specs.Signatures.{checks};
-ghost use Rattle.protocol.specs.Layout.{evidence_out_length};
 ghost use Rattle.protocol.specs.Message.{read};
-ghost use Rattle.protocol.specs.Refusals.{wrong_lengths, is_for_step, is_evidence, outside_conditions, opening_conditions, record_conditions, message_conditions, pack_conditions, certificate_conditions, two_conditions};
+ghost use Rattle.protocol.specs.Refusals.{OUT, wrong_lengths, is_for_step, is_evidence, outside_conditions, opening_conditions, record_conditions, message_conditions, pack_conditions, certificate_conditions, two_conditions};
 ghost use Rattle.wire.specs.Reading.{kind_of};
-ghost use Rattle.protocol.specs.Record.{InRange};
-ghost use Rattle.signatures.specs.Given.{Given};
-ghost use Rattle.validate.specs.Calls.{own_conditions, given_conditions};
+ghost use Rattle.validate.specs.Calls.{own_conditions};
 
 use crate::conflict::{equal_values, not_lower_first};
 use crate::message::message_refusal;
 use arguments::buffers::{short_out, short_store};
 use arguments::range::{wrong_round, wrong_seat, wrong_size};
 use arguments::record::is_impossible;
-use forms::is_within;
-use protocol::{Record, Verdict};
+use protocol::Record;
+use refusal::Refusal;
+use sha256_constants::RoundConstants;
+use signatures::fleet::Fleet;
 use signatures::keys::wrong_keys;
 use signatures::verdicts::seat_verdict;
 use wire::read::Kind;
 
-// Refusal of n, round and key table, in a call without a record: 1, 3, 5.
-pub fn outside_refusal(n: u32, round: u32, keys: &[u8]) -> u32
-    ensures { result ≡ first_of (outside_conditions n round keys.now) }
+// The fleet of a call without a record, or the refusal of n, round or key table: 1, 3, 5.
+pub fn fleet<'a>(n: u32, round: u32, keys: &'a [u8]) -> Result<Fleet<'a>, Refusal>
+    ensures number { number_in result ≡ first_of (outside_conditions n round keys.entry.now) }
+    ensures made { IfOk result (λ f. (f.n ≡ n) × (f.round ≡ round) × (f.keys ≡ keys.entry)) }
 {
     if wrong_size(n) {
-        return refusal::SIZE;
+        return Err(Refusal::Size);
     }
     if wrong_round(round) {
-        return refusal::ROUND;
+        return Err(Refusal::Round);
     }
     if wrong_keys(n, keys) {
-        return refusal::KEYS;
+        return Err(Refusal::Keys);
     }
-    0
+    Ok(Fleet { n, round, keys })
 }
 
-// Refusal of n, round, key table and out, where evidence is made from two certificates: 1, 3, 5, 7.
-pub fn making_refusal(n: u32, round: u32, keys: &[u8], out: &[u8]) -> u32
-    ensures { result ≡ first_of (given_conditions n round keys.now (evidence_out_length n) out.now) }
+// Refusal of an out buffer, by the length stated for the call: 7.
+pub fn out_refusal(stated: usize, out: &[u8]) -> Result<(), Refusal>
+    ensures { number_in result ≡ first_of (OUT stated out.now ∷ []) }
 {
-    let outside = outside_refusal(n, round, keys);
-    if outside != 0 {
-        return outside;
+    if short_out(stated, out) {
+        return Err(Refusal::Out);
     }
-    if short_out(layout::evidence_out_length(n), out) {
-        return refusal::OUT;
-    }
-    0
+    Ok(())
 }
 
 // Refusal of an opening: 1, 2, 3, 5.
-pub fn opening_refusal(n: u32, seat: u32, round: u32, keys: &[u8]) -> u32
-    ensures { result ≡ first_of (opening_conditions n seat round keys.now) }
+pub fn opening_refusal(n: u32, seat: u32, round: u32, keys: &[u8]) -> Result<(), Refusal>
+    ensures { number_in result ≡ first_of (opening_conditions n seat round keys.now) }
 {
     if wrong_size(n) {
-        return refusal::SIZE;
+        return Err(Refusal::Size);
     }
     if wrong_seat(n, seat) {
-        return refusal::SEAT;
+        return Err(Refusal::Seat);
     }
     if wrong_round(round) {
-        return refusal::ROUND;
+        return Err(Refusal::Round);
     }
     if wrong_keys(n, keys) {
-        return refusal::KEYS;
+        return Err(Refusal::Keys);
     }
-    0
+    Ok(())
 }
 
-// Refusal of the record, key table, store and out of a submit or a step: 4, 5, 6, 7.
-pub fn record_refusal(r: Record, keys: &[u8], store: &[u8], out: &[u8]) -> u32
-    ensures { result ≡ first_of (record_conditions keys.now r store.now out.now) }
+// The fleet of a submit or a step, or the refusal of its record, key table, store or out: 4, 5, 6, 7.
+pub fn record_fleet<'a>(
+    r: Record,
+    keys: &'a [u8],
+    store: &[u8],
+    out: &[u8],
+) -> Result<Fleet<'a>, Refusal>
+    ensures number { number_in result ≡ first_of (record_conditions keys.entry.now r store.now out.now) }
+    ensures made { IfOk result (λ f. (f.n ≡ r.n) × (f.round ≡ r.round) × (f.keys ≡ keys.entry)) }
 {
     if is_impossible(r) {
-        return refusal::RECORD;
+        return Err(Refusal::Record);
     }
     if wrong_keys(r.n, keys) {
-        return refusal::KEYS;
+        return Err(Refusal::Keys);
     }
     if short_store(r.n, store) {
-        return refusal::STORE;
+        return Err(Refusal::Store);
     }
     if short_out(layout::out_length(r.n), out) {
-        return refusal::OUT;
+        return Err(Refusal::Out);
     }
-    0
+    Ok(Fleet {
+        n: r.n,
+        round: r.round,
+        keys,
+    })
 }
 
 // Whether a value isn't 32 bytes, or a signature isn't 1,452.
 fn wrong_lengths(value: &[u8], signature: &[u8]) -> bool
     ensures { result ≡ wrong_lengths value.now signature.now }
 {
-    let length = layout::value_length();
-    let signed = layout::signature_length();
-    (value.len() != length) | (signature.len() != signed)
+    value.len() != layout::value_length() || signature.len() != layout::signature_length()
 }
 
-// Refusal of the own submission: 8, 9, 14.
-pub fn own_refusal(r: Record, keys: &[u8], value: &[u8], signature: &[u8]) -> Verdict
-    requires { InRange r.n r.seat r.round × Given r.n r.round keys.now }
-    ensures { result.number ≡ first_of (own_conditions (checks keys.now r.round) r value.now signature.now) }
+// Refusal of the own submission: 8, 9, 14. The fleet is the record's.
+pub fn own_refusal(fleet: Fleet, r: Record, value: &[u8], signature: &[u8]) -> Result<(), Refusal>
+    requires { (r.seat < fleet.n) × (fleet.round ≡ r.round) }
+    ensures { number_in result ≡ first_of (own_conditions (checks fleet.entry.keys.now r.round) r value.now signature.now) }
 {
     if r.own.submitted {
-        return Verdict {
-            number: refusal::SAID,
-        };
+        return Err(Refusal::Said);
     }
     if wrong_lengths(value, signature) {
-        return Verdict {
-            number: refusal::GARBLED,
-        };
+        return Err(Refusal::Garbled);
     }
     let k = sha256_constants::round_constants();
-    seat_verdict(&k, r.n, r.round, keys, r.seat, value, signature)
+    seat_verdict(&k, fleet, r.seat, value, signature)
 }
 
 // Refusal of the message given to a step: 9 to 14.
-pub fn step_refusal(r: Record, keys: &[u8], kind: Kind, m: &[u8]) -> Verdict
-    requires { Given r.n r.round keys.now × (kind ≡ kind_of (read r.n m.now)) }
-    ensures { let said = read r.n m.now in
-        result.number ≡ first_of (message_conditions (checks keys.now r.round) r.n r.round (is_for_step said) said) }
+pub fn step_refusal(fleet: Fleet, kind: Kind, m: &[u8]) -> Result<(), Refusal>
+    requires { kind ≡ kind_of (read fleet.n m.now) }
+    ensures { let said = read fleet.entry.n m.now in
+        number_in result ≡ first_of (message_conditions (checks fleet.entry.keys.now fleet.entry.round) fleet.entry.n fleet.entry.round (is_for_step said) said) }
 {
-    let taken = is_within(kind, forms::SUBMIT, forms::FULL);
     let k = sha256_constants::round_constants();
-    message_refusal(&k, r.n, r.round, keys, taken, kind, m)
+    message_refusal(&k, fleet, forms::is_for_step(kind), kind, m)
 }
 
 // Refusal of a pack, for every call: 9 to 15. `taken`: whether the call takes its command, which is one of EVIDENCE's then.
 pub fn pack_refusal(
-    k: &[u32; 64],
-    n: u32,
-    round: u32,
-    keys: &[u8],
+    k: &RoundConstants,
+    fleet: Fleet,
     taken: bool,
     kind: Kind,
     m: &[u8],
-) -> Verdict
-    requires { (k.now ≡ constants) × Given n round keys.now × (kind ≡ kind_of (read n m.now)) × (taken ≡ true → is_evidence (read n m.now) ≡ true) }
-    ensures { result.number ≡ first_of (pack_conditions (checks keys.now round) n round taken (read n m.now)) }
+) -> Result<(), Refusal>
+    requires { let said = read fleet.n m.now in (kind ≡ kind_of said) × (taken ≡ true → is_evidence said ≡ true) }
+    ensures { number_in result ≡ first_of (pack_conditions (checks fleet.entry.keys.now fleet.entry.round) fleet.entry.n fleet.entry.round taken (read fleet.entry.n m.now)) }
 {
-    let v = message_refusal(k, n, round, keys, taken, kind, m);
-    if v.number != 0 {
-        return v;
+    message_refusal(k, fleet, taken, kind, m)?;
+    if not_lower_first(fleet.n, m) {
+        return Err(Refusal::NoConflict);
     }
-    if not_lower_first(n, m) {
-        return Verdict {
-            number: refusal::NO_CONFLICT,
-        };
-    }
-    v
+    Ok(())
 }
 
 // Refusal of an EVIDENCE in the evidence check: 9 to 15.
-pub fn evidence_refusal(n: u32, round: u32, keys: &[u8], kind: Kind, m: &[u8]) -> Verdict
-    requires { Given n round keys.now × (kind ≡ kind_of (read n m.now)) }
-    ensures { let said = read n m.now in
-        result.number ≡ first_of (pack_conditions (checks keys.now round) n round (is_evidence said) said) }
+pub fn evidence_refusal(fleet: Fleet, kind: Kind, m: &[u8]) -> Result<(), Refusal>
+    requires { kind ≡ kind_of (read fleet.n m.now) }
+    ensures { let said = read fleet.entry.n m.now in
+        number_in result ≡ first_of (pack_conditions (checks fleet.entry.keys.now fleet.entry.round) fleet.entry.n fleet.entry.round (is_evidence said) said) }
 {
-    // No message has the command between the two.
-    let taken = is_within(kind, forms::OLD_EVIDENCE, forms::EVIDENCE);
     let k = sha256_constants::round_constants();
-    pack_refusal(&k, n, round, keys, taken, kind, m)
+    pack_refusal(&k, fleet, forms::is_evidence(kind), kind, m)
 }
 
 // Refusal of one certificate: 9 to 14.
-fn certificate_refusal(k: &[u32; 64], n: u32, round: u32, keys: &[u8], m: &[u8]) -> Verdict
-    requires { (k.now ≡ constants) × Given n round keys.now }
-    ensures { result.number ≡ first_of (certificate_conditions (checks keys.now round) n round (read n m.now)) }
+fn certificate_refusal(k: &RoundConstants, fleet: Fleet, m: &[u8]) -> Result<(), Refusal>
+    ensures { number_in result ≡ first_of (certificate_conditions (checks fleet.entry.keys.now fleet.entry.round) fleet.entry.n fleet.entry.round (read fleet.entry.n m.now)) }
 {
-    let kind = wire::read::classify(n, m);
-    let taken = is_within(kind, forms::FULL, forms::FULL);
-    message_refusal(k, n, round, keys, taken, kind, m)
+    let kind = wire::read::classify(fleet.n, m);
+    message_refusal(k, fleet, forms::is_certificate(kind), kind, m)
 }
 
 // Refusal of two certificates: the first's 9 to 14, the second's, and 15.
-pub fn two_refusal(n: u32, round: u32, keys: &[u8], first: &[u8], second: &[u8]) -> Verdict
-    requires { Given n round keys.now }
-    ensures { result.number ≡ first_of (two_conditions (checks keys.now round) n round (read n first.now) (read n second.now)) }
+pub fn two_refusal(fleet: Fleet, first: &[u8], second: &[u8]) -> Result<(), Refusal>
+    ensures { let f = fleet.entry in
+        number_in result ≡ first_of (two_conditions (checks f.keys.now f.round) f.n f.round (read f.n first.now) (read f.n second.now)) }
 {
     let k = sha256_constants::round_constants();
-    let a = certificate_refusal(&k, n, round, keys, first);
-    if a.number != 0 {
-        return a;
+    certificate_refusal(&k, fleet, first)?;
+    certificate_refusal(&k, fleet, second)?;
+    if equal_values(fleet.n, first, second) {
+        return Err(Refusal::NoConflict);
     }
-    let b = certificate_refusal(&k, n, round, keys, second);
-    if b.number != 0 {
-        return b;
-    }
-    if equal_values(n, first, second) {
-        return Verdict {
-            number: refusal::NO_CONFLICT,
-        };
-    }
-    b
+    Ok(())
 }

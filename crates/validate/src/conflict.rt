@@ -24,14 +24,10 @@ pub(crate) fn not_lower_first(n: u32, m: &[u8]) -> bool
     ensures { result ≡ not_lower_first (read n m.now) }
 {
     let entries = wire::read::evidence_entries(m);
-    let count = entries.count;
-    let mut t = 0;
-    while t < count {
-        let pair = pair_at(m, entries, t);
-        if !lower_first(m, pair) {
+    for t in 0..entries.count {
+        if !lower_first(m, pair_at(m, entries, t)) {
             return true;
         }
-        t += 1;
     }
     false
 }

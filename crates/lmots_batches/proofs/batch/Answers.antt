@@ -4,7 +4,7 @@ use Rattle.lmots_batches.proofs.batch.Goals as goal
 pub returns-clause-moved : goal.returns-clause-moved
 returns-clause-moved c =
     moved_by _ _ _ _ _ _ _ _ _ _ _ _ c.args.chains.now.ordered c.args.picks.now.known c.together-count.ensures.1 c.row-at.ensures
-    c.gather.ensures c.steps.ensures.walked c.scatter-places.ensures
+    c.gather.ensures c.steps.ensures c.scatter-places.ensures
 
 pub invariant_of-result : goal.invariant_of-result
 invariant_of-result c =
@@ -13,5 +13,5 @@ invariant_of-result c =
       ordered =
           moved-ordered _ _ _ _ _ _ _ c.args.chains.now.ordered
           (moved_by _ _ _ _ _ _ _ _ _ _ _ _ c.args.chains.now.ordered c.args.picks.now.known c.together-count.ensures.1 c.row-at.ensures
-          c.gather.ensures c.steps.ensures.walked c.scatter-places.ensures);
+          c.gather.ensures c.steps.ensures c.scatter-places.ensures);
     }

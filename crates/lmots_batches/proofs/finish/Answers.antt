@@ -10,7 +10,7 @@ loop-i-init c = patch_none 0 c.args.z.now
 
 pub loop-i-preserved : goal.loop-i-preserved
 loop-i-preserved c =
-    finish_next _ _ _ _ _ (search rules) _ _ _ _ _ _ _ (omega arith) c.loop-i.invariant c.eight-y.ensures refl c.left.ensures c.chain-x.ensures c.put_eight.ensures
+    finish_next _ _ _ _ _ (search rules) _ _ _ _ _ _ _ (omega arith) c.loop-i.invariant c.words_at-y.ensures refl c.left.ensures c.chain-x.ensures c.put_words.ensures
 
 pub returns : goal.returns
 returns c =

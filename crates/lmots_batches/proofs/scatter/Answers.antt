@@ -12,6 +12,6 @@ loop-l-preserved c =
       long = search rules;
       values = search rules;
       scattered =
-          scattered_next _ _ _ _ _ _ _ _ _ _ _ refl (c.args.picks.now.known _ (omega arith)) inv.long inv.values c.column-y.ensures c.put_eight.ensures
+          scattered_next _ _ _ _ _ _ _ _ _ _ _ refl (c.args.picks.now.known _ (omega arith)) inv.long inv.values c.column-y.ensures c.put_words.ensures
           inv.scattered;
     }

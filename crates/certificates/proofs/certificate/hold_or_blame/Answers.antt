@@ -1,4 +1,3 @@
-use Rattle.protocol.specs.Certificate.{Certificate}
 use Rattle.protocol.specs.Step.{found, blames}
 use Rattle.certificates.specs.Certificates.{heard_of}
 use Rattle.certificates.specs.CertificatesLaws.{first_held, blamed, not_blamed}

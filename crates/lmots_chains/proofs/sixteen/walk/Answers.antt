@@ -1,5 +1,5 @@
 use Rattle.std.proofs.Common.{◌≡◌, ◌∙◌, refl, arith}
-use Rattle.lmots_chains.specs.SixteenLaws.{all_none, all_next, all_done}
+use Rattle.lmots_chains.specs.SixteenLaws.{all_none, all_next}
 use Rattle.lmots_chains.proofs.sixteen.walk.Goals as goal
 
 pub loop-t-init : goal.loop-t-init
@@ -14,4 +14,6 @@ loop-t-preserved c =
     }
 
 pub returns : goal.returns
-returns c = all_done _ c.loop-t.t _ _ _ _ _ _ _ _ (omega arith) c.loop-t.invariant.walked
+returns c =
+    let all : c.loop-t.t ≡ c.args.count = omega arith in
+    rw all at c.loop-t.invariant.walked
