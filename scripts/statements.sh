@@ -17,7 +17,7 @@ claims="$claims dispatch_claims/specs/SevenReached"
 
 {
     find crates/*/specs crates/*/src crates/*/proofs crates/*/must-fail mutations scripts harness/data harness/tests -print | sed 's/^/path /'
-    # each declaration as FILE: NAME, each function as CRATE::MODULE::NAME, and what is owed of them
+    # each declaration as FILE: NAME, each function as CRATE::MODULE::NAME or, in an impl, CRATE::MODULE::TYPE::NAME, and what is owed of them
     LC_ALL=C awk -v claims="$claims" '
         BEGIN { count = split(claims, list); for (i = 1; i <= count; i++) of_claims[list[i]] }
         FNR == 1 {
@@ -35,6 +35,7 @@ claims="$claims dispatch_claims/specs/SevenReached"
             current = ""
             depth = 1000
             exported = 0
+            type = ""
         }
         # what a file takes from another: names in a list, or all by a short name
         /^ *((ghost|pub|unfoldable) )*use Rattle/ {
@@ -72,10 +73,20 @@ claims="$claims dispatch_claims/specs/SevenReached"
             next
         }
         code && /^#\[unsafe\(no_mangle\)\]/ { exported = 1; next }
+        # a method is CRATE::MODULE::TYPE::NAME
+        code && /^impl/ {
+            type = $0
+            sub(/ *\{.*/, "", type)
+            sub(/<[^ ]*$/, "", type)
+            sub(/.* /, "", type)
+            type = type "::"
+            next
+        }
+        code && /^}/ { type = "" }
         code && match($0, /(^|[ \t])(fn|struct|enum|const) [A-Za-z0-9_]+/) {
             name = substr($0, RSTART, RLENGTH)
             sub(/.* /, "", name)
-            print "name " module "::" name
+            print "name " module "::" type name
             if (exported && module == "zolbine") print "owed " module "::" name
             exported = 0
             if (module == "refusal" && /^pub const /) {

@@ -5,10 +5,11 @@ ghost use Rattle.octets.specs.Strings.{same};
 ghost use Rattle.protocol.specs.Record as Records;
 ghost use Rattle.protocol.specs.Record.{holds, out_of_range, names_stranger, wrong_collected, wrong_first, lacks_first, wrong_guilty, wrong_sent, wrong_kept, wrong_unset, impossible, InRange};
 ghost use Rattle.protocol.specs.Values.{unset};
-ghost use Rattle.protocol.specs.Calls.{opened_by};
+ghost use Rattle.protocol.specs.Answers.{opened_in};
 
 use crate::range::{wrong_round, wrong_seat, wrong_size};
 use protocol::{First, Notices, Opened, Own, Record};
+use refusal::Refusal;
 
 // The record with n, seat and round set, and nothing else.
 pub fn fresh(n: u32, seat: u32, round: u32) -> Record
@@ -39,17 +40,16 @@ pub fn fresh(n: u32, seat: u32, round: u32) -> Record
     }
 }
 
-// Answer of opening and of reading a note: the record, or the refusal number and a record of zeros.
-pub fn opened_by(number: u32, unit: Record) -> Opened
-    ensures { result ≡ opened_by number unit }
+// Answer of opening and of reading a note, as C gets it: the record, or the refusal number and a record of zeros.
+pub fn opened_by(answer: Result<Record, Refusal>) -> Opened
+    ensures { result ≡ opened_in answer }
 {
-    if number == 0 {
-        return Opened { number, unit };
-    }
-    let zeros = fresh(0, 0, 0);
-    Opened {
-        number,
-        unit: zeros,
+    match answer {
+        Ok(unit) => Opened { number: 0, unit },
+        Err(refusal) => Opened {
+            number: refusal.number(),
+            unit: fresh(0, 0, 0),
+        },
     }
 }
 

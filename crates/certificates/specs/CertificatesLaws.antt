@@ -65,10 +65,6 @@ module _ (r : Record) (store out : List ℕ) (at : ℕ) (out' : List ℕ) (end :
 -- ---- replies, and certificates held or blaming
 
 module _ (r : Record) (store out : List ℕ) (at : ℕ) where
-  pub reply-owed : (unit : Record) (store' out' : List ℕ) (end : ℕ) → owes_full r ≡ true → Did send_full r store out at unit store' out' end → Did reply r store out at unit store' out' end
-  unfolding reply
-  reply-owed unit store' out' end e d = did_same send_full r store reply out at unit store' out' end (rw e) d
-
   pub reply_not_owed : owes_full r ≡ false → Did reply r store out at r store out at
   unfolding reply
   reply_not_owed e = unchanged r store reply out at (rw e)

@@ -17,7 +17,7 @@ use Rattle.protocol.specs.Step.{State, write, set_own_value, collect, submit_own
 use Rattle.protocol.specs.declared.Record.{Record}
 use Rattle.wire_write.specs.Writing.{Wrote}
 use Rattle.phase.specs.Phases.{Changed, Did, Fits}
-use Rattle.phase.specs.PhasesLaws.{fits_like, fits_same, cond-written, likewise_changed, did_writing_one}
+use Rattle.phase.specs.PhasesLaws.{fits_like, fits_same, cond-written, did_writing_one}
 use Rattle.protocol.specs.Record.{Possible}
 
 -- ---- submit
@@ -36,17 +36,6 @@ module _ (r : Record) (value : List ℕ) (u : Record) (told : u ≡ (set_own_val
       let whole : value ≡ given = e ∙ part_all given value_length l in
       did_writing_one (submit_own given signature) r store (Submit r.round r.seat given signature) out 0 v store' out' end refl
       (record { recorded = c.recorded ∙ rw (told, whole); stored = c.stored ∙ rw told }) w
-
--- ---- a signature collected if it is wanted
-
-module _ (r : Record) (store : List ℕ) (seat : ℕ) (value signature : List ℕ) where
-  pub collect_if_wanted-wanted : (u : Record) (store' : List ℕ) → is_wanted seat value r ≡ true → Changed (collect seat signature) r store u store' → Changed (collect_if_wanted seat value signature) r store u store'
-  unfolding collect_if_wanted
-  collect_if_wanted-wanted u store' e c = likewise_changed (collect seat signature) r store (collect_if_wanted seat value signature) u store' (rw e) c
-
-  pub collect_if_wanted-unwanted : is_wanted seat value r ≡ false → Changed (collect_if_wanted seat value signature) r store r store
-  unfolding collect_if_wanted
-  collect_if_wanted-unwanted e = record { recorded = rw e; stored = rw e }
 
 -- collecting writes nothing
 pub collect_if_wanted-quiet : (seat : ℕ) (value signature : List ℕ) (s : State) → (collect_if_wanted seat value signature s).written ≡ s.written

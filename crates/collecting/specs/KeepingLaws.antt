@@ -4,13 +4,12 @@ use Rattle.std.proofs.Math.Path.{refl}
 use Rattle.std.proofs.Common.{ap, ◌∙◌, add-one, arith}
 use Rattle.std.proofs.Math.Bool.{true, false, and-eq-true_iff}
 use borrow.Author.Tests.{ltb-true}
-use Rattle.octets.specs.Octets.{patch}
 use Rattle.quorum.specs.Quorum.{k, has, size, with}
-use Rattle.protocol.specs.Layout.{kept_bank, kept_value_bank, slot_at}
+use Rattle.protocol.specs.Layout.{kept_value_bank, slot_at}
 use Rattle.protocol.specs.LayoutLaws.{kept-value_bank}
 use Rattle.protocol.specs.Message.{Message, read_value}
 use Rattle.protocol.specs.Record.{with_kept, Possible}
-use Rattle.protocol.specs.Certificate.{slot, fill, kept_value, kept_signature, fill_kept}
+use Rattle.protocol.specs.Certificate.{slot, kept_value, kept_signature}
 use Rattle.protocol.specs.Calls.{start}
 use Rattle.protocol.specs.Step.{State, collect, is_wanted, collect_if_wanted, keep, keep_if_first, hear_submit, is_open_to, collect_kept_seat, collect_kept_below, empty_kept, collect_kept}
 use Rattle.protocol.specs.StepLaws.{after, after_cond}
@@ -20,24 +19,6 @@ use Rattle.phase.specs.PhasesLaws.{fits_like, fits_same, cond-written, likewise_
 use Rattle.collecting.specs.CollectingLaws.{collect_if_wanted-quiet, wanted-new, one_more, wanted-fits}
 
 -- ---- SUBMIT heard
-
-module _ (r : Record) (store : List ℕ) (seat : ℕ) (value signature : List ℕ) where
-  pub keep-parts : (mask at : ℕ) (filled : List ℕ) (u : Record) (store' : List ℕ) → mask ≡ with seat r.kept → at ≡ slot_at r.n kept_value_bank seat → filled ≡ fill r.n kept_bank seat signature store
-      → u ≡ with_kept r mask → store' ≡ patch at value filled → Changed (keep seat value signature) r store u store'
-  unfolding keep fill_kept fill
-  keep-parts mask at filled u store' m a f e w = record { recorded = e ∙ rw m; stored = w ∙ rw (a, f) }
-
-  pub hear_submit-submitted : (u : Record) (store' : List ℕ) → r.own.submitted ≡ true → Changed (collect_if_wanted seat value signature) r store u store' → Changed (hear_submit seat value signature) r store u store'
-  unfolding hear_submit
-  hear_submit-submitted u store' e c = likewise_changed (collect_if_wanted seat value signature) r store (hear_submit seat value signature) u store' (rw e) c
-
-  pub hear_submit-kept : r.own.submitted ≡ false → has seat r.kept ≡ true → Changed (hear_submit seat value signature) r store r store
-  unfolding hear_submit keep_if_first
-  hear_submit-kept e h = record { recorded = rw (e, h); stored = rw (e, h) }
-
-  pub hear_submit_first : (u : Record) (store' : List ℕ) → r.own.submitted ≡ false → has seat r.kept ≡ false → Changed (keep seat value signature) r store u store' → Changed (hear_submit seat value signature) r store u store'
-  unfolding hear_submit keep_if_first
-  hear_submit_first u store' e h c = likewise_changed (keep seat value signature) r store (hear_submit seat value signature) u store' (rw (e, h)) c
 
 pub hear_submit-quiet : (seat : ℕ) (value signature : List ℕ) (s : State) → (hear_submit seat value signature s).written ≡ s.written
 unfolding hear_submit keep_if_first keep
@@ -66,10 +47,6 @@ heard-submit-fits r possible store fits u store' long seat value signature l don
 -- ---- one kept seat
 
 module _ (r : Record) (store : List ℕ) (seat : ℕ) where
-  pub collect_kept_seat-closed : is_open_to seat r ≡ false → Changed (collect_kept_seat seat) r store r store
-  unfolding collect_kept_seat
-  collect_kept_seat-closed e = record { recorded = rw e; stored = rw e }
-
   pub collect_kept_seat_open : (value signature : List ℕ) (u : Record) (store' : List ℕ) → is_open_to seat r ≡ true → value ≡ kept_value r.n store seat → signature ≡ kept_signature r.n store seat
       → Changed (collect_if_wanted seat value signature) r store u store' → Changed (collect_kept_seat seat) r store u store'
   unfolding collect_kept_seat

@@ -2,50 +2,42 @@
 ghost use Rattle.std.specs.Prelude.{◌≡◌, ◌<◌, ◌≤◌, length, []};
 ghost use Rattle.quorum.specs.Quorum.{most_seats};
 ghost use Rattle.protocol.specs.Calls.{start};
-ghost use Rattle.protocol.specs.Record.{with_own};
 ghost use Rattle.protocol.specs.Layout.{signature_length, submit_length, value_length};
 ghost use Rattle.protocol.specs.Step.{is_wanted, set_own_value, collect, submit_own, collect_if_wanted};
 ghost use Rattle.phase.specs.Phases.{Did, Changed, Fits};
 
+use crate::Submit;
 use layout::Bank;
 use phase::Phase;
 use protocol::{Own, Record};
 
-// The record with its own submission set.
-fn with_own(r: Record, own: Own) -> Record
-    ensures { result ≡ with_own r own }
-{
-    let mut u = r;
-    u.own = own;
-    u
-}
-
 // Collects a seat's signature over the own value.
+#[tactic(auto, unfolding(protocol::specs::Step::collect, layout::specs::Places::bank_of))]
 fn collect(r: Record, store: &mut [u8], seat: u32, signature: &[u8]) -> Record
     requires { Fits r store.old × (seat < r.n) × (length signature.now ≡ signature_length) }
     ensures { Changed (collect seat signature.now) r store.old result store.new }
 {
-    let value = r.own.value;
-    let collected = quorum::with(r.own.collected, seat);
     store::slots::fill(store, r.n, Bank::Collected, seat, signature);
-    let own = Own {
-        submitted: r.own.submitted,
-        value,
-        collected,
-    };
-    with_own(r, own)
+    let collected = quorum::with(r.own.collected, seat);
+    Record {
+        own: Own { collected, ..r.own },
+        ..r
+    }
 }
 
 // The record with the own value set.
+#[tactic(auto, unfolding(protocol::specs::Step::set_own_value))]
 fn set_own_value(r: Record, value: [u8; 32]) -> Record
     ensures { result ≡ (set_own_value value (start r [])).unit }
 {
-    let own = Own {
-        submitted: true,
-        value,
-        collected: r.own.collected,
-    };
-    with_own(r, own)
+    Record {
+        own: Own {
+            submitted: true,
+            value,
+            ..r.own
+        },
+        ..r
+    }
 }
 
 // Submit: the own value is set, the own signature collected, SUBMIT written from the start of `out`.
@@ -66,29 +58,22 @@ pub fn submit_own(
 }
 
 // Whether a signature is wanted: not confirmed, the value is the own one and the seat is new.
+#[tactic(auto, using(octets::specs::StringsLaws::equal_same), unfolding(protocol::specs::Step::is_wanted))]
 fn is_wanted(r: Record, seat: u32, value: [u8; 32]) -> bool
     requires { seat < most_seats }
     ensures { result ≡ is_wanted seat value r }
 {
-    let own = r.own.value;
-    let same = octets::same(&value, &own);
-    let has = quorum::has(r.own.collected, seat);
-    !r.confirmed & same & !has
+    !r.confirmed && value == r.own.value && !quorum::has(r.own.collected, seat)
 }
 
 // A signature is collected if it is wanted.
-pub(crate) fn collect_if_wanted(
-    r: Record,
-    store: &mut [u8],
-    seat: u32,
-    value: [u8; 32],
-    signature: &[u8],
-) -> Record
-    requires { Fits r store.old × (seat < r.n) × (length signature.now ≡ signature_length) }
-    ensures { Changed (collect_if_wanted seat value signature.now) r store.old result store.new }
+#[tactic(auto, unfolding(protocol::specs::Step::collect_if_wanted))]
+pub(crate) fn collect_if_wanted(r: Record, store: &mut [u8], s: Submit<'_>) -> Record
+    requires { Fits r store.old × (s.seat < r.n) }
+    ensures { Changed (collect_if_wanted s.entry.seat s.entry.value s.entry.signature.now) r store.old result store.new }
 {
-    if is_wanted(r, seat, value) {
-        return collect(r, store, seat, signature);
+    if is_wanted(r, s.seat, s.value) {
+        return collect(r, store, s.seat, s.signature);
     }
     r
 }

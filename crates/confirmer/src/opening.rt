@@ -10,7 +10,5 @@ use validate::calls::opening_refusal;
 pub fn open(n: u32, seat: u32, round: u32, keys: &[u8]) -> Opened
     ensures { result ≡ opening n seat round keys.now }
 {
-    let number = opening_refusal(n, seat, round, keys);
-    let unit = fresh(n, seat, round);
-    opened_by(number, unit)
+    opened_by(opening_refusal(n, seat, round, keys).map(|()| fresh(n, seat, round)))
 }

@@ -1,77 +1,59 @@
--- One turn of each loop over eight numbers, over plain values.
+-- What an iterator answers and one turn of each loop, over plain values.
 -- Assumes nothing.
-use Rattle.std.specs.Prelude.{ℕ, zero, suc, ◌+◌, ◌≤◌, ◌<◌, ◌≡◌, refl, Bool, true, cond, not, ◌&&◌, ◌||◌, List, [], ◌∷◌, ◌++◌, ltb, eqb, length, take, drop, get_or, set}
-use Rattle.std.proofs.Common.{sym, ap, ◌∙◌, append-nil, arith, drop_of_length-le, drop-cons, take_all}
+use Rattle.std.specs.Prelude.{ℕ, suc, ◌+◌, ◌-◌, ◌≤◌, ◌<◌, ◌≡◌, refl, true, List, [], ◌∷◌, ◌++◌, ltb, eqb, length, take, drop, get_or, set}
+use Rattle.std.specs.List.{list_any}
+use Rattle.std.proofs.Common.{ap, ◌∙◌, append-nil, arith, drop_of_length-le, drop-cons, length-drop, take_all}
 use Rattle.std.proofs.Math.Bool.{false}
 use Rattle.std.proofs.Math.Numerals.{add-one}
 use Rattle.std.proofs.Math.ListN.{length-append}
-use Rattle.std.proofs.Math.Seq.{slice, slice-cons, slice_empty, take-suc, set-append_seam, append_snoc}
-use borrow.Author.Tests.{lt-ltb, le-ltb, eq-eqb, ne_eqb}
+use Rattle.std.proofs.Math.Seq.{take-suc, set-append_seam, append_snoc}
+use borrow.Author.Tests.{eq-eqb, ne_eqb}
 use Rattle.refusal.specs.Order.{is_in, distinct}
 use Rattle.dispatch.specs.Dispatcher.{index_of, some_above}
 use Rattle.dispatch.specs.Turns.{unless, without, served_last}
 use Rattle.dispatch_claims.specs.ListLaws.{without_snoc}
 
--- all eight numbers
-pub whole : (list : List ℕ) → length list ≡ 8 → take 8 list ≡ list
-whole list e = take_all 8 list (omega (arith, e))
+-- ---- tests of a list's numbers
 
--- ---- a test of the numbers from i up to n
-
-module _ (list : List ℕ) (i n : ℕ) (h : i < n) (k : n ≤ length list) where
-  pub above-here : (most : ℕ) → most < get_or list i 0 → true ≡ some_above most (slice i n list)
-  unfolding some_above
-  above-here most l = rw (slice-cons i n list 0 h k, lt-ltb most (get_or list i 0) l)
-
-  pub above-later : (most : ℕ) → get_or list i 0 ≤ most → some_above most (slice i n list) ≡ some_above most (slice (i + 1) n list)
-  unfolding some_above
-  above-later most l = rw (slice-cons i n list 0 h k, le-ltb most (get_or list i 0) l, add-one)
-
-  pub in_here : (x : ℕ) → get_or list i 0 ≡ x → true ≡ is_in x (slice i n list)
-  unfolding is_in
-  in_here x e = rw (slice-cons i n list 0 h k, eq-eqb (get_or list i 0) x e)
-
-  pub in_later : (x : ℕ) → (get_or list i 0 ≡ x → ⊥) → is_in x (slice i n list) ≡ is_in x (slice (i + 1) n list)
-  unfolding is_in
-  in_later x d = rw (slice-cons i n list 0 h k, ne_eqb (get_or list i 0) x d, add-one)
-
-  pub twice-here : true ≡ is_in (get_or list i 0) (slice (i + 1) n list) → false ≡ distinct (slice i n list)
-  unfolding distinct
-  twice-here e = rw (slice-cons i n list 0 h k, ← add-one, ← e)
-
-  pub twice-later : false ≡ is_in (get_or list i 0) (slice (i + 1) n list) → distinct (slice i n list) ≡ distinct (slice (i + 1) n list)
-  unfolding distinct
-  twice-later e =
-      let next : false ≡ is_in (get_or list i 0) (slice (suc i) n list) = rw add-one at e in
-      rw (slice-cons i n list 0 h k, add-one, ← next)
-
--- none is left
-pub above_none : (list : List ℕ) (i n most : ℕ) → i ≡ n → false ≡ some_above most (slice i n list)
+pub any-above : (most : ℕ) (xs : List ℕ) → list_any (λ x. ltb most x) xs ≡ some_above most xs
 unfolding some_above
-above_none list i n most e = rw (e, slice_empty n list)
+any-above most [] = refl
+any-above most (x ∷ xs) = rw (any-above most xs)
 
-pub in_none : (list : List ℕ) (i n x : ℕ) → i ≡ n → false ≡ is_in x (slice i n list)
+pub any_in : (x : ℕ) (xs : List ℕ) → list_any (λ y. eqb y x) xs ≡ is_in x xs
 unfolding is_in
-in_none list i n x e = rw (e, slice_empty n list)
+any_in x [] = refl
+any_in x (y ∷ xs) = rw (any_in x xs)
 
-pub twice_none : (list : List ℕ) (i n : ℕ) → i ≡ n → true ≡ distinct (slice i n list)
+-- the numbers after i, which the code has as a slice up to the list's end
+pub any-later : (list : List ℕ) (i x : ℕ) → i < length list → list_any (λ y. eqb y x) (take (length list - (i + 1)) (drop (i + 1) list)) ≡ is_in x (drop (i + 1) list)
+any-later list i x h =
+    any_in x (take (length list - (i + 1)) (drop (i + 1) list))
+    ∙ ap (is_in x) (take_all (length list - (i + 1)) (drop (i + 1) list) (omega (arith, length-drop (i + 1) list)))
+
+-- a number that stands twice, from i on
+module _ (list : List ℕ) (i : ℕ) (h : i < length list) where
+  pub twice-here : is_in (get_or list i 0) (drop (i + 1) list) ≡ true → distinct (drop i list) ≡ false
+  unfolding distinct
+  twice-here e = rw (drop-cons list i 0 h, rw add-one at e)
+
+  pub twice-later : is_in (get_or list i 0) (drop (i + 1) list) ≡ false → distinct (drop i list) ≡ distinct (drop (i + 1) list)
+  unfolding distinct
+  twice-later e = rw (drop-cons list i 0 h, add-one, rw add-one at e)
+
+pub twice_none : (list : List ℕ) (i : ℕ) → length list ≤ i → distinct (drop i list) ≡ true
 unfolding distinct
-twice_none list i n e = rw (e, slice_empty n list)
+twice_none list i h = rw (drop_of_length-le list h)
 
--- ---- where a number stands, from i on
+-- ---- where a number stands
 
-module _ (list : List ℕ) (i x : ℕ) (h : i < length list) where
-  pub index-here : get_or list i 0 ≡ x → index_of x (drop i list) ≡ 0
-  unfolding index_of
-  index-here e = rw (drop-cons list i 0 h, eq-eqb (get_or list i 0) x e)
-
-  pub index-later : (get_or list i 0 ≡ x → ⊥) → i + index_of x (drop i list) ≡ i + 1 + index_of x (drop (i + 1) list)
-  unfolding index_of
-  index-later d = rw (drop-cons list i 0 h, ne_eqb (get_or list i 0) x d, add-one) (omega arith)
-
-pub index_none : (list : List ℕ) (i x : ℕ) → length list ≤ i → index_of x (drop i list) ≡ 0
+pub index-here : (x y : ℕ) (ys : List ℕ) → y ≡ x → index_of x (y ∷ ys) ≡ 0
 unfolding index_of
-index_none list i x h = rw (drop_of_length-le list h)
+index-here x y ys e = rw (eq-eqb y x e)
+
+pub index-later : (x y : ℕ) (ys : List ℕ) → (y ≡ x → ⊥) → index_of x (y ∷ ys) ≡ index_of x ys + 1
+unfolding index_of
+index-later x y ys d = rw (ne_eqb y x d) (omega arith)
 
 -- ---- an order of serving
 

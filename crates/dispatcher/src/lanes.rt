@@ -1,7 +1,8 @@
 // A lane's tickets: where one stands, one added, and the oldest gone.
-ghost use Rattle.std.specs.Prelude.{◌≡◌, false, ◌+◌, ◌-◌, ◌*◌, ◌%◌, ◌<◌};
+ghost use Rattle.std.specs.Prelude.{◌≡◌, true, false, ◌+◌, ◌*◌, ◌%◌, ◌<◌};
 ghost use Rattle.dispatch.specs.Dispatcher.{lanes, places, count, ticket_at, impossible};
 ghost use Rattle.dispatch.specs.Turns as Turns;
+ghost use Rattle.dispatch.specs.Turns.{is_waiting};
 
 use crate::lists::serve_last;
 use crate::possible::PLACES;
@@ -16,12 +17,11 @@ fn place(lane: usize, head: u32, i: u32) -> usize
 }
 
 // The ticket i places after the oldest of a lane.
-pub(crate) fn ticket_at(d: Dispatcher, lane: usize, i: u32) -> u32
+pub(crate) fn ticket_at(d: &Dispatcher, lane: usize, i: u32) -> u32
     requires { (lane < lanes) × (i < places) }
-    ensures { result ≡ ticket_at d lane i }
+    ensures { result ≡ ticket_at d.now lane i }
 {
-    let at = place(lane, d.heads[lane], i);
-    d.tickets[at] as u32
+    u32::from(d.tickets[place(lane, d.heads[lane], i)])
 }
 
 // A ticket added to a lane, after those that wait there.
@@ -29,26 +29,20 @@ pub(crate) fn added(d: Dispatcher, lane: usize, ticket: u16) -> Dispatcher
     requires { (lane < lanes) × (count d lane < places) }
     ensures { result ≡ Turns.added d lane ticket }
 {
-    let waiting = d.counts[lane];
-    let at = place(lane, d.heads[lane], waiting);
+    let at = place(lane, d.heads[lane], d.counts[lane]);
     let mut next = d;
-    next.counts[lane] = waiting + 1;
+    next.counts[lane] += 1;
     next.tickets[at] = ticket;
     next
 }
 
-// A lane served: its oldest ticket is gone, so many are left, and it is the one served last.
-pub(crate) fn less_oldest(d: Dispatcher, lane: usize, left: u32) -> Dispatcher
-    requires { (lane < lanes) × (left ≡ count d lane - 1) × (impossible d ≡ false) }
+// A lane served: its oldest ticket is gone, and it is the one served last.
+pub(crate) fn less_oldest(d: Dispatcher, lane: usize) -> Dispatcher
+    requires { (lane < lanes) × (is_waiting d lane ≡ true) × (impossible d ≡ false) }
     ensures { result ≡ Turns.less_oldest d lane }
 {
-    let order = d.order;
-    let serving = serve_last(order, d.served as usize, lane as u32);
-    let now_serving = serving.lanes;
-    let mut next = d;
-    next.counts[lane] = left;
+    let mut next = serve_last(d, lane);
+    next.counts[lane] -= 1;
     next.heads[lane] = (d.heads[lane] % PLACES + 1) % PLACES;
-    next.served = serving.count;
-    next.order = now_serving;
     next
 }

@@ -1,99 +1,70 @@
-// What is asked of the first n of eight numbers, and an order of serving in which a lane goes to the end.
-ghost use Rattle.std.specs.Prelude.{◌≡◌, ◌≤◌, ◌<◌, ◌++◌, length, take, drop};
-ghost use Rattle.std.proofs.Math.Seq.{slice};
-ghost use Rattle.refusal.specs.Order.{is_in, distinct};
-ghost use Rattle.dispatch.specs.Dispatcher.{lanes, index_of, some_above};
-ghost use Rattle.dispatch.specs.Turns.{without, served_last};
+// What is asked of lists of numbers, and an order of serving in which a lane goes to the end.
+ghost use Rattle.std.specs.Prelude.{◌≡◌, ◌≤◌, ◌<◌, length, unwrap_or, IfSome};
+ghost use Rattle.refusal.specs.Order.{distinct};
+ghost use Rattle.dispatch.specs.Dispatcher.{lanes, index_of, serving, some_above};
+ghost use Rattle.dispatch.specs.Turns.{without, served_last, with_serving};
+
+use dispatch::Dispatcher;
 
 // The lanes of a dispatcher.
 pub(crate) const LANES: usize = 8;
 
-// Whether one of the first n numbers is above the most that is allowed.
-pub(crate) fn some_above(list: [u32; LANES], n: usize, most: u32) -> bool
-    requires { n ≤ lanes }
-    ensures { result ≡ some_above most (take n list) }
+// Whether a number is above the most that is allowed.
+pub(crate) fn some_above(list: &[u32], most: u32) -> bool
+    ensures { result ≡ some_above most list.now }
 {
-    let mut i = 0;
-    while i < n {
-        if most < list[i] {
-            return true;
-        }
-        i += 1;
-    }
-    false
+    list.iter().any(|x| most < *x)
 }
 
-// Whether x is one of the numbers from one place up to another.
-pub(crate) fn is_in(list: [u32; LANES], from: usize, n: usize, x: u32) -> bool
-    requires { (from ≤ n) × (n ≤ lanes) }
-    ensures { result ≡ is_in x (slice from n list) }
+// Whether no number stands twice.
+pub(crate) fn is_distinct(list: &[u32]) -> bool
+    ensures { result ≡ distinct list.now }
 {
-    let mut i = from;
-    while i < n {
-        if list[i] == x {
-            return true;
-        }
-        i += 1;
-    }
-    false
-}
-
-// Whether no number stands twice among the first n.
-pub(crate) fn is_distinct(list: [u32; LANES], n: usize) -> bool
-    requires { n ≤ lanes }
-    ensures { result ≡ distinct (take n list) }
-{
-    let mut i = 0;
-    while i < n {
-        if is_in(list, i + 1, n, list[i]) {
+    for (i, x) in list.iter().enumerate() {
+        if list[i + 1..].contains(x) {
             return false;
         }
-        i += 1;
     }
     true
 }
 
-// Where x stands first; 8 where it doesn't.
-pub(crate) fn index_of(list: [u32; LANES], x: u32) -> usize
-    ensures { result ≡ index_of x list }
+// Where x stands first; the definition says the list's length where it doesn't.
+pub(crate) fn index_of(list: &[u32], x: u32) -> Option<usize>
+    ensures first { unwrap_or result (length list.now) ≡ index_of x list.now }
+    ensures within { IfSome result (λ i. i < length list.now) }
 {
-    let mut i = 0;
-    while i < LANES {
-        if list[i] == x {
-            return i;
-        }
-        i += 1;
-    }
-    LANES
+    list.iter().position(|y| *y == x)
 }
 
-// An order of serving: the first `count` lanes.
-#[derive(Clone, Copy)]
-pub struct Serving {
-    pub count: u32,
-    pub lanes: [u32; LANES],
+// The lanes served so far, longest ago first.
+pub(crate) fn serving(d: &Dispatcher) -> &[u32]
+    requires { d.now.served ≤ lanes }
+    ensures lanes { result.now ≡ serving d.now }
+    ensures count { length result.now ≡ d.now.served }
+{
+    &d.order[..d.served as usize]
 }
 
-// The order of serving once a lane is served: all others as they were, then that lane. Entries beyond keep what they held.
-pub(crate) fn serve_last(order: [u32; LANES], served: usize, lane: u32) -> Serving
-    requires { (served ≤ lanes) × (length (without lane (take served order)) < lanes) }
-    ensures { let now-serving = served_last lane (take served order) in
-        (result.count ≡ length now-serving)
-        × (result.lanes ≡ now-serving ++ drop (length now-serving) order) }
+// The dispatcher once a lane is served: in its order of serving all others as they were, then that lane. Entries beyond keep what they
+// held.
+pub(crate) fn serve_last(d: Dispatcher, lane: usize) -> Dispatcher
+    requires few { d.served ≤ lanes }
+    requires room { length (without lane (serving d)) < lanes }
+    requires lane { lane < lanes }
+    ensures { result ≡ with_serving d (served_last lane (serving d)) }
 {
-    let mut next = order;
-    let mut at: usize = 0;
-    let mut i = 0;
-    while i < served {
-        if order[i] != lane {
-            next[at] = order[i];
-            at += 1;
+    let mut order = d.order;
+    let mut served = 0;
+    for other in serving(&d) {
+        if *other as usize != lane {
+            order[served] = *other;
+            served += 1;
         }
-        i += 1;
     }
-    next[at] = lane;
-    Serving {
-        count: (at + 1) as u32,
-        lanes: next,
+    order[served] = lane as u32;
+    Dispatcher {
+        served: served as u32 + 1,
+        order,
+        ..d
     }
 }

@@ -9,7 +9,7 @@ ghost use Rattle.wire_write.specs.Writing.{Wrote};
 ghost use Rattle.signatures.specs.Entries.{FullTaken};
 ghost use Rattle.validate.specs.Calls.{Conflict};
 
-use store::sources::{Place, Source};
+use store::sources::{Certificate, Place, Source};
 use validate::conflict::certificate_value;
 use wire::read::Kind;
 
@@ -23,22 +23,29 @@ pub(crate) fn first_is_lower(n: u32, first: &[u8], second: &[u8]) -> bool
     wire::values::lower(&a, &b)
 }
 
+// A FULL as a certificate to read.
+fn certificate<'a>(n: u32, m: &'a [u8]) -> Certificate<'a>
+    requires { FullTaken n m.now }
+    ensures { (result.value ≡ (certificate_in (read n m.entry.now)).value) × (result.source ≡ in_full (set_of (entry_seats (read n m.entry.now)))) × (result.bytes ≡ m.entry) }
+{
+    let source = Source {
+        place: Place::Entries,
+        seats: wire::read::entry_set(n, Kind::Full, m),
+    };
+    Certificate {
+        value: certificate_value(n, m),
+        source,
+        bytes: m,
+    }
+}
+
 // Writes the EVIDENCE of two certificates that conflict to the start of `out`, and answers its length.
 pub(crate) fn write_conflict(n: u32, round: u32, first: &[u8], second: &[u8], out: &mut [u8]) -> u32
     requires { (1 ≤ n) × (n ≤ most_seats) × Conflict n round (read n first.now) (read n second.now) × (evidence_out_length n ≤ length out.old) }
     ensures { Wrote 0 (render (conflict_of n round (certificate_in (read n first.now)) (certificate_in (read n second.now)))) out.old out.new result }
 {
-    let va = certificate_value(n, first);
-    let vb = certificate_value(n, second);
-    let a = Source {
-        place: Place::Entries,
-        seats: wire::read::entry_set(n, Kind::Full, first),
-    };
-    let b = Source {
-        place: Place::Entries,
-        seats: wire::read::entry_set(n, Kind::Full, second),
-    };
-    let mask = quorum::shared(a.seats, b.seats);
-    let end = wire_write::write_evidence(out, 0, n, round, mask, &va, a, first, &vb, b, second);
-    end as u32
+    let a = certificate(n, first);
+    let b = certificate(n, second);
+    let mask = quorum::shared(a.source.seats, b.source.seats);
+    wire_write::write_evidence(out, 0, n, round, mask, a, b) as u32
 }

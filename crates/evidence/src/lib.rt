@@ -2,40 +2,29 @@
 #![tactic(auto)]
 
 ghost use Rattle.std.specs.Prelude.{◌≡◌, []};
+ghost use Rattle.protocol.specs.Answers.{written_in, checked_in};
 ghost use Rattle.protocol.specs.Signatures.{checks};
 ghost use Rattle.protocol.specs.Calls.{out_after, making, made, evidence_check, lower_certificate};
 ghost use Rattle.evidence.specs.Making.{lower_number, lower_first};
 
 use crate::certificates::{first_is_lower, write_conflict};
-use protocol::{Checked, Written};
-use validate::calls::{evidence_refusal, making_refusal, outside_refusal, two_refusal};
+use quorum::Mask;
+use refusal::Refusal;
+use validate::calls::{evidence_refusal, fleet, out_refusal, two_refusal};
 
 mod certificates;
 
-// The evidence check: the refusal number and no seats, or 0 and the seats that the evidence names.
-pub fn check_evidence(n: u32, round: u32, keys: &[u8], evidence: &[u8]) -> Checked
-    ensures { result ≡ evidence_check (checks keys.now round) n round keys.now evidence.now }
+// The evidence check: the refusal, or the seats that the evidence names.
+pub fn check_evidence(n: u32, round: u32, keys: &[u8], evidence: &[u8]) -> Result<Mask, Refusal>
+    ensures { checked_in result ≡ evidence_check (checks keys.now round) n round keys.now evidence.now }
 {
-    let outside = outside_refusal(n, round, keys);
-    if outside != 0 {
-        return Checked {
-            number: outside,
-            mask: 0,
-        };
-    }
+    let fleet = fleet(n, round, keys)?;
     let kind = wire::read::classify(n, evidence);
-    let v = evidence_refusal(n, round, keys, kind, evidence);
-    if v.number != 0 {
-        return Checked {
-            number: v.number,
-            mask: 0,
-        };
-    }
-    let mask = wire::read::entry_set(n, kind, evidence);
-    Checked { number: 0, mask }
+    evidence_refusal(fleet, kind, evidence)?;
+    Ok(wire::read::entry_set(n, kind, evidence))
 }
 
-// Evidence from two certificates, given in either order: the refusal number and 0, or 0 and the number of bytes written to `out`.
+// Evidence from two certificates, given in either order: the refusal, or the number of bytes written to `out`.
 pub fn make_evidence(
     n: u32,
     round: u32,
@@ -43,28 +32,16 @@ pub fn make_evidence(
     first: &[u8],
     second: &[u8],
     out: &mut [u8],
-) -> Written
+) -> Result<u32, Refusal>
     ensures { let outcome = making (checks keys.now round) n round keys.now
         first.now second.now out.old in
-        (result ≡ made outcome)
+        (written_in result ≡ made outcome)
         × (out.new ≡ out_after outcome.written out.old) }
 {
-    let given = making_refusal(n, round, keys, out);
-    if given != 0 {
-        return Written {
-            number: given,
-            written: 0,
-        };
-    }
-    let two = two_refusal(n, round, keys, first, second);
-    if two.number != 0 {
-        return Written {
-            number: two.number,
-            written: 0,
-        };
-    }
-    let written = write_conflict(n, round, first, second, out);
-    Written { number: 0, written }
+    let fleet = fleet(n, round, keys)?;
+    out_refusal(layout::evidence_out_length(n), out)?;
+    two_refusal(fleet, first, second)?;
+    Ok(write_conflict(n, round, first, second, out))
 }
 
 // A part of length 0.
@@ -87,12 +64,10 @@ pub fn lower_certificate<'a>(
     ensures bytes { result.now ≡ lower_certificate (checks keys.now round) n round keys.now first.now second.now }
     ensures buffer { lower_number (checks keys.now round) n round keys.now first.now second.now ≡ 0 → result ≡ lower_first n first.now second.now first.entry second.entry }
 {
-    let outside = outside_refusal(n, round, keys);
-    if outside != 0 {
+    let Ok(fleet) = fleet(n, round, keys) else {
         return nothing(first);
-    }
-    let two = two_refusal(n, round, keys, first, second);
-    if two.number != 0 {
+    };
+    if two_refusal(fleet, first, second).is_err() {
         return nothing(first);
     }
     if first_is_lower(n, first, second) {

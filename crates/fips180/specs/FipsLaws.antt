@@ -1,8 +1,9 @@
 -- Laws of SHA-256.
-use Rattle.std.specs.Prelude.{◌≡◌, refl, List, [], ◌∷◌, ◌++◌, ℕ, zero, suc, ◌+◌, ◌-◌, ◌*◌, ◌/◌, ◌%◌, ◌≤◌, ◌<◌, Bool, true, false, cond, ◌⊎◌, ltb, replicate, length, get_or, take, drop, set}
-use Rattle.std.proofs.Common.{sym, ap, ap₂, subst, ◌∙◌, append_assoc, add-zero, add-suc, add-one, arith, inl, inr, ⊎_elim, ltb-true, ltb-false, drop_of_length-le, length-append, length-take, length-drop, take-append-drop, take_all, take-suc-set, get_or-take}
+use Rattle.std.specs.Prelude.{◌≡◌, refl, List, [], ◌∷◌, ◌++◌, ℕ, zero, suc, ◌+◌, ◌-◌, ◌*◌, ◌/◌, ◌%◌, ◌^◌, ◌≤◌, ◌<◌, Bool, true, false, cond, ◌⊎◌, ltb, replicate, length, get_or, take, drop, set}
+use Rattle.std.proofs.Common.{sym, ap, ap₂, ◌∙◌, append_assoc, add-zero, add-suc, add-one, arith, inl, inr, ⊎_elim, ltb-true, ltb-false, drop_of_length-le, length-append, length-take, length-drop, take-append-drop, take_all, take-suc-set, get_or-take}
 use Rattle.std.proofs.lemmas.List.{length-replicate, take-append-le, drop-append-le}
-use Rattle.std.proofs.Math.Seq.{set-append_seam, take-append-add, drop-append-add, take-length}
+use Rattle.std.proofs.Math.Seq.{set-append_seam, take-append-add, drop-append-add}
+use Rattle.std.specs.Int.{w64, to_be_bytes}
 use Rattle.octets.specs.Octets.{part, patch, be, words, bytes}
 use Rattle.octets.specs.OctetsLaws.{take_rest, drop-replicate, take-replicate, patch-patch, take-patch, length-be, length-bytes}
 use Rattle.fips180.specs.Constants.{constants, initial}
@@ -22,17 +23,14 @@ scheduled-take w t h =
     simp (get_or-take)
 
 -- one pass of the loop
-pub schedule_next : (m w : List ℕ) (t x : ℕ) → take (16 + t) w ≡ schedule m t → 16 + t < length w → x ≡ scheduled w (16 + t)
-    → take (16 + (t + 1)) (set w (16 + t) x) ≡ schedule m (t + 1)
+pub schedule_next : (m w : List ℕ) (t x : ℕ) → 16 ≤ t → take t w ≡ schedule m (t - 16) → t < length w → x ≡ scheduled w t
+    → take (t + 1) (set w t x) ≡ schedule m (t + 1 - 16)
 unfolding schedule
-schedule_next m w t x e h p =
-    let s : scheduled w (16 + t) ≡ scheduled (schedule m t) (16 + t) = sym (scheduled-take w (16 + t) (omega arith)) ∙ ap (λ (l : List ℕ). scheduled l (16 + t)) e in
-    let n : 16 + (t + 1) ≡ suc (16 + t) = omega arith in
-    rw (n, add-one, p, take-suc-set w (16 + t)) (rw (e, s))
-
-pub schedule-done : (m w : List ℕ) (t : ℕ) → take (16 + t) w ≡ schedule m t → t ≡ 48 → length w ≡ 64 → w ≡ schedule m 48
-schedule-done m w t e h l =
-    sym (subst (λ (k : ℕ). take k w ≡ w) l (take-length w)) ∙ subst (λ (k : ℕ). take (16 + k) w ≡ schedule m k) h e
+schedule_next m w t x l e h p =
+    let s : scheduled w t ≡ scheduled (schedule m (t - 16)) t = sym (scheduled-take w t l) ∙ ap (λ (l : List ℕ). scheduled l t) e in
+    let n : t + 1 - 16 ≡ suc (t - 16) = omega arith in
+    let place : 16 + (t - 16) ≡ t = omega arith in
+    rw (n, place, add-one, p, take-suc-set w t) (rw (e, s))
 
 -- ---- the rounds, as a loop runs them
 
@@ -175,22 +173,21 @@ pad_55 m l = rw l
 
 -- ---- the end of a message, as it is prepared in two blocks of zeros
 
--- the length in bits, as two words
-length_in_words : (n : ℕ) → be 8 (8 * n) ≡ be 4 (n / 536870912 % 4294967296) ++ be 4 (n % 536870912 * 8)
+-- the length in bits, as its eight bytes are written
+pub length_in_bits : (n : ℕ) → to_be_bytes w64 (n * 8 % 2 ^ 64) ≡ be 8 (8 * n)
 unfolding be
-length_in_words n =
+length_in_bits n =
     let x = 8 * n in
-    let h = n / 536870912 % 4294967296 in
-    let l = n % 536870912 * 8 in
-    let b0 : x / 256 / 256 / 256 / 256 / 256 / 256 / 256 % 256 ≡ h / 256 / 256 / 256 % 256 = omega arith in
-    let b1 : x / 256 / 256 / 256 / 256 / 256 / 256 % 256 ≡ h / 256 / 256 % 256 = omega arith in
-    let b2 : x / 256 / 256 / 256 / 256 / 256 % 256 ≡ h / 256 % 256 = omega arith in
-    let b3 : x / 256 / 256 / 256 / 256 % 256 ≡ h % 256 = omega arith in
-    let b4 : x / 256 / 256 / 256 % 256 ≡ l / 256 / 256 / 256 % 256 = omega arith in
-    let b5 : x / 256 / 256 % 256 ≡ l / 256 / 256 % 256 = omega arith in
-    let b6 : x / 256 % 256 ≡ l / 256 % 256 = omega arith in
-    let b7 : x % 256 ≡ l % 256 = omega arith in
-    rw (b0, b1, b2, b3, b4, b5, b6, b7)
+    let y = n * 8 % 2 ^ 64 in
+    let b7 : x / 256 / 256 / 256 / 256 / 256 / 256 / 256 % 256 ≡ y / 256 ^ 7 % 256 = omega arith in
+    let b6 : x / 256 / 256 / 256 / 256 / 256 / 256 % 256 ≡ y / 256 ^ 6 % 256 = omega arith in
+    let b5 : x / 256 / 256 / 256 / 256 / 256 % 256 ≡ y / 256 ^ 5 % 256 = omega arith in
+    let b4 : x / 256 / 256 / 256 / 256 % 256 ≡ y / 256 ^ 4 % 256 = omega arith in
+    let b3 : x / 256 / 256 / 256 % 256 ≡ y / 256 ^ 3 % 256 = omega arith in
+    let b2 : x / 256 / 256 % 256 ≡ y / 256 ^ 2 % 256 = omega arith in
+    let b1 : x / 256 % 256 ≡ y / 256 ^ 1 % 256 = omega arith in
+    let b0 : x % 256 ≡ y % 256 = omega arith in
+    rw (b7, b6, b5, b4, b3, b2, b1, b0)
 
 ended_cases : (n : ℕ) → ((n < 56) × (ended n ≡ 64)) ⊎ ((56 ≤ n) × (ended n ≡ 128))
 unfolding ended
@@ -217,26 +214,21 @@ marked-take : (tail : List ℕ) (m i j : ℕ) → i ≡ length tail + suc j → 
     → take i (tail ++ (128 ∷ replicate m 0)) ≡ tail ++ (128 ∷ replicate j 0)
 marked-take tail m i j e h = rw (e, take-append-add) (ap (λ (l : List ℕ). tail ++ (128 ∷ l)) (take-replicate j m 0 h))
 
-pub padded_tail : (tail b : List ℕ) (n total end : ℕ) → n ≡ 128 → length tail ≡ total % 64 → end ≡ ended (length tail)
-    → b ≡ patch (end - 4) (be 4 (total % 536870912 * 8))
-    (patch (end - 8) (be 4 (total / 536870912 % 4294967296)) (set (patch 0 tail (replicate n 0)) (length tail) 128))
+pub padded_tail : (tail b ls : List ℕ) (n total end : ℕ) → n ≡ 128 → length tail ≡ total % 64 → end ≡ ended (length tail)
+    → ls ≡ be 8 (8 * total) → b ≡ patch (end - 8) ls (set (patch 0 tail (replicate n 0)) (length tail) 128)
     → take end b ≡ tail ++ padding total
 unfolding padding
-padded_tail tail b n total end s e d p =
-    let hi = be 4 (total / 536870912 % 4294967296) in
-    let lo = be 4 (total % 536870912 * 8) in
+padded_tail tail b ls n total end s e d q p =
     let r = length tail in
     let base = tail ++ (128 ∷ replicate (127 - r) 0) in
     let at = end - 8 in
     let room : (64 ≤ end) × (end ≤ 128) × (r + 9 ≤ end) = ⊎_elim (λ c. omega arith) (λ c. omega arith) (ended_cases r) in
     let marked = marked_tail tail n (127 - r) (omega arith) in
     let long : length base ≡ 128 = simp (length-append, length-replicate) (omega arith) in
-    let four : length hi ≡ 4 = length-be 4 _ in
-    let next : end - 4 ≡ at + length hi = omega arith in
-    let whole : b ≡ patch at (hi ++ lo) base =
-    p ∙ rw (marked, next) (patch-patch at hi lo base (omega arith)) in
-    let all : end ≡ at + length (hi ++ lo) = simp (length-append, length-be) (omega arith) in
+    let eight : length ls ≡ 8 = rw q (length-be 8 _) in
+    let whole : b ≡ patch at ls base = p ∙ rw marked in
+    let all : end ≡ at + length ls = omega arith in
     let first = marked-take tail (127 - r) at (end - 9 - r) (omega arith) (omega arith) in
     let zeros : end - 9 - r ≡ (119 - total % 64) % 64 = rw d (zeros_are r total e) in
-    ap₂ take all whole ∙ take-patch at (hi ++ lo) base (omega arith)
-    ∙ rw (first, zeros, ← length_in_words total) (append_assoc tail (128 ∷ replicate ((119 - total % 64) % 64) 0) (be 8 (8 * total)))
+    ap₂ take all whole ∙ take-patch at ls base (omega arith)
+    ∙ rw (first, zeros, q) (append_assoc tail (128 ∷ replicate ((119 - total % 64) % 64) 0) (be 8 (8 * total)))

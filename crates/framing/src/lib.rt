@@ -13,43 +13,30 @@ fn frame_length(n: u32, bytes: &[u8]) -> usize
     requires { (1 ≤ n) × (n ≤ most_seats) }
     ensures { (result ≡ frame_length n bytes.now) × (result < 2 ^ 32) }
 {
-    let command = wire::read::byte_or_zero(bytes, 0);
-    if command == 1 {
-        return layout::submit_length();
+    match wire::read::byte_or_zero(bytes, 0) {
+        1 => layout::submit_length(),
+        2 => layout::notice_length(),
+        3 => layout::full_length(n),
+        _ => {
+            let found = wire::read::evidence_entries(bytes);
+            layout::entry_at(found, found.count)
+        }
     }
-    if command == 2 {
-        return layout::notice_length();
-    }
-    if command == 3 {
-        return layout::full_length(n);
-    }
-    let found = wire::read::evidence_entries(bytes);
-    let count = found.count;
-    layout::entry_at(found, count)
 }
 
 // Whether bytes of a kind are no message.
 fn is_garbled(kind: Kind) -> bool
     ensures { result ≡ no_message kind }
 {
-    match kind {
-        Kind::Submit => false,
-        Kind::Notice => false,
-        Kind::Full => false,
-        Kind::OldEvidence => false,
-        Kind::Evidence => false,
-        Kind::Garbled => true,
-    }
+    matches!(kind, Kind::Garbled)
 }
 
-// The length of the first message in a buffer; 0 where no message of a fleet of n seats stands there whole.
+// The length of the first message in a buffer; 0 where no message of a fleet of n seats stands there whole. It is a number and no
+// `Option`, as C gets it and the law `first_length` says it.
 pub fn message_length(n: u32, bytes: &[u8]) -> u32
     ensures { result ≡ message_length n bytes.now }
 {
-    if n == 0 {
-        return 0;
-    }
-    if quorum::MOST_SEATS < n {
+    if n == 0 || quorum::MOST_SEATS < n {
         return 0;
     }
     let end = frame_length(n, bytes);

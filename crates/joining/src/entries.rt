@@ -57,11 +57,9 @@ fn write_entries(
 {
     let rest = quorum::less(b, a);
     let mut end = at;
-    let mut s = 0;
-    while s < n {
+    for s in 0..n {
         end = write_wanted(out, end, n, first, a, a, s);
         end = write_wanted(out, end, n, second, b, rest, s);
-        s += 1;
     }
     end
 }

@@ -1,7 +1,7 @@
 -- Sixteen chains side by side: every lane steps as its chain does.
 use Rattle.std.specs.Prelude.{◌≡◌, ◌⊎◌, List, [], ◌∷◌, length, set}
 use Rattle.std.proofs.Math.Path.{refl, ap}
-use Rattle.std.proofs.Common.{sym, subst, ◌∙◌, inl, inr, eq-or-lt_of_le, length-set}
+use Rattle.std.proofs.Common.{sym, ◌∙◌, inl, inr, eq-or-lt_of_le, length-set}
 use Rattle.std.proofs.Math.Logic.{⊎_elim}
 use Prim.Native.Nat.{ℕ, zero, suc, ◌+◌, ◌*◌, ◌/◌, ◌%◌, ◌≤◌, ◌<◌}
 use native.Mathlib.Omega.{arith}
@@ -273,10 +273,6 @@ unfolding AllWalked
 all_next places t w₀ x s₀ v₀ w s v w' s' v' f g id leaves r =
     let now = f id leaves r in
     (still_by id leaves places t w x s v w' s' v' now.0 g, walked_next id leaves places t w x s v₀ v w' s' v' now.0 g now.1)
-
-pub all_done : (places : List ℕ) (t count : ℕ) (w₀ x s₀ v₀ w s v : List ℕ) → t ≡ count → AllWalked places t w₀ x s₀ v₀ w s v
-    → AllWalked places count w₀ x s₀ v₀ w s v
-all_done places t count w₀ x s₀ v₀ w s v e f = subst (λ (n : ℕ). AllWalked places n w₀ x s₀ v₀ w s v) e f
 
 pub walked_for : (id leaves places : List ℕ) (count : ℕ) (w₀ x s₀ v₀ w s v : List ℕ) → Ready id leaves w₀ x s₀ → AllWalked places count w₀ x s₀ v₀ w s v
     → Walked id leaves places count v₀ v

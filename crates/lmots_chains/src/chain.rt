@@ -1,16 +1,16 @@
 // Chains: a step is one compression (RFC 8554, section 4.3 and Appendix A).
 ghost use Rattle.std.specs.Prelude.{◌≡◌, ◌+◌, ◌<◌, ◌≤◌};
 ghost use Rattle.octets.specs.Octets.{bytes};
-ghost use Rattle.fips180.specs.Constants.{constants};
 ghost use Rattle.fips180.specs.Fips.{pad};
 ghost use Rattle.rfc8554.specs.Ots.{chain_input};
 ghost use Rattle.rfc8554.specs.Ots as Ots;
 ghost use Rattle.lmots_chains.specs.Pieces as Pieces;
 
 use sha256_block::compress;
-use sha256_constants::initial_value;
+use sha256_constants::{RoundConstants, initial_value};
 
 // The last three bytes of a word and the first of the next.
+#[tactic(auto, unfolding(crate::specs::Pieces::across))]
 pub(crate) fn across(a: u32, b: u32) -> u32
     ensures { result ≡ Pieces.across a b }
 {
@@ -22,14 +22,7 @@ fn block(id: [u32; 4], q: u32, i: u32, j: u32, tmp: [u32; 8]) -> [u32; 16]
     requires { (i < 65536) × (j < 256) }
     ensures { bytes result ≡ pad (chain_input (bytes id) q i j (bytes tmp)) }
 {
-    let a = tmp[0];
-    let b = tmp[1];
-    let c = tmp[2];
-    let d = tmp[3];
-    let e = tmp[4];
-    let f = tmp[5];
-    let g = tmp[6];
-    let h = tmp[7];
+    let [a, b, c, d, e, f, g, h] = tmp;
     [
         id[0],
         id[1],
@@ -51,8 +44,8 @@ fn block(id: [u32; 4], q: u32, i: u32, j: u32, tmp: [u32; 8]) -> [u32; 16]
 }
 
 // The step at place j of chain i.
-fn step(k: &[u32; 64], id: [u32; 4], q: u32, i: u32, j: u32, tmp: [u32; 8]) -> [u32; 8]
-    requires { (k.now ≡ constants) × (i < 65536) × (j < 256) }
+fn step(k: &RoundConstants, id: [u32; 4], q: u32, i: u32, j: u32, tmp: [u32; 8]) -> [u32; 8]
+    requires { (i < 65536) × (j < 256) }
     ensures { bytes result ≡ Ots.H (chain_input (bytes id) q i j (bytes tmp)) }
 {
     let m = block(id, q, i, j, tmp);
@@ -62,7 +55,7 @@ fn step(k: &[u32; 64], id: [u32; 4], q: u32, i: u32, j: u32, tmp: [u32; 8]) -> [
 
 // The value of chain i after `count` steps from place `from`, where it was tmp.
 pub fn chain(
-    k: &[u32; 64],
+    k: &RoundConstants,
     id: [u32; 4],
     q: u32,
     i: u32,
@@ -70,22 +63,21 @@ pub fn chain(
     count: u32,
     tmp: [u32; 8],
 ) -> [u32; 8]
-    requires { (k.now ≡ constants) × (i < 65536) × (from + count ≤ 255) }
+    requires { (i < 65536) × (from + count ≤ 255) }
     ensures { bytes result ≡ Ots.chain (bytes id) q i from count (bytes tmp) }
 {
     let mut h = tmp;
-    let mut t = 0;
-    while t < count {
-        let n = step(k, id, q, i, from + t, h);
-        h = n;
-        t += 1;
+    for t in 0..count {
+        let next = step(k, id, q, i, from + t, h);
+        h = next;
     }
     h
 }
 
 // The start of chain i, from the seed.
-pub fn start(k: &[u32; 64], id: [u32; 4], q: u32, i: u32, seed: [u32; 8]) -> [u32; 8]
-    requires { (k.now ≡ constants) × (i < 65536) }
+#[tactic(auto, unfolding(rfc8554::specs::Ots::start))]
+pub fn start(k: &RoundConstants, id: [u32; 4], q: u32, i: u32, seed: [u32; 8]) -> [u32; 8]
+    requires { i < 65536 }
     ensures { bytes result ≡ Ots.start (bytes id) q (bytes seed) i }
 {
     step(k, id, q, i, 255, seed)

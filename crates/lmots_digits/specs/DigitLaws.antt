@@ -1,48 +1,37 @@
 -- Digits, the checksum, and the digits of a message.
-use Rattle.std.specs.Prelude.{◌≡◌, refl, List, ◌++◌, ◌⊎◌, ℕ, ◌+◌, ◌-◌, ◌*◌, ◌/◌, ◌%◌, ◌^◌, ◌≤◌, ◌<◌, length, get_or, set}
-use Rattle.std.proofs.Common.{sym, ap, ◌∙◌, ⊎_elim, add-one, arith}
-use Rattle.octets.specs.Octets.{patch, be}
-use Rattle.octets.specs.OctetsLaws.{length-be, length-patch}
-use Rattle.octets.specs.WriteLaws.{pieces, stores_two}
+use Rattle.std.specs.Prelude.{◌≡◌, List, ◌++◌, ℕ, ◌+◌, ◌-◌, ◌*◌, ◌/◌, ◌%◌, ◌^◌, ◌≤◌, ◌<◌, length, take, drop, get_or}
+use Rattle.std.proofs.Common.{sym, ◌∙◌, add-one, arith}
+use Rattle.octets.specs.Octets.{be}
 use Rattle.fips180.specs.Fips.{sha256}
 use Rattle.rfc8554.specs.Ots.{coef, digits, chains, left_shift, d_mesg, sum, checksum, with_checksum, message_input, digested}
 use Rattle.rfc8554.specs.OtsLaws.{coef-eight, coef-four-high, coef-four-low}
 use Rattle.lmots_digits.specs.Pieces.{front}
+use Rattle.lmots_digits.specs.WriteLaws.{two-written}
+use Rattle.lmots_digits.specs.declared.width.Width.{Width}
+use Rattle.lmots_digits.specs.declared.width.Width.TheVariants as width
+use Rattle.lmots_digits.specs.Width.{bits_of}
 
 -- ---- digits
 
--- the width that is not 8
-pub width_four : (w : ℕ) → (w ≡ 4) ⊎ (w ≡ 8) → (w ≡ 8 → ⊥) → w ≡ 4
-width_four w h n = ⊎_elim (λ e. e) (λ e. absurd (n e)) h
+pub digit-eight : (i r : ℕ) (S : List ℕ) → r ≡ get_or S i 0 → r < 256 → (r ≡ coef 8 S i) × (r ≤ 2 ^ 8 - 1)
+digit-eight i r S p h = rw p (sym (coef-eight S i (rw p at h)), omega arith)
 
--- the byte that holds digit i
-pub place-eight : (w i n : ℕ) → w ≡ 8 → i * w / 8 < n → i < n
-place-eight w i n e h = let k : i * 8 / 8 < n = rw e at h in omega arith
+pub digit-high : (i b : ℕ) (S : List ℕ) → b ≡ get_or S (i / 2) 0 → b < 256 → i % 2 ≡ 0 → (b / 16 ≡ coef 4 S i) × (b / 16 ≤ 2 ^ 4 - 1)
+digit-high i b S p h k = rw p (sym (coef-four-high S i k (rw p at h)), omega arith)
 
-pub place-four : (w i n : ℕ) → w ≡ 4 → i * w / 8 < n → i / 2 < n
-place-four w i n e h = let k : i * 4 / 8 < n = rw e at h in omega arith
-
-pub digit-eight : (w i r : ℕ) (S : List ℕ) → w ≡ 8 → r ≡ get_or S i 0 → r < 256 → (r ≡ coef w S i) × (r ≤ 2 ^ w - 1)
-digit-eight w i r S e p h = rw (e, p) (sym (coef-eight S i (rw p at h)), omega arith)
-
-pub digit-high : (w i b : ℕ) (S : List ℕ) → w ≡ 4 → b ≡ get_or S (i / 2) 0 → b < 256 → i % 2 ≡ 0
-    → (b / 16 ≡ coef w S i) × (b / 16 ≤ 2 ^ w - 1)
-digit-high w i b S e p h k = rw (e, p) (sym (coef-four-high S i k (rw p at h)), omega arith)
-
-pub digit_low : (w i b : ℕ) (S : List ℕ) → w ≡ 4 → b ≡ get_or S (i / 2) 0 → i % 2 ≡ 1
-    → (b % 16 ≡ coef w S i) × (b % 16 ≤ 2 ^ w - 1)
-digit_low w i b S e p k = rw (e, p) (sym (coef-four-low S i k), omega arith)
+pub digit_low : (i b : ℕ) (S : List ℕ) → b ≡ get_or S (i / 2) 0 → i % 2 ≡ 1 → (b % 16 ≡ coef 4 S i) × (b % 16 ≤ 2 ^ 4 - 1)
+digit_low i b S p k = rw p (sym (coef-four-low S i k), omega arith)
 
 -- a digest's digits are in its 32 bytes, and the chains' digits in 34
-pub digest_place : (w i : ℕ) → (w ≡ 4) ⊎ (w ≡ 8) → i < digits w → i * w / 8 < 32
+pub digest_place : (w : Width) (i : ℕ) → i < digits (bits_of w) → i * bits_of w / 8 < 32
 unfolding digits
-digest_place w i h k =
-    ⊎_elim (λ e. rw e (let l : i < 64 = rw e at k in omega arith)) (λ e. rw e (let l : i < 32 = rw e at k in omega arith)) h
+digest_place width.Four i h = omega arith
+digest_place width.Eight i h = omega arith
 
-pub chain-place : (w i : ℕ) → (w ≡ 4) ⊎ (w ≡ 8) → i < chains w → i * w / 8 < 34
+pub chain-place : (w : Width) (i : ℕ) → i < chains (bits_of w) → i * bits_of w / 8 < 34
 unfolding chains
-chain-place w i h k =
-    ⊎_elim (λ e. rw e (let l : i < 67 = rw e at k in omega arith)) (λ e. rw e (let l : i < 34 = rw e at k in omega arith)) h
+chain-place width.Four i h = omega arith
+chain-place width.Eight i h = omega arith
 
 -- ---- checksum
 
@@ -50,22 +39,17 @@ pub sum_next : (w top x s i : ℕ) (S : List ℕ) → s ≡ sum w S i → top �
 unfolding sum
 sum_next w top x s i S e p q = rw (add-one, e, p, q)
 
-pub checksum-eight : (w s i : ℕ) (S : List ℕ) → w ≡ 8 → i ≡ digits w → s ≡ sum w S i → s ≡ checksum w S
+-- the sum over all digits, shifted in 32 bits
+pub checksum-shifted : (w : Width) (s i n : ℕ) (S : List ℕ) → i ≡ digits (bits_of w) → s ≡ sum (bits_of w) S i → s ≤ 255 * i → n ≡ left_shift (bits_of w)
+    → s * 2 ^ n % 4294967296 ≡ checksum (bits_of w) S
 unfolding checksum digits left_shift
-checksum-eight w s i S e k p = p ∙ rw (k, e) (omega arith)
+checksum-shifted width.Four s i n S e p h k = let few : s * 16 < 4294967296 = omega arith in rw (k, ← e, ← p) (omega arith)
+checksum-shifted width.Eight s i n S e p h k = let few : s < 4294967296 = omega arith in rw (k, ← e, ← p) (omega arith)
 
-pub checksum-four : (w s i : ℕ) (S : List ℕ) → w ≡ 4 → i ≡ digits w → s ≡ sum w S i → s * 16 ≡ checksum w S
-unfolding checksum digits left_shift
-checksum-four w s i S e k p = rw (p, k, e)
-
-pub checksum-written : (w x : ℕ) (Q zs a : List ℕ) → length Q ≡ 32 → length zs ≡ 34 → a ≡ patch 0 Q zs → x ≡ checksum w Q
-    → set (set a 32 (x / 256 % 256)) 33 (x % 256) ≡ with_checksum w Q
+pub checksum-written : (w x : ℕ) (Q q ds vs : List ℕ) → length q ≡ 32 → length ds ≡ 2 → q ≡ Q → vs ≡ be 2 x → x ≡ checksum w Q
+    → take 32 (q ++ ds) ++ (vs ++ drop 2 (drop 32 (q ++ ds))) ≡ with_checksum w Q
 unfolding with_checksum
-checksum-written w x Q zs a l k e p =
-    let n : length a ≡ 34 = ap length e ∙ length-patch 0 Q zs (omega arith) ∙ k in
-    stores_two 32 x a (omega arith)
-    ∙ pieces 32 Q (be 2 x) zs a _ e (omega arith) (rw length-be (omega arith)) refl
-    ∙ rw p
+checksum-written w x Q q ds vs l m e f p = two-written 32 2 q ds vs (be 2 x) l m f ∙ rw (e, p)
 
 -- a message's digits, by its hash
 pub digested_by : (I C message a Q r : List ℕ) (q w : ℕ) → a ≡ front I q d_mesg ++ C → Q ≡ sha256 (a ++ message) → r ≡ with_checksum w Q

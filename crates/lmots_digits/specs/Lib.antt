@@ -1,5 +1,5 @@
--- Digits: intermediate values of the code (`Pieces`), and laws of digits, of words and of writes.
+-- Digits: the bits of a digit (`Width`), intermediate values of the code (`Pieces`), and laws of writes and of digits.
+pub mod Width
 pub mod Pieces
-pub mod WordLaws
 pub mod WriteLaws
 pub mod DigitLaws

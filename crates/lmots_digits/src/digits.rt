@@ -1,65 +1,48 @@
 // The digits of a message: its hash and the checksum (RFC 8554, sections 3.1.3, 4.4 and 4.5).
-ghost use Rattle.std.specs.Prelude.{◌≡◌, ◌++◌, ◌⊎◌, ◌-◌, ◌*◌, ◌/◌, ◌^◌, ◌<◌, ◌≤◌, length};
+ghost use Rattle.std.specs.Prelude.{◌≡◌, ◌++◌, ◌-◌, ◌*◌, ◌/◌, ◌^◌, ◌<◌, ◌≤◌, length};
 ghost use Rattle.octets.specs.Octets.{bytes};
-ghost use Rattle.fips180.specs.Constants.{constants};
 ghost use Rattle.rfc8554.specs.Ots.{d_mesg};
 ghost use Rattle.rfc8554.specs.Ots as Ots;
 ghost use Rattle.lmots_digits.specs.Pieces as Pieces;
+ghost use Rattle.lmots_digits.specs.Width.{bits_of};
 
-// The largest digit.
-pub fn most(w: u32) -> u32
-    requires { (w ≡ 4) ⊎ (w ≡ 8) }
-    ensures { (result ≡ 2 ^ w - 1) × (result ≤ 255) }
-{
-    if w == 8 { 255 } else { 15 }
-}
+use crate::width::Width;
+use sha256_constants::RoundConstants;
 
 // The i-th digit of w bits of s.
-pub fn coef(w: u32, s: &[u8], i: usize) -> u32
-    requires { ((w ≡ 4) ⊎ (w ≡ 8)) × (i * w / 8 < length s.now) }
-    ensures { (result ≡ Ots.coef w s.now i) × (result ≤ 2 ^ w - 1) }
+pub fn coef(w: Width, s: &[u8], i: usize) -> u32
+    requires { i * bits_of w / 8 < length s.now }
+    ensures { (result ≡ Ots.coef (bits_of w) s.now i) × (result ≤ 2 ^ bits_of w - 1) }
 {
-    if w == 8 {
-        return octets::wide(s[i]);
+    match w {
+        Width::Eight => u32::from(s[i]),
+        Width::Four => {
+            let b = u32::from(s[i / 2]);
+            if i % 2 == 0 { b / 16 } else { b % 16 }
+        }
     }
-    let b = octets::wide(s[i / 2]);
-    if i % 2 == 0 { b / 16 } else { b % 16 }
-}
-
-// The number of digits of w bits in a digest.
-fn count(w: u32) -> usize
-    requires { (w ≡ 4) ⊎ (w ≡ 8) }
-    ensures { (result ≡ Ots.digits w) × (result ≤ 64) }
-{
-    if w == 8 { 32 } else { 64 }
 }
 
 // The checksum of a digest.
-fn checksum(w: u32, digest: &[u8]) -> u32
-    requires { ((w ≡ 4) ⊎ (w ≡ 8)) × (length digest.now ≡ 32) }
-    ensures { result ≡ Ots.checksum w digest.now }
+fn checksum(w: Width, digest: &[u8; 32]) -> u32
+    ensures { result ≡ Ots.checksum (bits_of w) digest.now }
 {
-    let n = count(w);
-    let top = most(w);
+    let top = w.most();
     let mut sum: u32 = 0;
-    let mut i = 0;
-    while i < n {
+    for i in 0..w.digits() {
         sum += top - coef(w, digest, i);
-        i += 1;
     }
-    if w == 8 { sum } else { sum * 16 }
+    sum << w.left_shift()
 }
 
 // A digest with its checksum.
-fn with_checksum(w: u32, digest: [u8; 32]) -> [u8; 34]
-    requires { (w ≡ 4) ⊎ (w ≡ 8) }
-    ensures { result ≡ Ots.with_checksum w digest }
+fn with_checksum(w: Width, digest: [u8; 32]) -> [u8; 34]
+    ensures { result ≡ Ots.with_checksum (bits_of w) digest }
 {
     let sum = checksum(w, &digest);
     let mut out = [0u8; 34];
-    octets::copy(&mut out, 0, &digest);
-    out[32] = (sum / 256 % 256) as u8;
-    out[33] = (sum % 256) as u8;
+    out[..32].copy_from_slice(&digest);
+    out[32..].copy_from_slice(&sum.to_be_bytes()[2..]);
     out
 }
 
@@ -68,13 +51,9 @@ pub fn front(id: [u32; 4], q: u32, d: u32) -> [u8; 22]
     ensures { result ≡ Pieces.front (bytes id) q d }
 {
     let mut out = [0u8; 22];
-    octets::put_word(&mut out, 0, id[0]);
-    octets::put_word(&mut out, 4, id[1]);
-    octets::put_word(&mut out, 8, id[2]);
-    octets::put_word(&mut out, 12, id[3]);
+    octets::put_words(&mut out, 0, &id);
     octets::put_word(&mut out, 16, q);
-    out[20] = (d / 256 % 256) as u8;
-    out[21] = (d % 256) as u8;
+    out[20..].copy_from_slice(&d.to_be_bytes()[2..]);
     out
 }
 
@@ -85,22 +64,22 @@ fn prefix(id: [u32; 4], q: u32, c: &[u8]) -> [u8; 54]
 {
     let start = front(id, q, 0x8181);
     let mut out = [0u8; 54];
-    octets::copy(&mut out, 0, &start);
-    octets::copy(&mut out, 22, c);
+    out[..22].copy_from_slice(&start);
+    out[22..].copy_from_slice(c);
     out
 }
 
 // The digits of a message, as bytes: its hash, then the checksum.
 pub fn message_digits(
-    k: &[u32; 64],
+    k: &RoundConstants,
     id: [u32; 4],
     q: u32,
-    w: u32,
+    w: Width,
     c: &[u8],
     message: &[u8],
 ) -> [u8; 34]
-    requires { (k.now ≡ constants) × ((w ≡ 4) ⊎ (w ≡ 8)) × (length c.now ≡ 32) }
-    ensures { result ≡ Ots.digested (bytes id) q w c.now message.now }
+    requires { length c.now ≡ 32 }
+    ensures { result ≡ Ots.digested (bytes id) q (bits_of w) c.now message.now }
 {
     let start = prefix(id, q, c);
     let digest = sha256::hash::sha256_two(k, &start, message);

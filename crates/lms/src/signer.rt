@@ -2,13 +2,14 @@
 ghost use Rattle.std.specs.Prelude.{◌≡◌, ◌++◌, ◌+◌, ◌≤◌, ◌<◌, length};
 ghost use Rattle.octets.specs.Octets.{be, bytes, patch};
 ghost use Rattle.octets.specs.Strings.{joined};
-ghost use Rattle.fips180.specs.Constants.{constants};
 ghost use Rattle.rfc8554.specs.Ots.{digested, signed};
 ghost use Rattle.rfc8554.specs.Tree as Tree;
 ghost use Rattle.rfc8554.specs.Tree.{path, lms_signature};
 ghost use Rattle.protocol.specs.Layout.{signature_length, tree_length};
 
 use crate::node;
+use lmots_digits::width::Width;
+use sha256_constants::RoundConstants;
 
 // The types of the keys and signatures that are made.
 const LMS_TYPE: u32 = 6;
@@ -50,13 +51,11 @@ fn write_path(tree: &[u8], r: u32, out: &mut [u8], at: usize)
     ensures { out.new ≡ patch at (joined (path tree.now r) 10) out.old }
 {
     let mut x = r;
-    let mut i = 0;
-    while i < 10 {
+    for i in 0..10 {
         let from = 32 * sibling(x) as usize;
         let beside = node::bytes_at(tree, from, 32);
         octets::copy(out, at + 32 * i, beside);
         x = x / 2;
-        i += 1;
     }
 }
 
@@ -71,7 +70,7 @@ fn write_tail(tree: &[u8], leaf: u32, out: &mut [u8])
 
 // The values of a signature, one from each chain.
 fn write_values(
-    k: &[u32; 64],
+    k: &RoundConstants,
     id: [u32; 4],
     seed: [u32; 8],
     leaf: u32,
@@ -79,10 +78,17 @@ fn write_values(
     message: &[u8],
     out: &mut [u8],
 )
-    requires { (k.now ≡ constants) × (length randomizer.now ≡ 32) × (1128 ≤ length out.old) }
+    requires { (length randomizer.now ≡ 32) × (1128 ≤ length out.old) }
     ensures { out.new ≡ patch 40 (joined (signed (bytes id) leaf 8 (bytes seed) (digested (bytes id) leaf 8 randomizer.now message.now)) 34) out.old }
 {
-    let digits = lmots_digits::digits::message_digits(k, id, leaf, 8, randomizer, message);
+    let digits = lmots_digits::digits::message_digits(
+        k,
+        id,
+        leaf,
+        Width::Eight,
+        randomizer,
+        message,
+    );
     lmots::key::write_signed(k, id, leaf, seed, &digits, out, 40);
 }
 
@@ -100,11 +106,9 @@ pub(crate) fn write_signature(
     ensures { out.new ≡ patch 0 (lms_signature 6 4 id.now leaf seed.now randomizer.now message.now tree.now) out.old }
 {
     let k = sha256_constants::round_constants();
-    let id_words = lmots_digits::words::four(id, 0);
-    let seed_words = lmots_digits::words::eight(seed, 0);
+    let id_words = lmots_digits::words::words_at(id, 0);
+    let seed_words = lmots_digits::words::words_at(seed, 0);
     write_head(leaf, randomizer, out);
-    write_values(
-        &k.words, id_words, seed_words, leaf, randomizer, message, out,
-    );
+    write_values(&k, id_words, seed_words, leaf, randomizer, message, out);
     write_tail(tree, leaf, out);
 }

@@ -1,19 +1,13 @@
 -- Laws of parts, patches and big-endian numbers.
 use Rattle.std.specs.Prelude.{◌≡◌, refl, List, [], ◌∷◌, ◌++◌, ℕ, zero, suc, ◌+◌, ◌-◌, ◌*◌, ◌/◌, ◌%◌, ◌≤◌, ◌<◌, replicate, length, take, drop, get_or, set}
-use Rattle.std.proofs.Common.{sym, ap, subst, ◌∙◌, append_assoc, append-nil, add_assoc, not-suc-le-zero, le_of_suc-le-suc, add-one, arith, length-append, length-take, length-drop, drop_of_length-le, drop-cons, take_all, take-suc, take-suc-set, take_at, drop_at, drop-drop, get_or-take, get_or-drop}
+use Rattle.std.proofs.Common.{sym, ap, subst, ◌∙◌, append_assoc, add_assoc, not-suc-le-zero, le_of_suc-le-suc, add-one, arith, length-append, length-take, length-drop, drop_of_length-le, drop-cons, take_all, take-suc-set, take_at, drop_at, drop-drop, get_or-take, get_or-drop}
 use Rattle.std.proofs.Math.Nat.{sub-zero, zero-sub, suc-sub-suc}
-use Rattle.std.proofs.Math.Numerals.{add-two, add-three}
-use Rattle.std.proofs.Math.Seq.{paste, paste-suc, take-length}
-use Rattle.std.proofs.lemmas.List.Edits.{sets-eq}
+use Rattle.std.proofs.Math.Seq.{take-length}
 use Rattle.octets.specs.Octets.{part, patch, be, word_at, words, bytes}
 
 -- ---- loops that fill a list from the front
 
--- the end of a loop that makes the first i elements those of m: its count i is n
-pub take_whole : (i n : ℕ) (w m : List ℕ) → i ≡ n → length m ≡ n → take i w ≡ take i m → take n w ≡ m
-take_whole i n w m e l h = subst (λ (k : ℕ). take k w ≡ take k m) e h ∙ subst (λ (k : ℕ). take k m ≡ m) l (take-length m)
-
--- the same where w has n elements
+-- the end of a loop that makes the first i elements of w, which has n
 pub whole_from_take : (w : List ℕ) (f : ℕ → List ℕ) (i n : ℕ) → i ≡ n → length w ≡ n → take i w ≡ f i → w ≡ f n
 whole_from_take w f i n e l h = sym (subst (λ (k : ℕ). take k w ≡ w) l (take-length w)) ∙ subst (λ (k : ℕ). take k w ≡ f k) e h
 
@@ -97,15 +91,10 @@ patch-patch at us vs xs h =
     let d = drop-patch (at + length us + length vs) at us xs (omega arith) h in
     rw (t, d, length-append, ← add_assoc, append_assoc, append_assoc)
 
--- one pass of a copying loop
-pub paste_next : (at : ℕ) (ws xs out : List ℕ) (i : ℕ) → out ≡ paste xs at ws i → at + i < length xs → i < length ws
-    → set out (at + i) (get_or ws i 0) ≡ paste xs at ws (i + 1)
-paste_next at ws xs out i e h k = rw (e, add-one) (paste-suc xs at ws i 0 h k)
-
--- a copy of the whole of ws is a patch
-pub patch-paste : (at : ℕ) (ws xs : List ℕ) → paste xs at ws (length ws) ≡ patch at ws xs
+-- a write over the k bytes from index `at`, as code makes it
+pub patch-mid : (at k : ℕ) (ws ys xs : List ℕ) → ys ≡ ws → k ≡ length ws → take at xs ++ (ys ++ drop k (drop at xs)) ≡ patch at ws xs
 unfolding patch
-patch-paste at ws xs = rw (take-length, append_assoc)
+patch-mid at k ws ys xs e l = rw (e, l, drop-drop (length ws) at xs)
 
 -- ---- big-endian bytes
 
@@ -121,16 +110,6 @@ be-four x =
     let p : x / 256 / 256 ≡ x / 65536 = omega arith in
     let q : x / 256 / 256 / 256 ≡ x / 16777216 = omega arith in
     rw (q, p)
-
--- four stores of the bytes of a word
-pub stores_four : (at x : ℕ) (xs : List ℕ) → at + 4 ≤ length xs
-    → set (set (set (set xs at (x / 16777216 % 256)) (at + 1) (x / 65536 % 256)) (at + 2) (x / 256 % 256)) (at + 3) (x % 256)
-    ≡ patch at (be 4 x) xs
-unfolding patch
-stores_four at x xs h =
-    rw (be-four, add-one, add-two, add-three)
-    (sets-eq (x / 16777216 % 256 ∷ x / 65536 % 256 ∷ x / 256 % 256 ∷ x % 256 ∷ []) xs at h
-    ∙ append_assoc (take at xs) (x / 16777216 % 256 ∷ x / 65536 % 256 ∷ x / 256 % 256 ∷ x % 256 ∷ []) (drop (at + 4) xs))
 
 -- ---- words
 
@@ -153,19 +132,3 @@ pub words_next : (w xs : List ℕ) (t x : ℕ) → take t w ≡ words t xs → t
     → take (t + 1) (set w t x) ≡ words (t + 1) xs
 unfolding words
 words_next w xs t x e h p = rw (add-one, p, take-suc-set w t, e)
-
--- one pass of a loop that writes the words ws to out
-pub bytes_next : (out ws : List ℕ) (i : ℕ) → take (4 * i) out ≡ bytes (take i ws) → i < length ws → 4 * i + 4 ≤ length out
-    → take (4 * (i + 1)) (patch (4 * i) (be 4 (get_or ws i 0)) out) ≡ bytes (take (i + 1) ws)
-unfolding bytes
-bytes_next out ws i e h k =
-    let n : 4 * (i + 1) ≡ 4 * i + length (be 4 (get_or ws i 0)) = rw length-be (omega arith) in
-    let last : bytes (get_or ws i 0 ∷ []) ≡ be 4 (get_or ws i 0) = append-nil (be 4 (get_or ws i 0)) in
-    rw n (take-patch (4 * i) (be 4 (get_or ws i 0)) out (omega arith)
-    ∙ rw (e, add-one, take-suc ws i 0) (ap (λ (l : List ℕ). bytes (take i ws) ++ l) (sym last) ∙ sym (bytes_append (take i ws) (get_or ws i 0 ∷ []))))
-
--- the end of that loop
-pub bytes-done : (out ws : List ℕ) (i : ℕ) → i ≡ length ws → length out ≡ 4 * length ws → take (4 * i) out ≡ bytes (take i ws) → out ≡ bytes ws
-bytes-done out ws i e l h =
-    let all : length out ≡ 4 * i = omega arith in
-    sym (take-length out) ∙ ap (λ (n : ℕ). take n out) all ∙ h ∙ ap bytes (ap (λ (n : ℕ). take n ws) e ∙ take-length ws)

@@ -1,12 +1,13 @@
 -- Laws of byte strings: parts, patches and numbers read back, joined and compared strings.
-use Rattle.std.specs.Prelude.{◌≡◌, refl, Bool, true, false, List, [], ◌∷◌, ◌++◌, ℕ, zero, suc, ◌+◌, ◌*◌, ◌/◌, ◌%◌, ◌^◌, ◌≤◌, ◌<◌, eqb, length, take, drop, get_or}
-use Rattle.std.proofs.Common.{sym, ap, ap₂, ◌∙◌, ⊎_elim, append_assoc, append-nil, add_assoc, add-zero, add-suc, pow-suc, eq-or-lt_of_le, le_of_suc-le-suc, mul-le-mul_left, div-lt_iff_lt-mul, add-one, arith, lit<, length-append, length-take, length-drop, ext_get_or, drop_at, take-take, drop-drop, drop-cons, take_all, length-take-le, eqb-true, eq-eqb}
+use Rattle.std.specs.Prelude.{◌≡◌, refl, Bool, true, false, List, [], ◌∷◌, ◌++◌, ℕ, zero, suc, ◌+◌, ◌*◌, ◌/◌, ◌%◌, ◌^◌, ◌≤◌, ◌<◌, eqb, length, take, drop, get_or, nat_eq, ◌&&◌}
+use Rattle.std.proofs.Common.{sym, ap, ap₂, ◌∙◌, ⊎_elim, append_assoc, append-nil, add_assoc, add-zero, add-suc, pow-suc, eq-or-lt_of_le, le_of_suc-le-suc, mul-le-mul_left, div-lt_iff_lt-mul, add-one, arith, lit<, length-append, length-take, length-drop, drop_at, take-take, drop-drop, drop-cons, take_all, length-take-le, eqb-true, eq-eqb}
 use Rattle.std.proofs.Math.Bool.{and-eq-true_iff}
 use Rattle.std.proofs.lemmas.Bool.{false≢true}
 use Rattle.std.proofs.Math.Nat.{suc_inj}
 use Rattle.std.proofs.Math.Numerals.{add-two, add-three}
 use Rattle.std.proofs.lemmas.List.{take-append-le, drop-append-le}
 use Rattle.std.proofs.Math.Seq.{drop-append-add}
+use Rattle.std.specs.Cmp.Lexicographic.{pointwise}
 use Rattle.octets.specs.Octets.{part, patch, be, number_from, number, word, word_at}
 use Rattle.octets.specs.OctetsLaws.{be-four}
 use Rattle.octets.specs.Strings.{joined, same}
@@ -208,23 +209,10 @@ same_false xs ys h = go (same xs ys) refl
     go true e = absurd (h (same_true xs ys e))
     go false e = refl
 
--- a comparison in code that answers true exactly where the strings are equal
-same_by : (r : Bool) (xs ys : List ℕ) → (r ≡ true → xs ≡ ys) → (xs ≡ ys → r ≡ true) → r ≡ same xs ys
-same_by true xs ys f g = rw (f refl) (sym (same_refl ys))
-same_by false xs ys f g = go (same xs ys) refl
-  where
-    go : (b : Bool) → same xs ys ≡ b → false ≡ same xs ys
-    go true e = absurd (false≢true (g (same_true xs ys e)))
-    go false e = sym e
-
--- two strings compared in a loop
-module _ (a b : List ℕ) where
-  pub differ-length : (length a ≡ length b → ⊥) → false ≡ same a b
-  differ-length n = same_by false a b (λ e. absurd (false≢true e)) (λ e. absurd (n (ap length e)))
-
-  pub differ_at : (i : ℕ) → (get_or a i 0 ≡ get_or b i 0 → ⊥) → false ≡ same a b
-  differ_at i n =
-      same_by false a b (λ e. absurd (false≢true e)) (λ e. absurd (n (ap (λ (l : List ℕ). get_or l i 0) e)))
-
-  pub equal_all : (i : ℕ) → length a ≡ length b → length a ≤ i → ((j : ℕ) → j < i → get_or a j 0 ≡ get_or b j 0) → true ≡ same a b
-  equal_all i l h each = same_by true a b (λ _. ext_get_or 0 a b l (λ j k. each j (omega arith))) (λ _. refl)
+-- slices compared by `==`
+pub equal_same : (xs ys : List ℕ) → pointwise nat_eq xs ys ≡ same xs ys
+unfolding same
+equal_same [] [] = refl
+equal_same [] (y ∷ ys) = refl
+equal_same (x ∷ xs) [] = refl
+equal_same (x ∷ xs) (y ∷ ys) = ap (λ (b : Bool). eqb x y && b) (equal_same xs ys)

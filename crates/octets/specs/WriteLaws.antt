@@ -1,11 +1,11 @@
 -- Laws of writes: parts of a buffer after one, writes in a row, and loops that write.
-use Rattle.std.specs.Prelude.{◌≡◌, List, [], ◌∷◌, ◌++◌, ℕ, suc, ◌+◌, ◌-◌, ◌*◌, ◌/◌, ◌%◌, ◌≤◌, ◌<◌, length, take, drop, get_or, set}
+use Rattle.std.specs.Prelude.{◌≡◌, List, [], ◌∷◌, ◌++◌, ℕ, zero, suc, ◌+◌, ◌-◌, ◌*◌, ◌/◌, ◌%◌, ◌≤◌, ◌<◌, length, take, drop, get_or, set}
 use Rattle.std.proofs.Common.{sym, ap, ◌∙◌, append_assoc, append-nil, add-zero, zero-add, add-one, arith, take-append-drop, length-append, drop_of_length-le, length-take-le, take-suc, take-add, drop-drop}
 use Rattle.std.proofs.lemmas.List.Edits.{sets-eq}
-use Rattle.octets.specs.Octets.{part, patch, be, bytes}
+use Rattle.octets.specs.Octets.{part, patch, be, word_at, words, bytes}
 use Rattle.octets.specs.Strings.{joined}
-use Rattle.octets.specs.OctetsLaws.{length-bytes, bytes_append, patch-patch}
-use Rattle.octets.specs.StringsLaws.{part_left, part_skip, part-patch, part_all, be-two}
+use Rattle.octets.specs.OctetsLaws.{length-bytes, bytes_append, word_at-part, patch-patch}
+use Rattle.octets.specs.StringsLaws.{part_left, part_skip, part-patch, part_all, part-zero, be-two, be-word_at}
 
 -- ---- parts of a buffer after a write
 
@@ -32,6 +32,18 @@ part_after a n b ws xs h k =
     let l : length (take b xs ++ ws) ≡ m = length-append (take b xs) ws ∙ ap (λ (i : ℕ). i + length ws) (length-take-le b xs k) in
     ap (λ (y : List ℕ). take n (drop a y)) (sym (append_assoc (take b xs) ws (drop m xs)))
     ∙ rw e (part_skip (take b xs ++ ws) (drop m xs) m d n l ∙ ap (take n) (drop-drop d m xs))
+
+-- bytes read as words give the same bytes, where each is below 256
+module _ (xs : List ℕ) (byte : (i : ℕ) → get_or xs i 0 < 256) where
+  pub bytes-words : (at k t : ℕ) → at + k ≤ length xs → 4 * t ≤ k → bytes (words t (part at k xs)) ≡ part at (4 * t) xs
+  unfolding bytes words
+  bytes-words at k zero h e = sym (part-zero at xs)
+  bytes-words at k (suc t) h e =
+      let x = word_at (part at k xs) (4 * t) in
+      let read : be 4 x ≡ part (at + 4 * t) 4 xs = ap (be 4) (word_at-part at k (4 * t) xs (omega arith)) ∙ be-word_at xs byte (at + 4 * t) (omega arith) in
+      let n : 4 * suc t ≡ 4 * t + 4 = omega arith in
+      bytes_append (words t (part at k xs)) (x ∷ [])
+      ∙ rw (bytes-words at k t h (omega arith), append-nil, read, n) (sym (part-add at (4 * t) 4 xs))
 
 -- ---- writes in a row
 

@@ -6,7 +6,6 @@
 -- signature and the calls on keys and signatures, and `Calls` each other call as a whole. `XLaws` has the laws of `X`,
 -- `SeatLaws` those of rising lists of seats and their sets, `RoundTripLaws` the law that bytes read are written back the same, `SignatureClaim` the claim that signatures made by the signer are
 -- accepted, `NoteClaim` the claims on a note written and read back.
-pub mod Answers
 pub mod Layout
 pub mod LayoutLaws
 pub mod Figures
@@ -37,4 +36,6 @@ pub mod SignaturesLaws
 pub mod SignatureClaim
 pub mod Calls
 pub mod CallsLaws
+pub mod Answers
+pub mod AnswersLaws
 pub mod NoteClaim

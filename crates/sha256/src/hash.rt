@@ -1,42 +1,29 @@
 // Hashing of whole messages (FIPS 180-4, sections 5 and 6.2).
 ghost use Rattle.std.specs.Prelude.{◌≡◌, ◌++◌, ◌+◌, ◌%◌, ◌<◌, ◌≤◌, length, take};
 ghost use Rattle.octets.specs.Octets.{part, words, bytes};
-ghost use Rattle.fips180.specs.Constants.{constants};
 ghost use Rattle.fips180.specs.Fips.{padding, absorbed};
 ghost use Rattle.fips180.specs.Fips as Fips;
 ghost use Rattle.fips180.specs.Pieces.{ended, one_block};
 
 use sha256_block::compress;
-use sha256_constants::initial_value;
+use sha256_constants::{RoundConstants, initial_value};
 
 // The sixteen words of the block at index `at`.
 pub fn block_words(m: &[u8], at: usize) -> [u32; 16]
     requires { at + 64 ≤ length m.now }
     ensures { result ≡ words 16 (part at 64 m.now) }
 {
-    let mut w = [0u32; 16];
-    let mut t = 0;
-    while t < 16 {
-        let x = octets::word_at(m, at + 4 * t);
-        w[t] = x;
-        t += 1;
-    }
-    w
+    octets::words_at(m, at)
 }
 
 // The hash value h after all whole blocks of m.
-fn absorb(k: &[u32; 64], h: [u32; 8], m: &[u8]) -> [u32; 8]
-    requires { k.now ≡ constants }
+fn absorb(k: &RoundConstants, h: [u32; 8], m: &[u8]) -> [u32; 8]
     ensures { result ≡ absorbed h m.now }
 {
-    let count = m.len() / 64;
     let mut s = h;
-    let mut t = 0;
-    while t < count {
-        let w = block_words(m, 64 * t);
-        let n = compress(k, s, w);
-        s = n;
-        t += 1;
+    for t in 0..m.len() / 64 {
+        let next = compress(k, s, block_words(m, 64 * t));
+        s = next;
     }
     s
 }
@@ -46,15 +33,12 @@ pub fn digest(h: [u32; 8]) -> [u8; 32]
     ensures { result ≡ bytes h }
 {
     let mut out = [0u8; 32];
-    let mut i = 0;
-    while i < 8 {
-        octets::put_word(&mut out, 4 * i, h[i]);
-        i += 1;
-    }
+    octets::put_words(&mut out, 0, &h);
     out
 }
 
 // The end of the padding after a tail of n bytes: one block, or two from 56 bytes on.
+#[tactic(auto, unfolding(fips180::specs::Pieces::ended))]
 fn padded_end(n: usize) -> usize
     ensures { (result ≡ ended n) × (64 ≤ result) × (result ≤ 128) }
 {
@@ -68,19 +52,17 @@ fn padded_tail(tail: &[u8], total: usize) -> [u8; 128]
 {
     let n = tail.len();
     let end = padded_end(n);
-    let high = (total / 536870912 % 4294967296) as u32;
-    let low = (total % 536870912 * 8) as u32;
+    let bits = (total as u64).wrapping_mul(8);
     let mut block = [0u8; 128];
     octets::copy(&mut block, 0, tail);
     block[n] = 128;
-    octets::put_word(&mut block, end - 8, high);
-    octets::put_word(&mut block, end - 4, low);
+    octets::copy(&mut block, end - 8, &bits.to_be_bytes());
     block
 }
 
 // The digest of a message of `total` bytes, from the hash value h before its tail.
-fn finish(k: &[u32; 64], h: [u32; 8], tail: &[u8], total: usize) -> [u8; 32]
-    requires { (k.now ≡ constants) × (length tail.now ≡ total % 64) }
+fn finish(k: &RoundConstants, h: [u32; 8], tail: &[u8], total: usize) -> [u8; 32]
+    requires { length tail.now ≡ total % 64 }
     ensures { result ≡ bytes (absorbed h (tail.now ++ padding total)) }
 {
     let block = padded_tail(tail, total);
@@ -90,8 +72,7 @@ fn finish(k: &[u32; 64], h: [u32; 8], tail: &[u8], total: usize) -> [u8; 32]
 }
 
 // The digest of m.
-pub fn sha256(k: &[u32; 64], m: &[u8]) -> [u8; 32]
-    requires { k.now ≡ constants }
+pub fn sha256(k: &RoundConstants, m: &[u8]) -> [u8; 32]
     ensures { result ≡ Fips.sha256 m.now }
 {
     let h = initial_value();
@@ -112,8 +93,8 @@ fn joint(a: &[u8], b: &[u8]) -> [u8; 64]
 }
 
 // The digest of a message of `total` bytes, from the hash value h before its last bytes: the tail and then m, less than a block.
-fn finish_short(k: &[u32; 64], h: [u32; 8], tail: &[u8], m: &[u8], total: usize) -> [u8; 32]
-    requires { (k.now ≡ constants) × (length tail.now + length m.now < 64) × ((length tail.now + length m.now) % 64 ≡ total % 64) }
+fn finish_short(k: &RoundConstants, h: [u32; 8], tail: &[u8], m: &[u8], total: usize) -> [u8; 32]
+    requires { (length tail.now + length m.now < 64) × ((length tail.now + length m.now) % 64 ≡ total % 64) }
     ensures { result ≡ bytes (absorbed h (tail.now ++ (m.now ++ padding total))) }
 {
     let block = joint(tail, m);
@@ -122,8 +103,8 @@ fn finish_short(k: &[u32; 64], h: [u32; 8], tail: &[u8], m: &[u8], total: usize)
 }
 
 // The same where tail and m are a block or more: that block, then the rest of m.
-fn finish_long(k: &[u32; 64], h: [u32; 8], tail: &[u8], m: &[u8], total: usize) -> [u8; 32]
-    requires { (k.now ≡ constants) × (length tail.now < 64) × (64 ≤ length tail.now + length m.now) × ((length tail.now + length m.now) % 64 ≡ total % 64) }
+fn finish_long(k: &RoundConstants, h: [u32; 8], tail: &[u8], m: &[u8], total: usize) -> [u8; 32]
+    requires { (length tail.now < 64) × (64 ≤ length tail.now + length m.now) × ((length tail.now + length m.now) % 64 ≡ total % 64) }
     ensures { result ≡ bytes (absorbed h (tail.now ++ (m.now ++ padding total))) }
 {
     let from = 64 - tail.len();
@@ -136,8 +117,7 @@ fn finish_long(k: &[u32; 64], h: [u32; 8], tail: &[u8], m: &[u8], total: usize) 
 }
 
 // The digest of a followed by b, which need not stand in one slice.
-pub fn sha256_two(k: &[u32; 64], a: &[u8], b: &[u8]) -> [u8; 32]
-    requires { k.now ≡ constants }
+pub fn sha256_two(k: &RoundConstants, a: &[u8], b: &[u8]) -> [u8; 32]
     ensures { result ≡ Fips.sha256 (a.now ++ b.now) }
 {
     let h = initial_value();
@@ -152,8 +132,8 @@ pub fn sha256_two(k: &[u32; 64], a: &[u8], b: &[u8]) -> [u8; 32]
 }
 
 // The digest of a message of at most 55 bytes, given as its one padded block: one compression.
-pub fn one_block(k: &[u32; 64], block: &[u8]) -> [u8; 32]
-    requires { (k.now ≡ constants) × (length block.now ≡ 64) }
+pub fn one_block(k: &RoundConstants, block: &[u8]) -> [u8; 32]
+    requires { length block.now ≡ 64 }
     ensures { result ≡ one_block block.now }
 {
     let w = block_words(block, 0);

@@ -10,10 +10,8 @@ use std::io;
 
 // The message of n bytes: byte i is 31 i + n modulo 256.
 fn fill(m: &mut [u8], n: usize) {
-    let mut i = 0;
-    while i < m.len() {
-        m[i] = ((i % 256 * 31 + n % 256) % 256) as u8;
-        i += 1;
+    for (i, byte) in m.iter_mut().enumerate() {
+        *byte = ((i % 256 * 31 + n % 256) % 256) as u8;
     }
 }
 
@@ -43,11 +41,7 @@ fn padded(n: usize) -> [u8; 64]
     requires { n ≤ 55 }
 {
     let mut b = [0u8; 64];
-    let mut i = 0;
-    while i < n {
-        b[i] = ((i * 31 + n) % 256) as u8;
-        i += 1;
-    }
+    fill(&mut b[..n], n);
     b[n] = 128;
     b[62] = (n * 8 / 256) as u8;
     b[63] = (n * 8 % 256) as u8;

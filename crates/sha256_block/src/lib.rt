@@ -1,15 +1,16 @@
 // The compression of one block (FIPS 180-4, section 6.2.2).
 #![tactic(auto)]
 
-ghost use Rattle.std.specs.Prelude.{◌≡◌, List, ℕ, ◌+◌, ◌<◌, ◌≤◌, length, take};
-ghost use Rattle.fips180.specs.Constants.{constants};
+ghost use Rattle.std.specs.Prelude.{◌≡◌, ◌<◌, ◌≤◌, take};
 ghost use Rattle.fips180.specs.Fips as Fips;
 
+use sha256_constants::RoundConstants;
 use sha256_words::{add, small_sigma0, small_sigma1, temp1, temp2};
 
 // W[t] from the words before it.
+#[tactic(auto, unfolding(fips180::specs::Fips::scheduled))]
 fn scheduled(w: &[u32; 64], t: usize) -> u32
-    requires { (16 ≤ t) × (t < 64) × (length w.now ≡ 64) }
+    requires { (16 ≤ t) × (t < 64) }
     ensures { result ≡ Fips.scheduled w.now t }
 {
     add(
@@ -26,11 +27,7 @@ fn first_words(m: [u32; 16]) -> [u32; 64]
     ensures { take 16 result ≡ m }
 {
     let mut w = [0u32; 64];
-    let mut i = 0;
-    while i < 16 {
-        w[i] = m[i];
-        i += 1;
-    }
+    w[..16].copy_from_slice(&m);
     w
 }
 
@@ -39,15 +36,13 @@ fn schedule(m: [u32; 16]) -> [u32; 64]
     ensures { result ≡ Fips.schedule m 48 }
 {
     let mut w = first_words(m);
-    let mut t = 0;
-    while t < 48 {
-        let x = scheduled(&w, 16 + t);
-        w[16 + t] = x;
-        t += 1;
+    for t in 16..64 {
+        w[t] = scheduled(&w, t);
     }
     w
 }
 
+#[tactic(auto, unfolding(fips180::specs::Fips::round))]
 fn round(k: u32, w: u32, s: [u32; 8]) -> [u32; 8]
     ensures { result ≡ Fips.round k w s }
 {
@@ -65,6 +60,7 @@ fn round(k: u32, w: u32, s: [u32; 8]) -> [u32; 8]
     ]
 }
 
+#[tactic(auto, unfolding(fips180::specs::Fips::sums))]
 fn sums(h: [u32; 8], s: [u32; 8]) -> [u32; 8]
     ensures { result ≡ Fips.sums h s }
 {
@@ -80,39 +76,25 @@ fn sums(h: [u32; 8], s: [u32; 8]) -> [u32; 8]
     ]
 }
 
-// Eight rounds from round t on, after which each working variable is in its first place again.
-fn eight(k: &[u32; 64], w: &[u32; 64], t: usize, s: [u32; 8]) -> [u32; 8]
-    requires { (k.now ≡ constants) × (length w.now ≡ 64) × (t + 8 ≤ 64) }
-    ensures { (h : List ℕ) → s ≡ Fips.rounds w.now h t → result ≡ Fips.rounds w.now h (t + 8) }
-{
-    let a = round(k[t], w[t], s);
-    let b = round(k[t + 1], w[t + 1], a);
-    let c = round(k[t + 2], w[t + 2], b);
-    let d = round(k[t + 3], w[t + 3], c);
-    let e = round(k[t + 4], w[t + 4], d);
-    let f = round(k[t + 5], w[t + 5], e);
-    let g = round(k[t + 6], w[t + 6], f);
-    round(k[t + 7], w[t + 7], g)
-}
-
-// The working variables after the 64 rounds.
-fn rounds(k: &[u32; 64], w: &[u32; 64], h: [u32; 8]) -> [u32; 8]
-    requires { (k.now ≡ constants) × (length w.now ≡ 64) }
+// The working variables after the 64 rounds. The inner loop is short enough for LLVM to write its eight rounds in a row, after which each
+// working variable is in its first place again; a single loop over all is slower by a quarter.
+fn rounds(k: &RoundConstants, w: &[u32; 64], h: [u32; 8]) -> [u32; 8]
     ensures { result ≡ Fips.rounds w.now h 64 }
 {
     let mut s = h;
-    let mut t = 0;
-    while t < 64 {
-        let n = eight(k, w, t, s);
-        s = n;
-        t += 8;
+    for i in 0..8 {
+        for j in 0..8 {
+            let t = 8 * i + j;
+            let next = round(k.words[t], w[t], s);
+            s = next;
+        }
     }
     s
 }
 
 // The hash value h after one more block, with the words m.
-pub fn compress(k: &[u32; 64], h: [u32; 8], m: [u32; 16]) -> [u32; 8]
-    requires { k.now ≡ constants }
+#[tactic(auto, unfolding(fips180::specs::Fips::compress))]
+pub fn compress(k: &RoundConstants, h: [u32; 8], m: [u32; 16]) -> [u32; 8]
     ensures { result ≡ Fips.compress h m }
 {
     let w = schedule(m);

@@ -1,6 +1,6 @@
 -- Cube roots, rounded down, as the code finds them.
 use Rattle.std.specs.Prelude.{◌≡◌, refl, Bool, true, false, ◌↔◌, ℕ, ◌+◌, ◌*◌, ◌/◌, ◌-◌, ◌%◌, ◌^◌, ◌≤◌, ◌<◌, leb}
-use Rattle.std.proofs.Common.{sym, subst, ◌∙◌, ap, add_assoc, one-mul, pow-suc, le_of_lt, lt_of_le_of_lt, lt_of_not-le, not-le_of_lt, mul-le-mul, mul-le-mul_left, mul-le-mul_right, mul-lt-mul_of_pos_right, div-le_self, div-mul-le_self, le-leb, leb-true, leb-false, shl_exact}
+use Rattle.std.proofs.Common.{sym, subst, ◌∙◌, ap, add_assoc, one-mul, pow-suc, le_of_lt, lt_of_le_of_lt, lt_of_not-le, not-le_of_lt, mul-le-mul, mul-le-mul_left, mul-le-mul_right, mul-lt-mul_of_pos_right, div-mul-le_self, le-leb, leb-true, leb-false, shl_exact}
 use Rattle.std.proofs.Math.Nat.{pow-zero, one-le-pow, div-le_of_le-mul, lt-div-mul-add}
 use native.Mathlib.Omega.{arith, by_contra}
 use Rattle.std.proofs.lemmas.Bool.{lt-leb}
@@ -42,21 +42,6 @@ fits-test a rest s d h =
       λ p. omega (arith, inner.0 (rw add_assoc (outer.0 p))),
       λ p. outer.1 (rw (← add_assoc) (inner.1 (omega arith))),
     ))
-
--- how large the products and the quotients are
-pub fits_sizes : {a rest s d : ℕ} → (a < 2 ^ 19) × (rest < 2 ^ 40) × (1 ≤ s) × (s ≤ 2 ^ 16) × (d ≤ 2 ^ 16)
-    → (d * d ≤ 2 ^ 32) × (d * d * d ≤ 2 ^ 48) × ((d * d * d + (s - 1)) / s ≤ 2 ^ 49)
-    × (3 * a * d ≤ 2 ^ 37) × (3 * a * d * d ≤ 2 ^ 53) × ((3 * a * d * d + (d * d * d + (s - 1)) / s + (s - 1)) / s ≤ 2 ^ 54)
-    × (3 * a * a ≤ 2 ^ 40) × (3 * a * a * d ≤ 2 ^ 56) × (rest * s ≤ 2 ^ 56)
-fits_sizes {a} {rest} {s} {d} h =
-    let dd : d * d ≤ 2 ^ 32 = mul-le-mul h.4 h.4 in
-    let ddd : d * d * d ≤ 2 ^ 48 = mul-le-mul dd h.4 in
-    let cubed : (d * d * d + (s - 1)) / s ≤ 2 ^ 49 = omega (arith, div-le_self (d * d * d + (s - 1)) s) in
-    let a3 : 3 * a ≤ 2 ^ 21 = omega arith in
-    let ad : 3 * a * d ≤ 2 ^ 37 = mul-le-mul a3 h.4 in
-    let add : 3 * a * d * d ≤ 2 ^ 53 = mul-le-mul ad h.4 in
-    let aa : 3 * a * a ≤ 2 ^ 40 = mul-le-mul a3 (le_of_lt h.0) in
-    omega (arith, div-le_self (3 * a * d * d + (d * d * d + (s - 1)) / s + (s - 1)) s, mul-le-mul aa h.4, mul-le-mul (le_of_lt h.1) h.3)
 
 -- ---- `longer`
 

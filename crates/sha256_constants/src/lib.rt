@@ -12,12 +12,10 @@ fn prime(n: u64) -> bool
     requires { (2 ≤ n) × (n < 312) }
     ensures { result ≡ Rule.prime n }
 {
-    let mut d = 2;
-    while d < 18 {
+    for d in 2..18 {
         if n % d == 0 {
             return n == d;
         }
-        d += 1;
     }
     true
 }
@@ -47,6 +45,7 @@ fn fits(a: u64, rest: u64, s: u64, d: u64) -> bool
 
 // The cube root of m s^3, rounded down, from a, that of m. It is a s + d with d below s. The division gives a d that is not too high,
 // since for d up to s (a s + d)^3 - (a s)^3 <= (3 a^2 + 3 a + 1) d s^2; from there d climbs.
+#[tactic(auto, using(crate::specs::RootLaws::longer_sizes, crate::specs::RootLaws::digit_lt))]
 fn longer(m: u64, a: u64, s: u64) -> u64
     requires { IsIntegerRoot 3 m a × (m < 2 ^ 57) × (1 ≤ s) × (s ≤ 2 ^ 16) }
     ensures { IsIntegerRoot 3 (m * s ^ 3) result }
@@ -96,6 +95,7 @@ pub fn round_constants() -> RoundConstants
 }
 
 // The initial hash value, section 5.3.3.
+#[tactic(auto, unfolding(fips180::specs::Constants::initial))]
 pub fn initial_value() -> [u32; 8]
     ensures { result ≡ initial }
 {

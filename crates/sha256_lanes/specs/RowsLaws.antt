@@ -1,5 +1,5 @@
 -- Laws of lanes in rows.
-use Rattle.std.specs.Prelude.{◌≡◌, ◌⊎◌, set}
+use Rattle.std.specs.Prelude.{◌≡◌, ◌⊎◌, set, take, drop}
 use Rattle.std.proofs.Math.Path.{refl, ap, ap₂, subst}
 use Rattle.std.proofs.Common.{sym, ◌∙◌, inl, inr, eq-or-lt_of_le, add-one, length-append, get_or-set_same, get_or-set_other, ext_get_or}
 use Rattle.std.proofs.Math.Logic.{⊎_elim}
@@ -10,6 +10,8 @@ use native.Mathlib.Omega.{arith}
 use Rattle.std.specs.Int.Bits.{bit_xor}
 use Rattle.std.proofs.Math.ListN.{length, get_or, length-set, get_or-append}
 use Rattle.std.proofs.lemmas.List.{get_or_at}
+use Rattle.std.proofs.lemmas.Simd.{put_chunk_is, length-put_chunk, get_or-put_chunk_below, get_or-put_chunk_at, get_or-put_chunk_above}
+use lib.Lanes.{put_chunk}
 use Rattle.octets.specs.OctetsLaws.{as_eight}
 use Rattle.fips180.specs.Constants.{constants}
 use Rattle.fips180.specs.FormsLaws.{maj-any}
@@ -53,6 +55,23 @@ fill_next g f xs n a x at rise h e old =
 pub front_next : (f : ℕ → ℕ) (xs : List ℕ) (n x : ℕ) → ((i : ℕ) → i < n → get_or xs i 0 ≡ f i) → n < length xs → x ≡ f n
     → (i : ℕ) → i < n + 1 → get_or (set xs n x) i 0 ≡ f i
 front_next f xs n x old h e = fill_next (λ i. i) f xs n n x refl (λ i a. a) h e old
+
+-- the n words of s from p on after `copy_from_slice`, which put ys there
+module _ (p n : ℕ) (s ys : List ℕ) (long : length ys ≡ n) (fits : p + n ≤ length s) where
+  as_chunk : take p s ++ (ys ++ drop n (drop p s)) ≡ put_chunk p s ys
+  as_chunk = rw (← long) (sym (put_chunk_is p s ys (omega arith)))
+
+  pub length-copied : length (take p s ++ (ys ++ drop n (drop p s))) ≡ length s
+  length-copied = ap length as_chunk ∙ length-put_chunk p s ys
+
+  pub copied_below : (i : ℕ) → i < p → get_or (take p s ++ (ys ++ drop n (drop p s))) i 0 ≡ get_or s i 0
+  copied_below i h = ap (λ (l : List ℕ). get_or l i 0) as_chunk ∙ get_or-put_chunk_below p s ys i 0 h
+
+  pub copied_at : (i : ℕ) → i < n → get_or (take p s ++ (ys ++ drop n (drop p s))) (p + i) 0 ≡ get_or ys i 0
+  copied_at i h = ap (λ (l : List ℕ). get_or l (p + i) 0) as_chunk ∙ get_or-put_chunk_at p s ys i 0 (omega arith) (omega arith)
+
+  pub copied-above : (i : ℕ) → p + n ≤ i → get_or (take p s ++ (ys ++ drop n (drop p s))) i 0 ≡ get_or s i 0
+  copied-above i h = ap (λ (l : List ℕ). get_or l i 0) as_chunk ∙ get_or-put_chunk_above p s ys i 0 (omega arith)
 
 pub two_none : (p q c : ℕ) (f g : ℕ → ℕ) (s : List ℕ) → Two p q c f g 0 s s
 two_none p q c f g s =
@@ -351,10 +370,6 @@ module _ (s : List ℕ) (n y e a : ℕ) (hn : n < 1024) (ls : length s ≡ 3264)
   three-differ p = rw (new-y, low (n + 16) (inr (omega arith)) (omega arith), low (n + 32) (inr (omega arith)) (omega arith)) p
 
 module _ (k x n : ℕ) (s : List ℕ) (hn : n < 1024) (ls : length s ≡ 3264) where
-  pub length-round_at : length (round_at k x n s) ≡ 3264
-  unfolding round_at
-  length-round_at = simp length-set ls
-
   -- working variables after index n
   round-unchanged : (q : List ℕ) (m : ℕ) → n < m → m < 1040 → State q m s → State q m (round_at k x n s)
   unfolding round_at three two one
@@ -461,24 +476,12 @@ round-word k w q =
     let u = Fips.temp2 (get_or q 0 0) (get_or q 1 0) (get_or q 2 0) in
     rw (add-later t w u, ← add_group d (Fips.add t 0) w, add_nothing t w)
 
--- the rows of a and e after round 5 without its word
-unfoldable pub saved_a : List ℕ → ℕ → ℕ
-saved_a s l = get_or s (928 + l) 0
-
-unfoldable pub saved_e : List ℕ → ℕ → ℕ
-saved_e s l = get_or s (2016 + l) 0
-
--- the same with its word
+-- the rows of a and e after round 5 with its word
 unfoldable pub worded_a : List ℕ → List ℕ → ℕ → ℕ
 worded_a w x l = Fips.add (get_or x (64 + l) 0) (get_or w (80 + l) 0)
 
 unfoldable pub worded_e : List ℕ → List ℕ → ℕ → ℕ
 worded_e w x l = Fips.add (get_or x (80 + l) 0) (get_or w (80 + l) 0)
-
-pub save_done : (n : ℕ) (s x y : List ℕ) → n ≡ 16 → Two 64 80 16 (saved_a s) (saved_e s) n x y
-    → Same 64 x y × ((l : ℕ) → l < 16 → (get_or y (64 + l) 0 ≡ get_or s (928 + l) 0) × (get_or y (80 + l) 0 ≡ get_or s (2016 + l) 0))
-unfolding Same saved_a saved_e
-save_done n s x y e t = (t.low, λ l h. (t.first l (omega arith), t.second l (omega arith)))
 
 module _ (n : ℕ) (w x s r : List ℕ) (e : n ≡ 16) (t : Two 928 2016 16 (worded_a w x) (worded_e w x) n s r) where
   pub resume_unchanged : Unchanged 944 s r

@@ -10,46 +10,50 @@ use certificates::reply::reply;
 use layout::Bank;
 use phase::Phase;
 use protocol::Record;
-use store::sources::{Place, Source};
+use store::sources::{Certificate, Place, Source};
 
 // Whether k seats are collected and the unit hasn't confirmed.
+#[tactic(auto, unfolding(protocol::specs::Step::is_complete))]
 fn is_complete(r: Record) -> bool
     requires { (1 ≤ r.n) × (r.n ≤ most_seats) }
     ensures { result ≡ is_complete r }
 {
-    let size = quorum::size(r.own.collected);
-    let k = quorum::k(r.n);
-    !r.confirmed & (size == k)
+    !r.confirmed && quorum::size(r.own.collected) == quorum::k(r.n)
 }
 
 // Confirms and writes NOTICE, with any store.
-fn confirm(r: Record, out: &mut [u8], at: usize) -> Phase
-    requires { (r.seat < most_seats) × (at + notice_length ≤ length out.old) }
-    ensures { ((store : List ℕ) → Did confirm r store out.old at result.unit store out.new result.at) × (result.at ≡ at + notice_length) }
+fn confirm(p: Phase, out: &mut [u8]) -> Phase
+    requires { (p.unit.seat < most_seats) × (p.at + notice_length ≤ length out.old) }
+    ensures { ((store : List ℕ) → Did confirm p.unit store out.old p.at result.unit store out.new result.at) × (result.at ≡ p.at + notice_length) }
 {
+    let r = p.unit;
     let value = r.own.value;
-    let end = wire_write::write_notice(out, at, r.round, r.seat, &value);
-    let mut unit = r;
-    unit.confirmed = true;
-    Phase { unit, at: end }
+    let at = wire_write::write_notice(out, p.at, r.round, r.seat, &value);
+    let unit = Record {
+        confirmed: true,
+        ..r
+    };
+    Phase { unit, at }
 }
 
 // k seats collected: the unit confirms, and treats its own certificate like one heard. Otherwise the reply alone.
-pub(crate) fn confirm_if_complete(r: Record, store: &mut [u8], out: &mut [u8], at: usize) -> Phase
-    requires { Fits r store.old × (at + notice_length + full_length r.n + evidence_length (k r.n) ≤ length out.old) }
-    ensures { Did confirm_if_complete r store.old out.old at result.unit store.new out.new result.at }
+pub(crate) fn confirm_if_complete(p: Phase, store: &mut [u8], out: &mut [u8]) -> Phase
+    requires { Fits p.unit store.old × (p.at + notice_length + full_length p.unit.n + evidence_length (k p.unit.n) ≤ length out.old) }
+    ensures { Did confirm_if_complete p.unit store.old out.old p.at result.unit store.new out.new result.at }
 {
-    if is_complete(r) {
-        let p = confirm(r, out, at);
-        let unit = p.unit;
-        let next = p.at;
-        let value = unit.own.value;
-        let source = Source {
-            place: Place::Slots(Bank::Collected),
-            seats: unit.own.collected,
+    if is_complete(p.unit) {
+        let confirmed = confirm(p, out);
+        let r = confirmed.unit;
+        let value = r.own.value;
+        let own = Certificate {
+            value,
+            source: Source {
+                place: Place::Slots(Bank::Collected),
+                seats: r.own.collected,
+            },
+            bytes: &[],
         };
-        let message = [0u8; 0];
-        return hear_certificate(unit, store, out, next, value, source, &message);
+        return hear_certificate(confirmed, store, out, own);
     }
-    reply(r, store, out, at)
+    reply(p, store, out)
 }

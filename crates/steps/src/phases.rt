@@ -13,11 +13,12 @@ use crate::confirm::confirm_if_complete;
 use certificates::certificate::hear_certificate;
 use certificates::hear::hear;
 use certificates::reply::reply;
+use collecting::Submit;
 use collecting::collect::submit_own;
 use collecting::kept::{collect_kept, hear_submit};
 use phase::Phase;
 use protocol::Record;
-use store::sources::{Place, Source};
+use store::sources::{Certificate, Place, Source};
 use wire::read::Kind;
 
 // A submit.
@@ -32,10 +33,8 @@ pub fn submit_phase(
     ensures { Did (submitted value.now signature.now) r store.old out.old 0 result.unit store.new out.new result.at }
 {
     let p = submit_own(r, store, out, value, signature);
-    let said = p.unit;
-    let at = p.at;
-    let unit = collect_kept(said, store);
-    confirm_if_complete(unit, store, out, at)
+    let unit = collect_kept(p.unit, store);
+    confirm_if_complete(Phase { unit, ..p }, store, out)
 }
 
 // A SUBMIT heard.
@@ -43,11 +42,13 @@ fn step_submit(r: Record, store: &mut [u8], out: &mut [u8], message: &[u8]) -> P
     requires { Ready r store.old out.old × (kind.Submit ≡ kind_of (read r.n message.now)) × (stranger r.n (read r.n message.now) ≡ false) }
     ensures { Did (stepped (read r.n message.now)) r store.old out.old 0 result.unit store.new out.new result.at }
 {
-    let value = wire::values::value_at(message, layout::value_at());
-    let signature = store::slots::signature_at(message, layout::submit_signature_at());
-    let seat = wire::read::number_at(message, layout::seat_at());
-    let unit = hear_submit(r, store, seat, value, signature);
-    confirm_if_complete(unit, store, out, 0)
+    let submit = Submit {
+        seat: wire::read::number_at(message, layout::seat_at()),
+        value: wire::values::value_at(message, layout::value_at()),
+        signature: store::slots::signature_at(message, layout::submit_signature_at()),
+    };
+    let unit = hear_submit(r, store, submit);
+    confirm_if_complete(Phase { unit, at: 0 }, store, out)
 }
 
 // A NOTICE heard.
@@ -57,7 +58,7 @@ fn step_notice(r: Record, store: &[u8], out: &mut [u8], message: &[u8]) -> Phase
 {
     let value = wire::values::value_at(message, layout::value_at());
     let unit = hear(r, value);
-    reply(unit, store, out, 0)
+    reply(Phase { unit, at: 0 }, store, out)
 }
 
 // A FULL heard.
@@ -65,13 +66,15 @@ fn step_full(r: Record, store: &mut [u8], out: &mut [u8], message: &[u8]) -> Pha
     requires { Ready r store.old out.old × (kind.Full ≡ kind_of (read r.n message.now)) × (stranger r.n (read r.n message.now) ≡ false) × (disorder (read r.n message.now) ≡ false) }
     ensures { Did (stepped (read r.n message.now)) r store.old out.old 0 result.unit store.new out.new result.at }
 {
-    let value = wire::values::value_at(message, layout::value_at());
-    let seats = wire::read::entry_set(r.n, Kind::Full, message);
-    let source = Source {
-        place: Place::Entries,
-        seats,
+    let full = Certificate {
+        value: wire::values::value_at(message, layout::value_at()),
+        source: Source {
+            place: Place::Entries,
+            seats: wire::read::entry_set(r.n, Kind::Full, message),
+        },
+        bytes: message,
     };
-    hear_certificate(r, store, out, 0, value, source, message)
+    hear_certificate(Phase { unit: r, at: 0 }, store, out, full)
 }
 
 // A step, by the kind of its message.

@@ -5,9 +5,9 @@ use Rattle.std.proofs.Math.Path.{sym}
 use Rattle.std.proofs.Common.{◌∙◌, ⊎_elim, arith, drop-drop}
 use Rattle.std.proofs.Math.ListN.{length}
 use borrow.Rule.Slice.PartMut.{put_mid}
-use Rattle.octets.specs.Octets.{part, patch}
+use Rattle.octets.specs.Octets.{patch}
 use Rattle.octets.specs.OctetsLaws.{length_part, length-patch}
-use Rattle.octets.specs.WriteLaws.{part_before, part_after, patch_all}
+use Rattle.octets.specs.WriteLaws.{part_before, part_after}
 use Rattle.quorum.specs.Quorum.{bit, In, seats}
 use Rattle.quorum.specs.QuorumLaws.{seats_in_lem, seats-out}
 use Rattle.protocol.specs.Layout.{signature_length, banks, slot_length, store_length, slot_at, first_bank}
@@ -24,11 +24,9 @@ unfolding read_signature
 length-signature at bytes h = length_part at signature_length bytes h
 
 -- a part of a buffer, lent and written whole, is a patch of the buffer
-pub patch-part : (at k : ℕ) (ws xs ys : List ℕ) → k ≡ length ws → at + length ws ≤ length xs → ys ≡ patch 0 ws (part at k xs) → put_mid at k xs ys ≡ patch at ws xs
+pub part-patched : (at k : ℕ) (ws xs ys : List ℕ) → k ≡ length ws → ys ≡ ws → put_mid at k xs ys ≡ patch at ws xs
 unfolding patch
-patch-part at k ws xs ys w h e =
-    let l = length_part at k xs (omega arith) in
-    rw (e ∙ patch_all ws (part at k xs) (omega arith), drop-drop k at xs, w)
+part-patched at k ws xs ys w e = rw (e, drop-drop k at xs, w)
 
 -- ---- slots
 

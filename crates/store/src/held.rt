@@ -24,11 +24,9 @@ pub fn hold(store: &mut [u8], n: u32, source: Source, m: &[u8])
     ensures { store.new ≡ fill_each n first_bank (signature_from n source (bytes_of source.place store.old m.now)) (seats n source.seats) store.old }
 {
     let mask = source.seats;
-    let mut s = 0;
-    while s < n {
+    for s in 0..n {
         if quorum::has(mask, s) {
             hold_seat(store, n, source, s, m);
         }
-        s += 1;
     }
 }

@@ -22,7 +22,7 @@ pub fn fill(store: &mut [u8], n: u32, bank: Bank, seat: u32, signature: &[u8])
     ensures { store.new ≡ fill n (bank_of bank) seat signature.now store.old }
 {
     let at = layout::slot_at(n, bank, seat);
-    octets::copy(&mut store[at..at + SIGNATURE], 0, signature);
+    store[at..at + SIGNATURE].copy_from_slice(signature);
 }
 
 // A copy of a signature.
@@ -31,7 +31,7 @@ pub(crate) fn signature_copy(signature: &[u8]) -> [u8; SIGNATURE]
     ensures { result ≡ signature.now }
 {
     let mut copy = [0u8; SIGNATURE];
-    octets::copy(&mut copy, 0, signature);
+    copy.copy_from_slice(signature);
     copy
 }
 

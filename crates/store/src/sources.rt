@@ -33,8 +33,7 @@ pub struct Certificate<'a> {
 pub fn bytes_of<'a>(source: Source, store: &'a [u8], m: &'a [u8]) -> &'a [u8]
     ensures { result.now ≡ bytes_of source.place store.now m.now }
 {
-    let place = source.place;
-    match place {
+    match source.place {
         Place::Entries => m,
         Place::Slots(_) => store,
     }
@@ -55,8 +54,7 @@ pub fn signature_of(source: Source, n: u32, seat: u32, bytes: &[u8]) -> &[u8]
     requires { (n ≤ most_seats) × (seat < n) × In seat source.seats × Readable n source bytes.now }
     ensures { (result.now ≡ signature_from n source bytes.now seat) × (length result.now ≡ signature_length) }
 {
-    let place = source.place;
-    match place {
+    match source.place {
         Place::Entries => signature_at(bytes, entry_place(source.seats, seat)),
         Place::Slots(bank) => signature_at(bytes, layout::slot_at(n, bank, seat)),
     }

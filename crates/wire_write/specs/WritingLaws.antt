@@ -1,17 +1,15 @@
 -- Laws of writes one after another, and of a loop that writes an entry for each seat of a set.
 -- Assumes nothing.
-use Rattle.std.specs.Prelude.{◌≡◌, refl, Bool, true, false, ℕ, suc, ◌+◌, ◌*◌, ◌/◌, ◌%◌, ◌^◌, ◌≤◌, ◌<◌, take, drop, set}
+use Rattle.std.specs.Prelude.{◌≡◌, refl, Bool, true, false, ℕ, suc, ◌+◌, ◌*◌, ◌^◌, ◌≤◌, ◌<◌, set}
 use Rattle.std.proofs.Math.Path.{sym}
 use Rattle.std.proofs.Common.{ap, ◌∙◌, ⊎_elim, mul-zero, mul-suc, arith, take-append-drop}
-use mathlib.Core.List.{List, [], ◌∷◌, ◌++◌, append_assoc, append-nil, map, map-append}
+use mathlib.Core.List.{List, [], ◌∷◌, ◌++◌, append-nil, map, map-append}
 use Rattle.std.proofs.Math.Nat.{add-zero, mul-le-mul_left}
-use Rattle.std.proofs.Math.Numerals.{add-one, add-two}
+use Rattle.std.proofs.Math.Numerals.{add-one}
 use Rattle.std.proofs.Math.ListN.{length, length-append}
 use Rattle.std.proofs.lemmas.List.{length-map, set_split}
-use Rattle.std.proofs.lemmas.List.Edits.{sets-eq}
 use Rattle.octets.specs.Octets.{patch, be}
 use Rattle.octets.specs.OctetsLaws.{length-be, patch-patch, length-patch}
-use Rattle.octets.specs.StringsLaws.{be-two}
 use Rattle.quorum.specs.Quorum.{k, bit, In, shared, seats, size}
 use Rattle.quorum.specs.QuorumLaws.{bit_cases, in_shared, bit-outside, lt_of_none_outside, size-within, seats_in_lem, seats-out, length-seats}
 use Rattle.protocol.specs.Layout.{value_length, operands_at, notice_length, entry_length, evidence_entry_length, evidence_entry_at, evidence_length}
@@ -35,19 +33,6 @@ wrote_then {at} {a} {e} {us} {vs} {before} u v h =
     record {
       ends = rw length-append (omega (arith, u.ends, v.ends));
       wrote = v.wrote ∙ rw (u.wrote, u.ends) (patch-patch at us vs before h);
-    }
-
--- the command and the round, as three stores
-pub command-written : (at command round : ℕ) (xs : List ℕ) → at + operands_at ≤ length xs
-    → Wrote at (command ∷ be 2 round) xs (set (set (set xs at command) (at + 1) (round / 256 % 256)) (at + 2) (round % 256)) (at + 3)
-unfolding patch
-command-written at command round xs h =
-    record {
-      ends = rw be-two;
-      wrote =
-          rw (be-two, add-one, add-two)
-          (sets-eq (command ∷ round / 256 % 256 ∷ round % 256 ∷ []) xs at h
-          ∙ append_assoc (take at xs) (command ∷ round / 256 % 256 ∷ round % 256 ∷ []) (drop (at + 3) xs));
     }
 
 pub length-head : (command round seat : ℕ) (value : List ℕ) → length value ≡ value_length → length (head command round seat value) ≡ notice_length

@@ -1,4 +1,5 @@
-// Writers: each writes one command, or a part of one, from an index of `out` on, and answers the index after it.
+// Writers: each writes one command, or a part of one, from an index of `out` on, and answers the index after it. They keep the buffer
+// whole, and its place beside it, since `Wrote` says of all of it what changed; and there is no heap for one that grows.
 #![tactic(auto)]
 
 ghost use Rattle.std.specs.Prelude.{◌≡◌, [], ◌∷◌, ◌+◌, ◌*◌, ◌^◌, ◌<◌, ◌≤◌, length};
@@ -38,10 +39,8 @@ fn put_command(out: &mut [u8], at: usize, command: u8, round: u32) -> usize
     requires { at + operands_at ≤ length out.old }
     ensures { Wrote at (command ∷ be 2 round) out.old out.new result }
 {
-    out[at] = command;
-    out[at + 1] = (round / 256 % 256) as u8;
-    out[at + 2] = (round % 256) as u8;
-    at + 3
+    let a = put_byte(out, at, command);
+    put(out, a, &round.to_be_bytes()[2..])
 }
 
 // The start of SUBMIT, NOTICE and FULL: code, round, seat and value.
@@ -117,7 +116,7 @@ fn write_pair(
 }
 
 // The entries of FULL for a certificate, rising.
-fn write_entries<'a>(out: &mut [u8], at: usize, n: u32, c: Certificate<'a>) -> usize
+fn write_entries(out: &mut [u8], at: usize, n: u32, c: Certificate<'_>) -> usize
     requires { (n ≤ most_seats) × Readable n c.source c.bytes.now × (at + full_entry_length * length (seats n c.source.seats) ≤ length out.old) }
     ensures { Wrote at (render_entries full_form (entries_of n (certificate_of n c.entry))) out.old out.new result × (result ≡ at + full_entry_length * length (seats n c.entry.source.seats)) }
 {
@@ -132,13 +131,13 @@ fn write_entries<'a>(out: &mut [u8], at: usize, n: u32, c: Certificate<'a>) -> u
 }
 
 // FULL of a certificate.
-pub fn write_full<'a>(
+pub fn write_full(
     out: &mut [u8],
     at: usize,
     n: u32,
     round: u32,
     sender: u32,
-    c: Certificate<'a>,
+    c: Certificate<'_>,
 ) -> usize
     requires { (n ≤ most_seats) × (sender < 256) × Readable n c.source c.bytes.now × (at + full_entry_at (size c.source.seats) ≤ length out.old) }
     ensures { Wrote at (render (full_of n round sender (certificate_of n c.entry))) out.old out.new result × (result ≡ at + full_entry_at (size c.entry.source.seats)) }
@@ -159,13 +158,13 @@ pub fn write_pack_head(out: &mut [u8], at: usize, round: u32, count: u32) -> usi
 }
 
 // The entries of EVIDENCE for the seats of a set, rising. Both certificates have these seats.
-fn write_pairs<'a>(
+fn write_pairs(
     out: &mut [u8],
     at: usize,
     n: u32,
     mask: Mask,
-    lower: Certificate<'a>,
-    higher: Certificate<'a>,
+    lower: Certificate<'_>,
+    higher: Certificate<'_>,
 ) -> usize
     requires { (n ≤ most_seats) × Within mask lower.source × Readable n lower.source lower.bytes.now × Within mask higher.source × Readable n higher.source higher.bytes.now × (at + evidence_entry_length * length (seats n mask) ≤ length out.old) }
     ensures { Wrote at (render_entries (evidence_form ValuesEach) (pairs_of n mask (certificate_of n lower.entry) (certificate_of n higher.entry))) out.old out.new result × (result ≡ at + evidence_entry_length * length (seats n mask)) }
@@ -182,14 +181,14 @@ fn write_pairs<'a>(
 }
 
 // EVIDENCE from two certificates for a set of seats that both have, the one with the lower value first.
-fn write_ordered<'a>(
+fn write_ordered(
     out: &mut [u8],
     at: usize,
     n: u32,
     round: u32,
     mask: Mask,
-    lower: Certificate<'a>,
-    higher: Certificate<'a>,
+    lower: Certificate<'_>,
+    higher: Certificate<'_>,
 ) -> usize
     requires { (n ≤ most_seats) × Readable n lower.source lower.bytes.now × Readable n higher.source higher.bytes.now × (mask < 2 ^ n) × Within mask lower.source × Within mask higher.source × (at + evidence_length (size mask) ≤ length out.old) }
     ensures { Wrote at (render (ordered_evidence n round mask (certificate_of n lower.entry) (certificate_of n higher.entry))) out.old out.new result × (result ≡ at + evidence_length (size mask)) }
@@ -200,14 +199,14 @@ fn write_ordered<'a>(
 }
 
 // EVIDENCE from two certificates for a set of seats that both have, in either order.
-pub fn write_evidence<'a>(
+pub fn write_evidence(
     out: &mut [u8],
     at: usize,
     n: u32,
     round: u32,
     mask: Mask,
-    a: Certificate<'a>,
-    b: Certificate<'a>,
+    a: Certificate<'_>,
+    b: Certificate<'_>,
 ) -> usize
     requires { (n ≤ most_seats) × Readable n a.source a.bytes.now × Readable n b.source b.bytes.now × (mask < 2 ^ n) × Within mask a.source × Within mask b.source × (at + evidence_length (size mask) ≤ length out.old) }
     ensures { Wrote at (render (evidence_of n round mask (certificate_of n a.entry) (certificate_of n b.entry))) out.old out.new result × (result ≡ at + evidence_length (size mask)) }

@@ -1,6 +1,6 @@
 -- The commands of the yard's program, and their outcomes (document 01, "The yard's program").
 -- Assumes nothing.
-use Rattle.std.specs.Prelude.{ℕ, ◌+◌, ◌*◌, Bool, true, false, not, ◌||◌, cond, List, [], ltb, eqb, length, drop, replicate}
+use Rattle.std.specs.Prelude.{ℕ, ◌+◌, ◌*◌, Bool, true, false, not, ◌||◌, cond, List, [], Option, Some, None, ltb, eqb, length, drop, replicate}
 use Rattle.octets.specs.Octets.{part}
 use Rattle.protocol.specs.Layout.{value_length, signature_length, key_length, store_length, out_length}
 use Rattle.protocol.specs.Message.{byte_at}
@@ -12,6 +12,8 @@ use Rattle.protocol.specs.declared.Opened.{Opened}
 use Rattle.protocol.specs.declared.Stepped.{Stepped}
 use Rattle.yard.specs.Line.{line, in_space}
 use Rattle.yard.specs.declared.commands.Answer.{Answer}
+use Rattle.yard.specs.declared.commands.Call.{Call}
+use Rattle.yard.specs.declared.commands.Call.TheVariants as call
 
 -- a number of two bytes
 abbrev pub two_at : List ℕ → ℕ → ℕ
@@ -117,6 +119,13 @@ longest_call = message_at + 65535
 -- "An unknown command, a short operand, .. or a second 0x10"
 unfoldable pub misframed_call : List ℕ → Bool
 misframed_call bytes = ltb (length bytes) (call_length bytes) || not (is_message bytes || is_submit bytes)
+
+-- the code's reading of it: by the first byte, and where it stands whole
+unfoldable pub call_of : List ℕ → Option Call
+call_of bytes = cond (is_message bytes) (Some call.Message) (cond (is_submit bytes) (Some call.Submit) None)
+
+unfoldable pub whole_call : List ℕ → Option Call
+whole_call bytes = cond (ltb (length bytes) (call_length bytes)) None (call_of bytes)
 
 -- "prints `9 0` and ends it"
 abbrev pub ended_by : Record → List ℕ → List ℕ → Outcome

@@ -1,12 +1,12 @@
 -- The returns of the functions over commands, over plain values.
 -- Assumes nothing.
-use Rattle.std.specs.Prelude.{◌≡◌, false, not, ◌||◌, List, [], ℕ, ◌+◌, ◌*◌, ◌-◌, ◌≤◌, ◌<◌, ltb, length, take, drop}
+use Rattle.std.specs.Prelude.{◌≡◌, Bool, false, not, ◌||◌, cond, Option, Some, None, List, [], ℕ, ◌+◌, ◌*◌, ◌-◌, ◌≤◌, ◌<◌, ltb, length, take, drop}
 use Rattle.std.proofs.Math.Path.{refl, sym}
 use Rattle.std.proofs.Math.Bool.{true}
 use Rattle.std.proofs.Common.{arith, drop_of_length-le}
 use Rattle.std.proofs.Math.Dec.{eqb}
 use Rattle.std.proofs.Math.ListN.{get_or-eq_default}
-use borrow.Author.Tests.{eq-eqb, ne_eqb, lt-ltb, le-ltb, ltb-false, not-false}
+use borrow.Author.Tests.{eq-eqb, ne_eqb, eqb-true, eqb-false, lt-ltb, le-ltb, ltb-false, not-false}
 use Rattle.octets.specs.Octets.{part}
 use Rattle.octets.specs.OctetsLaws.{take_rest}
 use Rattle.octets.specs.StringsLaws.{patch-nothing}
@@ -21,9 +21,11 @@ use Rattle.protocol.specs.declared.Record.{Record}
 use Rattle.protocol.specs.declared.Opened.{Opened}
 use Rattle.protocol.specs.declared.Stepped.{Stepped}
 use Rattle.yard.specs.Line.{line, in_space, Fits}
-use Rattle.yard.specs.Commands.{Outcome, line_for, told, two_at, is_opening, keys_at, keys_of, opening_length, misframed_opening, refused_opening, opened, begun, is_message, is_submit, message_at, own_value_at, own_signature_at, call_length, misframed_call, told_call, called}
+use Rattle.yard.specs.Commands.{Outcome, line_for, told, two_at, is_opening, keys_at, keys_of, opening_length, misframed_opening, refused_opening, opened, begun, is_message, is_submit, message_at, own_value_at, own_signature_at, call_of, call_length, misframed_call, whole_call, told_call, called}
 use Rattle.yard.specs.declared.line.Line.{Line}
 use Rattle.yard.specs.declared.commands.Answer.{Answer}
+use Rattle.yard.specs.declared.commands.Call.{Call}
+use Rattle.yard.specs.declared.commands.Call.TheVariants as call
 
 pub past_end : (bytes : List ℕ) (i : ℕ) → length bytes ≤ i → 0 ≡ byte_at bytes i
 past_end bytes i h = sym (get_or-eq_default bytes 0 h)
@@ -33,6 +35,34 @@ keys_none bytes h = sym (drop_of_length-le bytes {i = keys_at} (omega arith))
 
 pub keys-rest : (bytes : List ℕ) → take (length bytes - keys_at) (drop keys_at bytes) ≡ keys_of bytes
 keys-rest bytes = take_rest keys_at bytes
+
+-- ---- the later command by its tests
+
+abbrev picked : Bool → Bool → Option Call
+picked m s = cond m (Some call.Message) (cond s (Some call.Submit) None)
+
+picked-message : (m s : Bool) → picked m s ≡ Some call.Message → m ≡ true
+picked-message true s e = refl
+picked-message false true e = cc
+picked-message false false e = cc
+
+picked-submit : (m s : Bool) → picked m s ≡ Some call.Submit → (m ≡ false) × (s ≡ true)
+picked-submit true s e = cc
+picked-submit false true e = (refl, refl)
+picked-submit false false e = cc
+
+picked_none : (m s : Bool) → picked m s ≡ None → (m ≡ false) × (s ≡ false)
+picked_none true s e = cc
+picked_none false true e = cc
+picked_none false false e = (refl, refl)
+
+whole_none : (short m s : Bool) → cond short None (picked m s) ≡ None → (short || not (m || s)) ≡ true
+whole_none true m s e = refl
+whole_none false m s e = let p = picked_none m s e in rw (p.0, p.1)
+
+whole-some : (short : Bool) (k : Option Call) (c : Call) → cond short None k ≡ Some c → (short ≡ false) × (k ≡ Some c)
+whole-some true k c e = cc
+whole-some false k c e = (refl, e)
 
 module _ (bytes : List ℕ) where
   -- ---- the first command
@@ -89,19 +119,45 @@ module _ (bytes : List ℕ) where
     unfolding call_length
     call-other h s = rw (← e, ne_eqb b 0x11 h, ne_eqb b 0x12 s)
 
+    pub called_message : b ≡ 0x11 → Some call.Message ≡ call_of bytes
+    unfolding call_of
+    called_message h = rw (← e, eq-eqb b 0x11 h)
+
+    pub called_submit : b ≡ 0x12 → Some call.Submit ≡ call_of bytes
+    unfolding call_of
+    called_submit h = rw (← e, ne_eqb b 0x11 (omega arith), eq-eqb b 0x12 h)
+
+    pub called_other : (b ≡ 0x11 → ⊥) → (b ≡ 0x12 → ⊥) → None ≡ call_of bytes
+    unfolding call_of
+    called_other h s = rw (← e, ne_eqb b 0x11 h, ne_eqb b 0x12 s)
+
+  abbrev first : ℕ
+  first = byte_at bytes 0
+
+  pub length-message : Some call.Message ≡ call_of bytes → (size : ℕ) → size ≡ two_at bytes 1 → message_at + size ≡ call_length bytes
+  unfolding call_of
+  length-message h size s = call-message first refl size (eqb-true first 0x11 (picked-message (is_message bytes) (is_submit bytes) (sym h))) s
+
+  pub length-submit : Some call.Submit ≡ call_of bytes → own_signature_at + signature_length ≡ call_length bytes
+  unfolding call_of
+  length-submit h =
+      let p = picked-submit (is_message bytes) (is_submit bytes) (sym h) in
+      call-submit first refl (eqb-false first 0x11 p.0) (eqb-true first 0x12 p.1)
+
+  pub length-other : None ≡ call_of bytes → 1 ≡ call_length bytes
+  unfolding call_of
+  length-other h =
+      let p = picked_none (is_message bytes) (is_submit bytes) (sym h) in
+      call-other first refl (eqb-false first 0x11 p.0) (eqb-false first 0x12 p.1)
+
   module _ (size : ℕ) (e : size ≡ call_length bytes) where
-    pub call-short : length bytes < size → true ≡ misframed_call bytes
-    unfolding misframed_call
-    call-short h = rw (← e, lt-ltb (length bytes) size h)
+    pub whole_short : length bytes < size → None ≡ whole_call bytes
+    unfolding whole_call
+    whole_short h = rw (← e, lt-ltb (length bytes) size h)
 
-    module _ (h : size ≤ length bytes) (b : ℕ) (c : b ≡ byte_at bytes 0) where
-      pub call-whole-message : b ≡ 0x11 → false ≡ misframed_call bytes
-      unfolding misframed_call
-      call-whole-message m = rw (← e, ← c, le-ltb (length bytes) size h, eq-eqb b 0x11 m)
-
-      pub call-whole-other : (b ≡ 0x11 → ⊥) → not (eqb b 0x12) ≡ misframed_call bytes
-      unfolding misframed_call
-      call-whole-other m = rw (← e, ← c, le-ltb (length bytes) size h, ne_eqb b 0x11 m)
+    pub whole-called : size ≤ length bytes → (k : Option Call) → k ≡ call_of bytes → k ≡ whole_call bytes
+    unfolding whole_call
+    whole-called h k c = rw (← e, le-ltb (length bytes) size h, c)
 
 -- an opening of no seats gives a record of zeros
 pub opening_none : (keys : List ℕ) (o : Opened) (number : ℕ) → o ≡ opening 0 0 0 keys → record { number = number; unit = o.unit } ≡ refused_opening number
@@ -134,6 +190,48 @@ module _ (bytes : List ℕ) (m : misframed_call bytes ≡ false) where
     submit-whole h =
         let s : eqb b 0x12 ≡ true = rw (← e, ne_eqb b 0x11 h) at known in
         omega (arith, rw (← e, ne_eqb b 0x11 h, s) at framed-call)
+
+-- ---- the operands of the later command that stands whole
+
+module _ (bytes : List ℕ) where
+  pub none_misframed : None ≡ whole_call bytes → misframed_call bytes ≡ true
+  unfolding misframed_call whole_call call_of
+  none_misframed h = whole_none (ltb (length bytes) (call_length bytes)) (is_message bytes) (is_submit bytes) (sym h)
+
+  module _ (h : Some call.Message ≡ whole_call bytes) where
+    some-message : (ltb (length bytes) (call_length bytes) ≡ false) × (is_message bytes ≡ true)
+    unfolding whole_call call_of
+    some-message =
+        let w = whole-some (ltb (length bytes) (call_length bytes)) (picked (is_message bytes) (is_submit bytes)) call.Message (sym h) in
+        (w.0, picked-message (is_message bytes) (is_submit bytes) w.1)
+
+    pub message-framed : misframed_call bytes ≡ false
+    unfolding misframed_call
+    message-framed = rw (some-message.0, some-message.1)
+
+    pub message-first : byte_at bytes 0 ≡ 0x11
+    message-first = eqb-true (byte_at bytes 0) 0x11 some-message.1
+
+    pub message-there : message_at ≤ length bytes
+    message-there = message-whole bytes message-framed (byte_at bytes 0) refl message-first
+
+  module _ (h : Some call.Submit ≡ whole_call bytes) where
+    some-submit : (ltb (length bytes) (call_length bytes) ≡ false) × (is_message bytes ≡ false) × (is_submit bytes ≡ true)
+    unfolding whole_call call_of
+    some-submit =
+        let w = whole-some (ltb (length bytes) (call_length bytes)) (picked (is_message bytes) (is_submit bytes)) call.Submit (sym h) in
+        let p = picked-submit (is_message bytes) (is_submit bytes) w.1 in
+        (w.0, p.0, p.1)
+
+    pub submit-framed : misframed_call bytes ≡ false
+    unfolding misframed_call
+    submit-framed = rw (some-submit.0, some-submit.1, some-submit.2)
+
+    pub submit-first : byte_at bytes 0 ≡ 0x11 → ⊥
+    submit-first = eqb-false (byte_at bytes 0) 0x11 some-submit.1
+
+    pub submit-there : own_signature_at ≤ length bytes
+    submit-there = submit-whole bytes submit-framed (byte_at bytes 0) refl submit-first
 
 -- ---- the line
 

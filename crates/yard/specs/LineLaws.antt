@@ -1,10 +1,12 @@
 -- Decimal digits as code writes them, and the length of a line.
 -- Assumes nothing.
 use Rattle.std.specs.Prelude.{◌≡◌, refl, List, [], ◌∷◌, ◌++◌, ℕ, zero, suc, ◌+◌, ◌/◌, ◌%◌, ◌^◌, ◌≤◌, ◌<◌, set, replicate}
-use Rattle.std.proofs.Common.{ap, ◌∙◌, zero-add, pow-suc, div-lt_iff_lt-mul, add-one, arith, lit<, lt-ltb, le-ltb}
+use Rattle.std.specs.Fmt as Fmt
+use Rattle.std.proofs.Common.{sym, ◌∙◌, zero-add, pow-suc, div-lt_iff_lt-mul, add-one, arith, lit<, lt-ltb, le-ltb}
 use Rattle.std.proofs.Math.Decide.{dec_lt}
 use Rattle.std.proofs.Math.ListN.{length, length-append}
 use Rattle.std.proofs.lemmas.List.{length-replicate, set_split}
+use Rattle.std.proofs.lemmas.Fmt.{decimal_by_steps}
 use Rattle.octets.specs.Octets.{patch}
 use Rattle.octets.specs.OctetsLaws.{patch-patch, length-patch}
 use Rattle.yard.specs.Line.{digit, decimal_in, decimal, line, line_limit, in_space}
@@ -41,38 +43,16 @@ length-decimal (suc k) x h = go (dec_lt x 10) (length-decimal k (x / 10) ((div-l
     go (yes s) rest = rw (decimal-small x s) (omega arith)
     go (no s) rest = rw (decimal-more x (omega arith), length-append) (omega arith)
 
+-- the digits that the library prints
+pub decimal_printed : (x : ℕ) → x < 2 ^ 64 → Fmt.decimal x ≡ decimal x
+decimal_printed x h =
+    decimal_by_steps (λ (n : ℕ) (digits : List ℕ). digits ≡ decimal n) (λ n s. sym (decimal-small n s)) (λ n digits s e. rw e (sym (decimal-more n s))) x h
+
 -- ---- bytes written one after another
 
 pub put_one : (at b : ℕ) (xs : List ℕ) → at < length xs → set xs at b ≡ patch at (b ∷ []) xs
 unfolding patch
 put_one at b xs h = set_split xs at b h ∙ rw add-one
-
--- the decimal digits of x: all but the last, then the last
-module _ (out : List ℕ) (at x : ℕ) (fits : at + length (decimal x) ≤ length out) where
-  pub one-digit : x < 10 → at < length out
-  one-digit h = omega (arith, ap length (decimal-small x h))
-
-  module _ (out' : List ℕ) (end : ℕ) where
-    pub wrote_one : x < 10 → out' ≡ patch at ((48 + x) ∷ []) out → end ≡ at + 1 → (out' ≡ patch at (decimal x) out) × (end ≡ at + length (decimal x))
-    wrote_one h e s = rw (decimal-small x h) (e, s)
-
-  module _ (h : 10 ≤ x) where
-    size : length (decimal x) ≡ length (decimal (x / 10)) + 1
-    size = rw (decimal-more x h, length-append)
-
-    pub front_fits : at + length (decimal (x / 10)) ≤ length out
-    front_fits = omega (arith, size)
-
-    module _ (mid : List ℕ) (next : ℕ) (e : mid ≡ patch at (decimal (x / 10)) out) (s : next ≡ at + length (decimal (x / 10))) where
-      pub last_fits : next < length mid
-      last_fits = rw (e, length-patch at (decimal (x / 10)) out front_fits) (omega (arith, size))
-
-      pub wrote_last : (out' : List ℕ) (end : ℕ) → out' ≡ patch next ((48 + x % 10) ∷ []) mid → end ≡ next + 1
-          → (out' ≡ patch at (decimal x) out) × (end ≡ at + length (decimal x))
-      wrote_last out' end f t = (
-        rw (decimal-more x h, f, e, s) (patch-patch at (decimal (x / 10)) ((48 + x % 10) ∷ []) out (omega (arith, front_fits))),
-        omega (arith, size),
-      )
 
 -- ---- the line
 

@@ -4,11 +4,10 @@ ghost use Rattle.protocol.specs.Signatures.{checks};
 ghost use Rattle.protocol.specs.Message.{byte_at};
 ghost use Rattle.protocol.specs.Calls.{out_after};
 ghost use Rattle.yard.specs.Line.{in_space, Fits};
-ghost use Rattle.yard.specs.Commands.{line_for, told, two_at, keys_of, opening_length, longest_opening, misframed_opening, refused_opening, opened, begun, call_length, longest_call, misframed_call, told_call, called};
+ghost use Rattle.yard.specs.Commands.{line_for, told, two_at, keys_of, opening_length, longest_opening, misframed_opening, refused_opening, opened, begun, call_of, call_length, longest_call, whole_call, told_call, called};
 
 use crate::line::{Line, line_of, no_line};
 use crate::space;
-use octets::wide;
 use protocol::{Opened, Record, Stepped};
 
 // Answer of a command: whether the program ends with it, the record after it, and the line to print.
@@ -23,10 +22,7 @@ pub struct Answer {
 fn byte_at(bytes: &[u8], i: usize) -> u32
     ensures { (result ≡ byte_at bytes.now i) × (result < 256) }
 {
-    if i < bytes.len() {
-        return wide(bytes[i]);
-    }
-    0
+    u32::from(bytes.get(i).copied().unwrap_or(0))
 }
 
 // The number of two bytes at index i.
@@ -41,7 +37,7 @@ fn two_at(bytes: &[u8], i: usize) -> u32
 fn line_for(bytes: &[u8], number: u32, written: u32) -> Line
     ensures { (result ≡ in_space (line_for bytes.now number written)) × Fits result }
 {
-    if bytes.len() == 0 {
+    if bytes.is_empty() {
         return no_line();
     }
     line_of(number, written)
@@ -61,18 +57,33 @@ pub fn opening_length(bytes: &[u8]) -> usize
     space::OPENING_HEAD + layout::KEY * n
 }
 
+// A later command: a message heard, or the own value with its signature.
+#[derive(Clone, Copy)]
+enum Call {
+    Message,
+    Submit,
+}
+
+// The later command that the first byte says.
+fn call_of(bytes: &[u8]) -> Option<Call>
+    ensures { result ≡ call_of bytes.now }
+{
+    match byte_at(bytes, 0) {
+        0x11 => Some(Call::Message),
+        0x12 => Some(Call::Submit),
+        _ => None,
+    }
+}
+
 // The length of a later command, as far as the bytes at its start tell it: three tell it whole.
 pub fn call_length(bytes: &[u8]) -> usize
     ensures { (result ≡ call_length bytes.now) × (result ≤ longest_call) }
 {
-    let command = byte_at(bytes, 0);
-    if command == 0x11 {
-        return space::MESSAGE_HEAD + two_at(bytes, 1) as usize;
+    match call_of(bytes) {
+        Some(Call::Message) => space::MESSAGE_HEAD + two_at(bytes, 1) as usize,
+        Some(Call::Submit) => space::SUBMIT,
+        None => 1,
     }
-    if command == 0x12 {
-        return space::SUBMIT;
-    }
-    1
 }
 
 // The key table of an opening.
@@ -89,20 +100,17 @@ pub fn keys_of(bytes: &[u8]) -> &[u8]
 fn is_misframed_opening(bytes: &[u8]) -> bool
     ensures { result ≡ misframed_opening bytes.now }
 {
-    if bytes.len() < opening_length(bytes) {
-        return true;
-    }
-    byte_at(bytes, 0) != 0x10
+    bytes.len() < opening_length(bytes) || byte_at(bytes, 0) != 0x10
 }
 
 // A refused opening with its record of zeros, taken from an opening of no seats.
 fn refused_opening(number: u32) -> Opened
     ensures { result ≡ refused_opening number }
 {
-    let none = [0u8; 1];
-    let o = confirmer::opening::open(0, 0, 0, &none);
-    let unit = o.unit;
-    Opened { number, unit }
+    Opened {
+        number,
+        ..confirmer::opening::open(0, 0, 0, &[])
+    }
 }
 
 // The opening from its bytes, as far as the input has them.
@@ -126,27 +134,21 @@ pub fn begin(bytes: &[u8]) -> Answer
     ensures { (result ≡ told (begun bytes.now)) × Fits result.line }
 {
     let o = open(bytes);
-    let line = line_for(bytes, o.number, 0);
-    let unit = o.unit;
     Answer {
         ends: o.number != 0,
-        unit,
-        line,
+        unit: o.unit,
+        line: line_for(bytes, o.number, 0),
     }
 }
 
-// Whether a later command is short, or no call.
-fn is_misframed_call(bytes: &[u8]) -> bool
-    ensures { result ≡ misframed_call bytes.now }
+// The later command that stands whole in its bytes; none where they are short, or no call.
+fn whole_call(bytes: &[u8]) -> Option<Call>
+    ensures { result ≡ whole_call bytes.now }
 {
     if bytes.len() < call_length(bytes) {
-        return true;
+        return None;
     }
-    let command = byte_at(bytes, 0);
-    if command == 0x11 {
-        return false;
-    }
-    command != 0x12
+    call_of(bytes)
 }
 
 // Answer of a call of the confirmer, refused or not.
@@ -154,10 +156,9 @@ fn call_answer(answer: Stepped) -> Answer
     ensures { (result ≡ told_call answer) × Fits result.line }
 {
     let line = line_of(answer.number, answer.written);
-    let unit = answer.unit;
     Answer {
         ends: false,
-        unit,
+        unit: answer.unit,
         line,
     }
 }
@@ -175,25 +176,20 @@ pub fn take_command(
         × (store.new ≡ o.store)
         × (out.new ≡ out_after o.written out.old) }
 {
-    if is_misframed_call(bytes) {
-        let line = line_for(bytes, refusal::GARBLED, 0);
-        return Answer {
+    match whole_call(bytes) {
+        None => Answer {
             ends: true,
             unit: r,
-            line,
-        };
+            line: line_for(bytes, refusal::GARBLED, 0),
+        },
+        Some(Call::Message) => {
+            let message = &bytes[space::MESSAGE_HEAD..];
+            call_answer(confirmer::calls::step(r, keys, store, message, out))
+        }
+        Some(Call::Submit) => {
+            let value = &bytes[1..space::SUBMIT_HEAD];
+            let signature = &bytes[space::SUBMIT_HEAD..];
+            call_answer(confirmer::calls::submit(r, keys, store, value, signature, out))
+        }
     }
-    if byte_at(bytes, 0) == 0x11 {
-        let answer = confirmer::calls::step(r, keys, store, &bytes[space::MESSAGE_HEAD..], out);
-        return call_answer(answer);
-    }
-    let answer = confirmer::calls::submit(
-        r,
-        keys,
-        store,
-        &bytes[1..space::SUBMIT_HEAD],
-        &bytes[space::SUBMIT_HEAD..],
-        out,
-    );
-    call_answer(answer)
 }

@@ -3,7 +3,8 @@ ghost use Rattle.std.specs.Prelude.{◌≡◌, [], ◌∷◌, ◌+◌, ◌<◌, 
 ghost use Rattle.octets.specs.Octets.{patch};
 ghost use Rattle.yard.specs.Line.{decimal, line, in_space, Fits};
 
-// A line: the first `length` bytes of `text`.
+// A line: the first `length` bytes of `text`, with zeros after them. It is no string of fixed capacity, since the contracts of
+// `begin` and `take_command` and the law `line-whole` tell all 22 bytes, and such a string tells its text alone.
 #[derive(Clone, Copy)]
 pub struct Line {
     pub text: [u8; 22],
@@ -24,11 +25,10 @@ fn put_decimal(out: &mut [u8], at: usize, x: u32) -> usize
     requires { at + length (decimal x) ≤ length out.old }
     ensures { (out.new ≡ patch at (decimal x) out.old) × (result ≡ at + length (decimal x)) }
 {
-    if x < 10 {
-        return put_byte(out, at, (48 + x) as u8);
-    }
-    let next = put_decimal(out, at, x / 10);
-    put_byte(out, next, (48 + x % 10) as u8)
+    let mut buffer = itoa::Buffer::new();
+    let digits = buffer.format(x).as_bytes();
+    octets::copy(out, at, digits);
+    at + digits.len()
 }
 
 // The refusal number or 0, a space, the bytes written, and a newline.

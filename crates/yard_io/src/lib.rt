@@ -21,6 +21,8 @@ fn read_full(reader: &mut impl Read, buf: &mut [u8]) -> io::Result<usize>
     ensures err { OnErr result (length buf.new ≡ length buf.old) }
 {
     let mut done = 0;
+
+    // No `for` counts these: each read gives as many bytes as it likes, and std has no loop that tells their number.
     while done < buf.len() {
         let n = reader.read(&mut buf[done..])?;
         if n == 0 {
@@ -45,7 +47,8 @@ fn read_on(reader: &mut impl Read, space: &mut [u8], have: usize, to: usize) -> 
     Ok(have + more)
 }
 
-// The length of a command, the first or a later one, as far as the bytes at its start tell it.
+// The length of a command, as far as the bytes at its start tell it. Whether it is the first one or a later one is a `bool`, as in
+// the definitions `size_of` and `Command`, which stay.
 fn told_length(first: bool, bytes: &[u8]) -> usize
     ensures { (result ≡ size_of first bytes.now) × (result ≤ room first) }
 {
@@ -79,9 +82,7 @@ fn read_command(reader: &mut impl Read, first: bool, space: &mut [u8]) -> io::Re
 fn print(rt: &impl Print, line: Line) -> io::Result<()>
     requires { Fits line }
 {
-    let text = line.text;
-    let end = line.length;
-    rt.write_all(&text[..end])
+    rt.write_all(&line.text[..line.length])
 }
 
 // A command that was read: its number of bytes, whether the program ends with it, and the record after it.
@@ -99,14 +100,12 @@ fn first_command(rt: &impl Print, reader: &mut impl Read, input: &mut [u8]) -> i
     ensures err { OnErr result (length input.new ≡ length input.old) }
 {
     let have = read_command(reader, true, input)?;
-    let answer = commands::begin(&input[..have]);
-    let line = answer.line;
-    print(rt, line)?;
-    let unit = answer.unit;
+    let begun = commands::begin(&input[..have]);
+    print(rt, begun.line)?;
     Ok(Taken {
         have,
-        ends: answer.ends,
-        unit,
+        ends: begun.ends,
+        unit: begun.unit,
     })
 }
 
@@ -126,18 +125,16 @@ fn next_command(
 {
     let have = read_command(reader, false, input)?;
     let answer = commands::take_command(unit, keys, store, out, &input[..have]);
-    let line = answer.line;
-    print(rt, line)?;
-    let stepped = answer.unit;
+    print(rt, answer.line)?;
     Ok(Taken {
         have,
         ends: answer.ends,
-        unit: stepped,
+        unit: answer.unit,
     })
 }
 
-// The later commands, and the record at the end. A proved loop has to end, but the input may not. So the loop counts down from a
-// number of commands that no input has: each takes at least one byte.
+// The later commands, and the record at the end. A proved loop has to end, but the input may not. So the loop goes up to a number
+// of commands that no input has: each takes at least one byte.
 fn run_calls(
     rt: &impl Print,
     reader: &mut impl Read,
@@ -151,14 +148,12 @@ fn run_calls(
 {
     let mut input = yard::space::new_call();
     let mut r = unit;
-    let mut limit = u64::MAX;
-    while 0 < limit {
+    for _ in 0..u64::MAX {
         let next = next_command(rt, reader, r, keys, store, out, &mut input)?;
         r = next.unit;
         if next.ends {
             return Ok(r);
         }
-        limit -= 1;
     }
     Ok(r)
 }
@@ -170,18 +165,16 @@ pub fn run(rt: &(impl Input + Print)) -> io::Result<Record>
     let mut reader = rt.reader();
     let mut opening = yard::space::new_opening();
     let first = first_command(rt, &mut reader, &mut opening)?;
-    let unit = first.unit;
     if first.ends {
-        return Ok(unit);
+        return Ok(first.unit);
     }
-    let have = first.have;
     let mut store = yard::space::new_store();
     let mut out = yard::space::new_out();
     run_calls(
         rt,
         &mut reader,
-        unit,
-        commands::keys_of(&opening[..have]),
+        first.unit,
+        commands::keys_of(&opening[..first.have]),
         &mut store,
         &mut out,
     )

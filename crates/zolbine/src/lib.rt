@@ -11,6 +11,7 @@ ghost use Rattle.zolbine.specs.Version.{version};
 
 use dispatch::{Dispatched, Dispatcher, Eight, Turn};
 use protocol::{Checked, Opened, Record, Stepped, Written};
+use refusal::answers::number_in;
 
 // The interface's version, ZOLBINE_VERSION in the header.
 #[unsafe(no_mangle)]
@@ -33,7 +34,7 @@ pub extern "C" fn zolbine_message_length(n: u32, bytes: &[u8]) -> u32
 pub extern "C" fn zolbine_check_signature(key: &[u8], message: &[u8], signature: &[u8]) -> u32
     ensures { result ≡ check_signature key.now message.now signature.now }
 {
-    lms::calls::check_signature(key, message, signature)
+    number_in(lms::calls::check_signature(key, message, signature))
 }
 
 // The key maker: fills the tree and writes the public key.
@@ -50,7 +51,7 @@ pub extern "C" fn zolbine_make_key(
         × (tree.new ≡ outcome.tree)
         × (out.new ≡ patch 0 outcome.written out.old) }
 {
-    lms::calls::make_key(seed, identifier, tree, out)
+    Written::from(lms::calls::make_key(seed, identifier, tree, out))
 }
 
 // The signer: writes the signature of a message with a leaf of the tree.
@@ -70,7 +71,7 @@ pub extern "C" fn zolbine_sign(
         × (result.written ≡ length outcome.written)
         × (out.new ≡ patch 0 outcome.written out.old) }
 {
-    lms::calls::sign(leaf, seed, identifier, randomizer, tree, message, out)
+    Written::from(lms::calls::sign(leaf, seed, identifier, randomizer, tree, message, out))
 }
 
 // "The evidence check answers the mask of the seats named, 0 with a refusal." "The old 0x05 is still accepted by the check." (document
@@ -84,7 +85,7 @@ pub extern "C" fn zolbine_check_evidence(
 ) -> Checked
     ensures { result ≡ calls.evidence_check (checks keys.now round) n round keys.now evidence.now }
 {
-    evidence::check_evidence(n, round, keys, evidence)
+    Checked::from(evidence::check_evidence(n, round, keys, evidence))
 }
 
 // "Evidence can be made from two certificates in hand, given in either order, by the same rules."
@@ -102,7 +103,7 @@ pub extern "C" fn zolbine_make_evidence(
         (result ≡ calls.made outcome)
         × (out.new ≡ calls.out_after outcome.written out.old) }
 {
-    evidence::make_evidence(n, round, keys, first, second, out)
+    Written::from(evidence::make_evidence(n, round, keys, first, second, out))
 }
 
 // "Two accepted 0x07 packs of one round and one key table become one" (document 02, item 5).
@@ -120,7 +121,7 @@ pub extern "C" fn zolbine_join_evidence(
         (result ≡ calls.made outcome)
         × (out.new ≡ calls.out_after outcome.written out.old) }
 {
-    joining::join_evidence(n, round, keys, first, second, out)
+    Written::from(joining::join_evidence(n, round, keys, first, second, out))
 }
 
 // "Opening takes n, seat, round and key table and gives the record with nothing else set; a refused opening gives a record of
@@ -202,7 +203,7 @@ pub extern "C" fn zolbine_write_note(unit: Record, out: &mut [u8]) -> Written
         (result ≡ calls.made outcome)
         × (out.new ≡ calls.out_after outcome.written out.old) }
 {
-    notes::write_note(unit, out)
+    Written::from(notes::write_note(unit, out))
 }
 
 // "A note read back is the record it came from"; "a refused note gives a record of zeros" (document 02, item 2).

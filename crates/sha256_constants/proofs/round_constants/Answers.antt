@@ -1,4 +1,4 @@
-use Rattle.std.proofs.Common.{sym, ◌∙◌, ◌≡◌, ◌<◌, length, arith, rules}
+use Rattle.std.proofs.Common.{sym, ◌∙◌, ◌<◌, length, arith, rules}
 use Rattle.sha256_constants.specs.PrimesLaws.{filled_none, filled_more, filled_same, filled-room, filled-done}
 use Rattle.sha256_constants.proofs.round_constants.Goals as goal
 use Rattle.sha256_constants.proofs.round_constants.Goals.{then-prime, else-prime}

@@ -1,6 +1,4 @@
 -- `yard::commands::keys_of` meets its contract.
-use Prim.Native.Nat.{ℕ}
-use mathlib.Core.List.{List}
 use Rattle.yard.specs.CommandsLaws.{keys_none, keys-rest}
 use borrow.Author.Rules.{rules}
 use Rattle.yard.proofs.commands.keys_of.Statement.{statement}
