@@ -12,5 +12,6 @@ Heard n source store m = Readable n source (bytes_of source.place store m)
 abbrev pub heard : ℕ → Source → List ℕ → List ℕ → List ℕ → protocol.Certificate
 heard n source value store m = certificate_from n source value (bytes_of source.place store m)
 
+-- the certificate that one to read stands for, where it is heard
 abbrev pub heard_of : ℕ → Certificate → List ℕ → protocol.Certificate
 heard_of n c store = heard n c.source c.value store c.bytes.now

@@ -47,10 +47,11 @@ fn blames(r: Record, c: Certificate<'_>) -> bool
 }
 
 // Makes the seats newly found guilty, and writes EVIDENCE for them.
-fn blame(r: Record, store: &[u8], out: &mut [u8], at: usize, c: Certificate<'_>) -> Phase
-    requires { Fits r store.now × Heard r.n c.source store.now c.bytes.now × (at + evidence_length (k r.n) ≤ length out.old) }
-    ensures { Did (blame (heard_of r.n c.entry store.now)) r store.now out.old at result.unit store.now out.new result.at }
+fn blame(p: Phase, store: &[u8], out: &mut [u8], c: Certificate<'_>) -> Phase
+    requires { Fits p.unit store.now × Heard p.unit.n c.source store.now c.bytes.now × (p.at + evidence_length (k p.unit.n) ≤ length out.old) }
+    ensures { Did (blame (heard_of p.unit.n c.entry store.now)) p.unit store.now out.old p.at result.unit store.now out.new result.at }
 {
+    let r = p.unit;
     let mask = found(r, c.source);
     let value = r.first.value;
     let first = Certificate {
@@ -65,46 +66,34 @@ fn blame(r: Record, store: &[u8], out: &mut [u8], at: usize, c: Certificate<'_>)
         bytes: bytes_of(c.source, store, c.bytes),
         ..c
     };
-    let at = wire_write::write_evidence(out, at, r.n, r.round, mask, first, second);
+    let at = wire_write::write_evidence(out, p.at, r.n, r.round, mask, first, second);
     let guilty = quorum::union(r.guilty, mask);
     let unit = Record { guilty, ..r };
     Phase { unit, at }
 }
 
 // Holds a certificate where none is held; otherwise blames, where its value is another and it adds seats.
-fn hold_or_blame(
-    r: Record,
-    store: &mut [u8],
-    out: &mut [u8],
-    at: usize,
-    c: Certificate<'_>,
-) -> Phase
-    requires { Fits r store.old × Heard r.n c.source store.old c.bytes.now × (at + evidence_length (k r.n) ≤ length out.old) }
-    ensures { Did (hold_or_blame (heard_of r.n c.entry store.old)) r store.old out.old at result.unit store.new out.new result.at }
+fn hold_or_blame(p: Phase, store: &mut [u8], out: &mut [u8], c: Certificate<'_>) -> Phase
+    requires { Fits p.unit store.old × Heard p.unit.n c.source store.old c.bytes.now × (p.at + evidence_length (k p.unit.n) ≤ length out.old) }
+    ensures { Did (hold_or_blame (heard_of p.unit.n c.entry store.old)) p.unit store.old out.old p.at result.unit store.new out.new result.at }
 {
-    if r.first.seats == 0 {
-        let unit = hold(r, store, c);
-        return Phase { unit, at };
+    if p.unit.first.seats == 0 {
+        let unit = hold(p.unit, store, c);
+        return Phase { unit, ..p };
     }
-    if blames(r, c) {
-        return blame(r, store, out, at, c);
+    if blames(p.unit, c) {
+        return blame(p, store, out, c);
     }
-    Phase { unit: r, at }
+    p
 }
 
 // A certificate heard, with the message in its bytes, or nothing where its signatures stand in the store: a notice for its value,
 // then the reply, then the certificate held or the seats newly found blamed.
-pub fn hear_certificate(
-    r: Record,
-    store: &mut [u8],
-    out: &mut [u8],
-    at: usize,
-    c: Certificate<'_>,
-) -> Phase
-    requires { Fits r store.old × Heard r.n c.source store.old c.bytes.now × (at + full_length r.n + evidence_length (k r.n) ≤ length out.old) }
-    ensures { Did (hear_certificate (heard_of r.n c.entry store.old)) r store.old out.old at result.unit store.new out.new result.at }
+pub fn hear_certificate(p: Phase, store: &mut [u8], out: &mut [u8], c: Certificate<'_>) -> Phase
+    requires { Fits p.unit store.old × Heard p.unit.n c.source store.old c.bytes.now × (p.at + full_length p.unit.n + evidence_length (k p.unit.n) ≤ length out.old) }
+    ensures { Did (hear_certificate (heard_of p.unit.n c.entry store.old)) p.unit store.old out.old p.at result.unit store.new out.new result.at }
 {
-    let heard = hear(r, c.value);
-    let p = reply(heard, store, out, at);
-    hold_or_blame(p.unit, store, out, p.at, c)
+    let unit = hear(p.unit, c.value);
+    let replied = reply(Phase { unit, ..p }, store, out);
+    hold_or_blame(replied, store, out, c)
 }

@@ -30,10 +30,11 @@ fn owes_full(r: Record) -> bool
 }
 
 // Writes FULL from the own collected signatures.
-fn send_full(r: Record, store: &[u8], out: &mut [u8], at: usize) -> Phase
-    requires { Fits r store.now × (at + full_length r.n ≤ length out.old) }
-    ensures { Did send_full r store.now out.old at result.unit store.now out.new result.at × (result.at ≤ at + full_length r.n) }
+fn send_full(p: Phase, store: &[u8], out: &mut [u8]) -> Phase
+    requires { Fits p.unit store.now × (p.at + full_length p.unit.n ≤ length out.old) }
+    ensures { Did send_full p.unit store.now out.old p.at result.unit store.now out.new result.at × (result.at ≤ p.at + full_length p.unit.n) }
 {
+    let r = p.unit;
     let value = r.own.value;
     let own = Certificate {
         value,
@@ -43,19 +44,19 @@ fn send_full(r: Record, store: &[u8], out: &mut [u8], at: usize) -> Phase
         },
         bytes: store,
     };
-    let at = wire_write::write_full(out, at, r.n, r.round, r.seat, own);
+    let at = wire_write::write_full(out, p.at, r.n, r.round, r.seat, own);
     let unit = Record { sent: true, ..r };
     Phase { unit, at }
 }
 
 // Writes FULL where it is owed.
 #[tactic(auto, unfolding(protocol::specs::Step::reply))]
-pub fn reply(r: Record, store: &[u8], out: &mut [u8], at: usize) -> Phase
-    requires { Fits r store.now × (at + full_length r.n ≤ length out.old) }
-    ensures { Did reply r store.now out.old at result.unit store.now out.new result.at × (result.at ≤ at + full_length r.n) }
+pub fn reply(p: Phase, store: &[u8], out: &mut [u8]) -> Phase
+    requires { Fits p.unit store.now × (p.at + full_length p.unit.n ≤ length out.old) }
+    ensures { Did reply p.unit store.now out.old p.at result.unit store.now out.new result.at × (result.at ≤ p.at + full_length p.unit.n) }
 {
-    if owes_full(r) {
-        return send_full(r, store, out, at);
+    if owes_full(p.unit) {
+        return send_full(p, store, out);
     }
-    Phase { unit: r, at }
+    p
 }

@@ -31,7 +31,8 @@ fn is_garbled(kind: Kind) -> bool
     matches!(kind, Kind::Garbled)
 }
 
-// The length of the first message in a buffer; 0 where no message of a fleet of n seats stands there whole.
+// The length of the first message in a buffer; 0 where no message of a fleet of n seats stands there whole. It is a number and no
+// `Option`, as C gets it and the law `first_length` says it.
 pub fn message_length(n: u32, bytes: &[u8]) -> u32
     ensures { result ≡ message_length n bytes.now }
 {

@@ -7,7 +7,8 @@ ghost use Rattle.protocol.specs.Layout as Layout;
 ghost use Rattle.protocol.specs.Record.{last_round};
 ghost use Rattle.layout.specs.Places.{full, evidence, old_evidence, bank_of};
 
-// The constants, also for lengths of arrays. Each is made of its parts.
+// The constants, also for lengths of arrays. Each is made of its parts. A constant has no contract, so small functions below, one for
+// each that others read, tie them to their definitions.
 
 // The lengths of a value, a key and a signature.
 pub const VALUE: usize = 32;

@@ -1,18 +1,18 @@
 -- The chains of a key, of a signature and of a candidate, and the hash input of a key.
-use Rattle.std.specs.Prelude.{◌≡◌, List, ◌++◌, ◌⊎◌, ℕ, suc, ◌+◌, ◌-◌, ◌*◌, ◌^◌, ◌≤◌, ◌<◌, length, take, drop, get_or, set, replicate}
-use Rattle.std.proofs.Common.{sym, ap, ◌∙◌, ⊎_elim, zero-add, arith, length-drop, drop-drop}
+use Rattle.std.specs.Prelude.{◌≡◌, List, ◌++◌, ℕ, ◌+◌, ◌-◌, ◌*◌, ◌^◌, ◌≤◌, ◌<◌, length, take, drop, get_or, replicate}
+use Rattle.std.proofs.Common.{sym, ap, ◌∙◌, zero-add, arith, length-drop, drop-drop}
 use Rattle.std.proofs.Math.Nat.{sub-zero}
 use Rattle.std.proofs.lemmas.List.{get_or-replicate}
 use Rattle.octets.specs.Octets.{part, patch, bytes}
 use Rattle.octets.specs.Strings.{joined}
-use Rattle.octets.specs.OctetsLaws.{take-patch, take_rest}
+use Rattle.octets.specs.OctetsLaws.{take_rest}
 use Rattle.octets.specs.StringsLaws.{length-joined, joined_same, part-patch, part-joined}
 use Rattle.fips180.specs.Fips.{sha256}
 use Rattle.rfc8554.specs.Ots.{coef, chains, ots_length, candidate, d_pblc, chain, start, key_input, digested, signed, completed}
-use Rattle.rfc8554.specs.OtsLaws.{length-start, length-completed}
+use Rattle.rfc8554.specs.OtsLaws.{length-start}
 use Rattle.lmots_digits.specs.Pieces.{front}
 use Rattle.lmots_batches.specs.Batches.{Ordered, ended}
-use Rattle.lmots_batches.specs.BatchesLaws.{all_set, written_next}
+use Rattle.lmots_batches.specs.BatchesLaws.{written_next}
 
 -- a signature: 36 bytes, then its values
 pub length-values : (w : ℕ) → ots_length w ≡ 36 + 32 * chains w
@@ -20,13 +20,6 @@ unfolding ots_length
 length-values w = omega arith
 
 -- ---- chains of a key and of a signature
-
--- one more digit as a place
-pub digit-more : (w : ℕ) (xs : List ℕ) (i x : ℕ) → ((j : ℕ) → j < 67 → get_or xs j 0 ≤ 2 ^ w - 1) → length xs ≡ 67 → i < 67 → x ≤ 2 ^ w - 1
-    → (j : ℕ) → j < 67 → get_or (set xs i x) j 0 ≤ 2 ^ w - 1
-digit-more w xs i x f l h k j a =
-    let most = all_set xs i x (suc (2 ^ w - 1)) 67 (omega arith) (omega arith) (λ m b. omega (arith, f m b)) j a in
-    omega arith
 
 -- one more start
 pub starts_next : (I seed z₀ z x z' : List ℕ) (q i : ℕ) → z ≡ patch 0 (joined (start I q seed) i) z₀ → bytes x ≡ start I q seed i
@@ -64,12 +57,13 @@ signed_by I seed S ends x z r q l f p k =
 
 -- the chains of a candidate, from the values of a signature
 pub completed_by : (I S sig places x z r : List ℕ) (q w n top : ℕ) → length x ≡ 2144 → n ≡ chains w → n ≤ 67 → length sig ≡ ots_length w → top ≡ 2 ^ w - 1
-    → ((i : ℕ) → i < n → get_or places i 0 ≡ coef w S i) → z ≡ patch 0 (take (length sig - 36) (drop 36 sig)) x
-    → take (32 * n) r ≡ joined (ended I q places (replicate 67 top) z) n → take (32 * n) r ≡ joined (completed I q w S sig) n
+    → ((i : ℕ) → i < chains w → get_or places i 0 ≡ coef w S i) → z ≡ patch 0 (take (length sig - 36) (drop 36 sig)) x
+    → take (32 * n) r ≡ joined (ended I q places (replicate 67 top) z) n → take (32 * chains w) r ≡ joined (completed I q w S sig) (chains w)
 unfolding completed ended part
 completed_by I S sig places x z r q w n top l e h ls et f p k =
     let long : length (drop 36 sig) ≡ 32 * n = length-drop 36 sig ∙ omega (arith, ls, e, length-values w) in
-    k
+    rw (← e)
+    (k
     ∙ joined_same _ _ n
     (λ i a.
     let slot : part (32 * i) 32 z ≡ part (36 + 32 * i) 32 sig =
@@ -77,41 +71,11 @@ completed_by I S sig places x z r q w n top l e h ls et f p k =
     (ap (λ (b : ℕ). part b 32 (patch 0 (drop 36 sig) x)) (sym (zero-add (32 * i)))
     ∙ part-patch 0 (32 * i) 32 (drop 36 sig) x (omega arith) (omega arith)
     ∙ ap (take 32) (drop-drop (32 * i) 36 sig)) in
-    rw (replicate_at i 67 top (omega arith), f i a, et) (ap (chain I q i (coef w S i) (2 ^ w - 1 - coef w S i)) slot))
-
--- ---- the hash input of a key
-
-pub front-taken : (n : ℕ) (ws zs a : List ℕ) → length ws ≡ n → a ≡ patch 0 ws zs → take n a ≡ ws
-front-taken n ws zs a l e = let k : n ≡ 0 + length ws = omega arith in rw (e, k) (take-patch 0 ws zs (omega arith))
-
-key_by : (I ends a b r : List ℕ) (q n : ℕ) → 22 ≤ length a → take 22 a ≡ front I q d_pblc → n ≡ 22 + length ends → b ≡ patch 22 ends a
-    → r ≡ sha256 (take n b) → r ≡ sha256 (key_input I q ends)
-unfolding key_input front
-key_by I ends a b r q n h e l p k =
-    k ∙ ap sha256 (rw (l, p) (take-patch 22 ends a h ∙ ap (λ (x : List ℕ). x ++ ends) e))
+    rw (replicate_at i 67 top (omega arith), f i (omega arith), et) (ap (chain I q i (coef w S i) (2 ^ w - 1 - coef w S i)) slot)))
 
 -- ---- keys
 
-pub chains_le : (w : ℕ) → (w ≡ 4) ⊎ (w ≡ 8) → chains w ≤ 67
-unfolding chains
-chains_le w h = ⊎_elim (λ e. rw e (omega arith)) (λ e. rw e (omega arith)) h
-
-pub some_chains : (w : ℕ) → (w ≡ 4) ⊎ (w ≡ 8) → 0 < chains w
-unfolding chains
-some_chains w h = ⊎_elim (λ e. rw e (omega arith)) (λ e. rw e (omega arith)) h
-
--- a signature of width w has room for the value of chain i
-value-place : (w i n : ℕ) → n ≡ ots_length w → i < chains w → 36 + 32 * i + 32 ≤ n
-unfolding ots_length
-value-place w i n e h = omega arith
-
-length-ends : (I S sig : List ℕ) (q w n : ℕ) → length sig ≡ ots_length w → n ≤ chains w → length (joined (completed I q w S sig) n) ≡ 32 * n
-length-ends I S sig q w n l h = length-joined 32 _ n (λ i k. length-completed I q w S sig i (omega (arith, value-place w i (length sig) l (omega arith))))
-
-pub key_completed : (I message sig S a b r : List ℕ) (q w m : ℕ) → length sig ≡ ots_length w → S ≡ digested I q w (part 4 32 sig) message → 22 ≤ length a
-    → take 22 a ≡ front I q d_pblc → m ≡ chains w → b ≡ patch 22 (joined (completed I q w S sig) (chains w)) a
-    → r ≡ sha256 (take (22 + 32 * m) b) → r ≡ candidate I q w message sig
-unfolding candidate
-key_completed I message sig S a b r q w m l s h f n p k =
-    let long : length (joined (completed I q w S sig) (chains w)) ≡ 32 * chains w = length-ends I S sig q w (chains w) l (omega arith) in
-    key_by I (joined (completed I q w S sig) (chains w)) a b r q (22 + 32 * m) h f (omega arith) p k ∙ rw s
+pub key_completed : (I message sig S a z r : List ℕ) (q w m : ℕ) → S ≡ digested I q w (part 4 32 sig) message → a ≡ front I q d_pblc → m ≡ chains w
+    → take (32 * chains w) z ≡ joined (completed I q w S sig) (chains w) → r ≡ sha256 (a ++ take (32 * m) z) → r ≡ candidate I q w message sig
+unfolding candidate key_input front
+key_completed I message sig S a z r q w m s e n f p = p ∙ rw (e, n, f, s)

@@ -44,9 +44,6 @@ part-more a m ws xs h =
     part-add a m (length ws) (patch (a + m) ws xs)
     ∙ ap₂ (λ (x y : List ℕ). x ++ y) (part_before a m (a + m) ws xs (omega arith) h) (part-own (a + m) (length ws) ws xs h refl)
 
-pub put_none : (i : ℕ) (v z : List ℕ) → length z ≡ 17760 → Put 0 i v z z
-put_none i v z l = record { long = l; new = λ j h. absurd (omega arith); old = λ j h k. refl }
-
 module _ (n i : ℕ) (v z z₁ y z₂ : List ℕ) (hn : n < 16) (hi : i < 34) (ly : length y ≡ 8) (e : y ≡ column n 8 v)
     (p : z₂ ≡ patch (1110 * n + 32 * i + 22) (bytes y) z₁) (f : Put n i v z z₁) where
   wide : length (bytes y) ≡ 32

@@ -1,17 +1,17 @@
 -- All chains of a leaf, sixteen at a time: whatever the order, each comes to its own end.
 use Rattle.std.specs.Prelude.{◌≡◌, refl, Bool, true, false, ◌⊎◌, List, ℕ, ◌+◌, ◌-◌, ◌*◌, ◌≤◌, ◌<◌, ltb, take, set, replicate}
-use Rattle.std.proofs.Common.{sym, ap, subst, ◌∙◌, inl, inr, zero-add, eq-or-lt_of_le, ltb-true, ltb-false, ext_get_or}
+use Rattle.std.proofs.Common.{sym, ap, ◌∙◌, inl, inr, zero-add, eq-or-lt_of_le, ltb-true, ltb-false, ext_get_or}
 use Rattle.std.proofs.Math.Logic.{⊎_elim}
 use native.Mathlib.Omega.{arith}
 use Rattle.std.proofs.Math.ListN.{length, get_or}
 use Rattle.std.proofs.lemmas.List.{get_or-replicate}
 use Rattle.octets.specs.Octets.{part, patch, bytes}
 use Rattle.octets.specs.Strings.{joined}
-use Rattle.octets.specs.OctetsLaws.{length_part, length-patch, take-patch, length-bytes}
+use Rattle.octets.specs.OctetsLaws.{length_part, take-patch, length-bytes}
 use Rattle.octets.specs.StringsLaws.{length-joined, joined_same}
 use Rattle.octets.specs.WriteLaws.{part-own, part_before, part_after, joined-written}
 use Rattle.sha256_lanes.specs.Rows.{column}
-use Rattle.sha256_lanes.specs.RowsLaws.{Apart, set_other, set_there, one_more, fill_next, length-column, get_d_column, column_same}
+use Rattle.sha256_lanes.specs.RowsLaws.{Apart, set_other, set_there, fill_next, length-column, get_d_column, column_same}
 use Rattle.rfc8554.specs.Ots.{chain}
 use Rattle.rfc8554.specs.OtsLaws.{chain-add, length-chain}
 use Rattle.lmots_chains.specs.Sixteen.{Walked}
@@ -26,18 +26,6 @@ compare i j = go (ltb i j) refl
     go true e = inr (inl (ltb-true i j e))
     go false e = ⊎_elim (λ p. inl (sym p)) (λ h. inr (inr h)) (eq-or-lt_of_le (ltb-false i j e))
 
--- a bound n on the elements stays where one is set to a number below n
-pub all_set : (xs : List ℕ) (i x n m : ℕ) → i < length xs → x < n → ((j : ℕ) → j < m → get_or xs j 0 < n) → (j : ℕ) → j < m → get_or (set xs i x) j 0 < n
-all_set xs i x n m h k f j a =
-    ⊎_elim
-    (λ e. subst (λ (y : ℕ). y < n) (sym (set_there xs i j x e h)) k)
-    (λ e. subst (λ (y : ℕ). y < n) (sym (set_other xs i j x e)) (f j a))
-    (compare j i)
-
--- one more bound
-pub bound_more : (f : ℕ → ℕ) (n x l : ℕ) → ((j : ℕ) → j < l → n ≤ f j) → x ≤ n → x ≤ f l → (j : ℕ) → j < l + 1 → x ≤ f j
-bound_more f n x l g h k = one_more (λ j. x ≤ f j) l (λ j b. omega (arith, g j b)) k
-
 -- ---- slots of 32 bytes
 
 module _ (z ws : List ℕ) (i : ℕ) (lz : length z ≡ 2144) (lw : length ws ≡ 32) (hi : i < 67) where
@@ -50,13 +38,6 @@ module _ (z ws : List ℕ) (i : ℕ) (lz : length z ≡ 2144) (lw : length ws �
       (λ a. part_before (32 * j) 32 (32 * i) ws z (omega arith) (omega arith))
       (λ a. part_after (32 * j) 32 (32 * i) ws z (omega arith) (omega arith))
       h
-
-  length-slot : length (patch (32 * i) ws z) ≡ 2144
-  length-slot = length-patch (32 * i) ws z (omega arith) ∙ lz
-
--- eight words written to a slot
-pub length-written : (i : ℕ) (z x z' : List ℕ) → i < 67 → length z ≡ 2144 → length x ≡ 8 → z' ≡ patch (32 * i) (bytes x) z → length z' ≡ 2144
-length-written i z x z' h lz lx p = ap length p ∙ length-slot z (bytes x) i lz (length-bytes x ∙ ap (λ (n : ℕ). 4 * n) lx) h
 
 -- one slot after the other
 pub written_next : (f : ℕ → List ℕ) (i : ℕ) (z₀ z y z' : List ℕ) → length (joined f i) ≡ 32 * i → z ≡ patch 0 (joined f i) z₀ → y ≡ f i
@@ -91,13 +72,6 @@ column_next v y l r h k lv f =
 pub column-others : (v v₀ : List ℕ) (l r x : ℕ) → l < 16 → ((j : ℕ) → j < l → column j 8 v ≡ column j 8 v₀) → (j : ℕ) → j < l
     → column j 8 (set v (16 * r + l) x) ≡ column j 8 v₀
 column-others v v₀ l r x h f j k = column_same j 8 v (set v (16 * r + l) x) (λ t a. set_other v (16 * r + l) (16 * t + j) x (beside t r j l k h)) ∙ f j k
-
--- the columns before l hold the values of their chains
-pub gather_next : (v v₁ z picks y : List ℕ) (l : ℕ) → ((j : ℕ) → j < l → bytes (column j 8 v) ≡ part (32 * get_or picks j 0) 32 z)
-    → column l 8 v₁ ≡ y → ((j : ℕ) → j < l → column j 8 v₁ ≡ column j 8 v) → bytes y ≡ part (32 * get_or picks l 0) 32 z
-    → (j : ℕ) → j < l + 1 → bytes (column j 8 v₁) ≡ part (32 * get_or picks j 0) 32 z
-gather_next v v₁ z picks y l f e g p =
-    one_more (λ j. bytes (column j 8 v₁) ≡ part (32 * get_or picks j 0) 32 z) l (λ j b. ap bytes (g j b) ∙ f j b) (ap bytes e ∙ p)
 
 -- ---- columns to slots
 

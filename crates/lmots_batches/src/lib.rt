@@ -89,21 +89,21 @@ fn longest(rest: &[u32; 67], n: usize) -> usize
     (0..n).max_by_key(|&i| rest[i]).unwrap_or(0)
 }
 
-// The sixteen of n chains with the most steps left. Where fewer than sixteen have steps left, the longest is taken again.
-fn choose(mut rest: [u32; 67], n: usize) -> Picks
-    requires { (0 < n) × (n ≤ 67) }
-    ensures { (l : ℕ) → l < 16 → get_or result.chains l 0 < n }
+// The sixteen chains with the most steps left. Where fewer than sixteen have steps left, the longest is taken again.
+fn choose(chains: &Chains) -> Picks
+    ensures { (l : ℕ) → l < 16 → get_or result.chains l 0 < chains.now.n }
 {
-    let first = longest(&rest, n);
-    let mut chains = [first; 16];
+    let mut rest = chains.lefts();
+    let first = longest(&rest, chains.n);
+    let mut picks = [first; 16];
     for l in 0..16 {
-        let i = longest(&rest, n);
+        let i = longest(&rest, chains.n);
         if 0 < rest[i] {
-            chains[l] = i;
+            picks[l] = i;
         }
         rest[i] = 0;
     }
-    Picks { chains }
+    Picks { chains: picks }
 }
 
 // Writes y to column l; the columns before it stay. Scratch: the columns after it.
@@ -191,7 +191,7 @@ fn advance(k: &RoundConstants, id: [u32; 4], q: u32, chains: Chains, z: &mut [u8
 {
     let mut gone = chains;
     for _ in 0..17085 {
-        let picks = choose(gone.lefts(), gone.n);
+        let picks = choose(&gone);
         if picks.chains[3] == picks.chains[0] {
             return gone;
         }
@@ -206,15 +206,7 @@ fn finish(k: &RoundConstants, id: [u32; 4], q: u32, chains: &Chains, z: &mut [u8
 {
     for i in 0..chains.n {
         let y = words_at(z, 32 * i);
-        let x = chain(
-            k,
-            id,
-            q,
-            i as u32,
-            chains.places[i],
-            chains.left(i),
-            y,
-        );
+        let x = chain(k, id, q, i as u32, chains.places[i], chains.left(i), y);
         put_words(z, 32 * i, &x);
     }
 }

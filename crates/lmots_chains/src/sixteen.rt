@@ -6,6 +6,14 @@ use crate::chain::across;
 use sha256_constants::{RoundConstants, initial_value};
 use sha256_lanes::{Lanes, spread};
 
+// Where each lane is: 65536 times its chain's number plus 256 times the place in it.
+#[derive(Clone, Copy)]
+struct Places {
+    words: [u32; 16],
+
+    ghost small: { (l : ℕ) → l < 16 → get_or words l 0 < 16777216 },
+}
+
 // Words 6 to 12 of the blocks: the values, moved by one byte.
 fn put_values(v: &[u32; 128], w: &mut [u32; 1024])
     ensures { Slid 112 v.now w.old w.new }
@@ -16,12 +24,12 @@ fn put_values(v: &[u32; 128], w: &mut [u32; 1024])
 }
 
 // Word 5 of the blocks, with chain number and place, and word 13, where the padding begins.
-fn put_places(places: &[u32; 16], t: u32, v: &[u32; 128], w: &mut [u32; 1024])
-    requires { (t < 256) × ((l : ℕ) → l < 16 → get_or places.now l 0 < 16777216) }
-    ensures { Placed 16 places.now t v.now w.old w.new }
+fn put_places(places: &Places, t: u32, v: &[u32; 128], w: &mut [u32; 1024])
+    requires { t < 256 }
+    ensures { Placed 16 places.now.words t v.now w.old w.new }
 {
     for l in 0..16 {
-        w[l + 80] = places[l] + 256 * t + v[l] / 16777216 % 256;
+        w[l + 80] = places.words[l] + 256 * t + v[l] / 16777216 % 256;
         w[l + 208] = v[l + 112] % 16777216 * 256 + 128;
     }
 }
@@ -34,10 +42,10 @@ fn put_numbers(leaves: [u32; 16], w: &mut [u32; 1024])
 }
 
 // One step of every chain, t places after the place of its lane. Scratch: the words of the lanes that `Ready` does not name.
-fn step(k: &RoundConstants, places: &[u32; 16], t: u32, lanes: &mut Lanes, v: &mut [u32; 128])
-    requires { (t < 256) × ((l : ℕ) → l < 16 → get_or places.now l 0 < 16777216) }
+fn step(k: &RoundConstants, places: &Places, t: u32, lanes: &mut Lanes, v: &mut [u32; 128])
+    requires { t < 256 }
     ensures same { lanes.new.shares ≡ lanes.old.shares }
-    ensures stepped { Stepped places.now t lanes.old.schedule lanes.new.shares lanes.old.state v.old lanes.new.schedule lanes.new.state v.new }
+    ensures stepped { Stepped places.now.words t lanes.old.schedule lanes.new.shares lanes.old.state v.old lanes.new.schedule lanes.new.state v.new }
 {
     put_places(places, t, v, &mut lanes.schedule);
     put_values(v, &mut lanes.schedule);
@@ -61,9 +69,9 @@ fn prepare(k: &RoundConstants, id: [u32; 4], leaves: [u32; 16], lanes: &mut Lane
 }
 
 // `count` steps of every chain, for leaves that the lanes are ready for. Scratch as in `step`.
-fn walk(k: &RoundConstants, places: &[u32; 16], count: u32, lanes: &mut Lanes, v: &mut [u32; 128])
-    requires { (count ≤ 255) × ((l : ℕ) → l < 16 → get_or places.now l 0 < 16777216) }
-    ensures { AllWalked places.now count lanes.old.schedule lanes.old.shares lanes.old.state v.old lanes.new.schedule lanes.new.state v.new }
+fn walk(k: &RoundConstants, places: &Places, count: u32, lanes: &mut Lanes, v: &mut [u32; 128])
+    requires { count ≤ 255 }
+    ensures { AllWalked places.now.words count lanes.old.schedule lanes.old.shares lanes.old.state v.old lanes.new.schedule lanes.new.state v.new }
 {
     for t in 0..count {
         step(k, places, t, lanes, v);
@@ -88,5 +96,5 @@ pub fn steps(
         state: [0; 3264],
     };
     prepare(k, id, leaves, &mut lanes);
-    walk(k, places, count, &mut lanes, v);
+    walk(k, &Places { words: *places }, count, &mut lanes, v);
 }

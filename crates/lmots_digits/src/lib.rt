@@ -1,4 +1,4 @@
-// The digits of a message in LM-OTS (RFC 8554, sections 3.1.3, 4.4 and 4.5), and 16 or 32 bytes as words and back.
+// The digits of a message in LM-OTS (RFC 8554, sections 3.1.3, 4.4 and 4.5), and words from bytes.
 #![tactic(auto)]
 
 pub mod digits;

@@ -1,5 +1,5 @@
 // The width of a digit.
-ghost use Rattle.std.specs.Prelude.{◌≡◌, ◌-◌, ◌^◌, ◌≤◌};
+ghost use Rattle.std.specs.Prelude.{◌≡◌, ◌-◌, ◌^◌, ◌<◌, ◌≤◌};
 ghost use Rattle.rfc8554.specs.Ots as Ots;
 
 // The bits of a digit, w in RFC 8554 (section 4.1).
@@ -36,7 +36,7 @@ impl Width {
     // p, the number of chains of a key.
     #[tactic(auto, unfolding(rfc8554::specs::Ots::chains))]
     pub fn chains(self) -> usize
-        ensures { (result ≡ Ots.chains (bits_of self)) × (result ≤ 67) }
+        ensures { (result ≡ Ots.chains (bits_of self)) × (0 < result) × (result ≤ 67) }
     {
         match self {
             Width::Four => 67,

@@ -5,4 +5,5 @@ pub mod calls;
 mod node;
 mod signer;
 mod tree;
+mod types;
 pub mod verify;

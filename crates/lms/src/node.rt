@@ -26,7 +26,7 @@ pub(crate) fn leaf(k: &RoundConstants, id: [u32; 4], r: u32, key: &[u8]) -> [u8;
     ensures { result ≡ Fips.sha256 (leaf_input (bytes id) r key.now) }
 {
     let p = lmots_digits::digits::front(id, r, LEAF);
-    sha256::hash::sha256_two(&k.words, &p, key)
+    sha256::hash::sha256_two(k, &p, key)
 }
 
 // The inner node r, over its children, which stand one after the other.
@@ -34,7 +34,7 @@ pub(crate) fn inner(k: &RoundConstants, id: [u32; 4], r: u32, children: &[u8]) -
     ensures { result ≡ Fips.sha256 (over_children (bytes id) r children.now) }
 {
     let p = lmots_digits::digits::front(id, r, INNER);
-    sha256::hash::sha256_two(&k.words, &p, children)
+    sha256::hash::sha256_two(k, &p, children)
 }
 
 // Two children, one after the other.

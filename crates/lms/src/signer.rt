@@ -8,6 +8,7 @@ ghost use Rattle.rfc8554.specs.Tree.{path, lms_signature};
 ghost use Rattle.protocol.specs.Layout.{signature_length, tree_length};
 
 use crate::node;
+use lmots_digits::width::Width;
 use sha256_constants::RoundConstants;
 
 // The types of the keys and signatures that are made.
@@ -80,8 +81,15 @@ fn write_values(
     requires { (length randomizer.now ≡ 32) × (1128 ≤ length out.old) }
     ensures { out.new ≡ patch 40 (joined (signed (bytes id) leaf 8 (bytes seed) (digested (bytes id) leaf 8 randomizer.now message.now)) 34) out.old }
 {
-    let digits = lmots_digits::digits::message_digits(&k.words, id, leaf, 8, randomizer, message);
-    lmots::key::write_signed(&k.words, id, leaf, seed, &digits, out, 40);
+    let digits = lmots_digits::digits::message_digits(
+        k,
+        id,
+        leaf,
+        Width::Eight,
+        randomizer,
+        message,
+    );
+    lmots::key::write_signed(k, id, leaf, seed, &digits, out, 40);
 }
 
 // A whole signature.
@@ -98,8 +106,8 @@ pub(crate) fn write_signature(
     ensures { out.new ≡ patch 0 (lms_signature 6 4 id.now leaf seed.now randomizer.now message.now tree.now) out.old }
 {
     let k = sha256_constants::round_constants();
-    let id_words = lmots_digits::words::four(id, 0);
-    let seed_words = lmots_digits::words::eight(seed, 0);
+    let id_words = lmots_digits::words::words_at(id, 0);
+    let seed_words = lmots_digits::words::words_at(seed, 0);
     write_head(leaf, randomizer, out);
     write_values(&k, id_words, seed_words, leaf, randomizer, message, out);
     write_tail(tree, leaf, out);

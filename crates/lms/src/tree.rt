@@ -25,7 +25,7 @@ fn put_sixteen(k: &RoundConstants, id: [u32; 4], seed: [u32; 8], q: u32, tree: &
     requires { (q + 16 ≤ 1024) × (length tree.old ≡ tree_length) }
     ensures { tree.new ≡ patch (32 * (1024 + q)) (nodes 10 8 (bytes id) (bytes seed) (1024 + q) 16) tree.old }
 {
-    let keys = lmots::leaves::ots_keys(&k.words, id, q, seed);
+    let keys = lmots::leaves::ots_keys(k, id, q, seed);
     for l in 0..16 {
         let n = l as u32;
         put_leaf(k, id, q + n, node::bytes_at(&keys, 32 * l, 32), tree);
@@ -77,8 +77,8 @@ pub(crate) fn make(seed: &[u8], id: &[u8], tree: &mut [u8], out: &mut [u8])
     ensures { (tree.new ≡ tree_filled id.now seed.now tree.old) × (out.new ≡ patch 0 (public_key 6 4 id.now seed.now) out.old) }
 {
     let k = sha256_constants::round_constants();
-    let id_words = lmots_digits::words::four(id, 0);
-    let seed_words = lmots_digits::words::eight(seed, 0);
+    let id_words = lmots_digits::words::words_at(id, 0);
+    let seed_words = lmots_digits::words::words_at(seed, 0);
     fill(&k, id_words, seed_words, tree);
     write_key(id, node::bytes_at(tree, 32, 32), out);
 }

@@ -43,7 +43,7 @@ fn check(rt: &impl Print, input: &mut impl Read) -> io::Result<()> {
     let key = operand(input, &mut key)?;
     let message = operand(input, &mut message)?;
     let signature = operand(input, &mut signature)?;
-    if lms::calls::check_signature(key, message, signature) == 0 {
+    if lms::calls::check_signature(key, message, signature).is_ok() {
         rt.println(" accept")
     } else {
         rt.println(" reject")
@@ -65,7 +65,7 @@ fn sign(
     let randomizer = operand(input, &mut randomizer)?;
     let message = operand(input, &mut message)?;
     let mut out = [0u8; SIGNATURE];
-    lms::calls::sign(
+    let _ = lms::calls::sign(
         u32::from_be_bytes(leaf),
         seed,
         identifier,
@@ -90,7 +90,7 @@ fn make_and_sign(rt: &impl Print, input: &mut impl Read) -> io::Result<()> {
     let identifier = operand(input, &mut identifier)?;
     let mut tree = [0u8; 65536];
     let mut key = [0u8; 56];
-    lms::calls::make_key(seed, identifier, &mut tree, &mut key);
+    let _ = lms::calls::make_key(seed, identifier, &mut tree, &mut key);
     rt.print(" ")?;
     print_bytes(rt, &key)?;
     for _ in 0..byte(input)? {

@@ -10,7 +10,7 @@ use layout::{
     NOTE_HEARD_VALUE_AT, NOTE_KEPT_AT, NOTE_OWN_VALUE_AT, NOTE_ROUND_AT, NOTE_SEAT_AT,
     NOTE_SIZE_AT,
 };
-use octets::{wide, word_at};
+use octets::word_at;
 use protocol::{First, Notices, Own, Record};
 use wire::values::value_at;
 
@@ -21,7 +21,7 @@ pub(crate) fn wrong_note(note: &[u8]) -> bool
     if note.len() != layout::note_length() {
         return true;
     }
-    let flags = wide(note[NOTE_FLAGS_AT]);
+    let flags = u32::from(note[NOTE_FLAGS_AT]);
     (note[0] != 0x20) | wrong_flags(flags)
 }
 
@@ -30,7 +30,7 @@ fn note_round(note: &[u8]) -> u32
     requires { length note.now ≡ note_length }
     ensures { result ≡ note_round note.now }
 {
-    wide(note[NOTE_ROUND_AT]) * 256 + wide(note[NOTE_ROUND_AT + 1])
+    u32::from(u16::from_be_bytes([note[NOTE_ROUND_AT], note[NOTE_ROUND_AT + 1]]))
 }
 
 // The own submission.
@@ -73,9 +73,9 @@ pub(crate) fn note_record(note: &[u8]) -> Record
     requires { length note.now ≡ note_length }
     ensures { result ≡ note_record note.now }
 {
-    let n = wide(note[NOTE_SIZE_AT]);
-    let seat = wide(note[NOTE_SEAT_AT]);
-    let flags = wide(note[NOTE_FLAGS_AT]);
+    let n = u32::from(note[NOTE_SIZE_AT]);
+    let seat = u32::from(note[NOTE_SEAT_AT]);
+    let flags = u32::from(note[NOTE_FLAGS_AT]);
     let round = note_round(note);
     let own = note_own(note, flags);
     let confirmed = is_set(CONFIRMED, flags);

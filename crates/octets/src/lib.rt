@@ -5,13 +5,6 @@ ghost use Rattle.std.specs.Prelude.{◌≡◌, ◌+◌, ◌*◌, ◌<◌, ◌≤
 ghost use Rattle.octets.specs.Octets.{be, bytes, part, patch, word_at, words};
 ghost use Rattle.octets.specs.Strings as Strings;
 
-// A byte as a word, with its bound.
-pub fn wide(b: u8) -> u32
-    ensures { (result ≡ b) × (result < 256) }
-{
-    u32::from(b)
-}
-
 // The big-endian word at index `at`.
 pub fn word_at(m: &[u8], at: usize) -> u32
     requires { at + 4 ≤ length m.now }

@@ -7,7 +7,6 @@ use Rattle.refusal.specs.RefusalLaws.{refused-old}
 use Rattle.refusal.specs.Answers.{number_of}
 use Rattle.refusal.specs.AnswersLaws.{number-nonzero}
 use Rattle.protocol.specs.declared.Record.{Record}
-use Rattle.protocol.specs.declared.Opened.{Opened}
 use Rattle.protocol.specs.Record.{zeros}
 use Rattle.protocol.specs.Calls.{opened_by}
 use Rattle.protocol.specs.Answers.{opened_in}

@@ -4,7 +4,7 @@ use Rattle.std.proofs.Common.{sym, ap, ◌∙◌, add-zero, add-suc, add_assoc, 
 use mathlib.Core.List.{List, ◌++◌}
 use Rattle.std.proofs.lemmas.Nat.{and_comm, and_mask, and_le_l}
 use Rattle.octets.specs.Octets.{part}
-use Rattle.octets.specs.OctetsLaws.{length-be, length_part}
+use Rattle.octets.specs.OctetsLaws.{length-be}
 use Rattle.fips180.specs.FipsLaws.{length-sha256}
 use Rattle.rfc8554.specs.Ots.{H, u32str, coef, width, chains, ots_length, chain_input, chain, start, key_input, chain_end, ots_key, digested, signed, ots_signature, completed, candidate}
 use Rattle.octets.specs.StringsLaws.{part_skip, part_left, part-front, part_between, length-joined, part-joined, joined_same}
@@ -67,11 +67,6 @@ length-start I q seed i = length-sha256 _
 pub length-signed : (I : List ℕ) (q w : ℕ) (seed S : List ℕ) (i : ℕ) → length (signed I q w seed S i) ≡ 32
 unfolding signed
 length-signed I q w seed S i = length-chain I q i 0 _ _ (length-start I q seed i)
-
-pub length-completed : (I : List ℕ) (q w : ℕ) (S signature : List ℕ) (i : ℕ) → 68 + 32 * i ≤ length signature
-    → length (completed I q w S signature i) ≡ 32
-unfolding completed
-length-completed I q w S signature i h = length-chain I q i _ _ _ (length_part (36 + 32 * i) 32 signature (omega arith))
 
 -- the hash input of a chain step, over an identifier of 16 bytes
 module _ (I : List ℕ) (e : length I ≡ 16) (q : ℕ) where

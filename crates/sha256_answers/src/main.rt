@@ -3,9 +3,9 @@
 #![tactic(auto)]
 
 ghost use Rattle.std.specs.Prelude.{◌≡◌, ◌≤◌, length};
-ghost use Rattle.fips180.specs.Constants.{constants};
 
 use sha256::hash;
+use sha256_constants::RoundConstants;
 use std::io;
 
 // The message of n bytes: byte i is 31 i + n modulo 256.
@@ -26,8 +26,8 @@ fn line(rt: &impl Print, n: usize, how: &[u8], digest: [u8; 32]) -> io::Result<(
 }
 
 // The message of n bytes, hashed as one slice, and as two.
-fn whole_and_two(rt: &impl Print, k: &[u32; 64], space: &mut [u8], n: usize) -> io::Result<()>
-    requires { (k.now ≡ constants) × (n ≤ length space.old) }
+fn whole_and_two(rt: &impl Print, k: &RoundConstants, space: &mut [u8], n: usize) -> io::Result<()>
+    requires { n ≤ length space.old }
 {
     fill(space, n);
     let m = &space[..n];
@@ -48,8 +48,8 @@ fn padded(n: usize) -> [u8; 64]
     b
 }
 
-fn block(rt: &impl Print, k: &[u32; 64], n: usize) -> io::Result<()>
-    requires { (k.now ≡ constants) × (n ≤ 55) }
+fn block(rt: &impl Print, k: &RoundConstants, n: usize) -> io::Result<()>
+    requires { n ≤ 55 }
 {
     let b = padded(n);
     line(rt, n, b" block ", hash::one_block(k, &b))

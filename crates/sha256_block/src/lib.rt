@@ -27,7 +27,9 @@ fn first_words(m: [u32; 16]) -> [u32; 64]
     ensures { take 16 result ≡ m }
 {
     let mut w = [0u32; 64];
-    w[..16].copy_from_slice(&m);
+    for i in 0..16 {
+        w[i] = m[i];
+    }
     w
 }
 

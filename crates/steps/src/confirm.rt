@@ -22,12 +22,13 @@ fn is_complete(r: Record) -> bool
 }
 
 // Confirms and writes NOTICE, with any store.
-fn confirm(r: Record, out: &mut [u8], at: usize) -> Phase
-    requires { (r.seat < most_seats) × (at + notice_length ≤ length out.old) }
-    ensures { ((store : List ℕ) → Did confirm r store out.old at result.unit store out.new result.at) × (result.at ≡ at + notice_length) }
+fn confirm(p: Phase, out: &mut [u8]) -> Phase
+    requires { (p.unit.seat < most_seats) × (p.at + notice_length ≤ length out.old) }
+    ensures { ((store : List ℕ) → Did confirm p.unit store out.old p.at result.unit store out.new result.at) × (result.at ≡ p.at + notice_length) }
 {
+    let r = p.unit;
     let value = r.own.value;
-    let at = wire_write::write_notice(out, at, r.round, r.seat, &value);
+    let at = wire_write::write_notice(out, p.at, r.round, r.seat, &value);
     let unit = Record {
         confirmed: true,
         ..r
@@ -36,22 +37,23 @@ fn confirm(r: Record, out: &mut [u8], at: usize) -> Phase
 }
 
 // k seats collected: the unit confirms, and treats its own certificate like one heard. Otherwise the reply alone.
-pub(crate) fn confirm_if_complete(r: Record, store: &mut [u8], out: &mut [u8], at: usize) -> Phase
-    requires { Fits r store.old × (at + notice_length + full_length r.n + evidence_length (k r.n) ≤ length out.old) }
-    ensures { Did confirm_if_complete r store.old out.old at result.unit store.new out.new result.at }
+pub(crate) fn confirm_if_complete(p: Phase, store: &mut [u8], out: &mut [u8]) -> Phase
+    requires { Fits p.unit store.old × (p.at + notice_length + full_length p.unit.n + evidence_length (k p.unit.n) ≤ length out.old) }
+    ensures { Did confirm_if_complete p.unit store.old out.old p.at result.unit store.new out.new result.at }
 {
-    if is_complete(r) {
-        let p = confirm(r, out, at);
-        let value = p.unit.own.value;
+    if is_complete(p.unit) {
+        let confirmed = confirm(p, out);
+        let r = confirmed.unit;
+        let value = r.own.value;
         let own = Certificate {
             value,
             source: Source {
                 place: Place::Slots(Bank::Collected),
-                seats: p.unit.own.collected,
+                seats: r.own.collected,
             },
             bytes: &[],
         };
-        return hear_certificate(p.unit, store, out, p.at, own);
+        return hear_certificate(confirmed, store, out, own);
     }
-    reply(r, store, out, at)
+    reply(p, store, out)
 }

@@ -34,7 +34,7 @@ pub fn submit_phase(
 {
     let p = submit_own(r, store, out, value, signature);
     let unit = collect_kept(p.unit, store);
-    confirm_if_complete(unit, store, out, p.at)
+    confirm_if_complete(Phase { unit, ..p }, store, out)
 }
 
 // A SUBMIT heard.
@@ -48,7 +48,7 @@ fn step_submit(r: Record, store: &mut [u8], out: &mut [u8], message: &[u8]) -> P
         signature: store::slots::signature_at(message, layout::submit_signature_at()),
     };
     let unit = hear_submit(r, store, submit);
-    confirm_if_complete(unit, store, out, 0)
+    confirm_if_complete(Phase { unit, at: 0 }, store, out)
 }
 
 // A NOTICE heard.
@@ -58,7 +58,7 @@ fn step_notice(r: Record, store: &[u8], out: &mut [u8], message: &[u8]) -> Phase
 {
     let value = wire::values::value_at(message, layout::value_at());
     let unit = hear(r, value);
-    reply(unit, store, out, 0)
+    reply(Phase { unit, at: 0 }, store, out)
 }
 
 // A FULL heard.
@@ -74,7 +74,7 @@ fn step_full(r: Record, store: &mut [u8], out: &mut [u8], message: &[u8]) -> Pha
         },
         bytes: message,
     };
-    hear_certificate(r, store, out, 0, full)
+    hear_certificate(Phase { unit: r, at: 0 }, store, out, full)
 }
 
 // A step, by the kind of its message.

@@ -13,7 +13,7 @@ use Rattle.protocol.specs.Layout.{value_length, signature_length, value_at}
 use Rattle.protocol.specs.Values.{is_lower}
 use Rattle.protocol.specs.Message.{Message, Submit, read_value, read, read_full, signed}
 use Rattle.protocol.specs.Certificate.{certificate_of, certificate_in}
-use Rattle.protocol.specs.Refusals.{Checks, Condition, every, said, wrong_lengths, is_for_step, is_full, is_evidence, bad_signature, lower_first, equal_values, SIGNATURE, NO_CONFLICT_IN, NO_CONFLICT_BETWEEN, message_conditions, pack_conditions, certificate_conditions, two_conditions}
+use Rattle.protocol.specs.Refusals.{Checks, Condition, every, said, wrong_lengths, is_full, is_evidence, bad_signature, lower_first, equal_values, SIGNATURE, NO_CONFLICT_IN, NO_CONFLICT_BETWEEN, message_conditions, pack_conditions, certificate_conditions, two_conditions}
 use Rattle.protocol.specs.Signatures.{signature_number}
 use Rattle.protocol.specs.SignaturesLaws.{signature-row}
 use Rattle.protocol.specs.declared.Record.{Record}
@@ -48,13 +48,6 @@ module _ (checks : Checks) (r : Record) (value signature : List ℕ) where
       let s = first_of-zero 7 _ _ (sym e ∙ z) in
       let lengths = right_lengths value signature (first_of-zero 8 _ _ s.1).0 in
       (s.0, lengths.0, lengths.1)
-
--- ---- a step's message
-
-pub step-told : (checks : Checks) (r : Record) (m : Message) (taken : Bool) → taken ≡ is_for_step m
-    → (number : ℕ) → number ≡ first_of (message_conditions checks r.n r.round taken m)
-    → number ≡ first_of (message_conditions checks r.n r.round (is_for_step m) m)
-step-told checks r m taken t number e = rw (← t) e
 
 -- ---- EVIDENCE
 

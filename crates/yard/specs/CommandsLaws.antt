@@ -107,6 +107,18 @@ module _ (bytes : List ℕ) where
   -- ---- each later one
 
   module _ (b : ℕ) (e : b ≡ byte_at bytes 0) where
+    pub call-message : (size : ℕ) → b ≡ 0x11 → size ≡ two_at bytes 1 → message_at + size ≡ call_length bytes
+    unfolding call_length
+    call-message size h s = rw (← e, ← s, eq-eqb b 0x11 h)
+
+    pub call-submit : (b ≡ 0x11 → ⊥) → b ≡ 0x12 → own_signature_at + signature_length ≡ call_length bytes
+    unfolding call_length
+    call-submit h s = rw (← e, ne_eqb b 0x11 h, eq-eqb b 0x12 s)
+
+    pub call-other : (b ≡ 0x11 → ⊥) → (b ≡ 0x12 → ⊥) → 1 ≡ call_length bytes
+    unfolding call_length
+    call-other h s = rw (← e, ne_eqb b 0x11 h, ne_eqb b 0x12 s)
+
     pub called_message : b ≡ 0x11 → Some call.Message ≡ call_of bytes
     unfolding call_of
     called_message h = rw (← e, eq-eqb b 0x11 h)
@@ -119,26 +131,33 @@ module _ (bytes : List ℕ) where
     unfolding call_of
     called_other h s = rw (← e, ne_eqb b 0x11 h, ne_eqb b 0x12 s)
 
-  pub call-message : Some call.Message ≡ call_of bytes → (size : ℕ) → size ≡ two_at bytes 1 → message_at + size ≡ call_length bytes
-  unfolding call_length call_of
-  call-message h size s = rw (picked-message (is_message bytes) (is_submit bytes) (sym h), s)
+  abbrev first : ℕ
+  first = byte_at bytes 0
 
-  pub call-submit : Some call.Submit ≡ call_of bytes → own_signature_at + signature_length ≡ call_length bytes
-  unfolding call_length call_of
-  call-submit h = let p = picked-submit (is_message bytes) (is_submit bytes) (sym h) in rw (p.0, p.1)
+  pub length-message : Some call.Message ≡ call_of bytes → (size : ℕ) → size ≡ two_at bytes 1 → message_at + size ≡ call_length bytes
+  unfolding call_of
+  length-message h size s = call-message first refl size (eqb-true first 0x11 (picked-message (is_message bytes) (is_submit bytes) (sym h))) s
 
-  pub call-other : None ≡ call_of bytes → 1 ≡ call_length bytes
-  unfolding call_length call_of
-  call-other h = let p = picked_none (is_message bytes) (is_submit bytes) (sym h) in rw (p.0, p.1)
+  pub length-submit : Some call.Submit ≡ call_of bytes → own_signature_at + signature_length ≡ call_length bytes
+  unfolding call_of
+  length-submit h =
+      let p = picked-submit (is_message bytes) (is_submit bytes) (sym h) in
+      call-submit first refl (eqb-false first 0x11 p.0) (eqb-true first 0x12 p.1)
+
+  pub length-other : None ≡ call_of bytes → 1 ≡ call_length bytes
+  unfolding call_of
+  length-other h =
+      let p = picked_none (is_message bytes) (is_submit bytes) (sym h) in
+      call-other first refl (eqb-false first 0x11 p.0) (eqb-false first 0x12 p.1)
 
   module _ (size : ℕ) (e : size ≡ call_length bytes) where
-    pub call-short : length bytes < size → None ≡ whole_call bytes
+    pub whole_short : length bytes < size → None ≡ whole_call bytes
     unfolding whole_call
-    call-short h = rw (← e, lt-ltb (length bytes) size h)
+    whole_short h = rw (← e, lt-ltb (length bytes) size h)
 
-    pub call-whole : size ≤ length bytes → (k : Option Call) → k ≡ call_of bytes → k ≡ whole_call bytes
+    pub whole-called : size ≤ length bytes → (k : Option Call) → k ≡ call_of bytes → k ≡ whole_call bytes
     unfolding whole_call
-    call-whole h k c = rw (← e, le-ltb (length bytes) size h, c)
+    whole-called h k c = rw (← e, le-ltb (length bytes) size h, c)
 
 -- an opening of no seats gives a record of zeros
 pub opening_none : (keys : List ℕ) (o : Opened) (number : ℕ) → o ≡ opening 0 0 0 keys → record { number = number; unit = o.unit } ≡ refused_opening number

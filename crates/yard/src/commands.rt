@@ -1,5 +1,6 @@
 // The commands of the yard's program.
 ghost use Rattle.std.specs.Prelude.{◌≡◌, ◌<◌, ◌≤◌};
+ghost use Rattle.refusal.specs.Answers.{number_of};
 ghost use Rattle.protocol.specs.Signatures.{checks};
 ghost use Rattle.protocol.specs.Message.{byte_at};
 ghost use Rattle.protocol.specs.Calls.{out_after};
@@ -9,6 +10,7 @@ ghost use Rattle.yard.specs.Commands.{line_for, told, two_at, keys_of, opening_l
 use crate::line::{Line, line_of, no_line};
 use crate::space;
 use protocol::{Opened, Record, Stepped};
+use refusal::Refusal;
 
 // Answer of a command: whether the program ends with it, the record after it, and the line to print.
 #[derive(Clone, Copy)]
@@ -104,11 +106,11 @@ fn is_misframed_opening(bytes: &[u8]) -> bool
 }
 
 // A refused opening with its record of zeros, taken from an opening of no seats.
-fn refused_opening(number: u32) -> Opened
-    ensures { result ≡ refused_opening number }
+fn refused_opening(refusal: Refusal) -> Opened
+    ensures { result ≡ refused_opening (number_of refusal) }
 {
     Opened {
-        number,
+        number: refusal.number(),
         ..confirmer::opening::open(0, 0, 0, &[])
     }
 }
@@ -118,11 +120,11 @@ fn open(bytes: &[u8]) -> Opened
     ensures { result ≡ opened bytes.now }
 {
     if is_misframed_opening(bytes) {
-        return refused_opening(refusal::GARBLED);
+        return refused_opening(Refusal::Garbled);
     }
     let n = byte_at(bytes, 1);
     if space::MOST_SEATS < n as usize {
-        return refused_opening(refusal::SIZE);
+        return refused_opening(Refusal::Size);
     }
     let seat = byte_at(bytes, 2);
     let round = two_at(bytes, 3);
@@ -180,7 +182,7 @@ pub fn take_command(
         None => Answer {
             ends: true,
             unit: r,
-            line: line_for(bytes, refusal::GARBLED, 0),
+            line: line_for(bytes, Refusal::Garbled.number(), 0),
         },
         Some(Call::Message) => {
             let message = &bytes[space::MESSAGE_HEAD..];

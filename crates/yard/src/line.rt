@@ -3,7 +3,8 @@ ghost use Rattle.std.specs.Prelude.{◌≡◌, [], ◌∷◌, ◌+◌, ◌<◌, 
 ghost use Rattle.octets.specs.Octets.{patch};
 ghost use Rattle.yard.specs.Line.{decimal, line, in_space, Fits};
 
-// A line: the first `length` bytes of `text`.
+// A line: the first `length` bytes of `text`, with zeros after them. It is no string of fixed capacity, since the contracts of
+// `begin` and `take_command` and the law `line-whole` tell all 22 bytes, and such a string tells its text alone.
 #[derive(Clone, Copy)]
 pub struct Line {
     pub text: [u8; 22],

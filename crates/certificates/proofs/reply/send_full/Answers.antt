@@ -6,7 +6,7 @@ use Rattle.certificates.proofs.reply.send_full.Goals as goal
 
 pub write_full-at-requires : goal.write_full-at-requires
 write_full-at-requires c =
-    let r = c.args.r in
+    let r = c.args.p.unit in
     let fits = c.requires.0 in
     let readable = readable_bank r.n bank.Collected r.own.collected c.args.store.now fits.collected fits.slots in
     (fits.most, omega (arith, fits.seated, fits.most), readable, omega (arith, full_bound r.n (size r.own.collected) fits.few, c.requires.1))
@@ -15,6 +15,6 @@ pub returns : goal.returns
 returns c =
     let args = c.args in
     let wrote = c.write_full-at in (
-      full-sent args.r args.store.now args.out.now args.at wrote.new.out wrote.result wrote.ensures.0,
-      omega (arith, wrote.ensures.1, full_bound args.r.n (size args.r.own.collected) c.requires.0.few),
+      full-sent args.p.unit args.store.now args.out.now args.p.at wrote.new.out wrote.result wrote.ensures.0,
+      omega (arith, wrote.ensures.1, full_bound args.p.unit.n (size args.p.unit.own.collected) c.requires.0.few),
     )

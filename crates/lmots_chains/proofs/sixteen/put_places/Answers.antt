@@ -6,7 +6,7 @@ pub loop-l-init : goal.loop-l-init
 loop-l-init c = two_none 80 208 16 _ _ _
 
 pub overflow_add-w : goal.overflow_add-w
-overflow_add-w c = omega (arith, c.requires.1 c.loop-l.l (omega arith))
+overflow_add-w c = omega (arith, c.args.places.now.small c.loop-l.l (omega arith))
 
 pub loop-l-preserved : goal.loop-l-preserved
 loop-l-preserved c =

@@ -3,5 +3,5 @@ use Rattle.lmots_chains.proofs.sixteen.step.Goals as goal
 
 pub returns-clause-stepped : goal.returns-clause-stepped
 returns-clause-stepped c =
-    stepped_by c.args.places.now c.args.t c.args.lanes.now.schedule _ c.args.lanes.now.state c.args.v.now _ _ _ _ _ c.put_places.ensures
+    stepped_by c.args.places.now.words c.args.t c.args.lanes.now.schedule _ c.args.lanes.now.state c.args.v.now _ _ _ _ _ c.put_places.ensures
     c.put_values.ensures c.compress.ensures.same c.compress.ensures.compressed

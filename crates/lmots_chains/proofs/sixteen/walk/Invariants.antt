@@ -5,5 +5,5 @@ use Rattle.lmots_chains.proofs.sixteen.walk.Given as goal
 abbrev pub invariant-loop-t : goal.invariant-loop-t
 invariant-loop-t l = record {
   same : l.lanes.shares ≡ l.initial.lanes.shares;
-  walked : AllWalked l.places l.t l.initial.lanes.schedule l.initial.lanes.shares l.initial.lanes.state l.initial.v l.lanes.schedule l.lanes.state l.v;
+  walked : AllWalked l.places.words l.t l.initial.lanes.schedule l.initial.lanes.shares l.initial.lanes.state l.initial.v l.lanes.schedule l.lanes.state l.v;
 }

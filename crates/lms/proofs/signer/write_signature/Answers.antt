@@ -17,9 +17,9 @@ returns c =
     let args = c.args in
     let id = args.id.now in
     let seed = args.seed.now in
-    signature-written id (bytes c.four-id_words.result) seed (bytes c.eight-seed_words.result) args.randomizer.now
+    signature-written id (bytes c.words_at-id_words.result) seed (bytes c.words_at-seed_words.result) args.randomizer.now
     args.message.now args.tree.now args.out.now c.write_head.new.out
     c.write_values.new.out c.write_tail.new.out
-    args.leaf c.requires.3 (whole-string id (bytes c.four-id_words.result) 16 c.requires.2 c.four-id_words.ensures)
-    (whole-string seed (bytes c.eight-seed_words.result) 32 c.requires.1 c.eight-seed_words.ensures)
+    args.leaf c.requires.3 (whole-string id (bytes c.words_at-id_words.result) 16 c.requires.2 c.words_at-id_words.ensures)
+    (whole-string seed (bytes c.words_at-seed_words.result) 32 c.requires.1 c.words_at-seed_words.ensures)
     c.write_head.ensures c.write_values.ensures c.write_tail.ensures

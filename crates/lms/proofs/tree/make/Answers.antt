@@ -18,8 +18,8 @@ returns c =
     let args = c.args in
     let id = args.id.now in
     let seed = args.seed.now in
-    key_written id (bytes c.four-id_words.result) seed (bytes c.eight-seed_words.result) args.tree.now c.fill.new.tree
+    key_written id (bytes c.words_at-id_words.result) seed (bytes c.words_at-seed_words.result) args.tree.now c.fill.new.tree
     c.bytes_at.result.now args.out.now c.write_key.new.out c.requires.2
-    (whole-string id (bytes c.four-id_words.result) 16 c.requires.1 c.four-id_words.ensures)
-    (whole-string seed (bytes c.eight-seed_words.result) 32 c.requires.0 c.eight-seed_words.ensures)
+    (whole-string id (bytes c.words_at-id_words.result) 16 c.requires.1 c.words_at-id_words.ensures)
+    (whole-string seed (bytes c.words_at-seed_words.result) 32 c.requires.0 c.words_at-seed_words.ensures)
     c.fill.ensures c.bytes_at.ensures c.write_key.ensures

@@ -2,6 +2,7 @@ use Rattle.std.proofs.Common.{◌≡◌, ◌+◌, ◌*◌, refl, sym, ap, ◌∙
 use Rattle.octets.specs.OctetsLaws.{length_part}
 use Rattle.octets.specs.Octets.{bytes}
 use Rattle.rfc8554.specs.Verify.{climbed, signature_length}
+use Rattle.lmots_digits.specs.Width.{bits_of}
 use Rattle.lms.specs.NodeLaws.{half_next, climbed_next}
 use Rattle.lms.proofs.verify.climb.Goals as goal
 
@@ -35,7 +36,7 @@ loop-i-preserved c =
       node = half_next loop.x args.r loop.i loop.invariant.node;
       value =
           climbed_next (bytes args.id) args.signature.now args.start loop.tmp c.bytes_at-beside.result.now c.level_up-tmp.result
-          args.w c.ots_length-at.result args.r loop.x loop.i c.ots_length-at.ensures.0 loop.invariant.node loop.invariant.value
+          (bits_of args.w) c.ots_length-at.result args.r loop.x loop.i c.ots_length-at.ensures.0 loop.invariant.node loop.invariant.value
           c.bytes_at-beside.ensures c.level_up-tmp.ensures;
     }
 
@@ -43,4 +44,4 @@ pub returns : goal.returns
 returns c =
     let args = c.args in
     let all : c.loop-i.i ≡ args.h = omega arith in
-    c.loop-i.invariant.value ∙ ap (climbed (bytes args.id) args.w args.r args.signature.now args.start) all
+    c.loop-i.invariant.value ∙ ap (climbed (bytes args.id) (bits_of args.w) args.r args.signature.now args.start) all

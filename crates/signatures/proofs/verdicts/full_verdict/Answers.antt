@@ -1,6 +1,5 @@
 use Rattle.std.proofs.Common.{◌∙◌, arith}
 use Rattle.refusal.specs.AnswersLaws.{number-nonzero, number-handed_on}
-use Rattle.quorum.specs.Quorum.{k}
 use Rattle.protocol.specs.EntriesLaws.{passed_none, passed_next, passed_all}
 use Rattle.protocol.specs.Signatures.{checks}
 use Rattle.signatures.specs.EntriesLaws.{accepted, signature-bad, signatures-good, value-inside, entries-signed, found-entry, found-end, entry-fits, entry-verdict}
@@ -21,12 +20,6 @@ returns-in_err-place_verdict c =
     let bad = entry-verdict _ _ c.requires _ (checks c.args.fleet.keys.now c.args.fleet.round) _ f _ c.value_at.ensures _ c.in_err-place_verdict.ensures in
     number-handed_on c.from_residual.result e c.from_residual.ensures.1
     ∙ signature-bad _ _ _ _ (entries-signed _ _ c.requires _) _ (found-entry _ _ c.requires _ _ f).0 _ bad (number-nonzero e)
-
-pub advance-reader-requires : goal.advance-reader-requires
-unfolding k
-advance-reader-requires c =
-    let f = rw c.loop-entry.invariant.over at c.in-Some.ensures in
-    omega (arith, (found-entry _ _ c.requires _ _ f).0, c.ranges.fleet)
 
 pub loop-entry-smaller : goal.loop-entry-smaller
 loop-entry-smaller c =

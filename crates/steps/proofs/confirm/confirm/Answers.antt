@@ -9,10 +9,10 @@ pub returns : goal.returns
 unfolding confirm write
 returns c =
     let args = c.args in
-    let r = args.r in
+    let r = args.p.unit in
     let wrote = c.write_notice-at in (
       λ store.
-          did_writing_one confirm r store (Notice r.round r.seat r.own.value) args.out.now args.at (with_confirmed r) store wrote.new.out wrote.result refl
+          did_writing_one confirm r store (Notice r.round r.seat r.own.value) args.out.now args.p.at (with_confirmed r) store wrote.new.out wrote.result refl
           (record { recorded = refl; stored = refl }) wrote.ensures.0,
       wrote.ensures.1,
     )

@@ -37,7 +37,7 @@ slice_bounds-signature-start c =
 pub returns-in-None : goal.returns-in-None
 returns-in-None c =
     let args = c.args in
-    called_misframed checks args.keys.now args.r args.store.now args.out.now args.bytes.now (none_misframed args.bytes.now c.in-None.ensures) c.line_for.result c.line_for.ensures
+    called_misframed checks args.keys.now args.r args.store.now args.out.now args.bytes.now (none_misframed args.bytes.now c.in-None.ensures) c.line_for.result (rw c.number.ensures at c.line_for.ensures)
 
 pub returns-in-Some-Message : goal.returns-in-Some-Message
 returns-in-Some-Message c =
