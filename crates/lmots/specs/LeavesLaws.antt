@@ -19,11 +19,6 @@ use Rattle.lmots_batches.specs.BatchesLaws.{written_next}
 
 -- ---- columns
 
--- one more column with the value y
-pub filled_next : (v v₁ y : List ℕ) (l : ℕ) → ((j : ℕ) → j < l → column j 8 v ≡ y) → column l 8 v₁ ≡ y → ((j : ℕ) → j < l → column j 8 v₁ ≡ column j 8 v)
-    → (j : ℕ) → j < l + 1 → column j 8 v₁ ≡ y
-filled_next v v₁ y l f e g = one_more (λ j. column j 8 v₁ ≡ y) l (λ j b. g j b ∙ f j b) e
-
 -- the step over the seed and 255 more
 pub ended_by : (id leaves seed : List ℕ) (i : ℕ) (v v₁ v₂ : List ℕ) → i < 34 → ((l : ℕ) → l < 16 → column l 8 v ≡ seed)
     → Walked id leaves (replicate 16 (i * 65536 + 65280)) 1 v v₁ → Walked id leaves (replicate 16 (i * 65536)) 255 v₁ v₂

@@ -1,11 +1,10 @@
 -- Laws of writes: parts of a buffer after one, writes in a row, and loops that write.
-use Rattle.std.specs.Prelude.{◌≡◌, List, [], ◌∷◌, ◌++◌, ℕ, zero, suc, ◌+◌, ◌-◌, ◌*◌, ◌/◌, ◌%◌, ◌≤◌, ◌<◌, length, take, drop, get_or, set}
+use Rattle.std.specs.Prelude.{◌≡◌, List, [], ◌∷◌, ◌++◌, ℕ, zero, suc, ◌+◌, ◌-◌, ◌*◌, ◌≤◌, ◌<◌, length, take, drop, get_or}
 use Rattle.std.proofs.Common.{sym, ap, ◌∙◌, append_assoc, append-nil, add-zero, zero-add, add-one, arith, take-append-drop, length-append, drop_of_length-le, length-take-le, take-suc, take-add, drop-drop}
-use Rattle.std.proofs.lemmas.List.Edits.{sets-eq}
 use Rattle.octets.specs.Octets.{part, patch, be, word_at, words, bytes}
 use Rattle.octets.specs.Strings.{joined}
 use Rattle.octets.specs.OctetsLaws.{length-bytes, bytes_append, word_at-part, patch-patch}
-use Rattle.octets.specs.StringsLaws.{part_left, part_skip, part-patch, part_all, part-zero, be-two, be-word_at}
+use Rattle.octets.specs.StringsLaws.{part_left, part_skip, part-patch, part_all, part-zero, be-word_at}
 
 -- ---- parts of a buffer after a write
 
@@ -70,14 +69,6 @@ pub pieces : (at : ℕ) (us vs zs a b : List ℕ) → a ≡ patch 0 us zs → at
     → b ≡ patch at vs a → b ≡ us ++ vs
 pieces at us vs zs a b e f l p =
     patch_next 0 at us vs zs a b e (omega arith) (omega arith) p ∙ patch-whole (us ++ vs) zs (rw length-append l)
-
--- two stores of the bytes of a number
-pub stores_two : (at x : ℕ) (xs : List ℕ) → at + 2 ≤ length xs
-    → set (set xs at (x / 256 % 256)) (at + 1) (x % 256) ≡ patch at (be 2 x) xs
-unfolding patch
-stores_two at x xs h =
-    rw (be-two, add-one)
-    (sets-eq (x / 256 % 256 ∷ x % 256 ∷ []) xs at h ∙ append_assoc (take at xs) (x / 256 % 256 ∷ x % 256 ∷ []) (drop (at + 2) xs))
 
 -- one pass of a loop that writes the bytes of words
 pub words-written : (at i : ℕ) (h xs out r : List ℕ) → out ≡ patch at (bytes (take i h)) xs → i < length h → at ≤ length xs

@@ -1,8 +1,8 @@
 -- Laws of walks over entries: a byte of each, at its place; and the walk that reads a form's seats.
 -- Assumes nothing.
-use Rattle.std.specs.Prelude.{◌≡◌, Bool, false, ◌&&◌, ◌⊎◌, ltb, length}
+use Rattle.std.specs.Prelude.{◌≡◌, Bool, false, ◌&&◌, ◌⊎◌, ltb}
 use Rattle.std.proofs.Math.Path.{refl, ap}
-use Rattle.std.proofs.Common.{sym, ◌∙◌, inl, inr, mul-suc, mul-le-mul_left, eq-or-lt_of_le, arith, ltb-true, lt-ltb, le-ltb}
+use Rattle.std.proofs.Common.{sym, ◌∙◌, inl, inr, eq-or-lt_of_le, arith, ltb-true, lt-ltb, le-ltb}
 use Rattle.std.proofs.Math.Bool.{true, and-true, and-false}
 use Rattle.std.proofs.Math.Logic.{⊎_elim}
 use mathlib.Core.List.{List, [], ◌∷◌, append_assoc, map-append}
@@ -16,12 +16,7 @@ use Rattle.protocol.specs.Certificate.{set_of}
 use Rattle.protocol.specs.Refusals.{every, rising}
 use Rattle.protocol.specs.ConditionsLaws.{every_append, rising_snoc}
 use Rattle.protocol.specs.CertificateLaws.{set_snoc}
-use Rattle.layout.specs.declared.Entries.{Entries}
-use Rattle.wire.specs.Reading.{bytes_at, seat_place, Inside}
-
--- an entry's command and seat lie in the message
-pub entry-inside : (entries : Entries) (bytes : List ℕ) (i : ℕ) → Inside entries bytes → i < entries.count → seat_place entries i < length bytes
-entry-inside entries bytes i h l = omega (arith, mul-le-mul_left entries.length l, mul-suc entries.length i)
+use Rattle.wire.specs.Reading.{bytes_at}
 
 module _ (place : ℕ → ℕ) (bytes : List ℕ) where
   -- ---- a test of every byte

@@ -27,9 +27,6 @@ use Rattle.yard.specs.declared.commands.Answer.{Answer}
 use Rattle.yard.specs.declared.commands.Call.{Call}
 use Rattle.yard.specs.declared.commands.Call.TheVariants as call
 
-pub past_end : (bytes : List ℕ) (i : ℕ) → length bytes ≤ i → 0 ≡ byte_at bytes i
-past_end bytes i h = sym (get_or-eq_default bytes 0 h)
-
 pub keys_none : (bytes : List ℕ) → length bytes < keys_at → take 0 bytes ≡ keys_of bytes
 keys_none bytes h = sym (drop_of_length-le bytes {i = keys_at} (omega arith))
 
