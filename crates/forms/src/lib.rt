@@ -86,7 +86,8 @@ fn is_disordered(n: u32, kind: Kind, m: &[u8]) -> bool
     !seats_rise(m, found)
 }
 
-// Refusal for the form of a message, before any signature is checked: 9 to 12.
+// Refusal for the form of a message, before any signature is checked: 9 to 12. `taken`, whether the call takes its kind, is a test of its
+// own beside the kind: it is the row of 9, which differs from call to call.
 pub fn form_refusal(n: u32, round: u32, taken: bool, kind: Kind, m: &[u8]) -> Result<(), Refusal>
     requires { (1 ≤ n) × (n ≤ most_seats) × (kind ≡ kind_of (read n m.now)) }
     ensures { number_in result ≡ first_of (form_conditions n round taken (read n m.now)) }

@@ -171,7 +171,8 @@ pub fn old_evidence_count_at() -> usize
 
 // ---- lists of entries
 
-// The entries of a message: the place of the first, the length of each, and their number.
+// The entries of a message: the place of the first, the length of each, and their number. A list is made by a function for each kind, since
+// each is tied to a definition of its own.
 #[derive(Clone, Copy)]
 pub struct Entries {
     pub start: usize,

@@ -1,4 +1,5 @@
-// Chains: a step is one compression (RFC 8554, section 4.3 and Appendix A).
+// Chains: a step is one compression (RFC 8554, section 4.3 and Appendix A). Identifier and leaf stay two parameters, as in the RFC's
+// definitions: a struct of both would be made at each call and taken apart in each contract.
 ghost use Rattle.std.specs.Prelude.{◌≡◌, ◌+◌, ◌<◌, ◌≤◌};
 ghost use Rattle.octets.specs.Octets.{bytes};
 ghost use Rattle.fips180.specs.Fips.{pad};

@@ -4,7 +4,7 @@
 ghost use Rattle.std.specs.Prelude.{◌≡◌, ◌≤◌, ◌<◌};
 ghost use Rattle.quorum.specs.Quorum.{most_seats, t0, k, has, size, one, union, with, all, shared, less, outside};
 
-// A set of seats: seat s is the bit of worth 2 to the power s.
+// A set of seats: seat s is the bit of worth 2 to the power s. A number and no type of its own, since C's records and answers hold it.
 pub type Mask = u32;
 
 // The most seats of a fleet: one for each bit of a mask.

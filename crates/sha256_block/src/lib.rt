@@ -22,7 +22,8 @@ fn scheduled(w: &[u32; 64], t: usize) -> u32
     )
 }
 
-// The words of a block at the start of a schedule. Scratch: the words after them.
+// The words of a block at the start of a schedule. Scratch: the words after them. One by one: with `copy_from_slice` a step of a chain
+// takes 6 % longer (two calls of memcpy).
 fn first_words(m: [u32; 16]) -> [u32; 64]
     ensures { take 16 result ≡ m }
 {
@@ -87,6 +88,7 @@ fn rounds(k: &RoundConstants, w: &[u32; 64], h: [u32; 8]) -> [u32; 8]
     for i in 0..8 {
         for j in 0..8 {
             let t = 8 * i + j;
+            // By way of a name: the check covers no call's result laid in an array that the call reads.
             let next = round(k.words[t], w[t], s);
             s = next;
         }

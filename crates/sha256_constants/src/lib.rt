@@ -26,6 +26,7 @@ fn climbed(x: u64, m: u64) -> u64
     ensures { IsIntegerRoot 3 m result }
 {
     let mut r = x;
+    // `while`: it ends at a test, at no number of turns known before.
     while (r + 1) * (r + 1) * (r + 1) <= m {
         r += 1;
     }
@@ -52,6 +53,7 @@ fn longer(m: u64, a: u64, s: u64) -> u64
 {
     let rest = m - a * a * a;
     let mut d = rest * s / (3 * a * a + 3 * a + 1);
+    // `while`, as in `climbed`.
     while fits(a, rest, s, d + 1) {
         d += 1;
     }

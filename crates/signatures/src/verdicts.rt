@@ -88,7 +88,7 @@ fn submit_verdict(k: &RoundConstants, fleet: Fleet, m: &[u8]) -> Result<(), Refu
 
 // ---- FULL
 
-// Verdict on the signatures of FULL: a reader goes from entry to entry.
+// Verdict on the signatures of FULL: a reader goes from entry to entry (document 01 names its functions, so it is no iterator).
 fn full_verdict(k: &RoundConstants, fleet: Fleet, m: &[u8]) -> Result<(), Refusal>
     requires { FullTaken fleet.n m.now }
     ensures { number_in result ≡ first_of (SIGNATURE (checks fleet.entry.keys.now fleet.entry.round) (read fleet.entry.n m.now) ∷ []) }
