@@ -1,6 +1,6 @@
 -- Evidence and the lower certificate from two certificates, over plain values.
 -- Assumes nothing.
-use Rattle.std.specs.Prelude.{◌≡◌, Bool, true, false, List, [], ℕ, length}
+use Rattle.std.specs.Prelude.{◌≡◌, refl, Bool, true, false, List, [], ℕ}
 use Rattle.std.proofs.Common.{sym, ◌∙◌, arith}
 use Rattle.quorum.specs.Quorum.{k, size, shared}
 use Rattle.refusal.specs.Refusal.{first_of, unrefused, numbers, nonzero}
@@ -12,26 +12,37 @@ use Rattle.protocol.specs.Certificate.{Certificate, set_of, certificate_in, evid
 use Rattle.protocol.specs.Refusals.{Condition, is_full, making_conditions, lower_conditions}
 use Rattle.protocol.specs.Calls.{making, lower_of, lower_certificate}
 use Rattle.protocol.specs.CallsLaws.{Gives, given-refused, later-refused, written}
-use Rattle.store.specs.Sources.{Readable, certificate_from}
+use Rattle.store.specs.Sources.{Sound, Readable, certificate_from}
 use Rattle.store.specs.SourcesLaws.{in_full, full-value, full-readable, full-certificate, full_size}
 use Rattle.wire_write.specs.Writing.{Wrote}
 use Rattle.validate.specs.Calls.{given_conditions}
 use Rattle.validate.specs.GivenLaws.{given-nonzero}
 use Rattle.forms.specs.Messages.{Formed}
-use Rattle.evidence.specs.PassedLaws.{Call, check, outside, Clear, after_outside, two}
+use Rattle.forms.specs.MessagesLaws.{full-kind}
+use Rattle.signatures.specs.Entries.{FullTaken}
+use Rattle.signatures.specs.EntriesLaws.{full-taken}
+use Rattle.wire.specs.declared.read.Kind.TheVariants as kind
+use Rattle.evidence.specs.PassedLaws.{Call, check, outside, after_outside, two}
 use Rattle.evidence.specs.Making.{lower_number, lower_first}
 
 -- ---- a certificate as a source
 
-module _ {n round : ℕ} (bytes : List ℕ) (f : Formed n round (is_full (read n bytes)) (read n bytes)) {mask : ℕ} (set : mask ≡ set_of (entry_seats (read n bytes))) where
-  pub readable : Readable n (in_full mask) bytes
-  readable = full-readable n bytes f.is f.known f.ordered mask set
+pub sound-formed : {n round : ℕ} (bytes : List ℕ) → Formed n round (is_full (read n bytes)) (read n bytes) → Sound n bytes (certificate_in (read n bytes)).seats
+sound-formed bytes f = record { full = f.is; known = f.known; ordered = f.ordered; set = refl }
 
-  pub sized : size mask ≡ k n
-  sized = full_size n bytes f.is f.known f.ordered mask set
+module _ (n : ℕ) (bytes : List ℕ) {seats : ℕ} (s : Sound n bytes seats) where
+  pub sound-taken : FullTaken n bytes
+  sound-taken = full-taken n bytes kind.Full (full-kind (read n bytes) s.full) s.known refl
 
-  pub certificate_is : {value : List ℕ} → value ≡ (certificate_in (read n bytes)).value → certificate_from n (in_full mask) value bytes ≡ certificate_in (read n bytes)
-  certificate_is {value} e = full-certificate n bytes f.is f.known f.ordered mask set value (e ∙ full-value n bytes f.is)
+  module _ {mask : ℕ} (set : mask ≡ set_of (entry_seats (read n bytes))) where
+    pub readable : Readable n (in_full mask) bytes
+    readable = full-readable n bytes s.full s.known s.ordered mask set
+
+    pub sized : size mask ≡ k n
+    sized = full_size n bytes s.full s.known s.ordered mask set
+
+    pub certificate_is : {value : List ℕ} → value ≡ (certificate_in (read n bytes)).value → certificate_from n (in_full mask) value bytes ≡ certificate_in (read n bytes)
+    certificate_is {value} e = full-certificate n bytes s.full s.known s.ordered mask set value (e ∙ full-value n bytes s.full)
 
 -- ---- evidence
 
@@ -94,10 +105,10 @@ module _ (c : Call) (a b : List ℕ) where
     unfolding lower_conditions
     lower-outside e h = nothing_of (refused_first (outside c) (two c a b) number e h) h
 
-module _ {c : Call} (clear : Clear c) (a b : List ℕ) {number : ℕ} (e : number ≡ first_of (two c a b)) where
+module _ (c : Call) (clear : 0 ≡ first_of (outside c)) (a b : List ℕ) {number : ℕ} (e : number ≡ first_of (two c a b)) where
   told : number ≡ call_number c a b
   unfolding lower_conditions
-  told = e ∙ after_outside clear (two c a b)
+  told = e ∙ after_outside c clear (two c a b)
 
   pub lower-refused : {part : List ℕ} → part ≡ [] → {buffer : Type 0} → (number ≡ 0 → ⊥) → Hands c a b part buffer
   lower-refused none h = nothing_of c a b none told h

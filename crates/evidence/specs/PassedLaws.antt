@@ -1,6 +1,6 @@
 -- Calls whose n, round and key table aren't refused, and two certificates that aren't.
 -- Assumes nothing.
-use Rattle.std.specs.Prelude.{◌≡◌, List, ◌++◌, ℕ, ◌≤◌}
+use Rattle.std.specs.Prelude.{◌≡◌, refl, List, ◌++◌, ℕ, ◌≤◌}
 use Rattle.std.proofs.Common.{sym, ◌∙◌}
 use Rattle.quorum.specs.Quorum.{most_seats}
 use Rattle.refusal.specs.Refusal.{first_of}
@@ -8,7 +8,6 @@ use Rattle.refusal.specs.RefusalLaws.{refused-later}
 use Rattle.protocol.specs.Message.{Message, read}
 use Rattle.protocol.specs.Refusals.{Checks, Condition, outside_conditions, two_conditions}
 use Rattle.protocol.specs.Signatures.{checks}
-use Rattle.signatures.specs.Given.{Given}
 use Rattle.validate.specs.GivenLaws.{outside-given, outside-nonzero}
 use Rattle.signatures.specs.Entries.{FullTaken}
 use Rattle.signatures.specs.EntriesLaws.{certificate-taken}
@@ -21,6 +20,9 @@ pub record Call : Type 0 where
   pub round : ℕ
   pub keys : List ℕ
 
+abbrev pub call : ℕ → ℕ → List ℕ → Call
+call n round keys = record { n = n; round = round; keys = keys }
+
 abbrev pub check : Call → Checks
 check c = checks c.keys c.round
 
@@ -28,21 +30,13 @@ abbrev pub outside : Call → List Condition
 outside c = outside_conditions c.n c.round c.keys
 
 -- n, round and key table aren't refused
-pub record Clear (c : Call) : Type 0 where
-  pub number : ℕ
-  pub told : number ≡ first_of (outside c)
-  pub none : number ≡ 0
-
-module _ {c : Call} (clear : Clear c) where
-  pub given : Given c.n c.round c.keys
-  given = outside-given c.n c.round c.keys clear.number clear.told clear.none
-
+module _ (c : Call) (clear : 0 ≡ first_of (outside c)) where
   pub sized : (1 ≤ c.n) × (c.n ≤ most_seats)
-  sized = (given.some, given.most)
+  sized = let given = outside-given c.n c.round c.keys 0 clear refl in (given.some, given.most)
 
   -- the number of the call is that of the rows after them
   pub after_outside : (rest : List Condition) → first_of rest ≡ first_of (outside c ++ rest)
-  after_outside rest = refused-later (outside c) rest clear.number clear.told (outside-nonzero c.n c.round c.keys) clear.none
+  after_outside rest = refused-later (outside c) rest 0 clear (outside-nonzero c.n c.round c.keys) refl
 
 -- the rows of two certificates
 abbrev pub two : Call → List ℕ → List ℕ → List Condition

@@ -9,7 +9,7 @@ use Rattle.protocol.specs.Certificate.{set_of}
 use Rattle.protocol.specs.Refusals.{Condition, is_evidence, pack_conditions, evidence_conditions}
 use Rattle.protocol.specs.Calls.{checked_by, evidence_check}
 use Rattle.protocol.specs.declared.Checked.{Checked}
-use Rattle.evidence.specs.PassedLaws.{Call, check, outside, Clear, after_outside}
+use Rattle.evidence.specs.PassedLaws.{Call, check, outside, after_outside}
 
 abbrev answered : ℕ → ℕ → Checked
 answered number mask = record { number = number; mask = mask }
@@ -35,9 +35,9 @@ module _ (c : Call) (bytes : List ℕ) where
   outside-refused {number} e h = refused (refused_first (outside c) pack number e h) h
 
 -- refusal of the message, and no refusal
-module _ {c : Call} (clear : Clear c) (bytes : List ℕ) {number : ℕ} (e : number ≡ first_of (pack c bytes)) where
+module _ (c : Call) (clear : 0 ≡ first_of (outside c)) (bytes : List ℕ) {number : ℕ} (e : number ≡ first_of (pack c bytes)) where
   later : number ≡ first_of (outside c ++ pack c bytes)
-  later = e ∙ after_outside clear (pack c bytes)
+  later = e ∙ after_outside c clear (pack c bytes)
 
   pub pack-refused : (number ≡ 0 → ⊥) → Answers c bytes number 0
   pack-refused h = refused c bytes later h

@@ -1,11 +1,12 @@
 // Two certificates in hand that conflict: the test for the lower value, and the evidence written from them.
 ghost use Rattle.std.specs.Prelude.{◌≡◌, ◌≤◌, length};
-ghost use Rattle.quorum.specs.Quorum.{most_seats};
+ghost use Rattle.quorum.specs.Quorum.{most_seats, k, size};
 ghost use Rattle.protocol.specs.Values.{is_lower};
 ghost use Rattle.protocol.specs.Layout.{evidence_out_length};
 ghost use Rattle.protocol.specs.Message.{read, render};
 ghost use Rattle.protocol.specs.Certificate.{certificate_in, conflict_of};
-ghost use Rattle.wire_write.specs.Writing.{Wrote};
+ghost use Rattle.store.specs.Sources.{Sound, Readable};
+ghost use Rattle.wire_write.specs.Writing.{Wrote, certificate_of};
 ghost use Rattle.signatures.specs.Entries.{FullTaken};
 ghost use Rattle.validate.specs.Calls.{Conflict};
 
@@ -24,9 +25,9 @@ pub(crate) fn first_is_lower(n: u32, first: &[u8], second: &[u8]) -> bool
 }
 
 // A FULL as a certificate to read.
-fn certificate<'a>(n: u32, m: &'a [u8]) -> Certificate<'a>
-    requires { FullTaken n m.now }
-    ensures { (result.value ≡ (certificate_in (read n m.entry.now)).value) × (result.source ≡ in_full (set_of (entry_seats (read n m.entry.now)))) × (result.bytes ≡ m.entry) }
+fn certificate(n: u32, m: &[u8]) -> Certificate<'_>
+    requires { (1 ≤ n) × (n ≤ most_seats) × Sound n m.now (certificate_in (read n m.now)).seats }
+    ensures { Readable n result.source result.bytes.now × (size result.source.seats ≡ k n) × (certificate_of n result ≡ certificate_in (read n m.entry.now)) }
 {
     let source = Source {
         place: Place::Entries,

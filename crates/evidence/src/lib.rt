@@ -67,9 +67,9 @@ pub fn lower_certificate<'a>(
     let Ok(fleet) = fleet(n, round, keys) else {
         return nothing(first);
     };
-    if two_refusal(fleet, first, second).is_err() {
+    let Ok(()) = two_refusal(fleet, first, second) else {
         return nothing(first);
-    }
+    };
     if first_is_lower(n, first, second) {
         return first;
     }

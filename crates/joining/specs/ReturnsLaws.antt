@@ -9,7 +9,7 @@ use Rattle.protocol.specs.Message.{Message, render, read}
 use Rattle.protocol.specs.Joining.{joined_of}
 use Rattle.protocol.specs.Refusals.{Checks, Condition, outside_conditions, joined_conditions, joining_conditions}
 use Rattle.protocol.specs.Signatures.{checks}
-use Rattle.protocol.specs.Calls.{Making, making_by, joining}
+use Rattle.protocol.specs.Calls.{making_by, joining}
 use Rattle.protocol.specs.CallsLaws.{Gives, given-refused, later-refused, written}
 use Rattle.wire_write.specs.Writing.{Wrote}
 use Rattle.validate.specs.Calls.{given_conditions}

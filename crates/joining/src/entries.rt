@@ -43,6 +43,8 @@ fn write_wanted(
 }
 
 // The entries of the seats of either, rising: the first's of its seats, the second's of those that it alone has.
+// A pack and its set stay parameters: `Pack` speaks of n, which both packs share, so that a struct of each would hold n twice, with a
+// `requires` that they are equal.
 fn write_entries(
     out: &mut [u8],
     at: usize,

@@ -1,2 +1,0 @@
--- Modules that the proofs share.
-pub mod Tags
