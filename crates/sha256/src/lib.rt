@@ -1,4 +1,4 @@
-// SHA-256, FIPS 180-4: digests of whole messages. The round constants are lent as `k: &[u32; 64]`; a caller works them out
+// SHA-256, FIPS 180-4: digests of whole messages. The round constants are lent as `k: &RoundConstants`; a caller works them out
 // once, with `sha256_constants::round_constants`.
 #![tactic(auto)]
 
