@@ -42,6 +42,7 @@ pub fn fresh(n: u32, seat: u32, round: u32) -> Record
 }
 
 // Answer of opening and of reading a note, as C gets it: the record, or the refusal number and a record of zeros.
+#[tactic(auto, unfolding(protocol::specs::Record::zeros))]
 pub fn opened_by(answer: Result<Record, Refusal>) -> Opened
     ensures { result ≡ opened_in answer }
 {
