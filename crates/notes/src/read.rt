@@ -34,6 +34,7 @@ fn note_round(note: &[u8]) -> u32
 }
 
 // The own submission.
+#[tactic(auto, unfolding(protocol::specs::Layout::note_length))]
 fn note_own(note: &[u8], flags: u32) -> Own
     requires { length note.now ≡ note_length }
     ensures { result ≡ note_own flags note.now }
@@ -49,6 +50,7 @@ fn note_own(note: &[u8], flags: u32) -> Own
 }
 
 // The notices heard.
+#[tactic(auto, unfolding(protocol::specs::Layout::note_length))]
 fn note_notices(note: &[u8], flags: u32) -> Notices
     requires { length note.now ≡ note_length }
     ensures { result ≡ note_notices flags note.now }
@@ -59,6 +61,7 @@ fn note_notices(note: &[u8], flags: u32) -> Notices
 }
 
 // The first certificate.
+#[tactic(auto, unfolding(protocol::specs::Layout::note_length))]
 fn note_first(note: &[u8]) -> First
     requires { length note.now ≡ note_length }
     ensures { result ≡ note_first note.now }

@@ -1,4 +1,4 @@
-use Rattle.std.proofs.Common.{◌≡◌, sym, ◌∙◌, length, arith}
+use Rattle.std.proofs.Common.{sym, ◌∙◌, length, arith}
 use borrow.Author.Tests.{ne_eqb}
 use Rattle.protocol.specs.Layout.{note_length}
 use Rattle.protocol.specs.Note.{note_flags, wrong_note}
