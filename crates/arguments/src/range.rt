@@ -3,13 +3,15 @@ ghost use Rattle.std.specs.Prelude.{◌≡◌};
 ghost use Rattle.protocol.specs.Record.{wrong_size, wrong_seat, wrong_round};
 
 // Whether n is outside 1 to 32.
+#[tactic(auto, unfolding(protocol::specs::Record::wrong_size))]
 pub fn wrong_size(n: u32) -> bool
     ensures { result ≡ wrong_size n }
 {
-    (n == 0) | (quorum::MOST_SEATS < n)
+    n == 0 || quorum::MOST_SEATS < n
 }
 
 // Whether the own seat is at or above n.
+#[tactic(auto, unfolding(protocol::specs::Record::wrong_seat))]
 pub fn wrong_seat(n: u32, seat: u32) -> bool
     ensures { result ≡ wrong_seat n seat }
 {
@@ -17,6 +19,7 @@ pub fn wrong_seat(n: u32, seat: u32) -> bool
 }
 
 // Whether a round is above 1,023.
+#[tactic(auto, unfolding(protocol::specs::Record::wrong_round))]
 pub fn wrong_round(round: u32) -> bool
     ensures { result ≡ wrong_round round }
 {

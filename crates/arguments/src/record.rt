@@ -12,6 +12,7 @@ use protocol::{First, Notices, Opened, Own, Record};
 use refusal::Refusal;
 
 // The record with n, seat and round set, and nothing else.
+#[tactic(auto, unfolding(protocol::specs::Record::fresh, protocol::specs::Values::unset))]
 pub fn fresh(n: u32, seat: u32, round: u32) -> Record
     ensures { result ≡ Records.fresh n seat round }
 {
@@ -41,6 +42,7 @@ pub fn fresh(n: u32, seat: u32, round: u32) -> Record
 }
 
 // Answer of opening and of reading a note, as C gets it: the record, or the refusal number and a record of zeros.
+#[tactic(auto, unfolding(protocol::specs::Record::zeros))]
 pub fn opened_by(answer: Result<Record, Refusal>) -> Opened
     ensures { result ≡ opened_in answer }
 {
@@ -54,6 +56,7 @@ pub fn opened_by(answer: Result<Record, Refusal>) -> Opened
 }
 
 // Whether a value is 32 zero bytes.
+#[tactic(auto, unfolding(protocol::specs::Values::unset))]
 fn is_unset(value: [u8; 32]) -> bool
     ensures { result ≡ same value unset }
 {
@@ -62,6 +65,7 @@ fn is_unset(value: [u8; 32]) -> bool
 }
 
 // Whether a certificate is held.
+#[tactic(auto, unfolding(protocol::specs::Record::holds))]
 fn is_holding(r: Record) -> bool
     ensures { result ≡ holds r }
 {
@@ -69,58 +73,62 @@ fn is_holding(r: Record) -> bool
 }
 
 // "n, seat or round is out of range"
+#[tactic(auto, unfolding(protocol::specs::Record::out_of_range))]
 fn out_of_range(r: Record) -> bool
     ensures { result ≡ out_of_range r }
 {
-    wrong_size(r.n) | wrong_seat(r.n, r.seat) | wrong_round(r.round)
+    wrong_size(r.n) || wrong_seat(r.n, r.seat) || wrong_round(r.round)
 }
 
 // "a mask names a seat at or above n"
+#[tactic(auto, unfolding(protocol::specs::Record::names_stranger))]
 fn names_stranger(r: Record) -> bool
     requires { InRange r.n r.seat r.round }
     ensures { result ≡ names_stranger r }
 {
-    let collected = quorum::names_outside(r.n, r.own.collected);
-    let first = quorum::names_outside(r.n, r.first.seats);
-    let guilty = quorum::names_outside(r.n, r.guilty);
-    let kept = quorum::names_outside(r.n, r.kept);
-    collected | first | guilty | kept
+    quorum::names_outside(r.n, r.own.collected)
+        || quorum::names_outside(r.n, r.first.seats)
+        || quorum::names_outside(r.n, r.guilty)
+        || quorum::names_outside(r.n, r.kept)
 }
 
 // "collected seats are non-empty without a submission, lack the own seat after one, exceed k, or number k without confirmed or
 // the reverse"
+#[tactic(auto, unfolding(protocol::specs::Record::wrong_collected))]
 fn wrong_collected(r: Record) -> bool
     requires { InRange r.n r.seat r.round }
     ensures { result ≡ wrong_collected r }
 {
-    let own = quorum::has(r.own.collected, r.seat);
     let k = quorum::k(r.n);
     let size = quorum::size(r.own.collected);
-    let unsaid = !r.own.submitted & (r.own.collected != 0);
-    let lacking = r.own.submitted & !own;
-    let silent = (size == k) & !r.confirmed;
-    let hasty = r.confirmed & (size != k);
-    unsaid | lacking | (k < size) | silent | hasty
+    !r.own.submitted && r.own.collected != 0
+        || r.own.submitted && !quorum::has(r.own.collected, r.seat)
+        || k < size
+        || size == k && !r.confirmed
+        || r.confirmed && size != k
 }
 
 // "the first certificate's seats number neither 0 nor k"
+#[tactic(auto, unfolding(protocol::specs::Record::wrong_first))]
 fn wrong_first(r: Record) -> bool
     requires { InRange r.n r.seat r.round }
     ensures { result ≡ wrong_first r }
 {
     let k = quorum::k(r.n);
     let size = quorum::size(r.first.seats);
-    (size != 0) & (size != k)
+    size != 0 && size != k
 }
 
 // "confirmed, or guilty seats, stand without a first certificate"
+#[tactic(auto, unfolding(protocol::specs::Record::lacks_first))]
 fn lacks_first(r: Record) -> bool
     ensures { result ≡ lacks_first r }
 {
-    (r.confirmed | (r.guilty != 0)) & !is_holding(r)
+    (r.confirmed || r.guilty != 0) && !is_holding(r)
 }
 
 // "a guilty seat is outside it"
+#[tactic(auto, unfolding(protocol::specs::Record::wrong_guilty))]
 fn wrong_guilty(r: Record) -> bool
     ensures { result ≡ wrong_guilty r }
 {
@@ -128,50 +136,44 @@ fn wrong_guilty(r: Record) -> bool
 }
 
 // "FULL was sent unconfirmed"
+#[tactic(auto, unfolding(protocol::specs::Record::wrong_sent))]
 fn wrong_sent(r: Record) -> bool
     ensures { result ≡ wrong_sent r }
 {
-    r.sent & !r.confirmed
+    r.sent && !r.confirmed
 }
 
 // "a record with kept seats after a submission"
+#[tactic(auto, unfolding(protocol::specs::Record::wrong_kept))]
 fn wrong_kept(r: Record) -> bool
     ensures { result ≡ wrong_kept r }
 {
-    r.own.submitted & (r.kept != 0)
+    r.own.submitted && r.kept != 0
 }
 
 // "an unset value is not zero"
+#[tactic(auto, unfolding(protocol::specs::Record::wrong_unset, protocol::specs::Record::none_heard))]
 fn wrong_unset(r: Record) -> bool
     ensures { result ≡ wrong_unset r }
 {
-    let own_value = r.own.value;
-    let heard_value = r.notices.value;
-    let first_value = r.first.value;
-    let own = is_unset(own_value);
-    let heard = is_unset(heard_value);
-    let first = is_unset(first_value);
-    let unsaid = !r.own.submitted & !own;
-    let unheard = (r.notices.heard == 0) & !heard;
-    let unheld = !is_holding(r) & !first;
-    unsaid | unheard | unheld
+    !r.own.submitted && !is_unset(r.own.value)
+        || r.notices.heard == 0 && !is_unset(r.notices.value)
+        || !is_holding(r) && !is_unset(r.first.value)
 }
 
 // Whether a record is impossible.
+#[tactic(auto, using(protocol::specs::RecordLaws::in_range), unfolding(protocol::specs::Record::impossible, protocol::specs::Record::wrong_heard))]
 pub fn is_impossible(r: Record) -> bool
     ensures { result ≡ impossible r }
 {
-    if out_of_range(r) {
-        return true;
-    }
-    let heard = 2 < r.notices.heard;
-    let stranger = names_stranger(r);
-    let collected = wrong_collected(r);
-    let first = wrong_first(r);
-    let lacks = lacks_first(r);
-    let guilty = wrong_guilty(r);
-    let sent = wrong_sent(r);
-    let kept = wrong_kept(r);
-    let unset = wrong_unset(r);
-    heard | stranger | collected | first | lacks | guilty | sent | kept | unset
+    out_of_range(r)
+        || 2 < r.notices.heard
+        || names_stranger(r)
+        || wrong_collected(r)
+        || wrong_first(r)
+        || lacks_first(r)
+        || wrong_guilty(r)
+        || wrong_sent(r)
+        || wrong_kept(r)
+        || wrong_unset(r)
 }

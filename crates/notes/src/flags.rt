@@ -15,6 +15,7 @@ const ONE: u32 = 8;
 const TWO: u32 = 16;
 
 // A flag where it is set, else 0.
+#[tactic(auto, unfolding(protocol::specs::Note::flag_if))]
 fn flag_if(flag: u32, set: bool) -> u32
     ensures { (result ≡ flag_if flag set) × (result ≤ flag) }
 {
@@ -25,6 +26,7 @@ fn flag_if(flag: u32, set: bool) -> u32
 }
 
 // The flags of a record.
+#[tactic(auto, unfolding(protocol::specs::Note::flags_of, protocol::specs::Note::two_heard, protocol::specs::Record::one_heard))]
 pub(crate) fn flags_of(r: Record) -> u32
     ensures { (result ≡ flags_of r) × (result < 256) }
 {
@@ -37,6 +39,7 @@ pub(crate) fn flags_of(r: Record) -> u32
 }
 
 // Whether a flag is set.
+#[tactic(auto, unfolding(protocol::specs::Note::is_set))]
 pub(crate) fn is_set(flag: u32, flags: u32) -> bool
     requires { 1 ≤ flag }
     ensures { result ≡ is_set flag flags }
@@ -45,6 +48,7 @@ pub(crate) fn is_set(flag: u32, flags: u32) -> bool
 }
 
 // The number of values heard.
+#[tactic(auto, unfolding(protocol::specs::Note::heard_by))]
 pub(crate) fn heard_by(flags: u32) -> u32
     ensures { result ≡ heard_by flags }
 {
@@ -58,6 +62,7 @@ pub(crate) fn heard_by(flags: u32) -> u32
 }
 
 // "both heard flags or an unknown flag are set"
+#[tactic(auto, unfolding(protocol::specs::Note::both_heard, protocol::specs::Note::unknown_flag))]
 pub(crate) fn wrong_flags(flags: u32) -> bool
     ensures { result ≡ (both_heard flags || unknown_flag flags) }
 {

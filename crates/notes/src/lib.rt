@@ -20,6 +20,7 @@ mod read;
 mod write;
 
 // Refusal of writing a note: 4, 7.
+#[tactic(auto, using(refusal::specs::RefusalLaws::rows), unfolding(protocol::specs::Refusals::write_note_conditions))]
 fn write_refusal(r: Record, out: &[u8]) -> Result<(), Refusal>
     ensures { number_in result ≡ first_of (write_note_conditions r out.now) }
 {
@@ -43,6 +44,7 @@ pub fn write_note(r: Record, out: &mut [u8]) -> Result<u32, Refusal>
 }
 
 // Refusal of the record in a note: 4.
+#[tactic(auto, using(refusal::specs::RefusalLaws::rows))]
 fn record_refusal(r: Record) -> Result<(), Refusal>
     ensures { number_in result ≡ first_of (RECORD r ∷ []) }
 {

@@ -15,6 +15,7 @@ use protocol::{First, Notices, Own, Record};
 use wire::values::value_at;
 
 // 17: "when the length isn't 118, the command isn't 0x20, both heard flags or an unknown flag are set"
+#[tactic(auto, using(crate::specs::ReturnsLaws::others_tested), unfolding(protocol::specs::Layout::note_length, protocol::specs::Note::wrong_note, protocol::specs::Note::note_flags))]
 pub(crate) fn wrong_note(note: &[u8]) -> bool
     ensures { result ≡ wrong_note note.now }
 {
@@ -26,6 +27,7 @@ pub(crate) fn wrong_note(note: &[u8]) -> bool
 }
 
 // The round.
+#[tactic(auto, unfolding(protocol::specs::Layout::note_length, protocol::specs::Note::note_round))]
 fn note_round(note: &[u8]) -> u32
     requires { length note.now ≡ note_length }
     ensures { result ≡ note_round note.now }
@@ -34,6 +36,7 @@ fn note_round(note: &[u8]) -> u32
 }
 
 // The own submission.
+#[tactic(auto, unfolding(protocol::specs::Layout::note_length))]
 fn note_own(note: &[u8], flags: u32) -> Own
     requires { length note.now ≡ note_length }
     ensures { result ≡ note_own flags note.now }
@@ -49,6 +52,7 @@ fn note_own(note: &[u8], flags: u32) -> Own
 }
 
 // The notices heard.
+#[tactic(auto, unfolding(protocol::specs::Layout::note_length))]
 fn note_notices(note: &[u8], flags: u32) -> Notices
     requires { length note.now ≡ note_length }
     ensures { result ≡ note_notices flags note.now }
@@ -59,6 +63,7 @@ fn note_notices(note: &[u8], flags: u32) -> Notices
 }
 
 // The first certificate.
+#[tactic(auto, unfolding(protocol::specs::Layout::note_length))]
 fn note_first(note: &[u8]) -> First
     requires { length note.now ≡ note_length }
     ensures { result ≡ note_first note.now }
@@ -69,6 +74,7 @@ fn note_first(note: &[u8]) -> First
 }
 
 // The record in a note, possible or not.
+#[tactic(auto, unfolding(protocol::specs::Layout::note_length, protocol::specs::Note::note_record, protocol::specs::Note::note_flags))]
 pub(crate) fn note_record(note: &[u8]) -> Record
     requires { length note.now ≡ note_length }
     ensures { result ≡ note_record note.now }

@@ -14,6 +14,7 @@ use layout::{
 use protocol::Record;
 
 // "0x20, n 1, seat 1, round 2, flags 1"
+#[tactic(auto, unfolding(protocol::specs::Layout::note_length))]
 fn put_start(r: Record, out: &mut [u8])
     requires { (r.n < 256) × (r.seat < 256) × (note_length ≤ length out.old) }
     ensures { out.new ≡ patch 0 (note_start r) out.old }
@@ -28,6 +29,7 @@ fn put_start(r: Record, out: &mut [u8])
 }
 
 // "the masks collected, kept, first certificate and guilty at 4 each"
+#[tactic(auto, unfolding(protocol::specs::Layout::note_length))]
 fn put_masks(r: Record, out: &mut [u8])
     requires { note_length ≤ length out.old }
     ensures { out.new ≡ patch note_collected_at (note_masks r) out.old }
@@ -47,6 +49,7 @@ fn put_value(out: &mut [u8], at: usize, value: [u8; 32])
 }
 
 // The note of a record. Answers the number of bytes written.
+#[tactic(auto, unfolding(protocol::specs::Layout::note_length))]
 pub(crate) fn put_note(r: Record, out: &mut [u8]) -> u32
     requires { (r.n < 256) × (r.seat < 256) × (note_length ≤ length out.old) }
     ensures { (out.new ≡ patch 0 (render_note r) out.old) × (result ≡ length (render_note r)) }
