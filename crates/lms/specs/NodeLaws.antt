@@ -1,7 +1,6 @@
 -- Laws over plain values, which the proofs of the code cite.
-use Rattle.std.specs.Prelude.{◌≡◌, List, ◌++◌, ℕ, ◌+◌, ◌-◌, ◌*◌, ◌/◌, ◌^◌, ◌≤◌, length, take, drop}
+use Rattle.std.specs.Prelude.{◌≡◌, List, ◌++◌, ℕ, ◌+◌, ◌*◌, ◌/◌, ◌^◌, ◌≤◌, length}
 use Rattle.std.proofs.Common.{sym, ap, ◌∙◌, append_assoc, add-one, shr-shr}
-use Rattle.std.proofs.Math.Nat.{add-sub_cancel_left}
 use Rattle.octets.specs.Octets.{part, patch, be, word_at}
 use Rattle.octets.specs.StringsLaws.{number-part-four}
 use Rattle.fips180.specs.Fips.{sha256}
@@ -10,11 +9,6 @@ use Rattle.rfc8554.specs.Ots.{H, width, ots_length, candidate}
 use Rattle.rfc8554.specs.Tree.{height, leaf_input, inner_input, d_intr}
 use Rattle.rfc8554.specs.Verify.{leaf_of, ots_part, level_up, climbed, root_candidate}
 use Rattle.lms.specs.Pieces.{leaf_over, over_children}
-
--- the part `xs[at..at + n]`
-pub part-lent : (at n : ℕ) (xs : List ℕ) → take (at + n - at) (drop at xs) ≡ part at n xs
-unfolding part
-part-lent at n xs = rw add-sub_cancel_left
 
 -- ---- nodes
 

@@ -13,6 +13,7 @@ const LEAF: u32 = 0x8282;
 const INNER: u32 = 0x8383;
 
 // The n bytes of s from index `at`.
+#[tactic(auto, unfolding(octets::specs::Octets::part))]
 pub(crate) fn bytes_at(s: &[u8], at: usize, n: usize) -> &[u8]
     requires { at + n ≤ length s.now }
     ensures { result.now ≡ part at n s.now }

@@ -38,6 +38,7 @@ fn write_head(leaf: u32, randomizer: &[u8], out: &mut [u8])
 }
 
 // The node beside the node r.
+#[tactic(auto, unfolding(rfc8554::specs::Tree::sibling))]
 fn sibling(r: u32) -> u32
     requires { (1 < r) × (r < 2048) }
     ensures { (result ≡ Tree.sibling r) × (result < 2048) }
@@ -60,6 +61,7 @@ fn write_path(tree: &[u8], r: u32, out: &mut [u8], at: usize)
 }
 
 // The tail of a signature: the LMS type and the path of the leaf.
+#[tactic(auto, unfolding(protocol::specs::Layout::signature_length))]
 fn write_tail(tree: &[u8], leaf: u32, out: &mut [u8])
     requires { (length tree.now ≡ tree_length) × (leaf < 1024) × (signature_length ≤ length out.old) }
     ensures { out.new ≡ patch 1128 (be 4 6 ++ joined (path tree.now (1024 + leaf)) 10) out.old }

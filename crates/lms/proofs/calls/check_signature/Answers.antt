@@ -1,4 +1,4 @@
-use Rattle.std.proofs.Common.{sym, ◌∙◌, rules}
+use Rattle.std.proofs.Common.{sym, ◌∙◌}
 use Rattle.refusal.specs.RefusalLaws.{rows}
 use Rattle.protocol.specs.Refusals.{check_conditions}
 use Rattle.protocol.specs.Signatures.{check_signature}

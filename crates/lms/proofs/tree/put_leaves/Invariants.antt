@@ -1,4 +1,4 @@
-use Rattle.std.proofs.Common.{◌≡◌, ◌*◌, length}
+use Rattle.std.proofs.Common.{◌≡◌, ◌*◌}
 use Rattle.octets.specs.Octets.{patch, bytes}
 use Rattle.rfc8554.specs.Tree.{nodes}
 use Rattle.lms.proofs.tree.put_leaves.Given as goal

@@ -1,4 +1,4 @@
-use Rattle.std.proofs.Common.{refl, sym, ◌∙◌, true, false, true≢false, rules}
+use Rattle.std.proofs.Common.{refl, sym, ◌∙◌, true, false, true≢false}
 use Rattle.lms.specs.Types.{tree_type, ots_type}
 use Rattle.lms.specs.TypesLaws.{bits_of-type}
 use Rattle.lms.specs.VerifyLaws.{key_lms, key_types, signature-fits, signature_rejected, signature_compared}
