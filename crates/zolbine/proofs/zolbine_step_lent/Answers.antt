@@ -1,7 +1,6 @@
 -- The parts of what the step by value answers.
-use Rattle.std.proofs.Common.{◌≡◌, ap, ℕ}
+use Rattle.std.proofs.Common.{ap}
 use Rattle.protocol.specs.Calls.{answer}
-use Rattle.protocol.specs.declared.Record.{Record}
 use Rattle.protocol.specs.declared.Stepped.{Stepped}
 use Rattle.zolbine.proofs.zolbine_step_lent.Goals as goal
 
