@@ -1,18 +1,17 @@
 -- The returns of the functions over commands, over plain values.
 -- Assumes nothing.
-use Rattle.std.specs.Prelude.{◌≡◌, Bool, false, not, ◌||◌, cond, Option, Some, None, List, [], ℕ, ◌+◌, ◌*◌, ◌-◌, ◌≤◌, ◌<◌, ltb, length, take, drop}
+use Rattle.std.specs.Prelude.{◌≡◌, Bool, false, not, ◌||◌, cond, Option, Some, None, List, [], ℕ, ◌+◌, ◌-◌, ◌≤◌, ◌<◌, ltb, length, take, drop}
 use Rattle.std.proofs.Math.Path.{refl, sym}
 use Rattle.std.proofs.Math.Bool.{true}
-use Rattle.std.proofs.Common.{arith, drop_of_length-le}
+use Rattle.std.proofs.Common.{arith}
 use Rattle.std.proofs.Math.Dec.{eqb}
-use Rattle.std.proofs.Math.ListN.{get_or-eq_default}
 use borrow.Author.Tests.{eq-eqb, ne_eqb, eqb-true, eqb-false, lt-ltb, le-ltb, ltb-false, not-false}
 use Rattle.octets.specs.Octets.{part}
 use Rattle.octets.specs.OctetsLaws.{take_rest}
 use Rattle.octets.specs.StringsLaws.{patch-nothing}
 use Rattle.refusal.specs.Refusal.{first_of, unrefused}
 use Rattle.refusal.specs.RefusalLaws.{both_false}
-use Rattle.protocol.specs.Layout.{value_length, signature_length, key_length}
+use Rattle.protocol.specs.Layout.{value_length, signature_length}
 use Rattle.protocol.specs.Message.{byte_at}
 use Rattle.protocol.specs.Record.{wrong_size}
 use Rattle.protocol.specs.Refusals.{Checks, opening_conditions}
@@ -21,17 +20,11 @@ use Rattle.protocol.specs.declared.Record.{Record}
 use Rattle.protocol.specs.declared.Opened.{Opened}
 use Rattle.protocol.specs.declared.Stepped.{Stepped}
 use Rattle.yard.specs.Line.{line, in_space, Fits}
-use Rattle.yard.specs.Commands.{Outcome, line_for, told, two_at, is_opening, keys_at, keys_of, opening_length, misframed_opening, refused_opening, opened, begun, is_message, is_submit, message_at, own_value_at, own_signature_at, call_of, call_length, misframed_call, whole_call, told_call, called}
+use Rattle.yard.specs.Commands.{Outcome, line_for, told, two_at, is_opening, keys_of, opening_length, misframed_opening, refused_opening, opened, begun, is_message, is_submit, message_at, own_value_at, own_signature_at, call_of, call_length, misframed_call, whole_call, told_call, called}
 use Rattle.yard.specs.declared.line.Line.{Line}
 use Rattle.yard.specs.declared.commands.Answer.{Answer}
 use Rattle.yard.specs.declared.commands.Call.{Call}
 use Rattle.yard.specs.declared.commands.Call.TheVariants as call
-
-pub keys_none : (bytes : List ℕ) → length bytes < keys_at → take 0 bytes ≡ keys_of bytes
-keys_none bytes h = sym (drop_of_length-le bytes {i = keys_at} (omega arith))
-
-pub keys-rest : (bytes : List ℕ) → take (length bytes - keys_at) (drop keys_at bytes) ≡ keys_of bytes
-keys-rest bytes = take_rest keys_at bytes
 
 -- ---- the later command by its tests
 
@@ -63,20 +56,6 @@ whole-some false k c e = (refl, e)
 
 module _ (bytes : List ℕ) where
   -- ---- the first command
-
-  module _ (b : ℕ) (e : b ≡ byte_at bytes 0) where
-    pub opening-other : (b ≡ 0x10 → ⊥) → 1 ≡ opening_length bytes
-    unfolding opening_length
-    opening-other h = rw (← e, ne_eqb b 0x10 h)
-
-    module _ (h : b ≡ 0x10) (n : ℕ) (s : n ≡ byte_at bytes 1) where
-      pub opening-many : 7 < n → keys_at ≡ opening_length bytes
-      unfolding opening_length
-      opening-many l = rw (← e, ← s, eq-eqb b 0x10 h, lt-ltb 7 n l)
-
-      pub opening-few : n ≤ 7 → keys_at + key_length * n ≡ opening_length bytes
-      unfolding opening_length
-      opening-few l = rw (← e, ← s, eq-eqb b 0x10 h, le-ltb 7 n l)
 
   pub opening-short : (size : ℕ) → size ≡ opening_length bytes → length bytes < size → true ≡ misframed_opening bytes
   unfolding misframed_opening

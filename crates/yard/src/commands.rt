@@ -46,6 +46,7 @@ fn line_for(bytes: &[u8], number: u32, written: u32) -> Line
 }
 
 // The length of the first command, as far as the bytes at its start tell it: two tell it whole.
+#[tactic(auto, unfolding(crate::specs::Commands::opening_length))]
 pub fn opening_length(bytes: &[u8]) -> usize
     ensures { (result ≡ opening_length bytes.now) × (result ≤ longest_opening) }
 {

@@ -12,6 +12,7 @@ pub struct Line {
 }
 
 // Writes one byte at index `at`, and answers the index after it.
+#[tactic(auto, using(crate::specs::LineLaws::put_one))]
 fn put_byte(out: &mut [u8], at: usize, b: u8) -> usize
     requires { at < length out.old }
     ensures { (out.new ≡ patch at (b ∷ []) out.old) × (result ≡ at + 1) }
@@ -44,6 +45,7 @@ pub(crate) fn line_of(number: u32, written: u32) -> Line
 }
 
 // Nothing to print.
+#[tactic(auto, unfolding(crate::specs::Line::in_space, octets::specs::Octets::patch))]
 pub(crate) fn no_line() -> Line
     ensures { (result ≡ in_space []) × Fits result }
 {

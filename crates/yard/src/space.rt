@@ -46,6 +46,7 @@ pub fn new_call() -> [u8; CALL]
     [0; CALL]
 }
 
+#[tactic(auto, unfolding(crate::specs::Commands::yard_store, protocol::specs::Layout::store_length, protocol::specs::Layout::length_of_banks, protocol::specs::Layout::banks, protocol::specs::Layout::signature_length))]
 pub fn new_store() -> [u8; STORE]
     ensures { result ≡ yard_store }
 {
