@@ -80,11 +80,11 @@ unfolding compress_refusal compress_written first_of
 block_garbled count state block out h e f = refused 8 _ _ out (rw (le-ltb (length out) 32 h, eq-eqb (length state) 32 e, ne_eqb (length block) 64 f))
 
 pub compress-fits : (count : ℕ) (state block out h m s d last : List ℕ) → 32 ≤ length out → length state ≡ 32 → length block ≡ 64
-    → h ≡ words 8 state → m ≡ words 16 (part 0 64 block) → s ≡ repeated h m count → d ≡ bytes s → last ≡ patch 0 d out
+    → h ≡ words 8 (part 0 32 state) → m ≡ words 16 (part 0 64 block) → s ≡ repeated h m count → d ≡ bytes s → last ≡ patch 0 d out
     → (0 ≡ compress_refusal state block out) × (last ≡ patch 0 (compress_written count state block out) out)
 unfolding compress_refusal compress_written first_of
 compress-fits count state block out h m s d last room e f p q r t u =
-    done _ _ out last (rw (le-ltb (length out) 32 room, eq-eqb (length state) 32 e, eq-eqb (length block) 64 f)) (u ∙ rw (t, r, p, q, part_all block 64 f))
+    done _ _ out last (rw (le-ltb (length out) 32 room, eq-eqb (length state) 32 e, eq-eqb (length block) 64 f)) (u ∙ rw (t, r, p, q, part_all state 32 e, part_all block 64 f))
 
 -- ---- the values of a signature
 

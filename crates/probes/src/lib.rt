@@ -17,11 +17,10 @@ use sha256_constants::RoundConstants;
 pub extern "C" fn probe_t0(n: u32) -> u32
     ensures { result ≡ of_fleet Quorum.t0 n }
 {
-    if (1..=quorum::MOST_SEATS).contains(&n) {
-        quorum::t0(n)
-    } else {
-        0
+    if n < 1 || quorum::MOST_SEATS < n {
+        return 0;
     }
+    quorum::t0(n)
 }
 
 // k of a fleet of n seats; 0 where no fleet has n.
@@ -29,11 +28,10 @@ pub extern "C" fn probe_t0(n: u32) -> u32
 pub extern "C" fn probe_k(n: u32) -> u32
     ensures { result ≡ of_fleet Quorum.k n }
 {
-    if (1..=quorum::MOST_SEATS).contains(&n) {
-        quorum::k(n)
-    } else {
-        0
+    if n < 1 || quorum::MOST_SEATS < n {
+        return 0;
     }
+    quorum::k(n)
 }
 
 // The bytes of the round constants.
@@ -70,8 +68,9 @@ fn compress_times(k: &RoundConstants, h: [u32; 8], m: [u32; 16], count: u32) -> 
     ensures { result ≡ repeated h m count }
 {
     let mut s = h;
-    for _ in 0..count {
-        s = sha256_block::compress(k, s, m);
+    for _t in 0..count {
+        let next = sha256_block::compress(k, s, m);
+        s = next;
     }
     s
 }
@@ -119,9 +118,11 @@ pub extern "C" fn probe_signed(q: u32, id: &[u8], seed: &[u8], digits: &[u8], ou
         return Refusal::Garbled.number();
     }
     let k = sha256_constants::round_constants();
-    let i = lmots_digits::words::four(id, 0);
-    let s = lmots_digits::words::eight(seed, 0);
-    lmots::key::write_signed(&k, i, q, s, digits, out, 0);
+    let i = lmots_digits::words::words_at(id, 0);
+    let s = lmots_digits::words::words_at(seed, 0);
+    let mut d = [0u8; 34];
+    d.copy_from_slice(digits);
+    lmots::key::write_signed(&k, i, q, s, &d, out, 0);
     0
 }
 
