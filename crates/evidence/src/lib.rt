@@ -38,9 +38,9 @@ pub fn make_evidence(
         (written_in result ≡ made outcome)
         × (out.new ≡ out_after outcome.written out.old) }
 {
-    let fleet = fleet(n, round, keys)?;
+    let given = fleet(n, round, keys)?;
     out_refusal(layout::evidence_out_length(n), out)?;
-    two_refusal(fleet, first, second)?;
+    two_refusal(given, first, second)?;
     Ok(write_conflict(n, round, first, second, out))
 }
 
