@@ -59,8 +59,8 @@ fn put_ends(v: &[u32; 128], i: usize, z: &mut [u8; STRINGS])
 fn put_fronts(id: [u32; 4], leaves: [u32; 16], z: &mut [u8; STRINGS])
     ensures { (l : ℕ) → l < 16 → part (1110 * l) 22 z.new ≡ Pieces.front (bytes id) (get_or leaves l 0) d_pblc }
 {
-    for l in 0..16 {
-        let start = front(id, leaves[l], 0x8080);
+    for (l, &q) in leaves.iter().enumerate() {
+        let start = front(id, q, 0x8080);
         octets::copy(z, 1110 * l, &start);
     }
 }

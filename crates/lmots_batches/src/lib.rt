@@ -73,8 +73,7 @@ impl Chains {
         ensures { (l : ℕ) → l < 16 → get_or result l 0 ≡ get_or picks.now.chains l 0 * 65536 + get_or self.now.places (get_or picks.now.chains l 0) 0 * 256 }
     {
         let mut out = [0u32; 16];
-        for l in 0..16 {
-            let i = picks.chains[l];
+        for (l, &i) in picks.chains.iter().enumerate() {
             out[l] = i as u32 * 65536 + self.places[i] * 256;
         }
         out
@@ -132,8 +131,8 @@ pub fn column(v: &[u32; 128], l: usize) -> [u32; 8]
 fn gather(z: &[u8; VALUES], picks: &Picks, v: &mut [u32; 128])
     ensures { (l : ℕ) → l < 16 → bytes (column l 8 v.new) ≡ part (32 * get_or picks.now.chains l 0) 32 z.now }
 {
-    for l in 0..16 {
-        let y = words_at(z, 32 * picks.chains[l]);
+    for (l, &i) in picks.chains.iter().enumerate() {
+        let y = words_at(z, 32 * i);
         put_column(v, l, y);
     }
 }
@@ -150,8 +149,7 @@ fn scatter(
     ensures { (i : ℕ) → i < 67 → Scattered 16 picks.now.chains places count v.now z.old result z.new i }
 {
     let mut next = places;
-    for l in 0..16 {
-        let i = picks.chains[l];
+    for (l, &i) in picks.chains.iter().enumerate() {
         let y = column(v, l);
         put_words(z, 32 * i, &y);
         next[i] = places[i] + count;

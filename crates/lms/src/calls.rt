@@ -16,7 +16,7 @@ fn wrong_maker_material(seed: &[u8], identifier: &[u8], tree: &[u8]) -> bool
     ensures { result ≡ wrong_maker_material seed.now identifier.now tree.now }
 {
     let length = layout::tree_length();
-    (seed.len() != 32) | (identifier.len() != 16) | (tree.len() != length)
+    seed.len() != 32 || identifier.len() != 16 || tree.len() != length
 }
 
 // Whether the seed is not 32 bytes, the identifier not 16, the randomizer not 32 or the tree not 65,536.
@@ -24,10 +24,10 @@ fn wrong_signer_material(seed: &[u8], identifier: &[u8], randomizer: &[u8], tree
     ensures { result ≡ wrong_signer_material seed.now identifier.now randomizer.now tree.now }
 {
     let length = layout::tree_length();
-    (seed.len() != 32)
-        | (identifier.len() != 16)
-        | (randomizer.len() != 32)
-        | (tree.len() != length)
+    seed.len() != 32
+        || identifier.len() != 16
+        || randomizer.len() != 32
+        || tree.len() != length
 }
 
 // Whether a message is too long to check or sign.
