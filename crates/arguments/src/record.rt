@@ -56,12 +56,11 @@ pub fn opened_by(answer: Result<Record, Refusal>) -> Opened
 }
 
 // Whether a value is 32 zero bytes.
-#[tactic(auto, unfolding(protocol::specs::Values::unset))]
+#[tactic(auto, using(octets::specs::StringsLaws::equal_same), unfolding(protocol::specs::Values::unset))]
 fn is_unset(value: [u8; 32]) -> bool
     ensures { result ≡ same value unset }
 {
-    let zeros = [0u8; 32];
-    octets::same(&value, &zeros)
+    value == [0u8; 32]
 }
 
 // Whether a certificate is held.

@@ -1,8 +1,8 @@
 -- A note from the writes of its parts, one after another.
 -- Assumes nothing.
-use Rattle.std.specs.Prelude.{◌≡◌, List, [], ◌∷◌, ◌++◌, ℕ, ◌/◌, ◌%◌, ◌≤◌, length, set}
-use Rattle.std.proofs.Common.{append_assoc, arith, length-append}
-use Rattle.std.proofs.lemmas.List.Edits.{sets-eq}
+use Rattle.std.specs.Prelude.{◌≡◌, List, [], ◌∷◌, ◌++◌, ℕ, ◌≤◌, length, set}
+use Rattle.std.proofs.Common.{refl, append_assoc, arith, length-append}
+use borrow.Rule.Slice.PartMut.{put_mid}
 use Rattle.octets.specs.Octets.{patch, be}
 use Rattle.octets.specs.OctetsLaws.{length-be}
 use Rattle.octets.specs.StringsLaws.{be-two}
@@ -12,11 +12,17 @@ use Rattle.protocol.specs.Note.{render_note, ValuesSized}
 use Rattle.protocol.specs.declared.Record.{Record}
 use Rattle.notes.specs.Parts.{note_start, note_masks}
 
--- six stores
-pub start-written : (n seat round flags : ℕ) (xs : List ℕ) → note_own_value_at ≤ length xs
-    → set (set (set (set (set (set xs 0 0x20) 1 n) 2 seat) 3 (round / 256 % 256)) 4 (round % 256)) 5 flags ≡ patch 0 (0x20 ∷ n ∷ seat ∷ be 2 round ++ flags ∷ []) xs
+-- the round's two bytes in the midst of four stores
+pub start-written : (n seat round flags : ℕ) (xs : List ℕ) {ys : List ℕ} → note_own_value_at ≤ length xs → ys ≡ be 2 round
+    → set (put_mid 3 2 (set (set (set xs 0 0x20) 1 n) 2 seat) ys) 5 flags ≡ patch 0 (0x20 ∷ n ∷ seat ∷ be 2 round ++ flags ∷ []) xs
 unfolding patch
-start-written n seat round flags xs h = rw be-two (sets-eq (0x20 ∷ n ∷ seat ∷ round / 256 % 256 ∷ round % 256 ∷ flags ∷ []) xs 0 h)
+start-written n seat round flags (a ∷ b ∷ c ∷ d ∷ e ∷ f ∷ xs) h p = rw (p, be-two) refl
+start-written n seat round flags [] h p = absurd (omega arith)
+start-written n seat round flags (a ∷ []) h p = absurd (omega arith)
+start-written n seat round flags (a ∷ b ∷ []) h p = absurd (omega arith)
+start-written n seat round flags (a ∷ b ∷ c ∷ []) h p = absurd (omega arith)
+start-written n seat round flags (a ∷ b ∷ c ∷ d ∷ []) h p = absurd (omega arith)
+start-written n seat round flags (a ∷ b ∷ c ∷ d ∷ e ∷ []) h p = absurd (omega arith)
 
 -- the masks, one after another
 pub masks-written : (r : Record) (xs : List ℕ) {a b c d : List ℕ} → note_collected_at ≤ length xs

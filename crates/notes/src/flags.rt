@@ -68,5 +68,5 @@ pub(crate) fn wrong_flags(flags: u32) -> bool
 {
     let one = is_set(ONE, flags);
     let two = is_set(TWO, flags);
-    (one & two) | (32 <= flags)
+    one && two || 32 <= flags
 }

@@ -23,7 +23,7 @@ pub(crate) fn wrong_note(note: &[u8]) -> bool
         return true;
     }
     let flags = u32::from(note[NOTE_FLAGS_AT]);
-    (note[0] != 0x20) | wrong_flags(flags)
+    note[0] != 0x20 || wrong_flags(flags)
 }
 
 // The round.

@@ -23,8 +23,7 @@ fn put_start(r: Record, out: &mut [u8])
     out[0] = 0x20;
     out[NOTE_SIZE_AT] = r.n as u8;
     out[NOTE_SEAT_AT] = r.seat as u8;
-    out[NOTE_ROUND_AT] = (r.round / 256 % 256) as u8;
-    out[NOTE_ROUND_AT + 1] = (r.round % 256) as u8;
+    out[NOTE_ROUND_AT..NOTE_FLAGS_AT].copy_from_slice(&r.round.to_be_bytes()[2..]);
     out[NOTE_FLAGS_AT] = flags as u8;
 }
 

@@ -6,7 +6,6 @@ use Rattle.std.proofs.Common.{sym, ◌∙◌}
 use Rattle.std.proofs.Math.Bool.{and-true}
 use mathlib.Core.List.{List, [], ◌∷◌, ◌++◌}
 use borrow.Author.Tests.{eqb-true, not-false}
-use Rattle.octets.specs.Strings.{same}
 use Rattle.refusal.specs.Refusal.{first_of, numbers, nonzero}
 use Rattle.refusal.specs.RefusalLaws.{both_false, first_of-zero, refused_first, refused-later, passed_first}
 use Rattle.protocol.specs.Layout.{value_length, signature_length, value_at}
@@ -92,10 +91,6 @@ module _ (n : ℕ) (bytes : List ℕ) where
   pub certificate-says : FullTaken n bytes → (at : ℕ) → at ≡ value_at → (value : List ℕ) → value ≡ read_value at bytes → value ≡ (certificate_in (read n bytes)).value
   unfolding certificate_in certificate_of read_full
   certificate-says h at f value e = rw (h.says, ← f) e
-
-pub values-told : (a b : Message) (x y : List ℕ) (r : Bool) → x ≡ (certificate_in a).value → y ≡ (certificate_in b).value → r ≡ same x y → r ≡ equal_values a b
-unfolding equal_values
-values-told a b x y r p q e = e ∙ rw (p, q)
 
 -- ---- two certificates
 

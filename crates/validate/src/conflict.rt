@@ -41,11 +41,12 @@ pub fn certificate_value(n: u32, m: &[u8]) -> [u8; 32]
 }
 
 // Whether two certificates have equal values.
+#[tactic(auto, using(octets::specs::StringsLaws::equal_same), unfolding(protocol::specs::Refusals::equal_values))]
 pub(crate) fn equal_values(n: u32, first: &[u8], second: &[u8]) -> bool
     requires { FullTaken n first.now × FullTaken n second.now }
     ensures { result ≡ equal_values (read n first.now) (read n second.now) }
 {
     let a = certificate_value(n, first);
     let b = certificate_value(n, second);
-    octets::same(&a, &b)
+    a == b
 }
