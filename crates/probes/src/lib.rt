@@ -2,9 +2,10 @@
 // ships.
 #![tactic(auto)]
 
-ghost use Rattle.std.specs.Prelude.{◌≡◌, ◌≤◌, length};
+ghost use Rattle.std.specs.Prelude.{◌≡◌, ℕ, ◌≤◌, length};
 ghost use Rattle.octets.specs.Octets.{patch, words};
 ghost use Rattle.quorum.specs.Quorum as Quorum;
+ghost use Rattle.quorum.specs.Quorum.{most_seats};
 ghost use Rattle.protocol.specs.Signatures.{checks};
 ghost use Rattle.protocol.specs.Calls.{lower_certificate};
 ghost use Rattle.probes.specs.Probes.{of_fleet, constants_refusal, constants_written, digest_refusal, digest_written, compress_refusal, compress_written, repeated, signed_refusal, signed_written, copy_refusal, copy_written};
@@ -12,15 +13,23 @@ ghost use Rattle.probes.specs.Probes.{of_fleet, constants_refusal, constants_wri
 use refusal::Refusal;
 use sha256_constants::RoundConstants;
 
+// A number of seats, as t0 or k, of a fleet of n; 0 where no fleet has n.
+fn of_fleet<F: Fn(u32) -> u32>(n: u32, count: F) -> u32
+    requires { 1 ≤ n → n ≤ most_seats → F.pre count n }
+    ensures { (f : ℕ → ℕ) → ((r : ℕ) → F.post count n r → r ≡ f n) → result ≡ of_fleet f n }
+{
+    if n < 1 || quorum::MOST_SEATS < n {
+        return 0;
+    }
+    count(n)
+}
+
 // t0 of a fleet of n seats; 0 where no fleet has n.
 #[unsafe(no_mangle)]
 pub extern "C" fn probe_t0(n: u32) -> u32
     ensures { result ≡ of_fleet Quorum.t0 n }
 {
-    if n < 1 || quorum::MOST_SEATS < n {
-        return 0;
-    }
-    quorum::t0(n)
+    of_fleet(n, quorum::t0)
 }
 
 // k of a fleet of n seats; 0 where no fleet has n.
@@ -28,10 +37,7 @@ pub extern "C" fn probe_t0(n: u32) -> u32
 pub extern "C" fn probe_k(n: u32) -> u32
     ensures { result ≡ of_fleet Quorum.k n }
 {
-    if n < 1 || quorum::MOST_SEATS < n {
-        return 0;
-    }
-    quorum::k(n)
+    of_fleet(n, quorum::k)
 }
 
 // The bytes of the round constants.

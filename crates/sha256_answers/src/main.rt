@@ -43,8 +43,7 @@ fn padded(n: usize) -> [u8; 64]
     let mut b = [0u8; 64];
     fill(&mut b[..n], n);
     b[n] = 128;
-    b[62] = (n * 8 / 256) as u8;
-    b[63] = (n * 8 % 256) as u8;
+    b[62..].copy_from_slice(&(8 * n as u16).to_be_bytes());
     b
 }
 

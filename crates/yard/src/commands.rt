@@ -2,7 +2,6 @@
 ghost use Rattle.std.specs.Prelude.{◌≡◌, ◌<◌, ◌≤◌};
 ghost use Rattle.refusal.specs.Answers.{number_of};
 ghost use Rattle.protocol.specs.Signatures.{checks};
-ghost use Rattle.protocol.specs.Message.{byte_at};
 ghost use Rattle.protocol.specs.Calls.{out_after};
 ghost use Rattle.yard.specs.Line.{in_space, Fits};
 ghost use Rattle.yard.specs.Commands.{line_for, told, two_at, keys_of, opening_length, longest_opening, misframed_opening, refused_opening, opened, begun, call_of, call_length, longest_call, whole_call, told_call, called};
@@ -11,6 +10,7 @@ use crate::line::{Line, line_of, no_line};
 use crate::space;
 use protocol::{Opened, Record, Stepped};
 use refusal::Refusal;
+use wire::read::byte_or_zero;
 
 // Answer of a command: whether the program ends with it, the record after it, and the line to print.
 #[derive(Clone, Copy)]
@@ -20,19 +20,12 @@ pub struct Answer {
     pub line: Line,
 }
 
-// The byte at index i, 0 past the end.
-fn byte_at(bytes: &[u8], i: usize) -> u32
-    ensures { (result ≡ byte_at bytes.now i) × (result < 256) }
-{
-    u32::from(bytes.get(i).copied().unwrap_or(0))
-}
-
 // The number of two bytes at index i.
 fn two_at(bytes: &[u8], i: usize) -> u32
     requires { i < 65535 }
     ensures { (result ≡ two_at bytes.now i) × (result < 65536) }
 {
-    byte_at(bytes, i) * 256 + byte_at(bytes, i + 1)
+    byte_or_zero(bytes, i) * 256 + byte_or_zero(bytes, i + 1)
 }
 
 // The line for a command; none for no bytes, at the end of the input.
@@ -50,10 +43,10 @@ fn line_for(bytes: &[u8], number: u32, written: u32) -> Line
 pub fn opening_length(bytes: &[u8]) -> usize
     ensures { (result ≡ opening_length bytes.now) × (result ≤ longest_opening) }
 {
-    if byte_at(bytes, 0) != 0x10 {
+    if byte_or_zero(bytes, 0) != 0x10 {
         return 1;
     }
-    let n = byte_at(bytes, 1) as usize;
+    let n = byte_or_zero(bytes, 1) as usize;
     if space::MOST_SEATS < n {
         return space::OPENING_HEAD;
     }
@@ -71,7 +64,7 @@ enum Call {
 fn call_of(bytes: &[u8]) -> Option<Call>
     ensures { result ≡ call_of bytes.now }
 {
-    match byte_at(bytes, 0) {
+    match byte_or_zero(bytes, 0) {
         0x11 => Some(Call::Message),
         0x12 => Some(Call::Submit),
         _ => None,
@@ -103,7 +96,7 @@ pub fn keys_of(bytes: &[u8]) -> &[u8]
 fn is_misframed_opening(bytes: &[u8]) -> bool
     ensures { result ≡ misframed_opening bytes.now }
 {
-    bytes.len() < opening_length(bytes) || byte_at(bytes, 0) != 0x10
+    bytes.len() < opening_length(bytes) || byte_or_zero(bytes, 0) != 0x10
 }
 
 // A refused opening with its record of zeros, taken from an opening of no seats.
@@ -123,11 +116,11 @@ fn open(bytes: &[u8]) -> Opened
     if is_misframed_opening(bytes) {
         return refused_opening(Refusal::Garbled);
     }
-    let n = byte_at(bytes, 1);
+    let n = byte_or_zero(bytes, 1);
     if space::MOST_SEATS < n as usize {
         return refused_opening(Refusal::Size);
     }
-    let seat = byte_at(bytes, 2);
+    let seat = byte_or_zero(bytes, 2);
     let round = two_at(bytes, 3);
     confirmer::opening::open(n, seat, round, keys_of(bytes))
 }

@@ -9,4 +9,4 @@ returns-then-bytes-opening_length c =
 
 pub returns-else-bytes-opening_length : goal.returns-else-bytes-opening_length
 returns-else-bytes-opening_length c =
-    opening-whole c.args.bytes.now c.opening_length.result c.byte_at.result c.opening_length.ensures.0 c.if-bytes-opening_length.false c.byte_at.ensures.0
+    opening-whole c.args.bytes.now c.opening_length.result c.byte_or_zero.result c.opening_length.ensures.0 c.if-bytes-opening_length.false c.byte_or_zero.ensures.0

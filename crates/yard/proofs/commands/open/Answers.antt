@@ -11,10 +11,10 @@ pub returns-then-n-gt-MOST_SEATS : goal.returns-then-n-gt-MOST_SEATS
 returns-then-n-gt-MOST_SEATS c =
     let whole : misframed_opening c.args.bytes.now ≡ false = sym c.is_misframed_opening.ensures ∙ c.if-is_misframed_opening.false in
     let refused = c.refused_opening-then-n-gt-MOST_SEATS in
-    open_many c.args.bytes.now refused.result whole c.byte_at-n.result c.byte_at-n.ensures.0 c.if-n-gt-MOST_SEATS.true refused.ensures
+    open_many c.args.bytes.now refused.result whole c.byte_or_zero-n.result c.byte_or_zero-n.ensures.0 c.if-n-gt-MOST_SEATS.true refused.ensures
 
 pub returns : goal.returns
 returns c =
     let whole : misframed_opening c.args.bytes.now ≡ false = sym c.is_misframed_opening.ensures ∙ c.if-is_misframed_opening.false in
-    open_few c.args.bytes.now c.«open».result whole c.byte_at-n.result c.byte_at-n.ensures.0 c.if-n-gt-MOST_SEATS.false
-    c.byte_at-seat.result c.two_at-round.result _ c.byte_at-seat.ensures.0 c.two_at-round.ensures.0 c.keys_of.ensures c.«open».ensures
+    open_few c.args.bytes.now c.«open».result whole c.byte_or_zero-n.result c.byte_or_zero-n.ensures.0 c.if-n-gt-MOST_SEATS.false
+    c.byte_or_zero-seat.result c.two_at-round.result _ c.byte_or_zero-seat.ensures.0 c.two_at-round.ensures.0 c.keys_of.ensures c.«open».ensures
