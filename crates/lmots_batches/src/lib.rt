@@ -95,10 +95,10 @@ fn choose(chains: &Chains) -> Picks
     let mut rest = chains.lefts();
     let first = longest(&rest, chains.n);
     let mut picks = [first; 16];
-    for l in 0..16 {
+    for pick in picks.iter_mut() {
         let i = longest(&rest, chains.n);
         if 0 < rest[i] {
-            picks[l] = i;
+            *pick = i;
         }
         rest[i] = 0;
     }
