@@ -110,8 +110,8 @@ pub fn put_column(v: &mut [u32; 128], l: usize, y: [u32; 8])
     requires { l < 16 }
     ensures { (column l 8 v.new ≡ y) × ((j : ℕ) → j < l → column j 8 v.new ≡ column j 8 v.old) }
 {
-    for r in 0..8 {
-        v[16 * r + l] = y[r];
+    for (r, &word) in y.iter().enumerate() {
+        v[16 * r + l] = word;
     }
 }
 
