@@ -95,10 +95,10 @@ fn choose(chains: &Chains) -> Picks
     let mut rest = chains.lefts();
     let first = longest(&rest, chains.n);
     let mut picks = [first; 16];
-    for l in 0..16 {
+    for pick in picks.iter_mut() {
         let i = longest(&rest, chains.n);
         if 0 < rest[i] {
-            picks[l] = i;
+            *pick = i;
         }
         rest[i] = 0;
     }
@@ -110,8 +110,8 @@ pub fn put_column(v: &mut [u32; 128], l: usize, y: [u32; 8])
     requires { l < 16 }
     ensures { (column l 8 v.new ≡ y) × ((j : ℕ) → j < l → column j 8 v.new ≡ column j 8 v.old) }
 {
-    for r in 0..8 {
-        v[16 * r + l] = y[r];
+    for (r, &word) in y.iter().enumerate() {
+        v[16 * r + l] = word;
     }
 }
 

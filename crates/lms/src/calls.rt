@@ -24,10 +24,7 @@ fn wrong_signer_material(seed: &[u8], identifier: &[u8], randomizer: &[u8], tree
     ensures { result ≡ wrong_signer_material seed.now identifier.now randomizer.now tree.now }
 {
     let length = layout::tree_length();
-    seed.len() != 32
-        || identifier.len() != 16
-        || randomizer.len() != 32
-        || tree.len() != length
+    seed.len() != 32 || identifier.len() != 16 || randomizer.len() != 32 || tree.len() != length
 }
 
 // Whether a message is too long to check or sign.

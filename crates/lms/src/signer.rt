@@ -1,4 +1,5 @@
-// The parts of a public key and of a signature, written to the caller's buffer.
+// The parts of a public key and of a signature, written to the caller's buffer. Their types are 6 and 4: ten levels, and digits of
+// eight bits.
 ghost use Rattle.std.specs.Prelude.{◌≡◌, ◌++◌, ◌+◌, ◌≤◌, ◌<◌, length};
 ghost use Rattle.octets.specs.Octets.{be, bytes, patch};
 ghost use Rattle.octets.specs.Strings.{joined};
@@ -8,21 +9,17 @@ ghost use Rattle.rfc8554.specs.Tree.{path, lms_signature};
 ghost use Rattle.protocol.specs.Layout.{signature_length, tree_length};
 
 use crate::node;
+use crate::types::{TreeType, ots_type};
 use lmots_digits::width::Width;
 use sha256_constants::RoundConstants;
-
-// The types of the keys and signatures that are made.
-const LMS_TYPE: u32 = 6;
-
-const OTS_TYPE: u32 = 4;
 
 // The public key: both types, the identifier and the root.
 pub(crate) fn write_key(id: &[u8], root: &[u8], out: &mut [u8])
     requires { (length id.now ≡ 16) × (length root.now ≡ 32) × (56 ≤ length out.old) }
     ensures { out.new ≡ patch 0 (be 4 6 ++ be 4 4 ++ id.now ++ root.now) out.old }
 {
-    octets::put_word(out, 0, LMS_TYPE);
-    octets::put_word(out, 4, OTS_TYPE);
+    octets::put_word(out, 0, TreeType::Ten.number());
+    octets::put_word(out, 4, ots_type(Width::Eight));
     octets::copy(out, 8, id);
     octets::copy(out, 24, root);
 }
@@ -33,7 +30,7 @@ fn write_head(leaf: u32, randomizer: &[u8], out: &mut [u8])
     ensures { out.new ≡ patch 0 (be 4 leaf ++ be 4 4 ++ randomizer.now) out.old }
 {
     octets::put_word(out, 0, leaf);
-    octets::put_word(out, 4, OTS_TYPE);
+    octets::put_word(out, 4, ots_type(Width::Eight));
     octets::copy(out, 8, randomizer);
 }
 
@@ -66,7 +63,7 @@ fn write_tail(tree: &[u8], leaf: u32, out: &mut [u8])
     requires { (length tree.now ≡ tree_length) × (leaf < 1024) × (signature_length ≤ length out.old) }
     ensures { out.new ≡ patch 1128 (be 4 6 ++ joined (path tree.now (1024 + leaf)) 10) out.old }
 {
-    octets::put_word(out, 1128, LMS_TYPE);
+    octets::put_word(out, 1128, TreeType::Ten.number());
     write_path(tree, 1024 + leaf, out, 1132);
 }
 

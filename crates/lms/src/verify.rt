@@ -18,15 +18,12 @@ use lmots_digits::width::Width;
 use refusal::Refusal;
 use sha256_constants::RoundConstants;
 
-// The length of an LM-OTS signature of width w.
-#[tactic(auto, unfolding(rfc8554::specs::Ots::chains, rfc8554::specs::Ots::ots_length))]
+// The length of an LM-OTS signature of width w: its type, the randomizer and a value from each chain.
+#[tactic(auto, unfolding(rfc8554::specs::Ots::ots_length))]
 fn ots_length(w: Width) -> usize
     ensures { (result ≡ ots_length (bits_of w)) × (result ≤ 2180) }
 {
-    match w {
-        Width::Four => 2180,
-        Width::Eight => 1124,
-    }
+    36 + 32 * w.chains()
 }
 
 // ---- refusals before any hashing
