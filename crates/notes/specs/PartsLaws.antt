@@ -1,11 +1,12 @@
 -- A note from the writes of its parts, one after another.
 -- Assumes nothing.
 use Rattle.std.specs.Prelude.{◌≡◌, List, [], ◌∷◌, ◌++◌, ℕ, ◌≤◌, length, set}
-use Rattle.std.proofs.Common.{refl, append_assoc, arith, length-append}
+use Rattle.std.proofs.Common.{refl, sym, ap, ◌∙◌, append_assoc, arith, length-append}
+use Rattle.std.proofs.lemmas.List.{set_split}
+use Rattle.std.proofs.lemmas.List.Edits.{sets-eq}
 use borrow.Rule.Slice.PartMut.{put_mid}
 use Rattle.octets.specs.Octets.{patch, be}
-use Rattle.octets.specs.OctetsLaws.{length-be}
-use Rattle.octets.specs.StringsLaws.{be-two}
+use Rattle.octets.specs.OctetsLaws.{length-be, length-patch, patch-mid}
 use Rattle.octets.specs.WriteLaws.{patch_next}
 use Rattle.protocol.specs.Layout.{mask_length, note_own_value_at, note_collected_at, note_kept_at, note_first_at, note_guilty_at, note_heard_value_at, note_first_value_at}
 use Rattle.protocol.specs.Note.{render_note, ValuesSized}
@@ -16,13 +17,14 @@ use Rattle.notes.specs.Parts.{note_start, note_masks}
 pub start-written : (n seat round flags : ℕ) (xs : List ℕ) {ys : List ℕ} → note_own_value_at ≤ length xs → ys ≡ be 2 round
     → set (put_mid 3 2 (set (set (set xs 0 0x20) 1 n) 2 seat) ys) 5 flags ≡ patch 0 (0x20 ∷ n ∷ seat ∷ be 2 round ++ flags ∷ []) xs
 unfolding patch
-start-written n seat round flags (a ∷ b ∷ c ∷ d ∷ e ∷ f ∷ xs) h p = rw (p, be-two) refl
-start-written n seat round flags [] h p = absurd (omega arith)
-start-written n seat round flags (a ∷ []) h p = absurd (omega arith)
-start-written n seat round flags (a ∷ b ∷ []) h p = absurd (omega arith)
-start-written n seat round flags (a ∷ b ∷ c ∷ []) h p = absurd (omega arith)
-start-written n seat round flags (a ∷ b ∷ c ∷ d ∷ []) h p = absurd (omega arith)
-start-written n seat round flags (a ∷ b ∷ c ∷ d ∷ e ∷ []) h p = absurd (omega arith)
+start-written n seat round flags xs {ys} h p =
+    let start = 0x20 ∷ n ∷ seat ∷ [] in
+    let a = set (set (set xs 0 0x20) 1 n) 2 seat in
+    let b = put_mid 3 2 a ys in
+    let two : b ≡ patch 0 (start ++ be 2 round) xs =
+    patch_next 0 3 start (be 2 round) xs a b (sets-eq start xs 0 (omega arith)) refl (omega arith) (patch-mid 3 2 (be 2 round) ys a p (sym (length-be 2 round))) in
+    let room = ap length two ∙ length-patch 0 (start ++ be 2 round) xs (omega (arith, length-be 2 round)) in
+    patch_next 0 5 (start ++ be 2 round) (flags ∷ []) xs b (set b 5 flags) two (simp length-be) (omega arith) (set_split b 5 flags (omega (arith, room)))
 
 -- the masks, one after another
 pub masks-written : (r : Record) (xs : List ℕ) {a b c d : List ℕ} → note_collected_at ≤ length xs
