@@ -47,7 +47,9 @@ fn is_open_to(r: Record, seat: u32) -> bool
     quorum::has(r.kept, seat) && quorum::size(r.own.collected) < quorum::k(r.n)
 }
 
-// A kept seat's signature is collected where it is wanted, while fewer than k are.
+// A kept seat's signature is collected where it is wanted, while fewer than k are. Never in line: the copy of the signature would
+// lie on the stack of every submit, of a refused one too (docs/HOST.md states 4 KiB for these).
+#[inline(never)]
 #[tactic(auto, unfolding(protocol::specs::Step::collect_kept_seat, protocol::specs::Layout::signature_length))]
 fn collect_kept_seat(r: Record, store: &mut [u8], seat: u32) -> Record
     requires { Fits r store.old × (seat < r.n) }
