@@ -1,6 +1,8 @@
-//! Lengths, places, names and refusals in docs/HOST.md, docs/PROTOCOL.md and README.md against the header and the reference.
+//! Lengths, places, names and refusals in docs/HOST.md, docs/PROTOCOL.md and README.md against the header and the reference; and
+//! that the gate's test of docs/STATEMENTS.md asks for the row of each refusal.
 
 use std::mem::offset_of;
+use std::process::Command;
 
 use harness::reference::layout;
 use harness::reference::messages::{EVIDENCE, EVIDENCE_ENTRY, OLD_EVIDENCE, OLD_EVIDENCE_ENTRY};
@@ -234,4 +236,26 @@ fn refusals() {
         let occurring: Vec<u32> = numbers.into_iter().filter(|&number| number != 13).collect();
         assert_eq!(occurring, refusals::ORDER);
     }
+}
+
+/// `scripts/statements.sh` on docs/STATEMENTS.md with the row of one number under another word: it says which number has no row.
+#[test]
+fn statements_ask_for_each_number() {
+    let root = concat!(env!("CARGO_MANIFEST_DIR"), "/..");
+    let whole = std::fs::read_to_string(format!("{root}/docs/STATEMENTS.md")).expect("the page");
+    let page = std::env::temp_dir().join(format!("zolbine-statements-{}.md", std::process::id()));
+    let said = |text: &str| {
+        std::fs::write(&page, text).expect("a page to try");
+        let tried = Command::new("scripts/statements.sh").arg(&page).current_dir(root).output().expect("the script");
+        (tried.status.success(), String::from_utf8_lossy(&tried.stdout).into_owned())
+    };
+    let (passes, complaints) = said(&whole);
+    assert!(passes, "{complaints}");
+    for number in 1..=19 {
+        let row = format!("\n| {number} ");
+        assert_eq!(whole.matches(&row).count(), 1, "a row of {number}");
+        let (passes, complaints) = said(&whole.replace(&row, &format!("{row}un")));
+        assert!(!passes && complaints.contains(&format!("no row of number {number}, ")), "{number}: {complaints}");
+    }
+    std::fs::remove_file(page).expect("the page tried");
 }

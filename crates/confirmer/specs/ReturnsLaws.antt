@@ -63,7 +63,7 @@ Leaves c a store out =
 -- ---- points of a call
 
 -- no refusal for record, key table, store and out
-abbrev Passed : Call → Type 0
+abbrev pub Passed : Call → Type 0
 Passed c = 0 ≡ first_of (first c)
 
 -- nor for the rest, and the phases are lent the part of out that document 01 states
@@ -82,7 +82,7 @@ module _ (c : Call) (passed : Passed c) where
   pub ready : Ready c.unit c.store c.out
   ready = record_ready c.keys c.unit c.store c.out 0 passed refl
 
-  given : Given c.unit.n c.unit.round c.keys
+  pub given : Given c.unit.n c.unit.round c.keys
   given = record_given c.keys c.unit c.store c.out 0 passed refl
 
   after_record : first_of c.rest ≡ first_of (first c ++ c.rest)

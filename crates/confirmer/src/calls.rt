@@ -88,7 +88,8 @@ fn stepped(
 {
     let fleet = record_fleet(r, keys, store, out)?;
     let kind = wire::read::classify(r.n, message);
-    step_refusal(fleet, kind, message)?;
+    let heard = step_refusal(fleet, kind, message);
+    heard?;
     let room = layout::out_length(r.n);
     Ok(step_phase(r, store, &mut out[..room], kind, message))
 }

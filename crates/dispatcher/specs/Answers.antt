@@ -5,7 +5,7 @@ use Rattle.refusal.specs.Answers.{number_of}
 use Rattle.dispatch.specs.declared.Dispatcher.{Dispatcher}
 use Rattle.dispatch.specs.declared.Dispatched.{Dispatched}
 
--- of an opening or an add: the new dispatcher, or the refusal's number and the old one
+-- of an add: the new dispatcher, or the refusal's number and the old one
 abbrev pub dispatched_in : Result Dispatcher Refusal → Dispatcher → Dispatched
 dispatched_in (Ok new) old = record { number = 0; dispatcher = new }
 dispatched_in (Err e) old = record { number = number_of e; dispatcher = old }

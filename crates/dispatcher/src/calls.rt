@@ -18,7 +18,7 @@ use dispatch::{Dispatched, Dispatcher, Eight, Turn};
 use refusal::Refusal;
 use refusal::answers::number_in;
 
-// What C gets of an opening or an add: the new dispatcher, or the refusal's number and the old one.
+// What C gets of an add: the new dispatcher, or the refusal's number and the old one.
 fn dispatched(answer: Result<Dispatcher, Refusal>, old: Dispatcher) -> Dispatched
     ensures { result ≡ dispatched_in answer old }
 {
@@ -48,25 +48,34 @@ fn opened(rounds: [u32; LANES]) -> Dispatcher
     }
 }
 
-// An opening, or its refusal: 3, 18.
-fn open(rounds: [u32; LANES]) -> Result<Dispatcher, Refusal>
-    ensures number { number_in result ≡ first_of (opening_conditions rounds) }
-    ensures new { IfOk result (λ d. d ≡ Dispatchers.opened rounds) }
+// Refusal of an opening: 3, 18.
+fn opening_refusal(rounds: &[u32; LANES]) -> Result<(), Refusal>
+    ensures { number_in result ≡ first_of (opening_conditions rounds.now) }
 {
-    if some_late(&rounds) {
+    if some_late(rounds) {
         return Err(Refusal::Round);
     }
-    if some_equal(&rounds) {
+    if some_equal(rounds) {
         return Err(Refusal::Lane);
     }
-    Ok(opened(rounds))
+    Ok(())
 }
 
-// Opening: a dispatcher of eight rounds, or the refusal number and one of zeros.
+// Opening: a dispatcher of eight rounds, or the refusal number and one of zeros. Only the one that is handed out is made: with both made
+// and one chosen by `dispatched`, a call took twice the time.
 pub fn open_dispatcher(eight: Eight) -> Dispatched
     ensures { result ≡ open_dispatcher eight }
 {
-    dispatched(open(eight.round), opened([0; LANES]))
+    match opening_refusal(&eight.round) {
+        Ok(()) => Dispatched {
+            number: 0,
+            dispatcher: opened(eight.round),
+        },
+        Err(refusal) => Dispatched {
+            number: refusal.number(),
+            dispatcher: opened([0; LANES]),
+        },
+    }
 }
 
 // A ticket added to the lane of its round, or the refusal: 3, 4, 18, 19.
@@ -83,7 +92,8 @@ fn add(d: Dispatcher, round: u32, ticket: u16) -> Result<Dispatcher, Refusal>
     let Some(lane) = index_of(&d.rounds, round) else {
         return Err(Refusal::Lane);
     };
-    if d.counts[lane] == PLACES {
+    let is_full = d.counts[lane] == PLACES;
+    if is_full {
         return Err(Refusal::Full);
     }
     Ok(added(d, lane, ticket))
@@ -110,15 +120,15 @@ fn gives_none(answer: Result<(), Refusal>, d: Dispatcher) -> Turn
 }
 
 // A turn that gives the oldest ticket of a lane.
-fn gives_oldest(d: Dispatcher, lane: usize) -> Turn
-    requires { (lane < lanes) × (is_waiting d lane ≡ true) × (impossible d ≡ false) }
-    ensures { result ≡ gives_oldest d lane }
+fn gives_oldest(d: &Dispatcher, lane: usize) -> Turn
+    requires { (lane < lanes) × (is_waiting d.now lane ≡ true) × (impossible d.now ≡ false) }
+    ensures { result ≡ gives_oldest d.now lane }
 {
     Turn {
         number: 0,
         given: true,
         round: d.rounds[lane],
-        ticket: ticket_at(&d, lane, 0),
+        ticket: ticket_at(d, lane, 0),
         dispatcher: less_oldest(d, lane),
     }
 }
@@ -131,7 +141,7 @@ pub fn take_turn(d: Dispatcher) -> Turn
         return gives_none(Err(Refusal::Record), d);
     }
     match next_lane(&d) {
-        Some(lane) => gives_oldest(d, lane),
+        Some(lane) => gives_oldest(&d, lane),
         None => gives_none(Ok(()), d),
     }
 }

@@ -37,9 +37,9 @@ pub(crate) fn added(d: Dispatcher, lane: usize, ticket: u16) -> Dispatcher
 }
 
 // A lane served: its oldest ticket is gone, and it is the one served last.
-pub(crate) fn less_oldest(d: Dispatcher, lane: usize) -> Dispatcher
-    requires { (lane < lanes) × (is_waiting d lane ≡ true) × (impossible d ≡ false) }
-    ensures { result ≡ Turns.less_oldest d lane }
+pub(crate) fn less_oldest(d: &Dispatcher, lane: usize) -> Dispatcher
+    requires { (lane < lanes) × (is_waiting d.now lane ≡ true) × (impossible d.now ≡ false) }
+    ensures { result ≡ Turns.less_oldest d.now lane }
 {
     let mut next = serve_last(d, lane);
     next.counts[lane] -= 1;

@@ -16,12 +16,13 @@ pub(crate) fn some_above(list: &[u32], most: u32) -> bool
     list.iter().any(|x| most < *x)
 }
 
-// Whether no number stands twice.
+// Whether no number stands twice. `any` and not `contains`, which LLVM doesn't put in line here: an opening calls this once, and took a
+// third more time.
 pub(crate) fn is_distinct(list: &[u32]) -> bool
     ensures { result ≡ distinct list.now }
 {
     for (i, x) in list.iter().enumerate() {
-        if list[i + 1..].contains(x) {
+        if list[i + 1..].iter().any(|y| *y == *x) {
             return false;
         }
     }
@@ -47,15 +48,15 @@ pub(crate) fn serving(d: &Dispatcher) -> &[u32]
 
 // The dispatcher once a lane is served: in its order of serving all others as they were, then that lane. Entries beyond keep what they
 // held.
-pub(crate) fn serve_last(d: Dispatcher, lane: usize) -> Dispatcher
-    requires few { d.served ≤ lanes }
-    requires room { length (without lane (serving d)) < lanes }
+pub(crate) fn serve_last(d: &Dispatcher, lane: usize) -> Dispatcher
+    requires few { d.now.served ≤ lanes }
+    requires room { length (without lane (serving d.now)) < lanes }
     requires lane { lane < lanes }
-    ensures { result ≡ with_serving d (served_last lane (serving d)) }
+    ensures { result ≡ with_serving d.now (served_last lane (serving d.now)) }
 {
     let mut order = d.order;
     let mut served = 0;
-    for other in serving(&d) {
+    for other in serving(d) {
         if *other as usize != lane {
             order[served] = *other;
             served += 1;
@@ -65,6 +66,6 @@ pub(crate) fn serve_last(d: Dispatcher, lane: usize) -> Dispatcher
     Dispatcher {
         served: served as u32 + 1,
         order,
-        ..d
+        ..*d
     }
 }

@@ -1,9 +1,10 @@
 // The note of a unit's record, written and read back (document 02, item 2).
 #![tactic(auto)]
 
-ghost use Rattle.std.specs.Prelude.{◌≡◌, [], ◌∷◌};
+ghost use Rattle.std.specs.Prelude.{◌≡◌, false, [], ◌∷◌};
 ghost use Rattle.refusal.specs.Refusal.{first_of};
 ghost use Rattle.protocol.specs.Refusals.{RECORD, write_note_conditions};
+ghost use Rattle.protocol.specs.Note.{wrong_note};
 ghost use Rattle.refusal.specs.Answers.{number_in};
 ghost use Rattle.protocol.specs.Answers.{written_in, opened_in};
 ghost use Rattle.protocol.specs.Calls as calls;
@@ -54,13 +55,11 @@ fn record_refusal(r: Record) -> Result<(), Refusal>
     Ok(())
 }
 
-// The record in a note, or its refusal: 17, 4.
+// The record in a note of the right form, or its refusal: 4.
 fn record_in(note: &[u8]) -> Result<Record, Refusal>
+    requires { wrong_note note.now ≡ false }
     ensures { opened_in result ≡ calls.read_note note.now }
 {
-    if wrong_note(note) {
-        return Err(Refusal::Note);
-    }
     let unit = note_record(note);
     record_refusal(unit)?;
     Ok(unit)
@@ -70,5 +69,8 @@ fn record_in(note: &[u8]) -> Result<Record, Refusal>
 pub fn read_note(note: &[u8]) -> Opened
     ensures { result ≡ calls.read_note note.now }
 {
+    if wrong_note(note) {
+        return opened_by(Err(Refusal::Note));
+    }
     opened_by(record_in(note))
 }

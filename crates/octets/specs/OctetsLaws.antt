@@ -2,7 +2,7 @@
 use Rattle.std.specs.Prelude.{◌≡◌, refl, List, [], ◌∷◌, ◌++◌, ℕ, zero, suc, ◌+◌, ◌-◌, ◌*◌, ◌/◌, ◌%◌, ◌≤◌, ◌<◌, replicate, length, take, drop, get_or, set}
 use Rattle.std.proofs.Common.{sym, ap, subst, ◌∙◌, append_assoc, add_assoc, not-suc-le-zero, le_of_suc-le-suc, add-one, arith, length-append, length-take, length-drop, drop_of_length-le, drop-cons, take_all, take-suc-set, take_at, drop_at, drop-drop, get_or-take, get_or-drop}
 use Rattle.std.proofs.Math.Nat.{sub-zero, zero-sub, suc-sub-suc}
-use Rattle.std.proofs.Math.Seq.{take-length}
+use Rattle.std.proofs.Math.Seq.{paste, take-length}
 use Rattle.octets.specs.Octets.{part, patch, be, word_at, words, bytes}
 
 -- ---- loops that fill a list from the front
@@ -95,6 +95,11 @@ patch-patch at us vs xs h =
 pub patch-mid : (at k : ℕ) (ws ys xs : List ℕ) → ys ≡ ws → k ≡ length ws → take at xs ++ (ys ++ drop k (drop at xs)) ≡ patch at ws xs
 unfolding patch
 patch-mid at k ws ys xs e l = rw (e, l, drop-drop (length ws) at xs)
+
+-- a copy of the whole of ws is a patch
+pub patch-paste : (at : ℕ) (ws xs : List ℕ) → paste xs at ws (length ws) ≡ patch at ws xs
+unfolding patch
+patch-paste at ws xs = rw (take-length, append_assoc)
 
 -- ---- big-endian bytes
 

@@ -3,7 +3,11 @@
 
 ghost use Rattle.std.specs.Prelude.{◌≡◌};
 
-// A refusal, by its number in the table. 13 is retired: "Number 13 no longer occurs" (document 02, item 1).
+// Retired: "Number 13 no longer occurs" (document 02, item 1). It is no case of `Refusal`, and its name stays so that the number is never
+// given to another cause.
+pub const EARLY: u32 = 13;
+
+// A refusal, by its number in the table.
 #[derive(Clone, Copy, Debug, PartialEq, Eq)]
 pub enum Refusal {
     Size = 1,

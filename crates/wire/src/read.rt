@@ -77,8 +77,8 @@ fn is_full(n: u32, m: &[u8]) -> bool
 pub fn evidence_entries(m: &[u8]) -> Entries
     ensures { (result ≡ pack_entries m.now) × (command_place result result.count < 2 ^ 32) }
 {
-    let command = byte_or_zero(m, 0);
-    if command == 5 {
+    let is_old = byte_or_zero(m, 0) == 5;
+    if is_old {
         let count = byte_or_zero(m, layout::old_evidence_count_at());
         return layout::old_evidence_entries(count as usize);
     }

@@ -13,4 +13,4 @@ returns-then-out-lower c =
 pub returns : goal.returns
 returns c =
     let a = c.args in
-    copy_fits (lower_certificate (checks a.keys.now a.round) a.n a.round a.keys.now a.first.now a.second.now) a.out.now _ _ c.lower_certificate-lower.ensures.bytes c.if-out-lower.false c.copy.ensures
+    copy_fits (lower_certificate (checks a.keys.now a.round) a.n a.round a.keys.now a.first.now a.second.now) a.out.now _ _ c.lower_certificate-lower.ensures.bytes c.if-out-lower.false c.copy_bytes.ensures

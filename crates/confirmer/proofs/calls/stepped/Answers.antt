@@ -12,37 +12,37 @@ returns-in_err-fleet-clause-outcome c =
     let a = c.args in
     refused_by_record (stepping a.keys.now a.r a.store.now a.message.now a.out.now) c.from_residual.result c.in_err-fleet.field-0.0 c.from_residual.ensures.1 c.in_err-fleet.ensures.number
 
-pub step_refusal-requires : goal.step_refusal-requires
-step_refusal-requires c = rw c.in_ok-fleet.ensures.made.0 (kind-told _ _ c.classify-kind.ensures)
+pub step_refusal-heard-requires : goal.step_refusal-heard-requires
+step_refusal-heard-requires c = rw c.in_ok-fleet.ensures.made.0 (kind-told _ _ c.classify-kind.ensures)
 
-pub returns-in_err-step_refusal-clause-outcome : goal.returns-in_err-step_refusal-clause-outcome
+pub returns-in_err-heard-clause-outcome : goal.returns-in_err-heard-clause-outcome
 unfolding step step_conditions
-returns-in_err-step_refusal-clause-outcome c =
+returns-in_err-heard-clause-outcome c =
     let a = c.args in
     let f = c.in_ok-fleet.ensures in
-    let r = c.from_residual-in_err-step_refusal in
-    let told = rw (f.made.0, f.made.1, f.made.2) at c.in_err-step_refusal.ensures in
-    refused_by_rest (stepping a.keys.now a.r a.store.now a.message.now a.out.now) r.result c.in_err-step_refusal.field-0.0 r.ensures.1 f.number told
+    let r = c.from_residual-in_err-heard in
+    let told = rw (f.made.0, f.made.1, f.made.2) at c.in_err-heard.ensures in
+    refused_by_rest (stepping a.keys.now a.r a.store.now a.message.now a.out.now) r.result c.in_err-heard.field-0.0 r.ensures.1 f.number told
 
 pub slice_bounds-step_phase-end : goal.slice_bounds-step_phase-end
 slice_bounds-step_phase-end c =
     let a = c.args in
     let f = c.in_ok-fleet.ensures in
-    let l : Lent (stepping a.keys.now a.r a.store.now a.message.now a.out.now) _ = record { passed = f.number; told = rw (f.made.0, f.made.1, f.made.2) at c.in_ok-step_refusal.ensures; stated = c.out_length-room.ensures } in
+    let l : Lent (stepping a.keys.now a.r a.store.now a.message.now a.out.now) _ = record { passed = f.number; told = rw (f.made.0, f.made.1, f.made.2) at c.in_ok-heard.ensures; stated = c.out_length-room.ensures } in
     part-within l
 
 pub slice_bounds-step_phase-end-2 : goal.slice_bounds-step_phase-end-2
 slice_bounds-step_phase-end-2 c =
     let a = c.args in
     let f = c.in_ok-fleet.ensures in
-    let l : Lent (stepping a.keys.now a.r a.store.now a.message.now a.out.now) _ = record { passed = f.number; told = rw (f.made.0, f.made.1, f.made.2) at c.in_ok-step_refusal.ensures; stated = c.out_length-room.ensures } in
+    let l : Lent (stepping a.keys.now a.r a.store.now a.message.now a.out.now) _ = record { passed = f.number; told = rw (f.made.0, f.made.1, f.made.2) at c.in_ok-heard.ensures; stated = c.out_length-room.ensures } in
     part_length l
 
 pub step_phase-requires : goal.step_phase-requires
 step_phase-requires c =
     let a = c.args in
     let f = c.in_ok-fleet.ensures in
-    let told = rw (f.made.0, f.made.1, f.made.2) at c.in_ok-step_refusal.ensures in
+    let told = rw (f.made.0, f.made.1, f.made.2) at c.in_ok-heard.ensures in
     let l : Lent (stepping a.keys.now a.r a.store.now a.message.now a.out.now) _ = record { passed = f.number; told = told; stated = c.out_length-room.ensures } in
     let formed = message-formed _ _ _ _ _ _ told refl in
     (part-ready l, kind-told _ _ c.classify-kind.ensures, formed.known, formed.ordered)
@@ -52,7 +52,7 @@ returns-clause-small c =
     let a = c.args in
     let f = c.in_ok-fleet.ensures in
     let p = c.step_phase in
-    let l : Lent (stepping a.keys.now a.r a.store.now a.message.now a.out.now) _ = record { passed = f.number; told = rw (f.made.0, f.made.1, f.made.2) at c.in_ok-step_refusal.ensures; stated = c.out_length-room.ensures } in
+    let l : Lent (stepping a.keys.now a.r a.store.now a.message.now a.out.now) _ = record { passed = f.number; told = rw (f.made.0, f.made.1, f.made.2) at c.in_ok-heard.ensures; stated = c.out_length-room.ensures } in
     let acted : Acted (stepping a.keys.now a.r a.store.now a.message.now a.out.now) _ p.result _ _ = record { lent = l; did = p.ensures; long = p.auto.out } in
     end-small acted
 
@@ -62,6 +62,6 @@ returns-clause-outcome c =
     let a = c.args in
     let f = c.in_ok-fleet.ensures in
     let p = c.step_phase in
-    let l : Lent (stepping a.keys.now a.r a.store.now a.message.now a.out.now) _ = record { passed = f.number; told = rw (f.made.0, f.made.1, f.made.2) at c.in_ok-step_refusal.ensures; stated = c.out_length-room.ensures } in
+    let l : Lent (stepping a.keys.now a.r a.store.now a.message.now a.out.now) _ = record { passed = f.number; told = rw (f.made.0, f.made.1, f.made.2) at c.in_ok-heard.ensures; stated = c.out_length-room.ensures } in
     let acted : Acted (stepping a.keys.now a.r a.store.now a.message.now a.out.now) _ p.result _ _ = record { lent = l; did = p.ensures; long = p.auto.out } in
     leaves acted

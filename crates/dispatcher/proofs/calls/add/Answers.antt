@@ -22,20 +22,20 @@ returns-in_default-clause-number c =
     c.in_default.ensures.first
     (search rules)
 
-pub returns-then-d-lane-eq-PLACES-clause-number : goal.returns-then-d-lane-eq-PLACES-clause-number
-returns-then-d-lane-eq-PLACES-clause-number c =
+pub returns-then-is_full-clause-number : goal.returns-then-is_full-clause-number
+returns-then-is_full-clause-number c =
     add-full c.args.d c.args.round _ (search rules) (sym c.wrong_round.ensures ∙ c.if-wrong_round.false)
     (sym c.is_impossible.ensures ∙ c.if-is_impossible.false)
     c.in-Some.ensures.first
     (search rules)
-    c.if-d-lane-eq-PLACES.true
+    (omega (arith, c.if-is_full.true))
 
 pub added-requires : goal.added-requires
 unfolding count
 added-requires c =
     let possible = sym c.is_impossible.ensures ∙ c.if-is_impossible.false in
     let few = not_above places c.args.d.counts (holds c.args.d possible).counted c.in-Some.lane in
-    (search rules, omega (arith, few, c.if-d-lane-eq-PLACES.false))
+    (search rules, omega (arith, few, c.if-is_full.false))
 
 pub returns-clause-number : goal.returns-clause-number
 returns-clause-number c =
@@ -43,7 +43,7 @@ returns-clause-number c =
     (sym c.is_impossible.ensures ∙ c.if-is_impossible.false)
     c.in-Some.ensures.first
     (search rules)
-    c.if-d-lane-eq-PLACES.false
+    (omega (arith, c.if-is_full.false))
 
 pub returns-clause-new : goal.returns-clause-new
 unfolding lane_of

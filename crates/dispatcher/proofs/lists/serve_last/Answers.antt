@@ -7,12 +7,12 @@ use Rattle.dispatcher.proofs.lists.serve_last.Goals as goal
 use Rattle.dispatcher.proofs.lists.serve_last.Goals.{then-other-lane, else-other-lane}
 
 pub loop-other-init : goal.loop-other-init
-loop-other-init c = kept_none c.args.d.order c.args.lane
+loop-other-init c = kept_none c.args.d.now.order c.args.lane
 
 pub loop-other-preserved : goal.loop-other-preserved
 unfolding serving
 loop-other-preserved c =
-    let d = c.args.d in
+    let d = c.args.d.now in
     let loop = c.loop-other in
     let eight : length d.order ≡ 8 = search rules in
     let items = c.serving-other-items.result.now in
@@ -29,7 +29,7 @@ loop-other-preserved c =
 pub bounds-order-served-2 : goal.bounds-order-served-2
 unfolding serving
 bounds-order-served-2 c =
-    let d = c.args.d in
+    let d = c.args.d.now in
     let eight : length d.order ≡ 8 = search rules in
     let all : c.loop-other.other-index ≡ d.served = omega arith in
     omega (arith, c.requires.room, rw all at c.loop-other.invariant.counted)
@@ -37,7 +37,7 @@ bounds-order-served-2 c =
 pub returns : goal.returns
 unfolding serving
 returns c =
-    let d = c.args.d in
+    let d = c.args.d.now in
     let loop = c.loop-other in
     let eight : length d.order ≡ 8 = search rules in
     let all : loop.other-index ≡ d.served = omega arith in
